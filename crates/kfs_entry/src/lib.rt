@@ -1,0 +1,2 @@
+//! Update logs and digest plans, as values and as bytes.
+#![tactic(auto)]

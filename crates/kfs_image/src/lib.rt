@@ -1,0 +1,2 @@
+//! The image of the file system: its nodes, names and tiers.
+#![tactic(auto)]

@@ -1,0 +1,18 @@
+-- What a client's update log asks for, entry by entry.
+use Rattle.std.specs.Prelude.{ℕ, List}
+use Rattle.kfs_model.specs.Header.{Kind}
+
+-- A name is a list of bytes, and a payload too.
+pub data Entry : Type 0 where
+  Create : (directory : ℕ) (name : List ℕ) (number : ℕ) (kind : Kind) (mode : ℕ) → Entry
+  Write : (number offset : ℕ) (payload : List ℕ) → Entry
+  Truncate : (number size : ℕ) → Entry
+  Link : (number directory : ℕ) (name : List ℕ) → Entry
+  -- the flag is the kind of what is to go
+  Unlink : (directory : ℕ) (name : List ℕ) (kind : Kind) → Entry
+  Rename : (directory : ℕ) (name : List ℕ) (target : ℕ) (new_name : List ℕ) → Entry
+  Chmod : (number mode : ℕ) → Entry
+
+pub record Log : Type 0 where
+  pub client : ℕ
+  pub entries : List Entry

@@ -1,0 +1,16 @@
+-- What a node shows of itself apart from its bytes.
+use Rattle.std.specs.Prelude.{ℕ}
+
+pub data Kind : Type 0 where
+  File Directory : Kind
+  deriving Discrete as Kind-discrete
+  deriving IsSet as Kind-set
+
+-- mode in 0 to 0o777; a directory has one link and size 0, a file as many links as names
+pub record Header : Type 0 where
+  pub kind : Kind
+  pub mode : ℕ
+  pub uid : ℕ
+  pub gid : ℕ
+  pub links : ℕ
+  pub size : ℕ

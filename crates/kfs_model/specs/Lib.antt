@@ -1,0 +1,3 @@
+pub mod Header
+pub mod Entry
+pub mod PlanRow

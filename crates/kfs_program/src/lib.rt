@@ -1,0 +1,2 @@
+//! The commands of the program `kfs`.
+#![tactic(auto)]

@@ -1,0 +1,2 @@
+//! Tests that cross crates, through public calls.
+#![tactic(auto)]
