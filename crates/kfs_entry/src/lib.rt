@@ -1,2 +1,16 @@
 //! Update logs and digest plans, as values and as bytes.
 #![tactic(auto)]
+
+mod entry;
+mod fault;
+mod header;
+mod name;
+mod plan;
+mod rows;
+
+pub use entry::{Entry, Log, Span};
+pub use fault::SpellFault;
+pub use header::{Header, Kind};
+pub use name::Name;
+pub use plan::{NameRow, NodeRow, Piece, Plan, Source};
+pub use rows::Rows;

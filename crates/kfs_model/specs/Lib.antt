@@ -1,3 +1,4 @@
 pub mod Header
 pub mod Entry
 pub mod PlanRow
+pub mod Spelling

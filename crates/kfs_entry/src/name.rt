@@ -1,0 +1,54 @@
+//! The names of files and directories.
+ghost use Rattle.std.specs.Prelude.{◌≡◌, ◌↔◌, IsSome, IfSome};
+
+use arrayvec::ArrayVec;
+use std::marker::Model;
+
+/// A name in a directory: 1 to 255 bytes without `/` and without a zero byte, neither `.` nor `..`
+/// (POSIX.1-2017, XBD 3.170 "Filename"). Names are ordered by their bytes.
+///
+/// The bytes lie in the value itself, so a name takes no memory of its own.
+#[derive(Clone, Debug, PartialEq, Eq, PartialOrd, Ord, Hash, Drop)]
+pub struct Name {
+    bytes: ArrayVec<u8, 255>,
+}
+
+impl Model for Name {
+    ghost use Rattle.std.specs.Prelude.{ℕ, List};
+    ghost use Rattle.kfs_model.specs.Spelling.{IsName};
+
+    ghost Value = { List ℕ };
+
+    ghost view = { λ n. n.bytes.items };
+
+    ghost invariant = { λ n. IsName n.bytes.items };
+
+    ghost inverse = { λ b. record { bytes = record { items = b } } };
+}
+
+impl Name {
+    ghost use Rattle.kfs_model.specs.Spelling.{IsName};
+
+    /// The name with these bytes, or none where the bytes are no name. Takes no memory.
+    pub fn new(bytes: &[u8]) -> Option<Name>
+        ensures valid { IsSome result ↔ IsName bytes.now }
+        ensures value { IfSome result (λ name. name ≡ bytes.now) }
+    {
+        if matches!(bytes, [] | b"." | b"..") {
+            return None;
+        }
+        if bytes.iter().any(|byte| *byte == 0 || *byte == b'/') {
+            return None;
+        }
+        let bytes = ArrayVec::try_from(bytes).ok()?;
+        Some(Name { bytes })
+    }
+
+    /// The bytes of the name.
+    pub fn as_bytes(&self) -> &[u8]
+        ensures value { result.now ≡ self.now }
+        ensures name { IsName result.now }
+    {
+        self.bytes.as_slice()
+    }
+}
