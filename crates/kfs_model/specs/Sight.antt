@@ -1,0 +1,89 @@
+-- What the cells of a state show, apart from the bytes: this is all that a check of an entry looks at.
+use Rattle.std.specs.Prelude.{ℕ, ◌==◌, ◌&&◌, not, ℤ, pos, List, find, Option, Some, None, option_map, option_and_then, if◌then◌else◌, Bool, true, false}
+use Rattle.kfs_model.specs.Header.{Kind, Header}
+use Rattle.kfs_model.specs.Header.Kind.{File, Directory}
+use Rattle.kfs_model.specs.Table.{Table, numbers, get}
+use Rattle.kfs_model.specs.Tree.{Tree, Links, headers, target, entry_count}
+
+-- A cell of a state, for one client.
+pub data Cell : Type 0 where
+  -- the header of a node, or none
+  HeaderOf : (number : ℕ) → Cell
+  -- the number that a name leads to, or none
+  NameIn : (directory : ℕ) (name : List ℕ) → Cell
+  -- how many names a directory has
+  CountOf : (directory : ℕ) → Cell
+  -- the directory that holds the one name of a directory, none for the root and for what is no directory
+  ParentOf : (number : ℕ) → Cell
+  -- whether the client holds a live write lease
+  LeaseOn : (number : ℕ) → Cell
+
+pub record Sight : Type 0 where
+  pub head : ℕ → Option Header
+  pub name : ℕ → List ℕ → Option ℕ
+  pub count : ℕ → ℤ
+  pub parent : ℕ → Option ℕ
+
+abbrev pub is_directory : Option Header → Bool
+is_directory None = false
+is_directory (Some h) = of_kind h.kind
+  where
+    of_kind : Kind → Bool
+    of_kind File = false
+    of_kind Directory = true
+
+abbrev pub is_file : Option Header → Bool
+is_file None = false
+is_file (Some h) = of_kind h.kind
+  where
+    of_kind : Kind → Bool
+    of_kind File = true
+    of_kind Directory = false
+
+-- the directory of the first name that leads to the number
+abbrev pub holder : Links → ℕ → Option ℕ
+holder names number = option_map (λ e. e.0.0) (find (λ e. e.1 == number) names.entries)
+
+abbrev pub parent_in : Table numbers Header → Links → ℕ → Option ℕ
+parent_in heads names number = if is_directory (get heads number) && not (number == 1) then holder names number else None
+
+module _ {B : Type 0} where
+  abbrev pub sight : Tree B → Sight
+  sight t = record {
+    head = get (headers t);
+    name = target t.names;
+    count = λ directory. pos (entry_count t.names directory);
+    parent = parent_in (headers t) t.names;
+  }
+
+-- what a cell answers
+pub data Answer : Type 0 where
+  Head : Option Header → Answer
+  Number : Option ℕ → Answer
+  Count : ℤ → Answer
+  Held : Bool → Answer
+
+-- a state as one client sees it
+pub record Seen : Type 0 where
+  pub sight : Sight
+  pub held : ℕ → Bool
+
+abbrev pub answer : Seen → Cell → Answer
+answer s (HeaderOf n) = Head (s.sight.head n)
+answer s (NameIn d m) = Number (s.sight.name d m)
+answer s (CountOf d) = Count (s.sight.count d)
+answer s (ParentOf n) = Number (s.sight.parent n)
+answer s (LeaseOn n) = Held (s.held n)
+
+-- how far a climb goes at the most: no directory of a sound tree lies deeper than there are numbers
+abbrev pub climb_limit : ℕ
+climb_limit = 65536
+
+-- whether the climb from a directory along the parents meets the node, the directory itself included
+abbrev pub climb_meets : Sight → (fuel : ℕ) → (node from : ℕ) → Bool
+climb_meets s zero node from = from == node
+climb_meets s (suc fuel) node from = if from == node then true else onwards (s.parent from)
+  where
+    onwards : Option ℕ → Bool
+    onwards None = false
+    onwards (Some up) = false
