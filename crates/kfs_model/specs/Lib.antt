@@ -4,5 +4,6 @@ pub mod Entry
 pub mod Tree
 pub mod Access
 pub mod Sight
+pub mod Check
 pub mod PlanRow
 pub mod Spelling

@@ -1,5 +1,5 @@
 -- What the cells of a state show, apart from the bytes: this is all that a check of an entry looks at.
-use Rattle.std.specs.Prelude.{ℕ, ◌==◌, ◌&&◌, not, ℤ, pos, List, find, Option, Some, None, option_map, option_and_then, if◌then◌else◌, Bool, true, false}
+use Rattle.std.specs.Prelude.{ℕ, zero, suc, ◌==◌, ◌&&◌, not, ℤ, pos, List, [], ◌∷◌, find, Option, Some, None, option_map, option_and_then, if◌then◌else◌, Bool, true, false}
 use Rattle.kfs_model.specs.Header.{Kind, Header}
 use Rattle.kfs_model.specs.Header.Kind.{File, Directory}
 use Rattle.kfs_model.specs.Table.{Table, numbers, get}
@@ -79,11 +79,13 @@ answer s (LeaseOn n) = Held (s.held n)
 abbrev pub climb_limit : ℕ
 climb_limit = 65536
 
--- whether the climb from a directory along the parents meets the node, the directory itself included
-abbrev pub climb_meets : Sight → (fuel : ℕ) → (node from : ℕ) → Bool
-climb_meets s zero node from = from == node
-climb_meets s (suc fuel) node from = if from == node then true else onwards (s.parent from)
-  where
-    onwards : Option ℕ → Bool
-    onwards None = false
-    onwards (Some up) = false
+-- whether the climb along the parents meets the node, where it begins included
+unfoldable pub climb_meets : (ℕ → Option ℕ) → (fuel node from : ℕ) → Bool
+climb_meets parent zero node from = from == node
+climb_meets parent (suc fuel) node from =
+    elim (from == node) [ true ↦ true | false ↦ elim (parent from) [ None ↦ false | Some up ↦ climb_meets parent fuel node up ] ]
+
+-- the nodes that the climb passes, where it begins included
+unfoldable pub climbed : (ℕ → Option ℕ) → (fuel from : ℕ) → List ℕ
+climbed parent zero from = from ∷ []
+climbed parent (suc fuel) from = from ∷ elim (parent from) [ None ↦ [] | Some up ↦ climbed parent fuel up ]
