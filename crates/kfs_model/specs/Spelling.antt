@@ -1,5 +1,25 @@
 -- How logs and plans are spelled as bytes, and what a decoder answers to bytes. Numbers are big-endian.
-use Rattle.std.specs.Prelude.{◌≢◌, ℕ, ◌<◌, ◌≤◌, List, [], ◌∷◌, length, All}
+-- Each value has one spelling.
+use Rattle.std.specs.Prelude.{◌≡◌, ◌≢◌, ℕ, zero, suc, ◌^◌, ◌<◌, ◌≤◌, List, [], ◌∷◌, ◌++◌, length, All, Option, None, Some, Result, Ok, Err}
+use Rattle.std.specs.List.{flat_map, AllByRecursion}
+use Rattle.std.specs.Int.{w16, w32, w64, to_be_bytes}
+use Rattle.kfs_model.specs.Header.{Kind, File, Directory, Header}
+use Rattle.kfs_model.specs.Entry.{Entry, Log, Create, Write, Truncate, Link, Unlink, Rename, Chmod}
+use Rattle.kfs_model.specs.PlanRow.{NameRow, NodeRow, Source, Zero, Payload, Piece, Plan}
+
+-- ---- fields
+
+abbrev pub byte : ℕ → List ℕ
+byte n = n ∷ []
+
+unfoldable pub number16 : ℕ → List ℕ
+number16 n = to_be_bytes w16 n
+
+unfoldable pub number32 : ℕ → List ℕ
+number32 n = to_be_bytes w32 n
+
+unfoldable pub number64 : ℕ → List ℕ
+number64 n = to_be_bytes w64 n
 
 -- 1 to 255 bytes, none of them zero or '/', and neither "." nor ".."
 pub record IsName (name : List ℕ) : Type 0 where
@@ -8,3 +28,180 @@ pub record IsName (name : List ℕ) : Type 0 where
   pub plain : All (λ byte. (byte ≢ 0) × (byte ≢ 47)) name
   pub not_this : name ≢ 46 ∷ []
   pub not_parent : name ≢ 46 ∷ 46 ∷ []
+
+-- how many bytes, and the bytes
+abbrev pub name_bytes : List ℕ → List ℕ
+name_bytes bytes = byte (length bytes) ++ bytes
+
+-- the same behind four bytes of length
+abbrev pub payload_bytes : List ℕ → List ℕ
+payload_bytes bytes = number32 (length bytes) ++ bytes
+
+abbrev pub IsPayload : List ℕ → Type 0
+IsPayload bytes = length bytes ≤ 65536
+
+abbrev pub kind_bytes : Kind → List ℕ
+kind_bytes File = byte 0
+kind_bytes Directory = byte 1
+
+-- the greatest mode of an entry is 0o777
+abbrev pub IsMode : ℕ → Type 0
+IsMode mode = mode ≤ 511
+
+-- ---- rows, one after another
+
+-- the bytes begin with the spelling of no value that fits
+abbrev pub BeginsWithNo : {V : Type 0} → (V → Type 0) → (V → List ℕ) → List ℕ → Type 0
+BeginsWithNo {V} Fits spelling bytes = (value : V) (rest : List ℕ) → Fits value → bytes ≢ spelling value ++ rest
+
+-- the bytes are this many rows, and then the rest
+pub record Stand {V : Type 0} (Fits : V → Type 0) (spelling : V → List ℕ) (count : ℕ) (bytes rest : List ℕ) : Type 0 where
+  pub rows : List V
+  pub number : length rows ≡ count
+  pub fit : AllByRecursion Fits rows
+  pub spelled : bytes ≡ flat_map spelling rows ++ rest
+
+-- the bytes are k rows, fewer than the count, and what follows begins with no row
+pub record Stop {V : Type 0} (Fits : V → Type 0) (spelling : V → List ℕ) (count k : ℕ) (bytes : List ℕ) : Type 0 where
+  pub rest : List ℕ
+  pub before : Stand Fits spelling k bytes rest
+  pub fewer : k < count
+  pub none : BeginsWithNo Fits spelling rest
+
+-- ---- logs
+
+abbrev pub entry_bytes : Entry → List ℕ
+entry_bytes (Create d m n k mode) = byte 1 ++ number32 d ++ name_bytes m ++ number32 n ++ kind_bytes k ++ number16 mode
+entry_bytes (Write n offset p) = byte 2 ++ number32 n ++ number64 offset ++ payload_bytes p
+entry_bytes (Truncate n size) = byte 3 ++ number32 n ++ number64 size
+entry_bytes (Link n d m) = byte 4 ++ number32 n ++ number32 d ++ name_bytes m
+entry_bytes (Unlink d m flag) = byte 5 ++ number32 d ++ name_bytes m ++ kind_bytes flag
+entry_bytes (Rename d m e k) = byte 6 ++ number32 d ++ name_bytes m ++ number32 e ++ name_bytes k
+entry_bytes (Chmod n mode) = byte 7 ++ number32 n ++ number16 mode
+
+-- what has a spelling: the modes, names and payloads are in their ranges, the other numbers any of their width
+abbrev pub IsEntry : Entry → Type 0
+IsEntry (Create d m n k mode) = (d < 2 ^ 32) × IsName m × (n < 2 ^ 32) × IsMode mode
+IsEntry (Write n offset p) = (n < 2 ^ 32) × (offset < 2 ^ 64) × IsPayload p
+IsEntry (Truncate n size) = (n < 2 ^ 32) × (size < 2 ^ 64)
+IsEntry (Link n d m) = (n < 2 ^ 32) × (d < 2 ^ 32) × IsName m
+IsEntry (Unlink d m flag) = (d < 2 ^ 32) × IsName m
+IsEntry (Rename d m e k) = (d < 2 ^ 32) × IsName m × (e < 2 ^ 32) × IsName k
+IsEntry (Chmod n mode) = (n < 2 ^ 32) × IsMode mode
+
+-- whose log it is, and how many entries follow
+pub record LogHeader : Type 0 where
+  pub client : ℕ
+  pub count : ℕ
+
+-- "KLOG" and version 1
+abbrev pub log_header : LogHeader → List ℕ
+log_header h = 75 ∷ 76 ∷ 79 ∷ 71 ∷ 1 ∷ number32 h.client ++ number16 h.count
+
+abbrev pub IsLogHeader : LogHeader → Type 0
+IsLogHeader h = (h.client < 2 ^ 32) × (h.count ≤ 4096)
+
+abbrev pub header_of : Log → LogHeader
+header_of l = record { client = l.client; count = length l.entries }
+
+abbrev pub log_bytes : Log → List ℕ
+log_bytes l = log_header (header_of l) ++ flat_map entry_bytes l.entries
+
+abbrev pub IsLog : Log → Type 0
+IsLog l = IsLogHeader (header_of l) × AllByRecursion IsEntry l.entries
+
+-- ---- plans
+
+abbrev pub name_row_bytes : NameRow → List ℕ
+name_row_bytes r = number32 r.directory ++ name_bytes r.name ++ number32 r.number
+
+abbrev pub IsNameRow : NameRow → Type 0
+IsNameRow r = (r.directory < 2 ^ 32) × IsName r.name × (r.number < 2 ^ 32)
+
+-- 1 for a file, 2 for a directory
+abbrev pub state_bytes : Kind → List ℕ
+state_bytes File = byte 1
+state_bytes Directory = byte 2
+
+-- 0 for gone, else the state and the rest of the header
+abbrev pub header_bytes : Option Header → List ℕ
+header_bytes None = byte 0
+header_bytes (Some h) = state_bytes h.kind ++ number16 h.mode ++ number32 h.uid ++ number32 h.gid ++ number16 h.links ++ number64 h.size
+
+abbrev pub IsHeader : Option Header → Type 0
+IsHeader None = Unit {0}
+IsHeader (Some h) = (h.mode < 2 ^ 16) × (h.uid < 2 ^ 32) × (h.gid < 2 ^ 32) × (h.links < 2 ^ 16) × (h.size < 2 ^ 64)
+
+abbrev pub node_row_bytes : NodeRow → List ℕ
+node_row_bytes r = number32 r.number ++ header_bytes r.now
+
+abbrev pub IsNodeRow : NodeRow → Type 0
+IsNodeRow r = (r.number < 2 ^ 32) × IsHeader r.now
+
+abbrev pub source_bytes : Source → List ℕ
+source_bytes Zero = byte 0
+source_bytes (Payload entry place) = byte 1 ++ number16 entry ++ number32 place
+
+abbrev pub IsSource : Source → Type 0
+IsSource Zero = Unit {0}
+IsSource (Payload entry place) = (entry < 2 ^ 16) × (place < 2 ^ 32)
+
+abbrev pub piece_bytes : Piece → List ℕ
+piece_bytes p = number32 p.number ++ number64 p.start ++ number64 p.length ++ source_bytes p.source
+
+abbrev pub IsPiece : Piece → Type 0
+IsPiece p = (p.number < 2 ^ 32) × (p.start < 2 ^ 64) × (p.length < 2 ^ 64) × IsSource p.source
+
+-- how many rows each part has
+pub record Counts : Type 0 where
+  pub names : ℕ
+  pub nodes : ℕ
+  pub pieces : ℕ
+
+-- "KPLN" and version 1
+abbrev pub plan_header : Counts → List ℕ
+plan_header c = 75 ∷ 80 ∷ 76 ∷ 78 ∷ 1 ∷ number16 c.names ++ number16 c.nodes ++ number32 c.pieces
+
+abbrev pub AreCounts : Counts → Type 0
+AreCounts c = (c.names < 2 ^ 16) × (c.nodes < 2 ^ 16) × (c.pieces < 2 ^ 32)
+
+abbrev pub counts_of : Plan → Counts
+counts_of p = record { names = length p.names; nodes = length p.nodes; pieces = length p.pieces }
+
+abbrev pub plan_bytes : Plan → List ℕ
+plan_bytes p = plan_header (counts_of p) ++ flat_map name_row_bytes p.names ++ flat_map node_row_bytes p.nodes ++ flat_map piece_bytes p.pieces
+
+abbrev pub IsPlan : Plan → Type 0
+IsPlan p = AreCounts (counts_of p) × AllByRecursion IsNameRow p.names × AllByRecursion IsNodeRow p.nodes × AllByRecursion IsPiece p.pieces
+
+-- ---- what a decoder answers
+
+-- why bytes are no log or no plan
+pub data SpellingFault : Type 0 where
+  BadHeader Trailing : SpellingFault
+  -- so many entries were read
+  BadEntry : (k : ℕ) → SpellingFault
+  -- so many rows of this part were read: 0 names, 1 nodes, 2 pieces
+  BadRow : (part k : ℕ) → SpellingFault
+
+-- the bytes are the log · a log and more · begin with no header · a header, k entries, and no entry
+abbrev pub LogAnswer : List ℕ → Result Log SpellingFault → Type 0
+LogAnswer bytes (Ok l) = IsLog l × (bytes ≡ log_bytes l)
+LogAnswer bytes (Err Trailing) = (l : Log) × (more : List ℕ) × IsLog l × (more ≢ []) × (bytes ≡ log_bytes l ++ more)
+LogAnswer bytes (Err BadHeader) = BeginsWithNo IsLogHeader log_header bytes
+LogAnswer bytes (Err (BadEntry k)) = (h : LogHeader) × (rest : List ℕ) × IsLogHeader h × (bytes ≡ log_header h ++ rest) × Stop IsEntry entry_bytes h.count k rest
+LogAnswer bytes (Err (BadRow part k)) = ⊥
+
+-- after the header, so many rows stand of this part, behind all the rows of the parts before it
+abbrev pub PartStops : Counts → ℕ → ℕ → List ℕ → Type 0
+PartStops c zero k rows = Stop IsNameRow name_row_bytes c.names k rows
+PartStops c (suc zero) k rows = (nodes : List ℕ) × Stand IsNameRow name_row_bytes c.names rows nodes × Stop IsNodeRow node_row_bytes c.nodes k nodes
+PartStops c (suc (suc zero)) k rows = (nodes pieces : List ℕ) × Stand IsNameRow name_row_bytes c.names rows nodes × Stand IsNodeRow node_row_bytes c.nodes nodes pieces × Stop IsPiece piece_bytes c.pieces k pieces
+PartStops c (suc (suc (suc part))) k rows = ⊥
+
+abbrev pub PlanAnswer : List ℕ → Result Plan SpellingFault → Type 0
+PlanAnswer bytes (Ok p) = IsPlan p × (bytes ≡ plan_bytes p)
+PlanAnswer bytes (Err Trailing) = (p : Plan) × (more : List ℕ) × IsPlan p × (more ≢ []) × (bytes ≡ plan_bytes p ++ more)
+PlanAnswer bytes (Err BadHeader) = BeginsWithNo AreCounts plan_header bytes
+PlanAnswer bytes (Err (BadRow part k)) = (c : Counts) × (rows : List ℕ) × AreCounts c × (bytes ≡ plan_header c ++ rows) × PartStops c part k rows
+PlanAnswer bytes (Err (BadEntry k)) = ⊥
