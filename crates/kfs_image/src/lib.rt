@@ -1,2 +1,16 @@
 //! The image of the file system: its nodes, names and tiers.
 #![tactic(auto)]
+
+mod cell;
+mod image;
+mod layout;
+pub mod shape;
+mod sizes;
+mod slots;
+mod tally;
+
+pub use cell::{Answer, Cell};
+pub use image::Image;
+pub use kfs_entry::{Header, Kind, Name};
+pub use layout::{Shape, look};
+pub use sizes::TierSizes;

@@ -1,0 +1,40 @@
+//! The change that a landing makes to an image.
+
+use crate::image::Image;
+use kfs_entry::{NameRow, NodeRow};
+use std::alloc::{AllocError, Allocator};
+use std::marker::PhantomData;
+
+/// What the names and nodes of a tree are after a log where they differ from before: the number that
+/// each name leads to, or 0 for none, ascending by directory and name, and the header of each
+/// number, or none, ascending.
+#[derive(Debug, Drop)]
+pub struct Net<A: Allocator> {
+    pub names: Vec<NameRow, A>,
+    pub nodes: Vec<NodeRow, A>,
+}
+
+/// The blocks that a landing writes and those that it clears: none, as long as logs have no bytes.
+#[derive(Debug, Drop)]
+pub struct Fill<A: Allocator> {
+    blocks: PhantomData<A>,
+}
+
+impl<A: Allocator> Fill<A> {
+    /// No block.
+    pub fn empty() -> Fill<A> {
+        Fill {
+            blocks: PhantomData,
+        }
+    }
+}
+
+/// Makes the change of a net. Every growth comes before the first change, so `Err` leaves what the
+/// image shows as it is. A view that was taken before shows what it showed.
+pub fn net_apply<A: Allocator + Clone>(
+    image: &mut Image<A>,
+    net: &Net<A>,
+    _fill: &Fill<A>,
+) -> Result<(), AllocError> {
+    image.change(net.names.as_slice(), net.nodes.as_slice())
+}
