@@ -5,5 +5,7 @@ pub mod Tree
 pub mod Access
 pub mod Sight
 pub mod Check
+pub mod Effect
+pub mod Run
 pub mod PlanRow
 pub mod Spelling

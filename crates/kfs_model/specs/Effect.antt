@@ -1,0 +1,74 @@
+-- What a clean entry does to the tree (POSIX.1-2017: open, write, ftruncate, link, unlink and rmdir, rename, chmod).
+use Rattle.std.specs.Prelude.{ℕ, ◌+◌, ◌-◌, ◌==◌, ◌||◌, Bool, true, false, List, [], ◌∷◌, ◌++◌, length, take, drop, replicate, Option, Some, None}
+use Rattle.kfs_model.specs.Header.{Kind, File, Directory}
+use Rattle.kfs_model.specs.Access.{Client}
+use Rattle.kfs_model.specs.Table.{Table, numbers, get, insert, remove, retain}
+use Rattle.kfs_model.specs.Tree.{Tree, Node, Body, Cells, Names, Links, target, is_named, size_of}
+use Rattle.kfs_model.specs.Entry.{Entry, Create, Write, Truncate, Link, Unlink, Rename, Chmod}
+
+-- what new cells are: the cell of a gap, and those of the payload of the entry with this number
+pub record Fabric (B : Type 0) : Type 0 where
+  pub gap : B
+  pub payload : (entry : ℕ) → List ℕ → List B
+
+module _ {B : Type 0} (fabric : Fabric B) where
+  -- with cells of a gap at its end up to this size, where it is shorter
+  abbrev pub lengthened : ℕ → List B → List B
+  lengthened size cells = cells ++ replicate (size - length cells) fabric.gap
+
+  -- the payload stands at the offset, behind a gap where the file ends before it
+  unfoldable pub overwritten : (offset : ℕ) → (payload cells : List B) → List B
+  overwritten offset [] cells = cells
+  overwritten offset (b ∷ bs) cells = take offset (lengthened offset cells) ++ (b ∷ bs) ++ drop (offset + length (b ∷ bs)) cells
+
+  -- the first cells, and a gap behind them where there are fewer
+  unfoldable pub resized : ℕ → List B → List B
+  resized size cells = take size (lengthened size cells)
+
+  abbrev pub new_body : Kind → Body B
+  new_body File = Cells []
+  new_body Directory = Names
+
+  abbrev pub on_cells : (List B → List B) → Body B → Body B
+  on_cells change (Cells cells) = Cells (change cells)
+  on_cells change Names = Names
+
+module _ {B : Type 0} where
+  -- the node changed, where there is one
+  abbrev pub changed_node : (Node B → Node B) → ℕ → Tree B → Tree B
+  changed_node change n t = elim (get t.nodes n) [ None ↦ t | Some node ↦ record { nodes = insert t.nodes n (change node); names = t.names } ]
+
+  abbrev pub with_names : Links → Tree B → Tree B
+  with_names names t = record { nodes = t.nodes; names = names }
+
+  -- a node that no name leads to goes, the root stays
+  unfoldable pub swept : Tree B → Tree B
+  swept t = record { nodes = retain (λ n. (n == 1) || is_named t.names n) t.nodes; names = t.names }
+
+-- the old name is gone and the new one leads to the node; nothing changes where both lead to one node
+abbrev pub moved_name : Links → (d : ℕ) → (m : List ℕ) → (e : ℕ) → (k : List ℕ) → Links
+moved_name names d m e k = elim (target names d m) [ None ↦ names | Some s ↦ to_new s (target names e k) ]
+  where
+    move : ℕ → Links
+    move s = insert (remove names (d, m)) (e, k) s
+
+    to_new : ℕ → Option ℕ → Links
+    to_new s None = move s
+    to_new s (Some t) = elim (s == t) [ true ↦ names | false ↦ move s ]
+
+module _ {B : Type 0} (fabric : Fabric B) (client : Client) where
+  -- the change of the entry with this number in its log, before nodes without a name go
+  unfoldable pub change_of : (index : ℕ) → Entry → Tree B → Tree B
+  change_of index (Create d m n kind mode) t = record {
+    nodes = insert t.nodes n (record { mode = mode; uid = client.uid; gid = client.gid; body = new_body fabric kind });
+    names = insert t.names (d, m) n;
+  }
+  change_of index (Write n offset payload) t = changed_node (λ node. record node { body = on_cells fabric (overwritten fabric offset (fabric.payload index payload)) node.body }) n t
+  change_of index (Truncate n size) t = changed_node (λ node. record node { body = on_cells fabric (resized fabric size) node.body }) n t
+  change_of index (Link n d m) t = with_names (insert t.names (d, m) n) t
+  change_of index (Unlink d m kind) t = with_names (remove t.names (d, m)) t
+  change_of index (Rename d m e k) t = with_names (moved_name t.names d m e k) t
+  change_of index (Chmod n mode) t = changed_node (λ node. record node { mode = mode }) n t
+
+  abbrev pub effect : (index : ℕ) → Entry → Tree B → Tree B
+  effect index entry t = swept (change_of index entry t)

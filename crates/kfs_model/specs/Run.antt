@@ -1,0 +1,97 @@
+-- The run of a log: its entries one by one, each judged at its own point, up to the first fault.
+use Rattle.std.specs.Prelude.{ℕ, ◌+◌, ◌==◌, Bool, List, [], ◌∷◌, ◌++◌, length, map, Option, Some, None, Result, Ok, Err}
+use Rattle.std.specs.List.{list_any, enumerate_from}
+use Rattle.kfs_model.specs.Header.{Kind}
+use Rattle.kfs_model.specs.Access.{Client}
+use Rattle.kfs_model.specs.Table.{mapped, numbers}
+use Rattle.kfs_model.specs.Tree.{Tree, Node, Body, Cells, Names}
+use Rattle.kfs_model.specs.Sight.{Sight, sight}
+use Rattle.kfs_model.specs.Check.{Reason, Spot, first_fault}
+use Rattle.kfs_model.specs.Entry.{Entry, Create, Write, Truncate, Link, Unlink, Rename, Chmod}
+use Rattle.kfs_model.specs.Effect.{Fabric, effect}
+
+-- who judges: the client and its live write leases, and what the cells showed before the log
+pub record Scene : Type 0 where
+  pub client : Client
+  pub held : ℕ → Bool
+  pub before : Sight
+
+-- the numbers that the log has created so far, the latest first
+abbrev pub created_by : Entry → List ℕ → List ℕ
+created_by (Create d m n kind mode) numbers = n ∷ numbers
+created_by (Write n offset payload) numbers = numbers
+created_by (Truncate n size) numbers = numbers
+created_by (Link n d m) numbers = numbers
+created_by (Unlink d m kind) numbers = numbers
+created_by (Rename d m e k) numbers = numbers
+created_by (Chmod n mode) numbers = numbers
+
+abbrev pub spot : Scene → Sight → (created : List ℕ) → Spot
+spot scene now created = record {
+  client = scene.client;
+  held = scene.held;
+  before = scene.before;
+  now = now;
+  created = λ n. list_any (λ c. c == n) created;
+}
+
+-- the first bad entry, and why
+pub record EntryFault : Type 0 where
+  pub entry : ℕ
+  pub reason : Reason
+
+module _ {B : Type 0} (fabric : Fabric B) (scene : Scene) where
+  -- the entries from the one with this number on, from this tree
+  unfoldable pub run_from : (index : ℕ) → (created : List ℕ) → Tree B → List Entry → Result (Tree B) EntryFault
+  run_from index created t [] = Ok t
+  run_from index created t (entry ∷ entries) = elim (first_fault (spot scene (sight t) created) entry) [
+    | None ↦ run_from (index + 1) (created_by entry created) (effect fabric scene.client index entry t) entries
+    | Some reason ↦ Err (record { entry = index; reason = reason })
+  ]
+
+  abbrev pub run : Tree B → List Entry → Result (Tree B) EntryFault
+  run t entries = run_from 0 [] t entries
+
+-- ---- what a file is made of
+
+abbrev pub bytes : Fabric ℕ
+bytes = record { gap = 0; payload = λ index payload. payload }
+
+-- where a byte comes from: the file that had it before the log, a gap, or a place in an entry's payload
+pub data Mark : Type 0 where
+  Base : (number place : ℕ) → Mark
+  Zero : Mark
+  Payload : (entry place : ℕ) → Mark
+
+abbrev pub places_from : {X : Type 0} → (ℕ → X) → ℕ → List ℕ → List X
+places_from at place [] = []
+places_from at place (b ∷ bs) = at place ∷ places_from at (place + 1) bs
+
+abbrev pub marks : Fabric Mark
+marks = record { gap = Zero; payload = λ index payload. places_from (Payload index) 0 payload }
+
+abbrev pub lengths : Fabric (Unit {0})
+lengths = record { gap = tt; payload = λ index payload. map (λ _. tt) payload }
+
+module _ {B C : Type 0} where
+  abbrev pub mapped_body : (List B → List C) → Body B → Body C
+  mapped_body f (Cells cells) = Cells (f cells)
+  mapped_body f Names = Names
+
+  -- the same tree, each file's cells changed by a function of the file's number
+  abbrev pub mapped_tree : (ℕ → List B → List C) → Tree B → Tree C
+  mapped_tree f t = record {
+    nodes = mapped (λ n (node : Node B). record { mode = node.mode; uid = node.uid; gid = node.gid; body = mapped_body (f n) node.body }) t.nodes;
+    names = t.names;
+  }
+
+-- the tree without what its files hold
+abbrev pub skeleton : {B : Type 0} → Tree B → Tree (Unit {0})
+skeleton t = mapped_tree (λ n cells. map (λ _. tt) cells) t
+
+abbrev pub base_marks : ℕ → ℕ → List ℕ → List Mark
+base_marks number place cells = places_from (Base number) place cells
+
+-- each byte marked as what it is before the log
+abbrev pub marked : Tree ℕ → Tree Mark
+marked t = mapped_tree (λ n cells. base_marks n 0 cells) t
