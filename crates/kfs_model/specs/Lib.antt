@@ -7,5 +7,10 @@ pub mod Sight
 pub mod Check
 pub mod Effect
 pub mod Run
+pub mod Lease
+pub mod Soundness
+pub mod Allowed
 pub mod PlanRow
+pub mod Plan
+pub mod FirstWrong
 pub mod Spelling

@@ -1,0 +1,142 @@
+-- Leases on nodes: who holds what until when (Strata, leases: read shared, write exclusive).
+use Rattle.std.specs.Prelude.{ℕ, ◌+◌, ◌==◌, ◌&&◌, ◌||◌, not, nat_lt, nat_le, Bool, true, false, List, [], ◌∷◌, length, find, filter, Option, Some, None, is_some, is_none, Result, Ok, Err, if◌then◌else◌}
+use Rattle.std.specs.List.{list_any, list_all}
+use Rattle.std.specs.Ordering.{is_eq}
+use Rattle.kfs_model.specs.Access.{Client, Search, may_header}
+use Rattle.kfs_model.specs.Table.{Table, Order, numbers, bytes, pairs, get, insert, remove, retain, empty}
+use Rattle.kfs_model.specs.Sight.{Sight, is_directory}
+use Rattle.kfs_model.specs.Check.{is_some_and}
+
+pub data LeaseKind : Type 0 where
+  ReadLease WriteLease : LeaseKind
+
+pub record Lease : Type 0 where
+  pub kind : LeaseKind
+  pub end : ℕ
+
+-- leases by client and number, and the moment
+pub record Leases : Type 0 where
+  pub rows : Table (pairs numbers numbers) Lease
+  pub moment : ℕ
+
+pub data LeaseFault : Type 0 where
+  UnknownClient BadPath Past NoLeaseHeld Backwards : LeaseFault
+  NoSuchName NotDirectory NoSearch : (component : ℕ) → LeaseFault
+  LeaseHeld : (client : ℕ) → LeaseFault
+
+abbrev pub no_leases : Leases
+no_leases = record { rows = empty; moment = 0 }
+
+abbrev pub is_write : LeaseKind → Bool
+is_write ReadLease = false
+is_write WriteLease = true
+
+abbrev pub is_live : (moment : ℕ) → Lease → Bool
+is_live moment lease = nat_lt moment lease.end
+
+-- whether the client holds a live write lease on the node
+abbrev pub holds : Leases → (client number : ℕ) → Bool
+holds leases client number = is_some_and (get leases.rows (client, number)) (λ lease. is_write lease.kind && is_live leases.moment lease)
+
+abbrev pub row_of : List Client → ℕ → Option Client
+row_of clients number = find (λ (c : Client). c.number == number) clients
+
+-- ---- paths (POSIX.1-2017, XBD 4.13: from the root alone)
+
+abbrev pub slash : ℕ
+slash = 47
+
+abbrev pub dot : ℕ
+dot = 46
+
+abbrev pub is_dots : List ℕ → Bool
+is_dots [] = false
+is_dots (a ∷ []) = a == dot
+is_dots (a ∷ b ∷ []) = (a == dot) && (b == dot)
+is_dots (a ∷ b ∷ c ∷ rest) = false
+
+-- 1 to 255 bytes without a slash and without a zero byte, and neither of the names of a directory itself and of the one above
+abbrev pub is_name : List ℕ → Bool
+is_name name = nat_le 1 (length name) && nat_le (length name) 255 && list_all (λ b. not (b == slash) && not (b == 0)) name && not (is_dots name)
+
+abbrev pub prepended : ℕ → List (List ℕ) → List (List ℕ)
+prepended b [] = (b ∷ []) ∷ []
+prepended b (part ∷ parts) = (b ∷ part) ∷ parts
+
+-- the parts between the slashes
+abbrev pub parts_of : List ℕ → List (List ℕ)
+parts_of [] = [] ∷ []
+parts_of (b ∷ bs) = if b == slash then [] ∷ parts_of bs else prepended b (parts_of bs)
+
+-- the names of a path: a slash alone, or names with a slash before each
+abbrev pub names_of : List ℕ → Option (List (List ℕ))
+names_of [] = None
+names_of (b ∷ []) = if b == slash then Some [] else None
+names_of (b ∷ c ∷ rest) = if (b == slash) && list_all is_name (parts_of (c ∷ rest)) then Some (parts_of (c ∷ rest)) else None
+
+-- the node that the names lead to, from a directory on: at each name the directory is looked at, then its search bit, then the name
+unfoldable pub walked : Sight → Client → (node component : ℕ) → List (List ℕ) → Result ℕ LeaseFault
+walked sight client node component [] = Ok node
+walked sight client node component (name ∷ names) = elim (is_directory (sight.head node)) [
+  | false ↦ Err (NotDirectory component)
+  | true ↦ elim (is_some_and (sight.head node) (λ h. may_header client h Search)) [
+    | false ↦ Err (NoSearch component)
+    | true ↦ elim (sight.name node name) [ None ↦ Err (NoSuchName component) | Some next ↦ walked sight client next (component + 1) names ]
+  ]
+]
+
+-- ---- grant, drop and tick: the answer and the leases after, which a refusal leaves as they were
+
+-- two clients' leases on one node conflict where one of them is for writing
+abbrev pub conflicts : Leases → (client number : ℕ) → LeaseKind → ((ℕ × ℕ) × Lease) → Bool
+conflicts leases client number kind row =
+    (row.0.1 == number) && not (row.0.0 == client) && is_live leases.moment row.1 && (is_write kind || is_write row.1.kind)
+
+-- the least client in conflict: the rows stand in the order of their clients
+abbrev pub in_conflict : Leases → (client number : ℕ) → LeaseKind → Option ((ℕ × ℕ) × Lease)
+in_conflict leases client number kind = find (conflicts leases client number kind) leases.rows.entries
+
+abbrev pub Outcome : Type 0
+Outcome = Result ℕ LeaseFault × Leases
+
+abbrev pub refused : LeaseFault → Leases → Outcome
+refused fault leases = (Err fault, leases)
+
+module _ (leases : Leases) where
+  -- on a node that the walk has found
+  abbrev pub granted_at : Client → (number : ℕ) → LeaseKind → (end : ℕ) → Outcome
+  granted_at client number kind end =
+      if nat_le end leases.moment then refused Past leases
+      else elim (in_conflict leases client.number number kind) [
+        | Some row ↦ refused (LeaseHeld row.0.0) leases
+        | None ↦ (Ok number, record leases { rows = insert leases.rows (client.number, number) (record { kind = kind; end = end }) })
+      ]
+
+  abbrev pub granted_by_walk : Result ℕ LeaseFault → Client → LeaseKind → (end : ℕ) → Outcome
+  granted_by_walk (Err fault) client kind end = refused fault leases
+  granted_by_walk (Ok number) client kind end = granted_at client number kind end
+
+  abbrev pub granted_on : Sight → Option (List (List ℕ)) → Client → LeaseKind → (end : ℕ) → Outcome
+  granted_on sight None client kind end = refused BadPath leases
+  granted_on sight (Some names) client kind end = granted_by_walk (walked sight client 1 0 names) client kind end
+
+  -- a lease for the client on the node that the path leads to
+  unfoldable pub granted : Sight → List Client → (client : ℕ) → (path : List ℕ) → LeaseKind → (end : ℕ) → Outcome
+  granted sight clients number path kind end =
+      elim (row_of clients number) [ None ↦ refused UnknownClient leases | Some client ↦ granted_on sight (names_of path) client kind end ]
+
+  unfoldable pub dropped : List Client → (client number : ℕ) → Outcome
+  dropped clients client number =
+      if is_none (row_of clients client) then refused UnknownClient leases
+      else if is_none (get leases.rows (client, number)) then refused NoLeaseHeld leases
+      else (Ok number, record leases { rows = remove leases.rows (client, number) })
+
+  -- the moment goes on, and leases that are no longer live go
+  unfoldable pub ticked : (moment : ℕ) → Outcome
+  ticked moment =
+      if nat_lt moment leases.moment then refused Backwards leases
+      else (Ok moment, record { rows = retain (λ key. is_some_and (get leases.rows key) (is_live moment)) leases.rows; moment = moment })
+
+  -- leases on numbers that are no node end
+  unfoldable pub without_gone : (ℕ → Bool) → Leases
+  without_gone is_node = record { rows = retain (λ key. is_node key.1) leases.rows; moment = leases.moment }
