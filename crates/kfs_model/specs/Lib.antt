@@ -13,4 +13,7 @@ pub mod Allowed
 pub mod PlanRow
 pub mod Plan
 pub mod FirstWrong
+pub mod Placement
 pub mod Spelling
+pub mod Setting
+mod Examples

@@ -1,0 +1,64 @@
+-- Which blocks of files a log writes and clears, and how much room it needs.
+use Rattle.std.specs.Prelude.{ℕ, zero, suc, ◌+◌, ◌*◌, ◌/◌, ◌==◌, ◌&&◌, ◌||◌, not, Bool, true, false, List, [], ◌∷◌, ◌++◌, length, take, drop, filter, map, flat_map, Option, Some}
+use Rattle.std.specs.List.{list_any, list_all}
+use Rattle.kfs_model.specs.Table.{Table, Order, numbers, pairs}
+use Rattle.kfs_model.specs.Tree.{Tree, Node, cells_of}
+use Rattle.kfs_model.specs.Run.{Mark}
+use Rattle.kfs_model.specs.Plan.{is_base}
+
+-- bytes in a block of a file and of a device
+abbrev pub block_size : ℕ
+block_size = 4096
+
+-- a tier, 0 to 2, and a block of its device
+pub record Place : Type 0 where
+  pub tier : ℕ
+  pub place : ℕ
+
+-- where the blocks of files lie: (number, block) to a place; none for a block that isn't mapped
+abbrev pub Placement : Type 0
+Placement = Table (pairs numbers numbers) Place
+
+abbrev pub is_payload : Mark → Bool
+is_payload (Mark.Base number place) = false
+is_payload Mark.Zero = false
+is_payload (Mark.Payload entry place) = true
+
+abbrev pub is_zero : Mark → Bool
+is_zero (Mark.Base number place) = false
+is_zero Mark.Zero = true
+is_zero (Mark.Payload entry place) = false
+
+-- written: a byte of it comes from the log, or it has both zero bytes and bytes from before
+abbrev pub is_written : List Mark → Bool
+is_written block = list_any is_payload block || (list_any is_zero block && list_any is_base block)
+
+-- cleared: all of its bytes were made zero
+abbrev pub is_cleared : List Mark → Bool
+is_cleared block = list_all is_zero block
+
+abbrev pub block_count : ℕ → ℕ
+block_count size = (size + 4095) / block_size
+
+-- the marks cut into blocks, with their block numbers
+abbrev pub blocks_from : (count block : ℕ) → List Mark → List (ℕ × List Mark)
+blocks_from zero block marks = []
+blocks_from (suc count) block marks = (block, take block_size marks) ∷ blocks_from count (block + 1) (drop block_size marks)
+
+abbrev pub blocks_of : List Mark → List (ℕ × List Mark)
+blocks_of marks = blocks_from (block_count (length marks)) 0 marks
+
+abbrev pub blocks_that : (List Mark → Bool) → ℕ × Node Mark → List (ℕ × ℕ)
+blocks_that test entry = map (λ block. (entry.0, block.0)) (filter (λ block. test block.1) (blocks_of (cells_of (Some entry.1))))
+
+-- the blocks of files that the log writes, ascending
+unfoldable pub written_blocks : Tree Mark → List (ℕ × ℕ)
+written_blocks t = flat_map (blocks_that is_written) t.nodes.entries
+
+-- the blocks that the log makes all zero, ascending
+unfoldable pub cleared_blocks : Tree Mark → List (ℕ × ℕ)
+cleared_blocks t = flat_map (blocks_that is_cleared) t.nodes.entries
+
+-- how many free places of tier 0 a landing takes
+abbrev pub need : Tree Mark → ℕ
+need t = length (written_blocks t)
