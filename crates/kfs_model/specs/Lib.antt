@@ -15,5 +15,6 @@ pub mod Plan
 pub mod FirstWrong
 pub mod Placement
 pub mod Spelling
+pub mod Judgement
 pub mod Setting
 mod Examples
