@@ -16,5 +16,4 @@ pub mod FirstWrong
 pub mod Placement
 pub mod Spelling
 pub mod Judgement
-pub mod Setting
-mod Examples
+pub mod Example
