@@ -1,2 +1,18 @@
 //! Judges a client's log and plan against a view of the image, the leases and the clients.
 #![tactic(auto)]
+
+mod check;
+mod create;
+mod draft;
+pub mod lease;
+pub mod mode;
+pub mod plan;
+mod reads;
+mod scene;
+mod view;
+mod walk;
+
+pub use check::Reason;
+pub use reads::{Read, Seen};
+pub use view::View;
+pub use walk::{EntryFault, Walk, judge_entries};

@@ -1,0 +1,2 @@
+pub mod Creates
+pub mod View

