@@ -1,5 +1,4 @@
 -- The entries that are judged today.
-use Rattle.std.specs.Prelude.{ℕ}
 use Rattle.kfs_entry.specs.declared.entry.Entry.{Entry}
 use Rattle.kfs_entry.specs.declared.entry.Entry.TheVariants.{Create}
 use Rattle.kfs_entry.specs.declared.entry.Span.{Span}

@@ -1,2 +1,3 @@
 pub mod Creates
+pub mod Mode
 pub mod View

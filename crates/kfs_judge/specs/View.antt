@@ -1,6 +1,6 @@
 -- What a view of a state is made of.
 use Rattle.std.specs.Prelude.{List}
-use Rattle.kfs_judge.specs.declared.mode.Client.{Client}
+use Rattle.kfs_model.specs.Access.{Client}
 use Rattle.kfs_judge.specs.declared.view.View.{View}
 
 -- the rows of the clients

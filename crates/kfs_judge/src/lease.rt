@@ -1,5 +1,7 @@
 //! Leases of clients on nodes, up to an end moment: read leases are shared, write leases exclusive.
-ghost use Rattle.std.specs.Prelude.{◌≡◌};
+ghost use Rattle.std.specs.Prelude.{◌≡◌, ◌<◌, IfSome};
+ghost use Rattle.std.specs.BTreeMap.{btree_map_len};
+ghost use Rattle.std.specs.BTreeSet.{btree_set_len};
 ghost use Rattle.kfs_judge.specs.declared.lease.LeaseFault.TheVariants.{OutOfMemory};
 
 mod path;
@@ -153,36 +155,53 @@ impl<A: Allocator> Leases<A> {
             return Err(LeaseFault::Backwards);
         }
         self.moment = moment;
-        while let Some((_, number, client)) = self.first_ended() {
-            let _ = self.take(number, client);
+        while let Some(key) = take_ended(&mut self.ends, moment) {
+            let _ = self.rows.remove(&key);
         }
         Ok(())
     }
 
-    /// The row with the least end, where it is no longer live.
-    fn first_ended(&self) -> Option<(u64, u32, u32)> {
-        let first = *self.ends.first()?;
-        if first.0 <= self.moment {
-            Some(first)
-        } else {
-            None
-        }
-    }
-
     /// Ends all leases on a node that goes. Takes no memory.
     pub fn remove_node(&mut self, number: u32) {
-        while let Some(client) = self.first_holder(number) {
-            let _ = self.take(number, client);
+        while let Some((client, lease)) = take_first(&mut self.rows, number) {
+            let _ = self.ends.remove(&(lease.end, number, client));
         }
     }
+}
 
-    /// The least client with a lease on the node.
-    fn first_holder(&self, number: u32) -> Option<u32> {
-        let first = Bound::Included((number, 0));
-        let last = Bound::Included((number, u32::MAX));
-        let (key, _) = self.rows.range((first, last)).next()?;
-        Some(key.1)
+/// Takes out the least end where it is at most the moment, and answers its row's key.
+fn take_ended<A: Allocator>(
+    ends: &mut BTreeSet<(u64, u32, u32), A>,
+    moment: u64,
+) -> Option<(u32, u32)>
+    ensures fewer { IfSome result (λ _. btree_set_len ends.new < btree_set_len ends.old) }
+{
+    let first = *ends.first()?;
+    if first.0 > moment {
+        return None;
     }
+    let _ = ends.pop_first()?;
+    Some((first.1, first.2))
+}
+
+/// Takes out the row of the least client with a lease on the node.
+fn take_first<A: Allocator>(
+    rows: &mut BTreeMap<(u32, u32), Lease, A>,
+    number: u32,
+) -> Option<(u32, Lease)>
+    ensures fewer { IfSome result (λ _. btree_map_len rows.new < btree_map_len rows.old) }
+{
+    let client = first_client(rows, number)?;
+    let lease = rows.remove(&(number, client))?;
+    Some((client, lease))
+}
+
+/// The least client with a lease on the node.
+fn first_client<A: Allocator>(rows: &BTreeMap<(u32, u32), Lease, A>, number: u32) -> Option<u32> {
+    let first = Bound::Included((number, 0));
+    let last = Bound::Included((number, u32::MAX));
+    let (key, _) = rows.range((first, last)).next()?;
+    Some(key.1)
 }
 
 impl<A: Allocator + Clone> Leases<A> {

@@ -1,6 +1,11 @@
 //! Clients, and who may do what by the permission bits of a node (POSIX.1-2017, XBD 4.5).
+ghost use Rattle.std.specs.Prelude.{◌≡◌, ◌+◌, ◌*◌, ◌<◌, ◌≤◌, ◌↔◌, ◌⊎◌, ◌==◌, ◌||◌, length, Any, Contains, IsTrue, IsSome, IfSome, IfOk, IsErrOf};
+ghost use Rattle.std.specs.List.{list_any};
+ghost use Rattle.kfs_model.specs.Access as access;
+ghost use Rattle.kfs_judge.specs.Mode.{class_shown, want_shown};
 
 use arrayvec::ArrayVec;
+use std::marker::Model;
 
 /// The greatest number of supplementary groups of a client.
 pub const GROUP_LIMIT: usize = 16;
@@ -18,6 +23,19 @@ pub struct Client {
     privileged: bool,
     first: u32,
     last: u32,
+}
+
+impl Model for Client {
+    ghost use Rattle.std.specs.Prelude.{◌<◌, ◌≤◌};
+    ghost use Rattle.kfs_model.specs.Access.{Client as ClientRow};
+
+    ghost Value = { ClientRow };
+
+    ghost view = { λ c. record { number = c.number; uid = c.uid; gid = c.gid; groups = c.groups.items; privileged = c.privileged; first = c.first; last = c.last } };
+
+    ghost invariant = { λ c. (0 < c.first) × (c.last ≤ 65536) };
+
+    ghost inverse = { λ v. record { number = v.number; uid = v.uid; gid = v.gid; groups = record { items = v.groups }; privileged = v.privileged; first = v.first; last = v.last } };
 }
 
 /// Why a client is refused.
@@ -40,7 +58,11 @@ impl Client {
         privileged: bool,
         first: u32,
         last: u32,
-    ) -> Result<Client, ClientFault> {
+    ) -> Result<Client, ClientFault>
+        ensures groups { IsErrOf result ClientFault.TooManyGroups ↔ (16 < length groups.now) }
+        ensures grant { IsErrOf result ClientFault.BadGrant ↔ ((length groups.now ≤ 16) × ((first ≡ 0) ⊎ (65536 < last))) }
+        ensures row { IfOk result (λ c. c ≡ record { number = number; uid = uid; gid = gid; groups = groups.now; privileged = privileged; first = first; last = last }) }
+    {
         let Ok(groups) = ArrayVec::try_from(groups) else {
             return Err(ClientFault::TooManyGroups);
         };
@@ -59,37 +81,51 @@ impl Client {
     }
 
     /// The client's own number.
-    pub fn number(&self) -> u32 {
+    pub fn number(&self) -> u32
+        ensures { result ≡ self.now.number }
+    {
         self.number
     }
 
     /// The user id of the client's new nodes.
-    pub fn uid(&self) -> u32 {
+    pub fn uid(&self) -> u32
+        ensures { result ≡ self.now.uid }
+    {
         self.uid
     }
 
     /// The group id of the client's new nodes.
-    pub fn gid(&self) -> u32 {
+    pub fn gid(&self) -> u32
+        ensures { result ≡ self.now.gid }
+    {
         self.gid
     }
 
     /// Whether the client is granted read, write and search whatever a node's bits are.
-    pub fn is_privileged(&self) -> bool {
+    pub fn is_privileged(&self) -> bool
+        ensures { result ≡ self.now.privileged }
+    {
         self.privileged
     }
 
     /// The least and the greatest number that the client may give to a new node; none where the
     /// first is above the second.
-    pub fn grant(&self) -> (u32, u32) {
+    pub fn grant(&self) -> (u32, u32)
+        ensures { result ≡ (self.now.first, self.now.last) }
+    {
         (self.first, self.last)
     }
 
     /// Whether the client may give the number to a new node.
-    pub fn is_granted(&self, number: u32) -> bool {
+    pub fn is_granted(&self, number: u32) -> bool
+        ensures { result ≡ access.is_granted self.now number }
+    {
         self.first <= number && number <= self.last
     }
 
-    fn has_group(&self, gid: u32) -> bool {
+    fn has_group(&self, gid: u32) -> bool
+        ensures { result ≡ (self.now.gid == gid) || list_any (λ g. g == gid) self.now.groups }
+    {
         self.gid == gid || self.groups.as_slice().contains(&gid)
     }
 }
@@ -113,7 +149,10 @@ pub enum Want {
 
 impl Class {
     /// What the lowest bit of the class counts in a mode.
-    fn unit(self) -> u16 {
+    fn unit(self) -> u16
+        ensures unit { result ≡ access.class_unit (class_shown self) }
+        ensures range { (0 < result) × (result ≤ 64) }
+    {
         match self {
             Class::Owner => 64,
             Class::Group => 8,
@@ -124,7 +163,10 @@ impl Class {
 
 impl Want {
     /// What the bit counts within its class.
-    fn value(self) -> u16 {
+    fn value(self) -> u16
+        ensures value { result ≡ access.bit_value (want_shown self) }
+        ensures range { (0 < result) × (result ≤ 4) }
+    {
         match self {
             Want::Read => 4,
             Want::Write => 2,
@@ -135,7 +177,9 @@ impl Want {
 
 /// The class that holds for the client on a node of this uid and gid: owner where the uids are equal,
 /// else group where one of the client's groups is the node's, else other.
-pub fn class_of(client: &Client, uid: u32, gid: u32) -> Class {
+pub fn class_of(client: &Client, uid: u32, gid: u32) -> Class
+    ensures { class_shown result ≡ access.class_of client.now uid gid }
+{
     if client.uid == uid {
         Class::Owner
     } else if client.has_group(gid) {
@@ -147,16 +191,26 @@ pub fn class_of(client: &Client, uid: u32, gid: u32) -> Class {
 
 /// Whether the client is granted what it wants of a node of this uid, gid and mode: where the mode
 /// has that bit in the one class that holds, or where the client is privileged.
-pub fn may(client: &Client, uid: u32, gid: u32, mode: u16, want: Want) -> bool {
+pub fn may(client: &Client, uid: u32, gid: u32, mode: u16, want: Want) -> bool
+    ensures { result ≡ access.may client.now uid gid mode (want_shown want) }
+{
     let bit = class_of(client, uid, gid).unit() * want.value();
     client.privileged || mode / bit % 2 == 1
 }
 
 /// The client of this number. Where the numbers ascend it is found in the time of a logarithm, else by
 /// a scan.
-pub(crate) fn find_client(clients: &[Client], number: u32) -> Option<&Client> {
-    match clients.binary_search_by_key(&number, |client| client.number) {
-        Ok(place) => clients.get(place),
-        Err(_) => clients.iter().find(|client| client.number == number),
+pub(crate) fn find_client(clients: &[Client], number: u32) -> Option<&Client>
+    ensures found { IsSome result ↔ Any (λ row. row.number ≡ number) clients.now }
+    ensures row { IfSome result (λ row. Contains clients.now row.now × (row.now.number ≡ number)) }
+{
+    let near = clients.binary_search_by_key(&number, |client| client.number);
+    if let Ok(place) = near {
+        if let Some(client) = clients.get(place) {
+            if client.number == number {
+                return Some(client);
+            }
+        }
     }
+    clients.iter().find(|client| client.number == number)
 }

@@ -1,4 +1,6 @@
 //! What a judgement looks at: the image, the leases and the clients as they were at one moment.
+ghost use Rattle.std.specs.Prelude.{◌≡◌, ◌↔◌, Any, Contains, IsSome, IfSome};
+ghost use Rattle.kfs_judge.specs.View.{clients_of};
 
 use crate::lease::Leases;
 use crate::mode::{Client, find_client};
@@ -31,7 +33,10 @@ impl<A: Allocator> View<A> {
     }
 
     /// The row of the client with this number. Takes no memory.
-    pub fn client(&self, number: u32) -> Option<&Client> {
+    pub fn client(&self, number: u32) -> Option<&Client>
+        ensures found { IsSome result ↔ Any (λ row. row.number ≡ number) (clients_of self.now) }
+        ensures row { IfSome result (λ row. Contains (clients_of self.now) row.now × (row.now.number ≡ number)) }
+    {
         find_client(self.clients.as_slice(), number)
     }
 

@@ -1,39 +1,52 @@
 //! Paths from the root to a node.
+ghost use Rattle.std.specs.Prelude.{◌+◌, length};
+ghost use Rattle.std.specs.Option.{option_map_or};
+ghost use Rattle.std.specs.Iterator.{at_most};
 
 use crate::lease::LeaseFault;
 use crate::mode::{Client, Want, may};
 use kfs_image::{Answer, Cell, Kind, Name, Shape, look};
 use std::alloc::Allocator;
 
-/// Whether the bytes are `/`, or names each preceded by one `/`.
-pub(crate) fn is_path(path: &[u8]) -> bool {
-    let Some((first, mut rest)) = path.split_first() else {
-        return false;
-    };
-    if *first != b'/' {
-        return false;
-    }
-    if rest.is_empty() {
-        return true;
-    }
-    loop {
-        let (component, further) = split_component(rest);
-        if Name::new(component).is_none() {
-            return false;
-        }
-        match further {
-            Some(further) => rest = further,
-            None => return true,
+/// The parts of a path between its slashes, from first to last.
+#[derive(Clone, Copy)]
+struct Parts<'a> {
+    /// The bytes of the parts that are left, where there are any.
+    rest: Option<&'a [u8]>,
+}
+
+impl<'a> Iterator for Parts<'a> {
+    type Item = &'a [u8];
+
+    ghost remaining = { λ parts. at_most (option_map_or (λ rest. length rest.now + 1) parts.rest 0) };
+
+    fn next(&mut self) -> Option<&'a [u8]> {
+        let rest = self.rest?;
+        match rest.iter().position(|byte| *byte == b'/') {
+            Some(place) => {
+                self.rest = Some(&rest[place + 1..]);
+                Some(&rest[..place])
+            }
+            None => {
+                self.rest = None;
+                Some(rest)
+            }
         }
     }
 }
 
-/// The bytes before the first `/`, and those behind it where there is one.
-fn split_component(path: &[u8]) -> (&[u8], Option<&[u8]>) {
-    match path.iter().position(|byte| *byte == b'/') {
-        Some(place) => (&path[..place], Some(&path[place + 1..])),
-        None => (path, None),
+/// The names of a path in their order: none where it is `/`, else what stands between its slashes.
+fn parts_of(path: &[u8]) -> Parts<'_> {
+    match path {
+        [b'/'] => Parts { rest: None },
+        [b'/', rest @ ..] => Parts { rest: Some(rest) },
+        _ => Parts { rest: Some(path) },
     }
+}
+
+/// Whether the bytes are `/`, or names each preceded by one `/`.
+pub(crate) fn is_path(path: &[u8]) -> bool {
+    path.first() == Some(&b'/') && parts_of(path).all(|part| Name::new(part).is_some())
 }
 
 /// The number of the node at a path. The component of the least index that fails is answered; at it
@@ -44,19 +57,8 @@ pub(crate) fn walk<A: Allocator>(
     path: &[u8],
 ) -> Result<u32, LeaseFault> {
     let mut number = 1;
-    let mut rest = path.split_first().and_then(|parts| {
-        if parts.1.is_empty() {
-            None
-        } else {
-            Some(parts.1)
-        }
-    });
-    let mut index = 0;
-    while let Some(components) = rest {
-        let (component, further) = split_component(components);
-        number = step(shape, client, number, component, index)?;
-        rest = further;
-        index += 1;
+    for (index, part) in parts_of(path).enumerate() {
+        number = step(shape, client, number, part, index)?;
     }
     Ok(number)
 }

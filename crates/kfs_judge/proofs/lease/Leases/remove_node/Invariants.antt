@@ -1,0 +1,6 @@
+use Rattle.std.specs.BTreeMap.{btree_map_len}
+use Rattle.kfs_judge.proofs.lease.Leases.remove_node.Given as goal
+
+-- each round takes one row out
+abbrev pub decreases-loop-client : goal.decreases-loop-client
+decreases-loop-client g l = btree_map_len l.self.rows

@@ -1,0 +1,6 @@
+use Rattle.std.specs.BTreeSet.{btree_set_len}
+use Rattle.kfs_judge.proofs.lease.Leases.tick.Given as goal
+
+-- each round ends one lease
+abbrev pub decreases-loop-key : goal.decreases-loop-key
+decreases-loop-key g l = btree_set_len l.self.ends

@@ -1,0 +1,16 @@
+-- The classes and wants of the code as those of the definitions.
+use Rattle.kfs_model.specs.Access as access
+use Rattle.kfs_judge.specs.declared.mode.Class.{Class}
+use Rattle.kfs_judge.specs.declared.mode.Class.TheVariants.{Owner, Group, Other}
+use Rattle.kfs_judge.specs.declared.mode.Want.{Want}
+use Rattle.kfs_judge.specs.declared.mode.Want.TheVariants.{Read, Write, Search}
+
+abbrev pub class_shown : Class → access.Class
+class_shown Owner = access.Owner
+class_shown Group = access.Group
+class_shown Other = access.Other
+
+abbrev pub want_shown : Want → access.Want
+want_shown Read = access.Read
+want_shown Write = access.Write
+want_shown Search = access.Search
