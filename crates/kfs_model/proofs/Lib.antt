@@ -1,1 +1,8 @@
 -- Lemmas on the definitions.
+pub mod Exact
+pub mod Differences
+pub mod Tables
+pub mod ChangedBytes
+pub mod Pieces
+pub mod RightPlan
+pub mod Cut

@@ -12,6 +12,7 @@ pub mod Soundness
 pub mod Allowed
 pub mod PlanRow
 pub mod Plan
+pub mod PlanCut
 pub mod FirstWrong
 pub mod Placement
 pub mod Spelling

@@ -1,0 +1,22 @@
+-- What two plans have in common that differ only in how their pieces are cut.
+use Rattle.std.specs.Prelude.{◌≡◌, ℕ, ◌-◌, ◌<◌, List, [], ◌∷◌, Option, Some, None, if◌then◌else◌}
+use Rattle.std.specs.List.{AllByRecursion}
+use Rattle.kfs_model.specs.Run.{Mark}
+use Rattle.kfs_model.specs.PlanRow.{Piece, Plan}
+use Rattle.kfs_model.specs.Plan.{said_by, covers, Ascend}
+
+-- the mark that the pieces give a byte, none where it is in no piece
+abbrev pub said_at : List Piece → (number place : ℕ) → Option Mark
+said_at [] number place = None
+said_at (p ∷ ps) number place = if covers number place p then Some (said_by p.source (place - p.start)) else said_at ps number place
+
+-- the same rows, and the same mark for each byte
+pub record SaySame (plan other : Plan) : Type 0 where
+  pub names : plan.names ≡ other.names
+  pub nodes : plan.nodes ≡ other.nodes
+  pub bytes : (number place : ℕ) → said_at plan.pieces number place ≡ said_at other.pieces number place
+
+-- one piece behind another, none of them empty
+pub record AreInOrder (pieces : List Piece) : Type 0 where
+  pub ascending : Ascend pieces
+  pub filled : AllByRecursion (λ (p : Piece). 0 < p.length) pieces
