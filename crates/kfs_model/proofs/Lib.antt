@@ -6,3 +6,6 @@ pub mod ChangedBytes
 pub mod Pieces
 pub mod RightPlan
 pub mod Cut
+pub mod CleanIsAllowed
+pub mod Cells
+pub mod Marks

@@ -1,10 +1,10 @@
 -- The run of a log: its entries one by one, each judged at its own point, up to the first fault.
-use Rattle.std.specs.Prelude.{ℕ, ◌+◌, ◌==◌, Bool, List, [], ◌∷◌, ◌++◌, length, map, Option, Some, None, Result, Ok, Err}
+use Rattle.std.specs.Prelude.{ℕ, ◌+◌, ◌==◌, Bool, List, [], ◌∷◌, ◌++◌, length, map, Option, Some, None, Result, Ok, Err, unwrap_or, slice_get}
 use Rattle.std.specs.List.{list_any, enumerate_from}
 use Rattle.kfs_model.specs.Header.{Kind}
 use Rattle.kfs_model.specs.Access.{Client}
-use Rattle.kfs_model.specs.Table.{mapped, numbers}
-use Rattle.kfs_model.specs.Tree.{Tree, Node, Body, Cells, Names}
+use Rattle.kfs_model.specs.Table.{mapped, numbers, get}
+use Rattle.kfs_model.specs.Tree.{Tree, Node, Body, Cells, Names, cells_of}
 use Rattle.kfs_model.specs.Sight.{Sight, sight}
 use Rattle.kfs_model.specs.Check.{Reason, Spot, first_fault}
 use Rattle.kfs_model.specs.Entry.{Entry, Create, Write, Truncate, Link, Unlink, Rename, Chmod}
@@ -95,3 +95,23 @@ base_marks number place cells = places_from (Base number) place cells
 -- each byte marked as what it is before the log
 abbrev pub marked : Tree ℕ → Tree Mark
 marked t = mapped_tree (λ n cells. base_marks n 0 cells) t
+
+-- ---- what marks stand for
+
+abbrev pub payload_of : Option Entry → List ℕ
+payload_of (Some (Write n offset payload)) = payload
+payload_of _ = []
+
+abbrev pub byte_at : List ℕ → (place : ℕ) → ℕ
+byte_at bytes place = unwrap_or (slice_get bytes place) 0
+
+-- a byte of the tree before, a zero byte, or a byte of an entry's payload
+abbrev pub byte_of : Tree ℕ → List Entry → Mark → ℕ
+byte_of before entries (Base number place) = byte_at (cells_of (get before.nodes number)) place
+byte_of before entries Zero = 0
+byte_of before entries (Payload entry place) = byte_at (payload_of (slice_get entries entry)) place
+
+-- the outcome of a marked run with each mark looked up
+abbrev pub looked_up : (Mark → ℕ) → Result (Tree Mark) EntryFault → Result (Tree ℕ) EntryFault
+looked_up byte (Ok t) = Ok (mapped_tree (λ n cells. map byte cells) t)
+looked_up byte (Err fault) = Err fault

@@ -77,7 +77,7 @@ module _ {K X : Type 0} {R : Order K} where
   unfoldable pub remove : Table R X → K → Table R X
   remove t k = retain (λ j. not (eq_by_cmp R.compare k j)) t
 
-  same_entries_table : (s t : Table R X) → s.entries ≡ t.entries → s ≡ t
+  pub same_entries_table : (s t : Table R X) → s.entries ≡ t.entries → s ≡ t
   same_entries_table s t e =
       let both : ◌≡◌ {A = (es : List (K × X)) × T (is_sorted R.compare es)} (s.entries, s.sorted) (t.entries, t.sorted) = Σ_prop_path (λ es. T_prop _) e in
       λ i. record { entries = (both i).0; sorted = (both i).1 }

@@ -1,12 +1,26 @@
 //! Laws of the definitions: each is the contract of a function without a body.
 
-ghost use Rattle.std.specs.Prelude.{◌≡◌, ℕ, None};
+ghost use Rattle.std.specs.Prelude.{◌≡◌, ℕ, List, None};
 ghost use Rattle.kfs_model.specs.Tree.{Tree};
-ghost use Rattle.kfs_model.specs.Run.{Mark};
+ghost use Rattle.kfs_model.specs.Entry.{Entry};
+ghost use Rattle.kfs_model.specs.Check.{Spot, first_fault};
+ghost use Rattle.kfs_model.specs.Allowed.{IsAllowed};
+ghost use Rattle.kfs_model.specs.Run.{Mark, Scene, run, bytes, marks, marked, byte_of, looked_up};
 ghost use Rattle.kfs_model.specs.PlanRow.{Plan};
 ghost use Rattle.kfs_model.specs.Plan.{IsRight};
 ghost use Rattle.kfs_model.specs.PlanCut.{SaySame, AreInOrder};
 ghost use Rattle.kfs_model.specs.FirstWrong.{first_wrong_row};
+
+/// An entry of which no check fails is allowed to its client, by mode bits and leases, whichever of the seven it is.
+pub fn clean_is_allowed()
+    ensures { (spot : Spot) (entry : Entry) → first_fault spot entry ≡ None → IsAllowed spot entry }
+{}
+
+/// The bytes that a run gives are the marks that it gives, looked up in the tree before and in the payloads; and both stop
+/// at the same entry for the same reason.
+pub fn marks_give_bytes()
+    ensures { (scene : Scene) (before : Tree ℕ) (entries : List Entry) → looked_up (byte_of before entries) (run marks scene (marked before) entries) ≡ run bytes scene before entries }
+{}
 
 /// A plan has no wrong row exactly where it is right.
 pub fn right_plan_has_no_wrong_row()

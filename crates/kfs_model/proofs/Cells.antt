@@ -1,0 +1,189 @@
+-- A map of cells commutes with a run: what is checked reads no cells, and each change treats them alike.
+use Rattle.std.specs.Prelude.{◌≡◌, ℕ, zero, suc, ◌+◌, ◌-◌, ◌<◌, ◌==◌, Bool, true, false, cond, not, ◌||◌, pos, List, [], ◌∷◌, ◌++◌, map, length, take, drop, replicate, Option, Some, None, option_map, slice_get, unwrap_or, Result, Ok, Err, refl}
+use Rattle.std.proofs.Common.{sym, subst, ap, ◌∙◌, arith}
+use Rattle.std.specs.Ordering.{eq_by_cmp, is_eq}
+use Rattle.std.specs.declared.cmp.Ordering.{Ordering}
+use Rattle.std.specs.declared.cmp.Ordering.TheVariants.{Less, Equal, Greater}
+use Rattle.kfs_model.specs.Header.{Kind, File, Directory, Header}
+use Rattle.kfs_model.specs.Access.{Client}
+use Rattle.kfs_model.specs.Table.{Order, Table, numbers, get, insert, retain, mapped, changed_entries, same_table, same_entries_table, get-insert, get-retain, get-mapped}
+use Rattle.kfs_model.specs.Tree.{Tree, Node, Body, Cells, Names, Links, headers, header_of, cells_of, name_count, entry_count, target, is_named}
+use Rattle.kfs_model.specs.Sight.{Sight, sight, parent_in}
+use Rattle.kfs_model.specs.Entry.{Entry, Create, Write, Truncate, Link, Unlink, Rename, Chmod}
+use Rattle.kfs_model.specs.Effect.{Fabric, lengthened, overwritten, resized, change_of, effect, swept, new_body, on_cells, changed_node}
+use Rattle.kfs_model.specs.Run.{Scene, EntryFault, mapped_tree, mapped_body, payload_of, run_from, created_by, spot}
+use Rattle.kfs_model.specs.Check.{Reason, first_fault}
+
+-- ---- lists
+
+module _ {B C : Type 0} (f : B → C) where
+  map-append : (xs ys : List B) → map f (xs ++ ys) ≡ map f xs ++ map f ys
+  map-append [] ys = refl
+  map-append (x ∷ xs) ys = ap (λ zs. f x ∷ zs) (map-append xs ys)
+
+  map-take : (n : ℕ) (xs : List B) → map f (take n xs) ≡ take n (map f xs)
+  map-take zero xs = refl
+  map-take (suc n) [] = refl
+  map-take (suc n) (x ∷ xs) = ap (λ zs. f x ∷ zs) (map-take n xs)
+
+  map-drop : (n : ℕ) (xs : List B) → map f (drop n xs) ≡ drop n (map f xs)
+  map-drop zero xs = refl
+  map-drop (suc n) [] = refl
+  map-drop (suc n) (x ∷ xs) = map-drop n xs
+
+  map-replicate : (n : ℕ) (x : B) → map f (replicate n x) ≡ replicate n (f x)
+  map-replicate zero x = refl
+  map-replicate (suc n) x = ap (λ zs. f x ∷ zs) (map-replicate n x)
+
+  pub length-map : (xs : List B) → length (map f xs) ≡ length xs
+  length-map [] = refl
+  length-map (x ∷ xs) = ap suc (length-map xs)
+
+-- ---- tables
+
+module _ {K X Y : Type 0} {R : Order K} (f : K → X → Y) where
+  pub mapped-insert : (t : Table R X) (k : K) (v : X) → mapped f (insert t k v) ≡ insert (mapped f t) k (f k v)
+  mapped-insert t k v = same_table _ _ (λ q. get-mapped f (insert t k v) q ∙ ap (option_map (f q)) (get-insert t k v q) ∙ at_key q (R.compare q k) refl ∙ sym (get-insert (mapped f t) k (f k v) q))
+    where
+      at_key : (q : K) (o : Ordering) → R.compare q k ≡ o → option_map (f q) (cond (is_eq o) (Some v) (get t q)) ≡ cond (is_eq o) (Some (f k v)) (get (mapped f t) q)
+      at_key q Less is = sym (get-mapped f t q)
+      at_key q Equal is = ap (λ j. Some (f j v)) (R.exact q k is)
+      at_key q Greater is = sym (get-mapped f t q)
+
+  pub mapped-retain : (p : K → Bool) (t : Table R X) → mapped f (retain p t) ≡ retain p (mapped f t)
+  mapped-retain p t = same_table _ _ (λ q. get-mapped f (retain p t) q ∙ ap (option_map (f q)) (get-retain p t q) ∙ at_test q (p q) ∙ sym (get-retain p (mapped f t) q))
+    where
+      at_test : (q : K) (kept : Bool) → option_map (f q) (cond kept (get t q) None) ≡ cond kept (get (mapped f t) q) None
+      at_test q true = sym (get-mapped f t q)
+      at_test q false = refl
+
+-- ---- trees
+
+module _ {B C : Type 0} (f : B → C) where
+  abbrev pub on_node : ℕ → Node B → Node C
+  on_node n node = record { mode = node.mode; uid = node.uid; gid = node.gid; body = mapped_body (map f) node.body }
+
+  -- each cell changed
+  abbrev pub recut : Tree B → Tree C
+  recut t = mapped_tree (λ n cells. map f cells) t
+
+  header-on_node : (names : Links) (n : ℕ) (node : Node B) → header_of names n (on_node n node) ≡ header_of names n node
+  header-on_node names n node = by_body node.body
+    where
+      by_body : (body : Body B) → header_of names n (record { mode = node.mode; uid = node.uid; gid = node.gid; body = mapped_body (map f) body }) ≡ header_of names n (record node { body = body })
+      by_body (Cells cells) = λ i. record { kind = File; mode = node.mode; uid = node.uid; gid = node.gid; links = name_count names n; size = length-map f cells i }
+      by_body Names = refl
+
+  header_entries : (names : Links) (es : List (ℕ × Node B)) → changed_entries (header_of names) (changed_entries on_node es) ≡ changed_entries (header_of names) es
+  header_entries names [] = refl
+  header_entries names (e ∷ es) = λ i. (e.0, header-on_node names e.0 e.1 i) ∷ header_entries names es i
+
+  pub headers-recut : (t : Tree B) → headers (recut t) ≡ headers t
+  unfolding mapped
+  headers-recut t = same_entries_table _ _ (header_entries t.names t.nodes.entries)
+
+  -- what is checked reads no cells
+  pub sight-recut : (t : Tree B) → sight (recut t) ≡ sight t
+  sight-recut t = λ i. record {
+    head = get (headers-recut t i);
+    name = target t.names;
+    count = λ directory. pos (entry_count t.names directory);
+    parent = parent_in (headers-recut t i) t.names;
+  }
+
+  swept-recut : (t : Tree B) → recut (swept t) ≡ swept (recut t)
+  unfolding swept
+  swept-recut t = λ i. record { nodes = mapped-retain on_node (λ n. (n == 1) || is_named t.names n) t.nodes i; names = t.names }
+
+  -- a node changed alike on both sides
+  changed_node-recut : (change : Node B → Node B) (change' : Node C → Node C) → ((n : ℕ) (node : Node B) → on_node n (change node) ≡ change' (on_node n node)) → (n : ℕ) (t : Tree B) → recut (changed_node change n t) ≡ changed_node change' n (recut t)
+  changed_node-recut change change' alike n t = by_node (get t.nodes n) refl ∙ ap at_found (sym (get-mapped on_node t.nodes n))
+    where
+      at_found : Option (Node C) → Tree C
+      at_found found = elim found [ None ↦ recut t | Some node ↦ record { nodes = insert (recut t).nodes n (change' node); names = t.names } ]
+
+      by_node : (found : Option (Node B)) → get t.nodes n ≡ found → recut (elim found [ None ↦ t | Some node ↦ record { nodes = insert t.nodes n (change node); names = t.names } ]) ≡ at_found (option_map (on_node n) (get t.nodes n))
+      by_node None is = ap at_found (sym (ap (option_map (on_node n)) is))
+      by_node (Some node) is =
+          let nodes = mapped-insert on_node t.nodes n (change node) ∙ ap (insert (recut t).nodes n) (alike n node) in
+          (λ i. record { nodes = nodes i; names = t.names }) ∙ ap at_found (sym (ap (option_map (on_node n)) is))
+
+-- ---- steps and runs
+
+module _ {B C : Type 0} (f : B → C) (from : Fabric B) (to : Fabric C) (gap : f from.gap ≡ to.gap) where
+  lengthened-map : (size : ℕ) (cells : List B) → map f (lengthened from size cells) ≡ lengthened to size (map f cells)
+  lengthened-map size cells =
+      let same_length = sym (length-map f cells) in
+      map-append f cells (replicate (size - length cells) from.gap)
+        ∙ ap (λ xs. map f cells ++ xs) (map-replicate f (size - length cells) from.gap ∙ λ i. replicate (size - same_length i) (gap i))
+
+  overwritten-map : (offset : ℕ) (payload cells : List B) → map f (overwritten from offset payload cells) ≡ overwritten to offset (map f payload) (map f cells)
+  unfolding overwritten
+  overwritten-map offset [] cells = refl
+  overwritten-map offset (b ∷ bs) cells =
+      let payload = b ∷ bs in
+      let front = map-append f (take offset (lengthened from offset cells)) payload ∙ ap (λ xs. xs ++ map f payload) (map-take f offset (lengthened from offset cells) ∙ ap (take offset) (lengthened-map offset cells)) in
+      let back = map-drop f (offset + length payload) cells ∙ ap (λ n. drop (offset + n) (map f cells)) (sym (length-map f payload)) in
+      map-append f (take offset (lengthened from offset cells) ++ payload) (drop (offset + length payload) cells) ∙ λ i. front i ++ back i
+
+  resized-map : (size : ℕ) (cells : List B) → map f (resized from size cells) ≡ resized to size (map f cells)
+  unfolding resized
+  resized-map size cells = map-take f size (lengthened from size cells) ∙ ap (take size) (lengthened-map size cells)
+
+  new_body-map : (kind : Kind) → mapped_body (map f) (new_body from kind) ≡ new_body to kind
+  new_body-map File = refl
+  new_body-map Directory = refl
+
+  on_cells-map : (change : List B → List B) (change' : List C → List C) → ((cells : List B) → map f (change cells) ≡ change' (map f cells)) → (body : Body B) → mapped_body (map f) (on_cells from change body) ≡ on_cells to change' (mapped_body (map f) body)
+  on_cells-map change change' alike (Cells cells) = ap Cells (alike cells)
+  on_cells-map change change' alike Names = refl
+
+  on_node-cells : (change : List B → List B) (change' : List C → List C) → ((cells : List B) → map f (change cells) ≡ change' (map f cells)) → (n : ℕ) (node : Node B) → on_node f n (record node { body = on_cells from change node.body }) ≡ record (on_node f n node) { body = on_cells to change' (mapped_body (map f) node.body) }
+  on_node-cells change change' alike n node = λ i. record { mode = node.mode; uid = node.uid; gid = node.gid; body = on_cells-map change change' alike node.body i }
+
+  -- the payload of an entry is the same on both sides
+  abbrev pub SamePayload : (index : ℕ) → Entry → Type 0
+  SamePayload index entry = map f (from.payload index (payload_of (Some entry))) ≡ to.payload index (payload_of (Some entry))
+
+  change_of-recut : (client : Client) (index : ℕ) (entry : Entry) → SamePayload index entry → (t : Tree B) → recut f (change_of from client index entry t) ≡ change_of to client index entry (recut f t)
+  unfolding change_of
+  change_of-recut client index (Create d m n kind mode) same t =
+      let node : Node B = record { mode = mode; uid = client.uid; gid = client.gid; body = new_body from kind } in
+      let nodes = mapped-insert (on_node f) t.nodes n node ∙ ap (λ body. insert (recut f t).nodes n (record { mode = mode; uid = client.uid; gid = client.gid; body = body })) (new_body-map kind) in
+      λ i. record { nodes = nodes i; names = insert t.names (d, m) n }
+  change_of-recut client index (Write n offset payload) same t =
+      changed_node-recut f _ _ (on_node-cells (overwritten from offset (from.payload index payload)) (overwritten to offset (to.payload index payload))
+        (λ cells. overwritten-map offset (from.payload index payload) cells ∙ ap (λ p. overwritten to offset p (map f cells)) same)) n t
+  change_of-recut client index (Truncate n size) same t = changed_node-recut f _ _ (on_node-cells (resized from size) (resized to size) (resized-map size)) n t
+  change_of-recut client index (Link n d m) same t = refl
+  change_of-recut client index (Unlink d m kind) same t = refl
+  change_of-recut client index (Rename d m e k) same t = refl
+  change_of-recut client index (Chmod n mode) same t = changed_node-recut f _ _ (λ n node. refl) n t
+
+  effect-recut : (client : Client) (index : ℕ) (entry : Entry) → SamePayload index entry → (t : Tree B) → recut f (effect from client index entry t) ≡ effect to client index entry (recut f t)
+  effect-recut client index entry same t = swept-recut f (change_of from client index entry t) ∙ ap swept (change_of-recut client index entry same t)
+
+  abbrev pub SamePayloads : (index : ℕ) → List Entry → Type 0
+  SamePayloads index [] = Unit {0}
+  SamePayloads index (entry ∷ entries) = SamePayload index entry × SamePayloads (index + 1) entries
+
+  abbrev pub recut_outcome : Result (Tree B) EntryFault → Result (Tree C) EntryFault
+  recut_outcome (Ok t) = Ok (recut f t)
+  recut_outcome (Err fault) = Err fault
+
+  pub run_from-recut : (scene : Scene) (index : ℕ) (created : List ℕ) (t : Tree B) (entries : List Entry) → SamePayloads index entries → recut_outcome (run_from from scene index created t entries) ≡ run_from to scene index created (recut f t) entries
+  unfolding run_from
+  run_from-recut scene index created t [] same = refl
+  run_from-recut scene index created t (entry ∷ entries) same =
+      by_fault (run_from-recut scene (index + 1) (created_by entry created) (effect from scene.client index entry t) entries same.1) (first_fault (spot scene (sight t) created) entry)
+        ∙ ap (λ s. at_fault (first_fault (spot scene s created) entry)) (sym (sight-recut f t))
+    where
+      at_fault : Option Reason → Result (Tree C) EntryFault
+      at_fault found = elim found [
+        | None ↦ run_from to scene (index + 1) (created_by entry created) (effect to scene.client index entry (recut f t)) entries
+        | Some reason ↦ Err (record { entry = index; reason = reason })
+      ]
+
+      by_fault : recut_outcome (run_from from scene (index + 1) (created_by entry created) (effect from scene.client index entry t) entries) ≡ run_from to scene (index + 1) (created_by entry created) (recut f (effect from scene.client index entry t)) entries → (found : Option Reason) → recut_outcome (elim found [ None ↦ run_from from scene (index + 1) (created_by entry created) (effect from scene.client index entry t) entries | Some reason ↦ Err (record { entry = index; reason = reason }) ]) ≡ at_fault found
+      by_fault rest None = rest ∙ ap (λ u. run_from to scene (index + 1) (created_by entry created) u entries) (effect-recut scene.client index entry same.0 t)
+      by_fault rest (Some reason) = refl

@@ -1,0 +1,213 @@
+-- A clean entry is allowed: each condition follows from a check that did not fail.
+use Rattle.std.specs.Prelude.{◌≡◌, ℕ, Bool, true, false, ◌==◌, if◌then◌else◌, ◌&&◌, ◌||◌, not, nat_le, ◌≤◌, List, [], ◌∷◌, ◌++◌, Option, Some, None, is_some, refl, IsTrue, ◌⊎◌}
+use Rattle.std.specs.List.{AllByRecursion}
+use Rattle.std.proofs.Common.{sym, subst, ap, inl, inr, ◌∙◌, arith}
+use Rattle.std.proofs.lemmas.Bool.{leb-true, eqb-true}
+use Rattle.kfs_model.specs.Header.{Kind, File, Directory, Header}
+use Rattle.kfs_model.specs.Access.{Client, Want, Search, may_header, owns, is_granted}
+use Rattle.kfs_model.specs.Entry.{Entry, Create, Write, Truncate, Link, Unlink, Rename, Chmod}
+use Rattle.kfs_model.specs.Sight.{is_directory, is_file}
+use Rattle.kfs_model.specs.Check.{Spot, Reason, Check, MaySearch, MayWrite, IsLeased, IsADirectory, NumberIsGranted, NoSuchName, kind_moved, stays_apart, unless, fault, is_some_and, on_number, may_go, unless_same, move_checks, checks_of, first_failing, first_fault}
+use Rattle.kfs_model.specs.Allowed.{IsGrantedBit, IsLeasedTo, MayChangeDirectory, MayChangeFile, LeadsTo, MayCreate, MayLink, MayUnlink, MayMove, MayKeep, MayChmod, IsAllowed}
+
+-- none of the checks fails
+abbrev pub AllPass : Spot → List Check → Type 0
+AllPass p checks = AllByRecursion (λ check. fault p check ≡ None) checks
+
+pub all_pass : (p : Spot) (checks : List Check) → first_failing p checks ≡ None → AllPass p checks
+unfolding first_failing
+all_pass p [] clean = tt
+all_pass p (check ∷ checks) clean = by_fault (all_pass p checks) (fault p check) refl clean
+  where
+    rest_clean : Option Reason → Type 0
+    rest_clean found = ◌≡◌ {A = Option Reason} (elim found [ None ↦ first_failing p checks | Some reason ↦ Some reason ]) None
+
+    by_fault : (first_failing p checks ≡ None → AllPass p checks) → (found : Option Reason) → fault p check ≡ found → rest_clean found → AllPass p (check ∷ checks)
+    by_fault rest None is clean' = (is, rest clean')
+    by_fault rest (Some reason) is clean' = cc
+
+passed : (test : Bool) (reason : Reason) → unless test reason ≡ None → IsTrue test
+passed true reason e = refl
+passed false reason e = cc
+
+-- a test of an option's value that passes has a value
+found : {X : Type 0} (o : Option X) (test : X → Bool) → IsTrue (is_some_and o test) → (x : X) × (o ≡ Some x) × IsTrue (test x)
+found None test holds = cc
+found (Some x) test holds = (x, refl, holds)
+
+either : (a b : Bool) → IsTrue (a || b) → IsTrue a ⊎ IsTrue b
+either true b h = inl refl
+either false b h = inr h
+
+left : (a b : Bool) → IsTrue (a && b) → IsTrue a
+left true b h = refl
+left false b h = h
+
+right : (a b : Bool) → IsTrue (a && b) → IsTrue b
+right true b h = h
+right false b h = cc
+
+no_file : (h : Option Header) → IsTrue (is_directory h) → IsTrue (is_file h) → ⊥
+no_file None directory file = cc
+no_file (Some h) directory file = by_kind h.kind directory file
+  where
+    by_kind : (kind : Kind) → IsTrue (is_directory (Some (record h { kind = kind }))) → IsTrue (is_file (Some (record h { kind = kind }))) → ⊥
+    by_kind File directory' file' = cc
+    by_kind Directory directory' file' = cc
+
+-- ---- what the checks say
+
+module _ (p : Spot) where
+  searches : (n : ℕ) → fault p (MaySearch n) ≡ None → IsGrantedBit p Search n
+  unfolding fault
+  searches n e = found (p.now.head n) (λ h. may_header p.client h Search) (passed _ _ e)
+
+  leased : (n : ℕ) → fault p (IsLeased n) ≡ None → IsLeasedTo p n
+  unfolding fault
+  leased n e = either (p.created n) (p.held n) (passed _ _ e)
+
+  -- a file that the log created needs no bit
+  writes : (n : ℕ) → fault p (MayWrite n) ≡ None → IsGrantedBit p Want.Write n ⊎ (IsTrue (p.created n) × IsTrue (is_file (p.now.head n)))
+  unfolding fault
+  writes n e = elim (either _ _ (passed _ _ e)) [
+    | inl own ↦ inr (left _ _ own, right _ _ own)
+    | inr granted ↦ inl (found (p.now.head n) (λ h. may_header p.client h Want.Write) granted)
+  ]
+
+  writes_directory : (n : ℕ) → fault p (IsADirectory n) ≡ None → fault p (MayWrite n) ≡ None → IsGrantedBit p Want.Write n
+  unfolding fault
+  writes_directory n directory e = elim (writes n e) [
+    | inl granted ↦ granted
+    | inr own ↦ absurd (no_file (p.now.head n) (passed _ _ directory) own.1)
+  ]
+
+  changes_directory : (d : ℕ) → fault p (IsADirectory d) ≡ None → fault p (MaySearch d) ≡ None → fault p (MayWrite d) ≡ None → fault p (IsLeased d) ≡ None → MayChangeDirectory p d
+  changes_directory d directory search write lease = record { search = searches d search; write = writes_directory d directory write; leased = leased d lease }
+
+  changes_file : (n : ℕ) → fault p (MayWrite n) ≡ None → fault p (IsLeased n) ≡ None → MayChangeFile p n
+  changes_file n write lease = record {
+    write = elim (writes n write) [ inl granted ↦ inl granted | inr own ↦ inr own.0 ];
+    leased = leased n lease;
+  }
+
+  granted_number : (n : ℕ) → fault p (NumberIsGranted n) ≡ None → (p.client.first ≤ n) × (n ≤ p.client.last)
+  unfolding fault
+  granted_number n e =
+      let both = passed _ _ e in
+      (leb-true _ _ (left _ _ both), leb-true _ _ (right _ _ both))
+
+-- ---- each entry
+
+clean_create : (p : Spot) (d : ℕ) (m : List ℕ) (n : ℕ) (kind : Kind) (mode : ℕ) → first_fault p (Create d m n kind mode) ≡ None → IsAllowed p (Create d m n kind mode)
+unfolding checks_of
+clean_create p d m n kind mode clean =
+    let pass = all_pass p _ clean in
+    record {
+      place = changes_directory p d pass.1.0 pass.1.1.0 pass.1.1.1.0 pass.1.1.1.1.0;
+      least = (granted_number p n pass.1.1.1.1.1.1.0).0;
+      greatest = (granted_number p n pass.1.1.1.1.1.1.0).1;
+    }
+
+clean_write : (p : Spot) (n offset : ℕ) (payload : List ℕ) → first_fault p (Write n offset payload) ≡ None → IsAllowed p (Write n offset payload)
+unfolding checks_of
+clean_write p n offset payload clean = let pass = all_pass p _ clean in changes_file p n pass.1.1.0 pass.1.1.1.0
+
+clean_truncate : (p : Spot) (n size : ℕ) → first_fault p (Truncate n size) ≡ None → IsAllowed p (Truncate n size)
+unfolding checks_of
+clean_truncate p n size clean = let pass = all_pass p _ clean in changes_file p n pass.1.1.0 pass.1.1.1.0
+
+clean_link : (p : Spot) (n d : ℕ) (m : List ℕ) → first_fault p (Link n d m) ≡ None → IsAllowed p (Link n d m)
+unfolding checks_of
+clean_link p n d m clean =
+    let pass = all_pass p _ clean in
+    let after_file = pass.1.1 in
+    record {
+      place = changes_directory p d after_file.1.0 after_file.1.1.0 after_file.1.1.1.0 after_file.1.1.1.1.0;
+      leased = leased p n after_file.1.1.1.1.1.0;
+    }
+
+clean_chmod : (p : Spot) (n mode : ℕ) → first_fault p (Chmod n mode) ≡ None → IsAllowed p (Chmod n mode)
+unfolding checks_of fault
+clean_chmod p n mode clean =
+    let pass = all_pass p _ clean in
+    record { owner = found (p.now.head n) (λ h. owns p.client h.uid) (passed _ _ pass.1.0); leased = leased p n pass.1.1.0 }
+
+-- the node that a name leads to is leased, whichever kind is to go
+goes_leased : (p : Spot) (kind : Kind) (t : ℕ) → AllPass p (may_go kind t) → IsLeasedTo p t
+goes_leased p File t pass = leased p t pass.1.0
+goes_leased p Directory t pass = leased p t pass.1.0
+
+clean_unlink : (p : Spot) (d : ℕ) (m : List ℕ) (kind : Kind) → first_fault p (Unlink d m kind) ≡ None → IsAllowed p (Unlink d m kind)
+unfolding checks_of fault
+clean_unlink p d m kind clean =
+    let pass = all_pass p _ clean in
+    record {
+      place = changes_directory p d pass.1.0 pass.1.1.0 pass.1.1.1.0 pass.1.1.1.1.0;
+      leased = by_target (p.now.name d m) refl pass.1.1.1.1.1.0 pass.1.1.1.1.1.1;
+    }
+  where
+    by_target : (target : Option ℕ) → p.now.name d m ≡ target → unless (is_some target) NoSuchName ≡ None → AllPass p (on_number target (may_go kind)) → (number : ℕ) × LeadsTo p d m number × IsLeasedTo p number
+    by_target None is there pass = cc
+    by_target (Some t) is there pass = (t, is, goes_leased p kind t pass)
+
+-- ---- a Rename
+
+behind : (p : Spot) (before after : List Check) → AllPass p (before ++ after) → AllPass p after
+behind p [] after pass = pass
+behind p (check ∷ before) after pass = behind p before after pass.1
+
+module _ (p : Spot) (d : ℕ) (m : List ℕ) (e : ℕ) (k : List ℕ) where
+  -- what is there beside the checks of the node that moves
+  abbrev Replaced : (s : ℕ) (to : Option ℕ) → Type 0
+  Replaced s to = AllPass p (on_number to (may_go (kind_moved (is_directory (p.now.head s)))))
+
+  replaced_leased : (s : ℕ) (to : Option ℕ) → p.now.name e k ≡ to → Replaced s to → (number : ℕ) → LeadsTo p e k number → IsLeasedTo p number
+  replaced_leased s None is pass number leads = cc
+  replaced_leased s (Some t) is pass number leads =
+      let same : t ≡ number = cc in
+      subst (IsLeasedTo p) same (goes_leased p (kind_moved (is_directory (p.now.head s))) t pass)
+
+  moves : IsTrue (is_directory (p.now.head d)) → IsTrue (is_directory (p.now.head e)) → IsGrantedBit p Search d → IsGrantedBit p Search e → (s : ℕ) → LeadsTo p d m s → (to : Option ℕ) → p.now.name e k ≡ to → AllPass p (move_checks p d e s to) → MayMove p d m e k
+  moves directory_d directory_e search_d search_e s from to is pass = record {
+    from = record { search = search_d; write = bit d directory_d (writes p d pass.0); leased = leased p d pass.1.1.0 };
+    to = record { search = search_e; write = bit e directory_e (writes p e pass.1.0); leased = leased p e pass.1.1.1.0 };
+    moved = (s, from, leased p s pass.1.1.1.1.0);
+    replaced = replaced_leased s to is (behind p (stays_apart (is_directory (p.now.head s)) s e) _ pass.1.1.1.1.1.1);
+  }
+    where
+      bit : (n : ℕ) → IsTrue (is_directory (p.now.head n)) → IsGrantedBit p Want.Write n ⊎ (IsTrue (p.created n) × IsTrue (is_file (p.now.head n))) → IsGrantedBit p Want.Write n
+      bit n directory (inl granted) = granted
+      bit n directory (inr own) = absurd (no_file (p.now.head n) directory own.1)
+
+  clean_rename : first_fault p (Rename d m e k) ≡ None → IsAllowed p (Rename d m e k)
+  unfolding checks_of fault
+  clean_rename clean = from_name (p.now.name d m) refl pass.1.1.1.1.1.1.0 pass.1.1.1.1.1.1.1.1
+    where
+      pass : AllPass p (checks_of p (Rename d m e k))
+      pass = all_pass p _ clean
+
+      keeps_or_moves : (s : ℕ) → LeadsTo p d m s → (to : Option ℕ) → p.now.name e k ≡ to → AllPass p (unless_same to s (move_checks p d e s to)) → IsAllowed p (Rename d m e k)
+      keeps_or_moves s from None is rest = inr (moves (passed _ _ pass.1.0) (passed _ _ pass.1.1.1.0) (searches p d pass.1.1.1.1.0) (searches p e pass.1.1.1.1.1.0) s from None is rest)
+      keeps_or_moves s from (Some t) is rest = by_test (t == s) refl rest
+        where
+          by_test : (same : Bool) → (t == s) ≡ same → AllPass p (if same then [] else move_checks p d e s (Some t)) → IsAllowed p (Rename d m e k)
+          by_test true equal rest' = inl (record {
+            same = (s, from, is ∙ ap Some (eqb-true t s equal));
+            from = searches p d pass.1.1.1.1.0;
+            to = searches p e pass.1.1.1.1.1.0;
+          })
+          by_test false other rest' = inr (moves (passed _ _ pass.1.0) (passed _ _ pass.1.1.1.0) (searches p d pass.1.1.1.1.0) (searches p e pass.1.1.1.1.1.0) s from (Some t) is rest')
+
+      from_name : (from : Option ℕ) → p.now.name d m ≡ from → unless (is_some from) NoSuchName ≡ None → AllPass p (on_number from (λ s. unless_same (p.now.name e k) s (move_checks p d e s (p.now.name e k)))) → IsAllowed p (Rename d m e k)
+      from_name None is there rest = cc
+      from_name (Some s) is there rest = keeps_or_moves s is (p.now.name e k) refl rest
+
+-- a clean entry is allowed
+pub clean_is_allowed : (p : Spot) (entry : Entry) → first_fault p entry ≡ None → IsAllowed p entry
+clean_is_allowed p (Create d m n kind mode) clean = clean_create p d m n kind mode clean
+clean_is_allowed p (Write n offset payload) clean = clean_write p n offset payload clean
+clean_is_allowed p (Truncate n size) clean = clean_truncate p n size clean
+clean_is_allowed p (Link n d m) clean = clean_link p n d m clean
+clean_is_allowed p (Unlink d m kind) clean = clean_unlink p d m kind clean
+clean_is_allowed p (Rename d m e k) clean = clean_rename p d m e k clean
+clean_is_allowed p (Chmod n mode) clean = clean_chmod p n mode clean
