@@ -115,7 +115,7 @@ module _ {B C : Type 0} (f : B → C) (from : Fabric B) (to : Fabric C) (gap : f
   lengthened-map size cells =
       let same_length = sym (length-map f cells) in
       map-append f cells (replicate (size - length cells) from.gap)
-        ∙ ap (λ xs. map f cells ++ xs) (map-replicate f (size - length cells) from.gap ∙ λ i. replicate (size - same_length i) (gap i))
+      ∙ ap (λ xs. map f cells ++ xs) (map-replicate f (size - length cells) from.gap ∙ λ i. replicate (size - same_length i) (gap i))
 
   overwritten-map : (offset : ℕ) (payload cells : List B) → map f (overwritten from offset payload cells) ≡ overwritten to offset (map f payload) (map f cells)
   unfolding overwritten
@@ -153,7 +153,7 @@ module _ {B C : Type 0} (f : B → C) (from : Fabric B) (to : Fabric C) (gap : f
       λ i. record { nodes = nodes i; names = insert t.names (d, m) n }
   change_of-recut client index (Write n offset payload) same t =
       changed_node-recut f _ _ (on_node-cells (overwritten from offset (from.payload index payload)) (overwritten to offset (to.payload index payload))
-        (λ cells. overwritten-map offset (from.payload index payload) cells ∙ ap (λ p. overwritten to offset p (map f cells)) same)) n t
+      (λ cells. overwritten-map offset (from.payload index payload) cells ∙ ap (λ p. overwritten to offset p (map f cells)) same)) n t
   change_of-recut client index (Truncate n size) same t = changed_node-recut f _ _ (on_node-cells (resized from size) (resized to size) (resized-map size)) n t
   change_of-recut client index (Link n d m) same t = refl
   change_of-recut client index (Unlink d m kind) same t = refl
@@ -176,7 +176,7 @@ module _ {B C : Type 0} (f : B → C) (from : Fabric B) (to : Fabric C) (gap : f
   run_from-recut scene index created t [] same = refl
   run_from-recut scene index created t (entry ∷ entries) same =
       by_fault (run_from-recut scene (index + 1) (created_by entry created) (effect from scene.client index entry t) entries same.1) (first_fault (spot scene (sight t) created) entry)
-        ∙ ap (λ s. at_fault (first_fault (spot scene s created) entry)) (sym (sight-recut f t))
+      ∙ ap (λ s. at_fault (first_fault (spot scene s created) entry)) (sym (sight-recut f t))
     where
       at_fault : Option Reason → Result (Tree C) EntryFault
       at_fault found = elim found [

@@ -35,9 +35,10 @@ module _ (before : Tree ℕ) (entries : List Entry) where
   same_payloads index [] alike = tt
   same_payloads index (entry ∷ rest) alike =
       let here : index ≡ index + 0 = omega arith in
-      let this = ap (slice_get entries) here ∙ alike 0 in
-      ( map-places_from (byte_of before entries) (Payload index) 0 (payload_of (Some entry)) (λ j. let zero_more : 0 + j ≡ j = omega arith in λ i. byte_at (payload_of (this i)) (zero_more i))
-      , same_payloads (index + 1) rest (λ j. let next : index + 1 + j ≡ index + suc j = omega arith in ap (slice_get entries) next ∙ alike (suc j)) )
+      let this = ap (slice_get entries) here ∙ alike 0 in (
+        map-places_from (byte_of before entries) (Payload index) 0 (payload_of (Some entry)) (λ j. let zero_more : 0 + j ≡ j = omega arith in λ i. byte_at (payload_of (this i)) (zero_more i)),
+        same_payloads (index + 1) rest (λ j. let next : index + 1 + j ≡ index + suc j = omega arith in ap (slice_get entries) next ∙ alike (suc j)),
+      )
 
 looked_up-is : (before : Tree ℕ) (entries : List Entry) (outcome : Result (Tree Mark) EntryFault) → looked_up (byte_of before entries) outcome ≡ recut_outcome (byte_of before entries) marks bytes refl outcome
 looked_up-is before entries (Ok t) = refl
@@ -46,5 +47,5 @@ looked_up-is before entries (Err fault) = refl
 pub marks_give_bytes : (scene : Scene) (before : Tree ℕ) (entries : List Entry) → looked_up (byte_of before entries) (run marks scene (marked before) entries) ≡ run bytes scene before entries
 marks_give_bytes scene before entries =
     looked_up-is before entries (run marks scene (marked before) entries)
-      ∙ run_from-recut (byte_of before entries) marks bytes refl scene 0 [] (marked before) entries (same_payloads before entries 0 entries (λ j. let zero_more : 0 + j ≡ j = omega arith in ap (slice_get entries) zero_more))
-      ∙ ap (λ t. run bytes scene t entries) (recut-marked before entries)
+    ∙ run_from-recut (byte_of before entries) marks bytes refl scene 0 [] (marked before) entries (same_payloads before entries 0 entries (λ j. let zero_more : 0 + j ≡ j = omega arith in ap (slice_get entries) zero_more))
+    ∙ ap (λ t. run bytes scene t entries) (recut-marked before entries)

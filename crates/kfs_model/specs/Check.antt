@@ -122,7 +122,7 @@ kind_moved false = File
 abbrev pub move_checks : Spot → (d e s : ℕ) → Option ℕ → List Check
 move_checks p d e s there =
     MayWrite d ∷ MayWrite e ∷ IsLeased d ∷ IsLeased e ∷ IsLeased s ∷ Sees (HeaderOf s)
-      ∷ (stays_apart (is_directory (p.now.head s)) s e ++ on_number there (may_go (kind_moved (is_directory (p.now.head s)))))
+    ∷ (stays_apart (is_directory (p.now.head s)) s e ++ on_number there (may_go (kind_moved (is_directory (p.now.head s)))))
 
 -- nothing changes where both names lead to one node
 abbrev pub unless_same : Option ℕ → ℕ → List Check → List Check
@@ -138,7 +138,7 @@ checks_of p (Link n d m) = is_file_node n ++ (is_directory_node d ++ (may_change
 checks_of p (Unlink d m kind) = is_directory_node d ++ (may_change_directory d ++ (NameIsThere d m ∷ on_number (p.now.name d m) (may_go kind)))
 checks_of p (Rename d m e k) =
     is_directory_node d ++ (is_directory_node e ++ (MaySearch d ∷ MaySearch e ∷ NameIsThere d m ∷ Sees (NameIn e k)
-      ∷ on_number (p.now.name d m) (λ s. unless_same (p.now.name e k) s (move_checks p d e s (p.now.name e k)))))
+    ∷ on_number (p.now.name d m) (λ s. unless_same (p.now.name e k) s (move_checks p d e s (p.now.name e k)))))
 checks_of p (Chmod n mode) = Exists n ∷ MayChangeMode n ∷ IsLeased n ∷ []
 
 -- the reason of the first check that fails

@@ -105,7 +105,7 @@ begins_early (p ∷ ps) q = nat_lt q.number p.number || ((q.number == p.number) 
 unfoldable pub is_wrong : Tree Mark → (above : List Piece) → Piece → Bool
 is_wrong after above p =
     (p.length == 0) || begins_early above p || not (holds_along after p 0 p.length)
-      || is_missed above (filter (λ byte. lies_before byte p.number p.start) (changed_bytes after))
+    || is_missed above (filter (λ byte. lies_before byte p.number p.start) (changed_bytes after))
 
 -- the pieces above stand latest first
 abbrev pub first_wrong_below : Tree Mark → (above : List Piece) → (index : ℕ) → List Piece → Option ℕ
@@ -124,5 +124,5 @@ or_else name (Some index) next = Some (name index)
 unfoldable pub first_wrong_row : {B : Type 0} → (before : Tree B) (after : Tree Mark) → Plan → Option RowFault
 first_wrong_row before after plan =
     or_else Names (first_wrong_name before.names after.names plan.names)
-      (or_else Nodes (first_wrong_node (headers before) (headers after) plan.nodes)
-        (or_else Pieces (first_wrong_piece after plan.pieces) None))
+    (or_else Nodes (first_wrong_node (headers before) (headers after) plan.nodes)
+    (or_else Pieces (first_wrong_piece after plan.pieces) None))

@@ -144,10 +144,10 @@ module _ {K X : Type 0} (R : Order K) where
   find-united old [] q = refl
   find-united old (e ∷ es) q =
       find-put R.compare R.total q e.0 e.1 (united_entries old es)
-        ∙ elim (eq_by_cmp R.compare q e.0) as (λ b. cond b (Some e.1) (find R.compare q (united_entries old es)) ≡ option_or (cond b (Some e.1) (find R.compare q es)) (find R.compare q old)) [
-          | true ↦ refl
-          | false ↦ find-united old es q
-        ]
+      ∙ elim (eq_by_cmp R.compare q e.0) as (λ b. cond b (Some e.1) (find R.compare q (united_entries old es)) ≡ option_or (cond b (Some e.1) (find R.compare q es)) (find R.compare q old)) [
+        | true ↦ refl
+        | false ↦ find-united old es q
+      ]
 
 module _ {K X : Type 0} {R : Order K} where
   -- the entries of both tables, those of the second where both have one

@@ -17,8 +17,8 @@ rename_to_own_name = Rename 1 name_a 1 name_b ∷ []
 
 abbrev pub directories : (where_10 where_11 : ℕ) → Tree ℕ
 directories where_10 where_11 = tree
-  (root ∷ own_directory 10 ∷ own_directory 11 ∷ own_directory 12 ∷ own_directory 13 ∷ own_directory 20 ∷ own_directory 21 ∷ [])
-  (named 1 name_p 20 ∷ named 1 name_q 21 ∷ named where_10 name_x 10 ∷ named where_11 name_y 11 ∷ named 11 name_c 12 ∷ named 10 name_d 13 ∷ [])
+    (root ∷ own_directory 10 ∷ own_directory 11 ∷ own_directory 12 ∷ own_directory 13 ∷ own_directory 20 ∷ own_directory 21 ∷ [])
+    (named 1 name_p 20 ∷ named 1 name_q 21 ∷ named where_10 name_x 10 ∷ named where_11 name_y 11 ∷ named 11 name_c 12 ∷ named 10 name_d 13 ∷ [])
 
 abbrev pub with_directories : (where_10 where_11 : ℕ) → State
 with_directories where_10 where_11 = state (directories where_10 where_11) (leases (20 ∷ 12 ∷ 10 ∷ []) (21 ∷ 13 ∷ 11 ∷ []))

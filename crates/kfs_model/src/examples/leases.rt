@@ -15,8 +15,7 @@ pub fn readers_and_a_writer()
     ensures dropped_again { (drop written_by_8 7).0 ≡ Err NoLeaseHeld }
     ensures held_before { holds read_by_8 8 5 ≡ false }
     ensures held_after { holds written_by_8 8 5 ≡ true }
-{
-}
+{}
 
 /// What a path, an end, a client and a moment are refused for.
 #[tactic(auto, unfolding(crate::specs::Example::computing))]
@@ -30,5 +29,4 @@ pub fn refused_leases()
     ensures goes_on { (ticked no_leases 5).0 ≡ Ok 5 }
     ensures backwards { (ticked at_5 4).0 ≡ Err Backwards }
     ensures same_moment { (ticked at_5 5).0 ≡ Ok 5 }
-{
-}
+{}

@@ -14,8 +14,7 @@ ghost use Rattle.kfs_model.specs.Header.{File, Directory};
 pub fn rename_to_its_own_name()
     ensures accepted { Replies two_names 7 rename_to_own_name no_plan (Accepted 0) }
     ensures shows { Leaves two_names 7 rename_to_own_name no_plan two_names.tree }
-{
-}
+{}
 
 /// Directories 20 ("p") and 21 ("q") in the root, 10 ("x") in 20, 11 ("y") in 21, 12 ("c") in 11, 13 ("d") in 10. Client 7
 /// moves 10 into 12, client 8 moves 11 into 13: whichever lands first, the other one would go below itself.
@@ -27,8 +26,7 @@ pub fn two_moves()
     ensures first_8 { Replies four_directories 8 move_8 plan_8 (Accepted 0) }
     ensures shows_8 { Leaves four_directories 8 move_8 plan_8 moved_by_8.tree }
     ensures then_7 { Replies moved_by_8 7 move_7 plan_7 (refused_at 0 BelowItself) }
-{
-}
+{}
 
 /// File 9 at "/f" of client 7, which holds 1 and 9: it is removed, its number is used again, and the old lease is gone.
 #[tactic(auto, unfolding(crate::specs::Example::computing))]
@@ -38,8 +36,7 @@ pub fn number_used_again()
     ensures created { Replies after_removal 7 create_f create_plan (Accepted 0) }
     ensures shows_created { Leaves after_removal 7 create_f create_plan after_creation.tree }
     ensures no_lease { Replies after_creation 7 (write_x 9) no_plan (refused_at 0 (NoLease 9)) }
-{
-}
+{}
 
 /// Directory 20 at "/p" with directory 10 named "x" in it, file 5 at "/a", all of client 7, which holds 1, 20, 10 and 5.
 #[tactic(auto, unfolding(crate::specs::Example::computing))]
@@ -52,5 +49,4 @@ pub fn directories_and_files()
     ensures over_file { Replies folder 7 directory_over_file no_plan (refused_at 0 NotDirectory) }
     ensures emptied_first { Replies folder 7 empty_folder empty_folder_plan (Accepted 0) }
     ensures shows { Leaves folder 7 empty_folder empty_folder_plan emptied }
-{
-}
+{}
