@@ -9,3 +9,4 @@ pub mod Cut
 pub mod CleanIsAllowed
 pub mod Cells
 pub mod Marks
+pub mod OneByOne

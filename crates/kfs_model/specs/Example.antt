@@ -5,7 +5,7 @@ pub mod AccessCases
 pub mod FileCases
 pub mod LeaseCases
 pub mod NameCases
-use Rattle.std.specs.Prelude.{◌≡◌, ℕ, Bool, true, false, List, [], ◌∷◌, ◌++◌, map, Option, Some, None, Result, Ok, Err, is_some}
+use Rattle.std.specs.Prelude.{◌≡◌, ℕ, Bool, true, false, List, [], ◌∷◌, ◌++◌, map, Option, Some, None, Result, Ok, Err}
 use Rattle.kfs_model.specs.Header.{Kind, File, Directory}
 use Rattle.kfs_model.specs.Access.{Client}
 use Rattle.kfs_model.specs.Table.{Order, Table, numbers, pairs, empty, insert, get, retain, remove, mapped, united}
@@ -165,7 +165,3 @@ tree_after (No fault) = None
 -- the tree that the client's log leaves
 abbrev pub Leaves : State → (client : ℕ) → List Entry → Plan → Tree ℕ → Type 0
 Leaves s client entries rows after = tree_after (verdict s client entries rows) ≡ Some after
-
--- the leases that are left after a landing: those on nodes that are still there
-abbrev pub leases_left : State → Tree ℕ → Leases
-leases_left s after = without_gone s.leases (λ n. is_some (get after.nodes n))

@@ -17,4 +17,5 @@ pub mod FirstWrong
 pub mod Placement
 pub mod Spelling
 pub mod Judgement
+pub mod Machine
 pub mod Example

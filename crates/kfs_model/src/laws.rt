@@ -1,6 +1,6 @@
 //! Laws of the definitions: each is the contract of a function without a body.
 
-ghost use Rattle.std.specs.Prelude.{◌≡◌, ℕ, List, None};
+ghost use Rattle.std.specs.Prelude.{◌≡◌, ℕ, List, [], None, Ok};
 ghost use Rattle.kfs_model.specs.Tree.{Tree};
 ghost use Rattle.kfs_model.specs.Entry.{Entry};
 ghost use Rattle.kfs_model.specs.Check.{Spot, first_fault};
@@ -10,6 +10,7 @@ ghost use Rattle.kfs_model.specs.PlanRow.{Plan};
 ghost use Rattle.kfs_model.specs.Plan.{IsRight};
 ghost use Rattle.kfs_model.specs.PlanCut.{SaySame, AreInOrder};
 ghost use Rattle.kfs_model.specs.FirstWrong.{first_wrong_row};
+ghost use Rattle.kfs_model.specs.Machine.{OneByOne};
 
 /// An entry of which no check fails is allowed to its client, by mode bits and leases, whichever of the seven it is.
 pub fn clean_is_allowed()
@@ -33,4 +34,9 @@ pub fn right_plan_has_no_wrong_row()
 pub fn right_plans_differ_in_their_cut()
     ensures same { (before : Tree ℕ) (after : Tree Mark) (plan other : Plan) → IsRight before after plan → IsRight before after other → SaySame plan other }
     ensures cut_anew { (before : Tree ℕ) (after : Tree Mark) (plan other : Plan) → IsRight before after plan → SaySame plan other → AreInOrder other.pieces → IsRight before after other }
+{}
+
+/// Where a run has no fault, its tree is what the entries give one by one, each of them allowed where it stands.
+pub fn accepted_entries_one_by_one()
+    ensures { (scene : Scene) (before : Tree ℕ) (entries : List Entry) (after : Tree ℕ) → run bytes scene before entries ≡ Ok after → OneByOne scene 0 [] before entries after }
 {}

@@ -5,7 +5,8 @@ use Rattle.kfs_model.specs.Entry.{Entry, Create, Write, Truncate, Link, Unlink, 
 use Rattle.kfs_model.specs.PlanRow.{Plan}
 use Rattle.kfs_model.specs.Tree.{Tree}
 use Rattle.kfs_model.specs.Judgement.{State}
-use Rattle.kfs_model.specs.Example.{name_a, name_b, name_c, name_d, name_f, name_p, name_q, name_x, name_y, name_z, name_row, file_row, gone, plan, tree, root, directory, own_file, own_directory, named, held_by_7, state, leases, leases_left}
+use Rattle.kfs_model.specs.Machine.{leases_after}
+use Rattle.kfs_model.specs.Example.{name_a, name_b, name_c, name_d, name_f, name_p, name_q, name_x, name_y, name_z, name_row, file_row, gone, plan, tree, root, directory, own_file, own_directory, named, held_by_7, state, leases}
 
 abbrev pub two_names : State
 two_names = held_by_7 (tree (directory 1 365 0 0 ∷ own_file 5 420 [] ∷ []) (named 1 name_a 5 ∷ named 1 name_b 5 ∷ [])) []
@@ -56,7 +57,7 @@ abbrev pub unlink_plan : Plan
 unlink_plan = plan (name_row 1 name_f 0 ∷ []) (gone 9 ∷ []) []
 
 abbrev pub after_removal : State
-after_removal = record removed_file { tree = tree (root ∷ []) []; leases = leases_left removed_file (tree (root ∷ []) []) }
+after_removal = record removed_file { tree = tree (root ∷ []) []; leases = leases_after removed_file (tree (root ∷ []) []) }
 
 abbrev pub create_f : List Entry
 create_f = Create 1 name_f 9 File 420 ∷ []
@@ -65,7 +66,7 @@ abbrev pub create_plan : Plan
 create_plan = plan (name_row 1 name_f 9 ∷ []) (file_row 9 0 ∷ []) []
 
 abbrev pub after_creation : State
-after_creation = record after_removal { tree = removed_file.tree; leases = leases_left after_removal removed_file.tree }
+after_creation = record after_removal { tree = removed_file.tree; leases = leases_after after_removal removed_file.tree }
 
 -- ---- directories and files
 
