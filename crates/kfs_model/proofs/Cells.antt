@@ -88,7 +88,7 @@ module _ {B C : Type 0} (f : B → C) where
     head = get (headers-recut t i);
     name = target t.names;
     count = λ directory. pos (entry_count t.names directory);
-    parent = parent_in (headers-recut t i) t.names;
+    parent = parent_in (get (headers-recut t i)) t.names;
   }
 
   swept-recut : (t : Tree B) → recut (swept t) ≡ swept (recut t)

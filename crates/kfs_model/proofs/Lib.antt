@@ -10,3 +10,5 @@ pub mod CleanIsAllowed
 pub mod Cells
 pub mod Marks
 pub mod OneByOne
+pub mod Counts
+pub mod Links

@@ -9,11 +9,11 @@ use Rattle.std.specs.FinMap.Entries.{find, is_sorted, below_all}
 use Rattle.std.proofs.lemmas.Bool.{or_cases, or_left, or_right}
 use Rattle.kfs_model.specs.Table.{Order}
 
-left_part : (a b : Bool) → T (a && b) → T a
+pub left_part : (a b : Bool) → T (a && b) → T a
 left_part true b t = tt
 left_part false b t = t
 
-right_part : (a b : Bool) → T (a && b) → T b
+pub right_part : (a b : Bool) → T (a && b) → T b
 right_part true b t = t
 right_part false b t = absurd t
 
@@ -23,10 +23,10 @@ less_is_no_tie Equal t = absurd t
 less_is_no_tie Greater t = absurd t
 
 module _ {K X : Type 0} (R : Order K) where
-  find_tie : (key : K) (e : K × X) (es : List (K × X)) (o : Ordering) → R.compare key e.0 ≡ o → find R.compare key (e ∷ es) ≡ cond (is_eq o) (Some e.1) (find R.compare key es)
+  pub find_tie : (key : K) (e : K × X) (es : List (K × X)) (o : Ordering) → R.compare key e.0 ≡ o → find R.compare key (e ∷ es) ≡ cond (is_eq o) (Some e.1) (find R.compare key es)
   find_tie key e es o p = ap (λ r. cond (is_eq r) (Some e.1) (find R.compare key es)) p
 
-  find_below : (key : K) (es : List (K × X)) → T (below_all R.compare key es) → find R.compare key es ≡ None
+  pub find_below : (key : K) (es : List (K × X)) → T (below_all R.compare key es) → find R.compare key es ≡ None
   find_below key [] below = refl
   find_below key (e ∷ es) below =
       ap (λ b. cond b (Some e.1) (find R.compare key es)) (less_is_no_tie (R.compare key e.0) (left_part _ _ below)) ∙ find_below key es (right_part _ _ below)

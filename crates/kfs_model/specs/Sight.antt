@@ -44,8 +44,8 @@ is_file (Some h) = of_kind h.kind
 abbrev pub holder : Links → ℕ → Option ℕ
 holder names number = option_map (λ e. e.0.0) (find (λ e. e.1 == number) names.entries)
 
-abbrev pub parent_in : Table numbers Header → Links → ℕ → Option ℕ
-parent_in heads names number = if is_directory (get heads number) && not (number == 1) then holder names number else None
+abbrev pub parent_in : (ℕ → Option Header) → Links → ℕ → Option ℕ
+parent_in head names number = if is_directory (head number) && not (number == 1) then holder names number else None
 
 module _ {B : Type 0} where
   abbrev pub sight : Tree B → Sight
@@ -53,7 +53,7 @@ module _ {B : Type 0} where
     head = get (headers t);
     name = target t.names;
     count = λ directory. pos (entry_count t.names directory);
-    parent = parent_in (headers t) t.names;
+    parent = parent_in (get (headers t)) t.names;
   }
 
 -- what a cell answers

@@ -1,10 +1,10 @@
--- A sound tree: the root, one name for each other directory, and all in range.
+-- A sound tree: the root, one name for each other directory, and all in range. It is said of what the nodes show and of
+-- the names, so that it is the same whatever a file is made of.
 use Rattle.std.specs.Prelude.{◌≡◌, ◌≢◌, ℕ, zero, suc, ◌<◌, ◌≤◌, ◌^◌, List, Option, Some, None, IsTrue}
 use Rattle.kfs_model.specs.Header.{Kind, Header}
-use Rattle.kfs_model.specs.Header.Kind.{File, Directory}
 use Rattle.kfs_model.specs.Table.{get}
-use Rattle.kfs_model.specs.Tree.{Tree, headers, target, name_count}
-use Rattle.kfs_model.specs.Sight.{Sight, sight, is_directory, is_file}
+use Rattle.kfs_model.specs.Tree.{Tree, Links, headers, target, name_count}
+use Rattle.kfs_model.specs.Sight.{parent_in, is_directory, is_file}
 use Rattle.kfs_model.specs.Spelling.{IsName}
 
 -- one step after another along the parents
@@ -20,17 +20,20 @@ pub record InRange (number : ℕ) (h : Header) : Type 0 where
   pub gid : h.gid < 2 ^ 32
   pub size : h.size ≤ 4294967296
 
-module _ {B : Type 0} where
-  pub record NameIsSound (t : Tree B) (directory : ℕ) (name : List ℕ) (number : ℕ) : Type 0 where
+module _ (head : ℕ → Option Header) (names : Links) where
+  pub record NameIsSound (directory : ℕ) (name : List ℕ) (number : ℕ) : Type 0 where
     pub spelled : IsName name
-    pub holder : IsTrue (is_directory (get (headers t) directory))
-    pub node : (h : Header) × (get (headers t) number ≡ Some h)
+    pub holder : IsTrue (is_directory (head directory))
+    pub node : (h : Header) × (head number ≡ Some h)
     pub not_root : number ≢ 1
 
-  pub record IsSound (t : Tree B) : Type 0 where
-    pub root : IsTrue (is_directory (get (headers t) 1))
-    pub names : (directory : ℕ) (name : List ℕ) (number : ℕ) → target t.names directory name ≡ Some number → NameIsSound t directory name number
-    pub directories : (number : ℕ) → IsTrue (is_directory (get (headers t) number)) → number ≢ 1 → name_count t.names number ≡ 1
-    pub files : (number : ℕ) → IsTrue (is_file (get (headers t) number)) → (1 ≤ name_count t.names number) × (name_count t.names number ≤ 1024)
-    pub reaches : (number : ℕ) → IsTrue (is_directory (get (headers t) number)) → (steps : ℕ) × Climbs (sight t).parent steps number 1
-    pub ranges : (number : ℕ) (h : Header) → get (headers t) number ≡ Some h → InRange number h
+  pub record AreSound : Type 0 where
+    pub root : IsTrue (is_directory (head 1))
+    pub names_sound : (directory : ℕ) (name : List ℕ) (number : ℕ) → target names directory name ≡ Some number → NameIsSound directory name number
+    pub directories : (number : ℕ) → IsTrue (is_directory (head number)) → number ≢ 1 → name_count names number ≡ 1
+    pub files : (number : ℕ) → IsTrue (is_file (head number)) → (1 ≤ name_count names number) × (name_count names number ≤ 1024)
+    pub reaches : (number : ℕ) → IsTrue (is_directory (head number)) → (steps : ℕ) × Climbs (parent_in head names) steps number 1
+    pub ranges : (number : ℕ) (h : Header) → head number ≡ Some h → InRange number h
+
+abbrev pub IsSound : {B : Type 0} → Tree B → Type 0
+IsSound t = AreSound (get (headers t)) t.names
