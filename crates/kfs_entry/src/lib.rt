@@ -1,12 +1,14 @@
 //! Update logs and digest plans, as values and as bytes.
 #![tactic(auto)]
 
+mod codec;
 mod entry;
 mod fault;
 mod header;
 mod name;
 mod plan;
 mod rows;
+mod table;
 
 pub use entry::{Entry, Log, Span};
 pub use fault::SpellFault;

@@ -1,0 +1,2 @@
+pub mod Views
+pub mod Reading

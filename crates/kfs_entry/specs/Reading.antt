@@ -1,0 +1,107 @@
+-- What a reader finds at the front of bytes: a value and the bytes after it, or none.
+use Rattle.std.specs.Prelude.{ℕ, ◌≡◌, List, [], ◌∷◌, length, take, drop, Bool, true, false, Option, Some, None, nat_lt, nat_le, ◌==◌, ◌&&◌, not, if◌then◌else◌}
+use Rattle.std.specs.List.{list_all}
+use Rattle.std.specs.Option.{option_map}
+use Rattle.std.specs.Int.{Width, w16, w32, w64, byte_len, from_be_bytes}
+use Rattle.kfs_model.specs.Header.{Kind, File, Directory, Header}
+use Rattle.kfs_model.specs.Entry.{Entry, Create, Write, Truncate, Link, Unlink, Rename, Chmod}
+
+-- what was read at a place of the source, as a value and the bytes that follow
+abbrev pub seen : {V M : Type 0} → (V → M) → List ℕ → Option (V × ℕ) → Option (M × List ℕ)
+seen view source None = None
+seen view source (Some x) = Some (view x.0, drop x.1 source)
+
+infixl 10 ◌>>=◌
+abbrev pub ◌>>=◌ : {V W : Type 0} → Option V → (V → Option W) → Option W
+None >>= f = None
+(Some x) >>= f = f x
+
+-- one reader after the other
+infixl 12 ◌&◌
+abbrev pub ◌&◌ : {V W : Type 0} → (List ℕ → Option (V × List ℕ)) → (List ℕ → Option (W × List ℕ)) → List ℕ → Option ((V × W) × List ℕ)
+(r & q) bytes = r bytes >>= λ x. q x.1 >>= λ y. Some ((x.0, y.0), y.1)
+
+-- the value made of what is read
+abbrev pub made : {V W : Type 0} → (V → W) → (List ℕ → Option (V × List ℕ)) → List ℕ → Option (W × List ℕ)
+made f read bytes = read bytes >>= λ x. Some (f x.0, x.1)
+
+unfoldable pub byte_read : List ℕ → Option (ℕ × List ℕ)
+byte_read [] = None
+byte_read (b ∷ bytes) = Some (b, bytes)
+
+abbrev pub number_read : Width → List ℕ → Option (ℕ × List ℕ)
+number_read w bytes = if nat_lt (length bytes) (byte_len w) then None else Some (from_be_bytes w (take (byte_len w) bytes), drop (byte_len w) bytes)
+
+unfoldable pub number16_read : List ℕ → Option (ℕ × List ℕ)
+number16_read bytes = number_read w16 bytes
+
+unfoldable pub number32_read : List ℕ → Option (ℕ × List ℕ)
+number32_read bytes = number_read w32 bytes
+
+unfoldable pub number64_read : List ℕ → Option (ℕ × List ℕ)
+number64_read bytes = number_read w64 bytes
+
+-- the next bytes, so many
+abbrev pub bytes_read : ℕ → List ℕ → Option (List ℕ × List ℕ)
+bytes_read count bytes = if nat_le count (length bytes) then Some (take count bytes, drop count bytes) else None
+
+-- whether these bytes are `.` or `..`
+abbrev pub is_dots : List ℕ → Bool
+is_dots [] = false
+is_dots (a ∷ []) = a == 46
+is_dots (a ∷ b ∷ []) = (a == 46) && (b == 46)
+is_dots (a ∷ b ∷ c ∷ bytes) = false
+
+-- whether these bytes are a name
+unfoldable pub is_name : List ℕ → Bool
+is_name bytes = nat_lt 0 (length bytes) && nat_le (length bytes) 255 && list_all (λ byte. not (byte == 0) && not (byte == 47)) bytes && not (is_dots bytes)
+
+unfoldable pub name_read : List ℕ → Option (List ℕ × List ℕ)
+name_read bytes = byte_read bytes >>= λ len. bytes_read len.0 len.1 >>= λ name. if is_name name.0 then Some name else None
+
+unfoldable pub payload_read : List ℕ → Option (List ℕ × List ℕ)
+payload_read bytes = number32_read bytes >>= λ len. if nat_le len.0 65536 then bytes_read len.0 len.1 else None
+
+unfoldable pub kind_read : List ℕ → Option (Kind × List ℕ)
+kind_read bytes = byte_read bytes >>= λ b. if b.0 == 0 then Some (File, b.1) else if b.0 == 1 then Some (Directory, b.1) else None
+
+unfoldable pub mode_read : List ℕ → Option (ℕ × List ℕ)
+mode_read bytes = number16_read bytes >>= λ n. if nat_le n.0 511 then Some n else None
+
+-- ---- entries
+
+abbrev pub create_read : List ℕ → Option (Entry × List ℕ)
+create_read bytes = made (λ f. Create f.0.0.0.0 f.0.0.0.1 f.0.0.1 f.0.1 f.1) (number32_read & name_read & number32_read & kind_read & mode_read) bytes
+
+abbrev pub write_read : List ℕ → Option (Entry × List ℕ)
+write_read bytes = made (λ f. Write f.0.0 f.0.1 f.1) (number32_read & number64_read & payload_read) bytes
+
+abbrev pub truncate_read : List ℕ → Option (Entry × List ℕ)
+truncate_read bytes = made (λ f. Truncate f.0 f.1) (number32_read & number64_read) bytes
+
+abbrev pub link_read : List ℕ → Option (Entry × List ℕ)
+link_read bytes = made (λ f. Link f.0.0 f.0.1 f.1) (number32_read & number32_read & name_read) bytes
+
+abbrev pub unlink_read : List ℕ → Option (Entry × List ℕ)
+unlink_read bytes = made (λ f. Unlink f.0.0 f.0.1 f.1) (number32_read & name_read & kind_read) bytes
+
+abbrev pub rename_read : List ℕ → Option (Entry × List ℕ)
+rename_read bytes = made (λ f. Rename f.0.0.0 f.0.0.1 f.0.1 f.1) (number32_read & name_read & number32_read & name_read) bytes
+
+abbrev pub chmod_read : List ℕ → Option (Entry × List ℕ)
+chmod_read bytes = made (λ f. Chmod f.0 f.1) (number32_read & mode_read) bytes
+
+-- the entry of a tag
+abbrev pub tagged_read : ℕ → List ℕ → Option (Entry × List ℕ)
+tagged_read tag bytes =
+    if tag == 1 then create_read bytes
+    else if tag == 2 then write_read bytes
+    else if tag == 3 then truncate_read bytes
+    else if tag == 4 then link_read bytes
+    else if tag == 5 then unlink_read bytes
+    else if tag == 6 then rename_read bytes
+    else if tag == 7 then chmod_read bytes
+    else None
+
+unfoldable pub entry_read : List ℕ → Option (Entry × List ℕ)
+entry_read bytes = byte_read bytes >>= λ tag. tagged_read tag.0 tag.1

@@ -1,0 +1,37 @@
+-- Logs and plans of the code as the values of the definitions.
+use Rattle.std.specs.Prelude.{◌≡◌, ℕ, ◌≤◌, List, map, Option, None, Some, slice_range}
+use Rattle.kfs_entry.specs.declared.header.Kind.{Kind as CodeKind}
+use Rattle.kfs_entry.specs.declared.header.Kind.TheVariants as kinds
+use Rattle.kfs_entry.specs.declared.entry.Span.{Span}
+use Rattle.kfs_entry.specs.declared.entry.Entry.{Entry as CodeEntry}
+use Rattle.kfs_entry.specs.declared.entry.Entry.TheVariants as entries
+use Rattle.kfs_model.specs.Header.{Kind, File, Directory, Header}
+use Rattle.kfs_model.specs.Entry.{Entry, Create, Write, Truncate, Link, Unlink, Rename, Chmod}
+
+abbrev pub kind_of : CodeKind → Kind
+kind_of kinds.File = File
+kind_of kinds.Directory = Directory
+
+-- the bytes that a span has in the source
+abbrev pub span_bytes : List ℕ → Span → List ℕ
+span_bytes source s = slice_range source s.start s.end
+
+-- the entry, with the payload's bytes in place of their span
+abbrev pub entry_of : List ℕ → CodeEntry Span → Entry
+entry_of source (entries.Create d m n k mode) = Create d m n (kind_of k) mode
+entry_of source (entries.Write n offset p) = Write n offset (span_bytes source p)
+entry_of source (entries.Truncate n size) = Truncate n size
+entry_of source (entries.Link n d m) = Link n d m
+entry_of source (entries.Unlink d m k) = Unlink d m (kind_of k)
+entry_of source (entries.Rename d m e k) = Rename d m e k
+entry_of source (entries.Chmod n mode) = Chmod n mode
+
+-- a payload's span lies in a source of this length
+abbrev pub IsWithin : ℕ → CodeEntry Span → Type 0
+IsWithin len (entries.Write n offset p) = (p.start ≤ p.end) × (p.end ≤ len)
+IsWithin len (entries.Create d m n k mode) = Unit {0}
+IsWithin len (entries.Truncate n size) = Unit {0}
+IsWithin len (entries.Link n d m) = Unit {0}
+IsWithin len (entries.Unlink d m k) = Unit {0}
+IsWithin len (entries.Rename d m e k) = Unit {0}
+IsWithin len (entries.Chmod n mode) = Unit {0}

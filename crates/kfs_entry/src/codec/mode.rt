@@ -1,0 +1,38 @@
+//! A mode of at most 0o777.
+ghost use Rattle.std.specs.Prelude.{◌≡◌, ◌≤◌, ◌++◌, length, drop, IfSome, OnOk};
+ghost use Rattle.kfs_model.specs.Spelling.{number16};
+ghost use Rattle.kfs_entry.specs.Reading.{seen, mode_read};
+
+use crate::codec::number16;
+use std::alloc::{AllocError, Allocator};
+
+const GREATEST: u16 = 0o777;
+
+#[tactic(auto, unfolding(crate::specs::Reading::mode_read))]
+pub fn read(source: &[u8], at: usize) -> Option<(u16, usize)>
+    requires { at ≤ length source.now }
+    ensures value { seen (λ n. n) source.now result ≡ mode_read (drop at source.now) }
+    ensures within { IfSome result (λ x. x.1 ≤ length source.now) }
+{
+    let (mode, at) = number16::read(source, at)?;
+    if mode > GREATEST {
+        return None;
+    }
+    Some((mode, at))
+}
+
+pub fn write<A: Allocator>(
+    out: &mut Vec<u8, A>,
+    source: &[u8],
+    value: &u16,
+) -> Result<(), AllocError>
+    ensures { OnOk result (out.new.items ≡ out.old.items ++ number16 value.now) }
+{
+    number16::write(out, source, value)
+}
+
+pub fn len(value: &u16) -> usize
+    ensures { result ≡ length (number16 value.now) }
+{
+    number16::len(value)
+}

@@ -1,0 +1,35 @@
+//! A number of 2 bytes, big-endian.
+ghost use Rattle.std.specs.Prelude.{◌≡◌, ◌≤◌, ◌++◌, length, drop, IfSome, OnOk};
+ghost use Rattle.kfs_model.specs.Spelling.{number16};
+ghost use Rattle.kfs_entry.specs.Reading.{seen, number16_read};
+
+use crate::codec::bytes::chunk;
+use std::alloc::{AllocError, Allocator};
+
+#[tactic(auto, unfolding(crate::specs::Reading::number16_read))]
+pub fn read(source: &[u8], at: usize) -> Option<(u16, usize)>
+    requires { at ≤ length source.now }
+    ensures value { seen (λ n. n) source.now result ≡ number16_read (drop at source.now) }
+    ensures within { IfSome result (λ x. x.1 ≤ length source.now) }
+{
+    let (bytes, at) = chunk::<2>(source, at)?;
+    Some((u16::from_be_bytes(*bytes), at))
+}
+
+#[tactic(auto, unfolding(kfs_model::specs::Spelling::number16))]
+pub fn write<A: Allocator>(
+    out: &mut Vec<u8, A>,
+    _source: &[u8],
+    value: &u16,
+) -> Result<(), AllocError>
+    ensures { OnOk result (out.new.items ≡ out.old.items ++ number16 value.now) }
+{
+    out.extend_from_slice(&value.to_be_bytes())
+}
+
+#[tactic(auto, unfolding(kfs_model::specs::Spelling::number16))]
+pub fn len(value: &u16) -> usize
+    ensures { result ≡ length (number16 value.now) }
+{
+    2
+}

@@ -1,0 +1,35 @@
+//! A number of 4 bytes, big-endian.
+ghost use Rattle.std.specs.Prelude.{◌≡◌, ◌≤◌, ◌++◌, length, drop, IfSome, OnOk};
+ghost use Rattle.kfs_model.specs.Spelling.{number32};
+ghost use Rattle.kfs_entry.specs.Reading.{seen, number32_read};
+
+use crate::codec::bytes::chunk;
+use std::alloc::{AllocError, Allocator};
+
+#[tactic(auto, unfolding(crate::specs::Reading::number32_read))]
+pub fn read(source: &[u8], at: usize) -> Option<(u32, usize)>
+    requires { at ≤ length source.now }
+    ensures value { seen (λ n. n) source.now result ≡ number32_read (drop at source.now) }
+    ensures within { IfSome result (λ x. x.1 ≤ length source.now) }
+{
+    let (bytes, at) = chunk::<4>(source, at)?;
+    Some((u32::from_be_bytes(*bytes), at))
+}
+
+#[tactic(auto, unfolding(kfs_model::specs::Spelling::number32))]
+pub fn write<A: Allocator>(
+    out: &mut Vec<u8, A>,
+    _source: &[u8],
+    value: &u32,
+) -> Result<(), AllocError>
+    ensures { OnOk result (out.new.items ≡ out.old.items ++ number32 value.now) }
+{
+    out.extend_from_slice(&value.to_be_bytes())
+}
+
+#[tactic(auto, unfolding(kfs_model::specs::Spelling::number32))]
+pub fn len(value: &u32) -> usize
+    ensures { result ≡ length (number32 value.now) }
+{
+    4
+}
