@@ -1,1 +1,5 @@
 pub mod Names
+pub mod Fields
+pub mod EntryLaws
+pub mod PlanLaws
+pub mod RowLaws

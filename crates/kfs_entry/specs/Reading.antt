@@ -5,6 +5,7 @@ use Rattle.std.specs.Option.{option_map}
 use Rattle.std.specs.Int.{Width, w16, w32, w64, byte_len, from_be_bytes}
 use Rattle.kfs_model.specs.Header.{Kind, File, Directory, Header}
 use Rattle.kfs_model.specs.Entry.{Entry, Create, Write, Truncate, Link, Unlink, Rename, Chmod}
+use Rattle.kfs_model.specs.PlanRow.{NameRow, NodeRow, Source, Zero, Payload, Piece}
 
 -- what was read at a place of the source, as a value and the bytes that follow
 abbrev pub seen : {V M : Type 0} → (V → M) → List ℕ → Option (V × ℕ) → Option (M × List ℕ)
@@ -105,3 +106,32 @@ tagged_read tag bytes =
 
 unfoldable pub entry_read : List ℕ → Option (Entry × List ℕ)
 entry_read bytes = byte_read bytes >>= λ tag. tagged_read tag.0 tag.1
+
+-- ---- rows of a plan
+
+unfoldable pub name_row_read : List ℕ → Option (NameRow × List ℕ)
+name_row_read bytes = made (λ f. record { directory = f.0.0; name = f.0.1; number = f.1 }) (number32_read & name_read & number32_read) bytes
+
+abbrev pub present_read : Kind → List ℕ → Option (Option Header × List ℕ)
+present_read kind bytes =
+    made (λ f. Some (record { kind = kind; mode = f.0.0.0.0; uid = f.0.0.0.1; gid = f.0.0.1; links = f.0.1; size = f.1 }))
+        (number16_read & number32_read & number32_read & number16_read & number64_read) bytes
+
+unfoldable pub header_read : List ℕ → Option (Option Header × List ℕ)
+header_read bytes = byte_read bytes >>= λ state.
+    if state.0 == 0 then Some (None, state.1)
+    else if state.0 == 1 then present_read File state.1
+    else if state.0 == 2 then present_read Directory state.1
+    else None
+
+unfoldable pub node_row_read : List ℕ → Option (NodeRow × List ℕ)
+node_row_read bytes = made (λ f. record { number = f.0; now = f.1 }) (number32_read & header_read) bytes
+
+unfoldable pub source_read : List ℕ → Option (Source × List ℕ)
+source_read bytes = byte_read bytes >>= λ flag.
+    if flag.0 == 0 then Some (Zero, flag.1)
+    else if flag.0 == 1 then made (λ f. Payload f.0 f.1) (number16_read & number32_read) flag.1
+    else None
+
+unfoldable pub piece_read : List ℕ → Option (Piece × List ℕ)
+piece_read bytes = made (λ f. record { number = f.0.0.0; start = f.0.0.1; length = f.0.1; source = f.1 }) (number32_read & number64_read & number64_read & source_read) bytes

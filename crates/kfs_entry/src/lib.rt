@@ -7,6 +7,7 @@ mod fault;
 mod header;
 mod name;
 mod plan;
+mod row;
 mod rows;
 mod table;
 
@@ -15,4 +16,5 @@ pub use fault::SpellFault;
 pub use header::{Header, Kind};
 pub use name::Name;
 pub use plan::{NameRow, NodeRow, Piece, Plan, Source};
+pub use row::{Row, RowsFault, read_rows};
 pub use rows::Rows;
