@@ -1,8 +1,8 @@
 -- The laws of an entry: what is read is an entry that stands there, and what is spelled is read.
-use Rattle.std.proofs.Common.{◌≡◌, ◌⊎◌, ℕ, ◌^◌, ◌<◌, ◌≤◌, Bool, true, false, cond, eqb, List, [], ◌∷◌, ◌++◌, Option, Some, None, refl, sym, ap, subst, ◌∙◌, inl, inr}
+use Rattle.std.proofs.Common.{◌≡◌, ℕ, List, ◌∷◌, ◌++◌, Some, None, refl, inl, inr}
 use Rattle.kfs_model.specs.Entry.{Entry, Create, Write, Truncate, Link, Unlink, Rename, Chmod}
 use Rattle.kfs_model.specs.Spelling.{entry_bytes, IsEntry}
-use Rattle.kfs_entry.specs.Reading.{◌>>=◌, made, byte_read, create_read, write_read, truncate_read, link_read, unlink_read, rename_read, chmod_read, tagged_read, entry_read}
+use Rattle.kfs_entry.specs.Reading.{byte_read, create_read, write_read, truncate_read, link_read, unlink_read, rename_read, chmod_read, tagged_read, entry_read}
 use Rattle.kfs_entry.proofs.Fields.{IsBytes, some_from, Stands, IsField, both, made_again, byte_field, byte_is, number32_field, number64_field, mode_field, name_field, payload_field, kind_field, tagged_takes}
 
 chosen_takes : (bytes after : List ℕ) (tag : ℕ) (x : Entry × List ℕ) → bytes ≡ tag ∷ after → IsBytes after → tagged_read tag after ≡ Some x → Stands IsEntry entry_bytes bytes x.0 x.1
@@ -11,25 +11,31 @@ chosen_takes bytes after tag x front fits e =
       | inl p ↦ tagged_takes 1 (λ f. Create f.0.0.0.0 f.0.0.0.1 f.0.0.1 f.0.1 f.1) (both (both (both (both number32_field name_field) number32_field) kind_field) mode_field)
           (λ v. refl) (λ v h. (h.0.0.0.0, h.0.0.0.1, h.0.0.1, h.1)) bytes after tag x front fits p.0 p.1
       | inr q ↦ elim (byte_is tag 2 (write_read after) _ x q.1) [
-      | inl p ↦ tagged_takes 2 (λ f. Write f.0.0 f.0.1 f.1) (both (both number32_field number64_field) payload_field)
-          (λ v. refl) (λ v h. (h.0.0, h.0.1, h.1)) bytes after tag x front fits p.0 p.1
-      | inr q ↦ elim (byte_is tag 3 (truncate_read after) _ x q.1) [
-      | inl p ↦ tagged_takes 3 (λ f. Truncate f.0 f.1) (both number32_field number64_field)
-          (λ v. refl) (λ v h. (h.0, h.1)) bytes after tag x front fits p.0 p.1
-      | inr q ↦ elim (byte_is tag 4 (link_read after) _ x q.1) [
-      | inl p ↦ tagged_takes 4 (λ f. Link f.0.0 f.0.1 f.1) (both (both number32_field number32_field) name_field)
-          (λ v. refl) (λ v h. (h.0.0, h.0.1, h.1)) bytes after tag x front fits p.0 p.1
-      | inr q ↦ elim (byte_is tag 5 (unlink_read after) _ x q.1) [
-      | inl p ↦ tagged_takes 5 (λ f. Unlink f.0.0 f.0.1 f.1) (both (both number32_field name_field) kind_field)
-          (λ v. refl) (λ v h. (h.0.0, h.0.1)) bytes after tag x front fits p.0 p.1
-      | inr q ↦ elim (byte_is tag 6 (rename_read after) _ x q.1) [
-      | inl p ↦ tagged_takes 6 (λ f. Rename f.0.0.0 f.0.0.1 f.0.1 f.1) (both (both (both number32_field name_field) number32_field) name_field)
-          (λ v. refl) (λ v h. (h.0.0.0, h.0.0.1, h.0.1, h.1)) bytes after tag x front fits p.0 p.1
-      | inr q ↦ elim (byte_is tag 7 (chmod_read after) None x q.1) [
-      | inl p ↦ tagged_takes 7 (λ f. Chmod f.0 f.1) (both number32_field mode_field)
-          (λ v. refl) (λ v h. (h.0, h.1)) bytes after tag x front fits p.0 p.1
-      | inr q ↦ let never : None ≡ Some x = q.1 in absurd cc
-      ] ] ] ] ] ] ]
+        | inl p ↦ tagged_takes 2 (λ f. Write f.0.0 f.0.1 f.1) (both (both number32_field number64_field) payload_field)
+            (λ v. refl) (λ v h. (h.0.0, h.0.1, h.1)) bytes after tag x front fits p.0 p.1
+        | inr q ↦ elim (byte_is tag 3 (truncate_read after) _ x q.1) [
+          | inl p ↦ tagged_takes 3 (λ f. Truncate f.0 f.1) (both number32_field number64_field)
+              (λ v. refl) (λ v h. (h.0, h.1)) bytes after tag x front fits p.0 p.1
+          | inr q ↦ elim (byte_is tag 4 (link_read after) _ x q.1) [
+            | inl p ↦ tagged_takes 4 (λ f. Link f.0.0 f.0.1 f.1) (both (both number32_field number32_field) name_field)
+                (λ v. refl) (λ v h. (h.0.0, h.0.1, h.1)) bytes after tag x front fits p.0 p.1
+            | inr q ↦ elim (byte_is tag 5 (unlink_read after) _ x q.1) [
+              | inl p ↦ tagged_takes 5 (λ f. Unlink f.0.0 f.0.1 f.1) (both (both number32_field name_field) kind_field)
+                  (λ v. refl) (λ v h. (h.0.0, h.0.1)) bytes after tag x front fits p.0 p.1
+              | inr q ↦ elim (byte_is tag 6 (rename_read after) _ x q.1) [
+                | inl p ↦ tagged_takes 6 (λ f. Rename f.0.0.0 f.0.0.1 f.0.1 f.1) (both (both (both number32_field name_field) number32_field) name_field)
+                    (λ v. refl) (λ v h. (h.0.0.0, h.0.0.1, h.0.1, h.1)) bytes after tag x front fits p.0 p.1
+                | inr q ↦ elim (byte_is tag 7 (chmod_read after) None x q.1) [
+                  | inl p ↦ tagged_takes 7 (λ f. Chmod f.0 f.1) (both number32_field mode_field)
+                      (λ v. refl) (λ v h. (h.0, h.1)) bytes after tag x front fits p.0 p.1
+                  | inr q ↦ let never : None ≡ Some x = q.1 in absurd cc
+                ]
+              ]
+            ]
+          ]
+        ]
+      ]
+    ]
 
 entry_takes : (bytes : List ℕ) (x : Entry × List ℕ) → IsBytes bytes → entry_read bytes ≡ Some x → Stands IsEntry entry_bytes bytes x.0 x.1
 unfolding entry_read
@@ -42,7 +48,7 @@ entry_again : (e : Entry) (rest : List ℕ) → IsEntry e → entry_read (entry_
 unfolding entry_read byte_read
 entry_again (Create d m n k mode) rest h =
     made_again (λ f. Create f.0.0.0.0 f.0.0.0.1 f.0.0.1 f.0.1 f.1) (both (both (both (both number32_field name_field) number32_field) kind_field) mode_field)
-        ((((d, m), n), k), mode) rest ((((h.0, h.1), h.2), tt), h.3)
+    ((((d, m), n), k), mode) rest ((((h.0, h.1), h.2), tt), h.3)
 entry_again (Write n offset p) rest h =
     made_again (λ f. Write f.0.0 f.0.1 f.1) (both (both number32_field number64_field) payload_field) ((n, offset), p) rest ((h.0, h.1), h.2)
 entry_again (Truncate n size) rest h =

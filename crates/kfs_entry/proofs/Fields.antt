@@ -1,7 +1,7 @@
 -- The laws of a field: what is read stands there, and what is spelled is read.
-use Rattle.std.proofs.Common.{◌≡◌, ◌⊎◌, ℕ, zero, suc, ◌+◌, ◌^◌, ◌<◌, ◌≤◌, Bool, true, false, cond, eqb, ltb, leb, List, [], ◌∷◌, ◌++◌, length, get_or, take, drop, Option, Some, None, refl, sym, ap, subst, ◌∙◌, append_assoc, arith, inl, inr}
+use Rattle.std.proofs.Common.{◌≡◌, ◌⊎◌, ℕ, suc, ◌+◌, ◌^◌, ◌<◌, ◌≤◌, Bool, true, false, cond, eqb, ltb, leb, List, [], ◌∷◌, ◌++◌, length, get_or, take, drop, Option, Some, None, refl, sym, ap, subst, ◌∙◌, append_assoc, arith, inl, inr}
 use Rattle.std.specs.Int.{Width, w16, w32, w64, byte_len, from_be_bytes, to_be_bytes}
-use Rattle.std.proofs.lemmas.Bool.{cases_lt, cases_Bool, ltb-false, leb-true, le-leb, le-ltb, eqb-true, eqb-false, eq-eqb}
+use Rattle.std.proofs.lemmas.Bool.{cases_lt, ltb-false, leb-true, le-leb, le-ltb, eqb-true}
 use Rattle.std.proofs.lemmas.List.{take_at, drop_at, take-append-drop, length-append, length-take, get_or-drop, get_or-take, get_or_past}
 use Rattle.std.proofs.lemmas.Nat.{be_bytes_2, be_bytes_4, be_bytes_8, from_be_bytes-to_be_bytes_2, from_be_bytes-to_be_bytes_4, from_be_bytes-to_be_bytes_8}
 use Rattle.kfs_model.specs.Header.{Kind, File, Directory}
@@ -12,7 +12,7 @@ use Rattle.kfs_entry.proofs.Names.{is_name_true, is_name_sound}
 abbrev pub IsBytes : List ℕ → Type 0
 IsBytes bytes = (i : ℕ) → get_or bytes i 0 < 256
 
-IsBytes-drop : (n : ℕ) (bytes : List ℕ) → IsBytes bytes → IsBytes (drop n bytes)
+pub IsBytes-drop : (n : ℕ) (bytes : List ℕ) → IsBytes bytes → IsBytes (drop n bytes)
 IsBytes-drop n bytes h i = rw get_or-drop (h (n + i))
 
 IsBytes-take : (n : ℕ) (bytes : List ℕ) → IsBytes bytes → IsBytes (take n bytes)
@@ -65,20 +65,20 @@ pub both : {V W : Type 0} {F : V → Type 0} {G : W → Type 0} {s : V → List 
     → IsField F s r → IsField G t q → IsField (λ (p : V × W). F p.0 × G p.1) (λ p. s p.0 ++ t p.1) (r & q)
 both {V} {W} {F} {G} {s} {t} {r} {q} first second = record {
   takes = λ bytes x fits e.
-    let a = some_from (r bytes) (λ x. q x.1 >>= λ y. Some ((x.0, y.0), y.1)) x e in
-    let b = some_from (q a.0.1) (λ y. Some ((a.0.0, y.0), y.1)) x a.2 in
-    let m = first.takes bytes a.0 fits a.1 in
-    let n = second.takes a.0.1 b.0 m.rest_bytes b.1 in
-    let stands : Stands (λ (p : V × W). F p.0 × G p.1) (λ p. s p.0 ++ t p.1) bytes (a.0.0, b.0.0) b.0.1 = record {
-      parts = m.parts ∙ ap (λ (l : List ℕ). s a.0.0 ++ l) n.parts ∙ sym (append_assoc (s a.0.0) (t b.0.0) b.0.1);
-      fits = (m.fits, n.fits);
-      rest_bytes = n.rest_bytes;
-    } in
-    subst (λ (y : (V × W) × List ℕ). Stands (λ (p : V × W). F p.0 × G p.1) (λ p. s p.0 ++ t p.1) bytes y.0 y.1) (some_is ((a.0.0, b.0.0), b.0.1) x b.2) stands;
+      let a = some_from (r bytes) (λ x. q x.1 >>= λ y. Some ((x.0, y.0), y.1)) x e in
+      let b = some_from (q a.0.1) (λ y. Some ((a.0.0, y.0), y.1)) x a.2 in
+      let m = first.takes bytes a.0 fits a.1 in
+      let n = second.takes a.0.1 b.0 m.rest_bytes b.1 in
+      let stands : Stands (λ (p : V × W). F p.0 × G p.1) (λ p. s p.0 ++ t p.1) bytes (a.0.0, b.0.0) b.0.1 = record {
+        parts = m.parts ∙ ap (λ (l : List ℕ). s a.0.0 ++ l) n.parts ∙ sym (append_assoc (s a.0.0) (t b.0.0) b.0.1);
+        fits = (m.fits, n.fits);
+        rest_bytes = n.rest_bytes;
+      } in
+      subst (λ (y : (V × W) × List ℕ). Stands (λ (p : V × W). F p.0 × G p.1) (λ p. s p.0 ++ t p.1) bytes y.0 y.1) (some_is ((a.0.0, b.0.0), b.0.1) x b.2) stands;
   again = λ value rest fits.
-    ap (r & q) (append_assoc (s value.0) (t value.1) rest)
-    ∙ ap (λ o. o >>= λ x. q x.1 >>= λ y. Some ((x.0, y.0), y.1)) (first.again value.0 (t value.1 ++ rest) fits.0)
-    ∙ ap (λ o. o >>= λ y. Some ((value.0, y.0), y.1)) (second.again value.1 rest fits.1);
+      ap (r & q) (append_assoc (s value.0) (t value.1) rest)
+      ∙ ap (λ o. o >>= λ x. q x.1 >>= λ y. Some ((x.0, y.0), y.1)) (first.again value.0 (t value.1 ++ rest) fits.0)
+      ∙ ap (λ o. o >>= λ y. Some ((value.0, y.0), y.1)) (second.again value.1 rest fits.1);
 }
 
 -- a value made of what a field reads
@@ -199,7 +199,7 @@ run_takes count bytes x fits e =
     let g = some_if (leb count (length bytes)) (Some (take count bytes, drop count bytes)) x e in
     let long : count ≤ length bytes = leb-true count (length bytes) g.0 in
     subst (λ (y : List ℕ × List ℕ). (bytes ≡ y.0 ++ y.1) × (length y.0 ≡ count) × IsBytes y.1) (some_is (take count bytes, drop count bytes) x g.1)
-        (sym (take-append-drop count bytes), omega (arith, length-take count bytes), IsBytes-drop count bytes fits)
+    (sym (take-append-drop count bytes), omega (arith, length-take count bytes), IsBytes-drop count bytes fits)
 
 run_again : (bytes rest : List ℕ) → bytes_read (length bytes) (bytes ++ rest) ≡ Some (bytes, rest)
 run_again bytes rest =
@@ -260,7 +260,7 @@ payload_field = record { takes = payload_takes; again = payload_again }
 pub byte_is : {V : Type 0} (b n : ℕ) (o p : Option V) (y : V) → cond (eqb b n) o p ≡ Some y → ((b ≡ n) × (o ≡ Some y)) ⊎ ((eqb b n ≡ false) × (p ≡ Some y))
 byte_is {V} b n o p y e =
     let chosen : (t : Bool) → eqb b n ≡ t → cond t o p ≡ Some y → ((b ≡ n) × (o ≡ Some y)) ⊎ ((eqb b n ≡ false) × (p ≡ Some y)) =
-      elim [ true ↦ λ is e. inl (eqb-true b n is, e) | false ↦ λ isnt e. inr (isnt, e) ] in
+    elim [ true ↦ λ is e. inl (eqb-true b n is, e) | false ↦ λ isnt e. inr (isnt, e) ] in
     chosen (eqb b n) refl e
 
 kind_takes : (bytes : List ℕ) (x : Kind × List ℕ) → IsBytes bytes → kind_read bytes ≡ Some x → Stands (λ _. Unit {0}) kind_bytes bytes x.0 x.1
@@ -269,13 +269,13 @@ kind_takes bytes x fits e =
     let a = some_from (byte_read bytes) (λ b. cond (eqb b.0 0) (Some (File, b.1)) (cond (eqb b.0 1) (Some (Directory, b.1)) None)) x e in
     let m = byte_field.takes bytes a.0 fits a.1 in
     let stands : (k : Kind) → a.0.0 ∷ a.0.1 ≡ kind_bytes k ++ a.0.1 → done (k, a.0.1) ≡ Some x → Stands (λ _. Unit {0}) kind_bytes bytes x.0 x.1 =
-      λ k front is. subst (λ (y : Kind × List ℕ). Stands (λ _. Unit {0}) kind_bytes bytes y.0 y.1) (some_is (k, a.0.1) x is) (record { parts = m.parts ∙ front; fits = tt; rest_bytes = m.rest_bytes }) in
+    λ k front is. subst (λ (y : Kind × List ℕ). Stands (λ _. Unit {0}) kind_bytes bytes y.0 y.1) (some_is (k, a.0.1) x is) (record { parts = m.parts ∙ front; fits = tt; rest_bytes = m.rest_bytes }) in
     elim (byte_is a.0.0 0 (Some (File, a.0.1)) (cond (eqb a.0.0 1) (Some (Directory, a.0.1)) None) x a.2) [
       | inl p ↦ stands File (ap (λ (b : ℕ). b ∷ a.0.1) p.0) p.1
       | inr q ↦ elim (byte_is a.0.0 1 (Some (Directory, a.0.1)) None x q.1) [
-          | inl p ↦ stands Directory (ap (λ (b : ℕ). b ∷ a.0.1) p.0) p.1
-          | inr n ↦ let never : None ≡ done x = n.1 in absurd cc
-        ]
+        | inl p ↦ stands Directory (ap (λ (b : ℕ). b ∷ a.0.1) p.0) p.1
+        | inr n ↦ let never : None ≡ done x = n.1 in absurd cc
+      ]
     ]
 
 kind_again : (k : Kind) (rest : List ℕ) → Unit {0} → kind_read (kind_bytes k ++ rest) ≡ Some (k, rest)
@@ -307,10 +307,10 @@ pub record_field : {V W : Type 0} {F : V → Type 0} {s : V → List ℕ} {r : L
     → IsField G t (made f r)
 record_field {V} {W} {F} {s} {r} {G} {t} f g field there back spelled fit fit_fields = record {
   takes = λ bytes x fits e.
-    let a = made_takes f field bytes x fits e in
-    let same : a.0 ≡ g x.0 = sym (back a.0) ∙ ap g a.2 in
-    let stands : Stands F s bytes (g x.0) x.1 = subst (λ (v : V). Stands F s bytes v x.1) same a.1 in
-    record { parts = stands.parts ∙ ap (λ (l : List ℕ). l ++ x.1) (sym (spelled x.0)); fits = fit x.0 stands.fits; rest_bytes = stands.rest_bytes };
+      let a = made_takes f field bytes x fits e in
+      let same : a.0 ≡ g x.0 = sym (back a.0) ∙ ap g a.2 in
+      let stands : Stands F s bytes (g x.0) x.1 = subst (λ (v : V). Stands F s bytes v x.1) same a.1 in
+      record { parts = stands.parts ∙ ap (λ (l : List ℕ). l ++ x.1) (sym (spelled x.0)); fits = fit x.0 stands.fits; rest_bytes = stands.rest_bytes };
   again = λ value rest fits.
-    ap (λ (l : List ℕ). made f r (l ++ rest)) (spelled value) ∙ made_again f field (g value) rest (fit_fields value fits) ∙ ap (λ (w : W). Some (w, rest)) (there value);
+      ap (λ (l : List ℕ). made f r (l ++ rest)) (spelled value) ∙ made_again f field (g value) rest (fit_fields value fits) ∙ ap (λ (w : W). Some (w, rest)) (there value);
 }

@@ -1,3 +1,4 @@
 pub mod Views
 pub mod Reading
 pub mod RowList
+pub mod Answers

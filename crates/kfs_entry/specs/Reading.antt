@@ -1,10 +1,10 @@
 -- What a reader finds at the front of bytes: a value and the bytes after it, or none.
-use Rattle.std.specs.Prelude.{ℕ, ◌≡◌, List, [], ◌∷◌, length, take, drop, Bool, true, false, Option, Some, None, nat_lt, nat_le, ◌==◌, ◌&&◌, not, if◌then◌else◌}
-use Rattle.std.specs.List.{list_all}
-use Rattle.std.specs.Option.{option_map}
+use Rattle.std.specs.Prelude.{ℕ, List, [], ◌∷◌, length, take, drop, Bool, false, Option, Some, None, nat_eq, nat_lt, nat_le, ◌==◌, ◌&&◌, not, if◌then◌else◌}
+use Rattle.std.specs.List.{list_all, starts_with}
 use Rattle.std.specs.Int.{Width, w16, w32, w64, byte_len, from_be_bytes}
 use Rattle.kfs_model.specs.Header.{Kind, File, Directory, Header}
 use Rattle.kfs_model.specs.Entry.{Entry, Create, Write, Truncate, Link, Unlink, Rename, Chmod}
+use Rattle.kfs_model.specs.Spelling.{LogHeader, Counts}
 use Rattle.kfs_model.specs.PlanRow.{NameRow, NodeRow, Source, Zero, Payload, Piece}
 
 -- what was read at a place of the source, as a value and the bytes that follow
@@ -115,7 +115,7 @@ name_row_read bytes = made (λ f. record { directory = f.0.0; name = f.0.1; numb
 abbrev pub present_read : Kind → List ℕ → Option (Option Header × List ℕ)
 present_read kind bytes =
     made (λ f. Some (record { kind = kind; mode = f.0.0.0.0; uid = f.0.0.0.1; gid = f.0.0.1; links = f.0.1; size = f.1 }))
-        (number16_read & number32_read & number32_read & number16_read & number64_read) bytes
+    (number16_read & number32_read & number32_read & number16_read & number64_read) bytes
 
 unfoldable pub header_read : List ℕ → Option (Option Header × List ℕ)
 header_read bytes = byte_read bytes >>= λ state.
@@ -135,3 +135,18 @@ source_read bytes = byte_read bytes >>= λ flag.
 
 unfoldable pub piece_read : List ℕ → Option (Piece × List ℕ)
 piece_read bytes = made (λ f. record { number = f.0.0.0; start = f.0.0.1; length = f.0.1; source = f.1 }) (number32_read & number64_read & number64_read & source_read) bytes
+
+-- ---- headers
+
+-- the bytes that a format begins with
+unfoldable pub mark_read : List ℕ → List ℕ → Option (Unit {0} × List ℕ)
+mark_read mark bytes = if starts_with nat_eq bytes mark then Some (tt, drop (length mark) bytes) else None
+
+unfoldable pub count_read : List ℕ → Option (ℕ × List ℕ)
+count_read bytes = number16_read bytes >>= λ n. if nat_le n.0 4096 then Some n else None
+
+unfoldable pub log_header_read : List ℕ → Option (LogHeader × List ℕ)
+log_header_read bytes = made (λ f. record { client = f.0.1; count = f.1 }) (mark_read (75 ∷ 76 ∷ 79 ∷ 71 ∷ 1 ∷ []) & number32_read & count_read) bytes
+
+unfoldable pub plan_header_read : List ℕ → Option (Counts × List ℕ)
+plan_header_read bytes = made (λ f. record { names = f.0.0.1; nodes = f.0.1; pieces = f.1 }) (mark_read (75 ∷ 80 ∷ 76 ∷ 78 ∷ 1 ∷ []) & number16_read & number16_read & number32_read) bytes

@@ -1,5 +1,5 @@
 -- Logs and plans of the code as the values of the definitions.
-use Rattle.std.specs.Prelude.{◌≡◌, ℕ, ◌≤◌, List, map, Option, None, Some, slice_range}
+use Rattle.std.specs.Prelude.{ℕ, ◌≤◌, List, slice_range}
 use Rattle.std.specs.Option.{option_map}
 use Rattle.kfs_entry.specs.declared.header.Kind.{Kind as CodeKind}
 use Rattle.kfs_entry.specs.declared.header.Kind.TheVariants as kinds

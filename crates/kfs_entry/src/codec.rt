@@ -8,6 +8,7 @@ pub mod byte;
 pub mod bytes;
 pub mod entry;
 pub mod header;
+pub mod headers;
 pub mod kind;
 pub mod mode;
 pub mod name;

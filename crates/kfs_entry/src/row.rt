@@ -1,5 +1,6 @@
 //! Rows of a format, one after another.
-ghost use Rattle.std.specs.Prelude.{◌≡◌, ℕ, ◌<◌, ◌≤◌, List, ◌++◌, length, drop, IfSome, IfNone, IfOk, OnOk};
+ghost use Rattle.std.specs.Prelude.{◌≡◌, ℕ, ◌<◌, ◌≤◌, List, ◌++◌, length, drop, IfSome, IfNone, IfOk, OnOk, All};
+ghost use Rattle.std.specs.List.{flat_map};
 ghost use Rattle.kfs_entry.specs.RowList.{AreRows, Fails};
 
 use std::alloc::{AllocError, AllocFailed, Allocator};
@@ -14,6 +15,9 @@ pub trait Row: Drop {
     /// The row has a spelling, and its spans lie in the source.
     ghost fits: { List ℕ → Self → Type 0 };
 
+    /// What writing asks of a row; of a row whose fields all have the width of their types, nothing.
+    ghost can_write: { List ℕ → Self → Type 0 };
+
     /// The bytes begin with a row.
     ghost begins: { List ℕ → Type 0 };
 
@@ -26,8 +30,13 @@ pub trait Row: Drop {
 
     /// Appends the row's spelling.
     fn write<A: Allocator>(&self, out: &mut Vec<u8, A>, source: &[u8]) -> Result<(), AllocError>
-        requires { fits source.now self.now }
+        requires { can_write source.now self.now }
         ensures { OnOk result (out.new.items ≡ out.old.items ++ spelling source.now self.now) };
+
+    /// How many bytes the row's spelling has.
+    fn len(&self, source: &[u8]) -> usize
+        requires { can_write source.now self.now }
+        ensures { result ≡ length (spelling source.now self.now) };
 }
 
 /// Why rows were not read.
@@ -83,4 +92,30 @@ pub fn read_rows<R: Row, A: Allocator>(
         end = after;
     }
     Ok((rows, end))
+}
+
+/// Appends the spellings of the rows.
+pub fn write_rows<R: Row, A: Allocator>(
+    out: &mut Vec<u8, A>,
+    source: &[u8],
+    rows: &[R],
+) -> Result<(), AllocError>
+    requires { All (R.can_write source.now) rows.now }
+    ensures { OnOk result (out.new.items ≡ out.old.items ++ flat_map (R.spelling source.now) rows.now) }
+{
+    for row in rows {
+        row.write(out, source)?;
+    }
+    Ok(())
+}
+
+/// How many bytes the spellings of the rows have, or `usize::MAX` where that is more.
+pub fn rows_len<R: Row>(source: &[u8], rows: &[R]) -> usize
+    requires { All (R.can_write source.now) rows.now }
+{
+    let mut len = 0usize;
+    for row in rows {
+        len = len.saturating_add(row.len(source));
+    }
+    len
 }

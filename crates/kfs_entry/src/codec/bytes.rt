@@ -2,13 +2,12 @@
 ghost use Rattle.std.specs.Prelude.{◌≡◌, ◌+◌, ◌<◌, ◌≤◌, length, take, drop, MatchOption, IfSome};
 ghost use Rattle.kfs_entry.specs.Reading.{seen, bytes_read};
 
-
 /// The `N` bytes that stand at `at`, and the place after them.
 pub fn chunk<const N: usize>(source: &[u8], at: usize) -> Option<(&[u8; N], usize)>
     requires { at ≤ length source.now }
     ensures { MatchOption result (length (drop at source.now) < N)
         (λ x. (x.0.now ≡ take N (drop at source.now)) × (drop x.1 source.now ≡ drop N (drop at source.now)) × (x.1 ≤ length source.now)
-            × (N ≤ length (drop at source.now))) }
+        × (N ≤ length (drop at source.now))) }
 {
     let (front, _) = source[at..].split_first_chunk::<N>()?;
     Some((front, at + N))

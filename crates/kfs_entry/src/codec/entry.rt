@@ -1,12 +1,12 @@
 //! An entry: its tag and its fields, as the table lists them.
-ghost use Rattle.std.specs.Prelude.{◌≡◌, ◌≤◌, ◌++◌, length, drop, IfSome, OnOk};
-ghost use Rattle.kfs_model.specs.Spelling.{IsEntry, entry_bytes};
+ghost use Rattle.std.specs.Prelude.{◌≡◌, ◌≤◌, length, drop, IfSome};
 ghost use Rattle.kfs_entry.specs.Views.{entry_of, IsWithin};
 ghost use Rattle.kfs_entry.specs.Reading.{seen, entry_read};
 
 use crate::codec::{byte, kind, mode, name, number32, number64, payload};
 use crate::entry::{Entry, Span};
 use crate::entry_table;
+use crate::row::Row;
 use std::alloc::{AllocError, Allocator};
 
 macro_rules! read_case {
@@ -33,15 +33,15 @@ macro_rules! write_case {
 }
 
 macro_rules! len_case {
-    ([$entry:ident] $($number:literal $variant:ident { $($field:ident: $codec:ident),* })*) => {
+    ([$source:ident, $entry:ident] $($number:literal $variant:ident { $($field:ident: $codec:ident),* })*) => {
         match $entry {
-            $(Entry::$variant { $($field),* } => 1 $(+ $codec::len($field))*,)*
+            $(Entry::$variant { $($field),* } => 1 $(+ $codec::len($source, $field))*,)*
         }
     };
 }
 
 #[tactic(auto, unfolding(crate::specs::Reading::entry_read))]
-pub fn read(source: &[u8], at: usize) -> Option<(Entry<Span>, usize)>
+fn read_entry(source: &[u8], at: usize) -> Option<(Entry<Span>, usize)>
     requires { at ≤ length source.now }
     ensures value { seen (entry_of source.now) source.now result ≡ entry_read (drop at source.now) }
     ensures within { IfSome result (λ x. IsWithin (length source.now) x.0 × (x.1 ≤ length source.now)) }
@@ -50,15 +50,31 @@ pub fn read(source: &[u8], at: usize) -> Option<(Entry<Span>, usize)>
     entry_table!(read_case(tag, source, at))
 }
 
-pub fn write<A: Allocator>(
-    out: &mut Vec<u8, A>,
-    source: &[u8],
-    entry: &Entry<Span>,
-) -> Result<(), AllocError>
-    requires within { IsWithin (length source.now) entry.now }
-    requires range { IsEntry (entry_of source.now entry.now) }
-    ensures { OnOk result (out.new.items ≡ out.old.items ++ entry_bytes (entry_of source.now entry.now)) }
-{
-    entry_table!(write_case(out, source, entry));
-    Ok(())
+impl Row for Entry<Span> {
+    ghost use Rattle.std.specs.Prelude.{length};
+    ghost use Rattle.kfs_model.specs.Spelling.{IsEntry, entry_bytes};
+    ghost use Rattle.kfs_entry.specs.Views.{entry_of, IsWithin};
+    ghost use Rattle.kfs_entry.specs.RowList.{Begins};
+
+    ghost spelling = { λ source entry. entry_bytes (entry_of source entry) };
+
+    ghost fits = { λ source entry. IsWithin (length source) entry × IsEntry (entry_of source entry) };
+
+    ghost can_write = { λ source entry. IsWithin (length source) entry × IsEntry (entry_of source entry) };
+
+    ghost begins = { Begins IsEntry entry_bytes };
+
+    fn read(source: &[u8], at: usize) -> Option<(Self, usize)> {
+        read_entry(source, at)
+    }
+
+    fn write<A: Allocator>(&self, out: &mut Vec<u8, A>, source: &[u8]) -> Result<(), AllocError> {
+        entry_table!(write_case(out, source, self));
+        Ok(())
+    }
+
+    #[tactic(auto, unfolding(kfs_model::specs::Spelling::number16, kfs_model::specs::Spelling::number32, kfs_model::specs::Spelling::number64))]
+    fn len(&self, source: &[u8]) -> usize {
+        entry_table!(len_case(source, self))
+    }
 }

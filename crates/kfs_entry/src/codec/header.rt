@@ -70,3 +70,13 @@ pub fn write<A: Allocator>(
     number16::write(out, source, &header.links)?;
     number64::write(out, source, &header.size)
 }
+
+#[tactic(auto, unfolding(kfs_model::specs::Spelling::number16, kfs_model::specs::Spelling::number32, kfs_model::specs::Spelling::number64))]
+pub fn len(_source: &[u8], header: &Option<Header>) -> usize
+    ensures { result ≡ length (header_bytes (option_map header_of header.now)) }
+{
+    match header {
+        None => 1,
+        Some(_) => 21,
+    }
+}

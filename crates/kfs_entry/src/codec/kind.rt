@@ -36,7 +36,7 @@ pub fn write<A: Allocator>(
     Ok(())
 }
 
-pub fn len(value: &Kind) -> usize
+pub fn len(_source: &[u8], value: &Kind) -> usize
     ensures { result ≡ length (kind_bytes (kind_of value.now)) }
 {
     let _kind = *value;

@@ -31,8 +31,8 @@ pub fn write<A: Allocator>(
     number16::write(out, source, value)
 }
 
-pub fn len(value: &u16) -> usize
+pub fn len(source: &[u8], value: &u16) -> usize
     ensures { result ≡ length (number16 value.now) }
 {
-    number16::len(value)
+    number16::len(source, value)
 }

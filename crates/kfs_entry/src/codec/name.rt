@@ -30,8 +30,9 @@ pub fn write<A: Allocator>(
     out.extend_from_slice(bytes)
 }
 
-pub fn len(value: &Name) -> usize
-    ensures { result ≡ length (name_bytes value.now) }
+pub fn len(_source: &[u8], value: &Name) -> usize
+    ensures value { result ≡ length (name_bytes value.now) }
+    ensures bound { result ≤ 256 }
 {
     1 + value.as_bytes().len()
 }

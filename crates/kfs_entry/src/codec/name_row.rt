@@ -6,10 +6,11 @@ ghost use Rattle.kfs_entry.specs.Reading.{seen, name_row_read};
 
 use crate::codec::{name, number32};
 use crate::plan::NameRow;
+use crate::row::Row;
 use std::alloc::{AllocError, Allocator};
 
 #[tactic(auto, unfolding(crate::specs::Reading::name_row_read))]
-pub fn read(source: &[u8], at: usize) -> Option<(NameRow, usize)>
+fn read_row(source: &[u8], at: usize) -> Option<(NameRow, usize)>
     requires { at ≤ length source.now }
     ensures value { seen name_row_of source.now result ≡ name_row_read (drop at source.now) }
     ensures within { IfSome result (λ x. x.1 ≤ length source.now) }
@@ -20,14 +21,31 @@ pub fn read(source: &[u8], at: usize) -> Option<(NameRow, usize)>
     Some((NameRow { dir, name, number }, at))
 }
 
-pub fn write<A: Allocator>(
-    out: &mut Vec<u8, A>,
-    source: &[u8],
-    row: &NameRow,
-) -> Result<(), AllocError>
-    ensures { OnOk result (out.new.items ≡ out.old.items ++ name_row_bytes (name_row_of row.now)) }
-{
-    number32::write(out, source, &row.dir)?;
-    name::write(out, source, &row.name)?;
-    number32::write(out, source, &row.number)
+impl Row for NameRow {
+    ghost use Rattle.kfs_model.specs.Spelling.{IsNameRow, name_row_bytes};
+    ghost use Rattle.kfs_entry.specs.Views.{name_row_of};
+    ghost use Rattle.kfs_entry.specs.RowList.{Begins};
+
+    ghost spelling = { λ _ row. name_row_bytes (name_row_of row) };
+
+    ghost fits = { λ _ row. IsNameRow (name_row_of row) };
+
+    ghost can_write = { λ _ _. Unit {0} };
+
+    ghost begins = { Begins IsNameRow name_row_bytes };
+
+    fn read(source: &[u8], at: usize) -> Option<(Self, usize)> {
+        read_row(source, at)
+    }
+
+    fn write<A: Allocator>(&self, out: &mut Vec<u8, A>, source: &[u8]) -> Result<(), AllocError> {
+        number32::write(out, source, &self.dir)?;
+        name::write(out, source, &self.name)?;
+        number32::write(out, source, &self.number)
+    }
+
+    #[tactic(auto, unfolding(kfs_model::specs::Spelling::number16, kfs_model::specs::Spelling::number32, kfs_model::specs::Spelling::number64))]
+    fn len(&self, source: &[u8]) -> usize {
+        8 + name::len(source, &self.name)
+    }
 }

@@ -6,10 +6,11 @@ ghost use Rattle.kfs_entry.specs.Reading.{seen, node_row_read};
 
 use crate::codec::{header, number32};
 use crate::plan::NodeRow;
+use crate::row::Row;
 use std::alloc::{AllocError, Allocator};
 
 #[tactic(auto, unfolding(crate::specs::Reading::node_row_read))]
-pub fn read(source: &[u8], at: usize) -> Option<(NodeRow, usize)>
+fn read_row(source: &[u8], at: usize) -> Option<(NodeRow, usize)>
     requires { at ≤ length source.now }
     ensures value { seen node_row_of source.now result ≡ node_row_read (drop at source.now) }
     ensures within { IfSome result (λ x. x.1 ≤ length source.now) }
@@ -19,13 +20,30 @@ pub fn read(source: &[u8], at: usize) -> Option<(NodeRow, usize)>
     Some((NodeRow { number, now }, at))
 }
 
-pub fn write<A: Allocator>(
-    out: &mut Vec<u8, A>,
-    source: &[u8],
-    row: &NodeRow,
-) -> Result<(), AllocError>
-    ensures { OnOk result (out.new.items ≡ out.old.items ++ node_row_bytes (node_row_of row.entry.now)) }
-{
-    number32::write(out, source, &row.number)?;
-    header::write(out, source, &row.now)
+impl Row for NodeRow {
+    ghost use Rattle.kfs_model.specs.Spelling.{IsNodeRow, node_row_bytes};
+    ghost use Rattle.kfs_entry.specs.Views.{node_row_of};
+    ghost use Rattle.kfs_entry.specs.RowList.{Begins};
+
+    ghost spelling = { λ _ row. node_row_bytes (node_row_of row) };
+
+    ghost fits = { λ _ row. IsNodeRow (node_row_of row) };
+
+    ghost can_write = { λ _ _. Unit {0} };
+
+    ghost begins = { Begins IsNodeRow node_row_bytes };
+
+    fn read(source: &[u8], at: usize) -> Option<(Self, usize)> {
+        read_row(source, at)
+    }
+
+    fn write<A: Allocator>(&self, out: &mut Vec<u8, A>, source: &[u8]) -> Result<(), AllocError> {
+        number32::write(out, source, &self.number)?;
+        header::write(out, source, &self.now)
+    }
+
+    #[tactic(auto, unfolding(kfs_model::specs::Spelling::number16, kfs_model::specs::Spelling::number32, kfs_model::specs::Spelling::number64))]
+    fn len(&self, source: &[u8]) -> usize {
+        4 + header::len(source, &self.now)
+    }
 }

@@ -28,7 +28,7 @@ pub fn write<A: Allocator>(
 }
 
 #[tactic(auto, unfolding(kfs_model::specs::Spelling::number16))]
-pub fn len(value: &u16) -> usize
+pub fn len(_source: &[u8], value: &u16) -> usize
     ensures { result ≡ length (number16 value.now) }
 {
     2

@@ -28,7 +28,7 @@ pub fn write<A: Allocator>(
 }
 
 #[tactic(auto, unfolding(kfs_model::specs::Spelling::number32))]
-pub fn len(value: &u32) -> usize
+pub fn len(_source: &[u8], value: &u32) -> usize
     ensures { result ≡ length (number32 value.now) }
 {
     4

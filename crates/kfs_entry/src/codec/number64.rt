@@ -28,7 +28,7 @@ pub fn write<A: Allocator>(
 }
 
 #[tactic(auto, unfolding(kfs_model::specs::Spelling::number64))]
-pub fn len(value: &u64) -> usize
+pub fn len(_source: &[u8], value: &u64) -> usize
     ensures { result ≡ length (number64 value.now) }
 {
     8

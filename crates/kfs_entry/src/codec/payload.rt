@@ -37,3 +37,11 @@ pub fn write<A: Allocator>(
     number32::write(out, source, &(bytes.len() as u32))?;
     out.extend_from_slice(bytes)
 }
+
+#[tactic(auto, unfolding(kfs_model::specs::Spelling::number32))]
+pub fn len(source: &[u8], value: &Span) -> usize
+    requires { (value.now.start ≤ value.now.end) × (value.now.end ≤ length source.now) }
+    ensures { result ≡ length (payload_bytes (span_bytes source.now value.now)) }
+{
+    4 + source[value.start..value.end].len()
+}

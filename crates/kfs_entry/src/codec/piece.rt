@@ -6,6 +6,7 @@ ghost use Rattle.kfs_entry.specs.Reading.{seen, source_read, piece_read};
 
 use crate::codec::{byte, number16, number32, number64};
 use crate::plan::{Piece, Source};
+use crate::row::Row;
 use std::alloc::{AllocError, Allocator};
 
 #[tactic(auto, unfolding(crate::specs::Reading::source_read))]
@@ -44,7 +45,7 @@ fn write_source<A: Allocator>(
 }
 
 #[tactic(auto, unfolding(crate::specs::Reading::piece_read))]
-pub fn read(source: &[u8], at: usize) -> Option<(Piece, usize)>
+fn read_piece(source: &[u8], at: usize) -> Option<(Piece, usize)>
     requires { at ≤ length source.now }
     ensures value { seen piece_of source.now result ≡ piece_read (drop at source.now) }
     ensures within { IfSome result (λ x. x.1 ≤ length source.now) }
@@ -62,15 +63,35 @@ pub fn read(source: &[u8], at: usize) -> Option<(Piece, usize)>
     Some((piece, at))
 }
 
-pub fn write<A: Allocator>(
-    out: &mut Vec<u8, A>,
-    source: &[u8],
-    piece: &Piece,
-) -> Result<(), AllocError>
-    ensures { OnOk result (out.new.items ≡ out.old.items ++ piece_bytes (piece_of piece.now)) }
-{
-    number32::write(out, source, &piece.number)?;
-    number64::write(out, source, &piece.start)?;
-    number64::write(out, source, &piece.len)?;
-    write_source(out, source, piece.source)
+impl Row for Piece {
+    ghost use Rattle.kfs_model.specs.Spelling.{IsPiece, piece_bytes};
+    ghost use Rattle.kfs_entry.specs.Views.{piece_of};
+    ghost use Rattle.kfs_entry.specs.RowList.{Begins};
+
+    ghost spelling = { λ _ piece. piece_bytes (piece_of piece) };
+
+    ghost fits = { λ _ piece. IsPiece (piece_of piece) };
+
+    ghost can_write = { λ _ _. Unit {0} };
+
+    ghost begins = { Begins IsPiece piece_bytes };
+
+    fn read(source: &[u8], at: usize) -> Option<(Self, usize)> {
+        read_piece(source, at)
+    }
+
+    fn write<A: Allocator>(&self, out: &mut Vec<u8, A>, source: &[u8]) -> Result<(), AllocError> {
+        number32::write(out, source, &self.number)?;
+        number64::write(out, source, &self.start)?;
+        number64::write(out, source, &self.len)?;
+        write_source(out, source, self.source)
+    }
+
+    #[tactic(auto, unfolding(kfs_model::specs::Spelling::number16, kfs_model::specs::Spelling::number32, kfs_model::specs::Spelling::number64))]
+    fn len(&self, _source: &[u8]) -> usize {
+        match self.source {
+            Source::Zero => 21,
+            Source::Payload { .. } => 27,
+        }
+    }
 }

@@ -1,0 +1,62 @@
+-- The laws of the headers of a log and of a plan.
+use Rattle.std.proofs.Common.{◌≡◌, ℕ, ◌≤◌, cond, leb, List, [], ◌∷◌, ◌++◌, length, drop, Some, None, refl, subst, arith}
+use Rattle.std.specs.List.{starts_with}
+use Rattle.std.specs.Prelude.{nat_eq}
+use Rattle.std.proofs.lemmas.Bool.{leb-true, le-leb}
+use Rattle.std.proofs.lemmas.Bool.Decides.{Decides-eqb}
+use Rattle.std.proofs.lemmas.Slice.Eq.{starts_is}
+use Rattle.std.proofs.lemmas.List.{drop_at}
+use Rattle.kfs_model.specs.Spelling.{IsLogHeader, log_header, AreCounts, plan_header, number16}
+use Rattle.kfs_entry.specs.Reading.{number16_read, mark_read, count_read, log_header_read, plan_header_read}
+use Rattle.kfs_entry.proofs.Fields.{IsBytes, IsBytes-drop, some_from, some_if, some_is, Stands, IsField, both, number16_field, number32_field, record_field}
+
+abbrev is_count : ℕ → Type 0
+is_count n = n ≤ 4096
+
+abbrev nothing : Unit {0} → Type 0
+nothing _ = Unit {0}
+
+mark_takes : (mark bytes : List ℕ) (x : Unit {0} × List ℕ) → IsBytes bytes → mark_read mark bytes ≡ Some x → Stands nothing (λ _. mark) bytes x.0 x.1
+unfolding mark_read
+mark_takes mark bytes x fits e =
+    let g = some_if (starts_with nat_eq bytes mark) (Some (tt, drop (length mark) bytes)) x e in
+    let stands : Stands nothing (λ _. mark) bytes tt (drop (length mark) bytes) = record {
+      parts = (starts_is Decides-eqb bytes mark (starts_with nat_eq bytes mark) refl).0 g.0;
+      fits = tt;
+      rest_bytes = IsBytes-drop (length mark) bytes fits;
+    } in
+    subst (λ (y : Unit {0} × List ℕ). Stands nothing (λ _. mark) bytes y.0 y.1) (some_is (tt, drop (length mark) bytes) x g.1) stands
+
+mark_again : (mark : List ℕ) (value : Unit {0}) (rest : List ℕ) → Unit {0} → mark_read mark (mark ++ rest) ≡ Some (value, rest)
+unfolding mark_read
+mark_again mark value rest fits =
+    rw ((starts_is Decides-eqb (mark ++ rest) mark (starts_with nat_eq (mark ++ rest) mark) refl).1 rest refl, drop_at mark rest (length mark) refl) refl
+
+mark_field : (mark : List ℕ) → IsField nothing (λ _. mark) (mark_read mark)
+mark_field mark = record { takes = mark_takes mark; again = mark_again mark }
+
+count_takes : (bytes : List ℕ) (x : ℕ × List ℕ) → IsBytes bytes → count_read bytes ≡ Some x → Stands is_count number16 bytes x.0 x.1
+unfolding count_read
+count_takes bytes x fits e =
+    let a = some_from (number16_read bytes) (λ n. cond (leb n.0 4096) (Some n) None) x e in
+    let g = some_if (leb a.0.0 4096) (Some a.0) x a.2 in
+    let m = number16_field.takes bytes a.0 fits a.1 in
+    let stands : Stands is_count number16 bytes a.0.0 a.0.1 = record { parts = m.parts; fits = leb-true a.0.0 4096 g.0; rest_bytes = m.rest_bytes } in
+    subst (λ (y : ℕ × List ℕ). Stands is_count number16 bytes y.0 y.1) (some_is a.0 x g.1) stands
+
+count_again : (count : ℕ) (rest : List ℕ) → is_count count → count_read (number16 count ++ rest) ≡ Some (count, rest)
+unfolding count_read
+count_again count rest fits = rw (number16_field.again count rest (omega arith), le-leb count 4096 fits) refl
+
+count_field : IsField is_count number16 count_read
+count_field = record { takes = count_takes; again = count_again }
+
+pub log_header_field : IsField IsLogHeader log_header log_header_read
+unfolding log_header_read
+log_header_field = record_field (λ f. record { client = f.0.1; count = f.1 }) (λ h. ((tt, h.client), h.count)) (both (both (mark_field (75 ∷ 76 ∷ 79 ∷ 71 ∷ 1 ∷ [])) number32_field) count_field)
+    (λ h. refl) (λ v. refl) (λ h. refl) (λ h f. (f.0.1, f.1)) (λ h f. ((tt, f.0), f.1))
+
+pub plan_header_field : IsField AreCounts plan_header plan_header_read
+unfolding plan_header_read
+plan_header_field = record_field (λ f. record { names = f.0.0.1; nodes = f.0.1; pieces = f.1 }) (λ c. (((tt, c.names), c.nodes), c.pieces)) (both (both (both (mark_field (75 ∷ 80 ∷ 76 ∷ 78 ∷ 1 ∷ [])) number16_field) number16_field) number32_field)
+    (λ h. refl) (λ v. refl) (λ h. refl) (λ h f. (f.0.0.1, f.0.1, f.1)) (λ h f. (((tt, f.0), f.1), f.2))

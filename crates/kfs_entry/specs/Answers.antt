@@ -1,0 +1,31 @@
+-- What a decoder answered, as the definitions say it.
+use Rattle.std.specs.Prelude.{ℕ, List, map, Result, Ok, Err}
+use Rattle.std.specs.List.{AllByRecursion}
+use Rattle.kfs_entry.specs.declared.fault.SpellFault.{SpellFault}
+use Rattle.kfs_entry.specs.declared.fault.SpellFault.TheVariants as faults
+use Rattle.kfs_entry.specs.declared.entry.Log.{Log as CodeLog}
+use Rattle.kfs_entry.specs.declared.plan.Plan.{Plan as CodePlan}
+use Rattle.kfs_model.specs.Entry.{Log}
+use Rattle.kfs_model.specs.PlanRow.{Plan}
+use Rattle.kfs_model.specs.Spelling.{SpellingFault, BadHeader, BadEntry, Trailing, BadRow}
+use Rattle.kfs_entry.specs.Views.{entry_of, name_row_of, node_row_of, piece_of, IsWithin}
+
+-- the log, with each payload's bytes in the source in place of their span
+abbrev pub log_of : {A : Type 0} → List ℕ → CodeLog A → Log
+log_of source l = record { client = l.client; entries = map (entry_of source) l.entries }
+
+-- each payload's span lies in a source of this length
+abbrev pub SpansAreWithin : {A : Type 0} → ℕ → CodeLog A → Type 0
+SpansAreWithin len l = AllByRecursion (IsWithin len) l.entries
+
+abbrev pub plan_of : {A : Type 0} → CodePlan A → Plan
+plan_of p = record { names = map name_row_of p.names; nodes = map node_row_of p.nodes; pieces = map piece_of p.pieces }
+
+-- P holds of the answer, unless memory ran out
+abbrev pub Answered : {V M : Type 0} → (V → M) → (Result M SpellingFault → Type 0) → Result V SpellFault → Type 0
+Answered view P (Ok v) = P (Ok (view v))
+Answered view P (Err faults.BadHeader) = P (Err BadHeader)
+Answered view P (Err (faults.BadEntry k)) = P (Err (BadEntry k))
+Answered view P (Err faults.Trailing) = P (Err Trailing)
+Answered view P (Err (faults.BadRow part k)) = P (Err (BadRow part k))
+Answered view P (Err faults.OutOfMemory) = Unit {0}

@@ -1,0 +1,109 @@
+//! What stands before the rows of a log and of a plan.
+ghost use Rattle.std.specs.Prelude.{◌≡◌, ◌≤◌, List, ◌∷◌, [], ◌++◌, length, drop, None, Some, IfSome, OnOk, MatchOption};
+ghost use Rattle.kfs_model.specs.Spelling.{LogHeader, Counts, log_header, plan_header};
+ghost use Rattle.kfs_entry.specs.Reading.{seen, mark_read, count_read, log_header_read, plan_header_read};
+
+use crate::codec::{number16, number32};
+use std::alloc::{AllocError, Allocator};
+
+/// The magic of a log, and version 1.
+const LOG_MARK: &[u8] = b"KLOG\x01";
+
+/// The magic of a plan, and version 1.
+const PLAN_MARK: &[u8] = b"KPLN\x01";
+
+/// The length of a log's header in bytes.
+pub const LOG_LEN: usize = 11;
+
+/// The length of a plan's header in bytes.
+pub const PLAN_LEN: usize = 13;
+
+/// The most entries that a log may have.
+const ENTRY_LIMIT: u16 = 4_096;
+
+/// A log's client and how many entries follow.
+#[derive(Clone, Copy)]
+pub struct LogCounts {
+    pub client: u32,
+    pub entries: u16,
+}
+
+/// How many rows each part of a plan has.
+#[derive(Clone, Copy)]
+pub struct PlanCounts {
+    pub names: u16,
+    pub nodes: u16,
+    pub pieces: u32,
+}
+
+#[tactic(auto, unfolding(crate::specs::Reading::mark_read))]
+fn read_mark(source: &[u8], at: usize, mark: &[u8]) -> Option<usize>
+    requires { at ≤ length source.now }
+    ensures { MatchOption result (mark_read mark.now (drop at source.now) ≡ None)
+        (λ next. (mark_read mark.now (drop at source.now) ≡ Some (tt, drop next source.now)) × (next ≤ length source.now)) }
+{
+    if !source[at..].starts_with(mark) {
+        return None;
+    }
+    Some(at + mark.len())
+}
+
+#[tactic(auto, unfolding(crate::specs::Reading::count_read))]
+fn read_count(source: &[u8], at: usize) -> Option<(u16, usize)>
+    requires { at ≤ length source.now }
+    ensures value { seen (λ n. n) source.now result ≡ count_read (drop at source.now) }
+    ensures within { IfSome result (λ x. x.1 ≤ length source.now) }
+{
+    let (count, at) = number16::read(source, at)?;
+    if count > ENTRY_LIMIT {
+        return None;
+    }
+    Some((count, at))
+}
+
+/// The header of a log, and the place after it.
+#[tactic(auto, unfolding(crate::specs::Reading::log_header_read))]
+pub fn read_log(source: &[u8]) -> Option<(LogCounts, usize)>
+    ensures value { seen (λ h. record { client = h.client; count = h.entries }) source.now result ≡ log_header_read source.now }
+    ensures within { IfSome result (λ x. x.1 ≤ length source.now) }
+{
+    let at = read_mark(source, 0, LOG_MARK)?;
+    let (client, at) = number32::read(source, at)?;
+    let (entries, at) = read_count(source, at)?;
+    Some((LogCounts { client, entries }, at))
+}
+
+/// The header of a plan, and the place after it.
+#[tactic(auto, unfolding(crate::specs::Reading::plan_header_read))]
+pub fn read_plan(source: &[u8]) -> Option<(PlanCounts, usize)>
+    ensures value { seen (λ c. record { names = c.names; nodes = c.nodes; pieces = c.pieces }) source.now result ≡ plan_header_read source.now }
+    ensures within { IfSome result (λ x. x.1 ≤ length source.now) }
+{
+    let at = read_mark(source, 0, PLAN_MARK)?;
+    let (names, at) = number16::read(source, at)?;
+    let (nodes, at) = number16::read(source, at)?;
+    let (pieces, at) = number32::read(source, at)?;
+    let counts = PlanCounts {
+        names,
+        nodes,
+        pieces,
+    };
+    Some((counts, at))
+}
+
+pub fn write_log<A: Allocator>(out: &mut Vec<u8, A>, header: LogCounts) -> Result<(), AllocError>
+    ensures { OnOk result (out.new.items ≡ out.old.items ++ log_header (record { client = header.client; count = header.entries })) }
+{
+    out.extend_from_slice(LOG_MARK)?;
+    number32::write(out, &[], &header.client)?;
+    number16::write(out, &[], &header.entries)
+}
+
+pub fn write_plan<A: Allocator>(out: &mut Vec<u8, A>, counts: PlanCounts) -> Result<(), AllocError>
+    ensures { OnOk result (out.new.items ≡ out.old.items ++ plan_header (record { names = counts.names; nodes = counts.nodes; pieces = counts.pieces })) }
+{
+    out.extend_from_slice(PLAN_MARK)?;
+    number16::write(out, &[], &counts.names)?;
+    number16::write(out, &[], &counts.nodes)?;
+    number32::write(out, &[], &counts.pieces)
+}

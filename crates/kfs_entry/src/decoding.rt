@@ -1,0 +1,89 @@
+//! Logs and plans from bytes.
+ghost use Rattle.std.specs.Prelude.{◌≡◌, ◌≤◌, Result, length, drop, IfOk};
+ghost use Rattle.kfs_model.specs.Entry.{Log};
+ghost use Rattle.kfs_model.specs.PlanRow.{Plan};
+ghost use Rattle.kfs_model.specs.Spelling.{SpellingFault, LogAnswer, PlanAnswer};
+ghost use Rattle.kfs_entry.specs.RowList.{AreRows, EntriesFail, PartFails};
+ghost use Rattle.kfs_entry.specs.Answers.{Answered, log_of, plan_of, SpansAreWithin};
+
+use crate::codec::headers;
+use crate::entry::{Entry, Log, Span};
+use crate::fault::SpellFault;
+use crate::plan::Plan;
+use crate::row::{Row, RowsFault, read_rows};
+use crate::rows::Rows;
+use std::alloc::Allocator;
+
+/// The entries of a log.
+fn entries<R: Row, A: Allocator>(
+    alloc: A,
+    source: &[u8],
+    at: usize,
+    count: u16,
+) -> Result<(Vec<R, A>, usize), SpellFault>
+    requires { at ≤ length source.now }
+    ensures found { IfOk result (λ x. (x.1 ≤ length source.now) × (length x.0.items ≡ count)
+        × AreRows (R.fits source.now) (R.spelling source.now) x.0.items (drop at source.now) (drop x.1 source.now)) }
+    ensures fails { EntriesFail (R.fits source.now) (R.spelling source.now) R.begins count (drop at source.now) result }
+{
+    match read_rows(alloc, source, at, u32::from(count)) {
+        Ok(read) => Ok(read),
+        Err(RowsFault::BadRow(k)) => Err(SpellFault::BadEntry(k as u16)),
+        Err(RowsFault::OutOfMemory) => Err(SpellFault::OutOfMemory),
+    }
+}
+
+/// The rows of one part of a plan.
+fn part<R: Row, A: Allocator>(
+    alloc: A,
+    source: &[u8],
+    at: usize,
+    count: u32,
+    number: u8,
+) -> Result<(Vec<R, A>, usize), SpellFault>
+    requires { at ≤ length source.now }
+    ensures found { IfOk result (λ x. (x.1 ≤ length source.now) × (length x.0.items ≡ count)
+        × AreRows (R.fits source.now) (R.spelling source.now) x.0.items (drop at source.now) (drop x.1 source.now)) }
+    ensures fails { PartFails (R.fits source.now) (R.spelling source.now) R.begins count number (drop at source.now) result }
+{
+    match read_rows(alloc, source, at, count) {
+        Ok(read) => Ok(read),
+        Err(RowsFault::BadRow(k)) => Err(SpellFault::BadRow(number, k)),
+        Err(RowsFault::OutOfMemory) => Err(SpellFault::OutOfMemory),
+    }
+}
+
+/// The log that the source spells. A refusal says where the bytes leave the grammar of logs, and
+/// keeps nothing. No payload byte is touched: the entries hold spans of the source.
+pub fn decode_log<A: Allocator>(alloc: A, source: &[u8]) -> Result<Log<A>, SpellFault> {
+    let Some((header, at)) = headers::read_log(source) else {
+        return Err(SpellFault::BadHeader);
+    };
+    let (entries, end) = entries::<Entry<Span>, A>(alloc, source, at, header.entries)?;
+    if end < source.len() {
+        return Err(SpellFault::Trailing);
+    }
+    Ok(Log {
+        client: header.client,
+        entries: Rows::from_vec(entries),
+    })
+}
+
+/// The plan that the source spells. A refusal says where the bytes leave the grammar of plans, and
+/// keeps nothing.
+pub fn decode_plan<A: Allocator + Clone>(alloc: A, source: &[u8]) -> Result<Plan<A>, SpellFault> {
+    let Some((counts, at)) = headers::read_plan(source) else {
+        return Err(SpellFault::BadHeader);
+    };
+    let (names, at) = part(alloc.clone()?, source, at, u32::from(counts.names), 0)?;
+    let (nodes, at) = part(alloc.clone()?, source, at, u32::from(counts.nodes), 1)?;
+    let (pieces, end) = part(alloc, source, at, counts.pieces, 2)?;
+    if end < source.len() {
+        return Err(SpellFault::Trailing);
+    }
+    Ok(Plan {
+        names: Rows::from_vec(names),
+        nodes: Rows::from_vec(nodes),
+        pieces: Rows::from_vec(pieces),
+    })
+}

@@ -1,0 +1,60 @@
+//! Logs and plans as bytes.
+ghost use Rattle.std.specs.Prelude.{◌≡◌, ◌<◌, ◌^◌, length, IfOk};
+ghost use Rattle.kfs_model.specs.Spelling.{IsLog, log_bytes, plan_bytes};
+ghost use Rattle.kfs_entry.specs.Answers.{log_of, plan_of, SpansAreWithin};
+
+use crate::codec::headers;
+use crate::codec::headers::{LogCounts, PlanCounts};
+use crate::entry::Log;
+use crate::plan::Plan;
+use crate::row::{rows_len, write_rows};
+use std::alloc::{AllocError, Allocator};
+
+/// The spelling of a log whose payloads lie in `source`.
+pub fn encode_log<A: Allocator>(
+    alloc: A,
+    log: &Log<A>,
+    source: &[u8],
+) -> Result<Vec<u8, A>, AllocError>
+    requires ranges { IsLog (log_of source.now log.now) }
+    requires spans { SpansAreWithin (length source.now) log.now }
+    ensures { IfOk result (λ bytes. bytes.items ≡ log_bytes (log_of source.now log.now)) }
+{
+    let entries = log.entries.as_slice();
+    let header = LogCounts {
+        client: log.client,
+        entries: entries.len() as u16,
+    };
+    let len = rows_len(source, entries).saturating_add(headers::LOG_LEN);
+    let mut out = Vec::with_capacity(alloc, len)?;
+    headers::write_log(&mut out, header)?;
+    write_rows(&mut out, source, entries)?;
+    Ok(out)
+}
+
+/// The spelling of a plan.
+pub fn encode_plan<A: Allocator>(alloc: A, plan: &Plan<A>) -> Result<Vec<u8, A>, AllocError>
+    requires names { length plan.now.names < 2 ^ 16 }
+    requires nodes { length plan.now.nodes < 2 ^ 16 }
+    requires pieces { length plan.now.pieces < 2 ^ 32 }
+    ensures { IfOk result (λ bytes. bytes.items ≡ plan_bytes (plan_of plan.now)) }
+{
+    let names = plan.names.as_slice();
+    let nodes = plan.nodes.as_slice();
+    let pieces = plan.pieces.as_slice();
+    let counts = PlanCounts {
+        names: names.len() as u16,
+        nodes: nodes.len() as u16,
+        pieces: pieces.len() as u32,
+    };
+    let len = rows_len(&[], names)
+        .saturating_add(rows_len(&[], nodes))
+        .saturating_add(rows_len(&[], pieces))
+        .saturating_add(headers::PLAN_LEN);
+    let mut out = Vec::with_capacity(alloc, len)?;
+    headers::write_plan(&mut out, counts)?;
+    write_rows(&mut out, &[], names)?;
+    write_rows(&mut out, &[], nodes)?;
+    write_rows(&mut out, &[], pieces)?;
+    Ok(out)
+}
