@@ -26,24 +26,24 @@ all_pass p (check ∷ checks) clean = by_fault (all_pass p checks) (fault p chec
     by_fault rest None is clean' = (is, rest clean')
     by_fault rest (Some reason) is clean' = cc
 
-passed : (test : Bool) (reason : Reason) → unless test reason ≡ None → IsTrue test
+pub passed : (test : Bool) (reason : Reason) → unless test reason ≡ None → IsTrue test
 passed true reason e = refl
 passed false reason e = cc
 
 -- a test of an option's value that passes has a value
-found : {X : Type 0} (o : Option X) (test : X → Bool) → IsTrue (is_some_and o test) → (x : X) × (o ≡ Some x) × IsTrue (test x)
+pub found : {X : Type 0} (o : Option X) (test : X → Bool) → IsTrue (is_some_and o test) → (x : X) × (o ≡ Some x) × IsTrue (test x)
 found None test holds = cc
 found (Some x) test holds = (x, refl, holds)
 
-either : (a b : Bool) → IsTrue (a || b) → IsTrue a ⊎ IsTrue b
+pub either : (a b : Bool) → IsTrue (a || b) → IsTrue a ⊎ IsTrue b
 either true b h = inl refl
 either false b h = inr h
 
-left : (a b : Bool) → IsTrue (a && b) → IsTrue a
+pub left : (a b : Bool) → IsTrue (a && b) → IsTrue a
 left true b h = refl
 left false b h = h
 
-right : (a b : Bool) → IsTrue (a && b) → IsTrue b
+pub right : (a b : Bool) → IsTrue (a && b) → IsTrue b
 right true b h = h
 right false b h = cc
 

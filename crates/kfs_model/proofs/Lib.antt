@@ -12,3 +12,5 @@ pub mod Marks
 pub mod OneByOne
 pub mod Counts
 pub mod Links
+pub mod Heads
+pub mod CreateStep

@@ -14,6 +14,8 @@ pub mod PlanRow
 pub mod Plan
 pub mod PlanCut
 pub mod FirstWrong
+pub mod SeenAfter
+pub mod CleanStep
 pub mod Placement
 pub mod Spelling
 pub mod Judgement

@@ -1,0 +1,242 @@
+-- A clean Create keeps a sound tree sound and moves what the cells show as said.
+use Rattle.std.proofs.Common.{◌≡◌, ◌≢◌, ℕ, zero, suc, ◌+◌, ◌<◌, ◌≤◌, Bool, true, false, cond, not, ◌&&◌, ◌||◌, ◌==◌, ltb, ℤ, pos, ◌+ℤ◌, List, Option, Some, None, is_none, option_map, IsTrue, refl, sym, ap, subst, ◌∙◌, ◌⊎◌, inl, inr, arith, lt-ltb, eqb-true, eq-eqb, ne_eqb, add-zero}
+use Rattle.std.proofs.lemmas.Bool.{eqb-false, leb-true, false≢true}
+use Rattle.kfs_model.specs.Header.{Kind, File, Directory, Header}
+use Rattle.kfs_model.specs.Access.{Client, is_granted}
+use Rattle.kfs_model.specs.Table.{numbers, get, insert}
+use Rattle.kfs_model.specs.Tree.{Tree, Node, Body, Cells, Names, Links, headers, header_of, links_of, target, name_count, entry_count}
+use Rattle.kfs_model.specs.Entry.{Entry, Create}
+use Rattle.kfs_model.specs.Sight.{Sight, sight, is_directory, is_file, parent_in}
+use Rattle.kfs_model.specs.Check.{Spot, fault, checks_of, first_failing, first_fault}
+use Rattle.kfs_model.specs.Effect.{Fabric, change_of, effect, swept, new_body}
+use Rattle.kfs_model.specs.Run.{Scene, spot}
+use Rattle.kfs_model.specs.Soundness.{Climbs, InRange, NameIsSound, AreSound, IsSound}
+use Rattle.kfs_model.specs.Spelling.{IsEntry, IsName}
+use Rattle.kfs_model.specs.FirstWrong.{same_place}
+use Rattle.kfs_model.specs.SeenAfter.{put_at, put_name, shifted, put_parent, new_header, seen_after}
+use Rattle.kfs_model.specs.CleanStep.{IsClient, IsClean, IsKept}
+use Rattle.kfs_model.proofs.CleanIsAllowed.{AllPass, all_pass, passed, left, right}
+use Rattle.kfs_model.proofs.Exact.{places-exact}
+use Rattle.kfs_model.proofs.Links.{at_number-insert, target-insert, name_count-insert, entry_count-insert, target_is_named}
+use Rattle.kfs_model.proofs.Heads.{stays, named_stays, unnamed, root_is_node, get-headers, get-swept_headers, kept_head, parent_kept, parent_is, parent_of_none, has_parent, climbs_with}
+
+-- ---- what the checks of a Create say
+
+pub record CreateFacts (client : Client) (s : Sight) (d : ℕ) (m : List ℕ) (n : ℕ) : Type 0 where
+  pub directory : IsTrue (is_directory (s.head d))
+  pub free_name : s.name d m ≡ None
+  pub least : client.first ≤ n
+  pub greatest : n ≤ client.last
+  pub free_number : s.head n ≡ None
+
+none_is : {X : Type 0} (o : Option X) → IsTrue (is_none o) → o ≡ None
+none_is None e = refl
+none_is (Some x) e = cc
+
+pub create_facts : (p : Spot) (d : ℕ) (m : List ℕ) (n : ℕ) (kind : Kind) (mode : ℕ) → first_fault p (Create d m n kind mode) ≡ None → CreateFacts p.client p.now d m n
+unfolding checks_of fault
+create_facts p d m n kind mode clean =
+    let pass = all_pass p _ clean in
+    let granted = passed _ _ pass.1.1.1.1.1.1.0 in
+    record {
+      directory = passed _ _ pass.1.0;
+      free_name = none_is _ (passed _ _ pass.1.1.1.1.1.0);
+      least = leb-true _ _ (left _ _ granted);
+      greatest = leb-true _ _ (right _ _ granted);
+      free_number = none_is _ (right _ _ (left _ _ (passed _ _ pass.1.1.1.1.1.1.1.0)));
+    }
+
+-- ---- what shows after it
+
+turned_test : (a b : ℕ) → (a == b) ≡ false → ◌≡◌ {A = ℕ} (cond (b == a) 1 0) 0
+turned_test a b e = ap {B = ℕ} (λ t. cond t 1 0) (ne_eqb b a (λ same. eqb-false a b e (sym same)))
+
+module _ {B : Type 0} (fabric : Fabric B) (client : Client) (index : ℕ) (t : Tree B) (d : ℕ) (m : List ℕ) (n : ℕ) (kind : Kind) (mode : ℕ) (sound : IsSound t) (facts : CreateFacts client (sight t) d m n) where
+  abbrev entry : Entry
+  entry = Create d m n kind mode
+
+  abbrev head : ℕ → Option Header
+  head = get (headers t)
+
+  abbrev heads : ℕ → Option Header
+  heads = put_at n (Some (new_header client kind mode)) head
+
+  abbrev after : Links
+  after = insert t.names (d, m) n
+
+  abbrev node : Node B
+  node = record { mode = mode; uid = client.uid; gid = client.gid; body = new_body fabric kind }
+
+  new_is_named_once : name_count after n ≡ 1
+  new_is_named_once = name_count-insert t.names d m n n facts.free_name ∙ ap (λ b. name_count t.names n + cond b 1 0) (eq-eqb n n refl) ∙ ap (λ c. c + 1) (unnamed head t.names sound n facts.free_number)
+
+  others_count : (k : ℕ) → (k == n) ≡ false → name_count after k ≡ name_count t.names k
+  others_count k other = name_count-insert t.names d m n k facts.free_name ∙ ap (λ c. name_count t.names k + c) (turned_test k n other) ∙ add-zero (name_count t.names k)
+
+  new_shown : header_of after n node ≡ new_header client kind mode
+  new_shown = at kind
+    where
+      at : (kind : Kind) → header_of after n (record { mode = mode; uid = client.uid; gid = client.gid; body = new_body fabric kind }) ≡ new_header client kind mode
+      at File = λ i. record { kind = File; mode = mode; uid = client.uid; gid = client.gid; links = new_is_named_once i; size = 0 }
+      at Directory = refl
+
+  new_stays : stays after n ≡ true
+  new_stays = named_stays after n (omega (arith, new_is_named_once))
+
+  shown_at : (k : ℕ) (b : Bool) → (k == n) ≡ b → option_map (header_of after k) (cond (stays after k) (cond b (Some node) (get t.nodes k)) None) ≡ cond b (Some (new_header client kind mode)) (head k)
+  shown_at k true same =
+      subst (λ k. option_map (header_of after k) (cond (stays after k) (Some node) None) ≡ Some (new_header client kind mode)) (sym (eqb-true k n same))
+      (ap (λ b. option_map (header_of after n) (cond b (Some node) None)) new_stays ∙ ap Some new_shown)
+  shown_at k false other = kept_head t sound after k (others_count k other)
+
+  head_after : (k : ℕ) → get (headers (effect fabric client index entry t)) k ≡ heads k
+  unfolding change_of
+  head_after k =
+      get-swept_headers (change_of fabric client index entry t) k
+      ∙ ap (λ o. option_map (header_of after k) (cond (stays after k) o None)) (at_number-insert t.nodes n node k)
+      ∙ shown_at k (k == n) refl
+
+  name_after : (e : ℕ) (k : List ℕ) → target after e k ≡ put_name d m (Some n) (target t.names) e k
+  name_after e k = target-insert t.names d m n e k
+
+  count_after : (e : ℕ) → pos (entry_count after e) ≡ shifted d (pos 1) (λ d. pos (entry_count t.names d)) e
+  count_after e = ap pos (entry_count-insert t.names d m n e facts.free_name) ∙ at (e == d) refl
+    where
+      at : (b : Bool) → (e == d) ≡ b → pos (entry_count t.names e + cond (d == e) 1 0) ≡ cond b (pos (entry_count t.names e) +ℤ pos 1) (pos (entry_count t.names e))
+      at true same = ap (λ b. pos (entry_count t.names e + cond b 1 0)) (eq-eqb d e (sym (eqb-true e d same)))
+      at false other = ap (λ c. pos (entry_count t.names e + c)) (turned_test e d other) ∙ ap pos (add-zero (entry_count t.names e))
+
+  -- the names that were there lead where they led
+  kept_target : (e : ℕ) (k : List ℕ) (number : ℕ) → target t.names e k ≡ Some number → target after e k ≡ Some number
+  kept_target e k number there = name_after e k ∙ at (same_place (e, k) (d, m)) refl
+    where
+      at : (b : Bool) → same_place (e, k) (d, m) ≡ b → cond b (Some n) (target t.names e k) ≡ Some number
+      at true same =
+          let key = (places-exact.decides (e, k) (d, m)).0 same in
+          let none : target t.names e k ≡ None = ap (λ key. get t.names key) key ∙ facts.free_name in
+          cc
+      at false other = there
+
+  new_target : target after d m ≡ Some n
+  new_target = name_after d m ∙ ap (λ b. cond b (Some n) (target t.names d m)) ((places-exact.decides (d, m) (d, m)).1 refl)
+
+  head_new : (k : ℕ) → k ≡ n → heads k ≡ Some (new_header client kind mode)
+  head_new k same = ap (λ b. cond b (Some (new_header client kind mode)) (head k)) (eq-eqb k n same)
+
+  head_other : (k : ℕ) → (k == n) ≡ false → heads k ≡ head k
+  head_other k other = ap (λ b. cond b (Some (new_header client kind mode)) (head k)) other
+
+  parent_other : (k : ℕ) → (k == n) ≡ false → parent_in heads after k ≡ parent_in head t.names k
+  parent_other k other = parent_kept head t.names sound heads after k (head_other k other) (others_count k other) (λ e m. kept_target e m k)
+
+  parent_new : (kind : Kind) → heads n ≡ Some (new_header client kind mode) → parent_in heads after n ≡ put_parent kind n d (parent_in head t.names) n
+  parent_new File new = parent_of_none heads after n (ap is_directory new) ∙ sym (parent_of_none head t.names n (ap is_directory facts.free_number))
+  parent_new Directory new =
+      parent_is heads after n d m (ap is_directory new) (root_is_node head t.names sound n facts.free_number) new_is_named_once new_target
+      ∙ ap (λ b. cond b (Some d) (parent_in head t.names n)) (sym (eq-eqb n n refl))
+
+  parent_elsewhere : (kind : Kind) (k : ℕ) → (k == n) ≡ false → parent_in head t.names k ≡ put_parent kind n d (parent_in head t.names) k
+  parent_elsewhere File k other = refl
+  parent_elsewhere Directory k other = ap (λ b. cond b (Some d) (parent_in head t.names k)) (sym other)
+
+  parent_after : (k : ℕ) → parent_in heads after k ≡ put_parent kind n d (parent_in head t.names) k
+  parent_after k = at (k == n) refl
+    where
+      at : (b : Bool) → (k == n) ≡ b → parent_in heads after k ≡ put_parent kind n d (parent_in head t.names) k
+      at true same = subst (λ k. parent_in heads after k ≡ put_parent kind n d (parent_in head t.names) k) (sym (eqb-true k n same)) (parent_new kind (head_new n refl))
+      at false other = parent_other k other ∙ parent_elsewhere kind k other
+
+  pub create_seen : sight (effect fabric client index entry t) ≡ seen_after client (sight t) entry
+  unfolding change_of swept seen_after
+  create_seen = λ i. record {
+    head = λ k. head_after k i;
+    name = λ e k. name_after e k i;
+    count = λ e. count_after e i;
+    parent = λ k. (ap (λ heads. parent_in heads after k) (λ i k. head_after k i) ∙ parent_after k) i;
+  }
+
+  -- ---- the tree after it is sound
+
+  name_is_sound : (e : ℕ) (k : List ℕ) (number : ℕ) → IsName m → target after e k ≡ Some number → NameIsSound heads after e k number
+  name_is_sound e k number spelled there = at (same_place (e, k) (d, m)) refl (sym (name_after e k) ∙ there)
+    where
+      apart : (k : ℕ) (h : Option Header) → head k ≡ h → (h ≡ None → ⊥) → (k == n) ≡ false
+      apart k h is some = ne_eqb k n (λ same. some (sym is ∙ ap head same ∙ facts.free_number))
+
+      directory_kept : (k : ℕ) → IsTrue (is_directory (head k)) → IsTrue (is_directory (heads k))
+      directory_kept k is = ap is_directory (head_other k (apart k (head k) refl (λ none. false≢true (sym (ap is_directory none) ∙ is)))) ∙ is
+
+      at : (b : Bool) → same_place (e, k) (d, m) ≡ b → cond b (Some n) (target t.names e k) ≡ Some number → NameIsSound heads after e k number
+      at true same is =
+          let key = (places-exact.decides (e, k) (d, m)).0 same in
+          let number_is : n ≡ number = cc in
+          record {
+            spelled = subst IsName (sym (ap (λ key. key.1) key)) spelled;
+            holder = directory_kept e (subst (λ e. IsTrue (is_directory (head e))) (sym (ap (λ key. key.0) key)) facts.directory);
+            node = (new_header client kind mode, head_new number (sym number_is));
+            not_root = λ root. root_is_node head t.names sound n facts.free_number (number_is ∙ root);
+          }
+      at false other is =
+          let old = sound.names_sound e k number is in
+          let (h, shown) = old.node in
+          record {
+            spelled = old.spelled;
+            holder = directory_kept e old.holder;
+            node = (h, head_other number (apart number (Some h) shown (λ none. cc)) ∙ shown);
+            not_root = old.not_root;
+          }
+
+  one_or_old : {P : Type 0} (k : ℕ) (test : Option Header → Bool) → IsTrue (test (heads k)) → ((k ≡ n) → P) → ((k == n) ≡ false → IsTrue (test (head k)) → P) → P
+  one_or_old {P} k test holds new old = at (k == n) refl
+    where
+      at : (b : Bool) → (k == n) ≡ b → P
+      at true same = new (eqb-true k n same)
+      at false other = old other (ap test (sym (head_other k other)) ∙ holds)
+
+  parent_stays : (k up : ℕ) → parent_in head t.names k ≡ Some up → parent_in heads after k ≡ Some up
+  parent_stays k up is = parent_other k (ne_eqb k n (λ same. false≢true (sym (ap is_directory (ap head same ∙ facts.free_number)) ∙ (has_parent head t.names k up is).0))) ∙ is
+
+  reach : (k : ℕ) → IsTrue (is_directory (head k)) → (steps : ℕ) × Climbs (parent_in heads after) steps k 1
+  reach k directory = let (steps, climb) = sound.reaches k directory in (steps, climbs_with (parent_in head t.names) (parent_in heads after) parent_stays steps k 1 climb)
+
+  reach_new : (kind' : Kind) → kind ≡ kind' → IsTrue (is_directory (Some (new_header client kind mode))) → (steps : ℕ) × Climbs (parent_in heads after) steps n 1
+  reach_new File is directory = absurd (false≢true (sym (ap (λ kind. is_directory (Some (new_header client kind mode))) is) ∙ directory))
+  reach_new Directory is directory =
+      let (steps, climb) = reach d facts.directory in
+      (suc steps, (d, parent_is heads after n d m (ap is_directory (head_new n refl) ∙ directory) (root_is_node head t.names sound n facts.free_number) new_is_named_once new_target, climb))
+
+  new_in_range : IsClient client → IsEntry entry → InRange n (new_header client kind mode)
+  new_in_range fits entry_fits = record {
+    least = let least = facts.least in let first = fits.first in omega arith;
+    greatest = let greatest = facts.greatest in let last = fits.last in omega arith;
+    mode = entry_fits.3;
+    uid = fits.uid;
+    gid = fits.gid;
+    size = omega arith;
+  }
+
+  heads_sound : IsClient client → IsEntry entry → AreSound heads after
+  heads_sound fits entry_fits = record {
+    root = ap is_directory (head_other 1 (ne_eqb 1 n (λ same. root_is_node head t.names sound n facts.free_number (sym same)))) ∙ sound.root;
+    names_sound = λ e k number there. name_is_sound e k number entry_fits.1 there;
+    directories = λ k directory other.
+        one_or_old k is_directory directory (λ same. subst (λ k. name_count after k ≡ 1) (sym same) new_is_named_once) (λ apart old. others_count k apart ∙ sound.directories k old other);
+    files = λ k file.
+        one_or_old k is_file file (λ same. subst (λ k. (1 ≤ name_count after k) × (name_count after k ≤ 1024)) (sym same) (omega (arith, new_is_named_once), omega (arith, new_is_named_once)))
+        (λ apart old. subst (λ c. (1 ≤ c) × (c ≤ 1024)) (sym (others_count k apart)) (sound.files k old));
+    reaches = λ k directory.
+        one_or_old k is_directory directory
+        (λ same. subst (λ k. (steps : ℕ) × Climbs (parent_in heads after) steps k 1) (sym same) (reach_new kind refl (sym (ap is_directory (head_new k same)) ∙ directory)))
+        (λ apart old. reach k old);
+    ranges = λ k h shown. range_at k h (k == n) refl shown;
+  }
+    where
+      range_at : (k : ℕ) (h : Header) (b : Bool) → (k == n) ≡ b → heads k ≡ Some h → InRange k h
+      range_at k h true same shown =
+          let header_is : new_header client kind mode ≡ h = cc (head_new k (eqb-true k n same)) in
+          subst (λ k. InRange k h) (sym (eqb-true k n same)) (subst (InRange n) header_is (new_in_range fits entry_fits))
+      range_at k h false other shown = sound.ranges k h (sym (head_other k other) ∙ shown)
+
+  pub create_sound : IsClient client → IsEntry entry → IsSound (effect fabric client index entry t)
+  unfolding change_of swept
+  create_sound fits entry_fits = subst (λ heads. AreSound heads after) (λ i k. sym (head_after k) i) (heads_sound fits entry_fits)

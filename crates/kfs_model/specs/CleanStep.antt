@@ -1,0 +1,36 @@
+-- What a clean entry keeps: a sound tree stays sound, and what the cells show moves cell by cell.
+use Rattle.std.specs.Prelude.{◌≡◌, ℕ, ◌<◌, ◌≤◌, ◌^◌, List, length, Option, None, Result, Ok, Err}
+use Rattle.kfs_model.specs.Access.{Client}
+use Rattle.kfs_model.specs.Tree.{Tree}
+use Rattle.kfs_model.specs.Sight.{sight}
+use Rattle.kfs_model.specs.Entry.{Entry}
+use Rattle.kfs_model.specs.Check.{first_fault}
+use Rattle.kfs_model.specs.Effect.{Fabric, effect}
+use Rattle.kfs_model.specs.Run.{Scene, spot}
+use Rattle.kfs_model.specs.Soundness.{IsSound}
+use Rattle.kfs_model.specs.Spelling.{IsEntry}
+use Rattle.kfs_model.specs.SeenAfter.{seen_after}
+
+-- a client's row, whose numbers may be nodes
+pub record IsClient (client : Client) : Type 0 where
+  pub uid : client.uid < 2 ^ 32
+  pub gid : client.gid < 2 ^ 32
+  pub first : 1 ≤ client.first
+  pub last : client.last ≤ 65536
+
+module _ {B : Type 0} (fabric : Fabric B) where
+  -- a payload has a cell for each byte
+  pub record IsFaithful : Type 0 where
+    pub long : (index : ℕ) (payload : List ℕ) → length (fabric.payload index payload) ≡ length payload
+
+  module _ (scene : Scene) (index : ℕ) (created : List ℕ) (t : Tree B) (entry : Entry) where
+    -- a tree, a client and an entry in their ranges, and no check fails
+    pub record IsClean : Type 0 where
+      pub sound : IsSound t
+      pub client : IsClient scene.client
+      pub entry_fits : IsEntry entry
+      pub clean : first_fault (spot scene (sight t) created) entry ≡ None
+
+    pub record IsKept : Type 0 where
+      pub sound : IsSound (effect fabric scene.client index entry t)
+      pub seen : sight (effect fabric scene.client index entry t) ≡ seen_after scene.client (sight t) entry

@@ -1,0 +1,109 @@
+-- What a clean entry does to what the cells show, cell by cell, and the run of a log over that. It is said of any sight,
+-- also of one that no tree has.
+use Rattle.std.specs.Prelude.{ℕ, ◌+◌, ◌-◌, ◌==◌, nat_le, max, Bool, true, false, ℤ, pos, negsuc, ◌+ℤ◌, List, [], ◌∷◌, length, Option, Some, None, option_map, option_and_then, Result, Ok, Err, if◌then◌else◌}
+use Rattle.kfs_model.specs.Header.{Kind, File, Directory, Header}
+use Rattle.kfs_model.specs.Access.{Client}
+use Rattle.kfs_model.specs.Entry.{Entry, Create, Write, Truncate, Link, Unlink, Rename, Chmod}
+use Rattle.kfs_model.specs.Sight.{Sight, is_directory}
+use Rattle.kfs_model.specs.Check.{first_fault}
+use Rattle.kfs_model.specs.FirstWrong.{same_place}
+use Rattle.kfs_model.specs.Run.{Scene, EntryFault, spot, created_by}
+
+-- ---- a cell with another answer
+
+abbrev pub put_at : {X : Type 0} → (number : ℕ) → X → (ℕ → X) → ℕ → X
+put_at n x f k = if k == n then x else f k
+
+abbrev pub put_name : (directory : ℕ) (name : List ℕ) → Option ℕ → (ℕ → List ℕ → Option ℕ) → ℕ → List ℕ → Option ℕ
+put_name d m number names e k = if same_place (e, k) (d, m) then number else names e k
+
+-- a directory has so many names more
+abbrev pub shifted : (directory : ℕ) → ℤ → (ℕ → ℤ) → ℕ → ℤ
+shifted d by count e = if e == d then count e +ℤ by else count e
+
+-- the header changed, where there is one
+abbrev pub put_header : (number : ℕ) → (Header → Header) → (ℕ → Option Header) → ℕ → Option Header
+put_header n change head = put_at n (option_map change (head n)) head
+
+-- ---- the parts of an entry's change
+
+abbrev pub new_header : Client → Kind → (mode : ℕ) → Header
+new_header client kind mode = record { kind = kind; mode = mode; uid = client.uid; gid = client.gid; links = 1; size = 0 }
+
+-- where the node is a directory it now stands in this one
+abbrev pub put_parent : Kind → (number directory : ℕ) → (ℕ → Option ℕ) → ℕ → Option ℕ
+put_parent File n d parent = parent
+put_parent Directory n d parent = put_at n (Some d) parent
+
+-- a name fewer leads to the node: a directory goes, and a file with its last name
+abbrev pub unlinked : Header → Option Header
+unlinked h = of_kind h.kind
+  where
+    of_kind : Kind → Option Header
+    of_kind File = if nat_le h.links 1 then None else Some (record h { links = h.links - 1 })
+    of_kind Directory = None
+
+abbrev pub written_size : (offset : ℕ) → (payload : List ℕ) → (size : ℕ) → ℕ
+written_size offset [] size = size
+written_size offset (b ∷ bs) size = max size (offset + length (b ∷ bs))
+
+-- without the name, which leads to this node
+abbrev pub seen_without : (directory : ℕ) (name : List ℕ) (number : ℕ) → Sight → Sight
+seen_without d m t s = record {
+  head = put_at t (option_and_then unlinked (s.head t)) s.head;
+  name = put_name d m None s.name;
+  count = shifted d (negsuc 0) s.count;
+  parent = put_at t None s.parent;
+}
+
+abbrev pub kind_shown : Option Header → Kind
+kind_shown None = File
+kind_shown (Some h) = h.kind
+
+-- the name leads to nothing any more, and the other one, which led to nothing, leads to the node
+abbrev pub seen_moved : (d : ℕ) (m : List ℕ) (e : ℕ) (k : List ℕ) (number : ℕ) → Sight → Sight
+seen_moved d m e k n s = record {
+  head = s.head;
+  name = put_name e k (Some n) (put_name d m None s.name);
+  count = shifted e (pos 1) (shifted d (negsuc 0) s.count);
+  parent = put_parent (kind_shown (s.head n)) n e s.parent;
+}
+
+-- nothing changes where both names lead to one node; what the new name led to loses that name first
+abbrev pub seen_renamed : (d : ℕ) (m : List ℕ) (e : ℕ) (k : List ℕ) → Option ℕ → Option ℕ → Sight → Sight
+seen_renamed d m e k None there s = s
+seen_renamed d m e k (Some n) None s = seen_moved d m e k n s
+seen_renamed d m e k (Some n) (Some t) s = if t == n then s else seen_moved d m e k n (seen_without e k t s)
+
+abbrev pub seen_unlinked : (directory : ℕ) (name : List ℕ) → Option ℕ → Sight → Sight
+seen_unlinked d m None s = s
+seen_unlinked d m (Some t) s = seen_without d m t s
+
+-- ---- an entry, and a log
+
+unfoldable pub seen_after : Client → Sight → Entry → Sight
+seen_after client s (Create d m n kind mode) = record {
+  head = put_at n (Some (new_header client kind mode)) s.head;
+  name = put_name d m (Some n) s.name;
+  count = shifted d (pos 1) s.count;
+  parent = put_parent kind n d s.parent;
+}
+seen_after client s (Write n offset payload) = record s { head = put_header n (λ h. record h { size = written_size offset payload h.size }) s.head }
+seen_after client s (Truncate n size) = record s { head = put_header n (λ h. record h { size = size }) s.head }
+seen_after client s (Link n d m) = record s {
+  head = put_header n (λ h. record h { links = h.links + 1 }) s.head;
+  name = put_name d m (Some n) s.name;
+  count = shifted d (pos 1) s.count;
+}
+seen_after client s (Unlink d m kind) = seen_unlinked d m (s.name d m) s
+seen_after client s (Rename d m e k) = seen_renamed d m e k (s.name d m) (s.name e k) s
+seen_after client s (Chmod n mode) = record s { head = put_header n (λ h. record h { mode = mode }) s.head }
+
+module _ (scene : Scene) where
+  -- the entries from the one with this number on
+  unfoldable pub seen_run_from : (index : ℕ) → (created : List ℕ) → Sight → List Entry → Result Sight EntryFault
+  seen_run_from index created now [] = Ok now
+  seen_run_from index created now (entry ∷ entries) = elim (first_fault (spot scene now created) entry) [
+    | None ↦ seen_run_from (index + 1) (created_by entry created) (seen_after scene.client now entry) entries
+    | Some reason ↦ Err (record { entry = index; reason = reason })
+  ]
