@@ -14,3 +14,5 @@ pub mod Counts
 pub mod Links
 pub mod Heads
 pub mod CreateStep
+pub mod NodeStep
+pub mod CellSteps
