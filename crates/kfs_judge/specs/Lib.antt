@@ -1,3 +1,4 @@
 pub mod Creates
 pub mod Mode
+pub mod Spelled
 pub mod View

@@ -1,13 +1,15 @@
 //! The plan of a log against what the log comes to, and the judgement of both.
-ghost use Rattle.std.specs.Prelude.{◌≡◌, IsOk};
+ghost use Rattle.std.specs.Prelude.{◌≡◌, ◌↔◌, IsOk, IfOk, IsTrue};
+ghost use Rattle.kfs_judge.specs.Creates.{IsCreate};
+ghost use Rattle.kfs_judge.specs.Spelled.{IfSpelled};
 ghost use Rattle.kfs_judge.specs.declared.plan.RowFault.TheVariants.{OutOfMemory};
 
 use crate::mode::Client;
 use crate::reads::{Read, Seen};
 use crate::view::View;
-use crate::walk::{EntryFault, Walk};
+use crate::walk::{EntryFault, Walk, judge_entries};
 use indexmap::IndexMap;
-use kfs_entry::{Log, Plan, SpellFault};
+use kfs_entry::{Entry, Log, Plan, Span, SpellFault, decode_log, decode_plan};
 use kfs_image::shape::Net;
 use std::alloc::{AllocError, Allocator};
 use std::hash::{BuildHasherDefault, FoldHasher};
@@ -45,6 +47,10 @@ pub fn check_plan<A: Allocator + Copy>(
     requires { IsOk walk.now.outcome }
 {
     let net = walk.outcome.as_ref().unwrap();
+    check_rows(net, plan)
+}
+
+fn check_rows<A: Allocator>(net: &Net<A>, plan: &Plan<A>) -> Result<u64, RowFault> {
     if let Some(row) = first_difference(plan.names.as_slice(), net.names.as_slice()) {
         return Err(RowFault::Names(row));
     }
@@ -135,14 +141,133 @@ pub struct Back<A: Allocator> {
     pub why: Why,
 }
 
-/// Judges a submission against a view. It touches nothing but the view.
+impl From<AllocError> for Why {
+    ghost use Rattle.kfs_judge.specs.declared.plan.Why.TheVariants.{OutOfMemory as Exhausted};
+
+    ghost from_gives = { λ _ why. why ≡ Exhausted };
+
+    fn from(_error: AllocError) -> Why {
+        Why::OutOfMemory
+    }
+}
+
+/// Judges a submission against a view: the client's row, the log's spelling, whose log it is, the
+/// plan's spelling, the entries, the plan's rows. It touches nothing but the view.
 pub fn judge<A: Allocator + Copy>(
-    _alloc: A,
-    _view: &View<A>,
+    alloc: A,
+    view: &View<A>,
     submission: Submission<A>,
 ) -> Result<Judged<A>, Back<A>> {
-    Err(Back {
-        submission,
-        why: Why::OutOfMemory,
+    match find(alloc, view, &submission) {
+        Ok(finding) => Ok(Judged {
+            submission,
+            client: finding.client,
+            reads: finding.reads,
+            outcome: finding.outcome,
+        }),
+        Err(why) => Err(Back { submission, why }),
+    }
+}
+
+/// What a verdict says beside the submission.
+#[derive(Drop)]
+struct Finding<A: Allocator> {
+    client: Option<Client>,
+    reads: IndexMap<Read, Seen, BuildHasherDefault<FoldHasher>, A>,
+    outcome: Outcome<A>,
+}
+
+impl<A: Allocator + Copy> Finding<A> {
+    /// A fault that was found before the entries.
+    fn unread(alloc: A, client: Option<Client>, fault: Fault) -> Finding<A> {
+        Finding {
+            client,
+            reads: IndexMap::new(alloc),
+            outcome: Outcome::No(fault),
+        }
+    }
+}
+
+fn find<A: Allocator + Copy>(
+    alloc: A,
+    view: &View<A>,
+    submission: &Submission<A>,
+) -> Result<Finding<A>, Why> {
+    let Some(client) = view.client(submission.client) else {
+        return Ok(Finding::unread(alloc, None, Fault::UnknownClient));
+    };
+    let client = Some(client.clone()?);
+    match read_submission(alloc, submission)? {
+        Spelled::No(fault) => Ok(Finding::unread(alloc, client, fault)),
+        Spelled::Yes(log, plan) => {
+            let walk = judge_entries(alloc, view, &log)?;
+            settle(client, log, plan, walk)
+        }
+    }
+}
+
+/// What the bytes of a submission say.
+#[derive(Drop)]
+enum Spelled<A: Allocator> {
+    Yes(Log<A>, Plan<A>),
+    No(Fault),
+}
+
+fn read_submission<A: Allocator + Copy>(
+    alloc: A,
+    submission: &Submission<A>,
+) -> Result<Spelled<A>, Why>
+    ensures { IfOk result (λ s. IfSpelled s submission.now.client) }
+{
+    let log = match decode_log(alloc, submission.log.as_slice()) {
+        Ok(log) => log,
+        Err(SpellFault::OutOfMemory) => return Err(Why::OutOfMemory),
+        Err(fault) => return Ok(Spelled::No(Fault::BadLog(fault))),
+    };
+    if log.client != submission.client {
+        return Ok(Spelled::No(Fault::WrongClient));
+    }
+    let plan = match decode_plan(alloc, submission.plan.as_slice()) {
+        Ok(plan) => plan,
+        Err(SpellFault::OutOfMemory) => return Err(Why::OutOfMemory),
+        Err(fault) => return Ok(Spelled::No(Fault::BadPlan(fault))),
+    };
+    if !log.entries.as_slice().iter().all(is_create) {
+        return Err(Why::OtherEntry);
+    }
+    Ok(Spelled::Yes(log, plan))
+}
+
+fn is_create(entry: &Entry<Span>) -> bool
+    ensures { IsTrue result ↔ IsCreate entry.now }
+{
+    matches!(entry, Entry::Create { .. })
+}
+
+/// The finding of a log that was walked: its first bad entry, or else what its plan comes to.
+fn settle<A: Allocator + Copy>(
+    client: Option<Client>,
+    log: Log<A>,
+    plan: Plan<A>,
+    walk: Walk<A>,
+) -> Result<Finding<A>, Why> {
+    let Walk { reads, outcome } = walk;
+    let outcome = match outcome {
+        Err(fault) => Outcome::No(Fault::Entry(fault)),
+        Ok(net) => match check_rows(&net, &plan) {
+            Ok(need) => Outcome::Yes {
+                log,
+                plan,
+                net,
+                need,
+            },
+            Err(RowFault::OutOfMemory) => return Err(Why::OutOfMemory),
+            Err(fault) => Outcome::No(Fault::Row(fault)),
+        },
+    };
+    Ok(Finding {
+        client,
+        reads,
+        outcome,
     })
 }

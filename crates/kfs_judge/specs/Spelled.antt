@@ -1,0 +1,10 @@
+-- What is known of a submission that was read.
+use Rattle.std.specs.Prelude.{◌≡◌, ℕ, All}
+use Rattle.kfs_judge.specs.declared.plan.Spelled.{Spelled}
+use Rattle.kfs_judge.specs.declared.plan.Spelled.TheVariants.{Yes, No}
+use Rattle.kfs_judge.specs.Creates.{IsCreate}
+
+-- a log that was read is the client's, and of Creates alone
+abbrev pub IfSpelled : {A : Type 0} → Spelled A → (client : ℕ) → Type 0
+IfSpelled (Yes log plan) client = (log.client ≡ client) × All IsCreate log.entries
+IfSpelled (No fault) client = Unit {0}
