@@ -17,7 +17,8 @@ use Rattle.kfs_model.specs.SeenAfter.{put_at, put_name, shifted, put_parent, new
 use Rattle.kfs_model.specs.CleanStep.{IsClient, IsClean, IsKept}
 use Rattle.kfs_model.proofs.CleanIsAllowed.{AllPass, all_pass, passed, left, right}
 use Rattle.kfs_model.proofs.Exact.{places-exact}
-use Rattle.kfs_model.proofs.Links.{at_number-insert, target-insert, name_count-insert, entry_count-insert, target_is_named}
+use Rattle.kfs_model.proofs.Links.{at_number-insert, target-insert}
+use Rattle.kfs_model.proofs.NameAdded.{new_target, kept_target, new_or_old, others_count, own_count, count_shifted}
 use Rattle.kfs_model.proofs.Heads.{stays, named_stays, unnamed, root_is_node, get-headers, get-swept_headers, kept_head, parent_kept, parent_is, parent_of_none, has_parent, climbs_with}
 
 -- ---- what the checks of a Create say
@@ -48,9 +49,6 @@ create_facts p d m n kind mode clean =
 
 -- ---- what shows after it
 
-turned_test : (a b : ℕ) → (a == b) ≡ false → ◌≡◌ {A = ℕ} (cond (b == a) 1 0) 0
-turned_test a b e = ap {B = ℕ} (λ t. cond t 1 0) (ne_eqb b a (λ same. eqb-false a b e (sym same)))
-
 module _ {B : Type 0} (fabric : Fabric B) (client : Client) (index : ℕ) (t : Tree B) (d : ℕ) (m : List ℕ) (n : ℕ) (kind : Kind) (mode : ℕ) (sound : IsSound t) (facts : CreateFacts client (sight t) d m n) where
   abbrev entry : Entry
   entry = Create d m n kind mode
@@ -68,10 +66,7 @@ module _ {B : Type 0} (fabric : Fabric B) (client : Client) (index : ℕ) (t : T
   node = record { mode = mode; uid = client.uid; gid = client.gid; body = new_body fabric kind }
 
   new_is_named_once : name_count after n ≡ 1
-  new_is_named_once = name_count-insert t.names d m n n facts.free_name ∙ ap (λ b. name_count t.names n + cond b 1 0) (eq-eqb n n refl) ∙ ap (λ c. c + 1) (unnamed head t.names sound n facts.free_number)
-
-  others_count : (k : ℕ) → (k == n) ≡ false → name_count after k ≡ name_count t.names k
-  others_count k other = name_count-insert t.names d m n k facts.free_name ∙ ap (λ c. name_count t.names k + c) (turned_test k n other) ∙ add-zero (name_count t.names k)
+  new_is_named_once = own_count t.names d m n facts.free_name ∙ ap (λ c. c + 1) (unnamed head t.names sound n facts.free_number)
 
   new_shown : header_of after n node ≡ new_header client kind mode
   new_shown = at kind
@@ -87,7 +82,7 @@ module _ {B : Type 0} (fabric : Fabric B) (client : Client) (index : ℕ) (t : T
   shown_at k true same =
       subst (λ k. option_map (header_of after k) (cond (stays after k) (Some node) None) ≡ Some (new_header client kind mode)) (sym (eqb-true k n same))
       (ap (λ b. option_map (header_of after n) (cond b (Some node) None)) new_stays ∙ ap Some new_shown)
-  shown_at k false other = kept_head t sound after k (others_count k other)
+  shown_at k false other = kept_head t sound after k (others_count t.names d m n facts.free_name k other)
 
   head_after : (k : ℕ) → get (headers (effect fabric client index entry t)) k ≡ heads k
   unfolding change_of
@@ -96,30 +91,6 @@ module _ {B : Type 0} (fabric : Fabric B) (client : Client) (index : ℕ) (t : T
       ∙ ap (λ o. option_map (header_of after k) (cond (stays after k) o None)) (at_number-insert t.nodes n node k)
       ∙ shown_at k (k == n) refl
 
-  name_after : (e : ℕ) (k : List ℕ) → target after e k ≡ put_name d m (Some n) (target t.names) e k
-  name_after e k = target-insert t.names d m n e k
-
-  count_after : (e : ℕ) → pos (entry_count after e) ≡ shifted d (pos 1) (λ d. pos (entry_count t.names d)) e
-  count_after e = ap pos (entry_count-insert t.names d m n e facts.free_name) ∙ at (e == d) refl
-    where
-      at : (b : Bool) → (e == d) ≡ b → pos (entry_count t.names e + cond (d == e) 1 0) ≡ cond b (pos (entry_count t.names e) +ℤ pos 1) (pos (entry_count t.names e))
-      at true same = ap (λ b. pos (entry_count t.names e + cond b 1 0)) (eq-eqb d e (sym (eqb-true e d same)))
-      at false other = ap (λ c. pos (entry_count t.names e + c)) (turned_test e d other) ∙ ap pos (add-zero (entry_count t.names e))
-
-  -- the names that were there lead where they led
-  kept_target : (e : ℕ) (k : List ℕ) (number : ℕ) → target t.names e k ≡ Some number → target after e k ≡ Some number
-  kept_target e k number there = name_after e k ∙ at (same_place (e, k) (d, m)) refl
-    where
-      at : (b : Bool) → same_place (e, k) (d, m) ≡ b → cond b (Some n) (target t.names e k) ≡ Some number
-      at true same =
-          let key = (places-exact.decides (e, k) (d, m)).0 same in
-          let none : target t.names e k ≡ None = ap (λ key. get t.names key) key ∙ facts.free_name in
-          cc
-      at false other = there
-
-  new_target : target after d m ≡ Some n
-  new_target = name_after d m ∙ ap (λ b. cond b (Some n) (target t.names d m)) ((places-exact.decides (d, m) (d, m)).1 refl)
-
   head_new : (k : ℕ) → k ≡ n → heads k ≡ Some (new_header client kind mode)
   head_new k same = ap (λ b. cond b (Some (new_header client kind mode)) (head k)) (eq-eqb k n same)
 
@@ -127,12 +98,12 @@ module _ {B : Type 0} (fabric : Fabric B) (client : Client) (index : ℕ) (t : T
   head_other k other = ap (λ b. cond b (Some (new_header client kind mode)) (head k)) other
 
   parent_other : (k : ℕ) → (k == n) ≡ false → parent_in heads after k ≡ parent_in head t.names k
-  parent_other k other = parent_kept head t.names sound heads after k (head_other k other) (others_count k other) (λ e m. kept_target e m k)
+  parent_other k other = parent_kept head t.names sound heads after k (head_other k other) (others_count t.names d m n facts.free_name k other) (λ e k' there. kept_target t.names d m n facts.free_name e k' k there)
 
   parent_new : (kind : Kind) → heads n ≡ Some (new_header client kind mode) → parent_in heads after n ≡ put_parent kind n d (parent_in head t.names) n
   parent_new File new = parent_of_none heads after n (ap is_directory new) ∙ sym (parent_of_none head t.names n (ap is_directory facts.free_number))
   parent_new Directory new =
-      parent_is heads after n d m (ap is_directory new) (root_is_node head t.names sound n facts.free_number) new_is_named_once new_target
+      parent_is heads after n d m (ap is_directory new) (root_is_node head t.names sound n facts.free_number) new_is_named_once (new_target t.names d m n facts.free_name)
       ∙ ap (λ b. cond b (Some d) (parent_in head t.names n)) (sym (eq-eqb n n refl))
 
   parent_elsewhere : (kind : Kind) (k : ℕ) → (k == n) ≡ false → parent_in head t.names k ≡ put_parent kind n d (parent_in head t.names) k
@@ -150,15 +121,15 @@ module _ {B : Type 0} (fabric : Fabric B) (client : Client) (index : ℕ) (t : T
   unfolding change_of swept seen_after
   create_seen = λ i. record {
     head = λ k. head_after k i;
-    name = λ e k. name_after e k i;
-    count = λ e. count_after e i;
+    name = λ e k. target-insert t.names d m n e k i;
+    count = λ e. count_shifted t.names d m n facts.free_name e i;
     parent = λ k. (ap (λ heads. parent_in heads after k) (λ i k. head_after k i) ∙ parent_after k) i;
   }
 
   -- ---- the tree after it is sound
 
   name_is_sound : (e : ℕ) (k : List ℕ) (number : ℕ) → IsName m → target after e k ≡ Some number → NameIsSound heads after e k number
-  name_is_sound e k number spelled there = at (same_place (e, k) (d, m)) refl (sym (name_after e k) ∙ there)
+  name_is_sound e k number spelled there = new_or_old t.names d m n facts.free_name e k number there new old
     where
       apart : (k : ℕ) (h : Option Header) → head k ≡ h → (h ≡ None → ⊥) → (k == n) ≡ false
       apart k h is some = ne_eqb k n (λ same. some (sym is ∙ ap head same ∙ facts.free_number))
@@ -166,24 +137,23 @@ module _ {B : Type 0} (fabric : Fabric B) (client : Client) (index : ℕ) (t : T
       directory_kept : (k : ℕ) → IsTrue (is_directory (head k)) → IsTrue (is_directory (heads k))
       directory_kept k is = ap is_directory (head_other k (apart k (head k) refl (λ none. false≢true (sym (ap is_directory none) ∙ is)))) ∙ is
 
-      at : (b : Bool) → same_place (e, k) (d, m) ≡ b → cond b (Some n) (target t.names e k) ≡ Some number → NameIsSound heads after e k number
-      at true same is =
-          let key = (places-exact.decides (e, k) (d, m)).0 same in
-          let number_is : n ≡ number = cc in
+      new : d ≡ e → m ≡ k → n ≡ number → NameIsSound heads after e k number
+      new directory_is name_is number_is = record {
+        spelled = subst IsName name_is spelled;
+        holder = directory_kept e (subst (λ e. IsTrue (is_directory (head e))) directory_is facts.directory);
+        node = (new_header client kind mode, head_new number (sym number_is));
+        not_root = λ root. root_is_node head t.names sound n facts.free_number (number_is ∙ root);
+      }
+
+      old : target t.names e k ≡ Some number → NameIsSound heads after e k number
+      old is =
+          let was = sound.names_sound e k number is in
+          let (h, shown) = was.node in
           record {
-            spelled = subst IsName (sym (ap (λ key. key.1) key)) spelled;
-            holder = directory_kept e (subst (λ e. IsTrue (is_directory (head e))) (sym (ap (λ key. key.0) key)) facts.directory);
-            node = (new_header client kind mode, head_new number (sym number_is));
-            not_root = λ root. root_is_node head t.names sound n facts.free_number (number_is ∙ root);
-          }
-      at false other is =
-          let old = sound.names_sound e k number is in
-          let (h, shown) = old.node in
-          record {
-            spelled = old.spelled;
-            holder = directory_kept e old.holder;
+            spelled = was.spelled;
+            holder = directory_kept e was.holder;
             node = (h, head_other number (apart number (Some h) shown (λ none. cc)) ∙ shown);
-            not_root = old.not_root;
+            not_root = was.not_root;
           }
 
   one_or_old : {P : Type 0} (k : ℕ) (test : Option Header → Bool) → IsTrue (test (heads k)) → ((k ≡ n) → P) → ((k == n) ≡ false → IsTrue (test (head k)) → P) → P
@@ -203,7 +173,7 @@ module _ {B : Type 0} (fabric : Fabric B) (client : Client) (index : ℕ) (t : T
   reach_new File is directory = absurd (false≢true (sym (ap (λ kind. is_directory (Some (new_header client kind mode))) is) ∙ directory))
   reach_new Directory is directory =
       let (steps, climb) = reach d facts.directory in
-      (suc steps, (d, parent_is heads after n d m (ap is_directory (head_new n refl) ∙ directory) (root_is_node head t.names sound n facts.free_number) new_is_named_once new_target, climb))
+      (suc steps, (d, parent_is heads after n d m (ap is_directory (head_new n refl) ∙ directory) (root_is_node head t.names sound n facts.free_number) new_is_named_once (new_target t.names d m n facts.free_name), climb))
 
   new_in_range : IsClient client → IsEntry entry → InRange n (new_header client kind mode)
   new_in_range fits entry_fits = record {
@@ -220,10 +190,10 @@ module _ {B : Type 0} (fabric : Fabric B) (client : Client) (index : ℕ) (t : T
     root = ap is_directory (head_other 1 (ne_eqb 1 n (λ same. root_is_node head t.names sound n facts.free_number (sym same)))) ∙ sound.root;
     names_sound = λ e k number there. name_is_sound e k number entry_fits.1 there;
     directories = λ k directory other.
-        one_or_old k is_directory directory (λ same. subst (λ k. name_count after k ≡ 1) (sym same) new_is_named_once) (λ apart old. others_count k apart ∙ sound.directories k old other);
+        one_or_old k is_directory directory (λ same. subst (λ k. name_count after k ≡ 1) (sym same) new_is_named_once) (λ apart old. others_count t.names d m n facts.free_name k apart ∙ sound.directories k old other);
     files = λ k file.
         one_or_old k is_file file (λ same. subst (λ k. (1 ≤ name_count after k) × (name_count after k ≤ 1024)) (sym same) (omega (arith, new_is_named_once), omega (arith, new_is_named_once)))
-        (λ apart old. subst (λ c. (1 ≤ c) × (c ≤ 1024)) (sym (others_count k apart)) (sound.files k old));
+        (λ apart old. subst (λ c. (1 ≤ c) × (c ≤ 1024)) (sym (others_count t.names d m n facts.free_name k apart)) (sound.files k old));
     reaches = λ k directory.
         one_or_old k is_directory directory
         (λ same. subst (λ k. (steps : ℕ) × Climbs (parent_in heads after) steps k 1) (sym same) (reach_new kind refl (sym (ap is_directory (head_new k same)) ∙ directory)))

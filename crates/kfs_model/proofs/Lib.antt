@@ -13,6 +13,8 @@ pub mod OneByOne
 pub mod Counts
 pub mod Links
 pub mod Heads
+pub mod NameAdded
 pub mod CreateStep
 pub mod NodeStep
 pub mod CellSteps
+pub mod NameStep
