@@ -16,14 +16,9 @@ use Rattle.kfs_model.specs.Spelling.{IsEntry}
 use Rattle.kfs_model.specs.SeenAfter.{put_header, written_size, seen_after}
 use Rattle.kfs_model.specs.CleanStep.{IsFaithful, IsClient, IsClean, IsKept}
 use Rattle.kfs_model.proofs.CleanIsAllowed.{AllPass, all_pass, passed, left, right}
+use Rattle.kfs_model.proofs.CleanFacts.{some_is}
 use Rattle.kfs_model.proofs.Heads.{get-headers}
 use Rattle.kfs_model.proofs.NodeStep.{node_seen, node_sound}
-
--- ---- what the checks say
-
-some_is : {X : Type 0} (o : Option X) → IsTrue (is_some o) → (x : X) × (o ≡ Some x)
-some_is None e = cc
-some_is (Some x) e = (x, refl)
 
 -- the node of a header that is there
 module _ {B : Type 0} (t : Tree B) (n : ℕ) where

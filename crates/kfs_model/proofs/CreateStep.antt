@@ -15,37 +15,11 @@ use Rattle.kfs_model.specs.Spelling.{IsEntry, IsName}
 use Rattle.kfs_model.specs.FirstWrong.{same_place}
 use Rattle.kfs_model.specs.SeenAfter.{put_at, put_name, shifted, put_parent, new_header, seen_after}
 use Rattle.kfs_model.specs.CleanStep.{IsClient, IsClean, IsKept}
-use Rattle.kfs_model.proofs.CleanIsAllowed.{AllPass, all_pass, passed, left, right}
+use Rattle.kfs_model.proofs.CleanFacts.{CreateFacts}
 use Rattle.kfs_model.proofs.Exact.{places-exact}
 use Rattle.kfs_model.proofs.Links.{at_number-insert, target-insert}
 use Rattle.kfs_model.proofs.NameAdded.{new_target, kept_target, new_or_old, others_count, own_count, count_shifted}
 use Rattle.kfs_model.proofs.Heads.{stays, named_stays, unnamed, root_is_node, get-headers, get-swept_headers, kept_head, parent_kept, parent_is, parent_of_none, has_parent, climbs_with}
-
--- ---- what the checks of a Create say
-
-pub record CreateFacts (client : Client) (s : Sight) (d : ℕ) (m : List ℕ) (n : ℕ) : Type 0 where
-  pub directory : IsTrue (is_directory (s.head d))
-  pub free_name : s.name d m ≡ None
-  pub least : client.first ≤ n
-  pub greatest : n ≤ client.last
-  pub free_number : s.head n ≡ None
-
-none_is : {X : Type 0} (o : Option X) → IsTrue (is_none o) → o ≡ None
-none_is None e = refl
-none_is (Some x) e = cc
-
-pub create_facts : (p : Spot) (d : ℕ) (m : List ℕ) (n : ℕ) (kind : Kind) (mode : ℕ) → first_fault p (Create d m n kind mode) ≡ None → CreateFacts p.client p.now d m n
-unfolding checks_of fault
-create_facts p d m n kind mode clean =
-    let pass = all_pass p _ clean in
-    let granted = passed _ _ pass.1.1.1.1.1.1.0 in
-    record {
-      directory = passed _ _ pass.1.0;
-      free_name = none_is _ (passed _ _ pass.1.1.1.1.1.0);
-      least = leb-true _ _ (left _ _ granted);
-      greatest = leb-true _ _ (right _ _ granted);
-      free_number = none_is _ (right _ _ (left _ _ (passed _ _ pass.1.1.1.1.1.1.1.0)));
-    }
 
 -- ---- what shows after it
 

@@ -47,7 +47,7 @@ root_stays : (names : Links) → stays names 1 ≡ true
 root_stays names = refl
 
 module _ {B : Type 0} (t : Tree B) (sound : IsSound t) where
-  directory_stays : (k : ℕ) → IsTrue (is_directory (get (headers t) k)) → stays t.names k ≡ true
+  pub directory_stays : (k : ℕ) → IsTrue (is_directory (get (headers t) k)) → stays t.names k ≡ true
   directory_stays k directory = at (k == 1) refl
     where
       at : (b : Bool) → (k == 1) ≡ b → stays t.names k ≡ true
@@ -118,6 +118,24 @@ module _ (head : ℕ → Option Header) (names : Links) (sound : AreSound head n
           let (d, m, there) = named_has_target names k some in
           let node = (sound.names_sound d m k there).node in
           cc (node.1, none)
+
+  -- no name leads to the root, and one at the most to any directory
+  pub root_unnamed : name_count names 1 ≡ 0
+  root_unnamed = at (name_count names 1) refl
+    where
+      at : (count : ℕ) → name_count names 1 ≡ count → count ≡ 0
+      at zero e = refl
+      at (suc count) e =
+          let some : 1 ≤ name_count names 1 = omega arith in
+          let (d, m, there) = named_has_target names 1 some in
+          absurd ((sound.names_sound d m 1 there).not_root refl)
+
+  pub directory_count : (k : ℕ) → IsTrue (is_directory (head k)) → name_count names k ≤ 1
+  directory_count k directory = at (k == 1) refl
+    where
+      at : (b : Bool) → (k == 1) ≡ b → name_count names k ≤ 1
+      at true same = let none = ap (name_count names) (eqb-true k 1 same) ∙ root_unnamed in omega arith
+      at false other = let one = sound.directories k directory (eqb-false k 1 other) in omega arith
 
   pub root_is_node : (k : ℕ) → head k ≡ None → k ≢ 1
   root_is_node k none e = false≢true (sym (ap is_directory (ap head (sym e) ∙ none)) ∙ sound.root)

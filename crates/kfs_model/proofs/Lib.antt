@@ -13,8 +13,10 @@ pub mod OneByOne
 pub mod Counts
 pub mod Links
 pub mod Heads
+pub mod CleanFacts
 pub mod NameAdded
 pub mod CreateStep
 pub mod NodeStep
 pub mod CellSteps
+pub mod LinkStep
 pub mod NameStep

@@ -119,18 +119,18 @@ module _ {B : Type 0} (t : Tree B) (after : Links) where
   names_kept_sound sound kept = record {
     root = directory_still 1 sound.root refl;
     names_sound = λ d m n there.
-      let (h, was, other, named) = kept.node d m n there in
-      let still = still_there n h was (named_stays after n named) in
-      let (directory, stay) = kept.holder d m n there in
-      record { spelled = kept.spelled d m n there; holder = directory_still d directory stay; node = (still.new, still.is); not_root = other };
+        let (h, was, other, named) = kept.node d m n there in
+        let still = still_there n h was (named_stays after n named) in
+        let (directory, stay) = kept.holder d m n there in
+        record { spelled = kept.spelled d m n there; holder = directory_still d directory stay; node = (still.new, still.is); not_root = other };
     directories = λ k directory other.
-      let (was, stay) = directory_was k directory in
-      let some = stays_named after k stay other in
-      let most = kept.directories k was in
-      omega arith;
+        let (was, stay) = directory_was k directory in
+        let some = stays_named after k stay other in
+        let most = kept.directories k was in
+        omega arith;
     files = λ k file.
-      let (was, stay) = file_was k file in
-      (stays_named after k stay (file_is_no_root sound k was), kept.files k was);
+        let (was, stay) = file_was k file in
+        (stays_named after k stay (file_is_no_root sound k was), kept.files k was);
     reaches = λ k directory. let (was, stay) = directory_was k directory in kept.reaches k was stay;
     ranges = λ k h there. let was = was_there k h there in was.ranges (sound.ranges k was.old was.was);
   }
