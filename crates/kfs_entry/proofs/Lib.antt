@@ -5,3 +5,8 @@ pub mod PlanLaws
 pub mod RowLaws
 pub mod HeaderLaws
 pub mod Found
+pub mod DecodedLog
+pub mod RowsRead
+pub mod OneLogAnswer
+pub mod OnePlanAnswer
+pub mod DecodedPlan

@@ -1,9 +1,10 @@
 -- Rows one after another: one row more.
-use Rattle.std.proofs.Common.{◌≡◌, ℕ, List, [], ◌∷◌, ◌++◌, refl, sym, ap, ◌∙◌, append_assoc}
+use Rattle.std.proofs.Common.{◌≡◌, ℕ, List, [], ◌∷◌, ◌++◌, length, refl, sym, ap, subst, ◌∙◌, append_assoc}
 use Rattle.std.specs.List.{flat_map, AllByRecursion}
-use Rattle.std.proofs.lemmas.List.{flat_map_more}
+use Rattle.std.proofs.lemmas.List.{flat_map_more, length-map}
 use Rattle.std.specs.Prelude.{map}
-use Rattle.kfs_entry.specs.RowList.{AreRows}
+use Rattle.kfs_model.specs.Spelling.{Stand, Stop}
+use Rattle.kfs_entry.specs.RowList.{AreRows, Stops, Begins}
 
 pub AllByRecursion-push : {R : Type 0} (P : R → Type 0) (rows : List R) (row : R) → AllByRecursion P rows → P row → AllByRecursion P (rows ++ row ∷ [])
 AllByRecursion-push P [] row all here = (here, tt)
@@ -29,10 +30,30 @@ pub both_hold : {R V : Type 0} (view : R → V) (P : R → Type 0) (Q : V → Ty
 both_hold view P Q [] all each = tt
 both_hold view P Q (row ∷ rows) all each = ((all.0, each.0), both_hold view P Q rows all.1 each.1)
 
-pub each_holds : {R V : Type 0} (view : R → V) (P : R → Type 0) (Q : V → Type 0) (rows : List R) → AllByRecursion (λ r. P r × Q (view r)) rows → AllByRecursion P rows × AllByRecursion Q (map view rows)
-each_holds view P Q [] all = (tt, tt)
-each_holds view P Q (row ∷ rows) all = let rest = each_holds view P Q rows all.1 in ((all.0.0, rest.0), (all.0.1, rest.1))
+-- what holds of each row, of the values that the rows stand for
+pub map_holds : {R V : Type 0} (view : R → V) (P : R → Type 0) (Q : V → Type 0) → ((r : R) → P r → Q (view r)) → (rows : List R) → AllByRecursion P rows → AllByRecursion Q (map view rows)
+map_holds view P Q f [] all = tt
+map_holds view P Q f (row ∷ rows) all = (f row all.0, map_holds view P Q f rows all.1)
 
-pub map_holds : {R V : Type 0} (view : R → V) (Q : V → Type 0) (rows : List R) → AllByRecursion (λ r. Q (view r)) rows → AllByRecursion Q (map view rows)
-map_holds view Q [] all = tt
-map_holds view Q (row ∷ rows) all = (all.0, map_holds view Q rows all.1)
+pub AllByRecursion-weaker : {R : Type 0} (P Q : R → Type 0) → ((r : R) → P r → Q r) → (rows : List R) → AllByRecursion P rows → AllByRecursion Q rows
+AllByRecursion-weaker P Q f [] all = tt
+AllByRecursion-weaker P Q f (row ∷ rows) all = (f row all.0, AllByRecursion-weaker P Q f rows all.1)
+
+-- rows of the code, as rows of the definitions
+pub stand_from : {R V : Type 0} (view : R → V) (fits : R → Type 0) (F : V → Type 0) (s : V → List ℕ) → ((r : R) → fits r → F (view r)) → (rows : List R) (bytes rest : List ℕ)
+    → AreRows fits (λ r. s (view r)) rows bytes rest → Stand F s (length rows) bytes rest
+stand_from view fits F s f rows bytes rest are = record {
+  rows = map view rows;
+  number = length-map rows view;
+  fit = map_holds view fits F f rows are.fit;
+  spelled = are.spelled ∙ ap (λ (l : List ℕ). l ++ rest) (sym (flat_map-map view s rows));
+}
+
+pub stop_from : {R V : Type 0} (view : R → V) (fits : R → Type 0) (F : V → Type 0) (s : V → List ℕ) → ((r : R) → fits r → F (view r)) → (count k : ℕ) (bytes : List ℕ)
+    → Stops fits (λ r. s (view r)) (Begins F s) count k bytes → Stop F s count k bytes
+stop_from view fits F s f count k bytes stops = record {
+  rest = stops.rest;
+  before = subst (λ (n : ℕ). Stand F s n bytes stops.rest) stops.number (stand_from view fits F s f stops.rows bytes stops.rest stops.before);
+  fewer = stops.fewer;
+  none = λ value rest fit parts. stops.none (value, rest, fit, parts);
+}

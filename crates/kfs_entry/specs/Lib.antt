@@ -2,3 +2,4 @@ pub mod Views
 pub mod Reading
 pub mod RowList
 pub mod Answers
+pub mod Headers

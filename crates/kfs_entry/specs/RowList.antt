@@ -1,5 +1,5 @@
 -- Rows one after another, as the code holds them.
-use Rattle.std.specs.Prelude.{◌≡◌, ℕ, ◌<◌, List, ◌++◌, length, Result, Ok, Err}
+use Rattle.std.specs.Prelude.{◌≡◌, ℕ, ◌<◌, List, ◌++◌, length}
 use Rattle.std.specs.List.{flat_map, AllByRecursion}
 use Rattle.kfs_entry.specs.declared.fault.SpellFault.{SpellFault}
 use Rattle.kfs_entry.specs.declared.fault.SpellFault.TheVariants as faults
@@ -21,28 +21,25 @@ pub record Stops {R : Type 0} (fits : R → Type 0) (spelling : R → List ℕ) 
   pub none : begins rest → ⊥
 
 -- where a row is missing, the rows stop there
-abbrev pub Fails : {R X : Type 0} → (R → Type 0) → (R → List ℕ) → (List ℕ → Type 0) → ℕ → List ℕ → Result X RowsFault → Type 0
-Fails fits spelling begins count bytes (Ok x) = Unit {0}
-Fails fits spelling begins count bytes (Err (BadRow k)) = Stops fits spelling begins count k bytes
-Fails fits spelling begins count bytes (Err OutOfMemory) = Unit {0}
+abbrev pub RowMissing : {R : Type 0} → (R → Type 0) → (R → List ℕ) → (List ℕ → Type 0) → ℕ → List ℕ → RowsFault → Type 0
+RowMissing fits spelling begins count bytes (BadRow k) = Stops fits spelling begins count k bytes
+RowMissing fits spelling begins count bytes OutOfMemory = Unit {0}
 
--- what a log answers where an entry is missing
-abbrev pub EntriesFail : {R X : Type 0} → (R → Type 0) → (R → List ℕ) → (List ℕ → Type 0) → ℕ → List ℕ → Result X SpellFault → Type 0
-EntriesFail fits spelling begins count bytes (Ok x) = Unit {0}
-EntriesFail fits spelling begins count bytes (Err (faults.BadEntry k)) = Stops fits spelling begins count k bytes
-EntriesFail fits spelling begins count bytes (Err faults.OutOfMemory) = Unit {0}
-EntriesFail fits spelling begins count bytes (Err faults.BadHeader) = ⊥
-EntriesFail fits spelling begins count bytes (Err faults.Trailing) = ⊥
-EntriesFail fits spelling begins count bytes (Err (faults.BadRow part k)) = ⊥
+-- the same as the fault of a log
+abbrev pub EntryMissing : {R : Type 0} → (R → Type 0) → (R → List ℕ) → (List ℕ → Type 0) → ℕ → List ℕ → SpellFault → Type 0
+EntryMissing fits spelling begins count bytes (faults.BadEntry k) = Stops fits spelling begins count k bytes
+EntryMissing fits spelling begins count bytes faults.OutOfMemory = Unit {0}
+EntryMissing fits spelling begins count bytes faults.BadHeader = ⊥
+EntryMissing fits spelling begins count bytes faults.Trailing = ⊥
+EntryMissing fits spelling begins count bytes (faults.BadRow part k) = ⊥
 
--- what a plan answers where a row of this part is missing
-abbrev pub PartFails : {R X : Type 0} → (R → Type 0) → (R → List ℕ) → (List ℕ → Type 0) → ℕ → ℕ → List ℕ → Result X SpellFault → Type 0
-PartFails fits spelling begins count number bytes (Ok x) = Unit {0}
-PartFails fits spelling begins count number bytes (Err (faults.BadRow part k)) = (part ≡ number) × Stops fits spelling begins count k bytes
-PartFails fits spelling begins count number bytes (Err faults.OutOfMemory) = Unit {0}
-PartFails fits spelling begins count number bytes (Err faults.BadHeader) = ⊥
-PartFails fits spelling begins count number bytes (Err faults.Trailing) = ⊥
-PartFails fits spelling begins count number bytes (Err (faults.BadEntry k)) = ⊥
+-- the same as the fault of this part of a plan
+abbrev pub PartRowMissing : {R : Type 0} → (R → Type 0) → (R → List ℕ) → (List ℕ → Type 0) → ℕ → ℕ → List ℕ → SpellFault → Type 0
+PartRowMissing fits spelling begins count number bytes (faults.BadRow part k) = (part ≡ number) × Stops fits spelling begins count k bytes
+PartRowMissing fits spelling begins count number bytes faults.OutOfMemory = Unit {0}
+PartRowMissing fits spelling begins count number bytes faults.BadHeader = ⊥
+PartRowMissing fits spelling begins count number bytes faults.Trailing = ⊥
+PartRowMissing fits spelling begins count number bytes (faults.BadEntry k) = ⊥
 
 -- the bytes begin with the spelling of a value that fits
 abbrev pub Begins : {V : Type 0} → (V → Type 0) → (V → List ℕ) → List ℕ → Type 0

@@ -1,15 +1,15 @@
 //! Logs and plans from bytes.
-ghost use Rattle.std.specs.Prelude.{◌≡◌, ◌≤◌, Result, length, drop, IfOk};
-ghost use Rattle.kfs_model.specs.Entry.{Log};
-ghost use Rattle.kfs_model.specs.PlanRow.{Plan};
+ghost use Rattle.std.specs.Prelude.{◌≡◌, ◌≤◌, Result, length, drop, IfOk, IfErr};
+ghost use Rattle.kfs_model.specs.Entry.{Log as LogValue};
+ghost use Rattle.kfs_model.specs.PlanRow.{Plan as PlanValue};
 ghost use Rattle.kfs_model.specs.Spelling.{SpellingFault, LogAnswer, PlanAnswer};
-ghost use Rattle.kfs_entry.specs.RowList.{AreRows, EntriesFail, PartFails};
+ghost use Rattle.kfs_entry.specs.RowList.{AreRows, EntryMissing, PartRowMissing};
 ghost use Rattle.kfs_entry.specs.Answers.{Answered, log_of, plan_of, SpansAreWithin};
 
 use crate::codec::headers;
 use crate::entry::{Entry, Log, Span};
 use crate::fault::SpellFault;
-use crate::plan::Plan;
+use crate::plan::{NameRow, NodeRow, Piece, Plan};
 use crate::row::{Row, RowsFault, read_rows};
 use crate::rows::Rows;
 use std::alloc::Allocator;
@@ -24,7 +24,7 @@ fn entries<R: Row, A: Allocator>(
     requires { at ≤ length source.now }
     ensures found { IfOk result (λ x. (x.1 ≤ length source.now) × (length x.0.items ≡ count)
         × AreRows (R.fits source.now) (R.spelling source.now) x.0.items (drop at source.now) (drop x.1 source.now)) }
-    ensures fails { EntriesFail (R.fits source.now) (R.spelling source.now) R.begins count (drop at source.now) result }
+    ensures missing { IfErr result (EntryMissing (R.fits source.now) (R.spelling source.now) R.begins count (drop at source.now)) }
 {
     match read_rows(alloc, source, at, u32::from(count)) {
         Ok(read) => Ok(read),
@@ -44,7 +44,7 @@ fn part<R: Row, A: Allocator>(
     requires { at ≤ length source.now }
     ensures found { IfOk result (λ x. (x.1 ≤ length source.now) × (length x.0.items ≡ count)
         × AreRows (R.fits source.now) (R.spelling source.now) x.0.items (drop at source.now) (drop x.1 source.now)) }
-    ensures fails { PartFails (R.fits source.now) (R.spelling source.now) R.begins count number (drop at source.now) result }
+    ensures missing { IfErr result (PartRowMissing (R.fits source.now) (R.spelling source.now) R.begins count number (drop at source.now)) }
 {
     match read_rows(alloc, source, at, count) {
         Ok(read) => Ok(read),
@@ -53,9 +53,11 @@ fn part<R: Row, A: Allocator>(
     }
 }
 
-/// The log that the source spells. A refusal says where the bytes leave the grammar of logs, and
-/// keeps nothing. No payload byte is touched: the entries hold spans of the source.
-pub fn decode_log<A: Allocator>(alloc: A, source: &[u8]) -> Result<Log<A>, SpellFault> {
+/// The log that the source spells, or the place where it leaves the grammar.
+fn log_in<A: Allocator>(alloc: A, source: &[u8]) -> Result<Log<A>, SpellFault>
+    ensures found { Answered (log_of source.now) (LogAnswer source.now) result }
+    ensures spans { IfOk result (SpansAreWithin (length source.now)) }
+{
     let Some((header, at)) = headers::read_log(source) else {
         return Err(SpellFault::BadHeader);
     };
@@ -69,15 +71,30 @@ pub fn decode_log<A: Allocator>(alloc: A, source: &[u8]) -> Result<Log<A>, Spell
     })
 }
 
-/// The plan that the source spells. A refusal says where the bytes leave the grammar of plans, and
-/// keeps nothing.
-pub fn decode_plan<A: Allocator + Clone>(alloc: A, source: &[u8]) -> Result<Plan<A>, SpellFault> {
+/// The log that the source spells. A refusal says where the bytes leave the grammar of logs, and
+/// keeps nothing. No payload byte is touched: the entries hold spans of the source.
+pub fn decode_log<A: Allocator>(alloc: A, source: &[u8]) -> Result<Log<A>, SpellFault>
+    // What is answered is so.
+    ensures found { Answered (log_of source.now) (LogAnswer source.now) result }
+    // What is so is answered, unless memory runs out.
+    ensures only { (answer : Result LogValue SpellingFault) → LogAnswer source.now answer → Answered (log_of source.now) (λ given. given ≡ answer) result }
+    ensures spans { IfOk result (SpansAreWithin (length source.now)) }
+{
+    log_in(alloc, source)
+}
+
+/// The plan that the source spells, or the place where it leaves the grammar.
+fn plan_in<A: Allocator + Clone>(alloc: A, source: &[u8]) -> Result<Plan<A>, SpellFault>
+    ensures { Answered plan_of (PlanAnswer source.now) result }
+{
     let Some((counts, at)) = headers::read_plan(source) else {
         return Err(SpellFault::BadHeader);
     };
-    let (names, at) = part(alloc.clone()?, source, at, u32::from(counts.names), 0)?;
-    let (nodes, at) = part(alloc.clone()?, source, at, u32::from(counts.nodes), 1)?;
-    let (pieces, end) = part(alloc, source, at, counts.pieces, 2)?;
+    let first = alloc.clone()?;
+    let second = alloc.clone()?;
+    let (names, at) = part::<NameRow, A>(first, source, at, u32::from(counts.names), 0)?;
+    let (nodes, at) = part::<NodeRow, A>(second, source, at, u32::from(counts.nodes), 1)?;
+    let (pieces, end) = part::<Piece, A>(alloc, source, at, counts.pieces, 2)?;
     if end < source.len() {
         return Err(SpellFault::Trailing);
     }
@@ -86,4 +103,15 @@ pub fn decode_plan<A: Allocator + Clone>(alloc: A, source: &[u8]) -> Result<Plan
         nodes: Rows::from_vec(nodes),
         pieces: Rows::from_vec(pieces),
     })
+}
+
+/// The plan that the source spells. A refusal says where the bytes leave the grammar of plans, and
+/// keeps nothing.
+pub fn decode_plan<A: Allocator + Clone>(alloc: A, source: &[u8]) -> Result<Plan<A>, SpellFault>
+    // What is answered is so.
+    ensures found { Answered plan_of (PlanAnswer source.now) result }
+    // What is so is answered, unless memory runs out.
+    ensures only { (answer : Result PlanValue SpellingFault) → PlanAnswer source.now answer → Answered plan_of (λ given. given ≡ answer) result }
+{
+    plan_in(alloc, source)
 }

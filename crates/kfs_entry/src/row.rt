@@ -1,7 +1,7 @@
 //! Rows of a format, one after another.
-ghost use Rattle.std.specs.Prelude.{◌≡◌, ℕ, ◌<◌, ◌≤◌, List, ◌++◌, length, drop, IfSome, IfNone, IfOk, OnOk, All};
+ghost use Rattle.std.specs.Prelude.{◌≡◌, ℕ, ◌<◌, ◌≤◌, List, ◌++◌, length, drop, IfSome, IfNone, IfOk, IfErr, OnOk, All};
 ghost use Rattle.std.specs.List.{flat_map};
-ghost use Rattle.kfs_entry.specs.RowList.{AreRows, Fails};
+ghost use Rattle.kfs_entry.specs.RowList.{AreRows, RowMissing};
 
 use std::alloc::{AllocError, AllocFailed, Allocator};
 
@@ -80,7 +80,7 @@ pub fn read_rows<R: Row, A: Allocator>(
     requires { at ≤ length source.now }
     ensures found { IfOk result (λ x. (x.1 ≤ length source.now) × (length x.0.items ≡ count)
         × AreRows (R.fits source.now) (R.spelling source.now) x.0.items (drop at source.now) (drop x.1 source.now)) }
-    ensures fails { Fails (R.fits source.now) (R.spelling source.now) R.begins count (drop at source.now) result }
+    ensures missing { IfErr result (RowMissing (R.fits source.now) (R.spelling source.now) R.begins count (drop at source.now)) }
 {
     let mut rows = Vec::new(alloc);
     let mut end = at;

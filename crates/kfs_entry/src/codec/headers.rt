@@ -1,6 +1,7 @@
 //! What stands before the rows of a log and of a plan.
-ghost use Rattle.std.specs.Prelude.{◌≡◌, ◌≤◌, List, ◌∷◌, [], ◌++◌, length, drop, None, Some, IfSome, OnOk, MatchOption};
-ghost use Rattle.kfs_model.specs.Spelling.{LogHeader, Counts, log_header, plan_header};
+ghost use Rattle.std.specs.Prelude.{◌≡◌, ◌≤◌, ◌++◌, length, drop, None, Some, IfSome, IfNone, OnOk, MatchOption};
+ghost use Rattle.kfs_model.specs.Spelling.{BeginsWithNo, IsLogHeader, log_header, AreCounts, plan_header};
+ghost use Rattle.kfs_entry.specs.Headers.{log_header_of, counts_of};
 ghost use Rattle.kfs_entry.specs.Reading.{seen, mark_read, count_read, log_header_read, plan_header_read};
 
 use crate::codec::{number16, number32};
@@ -61,10 +62,9 @@ fn read_count(source: &[u8], at: usize) -> Option<(u16, usize)>
     Some((count, at))
 }
 
-/// The header of a log, and the place after it.
 #[tactic(auto, unfolding(crate::specs::Reading::log_header_read))]
-pub fn read_log(source: &[u8]) -> Option<(LogCounts, usize)>
-    ensures value { seen (λ h. record { client = h.client; count = h.entries }) source.now result ≡ log_header_read source.now }
+fn log_counts(source: &[u8]) -> Option<(LogCounts, usize)>
+    ensures value { seen log_header_of source.now result ≡ log_header_read (drop 0 source.now) }
     ensures within { IfSome result (λ x. x.1 ≤ length source.now) }
 {
     let at = read_mark(source, 0, LOG_MARK)?;
@@ -73,10 +73,9 @@ pub fn read_log(source: &[u8]) -> Option<(LogCounts, usize)>
     Some((LogCounts { client, entries }, at))
 }
 
-/// The header of a plan, and the place after it.
 #[tactic(auto, unfolding(crate::specs::Reading::plan_header_read))]
-pub fn read_plan(source: &[u8]) -> Option<(PlanCounts, usize)>
-    ensures value { seen (λ c. record { names = c.names; nodes = c.nodes; pieces = c.pieces }) source.now result ≡ plan_header_read source.now }
+fn plan_counts(source: &[u8]) -> Option<(PlanCounts, usize)>
+    ensures value { seen counts_of source.now result ≡ plan_header_read (drop 0 source.now) }
     ensures within { IfSome result (λ x. x.1 ≤ length source.now) }
 {
     let at = read_mark(source, 0, PLAN_MARK)?;
@@ -91,8 +90,26 @@ pub fn read_plan(source: &[u8]) -> Option<(PlanCounts, usize)>
     Some((counts, at))
 }
 
+/// The header that a log begins with, and the place after it.
+pub fn read_log(source: &[u8]) -> Option<(LogCounts, usize)>
+    ensures found { IfSome result (λ x. (x.1 ≤ length source.now) × IsLogHeader (log_header_of x.0)
+        × (source.now ≡ log_header (log_header_of x.0) ++ drop x.1 source.now)) }
+    ensures none { IfNone result (BeginsWithNo IsLogHeader log_header source.now) }
+{
+    log_counts(source)
+}
+
+/// The header that a plan begins with, and the place after it.
+pub fn read_plan(source: &[u8]) -> Option<(PlanCounts, usize)>
+    ensures found { IfSome result (λ x. (x.1 ≤ length source.now) × AreCounts (counts_of x.0)
+        × (source.now ≡ plan_header (counts_of x.0) ++ drop x.1 source.now)) }
+    ensures none { IfNone result (BeginsWithNo AreCounts plan_header source.now) }
+{
+    plan_counts(source)
+}
+
 pub fn write_log<A: Allocator>(out: &mut Vec<u8, A>, header: LogCounts) -> Result<(), AllocError>
-    ensures { OnOk result (out.new.items ≡ out.old.items ++ log_header (record { client = header.client; count = header.entries })) }
+    ensures { OnOk result (out.new.items ≡ out.old.items ++ log_header (log_header_of header)) }
 {
     out.extend_from_slice(LOG_MARK)?;
     number32::write(out, &[], &header.client)?;
@@ -100,7 +117,7 @@ pub fn write_log<A: Allocator>(out: &mut Vec<u8, A>, header: LogCounts) -> Resul
 }
 
 pub fn write_plan<A: Allocator>(out: &mut Vec<u8, A>, counts: PlanCounts) -> Result<(), AllocError>
-    ensures { OnOk result (out.new.items ≡ out.old.items ++ plan_header (record { names = counts.names; nodes = counts.nodes; pieces = counts.pieces })) }
+    ensures { OnOk result (out.new.items ≡ out.old.items ++ plan_header (counts_of counts)) }
 {
     out.extend_from_slice(PLAN_MARK)?;
     number16::write(out, &[], &counts.names)?;

@@ -1,0 +1,58 @@
+-- A log that was decoded, and why one was not, as the definitions say it.
+use Rattle.std.proofs.Common.{◌≡◌, ◌≢◌, ℕ, ◌<◌, ◌≤◌, List, [], ◌∷◌, ◌++◌, length, drop, map, Result, Ok, Err, refl, sym, ap, subst, ◌∙◌, append_assoc, arith}
+use Rattle.std.specs.List.{flat_map, AllByRecursion}
+use Rattle.std.proofs.lemmas.List.{append-nil, drop_all, length-drop, length-map}
+use Rattle.kfs_model.specs.Entry.{Entry, Log}
+use Rattle.kfs_model.specs.Spelling.{LogHeader, IsLogHeader, log_header, IsEntry, entry_bytes, IsLog, log_bytes, header_of, LogAnswer, SpellingFault, Stop}
+use Rattle.kfs_entry.specs.declared.entry.Entry.{Entry as CodeEntry}
+use Rattle.kfs_entry.specs.declared.entry.Span.{Span}
+use Rattle.kfs_entry.specs.declared.entry.Log.{Log as CodeLog}
+use Rattle.kfs_entry.specs.declared.fault.SpellFault.{SpellFault}
+use Rattle.kfs_entry.specs.declared.fault.SpellFault.TheVariants as faults
+use Rattle.kfs_entry.specs.Views.{entry_of, IsWithin}
+use Rattle.kfs_entry.specs.RowList.{AreRows, Stops, Begins, EntryMissing}
+use Rattle.kfs_entry.specs.Answers.{Refused}
+use Rattle.kfs_entry.proofs.RowLaws.{map_holds, AllByRecursion-weaker, flat_map-map, stop_from}
+
+-- what is known of the entries that were read
+abbrev pub Fit : List ℕ → CodeEntry Span → Type 0
+Fit source e = IsWithin (length source) e × IsEntry (entry_of source e)
+
+abbrev pub spelled : List ℕ → CodeEntry Span → List ℕ
+spelled source e = entry_bytes (entry_of source e)
+
+-- the log of a header and the entries behind it
+abbrev pub log_from : LogHeader → List ℕ → List (CodeEntry Span) → Log
+log_from h source entries = record { client = h.client; entries = map (entry_of source) entries }
+
+pub log_is_spelled : (source : List ℕ) (h : LogHeader) (at end : ℕ) (entries : List (CodeEntry Span)) → IsLogHeader h → source ≡ log_header h ++ drop at source
+    → length entries ≡ h.count → AreRows (Fit source) (spelled source) entries (drop at source) (drop end source)
+    → IsLog (log_from h source entries) × (source ≡ log_bytes (log_from h source entries) ++ drop end source)
+log_is_spelled source h at end entries fits front number are =
+    let l = log_from h source entries in
+    let count : length l.entries ≡ h.count = length-map entries (entry_of source) ∙ number in
+    let same : header_of l ≡ h = ap (λ (n : ℕ). record { client = h.client; count = n }) count in
+    let body : drop at source ≡ flat_map entry_bytes l.entries ++ drop end source = are.spelled ∙ ap (λ (b : List ℕ). b ++ drop end source) (sym (flat_map-map (entry_of source) entry_bytes entries)) in
+    let whole : source ≡ log_header h ++ (flat_map entry_bytes l.entries ++ drop end source) = front ∙ ap (λ (b : List ℕ). log_header h ++ b) body in
+    let joined : source ≡ log_header h ++ flat_map entry_bytes l.entries ++ drop end source = whole ∙ sym (append_assoc (log_header h) (flat_map entry_bytes l.entries) (drop end source)) in
+    ((subst IsLogHeader (sym same) fits, map_holds (entry_of source) (Fit source) IsEntry (λ e f. f.1) entries are.fit),
+     joined ∙ ap (λ (g : LogHeader). log_header g ++ flat_map entry_bytes l.entries ++ drop end source) (sym same))
+
+pub spans_are_within : (source : List ℕ) (entries : List (CodeEntry Span)) (bytes rest : List ℕ) → AreRows (Fit source) (spelled source) entries bytes rest → AllByRecursion (IsWithin (length source)) entries
+spans_are_within source entries bytes rest are = AllByRecursion-weaker (Fit source) (IsWithin (length source)) (λ e f. f.0) entries are.fit
+
+-- nothing follows where the end is reached
+pub no_rest : (source spelling : List ℕ) (end : ℕ) → length source ≤ end → source ≡ spelling ++ drop end source → source ≡ spelling
+no_rest source spelling end le parts = parts ∙ ap (λ (b : List ℕ). spelling ++ b) (drop_all end source le) ∙ append-nil spelling
+
+pub some_rest : (source : List ℕ) (end : ℕ) → end < length source → drop end source ≢ []
+some_rest source end lt none = let zero : length (drop end source) ≡ 0 = ap length none in omega (arith, length-drop end source, zero)
+
+pub entry_is_missing : (source : List ℕ) (h : LogHeader) (at : ℕ) (fault : SpellFault) → IsLogHeader h → source ≡ log_header h ++ drop at source
+    → EntryMissing (Fit source) (spelled source) (Begins IsEntry entry_bytes) h.count (drop at source) fault → Refused (LogAnswer source) fault
+entry_is_missing source h at (faults.BadEntry k) fits front stops =
+    (h, drop at source, fits, front, stop_from (entry_of source) (Fit source) IsEntry entry_bytes (λ e f. f.1) h.count k (drop at source) stops)
+entry_is_missing source h at faults.OutOfMemory fits front stops = tt
+entry_is_missing source h at faults.BadHeader fits front stops = absurd stops
+entry_is_missing source h at faults.Trailing fits front stops = absurd stops
+entry_is_missing source h at (faults.BadRow part k) fits front stops = absurd stops

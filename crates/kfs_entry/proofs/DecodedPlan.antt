@@ -1,0 +1,39 @@
+-- A plan that was decoded, and why one was not, as the definitions say it.
+use Rattle.std.proofs.Common.{◌≡◌, ◌≢◌, ℕ, suc, ◌<◌, ◌≤◌, List, [], ◌∷◌, ◌++◌, length, drop, map, Result, Ok, Err, refl, sym, ap, subst, ◌∙◌, append_assoc, arith}
+use Rattle.std.specs.List.{flat_map}
+use Rattle.kfs_model.specs.PlanRow.{NameRow, NodeRow, Piece, Plan}
+use Rattle.kfs_model.specs.Spelling.{Stand, Stop, Counts, AreCounts, plan_header, counts_of, name_row_bytes, IsNameRow, node_row_bytes, IsNodeRow, piece_bytes, IsPiece, IsPlan, plan_bytes, PartStops, PlanAnswer}
+use Rattle.kfs_entry.specs.declared.fault.SpellFault.{SpellFault}
+use Rattle.kfs_entry.specs.declared.fault.SpellFault.TheVariants as faults
+use Rattle.kfs_entry.specs.RowList.{Stops, Begins, PartRowMissing}
+use Rattle.kfs_entry.specs.Answers.{Refused}
+use Rattle.kfs_entry.proofs.RowLaws.{stop_from}
+
+-- a part of a plan whose row is missing: what stands before it makes the answer
+pub part_is_missing : {R V : Type 0} (view : R → V) (F : V → Type 0) (s : V → List ℕ) (source bytes : List ℕ) (c : Counts) (rows : List ℕ) (number count : ℕ) (fault : SpellFault)
+    → AreCounts c → source ≡ plan_header c ++ rows → ((k : ℕ) → Stop F s count k bytes → PartStops c number k rows)
+    → PartRowMissing (λ r. F (view r)) (λ r. s (view r)) (Begins F s) count number bytes fault → Refused (PlanAnswer source) fault
+part_is_missing view F s source bytes c rows number count (faults.BadRow part k) fits front stops missing =
+    let stop : Stop F s count k bytes = stop_from view (λ r. F (view r)) F s (λ r f. f) count k bytes missing.1 in
+    (c, rows, fits, front, subst (λ (n : ℕ). PartStops c n k rows) (sym missing.0) (stops k stop))
+part_is_missing view F s source bytes c rows number count faults.OutOfMemory fits front stops missing = tt
+part_is_missing view F s source bytes c rows number count faults.BadHeader fits front stops missing = absurd missing
+part_is_missing view F s source bytes c rows number count faults.Trailing fits front stops missing = absurd missing
+part_is_missing view F s source bytes c rows number count (faults.BadEntry k) fits front stops missing = absurd missing
+
+-- three parts that stand are a plan
+pub plan_is_spelled : (source a b d rest : List ℕ) (c : Counts) → AreCounts c → source ≡ plan_header c ++ a
+    → (names : Stand IsNameRow name_row_bytes c.names a b) (nodes : Stand IsNodeRow node_row_bytes c.nodes b d) (pieces : Stand IsPiece piece_bytes c.pieces d rest)
+    → let p : Plan = record { names = names.rows; nodes = nodes.rows; pieces = pieces.rows } in IsPlan p × (source ≡ plan_bytes p ++ rest)
+plan_is_spelled source a b d rest c fits front names nodes pieces =
+    let p : Plan = record { names = names.rows; nodes = nodes.rows; pieces = pieces.rows } in
+    let same : counts_of p ≡ c = ap (λ (n : ℕ × ℕ × ℕ). record { names = n.0; nodes = n.1; pieces = n.2 }) (let e : (length names.rows, length nodes.rows, length pieces.rows) ≡ (c.names, c.nodes, c.pieces) = rw (names.number, nodes.number, pieces.number) refl in e) in
+    let n = flat_map name_row_bytes names.rows in
+    let m = flat_map node_row_bytes nodes.rows in
+    let q = flat_map piece_bytes pieces.rows in
+    let whole : source ≡ plan_header c ++ (n ++ (m ++ (q ++ rest))) =
+      front ∙ ap (λ (l : List ℕ). plan_header c ++ l) (names.spelled ∙ ap (λ (l : List ℕ). n ++ l) (nodes.spelled ∙ ap (λ (l : List ℕ). m ++ l) pieces.spelled)) in
+    let joined : plan_header c ++ n ++ m ++ q ++ rest ≡ plan_header c ++ (n ++ (m ++ (q ++ rest))) =
+      append_assoc (plan_header c ++ n ++ m) q rest ∙ append_assoc (plan_header c ++ n) m (q ++ rest) ∙ append_assoc (plan_header c) n (m ++ (q ++ rest)) in
+    ((subst AreCounts (sym same) fits, names.fit, nodes.fit, pieces.fit),
+     whole ∙ sym joined ∙ ap (λ (h : Counts). plan_header h ++ n ++ m ++ q ++ rest) (sym same))

@@ -1,0 +1,15 @@
+use Rattle.std.proofs.Common.{◌≤◌, length, arith}
+use Rattle.kfs_model.specs.Spelling.{AreCounts, plan_header}
+use Rattle.kfs_entry.specs.Headers.{counts_of}
+use Rattle.kfs_entry.proofs.HeaderLaws.{plan_header_field}
+use Rattle.kfs_entry.proofs.Found.{is_found, is_none, IfNone-weaker, begins_with_no}
+use Rattle.kfs_entry.proofs.codec.headers.read_plan.Goals as goal
+
+pub returns-clause-found : goal.returns-clause-found
+returns-clause-found c =
+    is_found counts_of (λ x. x.1 ≤ length c.args.source.now) plan_header_field c.args.source.now 0 c.plan_counts.result (λ i. omega (arith, c.type_inv.source i)) c.plan_counts.ensures.value c.plan_counts.ensures.within
+
+pub returns-clause-none : goal.returns-clause-none
+returns-clause-none c =
+    let source = c.args.source.now in
+    IfNone-weaker (begins_with_no AreCounts plan_header source) c.plan_counts.result (is_none counts_of plan_header_field source source c.plan_counts.result c.plan_counts.ensures.value)

@@ -1,0 +1,11 @@
+use Rattle.std.proofs.Common.{◌≡◌, arith}
+use Rattle.kfs_model.specs.Spelling.{LogAnswer}
+use Rattle.kfs_entry.specs.Answers.{log_of}
+use Rattle.kfs_entry.proofs.RowsRead.{Answered-weaker}
+use Rattle.kfs_entry.proofs.OneLogAnswer.{one_log_answer}
+use Rattle.kfs_entry.proofs.decoding.decode_log.Goals as goal
+
+pub returns-clause-only : goal.returns-clause-only
+returns-clause-only g c = λ answer is.
+    let source = c.args.source.now in
+    Answered-weaker (log_of source) (LogAnswer source) (λ given. given ≡ answer) (λ given found. one_log_answer source (λ i. omega (arith, c.type_inv.source i)) given answer found is) c.log_in.result c.log_in.ensures.found
