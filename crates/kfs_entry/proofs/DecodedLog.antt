@@ -1,16 +1,15 @@
 -- A log that was decoded, and why one was not, as the definitions say it.
-use Rattle.std.proofs.Common.{◌≡◌, ◌≢◌, ℕ, ◌<◌, ◌≤◌, List, [], ◌∷◌, ◌++◌, length, drop, map, Result, Ok, Err, refl, sym, ap, subst, ◌∙◌, append_assoc, arith}
+use Rattle.std.proofs.Common.{◌≡◌, ◌≢◌, ℕ, ◌<◌, ◌≤◌, List, [], ◌++◌, length, drop, map, sym, ap, subst, ◌∙◌, append_assoc, arith}
 use Rattle.std.specs.List.{flat_map, AllByRecursion}
 use Rattle.std.proofs.lemmas.List.{append-nil, drop_all, length-drop, length-map}
-use Rattle.kfs_model.specs.Entry.{Entry, Log}
-use Rattle.kfs_model.specs.Spelling.{LogHeader, IsLogHeader, log_header, IsEntry, entry_bytes, IsLog, log_bytes, header_of, LogAnswer, SpellingFault, Stop}
+use Rattle.kfs_model.specs.Entry.{Log}
+use Rattle.kfs_model.specs.Spelling.{LogHeader, IsLogHeader, log_header, IsEntry, entry_bytes, IsLog, log_bytes, header_of, LogAnswer}
 use Rattle.kfs_entry.specs.declared.entry.Entry.{Entry as CodeEntry}
 use Rattle.kfs_entry.specs.declared.entry.Span.{Span}
-use Rattle.kfs_entry.specs.declared.entry.Log.{Log as CodeLog}
 use Rattle.kfs_entry.specs.declared.fault.SpellFault.{SpellFault}
 use Rattle.kfs_entry.specs.declared.fault.SpellFault.TheVariants as faults
 use Rattle.kfs_entry.specs.Views.{entry_of, IsWithin}
-use Rattle.kfs_entry.specs.RowList.{AreRows, Stops, Begins, EntryMissing}
+use Rattle.kfs_entry.specs.RowList.{AreRows, Begins, EntryMissing}
 use Rattle.kfs_entry.specs.Answers.{Refused}
 use Rattle.kfs_entry.proofs.RowLaws.{map_holds, AllByRecursion-weaker, flat_map-map, stop_from}
 
@@ -34,9 +33,10 @@ log_is_spelled source h at end entries fits front number are =
     let same : header_of l ≡ h = ap (λ (n : ℕ). record { client = h.client; count = n }) count in
     let body : drop at source ≡ flat_map entry_bytes l.entries ++ drop end source = are.spelled ∙ ap (λ (b : List ℕ). b ++ drop end source) (sym (flat_map-map (entry_of source) entry_bytes entries)) in
     let whole : source ≡ log_header h ++ (flat_map entry_bytes l.entries ++ drop end source) = front ∙ ap (λ (b : List ℕ). log_header h ++ b) body in
-    let joined : source ≡ log_header h ++ flat_map entry_bytes l.entries ++ drop end source = whole ∙ sym (append_assoc (log_header h) (flat_map entry_bytes l.entries) (drop end source)) in
-    ((subst IsLogHeader (sym same) fits, map_holds (entry_of source) (Fit source) IsEntry (λ e f. f.1) entries are.fit),
-     joined ∙ ap (λ (g : LogHeader). log_header g ++ flat_map entry_bytes l.entries ++ drop end source) (sym same))
+    let joined : source ≡ log_header h ++ flat_map entry_bytes l.entries ++ drop end source = whole ∙ sym (append_assoc (log_header h) (flat_map entry_bytes l.entries) (drop end source)) in (
+      (subst IsLogHeader (sym same) fits, map_holds (entry_of source) (Fit source) IsEntry (λ e f. f.1) entries are.fit),
+      joined ∙ ap (λ (g : LogHeader). log_header g ++ flat_map entry_bytes l.entries ++ drop end source) (sym same),
+    )
 
 pub spans_are_within : (source : List ℕ) (entries : List (CodeEntry Span)) (bytes rest : List ℕ) → AreRows (Fit source) (spelled source) entries bytes rest → AllByRecursion (IsWithin (length source)) entries
 spans_are_within source entries bytes rest are = AllByRecursion-weaker (Fit source) (IsWithin (length source)) (λ e f. f.0) entries are.fit

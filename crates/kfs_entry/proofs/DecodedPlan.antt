@@ -1,25 +1,36 @@
 -- A plan that was decoded, and why one was not, as the definitions say it.
-use Rattle.std.proofs.Common.{◌≡◌, ◌≢◌, ℕ, suc, ◌<◌, ◌≤◌, List, [], ◌∷◌, ◌++◌, length, drop, map, Result, Ok, Err, refl, sym, ap, subst, ◌∙◌, append_assoc, arith}
+use Rattle.std.proofs.Common.{◌≡◌, ℕ, List, ◌++◌, length, map, refl, sym, ap, subst, ◌∙◌, append_assoc}
 use Rattle.std.specs.List.{flat_map}
-use Rattle.kfs_model.specs.PlanRow.{NameRow, NodeRow, Piece, Plan}
+use Rattle.std.proofs.lemmas.List.{length-map}
+use Rattle.kfs_model.specs.PlanRow.{Plan}
 use Rattle.kfs_model.specs.Spelling.{Stand, Stop, Counts, AreCounts, plan_header, counts_of, name_row_bytes, IsNameRow, node_row_bytes, IsNodeRow, piece_bytes, IsPiece, IsPlan, plan_bytes, PartStops, PlanAnswer}
 use Rattle.kfs_entry.specs.declared.fault.SpellFault.{SpellFault}
 use Rattle.kfs_entry.specs.declared.fault.SpellFault.TheVariants as faults
-use Rattle.kfs_entry.specs.RowList.{Stops, Begins, PartRowMissing}
+use Rattle.kfs_entry.specs.RowList.{AreRows, Begins, PartRowMissing}
 use Rattle.kfs_entry.specs.Answers.{Refused}
-use Rattle.kfs_entry.proofs.RowLaws.{stop_from}
+use Rattle.kfs_entry.proofs.RowLaws.{map_holds, flat_map-map, stop_from}
+
+-- the rows of a part that were read stand there
+abbrev pub part_stands : {R V : Type 0} (view : R → V) (F : V → Type 0) (s : V → List ℕ) (rows : List R) (count : ℕ) (bytes rest : List ℕ)
+    → length rows ≡ count → AreRows (λ r. F (view r)) (λ r. s (view r)) rows bytes rest → Stand F s count bytes rest
+part_stands view F s rows count bytes rest number are = record {
+  rows = map view rows;
+  number = length-map rows view ∙ number;
+  fit = map_holds view (λ r. F (view r)) F (λ r f. f) rows are.fit;
+  spelled = are.spelled ∙ ap (λ (l : List ℕ). l ++ rest) (sym (flat_map-map view s rows));
+}
 
 -- a part of a plan whose row is missing: what stands before it makes the answer
-pub part_is_missing : {R V : Type 0} (view : R → V) (F : V → Type 0) (s : V → List ℕ) (source bytes : List ℕ) (c : Counts) (rows : List ℕ) (number count : ℕ) (fault : SpellFault)
-    → AreCounts c → source ≡ plan_header c ++ rows → ((k : ℕ) → Stop F s count k bytes → PartStops c number k rows)
-    → PartRowMissing (λ r. F (view r)) (λ r. s (view r)) (Begins F s) count number bytes fault → Refused (PlanAnswer source) fault
-part_is_missing view F s source bytes c rows number count (faults.BadRow part k) fits front stops missing =
-    let stop : Stop F s count k bytes = stop_from view (λ r. F (view r)) F s (λ r f. f) count k bytes missing.1 in
+pub part_is_missing : {R V : Type 0} (view : R → V) (F : V → Type 0) (s : V → List ℕ) (source bytes : List ℕ) (c : Counts) (rows : List ℕ) (number given count : ℕ) (fault : SpellFault)
+    → given ≡ count → AreCounts c → source ≡ plan_header c ++ rows → ((k : ℕ) → Stop F s count k bytes → PartStops c number k rows)
+    → PartRowMissing (λ r. F (view r)) (λ r. s (view r)) (Begins F s) given number bytes fault → Refused (PlanAnswer source) fault
+part_is_missing view F s source bytes c rows number given count (faults.BadRow part k) same fits front stops missing =
+    let stop : Stop F s count k bytes = subst (λ (n : ℕ). Stop F s n k bytes) same (stop_from view (λ r. F (view r)) F s (λ r f. f) given k bytes missing.1) in
     (c, rows, fits, front, subst (λ (n : ℕ). PartStops c n k rows) (sym missing.0) (stops k stop))
-part_is_missing view F s source bytes c rows number count faults.OutOfMemory fits front stops missing = tt
-part_is_missing view F s source bytes c rows number count faults.BadHeader fits front stops missing = absurd missing
-part_is_missing view F s source bytes c rows number count faults.Trailing fits front stops missing = absurd missing
-part_is_missing view F s source bytes c rows number count (faults.BadEntry k) fits front stops missing = absurd missing
+part_is_missing view F s source bytes c rows number given count faults.OutOfMemory same fits front stops missing = tt
+part_is_missing view F s source bytes c rows number given count faults.BadHeader same fits front stops missing = absurd missing
+part_is_missing view F s source bytes c rows number given count faults.Trailing same fits front stops missing = absurd missing
+part_is_missing view F s source bytes c rows number given count (faults.BadEntry k) same fits front stops missing = absurd missing
 
 -- three parts that stand are a plan
 pub plan_is_spelled : (source a b d rest : List ℕ) (c : Counts) → AreCounts c → source ≡ plan_header c ++ a
@@ -32,8 +43,9 @@ plan_is_spelled source a b d rest c fits front names nodes pieces =
     let m = flat_map node_row_bytes nodes.rows in
     let q = flat_map piece_bytes pieces.rows in
     let whole : source ≡ plan_header c ++ (n ++ (m ++ (q ++ rest))) =
-      front ∙ ap (λ (l : List ℕ). plan_header c ++ l) (names.spelled ∙ ap (λ (l : List ℕ). n ++ l) (nodes.spelled ∙ ap (λ (l : List ℕ). m ++ l) pieces.spelled)) in
+    front ∙ ap (λ (l : List ℕ). plan_header c ++ l) (names.spelled ∙ ap (λ (l : List ℕ). n ++ l) (nodes.spelled ∙ ap (λ (l : List ℕ). m ++ l) pieces.spelled)) in
     let joined : plan_header c ++ n ++ m ++ q ++ rest ≡ plan_header c ++ (n ++ (m ++ (q ++ rest))) =
-      append_assoc (plan_header c ++ n ++ m) q rest ∙ append_assoc (plan_header c ++ n) m (q ++ rest) ∙ append_assoc (plan_header c) n (m ++ (q ++ rest)) in
-    ((subst AreCounts (sym same) fits, names.fit, nodes.fit, pieces.fit),
-     whole ∙ sym joined ∙ ap (λ (h : Counts). plan_header h ++ n ++ m ++ q ++ rest) (sym same))
+    append_assoc (plan_header c ++ n ++ m) q rest ∙ append_assoc (plan_header c ++ n) m (q ++ rest) ∙ append_assoc (plan_header c) n (m ++ (q ++ rest)) in (
+      (subst AreCounts (sym same) fits, names.fit, nodes.fit, pieces.fit),
+      whole ∙ sym joined ∙ ap (λ (h : Counts). plan_header h ++ n ++ m ++ q ++ rest) (sym same),
+    )

@@ -53,4 +53,3 @@ log_is_read bytes fits (Err (BadRow part k)) is = absurd is
 
 pub one_log_answer : (bytes : List ℕ) → IsBytes bytes → (a b : Result Log SpellingFault) → LogAnswer bytes a → LogAnswer bytes b → a ≡ b
 one_log_answer bytes fits a b is this = sym (log_is_read bytes fits a is) ∙ log_is_read bytes fits b this
-

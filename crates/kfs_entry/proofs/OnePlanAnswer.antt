@@ -1,9 +1,9 @@
 -- Bytes have one answer as a plan: what it must be is a function of the bytes.
-use Rattle.std.proofs.Common.{◌≡◌, ◌≢◌, ℕ, zero, suc, List, [], ◌∷◌, ◌++◌, length, Result, Ok, Err, refl, sym, ap, subst, ◌∙◌, append_assoc}
+use Rattle.std.proofs.Common.{◌≡◌, ◌≢◌, ℕ, zero, suc, List, [], ◌∷◌, ◌++◌, Result, Ok, Err, refl, sym, ap, subst, ◌∙◌, append_assoc}
 use Rattle.std.specs.List.{flat_map}
 use Rattle.std.proofs.lemmas.List.{append-nil}
 use Rattle.kfs_model.specs.PlanRow.{NameRow, NodeRow, Piece, Plan}
-use Rattle.kfs_model.specs.Spelling.{BeginsWithNo, Stand, Stop, Counts, AreCounts, plan_header, counts_of, name_row_bytes, IsNameRow, node_row_bytes, IsNodeRow, piece_bytes, IsPiece, IsPlan, plan_bytes, PartStops, PlanAnswer, SpellingFault, BadHeader, BadEntry, Trailing, BadRow}
+use Rattle.kfs_model.specs.Spelling.{BeginsWithNo, Stand, Counts, AreCounts, plan_header, counts_of, name_row_bytes, IsNameRow, node_row_bytes, IsNodeRow, piece_bytes, IsPiece, IsPlan, plan_bytes, PartStops, PlanAnswer, SpellingFault, BadHeader, BadEntry, Trailing, BadRow}
 use Rattle.kfs_entry.specs.Reading.{plan_header_read, name_row_read, node_row_read, piece_read}
 use Rattle.kfs_entry.proofs.Fields.{IsBytes}
 use Rattle.kfs_entry.proofs.PlanLaws.{name_row_field, node_row_field, piece_field}
@@ -74,8 +74,8 @@ whole_plan p more fits =
     let nodes = flat_map node_row_bytes p.nodes in
     let pieces = flat_map piece_bytes p.pieces in
     let regrouped : plan_bytes p ++ more ≡ plan_header (counts_of p) ++ (names ++ (nodes ++ (pieces ++ more))) =
-      append_assoc (plan_header (counts_of p) ++ names ++ nodes) pieces more ∙ append_assoc (plan_header (counts_of p) ++ names) nodes (pieces ++ more)
-      ∙ append_assoc (plan_header (counts_of p)) names (nodes ++ (pieces ++ more)) in
+    append_assoc (plan_header (counts_of p) ++ names ++ nodes) pieces more ∙ append_assoc (plan_header (counts_of p) ++ names) nodes (pieces ++ more)
+    ∙ append_assoc (plan_header (counts_of p)) names (nodes ++ (pieces ++ more)) in
     ap plan_reading regrouped
     ∙ behind_header (counts_of p) (names ++ (nodes ++ (pieces ++ more))) fits.0
     ∙ behind_names (counts_of p) (names ++ (nodes ++ (pieces ++ more))) (nodes ++ (pieces ++ more)) (record { rows = p.names; number = refl; fit = fits.1; spelled = refl })
