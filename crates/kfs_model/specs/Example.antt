@@ -5,6 +5,7 @@ pub mod AccessCases
 pub mod FileCases
 pub mod LeaseCases
 pub mod NameCases
+pub mod SpellingCases
 use Rattle.std.specs.Prelude.{◌≡◌, ℕ, Bool, true, false, List, [], ◌∷◌, ◌++◌, map, Option, Some, None, Result, Ok, Err}
 use Rattle.kfs_model.specs.Header.{Kind, File, Directory}
 use Rattle.kfs_model.specs.Access.{Client}

@@ -5,3 +5,4 @@ pub mod access;
 pub mod files;
 pub mod leases;
 pub mod names;
+pub mod spellings;

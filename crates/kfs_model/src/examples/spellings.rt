@@ -1,0 +1,36 @@
+//! Logs and plans beside the bytes that spell them.
+
+ghost use Rattle.std.specs.Prelude.{[], ◌∷◌, Ok};
+ghost use Rattle.kfs_model.specs.Spelling.{LogAnswer, PlanAnswer};
+ghost use Rattle.kfs_model.specs.Example.{no_plan};
+ghost use Rattle.kfs_model.specs.Example.FileCases.{create_a, create_a_plan, edits, edits_plan, first_piece, last_piece};
+ghost use Rattle.kfs_model.specs.Example.NameCases.{move_7, plan_7};
+ghost use Rattle.kfs_model.specs.Example.SpellingCases.{log_of_7, create_a_log_bytes, create_a_plan_bytes, edits_log_bytes, edits_plan_bytes, move_7_log_bytes, plan_7_bytes, empty_log_bytes, empty_plan_bytes};
+
+/// Client 7 creates file 5 named "a" in the root: 25 bytes of log, 48 bytes of plan.
+#[tactic(auto, unfolding(crate::specs::Spelling::number16, crate::specs::Spelling::number32, crate::specs::Spelling::number64))]
+pub fn create_in_the_root()
+    ensures log { LogAnswer create_a_log_bytes (Ok (log_of_7 create_a)) }
+    ensures plan { PlanAnswer create_a_plan_bytes (Ok (create_a_plan 5)) }
+{}
+
+/// Three writes and two truncations of file 5: 94 bytes of log, 140 bytes of plan with four pieces.
+#[tactic(auto, unfolding(crate::specs::Spelling::number16, crate::specs::Spelling::number32, crate::specs::Spelling::number64))]
+pub fn overlapping_writes()
+    ensures log { LogAnswer edits_log_bytes (Ok (log_of_7 edits)) }
+    ensures plan { PlanAnswer edits_plan_bytes (Ok (edits_plan (first_piece 1) (last_piece ∷ []))) }
+{}
+
+/// Client 7 moves the name "x" of directory 20 into directory 12: 24 bytes of log, 33 bytes of plan.
+#[tactic(auto, unfolding(crate::specs::Spelling::number16, crate::specs::Spelling::number32, crate::specs::Spelling::number64))]
+pub fn move_into_another_directory()
+    ensures log { LogAnswer move_7_log_bytes (Ok (log_of_7 move_7)) }
+    ensures plan { PlanAnswer plan_7_bytes (Ok plan_7) }
+{}
+
+/// No entry is 11 bytes, no row 13.
+#[tactic(auto, unfolding(crate::specs::Spelling::number16, crate::specs::Spelling::number32, crate::specs::Spelling::number64))]
+pub fn nothing()
+    ensures log { LogAnswer empty_log_bytes (Ok (log_of_7 [])) }
+    ensures plan { PlanAnswer empty_plan_bytes (Ok no_plan) }
+{}
