@@ -2,6 +2,7 @@
 ghost use Rattle.std.specs.Prelude.{◌≡◌, ◌≤◌, length, drop, IfSome};
 ghost use Rattle.kfs_entry.specs.Reading.{seen, byte_read};
 
+/// The field that stands at `at`, and the place after it.
 #[tactic(auto, unfolding(crate::specs::Reading::byte_read))]
 pub fn read(source: &[u8], at: usize) -> Option<(u8, usize)>
     requires { at ≤ length source.now }

@@ -31,6 +31,7 @@ fn read_present(source: &[u8], at: usize, kind: Kind) -> Option<(Header, usize)>
     Some((header, at))
 }
 
+/// The field that stands at `at`, and the place after it.
 #[tactic(auto, unfolding(crate::specs::Reading::header_read))]
 pub fn read(source: &[u8], at: usize) -> Option<(Option<Header>, usize)>
     requires { at ≤ length source.now }
@@ -48,6 +49,7 @@ pub fn read(source: &[u8], at: usize) -> Option<(Option<Header>, usize)>
     Some((Some(header), at))
 }
 
+/// Appends the spelling of the value.
 pub fn write<A: Allocator>(
     out: &mut Vec<u8, A>,
     source: &[u8],
@@ -71,6 +73,7 @@ pub fn write<A: Allocator>(
     number64::write(out, source, &header.size)
 }
 
+/// The length of the spelling in bytes.
 #[tactic(auto, unfolding(kfs_model::specs::Spelling::number16, kfs_model::specs::Spelling::number32, kfs_model::specs::Spelling::number64))]
 pub fn len(_source: &[u8], header: &Option<Header>) -> usize
     ensures { result ≡ length (header_bytes (option_map header_of header.now)) }

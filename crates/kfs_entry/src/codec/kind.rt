@@ -8,6 +8,7 @@ use crate::codec::byte;
 use crate::header::Kind;
 use std::alloc::{AllocError, Allocator};
 
+/// The field that stands at `at`, and the place after it.
 #[tactic(auto, unfolding(crate::specs::Reading::kind_read))]
 pub fn read(source: &[u8], at: usize) -> Option<(Kind, usize)>
     requires { at ≤ length source.now }
@@ -21,6 +22,7 @@ pub fn read(source: &[u8], at: usize) -> Option<(Kind, usize)>
     }
 }
 
+/// Appends the spelling of the value.
 pub fn write<A: Allocator>(
     out: &mut Vec<u8, A>,
     _source: &[u8],
@@ -36,6 +38,7 @@ pub fn write<A: Allocator>(
     Ok(())
 }
 
+/// The length of the spelling in bytes.
 pub fn len(_source: &[u8], value: &Kind) -> usize
     ensures { result ≡ length (kind_bytes (kind_of value.now)) }
 {

@@ -8,6 +8,7 @@ use std::alloc::{AllocError, Allocator};
 
 const GREATEST: u16 = 0o777;
 
+/// The field that stands at `at`, and the place after it.
 #[tactic(auto, unfolding(crate::specs::Reading::mode_read))]
 pub fn read(source: &[u8], at: usize) -> Option<(u16, usize)>
     requires { at ≤ length source.now }
@@ -21,6 +22,7 @@ pub fn read(source: &[u8], at: usize) -> Option<(u16, usize)>
     Some((mode, at))
 }
 
+/// Appends the spelling of the value.
 pub fn write<A: Allocator>(
     out: &mut Vec<u8, A>,
     source: &[u8],
@@ -31,6 +33,7 @@ pub fn write<A: Allocator>(
     number16::write(out, source, value)
 }
 
+/// The length of the spelling in bytes.
 pub fn len(source: &[u8], value: &u16) -> usize
     ensures { result ≡ length (number16 value.now) }
 {

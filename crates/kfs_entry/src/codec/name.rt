@@ -7,6 +7,7 @@ use crate::codec::{byte, bytes};
 use crate::name::Name;
 use std::alloc::{AllocError, Allocator};
 
+/// The field that stands at `at`, and the place after it.
 #[tactic(auto, using(crate::proofs::Names::name_tests), unfolding(crate::specs::Reading::name_read))]
 pub fn read(source: &[u8], at: usize) -> Option<(Name, usize)>
     requires { at ≤ length source.now }
@@ -18,6 +19,7 @@ pub fn read(source: &[u8], at: usize) -> Option<(Name, usize)>
     Some((Name::new(bytes)?, at))
 }
 
+/// Appends the spelling of the value.
 pub fn write<A: Allocator>(
     out: &mut Vec<u8, A>,
     _source: &[u8],
@@ -30,6 +32,7 @@ pub fn write<A: Allocator>(
     out.extend_from_slice(bytes)
 }
 
+/// The length of the spelling in bytes.
 pub fn len(_source: &[u8], value: &Name) -> usize
     ensures value { result ≡ length (name_bytes value.now) }
     ensures bound { result ≤ 256 }

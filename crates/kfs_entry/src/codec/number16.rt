@@ -6,6 +6,7 @@ ghost use Rattle.kfs_entry.specs.Reading.{seen, number16_read};
 use crate::codec::bytes::chunk;
 use std::alloc::{AllocError, Allocator};
 
+/// The field that stands at `at`, and the place after it.
 #[tactic(auto, unfolding(crate::specs::Reading::number16_read))]
 pub fn read(source: &[u8], at: usize) -> Option<(u16, usize)>
     requires { at ≤ length source.now }
@@ -16,6 +17,7 @@ pub fn read(source: &[u8], at: usize) -> Option<(u16, usize)>
     Some((u16::from_be_bytes(*bytes), at))
 }
 
+/// Appends the spelling of the value.
 #[tactic(auto, unfolding(kfs_model::specs::Spelling::number16))]
 pub fn write<A: Allocator>(
     out: &mut Vec<u8, A>,
@@ -27,6 +29,7 @@ pub fn write<A: Allocator>(
     out.extend_from_slice(&value.to_be_bytes())
 }
 
+/// The length of the spelling in bytes.
 #[tactic(auto, unfolding(kfs_model::specs::Spelling::number16))]
 pub fn len(_source: &[u8], value: &u16) -> usize
     ensures { result ≡ length (number16 value.now) }

@@ -10,6 +10,7 @@ use std::alloc::{AllocError, Allocator};
 
 const LIMIT: u32 = 65_536;
 
+/// The field that stands at `at`, and the place after it.
 #[tactic(auto, unfolding(crate::specs::Reading::payload_read))]
 pub fn read(source: &[u8], at: usize) -> Option<(Span, usize)>
     requires { at ≤ length source.now }
@@ -24,6 +25,7 @@ pub fn read(source: &[u8], at: usize) -> Option<(Span, usize)>
     Some((Span { start, end }, end))
 }
 
+/// Appends the spelling of the value.
 pub fn write<A: Allocator>(
     out: &mut Vec<u8, A>,
     source: &[u8],
@@ -38,6 +40,7 @@ pub fn write<A: Allocator>(
     out.extend_from_slice(bytes)
 }
 
+/// The length of the spelling in bytes.
 #[tactic(auto, unfolding(kfs_model::specs::Spelling::number32))]
 pub fn len(source: &[u8], value: &Span) -> usize
     requires { (value.now.start ≤ value.now.end) × (value.now.end ≤ length source.now) }
