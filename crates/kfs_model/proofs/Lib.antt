@@ -15,8 +15,10 @@ pub mod Links
 pub mod Heads
 pub mod CleanFacts
 pub mod NameAdded
+pub mod NameRemoved
 pub mod CreateStep
 pub mod NodeStep
 pub mod CellSteps
 pub mod LinkStep
+pub mod UnlinkStep
 pub mod NameStep
