@@ -19,7 +19,7 @@ use Rattle.kfs_model.proofs.CleanFacts.{CreateFacts}
 use Rattle.kfs_model.proofs.Exact.{places-exact}
 use Rattle.kfs_model.proofs.Links.{at_number-insert, target-insert}
 use Rattle.kfs_model.proofs.NameAdded.{new_target, kept_target, new_or_old, others_count, own_count, count_shifted}
-use Rattle.kfs_model.proofs.Heads.{stays, named_stays, unnamed, root_is_node, get-headers, get-swept_headers, kept_head, parent_kept, parent_is, parent_of_none, has_parent, climbs_with}
+use Rattle.kfs_model.proofs.Heads.{stays, named_stays, unnamed, root_is_node, get-headers, get-swept_headers, kept_head, parent_kept, parent_is, parent_of_none, has_parent, climbs_with, put_parent_elsewhere, put_parent_here}
 
 -- ---- what shows after it
 
@@ -78,18 +78,14 @@ module _ {B : Type 0} (fabric : Fabric B) (client : Client) (index : ℕ) (t : T
   parent_new File new = parent_of_none heads after n (ap is_directory new) ∙ sym (parent_of_none head t.names n (ap is_directory facts.free_number))
   parent_new Directory new =
       parent_is heads after n d m (ap is_directory new) (root_is_node head t.names sound n facts.free_number) new_is_named_once (new_target t.names d m n facts.free_name)
-      ∙ ap (λ b. cond b (Some d) (parent_in head t.names n)) (sym (eq-eqb n n refl))
-
-  parent_elsewhere : (kind : Kind) (k : ℕ) → (k == n) ≡ false → parent_in head t.names k ≡ put_parent kind n d (parent_in head t.names) k
-  parent_elsewhere File k other = refl
-  parent_elsewhere Directory k other = ap (λ b. cond b (Some d) (parent_in head t.names k)) (sym other)
+      ∙ sym (put_parent_here n d (parent_in head t.names))
 
   parent_after : (k : ℕ) → parent_in heads after k ≡ put_parent kind n d (parent_in head t.names) k
   parent_after k = at (k == n) refl
     where
       at : (b : Bool) → (k == n) ≡ b → parent_in heads after k ≡ put_parent kind n d (parent_in head t.names) k
       at true same = subst (λ k. parent_in heads after k ≡ put_parent kind n d (parent_in head t.names) k) (sym (eqb-true k n same)) (parent_new kind (head_new n refl))
-      at false other = parent_other k other ∙ parent_elsewhere kind k other
+      at false other = parent_other k other ∙ sym (put_parent_elsewhere kind n d (parent_in head t.names) k other)
 
   pub create_seen : sight (effect fabric client index entry t) ≡ seen_after client (sight t) entry
   unfolding change_of swept seen_after

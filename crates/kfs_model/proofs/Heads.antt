@@ -6,6 +6,7 @@ use Rattle.kfs_model.specs.Table.{numbers, get, get-mapped, get-retain, retain}
 use Rattle.kfs_model.specs.Tree.{Tree, Node, Body, Cells, Names, Links, headers, header_of, links_of, kind_of, size_of, target, name_count, is_named}
 use Rattle.kfs_model.specs.Sight.{is_directory, is_file, holder, parent_in}
 use Rattle.kfs_model.specs.Effect.{swept}
+use Rattle.kfs_model.specs.SeenAfter.{put_parent}
 use Rattle.kfs_model.specs.Soundness.{Climbs, AreSound, IsSound, NameIsSound}
 use Rattle.kfs_model.proofs.Links.{is_named_counts, named_has_target, holder_of_only}
 
@@ -172,3 +173,12 @@ module _ (head : ℕ → Option Header) (names : Links) (sound : AreSound head n
 pub climbs_with : (parent after : ℕ → Option ℕ) → ((k up : ℕ) → parent k ≡ Some up → after k ≡ Some up) → (steps from to : ℕ) → Climbs parent steps from to → Climbs after steps from to
 climbs_with parent after each zero from to climb = climb
 climbs_with parent after each (suc steps) from to climb = (climb.0, each from climb.0 climb.1, climbs_with parent after each steps climb.0 to climb.2)
+
+-- ---- the parent of one node put
+
+pub put_parent_elsewhere : (kind : Kind) (n d : ℕ) (parent : ℕ → Option ℕ) (k : ℕ) → (k == n) ≡ false → put_parent kind n d parent k ≡ parent k
+put_parent_elsewhere File n d parent k other = refl
+put_parent_elsewhere Directory n d parent k other = ap (λ b. cond b (Some d) (parent k)) other
+
+pub put_parent_here : (n d : ℕ) (parent : ℕ → Option ℕ) → put_parent Directory n d parent n ≡ Some d
+put_parent_here n d parent = ap (λ b. cond b (Some d) (parent n)) (eq-eqb n n refl)

@@ -19,6 +19,8 @@ pub mod NameRemoved
 pub mod CreateStep
 pub mod NodeStep
 pub mod CellSteps
+pub mod Climb
 pub mod LinkStep
 pub mod UnlinkStep
+pub mod MoveStep
 pub mod NameStep

@@ -15,7 +15,7 @@ use Rattle.kfs_model.proofs.Heads.{stays, named_stays, get-headers, kept_head, d
 use Rattle.kfs_model.proofs.NameStep.{left_head, left_head_is, NamesKept, names_kept_sound, stays_named}
 
 module _ {B : Type 0} (t : Tree B) (sound : IsSound t) (d : ℕ) (m : List ℕ) (n : ℕ) (there : target t.names d m ≡ Some n)
-  (empty : IsTrue (is_directory (get (headers t) n)) → entry_count t.names n ≡ 0) where
+    (empty : IsTrue (is_directory (get (headers t) n)) → entry_count t.names n ≡ 0) where
   abbrev head : ℕ → Option Header
   head = get (headers t)
 
@@ -40,18 +40,18 @@ module _ {B : Type 0} (t : Tree B) (sound : IsSound t) (d : ℕ) (m : List ℕ) 
 
   -- what a file shows whose count goes from one number down to another
   last_or_not : (f : Node B → Header) (node : Node B) (fewer : ℕ) (all : ℕ) (h : Header) → fewer + 1 ≡ all → f node ≡ record h { links = fewer }
-    → option_map f (cond (ltb 0 fewer) (Some node) None) ≡ cond (leb all 1) None (Some (record h { links = all - 1 }))
+      → option_map f (cond (ltb 0 fewer) (Some node) None) ≡ cond (leb all 1) None (Some (record h { links = all - 1 }))
   last_or_not f node zero all h one is = ap (λ b. cond b None (Some (record h { links = all - 1 }))) (sym (le-leb all 1 (omega arith)))
   last_or_not f node (suc fewer) all h one is =
       ap (λ b. option_map f (cond b (Some node) None)) (lt-ltb 0 (suc fewer) (omega arith)) ∙ ap Some is
-        ∙ ap (λ links. Some (record h { links = links })) (let e : suc fewer ≡ all - 1 = omega arith in e)
-        ∙ ap (λ b. cond b None (Some (record h { links = all - 1 }))) (sym (lt-leb all 1 (omega arith)))
+      ∙ ap (λ links. Some (record h { links = links })) (let e : suc fewer ≡ all - 1 = omega arith in e)
+      ∙ ap (λ b. cond b None (Some (record h { links = all - 1 }))) (sym (lt-leb all 1 (omega arith)))
 
   unlinked_node : (node : Node B) → get t.nodes n ≡ Some node → option_map (header_of after n) (cond (stays after n) (Some node) None) ≡ unlinked (header_of t.names n node)
   unlinked_node node is = ap (λ b. option_map (header_of after n) (cond b (Some node) None)) stays_if_named ∙ at node.body (get-headers t n ∙ ap (option_map (header_of t.names n)) is)
     where
       at : (body : Body B) → head n ≡ Some (header_of t.names n (record node { body = body }))
-        → option_map (header_of after n) (cond (ltb 0 (name_count after n)) (Some (record node { body = body })) None) ≡ unlinked (header_of t.names n (record node { body = body }))
+          → option_map (header_of after n) (cond (ltb 0 (name_count after n)) (Some (record node { body = body })) None) ≡ unlinked (header_of t.names n (record node { body = body }))
       at (Cells cells) shown = last_or_not (header_of after n) (record node { body = Cells cells }) (name_count after n) (name_count t.names n) (header_of t.names n (record node { body = Cells cells })) (own_count t.names d m n there) refl
       at Names shown =
           let one = sound.directories n (ap is_directory shown) no_root in
@@ -62,7 +62,7 @@ module _ {B : Type 0} (t : Tree B) (sound : IsSound t) (d : ℕ) (m : List ℕ) 
   shown_at k true same =
       let (node, is) = node_found in
       subst (λ k. option_map (header_of after k) (cond (stays after k) (get t.nodes k) None) ≡ option_and_then unlinked (head n)) (sym (eqb-true k n same))
-        (ap (λ o. option_map (header_of after n) (cond (stays after n) o None)) is ∙ unlinked_node node is ∙ sym (ap (option_and_then unlinked) (get-headers t n ∙ ap (option_map (header_of t.names n)) is)))
+      (ap (λ o. option_map (header_of after n) (cond (stays after n) o None)) is ∙ unlinked_node node is ∙ sym (ap (option_and_then unlinked) (get-headers t n ∙ ap (option_map (header_of t.names n)) is)))
   shown_at k false other = kept_head t sound after k (others_count t.names d m n there k other)
 
   head_after : (k : ℕ) → left_head t after k ≡ heads k
@@ -88,7 +88,7 @@ module _ {B : Type 0} (t : Tree B) (sound : IsSound t) (d : ℕ) (m : List ℕ) 
       at true same = parent_of_none heads after k (ap (λ b. is_directory (cond b (option_and_then unlinked (head n)) (head k))) same ∙ left_is_file (head n))
       at false other =
           parent_kept head t.names sound heads after k (ap (λ b. cond b (option_and_then unlinked (head n)) (head k)) other) (others_count t.names d m n there k other)
-            (λ e k' is. kept_target t.names d m n there e k' k (eqb-false k n other) is)
+          (λ e k' is. kept_target t.names d m n there e k' k (eqb-false k n other) is)
 
   parent_left : (k : ℕ) → parent_in (left_head t after) after k ≡ put_at n None (parent_in head t.names) k
   parent_left k = ap (λ heads. parent_in heads after k) (λ i k. head_after k i) ∙ parent_after k
@@ -108,10 +108,10 @@ module _ {B : Type 0} (t : Tree B) (sound : IsSound t) (d : ℕ) (m : List ℕ) 
   pub holder_apart : (e : ℕ) (k : List ℕ) (x : ℕ) → target t.names e k ≡ Some x → (e == n) ≡ false
   holder_apart e k x is =
       ne_eqb e n (λ same.
-        let directory = (sound.names_sound e k x is).holder in
-        let none = empty (subst (λ e. IsTrue (is_directory (head e))) same directory) in
-        let some : 1 ≤ entry_count t.names n = subst (λ e. 1 ≤ entry_count t.names e) same (target_is_entry t.names e k x is) in
-        absurd (omega arith))
+      let directory = (sound.names_sound e k x is).holder in
+      let none = empty (subst (λ e. IsTrue (is_directory (head e))) same directory) in
+      let some : 1 ≤ entry_count t.names n = subst (λ e. 1 ≤ entry_count t.names e) same (target_is_entry t.names e k x is) in
+      absurd (omega arith))
 
   fewer : (k : ℕ) → name_count after k ≤ name_count t.names k
   fewer k = at (k == n) refl
@@ -138,26 +138,26 @@ module _ {B : Type 0} (t : Tree B) (sound : IsSound t) (d : ℕ) (m : List ℕ) 
   stays_apart : (k : ℕ) → IsTrue (is_directory (head k)) → stays after k ≡ true → (k == n) ≡ false
   stays_apart k directory stay =
       ne_eqb k n (λ same.
-        let one = sound.directories n (subst (λ k. IsTrue (is_directory (head k))) same directory) no_root in
-        let some = stays_named after n (subst (λ k. stays after k ≡ true) same stay) no_root in
-        let own = own_count t.names d m n there in
-        absurd (omega arith))
+      let one = sound.directories n (subst (λ k. IsTrue (is_directory (head k))) same directory) no_root in
+      let some = stays_named after n (subst (λ k. stays after k ≡ true) same stay) no_root in
+      let own = own_count t.names d m n there in
+      absurd (omega arith))
 
   names_kept : NamesKept t after
   names_kept = record {
     spelled = λ e k x is. (sound.names_sound e k x (was_target t.names d m n there e k x is)).spelled;
     holder = λ e k x is.
-      let was = was_target t.names d m n there e k x is in
-      let directory = (sound.names_sound e k x was).holder in
-      (directory, stays_on e (holder_apart e k x was) (directory_stays t sound e directory));
+        let was = was_target t.names d m n there e k x is in
+        let directory = (sound.names_sound e k x was).holder in
+        (directory, stays_on e (holder_apart e k x was) (directory_stays t sound e directory));
     node = λ e k x is.
-      let was = sound.names_sound e k x (was_target t.names d m n there e k x is) in
-      (was.node.0, was.node.1, was.not_root, target_is_named after e k x is);
+        let was = sound.names_sound e k x (was_target t.names d m n there e k x is) in
+        (was.node.0, was.node.1, was.not_root, target_is_named after e k x is);
     directories = λ k directory. let most = directory_count head t.names sound k directory in omega (arith, fewer k);
     files = λ k file. let most = (sound.files k file).1 in omega (arith, fewer k);
     reaches = λ k directory stay.
-      let (steps, climb) = sound.reaches k directory in
-      (steps, climb_apart steps k (stays_apart k directory stay) climb);
+        let (steps, climb) = sound.reaches k directory in
+        (steps, climb_apart steps k (stays_apart k directory stay) climb);
   }
 
   pub unlink_sound : IsSound (swept (with_names after t))
