@@ -5,6 +5,7 @@ ghost use Rattle.std.specs.Prelude.{◌≤◌, length, IfOk, IfSome};
 
 mod conversation;
 mod fault;
+mod report;
 mod session;
 mod words;
 

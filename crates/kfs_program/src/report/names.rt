@@ -1,0 +1,1 @@
+//! The refusals by their names, with their numbers in brackets.
