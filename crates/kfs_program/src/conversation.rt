@@ -1,16 +1,14 @@
 //! Cuts the input into lines and writes the reply of each.
 
 use crate::fault::EngineFault;
+use crate::report::LONGEST_LINE;
 use crate::session::Session;
 use crate::words::Refusal;
-use std::alloc::{AllocError, Allocator};
+use std::alloc::Allocator;
 use std::io::Write;
 
 /// The most bytes of a line without its end.
-const LONGEST_LINE: usize = 16_777_216;
-
-/// A reply other than a list has at most this many bytes.
-const REPLY_ROOM: usize = 128;
+const LONGEST_INPUT_LINE: usize = 16_777_216;
 
 /// A session, and the line of it whose end has not been read.
 #[derive(Drop)]
@@ -20,13 +18,13 @@ pub struct Conversation<A: Allocator> {
     reply: Vec<u8, A>,
 }
 
-impl<A: Allocator + Clone> Conversation<A> {
-    pub fn new(alloc: A) -> Result<Conversation<A>, AllocError> {
-        Ok(Conversation {
-            line: Vec::new(alloc.clone()?),
-            reply: Vec::new(alloc.clone()?),
+impl<A: Allocator + Copy> Conversation<A> {
+    pub fn new(alloc: A) -> Conversation<A> {
+        Conversation {
             session: Session::new(alloc),
-        })
+            line: Vec::new(alloc),
+            reply: Vec::new(alloc),
+        }
     }
 
     /// Answers each line that ends in `bytes`, and keeps the bytes after the last end.
@@ -52,7 +50,7 @@ impl<A: Allocator + Clone> Conversation<A> {
     }
 
     fn keep(&mut self, part: &[u8]) -> Result<(), EngineFault> {
-        if self.line.len().saturating_add(part.len()) > LONGEST_LINE {
+        if self.line.len().saturating_add(part.len()) > LONGEST_INPUT_LINE {
             return Err(EngineFault::LongLine);
         }
         self.line.extend_from_slice(part)?;
@@ -72,7 +70,7 @@ impl<A: Allocator + Clone> Conversation<A> {
     /// Makes room for the reply before anything changes.
     fn reply(&mut self) -> Result<(), Refusal> {
         self.reply.clear();
-        self.reply.try_reserve(REPLY_ROOM)?;
+        self.reply.try_reserve(LONGEST_LINE)?;
         self.session.answer(&self.line, &mut self.reply)
     }
 }

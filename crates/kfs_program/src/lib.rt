@@ -3,8 +3,12 @@
 
 ghost use Rattle.std.specs.Prelude.{◌≤◌, length, IfOk, IfSome};
 
+mod answers;
+mod command;
 mod conversation;
+mod desk;
 mod fault;
+mod opening;
 mod report;
 mod session;
 mod words;
@@ -27,12 +31,12 @@ const CHUNK: usize = 65_536;
 /// Where it stops early, the lines before were answered.
 pub fn engine<R, A, I, O>(_rt: &R, alloc: A, reader: &mut I, writer: &mut O) -> Result<(), EngineFault>
 where
-    A: Allocator + Clone,
+    A: Allocator + Copy,
     I: Read,
     O: Write,
 {
-    let mut chunk = vec![in alloc.clone()?; 0u8; CHUNK]?;
-    let mut conversation = Conversation::new(alloc)?;
+    let mut chunk = vec![in alloc; 0u8; CHUNK]?;
+    let mut conversation = Conversation::new(alloc);
     for _ in 0..MOST_READS {
         let Some(count) = read_some(reader, &mut chunk)? else {
             continue;

@@ -7,12 +7,11 @@ ghost use Rattle.kfs_program.specs.Room.{spare_of};
 mod names;
 pub(crate) mod parts;
 
-use crate::desk::{Act, Reply};
-use kfs_image::{Header, Kind};
+use crate::answers::{Act, BeginFault, Reply};
+use kfs_image::{Header, Image, Kind};
 use kfs_judge::mode::ClientFault;
-use kfs_judge::plan::Fault;
-use names::{client_fault_name, lease_fault, reason, row_fault, spell_fault};
-use parts::{number, octal, text};
+use names::{begin_fault, client_fault, judgement_fault, lease_fault};
+use parts::{field, flag, number, octal, text};
 use std::alloc::{AllocError, Allocator};
 
 /// The most bytes of a line.
@@ -45,7 +44,7 @@ pub fn reply_line<A: Allocator>(out: &mut Vec<u8, A>, reply: &Reply) -> Result<(
             text(out, b" no rejudged=");
             flag(out, *rejudged);
             text(out, b" ");
-            push_fault(out, fault);
+            judgement_fault(out, *fault);
         }
     }
     text(out, b"\n");
@@ -90,15 +89,80 @@ pub fn node_line<A: Allocator>(
         Kind::Directory => text(out, b" dir "),
     }
     octal(out, header.mode);
-    for field in [
-        u64::from(header.uid),
-        u64::from(header.gid),
-        u64::from(header.links),
-        header.size,
-    ] {
-        text(out, b" ");
-        number(out, field);
-    }
+    field(out, u64::from(header.uid));
+    field(out, u64::from(header.gid));
+    field(out, u64::from(header.links));
+    field(out, header.size);
     text(out, b"\n");
     Ok(())
+}
+
+/// The line of a client that was refused: `client NAME`.
+pub fn client_line<A: Allocator>(
+    out: &mut Vec<u8, A>,
+    fault: ClientFault,
+) -> Result<(), AllocError>
+    ensures room { 128 ≤ spare_of out.old → IsOk result }
+    ensures err { OnErr result (out.new.items ≡ out.old.items) }
+{
+    out.try_reserve(LONGEST_LINE)?;
+    text(out, b"client ");
+    client_fault(out, fault);
+    text(out, b"\n");
+    Ok(())
+}
+
+/// The line of a begin that was refused: `begin NAME`.
+pub fn begin_line<A: Allocator>(out: &mut Vec<u8, A>, fault: BeginFault) -> Result<(), AllocError>
+    ensures room { 128 ≤ spare_of out.old → IsOk result }
+    ensures err { OnErr result (out.new.items ≡ out.old.items) }
+{
+    out.try_reserve(LONGEST_LINE)?;
+    text(out, b"begin ");
+    begin_fault(out, fault);
+    text(out, b"\n");
+    Ok(())
+}
+
+/// The line of a directory: `list N`, and for each name in order a space and `HEXNAME:NUMBER`. It may
+/// be long; memory is refused where there is none for it.
+pub fn list_line<A: Allocator + Copy>(
+    alloc: A,
+    out: &mut Vec<u8, A>,
+    image: &Image<A>,
+    dir: u32,
+) -> Result<(), AllocError>
+    ensures { OnErr result (out.new.items ≡ out.old.items) }
+{
+    let start = out.len();
+    let pushed = push_names(alloc, out, image, dir);
+    if pushed.is_err() {
+        out.truncate(start);
+    }
+    pushed
+}
+
+fn push_names<A: Allocator + Copy>(
+    alloc: A,
+    out: &mut Vec<u8, A>,
+    image: &Image<A>,
+    dir: u32,
+) -> Result<(), AllocError> {
+    out.try_reserve(LONGEST_LINE)?;
+    text(out, b"list");
+    field(out, u64::from(dir));
+    let mut after = None;
+    for _ in 0..u64::MAX {
+        let Some((name, node)) = image.next_name(dir, after) else {
+            break;
+        };
+        let digits = hex::encode(alloc, name.as_bytes())?;
+        out.extend_from_slice(b" ")?;
+        out.extend_from_slice(digits.as_bytes())?;
+        out.try_reserve(LONGEST_LINE)?;
+        text(out, b":");
+        number(out, u64::from(node));
+        after = Some(name);
+    }
+    out.extend_from_slice(b"\n")
 }

@@ -32,3 +32,31 @@ pub fn octal<A: Allocator>(out: &mut Vec<u8, A>, mode: u16)
     let digit = |shift: u16| b'0' + (mode >> shift & 7) as u8;
     text(out, &[digit(9), digit(6), digit(3), digit(0)]);
 }
+
+/// Appends a space and the number.
+pub fn field<A: Allocator>(out: &mut Vec<u8, A>, value: u64)
+    requires { 21 ≤ spare_of out.old }
+    ensures { spare_of out.old ≤ spare_of out.new + 21 }
+{
+    text(out, b" ");
+    number(out, value);
+}
+
+/// Appends 1 for true and 0 for false.
+pub fn flag<A: Allocator>(out: &mut Vec<u8, A>, value: bool)
+    requires { 1 ≤ spare_of out.old }
+    ensures { spare_of out.old ≤ spare_of out.new + 1 }
+{
+    text(out, if value { b"1" } else { b"0" });
+}
+
+/// Appends a name, and the number in brackets.
+pub fn numbered<A: Allocator>(out: &mut Vec<u8, A>, name: &[u8], value: u64)
+    requires { length name.now + 22 ≤ spare_of out.old }
+    ensures { spare_of out.old ≤ spare_of out.new + (length name.now + 22) }
+{
+    text(out, name);
+    text(out, b"(");
+    number(out, value);
+    text(out, b")");
+}

@@ -1,0 +1,106 @@
+//! What a desk is begun with: the image and the clients.
+ghost use Rattle.std.specs.Prelude.{◌≤◌};
+ghost use Rattle.kfs_program.specs.Room.{spare_of};
+
+use crate::answers::BeginFault;
+use crate::command::Command;
+use crate::desk::Desk;
+use crate::report::parts::text;
+use crate::report::{begin_line, client_line};
+use crate::words::Refusal;
+use kfs_image::{Image, TierSizes};
+use kfs_judge::mode::{Client, ClientFault};
+use std::alloc::Allocator;
+use std::mem;
+
+/// The image, where one was made, and the clients in the order of their lines.
+#[derive(Drop)]
+pub struct Opening<A: Allocator> {
+    alloc: A,
+    image: Option<Image<A>>,
+    clients: Vec<Client, A>,
+}
+
+impl<A: Allocator + Copy> Opening<A> {
+    /// No image and no client.
+    pub fn new(alloc: A) -> Opening<A> {
+        Opening {
+            alloc,
+            image: None,
+            clients: Vec::new(alloc),
+        }
+    }
+
+    /// Answers a command that comes before the desk is begun; where it is the one that begins the
+    /// desk, the desk comes back. The reply has room for 128 bytes.
+    pub fn answer(
+        &mut self,
+        command: Command<'_, A>,
+        reply: &mut Vec<u8, A>,
+    ) -> Result<Option<Desk<A>>, Refusal>
+        requires { 128 ≤ spare_of reply.old }
+    {
+        match command {
+            Command::New(sizes) => {
+                self.renew(sizes, reply)?;
+                Ok(None)
+            }
+            Command::Client(client) => {
+                self.admit(client, reply)?;
+                Ok(None)
+            }
+            Command::Begin { limit } => self.begin(limit, reply),
+            _ => Err(Refusal::BadLine),
+        }
+    }
+
+    /// Takes a fresh image in place of the one before.
+    fn renew(&mut self, sizes: TierSizes, reply: &mut Vec<u8, A>) -> Result<(), Refusal>
+        requires { 128 ≤ spare_of reply.old }
+    {
+        self.image = Some(Image::fresh(self.alloc, sizes)?);
+        text(reply, b"ok\n");
+        Ok(())
+    }
+
+    /// Keeps one client more, where its row is right.
+    fn admit(
+        &mut self,
+        client: Result<Client, ClientFault>,
+        reply: &mut Vec<u8, A>,
+    ) -> Result<(), Refusal>
+        requires { 128 ≤ spare_of reply.old }
+    {
+        match client {
+            Ok(client) => {
+                self.clients.push(client)?;
+                text(reply, b"ok\n");
+            }
+            Err(fault) => client_line(reply, fault)?,
+        }
+        Ok(())
+    }
+
+    /// Begins the desk. Where that is refused the image stays; the clients are forgotten, except for
+    /// want of memory.
+    fn begin(&mut self, limit: u32, reply: &mut Vec<u8, A>) -> Result<Option<Desk<A>>, Refusal>
+        requires { 128 ≤ spare_of reply.old }
+    {
+        let image = self.image.take().ok_or(Refusal::BadLine)?;
+        let clients = mem::replace(&mut self.clients, Vec::new(self.alloc));
+        let back = match Desk::begin(self.alloc, image, clients, limit) {
+            Ok(desk) => {
+                text(reply, b"ok\n");
+                return Ok(Some(desk));
+            }
+            Err(back) => back,
+        };
+        self.image = Some(back.image);
+        if back.why == BeginFault::OutOfMemory {
+            self.clients = back.clients;
+            return Err(Refusal::OutOfMemory);
+        }
+        begin_line(reply, back.why)?;
+        Ok(None)
+    }
+}
