@@ -11,13 +11,25 @@ use std::alloc::Allocator;
 /// A command with its words read.
 #[derive(Drop)]
 pub enum Command<'a, A: Allocator> {
+    Opening(OpeningCommand),
+    Desk(DeskCommand<'a, A>),
+}
+
+/// A command that comes before the desk is begun.
+#[derive(Drop)]
+pub enum OpeningCommand {
     /// `new A B C`: a fresh image over tiers of these sizes.
     New(TierSizes),
     /// `client N UID GID PRIV FIRST LAST`: one client more, where its row is right.
     Client(Result<Client, ClientFault>),
     /// `begin LIMIT`: the desk, whose docket has at most this many rows.
-    Begin { limit: u32 },
-    /// `lease N PATH K END`: a lease on the node of the path.
+    Begin(u32),
+}
+
+/// A command to the desk.
+#[derive(Drop)]
+pub enum DeskCommand<'a, A: Allocator> {
+    /// `lease N PATH K END`: a lease of client N on the node of the path.
     Lease {
         client: u32,
         path: &'a [u8],
@@ -27,9 +39,9 @@ pub enum Command<'a, A: Allocator> {
     /// `submit N LOG PLAN`: a log and its plan.
     Submit(Submission<A>),
     /// `node N`: the header of a node.
-    Node { number: u32 },
+    Node(u32),
     /// `list N`: the names of a directory.
-    List { number: u32 },
+    List(u32),
 }
 
 impl<'a, A: Allocator + Copy> Command<'a, A> {
@@ -38,19 +50,13 @@ impl<'a, A: Allocator + Copy> Command<'a, A> {
     pub fn read(alloc: A, line: &'a [u8]) -> Result<Command<'a, A>, Refusal> {
         let mut words = Words::new(line);
         let command = match words.word()? {
-            b"new" => read_new(&mut words)?,
-            b"client" => read_client(&mut words)?,
-            b"begin" => Command::Begin {
-                limit: words.number()?,
-            },
-            b"lease" => read_lease(&mut words)?,
-            b"submit" => read_submit(alloc, &mut words)?,
-            b"node" => Command::Node {
-                number: words.number()?,
-            },
-            b"list" => Command::List {
-                number: words.number()?,
-            },
+            b"new" => Command::Opening(read_new(&mut words)?),
+            b"client" => Command::Opening(read_client(&mut words)?),
+            b"begin" => Command::Opening(OpeningCommand::Begin(words.number()?)),
+            b"lease" => Command::Desk(read_lease(&mut words)?),
+            b"submit" => Command::Desk(read_submit(alloc, &mut words)?),
+            b"node" => Command::Desk(DeskCommand::Node(words.number()?)),
+            b"list" => Command::Desk(DeskCommand::List(words.number()?)),
             _ => return Err(Refusal::BadLine),
         };
         words.end()?;
@@ -58,14 +64,14 @@ impl<'a, A: Allocator + Copy> Command<'a, A> {
     }
 }
 
-fn read_new<'a, A: Allocator>(words: &mut Words<'a>) -> Result<Command<'a, A>, Refusal> {
+fn read_new(words: &mut Words<'_>) -> Result<OpeningCommand, Refusal> {
     let (first, second, third) = (words.number()?, words.number()?, words.number()?);
     let sizes = TierSizes::new(first, second, third).ok_or(Refusal::BadLine)?;
-    Ok(Command::New(sizes))
+    Ok(OpeningCommand::New(sizes))
 }
 
 /// Supplementary groups are not read yet: a line with groups is a bad line.
-fn read_client<'a, A: Allocator>(words: &mut Words<'a>) -> Result<Command<'a, A>, Refusal> {
+fn read_client(words: &mut Words<'_>) -> Result<OpeningCommand, Refusal> {
     let number = words.number()?;
     let uid = words.number()?;
     let gid = words.number()?;
@@ -76,19 +82,14 @@ fn read_client<'a, A: Allocator>(words: &mut Words<'a>) -> Result<Command<'a, A>
     };
     let first = words.number()?;
     let last = words.number()?;
-    Ok(Command::Client(Client::new(
-        number,
-        uid,
-        gid,
-        &[],
-        privileged,
-        first,
-        last,
-    )))
+    let client = Client::new(number, uid, gid, &[], privileged, first, last);
+    Ok(OpeningCommand::Client(client))
 }
 
 /// The path `/` alone is read yet: a line with another path is a bad line.
-fn read_lease<'a, A: Allocator>(words: &mut Words<'a>) -> Result<Command<'a, A>, Refusal> {
+fn read_lease<'a, A: Allocator>(
+    words: &mut Words<'a>,
+) -> Result<DeskCommand<'a, A>, Refusal> {
     let client = words.number()?;
     let path = words.word()?;
     if path != b"/".as_slice() {
@@ -100,7 +101,7 @@ fn read_lease<'a, A: Allocator>(words: &mut Words<'a>) -> Result<Command<'a, A>,
         _ => return Err(Refusal::BadLine),
     };
     let end = words.number()?;
-    Ok(Command::Lease {
+    Ok(DeskCommand::Lease {
         client,
         path,
         kind,
@@ -112,7 +113,7 @@ fn read_lease<'a, A: Allocator>(words: &mut Words<'a>) -> Result<Command<'a, A>,
 fn read_submit<'a, A: Allocator + Copy>(
     alloc: A,
     words: &mut Words<'a>,
-) -> Result<Command<'a, A>, Refusal> {
+) -> Result<DeskCommand<'a, A>, Refusal> {
     let client = words.number()?;
     let log = words.bytes(alloc)?;
     let plan = words.bytes(alloc)?;
@@ -121,7 +122,7 @@ fn read_submit<'a, A: Allocator + Copy>(
         Err(SpellFault::OutOfMemory) => return Err(Refusal::OutOfMemory),
         _ => {}
     }
-    Ok(Command::Submit(Submission { client, log, plan }))
+    Ok(DeskCommand::Submit(Submission { client, log, plan }))
 }
 
 fn is_create<P>(entry: &Entry<P>) -> bool {

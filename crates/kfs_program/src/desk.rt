@@ -1,5 +1,6 @@
 //! The desk: it owns the image and the leases, and lands what was judged.
-ghost use Rattle.std.specs.Prelude.{◌≤◌};
+ghost use Rattle.std.specs.Prelude.{◌≡◌, ◌≤◌, ◌<◌, ◌↔◌, IfOk, IsErrOf};
+ghost use Rattle.kfs_program.specs.declared.answers.Unanswered.{Unanswered};
 
 use crate::answers::{Act, BeginBack, BeginFault, Reply, Unanswered};
 use kfs_image::shape::{Fill, net_apply};
@@ -92,13 +93,16 @@ impl<A: Allocator + Copy> Desk<A> {
     pub fn submit(&mut self, submission: Submission<A>) -> Result<Reply, Unanswered> {
         let position = self.next_row()?;
         let judged = self.judged(submission)?;
-        let reply = self.land(position, judged)?;
+        let reply = land(&mut self.image, position, judged)?;
         self.rows = position + 1;
         Ok(reply)
     }
 
     /// The place of the docket's next row.
-    fn next_row(&self) -> Result<u32, Unanswered> {
+    fn next_row(&self) -> Result<u32, Unanswered>
+        ensures full { IsErrOf result Unanswered.DocketFull ↔ (self.now.rows ≡ self.now.limit) }
+        ensures row { IfOk result (λ row. (row ≡ self.now.rows) × row < self.now.limit) }
+    {
         if self.rows == self.limit {
             return Err(Unanswered::DocketFull);
         }
@@ -114,25 +118,29 @@ impl<A: Allocator + Copy> Desk<A> {
         );
         judge(self.alloc, &view, submission).map_err(|_| AllocError)
     }
+}
 
-    /// Makes the change of what was judged right, at its place in the docket.
-    fn land(&mut self, position: u32, judged: Judged<A>) -> Result<Reply, AllocError> {
-        let Judged { outcome, .. } = judged;
-        match outcome {
-            Outcome::Yes { net, need, .. } => {
-                net_apply(&mut self.image, &net, &Fill::empty())?;
-                Ok(Reply::Yes {
-                    position,
-                    rejudged: false,
-                    need,
-                })
-            }
-            Outcome::No(fault) => Ok(Reply::No {
+/// Makes the change of what was judged right, at its place in the docket.
+fn land<A: Allocator + Copy>(
+    image: &mut Image<A>,
+    position: u32,
+    judged: Judged<A>,
+) -> Result<Reply, AllocError> {
+    let Judged { outcome, .. } = judged;
+    match outcome {
+        Outcome::Yes { net, need, .. } => {
+            net_apply(image, &net, &Fill::empty())?;
+            Ok(Reply::Yes {
                 position,
                 rejudged: false,
-                fault,
-            }),
+                need,
+            })
         }
+        Outcome::No(fault) => Ok(Reply::No {
+            position,
+            rejudged: false,
+            fault,
+        }),
     }
 }
 

@@ -8,12 +8,15 @@ mod command;
 mod conversation;
 mod desk;
 mod fault;
+mod listing;
 mod opening;
 mod report;
+mod run;
 mod session;
 mod words;
 
 pub use fault::EngineFault;
+pub use run::{run_words, status_message};
 
 use conversation::Conversation;
 use std::alloc::{AllocError, Allocator};

@@ -3,7 +3,7 @@ ghost use Rattle.std.specs.Prelude.{◌≤◌};
 ghost use Rattle.kfs_program.specs.Room.{spare_of};
 
 use crate::answers::BeginFault;
-use crate::command::Command;
+use crate::command::OpeningCommand;
 use crate::desk::Desk;
 use crate::report::parts::text;
 use crate::report::{begin_line, client_line};
@@ -35,23 +35,17 @@ impl<A: Allocator + Copy> Opening<A> {
     /// desk, the desk comes back. The reply has room for 128 bytes.
     pub fn answer(
         &mut self,
-        command: Command<'_, A>,
+        command: OpeningCommand,
         reply: &mut Vec<u8, A>,
     ) -> Result<Option<Desk<A>>, Refusal>
         requires { 128 ≤ spare_of reply.old }
     {
         match command {
-            Command::New(sizes) => {
-                self.renew(sizes, reply)?;
-                Ok(None)
-            }
-            Command::Client(client) => {
-                self.admit(client, reply)?;
-                Ok(None)
-            }
-            Command::Begin { limit } => self.begin(limit, reply),
-            _ => Err(Refusal::BadLine),
+            OpeningCommand::New(sizes) => self.renew(sizes, reply)?,
+            OpeningCommand::Client(client) => self.admit(client, reply)?,
+            OpeningCommand::Begin(limit) => return self.begin(limit, reply),
         }
+        Ok(None)
     }
 
     /// Takes a fresh image in place of the one before.

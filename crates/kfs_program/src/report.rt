@@ -8,7 +8,7 @@ mod names;
 pub(crate) mod parts;
 
 use crate::answers::{Act, BeginFault, Reply};
-use kfs_image::{Header, Image, Kind};
+use kfs_image::{Header, Kind};
 use kfs_judge::mode::ClientFault;
 use names::{begin_fault, client_fault, judgement_fault, lease_fault};
 use parts::{field, flag, number, octal, text};
@@ -122,47 +122,4 @@ pub fn begin_line<A: Allocator>(out: &mut Vec<u8, A>, fault: BeginFault) -> Resu
     begin_fault(out, fault);
     text(out, b"\n");
     Ok(())
-}
-
-/// The line of a directory: `list N`, and for each name in order a space and `HEXNAME:NUMBER`. It may
-/// be long; memory is refused where there is none for it.
-pub fn list_line<A: Allocator + Copy>(
-    alloc: A,
-    out: &mut Vec<u8, A>,
-    image: &Image<A>,
-    dir: u32,
-) -> Result<(), AllocError>
-    ensures { OnErr result (out.new.items ≡ out.old.items) }
-{
-    let start = out.len();
-    let pushed = push_names(alloc, out, image, dir);
-    if pushed.is_err() {
-        out.truncate(start);
-    }
-    pushed
-}
-
-fn push_names<A: Allocator + Copy>(
-    alloc: A,
-    out: &mut Vec<u8, A>,
-    image: &Image<A>,
-    dir: u32,
-) -> Result<(), AllocError> {
-    out.try_reserve(LONGEST_LINE)?;
-    text(out, b"list");
-    field(out, u64::from(dir));
-    let mut after = None;
-    for _ in 0..u64::MAX {
-        let Some((name, node)) = image.next_name(dir, after) else {
-            break;
-        };
-        let digits = hex::encode(alloc, name.as_bytes())?;
-        out.extend_from_slice(b" ")?;
-        out.extend_from_slice(digits.as_bytes())?;
-        out.try_reserve(LONGEST_LINE)?;
-        text(out, b":");
-        number(out, u64::from(node));
-        after = Some(name);
-    }
-    out.extend_from_slice(b"\n")
 }

@@ -3,11 +3,12 @@ ghost use Rattle.std.specs.Prelude.{◌≤◌};
 ghost use Rattle.kfs_program.specs.Room.{spare_of};
 
 use crate::answers::Unanswered;
-use crate::command::Command;
+use crate::command::{Command, DeskCommand, OpeningCommand};
 use crate::desk::Desk;
+use crate::listing::list_line;
 use crate::opening::Opening;
 use crate::report::parts::text;
-use crate::report::{act_line, list_line, node_line, reply_line};
+use crate::report::{act_line, node_line, reply_line};
 use crate::words::Refusal;
 use kfs_image::{Answer, Cell, Kind, look};
 use std::alloc::Allocator;
@@ -39,7 +40,19 @@ impl<A: Allocator + Copy> Session<A> {
     pub fn answer(&mut self, line: &[u8], reply: &mut Vec<u8, A>) -> Result<(), Refusal>
         requires { 128 ≤ spare_of reply.old }
     {
-        let command = Command::read(self.alloc, line)?;
+        match Command::read(self.alloc, line)? {
+            Command::Opening(command) => self.answer_before(command, reply),
+            Command::Desk(command) => self.answer_after(command, reply),
+        }
+    }
+
+    fn answer_before(
+        &mut self,
+        command: OpeningCommand,
+        reply: &mut Vec<u8, A>,
+    ) -> Result<(), Refusal>
+        requires { 128 ≤ spare_of reply.old }
+    {
         match &mut self.stage {
             Stage::Before(opening) => {
                 if let Some(desk) = opening.answer(command, reply)? {
@@ -47,22 +60,34 @@ impl<A: Allocator + Copy> Session<A> {
                 }
                 Ok(())
             }
-            Stage::After(desk) => answer_after(self.alloc, desk, command, reply),
+            Stage::After(_) => Err(Refusal::BadLine),
+        }
+    }
+
+    fn answer_after(
+        &mut self,
+        command: DeskCommand<'_, A>,
+        reply: &mut Vec<u8, A>,
+    ) -> Result<(), Refusal>
+        requires { 128 ≤ spare_of reply.old }
+    {
+        match &mut self.stage {
+            Stage::Before(_) => Err(Refusal::BadLine),
+            Stage::After(desk) => answer_by_desk(self.alloc, desk, command, reply),
         }
     }
 }
 
-/// The commands that the desk answers.
-fn answer_after<A: Allocator + Copy>(
+fn answer_by_desk<A: Allocator + Copy>(
     alloc: A,
     desk: &mut Desk<A>,
-    command: Command<'_, A>,
+    command: DeskCommand<'_, A>,
     reply: &mut Vec<u8, A>,
 ) -> Result<(), Refusal>
     requires { 128 ≤ spare_of reply.old }
 {
     match command {
-        Command::Lease {
+        DeskCommand::Lease {
             client,
             path,
             kind,
@@ -71,13 +96,12 @@ fn answer_after<A: Allocator + Copy>(
             Ok(act) => Ok(act_line(reply, &act)?),
             Err(why) => unanswered(why, reply),
         },
-        Command::Submit(submission) => match desk.submit(submission) {
+        DeskCommand::Submit(submission) => match desk.submit(submission) {
             Ok(answer) => Ok(reply_line(reply, &answer)?),
             Err(why) => unanswered(why, reply),
         },
-        Command::Node { number } => show_node(desk, number, reply),
-        Command::List { number } => show_names(alloc, desk, number, reply),
-        Command::New(_) | Command::Client(_) | Command::Begin { .. } => Err(Refusal::BadLine),
+        DeskCommand::Node(number) => show_node(desk, number, reply),
+        DeskCommand::List(number) => show_names(alloc, desk, number, reply),
     }
 }
 
@@ -117,7 +141,7 @@ fn show_names<A: Allocator + Copy>(
 {
     match look(desk.image().shape(), &Cell::Header(number)) {
         Answer::Header(Some(header)) if header.kind == Kind::Directory => {
-            list_line(alloc, reply, desk.image(), number)?
+            list_line(alloc, reply, desk.image(), number)?;
         }
         _ => text(reply, b"none\n"),
     }

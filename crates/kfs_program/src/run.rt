@@ -1,0 +1,90 @@
+//! The words of the command line, and the exit status.
+
+use crate::{EngineFault, engine};
+use clap::Command;
+use clap::error::ErrorKind;
+use std::alloc::{Allocator, Global};
+use std::io::{Read, Write};
+
+/// What the words ask for.
+#[derive(Clone, Copy, Debug, PartialEq, Eq)]
+enum Subcommand {
+    /// `run`, or no word: answers command lines.
+    Run,
+}
+
+/// Why the words ask for nothing.
+#[derive(Clone, Copy, Debug, PartialEq, Eq)]
+enum WordsFault {
+    /// Other words, or more of them; a request for help, too.
+    Refused,
+    /// A growth of memory was refused.
+    OutOfMemory,
+}
+
+/// Does what the words ask for, over `reader` and `writer`. The first word is the program's name. The
+/// words are looked at before any input is read.
+///
+/// Answers the exit status: 0 done; 2 the words were refused; 3 a read or a write failed, or a line
+/// was too long; 4 no memory for the words or for a line of the input.
+pub fn run_words<R, A, I, O>(
+    rt: &R,
+    alloc: A,
+    words: &[&str],
+    reader: &mut I,
+    writer: &mut O,
+) -> u8
+where
+    R: AllocGlobal,
+    A: Allocator + Copy,
+    I: Read,
+    O: Write,
+{
+    match asked_of(rt.alloc(), words) {
+        Ok(Subcommand::Run) => status_of(engine(rt, alloc, reader, writer)),
+        Err(WordsFault::Refused) => 2,
+        Err(WordsFault::OutOfMemory) => 4,
+    }
+}
+
+/// What a status that is no success means, for the person who reads it.
+pub fn status_message(status: u8) -> Option<&'static str> {
+    match status {
+        2 => Some("usage: kfs [run]"),
+        3 => Some("the input or the output failed, or a line was too long"),
+        4 => Some("out of memory"),
+        _ => None,
+    }
+}
+
+fn status_of(ended: Result<(), EngineFault>) -> u8 {
+    match ended {
+        Ok(()) => 0,
+        Err(EngineFault::OutOfMemory) => 4,
+        Err(_) => 3,
+    }
+}
+
+/// The subcommand that the words name. `clap` takes some words for none, as `--`, so the count of the
+/// words is asked too.
+fn asked_of(alloc: Global, words: &[&str]) -> Result<Subcommand, WordsFault> {
+    let asked = match parsed(alloc, words) {
+        Ok(asked) => asked,
+        Err(error) if error.kind() == ErrorKind::OutOfMemory => {
+            return Err(WordsFault::OutOfMemory);
+        }
+        Err(_) => return Err(WordsFault::Refused),
+    };
+    match asked {
+        None if words.len() <= 1 => Ok(Subcommand::Run),
+        Some(run) if words.len() == 2 => Ok(run),
+        _ => Err(WordsFault::Refused),
+    }
+}
+
+fn parsed(alloc: Global, words: &[&str]) -> Result<Option<Subcommand>, clap::Error> {
+    let run = Command::new(alloc, "run");
+    let command = Command::new(alloc, "kfs").subcommand(run)?;
+    let matches = command.try_get_matches_from(words)?;
+    Ok(matches.subcommand().map(|_| Subcommand::Run))
+}
