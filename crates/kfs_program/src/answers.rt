@@ -43,6 +43,7 @@ pub enum Unanswered {
 impl From<AllocError> for Unanswered {
     ghost use Rattle.std.specs.Prelude.{◌≡◌};
     ghost use Rattle.kfs_program.specs.declared.answers.Unanswered.TheVariants.{OutOfMemory};
+
     ghost from_gives = { λ _ why. why ≡ OutOfMemory };
 
     fn from(_error: AllocError) -> Unanswered {

@@ -87,9 +87,7 @@ fn read_client(words: &mut Words<'_>) -> Result<OpeningCommand, Refusal> {
 }
 
 /// The path `/` alone is read yet: a line with another path is a bad line.
-fn read_lease<'a, A: Allocator>(
-    words: &mut Words<'a>,
-) -> Result<DeskCommand<'a, A>, Refusal> {
+fn read_lease<'a, A: Allocator>(words: &mut Words<'a>) -> Result<DeskCommand<'a, A>, Refusal> {
     let client = words.number()?;
     let path = words.word()?;
     if path != b"/".as_slice() {

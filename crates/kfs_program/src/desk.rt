@@ -3,8 +3,8 @@ ghost use Rattle.std.specs.Prelude.{◌≡◌, ◌≤◌, ◌<◌, ◌↔◌, If
 ghost use Rattle.kfs_program.specs.declared.answers.Unanswered.{Unanswered};
 
 use crate::answers::{Act, BeginBack, BeginFault, Reply, Unanswered};
-use kfs_image::shape::{Fill, net_apply};
 use kfs_image::Image;
+use kfs_image::shape::{Fill, net_apply};
 use kfs_judge::View;
 use kfs_judge::lease::{LeaseFault, LeaseKind, Leases};
 use kfs_judge::mode::Client;
@@ -149,7 +149,10 @@ fn land<A: Allocator + Copy>(
 fn first_fault(clients: &[Client]) -> Option<BeginFault> {
     for (index, client) in clients.iter().enumerate() {
         let earlier = &clients[..index];
-        if earlier.iter().any(|other| other.number() == client.number()) {
+        if earlier
+            .iter()
+            .any(|other| other.number() == client.number())
+        {
             return Some(BeginFault::ClientTwice(index));
         }
         if earlier.iter().any(|other| grants_overlap(other, client)) {

@@ -15,10 +15,9 @@ mod run;
 mod session;
 mod words;
 
+use conversation::Conversation;
 pub use fault::EngineFault;
 pub use run::{run_words, status_message};
-
-use conversation::Conversation;
 use std::alloc::{AllocError, Allocator};
 use std::io::{ErrorKind, Read, Write};
 
@@ -32,7 +31,12 @@ const CHUNK: usize = 65_536;
 /// input is never kept whole.
 ///
 /// Where it stops early, the lines before were answered.
-pub fn engine<R, A, I, O>(_rt: &R, alloc: A, reader: &mut I, writer: &mut O) -> Result<(), EngineFault>
+pub fn engine<R, A, I, O>(
+    _rt: &R,
+    alloc: A,
+    reader: &mut I,
+    writer: &mut O,
+) -> Result<(), EngineFault>
 where
     A: Allocator + Copy,
     I: Read,

@@ -98,10 +98,7 @@ pub fn node_line<A: Allocator>(
 }
 
 /// The line of a client that was refused: `client NAME`.
-pub fn client_line<A: Allocator>(
-    out: &mut Vec<u8, A>,
-    fault: ClientFault,
-) -> Result<(), AllocError>
+pub fn client_line<A: Allocator>(out: &mut Vec<u8, A>, fault: ClientFault) -> Result<(), AllocError>
     ensures room { 128 ≤ spare_of out.old → IsOk result }
     ensures err { OnErr result (out.new.items ≡ out.old.items) }
 {

@@ -27,13 +27,7 @@ enum WordsFault {
 ///
 /// Answers the exit status: 0 done; 2 the words were refused; 3 a read or a write failed, or a line
 /// was too long; 4 no memory for the words or for a line of the input.
-pub fn run_words<R, A, I, O>(
-    rt: &R,
-    alloc: A,
-    words: &[&str],
-    reader: &mut I,
-    writer: &mut O,
-) -> u8
+pub fn run_words<R, A, I, O>(rt: &R, alloc: A, words: &[&str], reader: &mut I, writer: &mut O) -> u8
 where
     R: AllocGlobal,
     A: Allocator + Copy,

@@ -15,6 +15,7 @@ pub enum Refusal {
 impl From<AllocError> for Refusal {
     ghost use Rattle.kfs_program.specs.declared.words.Refusal.TheVariants.{OutOfMemory};
     ghost use Rattle.std.specs.Prelude.{◌≡◌};
+
     ghost from_gives = { λ _ refusal. refusal ≡ OutOfMemory };
 
     fn from(_error: AllocError) -> Refusal {
@@ -25,6 +26,7 @@ impl From<AllocError> for Refusal {
 impl<T: Drop> From<AllocFailed<T>> for Refusal {
     ghost use Rattle.kfs_program.specs.declared.words.Refusal.TheVariants.{OutOfMemory};
     ghost use Rattle.std.specs.Prelude.{◌≡◌};
+
     ghost from_gives = { λ _ refusal. refusal ≡ OutOfMemory };
 
     fn from(_error: AllocFailed<T>) -> Refusal {

@@ -29,7 +29,7 @@ pub fn judgement_fault<A: Allocator>(out: &mut Vec<u8, A>, fault: Fault)
         }
         Fault::Entry(fault) => {
             text(out, b"entry ");
-            number(out, u64::from(fault.index));
+            number(out, fault.index as u64);
             text(out, b" ");
             entry_reason(out, fault.reason);
         }
