@@ -65,7 +65,7 @@ file_shown {B} fabric names n node change size file long = at node.body file
     at Names file = cc
 
 module _ {B : Type 0} (fabric : Fabric B) (scene : Scene) (index : ℕ) (created : List ℕ) (t : Tree B) where
-  pub chmod_kept : (n mode : ℕ) → IsClean fabric scene index created t (Chmod n mode) → IsKept fabric scene index created t (Chmod n mode)
+  pub chmod_kept : (n mode : ℕ) → IsClean scene created t (Chmod n mode) → IsKept fabric scene index t (Chmod n mode)
   unfolding checks_of fault change_of seen_after
   chmod_kept n mode h =
       let pass = all_pass (spot scene (sight t) created) _ h.clean in
@@ -79,7 +79,7 @@ module _ {B : Type 0} (fabric : Fabric B) (scene : Scene) (index : ℕ) (created
   shown_as_file : (n : ℕ) (node : Node B) → get t.nodes n ≡ Some node → is_directory (get (headers t) n) ≡ false → is_directory (Some (header_of t.names n node)) ≡ false
   shown_as_file n node there file = sym (ap is_directory (get-headers t n ∙ ap (option_map (header_of t.names n)) there)) ∙ file
 
-  pub truncate_kept : (n size : ℕ) → IsClean fabric scene index created t (Truncate n size) → IsKept fabric scene index created t (Truncate n size)
+  pub truncate_kept : (n size : ℕ) → IsClean scene created t (Truncate n size) → IsKept fabric scene index t (Truncate n size)
   unfolding checks_of fault change_of seen_after
   truncate_kept n size h =
       let pass = all_pass (spot scene (sight t) created) _ h.clean in
@@ -98,7 +98,7 @@ module _ {B : Type 0} (fabric : Fabric B) (scene : Scene) (index : ℕ) (created
   written_fits p offset [] size pass fits = fits
   written_fits p offset (b ∷ bs) size pass fits = let ends = leb-true (offset + length (b ∷ bs)) size_limit (passed _ _ pass.0) in omega arith
 
-  pub write_kept : IsFaithful fabric → (n offset : ℕ) (payload : List ℕ) → IsClean fabric scene index created t (Write n offset payload) → IsKept fabric scene index created t (Write n offset payload)
+  pub write_kept : IsFaithful fabric → (n offset : ℕ) (payload : List ℕ) → IsClean scene created t (Write n offset payload) → IsKept fabric scene index t (Write n offset payload)
   unfolding checks_of fault change_of seen_after
   write_kept faithful n offset payload h =
       let pass = all_pass (spot scene (sight t) created) _ h.clean in

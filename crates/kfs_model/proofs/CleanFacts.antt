@@ -1,11 +1,12 @@
 -- What the checks of a clean entry say of what the cells show.
-use Rattle.std.proofs.Common.{◌≡◌, ◌≢◌, ℕ, ◌+◌, ◌<◌, ◌≤◌, Bool, true, false, not, ltb, List, Option, Some, None, is_some, is_none, IsTrue, refl, sym, ap, subst, ◌∙◌, ltb-true}
-use Rattle.std.proofs.lemmas.Bool.{leb-true, not-true}
+use Rattle.std.proofs.Common.{◌≡◌, ◌≢◌, ℕ, ◌+◌, ◌<◌, ◌≤◌, Bool, true, false, not, ltb, ◌==◌, if◌then◌else◌, pos, List, [], ◌∷◌, ◌++◌, Option, Some, None, is_some, is_none, IsTrue, refl, sym, ap, subst, ◌∙◌, ltb-true, eqb-true}
+use Rattle.std.proofs.lemmas.Bool.{leb-true, not-true, eqb-false, false≢true}
+use Rattle.std.proofs.lemmas.Bool.Decides.{Decides-int_eq}
 use Rattle.kfs_model.specs.Header.{Kind, File, Directory, Header}
 use Rattle.kfs_model.specs.Access.{Client, is_granted}
-use Rattle.kfs_model.specs.Entry.{Entry, Create, Link}
-use Rattle.kfs_model.specs.Sight.{Sight, is_directory, is_file}
-use Rattle.kfs_model.specs.Check.{Spot, fault, checks_of, first_failing, first_fault, link_limit}
+use Rattle.kfs_model.specs.Entry.{Entry, Create, Link, Unlink, Rename}
+use Rattle.kfs_model.specs.Sight.{Sight, is_directory, is_file, climb_limit, climb_meets}
+use Rattle.kfs_model.specs.Check.{Spot, fault, checks_of, first_failing, first_fault, link_limit, Check, may_go, on_number, unless_same, move_checks, stays_apart, kind_moved}
 use Rattle.kfs_model.proofs.CleanIsAllowed.{AllPass, all_pass, passed, found, left, right}
 
 pub none_is : {X : Type 0} (o : Option X) → IsTrue (is_none o) → o ≡ None
@@ -60,3 +61,74 @@ link_facts p n d m clean =
       free = none_is _ (passed _ _ after_file.1.1.1.1.1.1.0);
       room = λ g is. let same : h ≡ g = cc in subst (λ (h : Header). h.links < 1024) same (ltb-true h.links link_limit few);
     }
+
+-- ---- what the checks of an Unlink say, and of what a Rename replaces
+
+-- what is to go has no names where it is a directory
+pub goes_empty : (p : Spot) (kind : Kind) (t : ℕ) → AllPass p (may_go kind t) → IsTrue (is_directory (p.now.head t)) → p.now.count t ≡ pos 0
+unfolding fault
+goes_empty p File t pass directory = let file = not-true _ (passed _ _ pass.0) in absurd (false≢true (sym file ∙ directory))
+goes_empty p Directory t pass directory = (Decides-int_eq (p.now.count t) (pos 0)).0 (passed _ _ pass.1.1.0)
+
+pub record UnlinkFacts (s : Sight) (d : ℕ) (m : List ℕ) : Type 0 where
+  pub number : ℕ
+  pub there : s.name d m ≡ Some number
+  pub empty : IsTrue (is_directory (s.head number)) → s.count number ≡ pos 0
+
+pub unlink_facts : (p : Spot) (d : ℕ) (m : List ℕ) (kind : Kind) → first_fault p (Unlink d m kind) ≡ None → UnlinkFacts p.now d m
+unfolding checks_of fault
+unlink_facts p d m kind clean =
+    let pass = all_pass p _ clean in
+    at (p.now.name d m) refl (passed _ _ pass.1.1.1.1.1.0) pass.1.1.1.1.1.1
+  where
+    at : (o : Option ℕ) → p.now.name d m ≡ o → IsTrue (is_some o) → AllPass p (on_number o (may_go kind)) → UnlinkFacts p.now d m
+    at None is some pass = cc
+    at (Some t) is some pass = record { number = t; there = is; empty = goes_empty p kind t pass }
+
+-- ---- what the checks of a Rename say
+
+-- of the node moved, and of what the new name leads to
+pub data RenameCase (s : Sight) (d : ℕ) (m : List ℕ) (e : ℕ) (k : List ℕ) (n : ℕ) : Type 0 where
+  Same : (t : ℕ) → s.name e k ≡ Some t → t ≡ n → RenameCase s d m e k n
+  ToNone : s.name e k ≡ None → (IsTrue (is_directory (s.head n)) → climb_meets s.parent climb_limit n e ≡ false) → RenameCase s d m e k n
+  Over : (t : ℕ) → s.name e k ≡ Some t → t ≢ n → (IsTrue (is_directory (s.head n)) → climb_meets s.parent climb_limit n e ≡ false) → (IsTrue (is_directory (s.head t)) → s.count t ≡ pos 0) → RenameCase s d m e k n
+
+pub record RenameFacts (s : Sight) (d : ℕ) (m : List ℕ) (e : ℕ) (k : List ℕ) : Type 0 where
+  pub to : IsTrue (is_directory (s.head e))
+  pub number : ℕ
+  pub there : s.name d m ≡ Some number
+  pub way : RenameCase s d m e k number
+
+-- a list of checks passes where both its parts do
+parts_pass : (p : Spot) (front back : List Check) → AllPass p (front ++ back) → AllPass p front × AllPass p back
+parts_pass p [] back pass = (tt, pass)
+parts_pass p (check ∷ front) back pass = let rest = parts_pass p front back pass.1 in ((pass.0, rest.0), rest.1)
+
+keeps_apart : (p : Spot) (b : Bool) (n e : ℕ) → AllPass p (stays_apart b n e) → b ≡ true → climb_meets p.now.parent climb_limit n e ≡ false
+unfolding fault
+keeps_apart p true n e pass is = not-true _ (passed _ _ pass.0)
+keeps_apart p false n e pass is = cc
+
+pub rename_facts : (p : Spot) (d : ℕ) (m : List ℕ) (e : ℕ) (k : List ℕ) → first_fault p (Rename d m e k) ≡ None → RenameFacts p.now d m e k
+unfolding checks_of fault
+rename_facts p d m e k clean =
+    let pass = all_pass p _ clean in
+    let to = pass.1.1.1.0 in
+    at (p.now.name d m) refl (passed _ _ pass.1.1.1.1.1.1.0) (passed _ _ to) pass.1.1.1.1.1.1.1.1
+  where
+    moved : (n : ℕ) (there : Option ℕ) → AllPass p (move_checks p d e n there) → AllPass p (stays_apart (is_directory (p.now.head n)) n e) × AllPass p (on_number there (may_go (kind_moved (is_directory (p.now.head n)))))
+    moved n there pass = parts_pass p (stays_apart (is_directory (p.now.head n)) n e) _ pass.1.1.1.1.1.1
+
+    way : (n : ℕ) (there : Option ℕ) → p.now.name e k ≡ there → AllPass p (unless_same there n (move_checks p d e n there)) → RenameCase p.now d m e k n
+    way n None is pass = ToNone is (keeps_apart p (is_directory (p.now.head n)) n e (moved n None pass).0)
+    way n (Some t) is pass = to_other (t == n) refl pass
+      where
+        to_other : (b : Bool) → (t == n) ≡ b → AllPass p (if b then [] else move_checks p d e n (Some t)) → RenameCase p.now d m e k n
+        to_other true same pass = Same t is (eqb-true t n same)
+        to_other false other pass =
+            let parts = moved n (Some t) pass in
+            Over t is (eqb-false t n other) (keeps_apart p (is_directory (p.now.head n)) n e parts.0) (goes_empty p (kind_moved (is_directory (p.now.head n))) t parts.1)
+
+    at : (o : Option ℕ) → p.now.name d m ≡ o → IsTrue (is_some o) → IsTrue (is_directory (p.now.head e)) → AllPass p (on_number o (λ n. unless_same (p.now.name e k) n (move_checks p d e n (p.now.name e k)))) → RenameFacts p.now d m e k
+    at None is some to pass = cc
+    at (Some n) is some to pass = record { to = to; number = n; there = is; way = way n (p.now.name e k) refl pass }

@@ -15,7 +15,7 @@ use Rattle.kfs_model.specs.Spelling.{IsEntry, IsName}
 use Rattle.kfs_model.specs.FirstWrong.{same_place}
 use Rattle.kfs_model.specs.SeenAfter.{put_at, put_name, shifted, put_parent, new_header, seen_after}
 use Rattle.kfs_model.specs.CleanStep.{IsClient, IsClean, IsKept}
-use Rattle.kfs_model.proofs.CleanFacts.{CreateFacts}
+use Rattle.kfs_model.proofs.CleanFacts.{CreateFacts, create_facts}
 use Rattle.kfs_model.proofs.Exact.{places-exact}
 use Rattle.kfs_model.proofs.Links.{at_number-insert, target-insert}
 use Rattle.kfs_model.proofs.NameAdded.{new_target, kept_target, new_or_old, others_count, own_count, count_shifted}
@@ -180,3 +180,11 @@ module _ {B : Type 0} (fabric : Fabric B) (client : Client) (index : ℕ) (t : T
   pub create_sound : IsClient client → IsEntry entry → IsSound (effect fabric client index entry t)
   unfolding change_of swept
   create_sound fits entry_fits = subst (λ heads. AreSound heads after) (λ i k. sym (head_after k) i) (heads_sound fits entry_fits)
+
+pub create_kept : {B : Type 0} (fabric : Fabric B) (scene : Scene) (index : ℕ) (created : List ℕ) (t : Tree B) (d : ℕ) (m : List ℕ) (n : ℕ) (kind : Kind) (mode : ℕ) → IsClean scene created t (Create d m n kind mode) → IsKept fabric scene index t (Create d m n kind mode)
+create_kept fabric scene index created t d m n kind mode h =
+    let facts = create_facts (spot scene (sight t) created) d m n kind mode h.clean in
+    record {
+      sound = create_sound fabric scene.client index t d m n kind mode h.sound facts h.client h.entry_fits;
+      seen = create_seen fabric scene.client index t d m n kind mode h.sound facts;
+    }

@@ -2,7 +2,7 @@
 use Rattle.std.proofs.Common.{◌≡◌, ◌≢◌, ℕ, zero, suc, ◌+◌, ◌<◌, ◌≤◌, Bool, true, false, cond, not, ◌&&◌, ◌||◌, ◌==◌, ltb, List, Option, Some, None, option_map, IsTrue, refl, sym, ap, subst, ◌∙◌, ◌⊎◌, inl, inr, ⊎_elim, arith, lt-ltb, eqb-true, eq-eqb, ne_eqb}
 use Rattle.std.proofs.lemmas.Bool.{or_left, or_right, eqb-false, and_parts, not-true, false≢true}
 use Rattle.kfs_model.specs.Header.{Kind, File, Directory, Header}
-use Rattle.kfs_model.specs.Table.{numbers, get, get-mapped, get-retain, retain}
+use Rattle.kfs_model.specs.Table.{numbers, get, same_table, get-mapped, get-retain, retain}
 use Rattle.kfs_model.specs.Tree.{Tree, Node, Body, Cells, Names, Links, headers, header_of, links_of, kind_of, size_of, target, name_count, is_named}
 use Rattle.kfs_model.specs.Sight.{is_directory, is_file, holder, parent_in}
 use Rattle.kfs_model.specs.Effect.{swept}
@@ -65,6 +65,19 @@ module _ {B : Type 0} (t : Tree B) (sound : IsSound t) where
       at : (body : Body B) → node.body ≡ body → stays t.names k ≡ true
       at (Cells cells) e = named_stays t.names k (sound.files k (ap is_file shown ∙ ap (λ b. is_file (Some (header_of t.names k (record node { body = b })))) e)).0
       at Names e = directory_stays k (ap is_directory shown ∙ ap (λ b. is_directory (Some (header_of t.names k (record node { body = b })))) e)
+
+  -- a sound tree is its own sweep
+  pub own_sweep : swept t ≡ t
+  unfolding swept
+  own_sweep = λ i. record { nodes = same_table _ t.nodes (λ k. get-retain (λ n. (n == 1) || is_named t.names n) t.nodes k ∙ at k (get t.nodes k) refl) i; names = t.names }
+    where
+      at : (k : ℕ) (o : Option (Node B)) → get t.nodes k ≡ o → cond (stays t.names k) (get t.nodes k) None ≡ get t.nodes k
+      at k None is = ap (λ o. cond (stays t.names k) o None) is ∙ nothing (stays t.names k) ∙ sym is
+        where
+          nothing : (b : Bool) → ◌≡◌ {A = Option (Node B)} (cond b None None) None
+          nothing true = refl
+          nothing false = refl
+      at k (Some node) is = ap (λ b. cond b (get t.nodes k) None) (node_stays k node is)
 
   -- what a node shows stays where as many names lead to it as before
   pub kept_head : (others : Links) (k : ℕ) → name_count others k ≡ name_count t.names k → option_map (header_of others k) (cond (stays others k) (get t.nodes k) None) ≡ get (headers t) k

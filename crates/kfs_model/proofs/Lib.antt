@@ -23,4 +23,6 @@ pub mod Climb
 pub mod LinkStep
 pub mod UnlinkStep
 pub mod MoveStep
+pub mod RenameStep
+pub mod SeenRun
 pub mod NameStep

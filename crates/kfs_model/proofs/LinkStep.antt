@@ -150,7 +150,7 @@ module _ {B : Type 0} (t : Tree B) (sound : IsSound t) (n d : ℕ) (m : List ℕ
   link_sound spelled = names_kept_sound t after sound (names_kept spelled)
 
 module _ {B : Type 0} (fabric : Fabric B) (scene : Scene) (index : ℕ) (created : List ℕ) (t : Tree B) where
-  pub link_kept : (n d : ℕ) (m : List ℕ) → IsClean fabric scene index created t (Link n d m) → IsKept fabric scene index created t (Link n d m)
+  pub link_kept : (n d : ℕ) (m : List ℕ) → IsClean scene created t (Link n d m) → IsKept fabric scene index t (Link n d m)
   unfolding change_of seen_after
   link_kept n d m h =
       let facts = link_facts (spot scene (sight t) created) n d m h.clean in

@@ -35,7 +35,7 @@ module _ {B : Type 0} (t : Tree B) (sound : IsSound t) (d : ℕ) (m : List ℕ) 
       at true = refl
       at false = free
 
-  same_count : (x : ℕ) → name_count after x ≡ name_count t.names x
+  pub same_count : (x : ℕ) → name_count after x ≡ name_count t.names x
   same_count x = at (x == n) refl
     where
       at : (b : Bool) → (x == n) ≡ b → name_count after x ≡ name_count t.names x

@@ -18,19 +18,18 @@ pub record IsClient (client : Client) : Type 0 where
   pub first : 1 ≤ client.first
   pub last : client.last ≤ 65536
 
-module _ {B : Type 0} (fabric : Fabric B) where
-  -- a payload has a cell for each byte
-  pub record IsFaithful : Type 0 where
-    pub long : (index : ℕ) (payload : List ℕ) → length (fabric.payload index payload) ≡ length payload
+-- a payload has a cell for each byte
+pub record IsFaithful {B : Type 0} (fabric : Fabric B) : Type 0 where
+  pub long : (index : ℕ) (payload : List ℕ) → length (fabric.payload index payload) ≡ length payload
 
-  module _ (scene : Scene) (index : ℕ) (created : List ℕ) (t : Tree B) (entry : Entry) where
-    -- a tree, a client and an entry in their ranges, and no check fails
-    pub record IsClean : Type 0 where
-      pub sound : IsSound t
-      pub client : IsClient scene.client
-      pub entry_fits : IsEntry entry
-      pub clean : first_fault (spot scene (sight t) created) entry ≡ None
+-- a tree, a client and an entry in their ranges, and no check fails
+pub record IsClean {B : Type 0} (scene : Scene) (created : List ℕ) (t : Tree B) (entry : Entry) : Type 0 where
+  pub sound : IsSound t
+  pub client : IsClient scene.client
+  pub entry_fits : IsEntry entry
+  pub clean : first_fault (spot scene (sight t) created) entry ≡ None
 
-    pub record IsKept : Type 0 where
-      pub sound : IsSound (effect fabric scene.client index entry t)
-      pub seen : sight (effect fabric scene.client index entry t) ≡ seen_after scene.client (sight t) entry
+-- the entry with this number in its log leaves the tree sound
+pub record IsKept {B : Type 0} (fabric : Fabric B) (scene : Scene) (index : ℕ) (t : Tree B) (entry : Entry) : Type 0 where
+  pub sound : IsSound (effect fabric scene.client index entry t)
+  pub seen : sight (effect fabric scene.client index entry t) ≡ seen_after scene.client (sight t) entry

@@ -4,7 +4,8 @@ use Rattle.std.specs.Prelude.{ℕ, ◌+◌, ◌-◌, ◌==◌, nat_le, max, Bool
 use Rattle.kfs_model.specs.Header.{Kind, File, Directory, Header}
 use Rattle.kfs_model.specs.Access.{Client}
 use Rattle.kfs_model.specs.Entry.{Entry, Create, Write, Truncate, Link, Unlink, Rename, Chmod}
-use Rattle.kfs_model.specs.Sight.{Sight, is_directory}
+use Rattle.kfs_model.specs.Tree.{Tree}
+use Rattle.kfs_model.specs.Sight.{Sight, sight, is_directory}
 use Rattle.kfs_model.specs.Check.{first_fault}
 use Rattle.kfs_model.specs.FirstWrong.{same_place}
 use Rattle.kfs_model.specs.Run.{Scene, EntryFault, spot, created_by}
@@ -107,3 +108,8 @@ module _ (scene : Scene) where
     | None ↦ seen_run_from (index + 1) (created_by entry created) (seen_after scene.client now entry) entries
     | Some reason ↦ Err (record { entry = index; reason = reason })
   ]
+
+-- a run over trees as the cells show it
+abbrev pub shown_run : {B : Type 0} → Result (Tree B) EntryFault → Result Sight EntryFault
+shown_run (Ok t) = Ok (sight t)
+shown_run (Err fault) = Err fault

@@ -1,0 +1,72 @@
+-- The run over trees is the run over what their cells show, and it keeps a sound tree sound.
+use Rattle.std.proofs.Common.{◌≡◌, ℕ, zero, suc, ◌+◌, List, [], ◌∷◌, length, Option, Some, None, Result, Ok, Err, refl, sym, ap, subst, ◌∙◌}
+use Rattle.std.specs.List.{AllByRecursion}
+use Rattle.kfs_model.specs.Tree.{Tree}
+use Rattle.kfs_model.specs.Entry.{Entry, Create, Write, Truncate, Link, Unlink, Rename, Chmod}
+use Rattle.kfs_model.specs.Sight.{Sight, sight}
+use Rattle.kfs_model.specs.Check.{Reason, first_fault}
+use Rattle.kfs_model.specs.Effect.{Fabric, effect}
+use Rattle.kfs_model.specs.Run.{Scene, EntryFault, Mark, spot, created_by, run_from, bytes, marks, places_from}
+use Rattle.kfs_model.specs.Soundness.{IsSound}
+use Rattle.kfs_model.specs.Spelling.{IsEntry}
+use Rattle.kfs_model.specs.SeenAfter.{seen_after, seen_run_from, shown_run}
+use Rattle.kfs_model.specs.CleanStep.{IsClient, IsFaithful, IsClean, IsKept}
+use Rattle.kfs_model.proofs.CreateStep.{create_kept}
+use Rattle.kfs_model.proofs.CellSteps.{chmod_kept, truncate_kept, write_kept}
+use Rattle.kfs_model.proofs.LinkStep.{link_kept}
+use Rattle.kfs_model.proofs.RenameStep.{unlink_kept, rename_kept}
+
+pub bytes_faithful : IsFaithful bytes
+bytes_faithful = record { long = λ index payload. refl }
+
+places_long : {X : Type 0} (at : ℕ → X) (place : ℕ) (payload : List ℕ) → length (places_from at place payload) ≡ length payload
+places_long at place [] = refl
+places_long at place (b ∷ bs) = ap suc (places_long at (place + 1) bs)
+
+pub marks_faithful : IsFaithful marks
+marks_faithful = record { long = λ index payload. places_long (Mark.Payload index) 0 payload }
+
+module _ {B : Type 0} (fabric : Fabric B) (faithful : IsFaithful fabric) (scene : Scene) where
+  -- a clean entry keeps a sound tree sound, and moves what its cells show
+  pub clean_step : (index : ℕ) (created : List ℕ) (t : Tree B) (entry : Entry) → IsClean scene created t entry → IsKept fabric scene index t entry
+  clean_step index created t (Create d m n kind mode) h = create_kept fabric scene index created t d m n kind mode h
+  clean_step index created t (Write n offset payload) h = write_kept fabric scene index created t faithful n offset payload h
+  clean_step index created t (Truncate n size) h = truncate_kept fabric scene index created t n size h
+  clean_step index created t (Link n d m) h = link_kept fabric scene index created t n d m h
+  clean_step index created t (Unlink d m kind) h = unlink_kept fabric scene index created t d m kind h
+  clean_step index created t (Rename d m e k) h = rename_kept fabric scene index created t d m e k h
+  clean_step index created t (Chmod n mode) h = chmod_kept fabric scene index created t n mode h
+
+  pub run_is_seen : IsClient scene.client → (index : ℕ) (created : List ℕ) (t : Tree B) (entries : List Entry) → IsSound t → AllByRecursion IsEntry entries
+    → shown_run (run_from fabric scene index created t entries) ≡ seen_run_from scene index created (sight t) entries
+  unfolding run_from seen_run_from
+  run_is_seen client index created t [] sound fit = refl
+  run_is_seen client index created t (entry ∷ entries) sound fit =
+      at (first_fault (spot scene (sight t) created) entry) (λ clean.
+        let kept = clean_step index created t entry (record { sound = sound; client = client; entry_fits = fit.0; clean = clean }) in
+        run_is_seen client (index + 1) (created_by entry created) (effect fabric scene.client index entry t) entries kept.sound fit.1
+          ∙ ap (λ now. seen_run_from scene (index + 1) (created_by entry created) now entries) kept.seen) refl
+    where
+      at : (o : Option Reason)
+        → (first_fault (spot scene (sight t) created) entry ≡ None → shown_run (run_from fabric scene (index + 1) (created_by entry created) (effect fabric scene.client index entry t) entries) ≡ seen_run_from scene (index + 1) (created_by entry created) (seen_after scene.client (sight t) entry) entries)
+        → first_fault (spot scene (sight t) created) entry ≡ o
+        → shown_run (elim o [ None ↦ run_from fabric scene (index + 1) (created_by entry created) (effect fabric scene.client index entry t) entries | Some reason ↦ Err (record { entry = index; reason = reason }) ])
+          ≡ elim o [ None ↦ seen_run_from scene (index + 1) (created_by entry created) (seen_after scene.client (sight t) entry) entries | Some reason ↦ Err (record { entry = index; reason = reason }) ]
+      at None rest is = rest is
+      at (Some reason) rest is = refl
+
+  pub run_keeps_sound : IsClient scene.client → (index : ℕ) (created : List ℕ) (t : Tree B) (entries : List Entry) → IsSound t → AllByRecursion IsEntry entries → (after : Tree B) → run_from fabric scene index created t entries ≡ Ok after → IsSound after
+  unfolding run_from
+  run_keeps_sound client index created t [] sound fit after is = let same : t ≡ after = cc in subst IsSound same sound
+  run_keeps_sound client index created t (entry ∷ entries) sound fit after is =
+      at (first_fault (spot scene (sight t) created) entry) (λ clean.
+        let kept = clean_step index created t entry (record { sound = sound; client = client; entry_fits = fit.0; clean = clean }) in
+        run_keeps_sound client (index + 1) (created_by entry created) (effect fabric scene.client index entry t) entries kept.sound fit.1 after) refl is
+    where
+      at : (o : Option Reason)
+        → (first_fault (spot scene (sight t) created) entry ≡ None → run_from fabric scene (index + 1) (created_by entry created) (effect fabric scene.client index entry t) entries ≡ Ok after → IsSound after)
+        → first_fault (spot scene (sight t) created) entry ≡ o
+        → ◌≡◌ {A = Result (Tree B) EntryFault} (elim o [ None ↦ run_from fabric scene (index + 1) (created_by entry created) (effect fabric scene.client index entry t) entries | Some reason ↦ Err (record { entry = index; reason = reason }) ]) (Ok after)
+        → IsSound after
+      at None rest clean is = rest clean is
+      at (Some reason) rest clean is = cc
