@@ -34,8 +34,8 @@ meets_no_more parent fewer each zero n from apart = apart
 meets_no_more parent fewer each (suc fuel) n from apart = at (from == n) (parent from) (fewer from) (each from) (meets_no_more parent fewer each fuel n) apart
   where
     at : (b : Bool) (o less : Option ℕ) → (less ≡ None) ⊎ (less ≡ o) → ((up : ℕ) → climb_meets parent fuel n up ≡ false → climb_meets fewer fuel n up ≡ false)
-      → ◌≡◌ {A = Bool} (elim b [ true ↦ true | false ↦ elim o [ None ↦ false | Some up ↦ climb_meets parent fuel n up ] ]) false
-      → ◌≡◌ {A = Bool} (elim b [ true ↦ true | false ↦ elim less [ None ↦ false | Some up ↦ climb_meets fewer fuel n up ] ]) false
+        → ◌≡◌ {A = Bool} (elim b [ true ↦ true | false ↦ elim o [ None ↦ false | Some up ↦ climb_meets parent fuel n up ] ]) false
+        → ◌≡◌ {A = Bool} (elim b [ true ↦ true | false ↦ elim less [ None ↦ false | Some up ↦ climb_meets fewer fuel n up ] ]) false
     at true o less is rest apart = apart
     at false o None is rest apart = refl
     at false None (Some up) is rest apart = elim is [ inl none ↦ cc | inr same ↦ cc ]
@@ -43,7 +43,7 @@ meets_no_more parent fewer each (suc fuel) n from apart = at (from == n) (parent
         elim is [ inl none ↦ cc | inr same ↦ let is_above : above ≡ up = cc in rest up (subst (λ up. climb_meets parent fuel n up ≡ false) is_above apart) ]
 
 module _ {B : Type 0} (t : Tree B) (sound : IsSound t) (d : ℕ) (m : List ℕ) (e : ℕ) (k : List ℕ) (n over : ℕ) (there : target t.names d m ≡ Some n) (also : target t.names e k ≡ Some over) (other : over ≢ n)
-  (empty : IsTrue (is_directory (get (headers t) over)) → entry_count t.names over ≡ 0) where
+    (empty : IsTrue (is_directory (get (headers t) over)) → entry_count t.names over ≡ 0) where
   abbrev without : Links
   without = remove t.names (e, k)
 
@@ -72,9 +72,9 @@ module _ {B : Type 0} (t : Tree B) (sound : IsSound t) (d : ℕ) (m : List ℕ) 
       same_target : (f : ℕ) (l : List ℕ) → target at_once f l ≡ target in_two f l
       same_target f l =
           target-insert (remove t.names (d, m)) e k n f l ∙ ap (λ o. cond (same_place (f, l) (e, k)) (Some n) o) (target-remove t.names d m f l)
-            ∙ at (same_place (f, l) (e, k))
-            ∙ sym (target-insert (remove without (d, m)) e k n f l
-              ∙ ap (λ o. cond (same_place (f, l) (e, k)) (Some n) o) (target-remove without d m f l ∙ ap (λ o. cond (same_place (f, l) (d, m)) None o) (target-remove t.names e k f l)))
+          ∙ at (same_place (f, l) (e, k))
+          ∙ sym (target-insert (remove without (d, m)) e k n f l
+          ∙ ap (λ o. cond (same_place (f, l) (e, k)) (Some n) o) (target-remove without d m f l ∙ ap (λ o. cond (same_place (f, l) (d, m)) None o) (target-remove t.names e k f l)))
         where
           at : (b : Bool) → cond b (Some n) (cond (same_place (f, l) (d, m)) None (target t.names f l)) ≡ cond b (Some n) (cond (same_place (f, l) (d, m)) None (cond b None (target t.names f l)))
           at true = refl
@@ -100,8 +100,8 @@ module _ {B : Type 0} (t : Tree B) (sound : IsSound t) (d : ℕ) (m : List ℕ) 
       same_node : (x : ℕ) → get (swept (with_names in_two t)).nodes x ≡ get (swept (with_names in_two between)).nodes x
       same_node x =
           get-retain (λ n. (n == 1) || is_named in_two n) t.nodes x
-            ∙ twice (stays in_two x) (stays without x) (get t.nodes x) (same_stays x)
-            ∙ sym (get-retain (λ n. (n == 1) || is_named in_two n) between.nodes x ∙ ap (λ o. cond (stays in_two x) o None) (get-retain (λ n. (n == 1) || is_named without n) t.nodes x))
+          ∙ twice (stays in_two x) (stays without x) (get t.nodes x) (same_stays x)
+          ∙ sym (get-retain (λ n. (n == 1) || is_named in_two n) between.nodes x ∙ ap (λ o. cond (stays in_two x) o None) (get-retain (λ n. (n == 1) || is_named without n) t.nodes x))
 
   over_is : swept (with_names at_once t) ≡ swept (with_names in_two between)
   over_is = ap (λ names. swept (with_names names t)) same_names ∙ same_tree
@@ -127,9 +127,9 @@ module _ {B : Type 0} (t : Tree B) (sound : IsSound t) (d : ℕ) (m : List ℕ) 
   unfolding swept
   over_sound spelled directory apart =
       subst IsSound (sym over_is)
-        (move_sound between between_sound d m e k n there_still free_now spelled
-          (ap is_directory (head_elsewhere e (holder_apart t sound e k over also empty e k over also)) ∙ directory)
-          (λ moved. meets_no_more (sight t).parent (sight between).parent fewer_parents climb_limit n e (apart (sym (ap is_directory (head_elsewhere n (ne_eqb n over (λ same. other (sym same))))) ∙ moved))))
+      (move_sound between between_sound d m e k n there_still free_now spelled
+      (ap is_directory (head_elsewhere e (holder_apart t sound e k over also empty e k over also)) ∙ directory)
+      (λ moved. meets_no_more (sight t).parent (sight between).parent fewer_parents climb_limit n e (apart (sym (ap is_directory (head_elsewhere n (ne_eqb n over (λ same. other (sym same))))) ∙ moved))))
 
 -- ---- the entries
 
@@ -165,7 +165,7 @@ module _ {B : Type 0} (fabric : Fabric B) (scene : Scene) (index : ℕ) (created
   with_names_left d m e k left is = ap (λ names. swept (with_names names t)) is
 
   renamed_as : (d : ℕ) (m : List ℕ) (e : ℕ) (k : List ℕ) (left : Links) (there also : Option ℕ) → moved_name t.names d m e k ≡ left → target t.names d m ≡ there → target t.names e k ≡ also
-    → IsSound (swept (with_names left t)) → sight (swept (with_names left t)) ≡ seen_renamed d m e k there also (sight t) → IsKept fabric scene index t (Rename d m e k)
+      → IsSound (swept (with_names left t)) → sight (swept (with_names left t)) ≡ seen_renamed d m e k there also (sight t) → IsKept fabric scene index t (Rename d m e k)
   unfolding seen_after
   renamed_as d m e k left there also is there_is also_is sound seen = record {
     sound = subst IsSound (sym (with_names_left d m e k left is)) sound;
@@ -185,14 +185,14 @@ module _ {B : Type 0} (fabric : Fabric B) (scene : Scene) (index : ℕ) (created
       by_way (Same over also same) =
           let also_n = also ∙ ap Some same in
           renamed_as d m e k t.names (Some n) (Some n) (moved_nowhere t.names d m e k n facts.there also_n) facts.there also_n
-            (subst IsSound (sym (own_sweep t h.sound)) h.sound)
-            (ap sight (own_sweep t h.sound) ∙ ap (λ b. cond b (sight t) (seen_moved d m e k n (seen_without e k n (sight t)))) (sym (eq-eqb n n refl)))
+          (subst IsSound (sym (own_sweep t h.sound)) h.sound)
+          (ap sight (own_sweep t h.sound) ∙ ap (λ b. cond b (sight t) (seen_moved d m e k n (seen_without e k n (sight t)))) (sym (eq-eqb n n refl)))
       by_way (ToNone free apart) =
           renamed_as d m e k _ (Some n) None (moved_to_none t.names d m e k n facts.there free) facts.there free
-            (move_sound t h.sound d m e k n facts.there free h.entry_fits.3 facts.to apart)
-            (move_seen t h.sound d m e k n facts.there free)
+          (move_sound t h.sound d m e k n facts.there free h.entry_fits.3 facts.to apart)
+          (move_seen t h.sound d m e k n facts.there free)
       by_way (Over over also other apart empty) =
           let none : (IsTrue (is_directory (get (headers t) over)) → entry_count t.names over ≡ 0) = λ directory. same_pos _ 0 (empty directory) in
           renamed_as d m e k _ (Some n) (Some over) (moved_over t.names d m e k n facts.there over also other) facts.there also
-            (over_sound t h.sound d m e k n over facts.there also other none h.entry_fits.3 facts.to apart)
-            (over_seen t h.sound d m e k n over facts.there also other none ∙ ap (λ b. cond b (sight t) (seen_moved d m e k n (seen_without e k over (sight t)))) (sym (ne_eqb over n other)))
+          (over_sound t h.sound d m e k n over facts.there also other none h.entry_fits.3 facts.to apart)
+          (over_seen t h.sound d m e k n over facts.there also other none ∙ ap (λ b. cond b (sight t) (seen_moved d m e k n (seen_without e k over (sight t)))) (sym (ne_eqb over n other)))

@@ -38,19 +38,19 @@ module _ {B : Type 0} (fabric : Fabric B) (faithful : IsFaithful fabric) (scene 
   clean_step index created t (Chmod n mode) h = chmod_kept fabric scene index created t n mode h
 
   pub run_is_seen : IsClient scene.client → (index : ℕ) (created : List ℕ) (t : Tree B) (entries : List Entry) → IsSound t → AllByRecursion IsEntry entries
-    → shown_run (run_from fabric scene index created t entries) ≡ seen_run_from scene index created (sight t) entries
+      → shown_run (run_from fabric scene index created t entries) ≡ seen_run_from scene index created (sight t) entries
   unfolding run_from seen_run_from
   run_is_seen client index created t [] sound fit = refl
   run_is_seen client index created t (entry ∷ entries) sound fit =
       at (first_fault (spot scene (sight t) created) entry) (λ clean.
-        let kept = clean_step index created t entry (record { sound = sound; client = client; entry_fits = fit.0; clean = clean }) in
-        run_is_seen client (index + 1) (created_by entry created) (effect fabric scene.client index entry t) entries kept.sound fit.1
-          ∙ ap (λ now. seen_run_from scene (index + 1) (created_by entry created) now entries) kept.seen) refl
+      let kept = clean_step index created t entry (record { sound = sound; client = client; entry_fits = fit.0; clean = clean }) in
+      run_is_seen client (index + 1) (created_by entry created) (effect fabric scene.client index entry t) entries kept.sound fit.1
+      ∙ ap (λ now. seen_run_from scene (index + 1) (created_by entry created) now entries) kept.seen) refl
     where
       at : (o : Option Reason)
-        → (first_fault (spot scene (sight t) created) entry ≡ None → shown_run (run_from fabric scene (index + 1) (created_by entry created) (effect fabric scene.client index entry t) entries) ≡ seen_run_from scene (index + 1) (created_by entry created) (seen_after scene.client (sight t) entry) entries)
-        → first_fault (spot scene (sight t) created) entry ≡ o
-        → shown_run (elim o [ None ↦ run_from fabric scene (index + 1) (created_by entry created) (effect fabric scene.client index entry t) entries | Some reason ↦ Err (record { entry = index; reason = reason }) ])
+          → (first_fault (spot scene (sight t) created) entry ≡ None → shown_run (run_from fabric scene (index + 1) (created_by entry created) (effect fabric scene.client index entry t) entries) ≡ seen_run_from scene (index + 1) (created_by entry created) (seen_after scene.client (sight t) entry) entries)
+          → first_fault (spot scene (sight t) created) entry ≡ o
+          → shown_run (elim o [ None ↦ run_from fabric scene (index + 1) (created_by entry created) (effect fabric scene.client index entry t) entries | Some reason ↦ Err (record { entry = index; reason = reason }) ])
           ≡ elim o [ None ↦ seen_run_from scene (index + 1) (created_by entry created) (seen_after scene.client (sight t) entry) entries | Some reason ↦ Err (record { entry = index; reason = reason }) ]
       at None rest is = rest is
       at (Some reason) rest is = refl
@@ -60,13 +60,13 @@ module _ {B : Type 0} (fabric : Fabric B) (faithful : IsFaithful fabric) (scene 
   run_keeps_sound client index created t [] sound fit after is = let same : t ≡ after = cc in subst IsSound same sound
   run_keeps_sound client index created t (entry ∷ entries) sound fit after is =
       at (first_fault (spot scene (sight t) created) entry) (λ clean.
-        let kept = clean_step index created t entry (record { sound = sound; client = client; entry_fits = fit.0; clean = clean }) in
-        run_keeps_sound client (index + 1) (created_by entry created) (effect fabric scene.client index entry t) entries kept.sound fit.1 after) refl is
+      let kept = clean_step index created t entry (record { sound = sound; client = client; entry_fits = fit.0; clean = clean }) in
+      run_keeps_sound client (index + 1) (created_by entry created) (effect fabric scene.client index entry t) entries kept.sound fit.1 after) refl is
     where
       at : (o : Option Reason)
-        → (first_fault (spot scene (sight t) created) entry ≡ None → run_from fabric scene (index + 1) (created_by entry created) (effect fabric scene.client index entry t) entries ≡ Ok after → IsSound after)
-        → first_fault (spot scene (sight t) created) entry ≡ o
-        → ◌≡◌ {A = Result (Tree B) EntryFault} (elim o [ None ↦ run_from fabric scene (index + 1) (created_by entry created) (effect fabric scene.client index entry t) entries | Some reason ↦ Err (record { entry = index; reason = reason }) ]) (Ok after)
-        → IsSound after
+          → (first_fault (spot scene (sight t) created) entry ≡ None → run_from fabric scene (index + 1) (created_by entry created) (effect fabric scene.client index entry t) entries ≡ Ok after → IsSound after)
+          → first_fault (spot scene (sight t) created) entry ≡ o
+          → ◌≡◌ {A = Result (Tree B) EntryFault} (elim o [ None ↦ run_from fabric scene (index + 1) (created_by entry created) (effect fabric scene.client index entry t) entries | Some reason ↦ Err (record { entry = index; reason = reason }) ]) (Ok after)
+          → IsSound after
       at None rest clean is = rest clean is
       at (Some reason) rest clean is = cc

@@ -11,6 +11,12 @@ ghost use Rattle.kfs_model.specs.Plan.{IsRight};
 ghost use Rattle.kfs_model.specs.PlanCut.{SaySame, AreInOrder};
 ghost use Rattle.kfs_model.specs.FirstWrong.{first_wrong_row};
 ghost use Rattle.kfs_model.specs.Machine.{OneByOne};
+ghost use Rattle.std.specs.List.{AllByRecursion};
+ghost use Rattle.kfs_model.specs.Sight.{sight};
+ghost use Rattle.kfs_model.specs.Soundness.{IsSound};
+ghost use Rattle.kfs_model.specs.Spelling.{IsEntry};
+ghost use Rattle.kfs_model.specs.SeenAfter.{seen_run_from, shown_run};
+ghost use Rattle.kfs_model.specs.CleanStep.{IsClient, IsClean, IsKept};
 
 /// An entry of which no check fails is allowed to its client, by mode bits and leases, whichever of the seven it is.
 pub fn clean_is_allowed()
@@ -39,4 +45,18 @@ pub fn right_plans_differ_in_their_cut()
 /// Where a run has no fault, its tree is what the entries give one by one, each of them allowed where it stands.
 pub fn accepted_entries_one_by_one()
     ensures { (scene : Scene) (before : Tree ℕ) (entries : List Entry) (after : Tree ℕ) → run bytes scene before entries ≡ Ok after → OneByOne scene 0 [] before entries after }
+{}
+
+/// An entry in range of which no check fails, at a sound tree, leaves a sound tree, and what the cells show moves as the
+/// effect on cells says; of bytes and of marks.
+pub fn clean_entry_keeps_tree_sound()
+    ensures of_bytes { (scene : Scene) (index : ℕ) (created : List ℕ) (before : Tree ℕ) (entry : Entry) → IsClean scene created before entry → IsKept bytes scene index before entry }
+    ensures of_marks { (scene : Scene) (index : ℕ) (created : List ℕ) (before : Tree Mark) (entry : Entry) → IsClean scene created before entry → IsKept marks scene index before entry }
+{}
+
+/// From a sound tree, a run of entries in range shows at each of its ends what the run over the cells alone shows: the same
+/// first fault, or a tree with these cells, which is sound.
+pub fn run_is_seen_in_cells()
+    ensures seen { (scene : Scene) (before : Tree ℕ) (entries : List Entry) → IsClient scene.client → IsSound before → AllByRecursion IsEntry entries → shown_run (run bytes scene before entries) ≡ seen_run_from scene 0 [] (sight before) entries }
+    ensures sound { (scene : Scene) (before after : Tree ℕ) (entries : List Entry) → IsClient scene.client → IsSound before → AllByRecursion IsEntry entries → run bytes scene before entries ≡ Ok after → IsSound after }
 {}
