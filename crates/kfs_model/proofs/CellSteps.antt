@@ -1,21 +1,18 @@
 -- A clean Chmod, Truncate or Write keeps a sound tree sound and moves what the cells show as said.
-use Rattle.std.proofs.Common.{◌≡◌, ℕ, zero, suc, ◌+◌, ◌-◌, ◌<◌, ◌≤◌, max, Bool, true, false, cond, not, List, [], ◌∷◌, ◌++◌, length, take, drop, replicate, Option, Some, None, is_some, option_map, IsTrue, refl, sym, ap, subst, ◌∙◌, arith, length-append, length-drop}
+use Rattle.std.proofs.Common.{◌≡◌, ℕ, ◌+◌, ◌-◌, ◌≤◌, true, false, List, [], ◌∷◌, ◌++◌, length, take, drop, replicate, Option, Some, None, is_some, option_map, IsTrue, refl, sym, ap, ◌∙◌, arith, length-append, length-drop}
 use Rattle.std.proofs.lemmas.List.{length-take-le, length-replicate}
-use Rattle.std.proofs.lemmas.Bool.{leb-true, not-true, false≢true}
-use Rattle.kfs_model.specs.Header.{Kind, File, Directory, Header}
-use Rattle.kfs_model.specs.Access.{Client}
-use Rattle.kfs_model.specs.Table.{numbers, get}
+use Rattle.std.proofs.lemmas.Bool.{leb-true, not-true}
+use Rattle.kfs_model.specs.Header.{File}
+use Rattle.kfs_model.specs.Table.{get}
 use Rattle.kfs_model.specs.Tree.{Tree, Node, Body, Cells, Names, Links, headers, header_of, size_of, name_count}
-use Rattle.kfs_model.specs.Entry.{Entry, Write, Truncate, Chmod}
-use Rattle.kfs_model.specs.Sight.{Sight, sight, is_directory, is_file}
-use Rattle.kfs_model.specs.Check.{Spot, fault, checks_of, first_fault, size_limit, payload_fits}
-use Rattle.kfs_model.specs.Effect.{Fabric, change_of, effect, swept, changed_node, overwritten, resized, lengthened, on_cells}
+use Rattle.kfs_model.specs.Entry.{Write, Truncate, Chmod}
+use Rattle.kfs_model.specs.Sight.{sight, is_directory}
+use Rattle.kfs_model.specs.Check.{Spot, fault, checks_of, size_limit, payload_fits}
+use Rattle.kfs_model.specs.Effect.{Fabric, change_of, overwritten, resized, lengthened, on_cells}
 use Rattle.kfs_model.specs.Run.{Scene, spot}
-use Rattle.kfs_model.specs.Soundness.{InRange, IsSound}
-use Rattle.kfs_model.specs.Spelling.{IsEntry}
-use Rattle.kfs_model.specs.SeenAfter.{put_header, written_size, seen_after}
-use Rattle.kfs_model.specs.CleanStep.{IsFaithful, IsClient, IsClean, IsKept}
-use Rattle.kfs_model.proofs.CleanIsAllowed.{AllPass, all_pass, passed, left, right}
+use Rattle.kfs_model.specs.SeenAfter.{written_size, seen_after}
+use Rattle.kfs_model.specs.CleanStep.{IsFaithful, IsClean, IsKept}
+use Rattle.kfs_model.proofs.CleanIsAllowed.{AllPass, all_pass, passed}
 use Rattle.kfs_model.proofs.CleanFacts.{some_is}
 use Rattle.kfs_model.proofs.Heads.{get-headers}
 use Rattle.kfs_model.proofs.NodeStep.{node_seen, node_sound}

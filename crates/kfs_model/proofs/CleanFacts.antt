@@ -1,12 +1,12 @@
 -- What the checks of a clean entry say of what the cells show.
-use Rattle.std.proofs.Common.{◌≡◌, ◌≢◌, ℕ, ◌+◌, ◌<◌, ◌≤◌, Bool, true, false, not, ltb, ◌==◌, if◌then◌else◌, pos, List, [], ◌∷◌, ◌++◌, Option, Some, None, is_some, is_none, IsTrue, refl, sym, ap, subst, ◌∙◌, ltb-true, eqb-true}
+use Rattle.std.proofs.Common.{◌≡◌, ◌≢◌, ℕ, ◌<◌, ◌≤◌, Bool, true, false, ltb, ◌==◌, if◌then◌else◌, pos, List, [], ◌∷◌, ◌++◌, Option, Some, None, is_some, is_none, IsTrue, refl, sym, subst, ◌∙◌, ltb-true, eqb-true}
 use Rattle.std.proofs.lemmas.Bool.{leb-true, not-true, eqb-false, false≢true}
 use Rattle.std.proofs.lemmas.Bool.Decides.{Decides-int_eq}
 use Rattle.kfs_model.specs.Header.{Kind, File, Directory, Header}
-use Rattle.kfs_model.specs.Access.{Client, is_granted}
-use Rattle.kfs_model.specs.Entry.{Entry, Create, Link, Unlink, Rename}
-use Rattle.kfs_model.specs.Sight.{Sight, is_directory, is_file, climb_limit, climb_meets}
-use Rattle.kfs_model.specs.Check.{Spot, fault, checks_of, first_failing, first_fault, link_limit, Check, may_go, on_number, unless_same, move_checks, stays_apart, kind_moved}
+use Rattle.kfs_model.specs.Access.{Client}
+use Rattle.kfs_model.specs.Entry.{Create, Link, Unlink, Rename}
+use Rattle.kfs_model.specs.Sight.{Sight, is_directory, climb_limit, climb_meets}
+use Rattle.kfs_model.specs.Check.{Spot, fault, checks_of, first_fault, link_limit, Check, may_go, on_number, unless_same, move_checks, stays_apart, kind_moved}
 use Rattle.kfs_model.proofs.CleanIsAllowed.{AllPass, all_pass, passed, found, left, right}
 
 pub none_is : {X : Type 0} (o : Option X) → IsTrue (is_none o) → o ≡ None

@@ -1,11 +1,11 @@
 -- A climb from a directory of a sound tree: it passes no node twice, so it is no longer than there are numbers.
-use Rattle.std.proofs.Common.{◌≡◌, ◌≢◌, ℕ, zero, suc, ◌+◌, ◌<◌, ◌≤◌, Bool, true, false, not, ◌&&◌, ◌||◌, ◌==◌, eqb, List, [], ◌∷◌, length, Option, Some, None, IsTrue, refl, sym, ap, subst, ◌∙◌, ⊎_elim, arith, eqb-true, eq-eqb, ne_eqb}
+use Rattle.std.proofs.Common.{◌≡◌, ℕ, zero, suc, ◌<◌, ◌≤◌, Bool, true, false, ◌==◌, eqb, List, [], ◌∷◌, length, Option, Some, None, refl, sym, ap, subst, ◌∙◌, ⊎_elim, arith, eqb-true}
 use Rattle.std.specs.List.{list_any, AllByRecursion, IsDistinct}
 use Rattle.std.proofs.lemmas.Bool.{or_cases, or_parts, false_from_ne_true, false≢true}
 use Rattle.std.proofs.lemmas.Map.Steps.{length-le_from_distinct_below}
 use Rattle.kfs_model.specs.Header.{Header}
 use Rattle.kfs_model.specs.Tree.{Links}
-use Rattle.kfs_model.specs.Sight.{is_directory, parent_in, climb_limit, climb_meets}
+use Rattle.kfs_model.specs.Sight.{is_directory, parent_in, climb_meets}
 use Rattle.kfs_model.specs.Soundness.{Climbs, AreSound}
 use Rattle.kfs_model.proofs.Heads.{root_has_none, has_parent}
 

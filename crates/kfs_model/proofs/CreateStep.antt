@@ -1,25 +1,22 @@
 -- A clean Create keeps a sound tree sound and moves what the cells show as said.
-use Rattle.std.proofs.Common.{◌≡◌, ◌≢◌, ℕ, zero, suc, ◌+◌, ◌<◌, ◌≤◌, Bool, true, false, cond, not, ◌&&◌, ◌||◌, ◌==◌, ltb, ℤ, pos, ◌+ℤ◌, List, Option, Some, None, is_none, option_map, IsTrue, refl, sym, ap, subst, ◌∙◌, ◌⊎◌, inl, inr, arith, lt-ltb, eqb-true, eq-eqb, ne_eqb, add-zero}
-use Rattle.std.proofs.lemmas.Bool.{eqb-false, leb-true, false≢true}
+use Rattle.std.proofs.Common.{◌≡◌, ℕ, suc, ◌+◌, ◌≤◌, Bool, true, false, cond, ◌==◌, List, Option, Some, None, option_map, IsTrue, refl, sym, ap, subst, ◌∙◌, arith, eqb-true, eq-eqb, ne_eqb}
+use Rattle.std.proofs.lemmas.Bool.{false≢true}
 use Rattle.kfs_model.specs.Header.{Kind, File, Directory, Header}
-use Rattle.kfs_model.specs.Access.{Client, is_granted}
-use Rattle.kfs_model.specs.Table.{numbers, get, insert}
-use Rattle.kfs_model.specs.Tree.{Tree, Node, Body, Cells, Names, Links, headers, header_of, links_of, target, name_count, entry_count}
+use Rattle.kfs_model.specs.Access.{Client}
+use Rattle.kfs_model.specs.Table.{get, insert}
+use Rattle.kfs_model.specs.Tree.{Tree, Node, Links, headers, header_of, target, name_count}
 use Rattle.kfs_model.specs.Entry.{Entry, Create}
-use Rattle.kfs_model.specs.Sight.{Sight, sight, is_directory, is_file, parent_in}
-use Rattle.kfs_model.specs.Check.{Spot, fault, checks_of, first_failing, first_fault}
+use Rattle.kfs_model.specs.Sight.{sight, is_directory, is_file, parent_in}
 use Rattle.kfs_model.specs.Effect.{Fabric, change_of, effect, swept, new_body}
 use Rattle.kfs_model.specs.Run.{Scene, spot}
 use Rattle.kfs_model.specs.Soundness.{Climbs, InRange, NameIsSound, AreSound, IsSound}
 use Rattle.kfs_model.specs.Spelling.{IsEntry, IsName}
-use Rattle.kfs_model.specs.FirstWrong.{same_place}
-use Rattle.kfs_model.specs.SeenAfter.{put_at, put_name, shifted, put_parent, new_header, seen_after}
+use Rattle.kfs_model.specs.SeenAfter.{put_at, put_parent, new_header, seen_after}
 use Rattle.kfs_model.specs.CleanStep.{IsClient, IsClean, IsKept}
 use Rattle.kfs_model.proofs.CleanFacts.{CreateFacts, create_facts}
-use Rattle.kfs_model.proofs.Exact.{places-exact}
 use Rattle.kfs_model.proofs.Links.{at_number-insert, target-insert}
 use Rattle.kfs_model.proofs.NameAdded.{new_target, kept_target, new_or_old, others_count, own_count, count_shifted}
-use Rattle.kfs_model.proofs.Heads.{stays, named_stays, unnamed, root_is_node, get-headers, get-swept_headers, kept_head, parent_kept, parent_is, parent_of_none, has_parent, climbs_with, put_parent_elsewhere, put_parent_here}
+use Rattle.kfs_model.proofs.Heads.{stays, named_stays, unnamed, root_is_node, get-swept_headers, kept_head, parent_kept, parent_is, parent_of_none, has_parent, climbs_with, put_parent_elsewhere, put_parent_here}
 
 -- ---- what shows after it
 

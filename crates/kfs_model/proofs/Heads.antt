@@ -1,13 +1,13 @@
 -- What nodes show in a sound tree, and what stays when names change.
-use Rattle.std.proofs.Common.{◌≡◌, ◌≢◌, ℕ, zero, suc, ◌+◌, ◌<◌, ◌≤◌, Bool, true, false, cond, not, ◌&&◌, ◌||◌, ◌==◌, ltb, List, Option, Some, None, option_map, IsTrue, refl, sym, ap, subst, ◌∙◌, ◌⊎◌, inl, inr, ⊎_elim, arith, lt-ltb, eqb-true, eq-eqb, ne_eqb}
-use Rattle.std.proofs.lemmas.Bool.{or_left, or_right, eqb-false, and_parts, not-true, false≢true}
+use Rattle.std.proofs.Common.{◌≡◌, ◌≢◌, ℕ, zero, suc, ◌≤◌, Bool, true, false, cond, not, ◌&&◌, ◌||◌, ◌==◌, ltb, List, Option, Some, None, option_map, IsTrue, refl, sym, ap, subst, ◌∙◌, arith, lt-ltb, eqb-true, eq-eqb, ne_eqb}
+use Rattle.std.proofs.lemmas.Bool.{or_left, or_right, eqb-false, false≢true}
 use Rattle.kfs_model.specs.Header.{Kind, File, Directory, Header}
-use Rattle.kfs_model.specs.Table.{numbers, get, same_table, get-mapped, get-retain, retain}
+use Rattle.kfs_model.specs.Table.{get, same_table, get-mapped, get-retain}
 use Rattle.kfs_model.specs.Tree.{Tree, Node, Body, Cells, Names, Links, headers, header_of, links_of, kind_of, size_of, target, name_count, is_named}
 use Rattle.kfs_model.specs.Sight.{is_directory, is_file, holder, parent_in}
 use Rattle.kfs_model.specs.Effect.{swept}
 use Rattle.kfs_model.specs.SeenAfter.{put_parent}
-use Rattle.kfs_model.specs.Soundness.{Climbs, AreSound, IsSound, NameIsSound}
+use Rattle.kfs_model.specs.Soundness.{Climbs, AreSound, IsSound}
 use Rattle.kfs_model.proofs.Links.{is_named_counts, named_has_target, holder_of_only}
 
 -- ---- heads

@@ -25,4 +25,7 @@ pub mod UnlinkStep
 pub mod MoveStep
 pub mod RenameStep
 pub mod SeenRun
+pub mod SameChecks
+pub mod SameSteps
+pub mod SameLooked
 pub mod NameStep

@@ -1,23 +1,21 @@
 -- A clean Link keeps a sound tree sound and moves what the cells show as said.
-use Rattle.std.proofs.Common.{◌≡◌, ◌≢◌, ℕ, zero, suc, ◌+◌, ◌<◌, ◌≤◌, Bool, true, false, cond, not, ◌&&◌, ◌||◌, ◌==◌, ltb, pos, length, List, Option, Some, None, is_some, is_none, option_map, IsTrue, refl, sym, ap, subst, ◌∙◌, arith, eqb-true, eq-eqb, ne_eqb, ltb-true}
-use Rattle.std.proofs.lemmas.Bool.{eqb-false, not-true, false≢true, or_left}
-use Rattle.kfs_model.specs.Header.{Kind, File, Directory, Header}
-use Rattle.kfs_model.specs.Access.{Client}
-use Rattle.kfs_model.specs.Table.{numbers, get, insert}
-use Rattle.kfs_model.specs.Tree.{Tree, Node, Body, Cells, Names, Links, headers, header_of, target, name_count, entry_count}
-use Rattle.kfs_model.specs.Entry.{Entry, Link}
-use Rattle.kfs_model.specs.Sight.{Sight, sight, is_directory, is_file, parent_in}
-use Rattle.kfs_model.specs.Check.{Spot, fault, checks_of, first_fault, link_limit}
-use Rattle.kfs_model.specs.Effect.{Fabric, change_of, effect, swept, with_names}
+use Rattle.std.proofs.Common.{◌≡◌, ℕ, ◌+◌, ◌<◌, ◌≤◌, Bool, true, false, cond, ◌==◌, pos, length, List, Option, Some, None, option_map, IsTrue, refl, sym, ap, subst, ◌∙◌, arith, eqb-true, ne_eqb}
+use Rattle.std.proofs.lemmas.Bool.{eqb-false, false≢true, or_left}
+use Rattle.kfs_model.specs.Header.{File, Header}
+use Rattle.kfs_model.specs.Table.{get, insert}
+use Rattle.kfs_model.specs.Tree.{Tree, Node, Body, Cells, Names, Links, headers, header_of, target, name_count}
+use Rattle.kfs_model.specs.Entry.{Link}
+use Rattle.kfs_model.specs.Sight.{sight, is_directory, is_file, parent_in}
+use Rattle.kfs_model.specs.Effect.{Fabric, change_of, swept, with_names}
 use Rattle.kfs_model.specs.Run.{Scene, spot}
-use Rattle.kfs_model.specs.Soundness.{Climbs, InRange, NameIsSound, AreSound, IsSound}
-use Rattle.kfs_model.specs.Spelling.{IsEntry, IsName}
-use Rattle.kfs_model.specs.SeenAfter.{put_at, put_name, put_header, shifted, seen_after}
-use Rattle.kfs_model.specs.CleanStep.{IsClient, IsClean, IsKept}
+use Rattle.kfs_model.specs.Soundness.{IsSound}
+use Rattle.kfs_model.specs.Spelling.{IsName}
+use Rattle.kfs_model.specs.SeenAfter.{put_name, put_header, shifted, seen_after}
+use Rattle.kfs_model.specs.CleanStep.{IsClean, IsKept}
 use Rattle.kfs_model.proofs.CleanFacts.{LinkFacts, link_facts}
 use Rattle.kfs_model.proofs.Links.{target-insert, target_is_named}
 use Rattle.kfs_model.proofs.NameAdded.{new_target, kept_target, new_or_old, others_count, own_count, count_shifted}
-use Rattle.kfs_model.proofs.Heads.{stays, named_stays, get-headers, kept_head, node_stays, directory_stays, directory_count, parent_kept, parent_of_none, climbs_with}
+use Rattle.kfs_model.proofs.Heads.{stays, named_stays, get-headers, kept_head, directory_stays, directory_count, parent_kept, parent_of_none, climbs_with}
 use Rattle.kfs_model.proofs.NodeStep.{put_header_kinds}
 use Rattle.kfs_model.proofs.NameStep.{stays_named, left_head, left_head_is, NamesKept, names_kept_sound}
 use Rattle.kfs_model.proofs.CellSteps.{node_there}

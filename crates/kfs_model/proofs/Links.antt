@@ -1,9 +1,9 @@
 -- What names lead to and how many they are, after one is put or taken away.
-use Rattle.std.proofs.Common.{◌≡◌, ◌≢◌, ℕ, zero, suc, ◌+◌, ◌≤◌, Bool, true, false, cond, not, ◌||◌, ◌==◌, eqb, ltb, List, [], ◌∷◌, Option, Some, None, option_map, count_by, find, refl, sym, ap, subst, ◌∙◌, ◌⊎◌, inl, inr, arith, lt-ltb, ltb-true, eqb-true, eq-eqb, zero-add, ◌<◌}
+use Rattle.std.proofs.Common.{◌≡◌, ℕ, ◌+◌, ◌≤◌, Bool, true, false, cond, not, ◌==◌, ltb, List, [], ◌∷◌, Option, Some, None, option_map, count_by, find, refl, sym, ap, subst, ◌∙◌, arith, lt-ltb, ltb-true, eqb-true, eq-eqb, zero-add, ◌<◌}
 use Rattle.std.specs.Bool.{Decides, one_answer}
 use Rattle.std.specs.declared.cmp.Ordering.{Ordering}
 use Rattle.std.specs.declared.cmp.Ordering.TheVariants.{Less, Equal, Greater}
-use Rattle.std.specs.Ordering.{is_eq, eq_by_cmp, nat_cmp}
+use Rattle.std.specs.Ordering.{is_eq, eq_by_cmp}
 use Rattle.std.specs.Cmp.{tied_itself}
 use Rattle.std.specs.List.{list_any}
 use Rattle.std.specs.FinMap.Entries as Entries
@@ -13,8 +13,8 @@ use Rattle.kfs_model.specs.Table.{Order, Table, numbers, get, insert, remove, ge
 use Rattle.kfs_model.specs.Tree.{Links, directory_entries, target, name_count, entry_count, is_named}
 use Rattle.kfs_model.specs.Sight.{holder}
 use Rattle.kfs_model.specs.FirstWrong.{same_place}
-use Rattle.kfs_model.proofs.Exact.{IsExact, places-exact}
-use Rattle.kfs_model.proofs.Tables.{found_from_any, any_from_found, find_tie}
+use Rattle.kfs_model.proofs.Exact.{places-exact}
+use Rattle.kfs_model.proofs.Tables.{found_from_any, any_from_found}
 use Rattle.kfs_model.proofs.Counts.{any_counts, counted, count-insert, count-remove, is_tally, tally, any_tally}
 
 -- ---- keys

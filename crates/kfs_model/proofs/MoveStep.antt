@@ -1,20 +1,20 @@
 -- A name moved to where none was keeps a sound tree sound, where a directory stays out of what lies below it, and moves
 -- what the cells show as said.
-use Rattle.std.proofs.Common.{◌≡◌, ◌≢◌, ℕ, zero, suc, ◌+◌, ◌<◌, ◌≤◌, Bool, true, false, cond, not, ◌&&◌, ◌||◌, ◌==◌, ltb, pos, negsuc, List, Option, Some, None, option_map, IsTrue, refl, sym, ap, subst, ◌∙◌, arith, eqb-true, eq-eqb, ne_eqb}
-use Rattle.std.proofs.lemmas.Bool.{eqb-false, false≢true}
+use Rattle.std.proofs.Common.{◌≡◌, ◌≢◌, ℕ, zero, suc, Bool, true, false, cond, ◌||◌, ◌==◌, ltb, pos, negsuc, List, Option, Some, None, IsTrue, refl, sym, ap, subst, ◌∙◌, arith, eqb-true}
+use Rattle.std.proofs.lemmas.Bool.{eqb-false}
 use Rattle.kfs_model.specs.Header.{Kind, File, Directory, Header}
-use Rattle.kfs_model.specs.Table.{numbers, get, insert, remove}
-use Rattle.kfs_model.specs.Tree.{Tree, Node, Links, headers, header_of, target, name_count, entry_count, is_named}
-use Rattle.kfs_model.specs.Sight.{Sight, sight, is_directory, is_file, parent_in, climb_limit, climb_meets}
+use Rattle.kfs_model.specs.Table.{get, insert, remove}
+use Rattle.kfs_model.specs.Tree.{Tree, Links, headers, target, name_count, entry_count}
+use Rattle.kfs_model.specs.Sight.{sight, is_directory, parent_in, climb_limit, climb_meets}
 use Rattle.kfs_model.specs.Effect.{swept, with_names}
-use Rattle.kfs_model.specs.Soundness.{Climbs, NameIsSound, AreSound, IsSound}
+use Rattle.kfs_model.specs.Soundness.{Climbs, NameIsSound, IsSound}
 use Rattle.kfs_model.specs.Spelling.{IsName}
 use Rattle.kfs_model.specs.FirstWrong.{same_place}
-use Rattle.kfs_model.specs.SeenAfter.{put_at, put_name, put_parent, shifted, kind_shown, seen_moved}
+use Rattle.kfs_model.specs.SeenAfter.{put_name, put_parent, shifted, kind_shown, seen_moved}
 use Rattle.kfs_model.proofs.Links.{target-insert, target-remove, target_is_named, is_named_counts}
 use Rattle.kfs_model.proofs.NameAdded as Added
 use Rattle.kfs_model.proofs.NameRemoved as Removed
-use Rattle.kfs_model.proofs.Heads.{stays, kept_head, directory_stays, directory_count, parent_is, parent_kept, parent_of_none, has_parent, climbs_with, put_parent_elsewhere, put_parent_here}
+use Rattle.kfs_model.proofs.Heads.{stays, kept_head, directory_stays, directory_count, parent_is, parent_kept, parent_of_none, has_parent, put_parent_elsewhere, put_parent_here}
 use Rattle.kfs_model.proofs.NameStep.{left_head, left_head_is, NamesKept, names_kept_sound}
 use Rattle.kfs_model.proofs.Climb.{short_climb, climb_apart}
 

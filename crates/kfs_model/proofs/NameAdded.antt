@@ -1,10 +1,10 @@
 -- What a name that led to nothing changes when it comes to lead to a node.
-use Rattle.std.proofs.Common.{◌≡◌, ◌≢◌, ℕ, ◌+◌, Bool, true, false, cond, ◌==◌, ℤ, pos, ◌+ℤ◌, List, Option, Some, None, refl, sym, ap, subst, ◌∙◌, ◌⊎◌, inl, inr, ⊎_elim, arith, eqb-true, eq-eqb, ne_eqb, add-zero}
+use Rattle.std.proofs.Common.{◌≡◌, ℕ, ◌+◌, Bool, true, false, cond, ◌==◌, pos, ◌+ℤ◌, List, Some, None, refl, sym, ap, ◌∙◌, eqb-true, eq-eqb, ne_eqb, add-zero}
 use Rattle.std.proofs.lemmas.Bool.{eqb-false}
 use Rattle.kfs_model.specs.Table.{get, insert}
 use Rattle.kfs_model.specs.Tree.{Links, target, name_count, entry_count}
 use Rattle.kfs_model.specs.FirstWrong.{same_place}
-use Rattle.kfs_model.specs.SeenAfter.{put_name, shifted}
+use Rattle.kfs_model.specs.SeenAfter.{shifted}
 use Rattle.kfs_model.proofs.Exact.{places-exact}
 use Rattle.kfs_model.proofs.Links.{target-insert, name_count-insert, entry_count-insert}
 

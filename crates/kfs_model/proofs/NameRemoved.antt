@@ -1,5 +1,5 @@
 -- What a name that led to a node changes when it is taken away.
-use Rattle.std.proofs.Common.{◌≡◌, ◌≢◌, ℕ, ◌+◌, Bool, true, false, cond, ◌==◌, ℤ, pos, negsuc, ◌+ℤ◌, List, Option, Some, None, refl, sym, ap, subst, ◌∙◌, arith, eqb-true, eq-eqb, add-zero}
+use Rattle.std.proofs.Common.{◌≡◌, ◌≢◌, ℕ, ◌+◌, Bool, true, false, cond, ◌==◌, pos, negsuc, ◌+ℤ◌, List, Some, None, refl, sym, ap, ◌∙◌, arith, eqb-true, eq-eqb, add-zero}
 use Rattle.std.proofs.lemmas.Int.{ints}
 use Rattle.kfs_model.specs.Table.{get, remove}
 use Rattle.kfs_model.specs.Tree.{Links, target, name_count, entry_count}

@@ -1,12 +1,12 @@
 -- A change of names alone, after which the nodes without a name go: what nodes show then, and when the tree is sound.
-use Rattle.std.proofs.Common.{◌≡◌, ◌≢◌, ℕ, zero, suc, ◌+◌, ◌<◌, ◌≤◌, Bool, true, false, cond, not, ◌&&◌, ◌||◌, ◌==◌, ltb, List, Option, Some, None, option_map, IsTrue, refl, sym, ap, subst, ◌∙◌, ◌⊎◌, inl, inr, ⊎_elim, arith, eqb-true, ltb-true, lt-ltb}
-use Rattle.std.proofs.lemmas.Bool.{or_cases, or_left, eqb-false, false≢true}
+use Rattle.std.proofs.Common.{◌≡◌, ◌≢◌, ℕ, ◌≤◌, Bool, true, false, cond, ◌==◌, List, Option, Some, None, option_map, IsTrue, refl, sym, ap, subst, ◌∙◌, ⊎_elim, arith, eqb-true, ltb-true}
+use Rattle.std.proofs.lemmas.Bool.{or_cases, false≢true}
 use Rattle.kfs_model.specs.Header.{Kind, File, Directory, Header}
-use Rattle.kfs_model.specs.Table.{numbers, get}
-use Rattle.kfs_model.specs.Tree.{Tree, Node, Body, Cells, Names, Links, headers, header_of, target, name_count}
-use Rattle.kfs_model.specs.Sight.{sight, is_directory, is_file, parent_in}
+use Rattle.kfs_model.specs.Table.{get}
+use Rattle.kfs_model.specs.Tree.{Tree, Node, Links, headers, header_of, target, name_count}
+use Rattle.kfs_model.specs.Sight.{is_directory, is_file, parent_in}
 use Rattle.kfs_model.specs.Effect.{swept, with_names}
-use Rattle.kfs_model.specs.Soundness.{Climbs, InRange, NameIsSound, AreSound, IsSound}
+use Rattle.kfs_model.specs.Soundness.{Climbs, InRange, IsSound}
 use Rattle.kfs_model.specs.Spelling.{IsName}
 use Rattle.kfs_model.proofs.Links.{is_named_counts}
 use Rattle.kfs_model.proofs.Heads.{stays, named_stays, get-headers, get-swept_headers}

@@ -1,12 +1,12 @@
 -- A change of one node that leaves its kind and all names keeps a sound tree sound, and shows at that node alone.
-use Rattle.std.proofs.Common.{◌≡◌, ◌≢◌, ℕ, zero, suc, ◌+◌, ◌<◌, ◌≤◌, Bool, true, false, cond, not, ◌&&◌, ◌==◌, List, Option, Some, None, option_map, IsTrue, refl, sym, ap, subst, ◌∙◌, arith, eqb-true, eq-eqb}
-use Rattle.kfs_model.specs.Header.{Kind, Header}
-use Rattle.kfs_model.specs.Table.{numbers, get, insert}
-use Rattle.kfs_model.specs.Tree.{Tree, Node, Links, headers, header_of, target, name_count}
+use Rattle.std.proofs.Common.{◌≡◌, ℕ, Bool, true, false, cond, not, ◌&&◌, ◌==◌, Option, Some, None, option_map, refl, sym, ap, subst, ◌∙◌, eqb-true}
+use Rattle.kfs_model.specs.Header.{Header}
+use Rattle.kfs_model.specs.Table.{get, insert}
+use Rattle.kfs_model.specs.Tree.{Tree, Node, Links, headers, header_of, target}
 use Rattle.kfs_model.specs.Sight.{sight, is_directory, is_file, holder, parent_in}
 use Rattle.kfs_model.specs.Effect.{swept, changed_node}
-use Rattle.kfs_model.specs.Soundness.{Climbs, InRange, NameIsSound, AreSound, IsSound}
-use Rattle.kfs_model.specs.SeenAfter.{put_at, put_header}
+use Rattle.kfs_model.specs.Soundness.{InRange, AreSound, IsSound}
+use Rattle.kfs_model.specs.SeenAfter.{put_header}
 use Rattle.kfs_model.proofs.Links.{at_number-insert}
 use Rattle.kfs_model.proofs.Heads.{stays, get-headers, get-swept_headers, node_stays, kept_head, climbs_with}
 

@@ -1,21 +1,19 @@
 -- A clean Unlink or Rename keeps a sound tree sound and moves what the cells show as said. A Rename over a name takes that
 -- name away first, and then moves the other.
-use Rattle.std.proofs.Common.{◌≡◌, ◌≢◌, ℕ, zero, suc, ◌+◌, Bool, true, false, cond, not, ◌&&◌, ◌||◌, ◌==◌, ltb, pos, List, Option, Some, None, option_and_then, IsTrue, refl, sym, ap, ap₂, subst, ◌∙◌, ◌⊎◌, inl, inr, arith, eqb-true, eq-eqb, ne_eqb}
-use Rattle.std.proofs.lemmas.Bool.{eqb-false}
-use Rattle.kfs_model.specs.Header.{Kind, Header}
-use Rattle.kfs_model.specs.Table.{Table, numbers, get, insert, remove, retain, same_table, get-retain}
-use Rattle.kfs_model.specs.Tree.{Tree, Node, Links, headers, directory_entries, target, name_count, entry_count, is_named}
-use Rattle.kfs_model.specs.Entry.{Entry, Unlink, Rename}
-use Rattle.kfs_model.specs.Sight.{Sight, sight, is_directory, parent_in, climb_limit, climb_meets}
-use Rattle.kfs_model.specs.Check.{first_fault}
+use Rattle.std.proofs.Common.{◌≡◌, ◌≢◌, ℕ, zero, suc, Bool, true, false, cond, ◌||◌, ◌==◌, ltb, pos, List, Option, Some, None, option_and_then, IsTrue, refl, sym, ap, ap₂, subst, ◌∙◌, ◌⊎◌, inl, inr, eq-eqb, ne_eqb}
+use Rattle.kfs_model.specs.Header.{Kind}
+use Rattle.kfs_model.specs.Table.{get, insert, remove, same_table, get-retain}
+use Rattle.kfs_model.specs.Tree.{Tree, Node, Links, headers, target, entry_count, is_named}
+use Rattle.kfs_model.specs.Entry.{Unlink, Rename}
+use Rattle.kfs_model.specs.Sight.{Sight, sight, is_directory, climb_limit, climb_meets}
 use Rattle.kfs_model.specs.Effect.{Fabric, change_of, effect, swept, with_names, moved_name}
 use Rattle.kfs_model.specs.Run.{Scene, spot}
-use Rattle.kfs_model.specs.Soundness.{AreSound, IsSound}
-use Rattle.kfs_model.specs.Spelling.{IsName, IsEntry}
+use Rattle.kfs_model.specs.Soundness.{IsSound}
+use Rattle.kfs_model.specs.Spelling.{IsName}
 use Rattle.kfs_model.specs.FirstWrong.{same_place}
-use Rattle.kfs_model.specs.SeenAfter.{put_at, unlinked, seen_without, seen_moved, seen_renamed, seen_unlinked, seen_after}
+use Rattle.kfs_model.specs.SeenAfter.{unlinked, seen_without, seen_moved, seen_renamed, seen_unlinked, seen_after}
 use Rattle.kfs_model.specs.CleanStep.{IsClean, IsKept}
-use Rattle.kfs_model.proofs.CleanFacts.{UnlinkFacts, unlink_facts, RenameFacts, RenameCase, Same, ToNone, Over, rename_facts}
+use Rattle.kfs_model.proofs.CleanFacts.{unlink_facts, RenameFacts, RenameCase, Same, ToNone, Over, rename_facts}
 use Rattle.kfs_model.proofs.Links.{target-insert, target-remove, is_named_counts}
 use Rattle.kfs_model.proofs.NameRemoved as Removed
 use Rattle.kfs_model.proofs.Heads.{stays, own_sweep}

@@ -1,16 +1,19 @@
 -- The run over trees is the run over what their cells show, and it keeps a sound tree sound.
-use Rattle.std.proofs.Common.{◌≡◌, ℕ, zero, suc, ◌+◌, List, [], ◌∷◌, length, Option, Some, None, Result, Ok, Err, refl, sym, ap, subst, ◌∙◌}
+use Rattle.std.proofs.Common.{◌≡◌, ℕ, suc, ◌+◌, List, [], ◌∷◌, length, Option, Some, None, Result, Ok, Err, refl, sym, ap, subst, ◌∙◌}
 use Rattle.std.specs.List.{AllByRecursion}
 use Rattle.kfs_model.specs.Tree.{Tree}
 use Rattle.kfs_model.specs.Entry.{Entry, Create, Write, Truncate, Link, Unlink, Rename, Chmod}
-use Rattle.kfs_model.specs.Sight.{Sight, sight}
+use Rattle.kfs_model.specs.Sight.{sight}
 use Rattle.kfs_model.specs.Check.{Reason, first_fault}
 use Rattle.kfs_model.specs.Effect.{Fabric, effect}
-use Rattle.kfs_model.specs.Run.{Scene, EntryFault, Mark, spot, created_by, run_from, bytes, marks, places_from}
+use Rattle.kfs_model.specs.Run.{Scene, EntryFault, Mark, spot, created_by, run_from, run, bytes, marks, places_from}
 use Rattle.kfs_model.specs.Soundness.{IsSound}
 use Rattle.kfs_model.specs.Spelling.{IsEntry}
 use Rattle.kfs_model.specs.SeenAfter.{seen_after, seen_run_from, shown_run}
 use Rattle.kfs_model.specs.CleanStep.{IsClient, IsFaithful, IsClean, IsKept}
+use Rattle.kfs_model.specs.Access.{Client}
+use Rattle.kfs_model.specs.Looked.{Leased, seen_in, scene_in, looked_cells, seen_run, AnswerAlike, EndAlike}
+use Rattle.kfs_model.proofs.SameLooked.{same_looked}
 use Rattle.kfs_model.proofs.CreateStep.{create_kept}
 use Rattle.kfs_model.proofs.CellSteps.{chmod_kept, truncate_kept, write_kept}
 use Rattle.kfs_model.proofs.LinkStep.{link_kept}
@@ -70,3 +73,14 @@ module _ {B : Type 0} (fabric : Fabric B) (faithful : IsFaithful fabric) (scene 
           → IsSound after
       at None rest clean is = rest clean is
       at (Some reason) rest clean is = cc
+
+-- ---- two sound trees that answer alike at the looked cells
+
+pub same_looked_trees : (client : Client) (one other : Leased) (entries : List Entry) → IsClient client → IsSound one.tree → IsSound other.tree → AllByRecursion IsEntry entries
+    → AnswerAlike (seen_in one) (seen_in other) (looked_cells client (seen_in one) entries)
+    → EndAlike (seen_in one) (seen_in other) (shown_run (run bytes (scene_in client (seen_in one)) one.tree entries)) (shown_run (run bytes (scene_in client (seen_in other)) other.tree entries))
+same_looked_trees client one other entries in_range sound also fit alike =
+    let here = run_is_seen bytes bytes_faithful (scene_in client (seen_in one)) in_range 0 [] one.tree entries sound fit in
+    let there = run_is_seen bytes bytes_faithful (scene_in client (seen_in other)) in_range 0 [] other.tree entries also fit in
+    subst (λ end. EndAlike (seen_in one) (seen_in other) end (shown_run (run bytes (scene_in client (seen_in other)) other.tree entries))) (sym here)
+    (subst (λ end. EndAlike (seen_in one) (seen_in other) (seen_run client (seen_in one) entries) end) (sym there) (same_looked client (seen_in one) (seen_in other) entries alike).0)

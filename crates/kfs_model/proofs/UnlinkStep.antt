@@ -1,17 +1,16 @@
 -- A name taken away keeps a sound tree sound, where no directory goes that has names, and moves what the cells show as said.
-use Rattle.std.proofs.Common.{◌≡◌, ◌≢◌, ℕ, zero, suc, ◌+◌, ◌-◌, ◌<◌, ◌≤◌, Bool, true, false, cond, not, ◌&&◌, ◌||◌, ◌==◌, ltb, leb, pos, negsuc, length, List, Option, Some, None, option_map, option_and_then, IsTrue, refl, sym, ap, subst, ◌∙◌, arith, eqb-true, eq-eqb, ne_eqb, ltb-true, lt-ltb, le-ltb}
-use Rattle.std.proofs.lemmas.Bool.{eqb-false, false≢true, le-leb, lt-leb}
+use Rattle.std.proofs.Common.{◌≡◌, ◌≢◌, ℕ, zero, suc, ◌+◌, ◌-◌, ◌≤◌, Bool, true, false, cond, ◌||◌, ◌==◌, ltb, leb, List, Option, Some, None, option_map, option_and_then, IsTrue, refl, sym, ap, subst, ◌∙◌, arith, eqb-true, ne_eqb, lt-ltb, le-ltb}
+use Rattle.std.proofs.lemmas.Bool.{eqb-false, le-leb, lt-leb}
 use Rattle.kfs_model.specs.Header.{Kind, File, Directory, Header}
-use Rattle.kfs_model.specs.Table.{numbers, get, remove}
+use Rattle.kfs_model.specs.Table.{get, remove}
 use Rattle.kfs_model.specs.Tree.{Tree, Node, Body, Cells, Names, Links, headers, header_of, target, name_count, entry_count, is_named}
-use Rattle.kfs_model.specs.Sight.{Sight, sight, is_directory, is_file, parent_in}
+use Rattle.kfs_model.specs.Sight.{sight, is_directory, parent_in}
 use Rattle.kfs_model.specs.Effect.{swept, with_names}
-use Rattle.kfs_model.specs.Soundness.{Climbs, InRange, NameIsSound, AreSound, IsSound}
+use Rattle.kfs_model.specs.Soundness.{Climbs, IsSound}
 use Rattle.kfs_model.specs.SeenAfter.{put_at, unlinked, seen_without}
-use Rattle.kfs_model.proofs.CleanFacts.{some_is}
 use Rattle.kfs_model.proofs.Links.{target-remove, target_is_named, target_is_entry, is_named_counts}
 use Rattle.kfs_model.proofs.NameRemoved.{was_target, kept_target, others_count, own_count, count_shifted}
-use Rattle.kfs_model.proofs.Heads.{stays, named_stays, get-headers, kept_head, directory_stays, directory_count, parent_kept, parent_of_none, parent_named, has_parent}
+use Rattle.kfs_model.proofs.Heads.{stays, named_stays, get-headers, kept_head, directory_stays, directory_count, parent_kept, parent_of_none, parent_named}
 use Rattle.kfs_model.proofs.NameStep.{left_head, left_head_is, NamesKept, names_kept_sound, stays_named}
 
 module _ {B : Type 0} (t : Tree B) (sound : IsSound t) (d : ℕ) (m : List ℕ) (n : ℕ) (there : target t.names d m ≡ Some n)

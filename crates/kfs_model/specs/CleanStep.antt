@@ -1,5 +1,5 @@
 -- What a clean entry keeps: a sound tree stays sound, and what the cells show moves cell by cell.
-use Rattle.std.specs.Prelude.{◌≡◌, ℕ, ◌<◌, ◌≤◌, ◌^◌, List, length, Option, None, Result, Ok, Err}
+use Rattle.std.specs.Prelude.{◌≡◌, ℕ, ◌<◌, ◌≤◌, ◌^◌, List, length, None}
 use Rattle.kfs_model.specs.Access.{Client}
 use Rattle.kfs_model.specs.Tree.{Tree}
 use Rattle.kfs_model.specs.Sight.{sight}

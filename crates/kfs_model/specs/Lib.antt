@@ -16,6 +16,7 @@ pub mod PlanCut
 pub mod FirstWrong
 pub mod SeenAfter
 pub mod CleanStep
+pub mod Looked
 pub mod Placement
 pub mod Spelling
 pub mod Judgement

@@ -1,7 +1,7 @@
 -- A sound tree: the root, one name for each other directory, and all in range. It is said of what the nodes show and of
 -- the names, so that it is the same whatever a file is made of.
-use Rattle.std.specs.Prelude.{◌≡◌, ◌≢◌, ℕ, zero, suc, ◌<◌, ◌≤◌, ◌^◌, List, Option, Some, None, IsTrue}
-use Rattle.kfs_model.specs.Header.{Kind, Header}
+use Rattle.std.specs.Prelude.{◌≡◌, ◌≢◌, ℕ, zero, suc, ◌<◌, ◌≤◌, ◌^◌, List, Option, Some, IsTrue}
+use Rattle.kfs_model.specs.Header.{Header}
 use Rattle.kfs_model.specs.Table.{get}
 use Rattle.kfs_model.specs.Tree.{Tree, Links, headers, target, name_count}
 use Rattle.kfs_model.specs.Sight.{parent_in, is_directory, is_file}
