@@ -1,2 +1,14 @@
-//! Tests that cross crates, through public calls.
+//! Tests that cross crates, through public calls. The expected values come from docs/FORMATS.md and
+//! from the worked examples of kfs_model, never from the program's own output.
 #![tactic(auto)]
+
+#[cfg(test)]
+mod fixtures;
+#[cfg(test)]
+mod judging;
+#[cfg(test)]
+mod lines;
+#[cfg(test)]
+mod replies;
+#[cfg(test)]
+mod stopping;
