@@ -29,3 +29,4 @@ pub mod SameChecks
 pub mod SameSteps
 pub mod SameLooked
 pub mod NameStep
+pub mod Overlays

@@ -15,6 +15,7 @@ pub mod Plan
 pub mod PlanCut
 pub mod FirstWrong
 pub mod SeenAfter
+pub mod Overlay
 pub mod CleanStep
 pub mod Looked
 pub mod Placement

@@ -15,8 +15,8 @@ use Rattle.kfs_model.specs.Run.{Scene, EntryFault, spot, created_by}
 abbrev pub put_at : {X : Type 0} → (number : ℕ) → X → (ℕ → X) → ℕ → X
 put_at n x f k = if k == n then x else f k
 
-abbrev pub put_name : (directory : ℕ) (name : List ℕ) → Option ℕ → (ℕ → List ℕ → Option ℕ) → ℕ → List ℕ → Option ℕ
-put_name d m number names e k = if same_place (e, k) (d, m) then number else names e k
+abbrev pub put_name : {X : Type 0} → (directory : ℕ) (name : List ℕ) → X → (ℕ → List ℕ → X) → ℕ → List ℕ → X
+put_name d m x names e k = if same_place (e, k) (d, m) then x else names e k
 
 -- a directory has so many names more
 abbrev pub shifted : (directory : ℕ) → ℤ → (ℕ → ℤ) → ℕ → ℤ
@@ -31,10 +31,14 @@ put_header n change head = put_at n (option_map change (head n)) head
 abbrev pub new_header : Client → Kind → (mode : ℕ) → Header
 new_header client kind mode = record { kind = kind; mode = mode; uid = client.uid; gid = client.gid; links = 1; size = 0 }
 
+-- at the number, where that is a directory's
+abbrev pub put_of_directory : {X : Type 0} → Kind → (number : ℕ) → X → (ℕ → X) → ℕ → X
+put_of_directory File n x f = f
+put_of_directory Directory n x f = put_at n x f
+
 -- where the node is a directory it now stands in this one
 abbrev pub put_parent : Kind → (number directory : ℕ) → (ℕ → Option ℕ) → ℕ → Option ℕ
-put_parent File n d parent = parent
-put_parent Directory n d parent = put_at n (Some d) parent
+put_parent kind n d parent = put_of_directory kind n (Some d) parent
 
 -- a name fewer leads to the node: a directory goes, and a file with its last name
 abbrev pub unlinked : Header → Option Header

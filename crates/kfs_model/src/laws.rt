@@ -12,12 +12,13 @@ ghost use Rattle.kfs_model.specs.PlanCut.{SaySame, AreInOrder};
 ghost use Rattle.kfs_model.specs.FirstWrong.{first_wrong_row};
 ghost use Rattle.kfs_model.specs.Machine.{OneByOne};
 ghost use Rattle.std.specs.List.{AllByRecursion};
-ghost use Rattle.kfs_model.specs.Sight.{sight, Seen};
+ghost use Rattle.kfs_model.specs.Sight.{Sight, sight, Seen};
+ghost use Rattle.kfs_model.specs.Overlay.{Overlay, over, nothing_put, laid_after};
 ghost use Rattle.kfs_model.specs.Access.{Client};
 ghost use Rattle.kfs_model.specs.Looked.{Leased, seen_in, scene_in, looked_cells, seen_run, AnswerAlike, EndAlike};
 ghost use Rattle.kfs_model.specs.Soundness.{IsSound};
 ghost use Rattle.kfs_model.specs.Spelling.{IsEntry};
-ghost use Rattle.kfs_model.specs.SeenAfter.{seen_run_from, shown_run};
+ghost use Rattle.kfs_model.specs.SeenAfter.{seen_after, seen_run_from, shown_run};
 ghost use Rattle.kfs_model.specs.CleanStep.{IsClient, IsClean, IsKept};
 
 /// An entry of which no check fails is allowed to its client, by mode bits and leases, whichever of the seven it is.
@@ -70,4 +71,11 @@ pub fn looked_cells_decide()
     ensures ends { (client : Client) (one other : Seen) (entries : List Entry) → AnswerAlike one other (looked_cells client one entries) → EndAlike one other (seen_run client one entries) (seen_run client other entries) }
     ensures looks { (client : Client) (one other : Seen) (entries : List Entry) → AnswerAlike one other (looked_cells client one entries) → looked_cells client one entries ≡ looked_cells client other entries }
     ensures of_trees { (client : Client) (one other : Leased) (entries : List Entry) → IsClient client → IsSound one.tree → IsSound other.tree → AllByRecursion IsEntry entries → AnswerAlike (seen_in one) (seen_in other) (looked_cells client (seen_in one) entries) → EndAlike (seen_in one) (seen_in other) (shown_run (run bytes (scene_in client (seen_in one)) one.tree entries)) (shown_run (run bytes (scene_in client (seen_in other)) other.tree entries)) }
+{}
+
+/// What entries put into cells, laid over what the cells showed before, shows after one more entry what the entry's change
+/// of cells shows; with nothing put it shows what was there.
+pub fn overlay_shows_the_change()
+    ensures begins { (before : Sight) → over nothing_put before ≡ before }
+    ensures goes_on { (client : Client) (put : Overlay) (before : Sight) (entry : Entry) → over (laid_after client entry (over put before) put) before ≡ seen_after client (over put before) entry }
 {}
