@@ -30,3 +30,5 @@ pub mod SameSteps
 pub mod SameLooked
 pub mod NameStep
 pub mod Overlays
+pub mod Unlooked
+pub mod SameNet

@@ -1,5 +1,5 @@
 -- The cells that a log looks at, and what two states have in common that answer alike there.
-use Rattle.std.specs.Prelude.{◌≡◌, ℕ, Bool, List, [], ◌∷◌, ◌++◌, Some, None, Result, Ok, Err}
+use Rattle.std.specs.Prelude.{◌≡◌, ◌⊎◌, ℕ, Bool, List, [], ◌∷◌, ◌++◌, Some, None, Result, Ok, Err}
 use Rattle.std.specs.List.{AllByRecursion}
 use Rattle.kfs_model.specs.Access.{Client}
 use Rattle.kfs_model.specs.Tree.{Tree}
@@ -44,3 +44,19 @@ EndAlike s u (Ok now) (Ok other) = (cell : Cell) → answer s cell ≡ answer u 
 EndAlike s u (Ok now) (Err fault) = ⊥
 EndAlike s u (Err fault) (Ok other) = ⊥
 EndAlike s u (Err fault) (Err other) = fault ≡ other
+
+-- ---- what a log changes
+
+-- alike before and after, or changed on neither side
+abbrev pub ChangeAlike : {X : Type 0} → (before after other_before other_after : X) → Type 0
+ChangeAlike before after other_before other_after = ((before ≡ other_before) × (after ≡ other_after)) ⊎ ((after ≡ before) × (other_after ≡ other_before))
+
+-- the names and headers that the log changes, and what they were and are
+pub record ChangesAlike (s u : Seen) (now other : Sight) : Type 0 where
+  pub heads : (n : ℕ) → ChangeAlike (s.sight.head n) (now.head n) (u.sight.head n) (other.head n)
+  pub names : (d : ℕ) (m : List ℕ) → ChangeAlike (s.sight.name d m) (now.name d m) (u.sight.name d m) (other.name d m)
+
+abbrev pub NetAlike : Seen → Seen → Result Sight EntryFault → Result Sight EntryFault → Type 0
+NetAlike s u (Ok now) (Ok other) = ChangesAlike s u now other
+NetAlike s u (Ok now) (Err fault) = ⊥
+NetAlike s u (Err fault) end = Unit {0}

@@ -15,7 +15,7 @@ ghost use Rattle.std.specs.List.{AllByRecursion};
 ghost use Rattle.kfs_model.specs.Sight.{Sight, sight, Seen};
 ghost use Rattle.kfs_model.specs.Overlay.{Overlay, over, nothing_put, laid_after};
 ghost use Rattle.kfs_model.specs.Access.{Client};
-ghost use Rattle.kfs_model.specs.Looked.{Leased, seen_in, scene_in, looked_cells, seen_run, AnswerAlike, EndAlike};
+ghost use Rattle.kfs_model.specs.Looked.{Leased, seen_in, scene_in, looked_cells, seen_run, AnswerAlike, EndAlike, NetAlike};
 ghost use Rattle.kfs_model.specs.Soundness.{IsSound};
 ghost use Rattle.kfs_model.specs.Spelling.{IsEntry};
 ghost use Rattle.kfs_model.specs.SeenAfter.{seen_after, seen_run_from, shown_run};
@@ -65,11 +65,12 @@ pub fn run_is_seen_in_cells()
 {}
 
 /// Two states that answer alike, to one client, at the cells that a log looks at in the one, have the same first fault of
-/// the log, or none and the same changes of cells; and the log looks at the same cells in the other. So do two sound trees,
-/// whatever their bytes.
+/// the log, or none and the same names and headers changed by it; and the log looks at the same cells in the other. Two
+/// sound trees end alike too, whatever their bytes.
 pub fn looked_cells_decide()
     ensures ends { (client : Client) (one other : Seen) (entries : List Entry) → AnswerAlike one other (looked_cells client one entries) → EndAlike one other (seen_run client one entries) (seen_run client other entries) }
     ensures looks { (client : Client) (one other : Seen) (entries : List Entry) → AnswerAlike one other (looked_cells client one entries) → looked_cells client one entries ≡ looked_cells client other entries }
+    ensures changes { (client : Client) (one other : Seen) (entries : List Entry) → AnswerAlike one other (looked_cells client one entries) → NetAlike one other (seen_run client one entries) (seen_run client other entries) }
     ensures of_trees { (client : Client) (one other : Leased) (entries : List Entry) → IsClient client → IsSound one.tree → IsSound other.tree → AllByRecursion IsEntry entries → AnswerAlike (seen_in one) (seen_in other) (looked_cells client (seen_in one) entries) → EndAlike (seen_in one) (seen_in other) (shown_run (run bytes (scene_in client (seen_in one)) one.tree entries)) (shown_run (run bytes (scene_in client (seen_in other)) other.tree entries)) }
 {}
 
