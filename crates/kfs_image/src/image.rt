@@ -1,9 +1,13 @@
 //! An image: the shape that views share, and the tiers.
+ghost use Rattle.std.specs.Prelude.{◌≡◌, IfOk, OnOk, OnErr};
+ghost use Rattle.kfs_image.specs.Change.{after_rows, after_net};
+ghost use Rattle.kfs_image.specs.Contents.{root_alone};
 
 use crate::layout::Shape;
 use crate::sizes::TierSizes;
 use kfs_entry::{Name, NameRow, NodeRow};
 use std::alloc::{AllocError, Allocator};
+use std::marker::Model;
 use std::sync::Arc;
 
 /// The image that the desk owns. Views share its shape and see it as it was when they were taken.
@@ -14,10 +18,20 @@ pub struct Image<A: Allocator> {
     alloc: A,
 }
 
+impl<A: Allocator> Model for Image<A> {
+    ghost use Rattle.kfs_image.specs.Contents.{Shown};
+
+    ghost Value = { Shown };
+
+    ghost view = { λ i. record { contents = i.shape.value; sizes = i.sizes } };
+}
+
 impl<A: Allocator + Clone> Image<A> {
     /// The image with the root directory alone, of mode 0o777, uid 0 and gid 0, over tiers of these
     /// sizes.
-    pub fn fresh(alloc: A, sizes: TierSizes) -> Result<Image<A>, AllocError> {
+    pub fn fresh(alloc: A, sizes: TierSizes) -> Result<Image<A>, AllocError>
+        ensures { IfOk result (λ image. image ≡ record { contents = root_alone; sizes = sizes }) }
+    {
         let shape = Shape::with_root(alloc.clone()?)?;
         let shape = Arc::new(alloc.clone()?, shape)?;
         Ok(Image {
@@ -29,11 +43,10 @@ impl<A: Allocator + Clone> Image<A> {
 
     /// Makes the change of a net, in place where no view shares the shape. `Err` leaves what the
     /// image shows as it is, and a view shows what it showed in any case.
-    pub(crate) fn change(
-        &mut self,
-        names: &[NameRow],
-        nodes: &[NodeRow],
-    ) -> Result<(), AllocError> {
+    pub(crate) fn change(&mut self, names: &[NameRow], nodes: &[NodeRow]) -> Result<(), AllocError>
+        ensures ok { OnOk result (self.new ≡ after_net self.old names.now nodes.now) }
+        ensures err { OnErr result (self.new ≡ self.old) }
+    {
         let mut vacated = Vec::new(self.alloc.clone()?);
         change_shared(&mut self.shape, names, nodes, &mut vacated)
     }
@@ -44,14 +57,19 @@ fn change_shared<A: Allocator + Clone>(
     names: &[NameRow],
     nodes: &[NodeRow],
     vacated: &mut Vec<(u32, u32), A>,
-) -> Result<(), AllocError> {
+) -> Result<(), AllocError>
+    ensures ok { OnOk result (shape.new.value ≡ after_rows shape.old.value names.now nodes.now) }
+    ensures err { OnErr result (shape.new.value ≡ shape.old.value) }
+{
     let shape = Arc::make_mut(shape)?;
     shape.apply(names, nodes, vacated)
 }
 
 impl<A: Allocator> Image<A> {
     /// The shape of now, to share with a view. Takes no memory.
-    pub fn shape(&self) -> &Arc<Shape<A>, A> {
+    pub fn shape(&self) -> &Arc<Shape<A>, A>
+        ensures { result.now.value ≡ self.now.contents }
+    {
         &self.shape
     }
 

@@ -4,6 +4,7 @@
 mod cell;
 mod image;
 mod layout;
+mod rows;
 pub mod shape;
 mod sizes;
 mod slots;

@@ -1,4 +1,6 @@
 //! The change that a landing makes to an image.
+ghost use Rattle.std.specs.Prelude.{◌≡◌, OnOk, OnErr};
+ghost use Rattle.kfs_image.specs.Change.{after_net};
 
 use crate::image::Image;
 use kfs_entry::{NameRow, NodeRow};
@@ -35,6 +37,9 @@ pub fn net_apply<A: Allocator + Clone>(
     image: &mut Image<A>,
     net: &Net<A>,
     _fill: &Fill<A>,
-) -> Result<(), AllocError> {
+) -> Result<(), AllocError>
+    ensures ok { OnOk result (image.new ≡ after_net image.old net.now.names.items net.now.nodes.items) }
+    ensures err { OnErr result (image.new ≡ image.old) }
+{
     image.change(net.names.as_slice(), net.nodes.as_slice())
 }

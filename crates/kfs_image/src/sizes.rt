@@ -1,23 +1,46 @@
 //! The sizes of the tiers.
 ghost use Rattle.std.specs.Prelude.{◌≡◌, ◌≤◌, IsSome, IfSome, ◌↔◌};
 
+use std::marker::Model;
+
 /// How many blocks of 4,096 bytes each of the three tiers has: non-volatile memory, solid-state disk
 /// and hard disk.
 #[derive(Clone, Copy, Debug, PartialEq, Eq)]
 pub struct TierSizes {
-    blocks: [u32; 3],
+    first: u32,
+    second: u32,
+    third: u32,
+}
+
+impl Model for TierSizes {
+    ghost use Rattle.std.specs.Prelude.{◌≤◌};
+    ghost use Rattle.kfs_model.specs.Judgement.{TierSizes as Sizes};
+
+    ghost Value = { Sizes };
+
+    ghost view = { λ s. record { first = s.first; second = s.second; third = s.third } };
+
+    ghost invariant = { λ s. (s.first ≤ 65536) × (s.second ≤ 65536) × (s.third ≤ 65536) };
+
+    ghost inverse = { λ v. record { first = v.first; second = v.second; third = v.third } };
 }
 
 /// The greatest size of a tier, in blocks.
 pub const LARGEST_TIER: u32 = 65_536;
 
 impl TierSizes {
-    /// The sizes of tiers 0, 1 and 2 in blocks, or none where one is over 65,536.
-    pub fn new(first: u32, second: u32, third: u32) -> Option<TierSizes> {
-        let blocks = [first, second, third];
+    /// The sizes of tiers 0, 1 and 2 in blocks, or none where one is over 65,536. Takes no memory.
+    pub fn new(first: u32, second: u32, third: u32) -> Option<TierSizes>
+        ensures in_range { IsSome result ↔ ((first ≤ 65536) × (second ≤ 65536) × (third ≤ 65536)) }
+        ensures value { IfSome result (λ sizes. sizes ≡ record { first = first; second = second; third = third }) }
+    {
         if first > LARGEST_TIER || second > LARGEST_TIER || third > LARGEST_TIER {
             return None;
         }
-        Some(TierSizes { blocks })
+        Some(TierSizes {
+            first,
+            second,
+            third,
+        })
     }
 }

@@ -1,16 +1,20 @@
 //! Maps in which room is taken before a change: a slot without a value shows nothing.
+ghost use Rattle.std.specs.Prelude.{◌≡◌, IsSome, OnOk, IfOk, if◌then◌else◌};
+ghost use Rattle.std.specs.Option.{option_copied};
+ghost use Rattle.std.specs.Ordering.{eq_by_cmp};
+ghost use Rattle.std.specs.BTreeMap.{get};
+ghost use Rattle.kfs_image.specs.Slots.{shown_at};
 
 use std::alloc::{AllocError, Allocator};
 use std::collections::BTreeMap;
-
-/// A map that shows, at each key, the value of the key's slot.
-pub(crate) type Slots<K, V, A> = BTreeMap<K, Option<V>, A>;
 
 /// What the map shows at the key.
 pub(crate) fn shown<'a, K: Ord, V, A: Allocator>(
     slots: &'a BTreeMap<K, Option<V>, A>,
     key: &K,
-) -> Option<&'a V> {
+) -> Option<&'a V>
+    ensures { option_copied result ≡ shown_at K.cmp slots.now key.now }
+{
     slots.get(key)?.as_ref()
 }
 
@@ -18,7 +22,11 @@ pub(crate) fn shown<'a, K: Ord, V, A: Allocator>(
 pub(crate) fn reserve<K: Ord + Drop, V: Drop, A: Allocator + Clone>(
     slots: &mut BTreeMap<K, Option<V>, A>,
     key: K,
-) -> Result<(), AllocError> {
+) -> Result<(), AllocError>
+    ensures room { OnOk result (IsSome (get K.cmp slots.new key)) }
+    ensures kept { (q : K) → IsSome (get K.cmp slots.old q) → IsSome (get K.cmp slots.new q) }
+    ensures shown { (q : K) → shown_at K.cmp slots.new q ≡ shown_at K.cmp slots.old q }
+{
     if slots.contains_key(&key) {
         return Ok(());
     }
@@ -31,7 +39,11 @@ pub(crate) fn set<K: Ord, V: Drop, A: Allocator>(
     slots: &mut BTreeMap<K, Option<V>, A>,
     key: &K,
     value: Option<V>,
-) {
+)
+    requires { IsSome (get K.cmp slots.old key.now) }
+    ensures kept { (q : K) → IsSome (get K.cmp slots.old q) → IsSome (get K.cmp slots.new q) }
+    ensures shown { (q : K) → shown_at K.cmp slots.new q ≡ (if eq_by_cmp K.cmp q key.now then value else shown_at K.cmp slots.old q) }
+{
     if let Some(slot) = slots.get_mut(key) {
         *slot = value;
     }
@@ -41,8 +53,21 @@ pub(crate) fn set<K: Ord, V: Drop, A: Allocator>(
 pub(crate) fn release<K: Ord + Drop, V: Drop, A: Allocator>(
     slots: &mut BTreeMap<K, Option<V>, A>,
     key: &K,
-) {
+)
+    ensures { (q : K) → shown_at K.cmp slots.new q ≡ shown_at K.cmp slots.old q }
+{
     if let Some(None) = slots.get(key) {
         let _ = slots.remove(key);
     }
+}
+
+/// A copy of a map, where clones of keys and of values are equal to them.
+pub(crate) fn copy<K: Ord + Clone, V: Clone, A: Allocator + Clone>(
+    map: &BTreeMap<K, V, A>,
+) -> Result<BTreeMap<K, V, A>, AllocError>
+    requires keys { (x y : K) → K.is_clone x y → y ≡ x }
+    requires values { (v w : V) → V.is_clone v w → w ≡ v }
+    ensures { IfOk result (λ copy. copy.entries ≡ map.now.entries) }
+{
+    map.clone()
 }

@@ -1,0 +1,4 @@
+pub mod Counts
+pub mod RowCounts
+pub mod RowSteps
+pub mod SlotTables

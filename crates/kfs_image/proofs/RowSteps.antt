@@ -1,0 +1,77 @@
+-- What the rows show after a step on one of their maps.
+use Rattle.std.proofs.Common.{◌≡◌, ℕ, Bool, true, false, cond, List, Option, Some, None, option_map, refl, sym, ap, ◌∙◌}
+use Rattle.std.specs.Prelude.{unwrap_or}
+use Rattle.std.specs.Ordering.{nat_cmp, eq_by_cmp}
+use Rattle.std.specs.BTreeMap.{BTreeMap}
+use Rattle.kfs_model.specs.Table.{numbers, get, same_table}
+use Rattle.kfs_model.specs.Tree.{directory_entries}
+use Rattle.kfs_entry.specs.declared.header.Header.{Header as CodeHeader}
+use Rattle.kfs_image.specs.declared.rows.Rows.{Rows}
+use Rattle.kfs_image.specs.Slots.{shown_at, changed}
+use Rattle.kfs_image.specs.Rows.{IsIndexed, ShowsSame, KeepsSlots, HasSlots, heads_of, names_of, heads_in, names_in}
+use Rattle.kfs_entry.specs.Views.{header_of}
+use Rattle.kfs_image.proofs.SlotTables.{get-table_of, get-changed}
+
+same_option : (o : Option ℕ) → option_map (λ number. number) o ≡ o
+same_option None = refl
+same_option (Some n) = refl
+
+pub get-names_of : (slots : BTreeMap (ℕ × List ℕ) (Option ℕ)) (q : ℕ × List ℕ) → get (names_of slots) q ≡ shown_at directory_entries.compare slots q
+get-names_of slots q = get-table_of directory_entries (λ number. number) slots.entries q ∙ same_option _
+
+pub get-heads_of : (slots : BTreeMap ℕ (Option CodeHeader)) (q : ℕ) → get (heads_of slots) q ≡ option_map header_of (shown_at nat_cmp slots q)
+get-heads_of slots q = get-table_of numbers header_of slots.entries q
+
+pub names_changed : (old new : BTreeMap (ℕ × List ℕ) (Option ℕ)) (key : ℕ × List ℕ) (w : Option ℕ)
+    → ((q : ℕ × List ℕ) → shown_at directory_entries.compare new q ≡ cond (eq_by_cmp directory_entries.compare q key) w (shown_at directory_entries.compare old q))
+    → names_of new ≡ changed (names_of old) key w
+names_changed old new key w shown =
+    same_table _ _ (λ q.
+    get-names_of new q ∙ shown q ∙ ap (cond (eq_by_cmp directory_entries.compare q key) w) (sym (get-names_of old q)) ∙ sym (get-changed (names_of old) key w q))
+
+viewed : (b : Bool) (w o : Option CodeHeader) → option_map header_of (cond b w o) ≡ cond b (option_map header_of w) (option_map header_of o)
+viewed true w o = refl
+viewed false w o = refl
+
+pub heads_changed : (old new : BTreeMap ℕ (Option CodeHeader)) (key : ℕ) (w : Option CodeHeader)
+    → ((q : ℕ) → shown_at nat_cmp new q ≡ cond (eq_by_cmp nat_cmp q key) w (shown_at nat_cmp old q)) → heads_of new ≡ changed (heads_of old) key (option_map header_of w)
+heads_changed old new key w shown =
+    same_table _ _ (λ q.
+    get-heads_of new q ∙ ap (option_map header_of) (shown q) ∙ viewed (eq_by_cmp nat_cmp q key) w (shown_at nat_cmp old q)
+    ∙ ap (cond (eq_by_cmp nat_cmp q key) (option_map header_of w)) (sym (get-heads_of old q)) ∙ sym (get-changed (heads_of old) key (option_map header_of w) q))
+
+module _ {A : Type 0} where
+  pub keeps_all : (a b c : Rows A) → KeepsSlots a b → KeepsSlots b c → KeepsSlots a c
+  keeps_all a b c first second = record {
+    headers = λ q s. second.headers q (first.headers q s);
+    names = λ q s. second.names q (first.names q s);
+    counts = λ q s. second.counts q (first.counts q s);
+    uplinks = λ q s. second.uplinks q (first.uplinks q s);
+  }
+
+  pub shows_all : (a b c : Rows A) → ShowsSame a b → ShowsSame b c → ShowsSame a c
+  shows_all a b c first second = record {
+    headers = λ q. second.headers q ∙ first.headers q;
+    names = λ q. second.names q ∙ first.names q;
+    counts = λ q. second.counts q ∙ first.counts q;
+    uplinks = λ q. second.uplinks q ∙ first.uplinks q;
+  }
+
+  pub same_heads : (old new : Rows A) → ShowsSame old new → heads_in new ≡ heads_in old
+  same_heads old new same = same_table _ _ (λ q. get-heads_of new.headers q ∙ ap (option_map header_of) (same.headers q) ∙ sym (get-heads_of old.headers q))
+
+  pub same_names : (old new : Rows A) → ShowsSame old new → names_in new ≡ names_in old
+  same_names old new same = same_table _ _ (λ q. get-names_of new.names q ∙ same.names q ∙ sym (get-names_of old.names q))
+
+  pub still_indexed : (old new : Rows A) → ShowsSame old new → IsIndexed old → IsIndexed new
+  still_indexed old new same indexed = record {
+    counts = λ q. rw (same_names old new same) (ap (λ o. unwrap_or o 0) (same.counts q) ∙ indexed.counts q);
+    uplinks = λ n q. rw (same_names old new same) (ap (λ o. unwrap_or o 0) (same.uplinks (n, q)) ∙ indexed.uplinks n q);
+  }
+
+  pub slots_stay : (old new : Rows A) → KeepsSlots old new → (d : ℕ) (m : List ℕ) (n : ℕ) → HasSlots old d m n → HasSlots new d m n
+  slots_stay old new kept d m n slots = record {
+    names = kept.names (d, m) slots.names;
+    counts = kept.counts d slots.counts;
+    uplinks = kept.uplinks (n, d) slots.uplinks;
+  }

@@ -1,0 +1,33 @@
+-- What the tables of slots show.
+use Rattle.std.proofs.Common.{◌≡◌, Bool, true, false, cond, not, List, [], ◌∷◌, Option, Some, None, option_map, refl, ap, ◌∙◌}
+use Rattle.std.specs.Ordering.{eq_by_cmp}
+use Rattle.std.specs.Cmp.{eq_by_cmp_equiv}
+use Rattle.std.specs.Map.{lookup}
+use Rattle.std.specs.BTreeMap.{is_at}
+use Rattle.kfs_model.specs.Table.{Order, Table, get, get-insert, get-remove}
+use Rattle.kfs_image.specs.Slots.{opened, changed, table_of}
+
+module _ {K X : Type 0} {R : Order K} where
+  pub get-changed : (t : Table R X) (k : K) (w : Option X) (q : K) → get (changed t k w) q ≡ cond (eq_by_cmp R.compare q k) w (get t q)
+  unfolding changed
+  get-changed t k None q = get-remove t k q ∙ turned (eq_by_cmp R.compare k q) (eq_by_cmp R.compare q k) ((eq_by_cmp_equiv R.total).symm k q)
+    where
+      turned : (a b : Bool) → a ≡ b → cond (not a) (get t q) None ≡ cond b None (get t q)
+      turned a true e = ap (λ x. cond (not x) (get t q) None) e
+      turned a false e = ap (λ x. cond (not x) (get t q) None) e
+  get-changed t k (Some v) q = get-insert t k v q
+
+module _ {K X Y : Type 0} (R : Order K) (view : X → Y) where
+  option_map-cond : (b : Bool) (slot : Option X) (rest : Option Y) (later : Option (Option X)) → rest ≡ option_map view (opened later)
+      → cond b (option_map view slot) rest ≡ option_map view (opened (cond b (Some slot) later))
+  option_map-cond true slot rest later same = refl
+  option_map-cond false slot rest later same = same
+
+  pub get-table_of : (slots : List (K × Option X)) (q : K) → get (table_of R view slots) q ≡ option_map view (opened (lookup (is_at (R.compare q)) slots))
+  unfolding table_of get
+  get-table_of [] q = refl
+  get-table_of (slot ∷ slots) q =
+      get-changed (table_of R view slots) slot.0 (option_map view slot.1) q
+      ∙ option_map-cond (eq_by_cmp R.compare q slot.0) slot.1 (get (table_of R view slots) q) (lookup (is_at (R.compare q)) slots) (get-table_of slots q)
+
+pub ruleset tables = (get-table_of, get-changed)

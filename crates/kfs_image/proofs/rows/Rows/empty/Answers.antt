@@ -1,0 +1,29 @@
+use Rattle.std.proofs.Common.{ap, sym, ◌∙◌, ◌==◌, ◌&&◌}
+use Rattle.std.specs.Prelude.{unwrap_or, count_by}
+use Rattle.std.specs.Ordering.{nat_cmp}
+use Rattle.std.specs.Map.{lookup}
+use Rattle.std.specs.BTreeMap.{is_at}
+use Rattle.kfs_model.specs.Table.{numbers, pairs}
+use Rattle.kfs_model.specs.Tree.{directory_entries}
+use Rattle.kfs_entry.specs.Views.{header_of}
+use Rattle.kfs_image.specs.Slots.{table_of, opened}
+use Rattle.kfs_image.proofs.rows.Rows.empty.Goals as goal
+
+pub returns-clause-heads : goal.returns-clause-heads
+unfolding table_of
+returns-clause-heads g c = ap (table_of numbers header_of) c.new.ensures.empty
+
+pub returns-clause-names : goal.returns-clause-names
+unfolding table_of
+returns-clause-names g c = ap (table_of directory_entries (λ number. number)) c.new-2.ensures.empty
+
+pub returns-clause-indexed : goal.returns-clause-indexed
+unfolding table_of
+returns-clause-indexed g c = record {
+  counts = λ q.
+      ap (λ slots. unwrap_or (opened (lookup (is_at (nat_cmp q)) slots)) 0) c.new-3.ensures.empty
+      ∙ sym (ap (λ slots. count_by (λ e. e.0.0 == q) (table_of directory_entries (λ number. number) slots).entries) c.new-2.ensures.empty);
+  uplinks = λ n q.
+      ap (λ slots. unwrap_or (opened (lookup (is_at ((pairs numbers numbers).compare (n, q))) slots)) 0) c.new-4.ensures.empty
+      ∙ sym (ap (λ slots. count_by (λ e. (e.1 == n) && (e.0.0 == q)) (table_of directory_entries (λ number. number) slots).entries) c.new-2.ensures.empty);
+}

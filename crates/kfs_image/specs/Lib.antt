@@ -1,0 +1,5 @@
+pub mod Change
+pub mod Contents
+pub mod Look
+pub mod Rows
+pub mod Slots

@@ -1,0 +1,42 @@
+-- What a look at a cell answers.
+use Rattle.std.specs.Prelude.{◌≡◌, ℕ, List, option_map}
+use Rattle.kfs_entry.specs.Views.{header_of}
+use Rattle.kfs_model.specs.Table.{get}
+use Rattle.kfs_model.specs.Tree.{target, entry_count}
+use Rattle.kfs_model.specs.Sight.{parent_in}
+use Rattle.kfs_image.specs.declared.cell.Cell.{Cell}
+use Rattle.kfs_image.specs.declared.cell.Cell.TheVariants as cells
+use Rattle.kfs_image.specs.declared.cell.Answer.{Answer}
+use Rattle.kfs_image.specs.declared.cell.Answer.TheVariants as answers
+use Rattle.kfs_image.specs.Contents.{Contents}
+
+-- the answer is of the cell's case, and says what the contents show there
+abbrev pub IsAnswer : Contents → Cell → Answer → Type 0
+IsAnswer c (cells.Header number) answer = IsHeader c number answer
+  where
+    IsHeader : Contents → ℕ → Answer → Type 0
+    IsHeader c number (answers.Header header) = option_map header_of header ≡ get c.heads number
+    IsHeader c number (answers.Name number') = ⊥
+    IsHeader c number (answers.Count count) = ⊥
+    IsHeader c number (answers.Parent parent) = ⊥
+IsAnswer c (cells.Name dir name) answer = IsTarget c dir name answer
+  where
+    IsTarget : Contents → ℕ → List ℕ → Answer → Type 0
+    IsTarget c dir name (answers.Header header) = ⊥
+    IsTarget c dir name (answers.Name number) = number ≡ target c.names dir name
+    IsTarget c dir name (answers.Count count) = ⊥
+    IsTarget c dir name (answers.Parent parent) = ⊥
+IsAnswer c (cells.Count dir) answer = IsCount c dir answer
+  where
+    IsCount : Contents → ℕ → Answer → Type 0
+    IsCount c dir (answers.Header header) = ⊥
+    IsCount c dir (answers.Name number) = ⊥
+    IsCount c dir (answers.Count count) = count ≡ entry_count c.names dir
+    IsCount c dir (answers.Parent parent) = ⊥
+IsAnswer c (cells.Parent number) answer = IsParent c number answer
+  where
+    IsParent : Contents → ℕ → Answer → Type 0
+    IsParent c number (answers.Header header) = ⊥
+    IsParent c number (answers.Name number') = ⊥
+    IsParent c number (answers.Count count) = ⊥
+    IsParent c number (answers.Parent parent) = parent ≡ parent_in (get c.heads) c.names number

@@ -1,0 +1,65 @@
+-- The tables that the rows of a shape show, and what the indexes beside them count.
+use Rattle.std.specs.Prelude.{◌≡◌, ℕ, ◌==◌, ◌&&◌, List, Option, Some, None, IsSome, count_by, if◌then◌else◌}
+use Rattle.std.specs.Ordering.{nat_cmp, eq_by_cmp}
+use Rattle.std.specs.BTreeMap.{BTreeMap, get}
+use Rattle.kfs_entry.specs.declared.header.Header.{Header as CodeHeader}
+use Rattle.kfs_model.specs.Header.{Header}
+use Rattle.kfs_model.specs.Table.{Table, numbers, pairs}
+use Rattle.kfs_model.specs.Tree.{Links, directory_entries, entry_count}
+use Rattle.kfs_image.specs.declared.rows.Rows.{Rows}
+use Rattle.kfs_image.specs.Slots.{table_of, shown_at, tallied}
+use Rattle.kfs_entry.specs.Views.{header_of}
+
+-- how many names of a directory lead to a node
+abbrev pub ways_count : Links → (number directory : ℕ) → ℕ
+ways_count names number directory = count_by (λ e. (e.1 == number) && (e.0.0 == directory)) names.entries
+
+-- what a directory's count gains where a name of it comes to lead to the number
+abbrev pub count_step : (directory : ℕ) → Option ℕ → ℕ → ℕ
+count_step directory None q = 0
+count_step directory (Some number) q = if eq_by_cmp nat_cmp q directory then 1 else 0
+
+-- what the count of a way gains then
+abbrev pub uplink_step : (directory : ℕ) → Option ℕ → ℕ × ℕ → ℕ
+uplink_step directory None q = 0
+uplink_step directory (Some number) q = if eq_by_cmp (pairs numbers numbers).compare q (number, directory) then 1 else 0
+
+-- the headers that the slots show
+abbrev pub heads_of : BTreeMap ℕ (Option CodeHeader) → Table numbers Header
+heads_of slots = table_of numbers header_of slots.entries
+
+-- the names that the slots show
+abbrev pub names_of : BTreeMap (ℕ × List ℕ) (Option ℕ) → Links
+names_of slots = table_of directory_entries (λ number. number) slots.entries
+
+module _ {A : Type 0} where
+  abbrev pub heads_in : Rows A → Table numbers Header
+  heads_in rows = heads_of rows.headers
+
+  abbrev pub names_in : Rows A → Links
+  names_in rows = names_of rows.names
+
+  -- the counts are those of the names
+  pub record IsIndexed (rows : Rows A) : Type 0 where
+    pub counts : (directory : ℕ) → tallied nat_cmp rows.counts directory ≡ entry_count (names_in rows) directory
+    pub uplinks : (number directory : ℕ) → tallied (pairs numbers numbers).compare rows.uplinks (number, directory) ≡ ways_count (names_in rows) number directory
+
+  -- each map shows the same
+  pub record ShowsSame (old new : Rows A) : Type 0 where
+    pub headers : (q : ℕ) → shown_at nat_cmp new.headers q ≡ shown_at nat_cmp old.headers q
+    pub names : (q : ℕ × List ℕ) → shown_at directory_entries.compare new.names q ≡ shown_at directory_entries.compare old.names q
+    pub counts : (q : ℕ) → shown_at nat_cmp new.counts q ≡ shown_at nat_cmp old.counts q
+    pub uplinks : (q : ℕ × ℕ) → shown_at (pairs numbers numbers).compare new.uplinks q ≡ shown_at (pairs numbers numbers).compare old.uplinks q
+
+  -- no slot goes
+  pub record KeepsSlots (old new : Rows A) : Type 0 where
+    pub headers : (q : ℕ) → IsSome (get nat_cmp old.headers q) → IsSome (get nat_cmp new.headers q)
+    pub names : (q : ℕ × List ℕ) → IsSome (get directory_entries.compare old.names q) → IsSome (get directory_entries.compare new.names q)
+    pub counts : (q : ℕ) → IsSome (get nat_cmp old.counts q) → IsSome (get nat_cmp new.counts q)
+    pub uplinks : (q : ℕ × ℕ) → IsSome (get (pairs numbers numbers).compare old.uplinks q) → IsSome (get (pairs numbers numbers).compare new.uplinks q)
+
+  -- there are slots for what a name comes to lead to
+  pub record HasSlots (rows : Rows A) (directory : ℕ) (name : List ℕ) (number : ℕ) : Type 0 where
+    pub names : IsSome (get directory_entries.compare rows.names (directory, name))
+    pub counts : IsSome (get nat_cmp rows.counts directory)
+    pub uplinks : IsSome (get (pairs numbers numbers).compare rows.uplinks (number, directory))

@@ -1,0 +1,334 @@
+//! The maps that hold the nodes and names of a shape, and the counts beside them.
+ghost use Rattle.std.specs.Prelude.{◌≡◌, ℕ, ◌+◌, ◌<◌, ◌^◌, option_map, All, IfOk, OnOk, OnErr, IsSome, Some, [], ◌∷◌};
+ghost use Rattle.std.specs.Ordering.{nat_cmp};
+ghost use Rattle.std.specs.BTreeMap as slots_of;
+ghost use Rattle.kfs_model.specs.Table.{get, pairs, numbers, empty};
+ghost use Rattle.kfs_model.specs.Tree.{entry_count, directory_entries};
+ghost use Rattle.kfs_image.specs.Rows.{heads_of, heads_in, names_in, count_step, uplink_step, IsIndexed, ShowsSame, KeepsSlots, HasSlots};
+ghost use Rattle.kfs_image.specs.Change.{led_to, renamed, reheaded};
+ghost use Rattle.kfs_image.specs.Slots.{tallied, changed};
+ghost use Rattle.kfs_entry.specs.Views.{header_of};
+
+use crate::{slots, tally};
+use kfs_entry::{Header, Name, NameRow, NodeRow};
+use std::alloc::{AllocError, Allocator};
+use std::collections::BTreeMap;
+use std::ops::Bound;
+
+/// Nodes by number and names by directory and name. A slot without a value shows nothing; there are
+/// such slots only while a change is being made.
+#[derive(Drop)]
+pub(crate) struct Rows<A: Allocator> {
+    pub(crate) headers: BTreeMap<u32, Option<Header>, A>,
+    /// The number that a name leads to.
+    pub(crate) names: BTreeMap<(u32, Name), Option<u32>, A>,
+    /// How many names a directory has.
+    pub(crate) counts: BTreeMap<u32, Option<u64>, A>,
+    /// How many names of a directory lead to a node, by the node's number and then the directory's.
+    pub(crate) uplinks: BTreeMap<(u32, u32), Option<u64>, A>,
+}
+
+impl<A: Allocator> Rows<A> {
+    #[tactic(auto, using(crate::proofs::SlotTables::tables))]
+    pub(crate) fn header(&self, number: u32) -> Option<Header>
+        ensures { option_map header_of result ≡ get (heads_in self.now) number }
+    {
+        slots::shown(&self.headers, &number).copied()
+    }
+
+    #[tactic(auto, using(crate::proofs::SlotTables::tables))]
+    pub(crate) fn target(&self, key: &(u32, Name)) -> Option<u32>
+        ensures { result ≡ get (names_in self.now) key.now }
+    {
+        slots::shown(&self.names, key).copied()
+    }
+
+    pub(crate) fn count(&self, dir: u32) -> u64
+        requires { IsIndexed self.now }
+        ensures { result ≡ entry_count (names_in self.now) dir }
+    {
+        tally::count(&self.counts, &dir)
+    }
+}
+
+impl<A: Allocator> Rows<A> {
+    /// The least directory with a name that leads to the node.
+    pub(crate) fn holder(&self, number: u32) -> Option<u32> {
+        for (key, count) in self
+            .uplinks
+            .range((Bound::Included((number, 0)), Bound::Unbounded))
+        {
+            if count.unwrap_or(0) > 0 {
+                return if key.0 == number { Some(key.1) } else { None };
+            }
+        }
+        None
+    }
+
+    /// The least name of the directory above `after`, or of all its names, and where it leads.
+    pub(crate) fn next_name(&self, dir: u32, after: Option<&Name>) -> Option<(&Name, u32)> {
+        let start = match after {
+            Some(name) => Bound::Excluded(name_key(dir, name)),
+            None => Bound::Included((dir, least_name())),
+        };
+        for (key, slot) in self.names.range((start, Bound::Unbounded)) {
+            if let Some(number) = slot {
+                return if key.0 == dir {
+                    Some((&key.1, *number))
+                } else {
+                    None
+                };
+            }
+        }
+        None
+    }
+}
+
+/// The name that is least in the order of names.
+fn least_name() -> Name
+    ensures { result ≡ 1 ∷ [] }
+{
+    Name::new(&[1]).unwrap()
+}
+
+/// The key of a name.
+pub(crate) fn name_key(dir: u32, name: &Name) -> (u32, Name)
+    ensures { result ≡ (dir, name.now) }
+{
+    (dir, name.clone().unwrap())
+}
+
+/// The number of a row, where 0 stands for none.
+pub(crate) fn target_of(row: &NameRow) -> Option<u32>
+    ensures { result ≡ led_to row.now.number }
+{
+    if row.number == 0 {
+        None
+    } else {
+        Some(row.number)
+    }
+}
+
+impl<A: Allocator> Rows<A> {
+    /// Counts a name of the directory less, where it led to a node.
+    fn leave(&mut self, dir: u32, from: Option<u32>)
+        requires counts { (n : ℕ) → from ≡ Some n → 0 < tallied nat_cmp self.old.counts dir }
+        requires uplinks { (n : ℕ) → from ≡ Some n → 0 < tallied (pairs numbers numbers).compare self.old.uplinks (n, dir) }
+        ensures kept { KeepsSlots self.old self.new }
+        ensures headers { self.new.headers ≡ self.old.headers }
+        ensures names { self.new.names ≡ self.old.names }
+        ensures counts { (q : ℕ) → tallied nat_cmp self.new.counts q + count_step dir from q ≡ tallied nat_cmp self.old.counts q }
+        ensures uplinks { (q : ℕ × ℕ) → tallied (pairs numbers numbers).compare self.new.uplinks q + uplink_step dir from q ≡ tallied (pairs numbers numbers).compare self.old.uplinks q }
+    {
+        if let Some(number) = from {
+            tally::take(&mut self.counts, &dir);
+            tally::take(&mut self.uplinks, &(number, dir));
+        }
+    }
+
+    /// Counts a name of the directory more, where it comes to lead to a node.
+    fn enter(&mut self, dir: u32, to: Option<u32>)
+        requires slots { (n : ℕ) → to ≡ Some n → IsSome (slots_of.get nat_cmp self.old.counts dir) × IsSome (slots_of.get (pairs numbers numbers).compare self.old.uplinks (n, dir)) }
+        requires counts { (n : ℕ) → to ≡ Some n → tallied nat_cmp self.old.counts dir + 1 < 2 ^ 64 }
+        requires uplinks { (n : ℕ) → to ≡ Some n → tallied (pairs numbers numbers).compare self.old.uplinks (n, dir) + 1 < 2 ^ 64 }
+        ensures kept { KeepsSlots self.old self.new }
+        ensures headers { self.new.headers ≡ self.old.headers }
+        ensures names { self.new.names ≡ self.old.names }
+        ensures counts { (q : ℕ) → tallied nat_cmp self.new.counts q ≡ tallied nat_cmp self.old.counts q + count_step dir to q }
+        ensures uplinks { (q : ℕ × ℕ) → tallied (pairs numbers numbers).compare self.new.uplinks q ≡ tallied (pairs numbers numbers).compare self.old.uplinks q + uplink_step dir to q }
+    {
+        if let Some(number) = to {
+            tally::add(&mut self.counts, &dir);
+            tally::add(&mut self.uplinks, &(number, dir));
+        }
+    }
+
+    /// Sets where a name leads.
+    fn set_name(&mut self, key: &(u32, Name), to: Option<u32>)
+        requires indexed { IsIndexed self.old }
+        requires slot { IsSome (slots_of.get directory_entries.compare self.old.names key.now) }
+        requires slots { (n : ℕ) → to ≡ Some n → HasSlots self.old key.now.0 key.now.1 n }
+        ensures indexed { IsIndexed self.new }
+        ensures kept { KeepsSlots self.old self.new }
+        ensures headers { self.new.headers ≡ self.old.headers }
+        ensures names { names_in self.new ≡ changed (names_in self.old) key.now to }
+    {
+        let from = self.target(key);
+        prove!(self.names.len() < usize::MAX);
+        self.leave(key.0, from);
+        self.enter(key.0, to);
+        slots::set(&mut self.names, key, to);
+    }
+}
+
+impl<A: Allocator + Clone> Rows<A> {
+    /// No node and no name.
+    fn empty(alloc: A) -> Result<Rows<A>, AllocError>
+        ensures heads { IfOk result (λ rows. heads_in rows ≡ empty) }
+        ensures names { IfOk result (λ rows. names_in rows ≡ empty) }
+        ensures indexed { IfOk result IsIndexed }
+    {
+        Ok(Rows {
+            headers: BTreeMap::new(alloc.clone()?),
+            names: BTreeMap::new(alloc.clone()?),
+            counts: BTreeMap::new(alloc.clone()?),
+            uplinks: BTreeMap::new(alloc),
+        })
+    }
+
+    /// One node, and no name.
+    pub(crate) fn with_node(alloc: A, number: u32, header: Header) -> Result<Rows<A>, AllocError>
+        ensures heads { IfOk result (λ rows. heads_in rows ≡ changed empty number (Some (header_of header))) }
+        ensures names { IfOk result (λ rows. names_in rows ≡ empty) }
+        ensures indexed { IfOk result IsIndexed }
+    {
+        let mut rows = Rows::empty(alloc)?;
+        rows.reserve_header(number)?;
+        set_header(&mut rows.headers, number, Some(header));
+        Ok(rows)
+    }
+
+    /// Rows that show the same.
+    pub(crate) fn copy(&self) -> Result<Rows<A>, AllocError>
+        ensures { IfOk result (ShowsSame self.now) }
+    {
+        Ok(Rows {
+            headers: slots::copy(&self.headers)?,
+            names: slots::copy(&self.names)?,
+            counts: slots::copy(&self.counts)?,
+            uplinks: slots::copy(&self.uplinks)?,
+        })
+    }
+
+    /// Makes a slot for the header of a node.
+    fn reserve_header(&mut self, number: u32) -> Result<(), AllocError>
+        ensures shown { ShowsSame self.old self.new }
+        ensures kept { KeepsSlots self.old self.new }
+        ensures slot { OnOk result (IsSome (slots_of.get nat_cmp self.new.headers number)) }
+    {
+        slots::reserve(&mut self.headers, number)
+    }
+
+    /// Makes the slots for a name that comes to lead to the number.
+    fn reserve_name(&mut self, key: (u32, Name), number: u32) -> Result<(), AllocError>
+        ensures shown { ShowsSame self.old self.new }
+        ensures kept { KeepsSlots self.old self.new }
+        ensures slots { OnOk result (HasSlots self.new key.0 key.1 number) }
+    {
+        let dir = key.0;
+        slots::reserve(&mut self.names, key)?;
+        slots::reserve(&mut self.counts, dir)?;
+        slots::reserve(&mut self.uplinks, (number, dir))
+    }
+}
+
+impl<A: Allocator> Rows<A> {
+    /// Makes the changes of name rows. Each has its slots.
+    fn set_names(&mut self, names: &[NameRow])
+        requires indexed { IsIndexed self.old }
+        requires slots { All (λ row. HasSlots self.old row.dir row.name row.number) names.now }
+        ensures indexed { IsIndexed self.new }
+        ensures names { names_in self.new ≡ renamed (names_in self.old) names.now }
+        ensures headers { self.new.headers ≡ self.old.headers }
+    {
+        for row in names {
+            self.set_name(&name_key(row.dir, &row.name), target_of(row));
+        }
+    }
+
+    /// Takes out the slots of rows, and of the ways that were given up, where they have no value.
+    fn release(&mut self, names: &[NameRow], nodes: &[NodeRow], vacated: &[(u32, u32)])
+        ensures { ShowsSame self.old self.new }
+    {
+        for row in nodes {
+            slots::release(&mut self.headers, &row.number);
+        }
+        for row in names {
+            self.release_name(&name_key(row.dir, &row.name), row.number);
+        }
+        for uplink in vacated {
+            slots::release(&mut self.uplinks, uplink);
+        }
+    }
+
+    fn release_name(&mut self, key: &(u32, Name), number: u32)
+        ensures { ShowsSame self.old self.new }
+    {
+        slots::release(&mut self.names, key);
+        slots::release(&mut self.counts, &key.0);
+        slots::release(&mut self.uplinks, &(number, key.0));
+    }
+}
+
+impl<A: Allocator + Clone> Rows<A> {
+    /// Makes every slot that the changes of the rows need, and lists the ways that they give up.
+    fn reserve(
+        &mut self,
+        names: &[NameRow],
+        nodes: &[NodeRow],
+        vacated: &mut Vec<(u32, u32), A>,
+    ) -> Result<(), AllocError>
+        ensures shown { ShowsSame self.old self.new }
+        ensures nodes { OnOk result (All (λ row. IsSome (slots_of.get nat_cmp self.new.headers row.number)) nodes.now) }
+        ensures names { OnOk result (All (λ row. HasSlots self.new row.dir row.name row.number) names.now) }
+    {
+        for row in nodes {
+            self.reserve_header(row.number)?;
+        }
+        for row in names {
+            let key = name_key(row.dir, &row.name);
+            if let Some(number) = self.target(&key) {
+                vacated.push((number, row.dir))?;
+            }
+            self.reserve_name(key, row.number)?;
+        }
+        Ok(())
+    }
+
+    /// Makes the changes of the rows. Every growth comes first: where one is refused, the rows show
+    /// what they showed. `vacated` is an empty list to hold the ways that are given up.
+    pub(crate) fn apply(
+        &mut self,
+        names: &[NameRow],
+        nodes: &[NodeRow],
+        vacated: &mut Vec<(u32, u32), A>,
+    ) -> Result<(), AllocError>
+        requires { IsIndexed self.old }
+        ensures indexed { IsIndexed self.new }
+        ensures headers { OnOk result (heads_in self.new ≡ reheaded (heads_in self.old) nodes.now) }
+        ensures names { OnOk result (names_in self.new ≡ renamed (names_in self.old) names.now) }
+        ensures err { OnErr result (ShowsSame self.old self.new) }
+    {
+        if let Err(error) = self.reserve(names, nodes, vacated) {
+            self.release(names, nodes, vacated.as_slice());
+            return Err(error);
+        }
+        set_headers(&mut self.headers, nodes);
+        self.set_names(names);
+        self.release(names, nodes, vacated.as_slice());
+        Ok(())
+    }
+}
+
+/// Makes the changes of node rows. Each has a slot.
+fn set_headers<A: Allocator>(headers: &mut BTreeMap<u32, Option<Header>, A>, nodes: &[NodeRow])
+    requires { All (λ row. IsSome (slots_of.get nat_cmp headers.old row.number)) nodes.now }
+    ensures { heads_of headers.new ≡ reheaded (heads_of headers.old) nodes.now }
+{
+    for row in nodes {
+        set_header(headers, row.number, row.now);
+    }
+}
+
+/// Sets a header that has a slot.
+fn set_header<A: Allocator>(
+    headers: &mut BTreeMap<u32, Option<Header>, A>,
+    number: u32,
+    now: Option<Header>,
+)
+    requires { IsSome (slots_of.get nat_cmp headers.old number) }
+    ensures kept { (q : ℕ) → IsSome (slots_of.get nat_cmp headers.old q) → IsSome (slots_of.get nat_cmp headers.new q) }
+    ensures header { heads_of headers.new ≡ changed (heads_of headers.old) number (option_map header_of now) }
+{
+    slots::set(headers, &number, now);
+}
