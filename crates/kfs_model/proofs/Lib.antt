@@ -32,3 +32,4 @@ pub mod NameStep
 pub mod Overlays
 pub mod Unlooked
 pub mod SameNet
+pub mod FreshTree

@@ -9,6 +9,7 @@ pub mod Effect
 pub mod Run
 pub mod Lease
 pub mod Soundness
+pub mod Fresh
 pub mod Allowed
 pub mod PlanRow
 pub mod Plan

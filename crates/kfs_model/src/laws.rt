@@ -17,6 +17,7 @@ ghost use Rattle.kfs_model.specs.Overlay.{Overlay, over, nothing_put, laid_after
 ghost use Rattle.kfs_model.specs.Access.{Client};
 ghost use Rattle.kfs_model.specs.Looked.{Leased, seen_in, scene_in, looked_cells, seen_run, AnswerAlike, EndAlike, NetAlike};
 ghost use Rattle.kfs_model.specs.Soundness.{IsSound};
+ghost use Rattle.kfs_model.specs.Fresh.{fresh_tree};
 ghost use Rattle.kfs_model.specs.Spelling.{IsEntry};
 ghost use Rattle.kfs_model.specs.SeenAfter.{seen_after, seen_run_from, shown_run};
 ghost use Rattle.kfs_model.specs.CleanStep.{IsClient, IsClean, IsKept};
@@ -48,6 +49,11 @@ pub fn right_plans_differ_in_their_cut()
 /// Where a run has no fault, its tree is what the entries give one by one, each of them allowed where it stands.
 pub fn accepted_entries_one_by_one()
     ensures { (scene : Scene) (before : Tree ℕ) (entries : List Entry) (after : Tree ℕ) → run bytes scene before entries ≡ Ok after → OneByOne scene 0 [] before entries after }
+{}
+
+/// The tree of a new image is sound.
+pub fn fresh_tree_is_sound()
+    ensures { IsSound (fresh_tree {B = ℕ}) }
 {}
 
 /// An entry in range of which no check fails, at a sound tree, leaves a sound tree, and what the cells show moves as the
