@@ -1,6 +1,8 @@
 -- A log that was decoded, and why one was not, as the definitions say it.
 use Rattle.std.proofs.Common.{◌≡◌, ◌≢◌, ℕ, ◌<◌, ◌≤◌, List, [], ◌++◌, length, drop, map, sym, ap, subst, ◌∙◌, append_assoc, arith}
 use Rattle.std.specs.List.{flat_map, AllByRecursion}
+use Rattle.std.specs.Prelude.{All}
+use Rattle.std.proofs.lemmas.List.Elements.{All-from_recursion}
 use Rattle.std.proofs.lemmas.List.{append-nil, drop_all, length-drop, length-map}
 use Rattle.kfs_model.specs.Entry.{Log}
 use Rattle.kfs_model.specs.Spelling.{LogHeader, IsLogHeader, log_header, IsEntry, entry_bytes, IsLog, log_bytes, header_of, LogAnswer}
@@ -11,7 +13,7 @@ use Rattle.kfs_entry.specs.declared.fault.SpellFault.TheVariants as faults
 use Rattle.kfs_entry.specs.Views.{entry_of, IsWithin}
 use Rattle.kfs_entry.specs.RowList.{AreRows, Begins, EntryMissing}
 use Rattle.kfs_entry.specs.Answers.{Refused}
-use Rattle.kfs_entry.proofs.RowLaws.{map_holds, AllByRecursion-weaker, flat_map-map, stop_from}
+use Rattle.kfs_entry.proofs.RowLaws.{both_hold, map_holds, AllByRecursion-weaker, flat_map-map, stop_from}
 
 -- what is known of the entries that were read
 abbrev pub Fit : List ℕ → CodeEntry Span → Type 0
@@ -56,3 +58,8 @@ entry_is_missing source h at faults.OutOfMemory fits front stops = tt
 entry_is_missing source h at faults.BadHeader fits front stops = absurd stops
 entry_is_missing source h at faults.Trailing fits front stops = absurd stops
 entry_is_missing source h at (faults.BadRow part k) fits front stops = absurd stops
+
+-- entries in their ranges, whose spans lie in the source, can be written
+pub entries_can_be_written : (source : List ℕ) (entries : List (CodeEntry Span)) → AllByRecursion (IsWithin (length source)) entries → AllByRecursion IsEntry (map (entry_of source) entries) → All (Fit source) entries
+entries_can_be_written source entries within ranges =
+    All-from_recursion (Fit source) entries (both_hold (entry_of source) (IsWithin (length source)) IsEntry entries within ranges)

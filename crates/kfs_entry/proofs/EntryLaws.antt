@@ -2,31 +2,31 @@
 use Rattle.std.proofs.Common.{◌≡◌, ℕ, List, ◌∷◌, ◌++◌, Some, None, refl, inl, inr}
 use Rattle.kfs_model.specs.Entry.{Entry, Create, Write, Truncate, Link, Unlink, Rename, Chmod}
 use Rattle.kfs_model.specs.Spelling.{entry_bytes, IsEntry}
-use Rattle.kfs_entry.specs.Reading.{byte_read, create_read, write_read, truncate_read, link_read, unlink_read, rename_read, chmod_read, tagged_read, entry_read}
+use Rattle.kfs_entry.specs.Reading.{create_of, write_of, truncate_of, link_of, unlink_of, rename_of, chmod_of, byte_read, create_read, write_read, truncate_read, link_read, unlink_read, rename_read, chmod_read, tagged_read, entry_read}
 use Rattle.kfs_entry.proofs.Fields.{IsBytes, some_from, Stands, IsField, both, made_again, byte_field, byte_is, number32_field, number64_field, mode_field, name_field, payload_field, kind_field, tagged_takes}
 
 chosen_takes : (bytes after : List ℕ) (tag : ℕ) (x : Entry × List ℕ) → bytes ≡ tag ∷ after → IsBytes after → tagged_read tag after ≡ Some x → Stands IsEntry entry_bytes bytes x.0 x.1
 chosen_takes bytes after tag x front fits e =
     elim (byte_is tag 1 (create_read after) _ x e) [
-      | inl p ↦ tagged_takes 1 (λ f. Create f.0.0.0.0 f.0.0.0.1 f.0.0.1 f.0.1 f.1) (both (both (both (both number32_field name_field) number32_field) kind_field) mode_field)
+      | inl p ↦ tagged_takes 1 create_of (both (both (both (both number32_field name_field) number32_field) kind_field) mode_field)
           (λ v. refl) (λ v h. (h.0.0.0.0, h.0.0.0.1, h.0.0.1, h.1)) bytes after tag x front fits p.0 p.1
       | inr q ↦ elim (byte_is tag 2 (write_read after) _ x q.1) [
-        | inl p ↦ tagged_takes 2 (λ f. Write f.0.0 f.0.1 f.1) (both (both number32_field number64_field) payload_field)
+        | inl p ↦ tagged_takes 2 write_of (both (both number32_field number64_field) payload_field)
             (λ v. refl) (λ v h. (h.0.0, h.0.1, h.1)) bytes after tag x front fits p.0 p.1
         | inr q ↦ elim (byte_is tag 3 (truncate_read after) _ x q.1) [
-          | inl p ↦ tagged_takes 3 (λ f. Truncate f.0 f.1) (both number32_field number64_field)
+          | inl p ↦ tagged_takes 3 truncate_of (both number32_field number64_field)
               (λ v. refl) (λ v h. (h.0, h.1)) bytes after tag x front fits p.0 p.1
           | inr q ↦ elim (byte_is tag 4 (link_read after) _ x q.1) [
-            | inl p ↦ tagged_takes 4 (λ f. Link f.0.0 f.0.1 f.1) (both (both number32_field number32_field) name_field)
+            | inl p ↦ tagged_takes 4 link_of (both (both number32_field number32_field) name_field)
                 (λ v. refl) (λ v h. (h.0.0, h.0.1, h.1)) bytes after tag x front fits p.0 p.1
             | inr q ↦ elim (byte_is tag 5 (unlink_read after) _ x q.1) [
-              | inl p ↦ tagged_takes 5 (λ f. Unlink f.0.0 f.0.1 f.1) (both (both number32_field name_field) kind_field)
+              | inl p ↦ tagged_takes 5 unlink_of (both (both number32_field name_field) kind_field)
                   (λ v. refl) (λ v h. (h.0.0, h.0.1)) bytes after tag x front fits p.0 p.1
               | inr q ↦ elim (byte_is tag 6 (rename_read after) _ x q.1) [
-                | inl p ↦ tagged_takes 6 (λ f. Rename f.0.0.0 f.0.0.1 f.0.1 f.1) (both (both (both number32_field name_field) number32_field) name_field)
+                | inl p ↦ tagged_takes 6 rename_of (both (both (both number32_field name_field) number32_field) name_field)
                     (λ v. refl) (λ v h. (h.0.0.0, h.0.0.1, h.0.1, h.1)) bytes after tag x front fits p.0 p.1
                 | inr q ↦ elim (byte_is tag 7 (chmod_read after) None x q.1) [
-                  | inl p ↦ tagged_takes 7 (λ f. Chmod f.0 f.1) (both number32_field mode_field)
+                  | inl p ↦ tagged_takes 7 chmod_of (both number32_field mode_field)
                       (λ v. refl) (λ v h. (h.0, h.1)) bytes after tag x front fits p.0 p.1
                   | inr q ↦ let never : None ≡ Some x = q.1 in absurd cc
                 ]
@@ -47,20 +47,20 @@ entry_takes bytes x fits e =
 entry_again : (e : Entry) (rest : List ℕ) → IsEntry e → entry_read (entry_bytes e ++ rest) ≡ Some (e, rest)
 unfolding entry_read byte_read
 entry_again (Create d m n k mode) rest h =
-    made_again (λ f. Create f.0.0.0.0 f.0.0.0.1 f.0.0.1 f.0.1 f.1) (both (both (both (both number32_field name_field) number32_field) kind_field) mode_field)
+    made_again create_of (both (both (both (both number32_field name_field) number32_field) kind_field) mode_field)
     ((((d, m), n), k), mode) rest ((((h.0, h.1), h.2), tt), h.3)
 entry_again (Write n offset p) rest h =
-    made_again (λ f. Write f.0.0 f.0.1 f.1) (both (both number32_field number64_field) payload_field) ((n, offset), p) rest ((h.0, h.1), h.2)
+    made_again write_of (both (both number32_field number64_field) payload_field) ((n, offset), p) rest ((h.0, h.1), h.2)
 entry_again (Truncate n size) rest h =
-    made_again (λ f. Truncate f.0 f.1) (both number32_field number64_field) (n, size) rest (h.0, h.1)
+    made_again truncate_of (both number32_field number64_field) (n, size) rest (h.0, h.1)
 entry_again (Link n d m) rest h =
-    made_again (λ f. Link f.0.0 f.0.1 f.1) (both (both number32_field number32_field) name_field) ((n, d), m) rest ((h.0, h.1), h.2)
+    made_again link_of (both (both number32_field number32_field) name_field) ((n, d), m) rest ((h.0, h.1), h.2)
 entry_again (Unlink d m k) rest h =
-    made_again (λ f. Unlink f.0.0 f.0.1 f.1) (both (both number32_field name_field) kind_field) ((d, m), k) rest ((h.0, h.1), tt)
+    made_again unlink_of (both (both number32_field name_field) kind_field) ((d, m), k) rest ((h.0, h.1), tt)
 entry_again (Rename d m e k) rest h =
-    made_again (λ f. Rename f.0.0.0 f.0.0.1 f.0.1 f.1) (both (both (both number32_field name_field) number32_field) name_field) (((d, m), e), k) rest (((h.0, h.1), h.2), h.3)
+    made_again rename_of (both (both (both number32_field name_field) number32_field) name_field) (((d, m), e), k) rest (((h.0, h.1), h.2), h.3)
 entry_again (Chmod n mode) rest h =
-    made_again (λ f. Chmod f.0 f.1) (both number32_field mode_field) (n, mode) rest (h.0, h.1)
+    made_again chmod_of (both number32_field mode_field) (n, mode) rest (h.0, h.1)
 
 pub entry_field : IsField IsEntry entry_bytes entry_read
 entry_field = record { takes = entry_takes; again = entry_again }

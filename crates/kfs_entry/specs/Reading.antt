@@ -69,28 +69,49 @@ kind_read bytes = byte_read bytes >>= λ b. if b.0 == 0 then Some (File, b.1) el
 unfoldable pub mode_read : List ℕ → Option (ℕ × List ℕ)
 mode_read bytes = number16_read bytes >>= λ n. if nat_le n.0 511 then Some n else None
 
--- ---- entries
+-- ---- entries, each made of its fields
+
+abbrev pub create_of : ((((ℕ × List ℕ) × ℕ) × Kind) × ℕ) → Entry
+create_of f = Create f.0.0.0.0 f.0.0.0.1 f.0.0.1 f.0.1 f.1
+
+abbrev pub write_of : ((ℕ × ℕ) × List ℕ) → Entry
+write_of f = Write f.0.0 f.0.1 f.1
+
+abbrev pub truncate_of : (ℕ × ℕ) → Entry
+truncate_of f = Truncate f.0 f.1
+
+abbrev pub link_of : ((ℕ × ℕ) × List ℕ) → Entry
+link_of f = Link f.0.0 f.0.1 f.1
+
+abbrev pub unlink_of : ((ℕ × List ℕ) × Kind) → Entry
+unlink_of f = Unlink f.0.0 f.0.1 f.1
+
+abbrev pub rename_of : (((ℕ × List ℕ) × ℕ) × List ℕ) → Entry
+rename_of f = Rename f.0.0.0 f.0.0.1 f.0.1 f.1
+
+abbrev pub chmod_of : (ℕ × ℕ) → Entry
+chmod_of f = Chmod f.0 f.1
 
 abbrev pub create_read : List ℕ → Option (Entry × List ℕ)
-create_read bytes = made (λ f. Create f.0.0.0.0 f.0.0.0.1 f.0.0.1 f.0.1 f.1) (number32_read & name_read & number32_read & kind_read & mode_read) bytes
+create_read bytes = made create_of (number32_read & name_read & number32_read & kind_read & mode_read) bytes
 
 abbrev pub write_read : List ℕ → Option (Entry × List ℕ)
-write_read bytes = made (λ f. Write f.0.0 f.0.1 f.1) (number32_read & number64_read & payload_read) bytes
+write_read bytes = made write_of (number32_read & number64_read & payload_read) bytes
 
 abbrev pub truncate_read : List ℕ → Option (Entry × List ℕ)
-truncate_read bytes = made (λ f. Truncate f.0 f.1) (number32_read & number64_read) bytes
+truncate_read bytes = made truncate_of (number32_read & number64_read) bytes
 
 abbrev pub link_read : List ℕ → Option (Entry × List ℕ)
-link_read bytes = made (λ f. Link f.0.0 f.0.1 f.1) (number32_read & number32_read & name_read) bytes
+link_read bytes = made link_of (number32_read & number32_read & name_read) bytes
 
 abbrev pub unlink_read : List ℕ → Option (Entry × List ℕ)
-unlink_read bytes = made (λ f. Unlink f.0.0 f.0.1 f.1) (number32_read & name_read & kind_read) bytes
+unlink_read bytes = made unlink_of (number32_read & name_read & kind_read) bytes
 
 abbrev pub rename_read : List ℕ → Option (Entry × List ℕ)
-rename_read bytes = made (λ f. Rename f.0.0.0 f.0.0.1 f.0.1 f.1) (number32_read & name_read & number32_read & name_read) bytes
+rename_read bytes = made rename_of (number32_read & name_read & number32_read & name_read) bytes
 
 abbrev pub chmod_read : List ℕ → Option (Entry × List ℕ)
-chmod_read bytes = made (λ f. Chmod f.0 f.1) (number32_read & mode_read) bytes
+chmod_read bytes = made chmod_of (number32_read & mode_read) bytes
 
 -- the entry of a tag
 abbrev pub tagged_read : ℕ → List ℕ → Option (Entry × List ℕ)

@@ -11,9 +11,9 @@ use crate::row::{rows_len, write_rows};
 use std::alloc::{AllocError, Allocator};
 
 /// The spelling of a log whose payloads lie in `source`.
-pub fn encode_log<A: Allocator>(
+pub fn encode_log<A: Allocator, B: Allocator>(
     alloc: A,
-    log: &Log<A>,
+    log: &Log<B>,
     source: &[u8],
 ) -> Result<Vec<u8, A>, AllocError>
     requires ranges { IsLog (log_of source.now log.now) }
@@ -33,7 +33,10 @@ pub fn encode_log<A: Allocator>(
 }
 
 /// The spelling of a plan.
-pub fn encode_plan<A: Allocator>(alloc: A, plan: &Plan<A>) -> Result<Vec<u8, A>, AllocError>
+pub fn encode_plan<A: Allocator, B: Allocator>(
+    alloc: A,
+    plan: &Plan<B>,
+) -> Result<Vec<u8, A>, AllocError>
     requires names { length plan.now.names < 2 ^ 16 }
     requires nodes { length plan.now.nodes < 2 ^ 16 }
     requires pieces { length plan.now.pieces < 2 ^ 32 }

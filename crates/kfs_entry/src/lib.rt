@@ -20,5 +20,5 @@ pub use fault::SpellFault;
 pub use header::{Header, Kind};
 pub use name::Name;
 pub use plan::{NameRow, NodeRow, Piece, Plan, Source};
-pub use row::{Row, RowsFault, read_rows, rows_len, write_rows};
+pub use row::{Row, RowsFault, read_rows, write_rows};
 pub use rows::Rows;

@@ -110,7 +110,7 @@ pub fn write_rows<R: Row, A: Allocator>(
 }
 
 /// How many bytes the spellings of the rows have, or `usize::MAX` where that is more.
-pub fn rows_len<R: Row>(source: &[u8], rows: &[R]) -> usize
+pub(crate) fn rows_len<R: Row>(source: &[u8], rows: &[R]) -> usize
     requires { All (R.can_write source.now) rows.now }
 {
     let mut len = 0usize;

@@ -1,22 +1,16 @@
-use Rattle.std.proofs.Common.{length, refl}
+use Rattle.std.proofs.Common.{refl}
 use Rattle.std.proofs.lemmas.List.{length-map}
-use Rattle.std.proofs.lemmas.List.Elements.{All-from_recursion}
-use Rattle.kfs_model.specs.Spelling.{IsEntry, entry_bytes}
-use Rattle.kfs_entry.specs.Views.{entry_of, IsWithin}
-use Rattle.kfs_entry.proofs.RowLaws.{both_hold, flat_map-map}
+use Rattle.kfs_model.specs.Spelling.{entry_bytes}
+use Rattle.kfs_entry.specs.Views.{entry_of}
+use Rattle.kfs_entry.proofs.RowLaws.{flat_map-map}
+use Rattle.kfs_entry.proofs.DecodedLog.{entries_can_be_written}
 use Rattle.kfs_entry.proofs.encoding.encode_log.Goals as goal
 
 pub rows_len-requires : goal.rows_len-requires
-rows_len-requires g c =
-    let source = c.args.source.now in
-    let all = both_hold (entry_of source) (IsWithin (length source)) IsEntry c.args.log.now.entries c.requires.spans c.requires.ranges.1 in
-    rw c.as_slice-entries.ensures (All-from_recursion (λ e. IsWithin (length source) e × IsEntry (entry_of source e)) c.args.log.now.entries all)
+rows_len-requires g c = rw c.as_slice-entries.ensures (entries_can_be_written c.args.source.now c.args.log.now.entries c.requires.spans c.requires.ranges.1)
 
 pub write_rows-requires : goal.write_rows-requires
-write_rows-requires g c =
-    let source = c.args.source.now in
-    let all = both_hold (entry_of source) (IsWithin (length source)) IsEntry c.args.log.now.entries c.requires.spans c.requires.ranges.1 in
-    rw c.as_slice-entries.ensures (All-from_recursion (λ e. IsWithin (length source) e × IsEntry (entry_of source e)) c.args.log.now.entries all)
+write_rows-requires g c = rw c.as_slice-entries.ensures (entries_can_be_written c.args.source.now c.args.log.now.entries c.requires.spans c.requires.ranges.1)
 
 pub returns : goal.returns
 returns g c =
