@@ -3,11 +3,14 @@
 #![tactic(auto)]
 
 #[cfg(test)]
+mod codec;
+#[cfg(test)]
 mod fixtures;
 #[cfg(test)]
 mod judging;
 #[cfg(test)]
 mod lines;
+pub mod refusing;
 #[cfg(test)]
 mod replies;
 #[cfg(test)]
