@@ -1,6 +1,7 @@
 //! The refusals by their names, with their numbers in brackets. The caller has made room for them.
-ghost use Rattle.std.specs.Prelude.{◌+◌, ◌≤◌};
+ghost use Rattle.std.specs.Prelude.{◌≡◌, ◌+◌, ◌≤◌, ◌++◌};
 ghost use Rattle.kfs_program.specs.Room.{spare_of};
+ghost use Rattle.kfs_program.specs.Text.{fault_text, spell_text, row_text, reason_text, lease_text, client_text, begin_text};
 
 use super::parts::{number, numbered, text};
 use crate::answers::BeginFault;
@@ -14,7 +15,8 @@ use std::alloc::Allocator;
 /// Appends why a submission was refused.
 pub fn judgement_fault<A: Allocator>(out: &mut Vec<u8, A>, fault: Fault)
     requires { 90 ≤ spare_of out.old }
-    ensures { spare_of out.old ≤ spare_of out.new + 90 }
+    ensures spare { spare_of out.old ≤ spare_of out.new + 90 }
+    ensures items { out.new.items ≡ out.old.items ++ fault_text fault }
 {
     match fault {
         Fault::UnknownClient => text(out, b"client unknown"),
@@ -43,7 +45,8 @@ pub fn judgement_fault<A: Allocator>(out: &mut Vec<u8, A>, fault: Fault)
 /// Appends why bytes are no log or no plan.
 fn spell_fault<A: Allocator>(out: &mut Vec<u8, A>, fault: SpellFault)
     requires { 60 ≤ spare_of out.old }
-    ensures { spare_of out.old ≤ spare_of out.new + 60 }
+    ensures spare { spare_of out.old ≤ spare_of out.new + 60 }
+    ensures items { out.new.items ≡ out.old.items ++ spell_text fault }
 {
     match fault {
         SpellFault::BadHeader => text(out, b"BadHeader"),
@@ -63,7 +66,8 @@ fn spell_fault<A: Allocator>(out: &mut Vec<u8, A>, fault: SpellFault)
 /// Appends which row of a plan is wrong.
 fn row_fault<A: Allocator>(out: &mut Vec<u8, A>, fault: RowFault)
     requires { 60 ≤ spare_of out.old }
-    ensures { spare_of out.old ≤ spare_of out.new + 60 }
+    ensures spare { spare_of out.old ≤ spare_of out.new + 60 }
+    ensures items { out.new.items ≡ out.old.items ++ row_text fault }
 {
     match fault {
         RowFault::Names(row) => numbered(out, b"Names", row as u64),
@@ -76,7 +80,8 @@ fn row_fault<A: Allocator>(out: &mut Vec<u8, A>, fault: RowFault)
 /// Appends why an entry of a log was refused.
 fn entry_reason<A: Allocator>(out: &mut Vec<u8, A>, reason: Reason)
     requires { 60 ≤ spare_of out.old }
-    ensures { spare_of out.old ≤ spare_of out.new + 60 }
+    ensures spare { spare_of out.old ≤ spare_of out.new + 60 }
+    ensures items { out.new.items ≡ out.old.items ++ reason_text reason }
 {
     match reason {
         Reason::NoSuchNode => text(out, b"NoSuchNode"),
@@ -100,7 +105,8 @@ fn entry_reason<A: Allocator>(out: &mut Vec<u8, A>, reason: Reason)
 /// Appends why a lease was refused.
 pub fn lease_fault<A: Allocator>(out: &mut Vec<u8, A>, fault: LeaseFault)
     requires { 60 ≤ spare_of out.old }
-    ensures { spare_of out.old ≤ spare_of out.new + 60 }
+    ensures spare { spare_of out.old ≤ spare_of out.new + 60 }
+    ensures items { out.new.items ≡ out.old.items ++ lease_text fault }
 {
     match fault {
         LeaseFault::UnknownClient => text(out, b"UnknownClient"),
@@ -119,7 +125,8 @@ pub fn lease_fault<A: Allocator>(out: &mut Vec<u8, A>, fault: LeaseFault)
 /// Appends why a client was refused.
 pub fn client_fault<A: Allocator>(out: &mut Vec<u8, A>, fault: ClientFault)
     requires { 60 ≤ spare_of out.old }
-    ensures { spare_of out.old ≤ spare_of out.new + 60 }
+    ensures spare { spare_of out.old ≤ spare_of out.new + 60 }
+    ensures items { out.new.items ≡ out.old.items ++ client_text fault }
 {
     match fault {
         ClientFault::TooManyGroups => text(out, b"TooManyGroups"),
@@ -130,7 +137,8 @@ pub fn client_fault<A: Allocator>(out: &mut Vec<u8, A>, fault: ClientFault)
 /// Appends why the desk was not begun.
 pub fn begin_fault<A: Allocator>(out: &mut Vec<u8, A>, fault: BeginFault)
     requires { 60 ≤ spare_of out.old }
-    ensures { spare_of out.old ≤ spare_of out.new + 60 }
+    ensures spare { spare_of out.old ≤ spare_of out.new + 60 }
+    ensures items { out.new.items ≡ out.old.items ++ begin_text fault }
 {
     match fault {
         BeginFault::ClientTwice(client) => numbered(out, b"ClientTwice", client as u64),

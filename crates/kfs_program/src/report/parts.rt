@@ -1,6 +1,7 @@
 //! The parts that a line is made of. The caller has made room for them.
 ghost use Rattle.std.specs.Prelude.{◌≡◌, ◌+◌, ◌≤◌, ◌++◌, length, decimal};
 ghost use Rattle.kfs_program.specs.Room.{spare_of};
+ghost use Rattle.kfs_program.specs.Text.{octal_text, field_text, flag_text, numbered_text};
 
 use itoa::Buffer;
 use std::alloc::Allocator;
@@ -28,6 +29,7 @@ pub fn number<A: Allocator>(out: &mut Vec<u8, A>, value: u64)
 pub fn octal<A: Allocator>(out: &mut Vec<u8, A>, mode: u16)
     requires { 4 ≤ spare_of out.old }
     ensures spare { spare_of out.old ≤ spare_of out.new + 4 }
+    ensures items { out.new.items ≡ out.old.items ++ octal_text mode }
 {
     let digit = |shift: u16| b'0' + (mode >> shift & 7) as u8;
     text(out, &[digit(9), digit(6), digit(3), digit(0)]);
@@ -36,7 +38,8 @@ pub fn octal<A: Allocator>(out: &mut Vec<u8, A>, mode: u16)
 /// Appends a space and the number.
 pub fn field<A: Allocator>(out: &mut Vec<u8, A>, value: u64)
     requires { 21 ≤ spare_of out.old }
-    ensures { spare_of out.old ≤ spare_of out.new + 21 }
+    ensures spare { spare_of out.old ≤ spare_of out.new + 21 }
+    ensures items { out.new.items ≡ out.old.items ++ field_text value }
 {
     text(out, b" ");
     number(out, value);
@@ -45,7 +48,8 @@ pub fn field<A: Allocator>(out: &mut Vec<u8, A>, value: u64)
 /// Appends 1 for true and 0 for false.
 pub fn flag<A: Allocator>(out: &mut Vec<u8, A>, value: bool)
     requires { 1 ≤ spare_of out.old }
-    ensures { spare_of out.old ≤ spare_of out.new + 1 }
+    ensures spare { spare_of out.old ≤ spare_of out.new + 1 }
+    ensures items { out.new.items ≡ out.old.items ++ flag_text value }
 {
     text(out, if value { b"1" } else { b"0" });
 }
@@ -53,7 +57,8 @@ pub fn flag<A: Allocator>(out: &mut Vec<u8, A>, value: bool)
 /// Appends a name, and the number in brackets.
 pub fn numbered<A: Allocator>(out: &mut Vec<u8, A>, name: &[u8], value: u64)
     requires { length name.now + 22 ≤ spare_of out.old }
-    ensures { spare_of out.old ≤ spare_of out.new + (length name.now + 22) }
+    ensures spare { spare_of out.old ≤ spare_of out.new + (length name.now + 22) }
+    ensures items { out.new.items ≡ out.old.items ++ numbered_text name.now value }
 {
     text(out, name);
     text(out, b"(");

@@ -1,0 +1,132 @@
+-- The text of each answer.
+use Rattle.std.specs.Prelude.{ℕ, ◌+◌, ◌/◌, ◌%◌, List, [], ◌∷◌, ◌++◌, Bool, if◌then◌else◌, codes, decimal, Result, Ok, Err}
+use Rattle.kfs_entry.specs.declared.fault.SpellFault.{SpellFault}
+use Rattle.kfs_entry.specs.declared.fault.SpellFault.TheVariants as spell
+use Rattle.kfs_entry.specs.declared.header.Header.{Header}
+use Rattle.kfs_entry.specs.declared.header.Kind.{Kind}
+use Rattle.kfs_entry.specs.declared.header.Kind.TheVariants.{File, Directory}
+use Rattle.kfs_judge.specs.declared.check.Reason.{Reason}
+use Rattle.kfs_judge.specs.declared.check.Reason.TheVariants as reason
+use Rattle.kfs_judge.specs.declared.lease.LeaseFault.{LeaseFault}
+use Rattle.kfs_judge.specs.declared.lease.LeaseFault.TheVariants as lease
+use Rattle.kfs_judge.specs.declared.mode.ClientFault.{ClientFault}
+use Rattle.kfs_judge.specs.declared.mode.ClientFault.TheVariants.{TooManyGroups, BadGrant}
+use Rattle.kfs_judge.specs.declared.plan.Fault.{Fault}
+use Rattle.kfs_judge.specs.declared.plan.Fault.TheVariants.{UnknownClient, BadLog, WrongClient, BadPlan, Entry, Row}
+use Rattle.kfs_judge.specs.declared.plan.RowFault.{RowFault}
+use Rattle.kfs_judge.specs.declared.plan.RowFault.TheVariants as row
+use Rattle.kfs_program.specs.declared.answers.Act.{Act}
+use Rattle.kfs_program.specs.declared.answers.BeginFault.{BeginFault}
+use Rattle.kfs_program.specs.declared.answers.BeginFault.TheVariants as begin
+use Rattle.kfs_program.specs.declared.answers.Reply.{Reply}
+use Rattle.kfs_program.specs.declared.answers.Reply.TheVariants.{Yes, No}
+
+-- ---- parts
+
+-- a name, and a number in brackets
+abbrev pub numbered_text : List ℕ → ℕ → List ℕ
+numbered_text name n = name ++ (codes "(" ++ (decimal n ++ codes ")"))
+
+abbrev pub flag_text : Bool → List ℕ
+flag_text b = if b then codes "1" else codes "0"
+
+abbrev pub field_text : ℕ → List ℕ
+field_text n = codes " " ++ decimal n
+
+-- four octal digits
+abbrev pub octal_text : ℕ → List ℕ
+octal_text mode = (48 + mode / 512 % 8) ∷ (48 + mode / 64 % 8) ∷ (48 + mode / 8 % 8) ∷ (48 + mode % 8) ∷ []
+
+-- ---- refusals by name
+
+abbrev pub spell_text : SpellFault → List ℕ
+spell_text spell.BadHeader = codes "BadHeader"
+spell_text (spell.BadEntry entry) = numbered_text (codes "BadEntry") entry
+spell_text spell.Trailing = codes "Trailing"
+spell_text (spell.BadRow part row) = codes "BadRow(" ++ (decimal part ++ (codes "," ++ (decimal row ++ codes ")")))
+spell_text spell.OutOfMemory = codes "OutOfMemory"
+
+abbrev pub row_text : RowFault → List ℕ
+row_text (row.Names i) = numbered_text (codes "Names") i
+row_text (row.Nodes i) = numbered_text (codes "Nodes") i
+row_text (row.Pieces i) = numbered_text (codes "Pieces") i
+row_text row.OutOfMemory = codes "OutOfMemory"
+
+abbrev pub reason_text : Reason → List ℕ
+reason_text reason.NoSuchNode = codes "NoSuchNode"
+reason_text reason.NotDirectory = codes "NotDirectory"
+reason_text reason.IsDirectory = codes "IsDirectory"
+reason_text reason.NoSuchName = codes "NoSuchName"
+reason_text reason.NameTaken = codes "NameTaken"
+reason_text reason.NumberTaken = codes "NumberTaken"
+reason_text reason.NumberNotGranted = codes "NumberNotGranted"
+reason_text reason.NotEmpty = codes "NotEmpty"
+reason_text reason.BelowItself = codes "BelowItself"
+reason_text reason.TooManyLinks = codes "TooManyLinks"
+reason_text reason.TooBig = codes "TooBig"
+reason_text reason.NoSearch = codes "NoSearch"
+reason_text reason.NoWrite = codes "NoWrite"
+reason_text reason.NotOwner = codes "NotOwner"
+reason_text (reason.NoLease node) = numbered_text (codes "NoLease") node
+
+abbrev pub lease_text : LeaseFault → List ℕ
+lease_text lease.UnknownClient = codes "UnknownClient"
+lease_text lease.BadPath = codes "BadPath"
+lease_text (lease.NoSuchName i) = numbered_text (codes "NoSuchName") i
+lease_text (lease.NotDirectory i) = numbered_text (codes "NotDirectory") i
+lease_text (lease.NoSearch i) = numbered_text (codes "NoSearch") i
+lease_text lease.Past = codes "Past"
+lease_text (lease.LeaseHeld client) = numbered_text (codes "LeaseHeld") client
+lease_text lease.NoLeaseHeld = codes "NoLeaseHeld"
+lease_text lease.Backwards = codes "Backwards"
+lease_text lease.OutOfMemory = codes "OutOfMemory"
+
+abbrev pub client_text : ClientFault → List ℕ
+client_text TooManyGroups = codes "TooManyGroups"
+client_text BadGrant = codes "BadGrant"
+
+abbrev pub begin_text : BeginFault → List ℕ
+begin_text (begin.ClientTwice i) = numbered_text (codes "ClientTwice") i
+begin_text (begin.GrantOverlap i) = numbered_text (codes "GrantOverlap") i
+begin_text begin.OutOfMemory = codes "OutOfMemory"
+
+abbrev pub fault_text : Fault → List ℕ
+fault_text UnknownClient = codes "client unknown"
+fault_text (BadLog fault) = codes "log " ++ spell_text fault
+fault_text WrongClient = codes "client wrong"
+fault_text (BadPlan fault) = codes "plan " ++ spell_text fault
+fault_text (Entry fault) = codes "entry " ++ (decimal fault.index ++ (codes " " ++ reason_text fault.reason))
+fault_text (Row fault) = codes "plan " ++ row_text fault
+
+-- ---- lines, without their end
+
+abbrev pub head_text : ℕ → List ℕ → Bool → List ℕ
+head_text position word rejudged = decimal position ++ (word ++ flag_text rejudged)
+
+abbrev pub reply_text : Reply → List ℕ
+reply_text (Yes position rejudged need) = head_text position (codes " yes rejudged=") rejudged ++ (codes " need=" ++ decimal need)
+reply_text (No position rejudged fault) = head_text position (codes " no rejudged=") rejudged ++ (codes " " ++ fault_text fault)
+
+abbrev pub act_answer_text : Result ℕ LeaseFault → List ℕ
+act_answer_text (Ok node) = codes " leased " ++ decimal node
+act_answer_text (Err fault) = codes " refused " ++ lease_text fault
+
+abbrev pub act_text : Act → List ℕ
+act_text act = decimal act.position ++ act_answer_text act.answer
+
+abbrev pub kind_text : Kind → List ℕ
+kind_text File = codes " file "
+kind_text Directory = codes " dir "
+
+abbrev pub counts_text : Header → List ℕ
+counts_text header = field_text header.uid ++ (field_text header.gid ++ (field_text header.links ++ field_text header.size))
+
+abbrev pub header_text : Header → List ℕ
+header_text header = kind_text header.kind ++ (octal_text header.mode ++ counts_text header)
+
+abbrev pub node_text : ℕ → Header → List ℕ
+node_text node header = codes "node " ++ (decimal node ++ header_text header)
+
+-- the line's end
+abbrev pub line_of : List ℕ → List ℕ
+line_of text = text ++ codes "\n"
