@@ -1,15 +1,19 @@
 -- The counts beside the names after a name came to lead elsewhere.
-use Rattle.std.proofs.Common.{◌≡◌, ℕ, ◌+◌, ◌<◌, ◌≤◌, Bool, true, false, cond, ◌&&◌, ◌==◌, List, [], ◌∷◌, length, Option, Some, None, option_map, refl, sym, ap, ◌∙◌, arith}
+use Rattle.std.proofs.Common.{◌≡◌, ℕ, ◌+◌, ◌<◌, ◌≤◌, Bool, true, false, cond, ◌&&◌, ◌==◌, List, [], ◌∷◌, length, Option, Some, None, option_map, refl, sym, ap, subst, ◌∙◌, arith}
 use Rattle.std.specs.declared.cmp.Ordering.{Ordering}
 use Rattle.std.specs.declared.cmp.Ordering.TheVariants.{Less, Equal, Greater}
 use Rattle.std.specs.Ordering.{nat_cmp, is_eq, eq_by_cmp, ordering_then}
 use Rattle.std.specs.Cmp.{unsigned_ties, eq_by_cmp_equiv, nat_cmp_total}
 use Rattle.std.specs.List.{count_by}
 use Rattle.kfs_model.specs.Table.{Order, numbers, pairs, get}
+use Rattle.kfs_model.specs.Tree.{Links, directory_entries}
 use Rattle.kfs_image.specs.declared.rows.Rows.{Rows}
-use Rattle.kfs_image.specs.Slots.{tallied, changed, table_of}
+use Rattle.kfs_image.specs.Slots.{shown_at, tallied, changed, table_of}
 use Rattle.kfs_image.specs.Rows.{IsIndexed, names_in, count_step, uplink_step}
-use Rattle.kfs_image.proofs.Counts.{count-changed, weight}
+use Rattle.kfs_model.specs.Spelling.{IsName}
+use Rattle.kfs_image.proofs.SlotTables.{get-changed}
+use Rattle.kfs_model.proofs.Counts.{counted}
+use Rattle.kfs_image.proofs.Counts.{count-changed}
 
 turned : (a b : ℕ) → (a == b) ≡ eq_by_cmp nat_cmp b a
 turned a b = unsigned_ties a b ∙ (eq_by_cmp_equiv nat_cmp_total).symm a b
@@ -24,7 +28,7 @@ turned_pair v n dir d =
     ap (λ b. b && (dir == d)) (turned v n) ∙ ap (λ b. eq_by_cmp nat_cmp n v && b) (turned dir d) ∙ sym (both_equal (nat_cmp n v) (nat_cmp d dir))
 
 module _ {K X Y : Type 0} (R : Order K) (view : X → Y) (p : K × Y → Bool) where
-  one_or_none : (k : K) (w : Option Y) → weight p k w ≤ 1
+  one_or_none : (k : K) (w : Option Y) → counted R p k w ≤ 1
   one_or_none k None = omega arith
   one_or_none k (Some v) = elim (p (k, v)) as (λ b. cond b 1 0 ≤ 1) [ true ↦ omega arith | false ↦ omega arith ]
 
@@ -35,17 +39,27 @@ module _ {K X Y : Type 0} (R : Order K) (view : X → Y) (p : K × Y → Bool) w
   count-table_of (slot ∷ slots) =
       omega (arith, count-table_of slots, count-changed p (table_of R view slots) slot.0 (option_map view slot.1), one_or_none slot.0 (option_map view slot.1))
 
--- a name's step of a directory's count is its weight there
-count_step-weight : (d : ℕ) (m : List ℕ) (w : Option ℕ) (q : ℕ) → count_step d w q ≡ weight (λ (e : (ℕ × List ℕ) × ℕ). e.0.0 == q) (d, m) w
-count_step-weight d m None q = refl
-count_step-weight d m (Some n) q = ap (λ b. cond b 1 0) (sym (turned d q))
+-- a name's step of a directory's count is its count there
+count_step-counted : (d : ℕ) (m : List ℕ) (w : Option ℕ) (q : ℕ) → count_step d w q ≡ counted directory_entries (λ (e : (ℕ × List ℕ) × ℕ). e.0.0 == q) (d, m) w
+count_step-counted d m None q = refl
+count_step-counted d m (Some n) q = ap (λ b. cond b 1 0) (sym (turned d q))
 
-uplink_step-weight : (d : ℕ) (m : List ℕ) (w : Option ℕ) (n q : ℕ) → uplink_step d w (n, q) ≡ weight (λ (e : (ℕ × List ℕ) × ℕ). (e.1 == n) && (e.0.0 == q)) (d, m) w
-uplink_step-weight d m None n q = refl
-uplink_step-weight d m (Some v) n q = ap (λ b. cond b 1 0) (sym (turned_pair v n d q))
+uplink_step-counted : (d : ℕ) (m : List ℕ) (w : Option ℕ) (n q : ℕ) → uplink_step d w (n, q) ≡ counted directory_entries (λ (e : (ℕ × List ℕ) × ℕ). (e.1 == n) && (e.0.0 == q)) (d, m) w
+uplink_step-counted d m None n q = refl
+uplink_step-counted d m (Some v) n q = ap (λ b. cond b 1 0) (sym (turned_pair v n d q))
 
 itself : (n : ℕ) → (n == n) ≡ true
 itself n = unsigned_ties n n ∙ (eq_by_cmp_equiv nat_cmp_total).refl n
+
+-- names stay names where one of them comes to lead elsewhere
+still_names : (names : Links) (d : ℕ) (m : List ℕ) (w : Option ℕ) → ((key : ℕ × List ℕ) (n : ℕ) → get names key ≡ Some n → IsName key.1) → IsName m
+    → (key : ℕ × List ℕ) (n : ℕ) → get (changed names (d, m) w) key ≡ Some n → IsName key.1
+still_names names d m w all name key n found = at (directory_entries.compare key (d, m)) refl
+  where
+    at : (o : Ordering) → directory_entries.compare key (d, m) ≡ o → IsName key.1
+    at Equal tied = subst (λ (k : ℕ × List ℕ). IsName k.1) (sym (directory_entries.exact key (d, m) tied)) name
+    at Less apart = all key n (sym (get-changed names (d, m) w key ∙ ap (λ o. cond (is_eq o) w (get names key)) apart) ∙ found)
+    at Greater apart = all key n (sym (get-changed names (d, m) w key ∙ ap (λ o. cond (is_eq o) w (get names key)) apart) ∙ found)
 
 module _ {A : Type 0} where
   -- a name counts in its directory, and as a way to its node
@@ -54,8 +68,8 @@ module _ {A : Type 0} where
   counted_name rows indexed d m n found =
       let p : (ℕ × List ℕ) × ℕ → Bool = λ e. e.0.0 == d in
       let w : (ℕ × List ℕ) × ℕ → Bool = λ e. (e.1 == n) && (e.0.0 == d) in
-      let there : weight p (d, m) (get (names_in rows) (d, m)) ≡ 1 = ap (weight p (d, m)) found ∙ ap (λ b. cond b 1 0) (itself d) in
-      let here : weight w (d, m) (get (names_in rows) (d, m)) ≡ 1 = ap (weight w (d, m)) found ∙ ap (λ b. cond (b && (d == d)) 1 0) (itself n) ∙ ap (λ b. cond b 1 0) (itself d) in
+      let there : counted directory_entries p (d, m) (get (names_in rows) (d, m)) ≡ 1 = ap (counted directory_entries p (d, m)) found ∙ ap (λ b. cond b 1 0) (itself d) in
+      let here : counted directory_entries w (d, m) (get (names_in rows) (d, m)) ≡ 1 = ap (counted directory_entries w (d, m)) found ∙ ap (λ b. cond (b && (d == d)) 1 0) (itself n) ∙ ap (λ b. cond b 1 0) (itself d) in
       let counts = indexed.counts d in
       let uplinks = indexed.uplinks n d in
       let in_dir = count-changed p (names_in rows) (d, m) None in
@@ -67,16 +81,20 @@ module _ {A : Type 0} where
       → names_in new ≡ changed (names_in old) (d, m) w
       → ((q : ℕ) → tallied nat_cmp new.counts q + count_step d (get (names_in old) (d, m)) q ≡ tallied nat_cmp old.counts q + count_step d w q)
       → ((q : ℕ × ℕ) → tallied (pairs numbers numbers).compare new.uplinks q + uplink_step d (get (names_in old) (d, m)) q ≡ tallied (pairs numbers numbers).compare old.uplinks q + uplink_step d w q)
+      → IsName m
+      → ((q : ℕ × ℕ) (n : ℕ) → shown_at (pairs numbers numbers).compare new.uplinks q ≡ Some n → 0 < n)
       → IsIndexed new
-  indexed_after old new indexed d m w named counts uplinks =
+  indexed_after old new indexed d m w named counts uplinks name positive =
       let before = get (names_in old) (d, m) in
       record {
+        names = λ key n found. still_names (names_in old) d m w indexed.names name key n (ap (λ names. get names key) (sym named) ∙ found);
+        positive = positive;
         counts = λ q.
             let p : (ℕ × List ℕ) × ℕ → Bool = λ e. e.0.0 == q in
             rw named
-            (omega (arith, counts q, indexed.counts q, count-changed p (names_in old) (d, m) w, count_step-weight d m before q, count_step-weight d m w q));
+            (omega (arith, counts q, indexed.counts q, count-changed p (names_in old) (d, m) w, count_step-counted d m before q, count_step-counted d m w q));
         uplinks = λ n q.
             let p : (ℕ × List ℕ) × ℕ → Bool = λ e. (e.1 == n) && (e.0.0 == q) in
             rw named
-            (omega (arith, uplinks (n, q), indexed.uplinks n q, count-changed p (names_in old) (d, m) w, uplink_step-weight d m before n q, uplink_step-weight d m w n q));
+            (omega (arith, uplinks (n, q), indexed.uplinks n q, count-changed p (names_in old) (d, m) w, uplink_step-counted d m before n q, uplink_step-counted d m w n q));
       }

@@ -65,6 +65,8 @@ module _ {A : Type 0} where
 
   pub still_indexed : (old new : Rows A) → ShowsSame old new → IsIndexed old → IsIndexed new
   still_indexed old new same indexed = record {
+    names = λ key number found. indexed.names key number (ap (λ names. get names key) (sym (same_names old new same)) ∙ found);
+    positive = λ key count shown. indexed.positive key count (sym (same.uplinks key) ∙ shown);
     counts = λ q. rw (same_names old new same) (ap (λ o. unwrap_or o 0) (same.counts q) ∙ indexed.counts q);
     uplinks = λ n q. rw (same_names old new same) (ap (λ o. unwrap_or o 0) (same.uplinks (n, q)) ∙ indexed.uplinks n q);
   }

@@ -1,8 +1,12 @@
 -- What a look at a cell answers.
-use Rattle.std.specs.Prelude.{◌≡◌, ℕ, List, option_map}
+use Rattle.std.specs.Prelude.{◌≡◌, ℕ, List, Option, Some, None, option_map, false}
+use Rattle.std.specs.declared.cmp.Ordering.TheVariants.{Less}
+use Rattle.std.specs.Ordering.{nat_cmp, is_lt}
+use Rattle.std.specs.Cmp.Lexicographic.{slice_cmp}
+use Rattle.std.specs.Borrow.{Bor}
 use Rattle.kfs_entry.specs.Views.{header_of}
 use Rattle.kfs_model.specs.Table.{get}
-use Rattle.kfs_model.specs.Tree.{target, entry_count}
+use Rattle.kfs_model.specs.Tree.{Links, target, entry_count}
 use Rattle.kfs_model.specs.Sight.{parent_in}
 use Rattle.kfs_image.specs.declared.cell.Cell.{Cell}
 use Rattle.kfs_image.specs.declared.cell.Cell.TheVariants as cells
@@ -40,3 +44,14 @@ IsAnswer c (cells.Parent number) answer = IsParent c number answer
     IsParent c number (answers.Name number') = ⊥
     IsParent c number (answers.Count count) = ⊥
     IsParent c number (answers.Parent parent) = parent ≡ parent_in (get c.heads) c.names number
+
+-- the name comes after this one, where there is one
+abbrev pub IsAfter : Option (Bor (List ℕ)) → List ℕ → Type 0
+IsAfter None name = Unit {0}
+IsAfter (Some before) name = slice_cmp nat_cmp before.now name ≡ Less
+
+-- the name is the least in the directory of those that come after, and it leads to the number
+pub record IsNext (names : Links) (directory : ℕ) (after : Option (Bor (List ℕ))) (name : List ℕ) (number : ℕ) : Type 0 where
+  pub leads : target names directory name ≡ Some number
+  pub later : IsAfter after name
+  pub least : (m : List ℕ) (n : ℕ) → target names directory m ≡ Some n → IsAfter after m → is_lt (slice_cmp nat_cmp m name) ≡ false

@@ -1,10 +1,12 @@
 -- The tables that the rows of a shape show, and what the indexes beside them count.
-use Rattle.std.specs.Prelude.{◌≡◌, ℕ, ◌==◌, ◌&&◌, List, Option, Some, None, IsSome, count_by, if◌then◌else◌}
+use Rattle.std.specs.Prelude.{◌≡◌, ℕ, ◌<◌, ◌==◌, ◌&&◌, List, Option, Some, None, IsSome, count_by, if◌then◌else◌}
 use Rattle.std.specs.Ordering.{nat_cmp, eq_by_cmp}
-use Rattle.std.specs.BTreeMap.{BTreeMap, get}
+use Rattle.std.specs.BTreeMap as slots_of
+use Rattle.std.specs.BTreeMap.{BTreeMap}
 use Rattle.kfs_entry.specs.declared.header.Header.{Header as CodeHeader}
 use Rattle.kfs_model.specs.Header.{Header}
-use Rattle.kfs_model.specs.Table.{Table, numbers, pairs}
+use Rattle.kfs_model.specs.Table.{Table, numbers, pairs, get}
+use Rattle.kfs_model.specs.Spelling.{IsName}
 use Rattle.kfs_model.specs.Tree.{Links, directory_entries, entry_count}
 use Rattle.kfs_image.specs.declared.rows.Rows.{Rows}
 use Rattle.kfs_image.specs.Slots.{table_of, shown_at, tallied}
@@ -39,8 +41,10 @@ module _ {A : Type 0} where
   abbrev pub names_in : Rows A → Links
   names_in rows = names_of rows.names
 
-  -- the counts are those of the names
+  -- each name is one, and the counts are those of the names
   pub record IsIndexed (rows : Rows A) : Type 0 where
+    pub names : (key : ℕ × List ℕ) (number : ℕ) → get (names_in rows) key ≡ Some number → IsName key.1
+    pub positive : (key : ℕ × ℕ) (count : ℕ) → shown_at (pairs numbers numbers).compare rows.uplinks key ≡ Some count → 0 < count
     pub counts : (directory : ℕ) → tallied nat_cmp rows.counts directory ≡ entry_count (names_in rows) directory
     pub uplinks : (number directory : ℕ) → tallied (pairs numbers numbers).compare rows.uplinks (number, directory) ≡ ways_count (names_in rows) number directory
 
@@ -53,13 +57,13 @@ module _ {A : Type 0} where
 
   -- no slot goes
   pub record KeepsSlots (old new : Rows A) : Type 0 where
-    pub headers : (q : ℕ) → IsSome (get nat_cmp old.headers q) → IsSome (get nat_cmp new.headers q)
-    pub names : (q : ℕ × List ℕ) → IsSome (get directory_entries.compare old.names q) → IsSome (get directory_entries.compare new.names q)
-    pub counts : (q : ℕ) → IsSome (get nat_cmp old.counts q) → IsSome (get nat_cmp new.counts q)
-    pub uplinks : (q : ℕ × ℕ) → IsSome (get (pairs numbers numbers).compare old.uplinks q) → IsSome (get (pairs numbers numbers).compare new.uplinks q)
+    pub headers : (q : ℕ) → IsSome (slots_of.get nat_cmp old.headers q) → IsSome (slots_of.get nat_cmp new.headers q)
+    pub names : (q : ℕ × List ℕ) → IsSome (slots_of.get directory_entries.compare old.names q) → IsSome (slots_of.get directory_entries.compare new.names q)
+    pub counts : (q : ℕ) → IsSome (slots_of.get nat_cmp old.counts q) → IsSome (slots_of.get nat_cmp new.counts q)
+    pub uplinks : (q : ℕ × ℕ) → IsSome (slots_of.get (pairs numbers numbers).compare old.uplinks q) → IsSome (slots_of.get (pairs numbers numbers).compare new.uplinks q)
 
   -- there are slots for what a name comes to lead to
   pub record HasSlots (rows : Rows A) (directory : ℕ) (name : List ℕ) (number : ℕ) : Type 0 where
-    pub names : IsSome (get directory_entries.compare rows.names (directory, name))
-    pub counts : IsSome (get nat_cmp rows.counts directory)
-    pub uplinks : IsSome (get (pairs numbers numbers).compare rows.uplinks (number, directory))
+    pub names : IsSome (slots_of.get directory_entries.compare rows.names (directory, name))
+    pub counts : IsSome (slots_of.get nat_cmp rows.counts directory)
+    pub uplinks : IsSome (slots_of.get (pairs numbers numbers).compare rows.uplinks (number, directory))

@@ -2,6 +2,9 @@
 use Rattle.std.specs.Prelude.{ℕ, List, [], ◌∷◌, Option, Some, None, unwrap_or, option_map}
 use Rattle.std.specs.declared.cmp.Ordering.{Ordering}
 use Rattle.std.specs.BTreeMap.{BTreeMap, get}
+use Rattle.std.specs.BTreeMap.Range.{IsInRange}
+use Rattle.std.specs.declared.ops.Bound.{Bound}
+use Rattle.std.specs.declared.ops.Bound.TheVariants.{Unbounded}
 use Rattle.kfs_model.specs.Table.{Order, Table, empty, insert, remove}
 
 module _ {X : Type 0} where
@@ -30,3 +33,7 @@ module _ {K X Y : Type 0} (R : Order K) (view : X → Y) where
   unfoldable pub table_of : List (K × Option X) → Table R Y
   table_of [] = empty
   table_of (slot ∷ slots) = changed (table_of slots) slot.0 (option_map view slot.1)
+
+-- whether a key is not before the start
+abbrev pub IsFrom : {K : Type 0} → (K → K → Ordering) → Bound K → K → Type 0
+IsFrom cmp start key = IsInRange cmp start Unbounded key

@@ -1,7 +1,9 @@
 //! An image: the shape that views share, and the tiers.
-ghost use Rattle.std.specs.Prelude.{◌≡◌, IfOk, OnOk, OnErr};
+ghost use Rattle.std.specs.Prelude.{◌≡◌, ℕ, List, Some, IfSome, IfNone, IfOk, OnOk, OnErr};
+ghost use Rattle.kfs_model.specs.Tree.{target};
 ghost use Rattle.kfs_image.specs.Change.{after_rows, after_net};
 ghost use Rattle.kfs_image.specs.Contents.{root_alone};
+ghost use Rattle.kfs_image.specs.Look.{IsAfter, IsNext};
 
 use crate::layout::Shape;
 use crate::sizes::TierSizes;
@@ -75,7 +77,10 @@ impl<A: Allocator> Image<A> {
 
     /// The least name of the directory above `after`, or of all its names where `after` is none, and
     /// the number that it leads to. Takes no memory.
-    pub fn next_name(&self, dir: u32, after: Option<&Name>) -> Option<(&Name, u32)> {
+    pub fn next_name(&self, dir: u32, after: Option<&Name>) -> Option<(&Name, u32)>
+        ensures found { IfSome result (λ p. IsNext self.now.contents.names dir after.entry p.0.now p.1) }
+        ensures none { IfNone result ((m : List ℕ) (n : ℕ) → target self.now.contents.names dir m ≡ Some n → IsAfter after.entry m → ⊥) }
+    {
         self.shape.next_name(dir, after)
     }
 }

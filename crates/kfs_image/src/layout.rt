@@ -1,10 +1,11 @@
 //! The nodes and names of an image, as views share them.
-ghost use Rattle.std.specs.Prelude.{◌≡◌, ℕ, option_map, IfOk, OnOk, OnErr};
+ghost use Rattle.std.specs.Prelude.{◌≡◌, ℕ, List, Some, option_map, IfSome, IfNone, IfOk, OnOk, OnErr};
 ghost use Rattle.kfs_entry.specs.Views.{header_of};
 ghost use Rattle.kfs_model.specs.Table.{get};
-ghost use Rattle.kfs_model.specs.Tree.{entry_count};
+ghost use Rattle.kfs_model.specs.Tree.{entry_count, target};
+ghost use Rattle.kfs_model.specs.Sight.{parent_in};
 ghost use Rattle.kfs_image.specs.Contents.{root_alone};
-ghost use Rattle.kfs_image.specs.Look.{IsAnswer};
+ghost use Rattle.kfs_image.specs.Look.{IsAnswer, IsAfter, IsNext};
 ghost use Rattle.kfs_image.specs.Change.{after_rows};
 
 use crate::cell::{Answer, Cell};
@@ -43,7 +44,9 @@ impl<A: Allocator + Clone> Clone for Shape<A> {
 const ROOT: u32 = 1;
 
 /// What the shape shows at a cell. Takes no memory.
-pub fn look<A: Allocator>(shape: &Shape<A>, cell: &Cell) -> Answer {
+pub fn look<A: Allocator>(shape: &Shape<A>, cell: &Cell) -> Answer
+    ensures { IsAnswer shape.now cell.now result }
+{
     match cell {
         Cell::Header(number) => Answer::Header(shape.header(*number)),
         Cell::Name(dir, name) => Answer::Name(shape.target(*dir, name)),
@@ -71,7 +74,9 @@ impl<A: Allocator> Shape<A> {
         self.rows.count(dir)
     }
 
-    fn parent(&self, number: u32) -> Option<u32> {
+    fn parent(&self, number: u32) -> Option<u32>
+        ensures { result ≡ parent_in (get self.now.heads) self.now.names number }
+    {
         if number == ROOT || self.header(number)?.kind != Kind::Directory {
             return None;
         }
@@ -79,7 +84,10 @@ impl<A: Allocator> Shape<A> {
     }
 
     /// The least name of the directory above `after`, or of all its names, and where it leads.
-    pub(crate) fn next_name(&self, dir: u32, after: Option<&Name>) -> Option<(&Name, u32)> {
+    pub(crate) fn next_name(&self, dir: u32, after: Option<&Name>) -> Option<(&Name, u32)>
+        ensures found { IfSome result (λ p. IsNext self.now.names dir after.entry p.0.now p.1) }
+        ensures none { IfNone result ((m : List ℕ) (n : ℕ) → target self.now.names dir m ≡ Some n → IsAfter after.entry m → ⊥) }
+    {
         self.rows.next_name(dir, after)
     }
 }

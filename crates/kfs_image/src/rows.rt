@@ -1,12 +1,15 @@
 //! The maps that hold the nodes and names of a shape, and the counts beside them.
-ghost use Rattle.std.specs.Prelude.{◌≡◌, ℕ, ◌+◌, ◌<◌, ◌^◌, option_map, All, IfOk, OnOk, OnErr, IsSome, Some, [], ◌∷◌};
+ghost use Rattle.std.specs.Prelude.{◌≡◌, ℕ, ◌+◌, ◌<◌, ◌≤◌, ◌^◌, option_map, All, IfOk, IfSome, IfNone, OnOk, OnErr, IsSome, Some, List, [], ◌∷◌};
 ghost use Rattle.std.specs.Ordering.{nat_cmp};
 ghost use Rattle.std.specs.BTreeMap as slots_of;
 ghost use Rattle.kfs_model.specs.Table.{get, pairs, numbers, empty};
-ghost use Rattle.kfs_model.specs.Tree.{entry_count, directory_entries};
+ghost use Rattle.kfs_model.specs.Tree.{entry_count, directory_entries, target};
+ghost use Rattle.kfs_model.specs.Sight.{holder};
+ghost use Rattle.kfs_image.specs.Look.{IsAfter, IsNext};
 ghost use Rattle.kfs_image.specs.Rows.{heads_of, heads_in, names_in, count_step, uplink_step, IsIndexed, ShowsSame, KeepsSlots, HasSlots};
+ghost use Rattle.kfs_model.specs.Spelling.{IsName};
 ghost use Rattle.kfs_image.specs.Change.{led_to, renamed, reheaded};
-ghost use Rattle.kfs_image.specs.Slots.{tallied, changed};
+ghost use Rattle.kfs_image.specs.Slots.{shown_at, tallied, changed, IsFrom};
 ghost use Rattle.kfs_entry.specs.Views.{header_of};
 
 use crate::{slots, tally};
@@ -53,34 +56,38 @@ impl<A: Allocator> Rows<A> {
 
 impl<A: Allocator> Rows<A> {
     /// The least directory with a name that leads to the node.
-    pub(crate) fn holder(&self, number: u32) -> Option<u32> {
-        for (key, count) in self
-            .uplinks
-            .range((Bound::Included((number, 0)), Bound::Unbounded))
-        {
-            if count.unwrap_or(0) > 0 {
-                return if key.0 == number { Some(key.1) } else { None };
-            }
-        }
-        None
+    pub(crate) fn holder(&self, number: u32) -> Option<u32>
+        requires { IsIndexed self.now }
+        ensures { result ≡ holder (names_in self.now) number }
+    {
+        let (key, _) = slots::first_shown(&self.uplinks, Bound::Included((number, 0)))?;
+        if key.0 == number { Some(key.1) } else { None }
     }
 
     /// The least name of the directory above `after`, or of all its names, and where it leads.
-    pub(crate) fn next_name(&self, dir: u32, after: Option<&Name>) -> Option<(&Name, u32)> {
-        let start = match after {
-            Some(name) => Bound::Excluded(name_key(dir, name)),
-            None => Bound::Included((dir, least_name())),
-        };
-        for (key, slot) in self.names.range((start, Bound::Unbounded)) {
-            if let Some(number) = slot {
-                return if key.0 == dir {
-                    Some((&key.1, *number))
-                } else {
-                    None
-                };
-            }
+    pub(crate) fn next_name(&self, dir: u32, after: Option<&Name>) -> Option<(&Name, u32)>
+        requires { IsIndexed self.now }
+        ensures found { IfSome result (λ p. IsNext (names_in self.now) dir after.entry p.0.now p.1) }
+        ensures none { IfNone result ((m : List ℕ) (n : ℕ) → target (names_in self.now) dir m ≡ Some n → IsAfter after.entry m → ⊥) }
+    {
+        let (key, number) = slots::first_shown(&self.names, start_after(dir, after))?;
+        if key.0 == dir {
+            Some((&key.1, *number))
+        } else {
+            None
         }
-        None
+    }
+}
+
+/// Where the names of a directory begin that come after a name, or all of them.
+fn start_after(dir: u32, after: Option<&Name>) -> Bound<(u32, Name)>
+    ensures within { (m : List ℕ) → IsName m → IsAfter after.entry m → IsFrom directory_entries.compare result (dir, m) }
+    ensures later { (m : List ℕ) → IsFrom directory_entries.compare result (dir, m) → IsAfter after.entry m }
+    ensures directory { (key : ℕ × List ℕ) → IsFrom directory_entries.compare result key → dir ≤ key.0 }
+{
+    match after {
+        Some(name) => Bound::Excluded(name_key(dir, name)),
+        None => Bound::Included((dir, least_name())),
     }
 }
 
@@ -93,8 +100,10 @@ fn least_name() -> Name
 
 /// The key of a name.
 pub(crate) fn name_key(dir: u32, name: &Name) -> (u32, Name)
-    ensures { result ≡ (dir, name.now) }
+    ensures key { result ≡ (dir, name.now) }
+    ensures name { IsName result.1 }
 {
+    prove!(!name.as_bytes().is_empty());
     (dir, name.clone().unwrap())
 }
 
@@ -117,6 +126,7 @@ impl<A: Allocator> Rows<A> {
         ensures kept { KeepsSlots self.old self.new }
         ensures headers { self.new.headers ≡ self.old.headers }
         ensures names { self.new.names ≡ self.old.names }
+        ensures positive { ((q : ℕ × ℕ) (n : ℕ) → shown_at (pairs numbers numbers).compare self.old.uplinks q ≡ Some n → 0 < n) → (q : ℕ × ℕ) (n : ℕ) → shown_at (pairs numbers numbers).compare self.new.uplinks q ≡ Some n → 0 < n }
         ensures counts { (q : ℕ) → tallied nat_cmp self.new.counts q + count_step dir from q ≡ tallied nat_cmp self.old.counts q }
         ensures uplinks { (q : ℕ × ℕ) → tallied (pairs numbers numbers).compare self.new.uplinks q + uplink_step dir from q ≡ tallied (pairs numbers numbers).compare self.old.uplinks q }
     {
@@ -134,6 +144,7 @@ impl<A: Allocator> Rows<A> {
         ensures kept { KeepsSlots self.old self.new }
         ensures headers { self.new.headers ≡ self.old.headers }
         ensures names { self.new.names ≡ self.old.names }
+        ensures positive { ((q : ℕ × ℕ) (n : ℕ) → shown_at (pairs numbers numbers).compare self.old.uplinks q ≡ Some n → 0 < n) → (q : ℕ × ℕ) (n : ℕ) → shown_at (pairs numbers numbers).compare self.new.uplinks q ≡ Some n → 0 < n }
         ensures counts { (q : ℕ) → tallied nat_cmp self.new.counts q ≡ tallied nat_cmp self.old.counts q + count_step dir to q }
         ensures uplinks { (q : ℕ × ℕ) → tallied (pairs numbers numbers).compare self.new.uplinks q ≡ tallied (pairs numbers numbers).compare self.old.uplinks q + uplink_step dir to q }
     {
@@ -146,6 +157,7 @@ impl<A: Allocator> Rows<A> {
     /// Sets where a name leads.
     fn set_name(&mut self, key: &(u32, Name), to: Option<u32>)
         requires indexed { IsIndexed self.old }
+        requires name { IsName key.now.1 }
         requires slot { IsSome (slots_of.get directory_entries.compare self.old.names key.now) }
         requires slots { (n : ℕ) → to ≡ Some n → HasSlots self.old key.now.0 key.now.1 n }
         ensures indexed { IsIndexed self.new }

@@ -1,12 +1,13 @@
 //! Maps in which room is taken before a change: a slot without a value shows nothing.
-ghost use Rattle.std.specs.Prelude.{◌≡◌, IsSome, OnOk, IfOk, if◌then◌else◌};
+ghost use Rattle.std.specs.Prelude.{◌≡◌, IsSome, IfSome, IfNone, OnOk, IfOk, Some, None, false, if◌then◌else◌};
 ghost use Rattle.std.specs.Option.{option_copied};
-ghost use Rattle.std.specs.Ordering.{eq_by_cmp};
+ghost use Rattle.std.specs.Ordering.{eq_by_cmp, is_lt};
 ghost use Rattle.std.specs.BTreeMap.{get};
-ghost use Rattle.kfs_image.specs.Slots.{shown_at};
+ghost use Rattle.kfs_image.specs.Slots.{shown_at, IsFrom};
 
 use std::alloc::{AllocError, Allocator};
 use std::collections::BTreeMap;
+use std::ops::Bound;
 
 /// What the map shows at the key.
 pub(crate) fn shown<'a, K: Ord, V, A: Allocator>(
@@ -59,6 +60,24 @@ pub(crate) fn release<K: Ord + Drop, V: Drop, A: Allocator>(
     if let Some(None) = slots.get(key) {
         let _ = slots.remove(key);
     }
+}
+
+/// The least key from the start on at which the map shows a value, and the value.
+pub(crate) fn first_shown<'a, K: Ord + Drop, V, A: Allocator>(
+    slots: &'a BTreeMap<K, Option<V>, A>,
+    start: Bound<K>,
+) -> Option<(&'a K, &'a V)>
+    ensures shown { IfSome result (λ p. shown_at K.cmp slots.now p.0.now ≡ Some p.1.now) }
+    ensures within { IfSome result (λ p. IsFrom K.cmp start p.0.now) }
+    ensures least { IfSome result (λ p. (q : K) → IsFrom K.cmp start q → IsSome (shown_at K.cmp slots.now q) → is_lt (K.cmp q p.0.now) ≡ false) }
+    ensures none { IfNone result ((q : K) → IsFrom K.cmp start q → shown_at K.cmp slots.now q ≡ None) }
+{
+    for (key, slot) in slots.range((start, Bound::Unbounded)) {
+        if let Some(value) = slot {
+            return Some((key, value));
+        }
+    }
+    None
 }
 
 /// A copy of a map, where clones of keys and of values are equal to them.

@@ -1,8 +1,8 @@
 //! Counts by key, of which those that are 0 show nothing.
-ghost use Rattle.std.specs.Prelude.{◌≡◌, ◌+◌, ◌-◌, ◌<◌, ◌^◌, IsSome, if◌then◌else◌};
+ghost use Rattle.std.specs.Prelude.{◌≡◌, ℕ, Some, ◌+◌, ◌-◌, ◌<◌, ◌^◌, IsSome, if◌then◌else◌};
 ghost use Rattle.std.specs.Ordering.{eq_by_cmp};
 ghost use Rattle.std.specs.BTreeMap.{get};
-ghost use Rattle.kfs_image.specs.Slots.{tallied};
+ghost use Rattle.kfs_image.specs.Slots.{shown_at, tallied};
 
 use crate::slots;
 use std::alloc::Allocator;
@@ -20,6 +20,7 @@ pub(crate) fn add<K: Ord, A: Allocator>(tally: &mut BTreeMap<K, Option<u64>, A>,
     requires slot { IsSome (get K.cmp tally.old key.now) }
     requires fits { tallied K.cmp tally.old key.now + 1 < 2 ^ 64 }
     ensures kept { (q : K) → IsSome (get K.cmp tally.old q) → IsSome (get K.cmp tally.new q) }
+    ensures positive { ((q : K) (n : ℕ) → shown_at K.cmp tally.old q ≡ Some n → 0 < n) → (q : K) (n : ℕ) → shown_at K.cmp tally.new q ≡ Some n → 0 < n }
     ensures counted { (q : K) → tallied K.cmp tally.new q ≡ tallied K.cmp tally.old q + (if eq_by_cmp K.cmp q key.now then 1 else 0) }
 {
     let more = count(tally, key) + 1;
@@ -30,6 +31,7 @@ pub(crate) fn add<K: Ord, A: Allocator>(tally: &mut BTreeMap<K, Option<u64>, A>,
 pub(crate) fn take<K: Ord, A: Allocator>(tally: &mut BTreeMap<K, Option<u64>, A>, key: &K)
     requires { 0 < tallied K.cmp tally.old key.now }
     ensures kept { (q : K) → IsSome (get K.cmp tally.old q) → IsSome (get K.cmp tally.new q) }
+    ensures positive { ((q : K) (n : ℕ) → shown_at K.cmp tally.old q ≡ Some n → 0 < n) → (q : K) (n : ℕ) → shown_at K.cmp tally.new q ≡ Some n → 0 < n }
     ensures counted { (q : K) → tallied K.cmp tally.new q + (if eq_by_cmp K.cmp q key.now then 1 else 0) ≡ tallied K.cmp tally.old q }
 {
     let fewer = count(tally, key) - 1;

@@ -1,8 +1,18 @@
 -- What a view of a state is made of.
 use Rattle.std.specs.Prelude.{List}
 use Rattle.kfs_model.specs.Access.{Client}
+use Rattle.kfs_image.specs.Contents.{Contents}
+use Rattle.kfs_judge.specs.declared.lease.Leases.{Leases}
 use Rattle.kfs_judge.specs.declared.view.View.{View}
 
--- the rows of the clients
-abbrev pub clients_of : {A : Type 0} → View A → List Client
-clients_of view = view.clients.value.items
+module _ {A : Type 0} where
+  -- the nodes and names
+  abbrev pub contents_of : View A → Contents
+  contents_of view = view.shape.value
+
+  abbrev pub leases_of : View A → Leases A
+  leases_of view = view.leases.value
+
+  -- the rows of the clients
+  abbrev pub clients_of : View A → List Client
+  clients_of view = view.clients.value.items

@@ -1,6 +1,7 @@
 //! What a judgement looks at: the image, the leases and the clients as they were at one moment.
 ghost use Rattle.std.specs.Prelude.{◌≡◌, ◌↔◌, Any, Contains, IsSome, IfSome};
-ghost use Rattle.kfs_judge.specs.View.{clients_of};
+ghost use Rattle.kfs_image.specs.Look.{IsAnswer};
+ghost use Rattle.kfs_judge.specs.View.{contents_of, leases_of, clients_of};
 
 use crate::lease::Leases;
 use crate::mode::{Client, find_client};
@@ -24,7 +25,11 @@ impl<A: Allocator> View<A> {
         shape: Arc<Shape<A>, A>,
         leases: Arc<Leases<A>, A>,
         clients: Arc<Vec<Client, A>, A>,
-    ) -> View<A> {
+    ) -> View<A>
+        ensures contents { contents_of result ≡ shape.value }
+        ensures leases { leases_of result ≡ leases.value }
+        ensures clients { clients_of result ≡ clients.value.items }
+    {
         View {
             shape,
             leases,
@@ -41,7 +46,9 @@ impl<A: Allocator> View<A> {
     }
 
     /// What the view shows at a cell. Takes no memory.
-    pub fn look(&self, cell: &Cell) -> Answer {
+    pub fn look(&self, cell: &Cell) -> Answer
+        ensures { IsAnswer (contents_of self.now) cell.now result }
+    {
         look(&self.shape, cell)
     }
 

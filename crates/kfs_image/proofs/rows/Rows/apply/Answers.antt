@@ -13,7 +13,7 @@ returns-in-Err-clause-err g c = shows_all _ _ _ c.reserve.ensures.shown c.releas
 pub set_names-requires-clause-indexed : goal.set_names-requires-clause-indexed
 set_names-requires-clause-indexed g c =
     let indexed : IsIndexed c.reserve.new.self = still_indexed _ _ c.reserve.ensures.shown c.requires in
-    record { counts = indexed.counts; uplinks = indexed.uplinks }
+    record { names = indexed.names; positive = indexed.positive; counts = indexed.counts; uplinks = indexed.uplinks }
 
 pub set_names-requires-clause-slots : goal.set_names-requires-clause-slots
 set_names-requires-clause-slots g c = λ k d below.

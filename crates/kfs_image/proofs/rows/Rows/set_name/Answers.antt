@@ -47,3 +47,4 @@ returns-clause-indexed g c =
     indexed_after {A = g.row.A.Denot} c.args.self.now (record c.enter.new.self { names = c.set.new.slots }) c.requires.indexed key.0 key.1 c.args.to (returns-clause-names g c)
     (λ q. omega (arith, c.leave.ensures.counts q, c.enter.ensures.counts q, ap (λ w. count_step key.0 w q) before))
     (λ q. omega (arith, c.leave.ensures.uplinks q, c.enter.ensures.uplinks q, ap (λ w. uplink_step key.0 w q) before))
+    c.requires.name (c.enter.ensures.positive (c.leave.ensures.positive c.requires.indexed.positive))

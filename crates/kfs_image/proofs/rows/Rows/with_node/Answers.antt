@@ -15,4 +15,4 @@ returns-clause-names g c = same_names _ _ c.reserve_header.ensures.shown ∙ c.i
 pub returns-clause-indexed : goal.returns-clause-indexed
 returns-clause-indexed g c =
     let indexed = still_indexed _ _ c.reserve_header.ensures.shown c.in_ok-rows.ensures.indexed in
-    record { counts = indexed.counts; uplinks = indexed.uplinks }
+    record { names = indexed.names; positive = indexed.positive; counts = indexed.counts; uplinks = indexed.uplinks }
