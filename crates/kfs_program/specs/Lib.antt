@@ -1,2 +1,3 @@
+pub mod Docket
 pub mod Room
 pub mod Text

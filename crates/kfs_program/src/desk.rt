@@ -1,6 +1,6 @@
 //! The desk: it owns the image and the leases, and lands what was judged.
-ghost use Rattle.std.specs.Prelude.{◌≡◌, ◌≤◌, ◌<◌, ◌↔◌, IfOk, IsErrOf};
-ghost use Rattle.kfs_program.specs.declared.answers.Unanswered.{Unanswered};
+ghost use Rattle.std.specs.Prelude.{◌≡◌, ◌+◌, ◌≤◌, ◌<◌, IfOk, IfErr, OnErr, IsErrOf};
+ghost use Rattle.kfs_program.specs.Docket.{position_of, IsNo};
 
 use crate::answers::{Act, BeginBack, BeginFault, Reply, Unanswered};
 use kfs_image::Image;
@@ -32,7 +32,10 @@ impl<A: Allocator + Copy> Desk<A> {
         image: Image<A>,
         clients: Vec<Client, A>,
         limit: u32,
-    ) -> Result<Desk<A>, BeginBack<A>> {
+    ) -> Result<Desk<A>, BeginBack<A>>
+        ensures ok { IfOk result (λ desk. (desk.image ≡ image) × (desk.clients.value ≡ clients) × (desk.rows ≡ 0) × (desk.limit ≡ limit)) }
+        ensures back { IfErr result (λ back. (back.image ≡ image) × (back.clients ≡ clients)) }
+    {
         let fault = first_fault(&clients);
         if let Some(why) = fault {
             return Err(BeginBack {
@@ -66,7 +69,9 @@ impl<A: Allocator + Copy> Desk<A> {
     }
 
     /// The image of now.
-    pub fn image(&self) -> &Image<A> {
+    pub fn image(&self) -> &Image<A>
+        ensures { result.now ≡ self.now.image }
+    {
         &self.image
     }
 
@@ -77,7 +82,12 @@ impl<A: Allocator + Copy> Desk<A> {
         path: &[u8],
         kind: LeaseKind,
         end: u64,
-    ) -> Result<Act, Unanswered> {
+    ) -> Result<Act, Unanswered>
+        ensures full { self.old.rows ≡ self.old.limit → IsErrOf result Unanswered.DocketFull }
+        ensures row { IfOk result (λ act. (act.position ≡ self.old.rows) × (self.new.rows ≡ act.position + 1)) }
+        ensures err { OnErr result (self.new.rows ≡ self.old.rows) }
+        ensures same { (self.new.image ≡ self.old.image) × (self.new.clients ≡ self.old.clients) × (self.new.limit ≡ self.old.limit) }
+    {
         let position = self.next_row()?;
         let leases = Arc::make_mut(&mut self.leases)?;
         let answer = leases.grant(self.image.shape(), &self.clients, client, path, kind, end);
@@ -90,7 +100,13 @@ impl<A: Allocator + Copy> Desk<A> {
 
     /// Judges the submission against the state of now, and lands it: where it is judged right, the
     /// tree changes as its log says.
-    pub fn submit(&mut self, submission: Submission<A>) -> Result<Reply, Unanswered> {
+    pub fn submit(&mut self, submission: Submission<A>) -> Result<Reply, Unanswered>
+        ensures full { self.old.rows ≡ self.old.limit → IsErrOf result Unanswered.DocketFull }
+        ensures err { OnErr result ((self.new.image ≡ self.old.image) × (self.new.rows ≡ self.old.rows)) }
+        ensures row { IfOk result (λ reply. (position_of reply ≡ self.old.rows) × (self.new.rows ≡ position_of reply + 1)) }
+        ensures refused { IfOk result (λ reply. IsNo reply → self.new.image ≡ self.old.image) }
+        ensures same { (self.new.leases ≡ self.old.leases) × (self.new.clients ≡ self.old.clients) × (self.new.limit ≡ self.old.limit) }
+    {
         let position = self.next_row()?;
         let judged = self.judged(submission)?;
         let reply = land(&mut self.image, position, judged)?;
@@ -100,7 +116,7 @@ impl<A: Allocator + Copy> Desk<A> {
 
     /// The place of the docket's next row.
     fn next_row(&self) -> Result<u32, Unanswered>
-        ensures full { IsErrOf result Unanswered.DocketFull ↔ (self.now.rows ≡ self.now.limit) }
+        ensures full { self.now.rows ≡ self.now.limit → IsErrOf result Unanswered.DocketFull }
         ensures row { IfOk result (λ row. (row ≡ self.now.rows) × row < self.now.limit) }
     {
         if self.rows == self.limit {
@@ -125,7 +141,11 @@ fn land<A: Allocator + Copy>(
     image: &mut Image<A>,
     position: u32,
     judged: Judged<A>,
-) -> Result<Reply, AllocError> {
+) -> Result<Reply, AllocError>
+    ensures err { OnErr result (image.new ≡ image.old) }
+    ensures refused { IfOk result (λ reply. IsNo reply → image.new ≡ image.old) }
+    ensures position { IfOk result (λ reply. position_of reply ≡ position) }
+{
     let Judged { outcome, .. } = judged;
     match outcome {
         Outcome::Yes { net, need, .. } => {
