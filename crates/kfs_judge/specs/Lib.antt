@@ -2,3 +2,5 @@ pub mod Creates
 pub mod Mode
 pub mod Spelled
 pub mod View
+pub mod Reads
+pub mod Overlay

@@ -1,5 +1,11 @@
 //! What the entries of a log have changed so far, over the state that the log came to.
 
+ghost use Rattle.std.specs.Prelude.{◌≡◌, OnOk};
+ghost use Rattle.std.specs.Ordering.{nat_cmp};
+ghost use Rattle.std.specs.BTreeMap.{get};
+ghost use Rattle.kfs_model.specs.Tree.{directory_entries};
+ghost use Rattle.kfs_judge.specs.Overlay.{has_created};
+
 use kfs_image::{Header, Kind, Name};
 use std::alloc::{AllocError, Allocator};
 use std::collections::{BTreeMap, BTreeSet};
@@ -74,17 +80,23 @@ impl<A: Allocator + Copy> Draft<A> {
 
 impl<A: Allocator> Draft<A> {
     /// The header of the node, or none, where an entry wrote it.
-    pub(crate) fn header(&self, number: u32) -> Option<Option<Header>> {
+    pub(crate) fn header(&self, number: u32) -> Option<Option<Header>>
+        ensures { result ≡ get nat_cmp self.now.heads number }
+    {
         self.heads.get(&number).copied()
     }
 
     /// The number that the name leads to, or none, where an entry wrote it.
-    pub(crate) fn target(&self, key: &(u32, Name)) -> Option<Option<u32>> {
+    pub(crate) fn target(&self, key: &(u32, Name)) -> Option<Option<u32>>
+        ensures { result ≡ get directory_entries.compare self.now.names key.now }
+    {
         self.names.get(key).copied()
     }
 
     /// Whether an entry created the number.
-    pub(crate) fn has_created(&self, number: u32) -> bool {
+    pub(crate) fn has_created(&self, number: u32) -> bool
+        ensures { result ≡ has_created self.now number }
+    {
         self.created.contains(&number)
     }
 

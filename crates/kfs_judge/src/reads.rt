@@ -1,5 +1,12 @@
 //! What a judgement reads of its view, each recorded once, in the order of the first look.
 
+ghost use Rattle.std.specs.Prelude.{◌≡◌, ℕ, Bool, Option, IfOk};
+ghost use Rattle.std.specs.Option.{option_map};
+ghost use Rattle.kfs_entry.specs.Views.{header_of};
+ghost use Rattle.kfs_model.specs.Header.{Header as HeaderShown};
+ghost use Rattle.kfs_model.specs.Sight.{answer, Head, Number, Held};
+ghost use Rattle.kfs_judge.specs.Reads.{Always, Grows, cell_of, answer_of};
+
 use crate::view::View;
 use indexmap::IndexMap;
 use kfs_image::{Answer, Cell, Header, Name};
@@ -44,7 +51,10 @@ impl<'a, A: Allocator + Copy> Recorder<'a, A> {
     }
 
     /// The answer at a cell: the recorded one, or else the view's, which is recorded then.
-    fn read(&mut self, read: Read) -> Result<Seen, AllocError> {
+    fn read(&mut self, read: Read) -> Result<Seen, AllocError>
+        ensures grows { Grows self.old.reads.entries self.new.reads.entries }
+        ensures known { IfOk result (λ seen. Always self.new.reads.entries (λ state. answer state (cell_of read) ≡ answer_of seen)) }
+    {
         if let Some(seen) = self.reads.get(&read) {
             return Ok(*seen);
         }
@@ -61,32 +71,65 @@ impl<'a, A: Allocator + Copy> Recorder<'a, A> {
     }
 
     /// The header of a node.
-    pub(crate) fn header(&mut self, number: u32) -> Result<Option<Header>, AllocError> {
-        match self.read(Read::Look(Cell::Header(number)))? {
-            Seen::Look(Answer::Header(header)) => Ok(header),
-            _ => Ok(None),
-        }
+    pub(crate) fn header(&mut self, number: u32) -> Result<Option<Header>, AllocError>
+        ensures grows { Grows self.old.reads.entries self.new.reads.entries }
+        ensures known { IfOk result (λ header. Always self.new.reads.entries (λ state. state.sight.head number ≡ option_map header_of header)) }
+    {
+        let seen = self.read(Read::Look(Cell::Header(number)))?;
+        Ok(header_in(seen))
     }
 
     /// The number that a name leads to.
-    pub(crate) fn target(&mut self, key: &(u32, Name)) -> Result<Option<u32>, AllocError> {
+    pub(crate) fn target(&mut self, key: &(u32, Name)) -> Result<Option<u32>, AllocError>
+        ensures grows { Grows self.old.reads.entries self.new.reads.entries }
+        ensures known { IfOk result (λ number. Always self.new.reads.entries (λ state. state.sight.name key.now.0 key.now.1 ≡ number)) }
+    {
         let name = key.1.clone()?;
-        match self.read(Read::Look(Cell::Name(key.0, name)))? {
-            Seen::Look(Answer::Name(number)) => Ok(number),
-            _ => Ok(None),
-        }
+        let seen = self.read(Read::Look(Cell::Name(key.0, name)))?;
+        Ok(number_in(seen))
     }
 
     /// Whether the client holds a live write lease on the node.
-    pub(crate) fn is_held(&mut self, number: u32) -> Result<bool, AllocError> {
-        match self.read(Read::Lease(number))? {
-            Seen::Lease(held) => Ok(held),
-            _ => Ok(false),
-        }
+    pub(crate) fn is_held(&mut self, number: u32) -> Result<bool, AllocError>
+        ensures grows { Grows self.old.reads.entries self.new.reads.entries }
+        ensures known { IfOk result (λ held. Always self.new.reads.entries (λ state. state.held number ≡ held)) }
+    {
+        let seen = self.read(Read::Lease(number))?;
+        Ok(held_in(seen))
     }
 
     /// The recorded reads.
     pub(crate) fn into_reads(self) -> IndexMap<Read, Seen, BuildHasherDefault<FoldHasher>, A> {
         self.reads
+    }
+}
+
+/// The header that an answer tells.
+fn header_in(seen: Seen) -> Option<Header>
+    ensures { (header : Option HeaderShown) → Head header ≡ answer_of seen → header ≡ option_map header_of result }
+{
+    match seen {
+        Seen::Look(Answer::Header(header)) => header,
+        _ => None,
+    }
+}
+
+/// The number that an answer tells.
+fn number_in(seen: Seen) -> Option<u32>
+    ensures { (number : Option ℕ) → Number number ≡ answer_of seen → number ≡ result }
+{
+    match seen {
+        Seen::Look(Answer::Name(number)) | Seen::Look(Answer::Parent(number)) => number,
+        _ => None,
+    }
+}
+
+/// Whether an answer tells of a lease that is held.
+fn held_in(seen: Seen) -> bool
+    ensures { (held : Bool) → Held held ≡ answer_of seen → held ≡ result }
+{
+    match seen {
+        Seen::Lease(held) => held,
+        _ => false,
     }
 }

@@ -1,0 +1,2 @@
+-- Lemmas on what a judgement reads and changes.
+pub mod ReadsAgree
