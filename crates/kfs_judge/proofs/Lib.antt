@@ -1,2 +1,3 @@
 -- Lemmas on what a judgement reads and changes.
 pub mod ReadsAgree
+pub mod Overlays

@@ -1,10 +1,13 @@
 -- What a draft shows over a state: the cells that entries have written, and the state's own where they have not.
-use Rattle.std.specs.Prelude.{ℕ, Bool, ℤ, pos, ◌+ℤ◌, List, Option, unwrap_or, is_some, nat_eq}
+use Rattle.std.specs.Prelude.{◌≡◌, ℕ, Bool, cond, ℤ, pos, ◌+ℤ◌, ◌≤ℤ◌, List, Option, Some, unwrap_or}
 use Rattle.std.specs.Option.{option_map}
-use Rattle.std.specs.Ordering.{nat_cmp}
-use Rattle.std.specs.BTreeMap.{get}
+use Rattle.std.specs.declared.cmp.Ordering.{Ordering}
+use Rattle.std.specs.Ordering.{nat_cmp, eq_by_cmp}
+use Rattle.std.specs.BTreeMap.{BTreeMap, get}
 use Rattle.std.specs.BTreeSet.{contains}
+use Rattle.kfs_model.specs.Header.{Header}
 use Rattle.kfs_model.specs.Access.{Client}
+use Rattle.kfs_model.specs.SeenAfter.{put_at, put_name, shifted, put_parent}
 use Rattle.kfs_model.specs.Tree.{directory_entries}
 use Rattle.kfs_model.specs.Sight.{Sight, Seen}
 use Rattle.kfs_model.specs.Check.{Spot}
@@ -32,3 +35,25 @@ module _ {A : Type 0} where
     now = over draft state.sight;
     created = has_created draft;
   }
+
+-- the map has this value at the key, and at all others what it had
+abbrev pub PutsAt : {K X : Type 0} → (K → K → Ordering) → BTreeMap K X → BTreeMap K X → K → X → Type 0
+PutsAt {K} cmp old new key value = (q : K) → get cmp new q ≡ cond (eq_by_cmp cmp key q) (Some value) (get cmp old q)
+
+-- the state with a new node under a name
+abbrev pub with_node : (directory : ℕ) (name : List ℕ) (number : ℕ) → Header → Sight → Sight
+with_node d m n header s = record {
+  head = put_at n (Some header) s.head;
+  name = put_name d m (Some n) s.name;
+  count = shifted d (pos 1) s.count;
+  parent = put_parent header.kind n d s.parent;
+}
+
+module _ {A : Type 0} where
+  -- by how much a directory's count of names differs
+  abbrev pub shift_of : Draft A → ℕ → ℤ
+  shift_of draft d = unwrap_or (get nat_cmp draft.shifts d) (pos 0)
+
+  -- no count differs by more
+  pub record ShiftsBy (most : ℕ) (draft : Draft A) : Type 0 where
+    pub at : (d : ℕ) → shift_of draft d ≤ℤ pos most

@@ -1,10 +1,13 @@
 //! What the entries of a log have changed so far, over the state that the log came to.
 
-ghost use Rattle.std.specs.Prelude.{◌≡◌, OnOk};
+ghost use Rattle.std.specs.Prelude.{◌≡◌, ℕ, ◌+◌, ◌==◌, ◌||◌, ℤ, pos, ◌+ℤ◌, ◌<ℤ◌, Option, unwrap_or, OnOk};
+ghost use Rattle.kfs_entry.specs.Views.{header_of, kind_of};
+ghost use Rattle.kfs_model.specs.Sight.{Sight};
+ghost use Rattle.kfs_model.specs.SeenAfter.{put_parent};
 ghost use Rattle.std.specs.Ordering.{nat_cmp};
 ghost use Rattle.std.specs.BTreeMap.{get};
 ghost use Rattle.kfs_model.specs.Tree.{directory_entries};
-ghost use Rattle.kfs_judge.specs.Overlay.{has_created};
+ghost use Rattle.kfs_judge.specs.Overlay.{has_created, over, with_node, shift_of, ShiftsBy, PutsAt};
 
 use kfs_image::{Header, Kind, Name};
 use std::alloc::{AllocError, Allocator};
@@ -34,48 +37,64 @@ impl<A: Allocator + Copy> Draft<A> {
         }
     }
 
-    /// A new node and its name.
+    /// A new node and its name. No directory's count differs by 2^31 - 1 yet.
     pub(crate) fn add_node(
         &mut self,
         key: (u32, Name),
         number: u32,
         header: Header,
-    ) -> Result<(), AllocError> {
-        if header.kind == Kind::Directory {
-            self.put_parent(number, Some(key.0))?;
-        }
-        self.count_name(key.0)?;
-        self.put_target(key, Some(number))?;
-        self.put_header(number, Some(header))?;
-        self.put_created(number)
-    }
-
-    fn put_header(&mut self, number: u32, header: Option<Header>) -> Result<(), AllocError> {
-        self.heads.insert(number, header)?;
-        Ok(())
-    }
-
-    fn put_target(&mut self, key: (u32, Name), number: Option<u32>) -> Result<(), AllocError> {
-        self.names.insert(key, number)?;
-        Ok(())
-    }
-
-    fn put_parent(&mut self, number: u32, dir: Option<u32>) -> Result<(), AllocError> {
-        self.parents.insert(number, dir)?;
-        Ok(())
-    }
-
-    /// Counts one name more in the directory.
-    fn count_name(&mut self, dir: u32) -> Result<(), AllocError> {
-        let shift = self.shifts.get(&dir).copied().unwrap_or(0);
-        self.shifts.insert(dir, shift.saturating_add(1))?;
-        Ok(())
-    }
-
-    fn put_created(&mut self, number: u32) -> Result<(), AllocError> {
+    ) -> Result<(), AllocError>
+        requires { (d : ℕ) → shift_of self.old d <ℤ pos 2147483647 }
+        ensures shown { OnOk result ((s : Sight) → over self.new s ≡ with_node key.0 key.1 number (header_of header) (over self.old s)) }
+        ensures created { OnOk result ((n : ℕ) → has_created self.new n ≡ ((number == n) || has_created self.old n)) }
+        ensures shifts { OnOk result ((most : ℕ) → ShiftsBy most self.old → ShiftsBy (most + 1) self.new) }
+    {
+        let dir = key.0;
+        put_parent(&mut self.parents, header.kind, number, dir)?;
+        count_name(&mut self.shifts, dir)?;
+        put(&mut self.names, key, Some(number))?;
+        put(&mut self.heads, number, Some(header))?;
         self.created.insert(number)?;
         Ok(())
     }
+}
+
+fn put<K: Ord + Drop, V: Drop, A: Allocator + Clone>(
+    map: &mut BTreeMap<K, V, A>,
+    key: K,
+    value: V,
+) -> Result<(), AllocError>
+    ensures { OnOk result (PutsAt K.cmp map.old map.new key value) }
+{
+    map.insert(key, value)?;
+    Ok(())
+}
+
+/// Where the node is a directory it now stands in `dir`.
+fn put_parent<A: Allocator + Clone>(
+    parents: &mut BTreeMap<u32, Option<u32>, A>,
+    kind: Kind,
+    number: u32,
+    dir: u32,
+) -> Result<(), AllocError>
+    ensures { OnOk result ((s : ℕ → Option ℕ) (n : ℕ) → unwrap_or (get nat_cmp parents.new n) (s n) ≡ put_parent (kind_of kind) number dir (λ k. unwrap_or (get nat_cmp parents.old k) (s k)) n) }
+{
+    if kind == Kind::Directory {
+        put(parents, number, Some(dir))?;
+    }
+    Ok(())
+}
+
+/// Counts one name more in the directory.
+fn count_name<A: Allocator + Clone>(
+    shifts: &mut BTreeMap<u32, i32, A>,
+    dir: u32,
+) -> Result<(), AllocError>
+    requires { unwrap_or (get nat_cmp shifts.old dir) (pos 0) <ℤ pos 2147483647 }
+    ensures { OnOk result (PutsAt nat_cmp shifts.old shifts.new dir (unwrap_or (get nat_cmp shifts.old dir) (pos 0) +ℤ pos 1)) }
+{
+    let shift = shifts.get(&dir).copied().unwrap_or(0);
+    put(shifts, dir, shift + 1)
 }
 
 impl<A: Allocator> Draft<A> {

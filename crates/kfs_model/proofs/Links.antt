@@ -32,10 +32,10 @@ module _ {X : Type 0} where
   pub at_number-insert : (t : Table numbers X) (n : ℕ) (value : X) (k : ℕ) → get (insert t n value) k ≡ cond (k == n) (Some value) (get t k)
   at_number-insert t n value k = get-insert t n value k ∙ ap (λ b. cond b (Some value) (get t k)) (one_answer _ _ (ties_decide numbers k n) (Decides-eqb k n))
 
-place_tie : (x y : ℕ × List ℕ) → eq_by_cmp directory_entries.compare x y ≡ same_place x y
+pub place_tie : (x y : ℕ × List ℕ) → eq_by_cmp directory_entries.compare x y ≡ same_place x y
 place_tie x y = one_answer _ _ (ties_decide directory_entries x y) (places-exact.decides x y)
 
-place_tie_turned : (x y : ℕ × List ℕ) → eq_by_cmp directory_entries.compare x y ≡ same_place y x
+pub place_tie_turned : (x y : ℕ × List ℕ) → eq_by_cmp directory_entries.compare x y ≡ same_place y x
 place_tie_turned x y = one_answer _ _ (ties_decide directory_entries x y) (λ e. sym ((places-exact.decides y x).0 e), λ e. (places-exact.decides y x).1 (sym e))
 
 cond_not : {X : Type 0} (b : Bool) (x y : X) → cond (not b) x y ≡ cond b y x
