@@ -1,3 +1,4 @@
 -- Lemmas on what a judgement reads and changes.
 pub mod ReadsAgree
 pub mod Overlays
+pub mod Failing

@@ -4,3 +4,4 @@ pub mod Spelled
 pub mod View
 pub mod Reads
 pub mod Overlay
+pub mod Spots

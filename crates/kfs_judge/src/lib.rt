@@ -6,9 +6,11 @@ mod create;
 mod draft;
 pub mod lease;
 pub mod mode;
+mod net;
 pub mod plan;
 mod reads;
 mod scene;
+mod spot;
 mod view;
 mod walk;
 

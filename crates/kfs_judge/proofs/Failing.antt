@@ -1,0 +1,29 @@
+-- The first failing check, one check at a time.
+use Rattle.std.specs.Prelude.{◌≡◌, ℕ, ◌+◌, ◌<◌, ◌≤◌, List, [], ◌∷◌, map, drop, length, Option, Some, None, slice_index_or, refl}
+use Rattle.std.proofs.Common.{ap, sym, ◌∙◌, add-one, arith}
+use Rattle.std.proofs.Math.Seq.{drop-cons}
+use Rattle.std.proofs.Math.ListN.{drop_of_length-le}
+use Rattle.kfs_model.specs.Check.{Spot, Check, Reason, fault, first_failing}
+
+module _ (p : Spot) where
+  by_fault : (check : Check) (checks : List Check) (found : Option Reason) → fault p check ≡ found → first_failing p (check ∷ checks) ≡ elim found [ None ↦ first_failing p checks | Some reason ↦ Some reason ]
+  unfolding first_failing
+  by_fault check checks found is = ap (λ (f : Option Reason). elim f as (λ _. Option Reason) [ None ↦ first_failing p checks | Some reason ↦ Some reason ]) is
+
+  pub failing-passes : (check : Check) (checks : List Check) → fault p check ≡ None → first_failing p (check ∷ checks) ≡ first_failing p checks
+  failing-passes check checks is = by_fault check checks None is
+
+  pub failing-fails : (check : Check) (checks : List Check) (reason : Reason) → fault p check ≡ Some reason → first_failing p (check ∷ checks) ≡ Some reason
+  failing-fails check checks reason is = by_fault check checks (Some reason) is
+
+  pub failing-none : first_failing p [] ≡ None
+  unfolding first_failing
+  failing-none = refl
+
+module _ {X : Type 0} (f : X → Check) where
+  pub map-drop : (xs : List X) (i : ℕ) (x : X) → i < length xs → x ≡ slice_index_or xs i x → map f (drop i xs) ≡ f x ∷ map f (drop (i + 1) xs)
+  map-drop xs i x inside is =
+      ap (map f) (drop-cons xs i x inside) ∙ (λ j. f (sym is j) ∷ map f (drop (sym (add-one i) j) xs))
+
+  pub map-drop-end : (xs : List X) (i : ℕ) → length xs ≤ i → map f (drop i xs) ≡ []
+  map-drop-end xs i past = ap (map f) (drop_of_length-le xs past)

@@ -1,0 +1,42 @@
+-- The code's checks, reasons and spots as those of the definitions.
+use Rattle.std.specs.Prelude.{ℕ, Bool, Option, List, map}
+use Rattle.std.specs.Option.{option_map}
+use Rattle.kfs_model.specs.Check as checks
+use Rattle.kfs_model.specs.Sight.{Seen}
+use Rattle.kfs_judge.specs.declared.check.Reason.{Reason}
+use Rattle.kfs_judge.specs.declared.check.Reason.TheVariants as reasons
+use Rattle.kfs_judge.specs.declared.check.Check.{Check}
+use Rattle.kfs_judge.specs.declared.check.Check.TheVariants as variants
+use Rattle.kfs_judge.specs.declared.spot.Spot.{Spot}
+use Rattle.kfs_judge.specs.Overlay.{spot_of}
+
+abbrev pub reason_of : Reason → checks.Reason
+reason_of reasons.NoSuchNode = checks.NoSuchNode
+reason_of reasons.NotDirectory = checks.NotDirectory
+reason_of reasons.IsDirectory = checks.IsDirectory
+reason_of reasons.NoSuchName = checks.NoSuchName
+reason_of reasons.NameTaken = checks.NameTaken
+reason_of reasons.NumberTaken = checks.NumberTaken
+reason_of reasons.NumberNotGranted = checks.NumberNotGranted
+reason_of reasons.NotEmpty = checks.NotEmpty
+reason_of reasons.BelowItself = checks.BelowItself
+reason_of reasons.TooManyLinks = checks.TooManyLinks
+reason_of reasons.TooBig = checks.TooBig
+reason_of reasons.NoSearch = checks.NoSearch
+reason_of reasons.NoWrite = checks.NoWrite
+reason_of reasons.NotOwner = checks.NotOwner
+reason_of (reasons.NoLease n) = checks.NoLease n
+
+abbrev pub check_of : Check → checks.Check
+check_of (variants.Exists n) = checks.Exists n
+check_of (variants.IsADirectory n) = checks.IsADirectory n
+check_of (variants.MaySearch n) = checks.MaySearch n
+check_of (variants.MayWrite n) = checks.MayWrite n
+check_of (variants.IsLeased n) = checks.IsLeased n
+check_of (variants.NameIsFree key) = checks.NameIsFree key.now.0 key.now.1
+check_of (variants.NumberIsGranted n) = checks.NumberIsGranted n
+check_of (variants.NumberIsFree n) = checks.NumberIsFree n
+
+-- where the entry stands in a state
+abbrev pub stands_in : {A : Type 0} → Spot A → Seen → checks.Spot
+stands_in spot state = spot_of spot.client.now spot.draft.now state

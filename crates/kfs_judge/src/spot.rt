@@ -1,0 +1,210 @@
+//! Where an entry stands, and the first of its checks that fails there.
+ghost use Rattle.std.specs.Prelude.{◌≡◌, IfOk, is_none, not, ◌&&◌, ◌||◌, map};
+ghost use Rattle.std.specs.Option.{option_map};
+ghost use Rattle.kfs_entry.specs.Views.{header_of};
+ghost use Rattle.kfs_model.specs.Access.{may_header};
+ghost use Rattle.kfs_model.specs.Check as checks;
+ghost use Rattle.kfs_model.specs.Check.{first_failing};
+ghost use Rattle.kfs_model.specs.Sight as sight;
+ghost use Rattle.kfs_judge.specs.Mode.{want_shown};
+ghost use Rattle.kfs_judge.specs.Reads.{Always, Grows};
+ghost use Rattle.kfs_judge.specs.Spots.{check_of, reason_of, stands_in};
+
+use crate::check::{Check, Reason};
+use crate::draft::Draft;
+use crate::mode::{Client, Want, may};
+use crate::reads::Recorder;
+use kfs_image::{Header, Kind, Name};
+use std::alloc::{AllocError, Allocator};
+
+/// The client of a log, and the draft of its entries so far.
+#[derive(Clone, Copy)]
+pub(crate) struct Spot<'a, A: Allocator> {
+    pub(crate) client: &'a Client,
+    pub(crate) draft: &'a Draft<A>,
+}
+
+impl<A: Allocator + Copy> Spot<'_, A> {
+    fn header(
+        &self,
+        recorder: &mut Recorder<'_, A>,
+        number: u32,
+    ) -> Result<Option<Header>, AllocError>
+        ensures grows { Grows recorder.old.reads.entries recorder.new.reads.entries }
+        ensures known { IfOk result (λ header. Always recorder.new.reads.entries (λ state. (stands_in self.now state).now.head number ≡ option_map header_of header)) }
+    {
+        match self.draft.header(number) {
+            Some(header) => Ok(header),
+            None => recorder.header(number),
+        }
+    }
+
+    fn target(
+        &self,
+        recorder: &mut Recorder<'_, A>,
+        key: &(u32, Name),
+    ) -> Result<Option<u32>, AllocError>
+        ensures grows { Grows recorder.old.reads.entries recorder.new.reads.entries }
+        ensures known { IfOk result (λ number. Always recorder.new.reads.entries (λ state. (stands_in self.now state).now.name key.now.0 key.now.1 ≡ number)) }
+    {
+        match self.draft.target(key) {
+            Some(number) => Ok(number),
+            None => recorder.target(key),
+        }
+    }
+
+    fn is_permitted(
+        &self,
+        recorder: &mut Recorder<'_, A>,
+        number: u32,
+        want: Want,
+    ) -> Result<bool, AllocError>
+        ensures grows { Grows recorder.old.reads.entries recorder.new.reads.entries }
+        ensures known { IfOk result (λ granted. Always recorder.new.reads.entries (λ state. checks.is_some_and ((stands_in self.now state).now.head number) (λ h. may_header self.now.client.now h (want_shown want)) ≡ granted)) }
+    {
+        let header = self.header(recorder, number)?;
+        Ok(may_want(self.client, header, want))
+    }
+
+    /// The reason of the first check that fails.
+    pub(crate) fn first_fault(
+        &self,
+        recorder: &mut Recorder<'_, A>,
+        checks: &[Check<'_>],
+    ) -> Result<Option<Reason>, AllocError>
+        ensures grows { Grows recorder.old.reads.entries recorder.new.reads.entries }
+        ensures known { IfOk result (λ reason. Always recorder.new.reads.entries (λ state. first_failing (stands_in self.now state) (map check_of checks.now) ≡ option_map reason_of reason)) }
+    {
+        for check in checks {
+            if let Some(reason) = self.fault(recorder, check)? {
+                return Ok(Some(reason));
+            }
+        }
+        Ok(None)
+    }
+
+    #[tactic(auto, unfolding(kfs_model::specs::Check::fault))]
+    fn fault(
+        &self,
+        recorder: &mut Recorder<'_, A>,
+        check: &Check<'_>,
+    ) -> Result<Option<Reason>, AllocError>
+        ensures grows { Grows recorder.old.reads.entries recorder.new.reads.entries }
+        ensures known { IfOk result (λ reason. Always recorder.new.reads.entries (λ state. checks.fault (stands_in self.now state) (check_of check.now) ≡ option_map reason_of reason)) }
+    {
+        match check {
+            Check::Exists(number) => {
+                let header = self.header(recorder, *number)?;
+                Ok(unless(header.is_some(), Reason::NoSuchNode))
+            }
+            Check::IsADirectory(number) => {
+                let header = self.header(recorder, *number)?;
+                Ok(unless(is_directory(header), Reason::NotDirectory))
+            }
+            Check::MaySearch(number) => {
+                let granted = self.is_permitted(recorder, *number, Want::Search)?;
+                Ok(unless(granted, Reason::NoSearch))
+            }
+            Check::MayWrite(number) => {
+                let granted = self.may_write(recorder, *number)?;
+                Ok(unless(granted, Reason::NoWrite))
+            }
+            Check::IsLeased(number) => {
+                let leased = self.is_leased(recorder, *number)?;
+                Ok(unless(leased, Reason::NoLease(*number)))
+            }
+            Check::NameIsFree(key) => {
+                let number = self.target(recorder, key)?;
+                Ok(unless(number.is_none(), Reason::NameTaken))
+            }
+            Check::NumberIsGranted(number) => {
+                let granted = self.client.is_granted(*number);
+                Ok(unless(granted, Reason::NumberNotGranted))
+            }
+            Check::NumberIsFree(number) => {
+                let free = self.is_number_free(recorder, *number)?;
+                Ok(unless(free, Reason::NumberTaken))
+            }
+        }
+    }
+
+    fn may_write(
+        &self,
+        recorder: &mut Recorder<'_, A>,
+        number: u32,
+    ) -> Result<bool, AllocError>
+        ensures grows { Grows recorder.old.reads.entries recorder.new.reads.entries }
+        ensures known { IfOk result (λ granted. Always recorder.new.reads.entries (λ state. ((stands_in self.now state).created number && sight.is_file ((stands_in self.now state).now.head number)) || checks.is_some_and ((stands_in self.now state).now.head number) (λ h. may_header self.now.client.now h (want_shown Want.Write)) ≡ granted)) }
+    {
+        let header = self.header(recorder, number)?;
+        let own_file = self.draft.has_created(number) && is_file(header);
+        Ok(own_file || may_want(self.client, header, Want::Write))
+    }
+
+    fn is_leased(
+        &self,
+        recorder: &mut Recorder<'_, A>,
+        number: u32,
+    ) -> Result<bool, AllocError>
+        ensures grows { Grows recorder.old.reads.entries recorder.new.reads.entries }
+        ensures known { IfOk result (λ leased. Always recorder.new.reads.entries (λ state. (stands_in self.now state).created number || state.held number ≡ leased)) }
+    {
+        if self.draft.has_created(number) {
+            return Ok(true);
+        }
+        recorder.is_held(number)
+    }
+
+    fn is_number_free(
+        &self,
+        recorder: &mut Recorder<'_, A>,
+        number: u32,
+    ) -> Result<bool, AllocError>
+        ensures grows { Grows recorder.old.reads.entries recorder.new.reads.entries }
+        ensures known { IfOk result (λ free. Always recorder.new.reads.entries (λ state. is_none (state.sight.head number) && is_none ((stands_in self.now state).now.head number) && not ((stands_in self.now state).created number) ≡ free)) }
+    {
+        let before = recorder.header(number)?;
+        let now = self.header(recorder, number)?;
+        let created = self.draft.has_created(number);
+        Ok(is_free(before, now, created))
+    }
+}
+
+fn may_want(client: &Client, header: Option<Header>, want: Want) -> bool
+    ensures { result ≡ checks.is_some_and (option_map header_of header) (λ h. may_header client.now h (want_shown want)) }
+{
+    match header {
+        Some(header) => may(client, header.uid, header.gid, header.mode, want),
+        None => false,
+    }
+}
+
+fn is_free(before: Option<Header>, now: Option<Header>, created: bool) -> bool
+    ensures { result ≡ (is_none (option_map header_of before) && is_none (option_map header_of now) && not created) }
+{
+    before.is_none() && now.is_none() && !created
+}
+
+fn unless(holds: bool, reason: Reason) -> Option<Reason>
+    ensures { option_map reason_of result ≡ checks.unless holds (reason_of reason) }
+{
+    if holds { None } else { Some(reason) }
+}
+
+fn is_directory(header: Option<Header>) -> bool
+    ensures { result ≡ sight.is_directory (option_map header_of header) }
+{
+    match header {
+        Some(header) => header.kind == Kind::Directory,
+        None => false,
+    }
+}
+
+fn is_file(header: Option<Header>) -> bool
+    ensures { result ≡ sight.is_file (option_map header_of header) }
+{
+    match header {
+        Some(header) => header.kind == Kind::File,
+        None => false,
+    }
+}
