@@ -5,3 +5,4 @@ pub mod View
 pub mod Reads
 pub mod Overlay
 pub mod Spots
+pub mod Walks

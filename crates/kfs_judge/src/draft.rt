@@ -1,6 +1,6 @@
 //! What the entries of a log have changed so far, over the state that the log came to.
 
-ghost use Rattle.std.specs.Prelude.{◌≡◌, ℕ, ◌+◌, ◌==◌, ◌||◌, ℤ, pos, ◌+ℤ◌, ◌<ℤ◌, Option, unwrap_or, OnOk};
+ghost use Rattle.std.specs.Prelude.{◌≡◌, ℕ, ◌+◌, ◌==◌, ◌||◌, ℤ, pos, ◌+ℤ◌, ◌<ℤ◌, Option, unwrap_or, OnOk, false};
 ghost use Rattle.kfs_entry.specs.Views.{header_of, kind_of};
 ghost use Rattle.kfs_model.specs.Sight.{Sight};
 ghost use Rattle.kfs_model.specs.SeenAfter.{put_parent};
@@ -27,7 +27,11 @@ pub(crate) struct Draft<A: Allocator> {
 
 impl<A: Allocator + Copy> Draft<A> {
     /// Nothing changed yet.
-    pub(crate) fn new(alloc: A) -> Draft<A> {
+    pub(crate) fn new(alloc: A) -> Draft<A>
+        ensures shown { (s : Sight) → over result s ≡ s }
+        ensures created { (n : ℕ) → has_created result n ≡ false }
+        ensures shifts { ShiftsBy 0 result }
+    {
         Draft {
             heads: BTreeMap::new(alloc),
             names: BTreeMap::new(alloc),

@@ -1,5 +1,16 @@
 //! Where an entry stands: its client, what the entries before it changed, and the state under that.
+ghost use Rattle.std.specs.Prelude.{◌≡◌, ℕ, ◌+◌, ◌==◌, pos, ◌<ℤ◌, List, None, Ok, IfOk, false};
+ghost use Rattle.std.specs.Option.{option_map};
+ghost use Rattle.std.specs.List.{list_any};
+ghost use Rattle.kfs_entry.specs.Views.{entry_of};
+ghost use Rattle.kfs_model.specs.Check.{first_fault};
+ghost use Rattle.kfs_model.specs.Run.{created_by};
+ghost use Rattle.kfs_model.specs.SeenAfter.{seen_after};
+ghost use Rattle.kfs_model.specs.Sight.{Sight};
 ghost use Rattle.kfs_judge.specs.Creates.{IsCreate};
+ghost use Rattle.kfs_judge.specs.Overlay.{has_created, over, shift_of, spot_of, ShiftsBy};
+ghost use Rattle.kfs_judge.specs.Reads.{Always, Grows};
+ghost use Rattle.kfs_judge.specs.Spots.{reason_of};
 
 use crate::check::Reason;
 use crate::draft::Draft;
@@ -23,7 +34,12 @@ pub(crate) struct Scene<'a, A: Allocator> {
 
 impl<'a, A: Allocator + Copy> Scene<'a, A> {
     /// Before the first entry of a log of this client.
-    pub(crate) fn new(alloc: A, view: &'a View<A>, client: &'a Client) -> Scene<'a, A> {
+    pub(crate) fn new(alloc: A, view: &'a View<A>, client: &'a Client) -> Scene<'a, A>
+        ensures client { result.client.now ≡ client.now }
+        ensures shown { (s : Sight) → over result.draft s ≡ s }
+        ensures created { (n : ℕ) → has_created result.draft n ≡ false }
+        ensures shifts { ShiftsBy 0 result.draft }
+    {
         Scene {
             client,
             draft: Draft::new(alloc),
@@ -33,7 +49,14 @@ impl<'a, A: Allocator + Copy> Scene<'a, A> {
 
     /// Makes the change of an entry, or answers why not. The entry is a Create.
     pub(crate) fn enter(&mut self, entry: &Entry<Span>) -> Result<Option<Reason>, AllocError>
-        requires { IsCreate entry.now }
+        requires create { IsCreate entry.now }
+        requires room { (d : ℕ) → shift_of self.old.draft d <ℤ pos 2147483647 }
+        ensures grows { Grows self.old.recorder.reads.entries self.new.recorder.reads.entries }
+        ensures client { self.new.client.now ≡ self.old.client.now }
+        ensures known { IfOk result (λ reason. Always self.new.recorder.reads.entries (λ state. (source : List ℕ) → first_fault (spot_of self.old.client.now self.old.draft state) (entry_of source entry.now) ≡ option_map reason_of reason)) }
+        ensures shown { result ≡ Ok None → (source : List ℕ) (s : Sight) → over self.new.draft s ≡ seen_after self.old.client.now (over self.old.draft s) (entry_of source entry.now) }
+        ensures created { result ≡ Ok None → (source : List ℕ) (numbers : List ℕ) → ((n : ℕ) → has_created self.old.draft n ≡ list_any (λ c. c == n) numbers) → (n : ℕ) → has_created self.new.draft n ≡ list_any (λ c. c == n) (created_by (entry_of source entry.now) numbers) }
+        ensures shifts { result ≡ Ok None → (most : ℕ) → ShiftsBy most self.old.draft → ShiftsBy (most + 1) self.new.draft }
     {
         match entry {
             Entry::Create {

@@ -1,0 +1,41 @@
+-- What a walk over a log's entries has found, in a state.
+use Rattle.std.specs.Prelude.{◌≡◌, ℕ, List, [], map, Option, Result, Ok, Err}
+use Rattle.kfs_model.specs.Header.{Header}
+use Rattle.kfs_model.specs.Access.{Client}
+use Rattle.kfs_model.specs.Table.{numbers}
+use Rattle.kfs_model.specs.Tree.{directory_entries}
+use Rattle.kfs_model.specs.Sight.{Sight, Seen}
+use Rattle.kfs_model.specs.Entry.{Entry}
+use Rattle.kfs_model.specs.Run.{Scene, EntryFault}
+use Rattle.kfs_model.specs.SeenAfter.{seen_run_from}
+use Rattle.kfs_model.specs.Plan.{AreDifferences, number_now, header_now, keyed_name, keyed_node}
+use Rattle.kfs_entry.specs.Views.{name_row_of, node_row_of}
+use Rattle.kfs_entry.specs.declared.plan.NameRow.{NameRow as CodeNameRow}
+use Rattle.kfs_entry.specs.declared.plan.NodeRow.{NodeRow as CodeNodeRow}
+use Rattle.kfs_image.specs.declared.shape.Net.{Net}
+use Rattle.kfs_judge.specs.declared.walk.EntryFault.{EntryFault as CodeEntryFault}
+use Rattle.kfs_judge.specs.Spots.{reason_of}
+
+-- who judges, in a state
+abbrev pub scene_in : Client → Seen → Scene
+scene_in client state = record { client = client; held = state.held; before = state.sight }
+
+abbrev pub fault_of : CodeEntryFault → EntryFault
+fault_of fault = record { entry = fault.index; reason = reason_of fault.reason }
+
+-- the rows are exactly the names that differ, and the headers
+abbrev pub AreNamesOf : Sight → Sight → List CodeNameRow → Type 0
+AreNamesOf before after rows = AreDifferences directory_entries number_now (λ key. before.name key.0 key.1) (λ key. after.name key.0 key.1) (map keyed_name (map name_row_of rows))
+
+abbrev pub AreNodesOf : Sight → Sight → List CodeNodeRow → Type 0
+AreNodesOf before after rows = AreDifferences numbers header_now before.head after.head (map keyed_node (map node_row_of rows))
+
+module _ {A : Type 0} where
+  pub record IsNetOf (before after : Sight) (net : Net A) : Type 0 where
+    pub names : AreNamesOf before after net.names.items
+    pub nodes : AreNodesOf before after net.nodes.items
+
+  -- the run over the cells stops at this fault, or shows what differs
+  abbrev pub ComesTo : Client → Seen → List Entry → Result (Net A) CodeEntryFault → Type 0
+  ComesTo client state entries (Err fault) = seen_run_from (scene_in client state) 0 [] state.sight entries ≡ Err (fault_of fault)
+  ComesTo client state entries (Ok net) = (after : Sight) × (seen_run_from (scene_in client state) 0 [] state.sight entries ≡ Ok after) × IsNetOf state.sight after net
