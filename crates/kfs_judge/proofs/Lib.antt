@@ -2,3 +2,4 @@
 pub mod ReadsAgree
 pub mod Overlays
 pub mod Failing
+pub mod Entering

@@ -1,5 +1,5 @@
 -- What a walk over a log's entries has found, in a state.
-use Rattle.std.specs.Prelude.{◌≡◌, ℕ, List, [], map, Option, Result, Ok, Err}
+use Rattle.std.specs.Prelude.{◌≡◌, ℕ, List, [], map, Option, None, Some, Result, Ok, Err}
 use Rattle.kfs_model.specs.Header.{Header}
 use Rattle.kfs_model.specs.Access.{Client}
 use Rattle.kfs_model.specs.Table.{numbers}
@@ -15,6 +15,8 @@ use Rattle.kfs_entry.specs.declared.plan.NodeRow.{NodeRow as CodeNodeRow}
 use Rattle.kfs_image.specs.declared.shape.Net.{Net}
 use Rattle.kfs_judge.specs.declared.walk.EntryFault.{EntryFault as CodeEntryFault}
 use Rattle.kfs_judge.specs.Spots.{reason_of}
+use Rattle.kfs_judge.specs.declared.draft.Draft.{Draft}
+use Rattle.kfs_judge.specs.Overlay.{over}
 
 -- who judges, in a state
 abbrev pub scene_in : Client → Seen → Scene
@@ -31,6 +33,11 @@ abbrev pub AreNodesOf : Sight → Sight → List CodeNodeRow → Type 0
 AreNodesOf before after rows = AreDifferences numbers header_now before.head after.head (map keyed_node (map node_row_of rows))
 
 module _ {A : Type 0} where
+  -- the run over the cells stops at this fault, or ends at what the draft shows
+  abbrev pub EndsAt : Client → Draft A → Seen → List Entry → Option CodeEntryFault → Type 0
+  EndsAt client draft state entries None = seen_run_from (scene_in client state) 0 [] state.sight entries ≡ Ok (over draft state.sight)
+  EndsAt client draft state entries (Some fault) = seen_run_from (scene_in client state) 0 [] state.sight entries ≡ Err (fault_of fault)
+
   pub record IsNetOf (before after : Sight) (net : Net A) : Type 0 where
     pub names : AreNamesOf before after net.names.items
     pub nodes : AreNodesOf before after net.nodes.items

@@ -1,14 +1,19 @@
 //! The entries of a log against a view.
-ghost use Rattle.std.specs.Prelude.{◌≡◌, All, Any};
+ghost use Rattle.std.specs.Prelude.{◌≡◌, ℕ, ◌≤◌, false, List, length, map, All, Any, IfOk};
+ghost use Rattle.kfs_entry.specs.Views.{entry_of};
+ghost use Rattle.kfs_model.specs.Sight.{Sight};
 ghost use Rattle.kfs_judge.specs.Creates.{IsCreate};
+ghost use Rattle.kfs_judge.specs.Overlay.{has_created, over, ShiftsBy};
+ghost use Rattle.kfs_judge.specs.Reads.{Always, Grows};
 ghost use Rattle.kfs_judge.specs.View.{clients_of};
+ghost use Rattle.kfs_judge.specs.Walks.{EndsAt};
 
 use crate::check::Reason;
 use crate::reads::{Read, Seen};
 use crate::scene::Scene;
 use crate::view::View;
 use indexmap::IndexMap;
-use kfs_entry::Log;
+use kfs_entry::{Entry, Log, Span};
 use kfs_image::shape::Net;
 use std::alloc::{AllocError, Allocator};
 use std::hash::{BuildHasherDefault, FoldHasher};
@@ -29,7 +34,7 @@ pub struct Walk<A: Allocator> {
 }
 
 /// Goes through the entries of a log against a view. The log's client has a row there, and the entries
-/// are Creates alone.
+/// are Creates alone, at most 4,096. Where memory is refused nothing is kept.
 pub fn judge_entries<A: Allocator + Copy>(
     alloc: A,
     view: &View<A>,
@@ -37,21 +42,42 @@ pub fn judge_entries<A: Allocator + Copy>(
 ) -> Result<Walk<A>, AllocError>
     requires client { Any (λ row. row.number ≡ log.now.client) (clients_of view.now) }
     requires creates { All IsCreate log.now.entries }
+    requires count { length log.now.entries ≤ 4096 }
 {
     let client = view.client(log.client).unwrap();
     let mut scene = Scene::new(alloc, view, client);
-    for (index, entry) in log.entries.as_slice().iter().enumerate() {
-        if let Some(reason) = scene.enter(entry)? {
-            let reads = scene.into_reads();
-            return Ok(Walk {
-                reads,
-                outcome: Err(EntryFault { index, reason }),
-            });
-        }
+    let fault = enter_all(&mut scene, log.entries.as_slice())?;
+    if let Some(fault) = fault {
+        return Ok(Walk {
+            reads: scene.into_reads(),
+            outcome: Err(fault),
+        });
     }
     let net = scene.net(alloc)?;
     Ok(Walk {
         reads: scene.into_reads(),
         outcome: Ok(net),
     })
+}
+
+/// Enters one entry after another, up to the first bad one.
+fn enter_all<A: Allocator + Copy>(
+    scene: &mut Scene<'_, A>,
+    entries: &[Entry<Span>],
+) -> Result<Option<EntryFault>, AllocError>
+    requires creates { All IsCreate entries.now }
+    requires count { length entries.now ≤ 4096 }
+    requires shown { (s : Sight) → over scene.old.draft s ≡ s }
+    requires created { (n : ℕ) → has_created scene.old.draft n ≡ false }
+    requires shifts { ShiftsBy 0 scene.old.draft }
+    ensures grows { Grows scene.old.recorder.reads.entries scene.new.recorder.reads.entries }
+    ensures client { scene.new.client.now ≡ scene.old.client.now }
+    ensures known { IfOk result (λ fault. Always scene.new.recorder.reads.entries (λ state. (source : List ℕ) → EndsAt scene.old.client.now scene.new.draft state (map (entry_of source) entries.now) fault)) }
+{
+    for (index, entry) in entries.iter().enumerate() {
+        if let Some(reason) = scene.enter(entry)? {
+            return Ok(Some(EntryFault { index, reason }));
+        }
+    }
+    Ok(None)
 }

@@ -1,0 +1,84 @@
+-- A log's entries, one after another: what the run over the cells is from the draft so far on.
+use Rattle.std.specs.Prelude.{◌≡◌, ℕ, ◌+◌, ◌==◌, ◌<◌, ◌≤◌, Bool, false, List, [], ◌∷◌, map, drop, length, Option, Some, None, Result, Ok, Err, slice_index_or, refl}
+use Rattle.std.specs.List.{list_any}
+use Rattle.std.proofs.Common.{ap, sym, subst, ◌∙◌, add-one, arith}
+use Rattle.std.proofs.Math.Seq.{drop-cons}
+use Rattle.std.proofs.Math.ListN.{drop_of_length-le}
+use Rattle.kfs_model.specs.Access.{Client}
+use Rattle.kfs_model.specs.Entry.{Entry}
+use Rattle.kfs_model.specs.Sight.{Sight, Seen}
+use Rattle.kfs_model.specs.Check.{Spot, Reason, first_fault}
+use Rattle.kfs_model.specs.Run.{EntryFault, spot, created_by}
+use Rattle.kfs_model.specs.SeenAfter.{seen_after, seen_run_from}
+use Rattle.kfs_entry.specs.Views.{entry_of}
+use Rattle.kfs_entry.specs.declared.entry.Entry.{Entry as CodeEntry}
+use Rattle.kfs_entry.specs.declared.entry.Span.{Span}
+use Rattle.kfs_judge.specs.declared.draft.Draft.{Draft}
+use Rattle.kfs_judge.specs.declared.reads.Read.{Read}
+use Rattle.kfs_judge.specs.declared.reads.Seen.{Seen as CodeSeen}
+use Rattle.kfs_judge.specs.Overlay.{over, has_created, spot_of, ShiftsBy}
+use Rattle.kfs_judge.specs.Reads.{Always, Grows}
+use Rattle.kfs_judge.specs.Walks.{scene_in}
+
+-- the numbers created so far are those that the draft has
+abbrev pub AreCreated : {A : Type 0} → Draft A → List ℕ → Type 0
+AreCreated draft numbers = (n : ℕ) → has_created draft n ≡ list_any (λ c. c == n) numbers
+
+module _ {A : Type 0} (client : Client) (draft : Draft A) (state : Seen) (numbers : List ℕ) (created : AreCreated draft numbers) where
+  same_spot : spot_of client draft state ≡ spot (scene_in client state) (over draft state.sight) numbers
+  same_spot = λ i. record { client = client; held = state.held; before = state.sight; now = over draft state.sight; created = λ n. created n i }
+
+  by_fault : (index : ℕ) (entry : Entry) (entries : List Entry) (found : Option Reason) → first_fault (spot_of client draft state) entry ≡ found → seen_run_from (scene_in client state) index numbers (over draft state.sight) (entry ∷ entries) ≡ elim found [ None ↦ seen_run_from (scene_in client state) (index + 1) (created_by entry numbers) (seen_after client (over draft state.sight) entry) entries | Some reason ↦ Err (record { entry = index; reason = reason }) ]
+  unfolding seen_run_from
+  by_fault index entry entries found is = ap at (ap (λ p. first_fault p entry) (sym same_spot) ∙ is)
+    where
+      at : Option Reason → Result Sight EntryFault
+      at f = elim f [ None ↦ seen_run_from (scene_in client state) (index + 1) (created_by entry numbers) (seen_after client (over draft state.sight) entry) entries | Some reason ↦ Err (record { entry = index; reason = reason }) ]
+
+-- the run from the first entry on is the run from this one on, over what the draft shows
+pub record RunsOn {A : Type 0} (client : Client) (draft : Draft A) (reads : List (Read × CodeSeen)) (entries : List Entry) (rest : List Entry) (index : ℕ) : Type 0 where
+  pub numbers : List ℕ
+  pub created : AreCreated draft numbers
+  pub runs : Always reads (λ state. seen_run_from (scene_in client state) 0 [] state.sight entries ≡ seen_run_from (scene_in client state) index numbers (over draft state.sight) rest)
+
+module _ {A : Type 0} (client : Client) where
+  pub runs_first : (draft : Draft A) (reads : List (Read × CodeSeen)) (entries : List Entry) → ((s : Sight) → over draft s ≡ s) → ((n : ℕ) → has_created draft n ≡ false) → RunsOn client draft reads entries entries 0
+  runs_first draft reads entries shown created = record {
+    numbers = [];
+    created = created;
+    runs = λ state agrees. ap (λ s. seen_run_from (scene_in client state) 0 [] s entries) (sym (shown state.sight));
+  }
+
+  -- the entry passes
+  pub runs_next : (old new : Draft A) (before after : List (Read × CodeSeen)) (entries rest : List Entry) (entry : Entry) (index : ℕ)
+    → RunsOn client old before entries (entry ∷ rest) index
+    → Grows before after
+    → Always after (λ state. first_fault (spot_of client old state) entry ≡ None)
+    → ((s : Sight) → over new s ≡ seen_after client (over old s) entry)
+    → ((numbers : List ℕ) → AreCreated old numbers → AreCreated new (created_by entry numbers))
+    → RunsOn client new after entries rest (index + 1)
+  runs_next old new before after entries rest entry index on grows clean shown created = record {
+    numbers = created_by entry on.numbers;
+    created = created on.numbers on.created;
+    runs = λ state agrees. on.runs state (grows state agrees) ∙ by_fault client old state on.numbers on.created index entry rest None (clean state agrees) ∙ ap (λ s. seen_run_from (scene_in client state) (index + 1) (created_by entry on.numbers) s rest) (sym (shown state.sight));
+  }
+
+  -- the entry is the first bad one
+  pub runs_fails : (old : Draft A) (before after : List (Read × CodeSeen)) (entries rest : List Entry) (entry : Entry) (index : ℕ) (reason : Reason)
+    → RunsOn client old before entries (entry ∷ rest) index
+    → Grows before after
+    → Always after (λ state. first_fault (spot_of client old state) entry ≡ Some reason)
+    → Always after (λ state. seen_run_from (scene_in client state) 0 [] state.sight entries ≡ Err (record { entry = index; reason = reason }))
+  runs_fails old before after entries rest entry index reason on grows bad state agrees = on.runs state (grows state agrees) ∙ by_fault client old state on.numbers on.created index entry rest (Some reason) (bad state agrees)
+
+  -- no entry is left
+  pub runs_out : (draft : Draft A) (reads : List (Read × CodeSeen)) (entries : List Entry) (index : ℕ) → RunsOn client draft reads entries [] index → Always reads (λ state. seen_run_from (scene_in client state) 0 [] state.sight entries ≡ Ok (over draft state.sight))
+  unfolding seen_run_from
+  runs_out draft reads entries index on state agrees = on.runs state agrees
+
+module _ {X Y : Type 0} (f : X → Y) where
+  pub map-drop-cons : (xs : List X) (i : ℕ) (x : X) → i < length xs → x ≡ slice_index_or xs i x → map f (drop i xs) ≡ f x ∷ map f (drop (i + 1) xs)
+  map-drop-cons xs i x inside is = ap (map f) (drop-cons xs i x inside) ∙ (λ j. f (sym is j) ∷ map f (drop (sym (add-one i) j) xs))
+
+  pub map-drop-past : (xs : List X) (i : ℕ) → length xs ≤ i → map f (drop i xs) ≡ []
+  map-drop-past xs i past = ap (map f) (drop_of_length-le xs past)

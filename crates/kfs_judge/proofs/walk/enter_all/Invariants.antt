@@ -1,0 +1,15 @@
+-- What the entries so far have come to, in every state that agrees.
+use Rattle.std.proofs.Common.{◌≡◌, ℕ, List, map, drop}
+use Rattle.kfs_entry.specs.Views.{entry_of}
+use Rattle.kfs_judge.specs.Overlay.{ShiftsBy}
+use Rattle.kfs_judge.specs.Reads.{Grows}
+use Rattle.kfs_judge.proofs.Entering.{RunsOn}
+use Rattle.kfs_judge.proofs.walk.enter_all.Given as goal
+
+abbrev pub invariant-loop-index : goal.invariant-loop-index
+invariant-loop-index g l = record {
+  client : l.scene.client.now ≡ l.initial.scene.client.now;
+  grows : Grows l.initial.scene.recorder.reads.entries l.scene.recorder.reads.entries;
+  shifts : ShiftsBy l.index l.scene.draft;
+  runs : (source : List ℕ) → RunsOn l.initial.scene.client.now l.scene.draft l.scene.recorder.reads.entries (map (entry_of source) l.entries) (map (entry_of source) (drop l.index l.entries)) l.index;
+}
