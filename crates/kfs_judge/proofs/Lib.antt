@@ -3,3 +3,4 @@ pub mod ReadsAgree
 pub mod Overlays
 pub mod Failing
 pub mod Entering
+pub mod ChangedRows

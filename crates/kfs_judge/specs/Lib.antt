@@ -6,3 +6,4 @@ pub mod Reads
 pub mod Overlay
 pub mod Spots
 pub mod Walks
+pub mod Rows

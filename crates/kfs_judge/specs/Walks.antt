@@ -8,8 +8,8 @@ use Rattle.kfs_model.specs.Sight.{Sight, Seen}
 use Rattle.kfs_model.specs.Entry.{Entry}
 use Rattle.kfs_model.specs.Run.{Scene, EntryFault}
 use Rattle.kfs_model.specs.SeenAfter.{seen_run_from}
-use Rattle.kfs_model.specs.Plan.{AreDifferences, number_now, header_now, keyed_name, keyed_node}
-use Rattle.kfs_entry.specs.Views.{name_row_of, node_row_of}
+use Rattle.kfs_model.specs.Plan.{AreDifferences, number_now, header_now}
+use Rattle.kfs_judge.specs.Rows.{keyed_name_row, keyed_node_row}
 use Rattle.kfs_entry.specs.declared.plan.NameRow.{NameRow as CodeNameRow}
 use Rattle.kfs_entry.specs.declared.plan.NodeRow.{NodeRow as CodeNodeRow}
 use Rattle.kfs_image.specs.declared.shape.Net.{Net}
@@ -27,10 +27,10 @@ fault_of fault = record { entry = fault.index; reason = reason_of fault.reason }
 
 -- the rows are exactly the names that differ, and the headers
 abbrev pub AreNamesOf : Sight → Sight → List CodeNameRow → Type 0
-AreNamesOf before after rows = AreDifferences directory_entries number_now (λ key. before.name key.0 key.1) (λ key. after.name key.0 key.1) (map keyed_name (map name_row_of rows))
+AreNamesOf before after rows = AreDifferences directory_entries number_now (λ key. before.name key.0 key.1) (λ key. after.name key.0 key.1) (map keyed_name_row rows)
 
 abbrev pub AreNodesOf : Sight → Sight → List CodeNodeRow → Type 0
-AreNodesOf before after rows = AreDifferences numbers header_now before.head after.head (map keyed_node (map node_row_of rows))
+AreNodesOf before after rows = AreDifferences numbers header_now before.head after.head (map keyed_node_row rows)
 
 module _ {A : Type 0} where
   -- the run over the cells stops at this fault, or ends at what the draft shows

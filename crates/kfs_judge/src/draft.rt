@@ -124,12 +124,16 @@ impl<A: Allocator> Draft<A> {
     }
 
     /// The headers written, by number.
-    pub(crate) fn headers(&self) -> &BTreeMap<u32, Option<Header>, A> {
+    pub(crate) fn headers(&self) -> &BTreeMap<u32, Option<Header>, A>
+        ensures { result.now ≡ self.now.heads }
+    {
         &self.heads
     }
 
     /// The names written, by directory and name.
-    pub(crate) fn targets(&self) -> &BTreeMap<(u32, Name), Option<u32>, A> {
+    pub(crate) fn targets(&self) -> &BTreeMap<(u32, Name), Option<u32>, A>
+        ensures { result.now ≡ self.now.names }
+    {
         &self.names
     }
 }

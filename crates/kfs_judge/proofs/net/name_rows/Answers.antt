@@ -1,0 +1,36 @@
+-- An entry makes a row exactly where something else stood at its key.
+use Rattle.std.proofs.Common.{nat_eq, subst}
+use Rattle.std.proofs.lemmas.Map.Iter.{rest_more, rest_all}
+use Rattle.std.specs.Map.Iter.{deref_pair}
+use Rattle.kfs_model.specs.Plan.{number_now}
+use Rattle.kfs_model.proofs.Exact.{numbers-exact}
+use Rattle.kfs_judge.specs.Rows.{IsRow, keyed_name_row}
+use Rattle.kfs_judge.proofs.ChangedRows.{rows_same, rows_more, rows_all}
+use Rattle.kfs_judge.proofs.net.name_rows.Goals as goal
+
+pub returns-in_err-row-clause-grows : goal.returns-in_err-row-clause-grows
+returns-in_err-row-clause-grows g c state agrees = c.loop-key.invariant.grows state (c.in_err-row.ensures.grows state agrees)
+
+pub returns-in_err-push-clause-grows : goal.returns-in_err-push-clause-grows
+returns-in_err-push-clause-grows g c state agrees = c.loop-key.invariant.grows state (c.in_ok-row.ensures.grows state agrees)
+
+pub loop-key-preserved-in-Continue-branch-3 : goal.loop-key-preserved-in-Continue-branch-3
+loop-key-preserved-in-Continue-branch-3 g c = record {
+  ready = tt;
+  finite = tt;
+  grows = λ state agrees. c.loop-key.invariant.grows state (c.in_ok-row.ensures.grows state agrees);
+  rows = λ state agrees. rows_more nat_eq numbers-exact number_now (λ key. state.sight.name key.0 key.1) keyed_name_row _ _ c.in-Some-2.row (c.in-Some.key.now, c.in-Some.now.now) c.loop-key.key-iterator c.next.new.self _
+    c.in_ok-push.ensures.items (rest_more deref_pair _ _ _ (c.in-Some.key, c.in-Some.now) c.in-Some.is c.next.ensures.steps) (subst (λ r. IsRow number_now keyed_name_row c.in-Some.key.now (state.sight.name c.in-Some.key.now.0 c.in-Some.key.now.1) c.in-Some.now.now r) c.in-Some-2.is (c.in_ok-row.ensures.known state agrees)) (c.loop-key.invariant.rows state (c.in_ok-row.ensures.grows state agrees));
+}
+
+pub loop-key-preserved : goal.loop-key-preserved
+loop-key-preserved g c = record {
+  ready = tt;
+  finite = tt;
+  grows = λ state agrees. c.loop-key.invariant.grows state (c.in_ok-row.ensures.grows state agrees);
+  rows = λ state agrees. rows_same nat_eq numbers-exact number_now (λ key. state.sight.name key.0 key.1) keyed_name_row _ (c.in-Some.key.now, c.in-Some.now.now) c.loop-key.key-iterator c.next.new.self _
+    (rest_more deref_pair _ _ _ (c.in-Some.key, c.in-Some.now) c.in-Some.is c.next.ensures.steps) (subst (λ r. IsRow number_now keyed_name_row c.in-Some.key.now (state.sight.name c.in-Some.key.now.0 c.in-Some.key.now.1) c.in-Some.now.now r) c.in_default.is (c.in_ok-row.ensures.known state agrees)) (c.loop-key.invariant.rows state (c.in_ok-row.ensures.grows state agrees));
+}
+
+pub returns-clause-known : goal.returns-clause-known
+returns-clause-known g c state agrees = rows_all nat_eq numbers-exact number_now (λ key. state.sight.name key.0 key.1) keyed_name_row _ c.loop-key.key-iterator _ (rest_all deref_pair _ _ _ c.in-None.is c.next.ensures.steps) (c.loop-key.invariant.rows state agrees)
