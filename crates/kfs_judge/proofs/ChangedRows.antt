@@ -1,5 +1,5 @@
 -- The rows of a draft are the differences between what its keys show before and now.
-use Rattle.std.specs.Prelude.{◌≡◌, ◌≢◌, ℕ, Bool, true, false, cond, T, ◌&&◌, List, [], ◌∷◌, ◌++◌, map, Option, Some, None, unwrap_or, refl}
+use Rattle.std.specs.Prelude.{◌≡◌, ◌≢◌, ℕ, nat_eq, Bool, true, false, cond, T, ◌&&◌, List, [], ◌∷◌, ◌++◌, map, Option, Some, None, unwrap_or, refl}
 use Rattle.std.specs.declared.cmp.Ordering.{Ordering}
 use Rattle.std.specs.declared.cmp.Ordering.TheVariants.{Less, Equal, Greater}
 use Rattle.std.specs.Ordering.{is_eq, is_lt}
@@ -9,12 +9,22 @@ use Rattle.std.specs.Map.{lookup}
 use Rattle.std.specs.BTreeMap.{is_at}
 use Rattle.std.specs.FinMap.Entries.{find, is_sorted, below_all}
 use Rattle.std.proofs.Common.{ap, sym, subst, ◌∙◌, append_assoc, append-nil}
-use Rattle.kfs_model.specs.Table.{Order}
-use Rattle.kfs_model.specs.FirstWrong.{same_option}
-use Rattle.kfs_model.specs.Plan.{AreDifferences}
-use Rattle.kfs_model.proofs.Exact.{IsExact, options-exact}
+use Rattle.kfs_model.specs.Table.{Order, numbers}
+use Rattle.kfs_model.specs.FirstWrong.{same_option, same_header}
+use Rattle.kfs_model.specs.Plan.{AreDifferences, number_now, header_now}
+use Rattle.kfs_model.proofs.Exact.{IsExact, options-exact, numbers-exact, headers-exact}
 use Rattle.kfs_model.proofs.Tables.{left_part, right_part, find_tie, find_below}
-use Rattle.kfs_judge.specs.Rows.{changed_rows}
+use Rattle.kfs_judge.specs.Rows.{changed_rows, keyed_name_row, keyed_node_row, shown_heads}
+use Rattle.kfs_judge.specs.Walks.{AreNamesOf, AreNodesOf}
+use Rattle.kfs_judge.specs.Overlay.{over}
+use Rattle.kfs_judge.specs.declared.draft.Draft.{Draft}
+use Rattle.kfs_entry.specs.Views.{header_of}
+use Rattle.kfs_entry.specs.declared.header.Header.{Header as CodeHeader}
+use Rattle.kfs_entry.specs.declared.plan.NameRow.{NameRow as CodeNameRow}
+use Rattle.kfs_entry.specs.declared.plan.NodeRow.{NodeRow as CodeNodeRow}
+use Rattle.kfs_model.specs.Tree.{directory_entries}
+use Rattle.kfs_model.specs.Sight.{Sight}
+use Rattle.std.specs.Option.{option_map}
 
 true_is_false : true ≡ false → ⊥
 true_is_false e = cc
@@ -157,3 +167,34 @@ module _ {K X : Type 0} (R : Order K) where
       joined : (a b : Bool) → T a → T b → T (a && b)
       joined true b p q = q
       joined false b p q = p
+
+-- ---- what a draft's maps show
+
+module _ {A : Type 0} (draft : Draft A) (s : Sight) where
+  pub names-differ : IsStrictlySortedBy directory_entries.compare (map (λ e. e.0) draft.names.entries) → (rows : List CodeNameRow) → map keyed_name_row rows ≡ changed_rows nat_eq number_now (λ key. s.name key.0 key.1) draft.names.entries → AreNamesOf s (over draft s) rows
+  names-differ ordered rows is =
+      let differ = changed-differences nat_eq numbers-exact number_now (λ key. s.name key.0 key.1) directory_entries draft.names.entries (sorted-entries directory_entries draft.names.entries ordered) in
+      let shown : (key : ℕ × List ℕ) → unwrap_or (find directory_entries.compare key draft.names.entries) (s.name key.0 key.1) ≡ (over draft s).name key.0 key.1 = λ key. ap (λ f. unwrap_or f (s.name key.0 key.1)) (sym (find-lookup directory_entries key draft.names.entries)) in
+      subst (λ rs. AreDifferences directory_entries number_now (λ key. s.name key.0 key.1) (λ key. (over draft s).name key.0 key.1) rs) (sym is)
+        (subst (λ after. AreDifferences directory_entries number_now (λ key. s.name key.0 key.1) after (changed_rows nat_eq number_now (λ key. s.name key.0 key.1) draft.names.entries)) (λ i key. shown key i) differ)
+
+  keys-shown_heads : (es : List (ℕ × Option CodeHeader)) → map (λ e. e.0) (shown_heads es) ≡ map (λ e. e.0) es
+  keys-shown_heads [] = refl
+  keys-shown_heads (e ∷ es) = ap (λ ks. e.0 ∷ ks) (keys-shown_heads es)
+
+  find-shown_heads : (n : ℕ) (es : List (ℕ × Option CodeHeader)) → find numbers.compare n (shown_heads es) ≡ option_map (option_map header_of) (find numbers.compare n es)
+  find-shown_heads n [] = refl
+  find-shown_heads n (e ∷ es) = at (is_eq (numbers.compare n e.0)) (find-shown_heads n es)
+    where
+      at : (b : Bool) → find numbers.compare n (shown_heads es) ≡ option_map (option_map header_of) (find numbers.compare n es) → cond b (Some (option_map header_of e.1)) (find numbers.compare n (shown_heads es)) ≡ option_map (option_map header_of) (cond b (Some e.1) (find numbers.compare n es))
+      at true rest = refl
+      at false rest = rest
+
+  pub heads-differ : IsStrictlySortedBy numbers.compare (map (λ e. e.0) draft.heads.entries) → (rows : List CodeNodeRow) → map keyed_node_row rows ≡ changed_rows same_header header_now s.head (shown_heads draft.heads.entries) → AreNodesOf s (over draft s) rows
+  heads-differ ordered rows is =
+      let keys = sym (keys-shown_heads draft.heads.entries) in
+      let sorted = sorted-entries numbers (shown_heads draft.heads.entries) (subst (IsStrictlySortedBy numbers.compare) keys ordered) in
+      let differ = changed-differences same_header headers-exact header_now s.head numbers (shown_heads draft.heads.entries) sorted in
+      let shown : (n : ℕ) → unwrap_or (find numbers.compare n (shown_heads draft.heads.entries)) (s.head n) ≡ (over draft s).head n = λ n. ap (λ f. unwrap_or f (s.head n)) (find-shown_heads n draft.heads.entries ∙ ap (option_map (option_map header_of)) (sym (find-lookup numbers n draft.heads.entries))) in
+      subst (λ rs. AreDifferences numbers header_now s.head (over draft s).head rs) (sym is)
+        (subst (λ after. AreDifferences numbers header_now s.head after (changed_rows same_header header_now s.head (shown_heads draft.heads.entries))) (λ i n. shown n i) differ)

@@ -1,5 +1,5 @@
 -- What a walk over a log's entries has found, in a state.
-use Rattle.std.specs.Prelude.{◌≡◌, ℕ, List, [], map, Option, None, Some, Result, Ok, Err}
+use Rattle.std.specs.Prelude.{◌≡◌, ℕ, List, [], map, Contains, Option, None, Some, Result, Ok, Err}
 use Rattle.kfs_model.specs.Header.{Header}
 use Rattle.kfs_model.specs.Access.{Client}
 use Rattle.kfs_model.specs.Table.{numbers}
@@ -46,3 +46,8 @@ module _ {A : Type 0} where
   abbrev pub ComesTo : Client → Seen → List Entry → Result (Net A) CodeEntryFault → Type 0
   ComesTo client state entries (Err fault) = seen_run_from (scene_in client state) 0 [] state.sight entries ≡ Err (fault_of fault)
   ComesTo client state entries (Ok net) = (after : Sight) × (seen_run_from (scene_in client state) 0 [] state.sight entries ≡ Ok after) × IsNetOf state.sight after net
+
+-- the client is one of the rows, and has the number
+pub record IsRowOf (rows : List Client) (wanted : ℕ) (client : Client) : Type 0 where
+  pub row : Contains rows client
+  pub number : client.number ≡ wanted

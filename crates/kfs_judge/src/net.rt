@@ -1,11 +1,12 @@
 //! What differs after a log.
-ghost use Rattle.std.specs.Prelude.{◌≡◌, ℕ, nat_eq, map, IfOk};
+ghost use Rattle.std.specs.Prelude.{IfOk};
 ghost use Rattle.std.specs.Option.{option_map};
 ghost use Rattle.kfs_entry.specs.Views.{header_of};
-ghost use Rattle.kfs_model.specs.FirstWrong.{same_header};
 ghost use Rattle.kfs_model.specs.Plan.{header_now, number_now};
 ghost use Rattle.kfs_judge.specs.Reads.{Always, Grows};
-ghost use Rattle.kfs_judge.specs.Rows.{IsRow, changed_rows, keyed_name_row, keyed_node_row, shown_heads};
+ghost use Rattle.kfs_judge.specs.Overlay.{over};
+ghost use Rattle.kfs_judge.specs.Rows.{IsRow, keyed_name_row, keyed_node_row};
+ghost use Rattle.kfs_judge.specs.Walks.{AreNamesOf, AreNodesOf};
 
 use crate::draft::Draft;
 use crate::reads::Recorder;
@@ -20,7 +21,7 @@ pub(crate) fn name_rows<A: Allocator + Copy>(
     recorder: &mut Recorder<'_, A>,
 ) -> Result<Vec<NameRow, A>, AllocError>
     ensures grows { Grows recorder.old.reads.entries recorder.new.reads.entries }
-    ensures known { IfOk result (λ rows. Always recorder.new.reads.entries (λ state. map keyed_name_row rows.items ≡ changed_rows nat_eq number_now (λ key. state.sight.name key.0 key.1) draft.now.names.entries)) }
+    ensures known { IfOk result (λ rows. Always recorder.new.reads.entries (λ state. AreNamesOf state.sight (over draft.now state.sight) rows.items)) }
 {
     let mut rows = Vec::new(alloc);
     for (key, now) in draft.targets().iter() {
@@ -59,7 +60,7 @@ pub(crate) fn node_rows<A: Allocator + Copy>(
     recorder: &mut Recorder<'_, A>,
 ) -> Result<Vec<NodeRow, A>, AllocError>
     ensures grows { Grows recorder.old.reads.entries recorder.new.reads.entries }
-    ensures known { IfOk result (λ rows. Always recorder.new.reads.entries (λ state. map keyed_node_row rows.items ≡ changed_rows same_header header_now state.sight.head (shown_heads draft.now.heads.entries))) }
+    ensures known { IfOk result (λ rows. Always recorder.new.reads.entries (λ state. AreNodesOf state.sight (over draft.now state.sight) rows.items)) }
 {
     let mut rows = Vec::new(alloc);
     for (number, now) in draft.headers().iter() {

@@ -99,7 +99,9 @@ impl<'a, A: Allocator + Copy> Recorder<'a, A> {
     }
 
     /// The recorded reads.
-    pub(crate) fn into_reads(self) -> IndexMap<Read, Seen, BuildHasherDefault<FoldHasher>, A> {
+    pub(crate) fn into_reads(self) -> IndexMap<Read, Seen, BuildHasherDefault<FoldHasher>, A>
+        ensures { result.entries ≡ self.entry.reads.entries }
+    {
         self.reads
     }
 }

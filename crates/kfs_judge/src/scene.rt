@@ -11,6 +11,7 @@ ghost use Rattle.kfs_judge.specs.Creates.{IsCreate};
 ghost use Rattle.kfs_judge.specs.Overlay.{has_created, over, shift_of, spot_of, ShiftsBy};
 ghost use Rattle.kfs_judge.specs.Reads.{Always, Grows};
 ghost use Rattle.kfs_judge.specs.Spots.{reason_of};
+ghost use Rattle.kfs_judge.specs.Walks.{IsNetOf};
 
 use crate::check::Reason;
 use crate::draft::Draft;
@@ -71,14 +72,19 @@ impl<'a, A: Allocator + Copy> Scene<'a, A> {
     }
 
     /// What differs after the entries so far.
-    pub(crate) fn net(&mut self, alloc: A) -> Result<Net<A>, AllocError> {
+    pub(crate) fn net(&mut self, alloc: A) -> Result<Net<A>, AllocError>
+        ensures grows { Grows self.old.recorder.reads.entries self.new.recorder.reads.entries }
+        ensures known { IfOk result (λ net. Always self.new.recorder.reads.entries (λ state. IsNetOf state.sight (over self.old.draft state.sight) net)) }
+    {
         let names = name_rows(alloc, &self.draft, &mut self.recorder)?;
         let nodes = node_rows(alloc, &self.draft, &mut self.recorder)?;
         Ok(Net { names, nodes })
     }
 
     /// The recorded reads.
-    pub(crate) fn into_reads(self) -> IndexMap<Read, Seen, BuildHasherDefault<FoldHasher>, A> {
+    pub(crate) fn into_reads(self) -> IndexMap<Read, Seen, BuildHasherDefault<FoldHasher>, A>
+        ensures { result.entries ≡ self.entry.recorder.reads.entries }
+    {
         self.recorder.into_reads()
     }
 }

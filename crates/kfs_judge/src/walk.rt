@@ -1,12 +1,13 @@
 //! The entries of a log against a view.
 ghost use Rattle.std.specs.Prelude.{◌≡◌, ℕ, ◌≤◌, false, List, length, map, All, Any, IfOk};
 ghost use Rattle.kfs_entry.specs.Views.{entry_of};
+ghost use Rattle.kfs_model.specs.Access.{Client as ClientRow};
 ghost use Rattle.kfs_model.specs.Sight.{Sight};
 ghost use Rattle.kfs_judge.specs.Creates.{IsCreate};
 ghost use Rattle.kfs_judge.specs.Overlay.{has_created, over, ShiftsBy};
 ghost use Rattle.kfs_judge.specs.Reads.{Always, Grows};
 ghost use Rattle.kfs_judge.specs.View.{clients_of};
-ghost use Rattle.kfs_judge.specs.Walks.{EndsAt};
+ghost use Rattle.kfs_judge.specs.Walks.{ComesTo, EndsAt, IsRowOf};
 
 use crate::check::Reason;
 use crate::reads::{Read, Seen};
@@ -43,6 +44,8 @@ pub fn judge_entries<A: Allocator + Copy>(
     requires client { Any (λ row. row.number ≡ log.now.client) (clients_of view.now) }
     requires creates { All IsCreate log.now.entries }
     requires count { length log.now.entries ≤ 4096 }
+    // In every state that agrees with the reads, the run of the entries comes to this outcome.
+    ensures known { IfOk result (λ walk. (client : ClientRow) × IsRowOf (clients_of view.now) log.now.client client × Always walk.reads.entries (λ state. (source : List ℕ) → ComesTo client state (map (entry_of source) log.now.entries) walk.outcome)) }
 {
     let client = view.client(log.client).unwrap();
     let mut scene = Scene::new(alloc, view, client);

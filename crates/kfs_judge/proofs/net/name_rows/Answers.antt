@@ -2,10 +2,12 @@
 use Rattle.std.proofs.Common.{nat_eq, subst}
 use Rattle.std.proofs.lemmas.Map.Iter.{rest_more, rest_all}
 use Rattle.std.specs.Map.Iter.{deref_pair}
+use Rattle.std.specs.BTreeMap.{IsOrdered}
+use Rattle.kfs_model.specs.Tree.{directory_entries}
 use Rattle.kfs_model.specs.Plan.{number_now}
 use Rattle.kfs_model.proofs.Exact.{numbers-exact}
 use Rattle.kfs_judge.specs.Rows.{IsRow, keyed_name_row}
-use Rattle.kfs_judge.proofs.ChangedRows.{rows_same, rows_more, rows_all}
+use Rattle.kfs_judge.proofs.ChangedRows.{rows_same, rows_more, rows_all, names-differ}
 use Rattle.kfs_judge.proofs.net.name_rows.Goals as goal
 
 pub returns-in_err-row-clause-grows : goal.returns-in_err-row-clause-grows
@@ -33,4 +35,4 @@ loop-key-preserved g c = record {
 }
 
 pub returns-clause-known : goal.returns-clause-known
-returns-clause-known g c state agrees = rows_all nat_eq numbers-exact number_now (λ key. state.sight.name key.0 key.1) keyed_name_row _ c.loop-key.key-iterator _ (rest_all deref_pair _ _ _ c.in-None.is c.next.ensures.steps) (c.loop-key.invariant.rows state agrees)
+returns-clause-known g c state agrees = names-differ c.args.draft.now state.sight (subst (IsOrdered directory_entries.compare) c.targets.ensures c.iter-key-items.ensures.ordered) c.loop-key.rows.items (rows_all nat_eq numbers-exact number_now (λ key. state.sight.name key.0 key.1) keyed_name_row _ c.loop-key.key-iterator _ (rest_all deref_pair _ _ _ c.in-None.is c.next.ensures.steps) (c.loop-key.invariant.rows state agrees))

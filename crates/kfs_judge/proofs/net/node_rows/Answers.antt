@@ -2,13 +2,15 @@
 use Rattle.std.proofs.Common.{ap, subst}
 use Rattle.std.proofs.lemmas.Map.Iter.{rest_more, rest_all}
 use Rattle.std.specs.Map.Iter.{deref_pair}
+use Rattle.std.specs.BTreeMap.{IsOrdered}
+use Rattle.kfs_model.specs.Table.{numbers}
 use Rattle.kfs_model.specs.Plan.{header_now}
 use Rattle.kfs_model.specs.FirstWrong.{same_header}
 use Rattle.std.specs.Option.{option_map}
 use Rattle.kfs_entry.specs.Views.{header_of}
 use Rattle.kfs_model.proofs.Exact.{headers-exact}
 use Rattle.kfs_judge.specs.Rows.{IsRow, keyed_node_row, shown_heads}
-use Rattle.kfs_judge.proofs.ChangedRows.{rows_same, rows_more, rows_all}
+use Rattle.kfs_judge.proofs.ChangedRows.{rows_same, rows_more, rows_all, heads-differ}
 use Rattle.kfs_judge.proofs.net.node_rows.Goals as goal
 
 pub returns-in_err-row-clause-grows : goal.returns-in_err-row-clause-grows
@@ -36,4 +38,4 @@ loop-number-preserved g c = record {
 }
 
 pub returns-clause-known : goal.returns-clause-known
-returns-clause-known g c state agrees = rows_all same_header headers-exact header_now state.sight.head keyed_node_row _ (shown_heads c.loop-number.number-iterator) _ (ap shown_heads (rest_all deref_pair _ _ _ c.in-None.is c.next.ensures.steps)) (c.loop-number.invariant.rows state agrees)
+returns-clause-known g c state agrees = heads-differ c.args.draft.now state.sight (subst (IsOrdered numbers.compare) c.headers.ensures c.iter-number-items.ensures.ordered) c.loop-number.rows.items (rows_all same_header headers-exact header_now state.sight.head keyed_node_row _ (shown_heads c.loop-number.number-iterator) _ (ap shown_heads (rest_all deref_pair _ _ _ c.in-None.is c.next.ensures.steps)) (c.loop-number.invariant.rows state agrees))
