@@ -139,10 +139,10 @@ module _ {K X Y : Type 0} (same : X → X → Bool) (exact : IsExact same) (now 
     pub rows_more : (rows pushed : List Z) (row : Z) (e : K × Option X) (left rest : List (K × Option X)) (all : List (K × Y)) → pushed ≡ rows ++ row ∷ [] → left ≡ e ∷ rest → (before e.0 ≢ e.1) × (shown row ≡ (e.0, now e.1)) → map shown rows ++ changed_rows same now before left ≡ all → map shown pushed ++ changed_rows same now before rest ≡ all
     rows_more rows pushed row e left rest all is_pushed is (differs, says) so_far =
         ap (λ xs. map shown xs ++ changed_rows same now before rest) is_pushed
-          ∙ ap (λ xs. xs ++ changed_rows same now before rest) (map-push rows row ∙ ap (λ r. map shown rows ++ r ∷ []) says)
-          ∙ append_assoc (map shown rows) ((e.0, now e.1) ∷ []) (changed_rows same now before rest)
-          ∙ ap (λ xs. map shown rows ++ xs) (sym (ap (changed_rows same now before) is ∙ changed-differs e rest differs))
-          ∙ so_far
+        ∙ ap (λ xs. xs ++ changed_rows same now before rest) (map-push rows row ∙ ap (λ r. map shown rows ++ r ∷ []) says)
+        ∙ append_assoc (map shown rows) ((e.0, now e.1) ∷ []) (changed_rows same now before rest)
+        ∙ ap (λ xs. map shown rows ++ xs) (sym (ap (changed_rows same now before) is ∙ changed-differs e rest differs))
+        ∙ so_far
 
     pub rows_all : (rows : List Z) (left : List (K × Option X)) (all : List (K × Y)) → left ≡ [] → map shown rows ++ changed_rows same now before left ≡ all → map shown rows ≡ all
     rows_all rows left all none so_far = sym (append-nil (map shown rows)) ∙ ap (λ xs. map shown rows ++ xs) (sym (ap (changed_rows same now before) none ∙ changed-none)) ∙ so_far
@@ -176,7 +176,7 @@ module _ {A : Type 0} (draft : Draft A) (s : Sight) where
       let differ = changed-differences nat_eq numbers-exact number_now (λ key. s.name key.0 key.1) directory_entries draft.names.entries (sorted-entries directory_entries draft.names.entries ordered) in
       let shown : (key : ℕ × List ℕ) → unwrap_or (find directory_entries.compare key draft.names.entries) (s.name key.0 key.1) ≡ (over draft s).name key.0 key.1 = λ key. ap (λ f. unwrap_or f (s.name key.0 key.1)) (sym (find-lookup directory_entries key draft.names.entries)) in
       subst (λ rs. AreDifferences directory_entries number_now (λ key. s.name key.0 key.1) (λ key. (over draft s).name key.0 key.1) rs) (sym is)
-        (subst (λ after. AreDifferences directory_entries number_now (λ key. s.name key.0 key.1) after (changed_rows nat_eq number_now (λ key. s.name key.0 key.1) draft.names.entries)) (λ i key. shown key i) differ)
+      (subst (λ after. AreDifferences directory_entries number_now (λ key. s.name key.0 key.1) after (changed_rows nat_eq number_now (λ key. s.name key.0 key.1) draft.names.entries)) (λ i key. shown key i) differ)
 
   keys-shown_heads : (es : List (ℕ × Option CodeHeader)) → map (λ e. e.0) (shown_heads es) ≡ map (λ e. e.0) es
   keys-shown_heads [] = refl
@@ -197,4 +197,4 @@ module _ {A : Type 0} (draft : Draft A) (s : Sight) where
       let differ = changed-differences same_header headers-exact header_now s.head numbers (shown_heads draft.heads.entries) sorted in
       let shown : (n : ℕ) → unwrap_or (find numbers.compare n (shown_heads draft.heads.entries)) (s.head n) ≡ (over draft s).head n = λ n. ap (λ f. unwrap_or f (s.head n)) (find-shown_heads n draft.heads.entries ∙ ap (option_map (option_map header_of)) (sym (find-lookup numbers n draft.heads.entries))) in
       subst (λ rs. AreDifferences numbers header_now s.head (over draft s).head rs) (sym is)
-        (subst (λ after. AreDifferences numbers header_now s.head after (changed_rows same_header header_now s.head (shown_heads draft.heads.entries))) (λ i n. shown n i) differ)
+      (subst (λ after. AreDifferences numbers header_now s.head after (changed_rows same_header header_now s.head (shown_heads draft.heads.entries))) (λ i n. shown n i) differ)

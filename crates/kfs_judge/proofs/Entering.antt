@@ -51,12 +51,12 @@ module _ {A : Type 0} (client : Client) where
 
   -- the entry passes
   pub runs_next : (old new : Draft A) (before after : List (Read × CodeSeen)) (entries rest : List Entry) (entry : Entry) (index : ℕ)
-    → RunsOn client old before entries (entry ∷ rest) index
-    → Grows before after
-    → Always after (λ state. first_fault (spot_of client old state) entry ≡ None)
-    → ((s : Sight) → over new s ≡ seen_after client (over old s) entry)
-    → ((numbers : List ℕ) → AreCreated old numbers → AreCreated new (created_by entry numbers))
-    → RunsOn client new after entries rest (index + 1)
+      → RunsOn client old before entries (entry ∷ rest) index
+      → Grows before after
+      → Always after (λ state. first_fault (spot_of client old state) entry ≡ None)
+      → ((s : Sight) → over new s ≡ seen_after client (over old s) entry)
+      → ((numbers : List ℕ) → AreCreated old numbers → AreCreated new (created_by entry numbers))
+      → RunsOn client new after entries rest (index + 1)
   runs_next old new before after entries rest entry index on grows clean shown created = record {
     numbers = created_by entry on.numbers;
     created = created on.numbers on.created;
@@ -65,10 +65,10 @@ module _ {A : Type 0} (client : Client) where
 
   -- the entry is the first bad one
   pub runs_fails : (old : Draft A) (before after : List (Read × CodeSeen)) (entries rest : List Entry) (entry : Entry) (index : ℕ) (reason : Reason)
-    → RunsOn client old before entries (entry ∷ rest) index
-    → Grows before after
-    → Always after (λ state. first_fault (spot_of client old state) entry ≡ Some reason)
-    → Always after (λ state. seen_run_from (scene_in client state) 0 [] state.sight entries ≡ Err (record { entry = index; reason = reason }))
+      → RunsOn client old before entries (entry ∷ rest) index
+      → Grows before after
+      → Always after (λ state. first_fault (spot_of client old state) entry ≡ Some reason)
+      → Always after (λ state. seen_run_from (scene_in client state) 0 [] state.sight entries ≡ Err (record { entry = index; reason = reason }))
   runs_fails old before after entries rest entry index reason on grows bad state agrees = on.runs state (grows state agrees) ∙ by_fault client old state on.numbers on.created index entry rest (Some reason) (bad state agrees)
 
   -- no entry is left

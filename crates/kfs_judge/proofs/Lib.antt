@@ -4,3 +4,4 @@ pub mod Overlays
 pub mod Failing
 pub mod Entering
 pub mod ChangedRows
+pub mod TreeWalks

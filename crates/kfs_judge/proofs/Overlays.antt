@@ -34,10 +34,10 @@ counted count shift by = omega (arith, ints)
 
 module _ {A : Type 0} (old new : Draft A) (d : ℕ) (m : List ℕ) (n : ℕ) (header : CodeHeader) where
   pub node_shown : PutsAt nat_cmp old.heads new.heads n (Some header)
-    → PutsAt directory_entries.compare old.names new.names (d, m) (Some n)
-    → PutsAt nat_cmp old.shifts new.shifts d (shift_of old d +ℤ pos 1)
-    → ((s : ℕ → Option ℕ) (k : ℕ) → unwrap_or (get nat_cmp new.parents k) (s k) ≡ put_parent (kind_of header.kind) n d (λ j. unwrap_or (get nat_cmp old.parents j) (s j)) k)
-    → (s : Sight) → over new s ≡ with_node d m n (header_of header) (over old s)
+      → PutsAt directory_entries.compare old.names new.names (d, m) (Some n)
+      → PutsAt nat_cmp old.shifts new.shifts d (shift_of old d +ℤ pos 1)
+      → ((s : ℕ → Option ℕ) (k : ℕ) → unwrap_or (get nat_cmp new.parents k) (s k) ≡ put_parent (kind_of header.kind) n d (λ j. unwrap_or (get nat_cmp old.parents j) (s j)) k)
+      → (s : Sight) → over new s ≡ with_node d m n (header_of header) (over old s)
   node_shown heads names shifts parents s = λ i. record {
     head = λ k. head_at k i;
     name = λ e k. name_at e k i;

@@ -3,10 +3,16 @@ use Rattle.std.specs.Prelude.{◌≡◌, ℕ, List, [], map, Contains, Option, N
 use Rattle.kfs_model.specs.Header.{Header}
 use Rattle.kfs_model.specs.Access.{Client}
 use Rattle.kfs_model.specs.Table.{numbers}
-use Rattle.kfs_model.specs.Tree.{directory_entries}
-use Rattle.kfs_model.specs.Sight.{Sight, Seen}
+use Rattle.kfs_model.specs.Tree.{Tree, directory_entries}
+use Rattle.std.specs.List.{AllByRecursion}
+use Rattle.std.specs.Prelude.{Bool}
+use Rattle.kfs_model.specs.Sight.{Sight, Seen, sight}
+use Rattle.kfs_model.specs.Soundness.{IsSound}
+use Rattle.kfs_model.specs.Spelling.{IsEntry}
+use Rattle.kfs_model.specs.CleanStep.{IsClient}
+use Rattle.kfs_model.specs.Machine.{OneByOne}
 use Rattle.kfs_model.specs.Entry.{Entry}
-use Rattle.kfs_model.specs.Run.{Scene, EntryFault}
+use Rattle.kfs_model.specs.Run.{Scene, EntryFault, run, bytes}
 use Rattle.kfs_model.specs.SeenAfter.{seen_run_from}
 use Rattle.kfs_model.specs.Plan.{AreDifferences, number_now, header_now}
 use Rattle.kfs_judge.specs.Rows.{keyed_name_row, keyed_node_row}
@@ -46,6 +52,22 @@ module _ {A : Type 0} where
   abbrev pub ComesTo : Client → Seen → List Entry → Result (Net A) CodeEntryFault → Type 0
   ComesTo client state entries (Err fault) = seen_run_from (scene_in client state) 0 [] state.sight entries ≡ Err (fault_of fault)
   ComesTo client state entries (Ok net) = (after : Sight) × (seen_run_from (scene_in client state) 0 [] state.sight entries ≡ Ok after) × IsNetOf state.sight after net
+
+-- a state of sound tree, client and leases in their ranges
+pub record Fits (client : Client) (t : Tree ℕ) (entries : List Entry) : Type 0 where
+  pub in_range : IsClient client
+  pub sound : IsSound t
+  pub fitting : AllByRecursion IsEntry entries
+
+-- what the client sees of a tree under its leases
+abbrev pub seen_in : Tree ℕ → (ℕ → Bool) → Seen
+seen_in t held = record { sight = sight t; held = held }
+
+module _ {A : Type 0} where
+  -- the entries one by one stop at this fault, or leave a sound tree of which this is the net, each of them allowed
+  abbrev pub ComesToTree : Client → (ℕ → Bool) → Tree ℕ → List Entry → Result (Net A) CodeEntryFault → Type 0
+  ComesToTree client held t entries (Err fault) = run bytes (scene_in client (seen_in t held)) t entries ≡ Err (fault_of fault)
+  ComesToTree client held t entries (Ok net) = (after : Tree ℕ) × (run bytes (scene_in client (seen_in t held)) t entries ≡ Ok after) × IsSound after × OneByOne (scene_in client (seen_in t held)) 0 [] t entries after × IsNetOf (sight t) (sight after) net
 
 -- the client is one of the rows, and has the number
 pub record IsRowOf (rows : List Client) (wanted : ℕ) (client : Client) : Type 0 where

@@ -1,5 +1,5 @@
 //! The plan of a log against what the log comes to, and the judgement of both.
-ghost use Rattle.std.specs.Prelude.{◌≡◌, ◌↔◌, IsOk, IfOk, IsTrue};
+ghost use Rattle.std.specs.Prelude.{◌≡◌, ◌↔◌, ◌≤◌, length, IsOk, IfOk, IsTrue};
 ghost use Rattle.kfs_judge.specs.Creates.{IsCreate};
 ghost use Rattle.kfs_judge.specs.Spelled.{IfSpelled};
 ghost use Rattle.kfs_judge.specs.declared.plan.RowFault.TheVariants.{OutOfMemory};
@@ -219,7 +219,7 @@ fn read_submission<A: Allocator + Copy>(
 ) -> Result<Spelled<A>, Why>
     ensures { IfOk result (λ s. IfSpelled s submission.now.client) }
 {
-    let log = match decode_log(alloc, submission.log.as_slice()) {
+    let log = match read_log(alloc, submission.log.as_slice()) {
         Ok(log) => log,
         Err(SpellFault::OutOfMemory) => return Err(Why::OutOfMemory),
         Err(fault) => return Ok(Spelled::No(Fault::BadLog(fault))),
@@ -236,6 +236,14 @@ fn read_submission<A: Allocator + Copy>(
         return Err(Why::OtherEntry);
     }
     Ok(Spelled::Yes(log, plan))
+}
+
+/// The log that the bytes spell: it has at most 4,096 entries.
+fn read_log<A: Allocator>(alloc: A, bytes: &[u8]) -> Result<Log<A>, SpellFault>
+    ensures { IfOk result (λ log. length log.entries ≤ 4096) }
+{
+    let log = decode_log(alloc, bytes)?;
+    Ok(log)
 }
 
 fn is_create(entry: &Entry<Span>) -> bool

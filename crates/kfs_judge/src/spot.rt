@@ -128,11 +128,7 @@ impl<A: Allocator + Copy> Spot<'_, A> {
         }
     }
 
-    fn may_write(
-        &self,
-        recorder: &mut Recorder<'_, A>,
-        number: u32,
-    ) -> Result<bool, AllocError>
+    fn may_write(&self, recorder: &mut Recorder<'_, A>, number: u32) -> Result<bool, AllocError>
         ensures grows { Grows recorder.old.reads.entries recorder.new.reads.entries }
         ensures known { IfOk result (λ granted. Always recorder.new.reads.entries (λ state. ((stands_in self.now state).created number && sight.is_file ((stands_in self.now state).now.head number)) || checks.is_some_and ((stands_in self.now state).now.head number) (λ h. may_header self.now.client.now h (want_shown Want.Write)) ≡ granted)) }
     {
@@ -141,11 +137,7 @@ impl<A: Allocator + Copy> Spot<'_, A> {
         Ok(own_file || may_want(self.client, header, Want::Write))
     }
 
-    fn is_leased(
-        &self,
-        recorder: &mut Recorder<'_, A>,
-        number: u32,
-    ) -> Result<bool, AllocError>
+    fn is_leased(&self, recorder: &mut Recorder<'_, A>, number: u32) -> Result<bool, AllocError>
         ensures grows { Grows recorder.old.reads.entries recorder.new.reads.entries }
         ensures known { IfOk result (λ leased. Always recorder.new.reads.entries (λ state. (stands_in self.now state).created number || state.held number ≡ leased)) }
     {

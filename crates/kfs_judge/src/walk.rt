@@ -1,13 +1,14 @@
 //! The entries of a log against a view.
-ghost use Rattle.std.specs.Prelude.{◌≡◌, ℕ, ◌≤◌, false, List, length, map, All, Any, IfOk};
+ghost use Rattle.std.specs.Prelude.{◌≡◌, ℕ, ◌≤◌, Bool, false, List, length, map, All, Any, IfOk};
 ghost use Rattle.kfs_entry.specs.Views.{entry_of};
 ghost use Rattle.kfs_model.specs.Access.{Client as ClientRow};
 ghost use Rattle.kfs_model.specs.Sight.{Sight};
+ghost use Rattle.kfs_model.specs.Tree.{Tree};
 ghost use Rattle.kfs_judge.specs.Creates.{IsCreate};
 ghost use Rattle.kfs_judge.specs.Overlay.{has_created, over, ShiftsBy};
-ghost use Rattle.kfs_judge.specs.Reads.{Always, Grows};
+ghost use Rattle.kfs_judge.specs.Reads.{Agrees, Always, Grows};
 ghost use Rattle.kfs_judge.specs.View.{clients_of};
-ghost use Rattle.kfs_judge.specs.Walks.{ComesTo, EndsAt, IsRowOf};
+ghost use Rattle.kfs_judge.specs.Walks.{ComesTo, ComesToTree, EndsAt, Fits, IsRowOf, seen_in};
 
 use crate::check::Reason;
 use crate::reads::{Read, Seen};
@@ -44,7 +45,22 @@ pub fn judge_entries<A: Allocator + Copy>(
     requires client { Any (λ row. row.number ≡ log.now.client) (clients_of view.now) }
     requires creates { All IsCreate log.now.entries }
     requires count { length log.now.entries ≤ 4096 }
-    // In every state that agrees with the reads, the run of the entries comes to this outcome.
+    // At every sound tree and all leases that agree with the reads, the entries come to this outcome one by one.
+    ensures { IfOk result (λ walk. (client : ClientRow) × IsRowOf (clients_of view.now) log.now.client client × ((source : List ℕ) (tree : Tree ℕ) (held : ℕ → Bool) → Fits client tree (map (entry_of source) log.now.entries) → Agrees walk.reads.entries (seen_in tree held) → ComesToTree client held tree (map (entry_of source) log.now.entries) walk.outcome)) }
+{
+    let walk = walk_entries(alloc, view, log)?;
+    Ok(walk)
+}
+
+fn walk_entries<A: Allocator + Copy>(
+    alloc: A,
+    view: &View<A>,
+    log: &Log<A>,
+) -> Result<Walk<A>, AllocError>
+    requires client { Any (λ row. row.number ≡ log.now.client) (clients_of view.now) }
+    requires creates { All IsCreate log.now.entries }
+    requires count { length log.now.entries ≤ 4096 }
+    // In every state that agrees with the reads, the run over its cells comes to this outcome.
     ensures known { IfOk result (λ walk. (client : ClientRow) × IsRowOf (clients_of view.now) log.now.client client × Always walk.reads.entries (λ state. (source : List ℕ) → ComesTo client state (map (entry_of source) log.now.entries) walk.outcome)) }
 {
     let client = view.client(log.client).unwrap();

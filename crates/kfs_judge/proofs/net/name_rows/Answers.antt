@@ -22,7 +22,7 @@ loop-key-preserved-in-Continue-branch-3 g c = record {
   finite = tt;
   grows = λ state agrees. c.loop-key.invariant.grows state (c.in_ok-row.ensures.grows state agrees);
   rows = λ state agrees. rows_more nat_eq numbers-exact number_now (λ key. state.sight.name key.0 key.1) keyed_name_row _ _ c.in-Some-2.row (c.in-Some.key.now, c.in-Some.now.now) c.loop-key.key-iterator c.next.new.self _
-    c.in_ok-push.ensures.items (rest_more deref_pair _ _ _ (c.in-Some.key, c.in-Some.now) c.in-Some.is c.next.ensures.steps) (subst (λ r. IsRow number_now keyed_name_row c.in-Some.key.now (state.sight.name c.in-Some.key.now.0 c.in-Some.key.now.1) c.in-Some.now.now r) c.in-Some-2.is (c.in_ok-row.ensures.known state agrees)) (c.loop-key.invariant.rows state (c.in_ok-row.ensures.grows state agrees));
+      c.in_ok-push.ensures.items (rest_more deref_pair _ _ _ (c.in-Some.key, c.in-Some.now) c.in-Some.is c.next.ensures.steps) (subst (λ r. IsRow number_now keyed_name_row c.in-Some.key.now (state.sight.name c.in-Some.key.now.0 c.in-Some.key.now.1) c.in-Some.now.now r) c.in-Some-2.is (c.in_ok-row.ensures.known state agrees)) (c.loop-key.invariant.rows state (c.in_ok-row.ensures.grows state agrees));
 }
 
 pub loop-key-preserved : goal.loop-key-preserved
@@ -31,7 +31,7 @@ loop-key-preserved g c = record {
   finite = tt;
   grows = λ state agrees. c.loop-key.invariant.grows state (c.in_ok-row.ensures.grows state agrees);
   rows = λ state agrees. rows_same nat_eq numbers-exact number_now (λ key. state.sight.name key.0 key.1) keyed_name_row _ (c.in-Some.key.now, c.in-Some.now.now) c.loop-key.key-iterator c.next.new.self _
-    (rest_more deref_pair _ _ _ (c.in-Some.key, c.in-Some.now) c.in-Some.is c.next.ensures.steps) (subst (λ r. IsRow number_now keyed_name_row c.in-Some.key.now (state.sight.name c.in-Some.key.now.0 c.in-Some.key.now.1) c.in-Some.now.now r) c.in_default.is (c.in_ok-row.ensures.known state agrees)) (c.loop-key.invariant.rows state (c.in_ok-row.ensures.grows state agrees));
+      (rest_more deref_pair _ _ _ (c.in-Some.key, c.in-Some.now) c.in-Some.is c.next.ensures.steps) (subst (λ r. IsRow number_now keyed_name_row c.in-Some.key.now (state.sight.name c.in-Some.key.now.0 c.in-Some.key.now.1) c.in-Some.now.now r) c.in_default.is (c.in_ok-row.ensures.known state agrees)) (c.loop-key.invariant.rows state (c.in_ok-row.ensures.grows state agrees));
 }
 
 pub returns-clause-known : goal.returns-clause-known

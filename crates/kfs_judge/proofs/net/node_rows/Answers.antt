@@ -25,7 +25,7 @@ loop-number-preserved-in-Continue-branch-3 g c = record {
   finite = tt;
   grows = λ state agrees. c.loop-number.invariant.grows state (c.in_ok-row.ensures.grows state agrees);
   rows = λ state agrees. rows_more same_header headers-exact header_now state.sight.head keyed_node_row _ _ c.in-Some-2.row (c.in-Some.number.now, option_map header_of c.in-Some.now.now) (shown_heads c.loop-number.number-iterator) (shown_heads c.next.new.self) _
-    c.in_ok-push.ensures.items (ap shown_heads (rest_more deref_pair _ _ _ (c.in-Some.number, c.in-Some.now) c.in-Some.is c.next.ensures.steps)) (subst (λ r. IsRow header_now keyed_node_row c.in-Some.number.now (state.sight.head c.in-Some.number.now) (option_map header_of c.in-Some.now.now) r) c.in-Some-2.is (c.in_ok-row.ensures.known state agrees)) (c.loop-number.invariant.rows state (c.in_ok-row.ensures.grows state agrees));
+      c.in_ok-push.ensures.items (ap shown_heads (rest_more deref_pair _ _ _ (c.in-Some.number, c.in-Some.now) c.in-Some.is c.next.ensures.steps)) (subst (λ r. IsRow header_now keyed_node_row c.in-Some.number.now (state.sight.head c.in-Some.number.now) (option_map header_of c.in-Some.now.now) r) c.in-Some-2.is (c.in_ok-row.ensures.known state agrees)) (c.loop-number.invariant.rows state (c.in_ok-row.ensures.grows state agrees));
 }
 
 pub loop-number-preserved : goal.loop-number-preserved
@@ -34,7 +34,7 @@ loop-number-preserved g c = record {
   finite = tt;
   grows = λ state agrees. c.loop-number.invariant.grows state (c.in_ok-row.ensures.grows state agrees);
   rows = λ state agrees. rows_same same_header headers-exact header_now state.sight.head keyed_node_row _ (c.in-Some.number.now, option_map header_of c.in-Some.now.now) (shown_heads c.loop-number.number-iterator) (shown_heads c.next.new.self) _
-    (ap shown_heads (rest_more deref_pair _ _ _ (c.in-Some.number, c.in-Some.now) c.in-Some.is c.next.ensures.steps)) (subst (λ r. IsRow header_now keyed_node_row c.in-Some.number.now (state.sight.head c.in-Some.number.now) (option_map header_of c.in-Some.now.now) r) c.in_default.is (c.in_ok-row.ensures.known state agrees)) (c.loop-number.invariant.rows state (c.in_ok-row.ensures.grows state agrees));
+      (ap shown_heads (rest_more deref_pair _ _ _ (c.in-Some.number, c.in-Some.now) c.in-Some.is c.next.ensures.steps)) (subst (λ r. IsRow header_now keyed_node_row c.in-Some.number.now (state.sight.head c.in-Some.number.now) (option_map header_of c.in-Some.now.now) r) c.in_default.is (c.in_ok-row.ensures.known state agrees)) (c.loop-number.invariant.rows state (c.in_ok-row.ensures.grows state agrees));
 }
 
 pub returns-clause-known : goal.returns-clause-known

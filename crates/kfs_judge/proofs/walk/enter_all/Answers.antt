@@ -31,11 +31,11 @@ returns-in-Some-clause-known g c state agrees source =
     let item = c.index-entries-index.result in
     let rest = map (entry_of source) (drop (c.loop-index.index + 1) c.args.entries.now) in
     let on = subst (λ es. RunsOn client c.loop-index.scene.draft c.loop-index.scene.recorder.reads.entries (map (entry_of source) c.args.entries.now) es c.loop-index.index)
-      (map-drop-cons (entry_of source) c.args.entries.now c.loop-index.index item c.loop-index-test.true c.index-entries-index.is) (c.loop-index.invariant.runs source) in
+    (map-drop-cons (entry_of source) c.args.entries.now c.loop-index.index item c.loop-index-test.true c.index-entries-index.is) (c.loop-index.invariant.runs source) in
     runs_fails client c.loop-index.scene.draft c.loop-index.scene.recorder.reads.entries c.enter.new.self.recorder.reads.entries (map (entry_of source) c.args.entries.now) rest (entry_of source item) c.loop-index.index (reason_of c.in-Some.reason)
-      on c.in_ok-reason.ensures.grows
-      (λ s a. subst (λ cl. first_fault (spot_of cl c.loop-index.scene.draft s) (entry_of source item) ≡ Some (reason_of c.in-Some.reason)) c.loop-index.invariant.client (c.in_ok-reason.ensures.known s a source ∙ ap (option_map reason_of) c.in-Some.is))
-      state agrees
+    on c.in_ok-reason.ensures.grows
+    (λ s a. subst (λ cl. first_fault (spot_of cl c.loop-index.scene.draft s) (entry_of source item) ≡ Some (reason_of c.in-Some.reason)) c.loop-index.invariant.client (c.in_ok-reason.ensures.known s a source ∙ ap (option_map reason_of) c.in-Some.is))
+    state agrees
 
 pub loop-index-preserved : goal.loop-index-preserved
 loop-index-preserved g c = record {
@@ -43,12 +43,12 @@ loop-index-preserved g c = record {
   grows = λ state agrees. c.loop-index.invariant.grows state (c.in_ok-reason.ensures.grows state agrees);
   shifts = c.in_ok-reason.ensures.shifts (ap Ok c.in_default.is) c.loop-index.index c.loop-index.invariant.shifts;
   runs = λ source.
-    let client = c.args.scene.now.client.now in
-    let item = c.index-entries-index.result in
-    let rest = map (entry_of source) (drop (c.loop-index.index + 1) c.args.entries.now) in
-    let on = subst (λ es. RunsOn client c.loop-index.scene.draft c.loop-index.scene.recorder.reads.entries (map (entry_of source) c.args.entries.now) es c.loop-index.index)
+      let client = c.args.scene.now.client.now in
+      let item = c.index-entries-index.result in
+      let rest = map (entry_of source) (drop (c.loop-index.index + 1) c.args.entries.now) in
+      let on = subst (λ es. RunsOn client c.loop-index.scene.draft c.loop-index.scene.recorder.reads.entries (map (entry_of source) c.args.entries.now) es c.loop-index.index)
       (map-drop-cons (entry_of source) c.args.entries.now c.loop-index.index item c.loop-index-test.true c.index-entries-index.is) (c.loop-index.invariant.runs source) in
-    runs_next client c.loop-index.scene.draft c.enter.new.self.draft c.loop-index.scene.recorder.reads.entries c.enter.new.self.recorder.reads.entries (map (entry_of source) c.args.entries.now) rest (entry_of source item) c.loop-index.index
+      runs_next client c.loop-index.scene.draft c.enter.new.self.draft c.loop-index.scene.recorder.reads.entries c.enter.new.self.recorder.reads.entries (map (entry_of source) c.args.entries.now) rest (entry_of source item) c.loop-index.index
       on c.in_ok-reason.ensures.grows
       (λ s a. subst (λ cl. first_fault (spot_of cl c.loop-index.scene.draft s) (entry_of source item) ≡ None) c.loop-index.invariant.client (c.in_ok-reason.ensures.known s a source ∙ ap (option_map reason_of) c.in_default.is))
       (λ s. subst (λ cl. over c.enter.new.self.draft s ≡ seen_after cl (over c.loop-index.scene.draft s) (entry_of source item)) c.loop-index.invariant.client (c.in_ok-reason.ensures.shown (ap Ok c.in_default.is) source s))
@@ -60,5 +60,5 @@ returns-clause-known g c state agrees source =
     let client = c.args.scene.now.client.now in
     let past : length c.args.entries.now ≤ c.loop-index.index = omega arith in
     let on = subst (λ es. RunsOn client c.loop-index.scene.draft c.loop-index.scene.recorder.reads.entries (map (entry_of source) c.args.entries.now) es c.loop-index.index)
-      (map-drop-past (entry_of source) c.args.entries.now c.loop-index.index past) (c.loop-index.invariant.runs source) in
+    (map-drop-past (entry_of source) c.args.entries.now c.loop-index.index past) (c.loop-index.invariant.runs source) in
     runs_out client c.loop-index.scene.draft c.loop-index.scene.recorder.reads.entries (map (entry_of source) c.args.entries.now) c.loop-index.index on state agrees

@@ -16,15 +16,15 @@ pub returns-in-Some-clause-known : goal.returns-in-Some-clause-known
 returns-in-Some-clause-known g c state agrees =
     let p = stands_in c.args.self.now state in
     c.loop-check.invariant.passed state (c.in_ok-reason.ensures.grows state agrees)
-      ∙ ap (first_failing p) (map-drop check_of c.args.checks.now c.loop-check.check-index c.check-item.result c.loop-check-test.true c.check-item.is)
-      ∙ failing-fails p _ _ _ (c.in_ok-reason.ensures.known state agrees ∙ ap (option_map reason_of) c.in-Some.is)
+    ∙ ap (first_failing p) (map-drop check_of c.args.checks.now c.loop-check.check-index c.check-item.result c.loop-check-test.true c.check-item.is)
+    ∙ failing-fails p _ _ _ (c.in_ok-reason.ensures.known state agrees ∙ ap (option_map reason_of) c.in-Some.is)
 
 pub loop-check-preserved : goal.loop-check-preserved
 loop-check-preserved g c = record {
   grows = λ state agrees. c.loop-check.invariant.grows state (c.in_ok-reason.ensures.grows state agrees);
   passed = λ state agrees.
-    let p = stands_in c.args.self.now state in
-    c.loop-check.invariant.passed state (c.in_ok-reason.ensures.grows state agrees)
+      let p = stands_in c.args.self.now state in
+      c.loop-check.invariant.passed state (c.in_ok-reason.ensures.grows state agrees)
       ∙ ap (first_failing p) (map-drop check_of c.args.checks.now c.loop-check.check-index c.check-item.result c.loop-check-test.true c.check-item.is)
       ∙ failing-passes p _ _ (c.in_ok-reason.ensures.known state agrees ∙ ap (option_map reason_of) c.in_default.is);
 }
