@@ -33,3 +33,4 @@ pub mod Overlays
 pub mod Unlooked
 pub mod SameNet
 pub mod FreshTree
+pub mod NameTest

@@ -1,6 +1,6 @@
 //! Laws of the definitions: each is the contract of a function without a body.
 
-ghost use Rattle.std.specs.Prelude.{◌≡◌, ℕ, List, [], None, Ok};
+ghost use Rattle.std.specs.Prelude.{◌≡◌, ℕ, List, [], None, Ok, true};
 ghost use Rattle.kfs_model.specs.Tree.{Tree};
 ghost use Rattle.kfs_model.specs.Entry.{Entry};
 ghost use Rattle.kfs_model.specs.Check.{Spot, first_fault};
@@ -18,7 +18,8 @@ ghost use Rattle.kfs_model.specs.Access.{Client};
 ghost use Rattle.kfs_model.specs.Looked.{Leased, seen_in, scene_in, looked_cells, seen_run, AnswerAlike, EndAlike, NetAlike};
 ghost use Rattle.kfs_model.specs.Soundness.{IsSound};
 ghost use Rattle.kfs_model.specs.Fresh.{fresh_tree};
-ghost use Rattle.kfs_model.specs.Spelling.{IsEntry};
+ghost use Rattle.kfs_model.specs.Lease.{is_name};
+ghost use Rattle.kfs_model.specs.Spelling.{IsName, IsEntry};
 ghost use Rattle.kfs_model.specs.SeenAfter.{seen_after, seen_run_from, shown_run};
 ghost use Rattle.kfs_model.specs.CleanStep.{IsClient, IsClean, IsKept};
 
@@ -85,4 +86,10 @@ pub fn looked_cells_decide()
 pub fn overlay_shows_the_change()
     ensures begins { (before : Sight) → over nothing_put before ≡ before }
     ensures goes_on { (client : Client) (put : Overlay) (before : Sight) (entry : Entry) → over (laid_after client entry (over put before) put) before ≡ seen_after client (over put before) entry }
+{}
+
+/// The test of bytes that a path's walk makes says whether they are a name.
+pub fn name_test_is_exact()
+    ensures found { (name : List ℕ) → is_name name ≡ true → IsName name }
+    ensures only { (name : List ℕ) → IsName name → is_name name ≡ true }
 {}
