@@ -1,5 +1,7 @@
 -- A map of cells commutes with a run: what is checked reads no cells, and each change treats them alike.
 use Rattle.std.specs.Prelude.{◌≡◌, ℕ, zero, suc, ◌+◌, ◌-◌, ◌<◌, ◌==◌, Bool, true, false, cond, not, ◌||◌, pos, List, [], ◌∷◌, ◌++◌, map, length, take, drop, replicate, Option, Some, None, option_map, slice_get, unwrap_or, Result, Ok, Err, refl}
+use Rattle.std.specs.List.{take-map, drop-map}
+use Rattle.std.proofs.lemmas.List.{map-append, length-map}
 use Rattle.std.proofs.Common.{sym, subst, ap, ◌∙◌, arith}
 use Rattle.std.specs.Ordering.{eq_by_cmp, is_eq}
 use Rattle.std.specs.declared.cmp.Ordering.{Ordering}
@@ -16,28 +18,9 @@ use Rattle.kfs_model.specs.Check.{Reason, first_fault}
 
 -- ---- lists
 
-module _ {B C : Type 0} (f : B → C) where
-  map-append : (xs ys : List B) → map f (xs ++ ys) ≡ map f xs ++ map f ys
-  map-append [] ys = refl
-  map-append (x ∷ xs) ys = ap (λ zs. f x ∷ zs) (map-append xs ys)
-
-  map-take : (n : ℕ) (xs : List B) → map f (take n xs) ≡ take n (map f xs)
-  map-take zero xs = refl
-  map-take (suc n) [] = refl
-  map-take (suc n) (x ∷ xs) = ap (λ zs. f x ∷ zs) (map-take n xs)
-
-  map-drop : (n : ℕ) (xs : List B) → map f (drop n xs) ≡ drop n (map f xs)
-  map-drop zero xs = refl
-  map-drop (suc n) [] = refl
-  map-drop (suc n) (x ∷ xs) = map-drop n xs
-
-  map-replicate : (n : ℕ) (x : B) → map f (replicate n x) ≡ replicate n (f x)
-  map-replicate zero x = refl
-  map-replicate (suc n) x = ap (λ zs. f x ∷ zs) (map-replicate n x)
-
-  pub length-map : (xs : List B) → length (map f xs) ≡ length xs
-  length-map [] = refl
-  length-map (x ∷ xs) = ap suc (length-map xs)
+map-replicate : {B C : Type 0} (f : B → C) (n : ℕ) (x : B) → map f (replicate n x) ≡ replicate n (f x)
+map-replicate f zero x = refl
+map-replicate f (suc n) x = ap (λ zs. f x ∷ zs) (map-replicate f n x)
 
 -- ---- tables
 
@@ -71,7 +54,7 @@ module _ {B C : Type 0} (f : B → C) where
   header-on_node names n node = by_body node.body
     where
       by_body : (body : Body B) → header_of names n (record { mode = node.mode; uid = node.uid; gid = node.gid; body = mapped_body (map f) body }) ≡ header_of names n (record node { body = body })
-      by_body (Cells cells) = λ i. record { kind = File; mode = node.mode; uid = node.uid; gid = node.gid; links = name_count names n; size = length-map f cells i }
+      by_body (Cells cells) = λ i. record { kind = File; mode = node.mode; uid = node.uid; gid = node.gid; links = name_count names n; size = length-map cells f i }
       by_body Names = refl
 
   header_entries : (names : Links) (es : List (ℕ × Node B)) → changed_entries (header_of names) (changed_entries on_node es) ≡ changed_entries (header_of names) es
@@ -113,7 +96,7 @@ module _ {B C : Type 0} (f : B → C) where
 module _ {B C : Type 0} (f : B → C) (from : Fabric B) (to : Fabric C) (gap : f from.gap ≡ to.gap) where
   lengthened-map : (size : ℕ) (cells : List B) → map f (lengthened from size cells) ≡ lengthened to size (map f cells)
   lengthened-map size cells =
-      let same_length = sym (length-map f cells) in
+      let same_length = sym (length-map cells f) in
       map-append f cells (replicate (size - length cells) from.gap)
       ∙ ap (λ xs. map f cells ++ xs) (map-replicate f (size - length cells) from.gap ∙ λ i. replicate (size - same_length i) (gap i))
 
@@ -122,13 +105,13 @@ module _ {B C : Type 0} (f : B → C) (from : Fabric B) (to : Fabric C) (gap : f
   overwritten-map offset [] cells = refl
   overwritten-map offset (b ∷ bs) cells =
       let payload = b ∷ bs in
-      let front = map-append f (take offset (lengthened from offset cells)) payload ∙ ap (λ xs. xs ++ map f payload) (map-take f offset (lengthened from offset cells) ∙ ap (take offset) (lengthened-map offset cells)) in
-      let back = map-drop f (offset + length payload) cells ∙ ap (λ n. drop (offset + n) (map f cells)) (sym (length-map f payload)) in
+      let front = map-append f (take offset (lengthened from offset cells)) payload ∙ ap (λ xs. xs ++ map f payload) (sym (take-map f offset (lengthened from offset cells)) ∙ ap (take offset) (lengthened-map offset cells)) in
+      let back = sym (drop-map f (offset + length payload) cells) ∙ ap (λ n. drop (offset + n) (map f cells)) (sym (length-map payload f)) in
       map-append f (take offset (lengthened from offset cells) ++ payload) (drop (offset + length payload) cells) ∙ λ i. front i ++ back i
 
   resized-map : (size : ℕ) (cells : List B) → map f (resized from size cells) ≡ resized to size (map f cells)
   unfolding resized
-  resized-map size cells = map-take f size (lengthened from size cells) ∙ ap (take size) (lengthened-map size cells)
+  resized-map size cells = sym (take-map f size (lengthened from size cells)) ∙ ap (take size) (lengthened-map size cells)
 
   new_body-map : (kind : Kind) → mapped_body (map f) (new_body from kind) ≡ new_body to kind
   new_body-map File = refl
