@@ -2,8 +2,6 @@
 use Rattle.std.specs.Prelude.{◌≡◌, ℕ, ◌+◌, ◌==◌, ◌<◌, ◌≤◌, Bool, false, List, [], ◌∷◌, map, drop, length, Option, Some, None, Result, Ok, Err, slice_index_or, refl}
 use Rattle.std.specs.List.{list_any}
 use Rattle.std.proofs.Common.{ap, sym, subst, ◌∙◌, add-one, arith}
-use Rattle.std.proofs.Math.Seq.{drop-cons}
-use Rattle.std.proofs.Math.ListN.{drop_of_length-le}
 use Rattle.kfs_model.specs.Access.{Client}
 use Rattle.kfs_model.specs.Entry.{Entry}
 use Rattle.kfs_model.specs.Sight.{Sight, Seen}
@@ -75,10 +73,3 @@ module _ {A : Type 0} (client : Client) where
   pub runs_out : (draft : Draft A) (reads : List (Read × CodeSeen)) (entries : List Entry) (index : ℕ) → RunsOn client draft reads entries [] index → Always reads (λ state. seen_run_from (scene_in client state) 0 [] state.sight entries ≡ Ok (over draft state.sight))
   unfolding seen_run_from
   runs_out draft reads entries index on state agrees = on.runs state agrees
-
-module _ {X Y : Type 0} (f : X → Y) where
-  pub map-drop-cons : (xs : List X) (i : ℕ) (x : X) → i < length xs → x ≡ slice_index_or xs i x → map f (drop i xs) ≡ f x ∷ map f (drop (i + 1) xs)
-  map-drop-cons xs i x inside is = ap (map f) (drop-cons xs i x inside) ∙ (λ j. f (sym is j) ∷ map f (drop (sym (add-one i) j) xs))
-
-  pub map-drop-past : (xs : List X) (i : ℕ) → length xs ≤ i → map f (drop i xs) ≡ []
-  map-drop-past xs i past = ap (map f) (drop_of_length-le xs past)

@@ -1,8 +1,6 @@
 -- The first failing check, one check at a time.
-use Rattle.std.specs.Prelude.{◌≡◌, ℕ, ◌+◌, ◌<◌, ◌≤◌, List, [], ◌∷◌, map, drop, length, Option, Some, None, slice_index_or, refl}
-use Rattle.std.proofs.Common.{ap, sym, ◌∙◌, add-one, arith}
-use Rattle.std.proofs.Math.Seq.{drop-cons}
-use Rattle.std.proofs.Math.ListN.{drop_of_length-le}
+use Rattle.std.specs.Prelude.{◌≡◌, List, [], ◌∷◌, Option, Some, None, refl}
+use Rattle.std.proofs.Common.{ap}
 use Rattle.kfs_model.specs.Check.{Spot, Check, Reason, fault, first_failing}
 
 module _ (p : Spot) where
@@ -19,11 +17,3 @@ module _ (p : Spot) where
   pub failing-none : first_failing p [] ≡ None
   unfolding first_failing
   failing-none = refl
-
-module _ {X : Type 0} (f : X → Check) where
-  pub map-drop : (xs : List X) (i : ℕ) (x : X) → i < length xs → x ≡ slice_index_or xs i x → map f (drop i xs) ≡ f x ∷ map f (drop (i + 1) xs)
-  map-drop xs i x inside is =
-      ap (map f) (drop-cons xs i x inside) ∙ (λ j. f (sym is j) ∷ map f (drop (sym (add-one i) j) xs))
-
-  pub map-drop-end : (xs : List X) (i : ℕ) → length xs ≤ i → map f (drop i xs) ≡ []
-  map-drop-end xs i past = ap (map f) (drop_of_length-le xs past)

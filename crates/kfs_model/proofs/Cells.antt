@@ -1,16 +1,16 @@
 -- A map of cells commutes with a run: what is checked reads no cells, and each change treats them alike.
-use Rattle.std.specs.Prelude.{◌≡◌, ℕ, zero, suc, ◌+◌, ◌-◌, ◌<◌, ◌==◌, Bool, true, false, cond, not, ◌||◌, pos, List, [], ◌∷◌, ◌++◌, map, length, take, drop, replicate, Option, Some, None, option_map, slice_get, unwrap_or, Result, Ok, Err, refl}
+use Rattle.std.specs.Prelude.{◌≡◌, ℕ, zero, suc, ◌+◌, ◌-◌, ◌==◌, Bool, true, false, cond, ◌||◌, pos, List, [], ◌∷◌, ◌++◌, map, length, take, drop, replicate, Option, Some, None, option_map, Result, Ok, Err, refl}
 use Rattle.std.specs.List.{take-map, drop-map}
 use Rattle.std.proofs.lemmas.List.{map-append, length-map}
-use Rattle.std.proofs.Common.{sym, subst, ap, ◌∙◌, arith}
-use Rattle.std.specs.Ordering.{eq_by_cmp, is_eq}
+use Rattle.std.proofs.Common.{sym, ap, ◌∙◌}
+use Rattle.std.specs.Ordering.{is_eq}
 use Rattle.std.specs.declared.cmp.Ordering.{Ordering}
 use Rattle.std.specs.declared.cmp.Ordering.TheVariants.{Less, Equal, Greater}
-use Rattle.kfs_model.specs.Header.{Kind, File, Directory, Header}
+use Rattle.kfs_model.specs.Header.{Kind, File, Directory}
 use Rattle.kfs_model.specs.Access.{Client}
-use Rattle.kfs_model.specs.Table.{Order, Table, numbers, get, insert, retain, mapped, changed_entries, same_table, same_entries_table, get-insert, get-retain, get-mapped}
-use Rattle.kfs_model.specs.Tree.{Tree, Node, Body, Cells, Names, Links, headers, header_of, cells_of, name_count, entry_count, target, is_named}
-use Rattle.kfs_model.specs.Sight.{Sight, sight, parent_in}
+use Rattle.kfs_model.specs.Table.{Order, Table, get, insert, retain, mapped, changed_entries, same_table, same_entries_table, get-insert, get-retain, get-mapped}
+use Rattle.kfs_model.specs.Tree.{Tree, Node, Body, Cells, Names, Links, headers, header_of, name_count, entry_count, target, is_named}
+use Rattle.kfs_model.specs.Sight.{sight, parent_in}
 use Rattle.kfs_model.specs.Entry.{Entry, Create, Write, Truncate, Link, Unlink, Rename, Chmod}
 use Rattle.kfs_model.specs.Effect.{Fabric, lengthened, overwritten, resized, change_of, effect, swept, new_body, on_cells, changed_node}
 use Rattle.kfs_model.specs.Run.{Scene, EntryFault, mapped_tree, mapped_body, payload_of, run_from, created_by, spot}

@@ -1,14 +1,14 @@
 -- A clean entry is allowed: each condition follows from a check that did not fail.
-use Rattle.std.specs.Prelude.{◌≡◌, ℕ, Bool, true, false, ◌==◌, if◌then◌else◌, ◌&&◌, ◌||◌, not, nat_le, ◌≤◌, List, [], ◌∷◌, ◌++◌, Option, Some, None, is_some, refl, IsTrue, ◌⊎◌}
+use Rattle.std.specs.Prelude.{◌≡◌, ℕ, Bool, true, false, ◌==◌, if◌then◌else◌, ◌&&◌, ◌||◌, ◌≤◌, List, [], ◌∷◌, ◌++◌, Option, Some, None, is_some, refl, IsTrue, ◌⊎◌}
 use Rattle.std.specs.List.{AllByRecursion}
-use Rattle.std.proofs.Common.{sym, subst, ap, inl, inr, ◌∙◌, arith}
+use Rattle.std.proofs.Common.{subst, ap, inl, inr, ◌∙◌}
 use Rattle.std.proofs.lemmas.Bool.{leb-true, eqb-true}
 use Rattle.kfs_model.specs.Header.{Kind, File, Directory, Header}
-use Rattle.kfs_model.specs.Access.{Client, Want, Search, may_header, owns, is_granted}
+use Rattle.kfs_model.specs.Access.{Want, Search, may_header, owns}
 use Rattle.kfs_model.specs.Entry.{Entry, Create, Write, Truncate, Link, Unlink, Rename, Chmod}
 use Rattle.kfs_model.specs.Sight.{is_directory, is_file}
 use Rattle.kfs_model.specs.Check.{Spot, Reason, Check, MaySearch, MayWrite, IsLeased, IsADirectory, NumberIsGranted, NoSuchName, kind_moved, stays_apart, unless, fault, is_some_and, on_number, may_go, unless_same, move_checks, checks_of, first_failing, first_fault}
-use Rattle.kfs_model.specs.Allowed.{IsGrantedBit, IsLeasedTo, MayChangeDirectory, MayChangeFile, LeadsTo, MayCreate, MayLink, MayUnlink, MayMove, MayKeep, MayChmod, IsAllowed}
+use Rattle.kfs_model.specs.Allowed.{IsGrantedBit, IsLeasedTo, MayChangeDirectory, MayChangeFile, LeadsTo, MayMove, IsAllowed}
 
 -- none of the checks fails
 abbrev pub AllPass : Spot → List Check → Type 0

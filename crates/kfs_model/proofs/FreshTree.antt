@@ -1,5 +1,5 @@
 -- The tree of a new image is sound.
-use Rattle.std.proofs.Common.{◌≡◌, ◌≢◌, ℕ, zero, suc, ◌==◌, Bool, true, false, cond, List, Option, Some, None, IsTrue, refl, sym, ap, subst, ◌∙◌, arith, eqb-true}
+use Rattle.std.proofs.Common.{◌≡◌, ℕ, zero, ◌==◌, Bool, true, false, cond, List, Option, Some, None, IsTrue, refl, sym, ap, subst, ◌∙◌, arith, eqb-true}
 use Rattle.std.specs.Bool.{one_answer}
 use Rattle.std.proofs.lemmas.Bool.Decides.{Decides-eqb}
 use Rattle.std.proofs.lemmas.Bool.{false≢true}
@@ -7,7 +7,7 @@ use Rattle.kfs_model.specs.Header.{Header, Directory}
 use Rattle.kfs_model.specs.Table.{numbers, get, mapped}
 use Rattle.kfs_model.specs.Tree.{Tree, headers, target}
 use Rattle.kfs_model.specs.Sight.{is_directory, is_file}
-use Rattle.kfs_model.specs.Soundness.{Climbs, InRange, AreSound, IsSound}
+use Rattle.kfs_model.specs.Soundness.{InRange, IsSound}
 use Rattle.kfs_model.specs.Fresh.{fresh_tree}
 use Rattle.kfs_model.proofs.Links.{ties_decide}
 

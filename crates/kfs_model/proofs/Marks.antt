@@ -1,7 +1,7 @@
 -- The bytes of a run are the marks of its marked run, looked up.
-use Rattle.std.specs.Prelude.{◌≡◌, ℕ, zero, suc, ◌+◌, List, [], ◌∷◌, map, Option, Some, None, option_map, slice_get, Result, Ok, Err, refl}
-use Rattle.std.proofs.Common.{sym, ap, ◌∙◌, arith}
-use Rattle.kfs_model.specs.Table.{numbers, get, mapped, same_table, get-mapped}
+use Rattle.std.specs.Prelude.{◌≡◌, ℕ, suc, ◌+◌, List, [], ◌∷◌, map, Option, Some, None, option_map, slice_get, Result, Ok, Err, refl}
+use Rattle.std.proofs.Common.{ap, ◌∙◌, arith}
+use Rattle.kfs_model.specs.Table.{get, same_table, get-mapped}
 use Rattle.kfs_model.specs.Tree.{Tree, Node, Body, Cells, Names, cells_of}
 use Rattle.kfs_model.specs.Entry.{Entry}
 use Rattle.kfs_model.specs.Run.{Mark, Base, Payload, Scene, EntryFault, run, bytes, marks, marked, byte_at, byte_of, payload_of, places_from, base_marks, mapped_body, looked_up}

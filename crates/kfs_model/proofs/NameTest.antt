@@ -1,7 +1,7 @@
 -- The test of a name's bytes says whether they are a name.
-use Rattle.std.specs.Prelude.{◌≡◌, ◌≢◌, ℕ, ◌<◌, ◌≤◌, ◌==◌, ◌&&◌, not, nat_le, Bool, true, false, List, [], ◌∷◌, length, refl, IsTrue}
-use Rattle.std.specs.List.{list_all, All, AllPass}
-use Rattle.std.proofs.Common.{ap, sym, ◌∙◌, arith}
+use Rattle.std.specs.Prelude.{◌≡◌, ◌≢◌, ℕ, ◌==◌, ◌&&◌, not, nat_le, Bool, true, false, List, [], ◌∷◌, length, refl, IsTrue}
+use Rattle.std.specs.List.{list_all}
+use Rattle.std.proofs.Common.{ap}
 use Rattle.std.proofs.lemmas.Bool.{leb-true, le-leb, eqb-true}
 use Rattle.std.proofs.lemmas.List.Sums.{AllPass-from_list_all, list_all-from_AllPass}
 use Rattle.kfs_model.specs.Lease.{is_name, is_dots, slash, dot}
@@ -21,9 +21,10 @@ untrue true h = absurd (h refl)
 untrue false h = refl
 
 plain_byte : (b : ℕ) → IsTrue (not (b == slash) && not (b == 0)) → (b ≢ 0) × (b ≢ 47)
-plain_byte b passes =
-    ( (λ is. let e : (b == 0) ≡ true = ap (λ n. n == 0) is in cc (turned (b == 0) (right (not (b == slash)) (not (b == 0)) passes), e))
-    , (λ is. let e : (b == slash) ≡ true = ap (λ n. n == slash) is in cc (turned (b == slash) (left (not (b == slash)) (not (b == 0)) passes), e)) )
+plain_byte b passes = (
+  (λ is. let e : (b == 0) ≡ true = ap (λ n. n == 0) is in cc (turned (b == 0) (right (not (b == slash)) (not (b == 0)) passes), e)),
+  (λ is. let e : (b == slash) ≡ true = ap (λ n. n == slash) is in cc (turned (b == slash) (left (not (b == slash)) (not (b == 0)) passes), e)),
+)
 
 byte_plain : (b : ℕ) → (b ≢ 0) × (b ≢ 47) → IsTrue (not (b == slash) && not (b == 0))
 byte_plain b plain = both _ _ (untrue (b == slash) (λ e. plain.1 (eqb-true b slash e))) (untrue (b == 0) (λ e. plain.0 (eqb-true b 0 e)))
@@ -53,4 +54,4 @@ module _ (name : List ℕ) where
   pub is_name_from : IsName name → is_name name ≡ true
   is_name_from name_is' =
       both _ _ (both _ _ (both _ _ (le-leb 1 (length name) name_is'.some) (le-leb (length name) 255 name_is'.short)) (list_all-from_AllPass (λ b. not (b == slash) && not (b == 0)) name (λ k d inside. byte_plain _ (name_is'.plain k d inside))))
-        (no_dots name name_is'.not_this name_is'.not_parent)
+      (no_dots name name_is'.not_this name_is'.not_parent)

@@ -1,7 +1,7 @@
 -- What an entry needs, said of the client, its leases, the tree and the numbers created so far, in no order.
-use Rattle.std.specs.Prelude.{◌≡◌, ◌≢◌, ◌≤◌, ◌⊎◌, ℕ, List, Option, Some, None, IsTrue, IfSome}
-use Rattle.kfs_model.specs.Header.{Kind, Header}
-use Rattle.kfs_model.specs.Access.{Client, Want, may_header, owns, Search}
+use Rattle.std.specs.Prelude.{◌≡◌, ◌≤◌, ◌⊎◌, ℕ, List, Some, IsTrue}
+use Rattle.kfs_model.specs.Header.{Header}
+use Rattle.kfs_model.specs.Access.{Want, may_header, owns, Search}
 use Rattle.kfs_model.specs.Entry.{Entry, Create, Write, Truncate, Link, Unlink, Rename, Chmod}
 use Rattle.kfs_model.specs.Check.{Spot}
 

@@ -1,9 +1,9 @@
 -- What a clean entry does to the tree (POSIX.1-2017: open, write, ftruncate, link, unlink and rmdir, rename, chmod).
-use Rattle.std.specs.Prelude.{ℕ, ◌+◌, ◌-◌, ◌==◌, ◌||◌, Bool, true, false, List, [], ◌∷◌, ◌++◌, length, take, drop, replicate, Option, Some, None}
+use Rattle.std.specs.Prelude.{ℕ, ◌+◌, ◌-◌, ◌==◌, ◌||◌, true, false, List, [], ◌∷◌, ◌++◌, length, take, drop, replicate, Option, Some, None}
 use Rattle.kfs_model.specs.Header.{Kind, File, Directory}
 use Rattle.kfs_model.specs.Access.{Client}
-use Rattle.kfs_model.specs.Table.{Table, numbers, get, insert, remove, retain}
-use Rattle.kfs_model.specs.Tree.{Tree, Node, Body, Cells, Names, Links, target, is_named, size_of}
+use Rattle.kfs_model.specs.Table.{get, insert, remove, retain}
+use Rattle.kfs_model.specs.Tree.{Tree, Node, Body, Cells, Names, Links, target, is_named}
 use Rattle.kfs_model.specs.Entry.{Entry, Create, Write, Truncate, Link, Unlink, Rename, Chmod}
 
 -- what new cells are: the cell of a gap, and those of the payload of the entry with this number

@@ -1,13 +1,13 @@
 -- The first wrong row of a plan: names before nodes before pieces.
-use Rattle.std.specs.Prelude.{ℕ, zero, suc, ◌+◌, ◌==◌, ◌&&◌, ◌||◌, not, Bool, true, false, nat_lt, nat_le, List, [], ◌∷◌, ◌++◌, map, filter, flat_map, Option, Some, None, option_map, slice_get}
-use Rattle.std.specs.List.{list_any, list_all}
+use Rattle.std.specs.Prelude.{ℕ, zero, suc, ◌+◌, ◌==◌, ◌&&◌, ◌||◌, not, Bool, true, false, nat_lt, List, [], ◌∷◌, map, filter, flat_map, Option, Some, None, option_map}
+use Rattle.std.specs.List.{list_any}
 use Rattle.std.specs.Cmp.Lexicographic.{pointwise}
 use Rattle.std.specs.Prelude.{nat_eq}
 use Rattle.kfs_model.specs.Header.{Header, Kind, File, Directory}
 use Rattle.kfs_model.specs.Table.{Order, Table, numbers, get, retain, mapped, united}
-use Rattle.kfs_model.specs.Tree.{Tree, Node, Links, headers, directory_entries, cells_of}
-use Rattle.kfs_model.specs.Run.{Mark, Base}
-use Rattle.kfs_model.specs.PlanRow.{NameRow, NodeRow, Piece, Source, Plan}
+use Rattle.kfs_model.specs.Tree.{Tree, Node, Links, headers, cells_of}
+use Rattle.kfs_model.specs.Run.{Mark}
+use Rattle.kfs_model.specs.PlanRow.{NameRow, NodeRow, Piece, Plan}
 use Rattle.kfs_model.specs.Plan.{number_now, header_now, keyed_name, keyed_node, mark_at, said_by, is_base, end_of, covers}
 
 pub data RowFault : Type 0 where

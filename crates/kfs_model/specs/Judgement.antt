@@ -1,5 +1,5 @@
 -- The judgement of a submission against a state, in its order, and the reply to it.
-use Rattle.std.specs.Prelude.{◌≡◌, ℕ, ◌-◌, ◌==◌, not, nat_lt, List, length, filter, Option, Some, None, Result, Ok, Err, if◌then◌else◌, Bool}
+use Rattle.std.specs.Prelude.{◌≡◌, ℕ, ◌-◌, ◌==◌, nat_lt, List, length, filter, Some, None, Result, Ok, Err, if◌then◌else◌}
 use Rattle.kfs_model.specs.Access.{Client}
 use Rattle.kfs_model.specs.Tree.{Tree}
 use Rattle.kfs_model.specs.Sight.{sight}
@@ -8,7 +8,7 @@ use Rattle.kfs_model.specs.Entry.{Entry, Log}
 use Rattle.kfs_model.specs.PlanRow.{Plan}
 use Rattle.kfs_model.specs.Run.{Mark, EntryFault, Scene, run, bytes, marks, marked}
 use Rattle.kfs_model.specs.FirstWrong.{RowFault, first_wrong_row}
-use Rattle.kfs_model.specs.Placement.{Placement, Place, need}
+use Rattle.kfs_model.specs.Placement.{Placement, need}
 use Rattle.kfs_model.specs.Spelling.{SpellingFault, LogAnswer, PlanAnswer}
 
 -- blocks of each tier

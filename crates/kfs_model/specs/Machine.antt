@@ -1,18 +1,17 @@
 -- One step of the machine: a call, its answer and the state after it.
-use Rattle.std.specs.Prelude.{◌≡◌, ℕ, ◌<◌, ◌+◌, ◌==◌, ◌&&◌, ◌||◌, not, nat_lt, Bool, true, false, List, [], ◌∷◌, length, zip, Option, Some, None, is_some, Result, Ok, Err, IsTrue}
+use Rattle.std.specs.Prelude.{◌≡◌, ℕ, ◌+◌, ◌==◌, ◌&&◌, not, nat_lt, Bool, true, List, [], ◌∷◌, length, zip, Some, is_some, Result, IsTrue}
 use Rattle.std.specs.List.{list_any, AllByRecursion}
-use Rattle.kfs_model.specs.Table.{Table, numbers, pairs, get, insert, retain}
+use Rattle.kfs_model.specs.Table.{get, insert, retain}
 use Rattle.kfs_model.specs.Tree.{Tree, headers}
 use Rattle.kfs_model.specs.Sight.{sight, is_file}
-use Rattle.kfs_model.specs.Access.{Client}
 use Rattle.kfs_model.specs.Lease.{Leases, LeaseKind, LeaseFault, granted, dropped, ticked, without_gone}
-use Rattle.kfs_model.specs.Check.{Spot, is_some_and}
+use Rattle.kfs_model.specs.Check.{is_some_and}
 use Rattle.kfs_model.specs.Allowed.{IsAllowed}
 use Rattle.kfs_model.specs.Entry.{Entry}
 use Rattle.kfs_model.specs.Effect.{effect}
 use Rattle.kfs_model.specs.Run.{Mark, Scene, bytes, spot, created_by}
 use Rattle.kfs_model.specs.Placement.{Placement, Place, written_blocks, cleared_blocks, block_count}
-use Rattle.kfs_model.specs.Judgement.{State, Verdict, Yes, No, Fault, Reply, Accepted, NoRoom, Refused, Submission, IsJudgement, reply_to}
+use Rattle.kfs_model.specs.Judgement.{State, Verdict, Yes, No, Reply, Accepted, NoRoom, Refused, Submission, IsJudgement, reply_to}
 
 -- ---- landing
 

@@ -1,7 +1,7 @@
 -- Which blocks of files a log writes and clears, and how much room it needs.
-use Rattle.std.specs.Prelude.{ℕ, zero, suc, ◌+◌, ◌*◌, ◌/◌, ◌==◌, ◌&&◌, ◌||◌, not, Bool, true, false, List, [], ◌∷◌, ◌++◌, length, take, drop, filter, map, flat_map, Option, Some}
+use Rattle.std.specs.Prelude.{ℕ, zero, suc, ◌+◌, ◌/◌, ◌&&◌, ◌||◌, Bool, true, false, List, [], ◌∷◌, length, take, drop, filter, map, flat_map, Some}
 use Rattle.std.specs.List.{list_any, list_all}
-use Rattle.kfs_model.specs.Table.{Table, Order, numbers, pairs}
+use Rattle.kfs_model.specs.Table.{Table, numbers, pairs}
 use Rattle.kfs_model.specs.Tree.{Tree, Node, cells_of}
 use Rattle.kfs_model.specs.Run.{Mark}
 use Rattle.kfs_model.specs.Plan.{is_base}

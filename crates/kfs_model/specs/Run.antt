@@ -1,7 +1,6 @@
 -- The run of a log: its entries one by one, each judged at its own point, up to the first fault.
-use Rattle.std.specs.Prelude.{ℕ, ◌+◌, ◌==◌, Bool, List, [], ◌∷◌, ◌++◌, length, map, Option, Some, None, Result, Ok, Err, unwrap_or, slice_get}
-use Rattle.std.specs.List.{list_any, enumerate_from}
-use Rattle.kfs_model.specs.Header.{Kind}
+use Rattle.std.specs.Prelude.{ℕ, ◌+◌, ◌==◌, Bool, List, [], ◌∷◌, map, Option, Some, None, Result, Ok, Err, unwrap_or, slice_get}
+use Rattle.std.specs.List.{list_any}
 use Rattle.kfs_model.specs.Access.{Client}
 use Rattle.kfs_model.specs.Table.{mapped, numbers, get}
 use Rattle.kfs_model.specs.Tree.{Tree, Node, Body, Cells, Names, cells_of}

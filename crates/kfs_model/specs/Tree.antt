@@ -1,7 +1,6 @@
 -- The tree of nodes and names, generic in what a file is made of: bytes, marks, or nothing but its length.
-use Rattle.std.specs.Prelude.{◌≡◌, ℕ, ◌+◌, Bool, true, false, ◌==◌, ◌&&◌, not, List, [], length, replicate, Option, Some, None, is_some, option_map, count_by}
+use Rattle.std.specs.Prelude.{ℕ, Bool, ◌==◌, List, [], length, Option, Some, None, count_by}
 use Rattle.std.specs.List.{list_any}
-use Rattle.std.proofs.Common.{◌∷◌, map}
 use Rattle.kfs_model.specs.Header.{Kind, Header}
 use Rattle.kfs_model.specs.Header.Kind.{File, Directory}
 use Rattle.kfs_model.specs.Table.{Table, numbers, bytes, pairs, get, mapped, Order}

@@ -1,14 +1,12 @@
 -- The clients, trees and logs of the examples on permissions and limits.
-use Rattle.std.specs.Prelude.{ℕ, ◌==◌, ℤ, pos, Bool, true, false, List, [], ◌∷◌, Option, Some, None}
-use Rattle.kfs_model.specs.Header.{File, Directory, Header}
-use Rattle.kfs_model.specs.Access.{Client}
-use Rattle.kfs_model.specs.Entry.{Entry, Create, Write, Truncate, Link, Unlink, Rename, Chmod}
+use Rattle.std.specs.Prelude.{ℕ, ◌==◌, true, false, List, [], ◌∷◌, Some}
+use Rattle.kfs_model.specs.Header.{File}
+use Rattle.kfs_model.specs.Entry.{Entry, Create, Write, Link, Chmod}
 use Rattle.kfs_model.specs.PlanRow.{Plan}
-use Rattle.kfs_model.specs.Tree.{Tree}
 use Rattle.kfs_model.specs.Sight.{Sight, sight}
 use Rattle.kfs_model.specs.Check.{Spot}
 use Rattle.kfs_model.specs.Judgement.{State}
-use Rattle.kfs_model.specs.Example.{client_7, name_a, name_z, node_row, log_piece, plan, tree, root, file, own_file, named, held_by_7, with_file}
+use Rattle.kfs_model.specs.Example.{client_7, name_a, name_z, log_piece, plan, tree, root, file, named, held_by_7, with_file}
 
 -- file 5 at "/a" of this owner and with this mode, client 7 holding it
 abbrev pub with_mode : (mode uid gid : ℕ) → State

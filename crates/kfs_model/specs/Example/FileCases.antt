@@ -1,10 +1,10 @@
 -- The logs and plans of the examples on files.
 use Rattle.std.specs.Prelude.{ℕ, List, [], ◌∷◌, replicate}
-use Rattle.kfs_model.specs.Header.{File, Directory}
-use Rattle.kfs_model.specs.Entry.{Entry, Create, Write, Truncate, Link, Unlink, Rename, Chmod}
-use Rattle.kfs_model.specs.PlanRow.{Piece, Plan, Source}
+use Rattle.kfs_model.specs.Header.{File}
+use Rattle.kfs_model.specs.Entry.{Entry, Create, Write, Truncate, Unlink}
+use Rattle.kfs_model.specs.PlanRow.{Piece, Plan}
 use Rattle.kfs_model.specs.Tree.{Tree}
-use Rattle.kfs_model.specs.Judgement.{State, TierSizes}
+use Rattle.kfs_model.specs.Judgement.{State}
 use Rattle.kfs_model.specs.Example.{name_a, name_b, name_r, name_row, node_row, file_row, plan, zero_piece, log_piece, tree, root, own_file, named, held_by_7, with_file}
 
 -- the root alone, client 7 holding it

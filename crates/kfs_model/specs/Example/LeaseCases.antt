@@ -1,5 +1,5 @@
 -- The leases and paths of the examples on leases: file 5 at "/a", and both clients' rows.
-use Rattle.std.specs.Prelude.{◌≡◌, ℕ, List, [], ◌∷◌, Result, Ok, Err}
+use Rattle.std.specs.Prelude.{ℕ, List, [], ◌∷◌, Result}
 use Rattle.kfs_model.specs.Access.{Client}
 use Rattle.kfs_model.specs.Sight.{sight}
 use Rattle.kfs_model.specs.Lease.{Leases, LeaseFault, LeaseKind, ReadLease, WriteLease, no_leases, granted, dropped, ticked}

@@ -1,7 +1,7 @@
 -- The trees, logs and plans of the examples on names.
 use Rattle.std.specs.Prelude.{ℕ, List, [], ◌∷◌}
 use Rattle.kfs_model.specs.Header.{Kind, File, Directory}
-use Rattle.kfs_model.specs.Entry.{Entry, Create, Write, Truncate, Link, Unlink, Rename, Chmod}
+use Rattle.kfs_model.specs.Entry.{Entry, Create, Link, Unlink, Rename}
 use Rattle.kfs_model.specs.PlanRow.{Plan}
 use Rattle.kfs_model.specs.Tree.{Tree}
 use Rattle.kfs_model.specs.Judgement.{State}

@@ -8,7 +8,8 @@ use Rattle.kfs_entry.specs.Views.{entry_of}
 use Rattle.kfs_judge.specs.Overlay.{over, spot_of}
 use Rattle.kfs_judge.specs.Reads.{Always}
 use Rattle.kfs_judge.specs.Spots.{reason_of}
-use Rattle.kfs_judge.proofs.Entering.{RunsOn, runs_first, runs_next, runs_fails, runs_out, map-drop-cons, map-drop-past}
+use Rattle.kfs_judge.proofs.Entering.{RunsOn, runs_first, runs_next, runs_fails, runs_out}
+use Rattle.kfs_judge.proofs.Lists.{map-drop-cons, map-drop-past}
 use Rattle.kfs_judge.proofs.walk.enter_all.Goals as goal
 
 pub loop-index-init : goal.loop-index-init
