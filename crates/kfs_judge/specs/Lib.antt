@@ -1,5 +1,4 @@
 pub mod Creates
-pub mod Mode
 pub mod Spelled
 pub mod View
 pub mod Reads

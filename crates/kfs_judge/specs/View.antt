@@ -2,7 +2,7 @@
 use Rattle.std.specs.Prelude.{List}
 use Rattle.kfs_model.specs.Access.{Client}
 use Rattle.kfs_image.specs.Contents.{Contents}
-use Rattle.kfs_judge.specs.declared.lease.Leases.{Leases}
+use Rattle.kfs_lease.specs.declared.leases.Leases.{Leases}
 use Rattle.kfs_judge.specs.declared.view.View.{View}
 
 module _ {A : Type 0} where

@@ -4,8 +4,6 @@
 mod check;
 mod create;
 mod draft;
-pub mod lease;
-pub mod mode;
 mod net;
 pub mod plan;
 mod reads;

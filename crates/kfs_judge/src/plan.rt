@@ -4,13 +4,13 @@ ghost use Rattle.kfs_judge.specs.Creates.{IsCreate};
 ghost use Rattle.kfs_judge.specs.Spelled.{IfSpelled};
 ghost use Rattle.kfs_judge.specs.declared.plan.RowFault.TheVariants.{OutOfMemory};
 
-use crate::mode::Client;
 use crate::reads::{Read, Seen};
 use crate::view::View;
 use crate::walk::{EntryFault, Walk, judge_entries};
 use indexmap::IndexMap;
 use kfs_entry::{Entry, Log, Plan, Span, SpellFault, decode_log, decode_plan};
 use kfs_image::shape::Net;
+use kfs_mode::Client;
 use std::alloc::{AllocError, Allocator};
 use std::hash::{BuildHasherDefault, FoldHasher};
 

@@ -15,13 +15,13 @@ ghost use Rattle.kfs_judge.specs.Walks.{IsNetOf};
 
 use crate::check::Reason;
 use crate::draft::Draft;
-use crate::mode::Client;
 use crate::net::{name_rows, node_rows};
 use crate::reads::{Read, Recorder, Seen};
 use crate::view::View;
 use indexmap::IndexMap;
 use kfs_entry::{Entry, Span};
 use kfs_image::shape::Net;
+use kfs_mode::Client;
 use std::alloc::{AllocError, Allocator};
 use std::hash::{BuildHasherDefault, FoldHasher};
 

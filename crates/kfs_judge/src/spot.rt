@@ -6,15 +6,15 @@ ghost use Rattle.kfs_model.specs.Access.{may_header};
 ghost use Rattle.kfs_model.specs.Check as checks;
 ghost use Rattle.kfs_model.specs.Check.{first_failing};
 ghost use Rattle.kfs_model.specs.Sight as sight;
-ghost use Rattle.kfs_judge.specs.Mode.{want_shown};
+ghost use Rattle.kfs_mode.specs.Mode.{want_shown};
 ghost use Rattle.kfs_judge.specs.Reads.{Always, Grows};
 ghost use Rattle.kfs_judge.specs.Spots.{check_of, reason_of, stands_in};
 
 use crate::check::{Check, Reason};
 use crate::draft::Draft;
-use crate::mode::{Client, Want, may};
 use crate::reads::Recorder;
 use kfs_image::{Header, Kind, Name};
+use kfs_mode::{Client, Want, may};
 use std::alloc::{AllocError, Allocator};
 
 /// The client of a log, and the draft of its entries so far.

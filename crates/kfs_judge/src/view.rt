@@ -3,9 +3,9 @@ ghost use Rattle.std.specs.Prelude.{◌≡◌, ◌↔◌, Any, Contains, IsSome,
 ghost use Rattle.kfs_image.specs.Look.{IsAnswer};
 ghost use Rattle.kfs_judge.specs.View.{contents_of, leases_of, clients_of};
 
-use crate::lease::Leases;
-use crate::mode::{Client, find_client};
 use kfs_image::{Answer, Cell, Shape, look};
+use kfs_lease::Leases;
+use kfs_mode::{Client, find_client};
 use std::alloc::Allocator;
 use std::sync::Arc;
 

@@ -7,10 +7,10 @@ use Rattle.kfs_entry.specs.declared.header.Kind.{Kind}
 use Rattle.kfs_entry.specs.declared.header.Kind.TheVariants.{File, Directory}
 use Rattle.kfs_judge.specs.declared.check.Reason.{Reason}
 use Rattle.kfs_judge.specs.declared.check.Reason.TheVariants as reason
-use Rattle.kfs_judge.specs.declared.lease.LeaseFault.{LeaseFault}
-use Rattle.kfs_judge.specs.declared.lease.LeaseFault.TheVariants as lease
-use Rattle.kfs_judge.specs.declared.mode.ClientFault.{ClientFault}
-use Rattle.kfs_judge.specs.declared.mode.ClientFault.TheVariants.{TooManyGroups, BadGrant}
+use Rattle.kfs_lease.specs.declared.leases.LeaseFault.{LeaseFault}
+use Rattle.kfs_lease.specs.declared.leases.LeaseFault.TheVariants as lease
+use Rattle.kfs_mode.specs.declared.client.ClientFault.{ClientFault}
+use Rattle.kfs_mode.specs.declared.client.ClientFault.TheVariants.{TooManyGroups, BadGrant}
 use Rattle.kfs_judge.specs.declared.plan.Fault.{Fault}
 use Rattle.kfs_judge.specs.declared.plan.Fault.TheVariants.{UnknownClient, BadLog, WrongClient, BadPlan, Entry, Row}
 use Rattle.kfs_judge.specs.declared.plan.RowFault.{RowFault}

@@ -1,9 +1,9 @@
 //! What the desk answers.
 
 use kfs_image::Image;
-use kfs_judge::lease::LeaseFault;
-use kfs_judge::mode::Client;
 use kfs_judge::plan::Fault;
+use kfs_lease::LeaseFault;
+use kfs_mode::Client;
 use std::alloc::{AllocError, Allocator};
 
 /// The answer to a submission, with its place in the docket.

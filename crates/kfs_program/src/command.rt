@@ -3,9 +3,9 @@
 use crate::words::{Refusal, Words};
 use kfs_entry::{Entry, SpellFault, decode_log};
 use kfs_image::TierSizes;
-use kfs_judge::lease::LeaseKind;
-use kfs_judge::mode::{Client, ClientFault};
 use kfs_judge::plan::Submission;
+use kfs_lease::LeaseKind;
+use kfs_mode::{Client, ClientFault};
 use std::alloc::Allocator;
 
 /// A command with its words read.

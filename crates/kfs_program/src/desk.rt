@@ -6,9 +6,9 @@ use crate::answers::{Act, BeginBack, BeginFault, Reply, Unanswered};
 use kfs_image::Image;
 use kfs_image::shape::{Fill, net_apply};
 use kfs_judge::View;
-use kfs_judge::lease::{LeaseFault, LeaseKind, Leases};
-use kfs_judge::mode::Client;
 use kfs_judge::plan::{Judged, Outcome, Submission, judge};
+use kfs_lease::{LeaseFault, LeaseKind, Leases};
+use kfs_mode::Client;
 use std::alloc::{AllocError, Allocator};
 use std::sync::Arc;
 

@@ -9,7 +9,7 @@ use crate::report::parts::text;
 use crate::report::{begin_line, client_line};
 use crate::words::Refusal;
 use kfs_image::{Image, TierSizes};
-use kfs_judge::mode::{Client, ClientFault};
+use kfs_mode::{Client, ClientFault};
 use std::alloc::Allocator;
 use std::mem;
 

@@ -10,7 +10,7 @@ pub(crate) mod parts;
 
 use crate::answers::{Act, BeginFault, Reply};
 use kfs_image::{Header, Kind};
-use kfs_judge::mode::ClientFault;
+use kfs_mode::ClientFault;
 use names::{begin_fault, client_fault, judgement_fault, lease_fault};
 use parts::{field, flag, number, octal, text};
 use std::alloc::{AllocError, Allocator};

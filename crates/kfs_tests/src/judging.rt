@@ -4,8 +4,8 @@ use crate::fixtures::{CREATE_LOG, CREATE_PLAN, CUT_LOG, CUT_PLAN, NO_NODE_ROW, O
 use kfs_entry::{SpellFault, decode_log, decode_plan};
 use kfs_image::shape::{Fill, net_apply};
 use kfs_image::{Answer, Cell, Header, Image, Kind, Name, TierSizes, look};
-use kfs_judge::lease::{LeaseKind, Leases};
-use kfs_judge::mode::Client;
+use kfs_lease::{LeaseKind, Leases};
+use kfs_mode::Client;
 use kfs_judge::plan::{Fault, Judged, Outcome, RowFault, Submission, judge};
 use kfs_judge::{EntryFault, Reason, View};
 use std::alloc::Global;

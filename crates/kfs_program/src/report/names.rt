@@ -7,9 +7,9 @@ use super::parts::{number, numbered, text};
 use crate::answers::BeginFault;
 use kfs_entry::SpellFault;
 use kfs_judge::Reason;
-use kfs_judge::lease::LeaseFault;
-use kfs_judge::mode::ClientFault;
 use kfs_judge::plan::{Fault, RowFault};
+use kfs_lease::LeaseFault;
+use kfs_mode::ClientFault;
 use std::alloc::Allocator;
 
 /// Appends why a submission was refused.

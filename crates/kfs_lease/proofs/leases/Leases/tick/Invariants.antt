@@ -1,5 +1,5 @@
 use Rattle.std.specs.BTreeSet.{btree_set_len}
-use Rattle.kfs_judge.proofs.lease.Leases.tick.Given as goal
+use Rattle.kfs_lease.proofs.leases.Leases.tick.Given as goal
 
 -- each round ends one lease
 abbrev pub decreases-loop-key : goal.decreases-loop-key

@@ -2,13 +2,11 @@
 ghost use Rattle.std.specs.Prelude.{◌≡◌, ◌<◌, IfSome};
 ghost use Rattle.std.specs.BTreeMap.{btree_map_len};
 ghost use Rattle.std.specs.BTreeSet.{btree_set_len};
-ghost use Rattle.kfs_judge.specs.declared.lease.LeaseFault.TheVariants.{OutOfMemory};
+ghost use Rattle.kfs_lease.specs.declared.leases.LeaseFault.TheVariants.{OutOfMemory};
 
-mod path;
-
-use crate::lease::path::{is_path, walk};
-use crate::mode::{Client, find_client};
+use crate::path::{is_path, walk};
 use kfs_image::Shape;
+use kfs_mode::{Client, find_client};
 use std::alloc::{AllocError, AllocFailed, Allocator};
 use std::collections::{BTreeMap, BTreeSet};
 use std::ops::Bound;

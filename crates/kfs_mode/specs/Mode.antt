@@ -1,9 +1,9 @@
 -- The classes and wants of the code as those of the definitions.
 use Rattle.kfs_model.specs.Access as access
-use Rattle.kfs_judge.specs.declared.mode.Class.{Class}
-use Rattle.kfs_judge.specs.declared.mode.Class.TheVariants.{Owner, Group, Other}
-use Rattle.kfs_judge.specs.declared.mode.Want.{Want}
-use Rattle.kfs_judge.specs.declared.mode.Want.TheVariants.{Read, Write, Search}
+use Rattle.kfs_mode.specs.declared.class.Class.{Class}
+use Rattle.kfs_mode.specs.declared.class.Class.TheVariants.{Owner, Group, Other}
+use Rattle.kfs_mode.specs.declared.class.Want.{Want}
+use Rattle.kfs_mode.specs.declared.class.Want.TheVariants.{Read, Write, Search}
 
 abbrev pub class_shown : Class → access.Class
 class_shown Owner = access.Owner

@@ -1,8 +1,7 @@
-//! Clients, and who may do what by the permission bits of a node (POSIX.1-2017, XBD 4.5).
-ghost use Rattle.std.specs.Prelude.{◌≡◌, ◌+◌, ◌*◌, ◌<◌, ◌≤◌, ◌↔◌, ◌⊎◌, ◌==◌, ◌||◌, length, Any, Contains, IsTrue, IsSome, IfSome, IfOk, IsErrOf};
+//! Clients: who they are, and the numbers that they may give to new nodes.
+ghost use Rattle.std.specs.Prelude.{◌≡◌, ◌<◌, ◌≤◌, ◌↔◌, ◌⊎◌, ◌==◌, ◌||◌, length, Any, Contains, IsSome, IfSome, IfOk, IsErrOf};
 ghost use Rattle.std.specs.List.{list_any};
 ghost use Rattle.kfs_model.specs.Access as access;
-ghost use Rattle.kfs_judge.specs.Mode.{class_shown, want_shown};
 
 use arrayvec::ArrayVec;
 use std::marker::Model;
@@ -123,84 +122,17 @@ impl Client {
         self.first <= number && number <= self.last
     }
 
-    fn has_group(&self, gid: u32) -> bool
+    /// Whether the group is the client's own or a supplementary one.
+    pub fn has_group(&self, gid: u32) -> bool
         ensures { result ≡ (self.now.gid == gid) || list_any (λ g. g == gid) self.now.groups }
     {
         self.gid == gid || self.groups.as_slice().contains(&gid)
     }
 }
 
-/// The class of a node's permission bits that holds for a client.
-#[derive(Clone, Copy, Debug, PartialEq, Eq)]
-pub enum Class {
-    Owner,
-    Group,
-    Other,
-}
-
-/// What a client wants of a node.
-#[derive(Clone, Copy, Debug, PartialEq, Eq)]
-pub enum Want {
-    Read,
-    Write,
-    /// To use the names of a directory.
-    Search,
-}
-
-impl Class {
-    /// What the lowest bit of the class counts in a mode.
-    fn unit(self) -> u16
-        ensures unit { result ≡ access.class_unit (class_shown self) }
-        ensures range { (0 < result) × (result ≤ 64) }
-    {
-        match self {
-            Class::Owner => 64,
-            Class::Group => 8,
-            Class::Other => 1,
-        }
-    }
-}
-
-impl Want {
-    /// What the bit counts within its class.
-    fn value(self) -> u16
-        ensures value { result ≡ access.bit_value (want_shown self) }
-        ensures range { (0 < result) × (result ≤ 4) }
-    {
-        match self {
-            Want::Read => 4,
-            Want::Write => 2,
-            Want::Search => 1,
-        }
-    }
-}
-
-/// The class that holds for the client on a node of this uid and gid: owner where the uids are equal,
-/// else group where one of the client's groups is the node's, else other.
-pub fn class_of(client: &Client, uid: u32, gid: u32) -> Class
-    ensures { class_shown result ≡ access.class_of client.now uid gid }
-{
-    if client.uid == uid {
-        Class::Owner
-    } else if client.has_group(gid) {
-        Class::Group
-    } else {
-        Class::Other
-    }
-}
-
-/// Whether the client is granted what it wants of a node of this uid, gid and mode: where the mode
-/// has that bit in the one class that holds, or where the client is privileged.
-pub fn may(client: &Client, uid: u32, gid: u32, mode: u16, want: Want) -> bool
-    ensures { result ≡ access.may client.now uid gid mode (want_shown want) }
-{
-    let bit = class_of(client, uid, gid).unit() * want.value();
-    client.privileged || mode / bit % 2 == 1
-}
-
 /// The client of this number. Where the numbers ascend it is found in the time of a logarithm, else by
 /// a scan.
-pub(crate) fn find_client(clients: &[Client], number: u32) -> Option<&Client>
+pub fn find_client(clients: &[Client], number: u32) -> Option<&Client>
     ensures found { IsSome result ↔ Any (λ row. row.number ≡ number) clients.now }
     ensures row { IfSome result (λ row. Contains clients.now row.now × (row.now.number ≡ number)) }
 {

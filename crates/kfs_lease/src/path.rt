@@ -3,9 +3,9 @@ ghost use Rattle.std.specs.Prelude.{◌+◌, length};
 ghost use Rattle.std.specs.Option.{option_map_or};
 ghost use Rattle.std.specs.Iterator.{at_most};
 
-use crate::lease::LeaseFault;
-use crate::mode::{Client, Want, may};
+use crate::leases::LeaseFault;
 use kfs_image::{Answer, Cell, Kind, Name, Shape, look};
+use kfs_mode::{Client, Want, may};
 use std::alloc::Allocator;
 
 /// The parts of a path between its slashes, from first to last.

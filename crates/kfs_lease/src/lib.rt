@@ -1,0 +1,7 @@
+//! Leases of clients on nodes, and the paths by which they are asked for.
+#![tactic(auto)]
+
+mod leases;
+mod path;
+
+pub use leases::{LeaseFault, LeaseKind, Leases};
