@@ -3,5 +3,7 @@
 
 mod leases;
 mod path;
+mod rows;
 
-pub use leases::{LeaseFault, LeaseKind, Leases};
+pub use leases::{LeaseFault, Leases};
+pub use rows::LeaseKind;

@@ -1,0 +1,4 @@
+pub mod KeyOrder
+pub mod NodeRows
+pub mod RowSteps
+pub mod RowTables

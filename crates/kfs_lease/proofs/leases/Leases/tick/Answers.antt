@@ -1,0 +1,16 @@
+use Rattle.std.proofs.Common.{◌≡◌, Bool, false, Ok, sym, ap, ◌∙◌, arith}
+use Rattle.std.specs.Prelude.{nat_lt, if◌then◌else◌}
+use Rattle.std.proofs.lemmas.Bool.Decides.{nat_tests}
+use Rattle.kfs_model.specs.Lease.{Leases, Outcome, Backwards, refused, ticked}
+use Rattle.kfs_lease.specs.Rows.{table_in, live_at}
+use Rattle.kfs_lease.proofs.leases.Leases.tick.Goals as goal
+
+pub returns-clause-ok : goal.returns-clause-ok
+unfolding ticked live_at
+returns-clause-ok g c =
+    let old : Leases = record { rows = table_in c.self.inside.rows; moment = c.self.inside.moment } in
+    let later : nat_lt c.args.moment c.self.inside.moment ≡ false = grind (arith, nat_tests) in
+    let after : Outcome = (Ok c.args.moment, record { rows = live_at c.args.moment old.rows; moment = c.args.moment }) in
+    ap (λ (l : Leases). ticked l c.args.moment) (sym c.self.view_is)
+    ∙ ap (λ (b : Bool). if b then refused Backwards old else after) later
+    ∙ (λ i. (Ok c.args.moment, record { rows = sym c.end_until.ensures.table i; moment = c.args.moment }))

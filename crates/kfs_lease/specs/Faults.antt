@@ -1,0 +1,18 @@
+-- The refusals of the code as those of the definitions.
+use Rattle.std.specs.Prelude.{Option, Some, None}
+use Rattle.kfs_model.specs.Lease as model
+use Rattle.kfs_lease.specs.declared.leases.LeaseFault.{LeaseFault}
+use Rattle.kfs_lease.specs.declared.leases.LeaseFault.TheVariants.{UnknownClient, BadPath, NoSuchName, NotDirectory, NoSearch, Past, LeaseHeld, NoLeaseHeld, Backwards, OutOfMemory}
+
+-- the refusal, or none where memory ran out
+abbrev pub fault_of : LeaseFault → Option model.LeaseFault
+fault_of UnknownClient = Some model.UnknownClient
+fault_of BadPath = Some model.BadPath
+fault_of (NoSuchName component) = Some (model.NoSuchName component)
+fault_of (NotDirectory component) = Some (model.NotDirectory component)
+fault_of (NoSearch component) = Some (model.NoSearch component)
+fault_of Past = Some model.Past
+fault_of (LeaseHeld client) = Some (model.LeaseHeld client)
+fault_of NoLeaseHeld = Some model.NoLeaseHeld
+fault_of Backwards = Some model.Backwards
+fault_of OutOfMemory = None
