@@ -1,7 +1,8 @@
 -- What a walk over a log's entries has found, in a state.
-use Rattle.std.specs.Prelude.{◌≡◌, ℕ, List, [], map, Contains, Option, None, Some, Result, Ok, Err}
+use Rattle.std.specs.Prelude.{◌≡◌, ℕ, List, [], map, Option, None, Some, Result, Ok, Err}
 use Rattle.kfs_model.specs.Header.{Header}
 use Rattle.kfs_model.specs.Access.{Client}
+use Rattle.kfs_model.specs.Lease.{row_of}
 use Rattle.kfs_model.specs.Table.{numbers}
 use Rattle.kfs_model.specs.Tree.{Tree, directory_entries}
 use Rattle.std.specs.List.{AllByRecursion}
@@ -69,7 +70,6 @@ module _ {A : Type 0} where
   ComesToTree client held t entries (Err fault) = run bytes (scene_in client (seen_in t held)) t entries ≡ Err (fault_of fault)
   ComesToTree client held t entries (Ok net) = (after : Tree ℕ) × (run bytes (scene_in client (seen_in t held)) t entries ≡ Ok after) × IsSound after × OneByOne (scene_in client (seen_in t held)) 0 [] t entries after × IsNetOf (sight t) (sight after) net
 
--- the client is one of the rows, and has the number
-pub record IsRowOf (rows : List Client) (wanted : ℕ) (client : Client) : Type 0 where
-  pub row : Contains rows client
-  pub number : client.number ≡ wanted
+-- the client is the one of the rows that has the number
+abbrev pub IsRowOf : List Client → ℕ → Client → Type 0
+IsRowOf rows wanted client = row_of rows wanted ≡ Some client

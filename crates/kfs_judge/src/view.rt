@@ -1,11 +1,11 @@
 //! What a judgement looks at: the image, the leases and the clients as they were at one moment.
-ghost use Rattle.std.specs.Prelude.{◌≡◌, ◌↔◌, Any, Contains, IsSome, IfSome};
-ghost use Rattle.kfs_image.specs.Look.{IsAnswer};
-ghost use Rattle.kfs_judge.specs.View.{contents_of, leases_of, clients_of};
+ghost use Rattle.kfs_mode.specs.Clients.{AreDistinct};
 
-use kfs_image::{Answer, Cell, Shape, look};
+mod answers;
+
+use kfs_image::Shape;
 use kfs_lease::Leases;
-use kfs_mode::{Client, find_client};
+use kfs_mode::Client;
 use std::alloc::Allocator;
 use std::sync::Arc;
 
@@ -16,44 +16,5 @@ pub struct View<A: Allocator> {
     shape: Arc<Shape<A>, A>,
     leases: Arc<Leases<A>, A>,
     clients: Arc<Vec<Client, A>, A>,
-}
-
-impl<A: Allocator> View<A> {
-    /// The view of exactly these. The clients' numbers are distinct, and a look-up of a client is
-    /// quick where they ascend. Takes no memory.
-    pub fn of(
-        shape: Arc<Shape<A>, A>,
-        leases: Arc<Leases<A>, A>,
-        clients: Arc<Vec<Client, A>, A>,
-    ) -> View<A>
-        ensures contents { contents_of result ≡ shape.value }
-        ensures leases { leases_of result ≡ leases.value }
-        ensures clients { clients_of result ≡ clients.value.items }
-    {
-        View {
-            shape,
-            leases,
-            clients,
-        }
-    }
-
-    /// The row of the client with this number. Takes no memory.
-    pub fn client(&self, number: u32) -> Option<&Client>
-        ensures found { IsSome result ↔ Any (λ row. row.number ≡ number) (clients_of self.now) }
-        ensures row { IfSome result (λ row. Contains (clients_of self.now) row.now × (row.now.number ≡ number)) }
-    {
-        find_client(self.clients.as_slice(), number)
-    }
-
-    /// What the view shows at a cell. Takes no memory.
-    pub fn look(&self, cell: &Cell) -> Answer
-        ensures { IsAnswer (contents_of self.now) cell.now result }
-    {
-        look(&self.shape, cell)
-    }
-
-    /// Whether the client holds a live write lease on the node. Takes no memory.
-    pub fn holds(&self, client: u32, number: u32) -> bool {
-        self.leases.holds(client, number)
-    }
+    ghost distinct: { AreDistinct clients.value.items },
 }

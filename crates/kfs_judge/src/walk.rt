@@ -1,7 +1,8 @@
 //! The entries of a log against a view.
-ghost use Rattle.std.specs.Prelude.{◌≡◌, ℕ, ◌≤◌, Bool, false, List, length, map, All, Any, IfOk};
+ghost use Rattle.std.specs.Prelude.{◌≡◌, ℕ, ◌≤◌, Bool, false, List, length, map, All, IsSome, IfOk};
 ghost use Rattle.kfs_entry.specs.Views.{entry_of};
 ghost use Rattle.kfs_model.specs.Access.{Client as ClientRow};
+ghost use Rattle.kfs_model.specs.Lease.{row_of};
 ghost use Rattle.kfs_model.specs.Sight.{Sight};
 ghost use Rattle.kfs_model.specs.Tree.{Tree};
 ghost use Rattle.kfs_judge.specs.Creates.{IsCreate};
@@ -42,7 +43,7 @@ pub fn judge_entries<A: Allocator + Copy>(
     view: &View<A>,
     log: &Log<A>,
 ) -> Result<Walk<A>, AllocError>
-    requires client { Any (λ row. row.number ≡ log.now.client) (clients_of view.now) }
+    requires client { IsSome (row_of (clients_of view.now) log.now.client) }
     requires creates { All IsCreate log.now.entries }
     requires count { length log.now.entries ≤ 4096 }
     // At every sound tree and all leases that agree with the reads, the entries come to this outcome one by one.
@@ -57,7 +58,7 @@ fn walk_entries<A: Allocator + Copy>(
     view: &View<A>,
     log: &Log<A>,
 ) -> Result<Walk<A>, AllocError>
-    requires client { Any (λ row. row.number ≡ log.now.client) (clients_of view.now) }
+    requires client { IsSome (row_of (clients_of view.now) log.now.client) }
     requires creates { All IsCreate log.now.entries }
     requires count { length log.now.entries ≤ 4096 }
     // In every state that agrees with the reads, the run over its cells comes to this outcome.

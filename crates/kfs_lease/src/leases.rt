@@ -1,6 +1,7 @@
 //! Leases of clients on nodes, up to an end moment: read leases are shared, write leases exclusive.
 ghost use Rattle.std.specs.Prelude.{◌≡◌, ◌==◌, not, Ok, Err, IfOk, IfErr, OnOk, OnErr, IsSomeAnd};
 ghost use Rattle.kfs_model.specs.Lease.{no_leases, holds, granted, dropped, ticked, without_gone};
+ghost use Rattle.kfs_mode.specs.Clients.{AreDistinct};
 ghost use Rattle.kfs_lease.specs.Faults.{fault_of};
 ghost use Rattle.kfs_lease.specs.declared.leases.LeaseFault.TheVariants.{OutOfMemory};
 
@@ -117,7 +118,9 @@ impl<A: Allocator> Leases<A> {
         clients: &[Client],
         client: u32,
         number: u32,
-    ) -> Result<(), LeaseFault> {
+    ) -> Result<(), LeaseFault>
+        requires distinct { AreDistinct clients.now }
+    {
         if find_client(clients, client).is_none() {
             return Err(LeaseFault::UnknownClient);
         }
@@ -169,7 +172,9 @@ impl<A: Allocator + Clone> Leases<A> {
         path: &[u8],
         kind: LeaseKind,
         end: u64,
-    ) -> Result<u32, LeaseFault> {
+    ) -> Result<u32, LeaseFault>
+        requires distinct { AreDistinct clients.now }
+    {
         let Some(row) = find_client(clients, client) else {
             return Err(LeaseFault::UnknownClient);
         };

@@ -1,7 +1,10 @@
 //! Clients: who they are, and the numbers that they may give to new nodes.
-ghost use Rattle.std.specs.Prelude.{◌≡◌, ◌<◌, ◌≤◌, ◌↔◌, ◌⊎◌, ◌==◌, ◌||◌, length, Any, Contains, IsSome, IfSome, IfOk, IsErrOf};
+ghost use Rattle.std.specs.Prelude.{◌≡◌, ◌<◌, ◌≤◌, ◌↔◌, ◌⊎◌, ◌==◌, ◌||◌, length, IfOk, IsErrOf};
 ghost use Rattle.std.specs.List.{list_any};
+ghost use Rattle.std.specs.Option.{option_map};
 ghost use Rattle.kfs_model.specs.Access as access;
+ghost use Rattle.kfs_model.specs.Lease.{row_of};
+ghost use Rattle.kfs_mode.specs.Clients.{AreDistinct};
 
 use arrayvec::ArrayVec;
 use std::marker::Model;
@@ -130,11 +133,11 @@ impl Client {
     }
 }
 
-/// The client of this number. Where the numbers ascend it is found in the time of a logarithm, else by
-/// a scan.
+/// The client of this number; no two have one number. Where the numbers ascend it is found in the time
+/// of a logarithm, else by a scan.
 pub fn find_client(clients: &[Client], number: u32) -> Option<&Client>
-    ensures found { IsSome result ↔ Any (λ row. row.number ≡ number) clients.now }
-    ensures row { IfSome result (λ row. Contains clients.now row.now × (row.now.number ≡ number)) }
+    requires distinct { AreDistinct clients.now }
+    ensures { option_map (λ row. row.now) result ≡ row_of clients.now number }
 {
     let near = clients.binary_search_by_key(&number, |client| client.number);
     if let Ok(place) = near {

@@ -1,19 +1,19 @@
 -- The run of the entries, and the net of the draft that they leave.
-use Rattle.std.proofs.Common.{◌≡◌, List, map, Some, None, Ok, Err, IfSome, Contains, subst, ap, sym, ◌∙◌}
+use Rattle.std.proofs.Common.{◌≡◌, List, map, Some, None, Ok, Err, subst, ap, sym, ◌∙◌}
+use Rattle.std.specs.Option.{option_map}
 use Rattle.kfs_entry.specs.Views.{entry_of}
 use Rattle.kfs_judge.specs.Overlay.{over}
 use Rattle.kfs_judge.specs.Reads.{Agrees}
-use Rattle.kfs_judge.specs.View.{clients_of}
-use Rattle.kfs_judge.specs.Walks.{EndsAt, IsRowOf}
+use Rattle.kfs_judge.specs.Walks.{EndsAt}
 use Rattle.kfs_judge.proofs.walk.walk_entries.Goals as goal
 
 pub returns-in-Some : goal.returns-in-Some
 returns-in-Some g c =
-    let row = subst (λ found. IfSome found (λ r. Contains (clients_of c.args.view.now) r.now × (r.now.number ≡ c.args.log.now.client))) c.unwrap-client.ensures c.client.ensures.row in
+    let row = sym c.client.ensures ∙ ap (option_map (λ r. r.now)) c.unwrap-client.ensures in
     record {
       known = (
         c.unwrap-client.result.now,
-        record { row = row.0; number = row.1 },
+        row,
         λ state agrees source.
             subst (λ cl. EndsAt cl c.enter_all.new.scene.draft state (map (entry_of source) c.args.log.now.entries) (Some c.in-Some.fault)) c.new-scene.ensures.client
             (subst (λ es. EndsAt c.new-scene.result.client.now c.enter_all.new.scene.draft state (map (entry_of source) es) (Some c.in-Some.fault)) c.as_slice.ensures
@@ -24,11 +24,11 @@ returns-in-Some g c =
 
 pub returns : goal.returns
 returns g c =
-    let row = subst (λ found. IfSome found (λ r. Contains (clients_of c.args.view.now) r.now × (r.now.number ≡ c.args.log.now.client))) c.unwrap-client.ensures c.client.ensures.row in
+    let row = sym c.client.ensures ∙ ap (option_map (λ r. r.now)) c.unwrap-client.ensures in
     record {
       known = (
         c.unwrap-client.result.now,
-        record { row = row.0; number = row.1 },
+        row,
         λ state agrees source.
             let agreed = subst (λ es. Agrees es state) c.into_reads-2.ensures agrees in (
               over c.enter_all.new.scene.draft state.sight,

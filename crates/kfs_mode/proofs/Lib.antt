@@ -1,0 +1,2 @@
+-- Lemmas on the rows of clients.
+pub mod Rows

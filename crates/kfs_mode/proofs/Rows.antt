@@ -1,0 +1,34 @@
+-- Where no two rows have one number, the row with a number is the one that a look-up finds.
+use Rattle.std.specs.Prelude.{◌≡◌, ℕ, zero, suc, ◌<◌, ◌==◌, Bool, true, false, cond, List, [], ◌∷◌, length, slice_index_or, Contains, is_none, Some, None, refl}
+use Rattle.std.proofs.Common.{ap, sym, subst, ◌∙◌}
+use Rattle.std.specs.Cmp.{first_so, second_so}
+use Rattle.std.proofs.lemmas.Bool.{eqb-true, eq-eqb}
+use native.Mathlib.Omega.{arith}
+use Rattle.kfs_model.specs.Access.{Client}
+use Rattle.kfs_model.specs.Lease.{row_of}
+use Rattle.kfs_mode.specs.Clients.{are_distinct, AreDistinct}
+
+below_rest : (k n : ℕ) → suc k < suc n → k < n
+below_rest k n below = omega arith
+
+found_at : (rows : List Client) (row : Client) (k : ℕ) → AreDistinct rows → k < length rows → slice_index_or rows k row ≡ row → row_of rows row.number ≡ Some row
+found_at [] row k distinct below is = absurd (no_place k below)
+  where
+    no_place : (k : ℕ) → k < 0 → ⊥
+    no_place k below = omega arith
+found_at (r ∷ rows) row zero distinct below is = subst (λ (c : Client). row_of (c ∷ rows) row.number ≡ Some row) (sym is) first
+  where
+    first : row_of (row ∷ rows) row.number ≡ Some row
+    first = ap (λ t. cond t (Some row) (row_of rows row.number)) (eq-eqb row.number row.number refl)
+found_at (r ∷ rows) row (suc k) distinct below is = by_test (found_at rows row k (second_so (is_none (row_of rows r.number)) (are_distinct rows) distinct) (below_rest k (length rows) below) is) (r.number == row.number) refl
+  where
+    by_test : row_of rows row.number ≡ Some row → (same : Bool) → (r.number == row.number) ≡ same → cond same (Some r) (row_of rows row.number) ≡ Some row
+    by_test later true same = absurd (taken (first_so (is_none (row_of rows r.number)) (are_distinct rows) distinct) (ap (row_of rows) (eqb-true r.number row.number same) ∙ later))
+      where
+        taken : is_none (row_of rows r.number) ≡ true → row_of rows r.number ≡ Some row → ⊥
+        taken free held = cc
+    by_test later false same = later
+
+-- the row with this number
+pub row_is_found : (rows : List Client) (row : Client) (number : ℕ) → AreDistinct rows → Contains rows row → row.number ≡ number → row_of rows number ≡ Some row
+row_is_found rows row number distinct among is = subst (λ n. row_of rows n ≡ Some row) is (found_at rows row among.0 distinct among.1 among.2)
