@@ -1,20 +1,17 @@
 -- A log's entries, one after another: what the run over the cells is from the draft so far on.
-use Rattle.std.specs.Prelude.{◌≡◌, ℕ, ◌+◌, ◌==◌, ◌<◌, ◌≤◌, Bool, false, List, [], ◌∷◌, map, drop, length, Option, Some, None, Result, Ok, Err, slice_index_or, refl}
+use Rattle.std.specs.Prelude.{◌≡◌, ℕ, ◌+◌, ◌==◌, false, List, [], ◌∷◌, Option, Some, None, Result, Ok, Err}
 use Rattle.std.specs.List.{list_any}
-use Rattle.std.proofs.Common.{ap, sym, subst, ◌∙◌, add-one, arith}
+use Rattle.std.proofs.Common.{ap, sym, ◌∙◌}
 use Rattle.kfs_model.specs.Access.{Client}
 use Rattle.kfs_model.specs.Entry.{Entry}
 use Rattle.kfs_model.specs.Sight.{Sight, Seen}
-use Rattle.kfs_model.specs.Check.{Spot, Reason, first_fault}
+use Rattle.kfs_model.specs.Check.{Reason, first_fault}
 use Rattle.kfs_model.specs.Run.{EntryFault, spot, created_by}
 use Rattle.kfs_model.specs.SeenAfter.{seen_after, seen_run_from}
-use Rattle.kfs_entry.specs.Views.{entry_of}
-use Rattle.kfs_entry.specs.declared.entry.Entry.{Entry as CodeEntry}
-use Rattle.kfs_entry.specs.declared.entry.Span.{Span}
 use Rattle.kfs_judge.specs.declared.draft.Draft.{Draft}
 use Rattle.kfs_judge.specs.declared.reads.Read.{Read}
 use Rattle.kfs_judge.specs.declared.reads.Seen.{Seen as CodeSeen}
-use Rattle.kfs_judge.specs.Overlay.{over, has_created, spot_of, ShiftsBy}
+use Rattle.kfs_judge.specs.Overlay.{over, has_created, spot_of}
 use Rattle.kfs_judge.specs.Reads.{Always, Grows}
 use Rattle.kfs_judge.specs.Walks.{scene_in}
 
@@ -23,7 +20,7 @@ abbrev pub AreCreated : {A : Type 0} → Draft A → List ℕ → Type 0
 AreCreated draft numbers = (n : ℕ) → has_created draft n ≡ list_any (λ c. c == n) numbers
 
 module _ {A : Type 0} (client : Client) (draft : Draft A) (state : Seen) (numbers : List ℕ) (created : AreCreated draft numbers) where
-  same_spot : spot_of client draft state ≡ spot (scene_in client state) (over draft state.sight) numbers
+  pub same_spot : spot_of client draft state ≡ spot (scene_in client state) (over draft state.sight) numbers
   same_spot = λ i. record { client = client; held = state.held; before = state.sight; now = over draft state.sight; created = λ n. created n i }
 
   by_fault : (index : ℕ) (entry : Entry) (entries : List Entry) (found : Option Reason) → first_fault (spot_of client draft state) entry ≡ found → seen_run_from (scene_in client state) index numbers (over draft state.sight) (entry ∷ entries) ≡ elim found [ None ↦ seen_run_from (scene_in client state) (index + 1) (created_by entry numbers) (seen_after client (over draft state.sight) entry) entries | Some reason ↦ Err (record { entry = index; reason = reason }) ]

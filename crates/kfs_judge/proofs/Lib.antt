@@ -1,8 +1,11 @@
 -- Lemmas on what a judgement reads and changes.
 pub mod ReadsAgree
+pub mod Recording
+pub mod ViewShows
 pub mod Lists
 pub mod Overlays
 pub mod Failing
 pub mod Entering
+pub mod Looking
 pub mod ChangedRows
 pub mod TreeWalks

@@ -1,13 +1,14 @@
 -- What a draft shows over a state after a change of its maps.
-use Rattle.std.specs.Prelude.{◌≡◌, ℕ, ◌==◌, Bool, true, false, cond, ℤ, pos, ◌+ℤ◌, List, Option, Some, None, unwrap_or, if◌then◌else◌, refl}
+use Rattle.std.specs.Prelude.{◌≡◌, ℕ, ◌==◌, Bool, true, false, cond, ℤ, pos, ◌+ℤ◌, List, Option, Some, unwrap_or, if◌then◌else◌, refl}
 use Rattle.std.specs.Option.{option_map}
 use Rattle.std.specs.Ordering.{nat_cmp, eq_by_cmp}
 use Rattle.std.specs.Cmp.{unsigned_tied, nat_eq_equiv}
-use Rattle.std.specs.BTreeMap.{get}
-use Rattle.std.proofs.Common.{ap, sym, ◌∙◌, arith}
+use Rattle.std.specs.BTreeMap.{BTreeMap, get}
+use Rattle.std.proofs.Common.{ap, sym, subst, ◌∙◌, arith}
 use Rattle.std.proofs.lemmas.Bool.{eqb-true}
 use Rattle.std.proofs.lemmas.Int.{ints}
-use Rattle.kfs_model.specs.Header.{Header, Kind}
+use Rattle.std.proofs.lemmas.Map.Views.{tells_apart}
+use Rattle.kfs_model.specs.Table.{Order}
 use Rattle.kfs_model.specs.Tree.{directory_entries}
 use Rattle.kfs_model.specs.Sight.{Sight}
 use Rattle.kfs_model.specs.FirstWrong.{same_place}
@@ -57,3 +58,12 @@ module _ {A : Type 0} (old new : Draft A) (d : ℕ) (m : List ℕ) (n : ℕ) (he
 
       count_at : (e : ℕ) → (over new s).count e ≡ shifted d (pos 1) (over old s).count e
       count_at e = put_read (λ by. s.count e +ℤ unwrap_or by (pos 0)) _ _ _ (e == d) (shift_of old d +ℤ pos 1) (shifts e) (number_tie d e) ∙ at_directory e (e == d) refl
+
+-- what holds at each key that the map has, and at the one that is put, holds at each that it has then
+pub put_among : {K X : Type 0} (R : Order K) (old new : BTreeMap K X) (key : K) (value : X) → PutsAt R.compare old new key value
+    → (P : K → Type 0) → ((k : K) (v : X) → get R.compare old k ≡ Some v → P k) → P key → (k : K) (v : X) → get R.compare new k ≡ Some v → P k
+put_among {K} {X} R old new key value puts P before here k v is = at (eq_by_cmp R.compare key k) refl
+  where
+    at : (tie : Bool) → eq_by_cmp R.compare key k ≡ tie → P k
+    at true same = subst P (tells_apart R.exact key k same) here
+    at false other = before k v (sym (puts k ∙ ap (λ b. cond b (Some value) (get R.compare old k)) other) ∙ is)

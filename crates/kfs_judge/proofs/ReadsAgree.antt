@@ -1,5 +1,5 @@
 -- Recorded reads: equal keys are equal cells, and what a later record agrees with.
-use Rattle.std.specs.Prelude.{◌≡◌, ℕ, Bool, true, false, nat_eq, ◌==◌, cond, ◌++◌, unwrap_or, List, [], ◌∷◌, Option, Some, None, refl}
+use Rattle.std.specs.Prelude.{◌≡◌, ℕ, Bool, true, false, nat_eq, ◌==◌, cond, ◌++◌, unwrap_or, List, [], ◌∷◌, Some, refl}
 use Rattle.std.proofs.Common.{ap, sym, subst, ◌∙◌}
 use mathlib.Core.Bool.{true≢false}
 use Rattle.std.specs.Cmp.{first_so, second_so}
@@ -77,3 +77,11 @@ grows_by_one old new read seen is state agrees = record { each = (AgreesAlong-ap
 
 pub known_at_end : (old new : List (Read × CodeSeen)) (read : Read) (seen : CodeSeen) → new ≡ old ++ (read, seen) ∷ [] → Always new (λ state. answer state (cell_of read) ≡ answer_of seen)
 known_at_end old new read seen is state agrees = (AgreesAlong-append old read seen state (subst (λ es. AgreesAlong es state) is agrees.each)).1
+
+AgreesAlong-push : (entries : List (Read × CodeSeen)) (read : Read) (seen : CodeSeen) (state : Seen) → AgreesAlong entries state → answer state (cell_of read) ≡ answer_of seen → AgreesAlong (entries ++ (read, seen) ∷ []) state
+AgreesAlong-push [] read seen state agrees is = (is, tt)
+AgreesAlong-push (e ∷ es) read seen state agrees is = (agrees.0, AgreesAlong-push es read seen state agrees.1 is)
+
+-- what agrees with the earlier reads and with one more
+pub agrees_by_one : (old new : List (Read × CodeSeen)) (read : Read) (seen : CodeSeen) (state : Seen) → new ≡ old ++ (read, seen) ∷ [] → answer state (cell_of read) ≡ answer_of seen → Agrees old state → Agrees new state
+agrees_by_one old new read seen state is shows agrees = record { each = subst (λ es. AgreesAlong es state) (sym is) (AgreesAlong-push old read seen state agrees.each shows) }

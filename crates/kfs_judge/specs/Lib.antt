@@ -2,6 +2,7 @@ pub mod Creates
 pub mod Spelled
 pub mod View
 pub mod Reads
+pub mod Recorders
 pub mod Overlay
 pub mod Spots
 pub mod Walks

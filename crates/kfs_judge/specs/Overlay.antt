@@ -1,5 +1,5 @@
 -- What a draft shows over a state: the cells that entries have written, and the state's own where they have not.
-use Rattle.std.specs.Prelude.{◌≡◌, ℕ, Bool, cond, ℤ, pos, ◌+ℤ◌, ◌≤ℤ◌, List, Option, Some, unwrap_or}
+use Rattle.std.specs.Prelude.{◌≡◌, ℕ, Bool, cond, ℤ, pos, ◌+ℤ◌, ◌≤ℤ◌, List, Contains, Option, Some, unwrap_or}
 use Rattle.std.specs.Option.{option_map}
 use Rattle.std.specs.declared.cmp.Ordering.{Ordering}
 use Rattle.std.specs.Ordering.{nat_cmp, eq_by_cmp}
@@ -9,9 +9,10 @@ use Rattle.kfs_model.specs.Header.{Header}
 use Rattle.kfs_model.specs.Access.{Client}
 use Rattle.kfs_model.specs.SeenAfter.{put_at, put_name, shifted, put_parent}
 use Rattle.kfs_model.specs.Tree.{directory_entries}
-use Rattle.kfs_model.specs.Sight.{Sight, Seen}
+use Rattle.kfs_model.specs.Sight.{Sight, Seen, Cell, NameIn, HeaderOf}
 use Rattle.kfs_model.specs.Check.{Spot}
 use Rattle.kfs_entry.specs.Views.{header_of}
+use Rattle.kfs_entry.specs.declared.header.Header.{Header as CodeHeader}
 use Rattle.kfs_judge.specs.declared.draft.Draft.{Draft}
 
 module _ {A : Type 0} where
@@ -57,3 +58,8 @@ module _ {A : Type 0} where
   -- no count differs by more
   pub record ShiftsBy (most : ℕ) (draft : Draft A) : Type 0 where
     pub at : (d : ℕ) → shift_of draft d ≤ℤ pos most
+
+  -- the names and headers that the draft has are among these cells
+  pub record IsWritten (draft : Draft A) (among : List Cell) : Type 0 where
+    pub names : (key : ℕ × List ℕ) (value : Option ℕ) → get directory_entries.compare draft.names key ≡ Some value → Contains among (NameIn key.0 key.1)
+    pub heads : (n : ℕ) (value : Option CodeHeader) → get nat_cmp draft.heads n ≡ Some value → Contains among (HeaderOf n)

@@ -1,5 +1,5 @@
 -- Recorded reads as the cells of the definitions with their answers, and the states that agree with them.
-use Rattle.std.specs.Prelude.{◌≡◌, ℕ, pos, List, [], ◌∷◌, Option, Some, None}
+use Rattle.std.specs.Prelude.{◌≡◌, ◌⊎◌, pos, List, All, Contains}
 use Rattle.std.specs.Option.{option_map}
 use Rattle.std.specs.List.{AllByRecursion}
 use Rattle.kfs_image.specs.declared.cell.Cell.{Cell as CodeCell}
@@ -47,3 +47,15 @@ Always entries P = (state : Seen) → Agrees entries state → P state
 -- what agrees with the later reads agrees with the earlier
 abbrev pub Grows : List (Read × CodeSeen) → List (Read × CodeSeen) → Type 0
 Grows old new = (state : Seen) → Agrees new state → Agrees old state
+
+-- each of the later reads is an earlier one, or at one of these cells
+pub record Within (old new : List (Read × CodeSeen)) (among : List Cell) : Type 0 where
+  pub each : (e : Read × CodeSeen) → Contains new e → Contains old e ⊎ Contains among (cell_of e.0)
+
+-- each read is at one of these cells
+abbrev pub AreAmong : List (Read × CodeSeen) → List Cell → Type 0
+AreAmong entries among = All (λ e. Contains among (cell_of e.0)) entries
+
+-- each of the few cells is one of the many
+abbrev pub IsPart : List Cell → List Cell → Type 0
+IsPart few many = (cell : Cell) → Contains few cell → Contains many cell

@@ -1,6 +1,4 @@
 -- The code's checks, reasons and spots as those of the definitions.
-use Rattle.std.specs.Prelude.{ℕ, Bool, Option, List, map}
-use Rattle.std.specs.Option.{option_map}
 use Rattle.kfs_model.specs.Check as checks
 use Rattle.kfs_model.specs.Sight.{Seen}
 use Rattle.kfs_judge.specs.declared.check.Reason.{Reason}

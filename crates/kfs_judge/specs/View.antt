@@ -1,8 +1,9 @@
 -- What a view of a state is made of.
-use Rattle.std.specs.Prelude.{List}
+use Rattle.std.specs.Prelude.{ℕ, List}
 use Rattle.kfs_model.specs.Access.{Client}
-use Rattle.kfs_image.specs.Contents.{Contents}
-use Rattle.kfs_lease.specs.declared.leases.Leases.{Leases}
+use Rattle.kfs_model.specs.Lease.{Leases, holds}
+use Rattle.kfs_model.specs.Sight.{Seen}
+use Rattle.kfs_image.specs.Contents.{Contents, sight_of}
 use Rattle.kfs_judge.specs.declared.view.View.{View}
 
 module _ {A : Type 0} where
@@ -10,9 +11,13 @@ module _ {A : Type 0} where
   abbrev pub contents_of : View A → Contents
   contents_of view = view.shape.value
 
-  abbrev pub leases_of : View A → Leases A
+  abbrev pub leases_of : View A → Leases
   leases_of view = view.leases.value
 
   -- the rows of the clients
   abbrev pub clients_of : View A → List Client
   clients_of view = view.clients.value.items
+
+  -- the state as the client of this number sees it
+  abbrev pub seen_of : View A → (client : ℕ) → Seen
+  seen_of view client = record { sight = sight_of (contents_of view); held = holds (leases_of view) client }

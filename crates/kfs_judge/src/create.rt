@@ -1,14 +1,15 @@
 //! The entry Create.
-ghost use Rattle.std.specs.Prelude.{◌≡◌, ℕ, ◌+◌, ◌==◌, ◌||◌, pos, ◌<ℤ◌, None, Ok, IfOk};
+ghost use Rattle.std.specs.Prelude.{◌≡◌, ℕ, ◌+◌, ◌==◌, ◌||◌, pos, ◌<ℤ◌, None, Ok, IfOk, List, OnOk, ◌++◌};
 ghost use Rattle.std.specs.Option.{option_map};
 ghost use Rattle.kfs_entry.specs.Views.{kind_of};
-ghost use Rattle.kfs_model.specs.Check.{first_fault};
+ghost use Rattle.kfs_model.specs.Check.{first_fault, looked, checks_of};
 ghost use Rattle.kfs_model.specs.Header.{Kind as KindShown};
 ghost use Rattle.kfs_model.specs.Entry as entry;
 ghost use Rattle.kfs_model.specs.SeenAfter.{seen_after};
-ghost use Rattle.kfs_model.specs.Sight.{Sight};
-ghost use Rattle.kfs_judge.specs.Overlay.{has_created, over, shift_of, spot_of, ShiftsBy};
-ghost use Rattle.kfs_judge.specs.Reads.{Always, Grows};
+ghost use Rattle.kfs_model.specs.Sight.{Sight, Cell};
+ghost use Rattle.kfs_judge.specs.Overlay.{has_created, over, shift_of, spot_of, ShiftsBy, IsWritten};
+ghost use Rattle.kfs_judge.specs.Reads.{Always, Within};
+ghost use Rattle.kfs_judge.specs.Recorders.{GoesOn};
 ghost use Rattle.kfs_judge.specs.Spots.{reason_of, stands_in};
 
 use crate::check::{Check, Reason};
@@ -26,8 +27,9 @@ fn create_fault<A: Allocator + Copy>(
     key: &(u32, Name),
     number: u32,
 ) -> Result<Option<Reason>, AllocError>
-    ensures grows { Grows recorder.old.reads.entries recorder.new.reads.entries }
+    ensures goes { GoesOn recorder.old recorder.new }
     ensures known { IfOk result (λ reason. Always recorder.new.reads.entries (λ state. (kind : KindShown) (mode : ℕ) → first_fault (stands_in spot.now state) (entry.Create key.now.0 key.now.1 number kind mode) ≡ option_map reason_of reason)) }
+    ensures among { OnOk result (Always recorder.new.reads.entries (λ state. (kind : KindShown) (mode : ℕ) → Within recorder.old.reads.entries recorder.new.reads.entries (looked (stands_in spot.now state) (checks_of (stands_in spot.now state) (entry.Create key.now.0 key.now.1 number kind mode))))) }
 {
     let dir = key.0;
     let checks = [
@@ -55,10 +57,12 @@ impl<'a, A: Allocator + Copy> Scene<'a, A> {
         mode: u16,
     ) -> Result<Option<Reason>, AllocError>
         requires { (d : ℕ) → shift_of self.old.draft d <ℤ pos 2147483647 }
-        ensures grows { Grows self.old.recorder.reads.entries self.new.recorder.reads.entries }
+        ensures goes { GoesOn self.old.recorder self.new.recorder }
         ensures client { self.new.client.now ≡ self.old.client.now }
         ensures known { IfOk result (λ reason. Always self.new.recorder.reads.entries (λ state. first_fault (spot_of self.old.client.now self.old.draft state) (entry.Create key.0 key.1 number (kind_of kind) mode) ≡ option_map reason_of reason)) }
+        ensures among { OnOk result (Always self.new.recorder.reads.entries (λ state. Within self.old.recorder.reads.entries self.new.recorder.reads.entries (looked (spot_of self.old.client.now self.old.draft state) (checks_of (spot_of self.old.client.now self.old.draft state) (entry.Create key.0 key.1 number (kind_of kind) mode))))) }
         ensures shown { result ≡ Ok None → (s : Sight) → over self.new.draft s ≡ seen_after self.old.client.now (over self.old.draft s) (entry.Create key.0 key.1 number (kind_of kind) mode) }
+        ensures written { result ≡ Ok None → Always self.new.recorder.reads.entries (λ state. (among : List Cell) → IsWritten self.old.draft among → IsWritten self.new.draft (looked (spot_of self.old.client.now self.old.draft state) (checks_of (spot_of self.old.client.now self.old.draft state) (entry.Create key.0 key.1 number (kind_of kind) mode)) ++ among)) }
         ensures created { result ≡ Ok None → (n : ℕ) → has_created self.new.draft n ≡ ((number == n) || has_created self.old.draft n) }
         ensures shifts { result ≡ Ok None → (most : ℕ) → ShiftsBy most self.old.draft → ShiftsBy (most + 1) self.new.draft }
     {

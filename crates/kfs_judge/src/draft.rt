@@ -1,13 +1,13 @@
 //! What the entries of a log have changed so far, over the state that the log came to.
 
-ghost use Rattle.std.specs.Prelude.{◌≡◌, ℕ, ◌+◌, ◌==◌, ◌||◌, ℤ, pos, ◌+ℤ◌, ◌<ℤ◌, Option, unwrap_or, OnOk, false};
+ghost use Rattle.std.specs.Prelude.{◌≡◌, ℕ, ◌+◌, ◌==◌, ◌||◌, ℤ, pos, ◌+ℤ◌, ◌<ℤ◌, Option, unwrap_or, OnOk, false, List, [], Contains};
 ghost use Rattle.kfs_entry.specs.Views.{header_of, kind_of};
-ghost use Rattle.kfs_model.specs.Sight.{Sight};
+ghost use Rattle.kfs_model.specs.Sight.{Sight, Cell, HeaderOf, NameIn};
 ghost use Rattle.kfs_model.specs.SeenAfter.{put_parent};
 ghost use Rattle.std.specs.Ordering.{nat_cmp};
 ghost use Rattle.std.specs.BTreeMap.{get};
 ghost use Rattle.kfs_model.specs.Tree.{directory_entries};
-ghost use Rattle.kfs_judge.specs.Overlay.{has_created, over, with_node, shift_of, ShiftsBy, PutsAt};
+ghost use Rattle.kfs_judge.specs.Overlay.{has_created, over, with_node, shift_of, ShiftsBy, PutsAt, IsWritten};
 
 use kfs_image::{Header, Kind, Name};
 use std::alloc::{AllocError, Allocator};
@@ -29,6 +29,7 @@ impl<A: Allocator + Copy> Draft<A> {
     /// Nothing changed yet.
     pub(crate) fn new(alloc: A) -> Draft<A>
         ensures shown { (s : Sight) → over result s ≡ s }
+        ensures written { IsWritten result [] }
         ensures created { (n : ℕ) → has_created result n ≡ false }
         ensures shifts { ShiftsBy 0 result }
     {
@@ -50,6 +51,7 @@ impl<A: Allocator + Copy> Draft<A> {
     ) -> Result<(), AllocError>
         requires { (d : ℕ) → shift_of self.old d <ℤ pos 2147483647 }
         ensures shown { OnOk result ((s : Sight) → over self.new s ≡ with_node key.0 key.1 number (header_of header) (over self.old s)) }
+        ensures written { OnOk result ((among : List Cell) → IsWritten self.old among → Contains among (NameIn key.0 key.1) → Contains among (HeaderOf number) → IsWritten self.new among) }
         ensures created { OnOk result ((n : ℕ) → has_created self.new n ≡ ((number == n) || has_created self.old n)) }
         ensures shifts { OnOk result ((most : ℕ) → ShiftsBy most self.old → ShiftsBy (most + 1) self.new) }
     {

@@ -1,12 +1,14 @@
 //! What differs after a log.
-ghost use Rattle.std.specs.Prelude.{IfOk};
+ghost use Rattle.std.specs.Prelude.{IfOk, List, [], ◌∷◌, OnOk};
 ghost use Rattle.std.specs.Option.{option_map};
 ghost use Rattle.kfs_entry.specs.Views.{header_of};
 ghost use Rattle.kfs_model.specs.Plan.{header_now, number_now};
-ghost use Rattle.kfs_judge.specs.Reads.{Always, Grows};
-ghost use Rattle.kfs_judge.specs.Overlay.{over};
+ghost use Rattle.kfs_judge.specs.Reads.{Always, Within};
+ghost use Rattle.kfs_judge.specs.Recorders.{GoesOn};
+ghost use Rattle.kfs_judge.specs.Overlay.{over, IsWritten};
 ghost use Rattle.kfs_judge.specs.Rows.{IsRow, keyed_name_row, keyed_node_row};
 ghost use Rattle.kfs_judge.specs.Walks.{AreNamesOf, AreNodesOf};
+ghost use Rattle.kfs_model.specs.Sight.{Cell, HeaderOf, NameIn};
 
 use crate::draft::Draft;
 use crate::reads::Recorder;
@@ -20,8 +22,9 @@ pub(crate) fn name_rows<A: Allocator + Copy>(
     draft: &Draft<A>,
     recorder: &mut Recorder<'_, A>,
 ) -> Result<Vec<NameRow, A>, AllocError>
-    ensures grows { Grows recorder.old.reads.entries recorder.new.reads.entries }
+    ensures goes { GoesOn recorder.old recorder.new }
     ensures known { IfOk result (λ rows. Always recorder.new.reads.entries (λ state. AreNamesOf state.sight (over draft.now state.sight) rows.items)) }
+    ensures among { OnOk result ((among : List Cell) → IsWritten draft.now among → Within recorder.old.reads.entries recorder.new.reads.entries among) }
 {
     let mut rows = Vec::new(alloc);
     for (key, now) in draft.targets().iter() {
@@ -38,8 +41,9 @@ fn name_row<A: Allocator + Copy>(
     key: &(u32, Name),
     now: Option<u32>,
 ) -> Result<Option<NameRow>, AllocError>
-    ensures grows { Grows recorder.old.reads.entries recorder.new.reads.entries }
+    ensures goes { GoesOn recorder.old recorder.new }
     ensures known { IfOk result (λ row. Always recorder.new.reads.entries (λ state. IsRow number_now keyed_name_row key.now (state.sight.name key.now.0 key.now.1) now row)) }
+    ensures among { OnOk result (Within recorder.old.reads.entries recorder.new.reads.entries (NameIn key.now.0 key.now.1 ∷ [])) }
 {
     let before = recorder.target(key)?;
     if before == now {
@@ -59,8 +63,9 @@ pub(crate) fn node_rows<A: Allocator + Copy>(
     draft: &Draft<A>,
     recorder: &mut Recorder<'_, A>,
 ) -> Result<Vec<NodeRow, A>, AllocError>
-    ensures grows { Grows recorder.old.reads.entries recorder.new.reads.entries }
+    ensures goes { GoesOn recorder.old recorder.new }
     ensures known { IfOk result (λ rows. Always recorder.new.reads.entries (λ state. AreNodesOf state.sight (over draft.now state.sight) rows.items)) }
+    ensures among { OnOk result ((among : List Cell) → IsWritten draft.now among → Within recorder.old.reads.entries recorder.new.reads.entries among) }
 {
     let mut rows = Vec::new(alloc);
     for (number, now) in draft.headers().iter() {
@@ -77,8 +82,9 @@ fn node_row<A: Allocator + Copy>(
     number: u32,
     now: Option<Header>,
 ) -> Result<Option<NodeRow>, AllocError>
-    ensures grows { Grows recorder.old.reads.entries recorder.new.reads.entries }
+    ensures goes { GoesOn recorder.old recorder.new }
     ensures known { IfOk result (λ row. Always recorder.new.reads.entries (λ state. IsRow header_now keyed_node_row number (state.sight.head number) (option_map header_of now) row)) }
+    ensures among { OnOk result (Within recorder.old.reads.entries recorder.new.reads.entries (HeaderOf number ∷ [])) }
 {
     let before = recorder.header(number)?;
     if before == now {

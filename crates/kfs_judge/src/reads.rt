@@ -1,11 +1,13 @@
 //! What a judgement reads of its view, each recorded once, in the order of the first look.
 
-ghost use Rattle.std.specs.Prelude.{◌≡◌, ℕ, Bool, Option, IfOk};
+ghost use Rattle.std.specs.Prelude.{◌≡◌, ℕ, Bool, [], ◌∷◌, Option, IfOk, OnOk};
 ghost use Rattle.std.specs.Option.{option_map};
 ghost use Rattle.kfs_entry.specs.Views.{header_of};
 ghost use Rattle.kfs_model.specs.Header.{Header as HeaderShown};
-ghost use Rattle.kfs_model.specs.Sight.{answer, Head, Number, Held};
-ghost use Rattle.kfs_judge.specs.Reads.{Always, Grows, cell_of, answer_of};
+ghost use Rattle.kfs_model.specs.Sight.{answer, Head, Number, Held, HeaderOf, NameIn, LeaseOn};
+ghost use Rattle.kfs_judge.specs.Reads.{Always, Within, cell_of, answer_of};
+ghost use Rattle.kfs_judge.specs.Recorders.{GoesOn, seen_by};
+ghost use Rattle.kfs_judge.specs.View.{seen_of};
 
 use crate::view::View;
 use indexmap::IndexMap;
@@ -42,7 +44,10 @@ pub(crate) struct Recorder<'a, A: Allocator> {
 
 impl<'a, A: Allocator + Copy> Recorder<'a, A> {
     /// Nothing read yet.
-    pub(crate) fn new(alloc: A, view: &'a View<A>, client: u32) -> Recorder<'a, A> {
+    pub(crate) fn new(alloc: A, view: &'a View<A>, client: u32) -> Recorder<'a, A>
+        ensures none { result.reads.entries ≡ [] }
+        ensures seen { seen_by result ≡ seen_of view.now client }
+    {
         Recorder {
             view,
             client,
@@ -52,8 +57,9 @@ impl<'a, A: Allocator + Copy> Recorder<'a, A> {
 
     /// The answer at a cell: the recorded one, or else the view's, which is recorded then.
     fn read(&mut self, read: Read) -> Result<Seen, AllocError>
-        ensures grows { Grows self.old.reads.entries self.new.reads.entries }
+        ensures goes { GoesOn self.old self.new }
         ensures known { IfOk result (λ seen. Always self.new.reads.entries (λ state. answer state (cell_of read) ≡ answer_of seen)) }
+        ensures among { OnOk result (Within self.old.reads.entries self.new.reads.entries (cell_of read ∷ [])) }
     {
         if let Some(seen) = self.reads.get(&read) {
             return Ok(*seen);
@@ -63,7 +69,10 @@ impl<'a, A: Allocator + Copy> Recorder<'a, A> {
         Ok(seen)
     }
 
-    fn seen(&self, read: &Read) -> Seen {
+    /// What the view shows at a cell.
+    fn seen(&self, read: &Read) -> Seen
+        ensures { answer (seen_by self.now) (cell_of read.now) ≡ answer_of result }
+    {
         match read {
             Read::Look(cell) => Seen::Look(self.view.look(cell)),
             Read::Lease(number) => Seen::Lease(self.view.holds(self.client, *number)),
@@ -72,8 +81,9 @@ impl<'a, A: Allocator + Copy> Recorder<'a, A> {
 
     /// The header of a node.
     pub(crate) fn header(&mut self, number: u32) -> Result<Option<Header>, AllocError>
-        ensures grows { Grows self.old.reads.entries self.new.reads.entries }
+        ensures goes { GoesOn self.old self.new }
         ensures known { IfOk result (λ header. Always self.new.reads.entries (λ state. state.sight.head number ≡ option_map header_of header)) }
+        ensures among { OnOk result (Within self.old.reads.entries self.new.reads.entries (HeaderOf number ∷ [])) }
     {
         let seen = self.read(Read::Look(Cell::Header(number)))?;
         Ok(header_in(seen))
@@ -81,8 +91,9 @@ impl<'a, A: Allocator + Copy> Recorder<'a, A> {
 
     /// The number that a name leads to.
     pub(crate) fn target(&mut self, key: &(u32, Name)) -> Result<Option<u32>, AllocError>
-        ensures grows { Grows self.old.reads.entries self.new.reads.entries }
+        ensures goes { GoesOn self.old self.new }
         ensures known { IfOk result (λ number. Always self.new.reads.entries (λ state. state.sight.name key.now.0 key.now.1 ≡ number)) }
+        ensures among { OnOk result (Within self.old.reads.entries self.new.reads.entries (NameIn key.now.0 key.now.1 ∷ [])) }
     {
         let name = key.1.clone()?;
         let seen = self.read(Read::Look(Cell::Name(key.0, name)))?;
@@ -91,8 +102,9 @@ impl<'a, A: Allocator + Copy> Recorder<'a, A> {
 
     /// Whether the client holds a live write lease on the node.
     pub(crate) fn is_held(&mut self, number: u32) -> Result<bool, AllocError>
-        ensures grows { Grows self.old.reads.entries self.new.reads.entries }
+        ensures goes { GoesOn self.old self.new }
         ensures known { IfOk result (λ held. Always self.new.reads.entries (λ state. state.held number ≡ held)) }
+        ensures among { OnOk result (Within self.old.reads.entries self.new.reads.entries (LeaseOn number ∷ [])) }
     {
         let seen = self.read(Read::Lease(number))?;
         Ok(held_in(seen))

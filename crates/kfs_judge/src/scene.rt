@@ -1,17 +1,19 @@
 //! Where an entry stands: its client, what the entries before it changed, and the state under that.
-ghost use Rattle.std.specs.Prelude.{◌≡◌, ℕ, ◌+◌, ◌==◌, pos, ◌<ℤ◌, List, None, Ok, IfOk, false};
+ghost use Rattle.std.specs.Prelude.{◌≡◌, ℕ, ◌+◌, ◌==◌, pos, ◌<ℤ◌, List, None, Ok, IfOk, false, [], OnOk, ◌++◌};
 ghost use Rattle.std.specs.Option.{option_map};
 ghost use Rattle.std.specs.List.{list_any};
 ghost use Rattle.kfs_entry.specs.Views.{entry_of};
-ghost use Rattle.kfs_model.specs.Check.{first_fault};
+ghost use Rattle.kfs_model.specs.Check.{first_fault, looked, checks_of};
 ghost use Rattle.kfs_model.specs.Run.{created_by};
 ghost use Rattle.kfs_model.specs.SeenAfter.{seen_after};
-ghost use Rattle.kfs_model.specs.Sight.{Sight};
+ghost use Rattle.kfs_model.specs.Sight.{Sight, Cell};
 ghost use Rattle.kfs_judge.specs.Creates.{IsCreate};
-ghost use Rattle.kfs_judge.specs.Overlay.{has_created, over, shift_of, spot_of, ShiftsBy};
-ghost use Rattle.kfs_judge.specs.Reads.{Always, Grows};
+ghost use Rattle.kfs_judge.specs.Overlay.{has_created, over, shift_of, spot_of, ShiftsBy, IsWritten};
+ghost use Rattle.kfs_judge.specs.Reads.{Always, Within};
+ghost use Rattle.kfs_judge.specs.Recorders.{GoesOn, seen_by};
 ghost use Rattle.kfs_judge.specs.Spots.{reason_of};
 ghost use Rattle.kfs_judge.specs.Walks.{IsNetOf};
+ghost use Rattle.kfs_judge.specs.View.{seen_of};
 
 use crate::check::Reason;
 use crate::draft::Draft;
@@ -37,7 +39,10 @@ impl<'a, A: Allocator + Copy> Scene<'a, A> {
     /// Before the first entry of a log of this client.
     pub(crate) fn new(alloc: A, view: &'a View<A>, client: &'a Client) -> Scene<'a, A>
         ensures client { result.client.now ≡ client.now }
+        ensures none { result.recorder.reads.entries ≡ [] }
+        ensures seen { seen_by result.recorder ≡ seen_of view.now client.now.number }
         ensures shown { (s : Sight) → over result.draft s ≡ s }
+        ensures written { IsWritten result.draft [] }
         ensures created { (n : ℕ) → has_created result.draft n ≡ false }
         ensures shifts { ShiftsBy 0 result.draft }
     {
@@ -52,11 +57,13 @@ impl<'a, A: Allocator + Copy> Scene<'a, A> {
     pub(crate) fn enter(&mut self, entry: &Entry<Span>) -> Result<Option<Reason>, AllocError>
         requires create { IsCreate entry.now }
         requires room { (d : ℕ) → shift_of self.old.draft d <ℤ pos 2147483647 }
-        ensures grows { Grows self.old.recorder.reads.entries self.new.recorder.reads.entries }
+        ensures goes { GoesOn self.old.recorder self.new.recorder }
         ensures client { self.new.client.now ≡ self.old.client.now }
-        ensures known { IfOk result (λ reason. Always self.new.recorder.reads.entries (λ state. (source : List ℕ) → first_fault (spot_of self.old.client.now self.old.draft state) (entry_of source entry.now) ≡ option_map reason_of reason)) }
-        ensures shown { result ≡ Ok None → (source : List ℕ) (s : Sight) → over self.new.draft s ≡ seen_after self.old.client.now (over self.old.draft s) (entry_of source entry.now) }
-        ensures created { result ≡ Ok None → (source : List ℕ) (numbers : List ℕ) → ((n : ℕ) → has_created self.old.draft n ≡ list_any (λ c. c == n) numbers) → (n : ℕ) → has_created self.new.draft n ≡ list_any (λ c. c == n) (created_by (entry_of source entry.now) numbers) }
+        ensures known { (source : List ℕ) → IfOk result (λ reason. Always self.new.recorder.reads.entries (λ state. first_fault (spot_of self.old.client.now self.old.draft state) (entry_of source entry.now) ≡ option_map reason_of reason)) }
+        ensures among { (source : List ℕ) → OnOk result (Always self.new.recorder.reads.entries (λ state. Within self.old.recorder.reads.entries self.new.recorder.reads.entries (looked (spot_of self.old.client.now self.old.draft state) (checks_of (spot_of self.old.client.now self.old.draft state) (entry_of source entry.now))))) }
+        ensures shown { (source : List ℕ) → result ≡ Ok None → (s : Sight) → over self.new.draft s ≡ seen_after self.old.client.now (over self.old.draft s) (entry_of source entry.now) }
+        ensures written { (source : List ℕ) → result ≡ Ok None → Always self.new.recorder.reads.entries (λ state. (among : List Cell) → IsWritten self.old.draft among → IsWritten self.new.draft (looked (spot_of self.old.client.now self.old.draft state) (checks_of (spot_of self.old.client.now self.old.draft state) (entry_of source entry.now)) ++ among)) }
+        ensures created { (source : List ℕ) → result ≡ Ok None → (numbers : List ℕ) → ((n : ℕ) → has_created self.old.draft n ≡ list_any (λ c. c == n) numbers) → (n : ℕ) → has_created self.new.draft n ≡ list_any (λ c. c == n) (created_by (entry_of source entry.now) numbers) }
         ensures shifts { result ≡ Ok None → (most : ℕ) → ShiftsBy most self.old.draft → ShiftsBy (most + 1) self.new.draft }
     {
         match entry {
@@ -73,8 +80,9 @@ impl<'a, A: Allocator + Copy> Scene<'a, A> {
 
     /// What differs after the entries so far.
     pub(crate) fn net(&mut self, alloc: A) -> Result<Net<A>, AllocError>
-        ensures grows { Grows self.old.recorder.reads.entries self.new.recorder.reads.entries }
+        ensures goes { GoesOn self.old.recorder self.new.recorder }
         ensures known { IfOk result (λ net. Always self.new.recorder.reads.entries (λ state. IsNetOf state.sight (over self.old.draft state.sight) net)) }
+        ensures among { OnOk result ((among : List Cell) → IsWritten self.old.draft among → Within self.old.recorder.reads.entries self.new.recorder.reads.entries among) }
     {
         let names = name_rows(alloc, &self.draft, &mut self.recorder)?;
         let nodes = node_rows(alloc, &self.draft, &mut self.recorder)?;

@@ -1,13 +1,15 @@
 //! Where an entry stands, and the first of its checks that fails there.
-ghost use Rattle.std.specs.Prelude.{◌≡◌, IfOk, is_none, not, ◌&&◌, ◌||◌, map};
+ghost use Rattle.std.specs.Prelude.{◌≡◌, IfOk, is_none, not, ◌&&◌, ◌||◌, map, OnOk, [], ◌∷◌};
 ghost use Rattle.std.specs.Option.{option_map};
 ghost use Rattle.kfs_entry.specs.Views.{header_of};
 ghost use Rattle.kfs_model.specs.Access.{may_header};
 ghost use Rattle.kfs_model.specs.Check as checks;
-ghost use Rattle.kfs_model.specs.Check.{first_failing};
+ghost use Rattle.kfs_model.specs.Check.{first_failing, looked};
 ghost use Rattle.kfs_model.specs.Sight as sight;
+ghost use Rattle.kfs_model.specs.Sight.{HeaderOf, LeaseOn, NameIn};
 ghost use Rattle.kfs_mode.specs.Mode.{want_shown};
-ghost use Rattle.kfs_judge.specs.Reads.{Always, Grows};
+ghost use Rattle.kfs_judge.specs.Reads.{Always, Within};
+ghost use Rattle.kfs_judge.specs.Recorders.{GoesOn};
 ghost use Rattle.kfs_judge.specs.Spots.{check_of, reason_of, stands_in};
 
 use crate::check::{Check, Reason};
@@ -30,8 +32,9 @@ impl<A: Allocator + Copy> Spot<'_, A> {
         recorder: &mut Recorder<'_, A>,
         number: u32,
     ) -> Result<Option<Header>, AllocError>
-        ensures grows { Grows recorder.old.reads.entries recorder.new.reads.entries }
+        ensures goes { GoesOn recorder.old recorder.new }
         ensures known { IfOk result (λ header. Always recorder.new.reads.entries (λ state. (stands_in self.now state).now.head number ≡ option_map header_of header)) }
+        ensures among { OnOk result (Within recorder.old.reads.entries recorder.new.reads.entries (HeaderOf number ∷ [])) }
     {
         match self.draft.header(number) {
             Some(header) => Ok(header),
@@ -44,8 +47,9 @@ impl<A: Allocator + Copy> Spot<'_, A> {
         recorder: &mut Recorder<'_, A>,
         key: &(u32, Name),
     ) -> Result<Option<u32>, AllocError>
-        ensures grows { Grows recorder.old.reads.entries recorder.new.reads.entries }
+        ensures goes { GoesOn recorder.old recorder.new }
         ensures known { IfOk result (λ number. Always recorder.new.reads.entries (λ state. (stands_in self.now state).now.name key.now.0 key.now.1 ≡ number)) }
+        ensures among { OnOk result (Within recorder.old.reads.entries recorder.new.reads.entries (NameIn key.now.0 key.now.1 ∷ [])) }
     {
         match self.draft.target(key) {
             Some(number) => Ok(number),
@@ -59,8 +63,9 @@ impl<A: Allocator + Copy> Spot<'_, A> {
         number: u32,
         want: Want,
     ) -> Result<bool, AllocError>
-        ensures grows { Grows recorder.old.reads.entries recorder.new.reads.entries }
+        ensures goes { GoesOn recorder.old recorder.new }
         ensures known { IfOk result (λ granted. Always recorder.new.reads.entries (λ state. checks.is_some_and ((stands_in self.now state).now.head number) (λ h. may_header self.now.client.now h (want_shown want)) ≡ granted)) }
+        ensures among { OnOk result (Within recorder.old.reads.entries recorder.new.reads.entries (HeaderOf number ∷ [])) }
     {
         let header = self.header(recorder, number)?;
         Ok(may_want(self.client, header, want))
@@ -72,8 +77,9 @@ impl<A: Allocator + Copy> Spot<'_, A> {
         recorder: &mut Recorder<'_, A>,
         checks: &[Check<'_>],
     ) -> Result<Option<Reason>, AllocError>
-        ensures grows { Grows recorder.old.reads.entries recorder.new.reads.entries }
+        ensures goes { GoesOn recorder.old recorder.new }
         ensures known { IfOk result (λ reason. Always recorder.new.reads.entries (λ state. first_failing (stands_in self.now state) (map check_of checks.now) ≡ option_map reason_of reason)) }
+        ensures among { OnOk result (Always recorder.new.reads.entries (λ state. Within recorder.old.reads.entries recorder.new.reads.entries (looked (stands_in self.now state) (map check_of checks.now)))) }
     {
         for check in checks {
             if let Some(reason) = self.fault(recorder, check)? {
@@ -83,14 +89,15 @@ impl<A: Allocator + Copy> Spot<'_, A> {
         Ok(None)
     }
 
-    #[tactic(auto, unfolding(kfs_model::specs::Check::fault))]
+    #[tactic(auto, unfolding(kfs_model::specs::Check::fault, kfs_model::specs::Check::cells))]
     fn fault(
         &self,
         recorder: &mut Recorder<'_, A>,
         check: &Check<'_>,
     ) -> Result<Option<Reason>, AllocError>
-        ensures grows { Grows recorder.old.reads.entries recorder.new.reads.entries }
+        ensures goes { GoesOn recorder.old recorder.new }
         ensures known { IfOk result (λ reason. Always recorder.new.reads.entries (λ state. checks.fault (stands_in self.now state) (check_of check.now) ≡ option_map reason_of reason)) }
+        ensures among { OnOk result (Always recorder.new.reads.entries (λ state. Within recorder.old.reads.entries recorder.new.reads.entries (checks.cells (stands_in self.now state) (check_of check.now)))) }
     {
         match check {
             Check::Exists(number) => {
@@ -129,8 +136,9 @@ impl<A: Allocator + Copy> Spot<'_, A> {
     }
 
     fn may_write(&self, recorder: &mut Recorder<'_, A>, number: u32) -> Result<bool, AllocError>
-        ensures grows { Grows recorder.old.reads.entries recorder.new.reads.entries }
+        ensures goes { GoesOn recorder.old recorder.new }
         ensures known { IfOk result (λ granted. Always recorder.new.reads.entries (λ state. ((stands_in self.now state).created number && sight.is_file ((stands_in self.now state).now.head number)) || checks.is_some_and ((stands_in self.now state).now.head number) (λ h. may_header self.now.client.now h (want_shown Want.Write)) ≡ granted)) }
+        ensures among { OnOk result (Within recorder.old.reads.entries recorder.new.reads.entries (HeaderOf number ∷ [])) }
     {
         let header = self.header(recorder, number)?;
         let own_file = self.draft.has_created(number) && is_file(header);
@@ -138,8 +146,9 @@ impl<A: Allocator + Copy> Spot<'_, A> {
     }
 
     fn is_leased(&self, recorder: &mut Recorder<'_, A>, number: u32) -> Result<bool, AllocError>
-        ensures grows { Grows recorder.old.reads.entries recorder.new.reads.entries }
+        ensures goes { GoesOn recorder.old recorder.new }
         ensures known { IfOk result (λ leased. Always recorder.new.reads.entries (λ state. (stands_in self.now state).created number || state.held number ≡ leased)) }
+        ensures among { OnOk result (Within recorder.old.reads.entries recorder.new.reads.entries (LeaseOn number ∷ [])) }
     {
         if self.draft.has_created(number) {
             return Ok(true);
@@ -152,8 +161,9 @@ impl<A: Allocator + Copy> Spot<'_, A> {
         recorder: &mut Recorder<'_, A>,
         number: u32,
     ) -> Result<bool, AllocError>
-        ensures grows { Grows recorder.old.reads.entries recorder.new.reads.entries }
+        ensures goes { GoesOn recorder.old recorder.new }
         ensures known { IfOk result (λ free. Always recorder.new.reads.entries (λ state. is_none (state.sight.head number) && is_none ((stands_in self.now state).now.head number) && not ((stands_in self.now state).created number) ≡ free)) }
+        ensures among { OnOk result (Within recorder.old.reads.entries recorder.new.reads.entries (HeaderOf number ∷ [])) }
     {
         let before = recorder.header(number)?;
         let now = self.header(recorder, number)?;

@@ -1,15 +1,17 @@
 //! The entries of a log against a view.
-ghost use Rattle.std.specs.Prelude.{◌≡◌, ℕ, ◌≤◌, Bool, false, List, length, map, All, IsSome, IfOk};
+ghost use Rattle.std.specs.Prelude.{◌≡◌, ℕ, ◌≤◌, Bool, false, List, length, map, All, IsSome, IfOk, [], None, Ok, OnOk};
 ghost use Rattle.kfs_entry.specs.Views.{entry_of};
 ghost use Rattle.kfs_model.specs.Access.{Client as ClientRow};
 ghost use Rattle.kfs_model.specs.Lease.{row_of};
 ghost use Rattle.kfs_model.specs.Sight.{Sight};
 ghost use Rattle.kfs_model.specs.Tree.{Tree};
 ghost use Rattle.kfs_judge.specs.Creates.{IsCreate};
-ghost use Rattle.kfs_judge.specs.Overlay.{has_created, over, ShiftsBy};
-ghost use Rattle.kfs_judge.specs.Reads.{Agrees, Always, Grows};
-ghost use Rattle.kfs_judge.specs.View.{clients_of};
+ghost use Rattle.kfs_judge.specs.Overlay.{has_created, over, ShiftsBy, IsWritten};
+ghost use Rattle.kfs_judge.specs.Reads.{Agrees, Always, AreAmong, Within};
+ghost use Rattle.kfs_judge.specs.Recorders.{GoesOn};
+ghost use Rattle.kfs_judge.specs.View.{clients_of, seen_of};
 ghost use Rattle.kfs_judge.specs.Walks.{ComesTo, ComesToTree, EndsAt, Fits, IsRowOf, seen_in};
+ghost use Rattle.kfs_model.specs.Looked.{looked_cells};
 
 use crate::check::Reason;
 use crate::reads::{Read, Seen};
@@ -47,7 +49,9 @@ pub fn judge_entries<A: Allocator + Copy>(
     requires creates { All IsCreate log.now.entries }
     requires count { length log.now.entries ≤ 4096 }
     // At every sound tree and all leases that agree with the reads, the entries come to this outcome one by one.
-    ensures { IfOk result (λ walk. (client : ClientRow) × IsRowOf (clients_of view.now) log.now.client client × ((source : List ℕ) (tree : Tree ℕ) (held : ℕ → Bool) → Fits client tree (map (entry_of source) log.now.entries) → Agrees walk.reads.entries (seen_in tree held) → ComesToTree client held tree (map (entry_of source) log.now.entries) walk.outcome)) }
+    ensures known { IfOk result (λ walk. (client : ClientRow) × IsRowOf (clients_of view.now) log.now.client client × ((source : List ℕ) (tree : Tree ℕ) (held : ℕ → Bool) → Fits client tree (map (entry_of source) log.now.entries) → Agrees walk.reads.entries (seen_in tree held) → ComesToTree client held tree (map (entry_of source) log.now.entries) walk.outcome)) }
+    ensures view_agrees { IfOk result (λ walk. Agrees walk.reads.entries (seen_of view.now log.now.client)) }
+    ensures among { IfOk result (λ walk. (client : ClientRow) → IsRowOf (clients_of view.now) log.now.client client → (source : List ℕ) → AreAmong walk.reads.entries (looked_cells client (seen_of view.now log.now.client) (map (entry_of source) log.now.entries))) }
 {
     let walk = walk_entries(alloc, view, log)?;
     Ok(walk)
@@ -63,6 +67,8 @@ fn walk_entries<A: Allocator + Copy>(
     requires count { length log.now.entries ≤ 4096 }
     // In every state that agrees with the reads, the run over its cells comes to this outcome.
     ensures known { IfOk result (λ walk. (client : ClientRow) × IsRowOf (clients_of view.now) log.now.client client × Always walk.reads.entries (λ state. (source : List ℕ) → ComesTo client state (map (entry_of source) log.now.entries) walk.outcome)) }
+    ensures view_agrees { IfOk result (λ walk. Agrees walk.reads.entries (seen_of view.now log.now.client)) }
+    ensures among { IfOk result (λ walk. (client : ClientRow) → IsRowOf (clients_of view.now) log.now.client client → (source : List ℕ) → AreAmong walk.reads.entries (looked_cells client (seen_of view.now log.now.client) (map (entry_of source) log.now.entries))) }
 {
     let client = view.client(log.client).unwrap();
     let mut scene = Scene::new(alloc, view, client);
@@ -89,10 +95,13 @@ fn enter_all<A: Allocator + Copy>(
     requires count { length entries.now ≤ 4096 }
     requires shown { (s : Sight) → over scene.old.draft s ≡ s }
     requires created { (n : ℕ) → has_created scene.old.draft n ≡ false }
+    requires written { IsWritten scene.old.draft [] }
     requires shifts { ShiftsBy 0 scene.old.draft }
-    ensures grows { Grows scene.old.recorder.reads.entries scene.new.recorder.reads.entries }
+    ensures goes { GoesOn scene.old.recorder scene.new.recorder }
     ensures client { scene.new.client.now ≡ scene.old.client.now }
     ensures known { IfOk result (λ fault. Always scene.new.recorder.reads.entries (λ state. (source : List ℕ) → EndsAt scene.old.client.now scene.new.draft state (map (entry_of source) entries.now) fault)) }
+    ensures among { OnOk result (Always scene.new.recorder.reads.entries (λ state. (source : List ℕ) → Within scene.old.recorder.reads.entries scene.new.recorder.reads.entries (looked_cells scene.old.client.now state (map (entry_of source) entries.now)))) }
+    ensures written { result ≡ Ok None → Always scene.new.recorder.reads.entries (λ state. (source : List ℕ) → IsWritten scene.new.draft (looked_cells scene.old.client.now state (map (entry_of source) entries.now))) }
 {
     for (index, entry) in entries.iter().enumerate() {
         if let Some(reason) = scene.enter(entry)? {

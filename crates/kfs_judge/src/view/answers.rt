@@ -2,7 +2,7 @@
 ghost use Rattle.std.specs.Prelude.{◌≡◌};
 ghost use Rattle.std.specs.Option.{option_map};
 ghost use Rattle.kfs_image.specs.Look.{IsAnswer};
-ghost use Rattle.kfs_model.specs.Lease.{row_of};
+ghost use Rattle.kfs_model.specs.Lease.{holds, row_of};
 ghost use Rattle.kfs_mode.specs.Clients.{AreDistinct};
 ghost use Rattle.kfs_judge.specs.View.{contents_of, leases_of, clients_of};
 
@@ -48,7 +48,9 @@ impl<A: Allocator> View<A> {
     }
 
     /// Whether the client holds a live write lease on the node. Takes no memory.
-    pub fn holds(&self, client: u32, number: u32) -> bool {
+    pub fn holds(&self, client: u32, number: u32) -> bool
+        ensures { result ≡ holds (leases_of self.now) client number }
+    {
         self.leases.holds(client, number)
     }
 }

@@ -1,8 +1,11 @@
--- The rows so far, and those of the entries that are left, are the rows of all.
-use Rattle.std.proofs.Common.{◌≡◌, ◌++◌, map}
+-- The rows so far, and those of the entries that are left, are the rows of all; each look was at a cell that the draft has.
+use Rattle.std.proofs.Common.{◌≡◌, ◌++◌, List, map}
 use Rattle.kfs_model.specs.FirstWrong.{same_header}
 use Rattle.kfs_model.specs.Plan.{header_now}
-use Rattle.kfs_judge.specs.Reads.{Always, Grows}
+use Rattle.kfs_model.specs.Sight.{Cell}
+use Rattle.kfs_judge.specs.Overlay.{IsWritten}
+use Rattle.kfs_judge.specs.Reads.{Always, Within}
+use Rattle.kfs_judge.specs.Recorders.{GoesOn}
 use Rattle.kfs_judge.specs.Rows.{keyed_node_row, changed_rows, shown_heads}
 use Rattle.kfs_judge.proofs.net.node_rows.Given as goal
 
@@ -10,6 +13,7 @@ abbrev pub invariant-loop-number : goal.invariant-loop-number
 invariant-loop-number g l = record {
   ready : (goal.iterator-loop-number g).can_next l.number-iterator;
   finite : (goal.iterator-loop-number g).is_finite l.number-iterator;
-  grows : Grows l.initial.recorder.reads.entries l.recorder.reads.entries;
+  goes : GoesOn l.initial.recorder l.recorder;
+  among : (among : List Cell) → IsWritten l.draft among → Within l.initial.recorder.reads.entries l.recorder.reads.entries among;
   rows : Always l.recorder.reads.entries (λ state. map keyed_node_row l.rows.items ++ changed_rows same_header header_now state.sight.head (shown_heads l.number-iterator) ≡ changed_rows same_header header_now state.sight.head (shown_heads l.draft.heads.entries));
 }

@@ -1,30 +1,32 @@
 -- Each entry leaves the run of the ones behind it, and the first bad one is the answer.
-use Rattle.std.proofs.Common.{◌≡◌, ℕ, ◌+◌, List, map, drop, length, ◌≤◌, Option, Some, None, Ok, ap, subst, ◌∙◌, arith}
+use Rattle.std.proofs.Common.{◌≡◌, ◌+◌, ◌++◌, map, drop, length, ◌≤◌, Some, None, Ok, ap, subst, ◌∙◌, arith}
 use Rattle.std.specs.Option.{option_map}
-use Rattle.kfs_model.specs.Sight.{Sight}
-use Rattle.kfs_model.specs.Check.{first_fault}
+use Rattle.kfs_model.specs.Check.{first_fault, looked, checks_of}
 use Rattle.kfs_model.specs.SeenAfter.{seen_after}
 use Rattle.kfs_entry.specs.Views.{entry_of}
-use Rattle.kfs_judge.specs.Overlay.{over, spot_of}
-use Rattle.kfs_judge.specs.Reads.{Always}
+use Rattle.kfs_judge.specs.Overlay.{over, spot_of, IsWritten}
+use Rattle.kfs_judge.specs.Reads.{Within}
 use Rattle.kfs_judge.specs.Spots.{reason_of}
 use Rattle.kfs_judge.proofs.Entering.{RunsOn, runs_first, runs_next, runs_fails, runs_out}
+use Rattle.kfs_judge.proofs.Looking.{LooksOn, looks_first, looks_next, looks_fails}
+use Rattle.kfs_judge.proofs.Recording.{goes_nowhere, goes_then}
 use Rattle.kfs_judge.proofs.Lists.{map-drop-cons, map-drop-past}
 use Rattle.kfs_judge.proofs.walk.enter_all.Goals as goal
 
 pub loop-index-init : goal.loop-index-init
 loop-index-init g c = record {
   client = λ i. c.args.scene.now.client.now;
-  grows = λ state agrees. agrees;
+  goes = goes_nowhere c.args.scene.now.recorder;
   shifts = c.requires.shifts;
   runs = λ source. runs_first c.args.scene.now.client.now c.args.scene.now.draft c.args.scene.now.recorder.reads.entries (map (entry_of source) c.args.entries.now) c.requires.shown c.requires.created;
+  looks = λ source. looks_first c.args.scene.now.client.now c.args.scene.now.draft c.args.scene.now.recorder.reads.entries (map (entry_of source) c.args.entries.now) c.requires.shown c.requires.created c.requires.written;
 }
 
-pub returns-in_err-reason-clause-grows : goal.returns-in_err-reason-clause-grows
-returns-in_err-reason-clause-grows g c state agrees = c.loop-index.invariant.grows state (c.in_err-reason.ensures.grows state agrees)
+pub returns-in_err-reason-clause-goes : goal.returns-in_err-reason-clause-goes
+returns-in_err-reason-clause-goes g c = goes_then c.loop-index.invariant.goes c.in_err-reason.ensures.goes
 
-pub returns-in-Some-clause-grows : goal.returns-in-Some-clause-grows
-returns-in-Some-clause-grows g c state agrees = c.loop-index.invariant.grows state (c.in_ok-reason.ensures.grows state agrees)
+pub returns-in-Some-clause-goes : goal.returns-in-Some-clause-goes
+returns-in-Some-clause-goes g c = goes_then c.loop-index.invariant.goes c.in_ok-reason.ensures.goes
 
 pub returns-in-Some-clause-known : goal.returns-in-Some-clause-known
 returns-in-Some-clause-known g c state agrees source =
@@ -34,14 +36,26 @@ returns-in-Some-clause-known g c state agrees source =
     let on = subst (λ es. RunsOn client c.loop-index.scene.draft c.loop-index.scene.recorder.reads.entries (map (entry_of source) c.args.entries.now) es c.loop-index.index)
     (map-drop-cons (entry_of source) c.args.entries.now c.loop-index.index item c.loop-index-test.true c.index-entries-index.is) (c.loop-index.invariant.runs source) in
     runs_fails client c.loop-index.scene.draft c.loop-index.scene.recorder.reads.entries c.enter.new.self.recorder.reads.entries (map (entry_of source) c.args.entries.now) rest (entry_of source item) c.loop-index.index (reason_of c.in-Some.reason)
-    on c.in_ok-reason.ensures.grows
-    (λ s a. subst (λ cl. first_fault (spot_of cl c.loop-index.scene.draft s) (entry_of source item) ≡ Some (reason_of c.in-Some.reason)) c.loop-index.invariant.client (c.in_ok-reason.ensures.known s a source ∙ ap (option_map reason_of) c.in-Some.is))
+    on c.in_ok-reason.ensures.goes.grows
+    (λ s a. subst (λ cl. first_fault (spot_of cl c.loop-index.scene.draft s) (entry_of source item) ≡ Some (reason_of c.in-Some.reason)) c.loop-index.invariant.client (c.in_ok-reason.ensures.known source s a ∙ ap (option_map reason_of) c.in-Some.is))
+    state agrees
+
+pub returns-in-Some-clause-among : goal.returns-in-Some-clause-among
+returns-in-Some-clause-among g c state agrees source =
+    let client = c.args.scene.now.client.now in
+    let item = c.index-entries-index.result in
+    let rest = map (entry_of source) (drop (c.loop-index.index + 1) c.args.entries.now) in
+    let on = subst (λ es. LooksOn client c.loop-index.scene.draft c.args.scene.now.recorder.reads.entries c.loop-index.scene.recorder.reads.entries (map (entry_of source) c.args.entries.now) es)
+    (map-drop-cons (entry_of source) c.args.entries.now c.loop-index.index item c.loop-index-test.true c.index-entries-index.is) (c.loop-index.invariant.looks source) in
+    looks_fails client c.loop-index.scene.draft c.args.scene.now.recorder.reads.entries c.loop-index.scene.recorder.reads.entries c.enter.new.self.recorder.reads.entries (map (entry_of source) c.args.entries.now) rest (entry_of source item)
+    on c.in_ok-reason.ensures.goes.grows
+    (λ s a. subst (λ cl. Within c.loop-index.scene.recorder.reads.entries c.enter.new.self.recorder.reads.entries (looked (spot_of cl c.loop-index.scene.draft s) (checks_of (spot_of cl c.loop-index.scene.draft s) (entry_of source item)))) c.loop-index.invariant.client (c.in_ok-reason.ensures.among source s a))
     state agrees
 
 pub loop-index-preserved : goal.loop-index-preserved
 loop-index-preserved g c = record {
   client = c.in_ok-reason.ensures.client ∙ c.loop-index.invariant.client;
-  grows = λ state agrees. c.loop-index.invariant.grows state (c.in_ok-reason.ensures.grows state agrees);
+  goes = goes_then c.loop-index.invariant.goes c.in_ok-reason.ensures.goes;
   shifts = c.in_ok-reason.ensures.shifts (ap Ok c.in_default.is) c.loop-index.index c.loop-index.invariant.shifts;
   runs = λ source.
       let client = c.args.scene.now.client.now in
@@ -50,10 +64,23 @@ loop-index-preserved g c = record {
       let on = subst (λ es. RunsOn client c.loop-index.scene.draft c.loop-index.scene.recorder.reads.entries (map (entry_of source) c.args.entries.now) es c.loop-index.index)
       (map-drop-cons (entry_of source) c.args.entries.now c.loop-index.index item c.loop-index-test.true c.index-entries-index.is) (c.loop-index.invariant.runs source) in
       runs_next client c.loop-index.scene.draft c.enter.new.self.draft c.loop-index.scene.recorder.reads.entries c.enter.new.self.recorder.reads.entries (map (entry_of source) c.args.entries.now) rest (entry_of source item) c.loop-index.index
-      on c.in_ok-reason.ensures.grows
-      (λ s a. subst (λ cl. first_fault (spot_of cl c.loop-index.scene.draft s) (entry_of source item) ≡ None) c.loop-index.invariant.client (c.in_ok-reason.ensures.known s a source ∙ ap (option_map reason_of) c.in_default.is))
-      (λ s. subst (λ cl. over c.enter.new.self.draft s ≡ seen_after cl (over c.loop-index.scene.draft s) (entry_of source item)) c.loop-index.invariant.client (c.in_ok-reason.ensures.shown (ap Ok c.in_default.is) source s))
-      (c.in_ok-reason.ensures.created (ap Ok c.in_default.is) source);
+      on c.in_ok-reason.ensures.goes.grows
+      (λ s a. subst (λ cl. first_fault (spot_of cl c.loop-index.scene.draft s) (entry_of source item) ≡ None) c.loop-index.invariant.client (c.in_ok-reason.ensures.known source s a ∙ ap (option_map reason_of) c.in_default.is))
+      (λ s. subst (λ cl. over c.enter.new.self.draft s ≡ seen_after cl (over c.loop-index.scene.draft s) (entry_of source item)) c.loop-index.invariant.client (c.in_ok-reason.ensures.shown source (ap Ok c.in_default.is) s))
+      (c.in_ok-reason.ensures.created source (ap Ok c.in_default.is));
+  looks = λ source.
+      let client = c.args.scene.now.client.now in
+      let item = c.index-entries-index.result in
+      let rest = map (entry_of source) (drop (c.loop-index.index + 1) c.args.entries.now) in
+      let on = subst (λ es. LooksOn client c.loop-index.scene.draft c.args.scene.now.recorder.reads.entries c.loop-index.scene.recorder.reads.entries (map (entry_of source) c.args.entries.now) es)
+      (map-drop-cons (entry_of source) c.args.entries.now c.loop-index.index item c.loop-index-test.true c.index-entries-index.is) (c.loop-index.invariant.looks source) in
+      looks_next client c.loop-index.scene.draft c.enter.new.self.draft c.args.scene.now.recorder.reads.entries c.loop-index.scene.recorder.reads.entries c.enter.new.self.recorder.reads.entries (map (entry_of source) c.args.entries.now) rest (entry_of source item)
+      on c.in_ok-reason.ensures.goes.grows
+      (λ s a. subst (λ cl. first_fault (spot_of cl c.loop-index.scene.draft s) (entry_of source item) ≡ None) c.loop-index.invariant.client (c.in_ok-reason.ensures.known source s a ∙ ap (option_map reason_of) c.in_default.is))
+      (λ s a. subst (λ cl. Within c.loop-index.scene.recorder.reads.entries c.enter.new.self.recorder.reads.entries (looked (spot_of cl c.loop-index.scene.draft s) (checks_of (spot_of cl c.loop-index.scene.draft s) (entry_of source item)))) c.loop-index.invariant.client (c.in_ok-reason.ensures.among source s a))
+      (λ s. subst (λ cl. over c.enter.new.self.draft s ≡ seen_after cl (over c.loop-index.scene.draft s) (entry_of source item)) c.loop-index.invariant.client (c.in_ok-reason.ensures.shown source (ap Ok c.in_default.is) s))
+      (c.in_ok-reason.ensures.created source (ap Ok c.in_default.is))
+      (λ s a among written. subst (λ cl. IsWritten c.enter.new.self.draft (looked (spot_of cl c.loop-index.scene.draft s) (checks_of (spot_of cl c.loop-index.scene.draft s) (entry_of source item)) ++ among)) c.loop-index.invariant.client (c.in_ok-reason.ensures.written source (ap Ok c.in_default.is) s a among written));
 }
 
 pub returns-clause-known : goal.returns-clause-known
@@ -63,3 +90,9 @@ returns-clause-known g c state agrees source =
     let on = subst (λ es. RunsOn client c.loop-index.scene.draft c.loop-index.scene.recorder.reads.entries (map (entry_of source) c.args.entries.now) es c.loop-index.index)
     (map-drop-past (entry_of source) c.args.entries.now c.loop-index.index past) (c.loop-index.invariant.runs source) in
     runs_out client c.loop-index.scene.draft c.loop-index.scene.recorder.reads.entries (map (entry_of source) c.args.entries.now) c.loop-index.index on state agrees
+
+pub returns-clause-among : goal.returns-clause-among
+returns-clause-among g c state agrees source = ((c.loop-index.invariant.looks source).looks state agrees).reads_among
+
+pub returns-clause-written : goal.returns-clause-written
+returns-clause-written g c _ state agrees source = ((c.loop-index.invariant.looks source).looks state agrees).written_among

@@ -1,42 +1,79 @@
 -- The run of the entries, and the net of the draft that they leave.
-use Rattle.std.proofs.Common.{◌≡◌, List, map, Some, None, Ok, Err, subst, ap, sym, ◌∙◌}
+use Rattle.std.proofs.Common.{map, Some, None, Ok, subst, ap, sym, ◌∙◌}
 use Rattle.std.specs.Option.{option_map}
 use Rattle.kfs_entry.specs.Views.{entry_of}
+use Rattle.kfs_model.specs.Looked.{looked_cells}
 use Rattle.kfs_judge.specs.Overlay.{over}
-use Rattle.kfs_judge.specs.Reads.{Agrees}
+use Rattle.kfs_judge.specs.Reads.{Agrees, AreAmong}
+use Rattle.kfs_judge.specs.View.{clients_of, seen_of}
 use Rattle.kfs_judge.specs.Walks.{EndsAt}
+use Rattle.kfs_judge.proofs.Lists.{row_has_number, one_row}
+use Rattle.kfs_judge.proofs.Recording.{agrees_from_none, among_from_none, goes_then, within_then}
 use Rattle.kfs_judge.proofs.walk.walk_entries.Goals as goal
 
-pub returns-in-Some : goal.returns-in-Some
-returns-in-Some g c =
-    let row = sym c.client.ensures ∙ ap (option_map (λ r. r.now)) c.unwrap-client.ensures in
-    record {
-      known = (
-        c.unwrap-client.result.now,
-        row,
-        λ state agrees source.
-            subst (λ cl. EndsAt cl c.enter_all.new.scene.draft state (map (entry_of source) c.args.log.now.entries) (Some c.in-Some.fault)) c.new-scene.ensures.client
-            (subst (λ es. EndsAt c.new-scene.result.client.now c.enter_all.new.scene.draft state (map (entry_of source) es) (Some c.in-Some.fault)) c.as_slice.ensures
-            (subst (λ f. EndsAt c.new-scene.result.client.now c.enter_all.new.scene.draft state (map (entry_of source) c.as_slice.result.now) f) c.in-Some.is
-            (c.in_ok-fault.ensures.known state (subst (λ es. Agrees es state) c.into_reads.ensures agrees) source))),
-      );
-    }
+pub returns-in-Some-clause-known : goal.returns-in-Some-clause-known
+returns-in-Some-clause-known g c = (
+  c.unwrap-client.result.now,
+  sym c.client.ensures ∙ ap (option_map (λ r. r.now)) c.unwrap-client.ensures,
+  λ state agrees source.
+      subst (λ cl. EndsAt cl c.enter_all.new.scene.draft state (map (entry_of source) c.args.log.now.entries) (Some c.in-Some.fault)) c.new-scene.ensures.client
+      (subst (λ es. EndsAt c.new-scene.result.client.now c.enter_all.new.scene.draft state (map (entry_of source) es) (Some c.in-Some.fault)) c.as_slice.ensures
+      (subst (λ f. EndsAt c.new-scene.result.client.now c.enter_all.new.scene.draft state (map (entry_of source) c.as_slice.result.now) f) c.in-Some.is
+      (c.in_ok-fault.ensures.known state (subst (λ es. Agrees es state) c.into_reads.ensures agrees) source))),
+)
 
-pub returns : goal.returns
-returns g c =
+pub returns-in-Some-clause-view_agrees : goal.returns-in-Some-clause-view_agrees
+returns-in-Some-clause-view_agrees g c =
     let row = sym c.client.ensures ∙ ap (option_map (λ r. r.now)) c.unwrap-client.ensures in
-    record {
-      known = (
-        c.unwrap-client.result.now,
-        row,
-        λ state agrees source.
-            let agreed = subst (λ es. Agrees es state) c.into_reads-2.ensures agrees in (
-              over c.enter_all.new.scene.draft state.sight,
-              subst (λ cl. EndsAt cl c.enter_all.new.scene.draft state (map (entry_of source) c.args.log.now.entries) None) c.new-scene.ensures.client
-                  (subst (λ es. EndsAt c.new-scene.result.client.now c.enter_all.new.scene.draft state (map (entry_of source) es) None) c.as_slice.ensures
-                  (subst (λ f. EndsAt c.new-scene.result.client.now c.enter_all.new.scene.draft state (map (entry_of source) c.as_slice.result.now) f) c.in_default.is
-                  (c.in_ok-fault.ensures.known state (c.in_ok-net.ensures.grows state agreed) source))),
-              c.in_ok-net.ensures.known state agreed,
-            ),
-      );
-    }
+    let shown = seen_of c.args.view.now c.args.log.now.client in
+    let seen = c.new-scene.ensures.seen ∙ ap (seen_of c.args.view.now) (row_has_number (clients_of c.args.view.now) c.args.log.now.client c.unwrap-client.result.now row) in
+    subst (λ es. Agrees es shown) (sym c.into_reads.ensures) (agrees_from_none shown c.new-scene.result.recorder c.enter_all.new.scene.recorder c.new-scene.ensures.none seen c.in_ok-fault.ensures.goes)
+
+pub returns-in-Some-clause-among : goal.returns-in-Some-clause-among
+returns-in-Some-clause-among g c client is source =
+    let row = sym c.client.ensures ∙ ap (option_map (λ r. r.now)) c.unwrap-client.ensures in
+    let shown = seen_of c.args.view.now c.args.log.now.client in
+    let seen = c.new-scene.ensures.seen ∙ ap (seen_of c.args.view.now) (row_has_number (clients_of c.args.view.now) c.args.log.now.client c.unwrap-client.result.now row) in
+    let agrees = agrees_from_none shown c.new-scene.result.recorder c.enter_all.new.scene.recorder c.new-scene.ensures.none seen c.in_ok-fault.ensures.goes in
+    let same = c.new-scene.ensures.client ∙ one_row (clients_of c.args.view.now) c.args.log.now.client c.unwrap-client.result.now client row is in
+    subst (λ reads. AreAmong reads (looked_cells client shown (map (entry_of source) c.args.log.now.entries))) (sym c.into_reads.ensures)
+    (subst (λ cl. AreAmong c.enter_all.new.scene.recorder.reads.entries (looked_cells cl shown (map (entry_of source) c.args.log.now.entries))) same
+    (subst (λ es. AreAmong c.enter_all.new.scene.recorder.reads.entries (looked_cells c.new-scene.result.client.now shown (map (entry_of source) es))) c.as_slice.ensures
+    (among_from_none shown c.new-scene.result.recorder c.enter_all.new.scene.recorder c.new-scene.ensures.none _ (c.in_ok-fault.ensures.among shown agrees source))))
+
+pub returns-clause-known : goal.returns-clause-known
+returns-clause-known g c = (
+  c.unwrap-client.result.now,
+  sym c.client.ensures ∙ ap (option_map (λ r. r.now)) c.unwrap-client.ensures,
+  λ state agrees source.
+      let agreed = subst (λ es. Agrees es state) c.into_reads-2.ensures agrees in (
+        over c.enter_all.new.scene.draft state.sight,
+        subst (λ cl. EndsAt cl c.enter_all.new.scene.draft state (map (entry_of source) c.args.log.now.entries) None) c.new-scene.ensures.client
+            (subst (λ es. EndsAt c.new-scene.result.client.now c.enter_all.new.scene.draft state (map (entry_of source) es) None) c.as_slice.ensures
+            (subst (λ f. EndsAt c.new-scene.result.client.now c.enter_all.new.scene.draft state (map (entry_of source) c.as_slice.result.now) f) c.in_default.is
+            (c.in_ok-fault.ensures.known state (c.in_ok-net.ensures.goes.grows state agreed) source))),
+        c.in_ok-net.ensures.known state agreed,
+      ),
+)
+
+pub returns-clause-view_agrees : goal.returns-clause-view_agrees
+returns-clause-view_agrees g c =
+    let row = sym c.client.ensures ∙ ap (option_map (λ r. r.now)) c.unwrap-client.ensures in
+    let shown = seen_of c.args.view.now c.args.log.now.client in
+    let seen = c.new-scene.ensures.seen ∙ ap (seen_of c.args.view.now) (row_has_number (clients_of c.args.view.now) c.args.log.now.client c.unwrap-client.result.now row) in
+    subst (λ es. Agrees es shown) (sym c.into_reads-2.ensures) (agrees_from_none shown c.new-scene.result.recorder c.net.new.self.recorder c.new-scene.ensures.none seen (goes_then c.in_ok-fault.ensures.goes c.in_ok-net.ensures.goes))
+
+pub returns-clause-among : goal.returns-clause-among
+returns-clause-among g c client is source =
+    let row = sym c.client.ensures ∙ ap (option_map (λ r. r.now)) c.unwrap-client.ensures in
+    let shown = seen_of c.args.view.now c.args.log.now.client in
+    let seen = c.new-scene.ensures.seen ∙ ap (seen_of c.args.view.now) (row_has_number (clients_of c.args.view.now) c.args.log.now.client c.unwrap-client.result.now row) in
+    let agrees = agrees_from_none shown c.new-scene.result.recorder c.enter_all.new.scene.recorder c.new-scene.ensures.none seen c.in_ok-fault.ensures.goes in
+    let cells = looked_cells c.new-scene.result.client.now shown (map (entry_of source) c.as_slice.result.now) in
+    let front = c.in_ok-fault.ensures.among shown agrees source in
+    let back = c.in_ok-net.ensures.among cells (c.in_ok-fault.ensures.written (ap Ok c.in_default.is) shown agrees source) in
+    let same = c.new-scene.ensures.client ∙ one_row (clients_of c.args.view.now) c.args.log.now.client c.unwrap-client.result.now client row is in
+    subst (λ reads. AreAmong reads (looked_cells client shown (map (entry_of source) c.args.log.now.entries))) (sym c.into_reads-2.ensures)
+    (subst (λ cl. AreAmong c.net.new.self.recorder.reads.entries (looked_cells cl shown (map (entry_of source) c.args.log.now.entries))) same
+    (subst (λ es. AreAmong c.net.new.self.recorder.reads.entries (looked_cells c.new-scene.result.client.now shown (map (entry_of source) es))) c.as_slice.ensures
+    (among_from_none shown c.new-scene.result.recorder c.net.new.self.recorder c.new-scene.ensures.none cells (within_then front back))))

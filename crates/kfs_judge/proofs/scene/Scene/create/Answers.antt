@@ -1,8 +1,15 @@
--- The new node has the client's uid and gid.
-use Rattle.std.proofs.Common.{◌∙◌}
+-- The new node has the client's uid and gid, and its cells were looked at.
+use Rattle.std.specs.Option.{option_map}
+use Rattle.std.proofs.Common.{ap, ◌++◌, ◌∙◌}
+use Rattle.kfs_model.specs.Check.{checks_of, looked}
+use Rattle.kfs_model.specs.Entry.{Create}
+use Rattle.kfs_model.specs.Sight.{NameIn, HeaderOf}
 use Rattle.kfs_entry.specs.Views.{kind_of}
 use Rattle.kfs_model.specs.SeenAfter.{seen_after}
-use Rattle.kfs_judge.specs.Overlay.{over, with_node}
+use Rattle.kfs_judge.specs.Overlay.{over, spot_of, with_node}
+use Rattle.kfs_judge.specs.Spots.{reason_of}
+use Rattle.kfs_judge.proofs.Looking.{create_looks, written_wider}
+use Rattle.kfs_judge.proofs.Recording.{left_is_part, right_is_part}
 use Rattle.kfs_judge.proofs.scene.Scene.create.Goals as goal
 
 pub returns-clause-shown : goal.returns-clause-shown
@@ -10,3 +17,11 @@ unfolding seen_after
 returns-clause-shown g c _ s =
     c.in_ok-add_node.ensures.shown s
     ∙ λ i. with_node c.args.key.0 c.args.key.1 c.args.number (record { kind = kind_of c.args.kind; mode = c.args.mode; uid = c.uid.ensures i; gid = c.gid.ensures i; links = 1; size = 0 }) (over c.args.self.now.draft s)
+
+pub returns-clause-written : goal.returns-clause-written
+returns-clause-written g c _ state agrees among written =
+    let p = spot_of c.args.self.now.client.now c.args.self.now.draft state in
+    let entry = Create c.args.key.0 c.args.key.1 c.args.number (kind_of c.args.kind) c.args.mode in
+    let front = looked p (checks_of p entry) in
+    let looks = create_looks p c.args.key.0 c.args.key.1 c.args.number (kind_of c.args.kind) c.args.mode (c.in_ok-fault.ensures.known state agrees (kind_of c.args.kind) c.args.mode ∙ ap (option_map reason_of) c.in_default.is) in
+    c.in_ok-add_node.ensures.written (front ++ among) (written_wider c.args.self.now.draft among (front ++ among) (right_is_part front among) written) (left_is_part front among (NameIn c.args.key.0 c.args.key.1) looks.0) (left_is_part front among (HeaderOf c.args.number) looks.1)

@@ -1,33 +1,60 @@
 -- Each check that passes leaves the ones behind it, and the first that fails is the answer.
-use Rattle.std.proofs.Common.{ap, sym, ◌∙◌, arith, ◌≤◌, length}
-use Rattle.kfs_model.specs.Check.{first_failing}
+use Rattle.std.proofs.Common.{ap, subst, ◌∙◌, map, arith, ◌≤◌, length}
+use Rattle.kfs_model.specs.Check.{first_failing, looked}
 use Rattle.std.specs.Option.{option_map}
+use Rattle.kfs_judge.specs.Reads.{IsPart}
 use Rattle.kfs_judge.specs.Spots.{check_of, reason_of, stands_in}
 use Rattle.kfs_judge.proofs.Failing.{failing-passes, failing-fails, failing-none}
 use Rattle.kfs_judge.proofs.Lists.{map-drop-cons, map-drop-past}
+use Rattle.kfs_judge.proofs.Looking.{looks_here, looks_behind}
+use Rattle.kfs_judge.proofs.Recording.{goes_nowhere, goes_then, within_same, within_then, within_wider, part_of_itself}
 use Rattle.kfs_judge.proofs.spot.Spot.first_fault.Goals as goal
 
-pub returns-in_err-reason-clause-grows : goal.returns-in_err-reason-clause-grows
-returns-in_err-reason-clause-grows g c state agrees = c.loop-check.invariant.grows state (c.in_err-reason.ensures.grows state agrees)
+pub loop-check-init : goal.loop-check-init
+loop-check-init g c = record {
+  goes = goes_nowhere c.args.recorder.now;
+  passed = λ state agrees. λ i. first_failing (stands_in c.args.self.now state) (map check_of c.args.checks.now);
+  left = λ state agrees. part_of_itself _;
+  among = λ state agrees. within_same _ _;
+}
 
-pub returns-in-Some-clause-grows : goal.returns-in-Some-clause-grows
-returns-in-Some-clause-grows g c state agrees = c.loop-check.invariant.grows state (c.in_ok-reason.ensures.grows state agrees)
+pub returns-in_err-reason-clause-goes : goal.returns-in_err-reason-clause-goes
+returns-in_err-reason-clause-goes g c = goes_then c.loop-check.invariant.goes c.in_err-reason.ensures.goes
+
+pub returns-in-Some-clause-goes : goal.returns-in-Some-clause-goes
+returns-in-Some-clause-goes g c = goes_then c.loop-check.invariant.goes c.in_ok-reason.ensures.goes
 
 pub returns-in-Some-clause-known : goal.returns-in-Some-clause-known
 returns-in-Some-clause-known g c state agrees =
     let p = stands_in c.args.self.now state in
-    c.loop-check.invariant.passed state (c.in_ok-reason.ensures.grows state agrees)
+    c.loop-check.invariant.passed state (c.in_ok-reason.ensures.goes.grows state agrees)
     ∙ ap (first_failing p) (map-drop-cons check_of c.args.checks.now c.loop-check.check-index c.check-item.result c.loop-check-test.true c.check-item.is)
     ∙ failing-fails p _ _ _ (c.in_ok-reason.ensures.known state agrees ∙ ap (option_map reason_of) c.in-Some.is)
 
+pub returns-in-Some-clause-among : goal.returns-in-Some-clause-among
+returns-in-Some-clause-among g c state agrees =
+    let p = stands_in c.args.self.now state in
+    let before = c.in_ok-reason.ensures.goes.grows state agrees in
+    let left = subst (λ checks. IsPart (looked p checks) (looked p (map check_of c.args.checks.now))) (map-drop-cons check_of c.args.checks.now c.loop-check.check-index c.check-item.result c.loop-check-test.true c.check-item.is) (c.loop-check.invariant.left state before) in
+    within_then (c.loop-check.invariant.among state before) (within_wider (λ cell there. left cell (looks_here p (check_of c.check-item.result) _ cell there)) (c.in_ok-reason.ensures.among state agrees))
+
 pub loop-check-preserved : goal.loop-check-preserved
 loop-check-preserved g c = record {
-  grows = λ state agrees. c.loop-check.invariant.grows state (c.in_ok-reason.ensures.grows state agrees);
+  goes = goes_then c.loop-check.invariant.goes c.in_ok-reason.ensures.goes;
   passed = λ state agrees.
       let p = stands_in c.args.self.now state in
-      c.loop-check.invariant.passed state (c.in_ok-reason.ensures.grows state agrees)
+      c.loop-check.invariant.passed state (c.in_ok-reason.ensures.goes.grows state agrees)
       ∙ ap (first_failing p) (map-drop-cons check_of c.args.checks.now c.loop-check.check-index c.check-item.result c.loop-check-test.true c.check-item.is)
       ∙ failing-passes p _ _ (c.in_ok-reason.ensures.known state agrees ∙ ap (option_map reason_of) c.in_default.is);
+  left = λ state agrees cell there.
+      let p = stands_in c.args.self.now state in
+      let left = subst (λ checks. IsPart (looked p checks) (looked p (map check_of c.args.checks.now))) (map-drop-cons check_of c.args.checks.now c.loop-check.check-index c.check-item.result c.loop-check-test.true c.check-item.is) (c.loop-check.invariant.left state (c.in_ok-reason.ensures.goes.grows state agrees)) in
+      left cell (looks_behind p (check_of c.check-item.result) _ (c.in_ok-reason.ensures.known state agrees ∙ ap (option_map reason_of) c.in_default.is) cell there);
+  among = λ state agrees.
+      let p = stands_in c.args.self.now state in
+      let before = c.in_ok-reason.ensures.goes.grows state agrees in
+      let left = subst (λ checks. IsPart (looked p checks) (looked p (map check_of c.args.checks.now))) (map-drop-cons check_of c.args.checks.now c.loop-check.check-index c.check-item.result c.loop-check-test.true c.check-item.is) (c.loop-check.invariant.left state before) in
+      within_then (c.loop-check.invariant.among state before) (within_wider (λ cell there. left cell (looks_here p (check_of c.check-item.result) _ cell there)) (c.in_ok-reason.ensures.among state agrees));
 }
 
 pub returns-clause-known : goal.returns-clause-known

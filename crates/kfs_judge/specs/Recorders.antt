@@ -1,0 +1,17 @@
+-- A recorder before and after a call.
+use Rattle.std.specs.Prelude.{◌≡◌}
+use Rattle.kfs_model.specs.Sight.{Seen}
+use Rattle.kfs_judge.specs.declared.reads.Recorder.{Recorder}
+use Rattle.kfs_judge.specs.Reads.{Agrees, Grows}
+use Rattle.kfs_judge.specs.View.{seen_of}
+
+module _ {A : Type 0} where
+  -- what the recorder's view shows to its client
+  abbrev pub seen_by : Recorder A → Seen
+  seen_by recorder = seen_of recorder.view.now recorder.client
+
+  -- the reads go on over the same view, and agree with it if they did
+  pub record GoesOn (old new : Recorder A) : Type 0 where
+    pub grows : Grows old.reads.entries new.reads.entries
+    pub same : seen_by new ≡ seen_by old
+    pub agrees : Agrees old.reads.entries (seen_by old) → Agrees new.reads.entries (seen_by new)
