@@ -1,5 +1,5 @@
 //! The rows of leases by node and client, and their ends in order.
-ghost use Rattle.std.specs.Prelude.{◌≡◌, ℕ, ◌<◌, ◌≤◌, ◌==◌, ◌||◌, IsTrue, IsSome, IfSome, IfNone, IfOk, OnOk, OnErr, option_map, is_some, None, false, if◌then◌else◌};
+ghost use Rattle.std.specs.Prelude.{◌≡◌, ℕ, ◌<◌, ◌≤◌, ◌==◌, ◌&&◌, ◌||◌, IsTrue, IsSome, IfSome, IfNone, IfOk, OnOk, OnErr, option_map, is_some, None, false, if◌then◌else◌};
 ghost use Rattle.std.specs.Ordering.{eq_by_cmp};
 ghost use Rattle.std.specs.BTreeMap as slots_of;
 ghost use Rattle.std.specs.BTreeSet as set;
@@ -23,6 +23,26 @@ pub(crate) struct Lease {
     pub(crate) kind: LeaseKind,
     /// The lease is live as long as the moment is before this one.
     pub(crate) end: u64,
+}
+
+impl LeaseKind {
+    fn is_write(self) -> bool
+        ensures { result ≡ model.is_write (kind_of self) }
+    {
+        match self {
+            LeaseKind::Read => false,
+            LeaseKind::Write => true,
+        }
+    }
+}
+
+impl Lease {
+    /// Whether the lease is live and excludes another client's lease of this kind.
+    fn excludes(&self, kind: LeaseKind, moment: u64) -> bool
+        ensures { result ≡ model.is_live moment (lease_of self.now) && (model.is_write (kind_of kind) || model.is_write (kind_of self.now.kind)) }
+    {
+        moment < self.end && (kind.is_write() || self.kind.is_write())
+    }
 }
 
 /// A lease of each client on each node at most.
@@ -64,16 +84,19 @@ impl<A: Allocator> Rows<A> {
         number: u32,
         kind: LeaseKind,
         moment: u64,
-    ) -> Option<u32> {
-        let rows = self
-            .leases
-            .range((Bound::Included((number, 0)), Bound::Unbounded));
-        let (key, _) = rows.take_while(|row| row.0.0 == number).find(|row| {
-            row.0.1 != client
-                && moment < row.1.end
-                && (kind == LeaseKind::Write || row.1.kind == LeaseKind::Write)
-        })?;
-        Some(key.1)
+    ) -> Option<u32>
+        ensures { result ≡ option_map (λ row. row.0.0) (model.in_conflict (record { rows = table_in self.now; moment = moment }) client number (kind_of kind)) }
+    {
+        let first = Bound::Included((number, 0));
+        for (key, lease) in self.leases.range((first, Bound::Unbounded)) {
+            if key.0 != number {
+                return None;
+            }
+            if key.1 != client && lease.excludes(kind, moment) {
+                return Some(key.1);
+            }
+        }
+        None
     }
 
     /// Takes the client's lease on the node out, and answers whether there was one.
