@@ -126,7 +126,7 @@ module _ (client number moment : ℕ) (kind : model.LeaseKind) where
       let on : (row.0.0 == number) ≡ true = grind (arith, nat_tests) in
       let apart : (row.0.1 == client) ≡ false = grind (arith, nat_tests) in
       let barred : bars row.0.1 (lease_of row.1) ≡ true =
-          ap (λ b. not b && model.is_live moment (lease_of row.1) && (model.is_write kind || model.is_write (lease_of row.1).kind)) apart ∙ excludes in
+      ap (λ b. not b && model.is_live moment (lease_of row.1) && (model.is_write kind || model.is_write (lease_of row.1).kind)) apart ∙ excludes in
       ap (λ b. cond b (cond (bars row.0.1 (lease_of row.1)) (Some row.0.1) (first_ahead rows)) None) on ∙ ap (λ b. cond b (Some row.0.1) (first_ahead rows)) barred
 
   none_later : (k : ℕ × ℕ) → number < k.0 → (rows : List Row) → AllByRecursion (λ q. by_node.compare k q ≡ Less) (keys_of rows) → find test rows ≡ None

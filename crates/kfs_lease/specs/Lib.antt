@@ -1,2 +1,3 @@
-pub mod Rows
 pub mod Faults
+pub mod Paths
+pub mod Rows

@@ -5,7 +5,7 @@ ghost use Rattle.kfs_mode.specs.Clients.{AreDistinct};
 ghost use Rattle.kfs_lease.specs.Faults.{fault_of};
 ghost use Rattle.kfs_lease.specs.declared.leases.LeaseFault.TheVariants.{OutOfMemory};
 
-use crate::path::{is_path, walk};
+use crate::path::{names_of, walk};
 use crate::rows::{Lease, LeaseKind, Rows};
 use kfs_image::Shape;
 use kfs_mode::{Client, find_client};
@@ -178,10 +178,10 @@ impl<A: Allocator + Clone> Leases<A> {
         let Some(row) = find_client(clients, client) else {
             return Err(LeaseFault::UnknownClient);
         };
-        if !is_path(path) {
+        let Some(names) = names_of(path) else {
             return Err(LeaseFault::BadPath);
-        }
-        let number = walk(shape, row, path)?;
+        };
+        let number = walk(shape, row, names)?;
         if end <= self.moment {
             return Err(LeaseFault::Past);
         }

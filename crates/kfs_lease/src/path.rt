@@ -1,16 +1,26 @@
 //! Paths from the root to a node.
-ghost use Rattle.std.specs.Prelude.{◌+◌, length};
+ghost use Rattle.std.specs.Prelude.{◌≡◌, ◌+◌, ◌==◌, ◌≤◌, ◌∷◌, ℕ, List, length, is_some, option_map, IsTrue, IsSomeAnd, IfOk, IfErr, Ok, Err};
 ghost use Rattle.std.specs.Option.{option_map_or};
-ghost use Rattle.std.specs.Iterator.{at_most};
+ghost use Rattle.std.specs.List.{list_all, position};
+ghost use Rattle.std.specs.Iterator.{at_most, YieldsFirstBy};
+ghost use Rattle.kfs_model.specs.Lease as model;
+ghost use Rattle.kfs_image.specs.Contents.{sight_of};
+ghost use Rattle.kfs_model.specs.Table.{get};
+ghost use Rattle.kfs_model.specs.Tree.{target};
+ghost use Rattle.kfs_entry.specs.Views.{header_of as header_shown};
+ghost use Rattle.kfs_lease.specs.Paths.{left_of, parts_left};
+ghost use Rattle.kfs_lease.specs.Faults.{fault_of};
 
 use crate::leases::LeaseFault;
-use kfs_image::{Answer, Cell, Kind, Name, Shape, look};
+use kfs_image::{Answer, Cell, Header, Kind, Name, Shape, look};
 use kfs_mode::{Client, Want, may};
 use std::alloc::Allocator;
 
+const ROOT: u32 = 1;
+
 /// The parts of a path between its slashes, from first to last.
 #[derive(Clone, Copy)]
-struct Parts<'a> {
+pub(crate) struct Parts<'a> {
     /// The bytes of the parts that are left, where there are any.
     rest: Option<&'a [u8]>,
 }
@@ -18,47 +28,79 @@ struct Parts<'a> {
 impl<'a> Iterator for Parts<'a> {
     type Item = &'a [u8];
 
+    ghost next_gives = { YieldsFirstBy (λ part. part.now) parts_left };
+
     ghost remaining = { λ parts. at_most (option_map_or (λ rest. length rest.now + 1) parts.rest 0) };
 
     fn next(&mut self) -> Option<&'a [u8]> {
-        let rest = self.rest?;
-        match rest.iter().position(|byte| *byte == b'/') {
-            Some(place) => {
-                self.rest = Some(&rest[place + 1..]);
-                Some(&rest[..place])
-            }
-            None => {
-                self.rest = None;
-                Some(rest)
-            }
-        }
+        let (part, rest) = split_part(self.rest?);
+        self.rest = rest;
+        Some(part)
     }
 }
 
-/// The names of a path in their order: none where it is `/`, else what stands between its slashes.
-fn parts_of(path: &[u8]) -> Parts<'_> {
-    match path {
+/// The bytes before the first slash, and those after it where there is one.
+fn split_part(bytes: &[u8]) -> (&[u8], Option<&[u8]>)
+    ensures parts { model.parts_of bytes.now ≡ result.0.now ∷ left_of result.1 }
+    ensures shorter { option_map_or (λ rest. length rest.now + 1) result.1 0 ≤ length bytes.now }
+{
+    match slash_in(bytes) {
+        Some(place) => (&bytes[..place], Some(&bytes[place + 1..])),
+        None => (bytes, None),
+    }
+}
+
+/// Where the first slash stands.
+fn slash_in(bytes: &[u8]) -> Option<usize>
+    ensures { result ≡ position (λ byte. byte == model.slash) bytes.now }
+{
+    bytes.iter().position(|byte| *byte == b'/')
+}
+
+/// The names of a path in their order, or none where it is neither `/` nor names each preceded by one
+/// `/`.
+pub(crate) fn names_of(path: &[u8]) -> Option<Parts<'_>>
+    ensures { option_map parts_left result ≡ model.names_of path.now }
+{
+    let parts = match path {
         [b'/'] => Parts { rest: None },
         [b'/', rest @ ..] => Parts { rest: Some(rest) },
-        _ => Parts { rest: Some(path) },
+        _ => return None,
+    };
+    if are_names(parts) { Some(parts) } else { None }
+}
+
+fn are_names(parts: Parts<'_>) -> bool
+    ensures { result ≡ list_all model.is_name (parts_left parts) }
+{
+    for part in parts {
+        if !is_name(part) {
+            return false;
+        }
     }
+    true
 }
 
-/// Whether the bytes are `/`, or names each preceded by one `/`.
-pub(crate) fn is_path(path: &[u8]) -> bool {
-    path.first() == Some(&b'/') && parts_of(path).all(|part| Name::new(part).is_some())
+fn is_name(bytes: &[u8]) -> bool
+    ensures { result ≡ model.is_name bytes.now }
+{
+    Name::new(bytes).is_some()
 }
 
-/// The number of the node at a path. The component of the least index that fails is answered; at it
-/// the order is `NotDirectory`, `NoSearch`, `NoSuchName`.
+/// The number of the node that the names lead to from the root. The component of the least index that
+/// fails is answered; at it the order is `NotDirectory`, `NoSearch`, `NoSuchName`.
 pub(crate) fn walk<A: Allocator>(
     shape: &Shape<A>,
     client: &Client,
-    path: &[u8],
-) -> Result<u32, LeaseFault> {
-    let mut number = 1;
-    for (index, part) in parts_of(path).enumerate() {
-        number = step(shape, client, number, part, index)?;
+    names: Parts<'_>,
+) -> Result<u32, LeaseFault>
+    requires { IsTrue (list_all model.is_name (parts_left names)) }
+    ensures ok { IfOk result (λ number. model.walked (sight_of shape.now) client.now 1 0 (parts_left names) ≡ Ok number) }
+    ensures err { IfErr result (λ fault. IsSomeAnd (fault_of fault) (λ f. model.walked (sight_of shape.now) client.now 1 0 (parts_left names) ≡ Err f)) }
+{
+    let mut number = ROOT;
+    for (index, name) in names.enumerate() {
+        number = step(shape, client, number, name, index)?;
     }
     Ok(number)
 }
@@ -70,8 +112,12 @@ fn step<A: Allocator>(
     dir: u32,
     component: &[u8],
     index: usize,
-) -> Result<u32, LeaseFault> {
-    let Answer::Header(Some(header)) = look(shape, &Cell::Header(dir)) else {
+) -> Result<u32, LeaseFault>
+    requires { IsTrue (model.is_name component.now) }
+    ensures ok { IfOk result (λ next. (names : List (List ℕ)) → model.walked (sight_of shape.now) client.now dir index (component.now ∷ names) ≡ model.walked (sight_of shape.now) client.now next (index + 1) names) }
+    ensures err { IfErr result (λ fault. (names : List (List ℕ)) → IsSomeAnd (fault_of fault) (λ f. model.walked (sight_of shape.now) client.now dir index (component.now ∷ names) ≡ Err f)) }
+{
+    let Some(header) = header_of(shape, dir) else {
         return Err(LeaseFault::NotDirectory(index));
     };
     if header.kind != Kind::Directory {
@@ -80,11 +126,28 @@ fn step<A: Allocator>(
     if !may(client, header.uid, header.gid, header.mode, Want::Search) {
         return Err(LeaseFault::NoSearch(index));
     }
-    let Some(name) = Name::new(component) else {
-        return Err(LeaseFault::NoSuchName(index));
-    };
-    match look(shape, &Cell::Name(dir, name)) {
-        Answer::Name(Some(number)) => Ok(number),
-        _ => Err(LeaseFault::NoSuchName(index)),
+    match target_of(shape, dir, component) {
+        Some(number) => Ok(number),
+        None => Err(LeaseFault::NoSuchName(index)),
+    }
+}
+
+fn header_of<A: Allocator>(shape: &Shape<A>, number: u32) -> Option<Header>
+    ensures { option_map header_shown result ≡ get shape.now.heads number }
+{
+    match look(shape, &Cell::Header(number)) {
+        Answer::Header(header) => header,
+        _ => None,
+    }
+}
+
+/// Where a name of a directory leads.
+fn target_of<A: Allocator>(shape: &Shape<A>, dir: u32, name: &[u8]) -> Option<u32>
+    requires { IsTrue (model.is_name name.now) }
+    ensures { result ≡ target shape.now.names dir name.now }
+{
+    match look(shape, &Cell::Name(dir, Name::new(name)?)) {
+        Answer::Name(number) => number,
+        _ => None,
     }
 }
