@@ -1,8 +1,11 @@
 //! Leases of clients on nodes, up to an end moment: read leases are shared, write leases exclusive.
-ghost use Rattle.std.specs.Prelude.{◌≡◌, ◌==◌, not, Ok, Err, IfOk, IfErr, OnOk, OnErr, IsSomeAnd};
+ghost use Rattle.std.specs.Prelude.{◌≡◌, ◌==◌, not, Ok, Err, IfOk, IfErr, OnOk, OnErr, IfSome, IsSomeAnd};
 ghost use Rattle.kfs_model.specs.Lease.{no_leases, holds, granted, dropped, ticked, without_gone};
 ghost use Rattle.kfs_mode.specs.Clients.{AreDistinct};
+ghost use Rattle.kfs_mode.specs.Clients.{AreDistinct};
+ghost use Rattle.kfs_image.specs.Contents.{sight_of};
 ghost use Rattle.kfs_lease.specs.Faults.{fault_of};
+ghost use Rattle.kfs_lease.specs.Rows.{kind_of};
 ghost use Rattle.kfs_lease.specs.declared.leases.LeaseFault.TheVariants.{OutOfMemory};
 
 use crate::path::{names_of, walk};

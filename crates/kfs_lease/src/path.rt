@@ -1,5 +1,5 @@
 //! Paths from the root to a node.
-ghost use Rattle.std.specs.Prelude.{◌≡◌, ◌+◌, ◌==◌, ◌≤◌, ◌∷◌, ℕ, List, length, is_some, option_map, IsTrue, IsSomeAnd, IfOk, IfErr, Ok, Err};
+ghost use Rattle.std.specs.Prelude.{◌≡◌, ◌+◌, ◌==◌, ◌≤◌, ◌∷◌, ℕ, List, length, false, option_map, IsTrue, IsSomeAnd, IfSome, IfNone, IfOk, IfErr, Some, Ok, Err};
 ghost use Rattle.std.specs.Option.{option_map_or};
 ghost use Rattle.std.specs.List.{list_all, position};
 ghost use Rattle.std.specs.Iterator.{at_most, YieldsFirstBy};
@@ -7,6 +7,7 @@ ghost use Rattle.kfs_model.specs.Lease as model;
 ghost use Rattle.kfs_image.specs.Contents.{sight_of};
 ghost use Rattle.kfs_model.specs.Table.{get};
 ghost use Rattle.kfs_model.specs.Tree.{target};
+ghost use Rattle.kfs_model.specs.Sight.{is_directory};
 ghost use Rattle.kfs_entry.specs.Views.{header_of as header_shown};
 ghost use Rattle.kfs_lease.specs.Paths.{left_of, parts_left};
 ghost use Rattle.kfs_lease.specs.Faults.{fault_of};
@@ -71,7 +72,7 @@ pub(crate) fn names_of(path: &[u8]) -> Option<Parts<'_>>
 }
 
 fn are_names(parts: Parts<'_>) -> bool
-    ensures { result ≡ list_all model.is_name (parts_left parts) }
+    ensures { result ≡ list_all model.is_name (parts_left parts.entry) }
 {
     for part in parts {
         if !is_name(part) {
@@ -95,8 +96,8 @@ pub(crate) fn walk<A: Allocator>(
     names: Parts<'_>,
 ) -> Result<u32, LeaseFault>
     requires { IsTrue (list_all model.is_name (parts_left names)) }
-    ensures ok { IfOk result (λ number. model.walked (sight_of shape.now) client.now 1 0 (parts_left names) ≡ Ok number) }
-    ensures err { IfErr result (λ fault. IsSomeAnd (fault_of fault) (λ f. model.walked (sight_of shape.now) client.now 1 0 (parts_left names) ≡ Err f)) }
+    ensures ok { IfOk result (λ number. model.walked (sight_of shape.now) client.now 1 0 (parts_left names.entry) ≡ Ok number) }
+    ensures err { IfErr result (λ fault. IsSomeAnd (fault_of fault) (λ f. model.walked (sight_of shape.now) client.now 1 0 (parts_left names.entry) ≡ Err f)) }
 {
     let mut number = ROOT;
     for (index, name) in names.enumerate() {
@@ -117,12 +118,9 @@ fn step<A: Allocator>(
     ensures ok { IfOk result (λ next. (names : List (List ℕ)) → model.walked (sight_of shape.now) client.now dir index (component.now ∷ names) ≡ model.walked (sight_of shape.now) client.now next (index + 1) names) }
     ensures err { IfErr result (λ fault. (names : List (List ℕ)) → IsSomeAnd (fault_of fault) (λ f. model.walked (sight_of shape.now) client.now dir index (component.now ∷ names) ≡ Err f)) }
 {
-    let Some(header) = header_of(shape, dir) else {
+    let Some(header) = directory(shape, dir) else {
         return Err(LeaseFault::NotDirectory(index));
     };
-    if header.kind != Kind::Directory {
-        return Err(LeaseFault::NotDirectory(index));
-    }
     if !may(client, header.uid, header.gid, header.mode, Want::Search) {
         return Err(LeaseFault::NoSearch(index));
     }
@@ -132,11 +130,17 @@ fn step<A: Allocator>(
     }
 }
 
-fn header_of<A: Allocator>(shape: &Shape<A>, number: u32) -> Option<Header>
-    ensures { option_map header_shown result ≡ get shape.now.heads number }
+/// The header of a directory.
+fn directory<A: Allocator>(shape: &Shape<A>, number: u32) -> Option<Header>
+    ensures header { IfSome result (λ header. get shape.now.heads number ≡ Some (header_shown header)) }
+    ensures kind { IfSome result (λ header. IsTrue (is_directory (Some (header_shown header)))) }
+    ensures none { IfNone result (is_directory (get shape.now.heads number) ≡ false) }
 {
     match look(shape, &Cell::Header(number)) {
-        Answer::Header(header) => header,
+        Answer::Header(Some(header)) => match header.kind {
+            Kind::Directory => Some(header),
+            Kind::File => None,
+        },
         _ => None,
     }
 }

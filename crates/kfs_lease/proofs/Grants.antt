@@ -1,0 +1,104 @@
+-- A grant, an ended lease and the refusals of both, from what each test found.
+use Rattle.std.proofs.Common.{◌≡◌, ℕ, ◌<◌, ◌≤◌, ◌==◌, Bool, true, false, cond, List, [], ◌∷◌, Option, Some, None, Result, Ok, Err, refl, sym, ap, ◌∙◌, arith}
+use Rattle.std.specs.Prelude.{nat_le, nat_lt, option_map, find, is_none, if◌then◌else◌}
+use Rattle.std.proofs.lemmas.Bool.Decides.{nat_tests}
+use Rattle.std.proofs.lemmas.Bool.{eqb-true}
+use Rattle.kfs_model.specs.Access.{Client}
+use Rattle.kfs_model.specs.Sight.{Sight}
+use Rattle.kfs_model.specs.Table.{get, insert, remove}
+use Rattle.kfs_model.specs.Lease.{Leases, Lease, LeaseKind, LeaseFault, Outcome, UnknownClient, Past, LeaseHeld, NoLeaseHeld, BadPath, refused, row_of, names_of, walked, in_conflict, granted_at, granted_by_walk, granted_on, granted, dropped}
+
+-- the row of a number has that number
+pub number_of_row : (clients : List Client) (number : ℕ) (client : Client) → Some client ≡ row_of clients number → client.number ≡ number
+number_of_row [] number client found = cc
+number_of_row (row ∷ rows) number client found = at (row.number == number) refl found (number_of_row rows number client)
+  where
+    at : (b : Bool) → (row.number == number) ≡ b → Some client ≡ cond b (Some row) (row_of rows number) → (Some client ≡ row_of rows number → client.number ≡ number) → client.number ≡ number
+    at true is found later = let same : client ≡ row = cc in ap (λ (c : Client). c.number) same ∙ eqb-true row.number number is
+    at false other found later = later found
+
+module _ (old : Leases) (sight : Sight) (clients : List Client) (number : ℕ) (path : List ℕ) (kind : LeaseKind) (end : ℕ) where
+  abbrev by_row : Option Client → Outcome
+  by_row row = elim row [ None ↦ refused UnknownClient old | Some client ↦ granted_on old sight (names_of path) client kind end ]
+
+  in_order : granted old sight clients number path kind end ≡ by_row (row_of clients number)
+  unfolding granted
+  in_order = refl
+
+  pub no_client : None ≡ row_of clients number → granted old sight clients number path kind end ≡ refused UnknownClient old
+  no_client none = in_order ∙ ap by_row (sym none)
+
+  module _ (client : Client) (row : Some client ≡ row_of clients number) where
+    on_path : granted old sight clients number path kind end ≡ granted_on old sight (names_of path) client kind end
+    on_path = in_order ∙ ap by_row (sym row)
+
+    pub no_path : None ≡ names_of path → granted old sight clients number path kind end ≡ refused BadPath old
+    no_path none = on_path ∙ ap (λ names. granted_on old sight names client kind end) (sym none)
+
+    module _ (names : List (List ℕ)) (path_names : Some names ≡ names_of path) where
+      on_walk : granted old sight clients number path kind end ≡ granted_by_walk old (walked sight client 1 0 names) client kind end
+      on_walk = on_path ∙ ap (λ names. granted_on old sight names client kind end) (sym path_names)
+
+      pub no_node : (fault : LeaseFault) → walked sight client 1 0 names ≡ Err fault → granted old sight clients number path kind end ≡ refused fault old
+      no_node fault stopped = on_walk ∙ ap (λ walk. granted_by_walk old walk client kind end) stopped
+
+      module _ (node : ℕ) (reached : walked sight client 1 0 names ≡ Ok node) where
+        at_node : granted old sight clients number path kind end ≡ granted_at old client node kind end
+        at_node = on_walk ∙ ap (λ walk. granted_by_walk old walk client kind end) reached
+
+        abbrev after_past : Option ((ℕ × ℕ) × Lease) → Outcome
+        after_past conflict = elim conflict [
+          | Some row ↦ refused (LeaseHeld row.0.0) old
+          | None ↦ (Ok node, record old { rows = insert old.rows (client.number, node) (record { kind = kind; end = end }) })
+        ]
+
+        abbrev in_time : Bool → Outcome
+        in_time past = if past then refused Past old else after_past (in_conflict old client.number node kind)
+
+        pub in_the_past : end ≤ old.moment → granted old sight clients number path kind end ≡ refused Past old
+        in_the_past over = let past : nat_le end old.moment ≡ true = grind (arith, nat_tests) in at_node ∙ ap in_time past
+
+        later : old.moment < end → granted old sight clients number path kind end ≡ after_past (in_conflict old number node kind)
+        later before =
+            let past : nat_le end old.moment ≡ false = grind (arith, nat_tests) in
+            at_node ∙ ap in_time past ∙ ap (λ n. after_past (in_conflict old n node kind)) (number_of_row clients number client row)
+
+        pub held_by_another : old.moment < end → (holder : ℕ) → Some holder ≡ option_map (λ row. row.0.0) (in_conflict old number node kind)
+            → granted old sight clients number path kind end ≡ refused (LeaseHeld holder) old
+        held_by_another before holder is = later before ∙ at (in_conflict old number node kind) is
+          where
+            at : (o : Option ((ℕ × ℕ) × Lease)) → Some holder ≡ option_map (λ row. row.0.0) o → after_past o ≡ refused (LeaseHeld holder) old
+            at None is = cc
+            at (Some row) is = let same : holder ≡ row.0.0 = cc in ap (λ h. refused (LeaseHeld h) old) (sym same)
+
+        pub given : old.moment < end → None ≡ option_map (λ row. row.0.0) (in_conflict old number node kind)
+            → granted old sight clients number path kind end ≡ (Ok node, record old { rows = insert old.rows (number, node) (record { kind = kind; end = end }) })
+        given before is =
+            later before ∙ at (in_conflict old number node kind) is
+            ∙ (λ i. (Ok node, record old { rows = insert old.rows (number_of_row clients number client row i, node) (record { kind = kind; end = end }) }))
+          where
+            at : (o : Option ((ℕ × ℕ) × Lease)) → None ≡ option_map (λ row. row.0.0) o
+                → after_past o ≡ (Ok node, record old { rows = insert old.rows (client.number, node) (record { kind = kind; end = end }) })
+            at None is = refl
+            at (Some row) is = cc
+
+module _ (old : Leases) (clients : List Client) (number node : ℕ) where
+  abbrev by_lease : Bool → Outcome
+  by_lease none = if none then refused NoLeaseHeld old else (Ok node, record old { rows = remove old.rows (number, node) })
+
+  abbrev by_client : Bool → Outcome
+  by_client none = if none then refused UnknownClient old else by_lease (is_none (get old.rows (number, node)))
+
+  drop_in_order : dropped old clients number node ≡ by_client (is_none (row_of clients number))
+  unfolding dropped
+  drop_in_order = refl
+
+  pub drop_without_client : is_none (row_of clients number) ≡ true → dropped old clients number node ≡ refused UnknownClient old
+  drop_without_client none = drop_in_order ∙ ap by_client none
+
+  pub drop_without_lease : is_none (row_of clients number) ≡ false → is_none (get old.rows (number, node)) ≡ true → dropped old clients number node ≡ refused NoLeaseHeld old
+  drop_without_lease some none = drop_in_order ∙ ap by_client some ∙ ap by_lease none
+
+  pub lease_dropped : is_none (row_of clients number) ≡ false → is_none (get old.rows (number, node)) ≡ false
+      → dropped old clients number node ≡ (Ok node, record old { rows = remove old.rows (number, node) })
+  lease_dropped some held = drop_in_order ∙ ap by_client some ∙ ap by_lease held
