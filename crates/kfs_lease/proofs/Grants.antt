@@ -1,6 +1,6 @@
 -- A grant, an ended lease and the refusals of both, from what each test found.
-use Rattle.std.proofs.Common.{◌≡◌, ℕ, ◌<◌, ◌≤◌, ◌==◌, Bool, true, false, cond, List, [], ◌∷◌, Option, Some, None, Result, Ok, Err, refl, sym, ap, ◌∙◌, arith}
-use Rattle.std.specs.Prelude.{nat_le, nat_lt, option_map, find, is_none, if◌then◌else◌}
+use Rattle.std.proofs.Common.{◌≡◌, ℕ, ◌<◌, ◌≤◌, ◌==◌, Bool, true, false, cond, not, List, [], ◌∷◌, Option, Some, None, Ok, Err, refl, sym, ap, ◌∙◌, arith}
+use Rattle.std.specs.Prelude.{nat_le, option_map, is_none, is_some, IfSome, IsSomeAnd, if◌then◌else◌}
 use Rattle.std.proofs.lemmas.Bool.Decides.{nat_tests}
 use Rattle.std.proofs.lemmas.Bool.{eqb-true}
 use Rattle.kfs_model.specs.Access.{Client}
@@ -81,6 +81,22 @@ module _ (old : Leases) (sight : Sight) (clients : List Client) (number : ℕ) (
                 → after_past o ≡ (Ok node, record old { rows = insert old.rows (client.number, node) (record { kind = kind; end = end }) })
             at None is = refl
             at (Some row) is = cc
+
+-- whether a look-up found nothing, where what it finds is shown by a function
+pub none_shown : {X Y : Type 0} (f : X → Y) (o : Option X) (shown : Option Y) → option_map f o ≡ shown → is_none shown ≡ not (is_some o)
+none_shown {X = X} f o shown same = ap is_none (sym same) ∙ at o
+  where
+    at : (o : Option X) → is_none (option_map f o) ≡ not (is_some o)
+    at None = refl
+    at (Some x) = refl
+
+pub some_not_none : {X : Type 0} (o : Option X) → is_none o ≡ not (is_some o)
+some_not_none None = refl
+some_not_none (Some x) = refl
+
+pub if_weaker : {X : Type 0} (o : Option X) (P Q : X → Type 0) → ((x : X) → P x → Q x) → IsSomeAnd o P → IfSome o Q
+if_weaker None P Q h p = tt
+if_weaker (Some x) P Q h p = h x p
 
 module _ (old : Leases) (clients : List Client) (number node : ℕ) where
   abbrev by_lease : Bool → Outcome

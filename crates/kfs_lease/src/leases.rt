@@ -2,7 +2,6 @@
 ghost use Rattle.std.specs.Prelude.{◌≡◌, ◌==◌, not, Ok, Err, IfOk, IfErr, OnOk, OnErr, IfSome, IsSomeAnd};
 ghost use Rattle.kfs_model.specs.Lease.{no_leases, holds, granted, dropped, ticked, without_gone};
 ghost use Rattle.kfs_mode.specs.Clients.{AreDistinct};
-ghost use Rattle.kfs_mode.specs.Clients.{AreDistinct};
 ghost use Rattle.kfs_image.specs.Contents.{sight_of};
 ghost use Rattle.kfs_lease.specs.Faults.{fault_of};
 ghost use Rattle.kfs_lease.specs.Rows.{kind_of};
@@ -123,19 +122,20 @@ impl<A: Allocator> Leases<A> {
         number: u32,
     ) -> Result<(), LeaseFault>
         requires distinct { AreDistinct clients.now }
+        ensures ok { OnOk result (dropped self.old clients.now client number ≡ (Ok number, self.new)) }
+        ensures err { IfErr result (λ fault. IsSomeAnd (fault_of fault) (λ f. dropped self.old clients.now client number ≡ (Err f, self.new))) }
     {
         if find_client(clients, client).is_none() {
             return Err(LeaseFault::UnknownClient);
         }
-        if self.rows.take(client, number) {
-            Ok(())
-        } else {
-            Err(LeaseFault::NoLeaseHeld)
+        if !self.rows.take(client, number) {
+            return Err(LeaseFault::NoLeaseHeld);
         }
+        Ok(())
     }
 
-    #[tactic(auto, unfolding(kfs_model::specs::Lease::ticked, crate::specs::Rows::live_at))]
     /// Goes to a moment, and ends the leases that are no longer live. Takes no memory.
+    #[tactic(auto, unfolding(kfs_model::specs::Lease::ticked, crate::specs::Rows::live_at))]
     pub fn tick(&mut self, moment: u64) -> Result<(), LeaseFault>
         ensures ok { OnOk result (ticked self.old moment ≡ (Ok moment, self.new)) }
         ensures err { IfErr result (λ fault. IsSomeAnd (fault_of fault) (λ f. ticked self.old moment ≡ (Err f, self.new))) }
@@ -148,7 +148,6 @@ impl<A: Allocator> Leases<A> {
         Ok(())
     }
 
-    #[tactic(auto, unfolding(kfs_model::specs::Lease::without_gone, crate::specs::Rows::without_node))]
     /// Ends all leases on a node that goes. Takes no memory.
     pub fn remove_node(&mut self, number: u32)
         ensures { self.new ≡ without_gone self.old (λ node. not (node == number)) }
@@ -177,6 +176,9 @@ impl<A: Allocator + Clone> Leases<A> {
         end: u64,
     ) -> Result<u32, LeaseFault>
         requires distinct { AreDistinct clients.now }
+        ensures ok { IfOk result (λ number. granted self.old (sight_of shape.now) clients.now client path.now (kind_of kind) end ≡ (Ok number, self.new)) }
+        ensures err { IfErr result (λ fault. IfSome (fault_of fault) (λ f. granted self.old (sight_of shape.now) clients.now client path.now (kind_of kind) end ≡ (Err f, self.new))) }
+        ensures unchanged { OnErr result (self.new ≡ self.old) }
     {
         let Some(row) = find_client(clients, client) else {
             return Err(LeaseFault::UnknownClient);

@@ -105,6 +105,7 @@ impl<A: Allocator> Rows<A> {
         ensures indexed { IsIndexed self.new }
         ensures found { result ≡ is_some (get (table_in self.old) (client, number)) }
         ensures table { table_in self.new ≡ remove (table_in self.old) (client, number) }
+        ensures kept { result ≡ false → table_in self.new ≡ table_in self.old }
         ensures fewer { IsSome (slots_of.get by_node.compare self.old.leases (number, client)) → slots_of.btree_map_len self.new.leases < slots_of.btree_map_len self.old.leases }
     {
         let key = (number, client);

@@ -1,6 +1,6 @@
 use Rattle.std.proofs.Common.{ℕ, option_map, sym, ap, ◌∙◌, None}
 use Rattle.std.specs.Prelude.{is_some}
-use Rattle.kfs_lease.specs.Rows.{lease_of, ends_at}
+use Rattle.kfs_lease.specs.Rows.{lease_of, table_of, ends_at}
 use Rattle.kfs_lease.proofs.RowTables.{get-table_of, table_removed}
 use Rattle.kfs_lease.proofs.RowSteps.{indexed_set, end_left}
 use Rattle.kfs_lease.proofs.rows.Rows.take.Goals as goal
@@ -22,3 +22,6 @@ returns-in-None-clause-found g c = ap is_some (ap (option_map lease_of) c.in-Non
 
 pub returns-in-None-clause-table : goal.returns-in-None-clause-table
 returns-in-None-clause-table g c = table_removed c.args.self.now.leases c.remove.new.self (c.args.number, c.args.client) c.remove.ensures.updates.0
+
+pub returns-in-None-clause-kept : goal.returns-in-None-clause-kept
+returns-in-None-clause-kept g c = λ none. ap table_of c.in-None.ensures.unchanged

@@ -1,0 +1,28 @@
+use Rattle.std.proofs.Common.{not, Ok, Err, sym, ap, ◌∙◌}
+use Rattle.kfs_model.specs.Lease.{Leases, NoLeaseHeld, dropped}
+use Rattle.kfs_lease.specs.Rows.{table_in}
+use Rattle.kfs_lease.proofs.Grants.{drop_without_client, drop_without_lease, lease_dropped, none_shown, some_not_none}
+use Rattle.kfs_lease.proofs.leases.Leases.drop_lease.Goals as goal
+
+pub returns-then-is_none-clause-err : goal.returns-then-is_none-clause-err
+returns-then-is_none-clause-err g c =
+    drop_without_client c.args.self.now c.args.clients.now c.args.client c.args.number
+    (none_shown _ c.find_client.result _ c.find_client.ensures ∙ ap not c.if-is_none.ensures)
+
+pub returns-then-not-take-clause-err : goal.returns-then-not-take-clause-err
+returns-then-not-take-clause-err g c =
+    let old : Leases = record { rows = table_in c.self.inside.rows; moment = c.self.inside.moment } in
+    ap (λ (l : Leases). dropped l c.args.clients.now c.args.client c.args.number) (sym c.self.view_is)
+    ∙ drop_without_lease old c.args.clients.now c.args.client c.args.number
+    (none_shown _ c.find_client.result _ c.find_client.ensures ∙ ap not c.if-is_none.ensures)
+    (some_not_none _ ∙ ap not (sym c.take.ensures.found ∙ c.if-not-take.true))
+    ∙ (λ i. (Err NoLeaseHeld, record { rows = sym (c.take.ensures.kept c.if-not-take.true) i; moment = c.self.inside.moment }))
+
+pub returns-clause-ok : goal.returns-clause-ok
+returns-clause-ok g c =
+    let old : Leases = record { rows = table_in c.self.inside.rows; moment = c.self.inside.moment } in
+    ap (λ (l : Leases). dropped l c.args.clients.now c.args.client c.args.number) (sym c.self.view_is)
+    ∙ lease_dropped old c.args.clients.now c.args.client c.args.number
+    (none_shown _ c.find_client.result _ c.find_client.ensures ∙ ap not c.if-is_none.ensures)
+    (some_not_none _ ∙ ap not (sym c.take.ensures.found ∙ c.if-not-take.false))
+    ∙ (λ i. (Ok c.args.number, record { rows = sym c.take.ensures.table i; moment = c.self.inside.moment }))
