@@ -1,14 +1,17 @@
 -- Recorded reads: equal keys are equal cells, and what a later record agrees with.
-use Rattle.std.specs.Prelude.{◌≡◌, ℕ, Bool, true, false, nat_eq, ◌==◌, cond, ◌++◌, unwrap_or, List, [], ◌∷◌, Some, refl}
+use Rattle.std.specs.Prelude.{◌≡◌, ◌&&◌, ◌≢◌, ℕ, Bool, true, false, nat_eq, ◌==◌, cond, ◌++◌, unwrap_or, List, [], ◌∷◌, Some, None, refl}
 use Rattle.std.proofs.Common.{ap, sym, subst, ◌∙◌}
 use mathlib.Core.Bool.{true≢false}
 use Rattle.std.specs.Cmp.{first_so, second_so}
-use Rattle.std.specs.Cmp.Lexicographic.{same_text, pointwise}
+use Rattle.std.specs.Cmp.Lexicographic.{same_text, pointwise, bytes_decides}
 use Rattle.std.specs.Map.{lookup}
 use Rattle.kfs_judge.specs.declared.reads.Seen.{Seen as CodeSeen}
-use Rattle.kfs_judge.specs.Reads.{cell_of, answer_of, Agrees, AgreesAlong, Always, Grows}
+use Rattle.kfs_judge.specs.Reads.{cell_of, answer_of, Agrees, AgreesAlong, Always, AreOnce, Grows}
 use Rattle.kfs_model.specs.Sight.{Seen, answer}
-use Rattle.std.proofs.lemmas.Bool.{eqb-true}
+use Rattle.std.proofs.lemmas.Bool.{eqb-true, eq-eqb}
+use Rattle.std.proofs.lemmas.List.Elements.{All-from_recursion}
+use Rattle.std.proofs.lemmas.List.Quantifiers.{all_pairs_push}
+use Rattle.std.specs.List.{AllByRecursion}
 use Rattle.kfs_image.specs.declared.cell.Cell.{Cell as CodeCell}
 use Rattle.kfs_image.specs.declared.cell.Cell.TheVariants as cells
 use Rattle.kfs_judge.specs.declared.reads.Read.{Read}
@@ -85,3 +88,27 @@ AgreesAlong-push (e ∷ es) read seen state agrees is = (agrees.0, AgreesAlong-p
 -- what agrees with the earlier reads and with one more
 pub agrees_by_one : (old new : List (Read × CodeSeen)) (read : Read) (seen : CodeSeen) (state : Seen) → new ≡ old ++ (read, seen) ∷ [] → answer state (cell_of read) ≡ answer_of seen → Agrees old state → Agrees new state
 agrees_by_one old new read seen state is shows agrees = record { each = subst (λ es. AgreesAlong es state) (sym is) (AgreesAlong-push old read seen state agrees.each shows) }
+
+-- ---- each read once
+
+same_read_itself : (read : Read) → same_read read read ≡ true
+same_read_itself (reads.Lease n) = eq-eqb n n refl
+same_read_itself (reads.Look cell) = same_look_itself cell
+  where
+    same_look_itself : (cell : CodeCell) → same_read (reads.Look cell) (reads.Look cell) ≡ true
+    same_look_itself (cells.Header n) = eq-eqb n n refl
+    same_look_itself (cells.Count n) = eq-eqb n n refl
+    same_look_itself (cells.Parent n) = eq-eqb n n refl
+    same_look_itself (cells.Name d m) = λ i. eq-eqb d d refl i && (bytes_decides m m).1 refl i
+
+unread : (entries : List (Read × CodeSeen)) (read : Read) → lookup (same_read read) entries ≡ None → AllByRecursion (λ e. e.0 ≢ read) entries
+unread [] read none = tt
+unread (e ∷ es) read none = by_test (unread es read) (same_read read e.0) refl none
+  where
+    by_test : (lookup (same_read read) es ≡ None → AllByRecursion (λ e'. e'.0 ≢ read) es) → (same : Bool) → same_read read e.0 ≡ same → cond same (Some e.1) (lookup (same_read read) es) ≡ None → AllByRecursion (λ e'. e'.0 ≢ read) (e ∷ es)
+    by_test rest true same none' = cc
+    by_test rest false other none' = ((λ is. absurd (true≢false (sym (same_read_itself read) ∙ ap (same_read read) (sym is) ∙ other))), rest none')
+
+-- a read that wasn't there goes last
+pub once_by_one : (old new : List (Read × CodeSeen)) (read : Read) (seen : CodeSeen) → new ≡ old ++ (read, seen) ∷ [] → lookup (same_read read) old ≡ None → AreOnce old → AreOnce new
+once_by_one old new read seen is none once = subst AreOnce (sym is) (all_pairs_push (λ e f. e.0 ≢ f.0) old (read, seen) once (All-from_recursion (λ e. e.0 ≢ read) old (unread old read none)))

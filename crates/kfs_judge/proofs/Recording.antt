@@ -6,20 +6,21 @@ use Rattle.kfs_model.specs.Sight.{Cell, Seen}
 use Rattle.kfs_judge.specs.declared.reads.Read.{Read}
 use Rattle.kfs_judge.specs.declared.reads.Seen.{Seen as CodeSeen}
 use Rattle.kfs_judge.specs.declared.reads.Recorder.{Recorder}
-use Rattle.kfs_judge.specs.Reads.{cell_of, Agrees, AreAmong, IsPart, Within}
+use Rattle.kfs_judge.specs.Reads.{cell_of, Agrees, AreAmong, AreOnce, IsPart, Within}
 use Rattle.kfs_judge.specs.Recorders.{GoesOn, seen_by}
 
 -- ---- the reads that agree with the view
 
 module _ {A : Type 0} where
   pub goes_nowhere : (recorder : Recorder A) → GoesOn recorder recorder
-  goes_nowhere recorder = record { grows = λ state agrees. agrees; same = refl; agrees = λ agrees. agrees }
+  goes_nowhere recorder = record { grows = λ state agrees. agrees; same = refl; agrees = λ agrees. agrees; once = λ once. once }
 
   pub goes_then : {first then last : Recorder A} → GoesOn first then → GoesOn then last → GoesOn first last
   goes_then front back = record {
     grows = λ state agrees. front.grows state (back.grows state agrees);
     same = back.same ∙ front.same;
     agrees = λ agrees. back.agrees (front.agrees agrees);
+    once = λ once. back.once (front.once once);
   }
 
 -- ---- the cells of what is read
@@ -86,3 +87,6 @@ module _ {A : Type 0} (shown : Seen) (fresh recorder : Recorder A) (none : fresh
       at : Contains fresh.reads.entries (slice_index_or recorder.reads.entries k d) ⊎ Contains cells (cell_of (slice_index_or recorder.reads.entries k d).0) → Contains cells (cell_of (slice_index_or recorder.reads.entries k d).0)
       at (inl earlier) = absurd (no_read (slice_index_or recorder.reads.entries k d) (subst (λ entries. Contains entries (slice_index_or recorder.reads.entries k d)) none earlier))
       at (inr here) = here
+
+  pub once_from_none : GoesOn fresh recorder → AreOnce recorder.reads.entries
+  once_from_none goes = goes.once (subst AreOnce (sym none) (λ i j d before inside. absurd (omega (arith, inside))))

@@ -1,5 +1,5 @@
 -- Recorded reads as the cells of the definitions with their answers, and the states that agree with them.
-use Rattle.std.specs.Prelude.{◌≡◌, ◌⊎◌, pos, List, All, Contains}
+use Rattle.std.specs.Prelude.{◌≡◌, ◌≢◌, ◌⊎◌, pos, List, All, AllPairs, Contains}
 use Rattle.std.specs.Option.{option_map}
 use Rattle.std.specs.List.{AllByRecursion}
 use Rattle.kfs_image.specs.declared.cell.Cell.{Cell as CodeCell}
@@ -59,3 +59,7 @@ AreAmong entries among = All (λ e. Contains among (cell_of e.0)) entries
 -- each of the few cells is one of the many
 abbrev pub IsPart : List Cell → List Cell → Type 0
 IsPart few many = (cell : Cell) → Contains few cell → Contains many cell
+
+-- no read stands twice
+abbrev pub AreOnce : List (Read × CodeSeen) → Type 0
+AreOnce entries = AllPairs (λ e f. e.0 ≢ f.0) entries

@@ -2,7 +2,7 @@
 use Rattle.std.specs.Prelude.{◌≡◌}
 use Rattle.kfs_model.specs.Sight.{Seen}
 use Rattle.kfs_judge.specs.declared.reads.Recorder.{Recorder}
-use Rattle.kfs_judge.specs.Reads.{Agrees, Grows}
+use Rattle.kfs_judge.specs.Reads.{Agrees, AreOnce, Grows}
 use Rattle.kfs_judge.specs.View.{seen_of}
 
 module _ {A : Type 0} where
@@ -10,8 +10,9 @@ module _ {A : Type 0} where
   abbrev pub seen_by : Recorder A → Seen
   seen_by recorder = seen_of recorder.view.now recorder.client
 
-  -- the reads go on over the same view, and agree with it if they did
+  -- the reads go on over the same view, agree with it if they did, and stand once if they did
   pub record GoesOn (old new : Recorder A) : Type 0 where
     pub grows : Grows old.reads.entries new.reads.entries
     pub same : seen_by new ≡ seen_by old
     pub agrees : Agrees old.reads.entries (seen_by old) → Agrees new.reads.entries (seen_by new)
+    pub once : AreOnce old.reads.entries → AreOnce new.reads.entries

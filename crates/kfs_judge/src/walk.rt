@@ -7,7 +7,7 @@ ghost use Rattle.kfs_model.specs.Sight.{Sight};
 ghost use Rattle.kfs_model.specs.Tree.{Tree};
 ghost use Rattle.kfs_judge.specs.Creates.{IsCreate};
 ghost use Rattle.kfs_judge.specs.Overlay.{has_created, over, ShiftsBy, IsWritten};
-ghost use Rattle.kfs_judge.specs.Reads.{Agrees, Always, AreAmong, Within};
+ghost use Rattle.kfs_judge.specs.Reads.{Agrees, Always, AreAmong, AreOnce, Within};
 ghost use Rattle.kfs_judge.specs.Recorders.{GoesOn};
 ghost use Rattle.kfs_judge.specs.View.{clients_of, seen_of};
 ghost use Rattle.kfs_judge.specs.Walks.{ComesTo, ComesToTree, EndsAt, Fits, IsRowOf, seen_in};
@@ -51,6 +51,7 @@ pub fn judge_entries<A: Allocator + Copy>(
     // At every sound tree and all leases that agree with the reads, the entries come to this outcome one by one.
     ensures known { IfOk result (λ walk. (client : ClientRow) × IsRowOf (clients_of view.now) log.now.client client × ((source : List ℕ) (tree : Tree ℕ) (held : ℕ → Bool) → Fits client tree (map (entry_of source) log.now.entries) → Agrees walk.reads.entries (seen_in tree held) → ComesToTree client held tree (map (entry_of source) log.now.entries) walk.outcome)) }
     ensures view_agrees { IfOk result (λ walk. Agrees walk.reads.entries (seen_of view.now log.now.client)) }
+    ensures once { IfOk result (λ walk. AreOnce walk.reads.entries) }
     ensures among { IfOk result (λ walk. (client : ClientRow) → IsRowOf (clients_of view.now) log.now.client client → (source : List ℕ) → AreAmong walk.reads.entries (looked_cells client (seen_of view.now log.now.client) (map (entry_of source) log.now.entries))) }
 {
     let walk = walk_entries(alloc, view, log)?;
@@ -68,6 +69,7 @@ fn walk_entries<A: Allocator + Copy>(
     // In every state that agrees with the reads, the run over its cells comes to this outcome.
     ensures known { IfOk result (λ walk. (client : ClientRow) × IsRowOf (clients_of view.now) log.now.client client × Always walk.reads.entries (λ state. (source : List ℕ) → ComesTo client state (map (entry_of source) log.now.entries) walk.outcome)) }
     ensures view_agrees { IfOk result (λ walk. Agrees walk.reads.entries (seen_of view.now log.now.client)) }
+    ensures once { IfOk result (λ walk. AreOnce walk.reads.entries) }
     ensures among { IfOk result (λ walk. (client : ClientRow) → IsRowOf (clients_of view.now) log.now.client client → (source : List ℕ) → AreAmong walk.reads.entries (looked_cells client (seen_of view.now log.now.client) (map (entry_of source) log.now.entries))) }
 {
     let client = view.client(log.client).unwrap();

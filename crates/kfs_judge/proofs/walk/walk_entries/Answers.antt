@@ -4,11 +4,11 @@ use Rattle.std.specs.Option.{option_map}
 use Rattle.kfs_entry.specs.Views.{entry_of}
 use Rattle.kfs_model.specs.Looked.{looked_cells}
 use Rattle.kfs_judge.specs.Overlay.{over}
-use Rattle.kfs_judge.specs.Reads.{Agrees, AreAmong}
+use Rattle.kfs_judge.specs.Reads.{Agrees, AreAmong, AreOnce}
 use Rattle.kfs_judge.specs.View.{clients_of, seen_of}
 use Rattle.kfs_judge.specs.Walks.{EndsAt}
 use Rattle.kfs_judge.proofs.Lists.{row_has_number, one_row}
-use Rattle.kfs_judge.proofs.Recording.{agrees_from_none, among_from_none, goes_then, within_then}
+use Rattle.kfs_judge.proofs.Recording.{agrees_from_none, among_from_none, once_from_none, goes_then, within_then}
 use Rattle.kfs_judge.proofs.walk.walk_entries.Goals as goal
 
 pub returns-in-Some-clause-known : goal.returns-in-Some-clause-known
@@ -28,6 +28,9 @@ returns-in-Some-clause-view_agrees g c =
     let shown = seen_of c.args.view.now c.args.log.now.client in
     let seen = c.new-scene.ensures.seen ∙ ap (seen_of c.args.view.now) (row_has_number (clients_of c.args.view.now) c.args.log.now.client c.unwrap-client.result.now row) in
     subst (λ es. Agrees es shown) (sym c.into_reads.ensures) (agrees_from_none shown c.new-scene.result.recorder c.enter_all.new.scene.recorder c.new-scene.ensures.none seen c.in_ok-fault.ensures.goes)
+
+pub returns-in-Some-clause-once : goal.returns-in-Some-clause-once
+returns-in-Some-clause-once g c = subst AreOnce (sym c.into_reads.ensures) (once_from_none (seen_of c.args.view.now c.args.log.now.client) c.new-scene.result.recorder c.enter_all.new.scene.recorder c.new-scene.ensures.none c.in_ok-fault.ensures.goes)
 
 pub returns-in-Some-clause-among : goal.returns-in-Some-clause-among
 returns-in-Some-clause-among g c client is source =
@@ -62,6 +65,9 @@ returns-clause-view_agrees g c =
     let shown = seen_of c.args.view.now c.args.log.now.client in
     let seen = c.new-scene.ensures.seen ∙ ap (seen_of c.args.view.now) (row_has_number (clients_of c.args.view.now) c.args.log.now.client c.unwrap-client.result.now row) in
     subst (λ es. Agrees es shown) (sym c.into_reads-2.ensures) (agrees_from_none shown c.new-scene.result.recorder c.net.new.self.recorder c.new-scene.ensures.none seen (goes_then c.in_ok-fault.ensures.goes c.in_ok-net.ensures.goes))
+
+pub returns-clause-once : goal.returns-clause-once
+returns-clause-once g c = subst AreOnce (sym c.into_reads-2.ensures) (once_from_none (seen_of c.args.view.now c.args.log.now.client) c.new-scene.result.recorder c.net.new.self.recorder c.new-scene.ensures.none (goes_then c.in_ok-fault.ensures.goes c.in_ok-net.ensures.goes))
 
 pub returns-clause-among : goal.returns-clause-among
 returns-clause-among g c client is source =

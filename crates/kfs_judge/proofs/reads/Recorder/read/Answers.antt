@@ -1,7 +1,7 @@
 -- An answer that is recorded is that of its cell, and a new one goes last.
 use Rattle.std.proofs.Common.{◌∷◌, [], ◌∙◌, sym, refl}
 use Rattle.indexmap.proofs.CallerLemmas.{insert_entry-new}
-use Rattle.kfs_judge.proofs.ReadsAgree.{same_read, known_by_key, grows_by_one, known_at_end, agrees_by_one}
+use Rattle.kfs_judge.proofs.ReadsAgree.{same_read, known_by_key, grows_by_one, known_at_end, agrees_by_one, once_by_one}
 use Rattle.kfs_judge.proofs.Recording.{goes_nowhere, within_same, within_one}
 use Rattle.kfs_judge.specs.Reads.{cell_of}
 use Rattle.kfs_judge.proofs.reads.Recorder.read.Goals as goal
@@ -22,6 +22,7 @@ returns-clause-goes g c =
       grows = grows_by_one _ _ _ _ last;
       same = refl;
       agrees = agrees_by_one _ _ _ _ _ last c.seen-seen.ensures;
+      once = once_by_one _ _ _ _ last (sym c.in_default.ensures.value);
     }
 
 pub returns-clause-known : goal.returns-clause-known
