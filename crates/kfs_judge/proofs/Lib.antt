@@ -9,3 +9,9 @@ pub mod Entering
 pub mod Looking
 pub mod ChangedRows
 pub mod TreeWalks
+pub mod MarkedCreates
+pub mod Untouched
+pub mod AnswersExist
+pub mod RowsCompared
+pub mod PlanChecked
+pub mod Verdicts

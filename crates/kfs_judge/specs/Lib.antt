@@ -1,5 +1,4 @@
 pub mod Creates
-pub mod Spelled
 pub mod View
 pub mod Reads
 pub mod Recorders
@@ -7,3 +6,6 @@ pub mod Overlay
 pub mod Spots
 pub mod Walks
 pub mod Rows
+pub mod Creations
+pub mod PlanCheck
+pub mod Judging

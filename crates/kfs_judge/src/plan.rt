@@ -1,7 +1,17 @@
 //! The plan of a log against what the log comes to, and the judgement of both.
-ghost use Rattle.std.specs.Prelude.{◌≡◌, ◌↔◌, ◌≤◌, length, IsOk, IfOk, IsTrue};
+ghost use Rattle.std.specs.Prelude.{◌≡◌, ◌≢◌, ◌↔◌, ℕ, Bool, List, [], None, map, position, zip, not, All, IsOk, IfOk, IfErr, IsTrue};
+ghost use Rattle.kfs_entry.specs.Views.{entry_of};
+ghost use Rattle.kfs_model.specs.Access.{Client as ClientRow};
+ghost use Rattle.kfs_model.specs.FirstWrong.{first_difference};
+ghost use Rattle.kfs_model.specs.Judgement.{State};
+ghost use Rattle.kfs_model.specs.Lease.{row_of};
+ghost use Rattle.kfs_model.specs.Tree.{Tree};
 ghost use Rattle.kfs_judge.specs.Creates.{IsCreate};
-ghost use Rattle.kfs_judge.specs.Spelled.{IfSpelled};
+ghost use Rattle.kfs_judge.specs.Judging.{HasOtherEntry, IsAlike, IsReading, IsSettled, IsVerdict, submission_of, submission_with};
+ghost use Rattle.kfs_judge.specs.PlanCheck.{first_unlike, IsChecked, IsWalkOf, TellsRow};
+ghost use Rattle.kfs_judge.specs.Reads.{Agrees};
+ghost use Rattle.kfs_judge.specs.View.{clients_of};
+ghost use Rattle.kfs_judge.specs.Walks.{Fits, scene_in, seen_in};
 ghost use Rattle.kfs_judge.specs.declared.plan.RowFault.TheVariants.{OutOfMemory};
 
 use crate::reads::{Read, Seen};
@@ -44,13 +54,20 @@ pub fn check_plan<A: Allocator + Copy>(
     walk: &Walk<A>,
     plan: &Plan<A>,
 ) -> Result<u64, RowFault>
-    requires { IsOk walk.now.outcome }
+    requires walked { IsOk walk.now.outcome }
+    // At every sound tree and all leases that agree with the walk's reads, the first wrong row of the definitions is named.
+    ensures { (client : ClientRow) → IsWalkOf client _log.now walk.now → All IsCreate _log.now.entries
+        → (source : List ℕ) (tree : Tree ℕ) (held : ℕ → Bool) → Fits client tree (map (entry_of source) _log.now.entries) → Agrees walk.now.reads.entries (seen_in tree held)
+        → IsChecked (scene_in client (seen_in tree held)) tree (map (entry_of source) _log.now.entries) plan.now result }
 {
     let net = walk.outcome.as_ref().unwrap();
     check_rows(net, plan)
 }
 
-fn check_rows<A: Allocator>(net: &Net<A>, plan: &Plan<A>) -> Result<u64, RowFault> {
+/// Compares a plan with a net.
+fn check_rows<A: Allocator>(net: &Net<A>, plan: &Plan<A>) -> Result<u64, RowFault>
+    ensures { TellsRow (first_unlike net.now plan.now) 0 result }
+{
     if let Some(row) = first_difference(plan.names.as_slice(), net.names.as_slice()) {
         return Err(RowFault::Names(row));
     }
@@ -64,8 +81,10 @@ fn check_rows<A: Allocator>(net: &Net<A>, plan: &Plan<A>) -> Result<u64, RowFaul
 }
 
 /// The least index at which the lists differ, the end of a shorter list included.
-fn first_difference<T: PartialEq>(rows: &[T], right: &[T]) -> Option<usize> {
-    let differs = rows.iter().zip(right).position(|pair| pair.0 != pair.1);
+fn first_difference<T: PartialEq>(rows: &[T], right: &[T]) -> Option<usize>
+    ensures { result ≡ first_difference T.eq rows.now right.now }
+{
+    let differs = first_unequal(rows, right);
     if differs.is_some() {
         return differs;
     }
@@ -74,6 +93,13 @@ fn first_difference<T: PartialEq>(rows: &[T], right: &[T]) -> Option<usize> {
     } else {
         Some(rows.len().min(right.len()))
     }
+}
+
+/// The least index at which both lists have a row, and not the same one.
+fn first_unequal<T: PartialEq>(rows: &[T], right: &[T]) -> Option<usize>
+    ensures { result ≡ position (λ pair. not (T.eq pair.0 pair.1)) (zip rows.now right.now) }
+{
+    rows.iter().zip(right).position(|pair| pair.0 != pair.1)
 }
 
 /// What a client hands in: a log and a plan as bytes.
@@ -157,8 +183,17 @@ pub fn judge<A: Allocator + Copy>(
     alloc: A,
     view: &View<A>,
     submission: Submission<A>,
-) -> Result<Judged<A>, Back<A>> {
-    match find(alloc, view, &submission) {
+) -> Result<Judged<A>, Back<A>>
+    ensures submission { IfOk result (λ j. j.submission ≡ submission) }
+    ensures back { IfErr result (λ b. b.submission ≡ submission) }
+    ensures client { IfOk result (λ j. j.client ≡ row_of (clients_of view.now) submission.client) }
+
+    // In every state that is alike, this is the verdict.
+    ensures known { IfOk result (λ j. (s : State) → IsAlike s submission.client j.client j.reads.entries → IsVerdict s (submission_of submission) j.outcome) }
+    ensures other { IfErr result (λ b. b.why ≡ Why.OtherEntry → HasOtherEntry submission.log.items) }
+{
+    let (log, plan) = (submission.log.as_slice(), submission.plan.as_slice());
+    match find(alloc, view, submission.client, log, plan) {
         Ok(finding) => Ok(Judged {
             submission,
             client: finding.client,
@@ -179,7 +214,11 @@ struct Finding<A: Allocator> {
 
 impl<A: Allocator + Copy> Finding<A> {
     /// A fault that was found before the entries.
-    fn unread(alloc: A, client: Option<Client>, fault: Fault) -> Finding<A> {
+    fn unread(alloc: A, client: Option<Client>, fault: Fault) -> Finding<A>
+        ensures client { result.client ≡ client }
+        ensures reads { result.reads.entries ≡ [] }
+        ensures outcome { result.outcome ≡ Outcome.No fault }
+    {
         Finding {
             client,
             reads: IndexMap::new(alloc),
@@ -191,13 +230,19 @@ impl<A: Allocator + Copy> Finding<A> {
 fn find<A: Allocator + Copy>(
     alloc: A,
     view: &View<A>,
-    submission: &Submission<A>,
-) -> Result<Finding<A>, Why> {
-    let Some(client) = view.client(submission.client) else {
+    number: u32,
+    log: &[u8],
+    plan: &[u8],
+) -> Result<Finding<A>, Why>
+    ensures client { IfOk result (λ f. f.client ≡ row_of (clients_of view.now) number) }
+    ensures known { IfOk result (λ f. (s : State) → IsAlike s number f.client f.reads.entries → IsVerdict s (submission_with number log.now plan.now) f.outcome) }
+    ensures other { IfErr result (λ why. why ≡ Why.OtherEntry → HasOtherEntry log.now) }
+{
+    let Some(client) = view.client(number) else {
         return Ok(Finding::unread(alloc, None, Fault::UnknownClient));
     };
     let client = Some(client.clone()?);
-    match read_submission(alloc, submission)? {
+    match read_submission(alloc, number, log, plan)? {
         Spelled::No(fault) => Ok(Finding::unread(alloc, client, fault)),
         Spelled::Yes(log, plan) => {
             let walk = judge_entries(alloc, view, &log)?;
@@ -215,35 +260,45 @@ enum Spelled<A: Allocator> {
 
 fn read_submission<A: Allocator + Copy>(
     alloc: A,
-    submission: &Submission<A>,
+    number: u32,
+    log: &[u8],
+    plan: &[u8],
 ) -> Result<Spelled<A>, Why>
-    ensures { IfOk result (λ s. IfSpelled s submission.now.client) }
+    ensures read { IfOk result (IsReading (submission_with number log.now plan.now)) }
+    ensures other { IfErr result (λ why. why ≡ Why.OtherEntry → HasOtherEntry log.now) }
 {
-    let log = match read_log(alloc, submission.log.as_slice()) {
+    let log = match decode_log(alloc, log) {
         Ok(log) => log,
-        Err(SpellFault::OutOfMemory) => return Err(Why::OutOfMemory),
-        Err(fault) => return Ok(Spelled::No(Fault::BadLog(fault))),
+        Err(fault) => return Ok(Spelled::No(Fault::BadLog(unless_refused(fault)?))),
     };
-    if log.client != submission.client {
+    if log.client != number {
         return Ok(Spelled::No(Fault::WrongClient));
     }
-    let plan = match decode_plan(alloc, submission.plan.as_slice()) {
+    let plan = match decode_plan(alloc, plan) {
         Ok(plan) => plan,
-        Err(SpellFault::OutOfMemory) => return Err(Why::OutOfMemory),
-        Err(fault) => return Ok(Spelled::No(Fault::BadPlan(fault))),
+        Err(fault) => return Ok(Spelled::No(Fault::BadPlan(unless_refused(fault)?))),
     };
-    if !log.entries.as_slice().iter().all(is_create) {
+    if !are_creates(log.entries.as_slice()) {
         return Err(Why::OtherEntry);
     }
     Ok(Spelled::Yes(log, plan))
 }
 
-/// The log that the bytes spell: it has at most 4,096 entries.
-fn read_log<A: Allocator>(alloc: A, bytes: &[u8]) -> Result<Log<A>, SpellFault>
-    ensures { IfOk result (λ log. length log.entries ≤ 4096) }
+/// The fault of the bytes, unless a growth was refused.
+fn unless_refused(fault: SpellFault) -> Result<SpellFault, Why>
+    ensures fault { IfOk result (λ told. (told ≡ fault) × (told ≢ SpellFault.OutOfMemory)) }
+    ensures refused { IfErr result (λ why. why ≡ Why.OutOfMemory) }
 {
-    let log = decode_log(alloc, bytes)?;
-    Ok(log)
+    match fault {
+        SpellFault::OutOfMemory => Err(Why::OutOfMemory),
+        _ => Ok(fault),
+    }
+}
+
+fn are_creates(entries: &[Entry<Span>]) -> bool
+    ensures { IsTrue result ↔ All IsCreate entries.now }
+{
+    entries.iter().all(is_create)
 }
 
 fn is_create(entry: &Entry<Span>) -> bool
@@ -258,7 +313,12 @@ fn settle<A: Allocator + Copy>(
     log: Log<A>,
     plan: Plan<A>,
     walk: Walk<A>,
-) -> Result<Finding<A>, Why> {
+) -> Result<Finding<A>, Why>
+    ensures client { IfOk result (λ f. f.client ≡ client) }
+    ensures reads { IfOk result (λ f. f.reads ≡ walk.reads) }
+    ensures outcome { IfOk result (λ f. IsSettled log plan walk.outcome f.outcome) }
+    ensures memory { IfErr result (λ why. why ≡ Why.OutOfMemory) }
+{
     let Walk { reads, outcome } = walk;
     let outcome = match outcome {
         Err(fault) => Outcome::No(Fault::Entry(fault)),

@@ -1,0 +1,136 @@
+-- All bytes have an answer as a log, and one as a plan.
+use Rattle.std.proofs.Common.{◌≡◌, ◌≢◌, ◌⊎◌, ℕ, zero, suc, ◌<◌, List, [], ◌∷◌, ◌++◌, length, Option, Some, None, Result, Ok, Err, refl, sym, ap, subst, ◌∙◌, append_assoc, arith, inl, inr}
+use Rattle.std.specs.List.{flat_map}
+use Rattle.std.proofs.lemmas.List.{append-nil}
+use Rattle.kfs_model.specs.Entry.{Log}
+use Rattle.kfs_model.specs.PlanRow.{Plan}
+use Rattle.kfs_model.specs.Spelling.{BeginsWithNo, Stand, Stop, LogHeader, IsLogHeader, log_header, header_of, IsEntry, entry_bytes, IsLog, log_bytes, LogAnswer, Counts, AreCounts, plan_header, IsNameRow, name_row_bytes, IsNodeRow, node_row_bytes, IsPiece, piece_bytes, PlanAnswer, SpellingFault, BadHeader, BadEntry, Trailing, BadRow}
+use Rattle.kfs_entry.specs.Reading.{log_header_read, entry_read, plan_header_read, name_row_read, node_row_read, piece_read}
+use Rattle.kfs_entry.proofs.Fields.{IsBytes, IsField}
+use Rattle.kfs_entry.proofs.EntryLaws.{entry_field}
+use Rattle.kfs_entry.proofs.HeaderLaws.{log_header_field, plan_header_field}
+use Rattle.kfs_entry.proofs.PlanLaws.{name_row_field, node_row_field, piece_field}
+use Rattle.kfs_entry.proofs.RowsRead.{IsBytes-behind}
+use Rattle.kfs_entry.proofs.DecodedPlan.{plan_is_spelled}
+
+abbrev pub HasLogAnswer : List ℕ → Type 0
+HasLogAnswer bytes = (answer : Result Log SpellingFault) × LogAnswer bytes answer
+
+abbrev pub HasPlanAnswer : List ℕ → Type 0
+HasPlanAnswer bytes = (answer : Result Plan SpellingFault) × PlanAnswer bytes answer
+
+module _ {V : Type 0} {F : V → Type 0} {s : V → List ℕ} {r : List ℕ → Option (V × List ℕ)} (field : IsField F s r) where
+  -- where none is read, none begins
+  begins_with_none : (bytes : List ℕ) → r bytes ≡ None → BeginsWithNo F s bytes
+  begins_with_none bytes is = λ value rest fits parts. let again : r bytes ≡ Some (value, rest) = ap r parts ∙ field.again value rest fits in cc
+
+  abbrev RowsOrStop : ℕ → List ℕ → Type 0
+  RowsOrStop count bytes = ((rest : List ℕ) × Stand F s count bytes rest) ⊎ ((k : ℕ) × Stop F s count k bytes)
+
+  no_row : (bytes : List ℕ) → Stand F s 0 bytes bytes
+  no_row bytes = record { rows = []; number = refl; fit = tt; spelled = refl }
+
+  row_before : (count : ℕ) (row : V) (bytes rest end : List ℕ) → F row → bytes ≡ s row ++ rest → Stand F s count rest end → Stand F s (suc count) bytes end
+  row_before count row bytes rest end fits parts stand = record {
+    rows = row ∷ stand.rows;
+    number = ap suc stand.number;
+    fit = (fits, stand.fit);
+    spelled = parts ∙ ap (λ (l : List ℕ). s row ++ l) stand.spelled ∙ sym (append_assoc (s row) (flat_map s stand.rows) end);
+  }
+
+  -- so many rows stand, or they stop before
+  rows_or_stop : (count : ℕ) (bytes : List ℕ) → IsBytes bytes → RowsOrStop count bytes
+  rows_or_stop zero bytes are = inl (bytes, no_row bytes)
+  rows_or_stop (suc count) bytes are = by_row (rows_or_stop count) (r bytes) refl
+    where
+      by_row : ((rest : List ℕ) → IsBytes rest → RowsOrStop count rest) → (found : Option (V × List ℕ)) → r bytes ≡ found → RowsOrStop (suc count) bytes
+      by_row behind None is = let fewer : 0 < suc count = omega arith in inr (0, record { rest = bytes; before = no_row bytes; fewer = fewer; none = begins_with_none bytes is })
+      by_row behind (Some x) is =
+          let first = field.takes bytes x are is in
+          elim (behind x.1 first.rest_bytes) [
+            | inl stand ↦ inl (stand.0, row_before count x.0 bytes x.1 stand.0 first.fits first.parts stand.1)
+            | inr stop ↦
+            let here = stop.1 in
+            let fewer : suc stop.0 < suc count = let less : stop.0 < count = here.fewer in omega arith in
+            inr (suc stop.0, record { rest = here.rest; before = row_before stop.0 x.0 bytes x.1 here.rest first.fits first.parts here.before; fewer = fewer; none = here.none })
+          ]
+
+-- ---- logs
+
+spelled_log : (bytes rest more : List ℕ) (h : LogHeader) → IsLogHeader h → bytes ≡ log_header h ++ rest → (stand : Stand IsEntry entry_bytes h.count rest more)
+    → let l : Log = record { client = h.client; entries = stand.rows } in IsLog l × (bytes ≡ log_bytes l ++ more)
+spelled_log bytes rest more h fits parts stand =
+    let l : Log = record { client = h.client; entries = stand.rows } in
+    let same : header_of l ≡ h = ap (λ (n : ℕ). record { client = h.client; count = n }) stand.number in
+    let whole : bytes ≡ log_header h ++ (flat_map entry_bytes l.entries ++ more) = parts ∙ ap (λ (b : List ℕ). log_header h ++ b) stand.spelled in
+    let joined : bytes ≡ log_header h ++ flat_map entry_bytes l.entries ++ more = whole ∙ sym (append_assoc (log_header h) (flat_map entry_bytes l.entries) more) in (
+      (subst IsLogHeader (sym same) fits, stand.fit),
+      joined ∙ ap (λ (g : LogHeader). log_header g ++ flat_map entry_bytes l.entries ++ more) (sym same),
+    )
+
+log_behind : (bytes rest more : List ℕ) (h : LogHeader) → IsLogHeader h → bytes ≡ log_header h ++ rest → Stand IsEntry entry_bytes h.count rest more → HasLogAnswer bytes
+log_behind bytes rest [] h fits parts stand =
+    let l = spelled_log bytes rest [] h fits parts stand in
+    (Ok (record { client = h.client; entries = stand.rows }), (l.0, l.1 ∙ append-nil _))
+log_behind bytes rest (b ∷ more) h fits parts stand =
+    let l = spelled_log bytes rest (b ∷ more) h fits parts stand in
+    let some : b ∷ more ≢ [] = λ e. cc in
+    (Err Trailing, (record { client = h.client; entries = stand.rows }, b ∷ more, l.0, some, l.1))
+
+pub log_has_answer : (bytes : List ℕ) → IsBytes bytes → HasLogAnswer bytes
+log_has_answer bytes are = by_header (log_header_read bytes) refl
+  where
+    by_header : (found : Option (LogHeader × List ℕ)) → log_header_read bytes ≡ found → HasLogAnswer bytes
+    by_header None is = (Err BadHeader, begins_with_none log_header_field bytes is)
+    by_header (Some x) is =
+        let header = log_header_field.takes bytes x are is in
+        elim (rows_or_stop entry_field x.0.count x.1 header.rest_bytes) [
+          | inl stand ↦ log_behind bytes x.1 stand.0 x.0 header.fits header.parts stand.1
+          | inr stop ↦ (Err (BadEntry stop.0), (x.0, x.1, header.fits, header.parts, stop.1))
+        ]
+
+-- ---- plans
+
+plan_behind : (bytes a b d rest : List ℕ) (c : Counts) → AreCounts c → bytes ≡ plan_header c ++ a
+    → (names : Stand IsNameRow name_row_bytes c.names a b) (nodes : Stand IsNodeRow node_row_bytes c.nodes b d) (pieces : Stand IsPiece piece_bytes c.pieces d rest) → HasPlanAnswer bytes
+plan_behind bytes a b d [] c fits parts names nodes pieces =
+    let p = plan_is_spelled bytes a b d [] c fits parts names nodes pieces in
+    (Ok (record { names = names.rows; nodes = nodes.rows; pieces = pieces.rows }), (p.0, p.1 ∙ append-nil _))
+plan_behind bytes a b d (byte ∷ more) c fits parts names nodes pieces =
+    let p = plan_is_spelled bytes a b d (byte ∷ more) c fits parts names nodes pieces in
+    let some : byte ∷ more ≢ [] = λ e. cc in
+    (Err Trailing, (record { names = names.rows; nodes = nodes.rows; pieces = pieces.rows }, byte ∷ more, p.0, some, p.1))
+
+bytes_behind : {V : Type 0} {F : V → Type 0} {s : V → List ℕ} {count : ℕ} {bytes rest : List ℕ} → IsBytes bytes → Stand F s count bytes rest → IsBytes rest
+bytes_behind {V} {F} {s} {count} {bytes} {rest} are stand = IsBytes-behind (flat_map s stand.rows) rest (subst IsBytes stand.spelled are)
+
+module _ (bytes a : List ℕ) (c : Counts) (fits : AreCounts c) (parts : bytes ≡ plan_header c ++ a) where
+  pieces_behind : (b d : List ℕ) → IsBytes d → Stand IsNameRow name_row_bytes c.names a b → Stand IsNodeRow node_row_bytes c.nodes b d → HasPlanAnswer bytes
+  pieces_behind b d are names nodes =
+      elim (rows_or_stop piece_field c.pieces d are) [
+        | inl stand ↦ plan_behind bytes a b d stand.0 c fits parts names nodes stand.1
+        | inr stop ↦ (Err (BadRow 2 stop.0), (c, a, fits, parts, (b, d, names, nodes, stop.1)))
+      ]
+
+  nodes_behind : (b : List ℕ) → IsBytes b → Stand IsNameRow name_row_bytes c.names a b → HasPlanAnswer bytes
+  nodes_behind b are names =
+      elim (rows_or_stop node_row_field c.nodes b are) [
+        | inl stand ↦ pieces_behind b stand.0 (bytes_behind are stand.1) names stand.1
+        | inr stop ↦ (Err (BadRow 1 stop.0), (c, a, fits, parts, (b, names, stop.1)))
+      ]
+
+  names_behind : IsBytes a → HasPlanAnswer bytes
+  names_behind are =
+      elim (rows_or_stop name_row_field c.names a are) [
+        | inl stand ↦ nodes_behind stand.0 (bytes_behind are stand.1) stand.1
+        | inr stop ↦ (Err (BadRow 0 stop.0), (c, a, fits, parts, stop.1))
+      ]
+
+pub plan_has_answer : (bytes : List ℕ) → IsBytes bytes → HasPlanAnswer bytes
+plan_has_answer bytes are = by_header (plan_header_read bytes) refl
+  where
+    by_header : (found : Option (Counts × List ℕ)) → plan_header_read bytes ≡ found → HasPlanAnswer bytes
+    by_header None is = (Err BadHeader, begins_with_none plan_header_field bytes is)
+    by_header (Some x) is =
+        let header = plan_header_field.takes bytes x are is in
+        names_behind bytes x.1 x.0 header.fits header.parts header.rest_bytes

@@ -1,0 +1,116 @@
+-- Entries that make nodes, run over marks: the run ends where the run over bytes does, and each byte stays as it was.
+use Rattle.std.specs.Prelude.{◌≡◌, ℕ, suc, zero, ◌+◌, ◌==◌, ◌&&◌, ◌||◌, not, Bool, true, false, cond, List, [], ◌∷◌, Option, Some, None, option_map, slice_get, Result, Ok, Err, refl}
+use Rattle.std.specs.List.{list_all, list_any}
+use Rattle.std.specs.Ordering.{eq_by_cmp}
+use Rattle.std.proofs.Common.{ap, sym, subst, ◌∙◌}
+use Rattle.std.proofs.lemmas.Bool.{and_parts}
+use Rattle.kfs_model.specs.Header.{Header, Kind, File, Directory}
+use Rattle.kfs_model.specs.Access.{Client}
+use Rattle.kfs_model.specs.Entry.{Entry, Create, Write, Truncate, Link, Unlink, Rename, Chmod}
+use Rattle.kfs_model.specs.Table.{Table, numbers, get, insert, retain, get-insert, get-retain, get-mapped}
+use Rattle.kfs_model.specs.Tree.{Tree, Node, Body, Cells, Names, Links, headers, cells_of, is_named}
+use Rattle.kfs_model.specs.Sight.{sight}
+use Rattle.kfs_model.specs.Check.{Reason, first_fault}
+use Rattle.kfs_model.specs.Effect.{effect, change_of, swept, new_body}
+use Rattle.kfs_model.specs.Run.{Mark, Base, Scene, EntryFault, run, run_from, bytes, marks, marked, spot, created_by, places_from, base_marks, mapped_body, byte_of, looked_up}
+use Rattle.kfs_model.specs.Plan.{is_base}
+use Rattle.kfs_model.proofs.Cells.{recut, headers-recut}
+use Rattle.kfs_model.proofs.Marks.{marks_give_bytes}
+use Rattle.kfs_judge.specs.Creations.{is_creation}
+
+-- each byte of each file is as it was before the log
+pub record IsUntouched (t : Tree Mark) : Type 0 where
+  pub cells : (number : ℕ) → list_all is_base (cells_of (get t.nodes number)) ≡ true
+
+-- ---- a tree that was just marked
+
+base_places : (n place : ℕ) (bs : List ℕ) → list_all is_base (places_from (Base n) place bs) ≡ true
+base_places n place [] = refl
+base_places n place (b ∷ bs) = base_places n (place + 1) bs
+
+abbrev marked_node : ℕ → Node ℕ → Node Mark
+marked_node n node = record { mode = node.mode; uid = node.uid; gid = node.gid; body = mapped_body (base_marks n 0) node.body }
+
+base_body : (n mode uid gid : ℕ) (body : Body ℕ) → list_all is_base (cells_of (Some (marked_node n (record { mode = mode; uid = uid; gid = gid; body = body })))) ≡ true
+base_body n mode uid gid (Cells cells) = base_places n 0 cells
+base_body n mode uid gid Names = refl
+
+base_node : (n : ℕ) (found : Option (Node ℕ)) → list_all is_base (cells_of (option_map (marked_node n) found)) ≡ true
+base_node n None = refl
+base_node n (Some node) = base_body n node.mode node.uid node.gid node.body
+
+pub marked-untouched : (t : Tree ℕ) → IsUntouched (marked t)
+marked-untouched t = record { cells = λ n. ap (λ o. list_all is_base (cells_of o)) (get-mapped marked_node t.nodes n) ∙ base_node n (get t.nodes n) }
+
+-- ---- one entry
+
+abbrev new_node : Client → Kind → (mode : ℕ) → Node Mark
+new_node client kind mode = record { mode = mode; uid = client.uid; gid = client.gid; body = new_body marks kind }
+
+base_new : (client : Client) (kind : Kind) (mode : ℕ) → list_all is_base (cells_of (Some (new_node client kind mode))) ≡ true
+base_new client File mode = refl
+base_new client Directory mode = refl
+
+module _ (client : Client) (index d : ℕ) (m : List ℕ) (n : ℕ) (kind : Kind) (mode : ℕ) (t : Tree Mark) (untouched : IsUntouched t) where
+  base_after : (q : ℕ) (kept tie : Bool) → list_all is_base (cells_of (cond kept (cond tie (Some (new_node client kind mode)) (get t.nodes q)) None)) ≡ true
+  base_after q false tie = refl
+  base_after q true true = base_new client kind mode
+  base_after q true false = untouched.cells q
+
+  create-untouched : IsUntouched (effect marks client index (Create d m n kind mode) t)
+  unfolding change_of swept
+  create-untouched =
+      let kept : ℕ → Bool = λ q. (q == 1) || is_named (insert t.names (d, m) n) q in
+      record {
+        cells = λ q.
+            ap (λ o. list_all is_base (cells_of o)) (get-retain kept (insert t.nodes n (new_node client kind mode)) q ∙ ap (λ o. cond (kept q) o None) (get-insert t.nodes n (new_node client kind mode) q))
+            ∙ base_after q (kept q) (eq_by_cmp numbers.compare q n);
+      }
+
+entry-untouched : (client : Client) (index : ℕ) (entry : Entry) (t : Tree Mark) → is_creation entry ≡ true → IsUntouched t → IsUntouched (effect marks client index entry t)
+entry-untouched client index (Create d m n kind mode) t is untouched = create-untouched client index d m n kind mode t untouched
+entry-untouched client index (Write n offset payload) t is untouched = cc
+entry-untouched client index (Truncate n size) t is untouched = cc
+entry-untouched client index (Link n d m) t is untouched = cc
+entry-untouched client index (Unlink d m kind) t is untouched = cc
+entry-untouched client index (Rename d m e k) t is untouched = cc
+entry-untouched client index (Chmod n mode) t is untouched = cc
+
+-- ---- a run
+
+run-untouched : (scene : Scene) (index : ℕ) (created : List ℕ) (t : Tree Mark) (entries : List Entry) → list_all is_creation entries ≡ true → IsUntouched t → (after : Tree Mark) → run_from marks scene index created t entries ≡ Ok after → IsUntouched after
+unfolding run_from
+run-untouched scene index created t [] are untouched after ran = let same : t ≡ after = cc in subst IsUntouched same untouched
+run-untouched scene index created t (entry ∷ entries) are untouched after ran =
+    let (is, rest) = and_parts _ _ are in
+    by_fault (run-untouched scene (index + 1) (created_by entry created) (effect marks scene.client index entry t) entries rest (entry-untouched scene.client index entry t is untouched) after) (first_fault (spot scene (sight t) created) entry) ran
+  where
+    by_fault : (run_from marks scene (index + 1) (created_by entry created) (effect marks scene.client index entry t) entries ≡ Ok after → IsUntouched after) → (found : Option Reason)
+        → ◌≡◌ {A = Result (Tree Mark) EntryFault} (elim found [ None ↦ run_from marks scene (index + 1) (created_by entry created) (effect marks scene.client index entry t) entries | Some reason ↦ Err (record { entry = index; reason = reason }) ]) (Ok after)
+        → IsUntouched after
+    by_fault later None ran' = later ran'
+    by_fault later (Some reason) ran' = cc
+
+-- the run over marks ends beside the run over bytes: the same names and headers, and no byte touched
+pub record EndsBeside (scene : Scene) (before : Tree ℕ) (entries : List Entry) (after : Tree ℕ) : Type 0 where
+  pub marked_after : Tree Mark
+  pub ran : run marks scene (marked before) entries ≡ Ok marked_after
+  pub names : after.names ≡ marked_after.names
+  pub heads : headers after ≡ headers marked_after
+  pub untouched : IsUntouched marked_after
+
+ended : (byte : Mark → ℕ) (after : Tree ℕ) (ran : Result (Tree Mark) EntryFault) → looked_up byte ran ≡ Ok after → (end : Tree Mark) × (ran ≡ Ok end) × (recut byte end ≡ after)
+ended byte after (Ok end) is = (end, refl, cc)
+ended byte after (Err fault) is = cc
+
+pub ends_beside : (scene : Scene) (before : Tree ℕ) (entries : List Entry) → list_all is_creation entries ≡ true → (after : Tree ℕ) → run bytes scene before entries ≡ Ok after → EndsBeside scene before entries after
+ends_beside scene before entries are after ran =
+    let byte = byte_of before entries in
+    let (end, is, same) = ended byte after (run marks scene (marked before) entries) (marks_give_bytes scene before entries ∙ ran) in
+    record {
+      marked_after = end;
+      ran = is;
+      names = ap (λ (t : Tree ℕ). t.names) (sym same);
+      heads = ap (λ (t : Tree ℕ). headers t) (sym same) ∙ headers-recut byte end;
+      untouched = run-untouched scene 0 [] (marked before) entries are (marked-untouched before) end is;
+    }

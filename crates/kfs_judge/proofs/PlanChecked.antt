@@ -1,0 +1,99 @@
+-- The first row of a plan that isn't the net's is the first wrong row.
+use Rattle.std.specs.Prelude.{◌≡◌, ℕ, Bool, true, false, nat_eq, List, [], ◌∷◌, map, All, Option, Some, None, Result, Ok, Err, refl}
+use Rattle.std.specs.List.{list_all}
+use Rattle.std.proofs.Common.{ap, sym, subst, ◌∙◌}
+use Rattle.std.proofs.lemmas.List.Elements.{All-head, All-tail, All-nil, All-cons}
+use Rattle.std.proofs.lemmas.Bool.{and_parts, false_from_ne_true}
+use mathlib.Core.List.{map-map}
+use Rattle.kfs_model.specs.Access.{Client}
+use Rattle.kfs_model.specs.Entry.{Entry}
+use Rattle.kfs_model.specs.Tree.{Tree, headers}
+use Rattle.kfs_model.specs.Sight.{sight}
+use Rattle.kfs_model.specs.Run.{Scene}
+use Rattle.kfs_model.specs.Plan.{number_now, header_now, keyed_name, keyed_node}
+use Rattle.kfs_model.specs.Placement.{need}
+use Rattle.kfs_model.specs.FirstWrong.{Names, Nodes, Pieces, same_header, same_headers, same_place, same_pair, first_difference, first_wrong_name, first_wrong_node, first_wrong_row, or_else}
+use Rattle.kfs_model.proofs.Exact.{numbers-exact, headers-exact}
+use Rattle.kfs_model.proofs.Differences.{differences_only}
+use Rattle.kfs_entry.specs.Answers.{plan_of}
+use Rattle.kfs_entry.specs.Views.{entry_of, name_row_of, node_row_of}
+use Rattle.kfs_entry.specs.declared.entry.Entry.{Entry as CodeEntry}
+use Rattle.kfs_entry.specs.declared.entry.Entry.TheVariants as entries
+use Rattle.kfs_entry.specs.declared.entry.Span.{Span}
+use Rattle.kfs_entry.specs.declared.plan.Plan.{Plan as CodePlan}
+use Rattle.kfs_image.specs.declared.shape.Net.{Net}
+use Rattle.kfs_judge.specs.declared.plan.RowFault.{RowFault as CodeRowFault}
+use Rattle.kfs_judge.specs.declared.walk.EntryFault.{EntryFault as CodeEntryFault}
+use Rattle.kfs_judge.specs.Creates.{IsCreate}
+use Rattle.kfs_judge.specs.Creations.{is_creation}
+use Rattle.kfs_judge.specs.PlanCheck.{first_unlike, TellsRow, IsChecked}
+use Rattle.kfs_judge.specs.Rows.{keyed_name_row, keyed_node_row}
+use Rattle.kfs_judge.specs.Walks.{IsNetOf, ComesToTree, scene_in, seen_in}
+use Rattle.kfs_judge.proofs.MarkedCreates.{EndsBeside, ends_beside}
+use Rattle.kfs_judge.proofs.Untouched.{first_of_pieces-wrong, need-untouched}
+
+module _ {A : Type 0} (scene : Scene) (before : Tree ℕ) (entries : List Entry) (after : Tree ℕ) (net : Net A) (plan : CodePlan A) (beside : EndsBeside scene before entries after) (differs : IsNetOf (sight before) (sight after) net) where
+  wrong_name : first_wrong_name before.names beside.marked_after.names (plan_of plan).names ≡ first_difference (same_pair same_place nat_eq) (map keyed_name_row plan.names) (map keyed_name_row net.names.items)
+  wrong_name =
+      let shown = map-map keyed_name name_row_of plan.names in
+      let rows = differences_only nat_eq numbers-exact number_now before.names after.names (map keyed_name_row net.names.items) differs.names in
+      ap (λ names. first_wrong_name before.names names (plan_of plan).names) (sym beside.names)
+      ∙ λ i. first_difference (same_pair same_place nat_eq) (shown i) (sym rows i)
+
+  wrong_node : first_wrong_node (headers before) (headers beside.marked_after) (plan_of plan).nodes ≡ first_difference (same_pair nat_eq same_headers) (map keyed_node_row plan.nodes) (map keyed_node_row net.nodes.items)
+  wrong_node =
+      let shown = map-map keyed_node node_row_of plan.nodes in
+      let rows = differences_only same_header headers-exact header_now (headers before) (headers after) (map keyed_node_row net.nodes.items) differs.nodes in
+      ap (λ heads. first_wrong_node (headers before) heads (plan_of plan).nodes) (sym beside.heads)
+      ∙ λ i. first_difference (same_pair nat_eq same_headers) (shown i) (sym rows i)
+
+  pub first_wrong-unlike : first_wrong_row before beside.marked_after (plan_of plan) ≡ first_unlike net plan
+  unfolding first_wrong_row
+  first_wrong-unlike = λ i. or_else Names (wrong_name i) (or_else Nodes (wrong_node i) (or_else Pieces (first_of_pieces-wrong beside.marked_after beside.untouched plan.pieces i) None))
+
+  tells_wrong : (result : Result ℕ CodeRowFault) → TellsRow (first_unlike net plan) 0 result → TellsRow (first_wrong_row before beside.marked_after (plan_of plan)) (need beside.marked_after) result
+  tells_wrong result told =
+      subst (λ first. TellsRow first (need beside.marked_after) result) (sym first_wrong-unlike)
+      (subst (λ n. TellsRow (first_unlike net plan) n result) (sym (need-untouched beside.marked_after beside.untouched)) told)
+
+  is_checked : (result : Result ℕ CodeRowFault) → TellsRow (first_unlike net plan) 0 result → IsChecked scene before entries plan result
+  is_checked result told = record { after = beside.marked_after; ran = beside.ran; told = tells_wrong result told }
+
+creation : (source : List ℕ) (entry : CodeEntry Span) → IsCreate entry → is_creation (entry_of source entry) ≡ true
+creation source (entries.Create d m n k mode) is = refl
+creation source (entries.Write n offset p) is = absurd is
+creation source (entries.Truncate n size) is = absurd is
+creation source (entries.Link n d m) is = absurd is
+creation source (entries.Unlink d m k) is = absurd is
+creation source (entries.Rename d m e k) is = absurd is
+creation source (entries.Chmod n mode) is = absurd is
+
+pub creations : (source : List ℕ) (entries : List (CodeEntry Span)) → All IsCreate entries → list_all is_creation (map (entry_of source) entries) ≡ true
+creations source [] are = refl
+creations source (e ∷ es) are = rw (creation source e (All-head IsCreate e es are), creations source es (All-tail IsCreate e es are)) refl
+
+creation_back : (source : List ℕ) (entry : CodeEntry Span) → is_creation (entry_of source entry) ≡ true → IsCreate entry
+creation_back source (entries.Create d m n k mode) is = tt
+creation_back source (entries.Write n offset p) is = cc
+creation_back source (entries.Truncate n size) is = cc
+creation_back source (entries.Link n d m) is = cc
+creation_back source (entries.Unlink d m k) is = cc
+creation_back source (entries.Rename d m e k) is = cc
+creation_back source (entries.Chmod n mode) is = cc
+
+creates_back : (source : List ℕ) (entries : List (CodeEntry Span)) → list_all is_creation (map (entry_of source) entries) ≡ true → All IsCreate entries
+creates_back source [] are = All-nil IsCreate
+creates_back source (e ∷ es) are =
+    let parts = and_parts (is_creation (entry_of source e)) (list_all is_creation (map (entry_of source) es)) are in
+    All-cons IsCreate e es (creation_back source e parts.0) (creates_back source es parts.1)
+
+pub not_creations : (source : List ℕ) (entries : List (CodeEntry Span)) → (All IsCreate entries → ⊥) → list_all is_creation (map (entry_of source) entries) ≡ false
+not_creations source entries other = false_from_ne_true _ (λ are. other (creates_back source entries are))
+
+-- a walk that ends, and what is told of its net
+pub walk_is_checked : {A : Type 0} (client : Client) (held : ℕ → Bool) (tree : Tree ℕ) (entries : List Entry) (outcome : Result (Net A) CodeEntryFault) (net : Net A) (plan : CodePlan A) (result : Result ℕ CodeRowFault)
+    → list_all is_creation entries ≡ true → outcome ≡ Ok net → ComesToTree client held tree entries outcome → TellsRow (first_unlike net plan) 0 result → IsChecked (scene_in client (seen_in tree held)) tree entries plan result
+walk_is_checked client held tree entries outcome net plan result are is comes told =
+    let end = subst (ComesToTree client held tree entries) is comes in
+    let scene = scene_in client (seen_in tree held) in
+    is_checked scene tree entries end.0 net plan (ends_beside scene tree entries are end.0 end.1) end.4 result told

@@ -1,0 +1,180 @@
+-- The rows of a plan against those of a net, by the code's tests and by those of the definitions.
+use Rattle.std.specs.Prelude.{◌≡◌, ℕ, zero, suc, ◌+◌, ◌==◌, ◌&&◌, not, min, is_some, nat_eq, Bool, true, false, cond, List, [], ◌∷◌, map, zip, position, length, Option, Some, None, refl}
+use Rattle.std.specs.List.{position_from}
+use Rattle.std.specs.Option.{option_map, option_eq}
+use Rattle.std.specs.Cmp.Lexicographic.{pointwise}
+use Rattle.std.proofs.Common.{ap, sym, ◌∙◌, arith, inl, inr}
+use Rattle.std.proofs.lemmas.Bool.{eq-eqb, ne_eqb, cases_eq}
+use Rattle.std.proofs.lemmas.Iterator.Adapters.{position_from-zero}
+use Rattle.kfs_model.specs.Header.{Header}
+use Rattle.kfs_model.specs.Table.{Table, numbers, get}
+use Rattle.kfs_model.specs.Tree.{Tree, Links, headers}
+use Rattle.kfs_model.specs.Sight.{Sight, sight}
+use Rattle.kfs_model.specs.Plan.{number_now, header_now, keyed_name, keyed_node}
+use Rattle.kfs_model.specs.FirstWrong.{RowFault, Names, Nodes, Pieces, same_kind, same_header, same_headers, same_place, same_pair, same_option, first_difference, differences, first_wrong_name, first_wrong_node, first_wrong_row, or_else}
+use Rattle.kfs_model.proofs.Exact.{numbers-exact, headers-exact}
+use Rattle.kfs_model.proofs.Differences.{differences_only}
+use Rattle.kfs_entry.specs.Answers.{plan_of}
+use Rattle.kfs_entry.specs.Views.{header_of, kind_of, name_row_of, node_row_of}
+use Rattle.kfs_entry.specs.declared.header.Kind.{Kind as CodeKind}
+use Rattle.kfs_entry.specs.declared.header.Kind.TheVariants as kinds
+use Rattle.kfs_entry.specs.declared.header.Header.{Header as CodeHeader}
+use Rattle.kfs_entry.specs.declared.plan.NameRow.{NameRow as CodeNameRow}
+use Rattle.kfs_entry.specs.declared.plan.NodeRow.{NodeRow as CodeNodeRow}
+use Rattle.kfs_entry.specs.declared.plan.Piece.{Piece as CodePiece}
+use Rattle.kfs_entry.specs.declared.plan.Plan.{Plan as CodePlan}
+use Rattle.kfs_entry.specs.contracts.plan.NameRowPartialEq.TheImpl as names
+use Rattle.kfs_entry.specs.contracts.plan.NodeRowPartialEq.TheImpl as nodes
+use Rattle.kfs_entry.specs.contracts.header.HeaderPartialEq.TheImpl as heads
+use Rattle.kfs_entry.specs.contracts.header.KindPartialEq.TheImpl as kind_tests
+use Rattle.kfs_image.specs.declared.shape.Net.{Net}
+use Rattle.kfs_judge.specs.PlanCheck.{first_unlike, first_of_pieces}
+use Rattle.kfs_judge.specs.Rows.{keyed_name_row, keyed_node_row}
+use Rattle.kfs_judge.specs.Walks.{IsNetOf, AreNamesOf, AreNodesOf}
+use Rattle.kfs_judge.proofs.MarkedCreates.{EndsBeside}
+use Rattle.kfs_judge.proofs.Untouched.{first_of_pieces-wrong}
+
+-- ---- the first difference, by a search for a pair that differs
+
+-- no pair differs: the lists are equal, or the shorter one ends
+abbrev pub at_end : Option ℕ → (length other_length : ℕ) → Option ℕ
+at_end (Some k) n m = Some k
+at_end None n m = cond (n == m) None (Some (min n m))
+
+pub at_end-some : (found : Option ℕ) (n m : ℕ) → is_some found ≡ true → at_end found n m ≡ found
+at_end-some (Some k) n m is = refl
+at_end-some None n m is = cc
+
+pub at_end-equal : (found : Option ℕ) (n m : ℕ) → is_some found ≡ false → n ≡ m → at_end found n m ≡ None
+at_end-equal (Some k) n m is same = cc
+at_end-equal None n m is same = ap (λ (b : Bool). cond b None (Some (min n m))) (eq-eqb n m same)
+
+pub at_end-shorter : (found : Option ℕ) (n m : ℕ) → is_some found ≡ false → (n ≡ m → ⊥) → at_end found n m ≡ Some (min n m)
+at_end-shorter (Some k) n m is other = cc
+at_end-shorter None n m is other = ap (λ (b : Bool). cond b None (Some (min n m))) (ne_eqb n m other)
+
+at_end-later : (found : Option ℕ) (n m : ℕ) → option_map (λ k. k + 1) (at_end found n m) ≡ at_end (option_map (λ k. k + 1) found) (suc n) (suc m)
+at_end-later (Some k) n m = refl
+at_end-later None n m =
+    elim (cases_eq n m) [
+      | inl same ↦ ap (option_map (λ k. k + 1)) (at_end-equal None n m refl same) ∙ sym (at_end-equal None (suc n) (suc m) refl (ap suc same))
+      | inr other ↦
+      let next : min n m + 1 ≡ min (suc n) (suc m) = omega arith in
+      ap (option_map (λ k. k + 1)) (at_end-shorter None n m refl other) ∙ ap Some next ∙ sym (at_end-shorter None (suc n) (suc m) refl (λ e. other (let same : n ≡ m = omega arith in same)))
+    ]
+
+at_end-first : (n : ℕ) → Some 0 ≡ at_end None 0 (suc n)
+at_end-first n = let least : 0 ≡ min 0 (suc n) = omega arith in ap Some least ∙ sym (at_end-shorter None 0 (suc n) refl (λ e. cc))
+
+at_end-second : (n : ℕ) → Some 0 ≡ at_end None (suc n) 0
+at_end-second n = let least : 0 ≡ min (suc n) 0 = omega arith in ap Some least ∙ sym (at_end-shorter None (suc n) 0 refl (λ e. cc))
+
+module _ {X : Type 0} (same : X → X → Bool) where
+  abbrev pub unlike : X × X → Bool
+  unlike p = not (same p.0 p.1)
+
+  position-shifted : (i : ℕ) (pairs : List (X × X)) → position_from unlike (i + 1) pairs ≡ option_map (λ k. k + 1) (position_from unlike i pairs)
+  position-shifted i [] = refl
+  position-shifted i (p ∷ ps) = by (unlike p) (position-shifted (i + 1) ps)
+    where
+      by : (b : Bool) → position_from unlike (i + 1 + 1) ps ≡ option_map (λ k. k + 1) (position_from unlike (i + 1) ps) → cond b (Some (i + 1)) (position_from unlike (i + 1 + 1) ps) ≡ option_map (λ k. k + 1) (cond b (Some i) (position_from unlike (i + 1) ps))
+      by true rest = refl
+      by false rest = rest
+
+  first_difference-from : (xs ys : List X) → first_difference same xs ys ≡ at_end (position_from unlike 0 (zip xs ys)) (length xs) (length ys)
+  first_difference-from [] [] = refl
+  first_difference-from [] (y ∷ ys) = at_end-first (length ys)
+  first_difference-from (x ∷ xs) [] = at_end-second (length xs)
+  first_difference-from (x ∷ xs) (y ∷ ys) = by (same x y) (first_difference-from xs ys)
+    where
+      by : (b : Bool) → first_difference same xs ys ≡ at_end (position_from unlike 0 (zip xs ys)) (length xs) (length ys)
+          → ◌≡◌ {A = Option ℕ} (elim b [ true ↦ option_map (λ i. i + 1) (first_difference same xs ys) | false ↦ Some 0 ]) (at_end (cond (not b) (Some 0) (position_from unlike 1 (zip xs ys))) (suc (length xs)) (suc (length ys)))
+      by true rest =
+          ap (option_map (λ i. i + 1)) rest ∙ at_end-later (position_from unlike 0 (zip xs ys)) (length xs) (length ys)
+          ∙ ap (λ o. at_end o (suc (length xs)) (suc (length ys))) (sym (position-shifted 0 (zip xs ys)))
+      by false rest = refl
+
+  pub first_difference-position : (xs ys : List X) → first_difference same xs ys ≡ at_end (position unlike (zip xs ys)) (length xs) (length ys)
+  first_difference-position xs ys = first_difference-from xs ys ∙ ap (λ o. at_end o (length xs) (length ys)) (sym (position_from-zero unlike (zip xs ys)))
+
+-- ---- rows as those of the definitions
+
+module _ {X Y : Type 0} (same : X → X → Bool) (test : Y → Y → Bool) (view : X → Y) (alike : (x y : X) → same x y ≡ test (view x) (view y)) where
+  pub first_difference-map : (xs ys : List X) → first_difference same xs ys ≡ first_difference test (map view xs) (map view ys)
+  first_difference-map [] [] = refl
+  first_difference-map [] (y ∷ ys) = refl
+  first_difference-map (x ∷ xs) [] = refl
+  first_difference-map (x ∷ xs) (y ∷ ys) =
+      ap (λ (b : Bool). elim b as (λ _. Option ℕ) [ true ↦ option_map (λ i. i + 1) (first_difference same xs ys) | false ↦ Some 0 ]) (alike x y)
+      ∙ ap (λ rest. elim (test (view x) (view y)) as (λ _. Option ℕ) [ true ↦ option_map (λ i. i + 1) rest | false ↦ Some 0 ]) (first_difference-map xs ys)
+
+three : (a b c : Bool) → (a && (b && c)) ≡ (a && b && c)
+three true b c = refl
+three false b c = refl
+
+pub name_rows-alike : (r q : CodeNameRow) → names.eq-value.it r q ≡ same_pair same_place nat_eq (keyed_name_row r) (keyed_name_row q)
+name_rows-alike r q = three (r.dir == q.dir) (pointwise nat_eq r.name q.name) (r.number == q.number)
+
+six : (a b c d e f : Bool) → (a && (b && (c && (d && (e && f))))) ≡ (a && b && c && d && e && f)
+six true true true true true f = refl
+six true true true true false f = refl
+six true true true false e f = refl
+six true true false d e f = refl
+six true false c d e f = refl
+six false b c d e f = refl
+
+kinds-alike : (k l : CodeKind) → kind_tests.eq-value.it k l ≡ same_kind (kind_of k) (kind_of l)
+kinds-alike kinds.File kinds.File = refl
+kinds-alike kinds.File kinds.Directory = refl
+kinds-alike kinds.Directory kinds.File = refl
+kinds-alike kinds.Directory kinds.Directory = refl
+
+headers-alike : (h g : CodeHeader) → heads.eq-value.it h g ≡ same_header (header_of h) (header_of g)
+headers-alike h g =
+    six (kind_tests.eq-value.it h.kind g.kind) (h.mode == g.mode) (h.uid == g.uid) (h.gid == g.gid) (h.links == g.links) (h.size == g.size)
+    ∙ ap (λ (b : Bool). b && (h.mode == g.mode) && (h.uid == g.uid) && (h.gid == g.gid) && (h.links == g.links) && (h.size == g.size)) (kinds-alike h.kind g.kind)
+
+options-alike : (x y : Option CodeHeader) → option_eq heads.eq-value.it x y ≡ same_headers (option_map header_of x) (option_map header_of y)
+options-alike None None = refl
+options-alike None (Some y) = refl
+options-alike (Some x) None = refl
+options-alike (Some x) (Some y) = headers-alike x y
+
+pub node_rows-alike : (r q : CodeNodeRow) → nodes.eq-value.it r q ≡ same_pair nat_eq same_headers (keyed_node_row r) (keyed_node_row q)
+node_rows-alike r q = ap (λ b. nat_eq r.number q.number && b) (options-alike r.now q.now)
+
+-- ---- what the code's searches find, and the first row that isn't the net's
+
+module _ {A : Type 0} (net : Net A) (plan : CodePlan A) where
+  abbrev in_names : Option ℕ
+  in_names = first_difference (same_pair same_place nat_eq) (map keyed_name_row plan.names) (map keyed_name_row net.names.items)
+
+  abbrev in_nodes : Option ℕ
+  in_nodes = first_difference (same_pair nat_eq same_headers) (map keyed_node_row plan.nodes) (map keyed_node_row net.nodes.items)
+
+  pub name_found : (rows right : List CodeNameRow) (found shown : Option ℕ) → rows ≡ plan.names → right ≡ net.names.items → found ≡ first_difference names.eq-value.it rows right → found ≡ shown → in_names ≡ shown
+  name_found rows right found shown rows_are right_are is here =
+      sym (first_difference-map names.eq-value.it (same_pair same_place nat_eq) keyed_name_row name_rows-alike plan.names net.names.items)
+      ∙ (λ i. first_difference names.eq-value.it (sym rows_are i) (sym right_are i)) ∙ sym is ∙ here
+
+  pub node_found : (rows right : List CodeNodeRow) (found shown : Option ℕ) → rows ≡ plan.nodes → right ≡ net.nodes.items → found ≡ first_difference nodes.eq-value.it rows right → found ≡ shown → in_nodes ≡ shown
+  node_found rows right found shown rows_are right_are is here =
+      sym (first_difference-map nodes.eq-value.it (same_pair nat_eq same_headers) keyed_node_row node_rows-alike plan.nodes net.nodes.items)
+      ∙ (λ i. first_difference nodes.eq-value.it (sym rows_are i) (sym right_are i)) ∙ sym is ∙ here
+
+  pub unlike-name : (index : ℕ) → in_names ≡ Some index → first_unlike net plan ≡ Some (Names index)
+  unlike-name index here = ap (λ o. or_else Names o (or_else Nodes in_nodes (or_else Pieces (first_of_pieces plan.pieces) None))) here
+
+  pub unlike-node : (index : ℕ) → in_names ≡ None → in_nodes ≡ Some index → first_unlike net plan ≡ Some (Nodes index)
+  unlike-node index no_name here = λ i. or_else Names (no_name i) (or_else Nodes (here i) (or_else Pieces (first_of_pieces plan.pieces) None))
+
+  pub unlike-piece : (found : Option ℕ) → in_names ≡ None → in_nodes ≡ None → first_of_pieces plan.pieces ≡ found → first_unlike net plan ≡ or_else Pieces found None
+  unlike-piece found no_name no_node here = λ i. or_else Names (no_name i) (or_else Nodes (no_node i) (or_else Pieces (here i) None))
+
+pub no_piece : (pieces shown : List CodePiece) → shown ≡ pieces → length shown ≡ 0 → first_of_pieces pieces ≡ None
+no_piece [] shown same none = refl
+no_piece (p ∷ ps) shown same none = let some : length shown ≡ suc (length ps) = ap length same in absurd (let never : ⊥ = omega arith in never)
+
+pub a_piece : (pieces shown : List CodePiece) → shown ≡ pieces → (length shown ≡ 0 → ⊥) → first_of_pieces pieces ≡ Some 0
+a_piece [] shown same some = absurd (some (ap length same))
+a_piece (p ∷ ps) shown same some = refl

@@ -1,0 +1,208 @@
+-- The verdict on a submission, case by case of the judgement's order.
+use Rattle.std.specs.Prelude.{◌≡◌, ◌≢◌, ℕ, ◌==◌, nat_eq, Bool, true, false, cond, List, [], ◌∷◌, find, map, Option, Some, None, Result, Ok, Err, refl}
+use Rattle.std.specs.Option.{option_map}
+use Rattle.std.proofs.Common.{ap, sym, subst, ◌∙◌}
+use Rattle.std.proofs.lemmas.Bool.{eqb-true, eq-eqb, ne_eqb}
+use Rattle.kfs_model.specs.Access.{Client}
+use Rattle.kfs_model.specs.Entry.{Entry, Log}
+use Rattle.kfs_model.specs.PlanRow.{Plan}
+use Rattle.kfs_model.specs.Tree.{Tree}
+use Rattle.kfs_model.specs.Sight.{sight}
+use Rattle.kfs_model.specs.Lease.{holds, row_of}
+use Rattle.kfs_model.specs.Run.{Mark, Scene, EntryFault, run, bytes, marks, marked}
+use Rattle.kfs_model.specs.FirstWrong.{RowFault, first_wrong_row}
+use Rattle.kfs_model.specs.Spelling.{SpellingFault, BadHeader, BadEntry, Trailing, BadRow, LogAnswer, PlanAnswer}
+use Rattle.kfs_model.specs.Judgement.{State, Submission, Fault, Verdict, IsJudgement, scene_of, judged, judged_log, judged_plan, judged_entries, judged_run, judged_rows}
+use Rattle.kfs_model.specs.Judgement.Fault.{ClientUnknown, ClientWrong, BadLog, BadPlan, AtEntry, AtRow}
+use Rattle.kfs_model.specs.Judgement.Verdict.{Yes, No}
+use Rattle.kfs_model.specs.Machine.{OneByOne}
+use Rattle.kfs_model.proofs.RightPlan.{right_from_none}
+use Rattle.kfs_entry.specs.Answers.{log_of, plan_of, Refused}
+use Rattle.kfs_entry.specs.declared.entry.Log.{Log as CodeLog}
+use Rattle.kfs_entry.specs.declared.plan.Plan.{Plan as CodePlan}
+use Rattle.kfs_entry.specs.declared.fault.SpellFault.{SpellFault}
+use Rattle.kfs_entry.specs.declared.fault.SpellFault.TheVariants as spelling
+use Rattle.kfs_entry.proofs.Fields.{IsBytes}
+use Rattle.kfs_image.specs.declared.shape.Net.{Net}
+use Rattle.kfs_judge.specs.declared.plan.RowFault.{RowFault as CodeRowFault}
+use Rattle.kfs_judge.specs.declared.plan.Fault.{Fault as CodeFault}
+use Rattle.kfs_judge.specs.declared.plan.Fault.TheVariants as faults
+use Rattle.kfs_judge.specs.declared.plan.Outcome.{Outcome}
+use Rattle.kfs_judge.specs.declared.plan.Outcome.TheVariants as outcomes
+use Rattle.kfs_judge.specs.declared.walk.EntryFault.{EntryFault as CodeEntryFault}
+use Rattle.kfs_judge.specs.Judging.{row_fault_of, refusal_of, AreSpelled, IsVerdict, IsSettled}
+use Rattle.kfs_judge.specs.PlanCheck.{first_unlike}
+use Rattle.kfs_judge.specs.Walks.{ComesToTree, fault_of, scene_in, seen_in}
+use Rattle.kfs_judge.proofs.AnswersExist.{log_has_answer, plan_has_answer}
+use Rattle.kfs_judge.proofs.MarkedCreates.{EndsBeside, ends_beside}
+use Rattle.kfs_judge.proofs.PlanChecked.{first_wrong-unlike, creations}
+use Rattle.kfs_judge.proofs.Untouched.{need-untouched}
+
+numbered : (clients : List Client) (number : ℕ) (client : Client) → row_of clients number ≡ Some client → client.number ≡ number
+numbered [] number client is = cc
+numbered (c ∷ cs) number client is = by (c.number == number) refl is (numbered cs number client)
+  where
+    by : (b : Bool) → (c.number == number) ≡ b → cond b (Some c) (row_of cs number) ≡ Some client → (row_of cs number ≡ Some client → client.number ≡ number) → client.number ≡ number
+    by true same is' rest = let this : c ≡ client = cc in ap (λ (k : Client). k.number) (sym this) ∙ eqb-true c.number number same
+    by false same is' rest = rest is'
+
+module _ (s : State) (number : ℕ) where
+  judged-unknown : (log : Result Log SpellingFault) (plan : Result Plan SpellingFault) → row_of s.clients number ≡ None → judged s number log plan ≡ No ClientUnknown
+  unfolding judged
+  judged-unknown log plan row = ap (λ o. elim o as (λ _. Verdict) [ None ↦ No ClientUnknown | Some client ↦ judged_log s client log plan ]) row
+
+  module _ (client : Client) (row : row_of s.clients number ≡ Some client) where
+    judged-known : (log : Result Log SpellingFault) (plan : Result Plan SpellingFault) → judged s number log plan ≡ judged_log s client log plan
+    unfolding judged
+    judged-known log plan = ap (λ o. elim o as (λ _. Verdict) [ None ↦ No ClientUnknown | Some client ↦ judged_log s client log plan ]) row
+
+    judged-bad_log : (fault : SpellingFault) (plan : Result Plan SpellingFault) → judged s number (Err fault) plan ≡ No (BadLog fault)
+    judged-bad_log fault plan = judged-known (Err fault) plan
+
+    judged-wrong : (log : Log) (plan : Result Plan SpellingFault) → log.client ≢ number → judged s number (Ok log) plan ≡ No ClientWrong
+    judged-wrong log plan other =
+        judged-known (Ok log) plan
+        ∙ ap (λ b. cond b (judged_plan s client log plan) (No ClientWrong)) (ne_eqb log.client client.number (λ same. other (same ∙ numbered s.clients number client row)))
+
+    judged-own : (log : Log) (plan : Result Plan SpellingFault) → log.client ≡ number → judged s number (Ok log) plan ≡ judged_plan s client log plan
+    judged-own log plan own =
+        judged-known (Ok log) plan
+        ∙ ap (λ b. cond b (judged_plan s client log plan) (No ClientWrong)) (eq-eqb log.client client.number (own ∙ sym (numbered s.clients number client row)))
+
+    module _ (log : Log) (plan : Plan) (own : log.client ≡ number) where
+      judged-entry : (fault : EntryFault) → run bytes (scene_of s client) s.tree log.entries ≡ Err fault → judged s number (Ok log) (Ok plan) ≡ No (AtEntry fault)
+      judged-entry fault ran = judged-own log (Ok plan) own ∙ ap (λ r. judged_run s plan r (run marks (scene_of s client) (marked s.tree) log.entries)) ran
+
+      judged-ran : (after : Tree ℕ) (marked_after : Tree Mark) → run bytes (scene_of s client) s.tree log.entries ≡ Ok after → run marks (scene_of s client) (marked s.tree) log.entries ≡ Ok marked_after → judged s number (Ok log) (Ok plan) ≡ judged_rows s plan after marked_after
+      judged-ran after marked_after ran ran_marked = judged-own log (Ok plan) own ∙ λ i. judged_run s plan (ran i) (ran_marked i)
+
+      judged-row : (after : Tree ℕ) (marked_after : Tree Mark) (first : Option RowFault) → run bytes (scene_of s client) s.tree log.entries ≡ Ok after → run marks (scene_of s client) (marked s.tree) log.entries ≡ Ok marked_after → first_wrong_row s.tree marked_after plan ≡ first
+          → judged s number (Ok log) (Ok plan) ≡ elim first as (λ _. Verdict) [ None ↦ Yes after marked_after | Some fault ↦ No (AtRow fault) ]
+      judged-row after marked_after first ran ran_marked wrong = judged-ran after marked_after ran ran_marked ∙ ap (λ o. elim o as (λ _. Verdict) [ None ↦ Yes after marked_after | Some fault ↦ No (AtRow fault) ]) wrong
+
+-- ---- outcomes of the code
+
+-- the scene over cells is that of the state
+same_scene : (s : State) (number : ℕ) (client : Client) → row_of s.clients number ≡ Some client → scene_in client (seen_in s.tree (holds s.leases number)) ≡ scene_of s client
+same_scene s number client row = ap (λ (k : ℕ). record { client = client; held = holds s.leases k; before = sight s.tree }) (sym (numbered s.clients number client row))
+
+module _ (A : Type 0) (s : State) (submission : Submission) where
+  -- a verdict on what the bytes are, in which a fault of the code is refused
+  refused : (fault : CodeFault) (refusal : Fault) (log : Result Log SpellingFault) (plan : Result Plan SpellingFault)
+      → LogAnswer submission.log log → PlanAnswer submission.plan plan
+      → judged s submission.client log plan ≡ No refusal → refusal_of fault ≡ Some refusal → IsVerdict {A = A} s submission (outcomes.No fault)
+  refused fault refusal log plan log_read plan_read is shown = record {
+    verdict = No refusal;
+    judgement = record { log = log; plan = plan; log_read = log_read; plan_read = plan_read; judgement = sym is };
+    told = shown;
+  }
+
+  pub unknown_client : IsBytes submission.log → IsBytes submission.plan → row_of s.clients submission.client ≡ None → IsVerdict {A = A} s submission (outcomes.No faults.UnknownClient)
+  unknown_client log_bytes plan_bytes row =
+      let log = log_has_answer submission.log log_bytes in
+      let plan = plan_has_answer submission.plan plan_bytes in
+      refused faults.UnknownClient ClientUnknown log.0 plan.0 log.1 plan.1 (judged-unknown s submission.client log.0 plan.0 row) refl
+
+  module _ (client : Client) (row : row_of s.clients submission.client ≡ Some client) where
+    pub bad_log : IsBytes submission.plan → (fault : SpellFault) → fault ≢ spelling.OutOfMemory → Refused (LogAnswer submission.log) fault → IsVerdict {A = A} s submission (outcomes.No (faults.BadLog fault))
+    bad_log plan_bytes fault memory answer = by fault memory answer
+      where
+        at : (fault : SpellFault) (shown : SpellingFault) → LogAnswer submission.log (Err shown) → refusal_of (faults.BadLog fault) ≡ Some (BadLog shown) → IsVerdict {A = A} s submission (outcomes.No (faults.BadLog fault))
+        at fault shown is same =
+            let plan = plan_has_answer submission.plan plan_bytes in
+            refused (faults.BadLog fault) (BadLog shown) (Err shown) plan.0 is plan.1 (judged-bad_log s submission.client client row shown plan.0) same
+
+        by : (fault : SpellFault) → fault ≢ spelling.OutOfMemory → Refused (LogAnswer submission.log) fault → IsVerdict {A = A} s submission (outcomes.No (faults.BadLog fault))
+        by spelling.BadHeader memory is = at spelling.BadHeader BadHeader is refl
+        by (spelling.BadEntry k) memory is = at (spelling.BadEntry k) (BadEntry k) is refl
+        by spelling.Trailing memory is = at spelling.Trailing Trailing is refl
+        by (spelling.BadRow part k) memory is = at (spelling.BadRow part k) (BadRow part k) is refl
+        by spelling.OutOfMemory memory is = absurd (memory refl)
+
+    module _ (log : CodeLog A) (log_read : LogAnswer submission.log (Ok (log_of submission.log log))) where
+      pub wrong_client : IsBytes submission.plan → log.client ≢ submission.client → IsVerdict {A = A} s submission (outcomes.No faults.WrongClient)
+      wrong_client plan_bytes other =
+          let plan = plan_has_answer submission.plan plan_bytes in
+          refused faults.WrongClient ClientWrong (Ok (log_of submission.log log)) plan.0 log_read plan.1 (judged-wrong s submission.client client row (log_of submission.log log) plan.0 other) refl
+
+      pub bad_plan : log.client ≡ submission.client → (fault : SpellFault) → fault ≢ spelling.OutOfMemory → Refused (PlanAnswer submission.plan) fault → IsVerdict {A = A} s submission (outcomes.No (faults.BadPlan fault))
+      bad_plan own fault memory answer = by fault memory answer
+        where
+          at : (fault : SpellFault) (shown : SpellingFault) → PlanAnswer submission.plan (Err shown) → refusal_of (faults.BadPlan fault) ≡ Some (BadPlan shown) → IsVerdict {A = A} s submission (outcomes.No (faults.BadPlan fault))
+          at fault shown is same = refused (faults.BadPlan fault) (BadPlan shown) (Ok (log_of submission.log log)) (Err shown) log_read is (judged-own s submission.client client row (log_of submission.log log) (Err shown) own) same
+
+          by : (fault : SpellFault) → fault ≢ spelling.OutOfMemory → Refused (PlanAnswer submission.plan) fault → IsVerdict {A = A} s submission (outcomes.No (faults.BadPlan fault))
+          by spelling.BadHeader memory is = at spelling.BadHeader BadHeader is refl
+          by (spelling.BadEntry k) memory is = at (spelling.BadEntry k) (BadEntry k) is refl
+          by spelling.Trailing memory is = at spelling.Trailing Trailing is refl
+          by (spelling.BadRow part k) memory is = at (spelling.BadRow part k) (BadRow part k) is refl
+          by spelling.OutOfMemory memory is = absurd (memory refl)
+
+    -- ---- a log and a plan that were read
+
+    scenes : scene_in client (seen_in s.tree (holds s.leases submission.client)) ≡ scene_of s client
+    scenes = same_scene s submission.client client row
+
+    module _ (log : CodeLog A) (plan : CodePlan A) (spelled : AreSpelled submission log plan) where
+      abbrev the_log : Log
+      the_log = log_of submission.log log
+
+      bad_entry : (fault : CodeEntryFault) → ComesToTree {A = A} client (holds s.leases submission.client) s.tree the_log.entries (Err fault) → IsVerdict {A = A} s submission (outcomes.No (faults.Entry fault))
+      bad_entry fault comes =
+          refused (faults.Entry fault) (AtEntry (fault_of fault)) (Ok the_log) (Ok (plan_of plan)) spelled.log_read spelled.plan_read
+          (judged-entry s submission.client client row the_log (plan_of plan) spelled.owner (fault_of fault) (ap (λ scene. run bytes scene s.tree the_log.entries) (sym scenes) ∙ comes)) refl
+
+      module _ (net : Net A) (comes : ComesToTree client (holds s.leases submission.client) s.tree the_log.entries (Ok net)) where
+        ends : EndsBeside (scene_of s client) s.tree the_log.entries comes.0
+        ends = ends_beside (scene_of s client) s.tree the_log.entries (creations submission.log log.entries spelled.creates) comes.0 (ap (λ scene. run bytes scene s.tree the_log.entries) (sym scenes) ∙ comes.1)
+
+        first : first_wrong_row s.tree ends.marked_after (plan_of plan) ≡ first_unlike net plan
+        first = first_wrong-unlike (scene_of s client) s.tree the_log.entries comes.0 net plan ends comes.4
+
+        ran : run bytes (scene_of s client) s.tree the_log.entries ≡ Ok comes.0
+        ran = ap (λ scene. run bytes scene s.tree the_log.entries) (sym scenes) ∙ comes.1
+
+        bad_row : (fault : CodeRowFault) (wrong : RowFault) → row_fault_of fault ≡ Some wrong → first_unlike net plan ≡ Some wrong → IsVerdict {A = A} s submission (outcomes.No (faults.Row fault))
+        bad_row fault wrong shown is =
+            refused (faults.Row fault) (AtRow wrong) (Ok the_log) (Ok (plan_of plan)) spelled.log_read spelled.plan_read
+            (judged-row s submission.client client row the_log (plan_of plan) spelled.owner comes.0 ends.marked_after (Some wrong) ran ends.ran (first ∙ is))
+            (ap (option_map AtRow) shown)
+
+        right : (told : ℕ) → told ≡ 0 → first_unlike net plan ≡ None → IsVerdict s submission (outcomes.Yes log plan net told)
+        right told zero is = record {
+          verdict = Yes comes.0 ends.marked_after;
+          judgement = record {
+            log = Ok the_log;
+            plan = Ok (plan_of plan);
+            log_read = spelled.log_read;
+            plan_read = spelled.plan_read;
+            judgement = sym (judged-row s submission.client client row the_log (plan_of plan) spelled.owner comes.0 ends.marked_after None ran ends.ran (first ∙ is));
+          };
+          told = record {
+            spelled = spelled;
+            client = client;
+            row = row;
+            comes = record {
+              ran = ran;
+              sound = comes.2;
+              allowed = subst (λ scene. OneByOne scene 0 [] s.tree the_log.entries comes.0) scenes comes.3;
+              differs = comes.4;
+              ran_marked = ends.ran;
+            };
+            right = right_from_none s.tree ends.marked_after (plan_of plan) (first ∙ is);
+            need_told = zero ∙ sym (need-untouched ends.marked_after ends.untouched);
+          };
+        }
+
+      pub settled : (walked : Result (Net A) CodeEntryFault) (outcome : Outcome A) → ComesToTree client (holds s.leases submission.client) s.tree the_log.entries walked → IsSettled log plan walked outcome → IsVerdict s submission outcome
+      settled (Err fault) (outcomes.No refusal) comes is = subst (λ (f : CodeFault). IsVerdict {A = A} s submission (outcomes.No f)) (sym is) (bad_entry fault comes)
+      settled (Err fault) (outcomes.Yes l p n told) comes is = absurd is
+      settled (Ok net) (outcomes.No (faults.Row fault)) comes is = bad_row net comes fault is.0 is.1 is.2
+      settled (Ok net) (outcomes.No faults.UnknownClient) comes is = absurd is
+      settled (Ok net) (outcomes.No (faults.BadLog fault)) comes is = absurd is
+      settled (Ok net) (outcomes.No faults.WrongClient) comes is = absurd is
+      settled (Ok net) (outcomes.No (faults.BadPlan fault)) comes is = absurd is
+      settled (Ok net) (outcomes.No (faults.Entry fault)) comes is = absurd is
+      settled (Ok net) (outcomes.Yes l p n told) comes is =
+          let same : outcomes.Yes log plan net told ≡ outcomes.Yes l p n told = λ i. outcomes.Yes (sym is.0 i) (sym is.1 i) (sym is.2 i) told in
+          subst (λ (o : Outcome A). IsVerdict s submission o) same (right net comes told is.3 is.4)

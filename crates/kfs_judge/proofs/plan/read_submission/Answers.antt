@@ -1,0 +1,47 @@
+-- What the decoders found, as the verdict that it is or as what the entries are judged by.
+use Rattle.std.proofs.Common.{◌≢◌, subst, sym, arith}
+use Rattle.std.specs.Prelude.{All}
+use Rattle.std.proofs.lemmas.Bool.{both_ways}
+use Rattle.kfs_entry.specs.Answers.{log_of}
+use Rattle.kfs_entry.specs.declared.fault.SpellFault.TheVariants as spelling
+use Rattle.kfs_entry.proofs.Fields.{IsBytes}
+use Rattle.kfs_judge.specs.Creates.{IsCreate}
+use Rattle.kfs_judge.specs.Judging.{submission_with, IsVerdict}
+use Rattle.kfs_judge.specs.declared.plan.Outcome.TheVariants as outcomes
+use Rattle.kfs_judge.specs.declared.plan.Fault.TheVariants as faults
+use Rattle.kfs_judge.proofs.Verdicts.{bad_log, wrong_client, bad_plan}
+use Rattle.kfs_judge.proofs.PlanChecked.{not_creations}
+use Rattle.kfs_judge.proofs.plan.read_submission.Goals as goal
+
+pub returns-in-Err-clause-read : goal.returns-in-Err-clause-read
+returns-in-Err-clause-read g c s client row =
+    let bytes : IsBytes c.args.plan.now = λ i. omega (arith, c.type_inv.plan i) in
+    let told = c.in_ok-unless_refused-in-Err.ensures.fault in
+    subst (λ f. IsVerdict {A = g.row.A.Denot} s (submission_with c.args.number c.args.log.now c.args.plan.now) (outcomes.No (faults.BadLog f))) (sym told.0)
+    (bad_log g.row.A.Denot s (submission_with c.args.number c.args.log.now c.args.plan.now) client row bytes c.in-Err.fault (subst (λ f. f ≢ spelling.OutOfMemory) told.0 told.1) c.in-Err.ensures.found)
+
+pub returns-then-log-number-clause-read : goal.returns-then-log-number-clause-read
+returns-then-log-number-clause-read g c s client row =
+    let bytes : IsBytes c.args.plan.now = λ i. omega (arith, c.type_inv.plan i) in
+    wrong_client g.row.A.Denot s (submission_with c.args.number c.args.log.now c.args.plan.now) client row c.in-Ok.log c.in-Ok.ensures.found bytes c.if-log-number.true
+
+pub returns-in-Err-decode_plan-clause-read : goal.returns-in-Err-decode_plan-clause-read
+returns-in-Err-decode_plan-clause-read g c s client row =
+    let told = c.in_ok-unless_refused-in-Err-decode_plan.ensures.fault in
+    subst (λ f. IsVerdict {A = g.row.A.Denot} s (submission_with c.args.number c.args.log.now c.args.plan.now) (outcomes.No (faults.BadPlan f))) (sym told.0)
+    (bad_plan g.row.A.Denot s (submission_with c.args.number c.args.log.now c.args.plan.now) client row c.in-Ok.log c.in-Ok.ensures.found c.if-log-number.false c.in-Err-decode_plan.fault (subst (λ f. f ≢ spelling.OutOfMemory) told.0 told.1) c.in-Err-decode_plan.ensures.found)
+
+pub returns-then-not-are_creates-clause-other : goal.returns-then-not-are_creates-clause-other
+returns-then-not-are_creates-clause-other g c why = record {
+  log = log_of c.args.log.now c.in-Ok.log;
+  spelled = c.in-Ok.ensures.found;
+  other = not_creations c.args.log.now c.in-Ok.log.entries (λ all. both_ways _ c.if-not-are_creates.true (c.are_creates.ensures.1 (subst (All IsCreate) (sym c.as_slice.ensures) all)));
+}
+
+pub returns-clause-read : goal.returns-clause-read
+returns-clause-read g c = record {
+  owner = c.if-log-number.false;
+  log_read = c.in-Ok.ensures.found;
+  plan_read = c.in-Ok-decode_plan.ensures.found;
+  creates = subst (All IsCreate) c.as_slice.ensures (c.are_creates.ensures.0 c.if-not-are_creates.false);
+}

@@ -1,0 +1,140 @@
+-- What a judgement answered, as the definitions say it.
+use Rattle.std.specs.Prelude.{◌≡◌, ℕ, Bool, true, false, List, [], map, All, length, ◌≤◌, Option, None, Some, Result, Ok, Err}
+use Rattle.std.specs.Option.{option_map}
+use Rattle.std.specs.List.{list_all}
+use Rattle.kfs_model.specs.Access.{Client}
+use Rattle.kfs_model.specs.Entry.{Entry, Log}
+use Rattle.kfs_model.specs.Tree.{Tree}
+use Rattle.kfs_model.specs.Sight.{sight}
+use Rattle.kfs_model.specs.Lease.{holds, row_of}
+use Rattle.kfs_model.specs.Run.{Mark, Scene, run, bytes, marks, marked}
+use Rattle.kfs_model.specs.Plan.{IsRight}
+use Rattle.kfs_model.specs.FirstWrong.{RowFault, Names, Nodes, Pieces}
+use Rattle.kfs_model.specs.Placement.{need}
+use Rattle.kfs_model.specs.Soundness.{IsSound}
+use Rattle.kfs_model.specs.Machine.{OneByOne}
+use Rattle.kfs_model.specs.Spelling.{SpellingFault, BadHeader, BadEntry, Trailing, BadRow, LogAnswer, PlanAnswer}
+use Rattle.kfs_model.specs.Judgement.{State, Submission, Fault, ClientUnknown, ClientWrong, BadLog, BadPlan, AtEntry, AtRow, Verdict, Yes, No, IsJudgement, scene_of}
+use Rattle.kfs_entry.specs.Answers.{log_of, plan_of}
+use Rattle.kfs_entry.specs.Views.{entry_of}
+use Rattle.kfs_entry.specs.declared.entry.Log.{Log as CodeLog}
+use Rattle.kfs_entry.specs.declared.plan.Plan.{Plan as CodePlan}
+use Rattle.kfs_entry.specs.declared.fault.SpellFault.{SpellFault}
+use Rattle.kfs_entry.specs.declared.fault.SpellFault.TheVariants as spelling
+use Rattle.kfs_image.specs.declared.shape.Net.{Net}
+use Rattle.kfs_judge.specs.declared.plan.RowFault.{RowFault as CodeRowFault}
+use Rattle.kfs_judge.specs.declared.plan.RowFault.TheVariants as rows
+use Rattle.kfs_judge.specs.declared.plan.Fault.{Fault as CodeFault}
+use Rattle.kfs_judge.specs.declared.plan.Fault.TheVariants as faults
+use Rattle.kfs_judge.specs.declared.plan.Submission.{Submission as CodeSubmission}
+use Rattle.kfs_judge.specs.declared.plan.Outcome.{Outcome}
+use Rattle.kfs_judge.specs.declared.plan.Outcome.TheVariants as outcomes
+use Rattle.kfs_judge.specs.declared.plan.Spelled.{Spelled}
+use Rattle.kfs_judge.specs.declared.plan.Spelled.TheVariants as readings
+use Rattle.kfs_judge.specs.declared.walk.EntryFault.{EntryFault as CodeEntryFault}
+use Rattle.kfs_judge.specs.declared.reads.Read.{Read}
+use Rattle.kfs_judge.specs.declared.reads.Seen.{Seen as CodeSeen}
+use Rattle.kfs_judge.specs.Creates.{IsCreate}
+use Rattle.kfs_judge.specs.Creations.{is_creation}
+use Rattle.kfs_judge.specs.PlanCheck.{first_unlike}
+use Rattle.kfs_judge.specs.Reads.{Agrees}
+use Rattle.kfs_judge.specs.Walks.{IsNetOf, fault_of, seen_in}
+
+-- ---- faults, none where a growth was refused: that is no fault of a submission
+
+abbrev pub spelling_fault_of : SpellFault → Option SpellingFault
+spelling_fault_of spelling.BadHeader = Some BadHeader
+spelling_fault_of (spelling.BadEntry k) = Some (BadEntry k)
+spelling_fault_of spelling.Trailing = Some Trailing
+spelling_fault_of (spelling.BadRow part k) = Some (BadRow part k)
+spelling_fault_of spelling.OutOfMemory = None
+
+abbrev pub row_fault_of : CodeRowFault → Option RowFault
+row_fault_of (rows.Names index) = Some (Names index)
+row_fault_of (rows.Nodes index) = Some (Nodes index)
+row_fault_of (rows.Pieces index) = Some (Pieces index)
+row_fault_of rows.OutOfMemory = None
+
+abbrev pub refusal_of : CodeFault → Option Fault
+refusal_of faults.UnknownClient = Some ClientUnknown
+refusal_of (faults.BadLog fault) = option_map BadLog (spelling_fault_of fault)
+refusal_of faults.WrongClient = Some ClientWrong
+refusal_of (faults.BadPlan fault) = option_map BadPlan (spelling_fault_of fault)
+refusal_of (faults.Entry fault) = Some (AtEntry (fault_of fault))
+refusal_of (faults.Row fault) = option_map AtRow (row_fault_of fault)
+
+-- ---- submissions
+
+abbrev pub submission_with : (client : ℕ) (log plan : List ℕ) → Submission
+submission_with client log plan = record { client = client; log = log; plan = plan }
+
+abbrev pub submission_of : {A : Type 0} → CodeSubmission A → Submission
+submission_of submission = submission_with submission.client submission.log.items submission.plan.items
+
+-- the bytes spell a log that has an entry other than a Create
+pub record HasOtherEntry (bytes : List ℕ) : Type 0 where
+  pub log : Log
+  pub spelled : LogAnswer bytes (Ok log)
+  pub other : list_all is_creation log.entries ≡ false
+
+-- the bytes of the submission are this log of the client and this plan, and the entries are Creates
+pub record AreSpelled {A : Type 0} (submission : Submission) (log : CodeLog A) (plan : CodePlan A) : Type 0 where
+  pub owner : log.client ≡ submission.client
+  pub log_read : LogAnswer submission.log (Ok (log_of submission.log log))
+  pub plan_read : PlanAnswer submission.plan (Ok (plan_of plan))
+  pub creates : All IsCreate log.entries
+
+-- ---- verdicts
+
+-- a sound state in which the client has this row, and which agrees with the reads of a judgement
+pub record IsAlike (s : State) (number : ℕ) (client : Option Client) (reads : List (Read × CodeSeen)) : Type 0 where
+  pub sound : IsSound s.tree
+  pub row : row_of s.clients number ≡ client
+  pub agrees : Agrees reads (seen_in s.tree (holds s.leases number))
+
+-- what the entries of a right plan's log come to: a sound tree, one by one and each allowed, with this net, and marked
+pub record ComesToNet {A : Type 0} (s : State) (client : Client) (entries : List Entry) (net : Net A) (after : Tree ℕ) (marked_after : Tree Mark) : Type 0 where
+  pub ran : run bytes (scene_of s client) s.tree entries ≡ Ok after
+  pub sound : IsSound after
+  pub allowed : OneByOne (scene_of s client) 0 [] s.tree entries after
+  pub differs : IsNetOf (sight s.tree) (sight after) net
+  pub ran_marked : run marks (scene_of s client) (marked s.tree) entries ≡ Ok marked_after
+
+-- a Yes tells what the bytes spell, what the entries come to, and how many blocks are written
+pub record TellsYes {A : Type 0} (s : State) (submission : Submission) (log : CodeLog A) (plan : CodePlan A) (net : Net A) (told : ℕ) (after : Tree ℕ) (marked_after : Tree Mark) : Type 0 where
+  pub spelled : AreSpelled submission log plan
+  pub client : Client
+  pub row : row_of s.clients submission.client ≡ Some client
+  pub comes : ComesToNet s client (log_of submission.log log).entries net after marked_after
+  pub right : IsRight s.tree marked_after (plan_of plan)
+  pub need_told : told ≡ need marked_after
+
+-- the outcome is the verdict
+abbrev pub Tells : {A : Type 0} → State → Submission → Outcome A → Verdict → Type 0
+Tells s submission (outcomes.No fault) (No refusal) = refusal_of fault ≡ Some refusal
+Tells s submission (outcomes.No fault) (Yes after marked_after) = ⊥
+Tells s submission (outcomes.Yes log plan net told) (Yes after marked_after) = TellsYes s submission log plan net told after marked_after
+Tells s submission (outcomes.Yes log plan net told) (No refusal) = ⊥
+
+-- the state's verdict on the submission is the outcome
+pub record IsVerdict {A : Type 0} (s : State) (submission : Submission) (outcome : Outcome A) : Type 0 where
+  pub verdict : Verdict
+  pub judgement : IsJudgement s submission verdict
+  pub told : Tells s submission outcome verdict
+
+-- what was read is what the bytes spell; a fault is the verdict in all states that have the client
+abbrev pub IsReading : {A : Type 0} → Submission → Spelled A → Type 0
+IsReading submission (readings.Yes log plan) = AreSpelled submission log plan
+IsReading {A} submission (readings.No fault) = (s : State) (client : Client) → row_of s.clients submission.client ≡ Some client → IsVerdict {A = A} s submission (outcomes.No fault)
+
+-- a bad entry is the outcome, or else the first row that isn't the net's, or else a Yes
+abbrev pub IsSettled : {A : Type 0} → CodeLog A → CodePlan A → Result (Net A) CodeEntryFault → Outcome A → Type 0
+IsSettled log plan (Err fault) (outcomes.No refusal) = refusal ≡ faults.Entry fault
+IsSettled log plan (Err fault) (outcomes.Yes l p n told) = ⊥
+IsSettled log plan (Ok net) (outcomes.No (faults.Row fault)) = (wrong : RowFault) × (row_fault_of fault ≡ Some wrong) × (first_unlike net plan ≡ Some wrong)
+IsSettled log plan (Ok net) (outcomes.Yes l p n told) = (l ≡ log) × (p ≡ plan) × (n ≡ net) × (told ≡ 0) × (first_unlike net plan ≡ None)
+IsSettled log plan (Ok net) (outcomes.No faults.UnknownClient) = ⊥
+IsSettled log plan (Ok net) (outcomes.No (faults.BadLog fault)) = ⊥
+IsSettled log plan (Ok net) (outcomes.No faults.WrongClient) = ⊥
+IsSettled log plan (Ok net) (outcomes.No (faults.BadPlan fault)) = ⊥
+IsSettled log plan (Ok net) (outcomes.No (faults.Entry fault)) = ⊥

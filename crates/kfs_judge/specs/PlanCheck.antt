@@ -1,0 +1,52 @@
+-- What a check of a plan tells, as the definitions say it.
+use Rattle.std.specs.Prelude.{◌≡◌, ℕ, List, [], ◌∷◌, map, nat_eq, Bool, Option, None, Some, Result, Ok, Err}
+use Rattle.kfs_model.specs.Access.{Client}
+use Rattle.kfs_model.specs.Entry.{Entry}
+use Rattle.kfs_model.specs.Tree.{Tree}
+use Rattle.kfs_model.specs.Run.{Mark, Scene, run, marks, marked}
+use Rattle.kfs_model.specs.FirstWrong.{RowFault, Names, Nodes, Pieces, same_pair, same_place, same_headers, first_difference, or_else, first_wrong_row}
+use Rattle.kfs_model.specs.Placement.{need}
+use Rattle.kfs_entry.specs.Answers.{plan_of}
+use Rattle.kfs_entry.specs.Views.{entry_of}
+use Rattle.kfs_entry.specs.declared.entry.Log.{Log as CodeLog}
+use Rattle.kfs_entry.specs.declared.plan.Piece.{Piece as CodePiece}
+use Rattle.kfs_entry.specs.declared.plan.Plan.{Plan as CodePlan}
+use Rattle.kfs_image.specs.declared.shape.Net.{Net}
+use Rattle.kfs_judge.specs.declared.plan.RowFault.{RowFault as CodeRowFault}
+use Rattle.kfs_judge.specs.declared.plan.RowFault.TheVariants as faults
+use Rattle.kfs_judge.specs.declared.walk.Walk.{Walk}
+use Rattle.kfs_judge.specs.Reads.{Agrees}
+use Rattle.kfs_judge.specs.Rows.{keyed_name_row, keyed_node_row}
+use Rattle.kfs_judge.specs.Walks.{Fits, ComesToTree, seen_in}
+
+-- The first wrong row is named, or there is none and so many blocks are written. A refused growth tells nothing.
+abbrev pub TellsRow : Option RowFault → (need : ℕ) → Result ℕ CodeRowFault → Type 0
+TellsRow first need (Ok told) = (first ≡ None) × (told ≡ need)
+TellsRow first need (Err (faults.Names index)) = first ≡ Some (Names index)
+TellsRow first need (Err (faults.Nodes index)) = first ≡ Some (Nodes index)
+TellsRow first need (Err (faults.Pieces index)) = first ≡ Some (Pieces index)
+TellsRow first need (Err faults.OutOfMemory) = Unit {0}
+
+-- where a log writes no byte, any piece is wrong
+abbrev pub first_of_pieces : List CodePiece → Option ℕ
+first_of_pieces [] = None
+first_of_pieces (p ∷ ps) = Some 0
+
+-- the first row of the plan that isn't the net's
+abbrev pub first_unlike : {A : Type 0} → Net A → CodePlan A → Option RowFault
+first_unlike net plan =
+    or_else Names (first_difference (same_pair same_place nat_eq) (map keyed_name_row plan.names) (map keyed_name_row net.names.items))
+    (or_else Nodes (first_difference (same_pair nat_eq same_headers) (map keyed_node_row plan.nodes) (map keyed_node_row net.nodes.items))
+    (or_else Pieces (first_of_pieces plan.pieces) None))
+
+-- the client's walk over the log: at every fitting tree and all leases that agree with its reads, the entries come to its outcome
+abbrev pub IsWalkOf : {A : Type 0} → Client → CodeLog A → Walk A → Type 0
+IsWalkOf client log walk =
+    (source : List ℕ) (tree : Tree ℕ) (held : ℕ → Bool) → Fits client tree (map (entry_of source) log.entries) → Agrees walk.reads.entries (seen_in tree held)
+    → ComesToTree client held tree (map (entry_of source) log.entries) walk.outcome
+
+-- the entries' run over marks ends, and this is told of its end
+pub record IsChecked {A : Type 0} (scene : Scene) (tree : Tree ℕ) (entries : List Entry) (plan : CodePlan A) (result : Result ℕ CodeRowFault) : Type 0 where
+  pub after : Tree Mark
+  pub ran : run marks scene (marked tree) entries ≡ Ok after
+  pub told : TellsRow (first_wrong_row tree after (plan_of plan)) (need after) result
