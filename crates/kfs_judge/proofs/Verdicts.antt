@@ -16,6 +16,7 @@ use Rattle.kfs_model.specs.Judgement.{State, Submission, Fault, Verdict, IsJudge
 use Rattle.kfs_model.specs.Judgement.Fault.{ClientUnknown, ClientWrong, BadLog, BadPlan, AtEntry, AtRow}
 use Rattle.kfs_model.specs.Judgement.Verdict.{Yes, No}
 use Rattle.kfs_model.specs.Machine.{OneByOne}
+use Rattle.kfs_model.specs.CleanStep.{IsClient}
 use Rattle.kfs_model.proofs.RightPlan.{right_from_none}
 use Rattle.kfs_entry.specs.Answers.{log_of, plan_of, Refused}
 use Rattle.kfs_entry.specs.declared.entry.Log.{Log as CodeLog}
@@ -30,15 +31,19 @@ use Rattle.kfs_judge.specs.declared.plan.Fault.TheVariants as faults
 use Rattle.kfs_judge.specs.declared.plan.Outcome.{Outcome}
 use Rattle.kfs_judge.specs.declared.plan.Outcome.TheVariants as outcomes
 use Rattle.kfs_judge.specs.declared.walk.EntryFault.{EntryFault as CodeEntryFault}
-use Rattle.kfs_judge.specs.Judging.{row_fault_of, refusal_of, AreSpelled, IsVerdict, IsSettled}
-use Rattle.kfs_judge.specs.PlanCheck.{first_unlike}
-use Rattle.kfs_judge.specs.Walks.{ComesToTree, fault_of, scene_in, seen_in}
+use Rattle.kfs_judge.specs.Judging.{row_fault_of, refusal_of, AreSpelled, IsAlike, IsVerdict, IsSettled}
+use Rattle.kfs_judge.specs.declared.walk.Walk.{Walk}
+use Rattle.kfs_judge.specs.declared.reads.Read.{Read}
+use Rattle.kfs_judge.specs.declared.reads.Seen.{Seen as CodeSeen}
+use Rattle.kfs_judge.specs.PlanCheck.{first_unlike, IsWalkOf}
+use Rattle.kfs_judge.specs.Reads.{Agrees}
+use Rattle.kfs_judge.specs.Walks.{ComesToTree, Fits, fault_of, scene_in, seen_in}
 use Rattle.kfs_judge.proofs.AnswersExist.{log_has_answer, plan_has_answer}
 use Rattle.kfs_judge.proofs.MarkedCreates.{EndsBeside, ends_beside}
 use Rattle.kfs_judge.proofs.PlanChecked.{first_wrong-unlike, creations}
 use Rattle.kfs_judge.proofs.Untouched.{need-untouched}
 
-numbered : (clients : List Client) (number : ℕ) (client : Client) → row_of clients number ≡ Some client → client.number ≡ number
+pub numbered : (clients : List Client) (number : ℕ) (client : Client) → row_of clients number ≡ Some client → client.number ≡ number
 numbered [] number client is = cc
 numbered (c ∷ cs) number client is = by (c.number == number) refl is (numbered cs number client)
   where
@@ -206,3 +211,12 @@ module _ (A : Type 0) (s : State) (submission : Submission) where
       settled (Ok net) (outcomes.Yes l p n told) comes is =
           let same : outcomes.Yes log plan net told ≡ outcomes.Yes l p n told = λ i. outcomes.Yes (sym is.0 i) (sym is.1 i) (sym is.2 i) told in
           subst (λ (o : Outcome A). IsVerdict s submission o) same (right net comes told is.3 is.4)
+
+-- a finding on a log that was walked
+pub walked_verdict : (A : Type 0) (s : State) (submission : Submission) (client : Client) (found : Option Client) (log : CodeLog A) (plan : CodePlan A) (walk : Walk A) (reads : List (Read × CodeSeen)) (outcome : Outcome A)
+    → AreSpelled submission log plan → IsClient client → found ≡ Some client → reads ≡ walk.reads.entries → IsWalkOf client log walk → IsSettled log plan walk.outcome outcome
+    → IsAlike s submission.client found reads → IsVerdict s submission outcome
+walked_verdict A s submission client found log plan walk reads outcome spelled in_range is same_reads walks is_settled alike =
+    let agrees = subst (λ es. Agrees es (seen_in s.tree (holds s.leases submission.client))) same_reads alike.agrees in
+    let fits : Fits client s.tree (log_of submission.log log).entries = record { in_range = in_range; sound = alike.sound; fitting = spelled.log_read.0.1 } in
+    settled A s submission client (alike.row ∙ is) log plan spelled walk.outcome outcome (walks submission.log s.tree (holds s.leases submission.client) fits agrees) is_settled

@@ -241,14 +241,21 @@ fn find<A: Allocator + Copy>(
     let Some(client) = view.client(number) else {
         return Ok(Finding::unread(alloc, None, Fault::UnknownClient));
     };
-    let client = Some(client.clone()?);
-    match read_submission(alloc, number, log, plan)? {
-        Spelled::No(fault) => Ok(Finding::unread(alloc, client, fault)),
+    let row = Some(copied(client)?);
+    match read_submission(alloc, client.number(), log, plan)? {
+        Spelled::No(fault) => Ok(Finding::unread(alloc, row, fault)),
         Spelled::Yes(log, plan) => {
             let walk = judge_entries(alloc, view, &log)?;
-            settle(client, log, plan, walk)
+            let finding = settle(row, log, plan, walk)?;
+            Ok(finding)
         }
     }
+}
+
+fn copied(client: &Client) -> Result<Client, AllocError>
+    ensures { IfOk result (λ row. row ≡ client.now) }
+{
+    client.clone()
 }
 
 /// What the bytes of a submission say.

@@ -3,6 +3,7 @@ ghost use Rattle.std.specs.Prelude.{◌≡◌, ◌<◌, ◌≤◌, ◌↔◌, �
 ghost use Rattle.std.specs.List.{list_any};
 ghost use Rattle.std.specs.Option.{option_map};
 ghost use Rattle.kfs_model.specs.Access as access;
+ghost use Rattle.kfs_model.specs.CleanStep.{IsClient};
 ghost use Rattle.kfs_model.specs.Lease.{row_of};
 ghost use Rattle.kfs_mode.specs.Clients.{AreDistinct};
 
@@ -28,14 +29,14 @@ pub struct Client {
 }
 
 impl Model for Client {
-    ghost use Rattle.std.specs.Prelude.{◌<◌, ◌≤◌};
+    ghost use Rattle.std.specs.Prelude.{◌^◌, ◌<◌, ◌≤◌};
     ghost use Rattle.kfs_model.specs.Access.{Client as ClientRow};
 
     ghost Value = { ClientRow };
 
     ghost view = { λ c. record { number = c.number; uid = c.uid; gid = c.gid; groups = c.groups.items; privileged = c.privileged; first = c.first; last = c.last } };
 
-    ghost invariant = { λ c. (0 < c.first) × (c.last ≤ 65536) };
+    ghost invariant = { λ c. (c.uid < 2 ^ 32) × (c.gid < 2 ^ 32) × (0 < c.first) × (c.last ≤ 65536) };
 
     ghost inverse = { λ v. record { number = v.number; uid = v.uid; gid = v.gid; groups = record { items = v.groups }; privileged = v.privileged; first = v.first; last = v.last } };
 }
@@ -82,9 +83,10 @@ impl Client {
         })
     }
 
-    /// The client's own number.
+    /// The client's own number. Each client's numbers are in their ranges.
     pub fn number(&self) -> u32
-        ensures { result ≡ self.now.number }
+        ensures number { result ≡ self.now.number }
+        ensures in_range { IsClient self.now }
     {
         self.number
     }

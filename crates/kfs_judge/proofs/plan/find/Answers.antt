@@ -1,0 +1,49 @@
+-- The row that the view has, and the verdict at each place where the judgement ends.
+use Rattle.std.proofs.Common.{◌≡◌, Some, None, subst, sym, ap, ◌∙◌, arith}
+use Rattle.std.specs.Option.{option_map, is_some}
+use Rattle.kfs_entry.proofs.Fields.{IsBytes, some_is}
+use Rattle.kfs_model.specs.CleanStep.{IsClient}
+use Rattle.kfs_model.specs.Lease.{row_of}
+use Rattle.kfs_judge.specs.declared.plan.Spelled.TheVariants as readings
+use Rattle.kfs_judge.specs.Judging.{submission_with, AreSpelled, IsVerdict, IsReading}
+use Rattle.kfs_judge.specs.View.{clients_of}
+use Rattle.kfs_judge.proofs.Verdicts.{numbered, unknown_client, walked_verdict}
+use Rattle.kfs_judge.proofs.plan.find.Goals as goal
+
+pub returns-in_default-clause-client : goal.returns-in_default-clause-client
+returns-in_default-clause-client g c = c.unread.ensures.client ∙ sym (sym c.client.ensures ∙ ap (option_map (λ r. r.now)) c.in_default.is)
+
+pub returns-in_default-clause-known : goal.returns-in_default-clause-known
+returns-in_default-clause-known g c s alike =
+    let log : IsBytes c.args.log.now = λ i. omega (arith, c.type_inv.log i) in
+    let plan : IsBytes c.args.plan.now = λ i. omega (arith, c.type_inv.plan i) in
+    subst (λ o. IsVerdict {A = g.row.A.Denot} s (submission_with c.args.number c.args.log.now c.args.plan.now) o) (sym c.unread.ensures.outcome)
+    (unknown_client g.row.A.Denot s (submission_with c.args.number c.args.log.now c.args.plan.now) log plan (alike.row ∙ c.unread.ensures.client))
+
+pub returns-in-No-clause-known : goal.returns-in-No-clause-known
+returns-in-No-clause-known g c s alike =
+    let row = sym c.client.ensures ∙ ap (option_map (λ r. r.now)) c.in-Some.is in
+    let same = c.number.ensures.number ∙ numbered (clients_of c.args.view.now) c.args.number c.in-Some.client.now row in
+    let read = subst (λ r. IsReading {A = g.row.A.Denot} (submission_with c.number.result c.args.log.now c.args.plan.now) r) c.in-No.is c.in_ok-fault.ensures.read in
+    let own = subst (λ n. IsReading {A = g.row.A.Denot} (submission_with n c.args.log.now c.args.plan.now) (readings.No c.in-No.fault)) same read in
+    subst (λ o. IsVerdict {A = g.row.A.Denot} s (submission_with c.args.number c.args.log.now c.args.plan.now) o) (sym c.unread-in-No.ensures.outcome)
+    (own s c.in_ok-copied.field-0 (alike.row ∙ c.unread-in-No.ensures.client))
+
+pub judge_entries-requires-clause-client : goal.judge_entries-requires-clause-client
+judge_entries-requires-clause-client g c =
+    let row = sym c.client.ensures ∙ ap (option_map (λ r. r.now)) c.in-Some.is in
+    let same = c.number.ensures.number ∙ numbered (clients_of c.args.view.now) c.args.number c.in-Some.client.now row in
+    let read = subst (λ r. IsReading {A = g.row.A.Denot} (submission_with c.number.result c.args.log.now c.args.plan.now) r) c.in-Yes.is c.in_ok-fault.ensures.read in
+    ap is_some (ap (row_of (clients_of c.args.view.now)) (read.owner ∙ same) ∙ row)
+
+pub returns-in_ok-finding-in-Yes-clause-known : goal.returns-in_ok-finding-in-Yes-clause-known
+returns-in_ok-finding-in-Yes-clause-known g c s alike =
+    let clients = clients_of c.args.view.now in
+    let row = sym c.client.ensures ∙ ap (option_map (λ r. r.now)) c.in-Some.is in
+    let same = c.number.ensures.number ∙ numbered clients c.args.number c.in-Some.client.now row in
+    let read = subst (λ r. IsReading {A = g.row.A.Denot} (submission_with c.number.result c.args.log.now c.args.plan.now) r) c.in-Yes.is c.in_ok-fault.ensures.read in
+    let spelled = subst (λ n. AreSpelled {A = g.row.A.Denot} (submission_with n c.args.log.now c.args.plan.now) c.in-Yes.log c.in-Yes.plan) same read in
+    let known = c.in_ok-walk-in-Yes.ensures in
+    let this = some_is c.in-Some.client.now known.0 (sym row ∙ ap (row_of clients) (sym spelled.owner) ∙ known.1) in
+    walked_verdict g.row.A.Denot s (submission_with c.args.number c.args.log.now c.args.plan.now) known.0 c.in_ok-finding-in-Yes.finding.client c.in-Yes.log c.in-Yes.plan c.in_ok-walk-in-Yes.walk c.in_ok-finding-in-Yes.finding.reads.entries c.in_ok-finding-in-Yes.finding.outcome
+    spelled (subst IsClient this c.number.ensures.in_range) (c.in_ok-finding-in-Yes.ensures.client ∙ ap Some (c.in_ok-copied.ensures ∙ this)) (ap (λ r. r.entries) c.in_ok-finding-in-Yes.ensures.reads) known.2 c.in_ok-finding-in-Yes.ensures.outcome alike
