@@ -36,7 +36,9 @@ use Rattle.kfs_judge.specs.declared.walk.Walk.{Walk}
 use Rattle.kfs_judge.specs.declared.reads.Read.{Read}
 use Rattle.kfs_judge.specs.declared.reads.Seen.{Seen as CodeSeen}
 use Rattle.kfs_judge.specs.PlanCheck.{first_unlike, IsWalkOf}
+use Rattle.kfs_judge.specs.declared.view.View.{View}
 use Rattle.kfs_judge.specs.Reads.{Agrees}
+use Rattle.kfs_judge.specs.View.{seen_of}
 use Rattle.kfs_judge.specs.Walks.{ComesToTree, Fits, fault_of, scene_in, seen_in}
 use Rattle.kfs_judge.proofs.AnswersExist.{log_has_answer, plan_has_answer}
 use Rattle.kfs_judge.proofs.MarkedCreates.{EndsBeside, ends_beside}
@@ -220,3 +222,7 @@ walked_verdict A s submission client found log plan walk reads outcome spelled i
     let agrees = subst (λ es. Agrees es (seen_in s.tree (holds s.leases submission.client))) same_reads alike.agrees in
     let fits : Fits client s.tree (log_of submission.log log).entries = record { in_range = in_range; sound = alike.sound; fitting = spelled.log_read.0.1 } in
     settled A s submission client (alike.row ∙ is) log plan spelled walk.outcome outcome (walks submission.log s.tree (holds s.leases submission.client) fits agrees) is_settled
+
+-- any state agrees with no reads
+pub nothing_read : {A : Type 0} (view : View A) (number : ℕ) (reads : List (Read × CodeSeen)) → reads ≡ [] → Agrees reads (seen_of view number)
+nothing_read view number reads none = subst (λ es. Agrees es (seen_of view number)) (sym none) (record { each = tt })

@@ -1,5 +1,5 @@
 -- What a judgement answered, as the definitions say it.
-use Rattle.std.specs.Prelude.{◌≡◌, ℕ, Bool, true, false, List, [], map, All, length, ◌≤◌, Option, None, Some, Result, Ok, Err}
+use Rattle.std.specs.Prelude.{◌≡◌, ◌⊎◌, ℕ, Bool, true, false, List, [], map, All, length, ◌≤◌, Option, None, Some, Result, Ok, Err}
 use Rattle.std.specs.Option.{option_map}
 use Rattle.std.specs.List.{list_all}
 use Rattle.kfs_model.specs.Access.{Client}
@@ -10,6 +10,7 @@ use Rattle.kfs_model.specs.Lease.{holds, row_of}
 use Rattle.kfs_model.specs.Run.{Mark, Scene, run, bytes, marks, marked}
 use Rattle.kfs_model.specs.Plan.{IsRight}
 use Rattle.kfs_model.specs.FirstWrong.{RowFault, Names, Nodes, Pieces}
+use Rattle.kfs_model.specs.Looked.{looked_cells}
 use Rattle.kfs_model.specs.Placement.{need}
 use Rattle.kfs_model.specs.Soundness.{IsSound}
 use Rattle.kfs_model.specs.Machine.{OneByOne}
@@ -31,13 +32,15 @@ use Rattle.kfs_judge.specs.declared.plan.Outcome.{Outcome}
 use Rattle.kfs_judge.specs.declared.plan.Outcome.TheVariants as outcomes
 use Rattle.kfs_judge.specs.declared.plan.Spelled.{Spelled}
 use Rattle.kfs_judge.specs.declared.plan.Spelled.TheVariants as readings
+use Rattle.kfs_judge.specs.declared.view.View.{View}
 use Rattle.kfs_judge.specs.declared.walk.EntryFault.{EntryFault as CodeEntryFault}
 use Rattle.kfs_judge.specs.declared.reads.Read.{Read}
 use Rattle.kfs_judge.specs.declared.reads.Seen.{Seen as CodeSeen}
 use Rattle.kfs_judge.specs.Creates.{IsCreate}
 use Rattle.kfs_judge.specs.Creations.{is_creation}
 use Rattle.kfs_judge.specs.PlanCheck.{first_unlike}
-use Rattle.kfs_judge.specs.Reads.{Agrees}
+use Rattle.kfs_judge.specs.Reads.{Agrees, AreAmong}
+use Rattle.kfs_judge.specs.View.{clients_of, seen_of}
 use Rattle.kfs_judge.specs.Walks.{IsNetOf, fault_of, seen_in}
 
 -- ---- faults, none where a growth was refused: that is no fault of a submission
@@ -91,6 +94,12 @@ pub record IsAlike (s : State) (number : ℕ) (client : Option Client) (reads : 
   pub sound : IsSound s.tree
   pub row : row_of s.clients number ≡ client
   pub agrees : Agrees reads (seen_in s.tree (holds s.leases number))
+
+-- nothing was read, or the bytes spell a log of a known client and what was read is among the cells that it looks at
+abbrev pub AreLooked : {A : Type 0} → View A → Submission → List (Read × CodeSeen) → Type 0
+AreLooked view submission reads =
+    (reads ≡ []) ⊎ ((client : Client) × (log : Log) × (row_of (clients_of view) submission.client ≡ Some client) × LogAnswer submission.log (Ok log)
+    × AreAmong reads (looked_cells client (seen_of view submission.client) log.entries))
 
 -- what the entries of a right plan's log come to: a sound tree, one by one and each allowed, with this net, and marked
 pub record ComesToNet {A : Type 0} (s : State) (client : Client) (entries : List Entry) (net : Net A) (after : Tree ℕ) (marked_after : Tree Mark) : Type 0 where

@@ -7,10 +7,10 @@ ghost use Rattle.kfs_model.specs.Judgement.{State};
 ghost use Rattle.kfs_model.specs.Lease.{row_of};
 ghost use Rattle.kfs_model.specs.Tree.{Tree};
 ghost use Rattle.kfs_judge.specs.Creates.{IsCreate};
-ghost use Rattle.kfs_judge.specs.Judging.{HasOtherEntry, IsAlike, IsReading, IsSettled, IsVerdict, submission_of, submission_with};
+ghost use Rattle.kfs_judge.specs.Judging.{AreLooked, HasOtherEntry, IsAlike, IsReading, IsSettled, IsVerdict, submission_of, submission_with};
 ghost use Rattle.kfs_judge.specs.PlanCheck.{first_unlike, IsChecked, IsWalkOf, TellsRow};
 ghost use Rattle.kfs_judge.specs.Reads.{Agrees};
-ghost use Rattle.kfs_judge.specs.View.{clients_of};
+ghost use Rattle.kfs_judge.specs.View.{clients_of, seen_of};
 ghost use Rattle.kfs_judge.specs.Walks.{Fits, scene_in, seen_in};
 ghost use Rattle.kfs_judge.specs.declared.plan.RowFault.TheVariants.{OutOfMemory};
 
@@ -190,6 +190,8 @@ pub fn judge<A: Allocator + Copy>(
 
     // In every state that is alike, this is the verdict.
     ensures known { IfOk result (λ j. (s : State) → IsAlike s submission.client j.client j.reads.entries → IsVerdict s (submission_of submission) j.outcome) }
+    ensures view_agrees { IfOk result (λ j. Agrees j.reads.entries (seen_of view.now submission.client)) }
+    ensures among { IfOk result (λ j. AreLooked view.now (submission_of submission) j.reads.entries) }
     ensures other { IfErr result (λ b. b.why ≡ Why.OtherEntry → HasOtherEntry submission.log.items) }
 {
     let (log, plan) = (submission.log.as_slice(), submission.plan.as_slice());
@@ -236,6 +238,8 @@ fn find<A: Allocator + Copy>(
 ) -> Result<Finding<A>, Why>
     ensures client { IfOk result (λ f. f.client ≡ row_of (clients_of view.now) number) }
     ensures known { IfOk result (λ f. (s : State) → IsAlike s number f.client f.reads.entries → IsVerdict s (submission_with number log.now plan.now) f.outcome) }
+    ensures view_agrees { IfOk result (λ f. Agrees f.reads.entries (seen_of view.now number)) }
+    ensures among { IfOk result (λ f. AreLooked view.now (submission_with number log.now plan.now) f.reads.entries) }
     ensures other { IfErr result (λ why. why ≡ Why.OtherEntry → HasOtherEntry log.now) }
 {
     let Some(client) = view.client(number) else {

@@ -1,13 +1,17 @@
 -- The row that the view has, and the verdict at each place where the judgement ends.
-use Rattle.std.proofs.Common.{◌≡◌, Some, None, subst, sym, ap, ◌∙◌, arith}
+use Rattle.std.proofs.Common.{Some, map, subst, sym, ap, ◌∙◌, arith, inl, inr}
 use Rattle.std.specs.Option.{option_map, is_some}
 use Rattle.kfs_entry.proofs.Fields.{IsBytes, some_is}
 use Rattle.kfs_model.specs.CleanStep.{IsClient}
 use Rattle.kfs_model.specs.Lease.{row_of}
+use Rattle.kfs_model.specs.Looked.{looked_cells}
+use Rattle.kfs_entry.specs.Answers.{log_of}
+use Rattle.kfs_entry.specs.Views.{entry_of}
 use Rattle.kfs_judge.specs.declared.plan.Spelled.TheVariants as readings
 use Rattle.kfs_judge.specs.Judging.{submission_with, AreSpelled, IsVerdict, IsReading}
-use Rattle.kfs_judge.specs.View.{clients_of}
-use Rattle.kfs_judge.proofs.Verdicts.{numbered, unknown_client, walked_verdict}
+use Rattle.kfs_judge.specs.Reads.{Agrees, AreAmong}
+use Rattle.kfs_judge.specs.View.{clients_of, seen_of}
+use Rattle.kfs_judge.proofs.Verdicts.{numbered, unknown_client, walked_verdict, nothing_read}
 use Rattle.kfs_judge.proofs.plan.find.Goals as goal
 
 pub returns-in_default-clause-client : goal.returns-in_default-clause-client
@@ -43,7 +47,45 @@ returns-in_ok-finding-in-Yes-clause-known g c s alike =
     let same = c.number.ensures.number ∙ numbered clients c.args.number c.in-Some.client.now row in
     let read = subst (λ r. IsReading {A = g.row.A.Denot} (submission_with c.number.result c.args.log.now c.args.plan.now) r) c.in-Yes.is c.in_ok-fault.ensures.read in
     let spelled = subst (λ n. AreSpelled {A = g.row.A.Denot} (submission_with n c.args.log.now c.args.plan.now) c.in-Yes.log c.in-Yes.plan) same read in
-    let known = c.in_ok-walk-in-Yes.ensures in
+    let known = c.in_ok-walk-in-Yes.ensures.known in
     let this = some_is c.in-Some.client.now known.0 (sym row ∙ ap (row_of clients) (sym spelled.owner) ∙ known.1) in
     walked_verdict g.row.A.Denot s (submission_with c.args.number c.args.log.now c.args.plan.now) known.0 c.in_ok-finding-in-Yes.finding.client c.in-Yes.log c.in-Yes.plan c.in_ok-walk-in-Yes.walk c.in_ok-finding-in-Yes.finding.reads.entries c.in_ok-finding-in-Yes.finding.outcome
     spelled (subst IsClient this c.number.ensures.in_range) (c.in_ok-finding-in-Yes.ensures.client ∙ ap Some (c.in_ok-copied.ensures ∙ this)) (ap (λ r. r.entries) c.in_ok-finding-in-Yes.ensures.reads) known.2 c.in_ok-finding-in-Yes.ensures.outcome alike
+
+pub returns-in_default-clause-view_agrees : goal.returns-in_default-clause-view_agrees
+returns-in_default-clause-view_agrees g c = nothing_read c.args.view.now c.args.number c.unread.result.reads.entries c.unread.ensures.reads
+
+pub returns-in_default-clause-among : goal.returns-in_default-clause-among
+returns-in_default-clause-among g c = inl c.unread.ensures.reads
+
+pub returns-in-No-clause-view_agrees : goal.returns-in-No-clause-view_agrees
+returns-in-No-clause-view_agrees g c = nothing_read c.args.view.now c.args.number c.unread-in-No.result.reads.entries c.unread-in-No.ensures.reads
+
+pub returns-in-No-clause-among : goal.returns-in-No-clause-among
+returns-in-No-clause-among g c = inl c.unread-in-No.ensures.reads
+
+pub returns-in_ok-finding-in-Yes-clause-view_agrees : goal.returns-in_ok-finding-in-Yes-clause-view_agrees
+returns-in_ok-finding-in-Yes-clause-view_agrees g c =
+    let row = sym c.client.ensures ∙ ap (option_map (λ r. r.now)) c.in-Some.is in
+    let same = c.number.ensures.number ∙ numbered (clients_of c.args.view.now) c.args.number c.in-Some.client.now row in
+    let read = subst (λ r. IsReading {A = g.row.A.Denot} (submission_with c.number.result c.args.log.now c.args.plan.now) r) c.in-Yes.is c.in_ok-fault.ensures.read in
+    subst (λ n. Agrees c.in_ok-finding-in-Yes.finding.reads.entries (seen_of c.args.view.now n)) (read.owner ∙ same)
+    (subst (λ r. Agrees r.entries (seen_of c.args.view.now c.in-Yes.log.client)) (sym c.in_ok-finding-in-Yes.ensures.reads) c.in_ok-walk-in-Yes.ensures.view_agrees)
+
+pub returns-in_ok-finding-in-Yes-clause-among : goal.returns-in_ok-finding-in-Yes-clause-among
+returns-in_ok-finding-in-Yes-clause-among g c =
+    let view = c.args.view.now in
+    let row = sym c.client.ensures ∙ ap (option_map (λ r. r.now)) c.in-Some.is in
+    let same = c.number.ensures.number ∙ numbered (clients_of view) c.args.number c.in-Some.client.now row in
+    let read = subst (λ r. IsReading {A = g.row.A.Denot} (submission_with c.number.result c.args.log.now c.args.plan.now) r) c.in-Yes.is c.in_ok-fault.ensures.read in
+    let own = read.owner ∙ same in
+    let entries = map (entry_of c.args.log.now) c.in-Yes.log.entries in
+    inr (
+      c.in-Some.client.now,
+      log_of c.args.log.now c.in-Yes.log,
+      row,
+      read.log_read,
+      subst (λ n. AreAmong c.in_ok-finding-in-Yes.finding.reads.entries (looked_cells c.in-Some.client.now (seen_of view n) entries)) own
+          (subst (λ r. AreAmong r.entries (looked_cells c.in-Some.client.now (seen_of view c.in-Yes.log.client) entries)) (sym c.in_ok-finding-in-Yes.ensures.reads)
+          (c.in_ok-walk-in-Yes.ensures.among c.in-Some.client.now (ap (row_of (clients_of view)) own ∙ row) c.args.log.now)),
+    )
