@@ -1,11 +1,11 @@
 -- All bytes have an answer as a log, and one as a plan.
-use Rattle.std.proofs.Common.{◌≡◌, ◌≢◌, ◌⊎◌, ℕ, zero, suc, ◌<◌, List, [], ◌∷◌, ◌++◌, length, Option, Some, None, Result, Ok, Err, refl, sym, ap, subst, ◌∙◌, append_assoc, arith, inl, inr}
+use Rattle.std.proofs.Common.{◌≡◌, ◌≢◌, ◌⊎◌, ℕ, zero, suc, ◌<◌, List, [], ◌∷◌, ◌++◌, Option, Some, None, Result, Ok, Err, refl, sym, ap, subst, ◌∙◌, append_assoc, arith, inl, inr}
 use Rattle.std.specs.List.{flat_map}
 use Rattle.std.proofs.lemmas.List.{append-nil}
 use Rattle.kfs_model.specs.Entry.{Log}
 use Rattle.kfs_model.specs.PlanRow.{Plan}
 use Rattle.kfs_model.specs.Spelling.{BeginsWithNo, Stand, Stop, LogHeader, IsLogHeader, log_header, header_of, IsEntry, entry_bytes, IsLog, log_bytes, LogAnswer, Counts, AreCounts, plan_header, IsNameRow, name_row_bytes, IsNodeRow, node_row_bytes, IsPiece, piece_bytes, PlanAnswer, SpellingFault, BadHeader, BadEntry, Trailing, BadRow}
-use Rattle.kfs_entry.specs.Reading.{log_header_read, entry_read, plan_header_read, name_row_read, node_row_read, piece_read}
+use Rattle.kfs_entry.specs.Reading.{log_header_read, plan_header_read}
 use Rattle.kfs_entry.proofs.Fields.{IsBytes, IsField}
 use Rattle.kfs_entry.proofs.EntryLaws.{entry_field}
 use Rattle.kfs_entry.proofs.HeaderLaws.{log_header_field, plan_header_field}
@@ -50,9 +50,9 @@ module _ {V : Type 0} {F : V → Type 0} {s : V → List ℕ} {r : List ℕ → 
           elim (behind x.1 first.rest_bytes) [
             | inl stand ↦ inl (stand.0, row_before count x.0 bytes x.1 stand.0 first.fits first.parts stand.1)
             | inr stop ↦
-            let here = stop.1 in
-            let fewer : suc stop.0 < suc count = let less : stop.0 < count = here.fewer in omega arith in
-            inr (suc stop.0, record { rest = here.rest; before = row_before stop.0 x.0 bytes x.1 here.rest first.fits first.parts here.before; fewer = fewer; none = here.none })
+                let here = stop.1 in
+                let fewer : suc stop.0 < suc count = let less : stop.0 < count = here.fewer in omega arith in
+                inr (suc stop.0, record { rest = here.rest; before = row_before stop.0 x.0 bytes x.1 here.rest first.fits first.parts here.before; fewer = fewer; none = here.none })
           ]
 
 -- ---- logs

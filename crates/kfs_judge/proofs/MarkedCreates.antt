@@ -1,14 +1,14 @@
 -- Entries that make nodes, run over marks: the run ends where the run over bytes does, and each byte stays as it was.
-use Rattle.std.specs.Prelude.{◌≡◌, ℕ, suc, zero, ◌+◌, ◌==◌, ◌&&◌, ◌||◌, not, Bool, true, false, cond, List, [], ◌∷◌, Option, Some, None, option_map, slice_get, Result, Ok, Err, refl}
-use Rattle.std.specs.List.{list_all, list_any}
+use Rattle.std.specs.Prelude.{◌≡◌, ℕ, ◌+◌, ◌==◌, ◌||◌, Bool, true, false, cond, List, [], ◌∷◌, Option, Some, None, option_map, Result, Ok, Err, refl}
+use Rattle.std.specs.List.{list_all}
 use Rattle.std.specs.Ordering.{eq_by_cmp}
 use Rattle.std.proofs.Common.{ap, sym, subst, ◌∙◌}
 use Rattle.std.proofs.lemmas.Bool.{and_parts}
-use Rattle.kfs_model.specs.Header.{Header, Kind, File, Directory}
+use Rattle.kfs_model.specs.Header.{Kind, File, Directory}
 use Rattle.kfs_model.specs.Access.{Client}
 use Rattle.kfs_model.specs.Entry.{Entry, Create, Write, Truncate, Link, Unlink, Rename, Chmod}
-use Rattle.kfs_model.specs.Table.{Table, numbers, get, insert, retain, get-insert, get-retain, get-mapped}
-use Rattle.kfs_model.specs.Tree.{Tree, Node, Body, Cells, Names, Links, headers, cells_of, is_named}
+use Rattle.kfs_model.specs.Table.{numbers, get, insert, get-insert, get-retain, get-mapped}
+use Rattle.kfs_model.specs.Tree.{Tree, Node, Body, Cells, Names, headers, cells_of, is_named}
 use Rattle.kfs_model.specs.Sight.{sight}
 use Rattle.kfs_model.specs.Check.{Reason, first_fault}
 use Rattle.kfs_model.specs.Effect.{effect, change_of, swept, new_body}

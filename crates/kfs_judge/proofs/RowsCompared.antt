@@ -1,21 +1,13 @@
 -- The rows of a plan against those of a net, by the code's tests and by those of the definitions.
-use Rattle.std.specs.Prelude.{◌≡◌, ℕ, zero, suc, ◌+◌, ◌==◌, ◌&&◌, not, min, is_some, nat_eq, Bool, true, false, cond, List, [], ◌∷◌, map, zip, position, length, Option, Some, None, refl}
+use Rattle.std.specs.Prelude.{◌≡◌, ℕ, suc, ◌+◌, ◌==◌, ◌&&◌, not, min, is_some, nat_eq, Bool, true, false, cond, List, [], ◌∷◌, map, zip, position, length, Option, Some, None, refl}
 use Rattle.std.specs.List.{position_from}
 use Rattle.std.specs.Option.{option_map, option_eq}
 use Rattle.std.specs.Cmp.Lexicographic.{pointwise}
 use Rattle.std.proofs.Common.{ap, sym, ◌∙◌, arith, inl, inr}
 use Rattle.std.proofs.lemmas.Bool.{eq-eqb, ne_eqb, cases_eq}
 use Rattle.std.proofs.lemmas.Iterator.Adapters.{position_from-zero}
-use Rattle.kfs_model.specs.Header.{Header}
-use Rattle.kfs_model.specs.Table.{Table, numbers, get}
-use Rattle.kfs_model.specs.Tree.{Tree, Links, headers}
-use Rattle.kfs_model.specs.Sight.{Sight, sight}
-use Rattle.kfs_model.specs.Plan.{number_now, header_now, keyed_name, keyed_node}
-use Rattle.kfs_model.specs.FirstWrong.{RowFault, Names, Nodes, Pieces, same_kind, same_header, same_headers, same_place, same_pair, same_option, first_difference, differences, first_wrong_name, first_wrong_node, first_wrong_row, or_else}
-use Rattle.kfs_model.proofs.Exact.{numbers-exact, headers-exact}
-use Rattle.kfs_model.proofs.Differences.{differences_only}
-use Rattle.kfs_entry.specs.Answers.{plan_of}
-use Rattle.kfs_entry.specs.Views.{header_of, kind_of, name_row_of, node_row_of}
+use Rattle.kfs_model.specs.FirstWrong.{Names, Nodes, Pieces, same_kind, same_header, same_headers, same_place, same_pair, first_difference, or_else}
+use Rattle.kfs_entry.specs.Views.{header_of, kind_of}
 use Rattle.kfs_entry.specs.declared.header.Kind.{Kind as CodeKind}
 use Rattle.kfs_entry.specs.declared.header.Kind.TheVariants as kinds
 use Rattle.kfs_entry.specs.declared.header.Header.{Header as CodeHeader}
@@ -30,9 +22,6 @@ use Rattle.kfs_entry.specs.contracts.header.KindPartialEq.TheImpl as kind_tests
 use Rattle.kfs_image.specs.declared.shape.Net.{Net}
 use Rattle.kfs_judge.specs.PlanCheck.{first_unlike, first_of_pieces}
 use Rattle.kfs_judge.specs.Rows.{keyed_name_row, keyed_node_row}
-use Rattle.kfs_judge.specs.Walks.{IsNetOf, AreNamesOf, AreNodesOf}
-use Rattle.kfs_judge.proofs.MarkedCreates.{EndsBeside}
-use Rattle.kfs_judge.proofs.Untouched.{first_of_pieces-wrong}
 
 -- ---- the first difference, by a search for a pair that differs
 
@@ -59,8 +48,8 @@ at_end-later None n m =
     elim (cases_eq n m) [
       | inl same ↦ ap (option_map (λ k. k + 1)) (at_end-equal None n m refl same) ∙ sym (at_end-equal None (suc n) (suc m) refl (ap suc same))
       | inr other ↦
-      let next : min n m + 1 ≡ min (suc n) (suc m) = omega arith in
-      ap (option_map (λ k. k + 1)) (at_end-shorter None n m refl other) ∙ ap Some next ∙ sym (at_end-shorter None (suc n) (suc m) refl (λ e. other (let same : n ≡ m = omega arith in same)))
+          let next : min n m + 1 ≡ min (suc n) (suc m) = omega arith in
+          ap (option_map (λ k. k + 1)) (at_end-shorter None n m refl other) ∙ ap Some next ∙ sym (at_end-shorter None (suc n) (suc m) refl (λ e. other (let same : n ≡ m = omega arith in same)))
     ]
 
 at_end-first : (n : ℕ) → Some 0 ≡ at_end None 0 (suc n)

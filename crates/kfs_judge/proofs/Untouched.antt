@@ -1,14 +1,14 @@
 -- Where no byte is touched: every piece is wrong, none is missed, and no block is written.
-use Rattle.std.specs.Prelude.{◌≡◌, ℕ, zero, suc, ◌+◌, ◌==◌, ◌&&◌, ◌||◌, not, Bool, true, false, cond, List, [], ◌∷◌, ◌++◌, map, filter, flat_map, take, drop, length, Option, Some, None, slice_get, refl}
+use Rattle.std.specs.Prelude.{◌≡◌, ℕ, zero, suc, ◌+◌, ◌==◌, ◌||◌, not, Bool, true, false, cond, List, [], ◌∷◌, ◌++◌, map, filter, flat_map, take, drop, length, Option, Some, None, slice_get, refl}
 use Rattle.std.specs.List.{list_all, list_any}
-use Rattle.std.proofs.Common.{ap, sym, subst, ◌∙◌}
+use Rattle.std.proofs.Common.{ap, subst, ◌∙◌}
 use Rattle.std.proofs.lemmas.Bool.{and_parts, and_from, both_ways, false_from_ne_true, ne_eqb}
 use Rattle.kfs_model.specs.Table.{numbers, get}
 use Rattle.kfs_model.specs.Tree.{Tree, Node, cells_of}
-use Rattle.kfs_model.specs.Run.{Mark, Base}
+use Rattle.kfs_model.specs.Run.{Mark}
 use Rattle.kfs_model.specs.PlanRow.{Piece, Source, Zero, Payload}
 use Rattle.kfs_model.specs.Plan.{mark_at, is_base, said_by, covers}
-use Rattle.kfs_model.specs.Placement.{block_size, is_payload, is_zero, is_written, blocks_from, blocks_of, blocks_that, block_count, written_blocks, need}
+use Rattle.kfs_model.specs.Placement.{block_size, is_payload, is_zero, is_written, blocks_from, blocks_that, block_count, written_blocks, need}
 use Rattle.kfs_model.specs.FirstWrong.{same_option, same_mark, changed_bytes, holds_along, is_missed, is_wrong, begins_early, first_wrong_below, first_wrong_piece, lies_before}
 use Rattle.kfs_model.proofs.ChangedBytes.{none_from_changed}
 use Rattle.kfs_model.proofs.Tables.{found_from_any}

@@ -1,18 +1,18 @@
 -- The verdict on a submission, case by case of the judgement's order.
-use Rattle.std.specs.Prelude.{◌≡◌, ◌≢◌, ℕ, ◌==◌, nat_eq, Bool, true, false, cond, List, [], ◌∷◌, find, map, Option, Some, None, Result, Ok, Err, refl}
+use Rattle.std.specs.Prelude.{◌≡◌, ◌≢◌, ℕ, ◌==◌, Bool, true, false, cond, List, [], ◌∷◌, Option, Some, None, Result, Ok, Err, refl}
 use Rattle.std.specs.Option.{option_map}
 use Rattle.std.proofs.Common.{ap, sym, subst, ◌∙◌}
 use Rattle.std.proofs.lemmas.Bool.{eqb-true, eq-eqb, ne_eqb}
 use Rattle.kfs_model.specs.Access.{Client}
-use Rattle.kfs_model.specs.Entry.{Entry, Log}
+use Rattle.kfs_model.specs.Entry.{Log}
 use Rattle.kfs_model.specs.PlanRow.{Plan}
 use Rattle.kfs_model.specs.Tree.{Tree}
 use Rattle.kfs_model.specs.Sight.{sight}
 use Rattle.kfs_model.specs.Lease.{holds, row_of}
-use Rattle.kfs_model.specs.Run.{Mark, Scene, EntryFault, run, bytes, marks, marked}
+use Rattle.kfs_model.specs.Run.{Mark, EntryFault, run, bytes, marks, marked}
 use Rattle.kfs_model.specs.FirstWrong.{RowFault, first_wrong_row}
 use Rattle.kfs_model.specs.Spelling.{SpellingFault, BadHeader, BadEntry, Trailing, BadRow, LogAnswer, PlanAnswer}
-use Rattle.kfs_model.specs.Judgement.{State, Submission, Fault, Verdict, IsJudgement, scene_of, judged, judged_log, judged_plan, judged_entries, judged_run, judged_rows}
+use Rattle.kfs_model.specs.Judgement.{State, Submission, Fault, Verdict, scene_of, judged, judged_log, judged_plan, judged_run, judged_rows}
 use Rattle.kfs_model.specs.Judgement.Fault.{ClientUnknown, ClientWrong, BadLog, BadPlan, AtEntry, AtRow}
 use Rattle.kfs_model.specs.Judgement.Verdict.{Yes, No}
 use Rattle.kfs_model.specs.Machine.{OneByOne}

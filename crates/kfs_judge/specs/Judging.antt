@@ -1,5 +1,5 @@
 -- What a judgement answered, as the definitions say it.
-use Rattle.std.specs.Prelude.{◌≡◌, ◌⊎◌, ℕ, Bool, true, false, List, [], map, All, length, ◌≤◌, Option, None, Some, Result, Ok, Err}
+use Rattle.std.specs.Prelude.{◌≡◌, ◌⊎◌, ℕ, false, List, [], All, Option, None, Some, Result, Ok, Err}
 use Rattle.std.specs.Option.{option_map}
 use Rattle.std.specs.List.{list_all}
 use Rattle.kfs_model.specs.Access.{Client}
@@ -7,7 +7,7 @@ use Rattle.kfs_model.specs.Entry.{Entry, Log}
 use Rattle.kfs_model.specs.Tree.{Tree}
 use Rattle.kfs_model.specs.Sight.{sight}
 use Rattle.kfs_model.specs.Lease.{holds, row_of}
-use Rattle.kfs_model.specs.Run.{Mark, Scene, run, bytes, marks, marked}
+use Rattle.kfs_model.specs.Run.{Mark, run, bytes, marks, marked}
 use Rattle.kfs_model.specs.Plan.{IsRight}
 use Rattle.kfs_model.specs.FirstWrong.{RowFault, Names, Nodes, Pieces}
 use Rattle.kfs_model.specs.Looked.{looked_cells}
@@ -17,7 +17,6 @@ use Rattle.kfs_model.specs.Machine.{OneByOne}
 use Rattle.kfs_model.specs.Spelling.{SpellingFault, BadHeader, BadEntry, Trailing, BadRow, LogAnswer, PlanAnswer}
 use Rattle.kfs_model.specs.Judgement.{State, Submission, Fault, ClientUnknown, ClientWrong, BadLog, BadPlan, AtEntry, AtRow, Verdict, Yes, No, IsJudgement, scene_of}
 use Rattle.kfs_entry.specs.Answers.{log_of, plan_of}
-use Rattle.kfs_entry.specs.Views.{entry_of}
 use Rattle.kfs_entry.specs.declared.entry.Log.{Log as CodeLog}
 use Rattle.kfs_entry.specs.declared.plan.Plan.{Plan as CodePlan}
 use Rattle.kfs_entry.specs.declared.fault.SpellFault.{SpellFault}
