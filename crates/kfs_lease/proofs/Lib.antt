@@ -7,3 +7,4 @@ pub mod PathParts
 pub mod PathSteps
 pub mod RowSteps
 pub mod RowTables
+pub mod WalkedNode

@@ -7,7 +7,7 @@ use Rattle.kfs_model.specs.Check.{is_some_and}
 use Rattle.kfs_model.specs.Lease.{LeaseFault, walked, NotDirectory, NoSearch, NoSuchName}
 
 module _ (sight : Sight) (client : Client) (node component : ℕ) (name : List ℕ) (names : List (List ℕ)) where
-  abbrev led : Option ℕ → Result ℕ LeaseFault
+  abbrev pub led : Option ℕ → Result ℕ LeaseFault
   led to = elim to [ None ↦ Err (NoSuchName component) | Some next ↦ walked sight client next (component + 1) names ]
 
   abbrev searched : Bool → Result ℕ LeaseFault
