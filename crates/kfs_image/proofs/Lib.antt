@@ -1,7 +1,10 @@
 pub mod Ahead
+pub mod BlankTrees
 pub mod Counts
 pub mod Holders
 pub mod NameOrder
+pub mod NetTables
 pub mod RowCounts
 pub mod RowSteps
+pub mod ShownTrees
 pub mod SlotTables

@@ -2,4 +2,5 @@ pub mod Change
 pub mod Contents
 pub mod Look
 pub mod Rows
+pub mod ShownTree
 pub mod Slots

@@ -4,6 +4,7 @@ ghost use Rattle.kfs_model.specs.Tree.{target};
 ghost use Rattle.kfs_image.specs.Change.{after_rows, after_net};
 ghost use Rattle.kfs_image.specs.Contents.{root_alone};
 ghost use Rattle.kfs_image.specs.Look.{IsAfter, IsNext};
+ghost use Rattle.kfs_image.specs.ShownTree.{IsLawful};
 
 use crate::layout::Shape;
 use crate::sizes::TierSizes;
@@ -12,7 +13,8 @@ use std::alloc::{AllocError, Allocator};
 use std::marker::Model;
 use std::sync::Arc;
 
-/// The image that the desk owns. Views share its shape and see it as it was when they were taken.
+/// The image that the desk owns. Its tree is sound, and its headers are those that the tree has. Views
+/// share its shape and see it as it was when they were taken.
 #[derive(Drop)]
 pub struct Image<A: Allocator> {
     shape: Arc<Shape<A>, A>,
@@ -22,15 +24,19 @@ pub struct Image<A: Allocator> {
 
 impl<A: Allocator> Model for Image<A> {
     ghost use Rattle.kfs_image.specs.Contents.{Shown};
+    ghost use Rattle.kfs_image.specs.ShownTree.{IsLawful};
 
     ghost Value = { Shown };
 
     ghost view = { λ i. record { contents = i.shape.value; sizes = i.sizes } };
+
+    ghost invariant = { λ i. IsLawful i.shape.value };
 }
 
 impl<A: Allocator + Clone> Image<A> {
     /// The image with the root directory alone, of mode 0o777, uid 0 and gid 0, over tiers of these
     /// sizes.
+    #[tactic(auto, using(crate::proofs::ShownTrees::fresh_is_lawful))]
     pub fn fresh(alloc: A, sizes: TierSizes) -> Result<Image<A>, AllocError>
         ensures { IfOk result (λ image. image ≡ record { contents = root_alone; sizes = sizes }) }
     {
@@ -46,6 +52,7 @@ impl<A: Allocator + Clone> Image<A> {
     /// Makes the change of a net, in place where no view shares the shape. `Err` leaves what the
     /// image shows as it is, and a view shows what it showed in any case.
     pub(crate) fn change(&mut self, names: &[NameRow], nodes: &[NodeRow]) -> Result<(), AllocError>
+        requires { IsLawful (after_net self.old names.now nodes.now).contents }
         ensures ok { OnOk result (self.new ≡ after_net self.old names.now nodes.now) }
         ensures err { OnErr result (self.new ≡ self.old) }
     {
@@ -70,7 +77,8 @@ fn change_shared<A: Allocator + Clone>(
 impl<A: Allocator> Image<A> {
     /// The shape of now, to share with a view. Takes no memory.
     pub fn shape(&self) -> &Arc<Shape<A>, A>
-        ensures { result.now.value ≡ self.now.contents }
+        ensures shape { result.now.value ≡ self.now.contents }
+        ensures lawful { IsLawful self.now.contents }
     {
         &self.shape
     }

@@ -1,6 +1,7 @@
 //! The change that a landing makes to an image.
 ghost use Rattle.std.specs.Prelude.{◌≡◌, OnOk, OnErr};
 ghost use Rattle.kfs_image.specs.Change.{after_net};
+ghost use Rattle.kfs_image.specs.ShownTree.{IsLawful};
 
 use crate::image::Image;
 use kfs_entry::{NameRow, NodeRow};
@@ -31,13 +32,15 @@ impl<A: Allocator> Fill<A> {
     }
 }
 
-/// Makes the change of a net. Every growth comes before the first change, so `Err` leaves what the
-/// image shows as it is. A view that was taken before shows what it showed.
+/// Makes the change of a net, after which the tree is sound and the headers are its own. Every growth
+/// comes before the first change, so `Err` leaves what the image shows as it is. A view that was taken
+/// before shows what it showed.
 pub fn net_apply<A: Allocator + Clone>(
     image: &mut Image<A>,
     net: &Net<A>,
     _fill: &Fill<A>,
 ) -> Result<(), AllocError>
+    requires { IsLawful (after_net image.old net.now.names.items net.now.nodes.items).contents }
     ensures ok { OnOk result (image.new ≡ after_net image.old net.now.names.items net.now.nodes.items) }
     ensures err { OnErr result (image.new ≡ image.old) }
 {
