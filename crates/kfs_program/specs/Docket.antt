@@ -1,4 +1,4 @@
--- What the desk's answers say of its docket and its image.
+-- What the desk's answers say of its docket.
 use Rattle.std.specs.Prelude.{ℕ}
 use Rattle.kfs_program.specs.declared.answers.Reply.{Reply}
 use Rattle.kfs_program.specs.declared.answers.Reply.TheVariants.{Yes, No}
@@ -7,7 +7,3 @@ use Rattle.kfs_program.specs.declared.answers.Reply.TheVariants.{Yes, No}
 abbrev pub position_of : Reply → ℕ
 position_of (Yes position rejudged need) = position
 position_of (No position rejudged fault) = position
-
-abbrev pub IsNo : Reply → Type 0
-IsNo (Yes position rejudged need) = ⊥
-IsNo (No position rejudged fault) = Unit {0}

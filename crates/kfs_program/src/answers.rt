@@ -1,7 +1,7 @@
 //! What the desk answers.
 
 use kfs_image::Image;
-use kfs_judge::plan::Fault;
+use kfs_judge::plan::{Fault, Submission};
 use kfs_lease::LeaseFault;
 use kfs_mode::Client;
 use std::alloc::{AllocError, Allocator};
@@ -38,6 +38,8 @@ pub enum Unanswered {
     OutOfMemory,
     /// The docket has as many rows as its limit allows.
     DocketFull,
+    /// The log has an entry that isn't judged yet, one other than Create.
+    OtherEntry,
 }
 
 impl From<AllocError> for Unanswered {
@@ -49,6 +51,12 @@ impl From<AllocError> for Unanswered {
     fn from(_error: AllocError) -> Unanswered {
         Unanswered::OutOfMemory
     }
+}
+
+/// Submissions that come back as they were handed in, since there was no memory for their answers.
+#[derive(Drop)]
+pub struct SubmissionsBack<A: Allocator> {
+    pub submissions: Vec<Submission<A>, A>,
 }
 
 /// Why a desk was not begun. The number is the index of the client, from 0, in the list of clients.

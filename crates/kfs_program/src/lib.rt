@@ -3,10 +3,10 @@
 
 ghost use Rattle.std.specs.Prelude.{◌≤◌, length, IfOk, IfSome};
 
-mod answers;
+pub mod answers;
 mod command;
 mod conversation;
-mod desk;
+pub mod desk;
 mod fault;
 mod listing;
 mod opening;

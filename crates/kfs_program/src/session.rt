@@ -110,6 +110,7 @@ fn unanswered<A: Allocator>(why: Unanswered, reply: &mut Vec<u8, A>) -> Result<(
 {
     match why {
         Unanswered::OutOfMemory => Err(Refusal::OutOfMemory),
+        Unanswered::OtherEntry => Err(Refusal::BadLine),
         Unanswered::DocketFull => {
             text(reply, b"full\n");
             Ok(())

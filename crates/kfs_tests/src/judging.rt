@@ -2,25 +2,30 @@
 
 use crate::fixtures::{CREATE_LOG, CREATE_PLAN, CUT_LOG, CUT_PLAN, NO_NODE_ROW, OTHER_NUMBER};
 use kfs_entry::{SpellFault, decode_log, decode_plan};
-use kfs_image::shape::{Fill, net_apply};
 use kfs_image::{Answer, Cell, Header, Image, Kind, Name, TierSizes, look};
-use kfs_lease::{LeaseKind, Leases};
+use kfs_judge::plan::{Fault, RowFault, Submission};
+use kfs_judge::{EntryFault, Reason};
+use kfs_lease::LeaseKind;
 use kfs_mode::Client;
-use kfs_judge::plan::{Fault, Judged, Outcome, RowFault, Submission, judge};
-use kfs_judge::{EntryFault, Reason, View};
+use kfs_program::answers::{Reply, Unanswered};
+use kfs_program::desk::Desk;
 use std::alloc::Global;
-use std::sync::Arc;
 use std::test::Fail;
 
-/// A fresh image, client 7 with the numbers 2 to 99, and its write lease on the root up to 100.
-fn opening(alloc: Global) -> Result<(Image<Global>, Arc<Leases<Global>>, Arc<Vec<Client>>), Fail> {
+/// A log of client 7 that sets the mode of node 1.
+const CHMOD_LOG: &str = "4b4c4f4701000000070001070000000101ff";
+
+/// The desk of a fresh image and of client 7 with the numbers 2 to 99, which holds a write lease on the
+/// root up to 100. The lease is row 0 of the docket, which takes `limit` rows.
+fn opening(alloc: Global, limit: u32) -> Result<Desk<Global>, Fail> {
     let sizes = TierSizes::new(8, 8, 8).ok_or("sizes")?;
     let image = Image::fresh(alloc, sizes)?;
     let client = Client::new(7, 1000, 1000, &[], false, 2, 99)?;
-    let clients = Arc::new(alloc, vec![in alloc; client]?)?;
-    let mut leases = Leases::new(alloc);
-    leases.grant(image.shape(), &clients, 7, b"/", LeaseKind::Write, 100)?;
-    Ok((image, Arc::new(alloc, leases)?, clients))
+    let Ok(mut desk) = Desk::begin(alloc, image, vec![in alloc; client]?, limit) else {
+        return Err(Fail::new("it begins"));
+    };
+    desk.lease(7, b"/", LeaseKind::Write, 100)?;
+    Ok(desk)
 }
 
 fn submission(
@@ -36,34 +41,23 @@ fn submission(
     })
 }
 
-/// What the submission comes to: the tree changes where it is right.
-fn submit(
-    alloc: Global,
-    image: &mut Image<Global>,
-    leases: &Arc<Leases<Global>>,
-    clients: &Arc<Vec<Client>>,
-    submission: Submission<Global>,
-) -> Result<Option<Fault>, Fail> {
-    let view = View::of(image.shape().clone()?, leases.clone()?, clients.clone()?);
-    let Ok(judged) = judge(alloc, &view, submission) else {
-        return Err(Fail::new("it is judged"));
-    };
-    drop(view);
-    let Judged { outcome, .. } = judged;
-    match outcome {
-        Outcome::Yes { net, .. } => {
-            net_apply(image, &net, &Fill::empty())?;
-            Ok(None)
-        }
-        Outcome::No(fault) => Ok(Some(fault)),
+/// The answer that the name of the first Create is taken.
+fn taken(position: u32) -> Reply {
+    Reply::No {
+        position,
+        rejudged: false,
+        fault: Fault::Entry(EntryFault {
+            index: 0,
+            reason: Reason::NameTaken,
+        }),
     }
 }
 
 #[test]
 fn a_create_by_its_calls(rt: HostRuntime) -> Result<(), Fail> {
     let alloc = rt.alloc();
-    let (mut image, leases, clients) = opening(alloc)?;
-    let before = image.shape().clone()?;
+    let mut desk = opening(alloc, 100)?;
+    let before = desk.image().shape().clone()?;
     let name = Name::new(b"a").ok_or("a name")?;
     let header = Header {
         kind: Kind::File,
@@ -74,10 +68,15 @@ fn a_create_by_its_calls(rt: HostRuntime) -> Result<(), Fail> {
         size: 0,
     };
     let first = submission(alloc, 7, CREATE_LOG, CREATE_PLAN)?;
-    assert_eq!(rt; submit(alloc, &mut image, &leases, &clients, first)?, None);
+    let accepted = Reply::Yes {
+        position: 1,
+        rejudged: false,
+        need: 0,
+    };
+    assert_eq!(rt; desk.submit(first)?, accepted);
     let header_cell = Cell::Header(5);
     let name_cell = Cell::Name(1, name.clone()?);
-    let after = image.shape();
+    let after = desk.image().shape();
     assert_eq!(rt; look(after, &header_cell), Answer::Header(Some(header)));
     assert_eq!(rt; look(after, &name_cell), Answer::Name(Some(5)));
     assert_eq!(rt; look(after, &Cell::Count(1)), Answer::Count(1));
@@ -91,47 +90,87 @@ fn a_create_by_its_calls(rt: HostRuntime) -> Result<(), Fail> {
         Answer::Name(None),
         "a view from before"
     );
-    assert!(rt; image.next_name(1, None) == Some((&name, 5)));
-    assert!(rt; image.next_name(1, Some(&name)).is_none());
+    assert!(rt; desk.image().next_name(1, None) == Some((&name, 5)));
+    assert!(rt; desk.image().next_name(1, Some(&name)).is_none());
     let again = submission(alloc, 7, CREATE_LOG, CREATE_PLAN)?;
-    let taken = Fault::Entry(EntryFault {
-        index: 0,
-        reason: Reason::NameTaken,
-    });
-    assert_eq!(rt;
-        submit(alloc, &mut image, &leases, &clients, again)?,
-        Some(taken)
-    );
+    assert_eq!(rt; desk.submit(again)?, taken(2));
     Ok(())
 }
 
 #[test]
 fn a_refused_submission_leaves_the_tree(rt: HostRuntime) -> Result<(), Fail> {
     let alloc = rt.alloc();
-    let (mut image, leases, clients) = opening(alloc)?;
-    for (client, log, plan, fault) in [
-        (3, CREATE_LOG, CREATE_PLAN, Fault::UnknownClient),
+    let mut desk = opening(alloc, 100)?;
+    for (position, client, log, plan, fault) in [
+        (1, 3, CREATE_LOG, CREATE_PLAN, Fault::UnknownClient),
         (
+            2,
             7,
             CUT_LOG,
             CREATE_PLAN,
             Fault::BadLog(SpellFault::BadEntry(0)),
         ),
         (
+            3,
             7,
             CREATE_LOG,
             CUT_PLAN,
             Fault::BadPlan(SpellFault::BadRow(1, 0)),
         ),
-        (7, CREATE_LOG, OTHER_NUMBER, Fault::Row(RowFault::Names(0))),
-        (7, CREATE_LOG, NO_NODE_ROW, Fault::Row(RowFault::Nodes(0))),
+        (
+            4,
+            7,
+            CREATE_LOG,
+            OTHER_NUMBER,
+            Fault::Row(RowFault::Names(0)),
+        ),
+        (
+            5,
+            7,
+            CREATE_LOG,
+            NO_NODE_ROW,
+            Fault::Row(RowFault::Nodes(0)),
+        ),
     ] {
         let submission = submission(alloc, client, log, plan)?;
-        let answer = submit(alloc, &mut image, &leases, &clients, submission)?;
-        assert_eq!(rt; answer, Some(fault));
+        let refused = Reply::No {
+            position,
+            rejudged: false,
+            fault,
+        };
+        assert_eq!(rt; desk.submit(submission)?, refused);
+        let image = desk.image();
         assert_eq!(rt; look(image.shape(), &Cell::Header(5)), Answer::Header(None));
         assert_eq!(rt; look(image.shape(), &Cell::Count(1)), Answer::Count(0));
     }
+    Ok(())
+}
+
+#[test]
+fn submissions_one_after_another(rt: HostRuntime) -> Result<(), Fail> {
+    let alloc = rt.alloc();
+    let mut desk = opening(alloc, 3)?;
+    let submissions = vec![in alloc;
+        submission(alloc, 7, CHMOD_LOG, CREATE_PLAN)?,
+        submission(alloc, 7, CREATE_LOG, CREATE_PLAN)?,
+        submission(alloc, 7, CREATE_LOG, CREATE_PLAN)?,
+        submission(alloc, 7, CREATE_LOG, CREATE_PLAN)?,
+    ]?;
+    let Ok(answers) = desk.submit_all(submissions) else {
+        return Err(Fail::new("they are answered"));
+    };
+    let accepted = Reply::Yes {
+        position: 1,
+        rejudged: false,
+        need: 0,
+    };
+    let expected = [
+        Err(Unanswered::OtherEntry),
+        Ok(accepted),
+        Ok(taken(2)),
+        Err(Unanswered::DocketFull),
+    ];
+    assert!(rt; answers.as_slice() == expected.as_slice());
     Ok(())
 }
 

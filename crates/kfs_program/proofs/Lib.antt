@@ -1,0 +1,4 @@
+pub mod ClientRows
+pub mod Granting
+pub mod Histories
+pub mod Landing
