@@ -1,7 +1,7 @@
 //! Update logs and digest plans, as values and as bytes.
 #![tactic(auto)]
 
-pub mod codec;
+mod codec;
 mod decoding;
 mod encoding;
 mod entry;
