@@ -1,6 +1,5 @@
 //! Logs and plans with one growth refused: want of memory is said, and the same call then succeeds.
 
-use crate::codec::vectors::EDITS_PLAN;
 use crate::refusing::Refusing;
 use kfs_entry::{SpellFault, decode_log, decode_plan, encode_log, encode_plan};
 use std::alloc::{AllocError, Global};
@@ -19,6 +18,24 @@ fn long_log(alloc: Global) -> Result<Vec<u8>, AllocError> {
     Ok(bytes)
 }
 
+/// A plan of 40 rows in each part, each of which grows several times.
+fn long_plan(alloc: Global) -> Result<Vec<u8>, AllocError> {
+    let mut bytes = Vec::from_slice(alloc, b"KPLN\x01\0\x28\0\x28\0\0\0\x28")?;
+    for number in 0..40u32 {
+        bytes.extend_from_slice(b"\0\0\0\x01\x01a")?;
+        bytes.extend_from_slice(&number.to_be_bytes())?;
+    }
+    for number in 0..40u32 {
+        bytes.extend_from_slice(&number.to_be_bytes())?;
+        bytes.push(0)?;
+    }
+    for number in 0..40u32 {
+        bytes.extend_from_slice(&number.to_be_bytes())?;
+        bytes.extend_from_slice(&[0u8; 17])?;
+    }
+    Ok(bytes)
+}
+
 #[test]
 fn decoding_a_log(rt: HostRuntime) -> Result<(), Fail> {
     let bytes = long_log(rt.alloc())?;
@@ -26,7 +43,10 @@ fn decoding_a_log(rt: HostRuntime) -> Result<(), Fail> {
     for growth in 0..MANY {
         let heap = Refusing::new(rt.alloc(), growth);
         match decode_log(&heap, &bytes) {
-            Ok(log) => assert_eq!(rt; log.entries.as_slice(), ample.entries.as_slice()),
+            Ok(log) => {
+                assert_eq!(rt; log.client, ample.client);
+                assert_eq!(rt; log.entries.as_slice(), ample.entries.as_slice());
+            }
             Err(fault) => assert_eq!(rt; fault, SpellFault::OutOfMemory),
         }
         if !heap.has_refused() {
@@ -42,18 +62,24 @@ fn decoding_a_log(rt: HostRuntime) -> Result<(), Fail> {
 
 #[test]
 fn decoding_a_plan(rt: HostRuntime) -> Result<(), Fail> {
-    let ample = decode_plan(rt.alloc(), EDITS_PLAN)?;
+    let bytes = long_plan(rt.alloc())?;
+    let ample = decode_plan(rt.alloc(), &bytes)?;
     for growth in 0..MANY {
         let heap = Refusing::new(rt.alloc(), growth);
-        match decode_plan(&heap, EDITS_PLAN) {
-            Ok(plan) => assert_eq!(rt; plan.pieces.as_slice(), ample.pieces.as_slice()),
+        match decode_plan(&heap, &bytes) {
+            Ok(plan) => {
+                assert_eq!(rt; plan.names.as_slice(), ample.names.as_slice());
+                assert_eq!(rt; plan.nodes.as_slice(), ample.nodes.as_slice());
+                assert_eq!(rt; plan.pieces.as_slice(), ample.pieces.as_slice());
+            }
             Err(fault) => assert_eq!(rt; fault, SpellFault::OutOfMemory),
         }
         if !heap.has_refused() {
-            assert!(rt; growth > 1, "{growth}");
+            assert!(rt; growth > 5, "{growth}");
             return Ok(());
         }
-        let again = decode_plan(&heap, EDITS_PLAN)?;
+        let again = decode_plan(&heap, &bytes)?;
+        assert_eq!(rt; again.names.as_slice(), ample.names.as_slice());
         assert_eq!(rt; again.nodes.as_slice(), ample.nodes.as_slice());
         assert_eq!(rt; again.pieces.as_slice(), ample.pieces.as_slice());
     }
@@ -81,18 +107,19 @@ fn encoding_a_log(rt: HostRuntime) -> Result<(), Fail> {
 
 #[test]
 fn encoding_a_plan(rt: HostRuntime) -> Result<(), Fail> {
-    let plan = decode_plan(rt.alloc(), EDITS_PLAN)?;
+    let bytes = long_plan(rt.alloc())?;
+    let plan = decode_plan(rt.alloc(), &bytes)?;
     for growth in 0..MANY {
         let heap = Refusing::new(rt.alloc(), growth);
         if let Ok(encoded) = encode_plan(&heap, &plan) {
-            assert_eq!(rt; encoded.as_slice(), EDITS_PLAN);
+            assert_eq!(rt; encoded.as_slice(), bytes.as_slice());
         }
         if !heap.has_refused() {
             assert!(rt; growth > 0);
             return Ok(());
         }
         let again = encode_plan(&heap, &plan)?;
-        assert_eq!(rt; again.as_slice(), EDITS_PLAN);
+        assert_eq!(rt; again.as_slice(), bytes.as_slice());
     }
     Err("more growths than expected")?
 }

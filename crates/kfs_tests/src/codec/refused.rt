@@ -117,9 +117,14 @@ fn logs_with_one_byte_changed_or_more(rt: HostRuntime) {
 
 #[test]
 fn plans_with_one_byte_changed_or_more(rt: HostRuntime) {
-    let cases: [(&[u8], SpellFault); 7] = [
-        // one byte more
+    let cases: [(&[u8], SpellFault); 8] = [
+        // one byte more, behind no row and behind a name row and a node row
         (b"KPLN\x01\0\0\0\0\0\0\0\0\0", SpellFault::Trailing),
+        (
+            b"KPLN\x01\0\x01\0\x01\0\0\0\0\0\0\0\x01\x01a\0\0\0\x05\0\0\0\x05\
+      \x01\x01\xa4\0\0\x03\xe8\0\0\x03\xe8\0\x01\0\0\0\0\0\0\0\0\0",
+            SpellFault::Trailing,
+        ),
         // another magic, another version
         (b"KLOG\x01\0\0\0\0\0\0\0\0", SpellFault::BadHeader),
         (b"KPLN\0\0\0\0\0\0\0\0\0", SpellFault::BadHeader),
