@@ -5,6 +5,8 @@
 #[cfg(test)]
 mod codec;
 #[cfg(test)]
+mod creating;
+#[cfg(test)]
 mod fixtures;
 #[cfg(test)]
 mod judging;
