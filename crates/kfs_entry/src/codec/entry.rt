@@ -1,13 +1,16 @@
 //! An entry: its tag and its fields, as the table lists them.
 ghost use Rattle.std.specs.Prelude.{◌≡◌, ◌≤◌, length, drop, IfSome};
 ghost use Rattle.kfs_entry.specs.Views.{entry_of, IsWithin};
-ghost use Rattle.kfs_entry.specs.Reading.{seen, entry_read};
+ghost use Rattle.kfs_entry.specs.Reading.{seen, tagged_read, entry_read};
 
 use crate::codec::{byte, kind, mode, name, number32, number64, payload};
 use crate::entry::{Entry, Span};
 use crate::entry_table;
 use crate::row::Row;
 use std::alloc::{AllocError, Allocator};
+
+/// The tag of a Write.
+const WRITE: u8 = 2;
 
 macro_rules! read_case {
     ([$tag:ident, $source:ident, $at:ident] $($number:literal $variant:ident { $($field:ident: $codec:ident),* })*) => {
@@ -40,6 +43,27 @@ macro_rules! len_case {
     };
 }
 
+/// The entry of this tag whose fields stand at `at`, and the place after it.
+#[inline(always)]
+fn read_fields(tag: u8, source: &[u8], at: usize) -> Option<(Entry<Span>, usize)>
+    requires { at ≤ length source.now }
+    ensures value { seen (entry_of source.now) source.now result ≡ tagged_read tag (drop at source.now) }
+    ensures within { IfSome result (λ x. IsWithin (length source.now) x.0 × (x.1 ≤ length source.now)) }
+{
+    entry_table!(read_case(tag, source, at))
+}
+
+/// The same in a frame of its own.
+#[inline(never)]
+fn read_fields_apart(tag: u8, source: &[u8], at: usize) -> Option<(Entry<Span>, usize)>
+    requires { at ≤ length source.now }
+    ensures value { seen (entry_of source.now) source.now result ≡ tagged_read tag (drop at source.now) }
+    ensures within { IfSome result (λ x. IsWithin (length source.now) x.0 × (x.1 ≤ length source.now)) }
+{
+    read_fields(tag, source, at)
+}
+
+// A frame is cleared at each call, and names are long, so a Write is read in a frame without any.
 #[tactic(auto, unfolding(crate::specs::Reading::entry_read))]
 fn read_entry(source: &[u8], at: usize) -> Option<(Entry<Span>, usize)>
     requires { at ≤ length source.now }
@@ -47,7 +71,11 @@ fn read_entry(source: &[u8], at: usize) -> Option<(Entry<Span>, usize)>
     ensures within { IfSome result (λ x. IsWithin (length source.now) x.0 × (x.1 ≤ length source.now)) }
 {
     let (tag, at) = byte::read(source, at)?;
-    entry_table!(read_case(tag, source, at))
+    if tag == WRITE {
+        read_fields(WRITE, source, at)
+    } else {
+        read_fields_apart(tag, source, at)
+    }
 }
 
 impl Row for Entry<Span> {
