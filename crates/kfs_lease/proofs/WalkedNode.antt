@@ -1,5 +1,5 @@
 -- A walk along a path of a sound tree ends at a node of the tree.
-use Rattle.std.proofs.Common.{◌≡◌, ℕ, ◌+◌, Bool, true, false, List, [], ◌∷◌, Option, Some, None, Ok, Err, sym, ap, subst, ◌∙◌, refl, Result}
+use Rattle.std.proofs.Common.{◌≡◌, ℕ, ◌+◌, Bool, true, false, List, [], ◌∷◌, Option, Some, None, Ok, Err, ap, subst, refl, Result}
 use Rattle.std.specs.Prelude.{IsSome, is_some}
 use Rattle.kfs_model.specs.Header.{Header}
 use Rattle.kfs_model.specs.Access.{Client, Search, may_header}
