@@ -49,13 +49,13 @@ module _ {A : Type 0} (client : Client) where
       → RunsOn client old before entries (entry ∷ rest) index
       → Grows before after
       → Always after (λ state. first_fault (spot_of client old state) entry ≡ None)
-      → ((s : Sight) → over new s ≡ seen_after client (over old s) entry)
+      → Always after (λ state. over new state.sight ≡ seen_after client (over old state.sight) entry)
       → ((numbers : List ℕ) → AreCreated old numbers → AreCreated new (created_by entry numbers))
       → RunsOn client new after entries rest (index + 1)
   runs_next old new before after entries rest entry index on grows clean shown created = record {
     numbers = created_by entry on.numbers;
     created = created on.numbers on.created;
-    runs = λ state agrees. on.runs state (grows state agrees) ∙ by_fault client old state on.numbers on.created index entry rest None (clean state agrees) ∙ ap (λ s. seen_run_from (scene_in client state) (index + 1) (created_by entry on.numbers) s rest) (sym (shown state.sight));
+    runs = λ state agrees. on.runs state (grows state agrees) ∙ by_fault client old state on.numbers on.created index entry rest None (clean state agrees) ∙ ap (λ s. seen_run_from (scene_in client state) (index + 1) (created_by entry on.numbers) s rest) (sym (shown state agrees));
   }
 
   -- the entry is the first bad one

@@ -9,7 +9,7 @@ pub mod Entering
 pub mod Looking
 pub mod ChangedRows
 pub mod TreeWalks
-pub mod MarkedCreates
+pub mod MarkedRuns
 pub mod Untouched
 pub mod AnswersExist
 pub mod RowsCompared

@@ -2,7 +2,7 @@
 use Rattle.std.specs.Prelude.{◌≡◌, ℕ, false, List, [], ◌∷◌, ◌++◌, Contains, Option, Some, None, refl}
 use Rattle.std.proofs.Common.{ap, sym, subst, ◌∙◌}
 use Rattle.kfs_model.specs.Access.{Client}
-use Rattle.kfs_model.specs.Entry.{Entry, Create}
+use Rattle.kfs_model.specs.Entry.{Entry, Create, Chmod}
 use Rattle.kfs_model.specs.Header.{Kind}
 use Rattle.kfs_model.specs.Sight.{Sight, Seen, Cell, HeaderOf, NameIn}
 use Rattle.kfs_model.specs.Check.{Spot, Check, Reason, fault, cells, checks_of, first_fault, looked}
@@ -46,6 +46,11 @@ module _ (p : Spot) where
         looks_at front (Check.NameIsFree d m) (Check.NumberIsGranted n ∷ Check.NumberIsFree n ∷ []) pass (NameIn d m) (first_is_in (NameIn d m) []),
         looks_at (front ++ (Check.NameIsFree d m ∷ Check.NumberIsGranted n ∷ [])) (Check.NumberIsFree n) [] pass (HeaderOf n) (first_is_in (HeaderOf n) []),
       )
+
+  -- the first check's look at the header comes whatever the checks find
+  pub chmod_looks : (n mode : ℕ) → IsPart (HeaderOf n ∷ []) (looked p (checks_of p (Chmod n mode)))
+  unfolding checks_of cells
+  chmod_looks n mode = looks_here (Check.Exists n) (Check.MayChangeMode n ∷ Check.IsLeased n ∷ [])
 
 -- ---- entries
 
@@ -99,7 +104,7 @@ module _ {A : Type 0} (client : Client) where
       → Grows before after
       → Always after (λ state. first_fault (spot_of client old state) entry ≡ None)
       → Always after (λ state. Within before after (looked (spot_of client old state) (checks_of (spot_of client old state) entry)))
-      → ((s : Sight) → over new s ≡ seen_after client (over old s) entry)
+      → Always after (λ state. over new state.sight ≡ seen_after client (over old state.sight) entry)
       → ((numbers : List ℕ) → AreCreated old numbers → AreCreated new (created_by entry numbers))
       → Always after (λ state. (among : List Cell) → IsWritten old among → IsWritten new (looked (spot_of client old state) (checks_of (spot_of client old state) entry) ++ among))
       → LooksOn new first after entries rest
@@ -113,7 +118,7 @@ module _ {A : Type 0} (client : Client) where
         let here : IsPart looked_here all = λ cell there. so_far.rest_among cell (entry_among old state on.numbers on.created entry rest cell there) in
         let behind = subst (λ cells. IsPart cells all) (by_first old state on.numbers on.created entry rest None (clean state agrees)) so_far.rest_among in
         record {
-          rest_among = λ cell there. behind cell (right_is_part looked_here _ cell (subst (λ s. Contains (looked_from (scene_in client state) (created_by entry on.numbers) s rest) cell) (shown state.sight) there));
+          rest_among = λ cell there. behind cell (right_is_part looked_here _ cell (subst (λ s. Contains (looked_from (scene_in client state) (created_by entry on.numbers) s rest) cell) (shown state agrees) there));
           reads_among = within_then so_far.reads_among (within_wider here (read state agrees));
           written_among = written_wider new (looked_here ++ all) all (both_are_part looked_here all all here (part_of_itself all)) (written state agrees all so_far.written_among);
         };

@@ -1,5 +1,5 @@
 -- What a draft shows over a state after a change of its maps.
-use Rattle.std.specs.Prelude.{◌≡◌, ℕ, ◌==◌, Bool, true, false, cond, ℤ, pos, ◌+ℤ◌, List, Option, Some, unwrap_or, if◌then◌else◌, refl}
+use Rattle.std.specs.Prelude.{◌≡◌, ℕ, ◌+◌, ◌==◌, Bool, true, false, cond, ℤ, pos, ◌+ℤ◌, List, Option, Some, unwrap_or, if◌then◌else◌, refl}
 use Rattle.std.specs.Option.{option_map}
 use Rattle.std.specs.Ordering.{nat_cmp, eq_by_cmp}
 use Rattle.std.specs.Cmp.{unsigned_tied, nat_eq_equiv}
@@ -17,7 +17,7 @@ use Rattle.kfs_model.proofs.Links.{place_tie_turned}
 use Rattle.kfs_entry.specs.Views.{header_of, kind_of}
 use Rattle.kfs_entry.specs.declared.header.Header.{Header as CodeHeader}
 use Rattle.kfs_judge.specs.declared.draft.Draft.{Draft}
-use Rattle.kfs_judge.specs.Overlay.{over, with_node, shift_of, PutsAt}
+use Rattle.kfs_judge.specs.Overlay.{over, with_node, shift_of, PutsAt, ShiftsBy}
 
 number_tie : (a b : ℕ) → eq_by_cmp nat_cmp a b ≡ (b == a)
 number_tie a b = unsigned_tied a b ∙ nat_eq_equiv.symm a b
@@ -58,6 +58,25 @@ module _ {A : Type 0} (old new : Draft A) (d : ℕ) (m : List ℕ) (n : ℕ) (he
 
       count_at : (e : ℕ) → (over new s).count e ≡ shifted d (pos 1) (over old s).count e
       count_at e = put_read (λ by. s.count e +ℤ unwrap_or by (pos 0)) _ _ _ (e == d) (shift_of old d +ℤ pos 1) (shifts e) (number_tie d e) ∙ at_directory e (e == d) refl
+
+-- the draft whose headers are these
+abbrev pub with_heads : {A : Type 0} → Draft A → BTreeMap ℕ (Option CodeHeader) → Draft A
+with_heads draft heads = record { heads = heads; names = draft.names; parents = draft.parents; shifts = draft.shifts; created = draft.created }
+
+pub header_shown : {A : Type 0} (old : Draft A) (heads : BTreeMap ℕ (Option CodeHeader)) (n : ℕ) (header : Option CodeHeader) → PutsAt nat_cmp old.heads heads n header
+    → (s : Sight) → over (with_heads old heads) s ≡ record (over old s) { head = put_at n (option_map header_of header) (over old s).head }
+header_shown old heads n header puts s = λ i. record {
+  head = λ k. head_at k i;
+  name = (over old s).name;
+  count = (over old s).count;
+  parent = (over old s).parent;
+}
+  where
+    head_at : (k : ℕ) → (over (with_heads old heads) s).head k ≡ put_at n (option_map header_of header) (over old s).head k
+    head_at k = put_read (λ h. unwrap_or (option_map (option_map header_of) h) (s.head k)) _ _ _ (k == n) header (puts k) (number_tie n k)
+
+pub shifts_wider : {A : Type 0} (draft : Draft A) (most : ℕ) → ShiftsBy most draft → ShiftsBy (most + 1) draft
+shifts_wider draft most bound = record { at = λ d. let here = bound.at d in omega (arith, ints, here) }
 
 -- what holds at each key that the map has, and at the one that is put, holds at each that it has then
 pub put_among : {K X : Type 0} (R : Order K) (old new : BTreeMap K X) (key : K) (value : X) → PutsAt R.compare old new key value

@@ -24,12 +24,11 @@ use Rattle.kfs_entry.specs.declared.plan.Plan.{Plan as CodePlan}
 use Rattle.kfs_image.specs.declared.shape.Net.{Net}
 use Rattle.kfs_judge.specs.declared.plan.RowFault.{RowFault as CodeRowFault}
 use Rattle.kfs_judge.specs.declared.walk.EntryFault.{EntryFault as CodeEntryFault}
-use Rattle.kfs_judge.specs.Creates.{IsCreate}
-use Rattle.kfs_judge.specs.Creations.{is_creation}
+use Rattle.kfs_judge.specs.JudgedEntries.{IsJudged, is_judged}
 use Rattle.kfs_judge.specs.PlanCheck.{first_unlike, TellsRow, IsChecked}
 use Rattle.kfs_judge.specs.Rows.{keyed_name_row, keyed_node_row}
 use Rattle.kfs_judge.specs.Walks.{IsNetOf, ComesToTree, scene_in, seen_in}
-use Rattle.kfs_judge.proofs.MarkedCreates.{EndsBeside, ends_beside}
+use Rattle.kfs_judge.proofs.MarkedRuns.{EndsBeside, ends_beside}
 use Rattle.kfs_judge.proofs.Untouched.{first_of_pieces-wrong, need-untouched}
 
 module _ {A : Type 0} (scene : Scene) (before : Tree ℕ) (entries : List Entry) (after : Tree ℕ) (net : Net A) (plan : CodePlan A) (beside : EndsBeside scene before entries after) (differs : IsNetOf (sight before) (sight after) net) where
@@ -59,40 +58,40 @@ module _ {A : Type 0} (scene : Scene) (before : Tree ℕ) (entries : List Entry)
   is_checked : (result : Result ℕ CodeRowFault) → TellsRow (first_unlike net plan) 0 result → IsChecked scene before entries plan result
   is_checked result told = record { after = beside.marked_after; ran = beside.ran; told = tells_wrong result told }
 
-creation : (source : List ℕ) (entry : CodeEntry Span) → IsCreate entry → is_creation (entry_of source entry) ≡ true
-creation source (entries.Create d m n k mode) is = refl
-creation source (entries.Write n offset p) is = absurd is
-creation source (entries.Truncate n size) is = absurd is
-creation source (entries.Link n d m) is = absurd is
-creation source (entries.Unlink d m k) is = absurd is
-creation source (entries.Rename d m e k) is = absurd is
-creation source (entries.Chmod n mode) is = absurd is
+judged_shown : (source : List ℕ) (entry : CodeEntry Span) → IsJudged entry → is_judged (entry_of source entry) ≡ true
+judged_shown source (entries.Create d m n k mode) is = refl
+judged_shown source (entries.Write n offset p) is = absurd is
+judged_shown source (entries.Truncate n size) is = absurd is
+judged_shown source (entries.Link n d m) is = absurd is
+judged_shown source (entries.Unlink d m k) is = absurd is
+judged_shown source (entries.Rename d m e k) is = absurd is
+judged_shown source (entries.Chmod n mode) is = refl
 
-pub creations : (source : List ℕ) (entries : List (CodeEntry Span)) → All IsCreate entries → list_all is_creation (map (entry_of source) entries) ≡ true
-creations source [] are = refl
-creations source (e ∷ es) are = rw (creation source e (All-head IsCreate e es are), creations source es (All-tail IsCreate e es are)) refl
+pub all_judged : (source : List ℕ) (entries : List (CodeEntry Span)) → All IsJudged entries → list_all is_judged (map (entry_of source) entries) ≡ true
+all_judged source [] are = refl
+all_judged source (e ∷ es) are = rw (judged_shown source e (All-head IsJudged e es are), all_judged source es (All-tail IsJudged e es are)) refl
 
-creation_back : (source : List ℕ) (entry : CodeEntry Span) → is_creation (entry_of source entry) ≡ true → IsCreate entry
-creation_back source (entries.Create d m n k mode) is = tt
-creation_back source (entries.Write n offset p) is = cc
-creation_back source (entries.Truncate n size) is = cc
-creation_back source (entries.Link n d m) is = cc
-creation_back source (entries.Unlink d m k) is = cc
-creation_back source (entries.Rename d m e k) is = cc
-creation_back source (entries.Chmod n mode) is = cc
+judged_back : (source : List ℕ) (entry : CodeEntry Span) → is_judged (entry_of source entry) ≡ true → IsJudged entry
+judged_back source (entries.Create d m n k mode) is = tt
+judged_back source (entries.Write n offset p) is = cc
+judged_back source (entries.Truncate n size) is = cc
+judged_back source (entries.Link n d m) is = cc
+judged_back source (entries.Unlink d m k) is = cc
+judged_back source (entries.Rename d m e k) is = cc
+judged_back source (entries.Chmod n mode) is = tt
 
-creates_back : (source : List ℕ) (entries : List (CodeEntry Span)) → list_all is_creation (map (entry_of source) entries) ≡ true → All IsCreate entries
-creates_back source [] are = All-nil IsCreate
-creates_back source (e ∷ es) are =
-    let parts = and_parts (is_creation (entry_of source e)) (list_all is_creation (map (entry_of source) es)) are in
-    All-cons IsCreate e es (creation_back source e parts.0) (creates_back source es parts.1)
+all_judged_back : (source : List ℕ) (entries : List (CodeEntry Span)) → list_all is_judged (map (entry_of source) entries) ≡ true → All IsJudged entries
+all_judged_back source [] are = All-nil IsJudged
+all_judged_back source (e ∷ es) are =
+    let parts = and_parts (is_judged (entry_of source e)) (list_all is_judged (map (entry_of source) es)) are in
+    All-cons IsJudged e es (judged_back source e parts.0) (all_judged_back source es parts.1)
 
-pub not_creations : (source : List ℕ) (entries : List (CodeEntry Span)) → (All IsCreate entries → ⊥) → list_all is_creation (map (entry_of source) entries) ≡ false
-not_creations source entries other = false_from_ne_true _ (λ are. other (creates_back source entries are))
+pub not_all_judged : (source : List ℕ) (entries : List (CodeEntry Span)) → (All IsJudged entries → ⊥) → list_all is_judged (map (entry_of source) entries) ≡ false
+not_all_judged source entries other = false_from_ne_true _ (λ are. other (all_judged_back source entries are))
 
 -- a walk that ends, and what is told of its net
 pub walk_is_checked : {A : Type 0} (client : Client) (held : ℕ → Bool) (tree : Tree ℕ) (entries : List Entry) (outcome : Result (Net A) CodeEntryFault) (net : Net A) (plan : CodePlan A) (result : Result ℕ CodeRowFault)
-    → list_all is_creation entries ≡ true → outcome ≡ Ok net → ComesToTree client held tree entries outcome → TellsRow (first_unlike net plan) 0 result → IsChecked (scene_in client (seen_in tree held)) tree entries plan result
+    → list_all is_judged entries ≡ true → outcome ≡ Ok net → ComesToTree client held tree entries outcome → TellsRow (first_unlike net plan) 0 result → IsChecked (scene_in client (seen_in tree held)) tree entries plan result
 walk_is_checked client held tree entries outcome net plan result are is comes told =
     let end = subst (ComesToTree client held tree entries) is comes in
     let scene = scene_in client (seen_in tree held) in

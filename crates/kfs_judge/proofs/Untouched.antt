@@ -15,7 +15,7 @@ use Rattle.kfs_model.proofs.Tables.{found_from_any}
 use Rattle.kfs_entry.specs.Views.{piece_of}
 use Rattle.kfs_entry.specs.declared.plan.Piece.{Piece as CodePiece}
 use Rattle.kfs_judge.specs.PlanCheck.{first_of_pieces}
-use Rattle.kfs_judge.proofs.MarkedCreates.{IsUntouched}
+use Rattle.kfs_judge.proofs.MarkedRuns.{IsUntouched}
 
 -- ---- pieces
 

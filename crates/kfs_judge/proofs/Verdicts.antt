@@ -41,8 +41,8 @@ use Rattle.kfs_judge.specs.Reads.{Agrees}
 use Rattle.kfs_judge.specs.View.{seen_of}
 use Rattle.kfs_judge.specs.Walks.{ComesToTree, Fits, fault_of, scene_in, seen_in}
 use Rattle.kfs_judge.proofs.AnswersExist.{log_has_answer, plan_has_answer}
-use Rattle.kfs_judge.proofs.MarkedCreates.{EndsBeside, ends_beside}
-use Rattle.kfs_judge.proofs.PlanChecked.{first_wrong-unlike, creations}
+use Rattle.kfs_judge.proofs.MarkedRuns.{EndsBeside, ends_beside}
+use Rattle.kfs_judge.proofs.PlanChecked.{first_wrong-unlike, all_judged}
 use Rattle.kfs_judge.proofs.Untouched.{need-untouched}
 
 pub numbered : (clients : List Client) (number : ℕ) (client : Client) → row_of clients number ≡ Some client → client.number ≡ number
@@ -161,7 +161,7 @@ module _ (A : Type 0) (s : State) (submission : Submission) where
 
       module _ (net : Net A) (comes : ComesToTree client (holds s.leases submission.client) s.tree the_log.entries (Ok net)) where
         ends : EndsBeside (scene_of s client) s.tree the_log.entries comes.0
-        ends = ends_beside (scene_of s client) s.tree the_log.entries (creations submission.log log.entries spelled.creates) comes.0 (ap (λ scene. run bytes scene s.tree the_log.entries) (sym scenes) ∙ comes.1)
+        ends = ends_beside (scene_of s client) s.tree the_log.entries (all_judged submission.log log.entries spelled.judged) comes.0 (ap (λ scene. run bytes scene s.tree the_log.entries) (sym scenes) ∙ comes.1)
 
         first : first_wrong_row s.tree ends.marked_after (plan_of plan) ≡ first_unlike net plan
         first = first_wrong-unlike (scene_of s client) s.tree the_log.entries comes.0 net plan ends comes.4

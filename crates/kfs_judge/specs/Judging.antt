@@ -35,8 +35,7 @@ use Rattle.kfs_judge.specs.declared.view.View.{View}
 use Rattle.kfs_judge.specs.declared.walk.EntryFault.{EntryFault as CodeEntryFault}
 use Rattle.kfs_judge.specs.declared.reads.Read.{Read}
 use Rattle.kfs_judge.specs.declared.reads.Seen.{Seen as CodeSeen}
-use Rattle.kfs_judge.specs.Creates.{IsCreate}
-use Rattle.kfs_judge.specs.Creations.{is_creation}
+use Rattle.kfs_judge.specs.JudgedEntries.{IsJudged, is_judged}
 use Rattle.kfs_judge.specs.PlanCheck.{first_unlike}
 use Rattle.kfs_judge.specs.Reads.{Agrees, AreAmong}
 use Rattle.kfs_judge.specs.View.{clients_of, seen_of}
@@ -73,18 +72,18 @@ submission_with client log plan = record { client = client; log = log; plan = pl
 abbrev pub submission_of : {A : Type 0} → CodeSubmission A → Submission
 submission_of submission = submission_with submission.client submission.log.items submission.plan.items
 
--- the bytes spell a log that has an entry other than a Create
+-- the bytes spell a log that has an entry other than those that are judged
 pub record HasOtherEntry (bytes : List ℕ) : Type 0 where
   pub log : Log
   pub spelled : LogAnswer bytes (Ok log)
-  pub other : list_all is_creation log.entries ≡ false
+  pub other : list_all is_judged log.entries ≡ false
 
--- the bytes of the submission are this log of the client and this plan, and the entries are Creates
+-- the bytes of the submission are this log of the client and this plan, and the entries are judged
 pub record AreSpelled {A : Type 0} (submission : Submission) (log : CodeLog A) (plan : CodePlan A) : Type 0 where
   pub owner : log.client ≡ submission.client
   pub log_read : LogAnswer submission.log (Ok (log_of submission.log log))
   pub plan_read : PlanAnswer submission.plan (Ok (plan_of plan))
-  pub creates : All IsCreate log.entries
+  pub judged : All IsJudged log.entries
 
 -- ---- verdicts
 

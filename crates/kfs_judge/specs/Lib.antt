@@ -1,4 +1,4 @@
-pub mod Creates
+pub mod JudgedEntries
 pub mod View
 pub mod Reads
 pub mod Recorders
@@ -6,6 +6,5 @@ pub mod Overlay
 pub mod Spots
 pub mod Walks
 pub mod Rows
-pub mod Creations
 pub mod PlanCheck
 pub mod Judging

@@ -30,6 +30,7 @@ check_of (variants.Exists n) = checks.Exists n
 check_of (variants.IsADirectory n) = checks.IsADirectory n
 check_of (variants.MaySearch n) = checks.MaySearch n
 check_of (variants.MayWrite n) = checks.MayWrite n
+check_of (variants.MayChangeMode n) = checks.MayChangeMode n
 check_of (variants.IsLeased n) = checks.IsLeased n
 check_of (variants.NameIsFree key) = checks.NameIsFree key.now.0 key.now.1
 check_of (variants.NumberIsGranted n) = checks.NumberIsGranted n

@@ -48,6 +48,8 @@ pub(crate) enum Check<'a> {
     MaySearch(u32),
     /// The client may write the node, or the log created it as a file.
     MayWrite(u32),
+    /// The client is the node's owner, or privileged.
+    MayChangeMode(u32),
     /// The log created the node, or the client holds a live write lease on it.
     IsLeased(u32),
     /// The directory has no such name.

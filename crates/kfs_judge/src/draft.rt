@@ -1,9 +1,10 @@
 //! What the entries of a log have changed so far, over the state that the log came to.
 
 ghost use Rattle.std.specs.Prelude.{◌≡◌, ℕ, ◌+◌, ◌==◌, ◌||◌, ℤ, pos, ◌+ℤ◌, ◌<ℤ◌, Option, unwrap_or, OnOk, false, List, [], Contains};
+ghost use Rattle.std.specs.Option.{option_map};
 ghost use Rattle.kfs_entry.specs.Views.{header_of, kind_of};
 ghost use Rattle.kfs_model.specs.Sight.{Sight, Cell, HeaderOf, NameIn};
-ghost use Rattle.kfs_model.specs.SeenAfter.{put_parent};
+ghost use Rattle.kfs_model.specs.SeenAfter.{put_at, put_parent};
 ghost use Rattle.std.specs.Ordering.{nat_cmp};
 ghost use Rattle.std.specs.BTreeMap.{get};
 ghost use Rattle.kfs_model.specs.Tree.{directory_entries};
@@ -61,6 +62,21 @@ impl<A: Allocator + Copy> Draft<A> {
         put(&mut self.names, key, Some(number))?;
         put(&mut self.heads, number, Some(header))?;
         self.created.insert(number)?;
+        Ok(())
+    }
+
+    /// Another header of a node.
+    pub(crate) fn set_header(
+        &mut self,
+        number: u32,
+        header: Option<Header>,
+    ) -> Result<(), AllocError>
+        ensures shown { OnOk result ((s : Sight) → over self.new s ≡ record (over self.old s) { head = put_at number (option_map header_of header) (over self.old s).head }) }
+        ensures written { OnOk result ((among : List Cell) → IsWritten self.old among → Contains among (HeaderOf number) → IsWritten self.new among) }
+        ensures created { OnOk result ((n : ℕ) → has_created self.new n ≡ has_created self.old n) }
+        ensures shifts { OnOk result ((most : ℕ) → ShiftsBy most self.old → ShiftsBy most self.new) }
+    {
+        put(&mut self.heads, number, header)?;
         Ok(())
     }
 }

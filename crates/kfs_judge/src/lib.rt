@@ -2,6 +2,7 @@
 #![tactic(auto)]
 
 mod check;
+mod chmod;
 mod create;
 mod draft;
 mod net;

@@ -6,7 +6,7 @@ ghost use Rattle.kfs_model.specs.FirstWrong.{first_difference};
 ghost use Rattle.kfs_model.specs.Judgement.{State};
 ghost use Rattle.kfs_model.specs.Lease.{row_of};
 ghost use Rattle.kfs_model.specs.Tree.{Tree};
-ghost use Rattle.kfs_judge.specs.Creates.{IsCreate};
+ghost use Rattle.kfs_judge.specs.JudgedEntries.{IsJudged};
 ghost use Rattle.kfs_judge.specs.Judging.{AreLooked, HasOtherEntry, IsAlike, IsReading, IsSettled, IsVerdict, submission_of, submission_with};
 ghost use Rattle.kfs_judge.specs.PlanCheck.{first_unlike, IsChecked, IsWalkOf, TellsRow};
 ghost use Rattle.kfs_judge.specs.Reads.{Agrees};
@@ -56,7 +56,7 @@ pub fn check_plan<A: Allocator + Copy>(
 ) -> Result<u64, RowFault>
     requires walked { IsOk walk.now.outcome }
     // At every sound tree and all leases that agree with the walk's reads, the first wrong row of the definitions is named.
-    ensures { (client : ClientRow) → IsWalkOf client _log.now walk.now → All IsCreate _log.now.entries
+    ensures { (client : ClientRow) → IsWalkOf client _log.now walk.now → All IsJudged _log.now.entries
         → (source : List ℕ) (tree : Tree ℕ) (held : ℕ → Bool) → Fits client tree (map (entry_of source) _log.now.entries) → Agrees walk.now.reads.entries (seen_in tree held)
         → IsChecked (scene_in client (seen_in tree held)) tree (map (entry_of source) _log.now.entries) plan.now result }
 {
@@ -156,7 +156,7 @@ pub struct Judged<A: Allocator> {
 pub enum Why {
     /// A growth was refused.
     OutOfMemory,
-    /// The log has an entry that isn't judged yet, one other than Create.
+    /// The log has an entry that isn't judged yet, one other than Create and Chmod.
     OtherEntry,
 }
 
@@ -289,7 +289,7 @@ fn read_submission<A: Allocator + Copy>(
         Ok(plan) => plan,
         Err(fault) => return Ok(Spelled::No(Fault::BadPlan(unless_refused(fault)?))),
     };
-    if !are_creates(log.entries.as_slice()) {
+    if !are_judged(log.entries.as_slice()) {
         return Err(Why::OtherEntry);
     }
     Ok(Spelled::Yes(log, plan))
@@ -306,16 +306,16 @@ fn unless_refused(fault: SpellFault) -> Result<SpellFault, Why>
     }
 }
 
-fn are_creates(entries: &[Entry<Span>]) -> bool
-    ensures { IsTrue result ↔ All IsCreate entries.now }
+fn are_judged(entries: &[Entry<Span>]) -> bool
+    ensures { IsTrue result ↔ All IsJudged entries.now }
 {
-    entries.iter().all(is_create)
+    entries.iter().all(is_judged)
 }
 
-fn is_create(entry: &Entry<Span>) -> bool
-    ensures { IsTrue result ↔ IsCreate entry.now }
+fn is_judged(entry: &Entry<Span>) -> bool
+    ensures { IsTrue result ↔ IsJudged entry.now }
 {
-    matches!(entry, Entry::Create { .. })
+    matches!(entry, Entry::Create { .. } | Entry::Chmod { .. })
 }
 
 /// The finding of a log that was walked: its first bad entry, or else what its plan comes to.

@@ -7,7 +7,7 @@ ghost use Rattle.kfs_model.specs.Check.{first_fault, looked, checks_of};
 ghost use Rattle.kfs_model.specs.Run.{created_by};
 ghost use Rattle.kfs_model.specs.SeenAfter.{seen_after};
 ghost use Rattle.kfs_model.specs.Sight.{Sight, Cell};
-ghost use Rattle.kfs_judge.specs.Creates.{IsCreate};
+ghost use Rattle.kfs_judge.specs.JudgedEntries.{IsJudged};
 ghost use Rattle.kfs_judge.specs.Overlay.{has_created, over, shift_of, spot_of, ShiftsBy, IsWritten};
 ghost use Rattle.kfs_judge.specs.Reads.{Always, Within};
 ghost use Rattle.kfs_judge.specs.Recorders.{GoesOn, seen_by};
@@ -53,15 +53,15 @@ impl<'a, A: Allocator + Copy> Scene<'a, A> {
         }
     }
 
-    /// Makes the change of an entry, or answers why not. The entry is a Create.
+    /// Makes the change of an entry, or answers why not. The entry is one of those that are judged.
     pub(crate) fn enter(&mut self, entry: &Entry<Span>) -> Result<Option<Reason>, AllocError>
-        requires create { IsCreate entry.now }
+        requires judged { IsJudged entry.now }
         requires room { (d : ℕ) → shift_of self.old.draft d <ℤ pos 2147483647 }
         ensures goes { GoesOn self.old.recorder self.new.recorder }
         ensures client { self.new.client.now ≡ self.old.client.now }
         ensures known { (source : List ℕ) → IfOk result (λ reason. Always self.new.recorder.reads.entries (λ state. first_fault (spot_of self.old.client.now self.old.draft state) (entry_of source entry.now) ≡ option_map reason_of reason)) }
         ensures among { (source : List ℕ) → OnOk result (Always self.new.recorder.reads.entries (λ state. Within self.old.recorder.reads.entries self.new.recorder.reads.entries (looked (spot_of self.old.client.now self.old.draft state) (checks_of (spot_of self.old.client.now self.old.draft state) (entry_of source entry.now))))) }
-        ensures shown { (source : List ℕ) → result ≡ Ok None → (s : Sight) → over self.new.draft s ≡ seen_after self.old.client.now (over self.old.draft s) (entry_of source entry.now) }
+        ensures shown { (source : List ℕ) → result ≡ Ok None → Always self.new.recorder.reads.entries (λ state. over self.new.draft state.sight ≡ seen_after self.old.client.now (over self.old.draft state.sight) (entry_of source entry.now)) }
         ensures written { (source : List ℕ) → result ≡ Ok None → Always self.new.recorder.reads.entries (λ state. (among : List Cell) → IsWritten self.old.draft among → IsWritten self.new.draft (looked (spot_of self.old.client.now self.old.draft state) (checks_of (spot_of self.old.client.now self.old.draft state) (entry_of source entry.now)) ++ among)) }
         ensures created { (source : List ℕ) → result ≡ Ok None → (numbers : List ℕ) → ((n : ℕ) → has_created self.old.draft n ≡ list_any (λ c. c == n) numbers) → (n : ℕ) → has_created self.new.draft n ≡ list_any (λ c. c == n) (created_by (entry_of source entry.now) numbers) }
         ensures shifts { result ≡ Ok None → (most : ℕ) → ShiftsBy most self.old.draft → ShiftsBy (most + 1) self.new.draft }
@@ -74,6 +74,7 @@ impl<'a, A: Allocator + Copy> Scene<'a, A> {
                 kind,
                 mode,
             } => self.create((*dir, name.clone()?), *number, *kind, *mode),
+            Entry::Chmod { number, mode } => self.chmod(*number, *mode),
             _ => unreachable!(),
         }
     }

@@ -2,7 +2,7 @@
 ghost use Rattle.std.specs.Prelude.{◌≡◌, IfOk, is_none, not, ◌&&◌, ◌||◌, map, OnOk, [], ◌∷◌};
 ghost use Rattle.std.specs.Option.{option_map};
 ghost use Rattle.kfs_entry.specs.Views.{header_of};
-ghost use Rattle.kfs_model.specs.Access.{may_header};
+ghost use Rattle.kfs_model.specs.Access.{may_header, owns};
 ghost use Rattle.kfs_model.specs.Check as checks;
 ghost use Rattle.kfs_model.specs.Check.{first_failing, looked};
 ghost use Rattle.kfs_model.specs.Sight as sight;
@@ -27,7 +27,8 @@ pub(crate) struct Spot<'a, A: Allocator> {
 }
 
 impl<A: Allocator + Copy> Spot<'_, A> {
-    fn header(
+    /// The header of the node now.
+    pub(crate) fn header(
         &self,
         recorder: &mut Recorder<'_, A>,
         number: u32,
@@ -116,6 +117,10 @@ impl<A: Allocator + Copy> Spot<'_, A> {
                 let granted = self.may_write(recorder, *number)?;
                 Ok(unless(granted, Reason::NoWrite))
             }
+            Check::MayChangeMode(number) => {
+                let header = self.header(recorder, *number)?;
+                Ok(unless(owns(self.client, header), Reason::NotOwner))
+            }
             Check::IsLeased(number) => {
                 let leased = self.is_leased(recorder, *number)?;
                 Ok(unless(leased, Reason::NoLease(*number)))
@@ -177,6 +182,16 @@ fn may_want(client: &Client, header: Option<Header>, want: Want) -> bool
 {
     match header {
         Some(header) => may(client, header.uid, header.gid, header.mode, want),
+        None => false,
+    }
+}
+
+/// Whether the client may change the node's mode: its owner may, and a privileged client.
+fn owns(client: &Client, header: Option<Header>) -> bool
+    ensures { result ≡ checks.is_some_and (option_map header_of header) (λ h. owns client.now h.uid) }
+{
+    match header {
+        Some(header) => client.uid() == header.uid || client.is_privileged(),
         None => false,
     }
 }

@@ -5,7 +5,7 @@ ghost use Rattle.kfs_model.specs.Access.{Client as ClientRow};
 ghost use Rattle.kfs_model.specs.Lease.{row_of};
 ghost use Rattle.kfs_model.specs.Sight.{Sight};
 ghost use Rattle.kfs_model.specs.Tree.{Tree};
-ghost use Rattle.kfs_judge.specs.Creates.{IsCreate};
+ghost use Rattle.kfs_judge.specs.JudgedEntries.{IsJudged};
 ghost use Rattle.kfs_judge.specs.Overlay.{has_created, over, ShiftsBy, IsWritten};
 ghost use Rattle.kfs_judge.specs.Reads.{Agrees, Always, AreAmong, AreOnce, Within};
 ghost use Rattle.kfs_judge.specs.Recorders.{GoesOn};
@@ -39,14 +39,14 @@ pub struct Walk<A: Allocator> {
 }
 
 /// Goes through the entries of a log against a view. The log's client has a row there, and the entries
-/// are Creates alone, at most 4,096. Where memory is refused nothing is kept.
+/// are Creates and Chmods, at most 4,096. Where memory is refused nothing is kept.
 pub fn judge_entries<A: Allocator + Copy>(
     alloc: A,
     view: &View<A>,
     log: &Log<A>,
 ) -> Result<Walk<A>, AllocError>
     requires client { IsSome (row_of (clients_of view.now) log.now.client) }
-    requires creates { All IsCreate log.now.entries }
+    requires judged { All IsJudged log.now.entries }
     requires count { length log.now.entries ≤ 4096 }
     // At every sound tree and all leases that agree with the reads, the entries come to this outcome one by one.
     ensures known { IfOk result (λ walk. (client : ClientRow) × IsRowOf (clients_of view.now) log.now.client client × ((source : List ℕ) (tree : Tree ℕ) (held : ℕ → Bool) → Fits client tree (map (entry_of source) log.now.entries) → Agrees walk.reads.entries (seen_in tree held) → ComesToTree client held tree (map (entry_of source) log.now.entries) walk.outcome)) }
@@ -64,7 +64,7 @@ fn walk_entries<A: Allocator + Copy>(
     log: &Log<A>,
 ) -> Result<Walk<A>, AllocError>
     requires client { IsSome (row_of (clients_of view.now) log.now.client) }
-    requires creates { All IsCreate log.now.entries }
+    requires judged { All IsJudged log.now.entries }
     requires count { length log.now.entries ≤ 4096 }
     // In every state that agrees with the reads, the run over its cells comes to this outcome.
     ensures known { IfOk result (λ walk. (client : ClientRow) × IsRowOf (clients_of view.now) log.now.client client × Always walk.reads.entries (λ state. (source : List ℕ) → ComesTo client state (map (entry_of source) log.now.entries) walk.outcome)) }
@@ -93,7 +93,7 @@ fn enter_all<A: Allocator + Copy>(
     scene: &mut Scene<'_, A>,
     entries: &[Entry<Span>],
 ) -> Result<Option<EntryFault>, AllocError>
-    requires creates { All IsCreate entries.now }
+    requires judged { All IsJudged entries.now }
     requires count { length entries.now ≤ 4096 }
     requires shown { (s : Sight) → over scene.old.draft s ≡ s }
     requires created { (n : ℕ) → has_created scene.old.draft n ≡ false }

@@ -4,13 +4,13 @@ use Rattle.std.specs.Prelude.{nat_lt, zip}
 use Rattle.std.specs.List.{list_all}
 use Rattle.std.proofs.lemmas.Bool.{and_parts, eqb-false, le-ltb}
 use Rattle.kfs_model.specs.Header.{Kind, File, Directory, Header}
-use Rattle.kfs_model.specs.Table.{get, empty, retain, numbers, same_table, same_entries_table, get-mapped, get-retain}
+use Rattle.kfs_model.specs.Table.{get, insert, empty, retain, numbers, same_table, same_entries_table, get-mapped, get-retain}
 use Rattle.kfs_model.specs.Tree.{Tree, Node, Body, Cells, Names, headers, header_of, target, cells_of, name_count}
 use Rattle.kfs_model.specs.Sight.{sight, is_directory, is_file}
 use Rattle.kfs_model.specs.Soundness.{IsSound}
 use Rattle.kfs_model.specs.Entry.{Entry, Create, Write, Truncate, Link, Unlink, Rename, Chmod}
 use Rattle.kfs_model.specs.Check.{Reason, first_fault}
-use Rattle.kfs_model.specs.Effect.{effect, change_of, swept}
+use Rattle.kfs_model.specs.Effect.{effect, change_of, changed_node, swept}
 use Rattle.kfs_model.specs.Run.{Mark, Scene, EntryFault, run_from, bytes, spot, created_by, byte_of, looked_up}
 use Rattle.kfs_model.specs.Plan.{header_now, is_base, AreDifferences}
 use Rattle.kfs_model.specs.Placement.{written_blocks, need}
@@ -33,39 +33,47 @@ use Rattle.kfs_image.specs.Contents.{Contents}
 use Rattle.kfs_image.specs.ShownTree.{tree_of, IsLawful}
 use Rattle.kfs_image.proofs.BlankTrees.{IsBlank, blank_is_shown, blank_is_lawful, shown_zero}
 use Rattle.kfs_image.proofs.NetTables.{contents_in, net_makes}
-use Rattle.kfs_judge.specs.Creations.{is_creation}
+use Rattle.kfs_judge.specs.JudgedEntries.{is_judged}
 use Rattle.kfs_judge.specs.Rows.{keyed_node_row}
 use Rattle.kfs_judge.specs.Judging.{IsVerdict, Tells, TellsYes}
 use Rattle.kfs_judge.specs.declared.plan.Outcome.{Outcome}
 use Rattle.kfs_judge.specs.declared.plan.Outcome.TheVariants as outcomes
-use Rattle.kfs_judge.proofs.MarkedCreates.{IsUntouched, ends_beside}
+use Rattle.kfs_judge.proofs.MarkedRuns.{IsUntouched, ends_beside}
 use Rattle.kfs_judge.proofs.Untouched.{need-untouched}
-use Rattle.kfs_judge.proofs.PlanChecked.{creations}
+use Rattle.kfs_judge.proofs.PlanChecked.{all_judged}
 use Rattle.kfs_program.specs.Landing.{CanLand, answer_at, image_after}
 use Rattle.kfs_program.specs.Machine.{Shown, IsInOrder, IsStep, IsDone, Means, state_of}
 
--- ---- Creates take no name away
+-- ---- no judged entry takes a name away
 
-create_keeps_name : (scene : Scene) (index : ℕ) (created : List ℕ) (t : Tree ℕ) (entry : Entry) → is_creation entry ≡ true → first_fault (spot scene (sight t) created) entry ≡ None
+-- another node has the names that were there
+changed_names : (t : Tree ℕ) (n : ℕ) (change : Node ℕ → Node ℕ) → (changed_node change n t).names ≡ t.names
+changed_names t n change = by (get t.nodes n)
+  where
+    by : (found : Option (Node ℕ)) → (elim found as (λ _. Tree ℕ) [ None ↦ t | Some node ↦ record { nodes = insert t.nodes n (change node); names = t.names } ]).names ≡ t.names
+    by None = refl
+    by (Some node) = refl
+
+entry_keeps_name : (scene : Scene) (index : ℕ) (created : List ℕ) (t : Tree ℕ) (entry : Entry) → is_judged entry ≡ true → first_fault (spot scene (sight t) created) entry ≡ None
     → (d : ℕ) (m : List ℕ) (n : ℕ) → target t.names d m ≡ Some n → target (effect bytes scene.client index entry t).names d m ≡ Some n
 unfolding change_of swept
-create_keeps_name scene index created t (Create e k number kind mode) is clean d m n there =
+entry_keeps_name scene index created t (Create e k number kind mode) is clean d m n there =
     kept_target t.names e k number (create_facts (spot scene (sight t) created) e k number kind mode clean).free_name d m n there
-create_keeps_name scene index created t (Write number offset payload) is clean d m n there = cc
-create_keeps_name scene index created t (Truncate number size) is clean d m n there = cc
-create_keeps_name scene index created t (Link number e k) is clean d m n there = cc
-create_keeps_name scene index created t (Unlink e k kind) is clean d m n there = cc
-create_keeps_name scene index created t (Rename e k f l) is clean d m n there = cc
-create_keeps_name scene index created t (Chmod number mode) is clean d m n there = cc
+entry_keeps_name scene index created t (Write number offset payload) is clean d m n there = cc
+entry_keeps_name scene index created t (Truncate number size) is clean d m n there = cc
+entry_keeps_name scene index created t (Link number e k) is clean d m n there = cc
+entry_keeps_name scene index created t (Unlink e k kind) is clean d m n there = cc
+entry_keeps_name scene index created t (Rename e k f l) is clean d m n there = cc
+entry_keeps_name scene index created t (Chmod number mode) is clean d m n there = ap (λ names. target names d m) (changed_names t number (λ node. record node { mode = mode })) ∙ there
 
-names_stay : (scene : Scene) (index : ℕ) (created : List ℕ) (t : Tree ℕ) (entries : List Entry) → list_all is_creation entries ≡ true → (after : Tree ℕ) → run_from bytes scene index created t entries ≡ Ok after
+names_stay : (scene : Scene) (index : ℕ) (created : List ℕ) (t : Tree ℕ) (entries : List Entry) → list_all is_judged entries ≡ true → (after : Tree ℕ) → run_from bytes scene index created t entries ≡ Ok after
     → (d : ℕ) (m : List ℕ) (n : ℕ) → target t.names d m ≡ Some n → target after.names d m ≡ Some n
 unfolding run_from
 names_stay scene index created t [] are after ran d m n there = let same : t ≡ after = cc in subst (λ (u : Tree ℕ). target u.names d m ≡ Some n) same there
 names_stay scene index created t (entry ∷ entries) are after ran d m n there =
     let (is, rest) = and_parts _ _ are in
     by_fault
-    (λ later clean. names_stay scene (index + 1) (created_by entry created) (effect bytes scene.client index entry t) entries rest after later d m n (create_keeps_name scene index created t entry is clean d m n there))
+    (λ later clean. names_stay scene (index + 1) (created_by entry created) (effect bytes scene.client index entry t) entries rest after later d m n (entry_keeps_name scene index created t entry is clean d m n there))
     (first_fault (spot scene (sight t) created) entry) refl ran
   where
     by_fault : (run_from bytes scene (index + 1) (created_by entry created) (effect bytes scene.client index entry t) entries ≡ Ok after → first_fault (spot scene (sight t) created) entry ≡ None → target after.names d m ≡ Some n)
@@ -122,12 +130,12 @@ module _ (desk : Shown) (order : IsInOrder desk) (lawful : IsLawful desk.image.c
     abbrev scene : Scene
     scene = scene_of s yes.client
 
-    are_creations : list_all is_creation entries ≡ true
-    are_creations = creations submission.log log.entries yes.spelled.creates
+    are_judged : list_all is_judged entries ≡ true
+    are_judged = all_judged submission.log log.entries yes.spelled.judged
 
     untouched : IsUntouched marked_after
     untouched =
-        let beside = ends_beside scene s.tree entries are_creations after yes.comes.ran in
+        let beside = ends_beside scene s.tree entries are_judged after yes.comes.ran in
         let same : beside.marked_after ≡ marked_after = cc (beside.ran, yes.comes.ran_marked) in
         subst IsUntouched same beside.untouched
 
@@ -181,7 +189,7 @@ module _ (desk : Shown) (order : IsInOrder desk) (lawful : IsLawful desk.image.c
     stays_node : (client number : ℕ) → IsTrue (is_some (get desk.leases.rows (client, number))) → is_some (get (headers after) number) ≡ true
     stays_node client number leased =
         let before = subst (λ heads. is_some (get heads number) ≡ true) (sym lawful.counted) (order.on_nodes client number leased) in
-        heads_stay s.tree after lawful.sound yes.comes.sound (names_stay scene 0 [] s.tree entries are_creations after yes.comes.ran) number before
+        heads_stay s.tree after lawful.sound yes.comes.sound (names_stay scene 0 [] s.tree entries are_judged after yes.comes.ran) number before
 
     leases_stay : leases_after s after ≡ desk.leases
     unfolding without_gone

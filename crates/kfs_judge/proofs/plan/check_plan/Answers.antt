@@ -2,11 +2,11 @@
 use Rattle.std.proofs.Common.{◌≡◌, map, Ok, sym, ap, ◌∙◌}
 use Rattle.std.specs.Result.{result_copied}
 use Rattle.kfs_entry.specs.Views.{entry_of}
-use Rattle.kfs_judge.proofs.PlanChecked.{walk_is_checked, creations}
+use Rattle.kfs_judge.proofs.PlanChecked.{walk_is_checked, all_judged}
 use Rattle.kfs_judge.proofs.plan.check_plan.Goals as goal
 
 pub returns : goal.returns
 returns g c client walk are source tree held fits agrees =
     let is : c.args.walk.now.outcome ≡ Ok c.unwrap-net.result.now = sym c.as_ref.ensures.value ∙ ap result_copied c.unwrap-net.ensures in
     walk_is_checked client held tree (map (entry_of source) c.args._log.now.entries) c.args.walk.now.outcome c.unwrap-net.result.now c.args.plan.now c.check_rows.result
-    (creations source c.args._log.now.entries are) is (walk source tree held fits agrees) c.check_rows.ensures
+    (all_judged source c.args._log.now.entries are) is (walk source tree held fits agrees) c.check_rows.ensures

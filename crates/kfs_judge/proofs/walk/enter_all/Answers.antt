@@ -66,7 +66,7 @@ loop-index-preserved g c = record {
       runs_next client c.loop-index.scene.draft c.enter.new.self.draft c.loop-index.scene.recorder.reads.entries c.enter.new.self.recorder.reads.entries (map (entry_of source) c.args.entries.now) rest (entry_of source item) c.loop-index.index
       on c.in_ok-reason.ensures.goes.grows
       (λ s a. subst (λ cl. first_fault (spot_of cl c.loop-index.scene.draft s) (entry_of source item) ≡ None) c.loop-index.invariant.client (c.in_ok-reason.ensures.known source s a ∙ ap (option_map reason_of) c.in_default.is))
-      (λ s. subst (λ cl. over c.enter.new.self.draft s ≡ seen_after cl (over c.loop-index.scene.draft s) (entry_of source item)) c.loop-index.invariant.client (c.in_ok-reason.ensures.shown source (ap Ok c.in_default.is) s))
+      (λ s a. subst (λ cl. over c.enter.new.self.draft s.sight ≡ seen_after cl (over c.loop-index.scene.draft s.sight) (entry_of source item)) c.loop-index.invariant.client (c.in_ok-reason.ensures.shown source (ap Ok c.in_default.is) s a))
       (c.in_ok-reason.ensures.created source (ap Ok c.in_default.is));
   looks = λ source.
       let client = c.args.scene.now.client.now in
@@ -78,7 +78,7 @@ loop-index-preserved g c = record {
       on c.in_ok-reason.ensures.goes.grows
       (λ s a. subst (λ cl. first_fault (spot_of cl c.loop-index.scene.draft s) (entry_of source item) ≡ None) c.loop-index.invariant.client (c.in_ok-reason.ensures.known source s a ∙ ap (option_map reason_of) c.in_default.is))
       (λ s a. subst (λ cl. Within c.loop-index.scene.recorder.reads.entries c.enter.new.self.recorder.reads.entries (looked (spot_of cl c.loop-index.scene.draft s) (checks_of (spot_of cl c.loop-index.scene.draft s) (entry_of source item)))) c.loop-index.invariant.client (c.in_ok-reason.ensures.among source s a))
-      (λ s. subst (λ cl. over c.enter.new.self.draft s ≡ seen_after cl (over c.loop-index.scene.draft s) (entry_of source item)) c.loop-index.invariant.client (c.in_ok-reason.ensures.shown source (ap Ok c.in_default.is) s))
+      (λ s a. subst (λ cl. over c.enter.new.self.draft s.sight ≡ seen_after cl (over c.loop-index.scene.draft s.sight) (entry_of source item)) c.loop-index.invariant.client (c.in_ok-reason.ensures.shown source (ap Ok c.in_default.is) s a))
       (c.in_ok-reason.ensures.created source (ap Ok c.in_default.is))
       (λ s a among written. subst (λ cl. IsWritten c.enter.new.self.draft (looked (spot_of cl c.loop-index.scene.draft s) (checks_of (spot_of cl c.loop-index.scene.draft s) (entry_of source item)) ++ among)) c.loop-index.invariant.client (c.in_ok-reason.ensures.written source (ap Ok c.in_default.is) s a among written));
 }

@@ -1,4 +1,4 @@
--- Entries that make nodes, run over marks: the run ends where the run over bytes does, and each byte stays as it was.
+-- The judged entries, run over marks: the run ends where the run over bytes does, and each byte stays as it was.
 use Rattle.std.specs.Prelude.{◌≡◌, ℕ, ◌+◌, ◌==◌, ◌||◌, Bool, true, false, cond, List, [], ◌∷◌, Option, Some, None, option_map, Result, Ok, Err, refl}
 use Rattle.std.specs.List.{list_all}
 use Rattle.std.specs.Ordering.{eq_by_cmp}
@@ -16,7 +16,7 @@ use Rattle.kfs_model.specs.Run.{Mark, Base, Scene, EntryFault, run, run_from, by
 use Rattle.kfs_model.specs.Plan.{is_base}
 use Rattle.kfs_model.proofs.Cells.{recut, headers-recut}
 use Rattle.kfs_model.proofs.Marks.{marks_give_bytes}
-use Rattle.kfs_judge.specs.Creations.{is_creation}
+use Rattle.kfs_judge.specs.JudgedEntries.{is_judged}
 
 -- each byte of each file is as it was before the log
 pub record IsUntouched (t : Tree Mark) : Type 0 where
@@ -44,6 +44,16 @@ marked-untouched t = record { cells = λ n. ap (λ o. list_all is_base (cells_of
 
 -- ---- one entry
 
+swept-untouched : (t : Tree Mark) → IsUntouched t → IsUntouched (swept t)
+unfolding swept
+swept-untouched t untouched =
+    let kept : ℕ → Bool = λ q. (q == 1) || is_named t.names q in
+    record { cells = λ q. ap (λ o. list_all is_base (cells_of o)) (get-retain kept t.nodes q) ∙ by q (kept q) }
+  where
+    by : (q : ℕ) (stays : Bool) → list_all is_base (cells_of (cond stays (get t.nodes q) None)) ≡ true
+    by q true = untouched.cells q
+    by q false = refl
+
 abbrev new_node : Client → Kind → (mode : ℕ) → Node Mark
 new_node client kind mode = record { mode = mode; uid = client.uid; gid = client.gid; body = new_body marks kind }
 
@@ -52,33 +62,51 @@ base_new client File mode = refl
 base_new client Directory mode = refl
 
 module _ (client : Client) (index d : ℕ) (m : List ℕ) (n : ℕ) (kind : Kind) (mode : ℕ) (t : Tree Mark) (untouched : IsUntouched t) where
-  base_after : (q : ℕ) (kept tie : Bool) → list_all is_base (cells_of (cond kept (cond tie (Some (new_node client kind mode)) (get t.nodes q)) None)) ≡ true
-  base_after q false tie = refl
-  base_after q true true = base_new client kind mode
-  base_after q true false = untouched.cells q
+  base_after : (q : ℕ) (tie : Bool) → list_all is_base (cells_of (cond tie (Some (new_node client kind mode)) (get t.nodes q))) ≡ true
+  base_after q true = base_new client kind mode
+  base_after q false = untouched.cells q
 
   create-untouched : IsUntouched (effect marks client index (Create d m n kind mode) t)
-  unfolding change_of swept
-  create-untouched =
-      let kept : ℕ → Bool = λ q. (q == 1) || is_named (insert t.names (d, m) n) q in
-      record {
-        cells = λ q.
-            ap (λ o. list_all is_base (cells_of o)) (get-retain kept (insert t.nodes n (new_node client kind mode)) q ∙ ap (λ o. cond (kept q) o None) (get-insert t.nodes n (new_node client kind mode) q))
-            ∙ base_after q (kept q) (eq_by_cmp numbers.compare q n);
-      }
+  unfolding change_of
+  create-untouched = swept-untouched _ (record {
+    cells = λ q. ap (λ o. list_all is_base (cells_of o)) (get-insert t.nodes n (new_node client kind mode) q) ∙ base_after q (eq_by_cmp numbers.compare q n);
+  })
 
-entry-untouched : (client : Client) (index : ℕ) (entry : Entry) (t : Tree Mark) → is_creation entry ≡ true → IsUntouched t → IsUntouched (effect marks client index entry t)
+module _ (client : Client) (index n mode : ℕ) (t : Tree Mark) (untouched : IsUntouched t) where
+  -- a node of another mode has the bytes that it had
+  base_same : (node : Node Mark) → list_all is_base (cells_of (Some node)) ≡ true → list_all is_base (cells_of (Some (record node { mode = mode }))) ≡ true
+  base_same node all = by node.body all
+    where
+      by : (body : Body Mark) → list_all is_base (cells_of (Some (record node { body = body }))) ≡ true → list_all is_base (cells_of (Some (record node { mode = mode; body = body }))) ≡ true
+      by (Cells cells) all' = all'
+      by Names all' = refl
+
+  changed-untouched : (found : Option (Node Mark)) → get t.nodes n ≡ found → IsUntouched (elim found as (λ _. Tree Mark) [ None ↦ t | Some node ↦ record { nodes = insert t.nodes n (record node { mode = mode }); names = t.names } ])
+  changed-untouched None is = untouched
+  changed-untouched (Some node) is =
+      let here = base_same node (subst (λ o. list_all is_base (cells_of o) ≡ true) is (untouched.cells n)) in
+      record { cells = λ q. ap (λ o. list_all is_base (cells_of o)) (get-insert t.nodes n (record node { mode = mode }) q) ∙ by q (eq_by_cmp numbers.compare q n) here }
+    where
+      by : (q : ℕ) (tie : Bool) → list_all is_base (cells_of (Some (record node { mode = mode }))) ≡ true → list_all is_base (cells_of (cond tie (Some (record node { mode = mode })) (get t.nodes q))) ≡ true
+      by q true here = here
+      by q false here = untouched.cells q
+
+  chmod-untouched : IsUntouched (effect marks client index (Chmod n mode) t)
+  unfolding change_of
+  chmod-untouched = swept-untouched _ (changed-untouched (get t.nodes n) refl)
+
+entry-untouched : (client : Client) (index : ℕ) (entry : Entry) (t : Tree Mark) → is_judged entry ≡ true → IsUntouched t → IsUntouched (effect marks client index entry t)
 entry-untouched client index (Create d m n kind mode) t is untouched = create-untouched client index d m n kind mode t untouched
 entry-untouched client index (Write n offset payload) t is untouched = cc
 entry-untouched client index (Truncate n size) t is untouched = cc
 entry-untouched client index (Link n d m) t is untouched = cc
 entry-untouched client index (Unlink d m kind) t is untouched = cc
 entry-untouched client index (Rename d m e k) t is untouched = cc
-entry-untouched client index (Chmod n mode) t is untouched = cc
+entry-untouched client index (Chmod n mode) t is untouched = chmod-untouched client index n mode t untouched
 
 -- ---- a run
 
-run-untouched : (scene : Scene) (index : ℕ) (created : List ℕ) (t : Tree Mark) (entries : List Entry) → list_all is_creation entries ≡ true → IsUntouched t → (after : Tree Mark) → run_from marks scene index created t entries ≡ Ok after → IsUntouched after
+run-untouched : (scene : Scene) (index : ℕ) (created : List ℕ) (t : Tree Mark) (entries : List Entry) → list_all is_judged entries ≡ true → IsUntouched t → (after : Tree Mark) → run_from marks scene index created t entries ≡ Ok after → IsUntouched after
 unfolding run_from
 run-untouched scene index created t [] are untouched after ran = let same : t ≡ after = cc in subst IsUntouched same untouched
 run-untouched scene index created t (entry ∷ entries) are untouched after ran =
@@ -103,7 +131,7 @@ ended : (byte : Mark → ℕ) (after : Tree ℕ) (ran : Result (Tree Mark) Entry
 ended byte after (Ok end) is = (end, refl, cc)
 ended byte after (Err fault) is = cc
 
-pub ends_beside : (scene : Scene) (before : Tree ℕ) (entries : List Entry) → list_all is_creation entries ≡ true → (after : Tree ℕ) → run bytes scene before entries ≡ Ok after → EndsBeside scene before entries after
+pub ends_beside : (scene : Scene) (before : Tree ℕ) (entries : List Entry) → list_all is_judged entries ≡ true → (after : Tree ℕ) → run bytes scene before entries ≡ Ok after → EndsBeside scene before entries after
 ends_beside scene before entries are after ran =
     let byte = byte_of before entries in
     let (end, is, same) = ended byte after (run marks scene (marked before) entries) (marks_give_bytes scene before entries ∙ ran) in
