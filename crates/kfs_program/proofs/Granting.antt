@@ -1,57 +1,30 @@
--- A lease that is granted is the machine's step, and is on a node.
-use Rattle.std.proofs.Common.{◌≡◌, ℕ, ◌+◌, ◌≤◌, Bool, true, false, cond, List, [], ◌∷◌, Option, Some, None, is_some, IsTrue, Result, Ok, Err, refl, sym, ap, subst, ◌∙◌}
-use Rattle.std.specs.Prelude.{nat_le}
+-- A call for the leases is the machine's step, and leaves each lease on a node.
+use Rattle.std.proofs.Common.{◌≡◌, ℕ, ◌≤◌, Bool, true, false, cond, List, Option, Some, None, is_some, IsTrue, Result, Ok, Err, refl, sym, ap, subst, ◌∙◌}
+use Rattle.std.specs.Prelude.{nat_le, nat_lt, is_none, not}
 use Rattle.std.specs.declared.cmp.Ordering.{Ordering}
 use Rattle.std.specs.declared.cmp.Ordering.TheVariants.{Less, Equal, Greater}
-use Rattle.std.specs.Ordering.{is_eq}
-use Rattle.kfs_model.specs.Access.{Client, Search, may_header}
-use Rattle.kfs_model.specs.Header.{Header}
+use Rattle.std.specs.Ordering.{is_eq, eq_by_cmp}
+use Rattle.kfs_model.specs.Access.{Client}
 use Rattle.kfs_model.specs.Check.{is_some_and}
-use Rattle.kfs_model.specs.Table.{numbers, pairs, get, insert, get-insert}
+use Rattle.kfs_model.specs.Table.{numbers, pairs, get, insert, remove, retain, get-insert, get-retain}
 use Rattle.kfs_model.specs.Tree.{Tree, headers}
-use Rattle.kfs_model.specs.Sight.{sight, is_directory}
+use Rattle.kfs_model.specs.Sight.{sight}
 use Rattle.kfs_model.specs.Soundness.{IsSound}
-use Rattle.kfs_model.specs.Lease.{Lease, LeaseKind, LeaseFault, Leases, Outcome, NotDirectory, NoSearch, NoSuchName, row_of, names_of, walked, in_conflict, refused, granted, granted_on, granted_by_walk, granted_at, Past, LeaseHeld, UnknownClient}
+use Rattle.kfs_model.specs.Lease.{Lease, LeaseKind, LeaseFault, Leases, Outcome, row_of, names_of, walked, in_conflict, refused, granted, granted_on, granted_by_walk, granted_at, dropped, ticked, is_live, Past, LeaseHeld, UnknownClient, NoLeaseHeld, Backwards}
 use Rattle.kfs_model.specs.Judgement.{State}
-use Rattle.kfs_model.specs.Machine.{with_leases}
+use Rattle.kfs_model.specs.Machine.{Leased, Steps, with_leases}
+use Rattle.kfs_lease.specs.Rows.{kind_of}
+use Rattle.kfs_lease.proofs.WalkedNode.{walked_to_node}
 use Rattle.kfs_lease.specs.declared.leases.LeaseFault.{LeaseFault as CodeFault}
 use Rattle.kfs_image.specs.ShownTree.{tree_of, IsLawful}
-use Rattle.kfs_program.specs.Machine.{Shown, IsInOrder, IsGrant, IsLeaseStep}
+use Rattle.kfs_program.specs.declared.answers.Act.{Act}
+use Rattle.kfs_program.specs.declared.answers.Act.TheVariants as acts
+use Rattle.kfs_program.specs.declared.answers.Done.{Done}
+use Rattle.kfs_program.specs.Machine.{Shown, IsInOrder, IsChange, IsLeaseStep, call_of, done_by, outcome_at}
 
 module _ (t : Tree ℕ) (sound : IsSound t) where
   abbrev IsNode : ℕ → Type 0
   IsNode n = IsTrue (is_some (get (headers t) n))
-
-  root_is_node : IsNode 1
-  root_is_node = by (get (headers t) 1) sound.root
-    where
-      by : (o : Option Header) → IsTrue (is_directory o) → IsTrue (is_some o)
-      by None is = cc
-      by (Some h) is = refl
-
-  -- a walk that ends comes to a node
-  walk_ends : (client : Client) (node component : ℕ) (names : List (List ℕ)) (n : ℕ) → IsNode node → walked (sight t) client node component names ≡ Ok n → IsNode n
-  unfolding walked
-  walk_ends client node component [] n there is = let same : node ≡ n = cc in subst IsNode same there
-  walk_ends client node component (name ∷ names) n there is =
-      by_kind
-      (λ next leads ends. walk_ends client next (component + 1) names n (ap is_some (sound.names_sound node name next leads).node.1) ends)
-      (is_directory ((sight t).head node)) is
-    where
-      by_name : ((next : ℕ) → (sight t).name node name ≡ Some next → walked (sight t) client next (component + 1) names ≡ Ok n → IsNode n) → (o : Option ℕ) → (sight t).name node name ≡ o
-          → ◌≡◌ {A = Result ℕ LeaseFault} (elim o [ None ↦ Err (NoSuchName component) | Some next ↦ walked (sight t) client next (component + 1) names ]) (Ok n) → IsNode n
-      by_name rest None leads is' = cc
-      by_name rest (Some next) leads is' = rest next leads is'
-
-      by_search : ((next : ℕ) → (sight t).name node name ≡ Some next → walked (sight t) client next (component + 1) names ≡ Ok n → IsNode n) → (b : Bool)
-          → ◌≡◌ {A = Result ℕ LeaseFault} (elim b [ false ↦ Err (NoSearch component) | true ↦ elim ((sight t).name node name) [ None ↦ Err (NoSuchName component) | Some next ↦ walked (sight t) client next (component + 1) names ] ]) (Ok n) → IsNode n
-      by_search rest false is' = cc
-      by_search rest true is' = by_name rest ((sight t).name node name) refl is'
-
-      by_kind : ((next : ℕ) → (sight t).name node name ≡ Some next → walked (sight t) client next (component + 1) names ≡ Ok n → IsNode n) → (b : Bool)
-          → ◌≡◌ {A = Result ℕ LeaseFault} (elim b [ false ↦ Err (NotDirectory component) | true ↦ elim (is_some_and ((sight t).head node) (λ h. may_header client h Search)) [ false ↦ Err (NoSearch component) | true ↦ elim ((sight t).name node name) [ None ↦ Err (NoSuchName component) | Some next ↦ walked (sight t) client next (component + 1) names ] ] ]) (Ok n) → IsNode n
-      by_kind rest false is' = cc
-      by_kind rest true is' = by_search rest (is_some_and ((sight t).head node) (λ h. may_header client h Search)) is'
 
   module _ (leases : Leases) (on_nodes : (client number : ℕ) → IsTrue (is_some (get leases.rows (client, number))) → IsNode number) where
     -- every lease of the outcome is on a node
@@ -84,7 +57,7 @@ module _ (t : Tree ℕ) (sound : IsSound t) where
       where
         by_walk : (client : Client) (names : List (List ℕ)) (came : Result ℕ LeaseFault) → walked (sight t) client 1 0 names ≡ came → KeepsToNodes (granted_by_walk leases came client kind end)
         by_walk client names (Err fault) is = on_nodes
-        by_walk client names (Ok n) is = at_keeps client n kind end (walk_ends client 1 0 names n root_is_node is)
+        by_walk client names (Ok n) is = at_keeps client n kind end (walked_to_node t sound client names n is)
 
         by_path : (client : Client) (names : Option (List (List ℕ))) → KeepsToNodes (granted_on leases (sight t) names client kind end)
         by_path client None = on_nodes
@@ -94,26 +67,59 @@ module _ (t : Tree ℕ) (sound : IsSound t) where
         by_client None = on_nodes
         by_client (Some client) = by_path client (names_of path)
 
+    -- ---- drop and tick take leases away alone
+
+    some_of : (stays : Bool) (found : Option Lease) → is_some (cond stays found None) ≡ true → is_some found ≡ true
+    some_of true found some = some
+    some_of false found some = cc
+
+    fewer_keeps : (stays : ℕ × ℕ → Bool) (moment : ℕ) (told : Result ℕ LeaseFault) → KeepsToNodes (told, record { rows = retain stays leases.rows; moment = moment })
+    fewer_keeps stays moment told client number leased =
+        on_nodes client number (some_of (stays (client, number)) (get leases.rows (client, number)) (ap is_some (sym (get-retain stays leases.rows (client, number))) ∙ leased))
+
+    dropped_keeps : (clients : List Client) (client number : ℕ) → KeepsToNodes (dropped leases clients client number)
+    unfolding dropped remove
+    dropped_keeps clients client number = by (is_none (row_of clients client)) (is_none (get leases.rows (client, number)))
+      where
+        by : (unknown none : Bool) → KeepsToNodes (cond unknown (refused UnknownClient leases) (cond none (refused NoLeaseHeld leases) (Ok number, record leases { rows = remove leases.rows (client, number) })))
+        by true none = on_nodes
+        by false true = on_nodes
+        by false false = fewer_keeps (λ key. not (eq_by_cmp (pairs numbers numbers).compare (client, number) key)) leases.moment (Ok number)
+
+    ticked_keeps : (moment : ℕ) → KeepsToNodes (ticked leases moment)
+    unfolding ticked
+    ticked_keeps moment = by (nat_lt moment leases.moment)
+      where
+        by : (back : Bool) → KeepsToNodes (cond back (refused Backwards leases) (Ok moment, record { rows = retain (λ key. is_some_and (get leases.rows key) (is_live moment)) leases.rows; moment = moment }))
+        by true = on_nodes
+        by false = fewer_keeps (λ key. is_some_and (get leases.rows key) (is_live moment)) moment (Ok moment)
+
+    act_keeps : (clients : List Client) (act : Act) → KeepsToNodes (outcome_at leases (sight t) clients act)
+    act_keeps clients (acts.Lease client path kind end) = granted_keeps clients client path.now (kind_of kind) end
+    act_keeps clients (acts.Drop client number) = dropped_keeps clients client number
+    act_keeps clients (acts.Tick moment) = ticked_keeps moment
+
 -- ---- the step
 
-pub grant_is_step : (s : State) (client : ℕ) (path : List ℕ) (kind : LeaseKind) (end : ℕ) (answer : Result ℕ CodeFault) (new : Leases) → IsGrant (granted s.leases (sight s.tree) s.clients client path kind end) answer new
-    → IsLeaseStep s client path kind end answer (with_leases s new)
-grant_is_step s client path kind end answer new is = record {
-  outcome = is.told;
-  said = is.said;
-  steps = (ap (λ (o : Outcome). o.0) (sym is.is), ap (λ (o : Outcome). with_leases s o.1) (sym is.is));
-}
+module _ (act : Act) (answer : Result Done CodeFault) (new : Leases) where
+  pub change_is_step : (s : State) → IsChange (outcome_at s.leases (sight s.tree) s.clients act) (done_by act) answer new → IsLeaseStep s (call_of act) (done_by act) answer (with_leases s new)
+  change_is_step s is = record { outcome = is.told; said = is.said; steps = by act is.is }
+    where
+      by : (a : Act) → outcome_at s.leases (sight s.tree) s.clients a ≡ (is.told, new) → Steps s (call_of a) (Leased is.told) (with_leases s new)
+      by (acts.Lease client path kind end) same = (ap (λ (o : Outcome). o.0) (sym same), ap (λ (o : Outcome). with_leases s o.1) (sym same))
+      by (acts.Drop client number) same = (ap (λ (o : Outcome). o.0) (sym same), ap (λ (o : Outcome). with_leases s o.1) (sym same))
+      by (acts.Tick moment) same = (ap (λ (o : Outcome). o.0) (sym same), ap (λ (o : Outcome). with_leases s o.1) (sym same))
 
--- the desk keeps its order
-pub grant_in_order : (desk : Shown) → IsInOrder desk → IsLawful desk.image.contents → (clients : List Client) (client : ℕ) (path : List ℕ) (kind : LeaseKind) (end : ℕ) (answer : Result ℕ CodeFault) (new : Leases)
-    → IsGrant (granted desk.leases (sight (tree_of desk.image.contents)) clients client path kind end) answer new → (rows : ℕ) → rows ≤ desk.limit → IsInOrder (record desk { leases = new; rows = rows })
-grant_in_order desk order lawful clients client path kind end answer new is rows within = record {
-  within_limit = within;
-  distinct = order.distinct;
-  on_nodes = λ holder number leased.
-      let on_nodes : (holder number : ℕ) → IsTrue (is_some (get desk.leases.rows (holder, number))) → IsTrue (is_some (get (headers (tree_of desk.image.contents)) number)) =
-      λ holder number leased. subst (λ heads. IsTrue (is_some (get heads number))) (sym lawful.counted) (order.on_nodes holder number leased) in
-      let before = subst (λ (l : Leases). IsTrue (is_some (get l.rows (holder, number)))) (sym (ap (λ (o : Outcome). o.1) is.is)) leased in
-      subst (λ heads. IsTrue (is_some (get heads number))) lawful.counted
-      (granted_keeps (tree_of desk.image.contents) lawful.sound desk.leases on_nodes clients client path kind end holder number before);
-}
+  -- the desk keeps its order
+  pub change_in_order : (desk : Shown) → IsInOrder desk → IsLawful desk.image.contents → (clients : List Client) → IsChange (outcome_at desk.leases (sight (tree_of desk.image.contents)) clients act) (done_by act) answer new
+      → (rows : ℕ) → rows ≤ desk.limit → IsInOrder (record desk { leases = new; rows = rows })
+  change_in_order desk order lawful clients is rows within = record {
+    within_limit = within;
+    distinct = order.distinct;
+    on_nodes = λ holder number leased.
+        let on_nodes : (holder number : ℕ) → IsTrue (is_some (get desk.leases.rows (holder, number))) → IsTrue (is_some (get (headers (tree_of desk.image.contents)) number)) =
+        λ holder number leased. subst (λ heads. IsTrue (is_some (get heads number))) (sym lawful.counted) (order.on_nodes holder number leased) in
+        let before = subst (λ (l : Leases). IsTrue (is_some (get l.rows (holder, number)))) (sym (ap (λ (o : Outcome). o.1) is.is)) leased in
+        subst (λ heads. IsTrue (is_some (get heads number))) lawful.counted
+        (act_keeps (tree_of desk.image.contents) lawful.sound desk.leases on_nodes clients act holder number before);
+  }

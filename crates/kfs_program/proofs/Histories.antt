@@ -1,15 +1,26 @@
 -- One submission more at the front of those that were handed in.
-use Rattle.std.proofs.Common.{◌≡◌, List, ◌∷◌, Result, Ok, Err, subst}
-use Rattle.std.specs.Prelude.{IfOk, OnErr}
-use Rattle.kfs_model.specs.Judgement.{State}
-use Rattle.kfs_judge.specs.Judging.{submission_of}
+use Rattle.std.proofs.Common.{◌≡◌, ◌↔◌, ◌+◌, List, ◌∷◌, Result, Ok, Err, refl, ap, subst, ◌∙◌}
+use Rattle.std.specs.Prelude.{IfOk, OnErr, IsErrOf}
+use Rattle.kfs_judge.specs.Judging.{HasOtherEntry, submission_of}
 use Rattle.kfs_judge.specs.declared.plan.Submission.{Submission}
 use Rattle.kfs_program.specs.declared.answers.Reply.{Reply}
 use Rattle.kfs_program.specs.declared.answers.Unanswered.{Unanswered}
-use Rattle.kfs_program.specs.Machine.{Shown, IsStep, Means, RunsThrough, state_of}
+use Rattle.kfs_program.specs.declared.answers.Unanswered.TheVariants.{OutOfMemory, DocketFull, OtherEntry}
+use Rattle.kfs_program.specs.Docket.{position_of}
+use Rattle.kfs_program.specs.Machine.{Shown, IsStep, IsWhy, Means, RunsThrough, state_of}
 
-pub runs_first : {A : Type 0} (old new : Shown) (submission : Submission A) (submissions : List (Submission A)) (answer : Result Reply Unanswered) (answers : List (Result Reply Unanswered)) (t : State)
-    → IfOk answer (λ reply. IsStep (state_of old) (submission_of submission) reply (state_of new)) → IfOk answer (λ reply. Means (state_of old) (submission_of submission) reply (state_of new)) → OnErr answer (new ≡ old)
-    → RunsThrough (state_of new) submissions answers t → RunsThrough (state_of old) (submission ∷ submissions) (answer ∷ answers) t
-runs_first old new submission submissions (Ok reply) answers t step meaning same rest = (state_of new, step, meaning, rest)
-runs_first old new submission submissions (Err why) answers t step meaning same rest = subst (λ (d : Shown). RunsThrough (state_of d) submissions answers t) same rest
+module _ {A : Type 0} (old : Shown) (submission : Submission A) where
+  -- what isn't answered has its reason
+  why_not : (why : Unanswered) → ◌↔◌ (IsErrOf {T = Reply} (Err why) DocketFull) (old.rows ≡ old.limit) → (IsErrOf {T = Reply} (Err why) OtherEntry → HasOtherEntry submission.log.items) → IsWhy old submission.log.items why
+  why_not DocketFull full other = full.0 refl
+  why_not OtherEntry full other = (λ at_limit. let never : ◌≡◌ {A = Result Reply Unanswered} (Err OtherEntry) (Err DocketFull) = full.1 at_limit in cc, other refl)
+  why_not OutOfMemory full other = λ at_limit. let never : ◌≡◌ {A = Result Reply Unanswered} (Err OutOfMemory) (Err DocketFull) = full.1 at_limit in cc
+
+  pub runs_first : (new : Shown) (submissions : List (Submission A)) (answer : Result Reply Unanswered) (answers : List (Result Reply Unanswered)) (last : Shown)
+      → IfOk answer (λ reply. IsStep (state_of old) (submission_of submission) reply (state_of new)) → IfOk answer (λ reply. Means (state_of old) (submission_of submission) reply (state_of new))
+      → IfOk answer (λ reply. (position_of reply ≡ old.rows) × (new.rows ≡ position_of reply + 1)) → OnErr answer (new ≡ old) → ◌↔◌ (IsErrOf answer DocketFull) (old.rows ≡ old.limit) → (IsErrOf answer OtherEntry → HasOtherEntry submission.log.items) → new.limit ≡ old.limit
+      → RunsThrough new submissions answers last → RunsThrough old (submission ∷ submissions) (answer ∷ answers) last
+  runs_first new submissions (Ok reply) answers last step meaning row same full other limit rest =
+      (new, record { step = step; meaning = meaning; position = row.0; rows = row.1 ∙ ap (λ n. n + 1) row.0; limit = limit }, rest)
+  runs_first new submissions (Err why) answers last step meaning row same full other limit rest =
+      (why_not why full other, subst (λ (d : Shown). RunsThrough d submissions answers last) same rest)

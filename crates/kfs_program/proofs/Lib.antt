@@ -2,3 +2,4 @@ pub mod ClientRows
 pub mod Granting
 pub mod Histories
 pub mod Landing
+pub mod Openings

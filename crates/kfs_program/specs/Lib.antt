@@ -1,5 +1,6 @@
 pub mod Docket
 pub mod Landing
 pub mod Machine
+pub mod Opening
 pub mod Room
 pub mod Text

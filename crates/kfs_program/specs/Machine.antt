@@ -1,24 +1,32 @@
 -- The desk as a state of the machine, and its calls as the machine's steps.
-use Rattle.std.specs.Prelude.{◌≡◌, ℕ, ◌≤◌, IsTrue, List, [], ◌∷◌, Option, Some, is_some, option_map, Result, Ok, Err}
+use Rattle.std.specs.Prelude.{◌≡◌, ◌≢◌, ℕ, ◌+◌, ◌≤◌, IsTrue, List, [], ◌∷◌, Option, Some, is_some, option_map, Result, Ok, Err}
 use Rattle.kfs_model.specs.Access.{Client}
 use Rattle.kfs_model.specs.Table.{get, empty}
 use Rattle.kfs_model.specs.Entry.{Log}
 use Rattle.kfs_model.specs.Lease.{Leases, row_of}
 use Rattle.kfs_model.specs.Lease as leases
+use Rattle.kfs_model.specs.Sight.{Sight}
 use Rattle.kfs_model.specs.Soundness.{IsSound}
 use Rattle.kfs_model.specs.Spelling.{LogAnswer}
 use Rattle.kfs_model.specs.Judgement.{State, Submission, Reply, Accepted, Refused, scene_of}
-use Rattle.kfs_model.specs.Machine.{Lands, Lease, Leased, OneByOne, Steps}
+use Rattle.kfs_model.specs.Machine.{Lands, Call, Lease, Drop, Tick, Leased, OneByOne, Steps}
 use Rattle.kfs_mode.specs.Clients.{AreDistinct}
 use Rattle.kfs_lease.specs.Faults.{fault_of}
+use Rattle.kfs_lease.specs.Rows.{kind_of}
 use Rattle.kfs_lease.specs.declared.leases.LeaseFault.{LeaseFault}
 use Rattle.kfs_image.specs.Contents.{Shown as ImageShown}
 use Rattle.kfs_image.specs.ShownTree.{tree_of}
-use Rattle.kfs_judge.specs.Judging.{refusal_of, submission_of}
+use Rattle.kfs_judge.specs.Judging.{HasOtherEntry, refusal_of, submission_of}
 use Rattle.kfs_judge.specs.declared.plan.Submission.{Submission as CodeSubmission}
+use Rattle.kfs_program.specs.declared.answers.Act.{Act}
+use Rattle.kfs_program.specs.declared.answers.Act.TheVariants as acts
+use Rattle.kfs_program.specs.declared.answers.Done.{Done}
+use Rattle.kfs_program.specs.declared.answers.Done.TheVariants as dones
 use Rattle.kfs_program.specs.declared.answers.Reply.{Reply as CodeReply}
 use Rattle.kfs_program.specs.declared.answers.Reply.TheVariants as replies
 use Rattle.kfs_program.specs.declared.answers.Unanswered.{Unanswered}
+use Rattle.kfs_program.specs.declared.answers.Unanswered.TheVariants as unanswered
+use Rattle.kfs_program.specs.Docket.{position_of}
 
 -- what contracts see of a desk
 pub record Shown : Type 0 where
@@ -71,30 +79,70 @@ abbrev pub Means : (s : State) → Submission → CodeReply → (t : State) → 
 Means s submission (replies.Yes position rejudged need) t = IsDone s submission t
 Means s submission (replies.No position rejudged fault) t = (t.tree ≡ s.tree) × (t.leases ≡ s.leases)
 
--- One after another: what is answered is a step from the state that the earlier ones left, and means what it says; what
--- isn't answered leaves the state as it was.
-abbrev pub RunsThrough : {A : Type 0} → State → List (CodeSubmission A) → List (Result CodeReply Unanswered) → State → Type 0
-RunsThrough s [] [] t = t ≡ s
-RunsThrough s [] (answer ∷ answers) t = ⊥
-RunsThrough s (submission ∷ submissions) [] t = ⊥
-RunsThrough s (submission ∷ submissions) (Ok reply ∷ answers) t = (next : State) × IsStep s (submission_of submission) reply next × Means s (submission_of submission) reply next × RunsThrough next submissions answers t
-RunsThrough s (submission ∷ submissions) (Err why ∷ answers) t = RunsThrough s submissions answers t
+-- the answer is such a step, means what it says, and adds the docket's row at its position
+pub record IsAnswered (old : Shown) (submission : Submission) (answer : CodeReply) (new : Shown) : Type 0 where
+  pub step : IsStep (state_of old) submission answer (state_of new)
+  pub meaning : Means (state_of old) submission answer (state_of new)
+  pub position : position_of answer ≡ old.rows
+  pub rows : new.rows ≡ old.rows + 1
+  pub limit : new.limit ≡ old.limit
 
--- ---- a lease
+-- why there is no answer: a full docket, that exactly, or else an entry that isn't judged yet, or want of memory
+abbrev pub IsWhy : Shown → (log : List ℕ) → Unanswered → Type 0
+IsWhy desk log unanswered.DocketFull = desk.rows ≡ desk.limit
+IsWhy desk log unanswered.OtherEntry = (desk.rows ≢ desk.limit) × HasOtherEntry log
+IsWhy desk log unanswered.OutOfMemory = desk.rows ≢ desk.limit
 
--- the outcome of the machine, none where a growth was refused
-abbrev pub outcome_of : Result ℕ LeaseFault → Option (Result ℕ leases.LeaseFault)
-outcome_of (Ok number) = Some (Ok number)
-outcome_of (Err fault) = option_map Err (fault_of fault)
+-- One after another: each is answered at the desk that the earlier ones left, or there is a reason at that desk, which then
+-- stays as it is.
+abbrev pub RunsThrough : {A : Type 0} → Shown → List (CodeSubmission A) → List (Result CodeReply Unanswered) → Shown → Type 0
+RunsThrough desk [] [] last = last ≡ desk
+RunsThrough desk [] (answer ∷ answers) last = ⊥
+RunsThrough desk (submission ∷ submissions) [] last = ⊥
+RunsThrough desk (submission ∷ submissions) (Ok reply ∷ answers) last = (next : Shown) × IsAnswered desk (submission_of submission) reply next × RunsThrough next submissions answers last
+RunsThrough desk (submission ∷ submissions) (Err why ∷ answers) last = IsWhy desk submission.log.items why × RunsThrough desk submissions answers last
+
+-- ---- a call for the leases
+
+-- the call that the act is
+abbrev pub call_of : Act → Call
+call_of (acts.Lease client path kind end) = Lease client path.now (kind_of kind) end
+call_of (acts.Drop client number) = Drop client number
+call_of (acts.Tick moment) = Tick moment
+
+-- what the act has done, of a number
+abbrev pub done_by : Act → ℕ → Done
+done_by (acts.Lease client path kind end) = dones.Leased
+done_by (acts.Drop client number) = dones.Dropped
+done_by (acts.Tick moment) = dones.Ticked
+
+-- the number of a node, or the moment
+abbrev pub number_of : Done → ℕ
+number_of (dones.Leased number) = number
+number_of (dones.Dropped number) = number
+number_of (dones.Ticked moment) = moment
+
+-- what the act makes of the leases
+abbrev pub outcome_at : Leases → Sight → List Client → Act → leases.Outcome
+outcome_at table sight clients (acts.Lease client path kind end) = leases.granted table sight clients client path.now (kind_of kind) end
+outcome_at table sight clients (acts.Drop client number) = leases.dropped table clients client number
+outcome_at table sight clients (acts.Tick moment) = leases.ticked table moment
+
+-- the answer tells the outcome: its number in these words, or its refusal
+abbrev pub IsTold : (words : ℕ → Done) → Result Done LeaseFault → Result ℕ leases.LeaseFault → Type 0
+IsTold words (Ok done) (Ok number) = done ≡ words number
+IsTold words (Ok done) (Err refusal) = ⊥
+IsTold words (Err fault) (Ok number) = ⊥
+IsTold words (Err fault) (Err refusal) = fault_of fault ≡ Some refusal
 
 -- the answer and the leases after it are the outcome
-pub record IsGrant (outcome : leases.Outcome) (answer : Result ℕ LeaseFault) (new : Leases) : Type 0 where
+pub record IsChange (outcome : leases.Outcome) (words : ℕ → Done) (answer : Result Done LeaseFault) (new : Leases) : Type 0 where
   pub told : Result ℕ leases.LeaseFault
-  pub said : outcome_of answer ≡ Some told
+  pub said : IsTold words answer told
   pub is : outcome ≡ (told, new)
 
--- the answer is the machine's outcome, and leads to this state
-pub record IsLeaseStep (s : State) (client : ℕ) (path : List ℕ) (kind : leases.LeaseKind) (end : ℕ) (answer : Result ℕ LeaseFault) (t : State) : Type 0 where
+-- the answer tells the machine's outcome of the call in these words, and leads to this state
+pub record IsLeaseStep (s : State) (call : Call) (words : ℕ → Done) (answer : Result Done LeaseFault) (t : State) : Type 0 where
   pub outcome : Result ℕ leases.LeaseFault
-  pub said : outcome_of answer ≡ Some outcome
-  pub steps : Steps s (Lease client path kind end) (Leased outcome) t
+  pub said : IsTold words answer outcome
+  pub steps : Steps s call (Leased outcome) t

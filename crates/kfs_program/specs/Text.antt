@@ -15,9 +15,11 @@ use Rattle.kfs_judge.specs.declared.plan.Fault.{Fault}
 use Rattle.kfs_judge.specs.declared.plan.Fault.TheVariants.{UnknownClient, BadLog, WrongClient, BadPlan, Entry, Row}
 use Rattle.kfs_judge.specs.declared.plan.RowFault.{RowFault}
 use Rattle.kfs_judge.specs.declared.plan.RowFault.TheVariants as row
-use Rattle.kfs_program.specs.declared.answers.Act.{Act}
+use Rattle.kfs_program.specs.declared.answers.ActReply.{ActReply}
 use Rattle.kfs_program.specs.declared.answers.BeginFault.{BeginFault}
 use Rattle.kfs_program.specs.declared.answers.BeginFault.TheVariants as begin
+use Rattle.kfs_program.specs.declared.answers.Done.{Done}
+use Rattle.kfs_program.specs.declared.answers.Done.TheVariants as done
 use Rattle.kfs_program.specs.declared.answers.Reply.{Reply}
 use Rattle.kfs_program.specs.declared.answers.Reply.TheVariants.{Yes, No}
 
@@ -107,12 +109,17 @@ abbrev pub reply_text : Reply → List ℕ
 reply_text (Yes position rejudged need) = head_text position (codes " yes rejudged=") rejudged ++ (codes " need=" ++ decimal need)
 reply_text (No position rejudged fault) = head_text position (codes " no rejudged=") rejudged ++ (codes " " ++ fault_text fault)
 
-abbrev pub act_answer_text : Result ℕ LeaseFault → List ℕ
-act_answer_text (Ok node) = codes " leased " ++ decimal node
+abbrev pub done_text : Done → List ℕ
+done_text (done.Leased node) = codes " leased " ++ decimal node
+done_text (done.Dropped node) = codes " dropped " ++ decimal node
+done_text (done.Ticked moment) = codes " ticked " ++ decimal moment
+
+abbrev pub act_answer_text : Result Done LeaseFault → List ℕ
+act_answer_text (Ok did) = done_text did
 act_answer_text (Err fault) = codes " refused " ++ lease_text fault
 
-abbrev pub act_text : Act → List ℕ
-act_text act = decimal act.position ++ act_answer_text act.answer
+abbrev pub act_text : ActReply → List ℕ
+act_text reply = decimal reply.position ++ act_answer_text reply.answer
 
 abbrev pub kind_text : Kind → List ℕ
 kind_text File = codes " file "

@@ -1,8 +1,8 @@
-//! What the desk answers.
+//! What the desk is asked for and what it answers.
 
 use kfs_image::Image;
 use kfs_judge::plan::{Fault, Submission};
-use kfs_lease::LeaseFault;
+use kfs_lease::{LeaseFault, LeaseKind};
 use kfs_mode::Client;
 use std::alloc::{AllocError, Allocator};
 
@@ -23,12 +23,43 @@ pub enum Reply {
     },
 }
 
-/// The answer to a call for a lease, with its place in the docket: the node's number, or why there
-/// is no lease.
+/// A call of the desk for its leases.
+#[derive(Clone, Copy)]
+pub enum Act<'a> {
+    /// The client asks for a lease on the node of the path, until the moment `end`.
+    Lease {
+        client: u32,
+        path: &'a [u8],
+        kind: LeaseKind,
+        end: u64,
+    },
+    /// The client gives up its lease on the node.
+    Drop {
+        client: u32,
+        number: u32,
+    },
+    /// The moment goes on to this one.
+    Tick {
+        moment: u64,
+    },
+}
+
+/// What a call for the leases has done.
 #[derive(Clone, Copy, Debug, PartialEq, Eq)]
-pub struct Act {
+pub enum Done {
+    /// The client has a lease on the node of this number.
+    Leased(u32),
+    /// The client has no lease any more on the node of this number.
+    Dropped(u32),
+    /// This is the moment, and leases that are no longer live are gone.
+    Ticked(u64),
+}
+
+/// The answer to a call for the leases, with its place in the docket: what was done, or why nothing was.
+#[derive(Clone, Copy, Debug, PartialEq, Eq)]
+pub struct ActReply {
     pub position: u32,
-    pub answer: Result<u32, LeaseFault>,
+    pub answer: Result<Done, LeaseFault>,
 }
 
 /// Why a call of the desk has no place in the docket. The desk is as it was.
@@ -38,7 +69,7 @@ pub enum Unanswered {
     OutOfMemory,
     /// The docket has as many rows as its limit allows.
     DocketFull,
-    /// The log has an entry that isn't judged yet, one other than Create.
+    /// The log has an entry that isn't judged yet.
     OtherEntry,
 }
 

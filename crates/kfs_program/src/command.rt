@@ -1,5 +1,6 @@
 //! The command lines that a session answers.
 
+use crate::answers::Act;
 use crate::words::{Refusal, Words};
 use kfs_entry::{Entry, SpellFault, decode_log};
 use kfs_image::TierSizes;
@@ -20,7 +21,7 @@ pub enum Command<'a, A: Allocator> {
 pub enum OpeningCommand {
     /// `new A B C`: a fresh image over tiers of these sizes.
     New(TierSizes),
-    /// `client N UID GID PRIV FIRST LAST`: one client more, where its row is right.
+    /// `client N UID GID PRIV FIRST LAST [GROUP ..]`: one client more, where its row is right.
     Client(Result<Client, ClientFault>),
     /// `begin LIMIT`: the desk, whose docket has at most this many rows.
     Begin(u32),
@@ -29,13 +30,8 @@ pub enum OpeningCommand {
 /// A command to the desk.
 #[derive(Drop)]
 pub enum DeskCommand<'a, A: Allocator> {
-    /// `lease N PATH K END`: a lease of client N on the node of the path.
-    Lease {
-        client: u32,
-        path: &'a [u8],
-        kind: LeaseKind,
-        end: u64,
-    },
+    /// `lease N PATH K END`, `drop N NUMBER` or `tick M`: a call for the leases.
+    Act(Act<'a>),
     /// `submit N LOG PLAN`: a log and its plan.
     Submit(Submission<A>),
     /// `node N`: the header of a node.
@@ -53,7 +49,9 @@ impl<'a, A: Allocator + Copy> Command<'a, A> {
             b"new" => Command::Opening(read_new(&mut words)?),
             b"client" => Command::Opening(read_client(&mut words)?),
             b"begin" => Command::Opening(OpeningCommand::Begin(words.number()?)),
-            b"lease" => Command::Desk(read_lease(&mut words)?),
+            b"lease" => Command::Desk(DeskCommand::Act(read_lease(&mut words)?)),
+            b"drop" => Command::Desk(DeskCommand::Act(read_drop(&mut words)?)),
+            b"tick" => Command::Desk(DeskCommand::Act(read_tick(&mut words)?)),
             b"submit" => Command::Desk(read_submit(alloc, &mut words)?),
             b"node" => Command::Desk(DeskCommand::Node(words.number()?)),
             b"list" => Command::Desk(DeskCommand::List(words.number()?)),
@@ -70,7 +68,6 @@ fn read_new(words: &mut Words<'_>) -> Result<OpeningCommand, Refusal> {
     Ok(OpeningCommand::New(sizes))
 }
 
-/// Supplementary groups are not read yet: a line with groups is a bad line.
 fn read_client(words: &mut Words<'_>) -> Result<OpeningCommand, Refusal> {
     let number = words.number()?;
     let uid = words.number()?;
@@ -82,24 +79,22 @@ fn read_client(words: &mut Words<'_>) -> Result<OpeningCommand, Refusal> {
     };
     let first = words.number()?;
     let last = words.number()?;
-    let client = Client::new(number, uid, gid, &[], privileged, first, last);
+    // One more than a client can have, so that too many are seen.
+    let groups = words.numbers::<17>()?;
+    let client = Client::new(number, uid, gid, groups.as_slice(), privileged, first, last);
     Ok(OpeningCommand::Client(client))
 }
 
-/// The path `/` alone is read yet: a line with another path is a bad line.
-fn read_lease<'a, A: Allocator>(words: &mut Words<'a>) -> Result<DeskCommand<'a, A>, Refusal> {
+fn read_lease<'a>(words: &mut Words<'a>) -> Result<Act<'a>, Refusal> {
     let client = words.number()?;
     let path = words.word()?;
-    if path != b"/".as_slice() {
-        return Err(Refusal::BadLine);
-    }
     let kind = match words.word()? {
         b"r" => LeaseKind::Read,
         b"w" => LeaseKind::Write,
         _ => return Err(Refusal::BadLine),
     };
     let end = words.number()?;
-    Ok(DeskCommand::Lease {
+    Ok(Act::Lease {
         client,
         path,
         kind,
@@ -107,7 +102,18 @@ fn read_lease<'a, A: Allocator>(words: &mut Words<'a>) -> Result<DeskCommand<'a,
     })
 }
 
-/// Logs of Creates alone are taken yet: a line with another entry is a bad line.
+fn read_drop<'a>(words: &mut Words<'_>) -> Result<Act<'a>, Refusal> {
+    let client = words.number()?;
+    let number = words.number()?;
+    Ok(Act::Drop { client, number })
+}
+
+fn read_tick<'a>(words: &mut Words<'_>) -> Result<Act<'a>, Refusal> {
+    let moment = words.number()?;
+    Ok(Act::Tick { moment })
+}
+
+/// A log with an entry that isn't judged yet is a bad line.
 fn read_submit<'a, A: Allocator + Copy>(
     alloc: A,
     words: &mut Words<'a>,
@@ -116,13 +122,14 @@ fn read_submit<'a, A: Allocator + Copy>(
     let log = words.bytes(alloc)?;
     let plan = words.bytes(alloc)?;
     match decode_log(alloc, &log) {
-        Ok(log) if !log.entries.iter().all(is_create) => return Err(Refusal::BadLine),
+        Ok(log) if !log.entries.iter().all(is_judged) => return Err(Refusal::BadLine),
         Err(SpellFault::OutOfMemory) => return Err(Refusal::OutOfMemory),
         _ => {}
     }
     Ok(DeskCommand::Submit(Submission { client, log, plan }))
 }
 
-fn is_create<P>(entry: &Entry<P>) -> bool {
-    matches!(entry, Entry::Create { .. })
+/// Whether the desk judges such entries.
+fn is_judged<P>(entry: &Entry<P>) -> bool {
+    matches!(entry, Entry::Create { .. } | Entry::Chmod { .. })
 }

@@ -1,18 +1,23 @@
 //! The desk: it owns the image and the leases, and lands what was judged.
-ghost use Rattle.std.specs.Prelude.{◌≡◌, ◌+◌, ◌≤◌, ◌<◌, ◌==◌, ◌++◌, ◌∷◌, [], IfOk, IfErr, OnErr, OnOk, IfNone, IsErrOf};
+ghost use Rattle.std.specs.Prelude.{◌≡◌, ◌↔◌, ◌+◌, ◌≤◌, ◌<◌, ◌==◌, ◌++◌, ◌∷◌, [], IfOk, IfErr, OnErr, OnOk, IfSome, IfNone, IsErrOf, Ok, Err, None, unwrap_or};
 ghost use Rattle.std.specs.List.{list_any};
-ghost use Rattle.kfs_model.specs.Lease.{granted, no_leases};
+ghost use Rattle.kfs_model.specs.Lease.{no_leases};
+ghost use Rattle.kfs_model.specs.Machine as machine;
 ghost use Rattle.kfs_mode.specs.Clients.{AreDistinct};
+ghost use Rattle.kfs_lease.specs.Faults as refusals;
 ghost use Rattle.kfs_lease.specs.Rows.{kind_of};
 ghost use Rattle.kfs_image.specs.Contents.{sight_of};
 ghost use Rattle.kfs_image.specs.ShownTree.{IsLawful};
 ghost use Rattle.kfs_judge.specs.Judging.{HasOtherEntry, IsVerdict, submission_of};
 ghost use Rattle.kfs_program.specs.Docket.{position_of};
 ghost use Rattle.kfs_program.specs.Landing.{CanLand, answer_at, image_after};
-ghost use Rattle.kfs_program.specs.Machine.{IsGrant, IsLeaseStep, IsStep, Means, RunsThrough, state_of};
+ghost use Rattle.kfs_program.specs.Machine.{IsChange, IsLeaseStep, IsStep, Means, RunsThrough, call_of, done_by, number_of, outcome_at, state_of};
+ghost use Rattle.kfs_program.specs.Opening.{begin_fault, do_overlap, fault_behind};
 ghost use Rattle.kfs_program.specs.Room.{spare_of};
 
-use crate::answers::{Act, BeginBack, BeginFault, Reply, SubmissionsBack, Unanswered};
+use crate::answers::{
+    Act, ActReply, BeginBack, BeginFault, Done, Reply, SubmissionsBack, Unanswered,
+};
 use kfs_image::shape::{Fill, net_apply};
 use kfs_image::{Image, Shape};
 use kfs_judge::View;
@@ -55,6 +60,10 @@ impl<A: Allocator + Copy> Desk<A> {
     ) -> Result<Desk<A>, BeginBack<A>>
         ensures ok { IfOk result (λ desk. desk ≡ record { image = image; clients = clients.items; leases = no_leases; rows = 0; limit = limit }) }
         ensures back { IfErr result (λ back. (back.image ≡ image) × (back.clients ≡ clients)) }
+        ensures fit { OnOk result (begin_fault clients.items ≡ None) }
+
+        // Where the clients have a fault, it is named; else a growth was refused.
+        ensures why { IfErr result (λ back. back.why ≡ unwrap_or (begin_fault clients.items) BeginFault.OutOfMemory) }
     {
         let fault = first_fault(&clients);
         if let Some(why) = fault {
@@ -102,25 +111,67 @@ impl<A: Allocator + Copy> Desk<A> {
         path: &[u8],
         kind: LeaseKind,
         end: u64,
-    ) -> Result<Act, Unanswered>
-        ensures full { self.old.rows ≡ self.old.limit → IsErrOf result Unanswered.DocketFull }
-        ensures step { IfOk result (λ act. IsLeaseStep (state_of self.old) client path.now (kind_of kind) end act.answer (state_of self.new)) }
-        ensures row { IfOk result (λ act. (act.position ≡ self.old.rows) × (self.new.rows ≡ act.position + 1)) }
+    ) -> Result<ActReply, Unanswered>
+        ensures full { IsErrOf result Unanswered.DocketFull ↔ (self.old.rows ≡ self.old.limit) }
+        ensures step { IfOk result (λ reply. IsLeaseStep (state_of self.old) (machine.Lease client path.now (kind_of kind) end) Done.Leased reply.answer (state_of self.new)) }
+        ensures row { IfOk result (λ reply. (reply.position ≡ self.old.rows) × (self.new.rows ≡ reply.position + 1)) }
         ensures err { OnErr result (self.new ≡ self.old) }
+        ensures judged { IsErrOf result Unanswered.OtherEntry → ⊥ }
+        ensures limit { self.new.limit ≡ self.old.limit }
+    {
+        self.act(Act::Lease {
+            client,
+            path,
+            kind,
+            end,
+        })
+    }
+
+    /// Ends the client's lease on the node.
+    pub fn drop_lease(&mut self, client: u32, number: u32) -> Result<ActReply, Unanswered>
+        ensures full { IsErrOf result Unanswered.DocketFull ↔ (self.old.rows ≡ self.old.limit) }
+        ensures step { IfOk result (λ reply. IsLeaseStep (state_of self.old) (machine.Drop client number) Done.Dropped reply.answer (state_of self.new)) }
+        ensures row { IfOk result (λ reply. (reply.position ≡ self.old.rows) × (self.new.rows ≡ reply.position + 1)) }
+        ensures err { OnErr result (self.new ≡ self.old) }
+        ensures judged { IsErrOf result Unanswered.OtherEntry → ⊥ }
+        ensures limit { self.new.limit ≡ self.old.limit }
+    {
+        self.act(Act::Drop { client, number })
+    }
+
+    /// Goes to a moment, and ends the leases that are no longer live.
+    pub fn tick(&mut self, moment: u64) -> Result<ActReply, Unanswered>
+        ensures full { IsErrOf result Unanswered.DocketFull ↔ (self.old.rows ≡ self.old.limit) }
+        ensures step { IfOk result (λ reply. IsLeaseStep (state_of self.old) (machine.Tick moment) Done.Ticked reply.answer (state_of self.new)) }
+        ensures row { IfOk result (λ reply. (reply.position ≡ self.old.rows) × (self.new.rows ≡ reply.position + 1)) }
+        ensures err { OnErr result (self.new ≡ self.old) }
+        ensures judged { IsErrOf result Unanswered.OtherEntry → ⊥ }
+        ensures limit { self.new.limit ≡ self.old.limit }
+    {
+        self.act(Act::Tick { moment })
+    }
+
+    /// Makes a call for the leases. Its answer takes the docket's next row.
+    pub fn act(&mut self, act: Act<'_>) -> Result<ActReply, Unanswered>
+        ensures full { IsErrOf result Unanswered.DocketFull ↔ (self.old.rows ≡ self.old.limit) }
+        ensures step { IfOk result (λ reply. IsLeaseStep (state_of self.old) (call_of act.entry) (done_by act.entry) reply.answer (state_of self.new)) }
+        ensures row { IfOk result (λ reply. (reply.position ≡ self.old.rows) × (self.new.rows ≡ reply.position + 1)) }
+        ensures err { OnErr result (self.new ≡ self.old) }
+        ensures judged { IsErrOf result Unanswered.OtherEntry → ⊥ }
         ensures limit { self.new.limit ≡ self.old.limit }
     {
         let position = self.next_row()?;
         let shape = self.image.shape();
         let clients = &self.clients;
-        let answer = grant(&mut self.leases, shape, clients, client, path, kind, end)?;
+        let answer = change(&mut self.leases, shape, clients, act)?;
         self.rows = position + 1;
-        Ok(Act { position, answer })
+        Ok(ActReply { position, answer })
     }
 
     /// Judges the submission against the state of now, and lands it: where it is judged right, the
     /// tree changes as its log says.
     pub fn submit(&mut self, submission: Submission<A>) -> Result<Reply, Unanswered>
-        ensures full { self.old.rows ≡ self.old.limit → IsErrOf result Unanswered.DocketFull }
+        ensures full { IsErrOf result Unanswered.DocketFull ↔ (self.old.rows ≡ self.old.limit) }
         ensures step { IfOk result (λ reply. IsStep (state_of self.old) (submission_of submission) reply (state_of self.new)) }
 
         // A Yes: the entries give the new tree one by one, each of them allowed. A No: nothing has changed.
@@ -143,7 +194,7 @@ impl<A: Allocator + Copy> Desk<A> {
         &mut self,
         submissions: Vec<Submission<A>, A>,
     ) -> Result<Vec<Result<Reply, Unanswered>, A>, SubmissionsBack<A>>
-        ensures answers { IfOk result (λ answers. RunsThrough (state_of self.old) submissions.items answers.items (state_of self.new)) }
+        ensures answers { IfOk result (λ answers. RunsThrough self.old submissions.items answers.items self.new) }
         ensures back { IfErr result (λ back. (back.submissions ≡ submissions) × (self.new ≡ self.old)) }
         ensures limit { self.new.limit ≡ self.old.limit }
     {
@@ -159,7 +210,7 @@ impl<A: Allocator + Copy> Desk<A> {
 
     /// The place of the docket's next row.
     fn next_row(&self) -> Result<u32, Unanswered>
-        ensures full { self.now.rows ≡ self.now.limit → IsErrOf result Unanswered.DocketFull }
+        ensures full { IsErrOf result Unanswered.DocketFull ↔ (self.now.rows ≡ self.now.limit) }
         ensures row { IfOk result (λ row. (row ≡ self.now.rows) × row < self.now.limit) }
         ensures only { IfErr result (λ why. why ≡ Unanswered.DocketFull) }
     {
@@ -174,6 +225,7 @@ impl<A: Allocator + Copy> Desk<A> {
     fn judged(&self, submission: Submission<A>) -> Result<Judged<A>, Unanswered>
         ensures verdict { IfOk result (λ judged. IsVerdict (state_of self.now) (submission_of submission) judged.outcome) }
         ensures other { IsErrOf result Unanswered.OtherEntry → HasOtherEntry submission.log.items }
+        ensures not_full { IsErrOf result Unanswered.DocketFull → ⊥ }
         ensures lawful { IsLawful self.now.image.contents }
     {
         let shape = self.image.shape().clone()?;
@@ -185,32 +237,64 @@ impl<A: Allocator + Copy> Desk<A> {
     }
 }
 
-/// Grants a lease in place, where no view shares the leases.
-fn grant<A: Allocator + Clone>(
+/// Makes the act's change of the leases in place, where no view shares them.
+fn change<A: Allocator + Clone>(
     leases: &mut Arc<Leases<A>, A>,
     shape: &Shape<A>,
     clients: &[Client],
-    client: u32,
-    path: &[u8],
-    kind: LeaseKind,
-    end: u64,
-) -> Result<Result<u32, LeaseFault>, Unanswered>
+    act: Act<'_>,
+) -> Result<Result<Done, LeaseFault>, Unanswered>
     requires distinct { AreDistinct clients.now }
-    ensures ok { IfOk result (λ answer. IsGrant (granted leases.old.value (sight_of shape.now) clients.now client path.now (kind_of kind) end) answer leases.new.value) }
+    ensures ok { IfOk result (λ answer. IsChange (outcome_at leases.old.value (sight_of shape.now) clients.now act.entry) (done_by act.entry) answer leases.new.value) }
     ensures err { OnErr result (leases.new.value ≡ leases.old.value) }
     ensures not_full { IfErr result (λ why. why ≡ Unanswered.OutOfMemory) }
 {
     let leases = Arc::make_mut(leases)?;
-    match leases.grant(shape, clients, client, path, kind, end) {
-        Ok(number) => Ok(Ok(number)),
+    match made(leases, shape, clients, act) {
+        Ok(done) => Ok(Ok(done)),
         Err(LeaseFault::OutOfMemory) => Err(Unanswered::OutOfMemory),
         Err(fault) => Ok(Err(fault)),
+    }
+}
+
+/// Makes the act's change.
+fn made<A: Allocator + Clone>(
+    leases: &mut Leases<A>,
+    shape: &Shape<A>,
+    clients: &[Client],
+    act: Act<'_>,
+) -> Result<Done, LeaseFault>
+    requires distinct { AreDistinct clients.now }
+    ensures ok { IfOk result (λ done. outcome_at leases.old (sight_of shape.now) clients.now act.entry ≡ (Ok (number_of done), leases.new)) }
+    ensures words { IfOk result (λ done. done ≡ done_by act.entry (number_of done)) }
+    ensures err { IfErr result (λ fault. IfSome (refusals.fault_of fault) (λ f. outcome_at leases.old (sight_of shape.now) clients.now act.entry ≡ (Err f, leases.new))) }
+    ensures unchanged { IsErrOf result LeaseFault.OutOfMemory → leases.new ≡ leases.old }
+{
+    match act {
+        Act::Lease {
+            client,
+            path,
+            kind,
+            end,
+        } => {
+            let number = leases.grant(shape, clients, client, path, kind, end)?;
+            Ok(Done::Leased(number))
+        }
+        Act::Drop { client, number } => {
+            leases.drop_lease(clients, client, number)?;
+            Ok(Done::Dropped(number))
+        }
+        Act::Tick { moment } => {
+            leases.tick(moment)?;
+            Ok(Done::Ticked(moment))
+        }
     }
 }
 
 /// Why a submission that comes back without a verdict isn't answered.
 fn unanswered(why: Why) -> Unanswered
     ensures other { result ≡ Unanswered.OtherEntry → why ≡ Why.OtherEntry }
+    ensures not_full { result ≡ Unanswered.DocketFull → ⊥ }
 {
     match why {
         Why::OutOfMemory => Unanswered::OutOfMemory,
@@ -256,19 +340,29 @@ fn land<A: Allocator + Copy>(
     }
 }
 
-/// Why a desk can't have these clients: at the least index, a number of an earlier client before a
-/// grant that shares a number with an earlier one's.
+/// Why a desk can't have these clients: the fault of the first that can't stand behind the earlier ones.
 fn first_fault(clients: &[Client]) -> Option<BeginFault>
+    ensures first { result ≡ begin_fault clients.now }
     ensures distinct { IfNone result (AreDistinct clients.now) }
 {
     for (index, client) in clients.iter().enumerate() {
-        let earlier = &clients[..index];
-        if has_number(earlier, client.number()) {
-            return Some(BeginFault::ClientTwice(index));
+        let fault = fault_of(&clients[..index], client);
+        if fault.is_some() {
+            return fault;
         }
-        if earlier.iter().any(|other| grants_overlap(other, client)) {
-            return Some(BeginFault::GrantOverlap(index));
-        }
+    }
+    None
+}
+
+/// Why the client can't stand behind these: its number before its grant.
+fn fault_of(earlier: &[Client], client: &Client) -> Option<BeginFault>
+    ensures { result ≡ fault_behind earlier.now client.now }
+{
+    if has_number(earlier, client.number()) {
+        return Some(BeginFault::ClientTwice(earlier.len()));
+    }
+    if has_overlap(earlier, client) {
+        return Some(BeginFault::GrantOverlap(earlier.len()));
     }
     None
 }
@@ -279,8 +373,16 @@ fn has_number(clients: &[Client], number: u32) -> bool
     clients.iter().any(|client| client.number() == number)
 }
 
+fn has_overlap(clients: &[Client], client: &Client) -> bool
+    ensures { result ≡ list_any (λ row. do_overlap row client.now) clients.now }
+{
+    clients.iter().any(|other| grants_overlap(other, client))
+}
+
 /// Whether a number is in both grants. A grant whose first number is above its last is empty.
-fn grants_overlap(one: &Client, other: &Client) -> bool {
+fn grants_overlap(one: &Client, other: &Client) -> bool
+    ensures { result ≡ do_overlap one.now other.now }
+{
     let (first, last) = one.grant();
     let (other_first, other_last) = other.grant();
     first.max(other_first) <= last.min(other_last)

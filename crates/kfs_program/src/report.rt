@@ -3,12 +3,12 @@
 //! lines doesn't take.
 ghost use Rattle.std.specs.Prelude.{◌≡◌, ◌+◌, ◌≤◌, ◌++◌, length, codes, IsOk, OnOk, OnErr};
 ghost use Rattle.kfs_program.specs.Room.{spare_of};
-ghost use Rattle.kfs_program.specs.Text.{reply_text, head_text, act_text, node_text, header_text, kind_text, counts_text, client_text, begin_text, line_of};
+ghost use Rattle.kfs_program.specs.Text.{reply_text, head_text, act_text, done_text, node_text, header_text, kind_text, counts_text, client_text, begin_text, line_of};
 
 mod names;
 pub(crate) mod parts;
 
-use crate::answers::{Act, BeginFault, Reply};
+use crate::answers::{ActReply, BeginFault, Done, Reply};
 use kfs_image::{Header, Kind};
 use kfs_mode::ClientFault;
 use names::{begin_fault, client_fault, judgement_fault, lease_fault};
@@ -67,19 +67,16 @@ fn push_head<A: Allocator>(out: &mut Vec<u8, A>, position: u32, word: &[u8], rej
     flag(out, rejudged);
 }
 
-/// The line of a lease that was asked for: `P leased N` or `P refused NAME`.
-pub fn act_line<A: Allocator>(out: &mut Vec<u8, A>, act: &Act) -> Result<(), AllocError>
+/// The line of a call for the leases: `P leased N`, `P dropped N`, `P ticked M` or `P refused NAME`.
+pub fn act_line<A: Allocator>(out: &mut Vec<u8, A>, reply: &ActReply) -> Result<(), AllocError>
     ensures room { 128 ≤ spare_of out.old → IsOk result }
-    ensures ok { OnOk result (out.new.items ≡ out.old.items ++ line_of (act_text act.now)) }
+    ensures ok { OnOk result (out.new.items ≡ out.old.items ++ line_of (act_text reply.now)) }
     ensures err { OnErr result (out.new.items ≡ out.old.items) }
 {
     out.try_reserve(LONGEST_LINE)?;
-    number(out, u64::from(act.position));
-    match act.answer {
-        Ok(node) => {
-            text(out, b" leased ");
-            number(out, u64::from(node));
-        }
+    number(out, u64::from(reply.position));
+    match reply.answer {
+        Ok(done) => push_done(out, done),
         Err(fault) => {
             text(out, b" refused ");
             lease_fault(out, fault);
@@ -87,6 +84,27 @@ pub fn act_line<A: Allocator>(out: &mut Vec<u8, A>, act: &Act) -> Result<(), All
     }
     text(out, b"\n");
     Ok(())
+}
+
+fn push_done<A: Allocator>(out: &mut Vec<u8, A>, done: Done)
+    requires { 29 ≤ spare_of out.old }
+    ensures spare { spare_of out.old ≤ spare_of out.new + 29 }
+    ensures items { out.new.items ≡ out.old.items ++ done_text done }
+{
+    match done {
+        Done::Leased(node) => {
+            text(out, b" leased ");
+            number(out, u64::from(node));
+        }
+        Done::Dropped(node) => {
+            text(out, b" dropped ");
+            number(out, u64::from(node));
+        }
+        Done::Ticked(moment) => {
+            text(out, b" ticked ");
+            number(out, moment);
+        }
+    }
 }
 
 /// The line of a node: `node N KIND MODE UID GID LINKS SIZE`.

@@ -87,13 +87,8 @@ fn answer_by_desk<A: Allocator + Copy>(
     requires { 128 ≤ spare_of reply.old }
 {
     match command {
-        DeskCommand::Lease {
-            client,
-            path,
-            kind,
-            end,
-        } => match desk.lease(client, path, kind, end) {
-            Ok(act) => Ok(act_line(reply, &act)?),
+        DeskCommand::Act(act) => match desk.act(act) {
+            Ok(answer) => Ok(act_line(reply, &answer)?),
             Err(why) => unanswered(why, reply),
         },
         DeskCommand::Submit(submission) => match desk.submit(submission) {

@@ -1,5 +1,6 @@
 //! The words of a command line: names, decimal numbers and hexadecimal text.
 
+use arrayvec::ArrayVec;
 use std::alloc::{AllocError, AllocFailed, Allocator};
 use std::str::FromStr;
 
@@ -72,14 +73,18 @@ impl<'a> Words<'a> {
     where
         T::Err: Drop,
     {
-        let word = self.word()?;
-        if !word.iter().all(|byte| byte.is_ascii_digit()) {
-            return Err(Refusal::BadLine);
+        number_in(self.word()?)
+    }
+
+    /// All words that are left as decimal numbers. The first `N` are kept.
+    pub fn numbers<const N: usize>(&mut self) -> Result<ArrayVec<u32, N>, Refusal> {
+        let mut numbers = ArrayVec::new();
+        if let Some(rest) = self.rest.take() {
+            for word in rest.split(|byte| *byte == b' ') {
+                let _ = numbers.try_push(number_in(word)?);
+            }
         }
-        let Ok(digits) = str::from_utf8(word) else {
-            return Err(Refusal::BadLine);
-        };
-        digits.parse::<T>().map_err(|_| Refusal::BadLine)
+        Ok(numbers)
     }
 
     /// The next word as hexadecimal text, in either case; `-` stands for no bytes.
@@ -101,4 +106,18 @@ impl<'a> Words<'a> {
             None => Ok(()),
         }
     }
+}
+
+/// The word as a decimal number that fits the type.
+fn number_in<T: FromStr>(word: &[u8]) -> Result<T, Refusal>
+where
+    T::Err: Drop,
+{
+    if !word.iter().all(|byte| byte.is_ascii_digit()) {
+        return Err(Refusal::BadLine);
+    }
+    let Ok(digits) = str::from_utf8(word) else {
+        return Err(Refusal::BadLine);
+    };
+    digits.parse::<T>().map_err(|_| Refusal::BadLine)
 }

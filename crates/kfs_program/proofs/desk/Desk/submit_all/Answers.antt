@@ -1,6 +1,6 @@
 use Rattle.std.proofs.Common.{◌≡◌, List, ◌∷◌, [], ◌++◌, length, refl, sym, ap, subst, ◌∙◌, append_assoc, append-nil, arith}
 use Rattle.std.specs.Vec.Iter.{into_iter_items}
-use Rattle.kfs_program.specs.Machine.{RunsThrough, state_of}
+use Rattle.kfs_program.specs.Machine.{RunsThrough}
 use Rattle.kfs_program.proofs.Histories.{runs_first}
 use Rattle.kfs_program.proofs.desk.Desk.submit_all.Goals as goal
 
@@ -20,11 +20,12 @@ loop-submission-preserved g c =
     let answer = c.submit-answer.result in
     let steps = c.in-Some.ensures.steps.0 in
     record {
-      runs = λ answers t rest.
-          let first = runs_first at.self c.submit-answer.new.self c.in-Some.submission (into_iter_items c.next.new.self) answer answers t c.submit-answer.ensures.step c.submit-answer.ensures.meaning c.submit-answer.ensures.err rest in
-          subst (λ all. RunsThrough (state_of c.args.self.now) (into_iter_items c.into_iter-submission-iterator.result) all t)
+      runs = λ answers last rest.
+          let told = c.submit-answer.ensures in
+          let first = runs_first at.self c.in-Some.submission c.submit-answer.new.self (into_iter_items c.next.new.self) answer answers last told.step told.meaning told.row told.err told.full told.other told.limit rest in
+          subst (λ all. RunsThrough c.args.self.now (into_iter_items c.into_iter-submission-iterator.result) all last)
           (sym (append_assoc at.answers.items (answer ∷ []) answers) ∙ ap (λ front. front ++ answers) (sym c.push_within.ensures.items))
-          (at.invariant.runs (answer ∷ answers) t (subst (λ submissions. RunsThrough (state_of at.self) submissions (answer ∷ answers) t) (sym steps) first));
+          (at.invariant.runs (answer ∷ answers) last (subst (λ submissions. RunsThrough at.self submissions (answer ∷ answers) last) (sym steps) first));
       room =
           let counted = ap length steps in
           let room = at.invariant.room in
@@ -43,6 +44,6 @@ returns-clause-answers g c =
     let at = c.loop-submission in
     let none = c.in-None.ensures.steps in
     let empty : into_iter_items at.submission-iterator ≡ [] = nothing_left _ (sym at.invariant.count ∙ none.0) in
-    let ended = at.invariant.runs [] (state_of at.self) (subst (λ submissions. RunsThrough (state_of at.self) submissions [] (state_of at.self)) (sym empty) refl) in
-    let whole = subst (λ all. RunsThrough (state_of c.args.self.now) (into_iter_items c.into_iter-submission-iterator.result) all (state_of at.self)) (append-nil at.answers.items) ended in
-    subst (λ submissions. RunsThrough (state_of c.args.self.now) submissions at.answers.items (state_of at.self)) c.into_iter-submission-iterator.ensures.into_iter_gives.0 whole
+    let ended = at.invariant.runs [] at.self (subst (λ submissions. RunsThrough at.self submissions [] at.self) (sym empty) refl) in
+    let whole = subst (λ all. RunsThrough c.args.self.now (into_iter_items c.into_iter-submission-iterator.result) all at.self) (append-nil at.answers.items) ended in
+    subst (λ submissions. RunsThrough c.args.self.now submissions at.answers.items at.self) c.into_iter-submission-iterator.ensures.into_iter_gives.0 whole

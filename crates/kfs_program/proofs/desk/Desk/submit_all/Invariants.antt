@@ -1,16 +1,15 @@
 -- Whatever the rest comes to, the whole comes to that behind the answers so far.
 use Rattle.std.proofs.Common.{◌≡◌, ◌≤◌, ◌++◌, List, length, Result}
 use Rattle.std.specs.Vec.Iter.{into_iter_items, into_iter_len}
-use Rattle.kfs_model.specs.Judgement.{State}
 use Rattle.kfs_program.specs.declared.answers.Reply.{Reply}
 use Rattle.kfs_program.specs.declared.answers.Unanswered.{Unanswered}
-use Rattle.kfs_program.specs.Machine.{RunsThrough, state_of}
+use Rattle.kfs_program.specs.Machine.{Shown, RunsThrough}
 use Rattle.kfs_program.specs.Room.{spare_of}
 use Rattle.kfs_program.proofs.desk.Desk.submit_all.Given as goal
 
 abbrev pub invariant-loop-submission : goal.invariant-loop-submission
 invariant-loop-submission g l = record {
-  runs : (answers : List (Result Reply Unanswered)) (t : State) → RunsThrough (state_of l.self) (into_iter_items l.submission-iterator) answers t → RunsThrough (state_of l.initial.self) (into_iter_items l.initial.submission-iterator) (l.answers.items ++ answers) t;
+  runs : (answers : List (Result Reply Unanswered)) (last : Shown) → RunsThrough l.self (into_iter_items l.submission-iterator) answers last → RunsThrough l.initial.self (into_iter_items l.initial.submission-iterator) (l.answers.items ++ answers) last;
   room : length (into_iter_items l.submission-iterator) ≤ spare_of l.answers;
   count : into_iter_len l.submission-iterator ≡ length (into_iter_items l.submission-iterator);
   limit : l.self.limit ≡ l.initial.self.limit;
