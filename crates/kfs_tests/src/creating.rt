@@ -6,7 +6,7 @@ use kfs_judge::plan::{Fault, Submission};
 use kfs_judge::{EntryFault, Reason};
 use kfs_lease::LeaseKind;
 use kfs_mode::Client;
-use kfs_program::answers::{Reply, Unanswered};
+use kfs_program::answers::{Done, Reply, Unanswered};
 use kfs_program::desk::Desk;
 use std::alloc::{AllocError, Allocator, Global};
 use std::test::Fail;
@@ -15,11 +15,11 @@ use std::test::Fail;
 const MANY: u64 = 400;
 
 /// A fresh image and these clients, where there is memory. Client 7 holds a write lease on the root.
-fn desk_of<A: Allocator + Copy>(alloc: A, clients: Vec<Client, A>) -> Option<Desk<A>> {
+pub fn desk_of<A: Allocator + Copy>(alloc: A, clients: Vec<Client, A>) -> Option<Desk<A>> {
     let image = Image::fresh(alloc, TierSizes::new(8, 8, 8)?).ok()?;
     let mut desk = Desk::begin(alloc, image, clients, 100).ok()?;
     let leased = desk.lease(7, b"/", LeaseKind::Write, 100).ok()?;
-    if leased.answer == Ok(1) {
+    if leased.answer == Ok(Done::Leased(1)) {
         Some(desk)
     } else {
         None
@@ -27,18 +27,18 @@ fn desk_of<A: Allocator + Copy>(alloc: A, clients: Vec<Client, A>) -> Option<Des
 }
 
 /// A client of these ids, not privileged, with the numbers from `first` to `last`.
-fn client(number: u32, uid: u32, gid: u32, first: u32, last: u32) -> Option<Client> {
+pub fn client(number: u32, uid: u32, gid: u32, first: u32, last: u32) -> Option<Client> {
     Client::new(number, uid, gid, &[], false, first, last).ok()
 }
 
 /// A desk with client 7 alone, of uid and gid 1000, which has the numbers from 2 on.
-fn opening<A: Allocator + Copy>(alloc: A, last: u32) -> Option<Desk<A>> {
+pub fn opening<A: Allocator + Copy>(alloc: A, last: u32) -> Option<Desk<A>> {
     let clients = vec![in alloc; client(7, 1000, 1000, 2, last)?].ok()?;
     desk_of(alloc, clients)
 }
 
 /// A log of a client with so many entries, which are still to come.
-fn log_of<A: Allocator>(alloc: A, client: u32, count: u16) -> Result<Vec<u8, A>, AllocError> {
+pub fn log_of<A: Allocator>(alloc: A, client: u32, count: u16) -> Result<Vec<u8, A>, AllocError> {
     let mut bytes = Vec::from_slice(alloc, b"KLOG\x01")?;
     bytes.extend_from_slice(&client.to_be_bytes())?;
     bytes.extend_from_slice(&count.to_be_bytes())?;
@@ -46,7 +46,7 @@ fn log_of<A: Allocator>(alloc: A, client: u32, count: u16) -> Result<Vec<u8, A>,
 }
 
 /// A plan with so many names and as many nodes, which are still to come.
-fn plan_of<A: Allocator>(alloc: A, count: u16) -> Result<Vec<u8, A>, AllocError> {
+pub fn plan_of<A: Allocator>(alloc: A, count: u16) -> Result<Vec<u8, A>, AllocError> {
     let mut bytes = Vec::from_slice(alloc, b"KPLN\x01")?;
     bytes.extend_from_slice(&count.to_be_bytes())?;
     bytes.extend_from_slice(&count.to_be_bytes())?;
@@ -61,7 +61,7 @@ fn push_name<A: Allocator>(bytes: &mut Vec<u8, A>, name: &[u8]) -> Result<(), Al
 }
 
 /// A Create of a file, or of a directory where `kind` is 1.
-fn push_create<A: Allocator>(
+pub fn push_create<A: Allocator>(
     bytes: &mut Vec<u8, A>,
     dir: u32,
     name: &[u8],
@@ -77,7 +77,7 @@ fn push_create<A: Allocator>(
     bytes.extend_from_slice(&mode.to_be_bytes())
 }
 
-fn push_name_row<A: Allocator>(
+pub fn push_name_row<A: Allocator>(
     bytes: &mut Vec<u8, A>,
     dir: u32,
     name: &[u8],
@@ -89,7 +89,7 @@ fn push_name_row<A: Allocator>(
 }
 
 /// A new node of client 7: a file, or a directory where `kind` is 1.
-fn push_node_row<A: Allocator>(
+pub fn push_node_row<A: Allocator>(
     bytes: &mut Vec<u8, A>,
     number: u32,
     kind: u8,
@@ -152,7 +152,7 @@ fn letters(number: u32) -> [u8; 4] {
     ]
 }
 
-fn yes(position: u32) -> Reply {
+pub fn yes(position: u32) -> Reply {
     Reply::Yes {
         position,
         rejudged: false,
@@ -160,7 +160,7 @@ fn yes(position: u32) -> Reply {
     }
 }
 
-fn no(position: u32, index: usize, reason: Reason) -> Reply {
+pub fn no(position: u32, index: usize, reason: Reason) -> Reply {
     Reply::No {
         position,
         rejudged: false,
@@ -242,6 +242,26 @@ fn one_number_twice_in_a_log(rt: HostRuntime) -> Result<(), Fail> {
         look(desk.image().shape(), &Cell::Header(5)),
         Answer::Header(None)
     );
+    Ok(())
+}
+
+#[test]
+fn numbers_that_a_new_node_cannot_have(rt: HostRuntime) -> Result<(), Fail> {
+    let alloc = rt.alloc();
+    let mut desk = opening(alloc, 99).ok_or("an opening")?;
+    let first = one_create(alloc, b"a", 5)?;
+    assert!(rt; desk.submit(first) == Ok(yes(1)));
+    for (position, name, number, reason) in [
+        (2, b"z", 200, Reason::NumberNotGranted),
+        (3, b"z", 1, Reason::NumberNotGranted),
+        (4, b"z", 5, Reason::NumberTaken),
+        (5, b"a", 200, Reason::NameTaken),
+        (6, b"a", 5, Reason::NameTaken),
+    ] {
+        let refused = no(position, 0, reason);
+        let submission = one_create(alloc, name, number)?;
+        assert!(rt; desk.submit(submission) == Ok(refused), "{number}");
+    }
     Ok(())
 }
 

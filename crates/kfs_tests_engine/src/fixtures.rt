@@ -74,3 +74,16 @@ pub fn expect_reply(
     let expected = format!(in alloc; "{OPENED}{reply}\n")?;
     expect_answers(rt, script.as_str(), expected.as_str())
 }
+
+/// The commands come after the opening and the file of number 5 at `/a`, which take the rows 0 and 1.
+pub fn expect_after_create(
+    rt: &(impl Abort + AllocGlobal),
+    commands: &str,
+    replies: &str,
+) -> Result<(), Fail> {
+    let alloc = rt.alloc();
+    let create = format!(in alloc; "submit 7 {CREATE_LOG} {CREATE_PLAN}\n")?;
+    let script = format!(in alloc; "{OPENING}{create}{commands}")?;
+    let expected = format!(in alloc; "{OPENED}1 yes rejudged=0 need=0\n{replies}")?;
+    expect_answers(rt, script.as_str(), expected.as_str())
+}

@@ -12,8 +12,8 @@ use kfs_program::desk::Desk;
 use std::alloc::Global;
 use std::test::Fail;
 
-/// A log of client 7 that sets the mode of node 1.
-const CHMOD_LOG: &str = "4b4c4f4701000000070001070000000101ff";
+/// A log of client 7 that truncates node 5 to no byte.
+const TRUNCATE_LOG: &str = "4b4c4f470100000007000103000000050000000000000000";
 
 /// The desk of a fresh image and of client 7 with the numbers 2 to 99, which holds a write lease on the
 /// root up to 100. The lease is row 0 of the docket, which takes `limit` rows.
@@ -151,7 +151,7 @@ fn submissions_one_after_another(rt: HostRuntime) -> Result<(), Fail> {
     let alloc = rt.alloc();
     let mut desk = opening(alloc, 3)?;
     let submissions = vec![in alloc;
-        submission(alloc, 7, CHMOD_LOG, CREATE_PLAN)?,
+        submission(alloc, 7, TRUNCATE_LOG, CREATE_PLAN)?,
         submission(alloc, 7, CREATE_LOG, CREATE_PLAN)?,
         submission(alloc, 7, CREATE_LOG, CREATE_PLAN)?,
         submission(alloc, 7, CREATE_LOG, CREATE_PLAN)?,

@@ -2,7 +2,7 @@
 
 use crate::fixtures::{
     CREATE_LOG, CREATE_PLAN, CUT_LOG, CUT_PLAN, NO_NODE_ROW, NOTHING_LOG, NOTHING_PLAN, OPENED,
-    OPENING, OTHER_NUMBER, expect_answers, expect_reply,
+    OPENING, OTHER_NUMBER, expect_after_create, expect_answers, expect_reply,
 };
 use std::test::Fail;
 
@@ -95,4 +95,47 @@ fn a_begin_is_refused_with_its_first_fault(rt: HostRuntime) -> Result<(), Fail> 
         expect_answers(&rt, script, replies)?;
     }
     Ok(())
+}
+
+#[test]
+fn entries_that_the_client_is_refused(rt: HostRuntime) -> Result<(), Fail> {
+    for (log, reason) in [
+        // Creates of `z` in the root, of the numbers 200 and 5
+        (
+            "4b4c4f47010000000700010100000001017a000000c80001a4",
+            "NumberNotGranted",
+        ),
+        (
+            "4b4c4f47010000000700010100000001017a000000050001a4",
+            "NumberTaken",
+        ),
+        // Chmods of the root to 0o700, of the file 5 and of no node
+        ("4b4c4f4701000000070001070000000101c0", "NotOwner"),
+        ("4b4c4f4701000000070001070000000501c0", "NoLease(5)"),
+        ("4b4c4f4701000000070001070000000601c0", "NoSuchNode"),
+    ] {
+        let alloc = rt.alloc();
+        let command = format!(in alloc; "submit 7 {log} {NOTHING_PLAN}\n")?;
+        let reply = format!(in alloc; "2 no rejudged=0 entry 0 {reason}\n")?;
+        expect_after_create(&rt, command.as_str(), reply.as_str())?;
+    }
+    Ok(())
+}
+
+#[test]
+fn a_chmod_by_the_owner(rt: HostRuntime) -> Result<(), Fail> {
+    // the file 5 to 0o600, and its node row
+    let log = "4b4c4f470100000007000107000000050180";
+    let plan = "4b504c4e01000000010000000000000005010180000003e8000003e800010000000000000000";
+    let alloc = rt.alloc();
+    let commands = format!(in alloc;
+        "lease 7 /a w 100\nsubmit 7 {log} {NOTHING_PLAN}\nnode 5\nsubmit 7 {log} {plan}\nnode 5\n\
+        submit 7 {log} {NOTHING_PLAN}\n"
+    )?;
+    expect_after_create(
+        &rt,
+        commands.as_str(),
+        "2 leased 5\n3 no rejudged=0 plan Nodes(0)\nnode 5 file 0644 1000 1000 1 0\n\
+         4 yes rejudged=0 need=0\nnode 5 file 0600 1000 1000 1 0\n5 yes rejudged=0 need=0\n",
+    )
 }
