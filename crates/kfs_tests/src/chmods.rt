@@ -1,17 +1,22 @@
 //! Chmods: who may set a mode, on which node, and what the mode then says.
 
 use crate::creating::{
-    client, desk_of, log_of, no, opening, plan_of, push_create, push_name_row, push_node_row, yes,
+    client, desk_of, log_of, no, one_create, opening, plan_of, push_create, push_name_row,
+    push_node_row, yes,
 };
+use crate::refusing::Refusing;
 use kfs_image::{Answer, Cell, Header, Kind, look};
 use kfs_judge::Reason;
 use kfs_judge::plan::{Fault, RowFault, Submission};
 use kfs_lease::LeaseKind;
 use kfs_mode::Client;
-use kfs_program::answers::Reply;
+use kfs_program::answers::{Done, Reply, Unanswered};
 use kfs_program::desk::Desk;
 use std::alloc::{AllocError, Allocator, Global};
 use std::test::Fail;
+
+/// More growths than two submissions and a lease make.
+const MANY: u64 = 800;
 
 /// An entry: a Create of a file in a directory, one of a directory in the root, or a Chmod.
 #[derive(Clone, Copy)]
@@ -57,7 +62,7 @@ fn submission(
 }
 
 /// A plan without names, with one node row: a file of client 7 of this mode.
-fn file_row(alloc: Global, number: u32, mode: u16) -> Result<Vec<u8, Global>, AllocError> {
+fn file_row<A: Allocator>(alloc: A, number: u32, mode: u16) -> Result<Vec<u8, A>, AllocError> {
     let mut plan = Vec::from_slice(alloc, b"KPLN\x01\0\0\0\x01\0\0\0\0")?;
     push_node_row(&mut plan, number, 0, mode)?;
     Ok(plan)
@@ -287,4 +292,62 @@ fn the_mode_of_the_root_stays(rt: HostRuntime) -> Result<(), Fail> {
     let root = look(desk.image().shape(), &Cell::Header(1));
     assert!(rt; matches!(root, Answer::Header(Some(header)) if header.mode == 0o777));
     Ok(())
+}
+
+/// A desk with the file 5 of client 7, which holds a write lease on it, where there is memory.
+fn with_a_lease<A: Allocator + Copy>(alloc: A) -> Option<Desk<A>> {
+    let mut desk = opening(alloc, 99)?;
+    let first = one_create(alloc, b"f", 5).ok()?;
+    if desk.submit(first) != Ok(yes(1)) {
+        return None;
+    }
+    let leased = desk.lease(7, b"/f", LeaseKind::Write, 100).ok()?;
+    if leased.answer == Ok(Done::Leased(5)) {
+        Some(desk)
+    } else {
+        None
+    }
+}
+
+/// A log of client 7 that closes the file 5 to all others, and its right plan.
+fn to_private<A: Allocator + Copy>(alloc: A) -> Result<Submission<A>, AllocError> {
+    let mut log = log_of(alloc, 7, 1)?;
+    let step = Step::Chmod {
+        number: 5,
+        mode: 0o600,
+    };
+    push_step(&mut log, step)?;
+    Ok(Submission {
+        client: 7,
+        log,
+        plan: file_row(alloc, 5, 0o600)?,
+    })
+}
+
+#[test]
+fn each_growth_refused_in_turn(rt: HostRuntime) -> Result<(), Fail> {
+    for growth in 0..MANY {
+        let heap = Refusing::new(rt.alloc(), growth);
+        let Some(mut desk) = with_a_lease(&heap) else {
+            continue;
+        };
+        let Ok(first) = to_private(&heap) else {
+            continue;
+        };
+        let answer = desk.submit(first);
+        if !heap.has_refused() {
+            assert!(rt; answer == Ok(yes(3)));
+            return Ok(());
+        }
+        if answer != Ok(yes(3)) {
+            assert!(rt; answer == Err(Unanswered::OutOfMemory));
+            let shape = desk.image().shape();
+            assert_eq!(rt; look(shape, &Cell::Header(5)), file(0o644));
+            let again = to_private(&heap)?;
+            assert!(rt; desk.submit(again) == Ok(yes(3)));
+        }
+        let shape = desk.image().shape();
+        assert_eq!(rt; look(shape, &Cell::Header(5)), file(0o600));
+    }
+    Err("more growths than expected")?
 }

@@ -105,7 +105,7 @@ pub fn push_node_row<A: Allocator>(
 }
 
 /// A log of client 7 with one Create in the root, and its right plan.
-fn one_create<A: Allocator + Copy>(
+pub fn one_create<A: Allocator + Copy>(
     alloc: A,
     name: &[u8],
     number: u32,
