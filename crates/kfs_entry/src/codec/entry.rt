@@ -9,7 +9,7 @@ use crate::entry_table;
 use crate::row::Row;
 use std::alloc::{AllocError, Allocator};
 
-/// The tag of a Write.
+/// The tag of a Write, as the table has it. Only the speed depends on it.
 const WRITE: u8 = 2;
 
 macro_rules! read_case {
