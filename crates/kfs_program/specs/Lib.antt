@@ -1,6 +1,1 @@
-pub mod Docket
-pub mod Landing
-pub mod Machine
-pub mod Opening
-pub mod Room
 pub mod Text

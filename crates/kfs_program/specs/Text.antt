@@ -15,13 +15,13 @@ use Rattle.kfs_judge.specs.declared.plan.Fault.{Fault}
 use Rattle.kfs_judge.specs.declared.plan.Fault.TheVariants.{UnknownClient, BadLog, WrongClient, BadPlan, Entry, Row}
 use Rattle.kfs_judge.specs.declared.plan.RowFault.{RowFault}
 use Rattle.kfs_judge.specs.declared.plan.RowFault.TheVariants as row
-use Rattle.kfs_program.specs.declared.answers.ActReply.{ActReply}
-use Rattle.kfs_program.specs.declared.answers.BeginFault.{BeginFault}
-use Rattle.kfs_program.specs.declared.answers.BeginFault.TheVariants as begin
-use Rattle.kfs_program.specs.declared.answers.Done.{Done}
-use Rattle.kfs_program.specs.declared.answers.Done.TheVariants as done
-use Rattle.kfs_program.specs.declared.answers.Reply.{Reply}
-use Rattle.kfs_program.specs.declared.answers.Reply.TheVariants.{Yes, No}
+use Rattle.kfs_desk.specs.declared.answers.ActReply.{ActReply}
+use Rattle.kfs_desk.specs.declared.answers.BeginFault.{BeginFault}
+use Rattle.kfs_desk.specs.declared.answers.BeginFault.TheVariants as begin
+use Rattle.kfs_desk.specs.declared.answers.Done.{Done}
+use Rattle.kfs_desk.specs.declared.answers.Done.TheVariants as done
+use Rattle.kfs_desk.specs.declared.answers.Reply.{Reply}
+use Rattle.kfs_desk.specs.declared.answers.Reply.TheVariants.{Yes, No}
 
 -- ---- parts
 

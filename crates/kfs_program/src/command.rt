@@ -1,7 +1,7 @@
 //! The command lines that a session answers.
 
-use crate::answers::Act;
 use crate::words::{Refusal, Words};
+use kfs_desk::answers::Act;
 use kfs_entry::{Entry, SpellFault, decode_log};
 use kfs_image::TierSizes;
 use kfs_judge::plan::Submission;

@@ -3,10 +3,8 @@
 
 ghost use Rattle.std.specs.Prelude.{◌≤◌, length, IfOk, IfSome};
 
-pub mod answers;
 mod command;
 mod conversation;
-pub mod desk;
 mod fault;
 mod listing;
 mod opening;

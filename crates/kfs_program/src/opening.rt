@@ -1,13 +1,13 @@
 //! What a desk is begun with: the image and the clients.
 ghost use Rattle.std.specs.Prelude.{◌≤◌};
-ghost use Rattle.kfs_program.specs.Room.{spare_of};
+ghost use Rattle.kfs_desk.specs.Room.{spare_of};
 
-use crate::answers::BeginFault;
 use crate::command::OpeningCommand;
-use crate::desk::Desk;
 use crate::report::parts::text;
 use crate::report::{begin_line, client_line};
 use crate::words::Refusal;
+use kfs_desk::Desk;
+use kfs_desk::answers::BeginFault;
 use kfs_image::{Image, TierSizes};
 use kfs_mode::{Client, ClientFault};
 use std::alloc::Allocator;

@@ -2,13 +2,13 @@
 //! `out` as it is. It is never refused where `out` has 128 bytes to spare, which the longest of these
 //! lines doesn't take.
 ghost use Rattle.std.specs.Prelude.{◌≡◌, ◌+◌, ◌≤◌, ◌++◌, length, codes, IsOk, OnOk, OnErr};
-ghost use Rattle.kfs_program.specs.Room.{spare_of};
+ghost use Rattle.kfs_desk.specs.Room.{spare_of};
 ghost use Rattle.kfs_program.specs.Text.{reply_text, head_text, act_text, done_text, node_text, header_text, kind_text, counts_text, client_text, begin_text, line_of};
 
 mod names;
 pub(crate) mod parts;
 
-use crate::answers::{ActReply, BeginFault, Done, Reply};
+use kfs_desk::answers::{ActReply, BeginFault, Done, Reply};
 use kfs_image::{Header, Kind};
 use kfs_mode::ClientFault;
 use names::{begin_fault, client_fault, judgement_fault, lease_fault};

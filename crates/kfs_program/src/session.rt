@@ -1,15 +1,15 @@
 //! A session: what each command does, and its reply.
 ghost use Rattle.std.specs.Prelude.{◌≤◌};
-ghost use Rattle.kfs_program.specs.Room.{spare_of};
+ghost use Rattle.kfs_desk.specs.Room.{spare_of};
 
-use crate::answers::Unanswered;
 use crate::command::{Command, DeskCommand, OpeningCommand};
-use crate::desk::Desk;
 use crate::listing::list_line;
 use crate::opening::Opening;
 use crate::report::parts::text;
 use crate::report::{act_line, node_line, reply_line};
 use crate::words::Refusal;
+use kfs_desk::Desk;
+use kfs_desk::answers::Unanswered;
 use kfs_image::{Answer, Cell, Kind, look};
 use std::alloc::Allocator;
 

@@ -5,13 +5,13 @@ use crate::creating::{
     push_node_row, yes,
 };
 use crate::refusing::Refusing;
+use kfs_desk::Desk;
+use kfs_desk::answers::{Done, Reply, Unanswered};
 use kfs_image::{Answer, Cell, Header, Kind, look};
 use kfs_judge::Reason;
 use kfs_judge::plan::{Fault, RowFault, Submission};
 use kfs_lease::LeaseKind;
 use kfs_mode::Client;
-use kfs_program::answers::{Done, Reply, Unanswered};
-use kfs_program::desk::Desk;
 use std::alloc::{AllocError, Allocator, Global};
 use std::test::Fail;
 

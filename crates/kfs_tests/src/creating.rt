@@ -1,13 +1,13 @@
 //! Creates: as many as a log may have, at the ends of their ranges, by each class, and without memory.
 
 use crate::refusing::Refusing;
+use kfs_desk::Desk;
+use kfs_desk::answers::{Done, Reply, Unanswered};
 use kfs_image::{Answer, Cell, Image, Name, TierSizes, look};
 use kfs_judge::plan::{Fault, Submission};
 use kfs_judge::{EntryFault, Reason};
 use kfs_lease::LeaseKind;
 use kfs_mode::Client;
-use kfs_program::answers::{Done, Reply, Unanswered};
-use kfs_program::desk::Desk;
 use std::alloc::{AllocError, Allocator, Global};
 use std::test::Fail;
 

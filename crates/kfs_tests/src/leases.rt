@@ -4,12 +4,12 @@ ghost use Rattle.kfs_mode.specs.Clients.{AreDistinct};
 
 use crate::creating::{log_of, opening, plan_of, push_create, push_name_row, push_node_row, yes};
 use crate::refusing::Refusing;
+use kfs_desk::Desk;
 use kfs_image::Shape;
 use kfs_judge::plan::Submission;
 use kfs_lease::LeaseKind::{Read, Write};
 use kfs_lease::{LeaseFault, LeaseKind, Leases};
 use kfs_mode::Client;
-use kfs_program::desk::Desk;
 use std::alloc::{AllocError, Allocator};
 use std::process::Abort;
 use std::test::Fail;

@@ -1,14 +1,14 @@
 //! Judging and landing by the calls of the crates themselves.
 
 use crate::fixtures::{CREATE_LOG, CREATE_PLAN, CUT_LOG, CUT_PLAN, NO_NODE_ROW, OTHER_NUMBER};
+use kfs_desk::Desk;
+use kfs_desk::answers::{Reply, Unanswered};
 use kfs_entry::{SpellFault, decode_log, decode_plan};
 use kfs_image::{Answer, Cell, Header, Image, Kind, Name, TierSizes, look};
 use kfs_judge::plan::{Fault, RowFault, Submission};
 use kfs_judge::{EntryFault, Reason};
 use kfs_lease::LeaseKind;
 use kfs_mode::Client;
-use kfs_program::answers::{Reply, Unanswered};
-use kfs_program::desk::Desk;
 use std::alloc::Global;
 use std::test::Fail;
 

@@ -1,10 +1,10 @@
 //! The refusals by their names, with their numbers in brackets. The caller has made room for them.
 ghost use Rattle.std.specs.Prelude.{◌≡◌, ◌+◌, ◌≤◌, ◌++◌};
-ghost use Rattle.kfs_program.specs.Room.{spare_of};
+ghost use Rattle.kfs_desk.specs.Room.{spare_of};
 ghost use Rattle.kfs_program.specs.Text.{fault_text, spell_text, row_text, reason_text, lease_text, client_text, begin_text};
 
 use super::parts::{number, numbered, text};
-use crate::answers::BeginFault;
+use kfs_desk::answers::BeginFault;
 use kfs_entry::SpellFault;
 use kfs_judge::Reason;
 use kfs_judge::plan::{Fault, RowFault};

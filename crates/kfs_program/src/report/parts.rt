@@ -1,6 +1,6 @@
 //! The parts that a line is made of. The caller has made room for them.
 ghost use Rattle.std.specs.Prelude.{◌≡◌, ◌+◌, ◌≤◌, ◌++◌, length, decimal};
-ghost use Rattle.kfs_program.specs.Room.{spare_of};
+ghost use Rattle.kfs_desk.specs.Room.{spare_of};
 ghost use Rattle.kfs_program.specs.Text.{octal_text, field_text, flag_text, numbered_text};
 
 use itoa::Buffer;

@@ -4,7 +4,7 @@ use Rattle.std.proofs.lemmas.Bool.{false≢true}
 use Rattle.kfs_model.specs.Table.{get}
 use Rattle.kfs_model.specs.Lease.{Leases, no_leases}
 use Rattle.kfs_mode.specs.Clients.{AreDistinct}
-use Rattle.kfs_program.proofs.desk.Desk.begin.Goals as goal
+use Rattle.kfs_desk.proofs.desk.Desk.begin.Goals as goal
 
 no_lease : (leases : Leases) (key : ℕ × ℕ) → leases ≡ no_leases → is_some (get leases.rows key) ≡ true → ⊥
 unfolding get

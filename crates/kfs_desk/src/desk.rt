@@ -9,11 +9,11 @@ ghost use Rattle.kfs_lease.specs.Rows.{kind_of};
 ghost use Rattle.kfs_image.specs.Contents.{sight_of};
 ghost use Rattle.kfs_image.specs.ShownTree.{IsLawful};
 ghost use Rattle.kfs_judge.specs.Judging.{HasOtherEntry, IsVerdict, submission_of};
-ghost use Rattle.kfs_program.specs.Docket.{position_of};
-ghost use Rattle.kfs_program.specs.Landing.{CanLand, answer_at, image_after};
-ghost use Rattle.kfs_program.specs.Machine.{IsChange, IsLeaseStep, IsStep, Means, RunsThrough, call_of, done_by, number_of, outcome_at, state_of};
-ghost use Rattle.kfs_program.specs.Opening.{begin_fault, do_overlap, fault_behind};
-ghost use Rattle.kfs_program.specs.Room.{spare_of};
+ghost use Rattle.kfs_desk.specs.Docket.{position_of};
+ghost use Rattle.kfs_desk.specs.Landing.{CanLand, answer_at, image_after};
+ghost use Rattle.kfs_desk.specs.Machine.{IsChange, IsLeaseStep, IsStep, Means, RunsThrough, call_of, done_by, number_of, outcome_at, state_of};
+ghost use Rattle.kfs_desk.specs.Opening.{begin_fault, do_overlap, fault_behind};
+ghost use Rattle.kfs_desk.specs.Room.{spare_of};
 
 use crate::answers::{
     Act, ActReply, BeginBack, BeginFault, Done, Reply, SubmissionsBack, Unanswered,
@@ -41,7 +41,7 @@ pub struct Desk<A: Allocator> {
 }
 
 impl<A: Allocator> Model for Desk<A> {
-    ghost use Rattle.kfs_program.specs.Machine.{Shown, IsInOrder};
+    ghost use Rattle.kfs_desk.specs.Machine.{Shown, IsInOrder};
 
     ghost Value = { Shown };
 

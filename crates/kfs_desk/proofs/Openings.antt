@@ -2,9 +2,9 @@
 use Rattle.std.proofs.Common.{◌≡◌, ◌==◌, Bool, true, false, cond, List, [], ◌∷◌, ◌++◌, length, Option, Some, None, is_some, refl, sym, ap, ◌∙◌}
 use Rattle.std.specs.List.{list_any}
 use Rattle.kfs_model.specs.Access.{Client}
-use Rattle.kfs_program.specs.declared.answers.BeginFault.{BeginFault}
-use Rattle.kfs_program.specs.declared.answers.BeginFault.TheVariants.{ClientTwice, GrantOverlap}
-use Rattle.kfs_program.specs.Opening.{do_overlap, fault_behind, fault_among}
+use Rattle.kfs_desk.specs.declared.answers.BeginFault.{BeginFault}
+use Rattle.kfs_desk.specs.declared.answers.BeginFault.TheVariants.{ClientTwice, GrantOverlap}
+use Rattle.kfs_desk.specs.Opening.{do_overlap, fault_behind, fault_among}
 
 module _ (earlier : List Client) (client : Client) (found : Option BeginFault) (is : found ≡ fault_behind earlier client) where
   -- a client without a fault stands behind the earlier ones

@@ -41,8 +41,8 @@ use Rattle.kfs_judge.specs.declared.plan.Outcome.TheVariants as outcomes
 use Rattle.kfs_judge.proofs.MarkedRuns.{IsUntouched, ends_beside}
 use Rattle.kfs_judge.proofs.Untouched.{need-untouched}
 use Rattle.kfs_judge.proofs.PlanChecked.{all_judged}
-use Rattle.kfs_program.specs.Landing.{CanLand, answer_at, image_after}
-use Rattle.kfs_program.specs.Machine.{Shown, IsInOrder, IsStep, IsDone, Means, state_of}
+use Rattle.kfs_desk.specs.Landing.{CanLand, answer_at, image_after}
+use Rattle.kfs_desk.specs.Machine.{Shown, IsInOrder, IsStep, IsDone, Means, state_of}
 
 -- ---- no judged entry takes a name away
 

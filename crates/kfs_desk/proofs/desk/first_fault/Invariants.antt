@@ -1,7 +1,7 @@
 use Rattle.std.proofs.Common.{◌≡◌, take, drop}
 use Rattle.kfs_mode.specs.Clients.{AreDistinct}
-use Rattle.kfs_program.specs.Opening.{begin_fault, fault_among}
-use Rattle.kfs_program.proofs.desk.first_fault.Given as goal
+use Rattle.kfs_desk.specs.Opening.{begin_fault, fault_among}
+use Rattle.kfs_desk.proofs.desk.first_fault.Given as goal
 
 abbrev pub invariant-loop-index : goal.invariant-loop-index
 invariant-loop-index l = record {

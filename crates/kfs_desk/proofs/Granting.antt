@@ -17,10 +17,10 @@ use Rattle.kfs_lease.specs.Rows.{kind_of}
 use Rattle.kfs_lease.proofs.WalkedNode.{walked_to_node}
 use Rattle.kfs_lease.specs.declared.leases.LeaseFault.{LeaseFault as CodeFault}
 use Rattle.kfs_image.specs.ShownTree.{tree_of, IsLawful}
-use Rattle.kfs_program.specs.declared.answers.Act.{Act}
-use Rattle.kfs_program.specs.declared.answers.Act.TheVariants as acts
-use Rattle.kfs_program.specs.declared.answers.Done.{Done}
-use Rattle.kfs_program.specs.Machine.{Shown, IsInOrder, IsChange, IsLeaseStep, call_of, done_by, outcome_at}
+use Rattle.kfs_desk.specs.declared.answers.Act.{Act}
+use Rattle.kfs_desk.specs.declared.answers.Act.TheVariants as acts
+use Rattle.kfs_desk.specs.declared.answers.Done.{Done}
+use Rattle.kfs_desk.specs.Machine.{Shown, IsInOrder, IsChange, IsLeaseStep, call_of, done_by, outcome_at}
 
 module _ (t : Tree ℕ) (sound : IsSound t) where
   abbrev IsNode : ℕ → Type 0

@@ -5,8 +5,8 @@ use Rattle.kfs_image.specs.Change.{after_net}
 use Rattle.kfs_image.specs.ShownTree.{IsLawful}
 use Rattle.kfs_judge.specs.declared.plan.Outcome.{Outcome}
 use Rattle.kfs_judge.specs.declared.plan.Outcome.TheVariants as outcomes
-use Rattle.kfs_program.specs.declared.answers.Reply.{Reply}
-use Rattle.kfs_program.specs.declared.answers.Reply.TheVariants as replies
+use Rattle.kfs_desk.specs.declared.answers.Reply.{Reply}
+use Rattle.kfs_desk.specs.declared.answers.Reply.TheVariants as replies
 
 module _ {A : Type 0} where
   abbrev pub image_after : ImageShown → Outcome A → ImageShown

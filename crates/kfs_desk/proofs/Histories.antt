@@ -3,11 +3,11 @@ use Rattle.std.proofs.Common.{◌≡◌, ◌↔◌, ◌+◌, List, ◌∷◌, Re
 use Rattle.std.specs.Prelude.{IfOk, OnErr, IsErrOf}
 use Rattle.kfs_judge.specs.Judging.{HasOtherEntry, submission_of}
 use Rattle.kfs_judge.specs.declared.plan.Submission.{Submission}
-use Rattle.kfs_program.specs.declared.answers.Reply.{Reply}
-use Rattle.kfs_program.specs.declared.answers.Unanswered.{Unanswered}
-use Rattle.kfs_program.specs.declared.answers.Unanswered.TheVariants.{OutOfMemory, DocketFull, OtherEntry}
-use Rattle.kfs_program.specs.Docket.{position_of}
-use Rattle.kfs_program.specs.Machine.{Shown, IsStep, IsWhy, Means, RunsThrough, state_of}
+use Rattle.kfs_desk.specs.declared.answers.Reply.{Reply}
+use Rattle.kfs_desk.specs.declared.answers.Unanswered.{Unanswered}
+use Rattle.kfs_desk.specs.declared.answers.Unanswered.TheVariants.{OutOfMemory, DocketFull, OtherEntry}
+use Rattle.kfs_desk.specs.Docket.{position_of}
+use Rattle.kfs_desk.specs.Machine.{Shown, IsStep, IsWhy, Means, RunsThrough, state_of}
 
 module _ {A : Type 0} (old : Shown) (submission : Submission A) where
   -- what isn't answered has its reason

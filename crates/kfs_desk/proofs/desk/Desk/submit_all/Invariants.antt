@@ -1,11 +1,11 @@
 -- Whatever the rest comes to, the whole comes to that behind the answers so far.
 use Rattle.std.proofs.Common.{◌≡◌, ◌≤◌, ◌++◌, List, length, Result}
 use Rattle.std.specs.Vec.Iter.{into_iter_items, into_iter_len}
-use Rattle.kfs_program.specs.declared.answers.Reply.{Reply}
-use Rattle.kfs_program.specs.declared.answers.Unanswered.{Unanswered}
-use Rattle.kfs_program.specs.Machine.{Shown, RunsThrough}
-use Rattle.kfs_program.specs.Room.{spare_of}
-use Rattle.kfs_program.proofs.desk.Desk.submit_all.Given as goal
+use Rattle.kfs_desk.specs.declared.answers.Reply.{Reply}
+use Rattle.kfs_desk.specs.declared.answers.Unanswered.{Unanswered}
+use Rattle.kfs_desk.specs.Machine.{Shown, RunsThrough}
+use Rattle.kfs_desk.specs.Room.{spare_of}
+use Rattle.kfs_desk.proofs.desk.Desk.submit_all.Given as goal
 
 abbrev pub invariant-loop-submission : goal.invariant-loop-submission
 invariant-loop-submission g l = record {

@@ -4,9 +4,9 @@ use Rattle.kfs_model.specs.Sight.{sight}
 use Rattle.kfs_image.specs.Contents.{sight_of}
 use Rattle.kfs_image.specs.ShownTree.{tree_of}
 use Rattle.kfs_image.proofs.ShownTrees.{sight_shown}
-use Rattle.kfs_program.specs.Machine.{Shown, IsChange, IsLeaseStep, call_of, done_by, outcome_at, state_of}
-use Rattle.kfs_program.proofs.Granting.{change_in_order, change_is_step}
-use Rattle.kfs_program.proofs.desk.Desk.act.Goals as goal
+use Rattle.kfs_desk.specs.Machine.{Shown, IsChange, IsLeaseStep, call_of, done_by, outcome_at, state_of}
+use Rattle.kfs_desk.proofs.Granting.{change_in_order, change_is_step}
+use Rattle.kfs_desk.proofs.desk.Desk.act.Goals as goal
 
 pub invariant_of-self-2 : goal.invariant_of-self-2
 invariant_of-self-2 g c =

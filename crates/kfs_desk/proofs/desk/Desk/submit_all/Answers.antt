@@ -1,8 +1,8 @@
 use Rattle.std.proofs.Common.{◌≡◌, List, ◌∷◌, [], ◌++◌, length, refl, sym, ap, subst, ◌∙◌, append_assoc, append-nil, arith}
 use Rattle.std.specs.Vec.Iter.{into_iter_items}
-use Rattle.kfs_program.specs.Machine.{RunsThrough}
-use Rattle.kfs_program.proofs.Histories.{runs_first}
-use Rattle.kfs_program.proofs.desk.Desk.submit_all.Goals as goal
+use Rattle.kfs_desk.specs.Machine.{RunsThrough}
+use Rattle.kfs_desk.proofs.Histories.{runs_first}
+use Rattle.kfs_desk.proofs.desk.Desk.submit_all.Goals as goal
 
 nothing_left : {X : Type 0} (xs : List X) → length xs ≡ 0 → xs ≡ []
 nothing_left [] none = refl

@@ -3,10 +3,10 @@ use Rattle.std.proofs.Common.{◌≡◌, ◌+◌, ◌++◌, ◌∷◌, [], take,
 use Rattle.std.proofs.Math.Seq.{take-suc}
 use Rattle.std.proofs.lemmas.List.{drop_more, drop_all}
 use Rattle.kfs_mode.specs.Clients.{AreDistinct}
-use Rattle.kfs_program.specs.Opening.{fault_among}
-use Rattle.kfs_program.proofs.ClientRows.{distinct_more, without_row}
-use Rattle.kfs_program.proofs.Openings.{fault_here, fault_later, number_is_new}
-use Rattle.kfs_program.proofs.desk.first_fault.Goals as goal
+use Rattle.kfs_desk.specs.Opening.{fault_among}
+use Rattle.kfs_desk.proofs.ClientRows.{distinct_more, without_row}
+use Rattle.kfs_desk.proofs.Openings.{fault_here, fault_later, number_is_new}
+use Rattle.kfs_desk.proofs.desk.first_fault.Goals as goal
 
 pub returns-then-is_some-clause-first : goal.returns-then-is_some-clause-first
 returns-then-is_some-clause-first c =

@@ -18,15 +18,15 @@ use Rattle.kfs_image.specs.Contents.{Shown as ImageShown}
 use Rattle.kfs_image.specs.ShownTree.{tree_of}
 use Rattle.kfs_judge.specs.Judging.{HasOtherEntry, refusal_of, submission_of}
 use Rattle.kfs_judge.specs.declared.plan.Submission.{Submission as CodeSubmission}
-use Rattle.kfs_program.specs.declared.answers.Act.{Act}
-use Rattle.kfs_program.specs.declared.answers.Act.TheVariants as acts
-use Rattle.kfs_program.specs.declared.answers.Done.{Done}
-use Rattle.kfs_program.specs.declared.answers.Done.TheVariants as dones
-use Rattle.kfs_program.specs.declared.answers.Reply.{Reply as CodeReply}
-use Rattle.kfs_program.specs.declared.answers.Reply.TheVariants as replies
-use Rattle.kfs_program.specs.declared.answers.Unanswered.{Unanswered}
-use Rattle.kfs_program.specs.declared.answers.Unanswered.TheVariants as unanswered
-use Rattle.kfs_program.specs.Docket.{position_of}
+use Rattle.kfs_desk.specs.declared.answers.Act.{Act}
+use Rattle.kfs_desk.specs.declared.answers.Act.TheVariants as acts
+use Rattle.kfs_desk.specs.declared.answers.Done.{Done}
+use Rattle.kfs_desk.specs.declared.answers.Done.TheVariants as dones
+use Rattle.kfs_desk.specs.declared.answers.Reply.{Reply as CodeReply}
+use Rattle.kfs_desk.specs.declared.answers.Reply.TheVariants as replies
+use Rattle.kfs_desk.specs.declared.answers.Unanswered.{Unanswered}
+use Rattle.kfs_desk.specs.declared.answers.Unanswered.TheVariants as unanswered
+use Rattle.kfs_desk.specs.Docket.{position_of}
 
 -- what contracts see of a desk
 pub record Shown : Type 0 where

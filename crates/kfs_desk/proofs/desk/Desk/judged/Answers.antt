@@ -8,8 +8,8 @@ use Rattle.kfs_judge.specs.Judging.{IsVerdict, submission_of}
 use Rattle.kfs_judge.specs.Reads.{Agrees}
 use Rattle.kfs_judge.specs.View.{contents_of, leases_of, seen_of}
 use Rattle.kfs_judge.specs.Walks.{seen_in}
-use Rattle.kfs_program.specs.Machine.{state_of}
-use Rattle.kfs_program.proofs.desk.Desk.judged.Goals as goal
+use Rattle.kfs_desk.specs.Machine.{state_of}
+use Rattle.kfs_desk.proofs.desk.Desk.judged.Goals as goal
 
 pub returns-in-Ok-clause-verdict : goal.returns-in-Ok-clause-verdict
 returns-in-Ok-clause-verdict g c =

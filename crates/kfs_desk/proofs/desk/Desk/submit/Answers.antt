@@ -2,10 +2,10 @@
 use Rattle.std.proofs.Common.{◌+◌, ◌≤◌, sym, ap, subst, arith}
 use Rattle.kfs_image.specs.ShownTree.{IsLawful}
 use Rattle.kfs_judge.specs.Judging.{IsVerdict, submission_of}
-use Rattle.kfs_program.specs.Landing.{answer_at}
-use Rattle.kfs_program.specs.Machine.{Shown, IsInOrder, IsStep, Means, state_of}
-use Rattle.kfs_program.proofs.Landing.{can_land, lands_as_step, lands_as_said, lands_in_order}
-use Rattle.kfs_program.proofs.desk.Desk.submit.Goals as goal
+use Rattle.kfs_desk.specs.Landing.{answer_at}
+use Rattle.kfs_desk.specs.Machine.{Shown, IsInOrder, IsStep, Means, state_of}
+use Rattle.kfs_desk.proofs.Landing.{can_land, lands_as_step, lands_as_said, lands_in_order}
+use Rattle.kfs_desk.proofs.desk.Desk.submit.Goals as goal
 
 pub land-requires : goal.land-requires
 land-requires g c =

@@ -1,0 +1,5 @@
+pub mod Docket
+pub mod Landing
+pub mod Machine
+pub mod Opening
+pub mod Room
