@@ -7,6 +7,7 @@ use Rattle.std.specs.BTreeMap.{BTreeMap, get}
 use Rattle.std.specs.BTreeSet.{contains}
 use Rattle.kfs_model.specs.Header.{Header}
 use Rattle.kfs_model.specs.Access.{Client}
+use Rattle.kfs_model.specs.Overlay as laid
 use Rattle.kfs_model.specs.SeenAfter.{put_at, put_name, shifted, put_parent}
 use Rattle.kfs_model.specs.Tree.{directory_entries}
 use Rattle.kfs_model.specs.Sight.{Sight, Seen, Cell, NameIn, HeaderOf}
@@ -16,13 +17,21 @@ use Rattle.kfs_entry.specs.declared.header.Header.{Header as CodeHeader}
 use Rattle.kfs_judge.specs.declared.draft.Draft.{Draft}
 
 module _ {A : Type 0} where
-  abbrev pub over : Draft A → Sight → Sight
-  over draft s = record {
-    head = λ n. unwrap_or (option_map (option_map header_of) (get nat_cmp draft.heads n)) (s.head n);
-    name = λ d m. unwrap_or (get directory_entries.compare draft.names (d, m)) (s.name d m);
-    count = λ d. s.count d +ℤ unwrap_or (get nat_cmp draft.shifts d) (pos 0);
-    parent = λ n. unwrap_or (get nat_cmp draft.parents n) (s.parent n);
+  -- by how much a directory's count of names differs
+  abbrev pub shift_of : Draft A → ℕ → ℤ
+  shift_of draft d = unwrap_or (get nat_cmp draft.shifts d) (pos 0)
+
+  -- what the draft has put into cells
+  abbrev pub overlay_of : Draft A → laid.Overlay
+  overlay_of draft = record {
+    heads = λ n. option_map (option_map header_of) (get nat_cmp draft.heads n);
+    names = λ d m. get directory_entries.compare draft.names (d, m);
+    shift = shift_of draft;
+    parents = get nat_cmp draft.parents;
   }
+
+  abbrev pub over : Draft A → Sight → Sight
+  over draft s = laid.over (overlay_of draft) s
 
   abbrev pub has_created : Draft A → ℕ → Bool
   has_created draft n = contains nat_cmp draft.created n
@@ -51,10 +60,6 @@ with_node d m n header s = record {
 }
 
 module _ {A : Type 0} where
-  -- by how much a directory's count of names differs
-  abbrev pub shift_of : Draft A → ℕ → ℤ
-  shift_of draft d = unwrap_or (get nat_cmp draft.shifts d) (pos 0)
-
   -- no count differs by more
   pub record ShiftsBy (most : ℕ) (draft : Draft A) : Type 0 where
     pub at : (d : ℕ) → shift_of draft d ≤ℤ pos most

@@ -306,7 +306,8 @@ fn unless_refused(fault: SpellFault) -> Result<SpellFault, Why>
     }
 }
 
-fn are_judged(entries: &[Entry<Span>]) -> bool
+/// Whether each of these entries is of a kind that is judged: a Create or a Chmod. Takes no memory.
+pub fn are_judged(entries: &[Entry<Span>]) -> bool
     ensures { IsTrue result ↔ All IsJudged entries.now }
 {
     entries.iter().all(is_judged)

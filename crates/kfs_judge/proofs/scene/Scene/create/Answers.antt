@@ -14,9 +14,9 @@ use Rattle.kfs_judge.proofs.scene.Scene.create.Goals as goal
 
 pub returns-clause-shown : goal.returns-clause-shown
 unfolding seen_after
-returns-clause-shown g c _ state agrees =
-    c.in_ok-add_node.ensures.shown state.sight
-    ∙ λ i. with_node c.args.key.0 c.args.key.1 c.args.number (record { kind = kind_of c.args.kind; mode = c.args.mode; uid = c.uid.ensures i; gid = c.gid.ensures i; links = 1; size = 0 }) (over c.args.self.now.draft state.sight)
+returns-clause-shown g c _ s =
+    c.in_ok-add_node.ensures.shown s
+    ∙ λ i. with_node c.args.key.0 c.args.key.1 c.args.number (record { kind = kind_of c.args.kind; mode = c.args.mode; uid = c.uid.ensures i; gid = c.gid.ensures i; links = 1; size = 0 }) (over c.args.self.now.draft s)
 
 pub returns-clause-written : goal.returns-clause-written
 returns-clause-written g c _ state agrees among written =
