@@ -1,5 +1,9 @@
 //! What a desk is begun with: the image and the clients.
-ghost use Rattle.std.specs.Prelude.{◌≤◌};
+ghost use Rattle.std.specs.Prelude.{◌≡◌, ℕ, ◌≤◌, ◌++◌, List, codes, IfErr, IfOk, IsErrOf, OnOk};
+ghost use Rattle.kfs_program.specs.Command as commands;
+ghost use Rattle.kfs_program.specs.Session.{Before, admitted, fresh, opened};
+ghost use Rattle.kfs_program.specs.Text.{line_of};
+ghost use Rattle.kfs_program.specs.Views.{opening_of, stage_after, start_of};
 ghost use Rattle.kfs_desk.specs.Room.{spare_of};
 
 use crate::command::OpeningCommand;
@@ -23,7 +27,9 @@ pub struct Opening<A: Allocator> {
 
 impl<A: Allocator + Copy> Opening<A> {
     /// No image and no client.
-    pub fn new(alloc: A) -> Opening<A> {
+    pub fn new(alloc: A) -> Opening<A>
+        ensures { Before (start_of result) ≡ fresh }
+    {
         Opening {
             alloc,
             image: None,
@@ -39,6 +45,9 @@ impl<A: Allocator + Copy> Opening<A> {
         reply: &mut Vec<u8, A>,
     ) -> Result<Option<Desk<A>>, Refusal>
         requires { 128 ≤ spare_of reply.old }
+        ensures ok { IfOk result (λ begun. (text : List ℕ) × (reply.new.items ≡ reply.old.items ++ text) × (opened (start_of self.old) (opening_of command) ≡ (text, stage_after begun (start_of self.new)))) }
+        ensures bad { IsErrOf result Refusal.BadLine → opened (start_of self.old) (opening_of command) ≡ (line_of (codes "bad line"), Before (start_of self.new)) }
+        ensures memory { IsErrOf result Refusal.OutOfMemory → start_of self.new ≡ start_of self.old }
     {
         match command {
             OpeningCommand::New(sizes) => self.renew(sizes, reply)?,
@@ -51,6 +60,8 @@ impl<A: Allocator + Copy> Opening<A> {
     /// Takes a fresh image in place of the one before.
     fn renew(&mut self, sizes: TierSizes, reply: &mut Vec<u8, A>) -> Result<(), Refusal>
         requires { 128 ≤ spare_of reply.old }
+        ensures ok { OnOk result ((reply.new.items ≡ reply.old.items ++ line_of (codes "ok")) × (opened (start_of self.old) (commands.New sizes) ≡ (line_of (codes "ok"), Before (start_of self.new)))) }
+        ensures err { IfErr result (λ why. (why ≡ Refusal.OutOfMemory) × (start_of self.new ≡ start_of self.old)) }
     {
         self.image = Some(Image::fresh(self.alloc, sizes)?);
         text(reply, b"ok\n");
@@ -64,6 +75,8 @@ impl<A: Allocator + Copy> Opening<A> {
         reply: &mut Vec<u8, A>,
     ) -> Result<(), Refusal>
         requires { 128 ≤ spare_of reply.old }
+        ensures ok { OnOk result ((reply.new.items ≡ reply.old.items ++ (admitted (start_of self.old) client).0) × ((admitted (start_of self.old) client).1 ≡ Before (start_of self.new))) }
+        ensures err { IfErr result (λ why. (why ≡ Refusal.OutOfMemory) × (start_of self.new ≡ start_of self.old)) }
     {
         match client {
             Ok(client) => {
@@ -79,6 +92,9 @@ impl<A: Allocator + Copy> Opening<A> {
     /// want of memory.
     fn begin(&mut self, limit: u32, reply: &mut Vec<u8, A>) -> Result<Option<Desk<A>>, Refusal>
         requires { 128 ≤ spare_of reply.old }
+        ensures ok { IfOk result (λ begun. (text : List ℕ) × (reply.new.items ≡ reply.old.items ++ text) × (opened (start_of self.old) (commands.Begin limit) ≡ (text, stage_after begun (start_of self.new)))) }
+        ensures bad { IsErrOf result Refusal.BadLine → opened (start_of self.old) (commands.Begin limit) ≡ (line_of (codes "bad line"), Before (start_of self.new)) }
+        ensures memory { IsErrOf result Refusal.OutOfMemory → start_of self.new ≡ start_of self.old }
     {
         let image = self.image.take().ok_or(Refusal::BadLine)?;
         let clients = mem::replace(&mut self.clients, Vec::new(self.alloc));

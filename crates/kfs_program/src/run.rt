@@ -1,4 +1,7 @@
 //! The words of the command line, and the exit status.
+ghost use Rattle.std.specs.Prelude.{◌≡◌, ◌≤◌, ℕ, List, length, MatchOption, None, OnOk, Some};
+ghost use Rattle.std.specs.Io.KnownBytes.{Appends, Consumes};
+ghost use Rattle.kfs_program.specs.Conversation.{IsExit, message_of, status_of};
 
 use crate::{EngineFault, engine};
 use clap::Command;
@@ -33,16 +36,19 @@ where
     A: Allocator + Copy,
     I: Read,
     O: Write,
+    ensures { (input : List ℕ) × (text : List ℕ) × Consumes (I.remaining reader.old) (I.remaining reader.new) input × Appends (O.contents writer.old) (O.contents writer.new) text × IsExit (length words.now) result input text }
 {
     match asked_of(rt.alloc(), words) {
-        Ok(Subcommand::Run) => status_of(engine(rt, alloc, reader, writer)),
+        Ok(Subcommand::Run) => exit_status(engine(rt, alloc, reader, writer)),
         Err(WordsFault::Refused) => 2,
         Err(WordsFault::OutOfMemory) => 4,
     }
 }
 
 /// What a status that is no success means, for the person who reads it.
-pub fn status_message(status: u8) -> Option<&'static str> {
+pub fn status_message(status: u8) -> Option<&'static str>
+    ensures { MatchOption result (message_of status ≡ None) (λ message. message_of status ≡ Some message.now) }
+{
     match status {
         2 => Some("usage: kfs [run]"),
         3 => Some("the input or the output failed, or a line was too long"),
@@ -51,7 +57,9 @@ pub fn status_message(status: u8) -> Option<&'static str> {
     }
 }
 
-fn status_of(ended: Result<(), EngineFault>) -> u8 {
+fn exit_status(ended: Result<(), EngineFault>) -> u8
+    ensures { result ≡ status_of ended }
+{
     match ended {
         Ok(()) => 0,
         Err(EngineFault::OutOfMemory) => 4,
@@ -61,7 +69,9 @@ fn status_of(ended: Result<(), EngineFault>) -> u8 {
 
 /// The subcommand that the words name. `clap` takes some words for none, as `--`, so the count of the
 /// words is asked too.
-fn asked_of(alloc: Global, words: &[&str]) -> Result<Subcommand, WordsFault> {
+fn asked_of(alloc: Global, words: &[&str]) -> Result<Subcommand, WordsFault>
+    ensures { OnOk result (length words.now ≤ 2) }
+{
     let asked = match parsed(alloc, words) {
         Ok(asked) => asked,
         Err(error) if error.kind() == ErrorKind::OutOfMemory => {
