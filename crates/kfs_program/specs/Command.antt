@@ -71,7 +71,7 @@ client_row number uid gid groups privileged first last =
     else if (first == 0) || nat_lt 65536 last then Err BadGrant
     else Ok (record { number = number; uid = uid; gid = gid; groups = groups; privileged = privileged; first = first; last = last })
 
--- the ? of options
+-- the next reading of a value, where there is one
 infixl 10 ◌>>=◌
 abbrev pub ◌>>=◌ : {A B : Type 0} → Option A → (A → Option B) → Option B
 Some x >>= f = f x
