@@ -1,9 +1,1 @@
-pub mod Command
-pub mod Conversation
-pub mod Cut
-pub mod Listing
-pub mod Progress
-pub mod Reading
-pub mod Session
-pub mod Text
-pub mod Views
+pub mod Exit

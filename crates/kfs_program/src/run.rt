@@ -1,11 +1,11 @@
 //! The words of the command line, and the exit status.
 ghost use Rattle.std.specs.Prelude.{◌≡◌, ◌≤◌, ℕ, List, length, MatchOption, None, OnOk, Some};
 ghost use Rattle.std.specs.Io.KnownBytes.{Appends, Consumes};
-ghost use Rattle.kfs_program.specs.Conversation.{IsExit, message_of, status_of};
+ghost use Rattle.kfs_program.specs.Exit.{IsExit, message_of, status_of};
 
-use crate::{EngineFault, engine};
 use clap::Command;
 use clap::error::ErrorKind;
+use kfs_engine::{EngineFault, engine};
 use std::alloc::{Allocator, Global};
 use std::io::{Read, Write};
 

@@ -1,0 +1,40 @@
+-- A log with an entry that isn't judged yet, by what its bytes were decoded to.
+use Rattle.std.proofs.Common.{◌≡◌, ◌≢◌, true, false, List, ℕ, Option, Some, None, Result, Ok, map, refl, sym, ap, subst, ◌∙◌}
+use Rattle.std.specs.Prelude.{All}
+use Rattle.std.specs.List.{list_all}
+use Rattle.kfs_model.specs.Entry.{Log}
+use Rattle.kfs_model.specs.Spelling.{SpellingFault, LogAnswer}
+use Rattle.kfs_model.specs.Judgement.{Submission}
+use Rattle.kfs_entry.specs.Answers.{Refused, log_of}
+use Rattle.kfs_entry.specs.Views.{entry_of}
+use Rattle.kfs_entry.specs.declared.entry.Log.{Log as CodeLog}
+use Rattle.kfs_entry.specs.declared.fault.SpellFault.{SpellFault}
+use Rattle.kfs_entry.specs.declared.fault.SpellFault.TheVariants as faults
+use Rattle.kfs_judge.specs.JudgedEntries.{IsJudged, is_judged}
+use Rattle.kfs_judge.specs.Judging.{HasOtherEntry}
+use Rattle.kfs_engine.specs.Command.{Command, Desk, Submit, IsBadLine}
+use Rattle.kfs_judge.proofs.PlanChecked.{all_judged}
+
+pub all_are_judged : {A : Type 0} (bytes : List ℕ) (log : CodeLog A) → ((answer : Result Log SpellingFault) → LogAnswer bytes answer → Ok (log_of bytes log) ≡ answer) → All IsJudged log.entries → HasOtherEntry bytes → ⊥
+all_are_judged bytes log only all has =
+    let same : Ok (log_of bytes log) ≡ Ok has.log = only (Ok has.log) has.spelled in
+    let judged : list_all is_judged (map (entry_of bytes) log.entries) ≡ true = all_judged bytes log.entries all in
+    let log_is : log_of bytes log ≡ has.log = cc in
+    let e : true ≡ false = sym judged ∙ ap (λ l. list_all is_judged l.entries) log_is ∙ has.other in
+    cc
+
+no_log : (fault : SpellFault) (log : Log) → fault ≢ faults.OutOfMemory → Refused (λ given. given ≡ Ok log) fault → ⊥
+no_log faults.BadHeader log refused is = cc
+no_log (faults.BadEntry k) log refused is = cc
+no_log faults.Trailing log refused is = cc
+no_log (faults.BadRow part k) log refused is = cc
+no_log faults.OutOfMemory log refused is = refused refl
+
+pub no_log_has_other : (bytes : List ℕ) (fault : SpellFault) → fault ≢ faults.OutOfMemory → ((answer : Result Log SpellingFault) → LogAnswer bytes answer → Refused (λ given. given ≡ answer) fault) → HasOtherEntry bytes → ⊥
+no_log_has_other bytes fault refused only has = no_log fault has.log refused (only (Ok has.log) has.spelled)
+
+pub none_is_bad : (asked : Option Command) → asked ≡ None → IsBadLine asked
+none_is_bad asked is = subst IsBadLine (sym is) tt
+
+pub other_is_bad : (asked : Option Command) (submission : Submission) → asked ≡ Some (Desk (Submit submission)) → HasOtherEntry submission.log → IsBadLine asked
+other_is_bad asked submission is has = subst IsBadLine (sym is) has

@@ -1,0 +1,35 @@
+-- Bytes have one answer as a log, so that its entries are all that there are.
+use Rattle.std.proofs.Common.{◌≡◌, Bool, true, false, not, refl, sym, subst}
+use Rattle.std.specs.Prelude.{All}
+use Rattle.std.proofs.lemmas.Bool.{both_ways}
+use Rattle.kfs_entry.specs.Answers.{log_of}
+use Rattle.kfs_judge.specs.JudgedEntries.{IsJudged}
+use Rattle.kfs_judge.proofs.PlanChecked.{not_all_judged}
+use Rattle.kfs_engine.proofs.Submitted.{all_are_judged, no_log_has_other}
+use Rattle.kfs_engine.proofs.command.has_other_entry.Goals as goal
+
+is_false : (b : Bool) → not b ≡ true → b ≡ false
+is_false true is = cc
+is_false false is = refl
+
+is_true : (b : Bool) → not b ≡ false → b ≡ true
+is_true true is = refl
+is_true false is = cc
+
+pub returns-in-Ok-clause-yes : goal.returns-in-Ok-clause-yes
+returns-in-Ok-clause-yes g c is = record {
+  log = log_of c.args.log.now c.in-Ok.log;
+  spelled = c.in-Ok.ensures.found;
+  other = not_all_judged c.args.log.now c.in-Ok.log.entries (λ all. both_ways _ (is_false c.are_judged.result is) (c.are_judged.ensures.1 (subst (All IsJudged) (sym c.as_slice.ensures) all)));
+}
+
+pub returns-in-Ok-clause-no : goal.returns-in-Ok-clause-no
+returns-in-Ok-clause-no g c is =
+    all_are_judged c.args.log.now c.in-Ok.log c.in-Ok.ensures.only (subst (All IsJudged) c.as_slice.ensures (c.are_judged.ensures.0 (is_true c.are_judged.result is)))
+
+pub returns-in_default : goal.returns-in_default
+returns-in_default g c = record {
+  yes = λ is. cc;
+  no = λ is. no_log_has_other c.args.log.now c.in-Err.fault c.in_default.not-OutOfMemory c.in-Err.ensures.only;
+  memory = tt;
+}

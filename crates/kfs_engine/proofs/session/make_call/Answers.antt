@@ -1,0 +1,23 @@
+use Rattle.std.proofs.Common.{◌≡◌, ◌+◌, Ok, Err, ap, ◌∙◌, inr, refl}
+use Rattle.kfs_engine.specs.Text.{act_text, line_of}
+use Rattle.kfs_engine.proofs.session.make_call.Goals as goal
+
+apart : {A E : Type 0} {answer : A} {why : E} → Ok answer ≡ Err why → ⊥
+apart e = cc
+
+pub returns-in_ok-act_line-in-Ok-clause-ok : goal.returns-in_ok-act_line-in-Ok-clause-ok
+returns-in_ok-act_line-in-Ok-clause-ok g c =
+    let called = c.in-Ok.ensures in (
+      line_of (act_text c.in-Ok.answer),
+      c.in_ok-act_line-in-Ok.ensures.ok,
+      inr (record {
+        answer = c.in-Ok.answer;
+        next = c.act.new.self;
+        step = called.step;
+        position = called.row.0;
+        below = λ full. apart (called.full.1 full);
+        rows = called.row.1 ∙ ap (λ n. n + 1) called.row.0;
+        limit = called.limit;
+        is = refl;
+      }),
+    )

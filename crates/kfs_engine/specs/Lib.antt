@@ -1,0 +1,9 @@
+pub mod Command
+pub mod Conversation
+pub mod Cut
+pub mod Listing
+pub mod Progress
+pub mod Reading
+pub mod Session
+pub mod Text
+pub mod Views

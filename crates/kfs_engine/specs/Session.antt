@@ -1,0 +1,146 @@
+-- A session: what each line is answered, and what it leaves.
+use Rattle.std.specs.Prelude.{◌≡◌, ◌≢◌, ◌⊎◌, ℕ, ◌+◌, List, [], ◌∷◌, ◌++◌, codes, Option, Some, None, Result, Ok, Err, if◌then◌else◌}
+use Rattle.kfs_model.specs.Access.{Client}
+use Rattle.kfs_model.specs.Table.{get}
+use Rattle.kfs_model.specs.Sight.{is_directory}
+use Rattle.kfs_model.specs.Lease.{no_leases}
+use Rattle.kfs_model.specs.Judgement.{Submission}
+use Rattle.kfs_model.specs.Machine as machine
+use Rattle.kfs_mode.specs.declared.client.ClientFault.{ClientFault}
+use Rattle.kfs_entry.specs.Views.{header_of}
+use Rattle.kfs_entry.specs.declared.header.Header.{Header as CodeHeader}
+use Rattle.kfs_image.specs.Contents.{Shown as ImageShown, root_alone}
+use Rattle.kfs_mode.specs.declared.client.ClientFault.{ClientFault}
+use Rattle.kfs_judge.specs.Judging.{HasOtherEntry}
+use Rattle.kfs_desk.specs.Machine.{Shown as Desk, IsAnswered, IsLeaseStep, state_of}
+use Rattle.kfs_desk.specs.Opening.{begin_fault}
+use Rattle.kfs_desk.specs.declared.answers.ActReply.{ActReply}
+use Rattle.kfs_desk.specs.declared.answers.BeginFault.{BeginFault}
+use Rattle.kfs_desk.specs.declared.answers.Done.{Done}
+use Rattle.kfs_desk.specs.declared.answers.Done.TheVariants.{Leased, Dropped, Ticked}
+use Rattle.kfs_desk.specs.declared.answers.Reply.{Reply}
+use Rattle.kfs_engine.specs.Command.{Command, Opening, Desk as ToDesk, OpeningCommand, New, Row, Begin, DeskCommand, Lease, Drop, Tick, Submit, Node, Names, IsBadLine, asked_by}
+use Rattle.kfs_engine.specs.Listing.{list_text}
+use Rattle.kfs_engine.specs.Text.{act_text, begin_text, client_text, line_of, node_text, reply_text}
+
+-- what a desk is begun with: the image, where one was made, and the clients
+pub record Start : Type 0 where
+  pub image : Option ImageShown
+  pub clients : List Client
+
+-- before the desk is begun, and after
+pub data Stage : Type 0 where
+  Before : (start : Start) → Stage
+  After : (desk : Desk) → Stage
+
+-- neither an image nor a client
+abbrev pub fresh : Stage
+fresh = Before (record { image = None; clients = [] })
+
+-- a reply, and the stage that it leaves
+abbrev pub Outcome : Type 0
+Outcome = List ℕ × Stage
+
+-- a text is appended that, with this stage, is such an outcome
+abbrev pub Replies : (Outcome → Type 0) → (before after : List ℕ) → Stage → Type 0
+Replies Holds before after stage = (text : List ℕ) × (after ≡ before ++ text) × Holds (text, stage)
+
+-- this line, and the stage as it was
+abbrev pub IsSaid : (text : List ℕ) → Stage → Outcome → Type 0
+IsSaid text s outcome = outcome ≡ (line_of text, s)
+
+-- ---- before the desk is begun
+
+-- the desk, or the fault of the clients: the image stays then, and they are forgotten
+abbrev pub begun : ImageShown → List Client → (limit : ℕ) → Option BeginFault → Outcome
+begun image clients limit None = (line_of (codes "ok"), After (record { image = image; clients = clients; leases = no_leases; rows = 0; limit = limit }))
+begun image clients limit (Some fault) = (line_of (codes "begin " ++ begin_text fault), Before (record { image = Some image; clients = [] }))
+
+-- without an image there is no desk
+abbrev pub begun_over : Option ImageShown → List Client → (limit : ℕ) → Outcome
+begun_over None clients limit = (line_of (codes "bad line"), Before (record { image = None; clients = clients }))
+begun_over (Some image) clients limit = begun image clients limit (begin_fault clients)
+
+abbrev pub admitted : Start → Result Client ClientFault → Outcome
+admitted start (Ok client) = (line_of (codes "ok"), Before (record start { clients = start.clients ++ client ∷ [] }))
+admitted start (Err fault) = (line_of (codes "client " ++ client_text fault), Before start)
+
+abbrev pub opened : Start → OpeningCommand → Outcome
+opened start (New sizes) = (line_of (codes "ok"), Before (record start { image = Some (record { contents = root_alone; sizes = sizes }) }))
+opened start (Row client) = admitted start client
+opened start (Begin limit) = begun_over start.image start.clients limit
+
+-- ---- calls of the desk
+
+-- the docket has as many rows as its limit
+abbrev pub IsFull : Desk → Outcome → Type 0
+IsFull desk outcome = (desk.rows ≡ desk.limit) × IsSaid (codes "full") (After desk) outcome
+
+-- the machine's step of the call, told in these words, with the docket's next row
+pub record IsCalled (desk : Desk) (call : machine.Call) (words : ℕ → Done) (outcome : Outcome) : Type 0 where
+  pub answer : ActReply
+  pub next : Desk
+  pub step : IsLeaseStep (state_of desk) call words answer.answer (state_of next)
+  pub position : answer.position ≡ desk.rows
+  pub below : desk.rows ≢ desk.limit
+  pub rows : next.rows ≡ desk.rows + 1
+  pub limit : next.limit ≡ desk.limit
+  pub is : outcome ≡ (line_of (act_text answer), After next)
+
+-- the submission is answered: the desk's reply to it
+pub record IsSubmitted (desk : Desk) (submission : Submission) (outcome : Outcome) : Type 0 where
+  pub judged : HasOtherEntry submission.log → ⊥
+  pub answer : Reply
+  pub next : Desk
+  pub below : desk.rows ≢ desk.limit
+  pub answered : IsAnswered desk submission answer next
+  pub is : outcome ≡ (line_of (reply_text answer), After next)
+
+-- ---- looks
+
+-- the node's line
+pub record IsNode (desk : Desk) (number : ℕ) (outcome : Outcome) : Type 0 where
+  pub header : CodeHeader
+  pub shown : get desk.image.contents.heads number ≡ Some (header_of header)
+  pub is : IsSaid (node_text number header) (After desk) outcome
+
+abbrev pub IsNone : Desk → (number : ℕ) → Outcome → Type 0
+IsNone desk number outcome = (get desk.image.contents.heads number ≡ None) × IsSaid (codes "none") (After desk) outcome
+
+-- the line of its names, where it is a directory
+abbrev pub names_line : Desk → (directory : ℕ) → List ℕ
+names_line desk directory = if is_directory (get desk.image.contents.heads directory) then list_text directory desk.image.contents.names else codes "none"
+
+-- ---- lines
+
+-- a command to the desk; a full docket answers no call
+abbrev pub Serves : Desk → DeskCommand → Outcome → Type 0
+Serves desk (Lease client path kind end) outcome = IsFull desk outcome ⊎ IsCalled desk (machine.Lease client path kind end) Leased outcome
+Serves desk (Drop client number) outcome = IsFull desk outcome ⊎ IsCalled desk (machine.Drop client number) Dropped outcome
+Serves desk (Tick moment) outcome = IsFull desk outcome ⊎ IsCalled desk (machine.Tick moment) Ticked outcome
+Serves desk (Submit submission) outcome = ((HasOtherEntry submission.log → ⊥) × IsFull desk outcome) ⊎ IsSubmitted desk submission outcome
+Serves desk (Node number) outcome = IsNone desk number outcome ⊎ IsNode desk number outcome
+Serves desk (Names directory) outcome = IsSaid (names_line desk directory) (After desk) outcome
+
+-- a command where it is due
+abbrev pub Does : Stage → Command → Outcome → Type 0
+Does (Before start) (Opening command) outcome = outcome ≡ opened start command
+Does (Before start) (ToDesk command) outcome = IsSaid (codes "bad line") (Before start) outcome
+Does (After desk) (Opening command) outcome = IsSaid (codes "bad line") (After desk) outcome
+Does (After desk) (ToDesk command) outcome = Serves desk command outcome
+
+-- what the line asks for is done, where it is a command
+abbrev pub Obeys : Stage → Option Command → Outcome → Type 0
+Obeys s None outcome = ⊥
+Obeys s (Some command) outcome = Does s command outcome
+
+-- a bad line, or what the line asks for, or want of memory, which may come at any line and leaves the stage
+abbrev pub Answers : Stage → (line : List ℕ) → Outcome → Type 0
+Answers s line outcome =
+    (IsBadLine (asked_by line) × IsSaid (codes "bad line") s outcome)
+    ⊎ (Obeys s (asked_by line) outcome ⊎ IsSaid (codes "memory") s outcome)
+
+-- the text that the lines are answered one after another, and the last stage
+abbrev pub Runs : Stage → (lines : List (List ℕ)) → (text : List ℕ) → Stage → Type 0
+Runs s [] text last = (text ≡ []) × (last ≡ s)
+Runs s (line ∷ lines) text last = (reply : List ℕ) × (next : Stage) × (rest : List ℕ) × Answers s line (reply, next) × Runs next lines rest last × (text ≡ reply ++ rest)

@@ -1,0 +1,262 @@
+//! The command lines that a session answers.
+ghost use Rattle.std.specs.Prelude.{◌≡◌, ℕ, List, true, false, IfOk, IfErr, IsErrOf, Some};
+ghost use Rattle.kfs_lease.specs.Rows.{kind_of};
+ghost use Rattle.kfs_judge.specs.Judging.{HasOtherEntry, submission_of};
+ghost use Rattle.kfs_engine.specs.Command.{Desk as DeskLine, Names as NamesLine, Node as NodeLine, Opening as OpeningLine, Submit as SubmitLine, IsBadLine, asked_by, client_of, command_of, drop_of, kind_named, lease_of, new_of, submit_of};
+ghost use Rattle.kfs_engine.specs.Reading.{IsAsked, IsRead, begin_of, checked, command_named, first_by, names_of, node_of, tick_of};
+ghost use Rattle.kfs_engine.specs.Views.{act_of, asked_of, left_of, opening_of};
+
+use crate::words::{Refusal, Words};
+use kfs_desk::answers::Act;
+use kfs_entry::{SpellFault, decode_log};
+use kfs_image::TierSizes;
+use kfs_judge::plan::{Submission, are_judged};
+use kfs_lease::LeaseKind;
+use kfs_mode::{Client, ClientFault};
+use std::alloc::Allocator;
+
+/// A command with its words read.
+#[derive(Drop)]
+pub enum Command<'a, A: Allocator> {
+    Opening(OpeningCommand),
+    Desk(DeskCommand<'a, A>),
+}
+
+/// A command that comes before the desk is begun.
+#[derive(Drop)]
+pub enum OpeningCommand {
+    /// `new A B C`: a fresh image over tiers of these sizes.
+    New(TierSizes),
+    /// `client N UID GID PRIV FIRST LAST [GROUP ..]`: one client more, where its row is right.
+    Client(Result<Client, ClientFault>),
+    /// `begin LIMIT`: the desk, whose docket has at most this many rows.
+    Begin(u32),
+}
+
+/// A command to the desk.
+#[derive(Drop)]
+pub enum DeskCommand<'a, A: Allocator> {
+    /// `lease N PATH K END`, `drop N NUMBER` or `tick M`: a call for the leases.
+    Act(Act<'a>),
+    /// `submit N LOG PLAN`: a log and its plan.
+    Submit(Submission<A>),
+    /// `node N`: the header of a node.
+    Node(u32),
+    /// `list N`: the names of a directory.
+    List(u32),
+}
+
+impl<'a, A: Allocator + Copy> Command<'a, A> {
+    /// Reads a line, which comes without its end. What is no command, or has a number out of its
+    /// range, is a bad line.
+    pub fn read(alloc: A, line: &'a [u8]) -> Result<Command<'a, A>, Refusal>
+        ensures ok { IfOk result (λ command. asked_by line.now ≡ Some (asked_of command)) }
+        ensures good { IfOk result (λ command. IsBadLine (asked_by line.now) → ⊥) }
+        ensures bad { IsErrOf result Refusal.BadLine → IsBadLine (asked_by line.now) }
+    {
+        let mut words = Words::new(line);
+        let name = name_in(words.word()?);
+        Command::named(alloc, name, &mut words)
+    }
+
+    /// The command of this name with the words behind it.
+    #[tactic(auto, using(crate::proofs::Readings::nameless, crate::proofs::Submitted::none_is_bad))]
+    fn named(alloc: A, name: Option<Name>, words: &mut Words<'a>) -> Result<Command<'a, A>, Refusal>
+        ensures { IsAsked (checked (command_named name) (left_of words.old)) result }
+    {
+        match name.ok_or(Refusal::BadLine)? {
+            Name::New => Ok(Command::Opening(read_new(words)?)),
+            Name::Client => Ok(Command::Opening(read_client(words)?)),
+            Name::Begin => Ok(Command::Opening(read_begin(words)?)),
+            Name::Lease => Ok(Command::Desk(DeskCommand::Act(read_lease(words)?))),
+            Name::Drop => Ok(Command::Desk(DeskCommand::Act(read_drop(words)?))),
+            Name::Tick => Ok(Command::Desk(DeskCommand::Act(read_tick(words)?))),
+            Name::Submit => Ok(Command::Desk(DeskCommand::Submit(read_submit(alloc, words)?))),
+            Name::Node => Ok(Command::Desk(DeskCommand::Node(read_node(words)?))),
+            Name::List => Ok(Command::Desk(DeskCommand::List(read_list(words)?))),
+        }
+    }
+}
+
+/// The name of a command.
+#[derive(Clone, Copy)]
+enum Name {
+    New,
+    Client,
+    Begin,
+    Lease,
+    Drop,
+    Tick,
+    Submit,
+    Node,
+    List,
+}
+
+/// The command that the word names.
+#[tactic(auto, unfolding(crate::specs::Reading::begin_of, crate::specs::Reading::tick_of, crate::specs::Reading::node_of, crate::specs::Reading::names_of))]
+fn name_in(word: &[u8]) -> Option<Name>
+    ensures { (words : List (List ℕ)) → command_of word.now words ≡ command_named result words }
+{
+    if word == b"new".as_slice() {
+        Some(Name::New)
+    } else if word == b"client".as_slice() {
+        Some(Name::Client)
+    } else if word == b"begin".as_slice() {
+        Some(Name::Begin)
+    } else if word == b"lease".as_slice() {
+        Some(Name::Lease)
+    } else if word == b"drop".as_slice() {
+        Some(Name::Drop)
+    } else if word == b"tick".as_slice() {
+        Some(Name::Tick)
+    } else if word == b"submit".as_slice() {
+        Some(Name::Submit)
+    } else if word == b"node".as_slice() {
+        Some(Name::Node)
+    } else if word == b"list".as_slice() {
+        Some(Name::List)
+    } else {
+        None
+    }
+}
+
+#[tactic(auto, using(crate::proofs::Readings::begin_steps))]
+fn read_begin(words: &mut Words<'_>) -> Result<OpeningCommand, Refusal>
+    ensures { IsRead (λ command. OpeningLine (opening_of command)) (checked begin_of (left_of words.old)) result }
+{
+    Ok(OpeningCommand::Begin(words.only_number32()?))
+}
+
+#[tactic(auto, using(crate::proofs::Readings::tick_steps))]
+fn read_tick<'a>(words: &mut Words<'_>) -> Result<Act<'a>, Refusal>
+    ensures { IsRead (λ act. DeskLine (act_of act)) (checked tick_of (left_of words.old)) result }
+{
+    let moment = words.only_number64()?;
+    Ok(Act::Tick { moment })
+}
+
+#[tactic(auto, using(crate::proofs::Readings::new_steps))]
+fn read_new(words: &mut Words<'_>) -> Result<OpeningCommand, Refusal>
+    ensures { IsRead (λ command. OpeningLine (opening_of command)) (checked new_of (left_of words.old)) result }
+{
+    let first = words.number32()?;
+    let second = words.number32()?;
+    let third = words.number32()?;
+    words.end()?;
+    let sizes = TierSizes::new(first, second, third).ok_or(Refusal::BadLine)?;
+    Ok(OpeningCommand::New(sizes))
+}
+
+#[tactic(auto, using(crate::proofs::Readings::client_steps))]
+fn read_client(words: &mut Words<'_>) -> Result<OpeningCommand, Refusal>
+    ensures { IsRead (λ command. OpeningLine (opening_of command)) (checked client_of (left_of words.old)) result }
+{
+    let number = words.number32()?;
+    let uid = words.number32()?;
+    let gid = words.number32()?;
+    let privileged = words.number(1)? == 1;
+    let first = words.number32()?;
+    let last = words.number32()?;
+    // One more than a client can have, so that too many are seen.
+    let groups = words.numbers::<17>()?;
+    let client = Client::new(number, uid, gid, groups.as_slice(), privileged, first, last);
+    Ok(OpeningCommand::Client(client))
+}
+
+#[tactic(auto, using(crate::proofs::Readings::lease_steps))]
+fn read_lease<'a>(words: &mut Words<'a>) -> Result<Act<'a>, Refusal>
+    ensures { IsRead (λ act. DeskLine (act_of act)) (checked lease_of (left_of words.old)) result }
+{
+    let client = words.number32()?;
+    let path = words.word()?;
+    let kind = lease_kind(words)?;
+    let end = words.number64()?;
+    words.end()?;
+    Ok(Act::Lease {
+        client,
+        path,
+        kind,
+        end,
+    })
+}
+
+#[tactic(auto, unfolding(crate::specs::Reading::first_by))]
+fn lease_kind(words: &mut Words<'_>) -> Result<LeaseKind, Refusal>
+    ensures { IsRead (λ kind. (kind_of kind, left_of words.new)) (first_by kind_named (left_of words.old)) result }
+{
+    match words.word()? {
+        b"r" => Ok(LeaseKind::Read),
+        b"w" => Ok(LeaseKind::Write),
+        _ => Err(Refusal::BadLine),
+    }
+}
+
+#[tactic(auto, using(crate::proofs::Readings::drop_steps))]
+fn read_drop<'a>(words: &mut Words<'_>) -> Result<Act<'a>, Refusal>
+    ensures { IsRead (λ act. DeskLine (act_of act)) (checked drop_of (left_of words.old)) result }
+{
+    let client = words.number32()?;
+    let number = words.number32()?;
+    words.end()?;
+    Ok(Act::Drop { client, number })
+}
+
+#[tactic(auto, using(crate::proofs::Readings::node_steps))]
+fn read_node(words: &mut Words<'_>) -> Result<u32, Refusal>
+    ensures { IsRead (λ number. DeskLine (NodeLine number)) (checked node_of (left_of words.old)) result }
+{
+    words.only_number32()
+}
+
+#[tactic(auto, using(crate::proofs::Readings::names_steps))]
+fn read_list(words: &mut Words<'_>) -> Result<u32, Refusal>
+    ensures { IsRead (λ directory. DeskLine (NamesLine directory)) (checked names_of (left_of words.old)) result }
+{
+    words.only_number32()
+}
+
+/// A log with an entry that isn't judged yet is a bad line.
+#[tactic(auto, using(crate::proofs::Submitted::none_is_bad, crate::proofs::Submitted::other_is_bad))]
+fn read_submit<A: Allocator + Copy>(
+    alloc: A,
+    words: &mut Words<'_>,
+) -> Result<Submission<A>, Refusal>
+    ensures ok { IfOk result (λ submission. checked submit_of (left_of words.old) ≡ Some (DeskLine (SubmitLine (submission_of submission)))) }
+    ensures judged { IfOk result (λ submission. HasOtherEntry submission.log.items → ⊥) }
+    ensures bad { IfErr result (λ refusal. refusal ≡ Refusal.BadLine → IsBadLine (checked submit_of (left_of words.old))) }
+{
+    let submission = read_submission(alloc, words)?;
+    if has_other_entry(alloc, submission.log.as_slice())? {
+        return Err(Refusal::BadLine);
+    }
+    Ok(submission)
+}
+
+#[tactic(auto, using(crate::proofs::Readings::submit_steps))]
+fn read_submission<A: Allocator + Copy>(
+    alloc: A,
+    words: &mut Words<'_>,
+) -> Result<Submission<A>, Refusal>
+    ensures { IsRead (λ submission. DeskLine (SubmitLine (submission_of submission))) (checked submit_of (left_of words.old)) result }
+{
+    let client = words.number32()?;
+    let log = words.bytes(alloc)?;
+    let plan = words.bytes(alloc)?;
+    words.end()?;
+    Ok(Submission { client, log, plan })
+}
+
+/// Whether the bytes are a log with an entry that isn't judged yet.
+fn has_other_entry<A: Allocator>(alloc: A, log: &[u8]) -> Result<bool, Refusal>
+    ensures yes { IfOk result (λ has. has ≡ true → HasOtherEntry log.now) }
+    ensures no { IfOk result (λ has. has ≡ false → HasOtherEntry log.now → ⊥) }
+    ensures memory { IfErr result (λ refusal. refusal ≡ Refusal.OutOfMemory) }
+{
+    match decode_log(alloc, log) {
+        Ok(log) => Ok(!are_judged(log.entries.as_slice())),
+        Err(fault) => match fault {
+            SpellFault::OutOfMemory => Err(Refusal::OutOfMemory),
+            _ => Ok(false),
+        },
+    }
+}

@@ -1,0 +1,69 @@
+//! Lines beside what they ask for, and a session line by line, by computation.
+
+ghost use Rattle.std.specs.Prelude.{◌≡◌, [], ◌∷◌, ◌++◌, codes, false, None, Some, Ok, Err};
+ghost use Rattle.kfs_model.specs.Lease.{ReadLease, WriteLease, no_leases};
+ghost use Rattle.kfs_mode.specs.declared.client.ClientFault.TheVariants.{BadGrant, TooManyGroups};
+ghost use Rattle.kfs_image.specs.Contents.{root_alone};
+ghost use Rattle.kfs_judge.specs.Judging.{submission_with};
+ghost use Rattle.kfs_engine.specs.Command.{Begin, Desk, Drop, Lease, Names, New, Node, Opening, Row, Submit, Tick, asked_by, client_row};
+ghost use Rattle.kfs_engine.specs.Cut.{cut, line_end, unended};
+ghost use Rattle.kfs_engine.specs.Listing.{list_text};
+ghost use Rattle.kfs_engine.specs.Session.{After, Before, fresh, opened};
+ghost use Rattle.kfs_engine.specs.Text.{line_of};
+
+/// The lines of an input, and a last line that lacks its end; an input that ends with a line's end has no further line.
+#[tactic(auto, unfolding(crate::specs::Cut::cut))]
+pub fn lines_of_an_input()
+    ensures ended { cut line_end (codes "tick 1\nnode 5\n") ≡ codes "tick 1" ∷ codes "node 5" ∷ [] ∷ [] }
+    ensures unended { cut line_end (codes "tick 1\nnode 5") ≡ codes "tick 1" ∷ codes "node 5" ∷ [] }
+    ensures empty_line { cut line_end (codes "\n") ≡ [] ∷ [] ∷ [] }
+    ensures no_line { unended [] ≡ [] }
+{}
+
+/// Each command by its words.
+#[tactic(auto, unfolding(crate::specs::Cut::cut, crate::specs::Command::numbers32, hex::specs::Hex::decode_pairs))]
+pub fn commands()
+    ensures new { asked_by (codes "new 8 08 65536") ≡ Some (Opening (New (record { first = 8; second = 8; third = 65536 }))) }
+    ensures client { asked_by (codes "client 7 1000 100 0 2 99 4 4") ≡ Some (Opening (Row (Ok (record { number = 7; uid = 1000; gid = 100; groups = 4 ∷ 4 ∷ []; privileged = false; first = 2; last = 99 })))) }
+    ensures bad_grant { asked_by (codes "client 7 1000 100 0 0 99") ≡ Some (Opening (Row (Err BadGrant))) }
+    ensures begin { asked_by (codes "begin 100") ≡ Some (Opening (Begin 100)) }
+    ensures lease { asked_by (codes "lease 7 /a/b w 100") ≡ Some (Desk (Lease 7 (codes "/a/b") WriteLease 100)) }
+    ensures drop { asked_by (codes "drop 7 5") ≡ Some (Desk (Drop 7 5)) }
+    ensures tick { asked_by (codes "tick 18446744073709551615") ≡ Some (Desk (Tick 18446744073709551615)) }
+    ensures submit { asked_by (codes "submit 7 0aFf -") ≡ Some (Desk (Submit (submission_with 7 (10 ∷ 255 ∷ []) []))) }
+    ensures node { asked_by (codes "node 5") ≡ Some (Desk (Node 5)) }
+    ensures list { asked_by (codes "list 1") ≡ Some (Desk (Names 1)) }
+{}
+
+/// What is no command: an empty word, a word too many or too few, a number out of its range or with a sign, text that is not
+/// hexadecimal, and any other name.
+#[tactic(auto, unfolding(crate::specs::Cut::cut, crate::specs::Command::numbers32, hex::specs::Hex::decode_pairs))]
+pub fn bad_lines()
+    ensures empty { asked_by [] ≡ None }
+    ensures empty_word { asked_by (codes "node  5") ≡ None }
+    ensures word_too_many { asked_by (codes "node 5 6") ≡ None }
+    ensures word_too_few { asked_by (codes "drop 7") ≡ None }
+    ensures too_large { asked_by (codes "node 4294967296") ≡ None }
+    ensures sign { asked_by (codes "tick +1") ≡ None }
+    ensures tier_too_large { asked_by (codes "new 8 8 65537") ≡ None }
+    ensures privilege { asked_by (codes "client 7 1000 100 2 2 99") ≡ None }
+    ensures group { asked_by (codes "client 7 1000 100 0 2 99 x") ≡ None }
+    ensures kind { asked_by (codes "lease 7 / x 100") ≡ None }
+    ensures odd { asked_by (codes "submit 7 0 -") ≡ None }
+    ensures name { asked_by (codes "nodes 5") ≡ None }
+{}
+
+/// Before the desk is begun: an image, a client, two clients with one number, and a desk.
+#[tactic(auto, unfolding(kfs_desk::specs::Opening::fault_among))]
+pub fn openings()
+    ensures image { opened (record { image = None; clients = [] }) (New (record { first = 8; second = 8; third = 8 })) ≡ (codes "ok\n", Before (record { image = Some (record { contents = root_alone; sizes = record { first = 8; second = 8; third = 8 } }); clients = [] })) }
+    ensures without_image { opened (record { image = None; clients = [] }) (Begin 100) ≡ (codes "bad line\n", fresh) }
+    ensures refused { opened (record { image = None; clients = [] }) (Row (Err TooManyGroups)) ≡ (codes "client TooManyGroups\n", fresh) }
+    ensures begun { opened (record { image = Some (record { contents = root_alone; sizes = record { first = 8; second = 8; third = 8 } }); clients = [] }) (Begin 3) ≡ (codes "ok\n", After (record { image = record { contents = root_alone; sizes = record { first = 8; second = 8; third = 8 } }; clients = []; leases = no_leases; rows = 0; limit = 3 })) }
+{}
+
+/// The names of the root, and none of another directory.
+pub fn lists()
+    ensures of_root { list_text 1 (record { entries = ((1, codes "a"), 5) ∷ ((1, codes "b"), 9) ∷ ((5, codes "z"), 7) ∷ []; sorted = tt }) ≡ codes "list 1 61:5 62:9" }
+    ensures of_another { list_text 6 (record { entries = ((1, codes "a"), 5) ∷ []; sorted = tt }) ≡ codes "list 6" }
+{}

@@ -1,0 +1,183 @@
+//! The line of each answer. A function appends its line to `out`; where memory is refused it leaves
+//! `out` as it is. It is never refused where `out` has 128 bytes to spare, which the longest of these
+//! lines doesn't take.
+ghost use Rattle.std.specs.Prelude.{◌≡◌, ◌+◌, ◌≤◌, ◌++◌, length, codes, IsOk, OnOk, OnErr};
+ghost use Rattle.kfs_desk.specs.Room.{spare_of};
+ghost use Rattle.kfs_engine.specs.Text.{reply_text, head_text, act_text, done_text, node_text, header_text, kind_text, counts_text, client_text, begin_text, line_of};
+
+mod names;
+pub(crate) mod parts;
+
+use kfs_desk::answers::{ActReply, BeginFault, Done, Reply};
+use kfs_image::{Header, Kind};
+use kfs_mode::ClientFault;
+use names::{begin_fault, client_fault, judgement_fault, lease_fault};
+use parts::{field, flag, number, octal, text};
+use std::alloc::{AllocError, Allocator};
+
+/// The most bytes of a line.
+pub const LONGEST_LINE: usize = 128;
+
+/// The line of a submission that landed: `P yes rejudged=R need=N` or `P no rejudged=R FAULT`.
+pub fn reply_line<A: Allocator>(out: &mut Vec<u8, A>, reply: &Reply) -> Result<(), AllocError>
+    ensures room { 128 ≤ spare_of out.old → IsOk result }
+    ensures ok { OnOk result (out.new.items ≡ out.old.items ++ line_of (reply_text reply.now)) }
+    ensures err { OnErr result (out.new.items ≡ out.old.items) }
+{
+    out.try_reserve(LONGEST_LINE)?;
+    push_reply(out, reply);
+    text(out, b"\n");
+    Ok(())
+}
+
+fn push_reply<A: Allocator>(out: &mut Vec<u8, A>, reply: &Reply)
+    requires { 127 ≤ spare_of out.old }
+    ensures spare { spare_of out.old ≤ spare_of out.new + 127 }
+    ensures items { out.new.items ≡ out.old.items ++ reply_text reply.now }
+{
+    match reply {
+        Reply::Yes {
+            position,
+            rejudged,
+            need,
+        } => {
+            push_head(out, *position, b" yes rejudged=", *rejudged);
+            text(out, b" need=");
+            number(out, *need);
+        }
+        Reply::No {
+            position,
+            rejudged,
+            fault,
+        } => {
+            push_head(out, *position, b" no rejudged=", *rejudged);
+            text(out, b" ");
+            judgement_fault(out, *fault);
+        }
+    }
+}
+
+fn push_head<A: Allocator>(out: &mut Vec<u8, A>, position: u32, word: &[u8], rejudged: bool)
+    requires { length word.now + 21 ≤ spare_of out.old }
+    ensures spare { spare_of out.old ≤ spare_of out.new + (length word.now + 21) }
+    ensures items { out.new.items ≡ out.old.items ++ head_text position word.now rejudged }
+{
+    number(out, u64::from(position));
+    text(out, word);
+    flag(out, rejudged);
+}
+
+/// The line of a call for the leases: `P leased N`, `P dropped N`, `P ticked M` or `P refused NAME`.
+pub fn act_line<A: Allocator>(out: &mut Vec<u8, A>, reply: &ActReply) -> Result<(), AllocError>
+    ensures room { 128 ≤ spare_of out.old → IsOk result }
+    ensures ok { OnOk result (out.new.items ≡ out.old.items ++ line_of (act_text reply.now)) }
+    ensures err { OnErr result (out.new.items ≡ out.old.items) }
+{
+    out.try_reserve(LONGEST_LINE)?;
+    number(out, u64::from(reply.position));
+    match reply.answer {
+        Ok(done) => push_done(out, done),
+        Err(fault) => {
+            text(out, b" refused ");
+            lease_fault(out, fault);
+        }
+    }
+    text(out, b"\n");
+    Ok(())
+}
+
+fn push_done<A: Allocator>(out: &mut Vec<u8, A>, done: Done)
+    requires { 29 ≤ spare_of out.old }
+    ensures spare { spare_of out.old ≤ spare_of out.new + 29 }
+    ensures items { out.new.items ≡ out.old.items ++ done_text done }
+{
+    match done {
+        Done::Leased(node) => {
+            text(out, b" leased ");
+            number(out, u64::from(node));
+        }
+        Done::Dropped(node) => {
+            text(out, b" dropped ");
+            number(out, u64::from(node));
+        }
+        Done::Ticked(moment) => {
+            text(out, b" ticked ");
+            number(out, moment);
+        }
+    }
+}
+
+/// The line of a node: `node N KIND MODE UID GID LINKS SIZE`.
+pub fn node_line<A: Allocator>(
+    out: &mut Vec<u8, A>,
+    node: u32,
+    header: &Header,
+) -> Result<(), AllocError>
+    ensures room { 128 ≤ spare_of out.old → IsOk result }
+    ensures ok { OnOk result (out.new.items ≡ out.old.items ++ line_of (node_text node header.now)) }
+    ensures err { OnErr result (out.new.items ≡ out.old.items) }
+{
+    out.try_reserve(LONGEST_LINE)?;
+    text(out, b"node ");
+    number(out, u64::from(node));
+    push_header(out, header);
+    text(out, b"\n");
+    Ok(())
+}
+
+fn push_header<A: Allocator>(out: &mut Vec<u8, A>, header: &Header)
+    requires { 94 ≤ spare_of out.old }
+    ensures spare { spare_of out.old ≤ spare_of out.new + 94 }
+    ensures items { out.new.items ≡ out.old.items ++ header_text header.now }
+{
+    text(out, kind_word(header.kind));
+    octal(out, header.mode);
+    push_counts(out, header);
+}
+
+fn kind_word(kind: Kind) -> &'static [u8]
+    ensures word { result.now ≡ kind_text kind }
+    ensures short { length result.now ≤ 6 }
+{
+    match kind {
+        Kind::File => b" file ",
+        Kind::Directory => b" dir ",
+    }
+}
+
+fn push_counts<A: Allocator>(out: &mut Vec<u8, A>, header: &Header)
+    requires { 84 ≤ spare_of out.old }
+    ensures spare { spare_of out.old ≤ spare_of out.new + 84 }
+    ensures items { out.new.items ≡ out.old.items ++ counts_text header.now }
+{
+    field(out, u64::from(header.uid));
+    field(out, u64::from(header.gid));
+    field(out, u64::from(header.links));
+    field(out, header.size);
+}
+
+/// The line of a client that was refused: `client NAME`.
+pub fn client_line<A: Allocator>(out: &mut Vec<u8, A>, fault: ClientFault) -> Result<(), AllocError>
+    ensures room { 128 ≤ spare_of out.old → IsOk result }
+    ensures ok { OnOk result (out.new.items ≡ out.old.items ++ line_of (codes "client " ++ client_text fault)) }
+    ensures err { OnErr result (out.new.items ≡ out.old.items) }
+{
+    out.try_reserve(LONGEST_LINE)?;
+    text(out, b"client ");
+    client_fault(out, fault);
+    text(out, b"\n");
+    Ok(())
+}
+
+/// The line of a begin that was refused: `begin NAME`.
+pub fn begin_line<A: Allocator>(out: &mut Vec<u8, A>, fault: BeginFault) -> Result<(), AllocError>
+    ensures room { 128 ≤ spare_of out.old → IsOk result }
+    ensures ok { OnOk result (out.new.items ≡ out.old.items ++ line_of (codes "begin " ++ begin_text fault)) }
+    ensures err { OnErr result (out.new.items ≡ out.old.items) }
+{
+    out.try_reserve(LONGEST_LINE)?;
+    text(out, b"begin ");
+    begin_fault(out, fault);
+    text(out, b"\n");
+    Ok(())
+}

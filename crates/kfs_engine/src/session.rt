@@ -1,0 +1,219 @@
+//! A session: what each command does, and its reply.
+ghost use Rattle.std.specs.Prelude.{◌≡◌, ℕ, ◌⊎◌, ◌≤◌, ◌++◌, List, codes, Some, IfErr, OnErr, OnOk, IsErrOf, option_map};
+ghost use Rattle.kfs_model.specs.Table.{get};
+ghost use Rattle.kfs_entry.specs.Views.{header_of};
+ghost use Rattle.kfs_judge.specs.Judging.{HasOtherEntry, submission_of};
+ghost use Rattle.kfs_desk.specs.Machine.{call_of, done_by};
+ghost use Rattle.kfs_desk.specs.Room.{spare_of};
+ghost use Rattle.kfs_engine.specs.Command as commands;
+ghost use Rattle.kfs_engine.specs.Command.{IsBadLine};
+ghost use Rattle.kfs_engine.specs.Session.{After, Answers, Does, IsCalled, IsFull, Replies, Serves, fresh, names_line};
+ghost use Rattle.kfs_engine.specs.Text.{line_of};
+ghost use Rattle.kfs_engine.specs.Views.{asked_of_desk, opening_of, stage_of};
+
+use crate::command::{Command, DeskCommand, OpeningCommand};
+use crate::listing::list_line;
+use crate::opening::Opening;
+use crate::report::parts::text;
+use crate::report::{act_line, node_line, reply_line};
+use crate::words::Refusal;
+use kfs_desk::Desk;
+use kfs_desk::answers::{Act, Unanswered};
+use kfs_image::{Answer, Cell, Header, Kind, look};
+use kfs_judge::plan::Submission;
+use std::alloc::Allocator;
+
+/// What lines were answered before: the desk, or what it is begun with.
+#[derive(Drop)]
+pub struct Session<A: Allocator> {
+    alloc: A,
+    stage: Stage<A>,
+}
+
+#[derive(Drop)]
+enum Stage<A: Allocator> {
+    Before(Opening<A>),
+    After(Desk<A>),
+}
+
+impl<A: Allocator + Copy> Session<A> {
+    /// No image and no client.
+    pub fn new(alloc: A) -> Session<A>
+        ensures { stage_of result ≡ fresh }
+    {
+        Session {
+            alloc,
+            stage: Stage::Before(Opening::new(alloc)),
+        }
+    }
+
+    /// Answers a line: appends its reply, which has room for 128 bytes. A refusal leaves the state
+    /// as it was.
+    pub fn answer(&mut self, line: &[u8], reply: &mut Vec<u8, A>) -> Result<(), Refusal>
+        requires { 128 ≤ spare_of reply.old }
+        ensures ok { OnOk result ((text : List ℕ) × (reply.new.items ≡ reply.old.items ++ text) × Answers (stage_of self.old) line.now (text, stage_of self.new)) }
+        ensures bad { IsErrOf result Refusal.BadLine → Answers (stage_of self.old) line.now (line_of (codes "bad line"), stage_of self.new) }
+        ensures memory { IsErrOf result Refusal.OutOfMemory → stage_of self.new ≡ stage_of self.old }
+    {
+        match Command::read(self.alloc, line)? {
+            Command::Opening(command) => self.answer_before(command, reply),
+            Command::Desk(command) => self.answer_after(command, reply),
+        }
+    }
+
+    /// Answers a command that comes before the desk is begun. Afterwards it is a bad line.
+    fn answer_before(
+        &mut self,
+        command: OpeningCommand,
+        reply: &mut Vec<u8, A>,
+    ) -> Result<(), Refusal>
+        requires { 128 ≤ spare_of reply.old }
+        ensures ok { OnOk result (Replies (Does (stage_of self.old) (commands.Opening (opening_of command))) reply.old.items reply.new.items (stage_of self.new)) }
+        ensures bad { IsErrOf result Refusal.BadLine → Does (stage_of self.old) (commands.Opening (opening_of command)) (line_of (codes "bad line"), stage_of self.new) }
+        ensures memory { IsErrOf result Refusal.OutOfMemory → stage_of self.new ≡ stage_of self.old }
+    {
+        match &mut self.stage {
+            Stage::Before(opening) => {
+                if let Some(desk) = opening.answer(command, reply)? {
+                    self.stage = Stage::After(desk);
+                }
+                Ok(())
+            }
+            Stage::After(_) => Err(Refusal::BadLine),
+        }
+    }
+
+    /// Answers a command to the desk. Before the desk is begun it is a bad line.
+    fn answer_after(
+        &mut self,
+        command: DeskCommand<'_, A>,
+        reply: &mut Vec<u8, A>,
+    ) -> Result<(), Refusal>
+        requires room { 128 ≤ spare_of reply.old }
+        requires good { IsBadLine (Some (commands.Desk (asked_of_desk command))) → ⊥ }
+        ensures ok { OnOk result (Replies (Does (stage_of self.old) (commands.Desk (asked_of_desk command.entry))) reply.old.items reply.new.items (stage_of self.new)) }
+        ensures bad { IsErrOf result Refusal.BadLine → Does (stage_of self.old) (commands.Desk (asked_of_desk command.entry)) (line_of (codes "bad line"), stage_of self.new) }
+        ensures memory { IsErrOf result Refusal.OutOfMemory → stage_of self.new ≡ stage_of self.old }
+    {
+        match &mut self.stage {
+            Stage::Before(_) => Err(Refusal::BadLine),
+            Stage::After(desk) => answer_by_desk(self.alloc, desk, command, reply),
+        }
+    }
+}
+
+/// Answers a command to the desk, whose log, where it has one, has no entry that isn't judged yet.
+fn answer_by_desk<A: Allocator + Copy>(
+    alloc: A,
+    desk: &mut Desk<A>,
+    command: DeskCommand<'_, A>,
+    reply: &mut Vec<u8, A>,
+) -> Result<(), Refusal>
+    requires room { 128 ≤ spare_of reply.old }
+    requires good { IsBadLine (Some (commands.Desk (asked_of_desk command))) → ⊥ }
+    ensures ok { OnOk result (Replies (Serves desk.old (asked_of_desk command.entry)) reply.old.items reply.new.items (After desk.new)) }
+    ensures err { IfErr result (λ why. (why ≡ Refusal.OutOfMemory) × (desk.new ≡ desk.old)) }
+{
+    match command {
+        DeskCommand::Act(act) => make_call(desk, act, reply),
+        DeskCommand::Submit(submission) => hand_in(desk, submission, reply),
+        DeskCommand::Node(number) => show_node(desk, number, reply),
+        DeskCommand::List(number) => show_names(alloc, desk, number, reply),
+    }
+}
+
+/// Makes a call for the leases.
+fn make_call<A: Allocator + Copy>(
+    desk: &mut Desk<A>,
+    act: Act<'_>,
+    reply: &mut Vec<u8, A>,
+) -> Result<(), Refusal>
+    requires { 128 ≤ spare_of reply.old }
+    ensures ok { OnOk result (Replies (λ outcome. IsFull desk.old outcome ⊎ IsCalled desk.old (call_of act.entry) (done_by act.entry) outcome) reply.old.items reply.new.items (After desk.new)) }
+    ensures err { IfErr result (λ why. (why ≡ Refusal.OutOfMemory) × (desk.new ≡ desk.old)) }
+{
+    match desk.act(act) {
+        Ok(answer) => Ok(act_line(reply, &answer)?),
+        Err(why) => unanswered(why, reply),
+    }
+}
+
+/// Hands in a log and its plan.
+fn hand_in<A: Allocator + Copy>(
+    desk: &mut Desk<A>,
+    submission: Submission<A>,
+    reply: &mut Vec<u8, A>,
+) -> Result<(), Refusal>
+    requires room { 128 ≤ spare_of reply.old }
+    requires judged { HasOtherEntry submission.log.items → ⊥ }
+    ensures ok { OnOk result (Replies (Serves desk.old (commands.Submit (submission_of submission))) reply.old.items reply.new.items (After desk.new)) }
+    ensures err { IfErr result (λ why. (why ≡ Refusal.OutOfMemory) × (desk.new ≡ desk.old)) }
+{
+    match desk.submit(submission) {
+        Ok(answer) => Ok(reply_line(reply, &answer)?),
+        Err(why) => unanswered(why, reply),
+    }
+}
+
+/// What is replied where the desk gave no answer.
+fn unanswered<A: Allocator>(why: Unanswered, reply: &mut Vec<u8, A>) -> Result<(), Refusal>
+    requires { 128 ≤ spare_of reply.old }
+    ensures ok { OnOk result ((why ≡ Unanswered.DocketFull) × (reply.new.items ≡ reply.old.items ++ line_of (codes "full"))) }
+    ensures bad { IsErrOf result Refusal.BadLine → why ≡ Unanswered.OtherEntry }
+{
+    match why {
+        Unanswered::OutOfMemory => Err(Refusal::OutOfMemory),
+        Unanswered::OtherEntry => Err(Refusal::BadLine),
+        Unanswered::DocketFull => {
+            text(reply, b"full\n");
+            Ok(())
+        }
+    }
+}
+
+/// The header of a node, none where the number is no node's.
+fn header_of_node<A: Allocator + Copy>(desk: &Desk<A>, number: u32) -> Option<Header>
+    ensures { option_map header_of result ≡ get desk.now.image.contents.heads number }
+{
+    match look(desk.image().shape(), &Cell::Header(number)) {
+        Answer::Header(header) => header,
+        _ => None,
+    }
+}
+
+/// Appends the line of a node, or `none` where the number is no node's.
+fn show_node<A: Allocator + Copy>(
+    desk: &Desk<A>,
+    number: u32,
+    reply: &mut Vec<u8, A>,
+) -> Result<(), Refusal>
+    requires { 128 ≤ spare_of reply.old }
+    ensures ok { OnOk result (Replies (Serves desk.now (commands.Node number)) reply.old.items reply.new.items (After desk.now)) }
+    ensures err { OnErr result ⊥ }
+{
+    match header_of_node(desk, number) {
+        Some(header) => node_line(reply, number, &header)?,
+        None => text(reply, b"none\n"),
+    }
+    Ok(())
+}
+
+/// Appends the line of a directory's names, or `none` where the number is no directory's.
+fn show_names<A: Allocator + Copy>(
+    alloc: A,
+    desk: &Desk<A>,
+    number: u32,
+    reply: &mut Vec<u8, A>,
+) -> Result<(), Refusal>
+    requires { 128 ≤ spare_of reply.old }
+    ensures ok { OnOk result (reply.new.items ≡ reply.old.items ++ line_of (names_line desk.now number)) }
+    ensures err { IfErr result (λ why. why ≡ Refusal.OutOfMemory) }
+{
+    match header_of_node(desk, number) {
+        Some(header) if header.kind == Kind::Directory => {
+            list_line(alloc, reply, desk.image(), number)?;
+        }
+        _ => text(reply, b"none\n"),
+    }
+    Ok(())
+}

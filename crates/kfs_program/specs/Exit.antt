@@ -1,0 +1,37 @@
+-- The exit status of the program, and what a person is told of it.
+use Rattle.std.specs.Prelude.{◌≡◌, ◌⊎◌, ◌≤◌, ◌==◌, ℕ, List, [], codes, Option, Some, None, Result, Ok, Err, if◌then◌else◌}
+use Rattle.kfs_engine.specs.Conversation.{IsSession}
+use Rattle.kfs_engine.specs.declared.fault.EngineFault.{EngineFault}
+use Rattle.kfs_engine.specs.declared.fault.EngineFault.TheVariants.{ReadFault, WriteFault, LongLine, OutOfMemory}
+
+abbrev pub status_of : {T : Type 0} → Result T EngineFault → ℕ
+status_of (Ok done) = 0
+status_of (Err ReadFault) = 3
+status_of (Err WriteFault) = 3
+status_of (Err LongLine) = 3
+status_of (Err OutOfMemory) = 4
+
+-- nothing is read and nothing written
+abbrev pub IsUntouched : (input text : List ℕ) → Type 0
+IsUntouched input text = (input ≡ []) × (text ≡ [])
+
+-- the engine ended in this way, with its status
+pub record IsEnded (status : ℕ) (input text : List ℕ) : Type 0 where
+  pub ended : Result (Unit {0}) EngineFault
+  pub status_is : status ≡ status_of ended
+  pub session : IsSession ended input text
+
+-- The words are refused before anything is read, always where there are more than two, or there is no memory for them, or
+-- else the engine runs.
+abbrev pub IsExit : (words status : ℕ) → (input text : List ℕ) → Type 0
+IsExit words status input text =
+    ((status ≡ 2) × IsUntouched input text)
+    ⊎ (((status ≡ 4) × IsUntouched input text) ⊎ ((words ≤ 2) × IsEnded status input text))
+
+-- what a person is told of a status
+abbrev pub message_of : (status : ℕ) → Option (List ℕ)
+message_of status =
+    if status == 2 then Some (codes "usage: kfs [run]")
+    else if status == 3 then Some (codes "the input or the output failed, or a line was too long")
+    else if status == 4 then Some (codes "out of memory")
+    else None
