@@ -11,6 +11,7 @@ use Rattle.kfs_model.specs.Sight.{Sight, Cell, HeaderOf, NameIn, CountOf, Parent
 pub data Reason : Type 0 where
   NoSuchNode NotDirectory IsDirectory NoSuchName NameTaken NumberTaken NumberNotGranted NotEmpty BelowItself TooManyLinks TooBig NoSearch NoWrite NotOwner : Reason
   NoLease : (number : ℕ) → Reason
+  deriving Discrete as Reason-discrete
 
 -- where an entry stands: its client, the client's live write leases, what the cells showed before the log and show now,
 -- and the numbers that the log has created

@@ -21,11 +21,11 @@ use Rattle.kfs_model.specs.Run.{EntryFault, run_from}
 use Rattle.kfs_model.specs.Plan.{mark_at}
 use Rattle.kfs_model.specs.FirstWrong.{changed_bytes, is_wrong, first_wrong_row}
 use Rattle.kfs_model.specs.Placement.{written_blocks, cleared_blocks}
-use Rattle.kfs_model.specs.Judgement.{State, Verdict, Yes, No, Fault, AtEntry, Reply, Refused, judged, reply_to}
+use Rattle.kfs_model.specs.Judgement.{State, Verdict, Yes, No, Fault, AtEntry, Reply, Refused, judged, free_places, reply_to}
 
 -- an example's proof computes: it unfolds this, and with it all that a judgement uses
 unfoldable pub computing : Unit {0}
-unfolding get insert retain remove mapped united climb_meets climbed granted dropped ticked without_gone walked fault checks_of first_failing overwritten resized swept change_of run_from changed_bytes is_wrong first_wrong_row written_blocks cleared_blocks judged reply_to
+unfolding get insert retain remove mapped united climb_meets climbed granted dropped ticked without_gone walked fault checks_of first_failing overwritten resized swept change_of run_from changed_bytes is_wrong first_wrong_row written_blocks cleared_blocks judged free_places reply_to
 computing = tt
 
 -- a table of some entries, in any order

@@ -12,6 +12,7 @@ use Rattle.kfs_model.specs.Plan.{number_now, header_now, keyed_name, keyed_node,
 
 pub data RowFault : Type 0 where
   Names Nodes Pieces : (index : ℕ) → RowFault
+  deriving Discrete as RowFault-discrete
 
 -- ---- tests of equality
 

@@ -1,15 +1,16 @@
 -- The judgement of a submission against a state, in its order, and the reply to it.
-use Rattle.std.specs.Prelude.{◌≡◌, ℕ, ◌-◌, ◌==◌, nat_lt, List, length, filter, Some, None, Result, Ok, Err, if◌then◌else◌}
+use Rattle.std.specs.Prelude.{◌≡◌, ℕ, ◌==◌, nat_lt, Bool, true, false, List, length, filter, Some, None, Result, Ok, Err, if◌then◌else◌}
+use native.Mathlib.Decide.{ℕ_discrete}
 use Rattle.kfs_model.specs.Access.{Client}
 use Rattle.kfs_model.specs.Tree.{Tree}
 use Rattle.kfs_model.specs.Sight.{sight}
 use Rattle.kfs_model.specs.Lease.{Leases, holds, row_of}
 use Rattle.kfs_model.specs.Entry.{Entry, Log}
 use Rattle.kfs_model.specs.PlanRow.{Plan}
-use Rattle.kfs_model.specs.Run.{Mark, EntryFault, Scene, run, bytes, marks, marked}
-use Rattle.kfs_model.specs.FirstWrong.{RowFault, first_wrong_row}
-use Rattle.kfs_model.specs.Placement.{Placement, need}
-use Rattle.kfs_model.specs.Spelling.{SpellingFault, LogAnswer, PlanAnswer}
+use Rattle.kfs_model.specs.Run.{Mark, EntryFault, EntryFault-equality, Scene, run, bytes, marks, marked}
+use Rattle.kfs_model.specs.FirstWrong.{RowFault, RowFault-discrete, first_wrong_row}
+use Rattle.kfs_model.specs.Placement.{Placement, need, in_first_tier, is_free, below}
+use Rattle.kfs_model.specs.Spelling.{SpellingFault, SpellingFault-discrete, LogAnswer, PlanAnswer}
 
 -- blocks of each tier
 pub record TierSizes : Type 0 where
@@ -30,6 +31,7 @@ pub data Fault : Type 0 where
   BadLog BadPlan : (fault : SpellingFault) → Fault
   AtEntry : (fault : EntryFault) → Fault
   AtRow : (fault : RowFault) → Fault
+  deriving Discrete as Fault-discrete
 
 -- a Yes tells the tree after, and each of its bytes marked
 pub data Verdict : Type 0 where
@@ -68,13 +70,23 @@ pub record Submission : Type 0 where
   pub log : List ℕ
   pub plan : List ℕ
 
--- the verdict on the bytes of a submission
-pub record IsJudgement (s : State) (submission : Submission) (verdict : Verdict) : Type 0 where
+-- what the bytes of a submission are read as: a log, or why they are none, and a plan, or why
+pub record Reading : Type 0 where
   pub log : Result Log SpellingFault
   pub plan : Result Plan SpellingFault
-  pub log_read : LogAnswer submission.log log
-  pub plan_read : PlanAnswer submission.plan plan
-  pub judgement : verdict ≡ judged s submission.client log plan
+
+pub record IsReadAs (submission : Submission) (reading : Reading) : Type 0 where
+  pub log : LogAnswer submission.log reading.log
+  pub plan : PlanAnswer submission.plan reading.plan
+
+abbrev pub verdict_on : State → (client : ℕ) → Reading → Verdict
+verdict_on s client reading = judged s client reading.log reading.plan
+
+-- the verdict on the bytes of a submission
+pub record IsJudgement (s : State) (submission : Submission) (verdict : Verdict) : Type 0 where
+  pub reading : Reading
+  pub read : IsReadAs submission reading
+  pub judgement : verdict ≡ verdict_on s submission.client reading
 
 -- ---- the reply of a landing
 
@@ -82,11 +94,21 @@ pub data Reply : Type 0 where
   Accepted : (need : ℕ) → Reply
   NoRoom : (need free : ℕ) → Reply
   Refused : (fault : Fault) → Reply
+  deriving Discrete as Reply-discrete
 
--- places of tier 0 in which no block lies
-abbrev pub free_places : State → ℕ
-free_places s = s.sizes.first - length (filter (λ e. e.1.tier == 0) s.placement.entries)
+-- whether two replies are the same
+abbrev pub Reply-equality : Discrete Reply
+Reply-equality = Reply-discrete ℕ_discrete (Fault-discrete (SpellingFault-discrete ℕ_discrete) EntryFault-equality (RowFault-discrete ℕ_discrete))
+
+abbrev pub is_yes : {P : Type 0} → Dec P → Bool
+is_yes (yes p) = true
+is_yes (no n) = false
+
+-- the places of tier 0 in which no block lies
+unfoldable pub free_places : State → List ℕ
+free_places s = filter (λ place. is_free s.placement (in_first_tier place)) (below s.sizes.first)
 
 unfoldable pub reply_to : State → Verdict → Reply
 reply_to s (No fault) = Refused fault
-reply_to s (Yes after marked_after) = if nat_lt (free_places s) (need marked_after) then NoRoom (need marked_after) (free_places s) else Accepted (need marked_after)
+reply_to s (Yes after marked_after) =
+    if nat_lt (length (free_places s)) (need marked_after) then NoRoom (need marked_after) (length (free_places s)) else Accepted (need marked_after)

@@ -22,6 +22,7 @@ pub data LeaseFault : Type 0 where
   UnknownClient BadPath Past NoLeaseHeld Backwards : LeaseFault
   NoSuchName NotDirectory NoSearch : (component : ℕ) → LeaseFault
   LeaseHeld : (client : ℕ) → LeaseFault
+  deriving Discrete as LeaseFault-discrete
 
 abbrev pub no_leases : Leases
 no_leases = record { rows = empty; moment = 0 }

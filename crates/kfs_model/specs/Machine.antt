@@ -1,37 +1,31 @@
--- One step of the machine: a call, its answer and the state after it.
-use Rattle.std.specs.Prelude.{◌≡◌, ℕ, ◌+◌, ◌==◌, ◌&&◌, not, nat_lt, Bool, true, List, [], ◌∷◌, length, zip, Some, is_some, Result, IsTrue}
-use Rattle.std.specs.List.{list_any, AllByRecursion}
-use Rattle.kfs_model.specs.Table.{get, insert, retain}
+-- The machine: one step is a call with its answer and, for a Yes, the places of the written blocks. A docket is a list of such
+-- rows.
+use Rattle.std.specs.Prelude.{◌≡◌, ℕ, ◌+◌, ◌==◌, ◌&&◌, not, nat_lt, Bool, true, false, List, [], ◌∷◌, length, zip, Option, Some, None, option_map, is_some, Result, Ok, Err, if◌then◌else◌}
+use Rattle.std.specs.List.{list_any, list_all, AllByRecursion}
+use native.Mathlib.Decide.{ℕ_discrete}
+use Rattle.kfs_model.specs.Access.{Client}
+use Rattle.kfs_model.specs.Table.{get, insert, retain, empty}
 use Rattle.kfs_model.specs.Tree.{Tree, headers}
 use Rattle.kfs_model.specs.Sight.{sight, is_file}
-use Rattle.kfs_model.specs.Lease.{Leases, LeaseKind, LeaseFault, granted, dropped, ticked, without_gone}
+use Rattle.kfs_model.specs.Lease.{Leases, LeaseKind, LeaseFault, LeaseFault-discrete, no_leases, granted, dropped, ticked, without_gone}
 use Rattle.kfs_model.specs.Check.{is_some_and}
 use Rattle.kfs_model.specs.Allowed.{IsAllowed}
 use Rattle.kfs_model.specs.Entry.{Entry}
 use Rattle.kfs_model.specs.Effect.{effect}
 use Rattle.kfs_model.specs.Run.{Mark, Scene, bytes, spot, created_by}
-use Rattle.kfs_model.specs.Placement.{Placement, Place, written_blocks, cleared_blocks, block_count}
-use Rattle.kfs_model.specs.Judgement.{State, Verdict, Yes, No, Reply, Accepted, NoRoom, Refused, Submission, IsJudgement, reply_to}
+use Rattle.kfs_model.specs.Placement.{Placement, in_first_tier, written_blocks, cleared_blocks, block_count}
+use Rattle.kfs_model.specs.Judgement.{State, TierSizes, Verdict, Yes, No, Reply, Reply-equality, is_yes, Accepted, NoRoom, Refused, Submission, Reading, IsReadAs, verdict_on, reply_to, free_places}
 
 -- ---- landing
-
--- a place of tier 0
-abbrev pub in_first_tier : ℕ → Place
-in_first_tier place = record { tier = 0; place = place }
-
--- no block lies there yet
-abbrev pub is_free : State → ℕ → Bool
-is_free s place = nat_lt place s.sizes.first && not (list_any (λ e. (e.1.tier == 0) && (e.1.place == place)) s.placement.entries)
 
 abbrev pub are_distinct : List ℕ → Bool
 are_distinct [] = true
 are_distinct (place ∷ places) = not (list_any (λ other. other == place) places) && are_distinct places
 
--- one free place of tier 0 for each block
-pub record IsChoice (s : State) (blocks : List (ℕ × ℕ)) (places : List ℕ) : Type 0 where
-  pub one_each : length places ≡ length blocks
-  pub free : AllByRecursion (λ place. IsTrue (is_free s place)) places
-  pub distinct : IsTrue (are_distinct places)
+-- one free place of tier 0 for each block, no two of them the same
+abbrev pub are_chosen : State → (blocks : List (ℕ × ℕ)) → (places : List ℕ) → Bool
+are_chosen s blocks places =
+    (length places == length blocks) && list_all (λ place. list_any (λ free. free == place) (free_places s)) places && are_distinct places
 
 -- whether a block is still the file's and wasn't made all zero
 abbrev pub stays : Tree ℕ → Tree Mark → ℕ × ℕ → Bool
@@ -54,54 +48,91 @@ leases_after s after = without_gone s.leases (λ n. is_some (get after.nodes n))
 abbrev pub landed : State → Tree ℕ → Tree Mark → List ℕ → State
 landed s after marked_after places = record s { tree = after; leases = leases_after s after; placement = placement_after s after marked_after places }
 
--- the state after the reply: changed by a Yes with room alone
-abbrev pub IsAfter : State → Verdict → Reply → State → Type 0
-IsAfter s (Yes after marked_after) (Accepted need) t = (places : List ℕ) × IsChoice s (written_blocks marked_after) places × (t ≡ landed s after marked_after places)
-IsAfter s (Yes after marked_after) (NoRoom need free) t = t ≡ s
-IsAfter s (Yes after marked_after) (Refused fault) t = ⊥
-IsAfter s (No fault) reply t = t ≡ s
-
-pub record Lands (s : State) (submission : Submission) (reply : Reply) (t : State) : Type 0 where
-  pub verdict : Verdict
-  pub judgement : IsJudgement s submission verdict
-  pub answer : reply ≡ reply_to s verdict
-  pub after : IsAfter s verdict reply t
-
--- ---- calls, their answers, and histories of them
+-- ---- calls and their answers
 
 pub data Call : Type 0 where
-  Submit : (submission : Submission) → Call
+  -- the bytes of a submission, and what they are read as
+  Submit : (submission : Submission) (reading : Reading) → Call
   Lease : (client : ℕ) (path : List ℕ) (kind : LeaseKind) (end : ℕ) → Call
   Drop : (client number : ℕ) → Call
   Tick : (moment : ℕ) → Call
 
 pub data CallAnswer : Type 0 where
   Replied : (reply : Reply) → CallAnswer
-  Leased : (outcome : Result ℕ LeaseFault) → CallAnswer
+  -- done to the node of this number, or at this moment
+  Done : (number : ℕ) → CallAnswer
+  NotDone : (fault : LeaseFault) → CallAnswer
+  deriving Discrete as CallAnswer-discrete
 
-abbrev pub with_leases : State → Leases → State
-with_leases s leases = record s { leases = leases }
+abbrev pub same_answer : CallAnswer → CallAnswer → Bool
+same_answer a b = is_yes (CallAnswer-discrete Reply-equality ℕ_discrete (LeaseFault-discrete ℕ_discrete) a b)
 
--- the answer and the leases after a lease call are the outcome
-abbrev pub IsOutcome : State → Result ℕ LeaseFault × Leases → CallAnswer → State → Type 0
-IsOutcome s outcome (Replied reply) t = ⊥
-IsOutcome s outcome (Leased result) t = (result ≡ outcome.0) × (t ≡ with_leases s outcome.1)
+-- ---- one step
 
-abbrev pub IsReplied : State → Submission → CallAnswer → State → Type 0
-IsReplied s submission (Replied reply) t = Lands s submission reply t
-IsReplied s submission (Leased result) t = ⊥
+-- an answer, and the state then
+abbrev pub Outcome : Type 0
+Outcome = CallAnswer × State
 
--- one step: what the call may answer, and the state then
-abbrev pub Steps : State → Call → CallAnswer → State → Type 0
-Steps s (Submit submission) answer t = IsReplied s submission answer t
-Steps s (Lease client path kind end) answer t = IsOutcome s (granted s.leases (sight s.tree) s.clients client path kind end) answer t
-Steps s (Drop client number) answer t = IsOutcome s (dropped s.leases s.clients client number) answer t
-Steps s (Tick moment) answer t = IsOutcome s (ticked s.leases moment) answer t
+-- only written blocks have places
+abbrev pub unplaced : (places : List ℕ) → Outcome → Option Outcome
+unplaced [] outcome = Some outcome
+unplaced (place ∷ places) outcome = None
 
--- a history: each call with its answer fits where it stands, and leads to the last state
-abbrev pub IsHistory : State → List (Call × CallAnswer) → State → Type 0
-IsHistory s [] t = t ≡ s
-IsHistory s (row ∷ rows) t = (next : State) × Steps s row.0 row.1 next × IsHistory next rows t
+-- changed by a Yes with room alone
+abbrev pub replied : State → (places : List ℕ) → Verdict → Reply → Option Outcome
+replied s places (Yes after marked_after) (Accepted need) =
+    if are_chosen s (written_blocks marked_after) places then Some (Replied (Accepted need), landed s after marked_after places) else None
+replied s places verdict reply = unplaced places (Replied reply, s)
+
+abbrev pub leased : State → (places : List ℕ) → Result ℕ LeaseFault × Leases → Option Outcome
+leased s places (Ok number, leases) = unplaced places (Done number, record s { leases = leases })
+leased s places (Err fault, leases) = unplaced places (NotDone fault, record s { leases = leases })
+
+-- what the call is answered, and the state then; none where the places aren't one free place for each written block
+unfoldable pub outcome_of : State → Call → (places : List ℕ) → Option Outcome
+outcome_of s (Submit submission reading) places = replied s places (verdict_on s submission.client reading) (reply_to s (verdict_on s submission.client reading))
+outcome_of s (Lease client path kind end) places = leased s places (granted s.leases (sight s.tree) s.clients client path kind end)
+outcome_of s (Drop client number) places = leased s places (dropped s.leases s.clients client number)
+outcome_of s (Tick moment) places = leased s places (ticked s.leases moment)
+
+-- a row of the docket: a call with its answer and, for a Yes, a place of tier 0 for each written block, ascending by block
+pub record Row : Type 0 where
+  pub call : Call
+  pub answer : CallAnswer
+  pub places : List ℕ
+
+abbrev pub answered : CallAnswer → Outcome → Option State
+answered answer outcome = if same_answer outcome.0 answer then Some outcome.1 else None
+
+-- the state after the row, where it fits
+unfoldable pub next : State → Row → Option State
+next s row = elim (outcome_of s row.call row.places) [ None ↦ None | Some outcome ↦ answered row.answer outcome ]
+
+-- ---- dockets
+
+-- no lease, moment 0
+abbrev pub opening : List Client → TierSizes → Tree ℕ → Placement → State
+opening clients sizes tree placement = record { clients = clients; sizes = sizes; tree = tree; leases = no_leases; placement = placement }
+
+-- the state after a docket, where each of its rows fits
+unfoldable pub after : State → List Row → Option State
+after s [] = Some s
+after s (row ∷ rows) = elim (next s row) [ None ↦ None | Some t ↦ after t rows ]
+
+-- the bytes of the row's submission are read so
+abbrev pub IsRead : Row → Type 0
+IsRead row = IsReadCall row.call
+  where
+    IsReadCall : Call → Type 0
+    IsReadCall (Submit submission reading) = IsReadAs submission reading
+    IsReadCall (Lease client path kind end) = Unit {0}
+    IsReadCall (Drop client number) = Unit {0}
+    IsReadCall (Tick moment) = Unit {0}
+
+-- each row is read rightly and fits where it stands
+pub record IsLegal (opened : State) (docket : List Row) : Type 0 where
+  pub read : AllByRecursion IsRead docket
+  pub fits : (last : State) × (after opened docket ≡ Some last)
 
 -- ---- what a Yes means
 

@@ -1,5 +1,5 @@
 -- Which blocks of files a log writes and clears, and how much room it needs.
-use Rattle.std.specs.Prelude.{ℕ, zero, suc, ◌+◌, ◌/◌, ◌&&◌, ◌||◌, Bool, true, false, List, [], ◌∷◌, length, take, drop, filter, map, flat_map, Some}
+use Rattle.std.specs.Prelude.{ℕ, zero, suc, ◌+◌, ◌/◌, ◌&&◌, ◌||◌, ◌==◌, not, Bool, true, false, List, [], ◌∷◌, length, take, drop, filter, map, flat_map, Some}
 use Rattle.std.specs.List.{list_any, list_all}
 use Rattle.kfs_model.specs.Table.{Table, numbers, pairs}
 use Rattle.kfs_model.specs.Tree.{Tree, Node, cells_of}
@@ -15,9 +15,25 @@ pub record Place : Type 0 where
   pub tier : ℕ
   pub place : ℕ
 
+-- a place of tier 0
+abbrev pub in_first_tier : ℕ → Place
+in_first_tier place = record { tier = 0; place = place }
+
 -- where the blocks of files lie: (number, block) to a place; none for a block that isn't mapped
 abbrev pub Placement : Type 0
 Placement = Table (pairs numbers numbers) Place
+
+-- no block of a file lies there
+abbrev pub is_free : Placement → Place → Bool
+is_free placement place = not (list_any (λ e. (e.1.tier == place.tier) && (e.1.place == place.place)) placement.entries)
+
+-- 0, 1 and so on, so many
+abbrev pub below : (count : ℕ) → List ℕ
+below count = from 0 count
+  where
+    from : (first count : ℕ) → List ℕ
+    from first zero = []
+    from first (suc count) = first ∷ from (first + 1) count
 
 abbrev pub is_payload : Mark → Bool
 is_payload (Mark.Base number place) = false

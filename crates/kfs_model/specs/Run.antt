@@ -1,11 +1,13 @@
 -- The run of a log: its entries one by one, each judged at its own point, up to the first fault.
-use Rattle.std.specs.Prelude.{ℕ, ◌+◌, ◌==◌, Bool, List, [], ◌∷◌, map, Option, Some, None, Result, Ok, Err, unwrap_or, slice_get}
+use Rattle.std.specs.Prelude.{◌≡◌, ℕ, ◌+◌, ◌==◌, Bool, List, [], ◌∷◌, map, Option, Some, None, Result, Ok, Err, unwrap_or, slice_get}
 use Rattle.std.specs.List.{list_any}
 use Rattle.kfs_model.specs.Access.{Client}
 use Rattle.kfs_model.specs.Table.{mapped, numbers, get}
 use Rattle.kfs_model.specs.Tree.{Tree, Node, Body, Cells, Names, cells_of}
 use Rattle.kfs_model.specs.Sight.{Sight, sight}
-use Rattle.kfs_model.specs.Check.{Reason, Spot, first_fault}
+use Rattle.kfs_model.specs.Check.{Reason, Reason-discrete, Spot, first_fault}
+use mathlib.Core.Path.{ap}
+use native.Mathlib.Decide.{ℕ_discrete}
 use Rattle.kfs_model.specs.Entry.{Entry, Create, Write, Truncate, Link, Unlink, Rename, Chmod}
 use Rattle.kfs_model.specs.Effect.{Fabric, effect}
 
@@ -38,6 +40,15 @@ spot scene now created = record {
 pub record EntryFault : Type 0 where
   pub entry : ℕ
   pub reason : Reason
+
+-- two faults are one where their entries and their reasons are
+pub EntryFault-equality : Discrete EntryFault
+EntryFault-equality f g = both (ℕ_discrete f.entry g.entry) (Reason-discrete ℕ_discrete f.reason g.reason)
+  where
+    both : Dec (f.entry ≡ g.entry) → Dec (f.reason ≡ g.reason) → Dec (f ≡ g)
+    both (yes e) (yes r) = yes (λ i. record { entry = e i; reason = r i })
+    both (yes e) (no differ) = no (λ p. differ (ap (λ (fault : EntryFault). fault.reason) p))
+    both (no differ) r = no (λ p. differ (ap (λ (fault : EntryFault). fault.entry) p))
 
 module _ {B : Type 0} (fabric : Fabric B) (scene : Scene) where
   -- the entries from the one with this number on, from this tree

@@ -183,6 +183,7 @@ pub data SpellingFault : Type 0 where
   BadEntry : (k : ℕ) → SpellingFault
   -- so many rows of this part were read: 0 names, 1 nodes, 2 pieces
   BadRow : (part k : ℕ) → SpellingFault
+  deriving Discrete as SpellingFault-discrete
 
 -- the bytes are the log · a log and more · begin with no header · a header, k entries, and no entry
 abbrev pub LogAnswer : List ℕ → Result Log SpellingFault → Type 0
