@@ -1,5 +1,5 @@
 -- What the desk's answers say of its docket.
-use Rattle.std.specs.Prelude.{ℕ}
+use Rattle.std.specs.Prelude.{ℕ, Bool}
 use Rattle.kfs_desk.specs.declared.answers.Reply.{Reply}
 use Rattle.kfs_desk.specs.declared.answers.Reply.TheVariants.{Yes, No}
 
@@ -7,3 +7,8 @@ use Rattle.kfs_desk.specs.declared.answers.Reply.TheVariants.{Yes, No}
 abbrev pub position_of : Reply → ℕ
 position_of (Yes position rejudged need) = position
 position_of (No position rejudged fault) = position
+
+-- whether the answer says that the submission was judged twice
+abbrev pub is_rejudged : Reply → Bool
+is_rejudged (Yes position rejudged need) = rejudged
+is_rejudged (No position rejudged fault) = rejudged

@@ -1,5 +1,5 @@
--- The desk as a state of the machine, and its calls as the machine's steps.
-use Rattle.std.specs.Prelude.{◌≡◌, ◌≢◌, ℕ, ◌+◌, ◌≤◌, IsTrue, List, [], ◌∷◌, Option, Some, is_some, option_map, Result, Ok, Err}
+-- The desk as a state of the machine, and its calls as rows that fit.
+use Rattle.std.specs.Prelude.{◌≡◌, ◌≢◌, ℕ, ◌+◌, ◌≤◌, IsTrue, Bool, false, List, [], ◌∷◌, Option, Some, is_some, option_map, Result, Ok, Err}
 use Rattle.kfs_model.specs.Access.{Client}
 use Rattle.kfs_model.specs.Table.{get, empty}
 use Rattle.kfs_model.specs.Entry.{Log}
@@ -8,28 +8,36 @@ use Rattle.kfs_model.specs.Lease as leases
 use Rattle.kfs_model.specs.Sight.{Sight}
 use Rattle.kfs_model.specs.Soundness.{IsSound}
 use Rattle.kfs_model.specs.Spelling.{LogAnswer}
-use Rattle.kfs_model.specs.Judgement.{State, Submission, Reply, Accepted, Refused, scene_of}
-use Rattle.kfs_model.specs.Machine.{Lands, Call, Lease, Drop, Tick, Leased, OneByOne, Steps}
+use Rattle.kfs_model.specs.Judgement.{State, Submission, Reading, IsReadAs, Reply, Accepted, Refused, scene_of}
+use Rattle.kfs_model.specs.Machine.{Call, Submit, Lease, Drop, Tick, CallAnswer, Replied, OneByOne, next}
+use Rattle.kfs_model.specs.Machine as machine
 use Rattle.kfs_mode.specs.Clients.{AreDistinct}
 use Rattle.kfs_lease.specs.Faults.{fault_of}
 use Rattle.kfs_lease.specs.Rows.{kind_of}
 use Rattle.kfs_lease.specs.declared.leases.LeaseFault.{LeaseFault}
 use Rattle.kfs_image.specs.Contents.{Shown as ImageShown}
-use Rattle.kfs_image.specs.ShownTree.{tree_of}
+use Rattle.kfs_image.specs.ShownTree.{tree_of, IsLawful}
 use Rattle.kfs_judge.specs.Judging.{HasOtherEntry, refusal_of, submission_of}
+use Rattle.kfs_judge.specs.declared.plan.Back.{Back}
 use Rattle.kfs_judge.specs.declared.plan.Submission.{Submission as CodeSubmission}
+use Rattle.kfs_judge.specs.declared.plan.Why.{Why}
+use Rattle.kfs_judge.specs.declared.plan.Why.TheVariants as whys
 use Rattle.kfs_desk.specs.declared.answers.Act.{Act}
 use Rattle.kfs_desk.specs.declared.answers.Act.TheVariants as acts
 use Rattle.kfs_desk.specs.declared.answers.Done.{Done}
 use Rattle.kfs_desk.specs.declared.answers.Done.TheVariants as dones
 use Rattle.kfs_desk.specs.declared.answers.Reply.{Reply as CodeReply}
 use Rattle.kfs_desk.specs.declared.answers.Reply.TheVariants as replies
-use Rattle.kfs_desk.specs.declared.answers.Unanswered.{Unanswered}
-use Rattle.kfs_desk.specs.declared.answers.Unanswered.TheVariants as unanswered
-use Rattle.kfs_desk.specs.Docket.{position_of}
+use Rattle.kfs_desk.specs.Docket.{position_of, is_rejudged}
 
--- what contracts see of a desk
-pub record Shown : Type 0 where
+-- what contracts see of a desk: the machine's state, and how many rows the docket has and may have
+pub record Desk : Type 0 where
+  pub state : State
+  pub rows : ℕ
+  pub limit : ℕ
+
+-- what a desk is made of
+pub record Parts : Type 0 where
   pub image : ImageShown
   pub clients : List Client
   pub leases : Leases
@@ -37,13 +45,13 @@ pub record Shown : Type 0 where
   pub limit : ℕ
 
 -- the docket keeps to its limit, no two clients have one number, and each lease is on a node
-pub record IsInOrder (desk : Shown) : Type 0 where
+pub record IsInOrder (desk : Parts) : Type 0 where
   pub within_limit : desk.rows ≤ desk.limit
   pub distinct : AreDistinct desk.clients
   pub on_nodes : (client number : ℕ) → IsTrue (is_some (get desk.leases.rows (client, number))) → IsTrue (is_some (get desk.image.contents.heads number))
 
 -- no block of a file is placed as yet
-abbrev pub state_of : Shown → State
+abbrev pub state_of : Parts → State
 state_of desk = record {
   clients = desk.clients;
   sizes = desk.image.sizes;
@@ -52,6 +60,15 @@ state_of desk = record {
   placement = empty;
 }
 
+abbrev pub shown : Parts → Desk
+shown desk = record { state = state_of desk; rows = desk.rows; limit = desk.limit }
+
+-- the image shows the state's tree, and its tiers are the state's
+pub record IsImageOf (image : ImageShown) (s : State) : Type 0 where
+  pub tree : tree_of image.contents ≡ s.tree
+  pub sizes : image.sizes ≡ s.sizes
+  pub lawful : IsLawful image.contents
+
 -- ---- a submission
 
 -- the reply of the machine, none where a growth was refused
@@ -59,11 +76,14 @@ abbrev pub reply_of : CodeReply → Option Reply
 reply_of (replies.Yes position rejudged need) = Some (Accepted need)
 reply_of (replies.No position rejudged fault) = option_map Refused (refusal_of fault)
 
--- the answer is the machine's reply, and leads to this state
+-- the submission with this answer is a row that fits, and leads to this state
 pub record IsStep (s : State) (submission : Submission) (answer : CodeReply) (t : State) : Type 0 where
+  pub reading : Reading
+  pub read : IsReadAs submission reading
   pub reply : Reply
   pub said : reply_of answer ≡ Some reply
-  pub lands : Lands s submission reply t
+  pub places : List ℕ
+  pub fits : next s (record { call = Submit submission reading; answer = Replied reply; places = places }) ≡ Some t
 
 -- the new tree is what the entries of the log give one by one from the tree before, each of them allowed, and it is sound
 pub record IsDone (s : State) (submission : Submission) (t : State) : Type 0 where
@@ -79,28 +99,34 @@ abbrev pub Means : (s : State) → Submission → CodeReply → (t : State) → 
 Means s submission (replies.Yes position rejudged need) t = IsDone s submission t
 Means s submission (replies.No position rejudged fault) t = (t.tree ≡ s.tree) × (t.leases ≡ s.leases)
 
--- the answer is such a step, means what it says, and adds the docket's row at its position
-pub record IsAnswered (old : Shown) (submission : Submission) (answer : CodeReply) (new : Shown) : Type 0 where
-  pub step : IsStep (state_of old) submission answer (state_of new)
-  pub meaning : Means (state_of old) submission answer (state_of new)
+-- the answer is such a step, judged once, means what it says, and adds the docket's row at its position
+pub record IsAnswered (old : Desk) (submission : Submission) (answer : CodeReply) (new : Desk) : Type 0 where
+  pub step : IsStep old.state submission answer new.state
+  pub once : is_rejudged answer ≡ false
+  pub meaning : Means old.state submission answer new.state
   pub position : position_of answer ≡ old.rows
   pub rows : new.rows ≡ old.rows + 1
   pub limit : new.limit ≡ old.limit
 
 -- why there is no answer: a full docket, that exactly, or else an entry that isn't judged yet, or want of memory
-abbrev pub IsWhy : Shown → (log : List ℕ) → Unanswered → Type 0
-IsWhy desk log unanswered.DocketFull = desk.rows ≡ desk.limit
-IsWhy desk log unanswered.OtherEntry = (desk.rows ≢ desk.limit) × HasOtherEntry log
-IsWhy desk log unanswered.OutOfMemory = desk.rows ≢ desk.limit
+abbrev pub IsWhy : Desk → (log : List ℕ) → Why → Type 0
+IsWhy desk log whys.DocketFull = desk.rows ≡ desk.limit
+IsWhy desk log whys.OtherEntry = (desk.rows ≢ desk.limit) × HasOtherEntry log
+IsWhy desk log whys.OutOfMemory = desk.rows ≢ desk.limit
 
--- One after another: each is answered at the desk that the earlier ones left, or there is a reason at that desk, which then
--- stays as it is.
-abbrev pub RunsThrough : {A : Type 0} → Shown → List (CodeSubmission A) → List (Result CodeReply Unanswered) → Shown → Type 0
+-- it came back for this reason
+abbrev pub IsBackFor : {A T : Type 0} → Result T (Back A) → Why → Type 0
+IsBackFor (Ok answer) why = ⊥
+IsBackFor (Err back) why = back.why ≡ why
+
+-- One after another: each is answered at the desk that the earlier ones left, or comes back with a reason at that desk, which
+-- then stays as it is.
+abbrev pub RunsThrough : {A : Type 0} → Desk → List (CodeSubmission A) → List (Result CodeReply (Back A)) → Desk → Type 0
 RunsThrough desk [] [] last = last ≡ desk
 RunsThrough desk [] (answer ∷ answers) last = ⊥
 RunsThrough desk (submission ∷ submissions) [] last = ⊥
-RunsThrough desk (submission ∷ submissions) (Ok reply ∷ answers) last = (next : Shown) × IsAnswered desk (submission_of submission) reply next × RunsThrough next submissions answers last
-RunsThrough desk (submission ∷ submissions) (Err why ∷ answers) last = IsWhy desk submission.log.items why × RunsThrough desk submissions answers last
+RunsThrough desk (submission ∷ submissions) (Ok reply ∷ answers) last = (next : Desk) × IsAnswered desk (submission_of submission) reply next × RunsThrough next submissions answers last
+RunsThrough desk (submission ∷ submissions) (Err back ∷ answers) last = (back.submission ≡ submission) × IsWhy desk submission.log.items back.why × RunsThrough desk submissions answers last
 
 -- ---- a call for the leases
 
@@ -135,14 +161,18 @@ IsTold words (Ok done) (Err refusal) = ⊥
 IsTold words (Err fault) (Ok number) = ⊥
 IsTold words (Err fault) (Err refusal) = fault_of fault ≡ Some refusal
 
+abbrev pub row_answer : Result ℕ leases.LeaseFault → CallAnswer
+row_answer (Ok number) = machine.Done number
+row_answer (Err fault) = machine.NotDone fault
+
 -- the answer and the leases after it are the outcome
 pub record IsChange (outcome : leases.Outcome) (words : ℕ → Done) (answer : Result Done LeaseFault) (new : Leases) : Type 0 where
   pub told : Result ℕ leases.LeaseFault
   pub said : IsTold words answer told
   pub is : outcome ≡ (told, new)
 
--- the answer tells the machine's outcome of the call in these words, and leads to this state
+-- the answer tells an outcome in these words; the call with that outcome is a row that fits, and leads to this state
 pub record IsLeaseStep (s : State) (call : Call) (words : ℕ → Done) (answer : Result Done LeaseFault) (t : State) : Type 0 where
   pub outcome : Result ℕ leases.LeaseFault
   pub said : IsTold words answer outcome
-  pub steps : Steps s call (Leased outcome) t
+  pub fits : next s (record { call = call; answer = row_answer outcome; places = [] }) ≡ Some t

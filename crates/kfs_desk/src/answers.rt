@@ -62,15 +62,13 @@ pub struct ActReply {
     pub answer: Result<Done, LeaseFault>,
 }
 
-/// Why a call of the desk has no place in the docket. The desk is as it was.
+/// Why a call for the leases has no place in the docket. The desk is as it was.
 #[derive(Clone, Copy, Debug, PartialEq, Eq)]
 pub enum Unanswered {
-    /// A growth of memory was refused.
+    /// 1: a growth of memory was refused.
     OutOfMemory,
-    /// The docket has as many rows as its limit allows.
+    /// 2: the docket has as many rows as its limit allows.
     DocketFull,
-    /// The log has an entry that isn't judged yet.
-    OtherEntry,
 }
 
 impl From<AllocError> for Unanswered {

@@ -1,17 +1,22 @@
 //! The desk: it owns the image and the leases, and lands what was judged.
-ghost use Rattle.std.specs.Prelude.{◌≡◌, ◌↔◌, ◌+◌, ◌≤◌, ◌<◌, ◌==◌, ◌++◌, ◌∷◌, [], IfOk, IfErr, OnErr, OnOk, IfSome, IfNone, IsErrOf, Ok, Err, None, unwrap_or};
+ghost use Rattle.std.specs.Prelude.{◌≡◌, ◌↔◌, ℕ, false, ◌+◌, ◌≤◌, ◌<◌, ◌==◌, ◌++◌, ◌∷◌, [], IfOk, IfErr, OnErr, OnOk, IfSome, IfNone, IsErrOf, Ok, Err, None, unwrap_or};
 ghost use Rattle.std.specs.List.{list_any};
-ghost use Rattle.kfs_model.specs.Lease.{no_leases};
+ghost use Rattle.kfs_model.specs.Lease.{holds};
 ghost use Rattle.kfs_model.specs.Machine as machine;
+ghost use Rattle.kfs_model.specs.Machine.{opening};
+ghost use Rattle.kfs_model.specs.Soundness.{IsSound};
+ghost use Rattle.kfs_model.specs.Table.{empty};
 ghost use Rattle.kfs_mode.specs.Clients.{AreDistinct};
 ghost use Rattle.kfs_lease.specs.Faults as refusals;
 ghost use Rattle.kfs_lease.specs.Rows.{kind_of};
 ghost use Rattle.kfs_image.specs.Contents.{sight_of};
-ghost use Rattle.kfs_image.specs.ShownTree.{IsLawful};
+ghost use Rattle.kfs_image.specs.ShownTree.{tree_of};
+ghost use Rattle.kfs_judge.specs.View.{clients_of, seen_of};
+ghost use Rattle.kfs_judge.specs.Walks.{seen_in};
 ghost use Rattle.kfs_judge.specs.Judging.{HasOtherEntry, IsVerdict, submission_of};
-ghost use Rattle.kfs_desk.specs.Docket.{position_of};
+ghost use Rattle.kfs_desk.specs.Docket.{is_rejudged, position_of};
 ghost use Rattle.kfs_desk.specs.Landing.{CanLand, answer_at, image_after};
-ghost use Rattle.kfs_desk.specs.Machine.{IsChange, IsLeaseStep, IsStep, Means, RunsThrough, call_of, done_by, number_of, outcome_at, state_of};
+ghost use Rattle.kfs_desk.specs.Machine.{IsBackFor, IsChange, IsImageOf, IsLeaseStep, IsStep, Means, RunsThrough, call_of, done_by, number_of, outcome_at};
 ghost use Rattle.kfs_desk.specs.Opening.{begin_fault, do_overlap, fault_behind};
 ghost use Rattle.kfs_desk.specs.Room.{spare_of};
 
@@ -21,7 +26,7 @@ use crate::answers::{
 use kfs_image::shape::{Fill, net_apply};
 use kfs_image::{Image, Shape};
 use kfs_judge::View;
-use kfs_judge::plan::{Judged, Outcome, Submission, Why, judge};
+use kfs_judge::plan::{Back, Judged, Outcome, Submission, Why, judge};
 use kfs_lease::{LeaseFault, LeaseKind, Leases};
 use kfs_mode::Client;
 use std::alloc::{AllocError, Allocator};
@@ -41,11 +46,11 @@ pub struct Desk<A: Allocator> {
 }
 
 impl<A: Allocator> Model for Desk<A> {
-    ghost use Rattle.kfs_desk.specs.Machine.{Shown, IsInOrder};
+    ghost use Rattle.kfs_desk.specs.Machine.{Desk as Shown, IsInOrder, shown};
 
     ghost Value = { Shown };
 
-    ghost view = { λ d. record { image = d.image; clients = d.clients.value.items; leases = d.leases.value; rows = d.rows; limit = d.limit } };
+    ghost view = { λ d. shown (record { image = d.image; clients = d.clients.value.items; leases = d.leases.value; rows = d.rows; limit = d.limit }) };
 
     ghost invariant = { λ d. IsInOrder (record { image = d.image; clients = d.clients.value.items; leases = d.leases.value; rows = d.rows; limit = d.limit }) };
 }
@@ -58,7 +63,7 @@ impl<A: Allocator + Copy> Desk<A> {
         clients: Vec<Client, A>,
         limit: u32,
     ) -> Result<Desk<A>, BeginBack<A>>
-        ensures ok { IfOk result (λ desk. desk ≡ record { image = image; clients = clients.items; leases = no_leases; rows = 0; limit = limit }) }
+        ensures ok { IfOk result (λ desk. desk ≡ record { state = opening clients.items image.sizes (tree_of image.contents) empty; rows = 0; limit = limit }) }
         ensures back { IfErr result (λ back. (back.image ≡ image) × (back.clients ≡ clients)) }
         ensures fit { OnOk result (begin_fault clients.items ≡ None) }
 
@@ -99,7 +104,7 @@ impl<A: Allocator + Copy> Desk<A> {
 
     /// The image of now.
     pub fn image(&self) -> &Image<A>
-        ensures { result.now ≡ self.now.image }
+        ensures { IsImageOf result.now self.now.state }
     {
         &self.image
     }
@@ -113,10 +118,9 @@ impl<A: Allocator + Copy> Desk<A> {
         end: u64,
     ) -> Result<ActReply, Unanswered>
         ensures full { IsErrOf result Unanswered.DocketFull ↔ (self.old.rows ≡ self.old.limit) }
-        ensures step { IfOk result (λ reply. IsLeaseStep (state_of self.old) (machine.Lease client path.now (kind_of kind) end) Done.Leased reply.answer (state_of self.new)) }
+        ensures step { IfOk result (λ reply. IsLeaseStep self.old.state (machine.Lease client path.now (kind_of kind) end) Done.Leased reply.answer self.new.state) }
         ensures row { IfOk result (λ reply. (reply.position ≡ self.old.rows) × (self.new.rows ≡ reply.position + 1)) }
         ensures err { OnErr result (self.new ≡ self.old) }
-        ensures judged { IsErrOf result Unanswered.OtherEntry → ⊥ }
         ensures limit { self.new.limit ≡ self.old.limit }
     {
         self.act(Act::Lease {
@@ -130,10 +134,9 @@ impl<A: Allocator + Copy> Desk<A> {
     /// Ends the client's lease on the node.
     pub fn drop_lease(&mut self, client: u32, number: u32) -> Result<ActReply, Unanswered>
         ensures full { IsErrOf result Unanswered.DocketFull ↔ (self.old.rows ≡ self.old.limit) }
-        ensures step { IfOk result (λ reply. IsLeaseStep (state_of self.old) (machine.Drop client number) Done.Dropped reply.answer (state_of self.new)) }
+        ensures step { IfOk result (λ reply. IsLeaseStep self.old.state (machine.Drop client number) Done.Dropped reply.answer self.new.state) }
         ensures row { IfOk result (λ reply. (reply.position ≡ self.old.rows) × (self.new.rows ≡ reply.position + 1)) }
         ensures err { OnErr result (self.new ≡ self.old) }
-        ensures judged { IsErrOf result Unanswered.OtherEntry → ⊥ }
         ensures limit { self.new.limit ≡ self.old.limit }
     {
         self.act(Act::Drop { client, number })
@@ -142,10 +145,9 @@ impl<A: Allocator + Copy> Desk<A> {
     /// Goes to a moment, and ends the leases that are no longer live.
     pub fn tick(&mut self, moment: u64) -> Result<ActReply, Unanswered>
         ensures full { IsErrOf result Unanswered.DocketFull ↔ (self.old.rows ≡ self.old.limit) }
-        ensures step { IfOk result (λ reply. IsLeaseStep (state_of self.old) (machine.Tick moment) Done.Ticked reply.answer (state_of self.new)) }
+        ensures step { IfOk result (λ reply. IsLeaseStep self.old.state (machine.Tick moment) Done.Ticked reply.answer self.new.state) }
         ensures row { IfOk result (λ reply. (reply.position ≡ self.old.rows) × (self.new.rows ≡ reply.position + 1)) }
         ensures err { OnErr result (self.new ≡ self.old) }
-        ensures judged { IsErrOf result Unanswered.OtherEntry → ⊥ }
         ensures limit { self.new.limit ≡ self.old.limit }
     {
         self.act(Act::Tick { moment })
@@ -154,10 +156,9 @@ impl<A: Allocator + Copy> Desk<A> {
     /// Makes a call for the leases. Its answer takes the docket's next row.
     pub fn act(&mut self, act: Act<'_>) -> Result<ActReply, Unanswered>
         ensures full { IsErrOf result Unanswered.DocketFull ↔ (self.old.rows ≡ self.old.limit) }
-        ensures step { IfOk result (λ reply. IsLeaseStep (state_of self.old) (call_of act.entry) (done_by act.entry) reply.answer (state_of self.new)) }
+        ensures step { IfOk result (λ reply. IsLeaseStep self.old.state (call_of act.entry) (done_by act.entry) reply.answer self.new.state) }
         ensures row { IfOk result (λ reply. (reply.position ≡ self.old.rows) × (self.new.rows ≡ reply.position + 1)) }
         ensures err { OnErr result (self.new ≡ self.old) }
-        ensures judged { IsErrOf result Unanswered.OtherEntry → ⊥ }
         ensures limit { self.new.limit ≡ self.old.limit }
     {
         let position = self.next_row()?;
@@ -169,19 +170,26 @@ impl<A: Allocator + Copy> Desk<A> {
     }
 
     /// Judges the submission against the state of now, and lands it: where it is judged right, the
-    /// tree changes as its log says.
-    pub fn submit(&mut self, submission: Submission<A>) -> Result<Reply, Unanswered>
-        ensures full { IsErrOf result Unanswered.DocketFull ↔ (self.old.rows ≡ self.old.limit) }
-        ensures step { IfOk result (λ reply. IsStep (state_of self.old) (submission_of submission) reply (state_of self.new)) }
+    /// tree changes as its log says. A submission that isn't answered comes back.
+    pub fn submit(&mut self, submission: Submission<A>) -> Result<Reply, Back<A>>
+        ensures full { IsBackFor result Why.DocketFull ↔ (self.old.rows ≡ self.old.limit) }
+        ensures step { IfOk result (λ reply. IsStep self.old.state (submission_of submission) reply self.new.state) }
+
+        // It is judged once, and then lands.
+        ensures once { IfOk result (λ reply. is_rejudged reply ≡ false) }
 
         // A Yes: the entries give the new tree one by one, each of them allowed. A No: nothing has changed.
-        ensures meaning { IfOk result (λ reply. Means (state_of self.old) (submission_of submission) reply (state_of self.new)) }
+        ensures meaning { IfOk result (λ reply. Means self.old.state (submission_of submission) reply self.new.state) }
         ensures row { IfOk result (λ reply. (position_of reply ≡ self.old.rows) × (self.new.rows ≡ position_of reply + 1)) }
-        ensures err { OnErr result (self.new ≡ self.old) }
-        ensures other { IsErrOf result Unanswered.OtherEntry → HasOtherEntry submission.log.items }
+        ensures err { IfErr result (λ back. (back.submission ≡ submission) × (self.new ≡ self.old)) }
+        ensures other { IsBackFor result Why.OtherEntry → HasOtherEntry submission.log.items }
         ensures limit { self.new.limit ≡ self.old.limit }
     {
-        let position = self.next_row()?;
+        if self.rows == self.limit {
+            let why = Why::DocketFull;
+            return Err(Back { submission, why });
+        }
+        let position = self.rows;
         let judged = self.judged(submission)?;
         let reply = land(&mut self.image, position, judged)?;
         self.rows = position + 1;
@@ -193,7 +201,7 @@ impl<A: Allocator + Copy> Desk<A> {
     pub fn submit_all(
         &mut self,
         submissions: Vec<Submission<A>, A>,
-    ) -> Result<Vec<Result<Reply, Unanswered>, A>, SubmissionsBack<A>>
+    ) -> Result<Vec<Result<Reply, Back<A>>, A>, SubmissionsBack<A>>
         ensures answers { IfOk result (λ answers. RunsThrough self.old submissions.items answers.items self.new) }
         ensures back { IfErr result (λ back. (back.submissions ≡ submissions) × (self.new ≡ self.old)) }
         ensures limit { self.new.limit ≡ self.old.limit }
@@ -222,18 +230,28 @@ impl<A: Allocator + Copy> Desk<A> {
 
     /// The verdict on the submission in the state of now. The view that it is judged against ends here,
     /// so that landing shares nothing.
-    fn judged(&self, submission: Submission<A>) -> Result<Judged<A>, Unanswered>
-        ensures verdict { IfOk result (λ judged. IsVerdict (state_of self.now) (submission_of submission) judged.outcome) }
-        ensures other { IsErrOf result Unanswered.OtherEntry → HasOtherEntry submission.log.items }
-        ensures not_full { IsErrOf result Unanswered.DocketFull → ⊥ }
-        ensures lawful { IsLawful self.now.image.contents }
+    fn judged(&self, submission: Submission<A>) -> Result<Judged<A>, Back<A>>
+        ensures verdict { IfOk result (λ judged. IsVerdict self.now.state (submission_of submission) judged.outcome) }
+        ensures submission { IfOk result (λ judged. judged.submission ≡ submission) }
+        ensures back { IfErr result (λ back. back.submission ≡ submission) }
+        ensures other { IsBackFor result Why.OtherEntry → HasOtherEntry submission.log.items }
+        ensures not_full { IsBackFor result Why.DocketFull → ⊥ }
+    {
+        let Ok(view) = self.view() else {
+            let why = Why::OutOfMemory;
+            return Err(Back { submission, why });
+        };
+        judge(self.alloc, &view, submission)
+    }
+
+    /// The shape, the leases and the clients of now.
+    fn view(&self) -> Result<View<A>, AllocError>
+        ensures clients { IfOk result (λ view. clients_of view ≡ self.now.state.clients) }
+        ensures seen { IfOk result (λ view. (client : ℕ) → seen_of view client ≡ seen_in self.now.state.tree (holds self.now.state.leases client)) }
+        ensures sound { IsSound self.now.state.tree }
     {
         let shape = self.image.shape().clone()?;
-        let view = View::of(shape, self.leases.clone()?, self.clients.clone()?);
-        match judge(self.alloc, &view, submission) {
-            Ok(judged) => Ok(judged),
-            Err(back) => Err(unanswered(back.why)),
-        }
+        Ok(View::of(shape, self.leases.clone()?, self.clients.clone()?))
     }
 }
 
@@ -291,17 +309,6 @@ fn made<A: Allocator + Clone>(
     }
 }
 
-/// Why a submission that comes back without a verdict isn't answered.
-fn unanswered(why: Why) -> Unanswered
-    ensures other { result ≡ Unanswered.OtherEntry → why ≡ Why.OtherEntry }
-    ensures not_full { result ≡ Unanswered.DocketFull → ⊥ }
-{
-    match why {
-        Why::OutOfMemory => Unanswered::OutOfMemory,
-        Why::OtherEntry => Unanswered::OtherEntry,
-    }
-}
-
 /// Appends an element, for which there is room.
 fn push_within<T: Drop, A: Allocator>(out: &mut Vec<T, A>, value: T)
     requires { 1 ≤ spare_of out.old }
@@ -316,28 +323,36 @@ fn land<A: Allocator + Copy>(
     image: &mut Image<A>,
     position: u32,
     judged: Judged<A>,
-) -> Result<Reply, AllocError>
+) -> Result<Reply, Back<A>>
     requires { CanLand image.old judged.outcome }
     ensures answer { IfOk result (λ reply. reply ≡ answer_at position judged.outcome) }
     ensures ok { OnOk result (image.new ≡ image_after image.old judged.outcome) }
-    ensures err { OnErr result (image.new ≡ image.old) }
+    ensures err { IfErr result (λ back. (back.submission ≡ judged.submission) × (back.why ≡ Why.OutOfMemory) × (image.new ≡ image.old)) }
 {
-    let Judged { outcome, .. } = judged;
-    match outcome {
-        Outcome::Yes { net, need, .. } => {
-            net_apply(image, &net, &Fill::empty())?;
-            Ok(Reply::Yes {
+    let Judged {
+        submission,
+        outcome,
+        ..
+    } = judged;
+    let (net, need) = match outcome {
+        Outcome::Yes { net, need, .. } => (net, need),
+        Outcome::No(fault) => {
+            return Ok(Reply::No {
                 position,
                 rejudged: false,
-                need,
-            })
+                fault,
+            });
         }
-        Outcome::No(fault) => Ok(Reply::No {
-            position,
-            rejudged: false,
-            fault,
-        }),
+    };
+    if net_apply(image, &net, &Fill::empty()).is_err() {
+        let why = Why::OutOfMemory;
+        return Err(Back { submission, why });
     }
+    Ok(Reply::Yes {
+        position,
+        rejudged: false,
+        need,
+    })
 }
 
 /// Why a desk can't have these clients: the fault of the first that can't stand behind the earlier ones.

@@ -100,7 +100,7 @@ module _ (A : Type 0) (s : State) (submission : Submission) where
       → judged s submission.client log plan ≡ No refusal → refusal_of fault ≡ Some refusal → IsVerdict {A = A} s submission (outcomes.No fault)
   refused fault refusal log plan log_read plan_read is shown = record {
     verdict = No refusal;
-    judgement = record { log = log; plan = plan; log_read = log_read; plan_read = plan_read; judgement = sym is };
+    judgement = record { reading = record { log = log; plan = plan }; read = record { log = log_read; plan = plan_read }; judgement = sym is };
     told = shown;
   }
 
@@ -179,10 +179,8 @@ module _ (A : Type 0) (s : State) (submission : Submission) where
         right told zero is = record {
           verdict = Yes comes.0 ends.marked_after;
           judgement = record {
-            log = Ok the_log;
-            plan = Ok (plan_of plan);
-            log_read = spelled.log_read;
-            plan_read = spelled.plan_read;
+            reading = record { log = Ok the_log; plan = Ok (plan_of plan) };
+            read = record { log = spelled.log_read; plan = spelled.plan_read };
             judgement = sym (judged-row s submission.client client row the_log (plan_of plan) spelled.owner comes.0 ends.marked_after None ran ends.ran (first ∙ is));
           };
           told = record {

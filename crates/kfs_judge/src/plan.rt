@@ -151,12 +151,14 @@ pub struct Judged<A: Allocator> {
     pub outcome: Outcome<A>,
 }
 
-/// Why a submission comes back without a verdict.
+/// Why a submission comes back without a verdict or an answer.
 #[derive(Clone, Copy, Debug, PartialEq, Eq)]
 pub enum Why {
-    /// A growth was refused.
+    /// 1: a growth was refused.
     OutOfMemory,
-    /// The log has an entry that isn't judged yet, one other than Create and Chmod.
+    /// 2: the docket has as many rows as its limit allows. Only a desk answers so.
+    DocketFull,
+    /// 3: the log has an entry that isn't judged yet, one other than Create and Chmod.
     OtherEntry,
 }
 
@@ -193,6 +195,7 @@ pub fn judge<A: Allocator + Copy>(
     ensures view_agrees { IfOk result (λ j. Agrees j.reads.entries (seen_of view.now submission.client)) }
     ensures among { IfOk result (λ j. AreLooked view.now (submission_of submission) j.reads.entries) }
     ensures other { IfErr result (λ b. b.why ≡ Why.OtherEntry → HasOtherEntry submission.log.items) }
+    ensures not_full { IfErr result (λ b. b.why ≢ Why.DocketFull) }
 {
     let (log, plan) = (submission.log.as_slice(), submission.plan.as_slice());
     match find(alloc, view, submission.client, log, plan) {
@@ -241,6 +244,7 @@ fn find<A: Allocator + Copy>(
     ensures view_agrees { IfOk result (λ f. Agrees f.reads.entries (seen_of view.now number)) }
     ensures among { IfOk result (λ f. AreLooked view.now (submission_with number log.now plan.now) f.reads.entries) }
     ensures other { IfErr result (λ why. why ≡ Why.OtherEntry → HasOtherEntry log.now) }
+    ensures not_full { IfErr result (λ why. why ≢ Why.DocketFull) }
 {
     let Some(client) = view.client(number) else {
         return Ok(Finding::unread(alloc, None, Fault::UnknownClient));
@@ -277,6 +281,7 @@ fn read_submission<A: Allocator + Copy>(
 ) -> Result<Spelled<A>, Why>
     ensures read { IfOk result (IsReading (submission_with number log.now plan.now)) }
     ensures other { IfErr result (λ why. why ≡ Why.OtherEntry → HasOtherEntry log.now) }
+    ensures not_full { IfErr result (λ why. why ≢ Why.DocketFull) }
 {
     let log = match decode_log(alloc, log) {
         Ok(log) => log,

@@ -34,3 +34,4 @@ pub mod Unlooked
 pub mod SameNet
 pub mod FreshTree
 pub mod NameTest
+pub mod RowFits
