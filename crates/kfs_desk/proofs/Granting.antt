@@ -1,5 +1,5 @@
 -- A call for the leases is the machine's step, and leaves each lease on a node.
-use Rattle.std.proofs.Common.{◌≡◌, ℕ, ◌≤◌, Bool, true, false, cond, List, Option, Some, None, is_some, IsTrue, Result, Ok, Err, refl, sym, ap, subst, ◌∙◌}
+use Rattle.std.proofs.Common.{◌≡◌, ℕ, ◌≤◌, Bool, true, false, cond, List, [], Option, Some, None, is_some, IsTrue, Result, Ok, Err, refl, sym, ap, subst, ◌∙◌}
 use Rattle.std.specs.Prelude.{nat_le, nat_lt, is_none, not}
 use Rattle.std.specs.declared.cmp.Ordering.{Ordering}
 use Rattle.std.specs.declared.cmp.Ordering.TheVariants.{Less, Equal, Greater}
@@ -12,7 +12,8 @@ use Rattle.kfs_model.specs.Sight.{sight}
 use Rattle.kfs_model.specs.Soundness.{IsSound}
 use Rattle.kfs_model.specs.Lease.{Lease, LeaseKind, LeaseFault, Leases, Outcome, row_of, names_of, walked, in_conflict, refused, granted, granted_on, granted_by_walk, granted_at, dropped, ticked, is_live, Past, LeaseHeld, UnknownClient, NoLeaseHeld, Backwards}
 use Rattle.kfs_model.specs.Judgement.{State}
-use Rattle.kfs_model.specs.Machine.{Leased, Steps, with_leases}
+use Rattle.kfs_model.specs.Machine.{outcome_of, leased}
+use Rattle.kfs_model.proofs.RowFits.{row_fits}
 use Rattle.kfs_lease.specs.Rows.{kind_of}
 use Rattle.kfs_lease.proofs.WalkedNode.{walked_to_node}
 use Rattle.kfs_lease.specs.declared.leases.LeaseFault.{LeaseFault as CodeFault}
@@ -20,7 +21,7 @@ use Rattle.kfs_image.specs.ShownTree.{tree_of, IsLawful}
 use Rattle.kfs_desk.specs.declared.answers.Act.{Act}
 use Rattle.kfs_desk.specs.declared.answers.Act.TheVariants as acts
 use Rattle.kfs_desk.specs.declared.answers.Done.{Done}
-use Rattle.kfs_desk.specs.Machine.{Shown, IsInOrder, IsChange, IsLeaseStep, call_of, done_by, outcome_at}
+use Rattle.kfs_desk.specs.Machine.{Parts, IsInOrder, IsChange, IsLeaseStep, call_of, done_by, outcome_at, row_answer}
 
 module _ (t : Tree ℕ) (sound : IsSound t) where
   abbrev IsNode : ℕ → Type 0
@@ -101,17 +102,25 @@ module _ (t : Tree ℕ) (sound : IsSound t) where
 
 -- ---- the step
 
+abbrev with_leases : State → Leases → State
+with_leases s leases = record s { leases = leases }
+
+leased_is : (s : State) (told : Result ℕ LeaseFault) (new : Leases) → leased s [] (told, new) ≡ Some (row_answer told, with_leases s new)
+leased_is s (Ok number) new = refl
+leased_is s (Err fault) new = refl
+
 module _ (act : Act) (answer : Result Done CodeFault) (new : Leases) where
   pub change_is_step : (s : State) → IsChange (outcome_at s.leases (sight s.tree) s.clients act) (done_by act) answer new → IsLeaseStep s (call_of act) (done_by act) answer (with_leases s new)
-  change_is_step s is = record { outcome = is.told; said = is.said; steps = by act is.is }
+  unfolding outcome_of
+  change_is_step s is = record { outcome = is.told; said = is.said; fits = row_fits s (with_leases s new) _ (by act is.is) }
     where
-      by : (a : Act) → outcome_at s.leases (sight s.tree) s.clients a ≡ (is.told, new) → Steps s (call_of a) (Leased is.told) (with_leases s new)
-      by (acts.Lease client path kind end) same = (ap (λ (o : Outcome). o.0) (sym same), ap (λ (o : Outcome). with_leases s o.1) (sym same))
-      by (acts.Drop client number) same = (ap (λ (o : Outcome). o.0) (sym same), ap (λ (o : Outcome). with_leases s o.1) (sym same))
-      by (acts.Tick moment) same = (ap (λ (o : Outcome). o.0) (sym same), ap (λ (o : Outcome). with_leases s o.1) (sym same))
+      by : (a : Act) → outcome_at s.leases (sight s.tree) s.clients a ≡ (is.told, new) → outcome_of s (call_of a) [] ≡ Some (row_answer is.told, with_leases s new)
+      by (acts.Lease client path kind end) same = ap (leased s []) same ∙ leased_is s is.told new
+      by (acts.Drop client number) same = ap (leased s []) same ∙ leased_is s is.told new
+      by (acts.Tick moment) same = ap (leased s []) same ∙ leased_is s is.told new
 
   -- the desk keeps its order
-  pub change_in_order : (desk : Shown) → IsInOrder desk → IsLawful desk.image.contents → (clients : List Client) → IsChange (outcome_at desk.leases (sight (tree_of desk.image.contents)) clients act) (done_by act) answer new
+  pub change_in_order : (desk : Parts) → IsInOrder desk → IsLawful desk.image.contents → (clients : List Client) → IsChange (outcome_at desk.leases (sight (tree_of desk.image.contents)) clients act) (done_by act) answer new
       → (rows : ℕ) → rows ≤ desk.limit → IsInOrder (record desk { leases = new; rows = rows })
   change_in_order desk order lawful clients is rows within = record {
     within_limit = within;

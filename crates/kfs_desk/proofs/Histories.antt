@@ -1,26 +1,25 @@
 -- One submission more at the front of those that were handed in.
-use Rattle.std.proofs.Common.{◌≡◌, ◌↔◌, ◌+◌, List, ◌∷◌, Result, Ok, Err, refl, ap, subst, ◌∙◌}
-use Rattle.std.specs.Prelude.{IfOk, OnErr, IsErrOf}
+use Rattle.std.proofs.Common.{◌≡◌, ◌↔◌, List, ◌∷◌, Result, Ok, Err, refl, subst}
+use Rattle.std.specs.Prelude.{IfOk, IfErr}
 use Rattle.kfs_judge.specs.Judging.{HasOtherEntry, submission_of}
+use Rattle.kfs_judge.specs.declared.plan.Back.{Back}
 use Rattle.kfs_judge.specs.declared.plan.Submission.{Submission}
+use Rattle.kfs_judge.specs.declared.plan.Why.{Why}
+use Rattle.kfs_judge.specs.declared.plan.Why.TheVariants.{OutOfMemory, DocketFull, OtherEntry}
 use Rattle.kfs_desk.specs.declared.answers.Reply.{Reply}
-use Rattle.kfs_desk.specs.declared.answers.Unanswered.{Unanswered}
-use Rattle.kfs_desk.specs.declared.answers.Unanswered.TheVariants.{OutOfMemory, DocketFull, OtherEntry}
-use Rattle.kfs_desk.specs.Docket.{position_of}
-use Rattle.kfs_desk.specs.Machine.{Shown, IsStep, IsWhy, Means, RunsThrough, state_of}
+use Rattle.kfs_desk.specs.Machine.{Desk, IsAnswered, IsWhy, IsBackFor, RunsThrough}
 
-module _ {A : Type 0} (old : Shown) (submission : Submission A) where
+module _ {A : Type 0} (old : Desk) (submission : Submission A) where
   -- what isn't answered has its reason
-  why_not : (why : Unanswered) → ◌↔◌ (IsErrOf {T = Reply} (Err why) DocketFull) (old.rows ≡ old.limit) → (IsErrOf {T = Reply} (Err why) OtherEntry → HasOtherEntry submission.log.items) → IsWhy old submission.log.items why
+  why_not : (why : Why) → ◌↔◌ (why ≡ DocketFull) (old.rows ≡ old.limit) → (why ≡ OtherEntry → HasOtherEntry submission.log.items) → IsWhy old submission.log.items why
   why_not DocketFull full other = full.0 refl
-  why_not OtherEntry full other = (λ at_limit. let never : ◌≡◌ {A = Result Reply Unanswered} (Err OtherEntry) (Err DocketFull) = full.1 at_limit in cc, other refl)
-  why_not OutOfMemory full other = λ at_limit. let never : ◌≡◌ {A = Result Reply Unanswered} (Err OutOfMemory) (Err DocketFull) = full.1 at_limit in cc
+  why_not OtherEntry full other = (λ at_limit. let never = full.1 at_limit in cc, other refl)
+  why_not OutOfMemory full other = λ at_limit. let never = full.1 at_limit in cc
 
-  pub runs_first : (new : Shown) (submissions : List (Submission A)) (answer : Result Reply Unanswered) (answers : List (Result Reply Unanswered)) (last : Shown)
-      → IfOk answer (λ reply. IsStep (state_of old) (submission_of submission) reply (state_of new)) → IfOk answer (λ reply. Means (state_of old) (submission_of submission) reply (state_of new))
-      → IfOk answer (λ reply. (position_of reply ≡ old.rows) × (new.rows ≡ position_of reply + 1)) → OnErr answer (new ≡ old) → ◌↔◌ (IsErrOf answer DocketFull) (old.rows ≡ old.limit) → (IsErrOf answer OtherEntry → HasOtherEntry submission.log.items) → new.limit ≡ old.limit
+  pub runs_first : (new : Desk) (submissions : List (Submission A)) (answer : Result Reply (Back A)) (answers : List (Result Reply (Back A))) (last : Desk)
+      → IfOk answer (λ reply. IsAnswered old (submission_of submission) reply new) → IfErr answer (λ back. (back.submission ≡ submission) × (new ≡ old))
+      → ◌↔◌ (IsBackFor answer DocketFull) (old.rows ≡ old.limit) → (IsBackFor answer OtherEntry → HasOtherEntry submission.log.items)
       → RunsThrough new submissions answers last → RunsThrough old (submission ∷ submissions) (answer ∷ answers) last
-  runs_first new submissions (Ok reply) answers last step meaning row same full other limit rest =
-      (new, record { step = step; meaning = meaning; position = row.0; rows = row.1 ∙ ap (λ n. n + 1) row.0; limit = limit }, rest)
-  runs_first new submissions (Err why) answers last step meaning row same full other limit rest =
-      (why_not why full other, subst (λ (d : Shown). RunsThrough d submissions answers last) same rest)
+  runs_first new submissions (Ok reply) answers last answered same full other rest = (new, answered, rest)
+  runs_first new submissions (Err back) answers last answered same full other rest =
+      (same.0, why_not back.why full other, subst (λ (d : Desk). RunsThrough d submissions answers last) same.1 rest)

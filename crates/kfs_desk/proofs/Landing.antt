@@ -16,7 +16,8 @@ use Rattle.kfs_model.specs.Plan.{header_now, is_base, AreDifferences}
 use Rattle.kfs_model.specs.Placement.{written_blocks, need}
 use Rattle.kfs_model.specs.Lease.{Lease, without_gone}
 use Rattle.kfs_model.specs.Judgement.{State, Submission, IsJudgement, Verdict, Yes, No, Accepted, NoRoom, Refused, scene_of, free_places, reply_to}
-use Rattle.kfs_model.specs.Machine.{IsAfter, OneByOne, leases_after, placed, placement_after, stays, landed}
+use Rattle.kfs_model.specs.Machine.{OneByOne, Replied, are_chosen, leases_after, landed, outcome_of, placed, placement_after, replied, stays}
+use Rattle.kfs_model.proofs.RowFits.{row_fits}
 use Rattle.kfs_model.proofs.Cells.{on_node, recut}
 use Rattle.kfs_model.proofs.CleanFacts.{create_facts, some_is}
 use Rattle.kfs_model.proofs.Heads.{get-headers}
@@ -41,8 +42,12 @@ use Rattle.kfs_judge.specs.declared.plan.Outcome.TheVariants as outcomes
 use Rattle.kfs_judge.proofs.MarkedRuns.{IsUntouched, ends_beside}
 use Rattle.kfs_judge.proofs.Untouched.{need-untouched}
 use Rattle.kfs_judge.proofs.PlanChecked.{all_judged}
+use Rattle.kfs_judge.specs.declared.plan.Fault.{Fault}
+use Rattle.kfs_desk.specs.declared.answers.Reply.{Reply}
+use Rattle.kfs_desk.specs.declared.answers.Reply.TheVariants as replies
+use Rattle.kfs_desk.specs.Docket.{is_rejudged, position_of}
 use Rattle.kfs_desk.specs.Landing.{CanLand, answer_at, image_after}
-use Rattle.kfs_desk.specs.Machine.{Shown, IsInOrder, IsStep, IsDone, Means, state_of}
+use Rattle.kfs_desk.specs.Machine.{Parts, IsInOrder, IsAnswered, IsStep, IsDone, Means, shown, state_of}
 
 -- ---- no judged entry takes a name away
 
@@ -119,7 +124,7 @@ nothing_in : {X : Type 0} (xs : List X) → length xs ≡ 0 → xs ≡ []
 nothing_in [] none = refl
 nothing_in (x ∷ xs) none = absurd (omega arith)
 
-module _ (desk : Shown) (order : IsInOrder desk) (lawful : IsLawful desk.image.contents) (submission : Submission) where
+module _ (desk : Parts) (order : IsInOrder desk) (lawful : IsLawful desk.image.contents) (submission : Submission) where
   abbrev s : State
   s = state_of desk
 
@@ -220,10 +225,17 @@ module _ (desk : Shown) (order : IsInOrder desk) (lawful : IsLawful desk.image.c
     unfolding reply_to
     yes_answer =
         ap Accepted yes.need_told
-        ∙ ap (λ b. cond b (NoRoom (need marked_after) (free_places s)) (Accepted (need marked_after))) (sym (ap (nat_lt (free_places s)) no_need ∙ le-ltb (free_places s) 0 (omega arith)))
+        ∙ ap (λ b. cond b (NoRoom (need marked_after) (length (free_places s))) (Accepted (need marked_after))) (sym (ap (nat_lt (length (free_places s))) no_need ∙ le-ltb (length (free_places s)) 0 (omega arith)))
 
-    yes_after : (rows : ℕ) → IsAfter s (Yes after marked_after) (Accepted told) (state_of (record desk { image = image_after desk.image (outcomes.Yes log plan net told); rows = rows }))
-    yes_after rows = ([], record { one_each = sym no_need; free = tt; distinct = refl }, state_after rows)
+    -- no place is asked for, and so none is one for each written block
+    chosen : are_chosen s (written_blocks marked_after) [] ≡ true
+    chosen = ap (λ blocks. are_chosen s blocks []) no_blocks
+
+    yes_fits : (rows : ℕ) → replied s [] (Yes after marked_after) (reply_to s (Yes after marked_after)) ≡ Some (Replied (Accepted told), state_of (record desk { image = image_after desk.image (outcomes.Yes log plan net told); rows = rows }))
+    yes_fits rows =
+        ap (replied s [] (Yes after marked_after)) (sym yes_answer)
+        ∙ ap (λ b. cond b (Some (Replied (Accepted told), landed s after marked_after [])) None) chosen
+        ∙ ap (λ t. Some (Replied (Accepted told), t)) (sym (state_after rows))
 
     yes_done : (rows : ℕ) → IsDone s submission (state_of (record desk { image = image_after desk.image (outcomes.Yes log plan net told); rows = rows }))
     yes_done rows = record {
@@ -250,42 +262,61 @@ module _ (desk : Shown) (order : IsInOrder desk) (lawful : IsLawful desk.image.c
         by (No refusal) told_so = absurd told_so
 
     -- the desk where the outcome has landed
-    abbrev pub desk_after : Outcome A → (rows : ℕ) → Shown
+    abbrev pub desk_after : Outcome A → (rows : ℕ) → Parts
     desk_after outcome rows = record desk { image = image_after desk.image outcome; rows = rows }
 
-    pub lands_as_step : (outcome : Outcome A) → IsVerdict s submission outcome → (position rows : ℕ) → IsStep s submission (answer_at position outcome) (state_of (desk_after outcome rows))
-    unfolding reply_to
+    lands_as_step : (outcome : Outcome A) → IsVerdict s submission outcome → (position rows : ℕ) → IsStep s submission (answer_at position outcome) (state_of (desk_after outcome rows))
+    unfolding outcome_of reply_to
     lands_as_step (outcomes.No fault) is position rows = by is.verdict is.judgement is.told
       where
         by : (verdict : Verdict) → IsJudgement s submission verdict → Tells {A = A} s submission (outcomes.No fault) verdict → IsStep s submission (answer_at {A = A} position (outcomes.No fault)) (state_of (desk_after (outcomes.No fault) rows))
         by (Yes after marked_after) judgement told = absurd told
         by (No refusal) judgement told = record {
+          reading = judgement.reading;
+          read = judgement.read;
           reply = Refused refusal;
           said = ap (option_map Refused) told;
-          lands = record { verdict = No refusal; judgement = judgement; answer = refl; after = refl };
+          places = [];
+          fits = row_fits s s _ (ap (λ verdict. replied s [] verdict (reply_to s verdict)) (sym judgement.judgement));
         }
     lands_as_step (outcomes.Yes log plan net need_told) is position rows = by is.verdict is.judgement is.told
       where
         by : (verdict : Verdict) → IsJudgement s submission verdict → Tells s submission (outcomes.Yes log plan net need_told) verdict → IsStep s submission (answer_at {A = A} position (outcomes.Yes log plan net need_told)) (state_of (desk_after (outcomes.Yes log plan net need_told) rows))
         by (Yes after marked_after) judgement told_so = record {
+          reading = judgement.reading;
+          read = judgement.read;
           reply = Accepted need_told;
           said = refl;
-          lands = record {
-            verdict = Yes after marked_after;
-            judgement = judgement;
-            answer = yes_answer log plan net need_told after marked_after told_so;
-            after = yes_after log plan net need_told after marked_after told_so rows;
-          };
+          places = [];
+          fits = row_fits s (state_of (desk_after (outcomes.Yes log plan net need_told) rows)) _ (
+            ap (λ verdict. replied s [] verdict (reply_to s verdict)) (sym judgement.judgement)
+            ∙ yes_fits log plan net need_told after marked_after told_so rows
+          );
         }
         by (No refusal) judgement told_so = absurd told_so
 
-    pub lands_as_said : (outcome : Outcome A) → IsVerdict s submission outcome → (position rows : ℕ) → Means s submission (answer_at position outcome) (state_of (desk_after outcome rows))
-    lands_as_said (outcomes.No fault) is position rows = (refl, refl)
-    lands_as_said (outcomes.Yes log plan net need_told) is position rows = by is.verdict is.told
+    lands_as_meant : (outcome : Outcome A) → IsVerdict s submission outcome → (position rows : ℕ) → Means s submission (answer_at position outcome) (state_of (desk_after outcome rows))
+    lands_as_meant (outcomes.No fault) is position rows = (refl, refl)
+    lands_as_meant (outcomes.Yes log plan net need_told) is position rows = by is.verdict is.told
       where
         by : (verdict : Verdict) → Tells s submission (outcomes.Yes log plan net need_told) verdict → IsDone s submission (state_of (desk_after (outcomes.Yes log plan net need_told) rows))
         by (Yes after marked_after) told_so = yes_done log plan net need_told after marked_after told_so rows
         by (No refusal) told_so = absurd told_so
+
+    -- the answer in the docket's next row
+    pub lands_as_said : (outcome : Outcome A) → IsVerdict s submission outcome → IsAnswered (shown desk) submission (answer_at desk.rows outcome) (shown (desk_after outcome (desk.rows + 1)))
+    lands_as_said outcome is = record {
+      step = lands_as_step outcome is desk.rows (desk.rows + 1);
+      once = by_case outcome (λ answer. is_rejudged answer ≡ false) (λ fault. refl) (λ told. refl);
+      meaning = lands_as_meant outcome is desk.rows (desk.rows + 1);
+      position = by_case outcome (λ answer. position_of answer ≡ desk.rows) (λ fault. refl) (λ told. refl);
+      rows = refl;
+      limit = refl;
+    }
+      where
+        by_case : (o : Outcome A) (P : Reply → Type 0) → ((fault : Fault) → P (replies.No desk.rows false fault)) → ((told : ℕ) → P (replies.Yes desk.rows false told)) → P (answer_at desk.rows o)
+        by_case (outcomes.No fault) P refused accepted = refused fault
+        by_case (outcomes.Yes log plan net told) P refused accepted = accepted told
 
     pub lands_in_order : (outcome : Outcome A) → IsVerdict s submission outcome → (rows : ℕ) → rows ≤ desk.limit → IsInOrder (desk_after outcome rows)
     lands_in_order (outcomes.No fault) is rows within = record { within_limit = within; distinct = order.distinct; on_nodes = order.on_nodes }

@@ -1,5 +1,5 @@
 -- The desk as a state of the machine, and its calls as rows that fit.
-use Rattle.std.specs.Prelude.{◌≡◌, ◌≢◌, ℕ, ◌+◌, ◌≤◌, IsTrue, Bool, false, List, [], ◌∷◌, Option, Some, is_some, option_map, Result, Ok, Err}
+use Rattle.std.specs.Prelude.{◌≡◌, ◌≢◌, ℕ, ◌+◌, ◌≤◌, IsTrue, false, List, [], ◌∷◌, Option, Some, is_some, option_map, Result, Ok, Err}
 use Rattle.kfs_model.specs.Access.{Client}
 use Rattle.kfs_model.specs.Table.{get, empty}
 use Rattle.kfs_model.specs.Entry.{Log}
@@ -16,13 +16,14 @@ use Rattle.kfs_lease.specs.Faults.{fault_of}
 use Rattle.kfs_lease.specs.Rows.{kind_of}
 use Rattle.kfs_lease.specs.declared.leases.LeaseFault.{LeaseFault}
 use Rattle.kfs_image.specs.Contents.{Shown as ImageShown}
-use Rattle.kfs_image.specs.ShownTree.{tree_of, IsLawful}
+use Rattle.kfs_image.specs.ShownTree.{tree_of}
 use Rattle.kfs_judge.specs.Judging.{HasOtherEntry, refusal_of, submission_of}
 use Rattle.kfs_judge.specs.declared.plan.Back.{Back}
 use Rattle.kfs_judge.specs.declared.plan.Submission.{Submission as CodeSubmission}
 use Rattle.kfs_judge.specs.declared.plan.Why.{Why}
 use Rattle.kfs_judge.specs.declared.plan.Why.TheVariants as whys
 use Rattle.kfs_desk.specs.declared.answers.Act.{Act}
+use Rattle.kfs_desk.specs.declared.answers.ActReply.{ActReply}
 use Rattle.kfs_desk.specs.declared.answers.Act.TheVariants as acts
 use Rattle.kfs_desk.specs.declared.answers.Done.{Done}
 use Rattle.kfs_desk.specs.declared.answers.Done.TheVariants as dones
@@ -51,14 +52,11 @@ pub record IsInOrder (desk : Parts) : Type 0 where
   pub on_nodes : (client number : ℕ) → IsTrue (is_some (get desk.leases.rows (client, number))) → IsTrue (is_some (get desk.image.contents.heads number))
 
 -- no block of a file is placed as yet
+abbrev pub state_at : ImageShown → List Client → Leases → State
+state_at image clients held = record { clients = clients; sizes = image.sizes; tree = tree_of image.contents; leases = held; placement = empty }
+
 abbrev pub state_of : Parts → State
-state_of desk = record {
-  clients = desk.clients;
-  sizes = desk.image.sizes;
-  tree = tree_of desk.image.contents;
-  leases = desk.leases;
-  placement = empty;
-}
+state_of desk = state_at desk.image desk.clients desk.leases
 
 abbrev pub shown : Parts → Desk
 shown desk = record { state = state_of desk; rows = desk.rows; limit = desk.limit }
@@ -67,7 +65,6 @@ shown desk = record { state = state_of desk; rows = desk.rows; limit = desk.limi
 pub record IsImageOf (image : ImageShown) (s : State) : Type 0 where
   pub tree : tree_of image.contents ≡ s.tree
   pub sizes : image.sizes ≡ s.sizes
-  pub lawful : IsLawful image.contents
 
 -- ---- a submission
 
@@ -176,3 +173,10 @@ pub record IsLeaseStep (s : State) (call : Call) (words : ℕ → Done) (answer 
   pub outcome : Result ℕ leases.LeaseFault
   pub said : IsTold words answer outcome
   pub fits : next s (record { call = call; answer = row_answer outcome; places = [] }) ≡ Some t
+
+-- the answer to the call is such a step in these words, and adds the docket's row at its position
+pub record IsActed (old : Desk) (call : Call) (words : ℕ → Done) (reply : ActReply) (new : Desk) : Type 0 where
+  pub step : IsLeaseStep old.state call words reply.answer new.state
+  pub position : reply.position ≡ old.rows
+  pub rows : new.rows ≡ old.rows + 1
+  pub limit : new.limit ≡ old.limit

@@ -1,22 +1,18 @@
 //! The desk: it owns the image and the leases, and lands what was judged.
-ghost use Rattle.std.specs.Prelude.{◌≡◌, ◌↔◌, ℕ, false, ◌+◌, ◌≤◌, ◌<◌, ◌==◌, ◌++◌, ◌∷◌, [], IfOk, IfErr, OnErr, OnOk, IfSome, IfNone, IsErrOf, Ok, Err, None, unwrap_or};
+ghost use Rattle.std.specs.Prelude.{◌≡◌, ◌↔◌, ◌+◌, ◌≤◌, ◌<◌, ◌==◌, ◌++◌, ◌∷◌, [], IfOk, IfErr, OnErr, OnOk, IfSome, IfNone, IsErrOf, Ok, Err, None, unwrap_or};
 ghost use Rattle.std.specs.List.{list_any};
-ghost use Rattle.kfs_model.specs.Lease.{holds};
 ghost use Rattle.kfs_model.specs.Machine as machine;
 ghost use Rattle.kfs_model.specs.Machine.{opening};
-ghost use Rattle.kfs_model.specs.Soundness.{IsSound};
 ghost use Rattle.kfs_model.specs.Table.{empty};
 ghost use Rattle.kfs_mode.specs.Clients.{AreDistinct};
 ghost use Rattle.kfs_lease.specs.Faults as refusals;
 ghost use Rattle.kfs_lease.specs.Rows.{kind_of};
 ghost use Rattle.kfs_image.specs.Contents.{sight_of};
-ghost use Rattle.kfs_image.specs.ShownTree.{tree_of};
-ghost use Rattle.kfs_judge.specs.View.{clients_of, seen_of};
-ghost use Rattle.kfs_judge.specs.Walks.{seen_in};
+ghost use Rattle.kfs_image.specs.ShownTree.{IsLawful, tree_of};
+ghost use Rattle.kfs_judge.specs.View.{clients_of, contents_of, leases_of};
 ghost use Rattle.kfs_judge.specs.Judging.{HasOtherEntry, IsVerdict, submission_of};
-ghost use Rattle.kfs_desk.specs.Docket.{is_rejudged, position_of};
 ghost use Rattle.kfs_desk.specs.Landing.{CanLand, answer_at, image_after};
-ghost use Rattle.kfs_desk.specs.Machine.{IsBackFor, IsChange, IsImageOf, IsLeaseStep, IsStep, Means, RunsThrough, call_of, done_by, number_of, outcome_at};
+ghost use Rattle.kfs_desk.specs.Machine.{IsActed, IsAnswered, IsBackFor, IsChange, IsImageOf, RunsThrough, call_of, done_by, number_of, outcome_at, state_at};
 ghost use Rattle.kfs_desk.specs.Opening.{begin_fault, do_overlap, fault_behind};
 ghost use Rattle.kfs_desk.specs.Room.{spare_of};
 
@@ -118,10 +114,8 @@ impl<A: Allocator + Copy> Desk<A> {
         end: u64,
     ) -> Result<ActReply, Unanswered>
         ensures full { IsErrOf result Unanswered.DocketFull ↔ (self.old.rows ≡ self.old.limit) }
-        ensures step { IfOk result (λ reply. IsLeaseStep self.old.state (machine.Lease client path.now (kind_of kind) end) Done.Leased reply.answer self.new.state) }
-        ensures row { IfOk result (λ reply. (reply.position ≡ self.old.rows) × (self.new.rows ≡ reply.position + 1)) }
+        ensures done { IfOk result (λ reply. IsActed self.old (machine.Lease client path.now (kind_of kind) end) Done.Leased reply self.new) }
         ensures err { OnErr result (self.new ≡ self.old) }
-        ensures limit { self.new.limit ≡ self.old.limit }
     {
         self.act(Act::Lease {
             client,
@@ -134,10 +128,8 @@ impl<A: Allocator + Copy> Desk<A> {
     /// Ends the client's lease on the node.
     pub fn drop_lease(&mut self, client: u32, number: u32) -> Result<ActReply, Unanswered>
         ensures full { IsErrOf result Unanswered.DocketFull ↔ (self.old.rows ≡ self.old.limit) }
-        ensures step { IfOk result (λ reply. IsLeaseStep self.old.state (machine.Drop client number) Done.Dropped reply.answer self.new.state) }
-        ensures row { IfOk result (λ reply. (reply.position ≡ self.old.rows) × (self.new.rows ≡ reply.position + 1)) }
+        ensures done { IfOk result (λ reply. IsActed self.old (machine.Drop client number) Done.Dropped reply self.new) }
         ensures err { OnErr result (self.new ≡ self.old) }
-        ensures limit { self.new.limit ≡ self.old.limit }
     {
         self.act(Act::Drop { client, number })
     }
@@ -145,10 +137,8 @@ impl<A: Allocator + Copy> Desk<A> {
     /// Goes to a moment, and ends the leases that are no longer live.
     pub fn tick(&mut self, moment: u64) -> Result<ActReply, Unanswered>
         ensures full { IsErrOf result Unanswered.DocketFull ↔ (self.old.rows ≡ self.old.limit) }
-        ensures step { IfOk result (λ reply. IsLeaseStep self.old.state (machine.Tick moment) Done.Ticked reply.answer self.new.state) }
-        ensures row { IfOk result (λ reply. (reply.position ≡ self.old.rows) × (self.new.rows ≡ reply.position + 1)) }
+        ensures done { IfOk result (λ reply. IsActed self.old (machine.Tick moment) Done.Ticked reply self.new) }
         ensures err { OnErr result (self.new ≡ self.old) }
-        ensures limit { self.new.limit ≡ self.old.limit }
     {
         self.act(Act::Tick { moment })
     }
@@ -156,10 +146,8 @@ impl<A: Allocator + Copy> Desk<A> {
     /// Makes a call for the leases. Its answer takes the docket's next row.
     pub fn act(&mut self, act: Act<'_>) -> Result<ActReply, Unanswered>
         ensures full { IsErrOf result Unanswered.DocketFull ↔ (self.old.rows ≡ self.old.limit) }
-        ensures step { IfOk result (λ reply. IsLeaseStep self.old.state (call_of act.entry) (done_by act.entry) reply.answer self.new.state) }
-        ensures row { IfOk result (λ reply. (reply.position ≡ self.old.rows) × (self.new.rows ≡ reply.position + 1)) }
+        ensures done { IfOk result (λ reply. IsActed self.old (call_of act.entry) (done_by act.entry) reply self.new) }
         ensures err { OnErr result (self.new ≡ self.old) }
-        ensures limit { self.new.limit ≡ self.old.limit }
     {
         let position = self.next_row()?;
         let shape = self.image.shape();
@@ -173,24 +161,22 @@ impl<A: Allocator + Copy> Desk<A> {
     /// tree changes as its log says. A submission that isn't answered comes back.
     pub fn submit(&mut self, submission: Submission<A>) -> Result<Reply, Back<A>>
         ensures full { IsBackFor result Why.DocketFull ↔ (self.old.rows ≡ self.old.limit) }
-        ensures step { IfOk result (λ reply. IsStep self.old.state (submission_of submission) reply self.new.state) }
-
-        // It is judged once, and then lands.
-        ensures once { IfOk result (λ reply. is_rejudged reply ≡ false) }
-
-        // A Yes: the entries give the new tree one by one, each of them allowed. A No: nothing has changed.
-        ensures meaning { IfOk result (λ reply. Means self.old.state (submission_of submission) reply self.new.state) }
-        ensures row { IfOk result (λ reply. (position_of reply ≡ self.old.rows) × (self.new.rows ≡ position_of reply + 1)) }
-        ensures err { IfErr result (λ back. (back.submission ≡ submission) × (self.new ≡ self.old)) }
+        ensures answered { IfOk result (λ reply. IsAnswered self.old (submission_of submission) reply self.new) }
+        ensures back { IfErr result (λ back. (back.submission ≡ submission) × (self.new ≡ self.old)) }
         ensures other { IsBackFor result Why.OtherEntry → HasOtherEntry submission.log.items }
-        ensures limit { self.new.limit ≡ self.old.limit }
     {
         if self.rows == self.limit {
             let why = Why::DocketFull;
             return Err(Back { submission, why });
         }
         let position = self.rows;
-        let judged = self.judged(submission)?;
+        let judged = judged(
+            self.alloc,
+            &self.image,
+            &self.leases,
+            &self.clients,
+            submission,
+        )?;
         let reply = land(&mut self.image, position, judged)?;
         self.rows = position + 1;
         Ok(reply)
@@ -227,32 +213,46 @@ impl<A: Allocator + Copy> Desk<A> {
         }
         Ok(self.rows)
     }
+}
 
-    /// The verdict on the submission in the state of now. The view that it is judged against ends here,
-    /// so that landing shares nothing.
-    fn judged(&self, submission: Submission<A>) -> Result<Judged<A>, Back<A>>
-        ensures verdict { IfOk result (λ judged. IsVerdict self.now.state (submission_of submission) judged.outcome) }
-        ensures submission { IfOk result (λ judged. judged.submission ≡ submission) }
-        ensures back { IfErr result (λ back. back.submission ≡ submission) }
-        ensures other { IsBackFor result Why.OtherEntry → HasOtherEntry submission.log.items }
-        ensures not_full { IsBackFor result Why.DocketFull → ⊥ }
-    {
-        let Ok(view) = self.view() else {
-            let why = Why::OutOfMemory;
-            return Err(Back { submission, why });
-        };
-        judge(self.alloc, &view, submission)
-    }
+/// The verdict on the submission in the state of now. The view that it is judged against ends here,
+/// so that landing shares nothing.
+fn judged<A: Allocator + Copy>(
+    alloc: A,
+    image: &Image<A>,
+    leases: &Arc<Leases<A>, A>,
+    clients: &Arc<Vec<Client, A>, A>,
+    submission: Submission<A>,
+) -> Result<Judged<A>, Back<A>>
+    requires distinct { AreDistinct clients.now.value.items }
+    ensures verdict { IfOk result (λ judged. IsVerdict (state_at image.now clients.now.value.items leases.now.value) (submission_of submission) judged.outcome) }
+    ensures submission { IfOk result (λ judged. judged.submission ≡ submission) }
+    ensures back { IfErr result (λ back. back.submission ≡ submission) }
+    ensures other { IsBackFor result Why.OtherEntry → HasOtherEntry submission.log.items }
+    ensures not_full { IsBackFor result Why.DocketFull → ⊥ }
+    ensures lawful { IsLawful image.now.contents }
+{
+    let Ok(view) = view_of(image, leases, clients) else {
+        let why = Why::OutOfMemory;
+        return Err(Back { submission, why });
+    };
+    judge(alloc, &view, submission)
+}
 
-    /// The shape, the leases and the clients of now.
-    fn view(&self) -> Result<View<A>, AllocError>
-        ensures clients { IfOk result (λ view. clients_of view ≡ self.now.state.clients) }
-        ensures seen { IfOk result (λ view. (client : ℕ) → seen_of view client ≡ seen_in self.now.state.tree (holds self.now.state.leases client)) }
-        ensures sound { IsSound self.now.state.tree }
-    {
-        let shape = self.image.shape().clone()?;
-        Ok(View::of(shape, self.leases.clone()?, self.clients.clone()?))
-    }
+/// The shape, the leases and the clients of now.
+fn view_of<A: Allocator + Copy>(
+    image: &Image<A>,
+    leases: &Arc<Leases<A>, A>,
+    clients: &Arc<Vec<Client, A>, A>,
+) -> Result<View<A>, AllocError>
+    requires distinct { AreDistinct clients.now.value.items }
+    ensures contents { IfOk result (λ view. contents_of view ≡ image.now.contents) }
+    ensures leases { IfOk result (λ view. leases_of view ≡ leases.now.value) }
+    ensures clients { IfOk result (λ view. clients_of view ≡ clients.now.value.items) }
+    ensures lawful { IsLawful image.now.contents }
+{
+    let shape = image.shape().clone()?;
+    Ok(View::of(shape, leases.clone()?, clients.clone()?))
 }
 
 /// Makes the act's change of the leases in place, where no view shares them.
@@ -334,12 +334,13 @@ fn land<A: Allocator + Copy>(
         outcome,
         ..
     } = judged;
+    let rejudged = false;
     let (net, need) = match outcome {
         Outcome::Yes { net, need, .. } => (net, need),
         Outcome::No(fault) => {
             return Ok(Reply::No {
                 position,
-                rejudged: false,
+                rejudged,
                 fault,
             });
         }
@@ -350,7 +351,7 @@ fn land<A: Allocator + Copy>(
     }
     Ok(Reply::Yes {
         position,
-        rejudged: false,
+        rejudged,
         need,
     })
 }

@@ -1,12 +1,22 @@
-use Rattle.std.proofs.Common.{◌≡◌, List, ◌∷◌, [], ◌++◌, length, refl, sym, ap, subst, ◌∙◌, append_assoc, append-nil, arith}
+use Rattle.std.proofs.Common.{◌≡◌, List, ◌∷◌, [], ◌++◌, length, Result, Ok, Err, refl, sym, ap, subst, ◌∙◌, append_assoc, append-nil, arith}
 use Rattle.std.specs.Vec.Iter.{into_iter_items}
-use Rattle.kfs_desk.specs.Machine.{RunsThrough}
+use Rattle.std.specs.Prelude.{IfOk, IfErr}
+use Rattle.kfs_judge.specs.Judging.{submission_of}
+use Rattle.kfs_judge.specs.declared.plan.Back.{Back}
+use Rattle.kfs_judge.specs.declared.plan.Submission.{Submission}
+use Rattle.kfs_desk.specs.declared.answers.Reply.{Reply}
+use Rattle.kfs_desk.specs.Machine.{Desk, IsAnswered, RunsThrough}
 use Rattle.kfs_desk.proofs.Histories.{runs_first}
 use Rattle.kfs_desk.proofs.desk.Desk.submit_all.Goals as goal
 
 nothing_left : {X : Type 0} (xs : List X) → length xs ≡ 0 → xs ≡ []
 nothing_left [] none = refl
 nothing_left (x ∷ xs) none = absurd (omega arith)
+
+same_limit : {A : Type 0} (submission : Submission A) (old new : Desk) (answer : Result Reply (Back A))
+    → IfOk answer (λ reply. IsAnswered old (submission_of submission) reply new) → IfErr answer (λ back. (back.submission ≡ submission) × (new ≡ old)) → new.limit ≡ old.limit
+same_limit submission old new (Ok reply) answered same = answered.limit
+same_limit submission old new (Err back) answered same = ap (λ (d : Desk). d.limit) same.1
 
 pub push_within-requires : goal.push_within-requires
 push_within-requires g c =
@@ -22,7 +32,7 @@ loop-submission-preserved g c =
     record {
       runs = λ answers last rest.
           let told = c.submit-answer.ensures in
-          let first = runs_first at.self c.in-Some.submission c.submit-answer.new.self (into_iter_items c.next.new.self) answer answers last told.step told.meaning told.row told.err told.full told.other told.limit rest in
+          let first = runs_first at.self c.in-Some.submission c.submit-answer.new.self (into_iter_items c.next.new.self) answer answers last told.answered told.back told.full told.other rest in
           subst (λ all. RunsThrough c.args.self.now (into_iter_items c.into_iter-submission-iterator.result) all last)
           (sym (append_assoc at.answers.items (answer ∷ []) answers) ∙ ap (λ front. front ++ answers) (sym c.push_within.ensures.items))
           (at.invariant.runs (answer ∷ answers) last (subst (λ submissions. RunsThrough at.self submissions (answer ∷ answers) last) (sym steps) first));
@@ -36,7 +46,7 @@ loop-submission-preserved g c =
           let gone = c.in-Some.ensures.steps.1 in
           let counted = ap length steps in
           omega arith;
-      limit = c.submit-answer.ensures.limit ∙ at.invariant.limit;
+      limit = same_limit c.in-Some.submission at.self c.submit-answer.new.self c.submit-answer.result c.submit-answer.ensures.answered c.submit-answer.ensures.back ∙ at.invariant.limit;
     }
 
 pub returns-clause-answers : goal.returns-clause-answers
