@@ -1,5 +1,5 @@
 //! The desk: it owns the image and the leases, and lands what was judged.
-ghost use Rattle.std.specs.Prelude.{◌≡◌, ◌↔◌, ◌+◌, ◌≤◌, ◌<◌, ◌==◌, ◌++◌, ◌∷◌, [], IfOk, IfErr, OnErr, OnOk, IfSome, IfNone, IsErrOf, Ok, Err, None, unwrap_or};
+ghost use Rattle.std.specs.Prelude.{◌≡◌, ◌↔◌, ◌+◌, ◌≤◌, ◌<◌, ◌==◌, ◌++◌, ◌∷◌, [], IfOk, IfErr, OnErr, OnOk, IfSome, IfNone, IsErrOf, IsFalse, IsTrue, Ok, Err, None, unwrap_or};
 ghost use Rattle.std.specs.List.{list_any};
 ghost use Rattle.kfs_model.specs.Machine as machine;
 ghost use Rattle.kfs_model.specs.Machine.{opening};
@@ -165,7 +165,7 @@ impl<A: Allocator + Copy> Desk<A> {
         ensures back { IfErr result (λ back. (back.submission ≡ submission) × (self.new ≡ self.old)) }
         ensures other { IsBackFor result Why.OtherEntry → HasOtherEntry submission.log.items }
     {
-        if self.rows == self.limit {
+        if self.is_full() {
             let why = Why::DocketFull;
             return Err(Back { submission, why });
         }
@@ -208,10 +208,18 @@ impl<A: Allocator + Copy> Desk<A> {
         ensures row { IfOk result (λ row. (row ≡ self.now.rows) × row < self.now.limit) }
         ensures only { IfErr result (λ why. why ≡ Unanswered.DocketFull) }
     {
-        if self.rows == self.limit {
+        if self.is_full() {
             return Err(Unanswered::DocketFull);
         }
         Ok(self.rows)
+    }
+
+    /// Whether the docket has as many rows as its limit allows.
+    fn is_full(&self) -> bool
+        ensures full { IsTrue result ↔ (self.now.rows ≡ self.now.limit) }
+        ensures room { IsFalse result → self.now.rows < self.now.limit }
+    {
+        self.rows == self.limit
     }
 }
 

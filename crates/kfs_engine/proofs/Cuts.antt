@@ -14,7 +14,7 @@ with_byte-some : (is_mark : Bool) (byte : ℕ) (parts : List (List ℕ)) → wit
 with_byte-some true byte parts none = cc
 with_byte-some false byte parts none = onto_first-some byte parts none
 
-cut-some : (mark : ℕ) (bytes : List ℕ) → cut mark bytes ≡ [] → ⊥
+pub cut-some : (mark : ℕ) (bytes : List ℕ) → cut mark bytes ≡ [] → ⊥
 unfolding cut
 cut-some mark [] none = cc
 cut-some mark (byte ∷ bytes) none = with_byte-some (byte == mark) byte (cut mark bytes) none

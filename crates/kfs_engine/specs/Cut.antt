@@ -16,3 +16,13 @@ space = 32
 abbrev pub unended : List ℕ → List (List ℕ)
 unended [] = []
 unended (byte ∷ bytes) = (byte ∷ bytes) ∷ []
+
+-- the parts are lines, but for a last one that is empty
+abbrev pub lines_in : List (List ℕ) → List (List ℕ)
+lines_in [] = []
+lines_in (rest ∷ []) = unended rest
+lines_in (line ∷ next ∷ parts) = line ∷ lines_in (next ∷ parts)
+
+-- all lines of an input, the last one also where it lacks its end
+abbrev pub lines_of : List ℕ → List (List ℕ)
+lines_of input = lines_in (cut line_end input)

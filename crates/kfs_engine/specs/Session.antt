@@ -1,18 +1,20 @@
 -- A session: what each line is answered, and what it leaves.
-use Rattle.std.specs.Prelude.{◌≡◌, ◌≢◌, ◌⊎◌, ℕ, ◌+◌, List, [], ◌∷◌, ◌++◌, codes, Option, Some, None, Result, Ok, Err, if◌then◌else◌}
+use Rattle.std.specs.Prelude.{◌≡◌, ◌≢◌, ◌⊎◌, ℕ, List, [], ◌∷◌, ◌++◌, codes, Option, Some, None, Result, Ok, Err, if◌then◌else◌}
 use Rattle.kfs_model.specs.Access.{Client}
-use Rattle.kfs_model.specs.Table.{get}
+use Rattle.kfs_model.specs.Table.{empty, get}
+use Rattle.kfs_model.specs.Tree.{headers}
 use Rattle.kfs_model.specs.Sight.{is_directory}
-use Rattle.kfs_model.specs.Lease.{no_leases}
 use Rattle.kfs_model.specs.Judgement.{Submission}
 use Rattle.kfs_model.specs.Machine as machine
+use Rattle.kfs_model.specs.Machine.{opening}
 use Rattle.kfs_mode.specs.declared.client.ClientFault.{ClientFault}
 use Rattle.kfs_entry.specs.Views.{header_of}
 use Rattle.kfs_entry.specs.declared.header.Header.{Header as CodeHeader}
 use Rattle.kfs_image.specs.Contents.{Shown as ImageShown, root_alone}
 use Rattle.kfs_mode.specs.declared.client.ClientFault.{ClientFault}
 use Rattle.kfs_judge.specs.Judging.{HasOtherEntry}
-use Rattle.kfs_desk.specs.Machine.{Shown as Desk, IsAnswered, IsLeaseStep, state_of}
+use Rattle.kfs_image.specs.ShownTree.{tree_of}
+use Rattle.kfs_desk.specs.Machine.{Desk, IsActed, IsAnswered}
 use Rattle.kfs_desk.specs.Opening.{begin_fault}
 use Rattle.kfs_desk.specs.declared.answers.ActReply.{ActReply}
 use Rattle.kfs_desk.specs.declared.answers.BeginFault.{BeginFault}
@@ -53,7 +55,7 @@ IsSaid text s outcome = outcome ≡ (line_of text, s)
 
 -- the desk, or the fault of the clients: the image stays then, and they are forgotten
 abbrev pub begun : ImageShown → List Client → (limit : ℕ) → Option BeginFault → Outcome
-begun image clients limit None = (line_of (codes "ok"), After (record { image = image; clients = clients; leases = no_leases; rows = 0; limit = limit }))
+begun image clients limit None = (line_of (codes "ok"), After (record { state = opening clients image.sizes (tree_of image.contents) empty; rows = 0; limit = limit }))
 begun image clients limit (Some fault) = (line_of (codes "begin " ++ begin_text fault), Before (record { image = Some image; clients = [] }))
 
 -- without an image there is no desk
@@ -80,11 +82,8 @@ IsFull desk outcome = (desk.rows ≡ desk.limit) × IsSaid (codes "full") (After
 pub record IsCalled (desk : Desk) (call : machine.Call) (words : ℕ → Done) (outcome : Outcome) : Type 0 where
   pub answer : ActReply
   pub next : Desk
-  pub step : IsLeaseStep (state_of desk) call words answer.answer (state_of next)
-  pub position : answer.position ≡ desk.rows
   pub below : desk.rows ≢ desk.limit
-  pub rows : next.rows ≡ desk.rows + 1
-  pub limit : next.limit ≡ desk.limit
+  pub acted : IsActed desk call words answer next
   pub is : outcome ≡ (line_of (act_text answer), After next)
 
 -- the submission is answered: the desk's reply to it
@@ -101,15 +100,15 @@ pub record IsSubmitted (desk : Desk) (submission : Submission) (outcome : Outcom
 -- the node's line
 pub record IsNode (desk : Desk) (number : ℕ) (outcome : Outcome) : Type 0 where
   pub header : CodeHeader
-  pub shown : get desk.image.contents.heads number ≡ Some (header_of header)
+  pub shown : get (headers desk.state.tree) number ≡ Some (header_of header)
   pub is : IsSaid (node_text number header) (After desk) outcome
 
 abbrev pub IsNone : Desk → (number : ℕ) → Outcome → Type 0
-IsNone desk number outcome = (get desk.image.contents.heads number ≡ None) × IsSaid (codes "none") (After desk) outcome
+IsNone desk number outcome = (get (headers desk.state.tree) number ≡ None) × IsSaid (codes "none") (After desk) outcome
 
 -- the line of its names, where it is a directory
 abbrev pub names_line : Desk → (directory : ℕ) → List ℕ
-names_line desk directory = if is_directory (get desk.image.contents.heads directory) then list_text directory desk.image.contents.names else codes "none"
+names_line desk directory = if is_directory (get (headers desk.state.tree) directory) then list_text directory desk.state.tree.names else codes "none"
 
 -- ---- lines
 

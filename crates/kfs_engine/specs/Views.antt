@@ -2,7 +2,7 @@
 use Rattle.std.specs.Prelude.{ℕ, List, [], Option, None, Some}
 use Rattle.kfs_lease.specs.Rows.{kind_of}
 use Rattle.kfs_judge.specs.Judging.{submission_of}
-use Rattle.kfs_desk.specs.Machine.{Shown as Desk}
+use Rattle.kfs_desk.specs.Machine.{Desk}
 use Rattle.kfs_desk.specs.declared.answers.Act.{Act}
 use Rattle.kfs_desk.specs.declared.answers.Act.TheVariants as acts
 use Rattle.kfs_engine.specs.Command as commands

@@ -1,5 +1,5 @@
 //! Cuts the input into lines and writes the reply of each.
-ghost use Rattle.std.specs.Prelude.{◌≡◌, ◌<◌, ◌++◌, [], ◌∷◌, ℕ, List, length, IfSome, MatchOption, MatchResult, OnOk};
+ghost use Rattle.std.specs.Prelude.{◌≡◌, ◌≢◌, ◌<◌, ◌++◌, [], ◌∷◌, ℕ, List, length, IfSome, MatchOption, MatchResult, OnOk};
 ghost use Rattle.std.specs.Io.KnownBytes.{Appends};
 ghost use Rattle.kfs_engine.specs.Conversation.{IsSession, IsShort};
 ghost use Rattle.kfs_engine.specs.Cut.{cut, line_end};
@@ -70,7 +70,7 @@ impl<A: Allocator + Copy> Conversation<A> {
     }
 
     fn keep(&mut self, part: &[u8]) -> Result<(), EngineFault>
-        ensures line { MatchResult result (λ _. (self.new.line.items ≡ self.old.line.items ++ part.now) × IsShort (self.old.line.items ++ part.now)) (λ fault. IsStopped fault (stage_of self.old.session) (self.old.line.items ++ part.now) []) }
+        ensures line { MatchResult result (λ _. (self.new.line.items ≡ self.old.line.items ++ part.now) × IsShort (self.old.line.items ++ part.now)) (λ fault. IsStopped fault (stage_of self.old.session) (self.old.line.items ++ part.now) [] × (fault ≢ EngineFault.WriteFault)) }
         ensures session { self.new.session ≡ self.old.session }
     {
         if self.line.len().saturating_add(part.len()) > LONGEST_INPUT_LINE {

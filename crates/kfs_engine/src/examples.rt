@@ -1,12 +1,15 @@
 //! Lines beside what they ask for, and a session line by line, by computation.
 
 ghost use Rattle.std.specs.Prelude.{◌≡◌, [], ◌∷◌, ◌++◌, codes, false, None, Some, Ok, Err};
-ghost use Rattle.kfs_model.specs.Lease.{ReadLease, WriteLease, no_leases};
+ghost use Rattle.kfs_model.specs.Lease.{ReadLease, WriteLease};
+ghost use Rattle.kfs_model.specs.Machine.{opening};
+ghost use Rattle.kfs_model.specs.Table.{empty};
 ghost use Rattle.kfs_mode.specs.declared.client.ClientFault.TheVariants.{BadGrant, TooManyGroups};
 ghost use Rattle.kfs_image.specs.Contents.{root_alone};
+ghost use Rattle.kfs_image.specs.ShownTree.{tree_of};
 ghost use Rattle.kfs_judge.specs.Judging.{submission_with};
 ghost use Rattle.kfs_engine.specs.Command.{Begin, Desk, Drop, Lease, Names, New, Node, Opening, Row, Submit, Tick, asked_by, client_row};
-ghost use Rattle.kfs_engine.specs.Cut.{cut, line_end, unended};
+ghost use Rattle.kfs_engine.specs.Cut.{lines_of};
 ghost use Rattle.kfs_engine.specs.Listing.{list_text};
 ghost use Rattle.kfs_engine.specs.Session.{After, Before, fresh, opened};
 ghost use Rattle.kfs_engine.specs.Text.{line_of};
@@ -14,10 +17,10 @@ ghost use Rattle.kfs_engine.specs.Text.{line_of};
 /// The lines of an input, and a last line that lacks its end; an input that ends with a line's end has no further line.
 #[tactic(auto, unfolding(crate::specs::Cut::cut))]
 pub fn lines_of_an_input()
-    ensures ended { cut line_end (codes "tick 1\nnode 5\n") ≡ codes "tick 1" ∷ codes "node 5" ∷ [] ∷ [] }
-    ensures unended { cut line_end (codes "tick 1\nnode 5") ≡ codes "tick 1" ∷ codes "node 5" ∷ [] }
-    ensures empty_line { cut line_end (codes "\n") ≡ [] ∷ [] ∷ [] }
-    ensures no_line { unended [] ≡ [] }
+    ensures ended { lines_of (codes "tick 1\nnode 5\n") ≡ codes "tick 1" ∷ codes "node 5" ∷ [] }
+    ensures unended { lines_of (codes "tick 1\nnode 5") ≡ codes "tick 1" ∷ codes "node 5" ∷ [] }
+    ensures empty_line { lines_of (codes "\n") ≡ [] ∷ [] }
+    ensures no_line { lines_of [] ≡ [] }
 {}
 
 /// Each command by its words.
@@ -59,7 +62,7 @@ pub fn openings()
     ensures image { opened (record { image = None; clients = [] }) (New (record { first = 8; second = 8; third = 8 })) ≡ (codes "ok\n", Before (record { image = Some (record { contents = root_alone; sizes = record { first = 8; second = 8; third = 8 } }); clients = [] })) }
     ensures without_image { opened (record { image = None; clients = [] }) (Begin 100) ≡ (codes "bad line\n", fresh) }
     ensures refused { opened (record { image = None; clients = [] }) (Row (Err TooManyGroups)) ≡ (codes "client TooManyGroups\n", fresh) }
-    ensures begun { opened (record { image = Some (record { contents = root_alone; sizes = record { first = 8; second = 8; third = 8 } }); clients = [] }) (Begin 3) ≡ (codes "ok\n", After (record { image = record { contents = root_alone; sizes = record { first = 8; second = 8; third = 8 } }; clients = []; leases = no_leases; rows = 0; limit = 3 })) }
+    ensures begun { opened (record { image = Some (record { contents = root_alone; sizes = record { first = 8; second = 8; third = 8 } }); clients = [] }) (Begin 3) ≡ (codes "ok\n", After (record { state = opening [] (record { first = 8; second = 8; third = 8 }) (tree_of root_alone) empty; rows = 0; limit = 3 })) }
 {}
 
 /// The names of the root, and none of another directory.

@@ -1,6 +1,7 @@
 //! A session: what each command does, and its reply.
 ghost use Rattle.std.specs.Prelude.{◌≡◌, ℕ, ◌⊎◌, ◌≤◌, ◌++◌, List, codes, Some, IfErr, OnErr, OnOk, IsErrOf, option_map};
 ghost use Rattle.kfs_model.specs.Table.{get};
+ghost use Rattle.kfs_model.specs.Tree.{headers};
 ghost use Rattle.kfs_entry.specs.Views.{header_of};
 ghost use Rattle.kfs_judge.specs.Judging.{HasOtherEntry, submission_of};
 ghost use Rattle.kfs_desk.specs.Machine.{call_of, done_by};
@@ -20,7 +21,7 @@ use crate::words::Refusal;
 use kfs_desk::Desk;
 use kfs_desk::answers::{Act, Unanswered};
 use kfs_image::{Answer, Cell, Header, Kind, look};
-use kfs_judge::plan::Submission;
+use kfs_judge::plan::{Submission, Why};
 use std::alloc::Allocator;
 
 /// What lines were answered before: the desk, or what it is begun with.
@@ -134,7 +135,8 @@ fn make_call<A: Allocator + Copy>(
 {
     match desk.act(act) {
         Ok(answer) => Ok(act_line(reply, &answer)?),
-        Err(why) => unanswered(why, reply),
+        Err(Unanswered::DocketFull) => Ok(text(reply, b"full\n")),
+        Err(Unanswered::OutOfMemory) => Err(Refusal::OutOfMemory),
     }
 }
 
@@ -151,29 +153,26 @@ fn hand_in<A: Allocator + Copy>(
 {
     match desk.submit(submission) {
         Ok(answer) => Ok(reply_line(reply, &answer)?),
-        Err(why) => unanswered(why, reply),
+        Err(back) => unanswered(back.why, reply),
     }
 }
 
-/// What is replied where the desk gave no answer.
-fn unanswered<A: Allocator>(why: Unanswered, reply: &mut Vec<u8, A>) -> Result<(), Refusal>
+/// What is replied where the desk gave a submission back.
+fn unanswered<A: Allocator>(why: Why, reply: &mut Vec<u8, A>) -> Result<(), Refusal>
     requires { 128 ≤ spare_of reply.old }
-    ensures ok { OnOk result ((why ≡ Unanswered.DocketFull) × (reply.new.items ≡ reply.old.items ++ line_of (codes "full"))) }
-    ensures bad { IsErrOf result Refusal.BadLine → why ≡ Unanswered.OtherEntry }
+    ensures ok { OnOk result ((why ≡ Why.DocketFull) × (reply.new.items ≡ reply.old.items ++ line_of (codes "full"))) }
+    ensures bad { IsErrOf result Refusal.BadLine → why ≡ Why.OtherEntry }
 {
     match why {
-        Unanswered::OutOfMemory => Err(Refusal::OutOfMemory),
-        Unanswered::OtherEntry => Err(Refusal::BadLine),
-        Unanswered::DocketFull => {
-            text(reply, b"full\n");
-            Ok(())
-        }
+        Why::OutOfMemory => Err(Refusal::OutOfMemory),
+        Why::OtherEntry => Err(Refusal::BadLine),
+        Why::DocketFull => Ok(text(reply, b"full\n")),
     }
 }
 
 /// The header of a node, none where the number is no node's.
 fn header_of_node<A: Allocator + Copy>(desk: &Desk<A>, number: u32) -> Option<Header>
-    ensures { option_map header_of result ≡ get desk.now.image.contents.heads number }
+    ensures { option_map header_of result ≡ get (headers desk.now.state.tree) number }
 {
     match look(desk.image().shape(), &Cell::Header(number)) {
         Answer::Header(header) => header,

@@ -1,9 +1,6 @@
-use Rattle.std.proofs.Common.{◌≡◌, ◌+◌, Ok, Err, ap, ◌∙◌, inr, refl}
+use Rattle.std.proofs.Common.{inr, refl}
 use Rattle.kfs_engine.specs.Text.{reply_text, line_of}
 use Rattle.kfs_engine.proofs.session.hand_in.Goals as goal
-
-apart : {A E : Type 0} {answer : A} {why : E} → Ok answer ≡ Err why → ⊥
-apart e = cc
 
 pub returns-in_ok-reply_line-in-Ok-clause-ok : goal.returns-in_ok-reply_line-in-Ok-clause-ok
 returns-in_ok-reply_line-in-Ok-clause-ok g c =
@@ -14,14 +11,8 @@ returns-in_ok-reply_line-in-Ok-clause-ok g c =
         judged = c.requires.judged;
         answer = c.in-Ok.answer;
         next = c.submit.new.self;
-        below = λ full. apart (answered.full.1 full);
-        answered = record {
-          step = answered.step;
-          meaning = answered.meaning;
-          position = answered.row.0;
-          rows = answered.row.1 ∙ ap (λ n. n + 1) answered.row.0;
-          limit = answered.limit;
-        };
+        below = λ full. answered.full.1 full;
+        answered = answered.answered;
         is = refl;
       }),
     )

@@ -1,4 +1,4 @@
-use Rattle.std.proofs.Common.{◌≡◌, ◌+◌, Ok, Err, ap, ◌∙◌, inr, refl}
+use Rattle.std.proofs.Common.{◌≡◌, Ok, Err, inr, refl}
 use Rattle.kfs_engine.specs.Text.{act_text, line_of}
 use Rattle.kfs_engine.proofs.session.make_call.Goals as goal
 
@@ -13,11 +13,8 @@ returns-in_ok-act_line-in-Ok-clause-ok g c =
       inr (record {
         answer = c.in-Ok.answer;
         next = c.act.new.self;
-        step = called.step;
-        position = called.row.0;
         below = λ full. apart (called.full.1 full);
-        rows = called.row.1 ∙ ap (λ n. n + 1) called.row.0;
-        limit = called.limit;
+        acted = called.done;
         is = refl;
       }),
     )

@@ -1,5 +1,5 @@
 -- What is judged lands as the machine's step.
-use Rattle.std.proofs.Common.{◌+◌, ◌≤◌, sym, subst, arith}
+use Rattle.std.proofs.Common.{ap, ◌+◌, ◌≤◌, sym, subst, arith}
 use Rattle.kfs_judge.specs.Judging.{submission_of}
 use Rattle.kfs_desk.specs.Landing.{answer_at}
 use Rattle.kfs_desk.specs.Machine.{Desk, Parts, IsInOrder, IsAnswered, shown}
@@ -19,8 +19,9 @@ pub invariant_of-self-2 : goal.invariant_of-self-2
 invariant_of-self-2 g c =
     let inside = c.self.inside in
     let desk : Parts = record { image = inside.image; clients = inside.clients.value.items; leases = inside.leases.value; rows = inside.rows; limit = inside.limit } in
-    let limit = c.self.invariant.within_limit in
-    let not_full = c.if-self.false in
+    let room = c.is_full.ensures.room c.if-is_full.false in
+    let is_rows = ap (λ (d : Desk). d.rows) c.self.view_is in
+    let is_limit = ap (λ (d : Desk). d.limit) c.self.view_is in
     let within : inside.rows + 1 ≤ inside.limit = omega arith in
     subst (λ image. IsInOrder (record desk { image = image; rows = inside.rows + 1 })) (sym c.in_ok-reply.ensures.ok)
     (lands_in_order desk c.self.invariant c.judged.ensures.lawful (submission_of c.args.submission) c.in_ok-judged.judged.outcome c.in_ok-judged.ensures.verdict (inside.rows + 1) within)

@@ -16,7 +16,9 @@ pub returns-in_err-answer : goal.returns-in_err-answer
 returns-in_err-answer g c =
     let p = err_from_is_err_and c.from_residual.result c.from_residual.ensures.1 in
     let done = c.in_err-answer.ensures.session in
-    (done.0, done.1, λ input text h. rw (p.1, p.2) (Stands-stopped_last (Unit {0}) _ _ _ input text done.0 (done.2 h.held_short) h))
+    let line = c.args.self.now.line in
+    let some : line.items ≢ [] = λ e. absurd (grind (arith, tests, line.ok.0, ap length e, c.if-is_empty.ensures)) in
+    (done.0, done.1, λ input text h. rw (p.1, p.2) (Stands-stopped_last (Unit {0}) _ _ _ input text done.0 some (done.2 h.held_short) h))
 
 pub returns : goal.returns
 returns g c =
