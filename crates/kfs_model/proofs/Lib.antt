@@ -34,3 +34,5 @@ pub mod Unlooked
 pub mod SameNet
 pub mod FreshTree
 pub mod NameTest
+pub mod Tape
+pub mod OldBytes

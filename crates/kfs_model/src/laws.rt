@@ -1,13 +1,13 @@
 //! Laws of the definitions: each is the contract of a function without a body.
 
-ghost use Rattle.std.specs.Prelude.{◌≡◌, ℕ, List, [], None, Ok, true};
+ghost use Rattle.std.specs.Prelude.{◌≡◌, ℕ, List, [], Some, None, Ok, true};
 ghost use Rattle.kfs_model.specs.Tree.{Tree};
 ghost use Rattle.kfs_model.specs.Entry.{Entry};
 ghost use Rattle.kfs_model.specs.Check.{Spot, first_fault};
 ghost use Rattle.kfs_model.specs.Allowed.{IsAllowed};
 ghost use Rattle.kfs_model.specs.Run.{Mark, Scene, run, bytes, marks, marked, byte_of, looked_up};
 ghost use Rattle.kfs_model.specs.PlanRow.{Plan};
-ghost use Rattle.kfs_model.specs.Plan.{IsRight};
+ghost use Rattle.kfs_model.specs.Plan.{IsRight, mark_at};
 ghost use Rattle.kfs_model.specs.PlanCut.{SaySame, AreInOrder};
 ghost use Rattle.kfs_model.specs.FirstWrong.{first_wrong_row};
 ghost use Rattle.kfs_model.specs.Machine.{OneByOne};
@@ -32,6 +32,11 @@ pub fn clean_is_allowed()
 /// at the same entry for the same reason.
 pub fn marks_give_bytes()
     ensures { (scene : Scene) (before : Tree ℕ) (entries : List Entry) → looked_up (byte_of before entries) (run marks scene (marked before) entries) ≡ run bytes scene before entries }
+{}
+
+/// After a run a byte from before the log stands only where it stood: in the same file, at the same place.
+pub fn old_bytes_keep_their_place()
+    ensures { (scene : Scene) (before : Tree ℕ) (entries : List Entry) (after : Tree Mark) → run marks scene (marked before) entries ≡ Ok after → (number place n p : ℕ) → mark_at after number place ≡ Some (Mark.Base n p) → (n ≡ number) × (p ≡ place) }
 {}
 
 /// A plan has no wrong row exactly where it is right.
