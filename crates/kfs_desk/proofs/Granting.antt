@@ -14,7 +14,7 @@ use Rattle.kfs_model.specs.Lease.{Lease, LeaseKind, LeaseFault, Leases, Outcome,
 use Rattle.kfs_model.specs.Judgement.{State}
 use Rattle.kfs_model.specs.Machine.{Leased, Steps, with_leases}
 use Rattle.kfs_lease.specs.Rows.{kind_of}
-use Rattle.kfs_lease.proofs.WalkedNode.{walked_to_node}
+use Rattle.kfs_model.proofs.WalkedNode.{walked_to_node}
 use Rattle.kfs_lease.specs.declared.leases.LeaseFault.{LeaseFault as CodeFault}
 use Rattle.kfs_image.specs.ShownTree.{tree_of, IsLawful}
 use Rattle.kfs_desk.specs.declared.answers.Act.{Act}

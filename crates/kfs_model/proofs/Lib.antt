@@ -36,3 +36,5 @@ pub mod FreshTree
 pub mod NameTest
 pub mod Tape
 pub mod OldBytes
+pub mod WalkedNode
+pub mod LeasesKept
