@@ -38,3 +38,5 @@ pub mod Tape
 pub mod OldBytes
 pub mod WalkedNode
 pub mod LeasesKept
+pub mod WrittenBlocks
+pub mod PlacementKept
