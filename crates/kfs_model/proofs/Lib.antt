@@ -40,3 +40,4 @@ pub mod WalkedNode
 pub mod LeasesKept
 pub mod WrittenBlocks
 pub mod PlacementKept
+pub mod OrderKept

@@ -10,7 +10,9 @@ ghost use Rattle.kfs_model.specs.PlanRow.{Plan};
 ghost use Rattle.kfs_model.specs.Plan.{IsRight, mark_at};
 ghost use Rattle.kfs_model.specs.PlanCut.{SaySame, AreInOrder};
 ghost use Rattle.kfs_model.specs.FirstWrong.{first_wrong_row};
-ghost use Rattle.kfs_model.specs.Machine.{OneByOne};
+ghost use Rattle.kfs_model.specs.Judgement.{State};
+ghost use Rattle.kfs_model.specs.Machine.{OneByOne, Row, IsRead, next, after};
+ghost use Rattle.kfs_model.specs.Order.{IsInOrder};
 ghost use Rattle.std.specs.List.{AllByRecursion};
 ghost use Rattle.kfs_model.specs.Sight.{Sight, sight, Seen};
 ghost use Rattle.kfs_model.specs.Overlay.{Overlay, over, nothing_put, laid_after};
@@ -97,4 +99,11 @@ pub fn overlay_shows_the_change()
 pub fn name_test_is_exact()
     ensures found { (name : List ℕ) → is_name name ≡ true → IsName name }
     ensures only { (name : List ℕ) → IsName name → is_name name ≡ true }
+{}
+
+/// Each step of the machine from a state in order, by a row whose submission is read rightly, leads to a state in order; and
+/// so does a docket of such rows.
+pub fn a_step_keeps_order()
+    ensures step { (s t : State) (row : Row) → IsInOrder s → IsRead row → next s row ≡ Some t → IsInOrder t }
+    ensures docket { (opened last : State) (docket : List Row) → IsInOrder opened → AllByRecursion IsRead docket → after opened docket ≡ Some last → IsInOrder last }
 {}
