@@ -1,5 +1,5 @@
 -- After a run, the mark of a byte from before stands only where the byte stood.
-use Rattle.std.proofs.Common.{◌≡◌, ℕ, ◌+◌, Bool, true, false, cond, ◌==◌, ◌&&◌, ◌||◌, leb, ltb, List, [], ◌∷◌, length, get_or, Option, Some, None, option_map, slice_get, Result, Ok, Err, refl, sym, ap, subst, ◌∙◌, arith, eqb-true}
+use Rattle.std.proofs.Common.{◌≡◌, ℕ, ◌+◌, Bool, true, false, cond, ◌==◌, ◌&&◌, ◌||◌, leb, ltb, List, [], ◌∷◌, length, get_or, Option, Some, None, option_map, Result, Ok, Err, refl, sym, subst, ◌∙◌, arith, eqb-true}
 use Rattle.std.specs.Prelude.{◌-◌, suc, zero}
 use Rattle.std.proofs.lemmas.Option.{get_or_from_slice_get}
 use Rattle.kfs_model.specs.Header.{Kind, File, Directory}
@@ -10,7 +10,7 @@ use Rattle.kfs_model.specs.Access.{Client}
 use Rattle.kfs_model.specs.Entry.{Entry, Create, Write, Truncate, Link, Unlink, Rename, Chmod}
 use Rattle.kfs_model.specs.Check.{Reason, first_fault}
 use Rattle.kfs_model.specs.Effect.{effect, change_of, swept, changed_node, new_body, on_cells, overwritten, resized}
-use Rattle.kfs_model.specs.Run.{Mark, Base, Zero, Payload, places_from, marks, marked, base_marks, mapped_body, Scene, EntryFault, spot, created_by, run_from, run}
+use Rattle.kfs_model.specs.Run.{Mark, Base, Zero, Payload, marks, marked, base_marks, mapped_body, Scene, EntryFault, spot, created_by, run_from, run}
 use Rattle.kfs_model.specs.Plan.{mark_at}
 use Rattle.kfs_model.proofs.Heads.{stays}
 use Rattle.kfs_model.proofs.Links.{at_number-insert}

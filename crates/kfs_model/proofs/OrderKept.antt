@@ -1,8 +1,7 @@
 -- Each step of the machine keeps its state in order.
-use Rattle.std.proofs.Common.{◌≡◌, ℕ, ◌==◌, Bool, true, false, cond, List, [], ◌∷◌, find, Option, Some, None, is_some, IsTrue, Result, Ok, Err, refl, sym, ap, subst, ◌∙◌}
+use Rattle.std.proofs.Common.{◌≡◌, ℕ, ◌==◌, Bool, true, false, cond, List, [], ◌∷◌, Option, Some, None, Result, Ok, Err, refl, sym, ap, subst, ◌∙◌}
 use Rattle.std.specs.List.{AllByRecursion}
 use Rattle.kfs_model.specs.Access.{Client}
-use Rattle.kfs_model.specs.Table.{get}
 use Rattle.kfs_model.specs.Tree.{Tree, headers}
 use Rattle.kfs_model.specs.Sight.{sight}
 use Rattle.kfs_model.specs.Entry.{Entry, Log}
@@ -13,7 +12,7 @@ use Rattle.kfs_model.specs.FirstWrong.{RowFault, first_wrong_row}
 use Rattle.kfs_model.specs.Spelling.{SpellingFault, LogAnswer, IsEntry}
 use Rattle.kfs_model.specs.CleanStep.{IsClient}
 use Rattle.kfs_model.specs.Placement.{written_blocks}
-use Rattle.kfs_model.specs.Judgement.{State, Verdict, Yes, No, ClientUnknown, ClientWrong, AtRow, Reply, Accepted, NoRoom, Refused, Submission, Reading, IsReadAs, scene_of, judged, judged_log, judged_plan, judged_rows, judged_run, verdict_on, reply_to}
+use Rattle.kfs_model.specs.Judgement.{State, Verdict, Yes, No, ClientUnknown, ClientWrong, AtRow, Reply, Accepted, NoRoom, Refused, Submission, Reading, IsReadAs, scene_of, judged, judged_log, judged_plan, judged_run, verdict_on, reply_to}
 use Rattle.kfs_model.specs.Machine.{Call, Submit, Lease, Drop, Tick, CallAnswer, Replied, Outcome, Row, IsRead, same_answer, answered, unplaced, replied, leased, are_chosen, landed, outcome_of, next, after}
 use Rattle.kfs_model.specs.Order.{IsInOrder}
 use Rattle.kfs_model.proofs.Cells.{recut, headers-recut}

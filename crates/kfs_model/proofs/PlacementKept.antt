@@ -1,18 +1,15 @@
 -- A landing leaves each block of a file in a place of its own.
-use Rattle.std.proofs.Common.{◌≡◌, ℕ, zero, suc, ◌+◌, ◌<◌, ◌==◌, ◌&&◌, ◌⊎◌, inl, inr, ⊎_elim, Bool, true, false, cond, not, List, [], ◌∷◌, length, filter, Option, Some, None, IsTrue, refl, sym, ap, subst, ◌∙◌, arith, eqb-true, eq-eqb, ltb-true}
+use Rattle.std.proofs.Common.{◌≡◌, ℕ, zero, suc, ◌+◌, ◌<◌, ◌==◌, ◌&&◌, ◌⊎◌, inl, inr, ⊎_elim, Bool, true, false, cond, not, List, [], ◌∷◌, filter, Some, None, refl, sym, ap, subst, ◌∙◌, arith, eqb-true, eq-eqb, ltb-true}
 use Rattle.std.specs.Prelude.{zip}
 use Rattle.std.specs.List.{list_any, list_all, AllByRecursion}
 use Rattle.std.specs.declared.cmp.Ordering.{Ordering}
 use Rattle.std.specs.declared.cmp.Ordering.TheVariants.{Less, Equal, Greater}
 use Rattle.std.specs.Ordering.{is_eq}
 use Rattle.std.proofs.lemmas.Bool.{or_cases, or_left, or_right, not-true}
-use Rattle.kfs_model.specs.Header.{Header}
-use Rattle.kfs_model.specs.Table.{numbers, pairs, get, insert, retain, get-insert, get-retain}
+use Rattle.kfs_model.specs.Table.{numbers, pairs, get, retain, get-insert, get-retain}
 use Rattle.kfs_model.specs.Tree.{Tree, headers}
-use Rattle.kfs_model.specs.Sight.{is_file}
-use Rattle.kfs_model.specs.Check.{is_some_and}
 use Rattle.kfs_model.specs.Run.{Mark}
-use Rattle.kfs_model.specs.Placement.{Place, Placement, IsBlock, IsPlacement, TierSizes, in_first_tier, is_free, below, numbers_from, block_count, written_blocks, cleared_blocks}
+use Rattle.kfs_model.specs.Placement.{Place, Placement, IsBlock, IsPlacement, in_first_tier, is_free, below, numbers_from, written_blocks}
 use Rattle.kfs_model.specs.Judgement.{State, free_places}
 use Rattle.kfs_model.specs.Machine.{are_distinct, are_chosen, stays, placed, placement_after}
 use Rattle.kfs_model.proofs.CleanIsAllowed.{found, left, right}

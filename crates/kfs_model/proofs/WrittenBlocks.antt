@@ -1,14 +1,13 @@
 -- The blocks that a log writes are blocks of files, each below its file's size.
-use Rattle.std.proofs.Common.{◌≡◌, ℕ, zero, suc, ◌+◌, ◌*◌, ◌/◌, ◌<◌, Bool, true, false, cond, T, List, [], ◌∷◌, ◌++◌, length, take, drop, map, filter, Option, Some, None, option_map, refl, sym, ap, subst, ◌∙◌, arith}
+use Rattle.std.proofs.Common.{◌≡◌, ℕ, zero, suc, ◌+◌, ◌*◌, ◌<◌, Bool, true, false, cond, T, List, [], ◌∷◌, ◌++◌, length, take, drop, map, filter, Some, option_map, refl, ap, ◌∙◌, arith}
 use Rattle.std.specs.List.{AllByRecursion, flat_map}
 use Rattle.std.specs.FinMap.Entries.{find, is_sorted}
-use Rattle.kfs_model.specs.Header.{File}
 use Rattle.kfs_model.specs.Table.{Order, numbers, get}
-use Rattle.kfs_model.specs.Tree.{Tree, Node, Body, Cells, Names, headers, header_of, cells_of}
+use Rattle.kfs_model.specs.Tree.{Tree, Node, Body, Cells, Names, headers, header_of}
 use Rattle.kfs_model.specs.Run.{Mark}
-use Rattle.kfs_model.specs.Placement.{IsBlock, block_size, block_count, blocks_from, blocks_of, blocks_that, is_written, written_blocks}
+use Rattle.kfs_model.specs.Placement.{IsBlock, block_size, block_count, blocks_from, blocks_that, is_written, written_blocks}
 use Rattle.kfs_model.proofs.Heads.{get-headers}
-use Rattle.kfs_model.proofs.Tables.{left_part, right_part, find_head, find_behind}
+use Rattle.kfs_model.proofs.Tables.{right_part, find_head, find_behind}
 
 -- ---- what holds of each
 

@@ -4,8 +4,7 @@ use Rattle.kfs_model.specs.Header.{File}
 use Rattle.kfs_model.specs.Entry.{Entry, Write, Truncate, Unlink}
 use Rattle.kfs_model.specs.PlanRow.{Piece, Plan}
 use Rattle.kfs_model.specs.Table.{empty}
-use Rattle.kfs_model.specs.Tree.{Tree}
-use Rattle.kfs_model.specs.Judgement.{State, Reply, Accepted, NoRoom}
+use Rattle.kfs_model.specs.Judgement.{State, Reply, Accepted}
 use Rattle.kfs_model.specs.Machine.{Row, Submit, Replied, placed}
 use Rattle.kfs_model.specs.Example.{name_a, name_b, name_row, gone, file_row, zero_piece, log_piece, plan, tree, root, own_file, named, held_by_7, with_file}
 use Rattle.kfs_model.specs.Example.FileCases.{letters}
@@ -55,12 +54,16 @@ rewrite_6 places = row (x_at_start 6 ∷ []) (plan [] [] (x_piece 6 0 ∷ [])) (
 abbrev pub rewritten_6 : State
 rewritten_6 = lying (lies_at 6 0 0 ∷ []) (files [] (120 ∷ []))
 
--- of two places one is free, and both files are written
+-- both files are written
+abbrev pub write_both : Reply → (places : List ℕ) → Row
+write_both reply places = row (x_at_start 5 ∷ x_at_start 6 ∷ []) (plan [] (file_row 5 1 ∷ []) (x_piece 5 0 ∷ x_piece 6 1 ∷ [])) reply places
+
+abbrev pub written_both : State
+written_both = lying (lies_at 5 0 3 ∷ lies_at 6 0 0 ∷ []) (files (120 ∷ []) (120 ∷ []))
+
+-- of two places one is free
 abbrev pub narrow : State
 narrow = lying (lies_at 6 0 1 ∷ []) (record (files [] (104 ∷ [])) { sizes = record { first = 2; second = 8; third = 8 } })
-
-abbrev pub write_both : Row
-write_both = row (x_at_start 5 ∷ x_at_start 6 ∷ []) (plan [] (file_row 5 1 ∷ []) (x_piece 5 0 ∷ x_piece 6 1 ∷ [])) (NoRoom 2 1) []
 
 -- ---- blocks that go
 

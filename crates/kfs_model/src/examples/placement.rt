@@ -1,9 +1,9 @@
 //! Where the blocks of files lie after a landing, and how much room it needs.
 
 ghost use Rattle.std.specs.Prelude.{◌≡◌, List, [], ◌∷◌, Some, None};
-ghost use Rattle.kfs_model.specs.Judgement.{free_places};
+ghost use Rattle.kfs_model.specs.Judgement.{Accepted, NoRoom, free_places};
 ghost use Rattle.kfs_model.specs.Machine.{next};
-ghost use Rattle.kfs_model.specs.Example.PlacementCases.{one_block, write_5, written_5, rewrite_6, rewritten_6, narrow, write_both, two_blocks_long, one_block_long, cut, lettered, clear, cleared, unlink_a, without_a};
+ghost use Rattle.kfs_model.specs.Example.PlacementCases.{one_block, write_5, written_5, rewrite_6, rewritten_6, write_both, written_both, narrow, two_blocks_long, one_block_long, cut, lettered, clear, cleared, unlink_a, without_a};
 
 /// A written block lies at the place that was chosen for it: one free place of tier 0 for each written block, no fewer and
 /// no more. At place 2 lies a block of another file, and tier 0 ends before place 8.
@@ -25,10 +25,18 @@ pub fn block_rewritten()
     ensures free_after { free_places rewritten_6 ≡ 1 ∷ 2 ∷ 3 ∷ 4 ∷ 5 ∷ 6 ∷ 7 ∷ [] }
 {}
 
+/// Two written blocks lie at two places, in the order of the blocks.
+#[tactic(auto, unfolding(crate::specs::Example::computing))]
+pub fn two_blocks_written()
+    ensures apart { next one_block (write_both (Accepted 2) (3 ∷ 0 ∷ [])) ≡ Some written_both }
+    ensures same_place { next one_block (write_both (Accepted 2) (3 ∷ 3 ∷ [])) ≡ None }
+{}
+
 /// A landing that writes two blocks, one of them anew, needs two free places; with one there is no room, and nothing changes.
 #[tactic(auto, unfolding(crate::specs::Example::computing))]
 pub fn no_room_for_two()
-    ensures { next narrow write_both ≡ Some narrow }
+    ensures no_room { next narrow (write_both (NoRoom 2 1) []) ≡ Some narrow }
+    ensures other_answer { next narrow (write_both (Accepted 2) (0 ∷ [])) ≡ None }
 {}
 
 /// A file of 5,000 bytes that is cut to 4,096 loses its second block, and nothing is written.
