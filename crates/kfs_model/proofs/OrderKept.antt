@@ -1,7 +1,8 @@
 -- Each step of the machine keeps its state in order.
 use Rattle.std.proofs.Common.{◌≡◌, ℕ, ◌==◌, Bool, true, false, cond, List, [], ◌∷◌, Option, Some, None, Result, Ok, Err, refl, sym, ap, subst, ◌∙◌}
 use Rattle.std.specs.List.{AllByRecursion}
-use Rattle.kfs_model.specs.Access.{Client}
+use Rattle.kfs_model.specs.Access.{Client, AreDistinct}
+use Rattle.kfs_model.specs.Table.{get, empty}
 use Rattle.kfs_model.specs.Tree.{Tree, headers}
 use Rattle.kfs_model.specs.Sight.{sight}
 use Rattle.kfs_model.specs.Entry.{Entry, Log}
@@ -11,11 +12,13 @@ use Rattle.kfs_model.specs.Run.{Mark, EntryFault, Scene, run, bytes, marks, mark
 use Rattle.kfs_model.specs.FirstWrong.{RowFault, first_wrong_row}
 use Rattle.kfs_model.specs.Spelling.{SpellingFault, LogAnswer, IsEntry}
 use Rattle.kfs_model.specs.CleanStep.{IsClient}
-use Rattle.kfs_model.specs.Placement.{written_blocks}
+use Rattle.kfs_model.specs.Fresh.{fresh_tree}
+use Rattle.kfs_model.specs.Placement.{TierSizes, written_blocks}
 use Rattle.kfs_model.specs.Judgement.{State, Verdict, Yes, No, ClientUnknown, ClientWrong, AtRow, Reply, Accepted, NoRoom, Refused, Submission, Reading, IsReadAs, scene_of, judged, judged_log, judged_plan, judged_run, verdict_on, reply_to}
-use Rattle.kfs_model.specs.Machine.{Call, Submit, Lease, Drop, Tick, CallAnswer, Replied, Outcome, Row, IsRead, same_answer, answered, unplaced, replied, leased, are_chosen, landed, outcome_of, next, after}
+use Rattle.kfs_model.specs.Machine.{Call, Submit, Lease, Drop, Tick, CallAnswer, Replied, Outcome, Row, IsRead, same_answer, answered, unplaced, replied, leased, are_chosen, landed, outcome_of, next, after, opening}
 use Rattle.kfs_model.specs.Order.{IsInOrder}
 use Rattle.kfs_model.proofs.Cells.{recut, headers-recut}
+use Rattle.kfs_model.proofs.FreshTree.{fresh_is_sound}
 use Rattle.kfs_model.proofs.Marks.{marks_give_bytes}
 use Rattle.kfs_model.proofs.SeenRun.{run_keeps_sound, bytes_faithful}
 use Rattle.kfs_model.proofs.LeasesKept.{KeepsToNodes, granted_keeps, dropped_keeps, ticked_keeps, without_gone_keeps}
@@ -169,3 +172,19 @@ docket_keeps_order s last (row ∷ rows) order read is = by (next s row) refl (�
     by : (found : Option State) → next s row ≡ found → ((t : State) → IsInOrder t → after t rows ≡ Some last → IsInOrder last) → ◌≡◌ {A = Option State} (elim found [ None ↦ None | Some t ↦ after t rows ]) (Some last) → IsInOrder last
     by None fits later is = cc
     by (Some t) fits later is = later t (step_keeps_order s t row order read.0 fits) is
+
+-- ---- the state of a new image
+
+pub fresh_in_order : (clients : List Client) (sizes : TierSizes) → AreDistinct clients → AllByRecursion IsClient clients → IsInOrder (opening clients sizes (fresh_tree {B = ℕ}) empty)
+unfolding get
+fresh_in_order clients sizes distinct in_range = record {
+  sound = fresh_is_sound ℕ;
+  on_nodes = λ client number leased. cc;
+  distinct = distinct;
+  clients = in_range;
+  placement = record {
+    apart = λ block other place is also. cc;
+    in_tier = λ block place is. cc;
+    of_files = λ number block place is. cc;
+  };
+}

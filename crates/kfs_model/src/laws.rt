@@ -11,12 +11,14 @@ ghost use Rattle.kfs_model.specs.Plan.{IsRight, mark_at};
 ghost use Rattle.kfs_model.specs.PlanCut.{SaySame, AreInOrder};
 ghost use Rattle.kfs_model.specs.FirstWrong.{first_wrong_row};
 ghost use Rattle.kfs_model.specs.Judgement.{State};
-ghost use Rattle.kfs_model.specs.Machine.{OneByOne, Row, IsRead, next, after};
+ghost use Rattle.kfs_model.specs.Machine.{OneByOne, Row, IsRead, next, after, opening};
+ghost use Rattle.kfs_model.specs.Placement.{TierSizes};
+ghost use Rattle.kfs_model.specs.Table.{empty};
 ghost use Rattle.kfs_model.specs.Order.{IsInOrder};
 ghost use Rattle.std.specs.List.{AllByRecursion};
 ghost use Rattle.kfs_model.specs.Sight.{Sight, sight, Seen};
 ghost use Rattle.kfs_model.specs.Overlay.{Overlay, over, nothing_put, laid_after};
-ghost use Rattle.kfs_model.specs.Access.{Client};
+ghost use Rattle.kfs_model.specs.Access.{Client, AreDistinct};
 ghost use Rattle.kfs_model.specs.Looked.{Leased, seen_in, scene_in, looked_cells, seen_run, AnswerAlike, EndAlike, NetAlike};
 ghost use Rattle.kfs_model.specs.Soundness.{IsSound};
 ghost use Rattle.kfs_model.specs.Fresh.{fresh_tree};
@@ -106,4 +108,9 @@ pub fn name_test_is_exact()
 pub fn a_step_keeps_order()
     ensures step { (s t : State) (row : Row) → IsInOrder s → IsRead row → next s row ≡ Some t → IsInOrder t }
     ensures docket { (opened last : State) (docket : List Row) → IsInOrder opened → AllByRecursion IsRead docket → after opened docket ≡ Some last → IsInOrder last }
+{}
+
+/// A state that opens on a new image is in order, where no two clients have one number and each is in range.
+pub fn new_image_opens_in_order()
+    ensures { (clients : List Client) (sizes : TierSizes) → AreDistinct clients → AllByRecursion IsClient clients → IsInOrder (opening clients sizes (fresh_tree {B = ℕ}) empty) }
 {}
