@@ -15,7 +15,7 @@ use Rattle.kfs_model.specs.Judgement.{State}
 use Rattle.kfs_model.specs.Machine.{outcome_of, leased}
 use Rattle.kfs_model.proofs.RowFits.{row_fits}
 use Rattle.kfs_lease.specs.Rows.{kind_of}
-use Rattle.kfs_lease.proofs.WalkedNode.{walked_to_node}
+use Rattle.kfs_model.proofs.WalkedNode.{walked_to_node}
 use Rattle.kfs_lease.specs.declared.leases.LeaseFault.{LeaseFault as CodeFault}
 use Rattle.kfs_image.specs.ShownTree.{tree_of, IsLawful}
 use Rattle.kfs_desk.specs.declared.answers.Act.{Act}

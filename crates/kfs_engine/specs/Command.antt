@@ -5,7 +5,8 @@ use Rattle.std.specs.Str.Parse.{digits_value}
 use Rattle.hex.specs.Hex.{decode_of}
 use Rattle.kfs_model.specs.Access.{Client}
 use Rattle.kfs_model.specs.Lease.{LeaseKind, ReadLease, WriteLease}
-use Rattle.kfs_model.specs.Judgement.{Submission, TierSizes}
+use Rattle.kfs_model.specs.Judgement.{Submission}
+use Rattle.kfs_model.specs.Placement.{TierSizes}
 use Rattle.kfs_mode.specs.declared.client.ClientFault.{ClientFault}
 use Rattle.kfs_mode.specs.declared.client.ClientFault.TheVariants.{TooManyGroups, BadGrant}
 use Rattle.kfs_judge.specs.Judging.{HasOtherEntry, submission_with}

@@ -4,7 +4,7 @@ use Rattle.kfs_model.specs.Header.{Directory, Header}
 use Rattle.kfs_model.specs.Table.{Table, numbers, get, empty}
 use Rattle.kfs_model.specs.Tree.{Links, target, entry_count}
 use Rattle.kfs_model.specs.Sight.{Sight, parent_in}
-use Rattle.kfs_model.specs.Judgement.{TierSizes}
+use Rattle.kfs_model.specs.Placement.{TierSizes}
 use Rattle.kfs_image.specs.Slots.{changed}
 
 -- the nodes and names of a tree, without its bytes

@@ -14,7 +14,7 @@ pub struct TierSizes {
 
 impl Model for TierSizes {
     ghost use Rattle.std.specs.Prelude.{◌≤◌};
-    ghost use Rattle.kfs_model.specs.Judgement.{TierSizes as Sizes};
+    ghost use Rattle.kfs_model.specs.Placement.{TierSizes as Sizes};
 
     ghost Value = { Sizes };
 

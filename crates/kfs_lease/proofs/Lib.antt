@@ -7,4 +7,3 @@ pub mod PathParts
 pub mod PathSteps
 pub mod RowSteps
 pub mod RowTables
-pub mod WalkedNode

@@ -35,3 +35,10 @@ pub mod SameNet
 pub mod FreshTree
 pub mod NameTest
 pub mod RowFits
+pub mod Tape
+pub mod OldBytes
+pub mod WalkedNode
+pub mod LeasesKept
+pub mod WrittenBlocks
+pub mod PlacementKept
+pub mod OrderKept

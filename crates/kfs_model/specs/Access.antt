@@ -1,5 +1,5 @@
 -- Who may do what: file access permissions by class (POSIX.1-2017, XBD 4.5).
-use Rattle.std.specs.Prelude.{ℕ, ◌*◌, ◌/◌, ◌%◌, Bool, ◌==◌, ◌&&◌, ◌||◌, nat_le, if◌then◌else◌, List}
+use Rattle.std.specs.Prelude.{ℕ, ◌*◌, ◌/◌, ◌%◌, Bool, true, ◌==◌, ◌&&◌, ◌||◌, nat_le, if◌then◌else◌, List, [], ◌∷◌, find, is_none, IsTrue}
 use Rattle.std.specs.List.{list_any}
 use Rattle.kfs_model.specs.Header.{Header}
 
@@ -12,6 +12,14 @@ pub record Client : Type 0 where
   pub privileged : Bool
   pub first : ℕ
   pub last : ℕ
+
+abbrev pub are_distinct : List Client → Bool
+are_distinct [] = true
+are_distinct (row ∷ rows) = is_none (find (λ (c : Client). c.number == row.number) rows) && are_distinct rows
+
+-- no two rows have one number
+abbrev pub AreDistinct : List Client → Type 0
+AreDistinct rows = IsTrue (are_distinct rows)
 
 pub data Class : Type 0 where
   Owner Group Other : Class

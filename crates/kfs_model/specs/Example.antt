@@ -5,6 +5,7 @@ pub mod AccessCases
 pub mod FileCases
 pub mod LeaseCases
 pub mod NameCases
+pub mod PlacementCases
 pub mod SpellingCases
 use Rattle.std.specs.Prelude.{◌≡◌, ℕ, Bool, true, false, List, [], ◌∷◌, ◌++◌, map, Option, Some, None, Result, Ok, Err}
 use Rattle.kfs_model.specs.Header.{Kind, File, Directory}
@@ -22,10 +23,11 @@ use Rattle.kfs_model.specs.Plan.{mark_at}
 use Rattle.kfs_model.specs.FirstWrong.{changed_bytes, is_wrong, first_wrong_row}
 use Rattle.kfs_model.specs.Placement.{written_blocks, cleared_blocks}
 use Rattle.kfs_model.specs.Judgement.{State, Verdict, Yes, No, Fault, AtEntry, Reply, Refused, judged, free_places, reply_to}
+use Rattle.kfs_model.specs.Machine.{outcome_of, next}
 
 -- an example's proof computes: it unfolds this, and with it all that a judgement uses
 unfoldable pub computing : Unit {0}
-unfolding get insert retain remove mapped united climb_meets climbed granted dropped ticked without_gone walked fault checks_of first_failing overwritten resized swept change_of run_from changed_bytes is_wrong first_wrong_row written_blocks cleared_blocks judged free_places reply_to
+unfolding get insert retain remove mapped united climb_meets climbed granted dropped ticked without_gone walked fault checks_of first_failing overwritten resized swept change_of run_from changed_bytes is_wrong first_wrong_row written_blocks cleared_blocks judged free_places reply_to outcome_of next
 computing = tt
 
 -- a table of some entries, in any order

@@ -10,13 +10,8 @@ use Rattle.kfs_model.specs.PlanRow.{Plan}
 use Rattle.kfs_model.specs.Run.{Mark, EntryFault, EntryFault-equality, Scene, run, bytes, marks, marked}
 use Rattle.kfs_model.specs.FirstWrong.{RowFault, RowFault-discrete, first_wrong_row}
 use Rattle.kfs_model.specs.Placement.{Placement, need, in_first_tier, is_free, below}
+pub use Rattle.kfs_model.specs.Placement.{TierSizes}
 use Rattle.kfs_model.specs.Spelling.{SpellingFault, SpellingFault-discrete, LogAnswer, PlanAnswer}
-
--- blocks of each tier
-pub record TierSizes : Type 0 where
-  pub first : ℕ
-  pub second : ℕ
-  pub third : ℕ
 
 pub record State : Type 0 where
   pub clients : List Client

@@ -23,4 +23,5 @@ pub mod Placement
 pub mod Spelling
 pub mod Judgement
 pub mod Machine
+pub mod Order
 pub mod Example

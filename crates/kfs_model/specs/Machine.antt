@@ -1,10 +1,10 @@
 -- The machine: one step is a call with its answer and, for a Yes, the places of the written blocks. A docket is a list of such
 -- rows.
-use Rattle.std.specs.Prelude.{◌≡◌, ℕ, ◌+◌, ◌==◌, ◌&&◌, not, nat_lt, Bool, true, false, List, [], ◌∷◌, length, zip, Option, Some, None, option_map, is_some, Result, Ok, Err, if◌then◌else◌}
+use Rattle.std.specs.Prelude.{◌≡◌, ℕ, ◌+◌, ◌==◌, ◌&&◌, not, nat_lt, Bool, true, List, [], ◌∷◌, length, zip, Option, Some, None, is_some, Result, Ok, Err, if◌then◌else◌}
 use Rattle.std.specs.List.{list_any, list_all, AllByRecursion}
 use native.Mathlib.Decide.{ℕ_discrete}
 use Rattle.kfs_model.specs.Access.{Client}
-use Rattle.kfs_model.specs.Table.{get, insert, retain, empty}
+use Rattle.kfs_model.specs.Table.{get, insert, retain}
 use Rattle.kfs_model.specs.Tree.{Tree, headers}
 use Rattle.kfs_model.specs.Sight.{sight, is_file}
 use Rattle.kfs_model.specs.Lease.{Leases, LeaseKind, LeaseFault, LeaseFault-discrete, no_leases, granted, dropped, ticked, without_gone}
@@ -13,8 +13,8 @@ use Rattle.kfs_model.specs.Allowed.{IsAllowed}
 use Rattle.kfs_model.specs.Entry.{Entry}
 use Rattle.kfs_model.specs.Effect.{effect}
 use Rattle.kfs_model.specs.Run.{Mark, Scene, bytes, spot, created_by}
-use Rattle.kfs_model.specs.Placement.{Placement, in_first_tier, written_blocks, cleared_blocks, block_count}
-use Rattle.kfs_model.specs.Judgement.{State, TierSizes, Verdict, Yes, No, Reply, Reply-equality, is_yes, Accepted, NoRoom, Refused, Submission, Reading, IsReadAs, verdict_on, reply_to, free_places}
+use Rattle.kfs_model.specs.Placement.{Placement, TierSizes, in_first_tier, written_blocks, cleared_blocks, block_count}
+use Rattle.kfs_model.specs.Judgement.{State, Verdict, Yes, Reply, Reply-equality, is_yes, Accepted, Submission, Reading, IsReadAs, verdict_on, reply_to, free_places}
 
 -- ---- landing
 

@@ -1,14 +1,26 @@
 -- Which blocks of files a log writes and clears, and how much room it needs.
-use Rattle.std.specs.Prelude.{ℕ, zero, suc, ◌+◌, ◌/◌, ◌&&◌, ◌||◌, ◌==◌, not, Bool, true, false, List, [], ◌∷◌, length, take, drop, filter, map, flat_map, Some}
+use Rattle.std.specs.Prelude.{◌≡◌, ℕ, zero, suc, ◌+◌, ◌*◌, ◌/◌, ◌<◌, ◌&&◌, ◌||◌, ◌==◌, not, Bool, true, false, List, [], ◌∷◌, length, take, drop, filter, map, flat_map, Option, Some, IsTrue, if◌then◌else◌}
 use Rattle.std.specs.List.{list_any, list_all}
-use Rattle.kfs_model.specs.Table.{Table, numbers, pairs}
+use Rattle.kfs_model.specs.Header.{Header}
+use Rattle.kfs_model.specs.Table.{Table, numbers, pairs, get}
 use Rattle.kfs_model.specs.Tree.{Tree, Node, cells_of}
+use Rattle.kfs_model.specs.Sight.{is_file}
 use Rattle.kfs_model.specs.Run.{Mark}
 use Rattle.kfs_model.specs.Plan.{is_base}
 
 -- bytes in a block of a file and of a device
 abbrev pub block_size : ℕ
 block_size = 4096
+
+-- blocks of each tier
+pub record TierSizes : Type 0 where
+  pub first : ℕ
+  pub second : ℕ
+  pub third : ℕ
+
+-- none for a tier over 2
+abbrev pub tier_size : TierSizes → (tier : ℕ) → ℕ
+tier_size sizes tier = if tier == 0 then sizes.first else if tier == 1 then sizes.second else if tier == 2 then sizes.third else 0
 
 -- a tier, 0 to 2, and a block of its device
 pub record Place : Type 0 where
@@ -23,17 +35,30 @@ in_first_tier place = record { tier = 0; place = place }
 abbrev pub Placement : Type 0
 Placement = Table (pairs numbers numbers) Place
 
+-- the block begins below the size of the file with this number
+pub record IsBlock (head : ℕ → Option Header) (number block : ℕ) : Type 0 where
+  pub header : Header
+  pub shown : head number ≡ Some header
+  pub file : IsTrue (is_file (Some header))
+  pub begins : block * block_size < header.size
+
+-- each place lies in its tier and has one block at the most, and the blocks are those of files
+pub record IsPlacement (sizes : TierSizes) (head : ℕ → Option Header) (placement : Placement) : Type 0 where
+  pub apart : (block other : ℕ × ℕ) (place : Place) → get placement block ≡ Some place → get placement other ≡ Some place → block ≡ other
+  pub in_tier : (block : ℕ × ℕ) (place : Place) → get placement block ≡ Some place → place.place < tier_size sizes place.tier
+  pub of_files : (number block : ℕ) (place : Place) → get placement (number, block) ≡ Some place → IsBlock head number block
+
 -- no block of a file lies there
 abbrev pub is_free : Placement → Place → Bool
 is_free placement place = not (list_any (λ e. (e.1.tier == place.tier) && (e.1.place == place.place)) placement.entries)
 
--- 0, 1 and so on, so many
+-- so many numbers from the first on
+abbrev pub numbers_from : (first count : ℕ) → List ℕ
+numbers_from first zero = []
+numbers_from first (suc count) = first ∷ numbers_from (first + 1) count
+
 abbrev pub below : (count : ℕ) → List ℕ
-below count = from 0 count
-  where
-    from : (first count : ℕ) → List ℕ
-    from first zero = []
-    from first (suc count) = first ∷ from (first + 1) count
+below count = numbers_from 0 count
 
 abbrev pub is_payload : Mark → Bool
 is_payload (Mark.Base number place) = false

@@ -5,4 +5,5 @@ pub mod access;
 pub mod files;
 pub mod leases;
 pub mod names;
+pub mod placement;
 pub mod spellings;

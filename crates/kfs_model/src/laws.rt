@@ -1,20 +1,24 @@
 //! Laws of the definitions: each is the contract of a function without a body.
 
-ghost use Rattle.std.specs.Prelude.{◌≡◌, ℕ, List, [], None, Ok, true};
+ghost use Rattle.std.specs.Prelude.{◌≡◌, ℕ, List, [], Some, None, Ok, true};
 ghost use Rattle.kfs_model.specs.Tree.{Tree};
 ghost use Rattle.kfs_model.specs.Entry.{Entry};
 ghost use Rattle.kfs_model.specs.Check.{Spot, first_fault};
 ghost use Rattle.kfs_model.specs.Allowed.{IsAllowed};
 ghost use Rattle.kfs_model.specs.Run.{Mark, Scene, run, bytes, marks, marked, byte_of, looked_up};
 ghost use Rattle.kfs_model.specs.PlanRow.{Plan};
-ghost use Rattle.kfs_model.specs.Plan.{IsRight};
+ghost use Rattle.kfs_model.specs.Plan.{IsRight, mark_at};
 ghost use Rattle.kfs_model.specs.PlanCut.{SaySame, AreInOrder};
 ghost use Rattle.kfs_model.specs.FirstWrong.{first_wrong_row};
-ghost use Rattle.kfs_model.specs.Machine.{OneByOne};
+ghost use Rattle.kfs_model.specs.Judgement.{State};
+ghost use Rattle.kfs_model.specs.Machine.{OneByOne, Row, IsRead, next, after, opening};
+ghost use Rattle.kfs_model.specs.Placement.{TierSizes};
+ghost use Rattle.kfs_model.specs.Table.{empty};
+ghost use Rattle.kfs_model.specs.Order.{IsInOrder};
 ghost use Rattle.std.specs.List.{AllByRecursion};
 ghost use Rattle.kfs_model.specs.Sight.{Sight, sight, Seen};
 ghost use Rattle.kfs_model.specs.Overlay.{Overlay, over, nothing_put, laid_after};
-ghost use Rattle.kfs_model.specs.Access.{Client};
+ghost use Rattle.kfs_model.specs.Access.{Client, AreDistinct};
 ghost use Rattle.kfs_model.specs.Looked.{Leased, seen_in, scene_in, looked_cells, seen_run, AnswerAlike, EndAlike, NetAlike};
 ghost use Rattle.kfs_model.specs.Soundness.{IsSound};
 ghost use Rattle.kfs_model.specs.Fresh.{fresh_tree};
@@ -32,6 +36,11 @@ pub fn clean_is_allowed()
 /// at the same entry for the same reason.
 pub fn marks_give_bytes()
     ensures { (scene : Scene) (before : Tree ℕ) (entries : List Entry) → looked_up (byte_of before entries) (run marks scene (marked before) entries) ≡ run bytes scene before entries }
+{}
+
+/// After a run a byte from before the log stands only where it stood: in the same file, at the same place.
+pub fn old_bytes_keep_their_place()
+    ensures { (scene : Scene) (before : Tree ℕ) (entries : List Entry) (after : Tree Mark) → run marks scene (marked before) entries ≡ Ok after → (number place n p : ℕ) → mark_at after number place ≡ Some (Mark.Base n p) → (n ≡ number) × (p ≡ place) }
 {}
 
 /// A plan has no wrong row exactly where it is right.
@@ -92,4 +101,16 @@ pub fn overlay_shows_the_change()
 pub fn name_test_is_exact()
     ensures found { (name : List ℕ) → is_name name ≡ true → IsName name }
     ensures only { (name : List ℕ) → IsName name → is_name name ≡ true }
+{}
+
+/// Each step of the machine from a state in order, by a row whose submission is read rightly, leads to a state in order; and
+/// so does a docket of such rows.
+pub fn a_step_keeps_order()
+    ensures step { (s t : State) (row : Row) → IsInOrder s → IsRead row → next s row ≡ Some t → IsInOrder t }
+    ensures docket { (opened last : State) (docket : List Row) → IsInOrder opened → AllByRecursion IsRead docket → after opened docket ≡ Some last → IsInOrder last }
+{}
+
+/// A state that opens on a new image is in order, where no two clients have one number and each is in range.
+pub fn new_image_opens_in_order()
+    ensures { (clients : List Client) (sizes : TierSizes) → AreDistinct clients → AllByRecursion IsClient clients → IsInOrder (opening clients sizes (fresh_tree {B = ℕ}) empty) }
 {}

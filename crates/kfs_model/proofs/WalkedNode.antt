@@ -8,15 +8,14 @@ use Rattle.kfs_model.specs.Table.{get}
 use Rattle.kfs_model.specs.Tree.{Tree, headers}
 use Rattle.kfs_model.specs.Sight.{Sight, sight, is_directory}
 use Rattle.kfs_model.specs.Soundness.{IsSound}
-use Rattle.kfs_model.specs.Lease.{LeaseFault, NotDirectory, NoSearch, walked}
-use Rattle.kfs_lease.proofs.PathSteps.{led}
+use Rattle.kfs_model.specs.Lease.{LeaseFault, NotDirectory, NoSearch, NoSuchName, walked}
 
 module _ (s : Sight) (client : Client) (leads : (directory : ℕ) (name : List ℕ) (number : ℕ) → s.name directory name ≡ Some number → IsSome (s.head number)) where
   -- where a step goes by its three tests
   abbrev stepped : (node component : ℕ) (name : List ℕ) (names : List (List ℕ)) → (directory granted : Bool) → Option ℕ → Result ℕ LeaseFault
   stepped node component name names directory granted to = elim directory [
     | false ↦ Err (NotDirectory component)
-    | true ↦ elim granted [ false ↦ Err (NoSearch component) | true ↦ led s client node component name names to ]
+    | true ↦ elim granted [ false ↦ Err (NoSearch component) | true ↦ elim to [ None ↦ Err (NoSuchName component) | Some next ↦ walked s client next (component + 1) names ] ]
   ]
 
   -- where names lead to nodes, a walk from a node ends at one

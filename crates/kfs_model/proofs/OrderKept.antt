@@ -1,0 +1,190 @@
+-- Each step of the machine keeps its state in order.
+use Rattle.std.proofs.Common.{◌≡◌, ℕ, ◌==◌, Bool, true, false, cond, List, [], ◌∷◌, Option, Some, None, Result, Ok, Err, refl, sym, ap, subst, ◌∙◌}
+use Rattle.std.specs.List.{AllByRecursion}
+use Rattle.kfs_model.specs.Access.{Client, AreDistinct}
+use Rattle.kfs_model.specs.Table.{get, empty}
+use Rattle.kfs_model.specs.Tree.{Tree, headers}
+use Rattle.kfs_model.specs.Sight.{sight}
+use Rattle.kfs_model.specs.Entry.{Entry, Log}
+use Rattle.kfs_model.specs.Lease.{Leases, LeaseFault, row_of, granted, dropped, ticked}
+use Rattle.kfs_model.specs.PlanRow.{Plan}
+use Rattle.kfs_model.specs.Run.{Mark, EntryFault, Scene, run, bytes, marks, marked, byte_of, looked_up}
+use Rattle.kfs_model.specs.FirstWrong.{RowFault, first_wrong_row}
+use Rattle.kfs_model.specs.Spelling.{SpellingFault, LogAnswer, IsEntry}
+use Rattle.kfs_model.specs.CleanStep.{IsClient}
+use Rattle.kfs_model.specs.Fresh.{fresh_tree}
+use Rattle.kfs_model.specs.Placement.{TierSizes, written_blocks}
+use Rattle.kfs_model.specs.Judgement.{State, Verdict, Yes, No, ClientUnknown, ClientWrong, AtRow, Reply, Accepted, NoRoom, Refused, Submission, Reading, IsReadAs, scene_of, judged, judged_log, judged_plan, judged_run, verdict_on, reply_to}
+use Rattle.kfs_model.specs.Machine.{Call, Submit, Lease, Drop, Tick, CallAnswer, Replied, Outcome, Row, IsRead, same_answer, answered, unplaced, replied, leased, are_chosen, landed, outcome_of, next, after, opening}
+use Rattle.kfs_model.specs.Order.{IsInOrder}
+use Rattle.kfs_model.proofs.Cells.{recut, headers-recut}
+use Rattle.kfs_model.proofs.FreshTree.{fresh_is_sound}
+use Rattle.kfs_model.proofs.Marks.{marks_give_bytes}
+use Rattle.kfs_model.proofs.SeenRun.{run_keeps_sound, bytes_faithful}
+use Rattle.kfs_model.proofs.LeasesKept.{KeepsToNodes, granted_keeps, dropped_keeps, ticked_keeps, without_gone_keeps}
+use Rattle.kfs_model.proofs.PlacementKept.{placement_kept}
+
+-- ---- what a Yes says
+
+-- the run of a client's log ends at these trees
+record IsYes (s : State) (number : ℕ) (log : Result Log SpellingFault) (after : Tree ℕ) (marked_after : Tree Mark) : Type 0 where
+  client : Client
+  row : row_of s.clients number ≡ Some client
+  read : Log
+  log_is : log ≡ Ok read
+  ran : run bytes (scene_of s client) s.tree read.entries ≡ Ok after
+  ran_marked : run marks (scene_of s client) (marked s.tree) read.entries ≡ Ok marked_after
+
+module _ (s : State) (number : ℕ) (log : Result Log SpellingFault) (plan : Result Plan SpellingFault) (after : Tree ℕ) (marked_after : Tree Mark) where
+  yes_means : judged s number log plan ≡ Yes after marked_after → IsYes s number log after marked_after
+  unfolding judged
+  yes_means is = by_client (row_of s.clients number) refl is
+    where
+      by_rows : (client : Client) (read : Log) (rows : Plan) (t : Tree ℕ) (u : Tree Mark) → row_of s.clients number ≡ Some client → log ≡ Ok read
+          → run bytes (scene_of s client) s.tree read.entries ≡ Ok t → run marks (scene_of s client) (marked s.tree) read.entries ≡ Ok u
+          → (wrong : Option RowFault) → ◌≡◌ {A = Verdict} (elim wrong [ None ↦ Yes t u | Some fault ↦ No (AtRow fault) ]) (Yes after marked_after) → IsYes s number log after marked_after
+      by_rows client read rows t u row log_is ran ran_marked None is =
+          let same : t ≡ after = cc in
+          let also : u ≡ marked_after = cc in
+          record { client = client; row = row; read = read; log_is = log_is; ran = ran ∙ ap Ok same; ran_marked = ran_marked ∙ ap Ok also }
+      by_rows client read rows t u row log_is ran ran_marked (Some fault) is = cc
+
+      by_run : (client : Client) (read : Log) (rows : Plan) → row_of s.clients number ≡ Some client → log ≡ Ok read
+          → (end : Result (Tree ℕ) EntryFault) (marked_end : Result (Tree Mark) EntryFault) → run bytes (scene_of s client) s.tree read.entries ≡ end → run marks (scene_of s client) (marked s.tree) read.entries ≡ marked_end
+          → judged_run s rows end marked_end ≡ Yes after marked_after → IsYes s number log after marked_after
+      by_run client read rows row log_is (Err fault) marked_end ran ran_marked is = cc
+      by_run client read rows row log_is (Ok t) (Err fault) ran ran_marked is = cc
+      by_run client read rows row log_is (Ok t) (Ok u) ran ran_marked is = by_rows client read rows t u row log_is ran ran_marked (first_wrong_row s.tree u rows) is
+
+      by_plan : (client : Client) (read : Log) (rows : Result Plan SpellingFault) → row_of s.clients number ≡ Some client → log ≡ Ok read → judged_plan s client read rows ≡ Yes after marked_after → IsYes s number log after marked_after
+      by_plan client read (Err fault) row log_is is = cc
+      by_plan client read (Ok rows) row log_is is =
+          by_run client read rows row log_is (run bytes (scene_of s client) s.tree read.entries) (run marks (scene_of s client) (marked s.tree) read.entries) refl refl is
+
+      by_owner : (client : Client) (read : Log) → row_of s.clients number ≡ Some client → log ≡ Ok read → (own : Bool) → cond own (judged_plan s client read plan) (No ClientWrong) ≡ Yes after marked_after → IsYes s number log after marked_after
+      by_owner client read row log_is true is = by_plan client read plan row log_is is
+      by_owner client read row log_is false is = cc
+
+      by_log : (client : Client) (l : Result Log SpellingFault) → row_of s.clients number ≡ Some client → log ≡ l → judged_log s client l plan ≡ Yes after marked_after → IsYes s number log after marked_after
+      by_log client (Err fault) row log_is is = cc
+      by_log client (Ok read) row log_is is = by_owner client read row log_is (read.client == client.number) is
+
+      by_client : (found : Option Client) → row_of s.clients number ≡ found → ◌≡◌ {A = Verdict} (elim found [ None ↦ No ClientUnknown | Some client ↦ judged_log s client log plan ]) (Yes after marked_after) → IsYes s number log after marked_after
+      by_client None row is = cc
+      by_client (Some client) row is = by_log client log row refl is
+
+-- ---- what it keeps
+
+client_in_range : (clients : List Client) (number : ℕ) (client : Client) → AllByRecursion IsClient clients → row_of clients number ≡ Some client → IsClient client
+client_in_range [] number client all row = cc
+client_in_range (c ∷ clients) number client all row = at (c.number == number) (client_in_range clients number client all.1) row
+  where
+    at : (b : Bool) → (row_of clients number ≡ Some client → IsClient client) → cond b (Some c) (row_of clients number) ≡ Some client → IsClient client
+    at true rest is = let same : c ≡ client = cc in subst IsClient same all.0
+    at false rest is = rest is
+
+-- bytes and marks show the same headers
+heads_alike : (scene : Scene) (before : Tree ℕ) (entries : List Entry) (after : Tree ℕ) (marked_after : Tree Mark) → run bytes scene before entries ≡ Ok after → run marks scene (marked before) entries ≡ Ok marked_after → headers marked_after ≡ headers after
+heads_alike scene before entries after marked_after ran ran_marked =
+    let byte = byte_of before entries in
+    let both : ◌≡◌ {A = Result (Tree ℕ) EntryFault} (Ok (recut byte marked_after)) (Ok after) = ap (looked_up byte) (sym ran_marked) ∙ marks_give_bytes scene before entries ∙ ran in
+    let same : recut byte marked_after ≡ after = cc in
+    sym (headers-recut byte marked_after) ∙ ap (λ (t : Tree ℕ). headers t) same
+
+entries_fit : (submission : List ℕ) (log : Result Log SpellingFault) (read : Log) → LogAnswer submission log → log ≡ Ok read → AllByRecursion IsEntry read.entries
+entries_fit submission log read answer is = let fit = subst (LogAnswer submission) is answer in fit.0.1
+
+-- ---- the outcomes of a state in order
+
+abbrev InOrder : Option Outcome → Type 0
+InOrder None = Unit {0}
+InOrder (Some outcome) = IsInOrder outcome.1
+
+unplaced_in_order : (places : List ℕ) (answer : CallAnswer) (t : State) → IsInOrder t → InOrder (unplaced places (answer, t))
+unplaced_in_order [] answer t order = order
+unplaced_in_order (place ∷ places) answer t order = tt
+
+module _ (s : State) (order : IsInOrder s) (places : List ℕ) where
+  leased_in_order : (told : Result ℕ LeaseFault) (leases : Leases) → KeepsToNodes s.tree order.sound s.leases order.on_nodes (told, leases) → InOrder (leased s places (told, leases))
+  leased_in_order told leases keeps = by told
+    where
+      with_these : IsInOrder (record s { leases = leases })
+      with_these = record { sound = order.sound; on_nodes = keeps; distinct = order.distinct; clients = order.clients; placement = order.placement }
+
+      by : (told : Result ℕ LeaseFault) → InOrder (leased s places (told, leases))
+      by (Ok number) = unplaced_in_order places _ (record s { leases = leases }) with_these
+      by (Err fault) = unplaced_in_order places _ (record s { leases = leases }) with_these
+
+  landed_in_order : (number : ℕ) (log : Result Log SpellingFault) (submission : List ℕ) (after : Tree ℕ) (marked_after : Tree Mark) → LogAnswer submission log → IsYes s number log after marked_after
+      → are_chosen s (written_blocks marked_after) places ≡ true → IsInOrder (landed s after marked_after places)
+  landed_in_order number log submission after marked_after answer said chosen = record {
+    sound = run_keeps_sound bytes bytes_faithful (scene_of s said.client) (client_in_range s.clients number said.client order.clients said.row) 0 [] s.tree said.read.entries order.sound (entries_fit submission log said.read answer said.log_is) after said.ran;
+    on_nodes = without_gone_keeps s.leases after;
+    distinct = order.distinct;
+    clients = order.clients;
+    placement = placement_kept s after marked_after places order.placement chosen (heads_alike (scene_of s said.client) s.tree said.read.entries after marked_after said.ran said.ran_marked);
+  }
+
+  replied_in_order : (submission : Submission) (reading : Reading) → IsReadAs submission reading → (verdict : Verdict) → verdict_on s submission.client reading ≡ verdict → (reply : Reply) → InOrder (replied s places verdict reply)
+  replied_in_order submission reading read (No fault) is reply = unplaced_in_order places (Replied reply) s order
+  replied_in_order submission reading read (Yes after marked_after) is (NoRoom need free) = unplaced_in_order places (Replied (NoRoom need free)) s order
+  replied_in_order submission reading read (Yes after marked_after) is (Refused fault) = unplaced_in_order places (Replied (Refused fault)) s order
+  replied_in_order submission reading read (Yes after marked_after) is (Accepted need) = by (are_chosen s (written_blocks marked_after) places) refl
+    where
+      by : (b : Bool) → are_chosen s (written_blocks marked_after) places ≡ b → InOrder (cond b (Some (Replied (Accepted need), landed s after marked_after places)) None)
+      by true chosen = landed_in_order submission.client reading.log submission.log after marked_after read.log (yes_means s submission.client reading.log reading.plan after marked_after is) chosen
+      by false chosen = tt
+
+  outcome_in_order : (call : Call) (row : Row) → row.call ≡ call → IsRead row → InOrder (outcome_of s call places)
+  unfolding outcome_of
+  outcome_in_order (Submit submission reading) row is read =
+      let read_as : IsReadAs submission reading = subst (λ (c : Call). IsRead (record row { call = c })) is read in
+      replied_in_order submission reading read_as (verdict_on s submission.client reading) refl (reply_to s (verdict_on s submission.client reading))
+  outcome_in_order (Lease client path kind end) row is read =
+      let outcome = granted s.leases (sight s.tree) s.clients client path kind end in
+      leased_in_order outcome.0 outcome.1 (granted_keeps s.tree order.sound s.leases order.on_nodes s.clients client path kind end)
+  outcome_in_order (Drop client number) row is read =
+      let outcome = dropped s.leases s.clients client number in
+      leased_in_order outcome.0 outcome.1 (dropped_keeps s.tree order.sound s.leases order.on_nodes s.clients client number)
+  outcome_in_order (Tick moment) row is read =
+      let outcome = ticked s.leases moment in
+      leased_in_order outcome.0 outcome.1 (ticked_keeps s.tree order.sound s.leases order.on_nodes moment)
+
+-- ---- a step
+
+pub step_keeps_order : (s t : State) (row : Row) → IsInOrder s → IsRead row → next s row ≡ Some t → IsInOrder t
+unfolding next
+step_keeps_order s t row order read is = by (outcome_of s row.call row.places) (outcome_in_order s order row.places row.call row refl read) is
+  where
+    by_answer : (outcome : Outcome) (same : Bool) → IsInOrder outcome.1 → cond same (Some outcome.1) None ≡ Some t → IsInOrder t
+    by_answer outcome true kept is = let same : outcome.1 ≡ t = cc in subst IsInOrder same kept
+    by_answer outcome false kept is = cc
+
+    by : (outcome : Option Outcome) → InOrder outcome → ◌≡◌ {A = Option State} (elim outcome [ None ↦ None | Some outcome ↦ answered row.answer outcome ]) (Some t) → IsInOrder t
+    by None kept is = cc
+    by (Some outcome) kept is = by_answer outcome (same_answer outcome.0 row.answer) kept is
+
+pub docket_keeps_order : (s last : State) (docket : List Row) → IsInOrder s → AllByRecursion IsRead docket → after s docket ≡ Some last → IsInOrder last
+unfolding after
+docket_keeps_order s last [] order read is = let same : s ≡ last = cc in subst IsInOrder same order
+docket_keeps_order s last (row ∷ rows) order read is = by (next s row) refl (λ t kept. docket_keeps_order t last rows kept read.1) is
+  where
+    by : (found : Option State) → next s row ≡ found → ((t : State) → IsInOrder t → after t rows ≡ Some last → IsInOrder last) → ◌≡◌ {A = Option State} (elim found [ None ↦ None | Some t ↦ after t rows ]) (Some last) → IsInOrder last
+    by None fits later is = cc
+    by (Some t) fits later is = later t (step_keeps_order s t row order read.0 fits) is
+
+-- ---- the state of a new image
+
+pub fresh_in_order : (clients : List Client) (sizes : TierSizes) → AreDistinct clients → AllByRecursion IsClient clients → IsInOrder (opening clients sizes (fresh_tree {B = ℕ}) empty)
+unfolding get
+fresh_in_order clients sizes distinct in_range = record {
+  sound = fresh_is_sound ℕ;
+  on_nodes = λ client number leased. cc;
+  distinct = distinct;
+  clients = in_range;
+  placement = record {
+    apart = λ block other place is also. cc;
+    in_tier = λ block place is. cc;
+    of_files = λ number block place is. cc;
+  };
+}

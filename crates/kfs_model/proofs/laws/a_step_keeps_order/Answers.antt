@@ -1,0 +1,8 @@
+use Rattle.kfs_model.proofs.OrderKept.{step_keeps_order, docket_keeps_order}
+use Rattle.kfs_model.proofs.laws.a_step_keeps_order.Goals as goal
+
+pub returns-clause-step : goal.returns-clause-step
+returns-clause-step c = step_keeps_order
+
+pub returns-clause-docket : goal.returns-clause-docket
+returns-clause-docket c = docket_keeps_order
