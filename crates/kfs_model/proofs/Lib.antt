@@ -34,3 +34,12 @@ pub mod Unlooked
 pub mod SameNet
 pub mod FreshTree
 pub mod NameTest
+pub mod Reading
+pub mod Fields
+pub mod EntryLaws
+pub mod HeaderLaws
+pub mod PlanLaws
+pub mod RowsRead
+pub mod OneLogAnswer
+pub mod OnePlanAnswer
+pub mod AnswersExist
