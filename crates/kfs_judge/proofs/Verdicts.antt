@@ -11,7 +11,7 @@ use Rattle.kfs_model.specs.Sight.{sight}
 use Rattle.kfs_model.specs.Lease.{holds, row_of}
 use Rattle.kfs_model.specs.Run.{Mark, EntryFault, run, bytes, marks, marked}
 use Rattle.kfs_model.specs.FirstWrong.{RowFault, first_wrong_row}
-use Rattle.kfs_model.specs.Spelling.{SpellingFault, BadHeader, BadEntry, Trailing, BadRow, LogAnswer, PlanAnswer}
+use Rattle.kfs_model.specs.Spelling.{IsBytes, SpellingFault, BadHeader, BadEntry, Trailing, BadRow, LogAnswer, PlanAnswer}
 use Rattle.kfs_model.specs.Judgement.{State, Submission, Fault, Verdict, scene_of, judged, judged_log, judged_plan, judged_run, judged_rows}
 use Rattle.kfs_model.specs.Judgement.Fault.{ClientUnknown, ClientWrong, BadLog, BadPlan, AtEntry, AtRow}
 use Rattle.kfs_model.specs.Judgement.Verdict.{Yes, No}
@@ -23,7 +23,6 @@ use Rattle.kfs_entry.specs.declared.entry.Log.{Log as CodeLog}
 use Rattle.kfs_entry.specs.declared.plan.Plan.{Plan as CodePlan}
 use Rattle.kfs_entry.specs.declared.fault.SpellFault.{SpellFault}
 use Rattle.kfs_entry.specs.declared.fault.SpellFault.TheVariants as spelling
-use Rattle.kfs_entry.proofs.Fields.{IsBytes}
 use Rattle.kfs_image.specs.declared.shape.Net.{Net}
 use Rattle.kfs_judge.specs.declared.plan.RowFault.{RowFault as CodeRowFault}
 use Rattle.kfs_judge.specs.declared.plan.Fault.{Fault as CodeFault}
@@ -40,7 +39,7 @@ use Rattle.kfs_judge.specs.declared.view.View.{View}
 use Rattle.kfs_judge.specs.Reads.{Agrees}
 use Rattle.kfs_judge.specs.View.{seen_of}
 use Rattle.kfs_judge.specs.Walks.{ComesToTree, Fits, fault_of, scene_in, seen_in}
-use Rattle.kfs_judge.proofs.AnswersExist.{log_has_answer, plan_has_answer}
+use Rattle.kfs_model.proofs.AnswersExist.{log_has_answer, plan_has_answer}
 use Rattle.kfs_judge.proofs.MarkedRuns.{EndsBeside, ends_beside}
 use Rattle.kfs_judge.proofs.PlanChecked.{first_wrong-unlike, all_judged}
 use Rattle.kfs_judge.proofs.Untouched.{need-untouched}
@@ -100,7 +99,7 @@ module _ (A : Type 0) (s : State) (submission : Submission) where
       → judged s submission.client log plan ≡ No refusal → refusal_of fault ≡ Some refusal → IsVerdict {A = A} s submission (outcomes.No fault)
   refused fault refusal log plan log_read plan_read is shown = record {
     verdict = No refusal;
-    judgement = record { log = log; plan = plan; log_read = log_read; plan_read = plan_read; judgement = sym is };
+    judgement = record { reading = record { log = log; plan = plan }; read = record { log = log_read; plan = plan_read }; judgement = sym is };
     told = shown;
   }
 
@@ -179,10 +178,8 @@ module _ (A : Type 0) (s : State) (submission : Submission) where
         right told zero is = record {
           verdict = Yes comes.0 ends.marked_after;
           judgement = record {
-            log = Ok the_log;
-            plan = Ok (plan_of plan);
-            log_read = spelled.log_read;
-            plan_read = spelled.plan_read;
+            reading = record { log = Ok the_log; plan = Ok (plan_of plan) };
+            read = record { log = spelled.log_read; plan = spelled.plan_read };
             judgement = sym (judged-row s submission.client client row the_log (plan_of plan) spelled.owner comes.0 ends.marked_after None ran ends.ran (first ∙ is));
           };
           told = record {

@@ -1,7 +1,8 @@
 -- The row that the view has, and the verdict at each place where the judgement ends.
 use Rattle.std.proofs.Common.{Some, map, subst, sym, ap, ◌∙◌, arith, inl, inr}
 use Rattle.std.specs.Option.{option_map, is_some}
-use Rattle.kfs_entry.proofs.Fields.{IsBytes, some_is}
+use Rattle.kfs_model.specs.Spelling.{IsBytes}
+use Rattle.kfs_model.proofs.Fields.{some_is}
 use Rattle.kfs_model.specs.CleanStep.{IsClient}
 use Rattle.kfs_model.specs.Lease.{row_of}
 use Rattle.kfs_model.specs.Looked.{looked_cells}
