@@ -30,7 +30,7 @@ use Rattle.kfs_judge.specs.declared.plan.Fault.TheVariants as faults
 use Rattle.kfs_judge.specs.declared.plan.Outcome.{Outcome}
 use Rattle.kfs_judge.specs.declared.plan.Outcome.TheVariants as outcomes
 use Rattle.kfs_judge.specs.declared.walk.EntryFault.{EntryFault as CodeEntryFault}
-use Rattle.kfs_judge.specs.Judging.{row_fault_of, refusal_of, AreSpelled, IsAlike, IsVerdict, IsSettled}
+use Rattle.kfs_judge.specs.Judging.{row_fault_of, refusal_of, is_before_entries, stops_before, AreOfLog, AreLooked, AreSpelled, IsAlike, IsVerdict, IsSettled}
 use Rattle.kfs_judge.specs.declared.walk.Walk.{Walk}
 use Rattle.kfs_judge.specs.declared.reads.Read.{Read}
 use Rattle.kfs_judge.specs.declared.reads.Seen.{Seen as CodeSeen}
@@ -223,3 +223,29 @@ walked_verdict A s submission client found log plan walk reads outcome spelled i
 -- any state agrees with no reads
 pub nothing_read : {A : Type 0} (view : View A) (number : ℕ) (reads : List (Read × CodeSeen)) → reads ≡ [] → Agrees reads (seen_of view number)
 nothing_read view number reads none = subst (λ es. Agrees es (seen_of view number)) (sym none) (record { each = tt })
+
+-- ---- what was read
+
+module _ {A : Type 0} (view : View A) (submission : Submission) where
+  pub unread_looked : (fault : CodeFault) (outcome : Outcome A) (reads : List (Read × CodeSeen)) → is_before_entries fault ≡ true → outcome ≡ outcomes.No fault → reads ≡ [] → AreLooked view submission outcome reads
+  unread_looked fault outcome reads early is none = record {
+    unread = λ stops. none;
+    looked = λ goes. let stops : stops_before outcome ≡ true = ap stops_before is ∙ early in let never : true ≡ false = sym stops ∙ goes in absurd cc;
+  }
+
+  of_log : (outcome : Outcome A) (reads : List (Read × CodeSeen)) → stops_before outcome ≡ false → AreOfLog view submission reads → AreLooked view submission outcome reads
+  of_log outcome reads goes of = record {
+    unread = λ stops. let never : true ≡ false = sym stops ∙ goes in absurd cc;
+    looked = λ _. of;
+  }
+
+  pub settled_looked : (log : CodeLog A) (plan : CodePlan A) (walked : Result (Net A) CodeEntryFault) (outcome : Outcome A) (reads : List (Read × CodeSeen)) → IsSettled log plan walked outcome → AreOfLog view submission reads → AreLooked view submission outcome reads
+  settled_looked log plan (Err fault) (outcomes.No refusal) reads is of = of_log (outcomes.No refusal) reads (ap is_before_entries is) of
+  settled_looked log plan (Err fault) (outcomes.Yes l p n told) reads is of = absurd is
+  settled_looked log plan (Ok net) (outcomes.No (faults.Row fault)) reads is of = of_log (outcomes.No (faults.Row fault)) reads refl of
+  settled_looked log plan (Ok net) (outcomes.No faults.UnknownClient) reads is of = absurd is
+  settled_looked log plan (Ok net) (outcomes.No (faults.BadLog fault)) reads is of = absurd is
+  settled_looked log plan (Ok net) (outcomes.No faults.WrongClient) reads is of = absurd is
+  settled_looked log plan (Ok net) (outcomes.No (faults.BadPlan fault)) reads is of = absurd is
+  settled_looked log plan (Ok net) (outcomes.No (faults.Entry fault)) reads is of = absurd is
+  settled_looked log plan (Ok net) (outcomes.Yes l p n told) reads is of = of_log (outcomes.Yes l p n told) reads refl of
