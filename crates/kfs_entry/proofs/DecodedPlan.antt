@@ -1,9 +1,7 @@
 -- A plan that was decoded, and why one was not, as the definitions say it.
-use Rattle.std.proofs.Common.{◌≡◌, ℕ, List, ◌++◌, length, map, refl, sym, ap, subst, ◌∙◌, append_assoc}
-use Rattle.std.specs.List.{flat_map}
+use Rattle.std.proofs.Common.{◌≡◌, ℕ, List, ◌++◌, length, map, sym, ap, subst, ◌∙◌}
 use Rattle.std.proofs.lemmas.List.{length-map}
-use Rattle.kfs_model.specs.PlanRow.{Plan}
-use Rattle.kfs_model.specs.Spelling.{Stand, Stop, Counts, AreCounts, plan_header, counts_of, name_row_bytes, IsNameRow, node_row_bytes, IsNodeRow, piece_bytes, IsPiece, IsPlan, plan_bytes, PartStops, PlanAnswer}
+use Rattle.kfs_model.specs.Spelling.{Stand, Stop, Counts, AreCounts, plan_header, PartStops, PlanAnswer}
 use Rattle.kfs_entry.specs.declared.fault.SpellFault.{SpellFault}
 use Rattle.kfs_entry.specs.declared.fault.SpellFault.TheVariants as faults
 use Rattle.kfs_entry.specs.RowList.{AreRows, Begins, PartRowMissing}

@@ -56,7 +56,8 @@ module _ {V : Type 0} {F : V → Type 0} {s : V → List ℕ} {r : List ℕ → 
 
 -- ---- logs
 
-spelled_log : (bytes rest more : List ℕ) (h : LogHeader) → IsLogHeader h → bytes ≡ log_header h ++ rest → (stand : Stand IsEntry entry_bytes h.count rest more)
+-- a header and entries that stand behind it are a log
+pub spelled_log : (bytes rest more : List ℕ) (h : LogHeader) → IsLogHeader h → bytes ≡ log_header h ++ rest → (stand : Stand IsEntry entry_bytes h.count rest more)
     → let l : Log = record { client = h.client; entries = stand.rows } in IsLog l × (bytes ≡ log_bytes l ++ more)
 spelled_log bytes rest more h fits parts stand =
     let l : Log = record { client = h.client; entries = stand.rows } in

@@ -1,5 +1,5 @@
 -- Leases on nodes: who holds what until when (Strata, leases: read shared, write exclusive).
-use Rattle.std.specs.Prelude.{ℕ, ◌+◌, ◌==◌, ◌&&◌, ◌||◌, not, nat_lt, nat_le, Bool, true, false, List, [], ◌∷◌, length, find, Option, Some, None, is_none, Result, Ok, Err, if◌then◌else◌}
+use Rattle.std.specs.Prelude.{ℕ, ◌+◌, ◌==◌, ◌&&◌, ◌||◌, not, nat_lt, nat_le, Bool, true, false, List, [], ◌∷◌, find, Option, Some, None, is_none, Result, Ok, Err, if◌then◌else◌}
 use Rattle.std.specs.List.{list_all}
 use Rattle.kfs_model.specs.Access.{Client, Search, may_header}
 use Rattle.kfs_model.specs.Table.{Table, numbers, pairs, get, insert, remove, retain, empty}
