@@ -1,11 +1,12 @@
 -- A log that was decoded, and why one was not, as the definitions say it.
-use Rattle.std.proofs.Common.{◌≡◌, ◌≢◌, ℕ, ◌<◌, ◌≤◌, List, [], ◌++◌, length, drop, map, sym, ap, subst, ◌∙◌, append_assoc, arith}
-use Rattle.std.specs.List.{flat_map, AllByRecursion}
+use Rattle.std.proofs.Common.{◌≡◌, ◌≢◌, ℕ, ◌<◌, ◌≤◌, List, [], ◌++◌, length, drop, map, sym, ap, ◌∙◌, arith}
+use Rattle.std.specs.List.{AllByRecursion}
 use Rattle.std.specs.Prelude.{All}
 use Rattle.std.proofs.lemmas.List.Elements.{All-from_recursion}
 use Rattle.std.proofs.lemmas.List.{append-nil, drop_all, length-drop, length-map}
 use Rattle.kfs_model.specs.Entry.{Log}
-use Rattle.kfs_model.specs.Spelling.{LogHeader, IsLogHeader, log_header, IsEntry, entry_bytes, IsLog, log_bytes, header_of, LogAnswer}
+use Rattle.kfs_model.specs.Spelling.{Stand, LogHeader, IsLogHeader, log_header, IsEntry, entry_bytes, IsLog, log_bytes, LogAnswer}
+use Rattle.kfs_model.proofs.AnswersExist.{spelled_log}
 use Rattle.kfs_entry.specs.declared.entry.Entry.{Entry as CodeEntry}
 use Rattle.kfs_entry.specs.declared.entry.Span.{Span}
 use Rattle.kfs_entry.specs.declared.fault.SpellFault.{SpellFault}
@@ -30,15 +31,13 @@ pub log_is_spelled : (source : List ℕ) (h : LogHeader) (at end : ℕ) (entries
     → length entries ≡ h.count → AreRows (Fit source) (spelled source) entries (drop at source) (drop end source)
     → IsLog (log_from h source entries) × (source ≡ log_bytes (log_from h source entries) ++ drop end source)
 log_is_spelled source h at end entries fits front number are =
-    let l = log_from h source entries in
-    let count : length l.entries ≡ h.count = length-map entries (entry_of source) ∙ number in
-    let same : header_of l ≡ h = ap (λ (n : ℕ). record { client = h.client; count = n }) count in
-    let body : drop at source ≡ flat_map entry_bytes l.entries ++ drop end source = are.spelled ∙ ap (λ (b : List ℕ). b ++ drop end source) (sym (flat_map-map (entry_of source) entry_bytes entries)) in
-    let whole : source ≡ log_header h ++ (flat_map entry_bytes l.entries ++ drop end source) = front ∙ ap (λ (b : List ℕ). log_header h ++ b) body in
-    let joined : source ≡ log_header h ++ flat_map entry_bytes l.entries ++ drop end source = whole ∙ sym (append_assoc (log_header h) (flat_map entry_bytes l.entries) (drop end source)) in (
-      (subst IsLogHeader (sym same) fits, map_holds (entry_of source) (Fit source) IsEntry (λ e f. f.1) entries are.fit),
-      joined ∙ ap (λ (g : LogHeader). log_header g ++ flat_map entry_bytes l.entries ++ drop end source) (sym same),
-    )
+    let stand : Stand IsEntry entry_bytes h.count (drop at source) (drop end source) = record {
+      rows = map (entry_of source) entries;
+      number = length-map entries (entry_of source) ∙ number;
+      fit = map_holds (entry_of source) (Fit source) IsEntry (λ e f. f.1) entries are.fit;
+      spelled = are.spelled ∙ ap (λ (b : List ℕ). b ++ drop end source) (sym (flat_map-map (entry_of source) entry_bytes entries));
+    } in
+    spelled_log source (drop at source) (drop end source) h fits front stand
 
 pub spans_are_within : (source : List ℕ) (entries : List (CodeEntry Span)) (bytes rest : List ℕ) → AreRows (Fit source) (spelled source) entries bytes rest → AllByRecursion (IsWithin (length source)) entries
 spans_are_within source entries bytes rest are = AllByRecursion-weaker (Fit source) (IsWithin (length source)) (λ e f. f.0) entries are.fit

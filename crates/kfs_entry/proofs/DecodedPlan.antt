@@ -1,9 +1,7 @@
 -- A plan that was decoded, and why one was not, as the definitions say it.
-use Rattle.std.proofs.Common.{◌≡◌, ℕ, List, ◌++◌, length, map, refl, sym, ap, subst, ◌∙◌, append_assoc}
-use Rattle.std.specs.List.{flat_map}
+use Rattle.std.proofs.Common.{◌≡◌, ℕ, List, ◌++◌, length, map, sym, ap, subst, ◌∙◌}
 use Rattle.std.proofs.lemmas.List.{length-map}
-use Rattle.kfs_model.specs.PlanRow.{Plan}
-use Rattle.kfs_model.specs.Spelling.{Stand, Stop, Counts, AreCounts, plan_header, counts_of, name_row_bytes, IsNameRow, node_row_bytes, IsNodeRow, piece_bytes, IsPiece, IsPlan, plan_bytes, PartStops, PlanAnswer}
+use Rattle.kfs_model.specs.Spelling.{Stand, Stop, Counts, AreCounts, plan_header, PartStops, PlanAnswer}
 use Rattle.kfs_entry.specs.declared.fault.SpellFault.{SpellFault}
 use Rattle.kfs_entry.specs.declared.fault.SpellFault.TheVariants as faults
 use Rattle.kfs_entry.specs.RowList.{AreRows, Begins, PartRowMissing}
@@ -31,21 +29,3 @@ part_is_missing view F s source bytes c rows number given count faults.OutOfMemo
 part_is_missing view F s source bytes c rows number given count faults.BadHeader same fits front stops missing = absurd missing
 part_is_missing view F s source bytes c rows number given count faults.Trailing same fits front stops missing = absurd missing
 part_is_missing view F s source bytes c rows number given count (faults.BadEntry k) same fits front stops missing = absurd missing
-
--- three parts that stand are a plan
-pub plan_is_spelled : (source a b d rest : List ℕ) (c : Counts) → AreCounts c → source ≡ plan_header c ++ a
-    → (names : Stand IsNameRow name_row_bytes c.names a b) (nodes : Stand IsNodeRow node_row_bytes c.nodes b d) (pieces : Stand IsPiece piece_bytes c.pieces d rest)
-    → let p : Plan = record { names = names.rows; nodes = nodes.rows; pieces = pieces.rows } in IsPlan p × (source ≡ plan_bytes p ++ rest)
-plan_is_spelled source a b d rest c fits front names nodes pieces =
-    let p : Plan = record { names = names.rows; nodes = nodes.rows; pieces = pieces.rows } in
-    let same : counts_of p ≡ c = ap (λ (n : ℕ × ℕ × ℕ). record { names = n.0; nodes = n.1; pieces = n.2 }) (let e : (length names.rows, length nodes.rows, length pieces.rows) ≡ (c.names, c.nodes, c.pieces) = rw (names.number, nodes.number, pieces.number) refl in e) in
-    let n = flat_map name_row_bytes names.rows in
-    let m = flat_map node_row_bytes nodes.rows in
-    let q = flat_map piece_bytes pieces.rows in
-    let whole : source ≡ plan_header c ++ (n ++ (m ++ (q ++ rest))) =
-    front ∙ ap (λ (l : List ℕ). plan_header c ++ l) (names.spelled ∙ ap (λ (l : List ℕ). n ++ l) (nodes.spelled ∙ ap (λ (l : List ℕ). m ++ l) pieces.spelled)) in
-    let joined : plan_header c ++ n ++ m ++ q ++ rest ≡ plan_header c ++ (n ++ (m ++ (q ++ rest))) =
-    append_assoc (plan_header c ++ n ++ m) q rest ∙ append_assoc (plan_header c ++ n) m (q ++ rest) ∙ append_assoc (plan_header c) n (m ++ (q ++ rest)) in (
-      (subst AreCounts (sym same) fits, names.fit, nodes.fit, pieces.fit),
-      whole ∙ sym joined ∙ ap (λ (h : Counts). plan_header h ++ n ++ m ++ q ++ rest) (sym same),
-    )

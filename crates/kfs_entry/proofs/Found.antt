@@ -1,10 +1,10 @@
 -- What a reader of the code found, by the laws of its field.
 use Rattle.std.proofs.Common.{◌≡◌, ℕ, List, ◌++◌, drop, Option, Some, None, sym, ap, ◌∙◌}
 use Rattle.std.specs.Prelude.{IfSome, IfNone}
-use Rattle.kfs_model.specs.Spelling.{BeginsWithNo}
+use Rattle.kfs_model.specs.Spelling.{IsBytes, BeginsWithNo}
 use Rattle.kfs_entry.specs.Reading.{seen}
 use Rattle.kfs_entry.specs.RowList.{Begins}
-use Rattle.kfs_entry.proofs.Fields.{IsBytes, IsBytes-drop, IsField}
+use Rattle.kfs_model.proofs.Fields.{IsBytes-drop, IsField}
 
 -- what was read stands there
 pub is_found : {V M : Type 0} {F : M → Type 0} {s : M → List ℕ} {r : List ℕ → Option (M × List ℕ)} (view : V → M) (P : V × ℕ → Type 0) → IsField F s r

@@ -1,12 +1,6 @@
-pub mod Names
-pub mod Fields
-pub mod EntryLaws
-pub mod PlanLaws
+-- Lemmas on what was decoded and encoded.
 pub mod RowLaws
-pub mod HeaderLaws
 pub mod Found
+pub mod Answered
 pub mod DecodedLog
-pub mod RowsRead
-pub mod OneLogAnswer
-pub mod OnePlanAnswer
 pub mod DecodedPlan

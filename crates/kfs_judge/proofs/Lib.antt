@@ -11,7 +11,6 @@ pub mod ChangedRows
 pub mod TreeWalks
 pub mod MarkedRuns
 pub mod Untouched
-pub mod AnswersExist
 pub mod RowsCompared
 pub mod PlanChecked
 pub mod Verdicts

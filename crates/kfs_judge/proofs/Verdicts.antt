@@ -11,7 +11,7 @@ use Rattle.kfs_model.specs.Sight.{sight}
 use Rattle.kfs_model.specs.Lease.{holds, row_of}
 use Rattle.kfs_model.specs.Run.{Mark, EntryFault, run, bytes, marks, marked}
 use Rattle.kfs_model.specs.FirstWrong.{RowFault, first_wrong_row}
-use Rattle.kfs_model.specs.Spelling.{SpellingFault, BadHeader, BadEntry, Trailing, BadRow, LogAnswer, PlanAnswer}
+use Rattle.kfs_model.specs.Spelling.{IsBytes, SpellingFault, BadHeader, BadEntry, Trailing, BadRow, LogAnswer, PlanAnswer}
 use Rattle.kfs_model.specs.Judgement.{State, Submission, Fault, Verdict, scene_of, judged, judged_log, judged_plan, judged_run, judged_rows}
 use Rattle.kfs_model.specs.Judgement.Fault.{ClientUnknown, ClientWrong, BadLog, BadPlan, AtEntry, AtRow}
 use Rattle.kfs_model.specs.Judgement.Verdict.{Yes, No}
@@ -23,7 +23,6 @@ use Rattle.kfs_entry.specs.declared.entry.Log.{Log as CodeLog}
 use Rattle.kfs_entry.specs.declared.plan.Plan.{Plan as CodePlan}
 use Rattle.kfs_entry.specs.declared.fault.SpellFault.{SpellFault}
 use Rattle.kfs_entry.specs.declared.fault.SpellFault.TheVariants as spelling
-use Rattle.kfs_entry.proofs.Fields.{IsBytes}
 use Rattle.kfs_image.specs.declared.shape.Net.{Net}
 use Rattle.kfs_judge.specs.declared.plan.RowFault.{RowFault as CodeRowFault}
 use Rattle.kfs_judge.specs.declared.plan.Fault.{Fault as CodeFault}
@@ -31,7 +30,7 @@ use Rattle.kfs_judge.specs.declared.plan.Fault.TheVariants as faults
 use Rattle.kfs_judge.specs.declared.plan.Outcome.{Outcome}
 use Rattle.kfs_judge.specs.declared.plan.Outcome.TheVariants as outcomes
 use Rattle.kfs_judge.specs.declared.walk.EntryFault.{EntryFault as CodeEntryFault}
-use Rattle.kfs_judge.specs.Judging.{row_fault_of, refusal_of, AreSpelled, IsAlike, IsVerdict, IsSettled}
+use Rattle.kfs_judge.specs.Judging.{row_fault_of, refusal_of, is_before_entries, stops_before, AreOfLog, AreLooked, AreSpelled, IsAlike, IsVerdict, IsSettled}
 use Rattle.kfs_judge.specs.declared.walk.Walk.{Walk}
 use Rattle.kfs_judge.specs.declared.reads.Read.{Read}
 use Rattle.kfs_judge.specs.declared.reads.Seen.{Seen as CodeSeen}
@@ -40,7 +39,7 @@ use Rattle.kfs_judge.specs.declared.view.View.{View}
 use Rattle.kfs_judge.specs.Reads.{Agrees}
 use Rattle.kfs_judge.specs.View.{seen_of}
 use Rattle.kfs_judge.specs.Walks.{ComesToTree, Fits, fault_of, scene_in, seen_in}
-use Rattle.kfs_judge.proofs.AnswersExist.{log_has_answer, plan_has_answer}
+use Rattle.kfs_model.proofs.AnswersExist.{log_has_answer, plan_has_answer}
 use Rattle.kfs_judge.proofs.MarkedRuns.{EndsBeside, ends_beside}
 use Rattle.kfs_judge.proofs.PlanChecked.{first_wrong-unlike, all_judged}
 use Rattle.kfs_judge.proofs.Untouched.{need-untouched}
@@ -224,3 +223,29 @@ walked_verdict A s submission client found log plan walk reads outcome spelled i
 -- any state agrees with no reads
 pub nothing_read : {A : Type 0} (view : View A) (number : ℕ) (reads : List (Read × CodeSeen)) → reads ≡ [] → Agrees reads (seen_of view number)
 nothing_read view number reads none = subst (λ es. Agrees es (seen_of view number)) (sym none) (record { each = tt })
+
+-- ---- what was read
+
+module _ {A : Type 0} (view : View A) (submission : Submission) where
+  pub unread_looked : (fault : CodeFault) (outcome : Outcome A) (reads : List (Read × CodeSeen)) → is_before_entries fault ≡ true → outcome ≡ outcomes.No fault → reads ≡ [] → AreLooked view submission outcome reads
+  unread_looked fault outcome reads early is none = record {
+    unread = λ stops. none;
+    looked = λ goes. let stops : stops_before outcome ≡ true = ap stops_before is ∙ early in let never : true ≡ false = sym stops ∙ goes in absurd cc;
+  }
+
+  of_log : (outcome : Outcome A) (reads : List (Read × CodeSeen)) → stops_before outcome ≡ false → AreOfLog view submission reads → AreLooked view submission outcome reads
+  of_log outcome reads goes of = record {
+    unread = λ stops. let never : true ≡ false = sym stops ∙ goes in absurd cc;
+    looked = λ _. of;
+  }
+
+  pub settled_looked : (log : CodeLog A) (plan : CodePlan A) (walked : Result (Net A) CodeEntryFault) (outcome : Outcome A) (reads : List (Read × CodeSeen)) → IsSettled log plan walked outcome → AreOfLog view submission reads → AreLooked view submission outcome reads
+  settled_looked log plan (Err fault) (outcomes.No refusal) reads is of = of_log (outcomes.No refusal) reads (ap is_before_entries is) of
+  settled_looked log plan (Err fault) (outcomes.Yes l p n told) reads is of = absurd is
+  settled_looked log plan (Ok net) (outcomes.No (faults.Row fault)) reads is of = of_log (outcomes.No (faults.Row fault)) reads refl of
+  settled_looked log plan (Ok net) (outcomes.No faults.UnknownClient) reads is of = absurd is
+  settled_looked log plan (Ok net) (outcomes.No (faults.BadLog fault)) reads is of = absurd is
+  settled_looked log plan (Ok net) (outcomes.No faults.WrongClient) reads is of = absurd is
+  settled_looked log plan (Ok net) (outcomes.No (faults.BadPlan fault)) reads is of = absurd is
+  settled_looked log plan (Ok net) (outcomes.No (faults.Entry fault)) reads is of = absurd is
+  settled_looked log plan (Ok net) (outcomes.Yes l p n told) reads is of = of_log (outcomes.Yes l p n told) reads refl of

@@ -1,5 +1,5 @@
 -- What a judgement answered, as the definitions say it.
-use Rattle.std.specs.Prelude.{◌≡◌, ◌⊎◌, ℕ, false, List, [], All, Option, None, Some, Result, Ok, Err}
+use Rattle.std.specs.Prelude.{◌≡◌, ℕ, Bool, true, false, List, [], All, Option, None, Some, Result, Ok, Err}
 use Rattle.std.specs.Option.{option_map}
 use Rattle.std.specs.List.{list_all}
 use Rattle.kfs_model.specs.Access.{Client}
@@ -93,11 +93,32 @@ pub record IsAlike (s : State) (number : ℕ) (client : Option Client) (reads : 
   pub row : row_of s.clients number ≡ client
   pub agrees : Agrees reads (seen_in s.tree (holds s.leases number))
 
--- nothing was read, or the bytes spell a log of a known client and what was read is among the cells that it looks at
-abbrev pub AreLooked : {A : Type 0} → View A → Submission → List (Read × CodeSeen) → Type 0
-AreLooked view submission reads =
-    (reads ≡ []) ⊎ ((client : Client) × (log : Log) × (row_of (clients_of view) submission.client ≡ Some client) × LogAnswer submission.log (Ok log)
-    × AreAmong reads (looked_cells client (seen_of view submission.client) log.entries))
+-- faults that are found before the entries are looked at
+abbrev pub is_before_entries : CodeFault → Bool
+is_before_entries faults.UnknownClient = true
+is_before_entries (faults.BadLog fault) = true
+is_before_entries faults.WrongClient = true
+is_before_entries (faults.BadPlan fault) = true
+is_before_entries (faults.Entry fault) = false
+is_before_entries (faults.Row fault) = false
+
+abbrev pub stops_before : {A : Type 0} → Outcome A → Bool
+stops_before (outcomes.No fault) = is_before_entries fault
+stops_before (outcomes.Yes log plan net told) = false
+
+-- the bytes spell a log of this client, who has a row, and what was read is among the cells that the log looks at
+pub record AreOfLog {A : Type 0} (view : View A) (submission : Submission) (reads : List (Read × CodeSeen)) : Type 0 where
+  pub client : Client
+  pub row : row_of (clients_of view) submission.client ≡ Some client
+  pub log : Log
+  pub spelled : LogAnswer submission.log (Ok log)
+  pub owner : log.client ≡ submission.client
+  pub among : AreAmong reads (looked_cells client (seen_of view submission.client) log.entries)
+
+-- nothing was read where the judgement stops before the entries, and elsewhere what the client's own log looks at
+pub record AreLooked {A : Type 0} (view : View A) (submission : Submission) (outcome : Outcome A) (reads : List (Read × CodeSeen)) : Type 0 where
+  pub unread : stops_before outcome ≡ true → reads ≡ []
+  pub looked : stops_before outcome ≡ false → AreOfLog view submission reads
 
 -- what the entries of a right plan's log come to: a sound tree, one by one and each allowed, with this net, and marked
 pub record ComesToNet {A : Type 0} (s : State) (client : Client) (entries : List Entry) (net : Net A) (after : Tree ℕ) (marked_after : Tree Mark) : Type 0 where
@@ -133,6 +154,10 @@ pub record IsVerdict {A : Type 0} (s : State) (submission : Submission) (outcome
 abbrev pub IsReading : {A : Type 0} → Submission → Spelled A → Type 0
 IsReading submission (readings.Yes log plan) = AreSpelled submission log plan
 IsReading {A} submission (readings.No fault) = (s : State) (client : Client) → row_of s.clients submission.client ≡ Some client → IsVerdict {A = A} s submission (outcomes.No fault)
+
+abbrev pub IsEarly : {A : Type 0} → Spelled A → Type 0
+IsEarly (readings.Yes log plan) = Unit {0}
+IsEarly (readings.No fault) = is_before_entries fault ≡ true
 
 -- a bad entry is the outcome, or else the first row that isn't the net's, or else a Yes
 abbrev pub IsSettled : {A : Type 0} → CodeLog A → CodePlan A → Result (Net A) CodeEntryFault → Outcome A → Type 0

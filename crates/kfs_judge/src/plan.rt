@@ -7,7 +7,7 @@ ghost use Rattle.kfs_model.specs.Judgement.{State};
 ghost use Rattle.kfs_model.specs.Lease.{row_of};
 ghost use Rattle.kfs_model.specs.Tree.{Tree};
 ghost use Rattle.kfs_judge.specs.JudgedEntries.{IsJudged};
-ghost use Rattle.kfs_judge.specs.Judging.{AreLooked, HasOtherEntry, IsAlike, IsReading, IsSettled, IsVerdict, submission_of, submission_with};
+ghost use Rattle.kfs_judge.specs.Judging.{AreLooked, HasOtherEntry, IsAlike, IsEarly, IsReading, IsSettled, IsVerdict, submission_of, submission_with};
 ghost use Rattle.kfs_judge.specs.PlanCheck.{first_unlike, IsChecked, IsWalkOf, TellsRow};
 ghost use Rattle.kfs_judge.specs.Reads.{Agrees};
 ghost use Rattle.kfs_judge.specs.View.{clients_of, seen_of};
@@ -193,7 +193,7 @@ pub fn judge<A: Allocator + Copy>(
     // In every state that is alike, this is the verdict.
     ensures known { IfOk result (λ j. (s : State) → IsAlike s submission.client j.client j.reads.entries → IsVerdict s (submission_of submission) j.outcome) }
     ensures view_agrees { IfOk result (λ j. Agrees j.reads.entries (seen_of view.now submission.client)) }
-    ensures among { IfOk result (λ j. AreLooked view.now (submission_of submission) j.reads.entries) }
+    ensures among { IfOk result (λ j. AreLooked view.now (submission_of submission) j.outcome j.reads.entries) }
     ensures other { IfErr result (λ b. b.why ≡ Why.OtherEntry → HasOtherEntry submission.log.items) }
     ensures not_full { IfErr result (λ b. b.why ≢ Why.DocketFull) }
 {
@@ -242,7 +242,7 @@ fn find<A: Allocator + Copy>(
     ensures client { IfOk result (λ f. f.client ≡ row_of (clients_of view.now) number) }
     ensures known { IfOk result (λ f. (s : State) → IsAlike s number f.client f.reads.entries → IsVerdict s (submission_with number log.now plan.now) f.outcome) }
     ensures view_agrees { IfOk result (λ f. Agrees f.reads.entries (seen_of view.now number)) }
-    ensures among { IfOk result (λ f. AreLooked view.now (submission_with number log.now plan.now) f.reads.entries) }
+    ensures among { IfOk result (λ f. AreLooked view.now (submission_with number log.now plan.now) f.outcome f.reads.entries) }
     ensures other { IfErr result (λ why. why ≡ Why.OtherEntry → HasOtherEntry log.now) }
     ensures not_full { IfErr result (λ why. why ≢ Why.DocketFull) }
 {
@@ -280,6 +280,7 @@ fn read_submission<A: Allocator + Copy>(
     plan: &[u8],
 ) -> Result<Spelled<A>, Why>
     ensures read { IfOk result (IsReading (submission_with number log.now plan.now)) }
+    ensures early { IfOk result IsEarly }
     ensures other { IfErr result (λ why. why ≡ Why.OtherEntry → HasOtherEntry log.now) }
     ensures not_full { IfErr result (λ why. why ≢ Why.DocketFull) }
 {

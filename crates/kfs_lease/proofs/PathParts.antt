@@ -4,13 +4,13 @@ use Rattle.std.specs.Prelude.{nat_lt, is_some, if◌then◌else◌, IsSome, ◌�
 use Rattle.std.specs.List.{position, position_or_len}
 use Rattle.std.specs.Cmp.{both_ways}
 use Rattle.std.proofs.lemmas.Bool.{ltb-true, ltb-false}
-use Rattle.kfs_model.specs.Lease.{is_name, slash, parts_of, prepended}
-use Rattle.kfs_model.specs.Spelling.{IsName}
-use Rattle.kfs_model.proofs.NameTest.{name_is, is_name_from}
+use Rattle.kfs_model.specs.Lease.{slash, parts_of, prepended}
+use Rattle.kfs_model.specs.Spelling.{IsName, is_name}
+use Rattle.kfs_model.proofs.NameTest.{is_name_sound, is_name_true}
 
 -- what answers whether there is a name answers as the test of its bytes does
 pub same_test : {X : Type 0} (o : Option X) (bytes : List ℕ) → (IsSome o ↔ IsName bytes) → is_some o ≡ is_name bytes
-same_test o bytes valid = both_ways (is_some o) (is_name bytes) (λ some. is_name_from bytes (valid.0 some)) (λ passes. valid.1 (name_is bytes passes))
+same_test o bytes valid = both_ways (is_some o) (is_name bytes) (λ some. is_name_true bytes (valid.0 some)) (λ passes. valid.1 (is_name_sound bytes passes))
 
 abbrev is_slash : ℕ → Bool
 is_slash byte = byte == slash

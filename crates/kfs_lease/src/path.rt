@@ -4,6 +4,7 @@ ghost use Rattle.std.specs.Option.{option_map_or};
 ghost use Rattle.std.specs.List.{list_all, position};
 ghost use Rattle.std.specs.Iterator.{at_most, YieldsFirstBy};
 ghost use Rattle.kfs_model.specs.Lease as model;
+ghost use Rattle.kfs_model.specs.Spelling as spelling;
 ghost use Rattle.kfs_image.specs.Contents.{sight_of};
 ghost use Rattle.kfs_model.specs.Table.{get};
 ghost use Rattle.kfs_model.specs.Tree.{target};
@@ -72,7 +73,7 @@ pub(crate) fn names_of(path: &[u8]) -> Option<Parts<'_>>
 }
 
 fn are_names(parts: Parts<'_>) -> bool
-    ensures { result ≡ list_all model.is_name (parts_left parts.entry) }
+    ensures { result ≡ list_all spelling.is_name (parts_left parts.entry) }
 {
     for part in parts {
         if !is_name(part) {
@@ -83,7 +84,7 @@ fn are_names(parts: Parts<'_>) -> bool
 }
 
 fn is_name(bytes: &[u8]) -> bool
-    ensures { result ≡ model.is_name bytes.now }
+    ensures { result ≡ spelling.is_name bytes.now }
 {
     Name::new(bytes).is_some()
 }
@@ -95,7 +96,7 @@ pub(crate) fn walk<A: Allocator>(
     client: &Client,
     names: Parts<'_>,
 ) -> Result<u32, LeaseFault>
-    requires { IsTrue (list_all model.is_name (parts_left names)) }
+    requires { IsTrue (list_all spelling.is_name (parts_left names)) }
     ensures ok { IfOk result (λ number. model.walked (sight_of shape.now) client.now 1 0 (parts_left names.entry) ≡ Ok number) }
     ensures err { IfErr result (λ fault. IsSomeAnd (fault_of fault) (λ f. model.walked (sight_of shape.now) client.now 1 0 (parts_left names.entry) ≡ Err f)) }
 {
@@ -114,7 +115,7 @@ fn step<A: Allocator>(
     component: &[u8],
     index: usize,
 ) -> Result<u32, LeaseFault>
-    requires { IsTrue (model.is_name component.now) }
+    requires { IsTrue (spelling.is_name component.now) }
     ensures ok { IfOk result (λ next. (names : List (List ℕ)) → model.walked (sight_of shape.now) client.now dir index (component.now ∷ names) ≡ model.walked (sight_of shape.now) client.now next (index + 1) names) }
     ensures err { IfErr result (λ fault. (names : List (List ℕ)) → IsSomeAnd (fault_of fault) (λ f. model.walked (sight_of shape.now) client.now dir index (component.now ∷ names) ≡ Err f)) }
 {
@@ -146,8 +147,9 @@ fn directory<A: Allocator>(shape: &Shape<A>, number: u32) -> Option<Header>
 }
 
 /// Where a name of a directory leads.
+#[tactic(auto, using(kfs_model::proofs::NameTest::is_name_sound))]
 fn target_of<A: Allocator>(shape: &Shape<A>, dir: u32, name: &[u8]) -> Option<u32>
-    requires { IsTrue (model.is_name name.now) }
+    requires { IsTrue (spelling.is_name name.now) }
     ensures { result ≡ target shape.now.names dir name.now }
 {
     match look(shape, &Cell::Name(dir, Name::new(name)?)) {

@@ -42,3 +42,12 @@ pub mod LeasesKept
 pub mod WrittenBlocks
 pub mod PlacementKept
 pub mod OrderKept
+pub mod Reading
+pub mod Fields
+pub mod EntryLaws
+pub mod HeaderLaws
+pub mod PlanLaws
+pub mod RowsRead
+pub mod OneLogAnswer
+pub mod OnePlanAnswer
+pub mod AnswersExist

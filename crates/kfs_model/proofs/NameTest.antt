@@ -1,57 +1,60 @@
--- The test of a name's bytes says whether they are a name.
-use Rattle.std.specs.Prelude.{◌≡◌, ◌≢◌, ℕ, ◌==◌, ◌&&◌, not, nat_le, Bool, true, false, List, [], ◌∷◌, length, refl, IsTrue}
+-- The test of bytes says whether they are a name.
+use Rattle.std.proofs.Common.{◌≡◌, ◌≢◌, ℕ, Bool, true, false, not, eqb, ltb, leb, List, [], ◌∷◌, length, refl, ap, arith, inl, inr, ◌&&◌}
 use Rattle.std.specs.List.{list_all}
-use Rattle.std.proofs.Common.{ap}
-use Rattle.std.proofs.lemmas.Bool.{leb-true, le-leb, eqb-true}
+use Rattle.std.proofs.lemmas.Bool.{and_parts, eqb-true, ltb-true, leb-true, lt-ltb, le-leb, ne_eqb, cases_Bool}
+use Rattle.std.proofs.lemmas.List.Elements.{All-weaker}
 use Rattle.std.proofs.lemmas.List.Sums.{AllPass-from_list_all, list_all-from_AllPass}
-use Rattle.kfs_model.specs.Lease.{is_name, is_dots, slash, dot}
-use Rattle.kfs_model.specs.Spelling.{IsName}
-use Rattle.kfs_model.proofs.CleanIsAllowed.{left, right}
+use Rattle.kfs_model.specs.Spelling.{IsName, is_name, is_dots}
 
-both : (a b : Bool) → IsTrue a → IsTrue b → IsTrue (a && b)
-both true b p q = q
-both false b p q = cc
+abbrev is_plain : ℕ → Bool
+is_plain byte = not (eqb byte 0) && not (eqb byte 47)
 
-turned : (b : Bool) → IsTrue (not b) → b ≡ false
-turned true e = cc
-turned false e = refl
+plain_true : (byte : ℕ) → (byte ≢ 0) × (byte ≢ 47) → is_plain byte ≡ true
+plain_true byte h = rw (ne_eqb byte 0 h.0, ne_eqb byte 47 h.1) refl
 
-untrue : (b : Bool) → (b ≡ true → ⊥) → IsTrue (not b)
-untrue true h = absurd (h refl)
-untrue false h = refl
+differs : (a b : ℕ) → not (eqb a b) ≡ true → a ≢ b
+differs a b h e = let same : eqb a b ≡ true = rw e (search arith) in cc
 
-plain_byte : (b : ℕ) → IsTrue (not (b == slash) && not (b == 0)) → (b ≢ 0) × (b ≢ 47)
-plain_byte b passes = (
-  (λ is. let e : (b == 0) ≡ true = ap (λ n. n == 0) is in cc (turned (b == 0) (right (not (b == slash)) (not (b == 0)) passes), e)),
-  (λ is. let e : (b == slash) ≡ true = ap (λ n. n == slash) is in cc (turned (b == slash) (left (not (b == slash)) (not (b == 0)) passes), e)),
-)
+plain_sound : (byte : ℕ) → is_plain byte ≡ true → (byte ≢ 0) × (byte ≢ 47)
+plain_sound byte h = let parts = and_parts (not (eqb byte 0)) (not (eqb byte 47)) h in (differs byte 0 parts.0, differs byte 47 parts.1)
 
-byte_plain : (b : ℕ) → (b ≢ 0) × (b ≢ 47) → IsTrue (not (b == slash) && not (b == 0))
-byte_plain b plain = both _ _ (untrue (b == slash) (λ e. plain.1 (eqb-true b slash e))) (untrue (b == 0) (λ e. plain.0 (eqb-true b 0 e)))
+dots_false : (bytes : List ℕ) → bytes ≢ 46 ∷ [] → bytes ≢ 46 ∷ 46 ∷ [] → is_dots bytes ≡ false
+dots_false [] this parent = refl
+dots_false (a ∷ []) this parent = ne_eqb a 46 (λ e. this (ap (λ x. x ∷ []) e))
+dots_false (a ∷ b ∷ []) this parent =
+    elim (cases_Bool (eqb a 46 && eqb b 46)) [
+      | inl both ↦ let parts = and_parts (eqb a 46) (eqb b 46) both in
+          absurd (parent (rw (eqb-true a 46 parts.0, eqb-true b 46 parts.1) refl))
+      | inr isnt ↦ isnt
+    ]
+dots_false (a ∷ b ∷ c ∷ bytes) this parent = refl
 
-no_dots : (name : List ℕ) → name ≢ 46 ∷ [] → name ≢ 46 ∷ 46 ∷ [] → IsTrue (not (is_dots name))
-no_dots [] this parent = refl
-no_dots (a ∷ []) this parent = untrue (a == dot) (λ e. this (ap (λ n. n ∷ []) (eqb-true a dot e)))
-no_dots (a ∷ b ∷ []) this parent = untrue ((a == dot) && (b == dot)) (λ e. parent (λ i. eqb-true a dot (left _ _ e) i ∷ eqb-true b dot (right _ _ e) i ∷ []))
-no_dots (a ∷ b ∷ c ∷ rest) this parent = refl
+dots_sound : (bytes : List ℕ) → is_dots bytes ≡ false → (bytes ≢ 46 ∷ []) × (bytes ≢ 46 ∷ 46 ∷ [])
+dots_sound bytes h = (λ e. let one : is_dots bytes ≡ true = rw e refl in cc, λ e. let one : is_dots bytes ≡ true = rw e refl in cc)
 
--- the five parts of the test
-module _ (name : List ℕ) where
-  pub name_is : is_name name ≡ true → IsName name
-  name_is passes =
-      let front = left (nat_le 1 (length name) && nat_le (length name) 255 && list_all (λ b. not (b == slash) && not (b == 0)) name) (not (is_dots name)) passes in
-      let sizes = left (nat_le 1 (length name) && nat_le (length name) 255) (list_all (λ b. not (b == slash) && not (b == 0)) name) front in
-      let bytes = right (nat_le 1 (length name) && nat_le (length name) 255) (list_all (λ b. not (b == slash) && not (b == 0)) name) front in
-      let dots = turned (is_dots name) (right (nat_le 1 (length name) && nat_le (length name) 255 && list_all (λ b. not (b == slash) && not (b == 0)) name) (not (is_dots name)) passes) in
-      record {
-        some = leb-true 1 (length name) (left _ _ sizes);
-        short = leb-true (length name) 255 (right _ _ sizes);
-        plain = λ k d inside. plain_byte _ (AllPass-from_list_all (λ b. not (b == slash) && not (b == 0)) name bytes k d inside);
-        not_this = λ is. let e : is_dots name ≡ true = ap is_dots is in cc (dots, e);
-        not_parent = λ is. let e : is_dots name ≡ true = ap is_dots is in cc (dots, e);
-      }
+pub is_name_true : (bytes : List ℕ) → IsName bytes → is_name bytes ≡ true
+unfolding is_name
+is_name_true bytes named =
+    let plain : list_all is_plain bytes ≡ true = list_all-from_AllPass is_plain bytes (All-weaker (λ byte. (byte ≢ 0) × (byte ≢ 47)) (λ byte. is_plain byte ≡ true) plain_true bytes named.plain) in
+    rw (lt-ltb 0 (length bytes) named.some, le-leb (length bytes) 255 named.short, plain, dots_false bytes named.not_this named.not_parent) refl
 
-  pub is_name_from : IsName name → is_name name ≡ true
-  is_name_from name_is' =
-      both _ _ (both _ _ (both _ _ (le-leb 1 (length name) name_is'.some) (le-leb (length name) 255 name_is'.short)) (list_all-from_AllPass (λ b. not (b == slash) && not (b == 0)) name (λ k d inside. byte_plain _ (name_is'.plain k d inside))))
-      (no_dots name name_is'.not_this name_is'.not_parent)
+pub is_name_sound : (bytes : List ℕ) → is_name bytes ≡ true → IsName bytes
+unfolding is_name
+is_name_sound bytes test =
+    let a = and_parts (ltb 0 (length bytes) && leb (length bytes) 255 && list_all is_plain bytes) (not (is_dots bytes)) test in
+    let b = and_parts (ltb 0 (length bytes) && leb (length bytes) 255) (list_all is_plain bytes) a.0 in
+    let c = and_parts (ltb 0 (length bytes)) (leb (length bytes) 255) b.0 in
+    let dots : is_dots bytes ≡ false = elim (cases_Bool (is_dots bytes)) [ inl is ↦ let flipped : not (is_dots bytes) ≡ false = rw is refl in cc | inr isnt ↦ isnt ] in
+    let apart = dots_sound bytes dots in
+    record {
+      some = ltb-true 0 (length bytes) c.0;
+      short = leb-true (length bytes) 255 c.1;
+      plain = All-weaker (λ byte. is_plain byte ≡ true) (λ byte. (byte ≢ 0) × (byte ≢ 47)) plain_sound bytes (AllPass-from_list_all is_plain bytes b.1);
+      not_this = apart.0;
+      not_parent = apart.1;
+    }
+
+pub is_name_false : (bytes : List ℕ) → (IsName bytes → ⊥) → is_name bytes ≡ false
+is_name_false bytes unnamed = elim (cases_Bool (is_name bytes)) [ inl is ↦ absurd (unnamed (is_name_sound bytes is)) | inr isnt ↦ isnt ]
+
+pub ruleset name_tests = (is_name_true, is_name_false)

@@ -1,10 +1,11 @@
 -- Leases on nodes: who holds what until when (Strata, leases: read shared, write exclusive).
-use Rattle.std.specs.Prelude.{ℕ, ◌+◌, ◌==◌, ◌&&◌, ◌||◌, not, nat_lt, nat_le, Bool, true, false, List, [], ◌∷◌, length, find, Option, Some, None, is_none, Result, Ok, Err, if◌then◌else◌}
+use Rattle.std.specs.Prelude.{ℕ, ◌+◌, ◌==◌, ◌&&◌, ◌||◌, not, nat_lt, nat_le, Bool, true, false, List, [], ◌∷◌, find, Option, Some, None, is_none, Result, Ok, Err, if◌then◌else◌}
 use Rattle.std.specs.List.{list_all}
 use Rattle.kfs_model.specs.Access.{Client, Search, may_header}
 use Rattle.kfs_model.specs.Table.{Table, numbers, pairs, get, insert, remove, retain, empty}
 use Rattle.kfs_model.specs.Sight.{Sight, is_directory}
 use Rattle.kfs_model.specs.Check.{is_some_and}
+use Rattle.kfs_model.specs.Spelling.{is_name}
 
 pub data LeaseKind : Type 0 where
   ReadLease WriteLease : LeaseKind
@@ -45,19 +46,6 @@ row_of clients number = find (λ (c : Client). c.number == number) clients
 
 abbrev pub slash : ℕ
 slash = 47
-
-abbrev pub dot : ℕ
-dot = 46
-
-abbrev pub is_dots : List ℕ → Bool
-is_dots [] = false
-is_dots (a ∷ []) = a == dot
-is_dots (a ∷ b ∷ []) = (a == dot) && (b == dot)
-is_dots (a ∷ b ∷ c ∷ rest) = false
-
--- 1 to 255 bytes without a slash and without a zero byte, and neither of the names of a directory itself and of the one above
-abbrev pub is_name : List ℕ → Bool
-is_name name = nat_le 1 (length name) && nat_le (length name) 255 && list_all (λ b. not (b == slash) && not (b == 0)) name && not (is_dots name)
 
 abbrev pub prepended : ℕ → List (List ℕ) → List (List ℕ)
 prepended b [] = (b ∷ []) ∷ []

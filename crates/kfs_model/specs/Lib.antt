@@ -1,4 +1,5 @@
 pub mod Table
+pub mod Steps
 pub mod Header
 pub mod Entry
 pub mod Tree

@@ -1,11 +1,15 @@
 -- How logs and plans are spelled as bytes, and what a decoder answers to bytes. Numbers are big-endian.
 -- Each value has one spelling.
-use Rattle.std.specs.Prelude.{◌≡◌, ◌≢◌, ℕ, zero, suc, ◌^◌, ◌<◌, ◌≤◌, List, [], ◌∷◌, ◌++◌, length, All, Option, None, Some, Result, Ok, Err}
-use Rattle.std.specs.List.{flat_map, AllByRecursion}
+use Rattle.std.specs.Prelude.{◌≡◌, ◌≢◌, ℕ, zero, suc, ◌^◌, ◌<◌, ◌≤◌, ◌==◌, ◌&&◌, not, nat_lt, nat_le, Bool, false, List, [], ◌∷◌, ◌++◌, length, get_or, All, Option, None, Some, Result, Ok, Err}
+use Rattle.std.specs.List.{list_all, flat_map, AllByRecursion}
 use Rattle.std.specs.Int.{w16, w32, w64, to_be_bytes}
 use Rattle.kfs_model.specs.Header.{Kind, File, Directory, Header}
 use Rattle.kfs_model.specs.Entry.{Entry, Log, Create, Write, Truncate, Link, Unlink, Rename, Chmod}
 use Rattle.kfs_model.specs.PlanRow.{NameRow, NodeRow, Source, Zero, Payload, Piece, Plan}
+
+-- each of the numbers is a byte
+abbrev pub IsBytes : List ℕ → Type 0
+IsBytes numbers = (i : ℕ) → get_or numbers i 0 < 256
 
 -- ---- fields
 
@@ -28,6 +32,16 @@ pub record IsName (name : List ℕ) : Type 0 where
   pub plain : All (λ byte. (byte ≢ 0) × (byte ≢ 47)) name
   pub not_this : name ≢ 46 ∷ []
   pub not_parent : name ≢ 46 ∷ 46 ∷ []
+
+abbrev pub is_dots : List ℕ → Bool
+is_dots [] = false
+is_dots (a ∷ []) = a == 46
+is_dots (a ∷ b ∷ []) = (a == 46) && (b == 46)
+is_dots (a ∷ b ∷ c ∷ bytes) = false
+
+-- whether these bytes are a name
+unfoldable pub is_name : List ℕ → Bool
+is_name bytes = nat_lt 0 (length bytes) && nat_le (length bytes) 255 && list_all (λ byte. not (byte == 0) && not (byte == 47)) bytes && not (is_dots bytes)
 
 -- how many bytes, and the bytes
 abbrev pub name_bytes : List ℕ → List ℕ

@@ -1,8 +1,8 @@
 //! Laws of the definitions: each is the contract of a function without a body.
 
-ghost use Rattle.std.specs.Prelude.{◌≡◌, ℕ, List, [], Some, None, Ok, true};
+ghost use Rattle.std.specs.Prelude.{◌≡◌, ℕ, List, [], Some, None, Result, Ok, true};
 ghost use Rattle.kfs_model.specs.Tree.{Tree};
-ghost use Rattle.kfs_model.specs.Entry.{Entry};
+ghost use Rattle.kfs_model.specs.Entry.{Entry, Log};
 ghost use Rattle.kfs_model.specs.Check.{Spot, first_fault};
 ghost use Rattle.kfs_model.specs.Allowed.{IsAllowed};
 ghost use Rattle.kfs_model.specs.Run.{Mark, Scene, run, bytes, marks, marked, byte_of, looked_up};
@@ -22,8 +22,7 @@ ghost use Rattle.kfs_model.specs.Access.{Client, AreDistinct};
 ghost use Rattle.kfs_model.specs.Looked.{Leased, seen_in, scene_in, looked_cells, seen_run, AnswerAlike, EndAlike, NetAlike};
 ghost use Rattle.kfs_model.specs.Soundness.{IsSound};
 ghost use Rattle.kfs_model.specs.Fresh.{fresh_tree};
-ghost use Rattle.kfs_model.specs.Lease.{is_name};
-ghost use Rattle.kfs_model.specs.Spelling.{IsName, IsEntry};
+ghost use Rattle.kfs_model.specs.Spelling.{IsName, is_name, IsEntry, IsBytes, SpellingFault, LogAnswer, PlanAnswer};
 ghost use Rattle.kfs_model.specs.SeenAfter.{seen_after, seen_run_from, shown_run};
 ghost use Rattle.kfs_model.specs.CleanStep.{IsClient, IsClean, IsKept};
 
@@ -97,7 +96,7 @@ pub fn overlay_shows_the_change()
     ensures goes_on { (client : Client) (put : Overlay) (before : Sight) (entry : Entry) → over (laid_after client entry (over put before) put) before ≡ seen_after client (over put before) entry }
 {}
 
-/// The test of bytes that a path's walk makes says whether they are a name.
+/// The test of bytes says whether they are a name.
 pub fn name_test_is_exact()
     ensures found { (name : List ℕ) → is_name name ≡ true → IsName name }
     ensures only { (name : List ℕ) → IsName name → is_name name ≡ true }
@@ -113,4 +112,12 @@ pub fn a_step_keeps_order()
 /// A state that opens on a new image is in order, where no two clients have one number and each is in range.
 pub fn new_image_opens_in_order()
     ensures { (clients : List Client) (sizes : TierSizes) → AreDistinct clients → AllByRecursion IsClient clients → IsInOrder (opening clients sizes (fresh_tree {B = ℕ}) empty) }
+{}
+
+/// All bytes have one reading as a log, and one as a plan: an answer of the decoder, and no other.
+pub fn bytes_have_one_reading()
+    ensures log_exists { (bytes : List ℕ) → IsBytes bytes → (answer : Result Log SpellingFault) × LogAnswer bytes answer }
+    ensures log_is_one { (bytes : List ℕ) → IsBytes bytes → (one other : Result Log SpellingFault) → LogAnswer bytes one → LogAnswer bytes other → one ≡ other }
+    ensures plan_exists { (bytes : List ℕ) → IsBytes bytes → (answer : Result Plan SpellingFault) × PlanAnswer bytes answer }
+    ensures plan_is_one { (bytes : List ℕ) → IsBytes bytes → (one other : Result Plan SpellingFault) → PlanAnswer bytes one → PlanAnswer bytes other → one ≡ other }
 {}

@@ -1,6 +1,7 @@
 //! Bytes at a place of the source.
 ghost use Rattle.std.specs.Prelude.{◌≡◌, ◌+◌, ◌<◌, ◌≤◌, length, take, drop, MatchOption, IfSome};
-ghost use Rattle.kfs_entry.specs.Reading.{seen, bytes_read};
+ghost use Rattle.kfs_model.proofs.Reading.{bytes_read};
+ghost use Rattle.kfs_entry.specs.Reading.{seen};
 
 /// The `N` bytes that stand at `at`, and the place after them.
 pub fn chunk<const N: usize>(source: &[u8], at: usize) -> Option<(&[u8; N], usize)>

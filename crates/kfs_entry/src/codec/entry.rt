@@ -1,7 +1,8 @@
 //! An entry: its tag and its fields, as the table lists them.
 ghost use Rattle.std.specs.Prelude.{◌≡◌, ◌≤◌, length, drop, IfSome};
 ghost use Rattle.kfs_entry.specs.Views.{entry_of, IsWithin};
-ghost use Rattle.kfs_entry.specs.Reading.{seen, tagged_read, entry_read};
+ghost use Rattle.kfs_model.proofs.Reading.{tagged_read, entry_read};
+ghost use Rattle.kfs_entry.specs.Reading.{seen};
 
 use crate::codec::{byte, kind, mode, name, number32, number64, payload};
 use crate::entry::{Entry, Span};
@@ -64,7 +65,7 @@ fn read_fields_apart(tag: u8, source: &[u8], at: usize) -> Option<(Entry<Span>, 
 }
 
 // A frame is cleared at each call, and names are long, so a Write is read in a frame without any.
-#[tactic(auto, unfolding(crate::specs::Reading::entry_read))]
+#[tactic(auto, unfolding(kfs_model::proofs::Reading::entry_read))]
 fn read_entry(source: &[u8], at: usize) -> Option<(Entry<Span>, usize)>
     requires { at ≤ length source.now }
     ensures value { seen (entry_of source.now) source.now result ≡ entry_read (drop at source.now) }

@@ -4,7 +4,8 @@ ghost use Rattle.std.specs.Prelude.{◌≡◌, ◌≤◌, ◌++◌, length, drop
 ghost use Rattle.std.specs.Option.{option_map};
 ghost use Rattle.kfs_model.specs.Spelling.{header_bytes};
 ghost use Rattle.kfs_entry.specs.Views.{kind_of, header_of};
-ghost use Rattle.kfs_entry.specs.Reading.{seen, present_read, header_read};
+ghost use Rattle.kfs_model.proofs.Reading.{present_read, header_read};
+ghost use Rattle.kfs_entry.specs.Reading.{seen};
 
 use crate::codec::{byte, number16, number32, number64};
 use crate::header::{Header, Kind};
@@ -32,7 +33,7 @@ fn read_present(source: &[u8], at: usize, kind: Kind) -> Option<(Header, usize)>
 }
 
 /// The field that stands at `at`, and the place after it.
-#[tactic(auto, unfolding(crate::specs::Reading::header_read))]
+#[tactic(auto, unfolding(kfs_model::proofs::Reading::header_read))]
 pub fn read(source: &[u8], at: usize) -> Option<(Option<Header>, usize)>
     requires { at ≤ length source.now }
     ensures value { seen (option_map header_of) source.now result ≡ header_read (drop at source.now) }

@@ -2,7 +2,8 @@
 ghost use Rattle.std.specs.Prelude.{◌≡◌, ◌≤◌, ◌++◌, length, drop, None, Some, IfSome, IfNone, OnOk, MatchOption};
 ghost use Rattle.kfs_model.specs.Spelling.{BeginsWithNo, IsLogHeader, log_header, AreCounts, plan_header};
 ghost use Rattle.kfs_entry.specs.Headers.{log_header_of, counts_of};
-ghost use Rattle.kfs_entry.specs.Reading.{seen, mark_read, count_read, log_header_read, plan_header_read};
+ghost use Rattle.kfs_model.proofs.Reading.{mark_read, count_read, log_header_read, plan_header_read};
+ghost use Rattle.kfs_entry.specs.Reading.{seen};
 
 use crate::codec::{number16, number32};
 use std::alloc::{AllocError, Allocator};
@@ -37,7 +38,7 @@ pub struct PlanCounts {
     pub pieces: u32,
 }
 
-#[tactic(auto, unfolding(crate::specs::Reading::mark_read))]
+#[tactic(auto, unfolding(kfs_model::proofs::Reading::mark_read))]
 fn read_mark(source: &[u8], at: usize, mark: &[u8]) -> Option<usize>
     requires { at ≤ length source.now }
     ensures { MatchOption result (mark_read mark.now (drop at source.now) ≡ None)
@@ -49,7 +50,7 @@ fn read_mark(source: &[u8], at: usize, mark: &[u8]) -> Option<usize>
     Some(at + mark.len())
 }
 
-#[tactic(auto, unfolding(crate::specs::Reading::count_read))]
+#[tactic(auto, unfolding(kfs_model::proofs::Reading::count_read))]
 fn read_count(source: &[u8], at: usize) -> Option<(u16, usize)>
     requires { at ≤ length source.now }
     ensures value { seen (λ n. n) source.now result ≡ count_read (drop at source.now) }
@@ -62,7 +63,7 @@ fn read_count(source: &[u8], at: usize) -> Option<(u16, usize)>
     Some((count, at))
 }
 
-#[tactic(auto, unfolding(crate::specs::Reading::log_header_read))]
+#[tactic(auto, unfolding(kfs_model::proofs::Reading::log_header_read))]
 fn log_counts(source: &[u8]) -> Option<(LogCounts, usize)>
     ensures value { seen log_header_of source.now result ≡ log_header_read (drop 0 source.now) }
     ensures within { IfSome result (λ x. x.1 ≤ length source.now) }
@@ -73,7 +74,7 @@ fn log_counts(source: &[u8]) -> Option<(LogCounts, usize)>
     Some((LogCounts { client, entries }, at))
 }
 
-#[tactic(auto, unfolding(crate::specs::Reading::plan_header_read))]
+#[tactic(auto, unfolding(kfs_model::proofs::Reading::plan_header_read))]
 fn plan_counts(source: &[u8]) -> Option<(PlanCounts, usize)>
     ensures value { seen counts_of source.now result ≡ plan_header_read (drop 0 source.now) }
     ensures within { IfSome result (λ x. x.1 ≤ length source.now) }

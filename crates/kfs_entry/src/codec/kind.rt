@@ -2,14 +2,15 @@
 ghost use Rattle.std.specs.Prelude.{◌≡◌, ◌≤◌, ◌++◌, length, drop, IfSome, OnOk};
 ghost use Rattle.kfs_model.specs.Spelling.{kind_bytes};
 ghost use Rattle.kfs_entry.specs.Views.{kind_of};
-ghost use Rattle.kfs_entry.specs.Reading.{seen, kind_read};
+ghost use Rattle.kfs_model.proofs.Reading.{kind_read};
+ghost use Rattle.kfs_entry.specs.Reading.{seen};
 
 use crate::codec::byte;
 use crate::header::Kind;
 use std::alloc::{AllocError, Allocator};
 
 /// The field that stands at `at`, and the place after it.
-#[tactic(auto, unfolding(crate::specs::Reading::kind_read))]
+#[tactic(auto, unfolding(kfs_model::proofs::Reading::kind_read))]
 pub fn read(source: &[u8], at: usize) -> Option<(Kind, usize)>
     requires { at ≤ length source.now }
     ensures value { seen kind_of source.now result ≡ kind_read (drop at source.now) }

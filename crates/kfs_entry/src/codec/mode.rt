@@ -1,7 +1,8 @@
 //! A mode of at most 0o777.
 ghost use Rattle.std.specs.Prelude.{◌≡◌, ◌≤◌, ◌++◌, length, drop, IfSome, OnOk};
 ghost use Rattle.kfs_model.specs.Spelling.{number16};
-ghost use Rattle.kfs_entry.specs.Reading.{seen, mode_read};
+ghost use Rattle.kfs_model.proofs.Reading.{mode_read};
+ghost use Rattle.kfs_entry.specs.Reading.{seen};
 
 use crate::codec::number16;
 use std::alloc::{AllocError, Allocator};
@@ -9,7 +10,7 @@ use std::alloc::{AllocError, Allocator};
 const GREATEST: u16 = 0o777;
 
 /// The field that stands at `at`, and the place after it.
-#[tactic(auto, unfolding(crate::specs::Reading::mode_read))]
+#[tactic(auto, unfolding(kfs_model::proofs::Reading::mode_read))]
 pub fn read(source: &[u8], at: usize) -> Option<(u16, usize)>
     requires { at ≤ length source.now }
     ensures value { seen (λ n. n) source.now result ≡ mode_read (drop at source.now) }

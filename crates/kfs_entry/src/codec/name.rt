@@ -1,14 +1,15 @@
 //! A name behind a byte of length.
 ghost use Rattle.std.specs.Prelude.{◌≡◌, ◌≤◌, ◌++◌, length, drop, IfSome, OnOk};
 ghost use Rattle.kfs_model.specs.Spelling.{name_bytes};
-ghost use Rattle.kfs_entry.specs.Reading.{seen, name_read};
+ghost use Rattle.kfs_model.proofs.Reading.{name_read};
+ghost use Rattle.kfs_entry.specs.Reading.{seen};
 
 use crate::codec::{byte, bytes};
 use crate::name::Name;
 use std::alloc::{AllocError, Allocator};
 
 /// The field that stands at `at`, and the place after it.
-#[tactic(auto, using(crate::proofs::Names::name_tests), unfolding(crate::specs::Reading::name_read))]
+#[tactic(auto, using(kfs_model::proofs::NameTest::name_tests), unfolding(kfs_model::proofs::Reading::name_read))]
 pub fn read(source: &[u8], at: usize) -> Option<(Name, usize)>
     requires { at ≤ length source.now }
     ensures value { seen (λ n. n) source.now result ≡ name_read (drop at source.now) }

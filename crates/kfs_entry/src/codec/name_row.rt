@@ -2,14 +2,15 @@
 ghost use Rattle.std.specs.Prelude.{◌≡◌, ◌≤◌, ◌++◌, length, drop, IfSome, OnOk};
 ghost use Rattle.kfs_model.specs.Spelling.{name_row_bytes};
 ghost use Rattle.kfs_entry.specs.Views.{name_row_of};
-ghost use Rattle.kfs_entry.specs.Reading.{seen, name_row_read};
+ghost use Rattle.kfs_model.proofs.Reading.{name_row_read};
+ghost use Rattle.kfs_entry.specs.Reading.{seen};
 
 use crate::codec::{name, number32};
 use crate::plan::NameRow;
 use crate::row::Row;
 use std::alloc::{AllocError, Allocator};
 
-#[tactic(auto, unfolding(crate::specs::Reading::name_row_read))]
+#[tactic(auto, unfolding(kfs_model::proofs::Reading::name_row_read))]
 fn read_row(source: &[u8], at: usize) -> Option<(NameRow, usize)>
     requires { at ≤ length source.now }
     ensures value { seen name_row_of source.now result ≡ name_row_read (drop at source.now) }

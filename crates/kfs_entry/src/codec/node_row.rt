@@ -2,14 +2,15 @@
 ghost use Rattle.std.specs.Prelude.{◌≡◌, ◌≤◌, ◌++◌, length, drop, IfSome, OnOk};
 ghost use Rattle.kfs_model.specs.Spelling.{node_row_bytes};
 ghost use Rattle.kfs_entry.specs.Views.{node_row_of};
-ghost use Rattle.kfs_entry.specs.Reading.{seen, node_row_read};
+ghost use Rattle.kfs_model.proofs.Reading.{node_row_read};
+ghost use Rattle.kfs_entry.specs.Reading.{seen};
 
 use crate::codec::{header, number32};
 use crate::plan::NodeRow;
 use crate::row::Row;
 use std::alloc::{AllocError, Allocator};
 
-#[tactic(auto, unfolding(crate::specs::Reading::node_row_read))]
+#[tactic(auto, unfolding(kfs_model::proofs::Reading::node_row_read))]
 fn read_row(source: &[u8], at: usize) -> Option<(NodeRow, usize)>
     requires { at ≤ length source.now }
     ensures value { seen node_row_of source.now result ≡ node_row_read (drop at source.now) }

@@ -1,13 +1,14 @@
 //! A number of 4 bytes, big-endian.
 ghost use Rattle.std.specs.Prelude.{◌≡◌, ◌≤◌, ◌++◌, length, drop, IfSome, OnOk};
 ghost use Rattle.kfs_model.specs.Spelling.{number32};
-ghost use Rattle.kfs_entry.specs.Reading.{seen, number32_read};
+ghost use Rattle.kfs_model.proofs.Reading.{number32_read};
+ghost use Rattle.kfs_entry.specs.Reading.{seen};
 
 use crate::codec::bytes::chunk;
 use std::alloc::{AllocError, Allocator};
 
 /// The field that stands at `at`, and the place after it.
-#[tactic(auto, unfolding(crate::specs::Reading::number32_read))]
+#[tactic(auto, unfolding(kfs_model::proofs::Reading::number32_read))]
 pub fn read(source: &[u8], at: usize) -> Option<(u32, usize)>
     requires { at ≤ length source.now }
     ensures value { seen (λ n. n) source.now result ≡ number32_read (drop at source.now) }

@@ -2,7 +2,8 @@
 ghost use Rattle.std.specs.Prelude.{◌≡◌, ◌≤◌, ◌++◌, length, drop, IfSome, OnOk};
 ghost use Rattle.kfs_model.specs.Spelling.{IsPayload, payload_bytes};
 ghost use Rattle.kfs_entry.specs.Views.{span_bytes};
-ghost use Rattle.kfs_entry.specs.Reading.{seen, payload_read};
+ghost use Rattle.kfs_model.proofs.Reading.{payload_read};
+ghost use Rattle.kfs_entry.specs.Reading.{seen};
 
 use crate::codec::{bytes, number32};
 use crate::entry::Span;
@@ -11,7 +12,7 @@ use std::alloc::{AllocError, Allocator};
 const LIMIT: u32 = 65_536;
 
 /// The field that stands at `at`, and the place after it.
-#[tactic(auto, unfolding(crate::specs::Reading::payload_read))]
+#[tactic(auto, unfolding(kfs_model::proofs::Reading::payload_read))]
 pub fn read(source: &[u8], at: usize) -> Option<(Span, usize)>
     requires { at ≤ length source.now }
     ensures value { seen (span_bytes source.now) source.now result ≡ payload_read (drop at source.now) }

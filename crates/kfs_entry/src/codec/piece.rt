@@ -2,14 +2,15 @@
 ghost use Rattle.std.specs.Prelude.{◌≡◌, ◌≤◌, ◌++◌, length, drop, IfSome, OnOk};
 ghost use Rattle.kfs_model.specs.Spelling.{source_bytes, piece_bytes};
 ghost use Rattle.kfs_entry.specs.Views.{source_of, piece_of};
-ghost use Rattle.kfs_entry.specs.Reading.{seen, source_read, piece_read};
+ghost use Rattle.kfs_model.proofs.Reading.{source_read, piece_read};
+ghost use Rattle.kfs_entry.specs.Reading.{seen};
 
 use crate::codec::{byte, number16, number32, number64};
 use crate::plan::{Piece, Source};
 use crate::row::Row;
 use std::alloc::{AllocError, Allocator};
 
-#[tactic(auto, unfolding(crate::specs::Reading::source_read))]
+#[tactic(auto, unfolding(kfs_model::proofs::Reading::source_read))]
 fn read_source(source: &[u8], at: usize) -> Option<(Source, usize)>
     requires { at ≤ length source.now }
     ensures value { seen source_of source.now result ≡ source_read (drop at source.now) }
@@ -44,7 +45,7 @@ fn write_source<A: Allocator>(
     Ok(())
 }
 
-#[tactic(auto, unfolding(crate::specs::Reading::piece_read))]
+#[tactic(auto, unfolding(kfs_model::proofs::Reading::piece_read))]
 fn read_piece(source: &[u8], at: usize) -> Option<(Piece, usize)>
     requires { at ≤ length source.now }
     ensures value { seen piece_of source.now result ≡ piece_read (drop at source.now) }

@@ -4,7 +4,8 @@ use Rattle.kfs_model.specs.Spelling.{name_row_bytes, IsNameRow, node_row_bytes, 
 use Rattle.kfs_entry.specs.Views.{name_row_of, node_row_of, piece_of}
 use Rattle.kfs_entry.specs.Headers.{counts_of}
 use Rattle.kfs_entry.proofs.DecodedLog.{no_rest, some_rest}
-use Rattle.kfs_entry.proofs.DecodedPlan.{part_stands, part_is_missing, plan_is_spelled}
+use Rattle.kfs_model.proofs.AnswersExist.{plan_is_spelled}
+use Rattle.kfs_entry.proofs.DecodedPlan.{part_stands, part_is_missing}
 use Rattle.kfs_entry.proofs.decoding.plan_in.Goals as goal
 
 pub returns-in_err-names : goal.returns-in_err-names

@@ -1,17 +1,19 @@
 -- The row that the view has, and the verdict at each place where the judgement ends.
-use Rattle.std.proofs.Common.{Some, map, subst, sym, ap, ◌∙◌, arith, inl, inr}
+use Rattle.std.proofs.Common.{Some, map, refl, subst, sym, ap, ◌∙◌, arith}
 use Rattle.std.specs.Option.{option_map, is_some}
-use Rattle.kfs_entry.proofs.Fields.{IsBytes, some_is}
+use Rattle.kfs_model.specs.Spelling.{IsBytes}
+use Rattle.kfs_model.proofs.Fields.{some_is}
 use Rattle.kfs_model.specs.CleanStep.{IsClient}
 use Rattle.kfs_model.specs.Lease.{row_of}
 use Rattle.kfs_model.specs.Looked.{looked_cells}
 use Rattle.kfs_entry.specs.Answers.{log_of}
 use Rattle.kfs_entry.specs.Views.{entry_of}
+use Rattle.kfs_judge.specs.declared.plan.Fault.TheVariants as faults
 use Rattle.kfs_judge.specs.declared.plan.Spelled.TheVariants as readings
-use Rattle.kfs_judge.specs.Judging.{submission_with, AreSpelled, IsVerdict, IsReading}
+use Rattle.kfs_judge.specs.Judging.{submission_with, AreSpelled, IsEarly, IsVerdict, IsReading}
 use Rattle.kfs_judge.specs.Reads.{Agrees, AreAmong}
 use Rattle.kfs_judge.specs.View.{clients_of, seen_of}
-use Rattle.kfs_judge.proofs.Verdicts.{numbered, unknown_client, walked_verdict, nothing_read}
+use Rattle.kfs_judge.proofs.Verdicts.{numbered, unknown_client, walked_verdict, nothing_read, unread_looked, settled_looked}
 use Rattle.kfs_judge.proofs.plan.find.Goals as goal
 
 pub returns-in_default-clause-client : goal.returns-in_default-clause-client
@@ -56,13 +58,15 @@ pub returns-in_default-clause-view_agrees : goal.returns-in_default-clause-view_
 returns-in_default-clause-view_agrees g c = nothing_read c.args.view.now c.args.number c.unread.result.reads.entries c.unread.ensures.reads
 
 pub returns-in_default-clause-among : goal.returns-in_default-clause-among
-returns-in_default-clause-among g c = inl c.unread.ensures.reads
+returns-in_default-clause-among g c = unread_looked c.args.view.now (submission_with c.args.number c.args.log.now c.args.plan.now) faults.UnknownClient c.unread.result.outcome c.unread.result.reads.entries refl c.unread.ensures.outcome c.unread.ensures.reads
 
 pub returns-in-No-clause-view_agrees : goal.returns-in-No-clause-view_agrees
 returns-in-No-clause-view_agrees g c = nothing_read c.args.view.now c.args.number c.unread-in-No.result.reads.entries c.unread-in-No.ensures.reads
 
 pub returns-in-No-clause-among : goal.returns-in-No-clause-among
-returns-in-No-clause-among g c = inl c.unread-in-No.ensures.reads
+returns-in-No-clause-among g c =
+    let early = subst (λ r. IsEarly {A = g.row.A.Denot} r) c.in-No.is c.in_ok-fault.ensures.early in
+    unread_looked c.args.view.now (submission_with c.args.number c.args.log.now c.args.plan.now) c.in-No.fault c.unread-in-No.result.outcome c.unread-in-No.result.reads.entries early c.unread-in-No.ensures.outcome c.unread-in-No.ensures.reads
 
 pub returns-in_ok-finding-in-Yes-clause-view_agrees : goal.returns-in_ok-finding-in-Yes-clause-view_agrees
 returns-in_ok-finding-in-Yes-clause-view_agrees g c =
@@ -80,12 +84,13 @@ returns-in_ok-finding-in-Yes-clause-among g c =
     let read = subst (λ r. IsReading {A = g.row.A.Denot} (submission_with c.number.result c.args.log.now c.args.plan.now) r) c.in-Yes.is c.in_ok-fault.ensures.read in
     let own = read.owner ∙ same in
     let entries = map (entry_of c.args.log.now) c.in-Yes.log.entries in
-    inr (
-      c.in-Some.client.now,
-      log_of c.args.log.now c.in-Yes.log,
-      row,
-      read.log_read,
-      subst (λ n. AreAmong c.in_ok-finding-in-Yes.finding.reads.entries (looked_cells c.in-Some.client.now (seen_of view n) entries)) own
+    settled_looked view (submission_with c.args.number c.args.log.now c.args.plan.now) c.in-Yes.log c.in-Yes.plan c.in_ok-walk-in-Yes.walk.outcome c.in_ok-finding-in-Yes.finding.outcome c.in_ok-finding-in-Yes.finding.reads.entries c.in_ok-finding-in-Yes.ensures.outcome (record {
+      client = c.in-Some.client.now;
+      row = row;
+      log = log_of c.args.log.now c.in-Yes.log;
+      spelled = read.log_read;
+      owner = own;
+      among = subst (λ n. AreAmong c.in_ok-finding-in-Yes.finding.reads.entries (looked_cells c.in-Some.client.now (seen_of view n) entries)) own
           (subst (λ r. AreAmong r.entries (looked_cells c.in-Some.client.now (seen_of view c.in-Yes.log.client) entries)) (sym c.in_ok-finding-in-Yes.ensures.reads)
-          (c.in_ok-walk-in-Yes.ensures.among c.in-Some.client.now (ap (row_of (clients_of view)) own ∙ row) c.args.log.now)),
-    )
+          (c.in_ok-walk-in-Yes.ensures.among c.in-Some.client.now (ap (row_of (clients_of view)) own ∙ row) c.args.log.now));
+    })

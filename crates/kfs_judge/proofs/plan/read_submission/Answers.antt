@@ -4,7 +4,7 @@ use Rattle.std.specs.Prelude.{All}
 use Rattle.std.proofs.lemmas.Bool.{both_ways}
 use Rattle.kfs_entry.specs.Answers.{log_of}
 use Rattle.kfs_entry.specs.declared.fault.SpellFault.TheVariants as spelling
-use Rattle.kfs_entry.proofs.Fields.{IsBytes}
+use Rattle.kfs_model.specs.Spelling.{IsBytes}
 use Rattle.kfs_judge.specs.JudgedEntries.{IsJudged}
 use Rattle.kfs_judge.specs.Judging.{submission_with, IsVerdict}
 use Rattle.kfs_judge.specs.declared.plan.Outcome.TheVariants as outcomes

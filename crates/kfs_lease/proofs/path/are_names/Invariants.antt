@@ -1,6 +1,6 @@
 use Rattle.std.proofs.Common.{◌≡◌}
 use Rattle.std.specs.List.{list_all}
-use Rattle.kfs_model.specs.Lease.{is_name}
+use Rattle.kfs_model.specs.Spelling.{is_name}
 use Rattle.kfs_lease.specs.Paths.{parts_left}
 use Rattle.kfs_lease.proofs.path.are_names.Given as goal
 

@@ -1,7 +1,7 @@
 use Rattle.std.proofs.Common.{◌≤◌, length, arith}
 use Rattle.kfs_model.specs.Spelling.{IsLogHeader, log_header}
 use Rattle.kfs_entry.specs.Headers.{log_header_of}
-use Rattle.kfs_entry.proofs.HeaderLaws.{log_header_field}
+use Rattle.kfs_model.proofs.HeaderLaws.{log_header_field}
 use Rattle.kfs_entry.proofs.Found.{is_found, is_none, IfNone-weaker, begins_with_no}
 use Rattle.kfs_entry.proofs.codec.headers.read_log.Goals as goal
 

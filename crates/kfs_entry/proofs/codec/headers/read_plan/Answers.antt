@@ -1,7 +1,7 @@
 use Rattle.std.proofs.Common.{◌≤◌, length, arith}
 use Rattle.kfs_model.specs.Spelling.{AreCounts, plan_header}
 use Rattle.kfs_entry.specs.Headers.{counts_of}
-use Rattle.kfs_entry.proofs.HeaderLaws.{plan_header_field}
+use Rattle.kfs_model.proofs.HeaderLaws.{plan_header_field}
 use Rattle.kfs_entry.proofs.Found.{is_found, is_none, IfNone-weaker, begins_with_no}
 use Rattle.kfs_entry.proofs.codec.headers.read_plan.Goals as goal
 

@@ -3,12 +3,11 @@ use Rattle.std.proofs.Common.{◌≡◌, ◌≢◌, ℕ, List, [], ◌∷◌, �
 use Rattle.std.specs.List.{flat_map}
 use Rattle.std.proofs.lemmas.List.{append-nil}
 use Rattle.kfs_model.specs.Entry.{Entry, Log}
-use Rattle.kfs_model.specs.Spelling.{BeginsWithNo, LogHeader, IsLogHeader, log_header, IsEntry, entry_bytes, header_of, IsLog, log_bytes, LogAnswer, SpellingFault, BadHeader, BadEntry, Trailing, BadRow}
-use Rattle.kfs_entry.specs.Reading.{log_header_read, entry_read}
-use Rattle.kfs_entry.proofs.Fields.{IsBytes}
-use Rattle.kfs_entry.proofs.EntryLaws.{entry_field}
-use Rattle.kfs_entry.proofs.HeaderLaws.{log_header_field}
-use Rattle.kfs_entry.proofs.RowsRead.{IsBytes-behind, with_option, rows_read, none_read, rows_stand, stop_is_read}
+use Rattle.kfs_model.specs.Spelling.{IsBytes, BeginsWithNo, LogHeader, IsLogHeader, log_header, IsEntry, entry_bytes, header_of, IsLog, log_bytes, LogAnswer, SpellingFault, BadHeader, BadEntry, Trailing, BadRow}
+use Rattle.kfs_model.proofs.Reading.{log_header_read, entry_read}
+use Rattle.kfs_model.proofs.EntryLaws.{entry_field}
+use Rattle.kfs_model.proofs.HeaderLaws.{log_header_field}
+use Rattle.kfs_model.proofs.RowsRead.{IsBytes-behind, with_option, rows_read, none_read, rows_stand, stop_is_read}
 
 abbrev log_rest : ℕ → List Entry → List ℕ → Result Log SpellingFault
 log_rest client entries [] = Ok (record { client = client; entries = entries })

@@ -1,17 +1,16 @@
 -- All bytes have an answer as a log, and one as a plan.
-use Rattle.std.proofs.Common.{◌≡◌, ◌≢◌, ◌⊎◌, ℕ, zero, suc, ◌<◌, List, [], ◌∷◌, ◌++◌, Option, Some, None, Result, Ok, Err, refl, sym, ap, subst, ◌∙◌, append_assoc, arith, inl, inr}
+use Rattle.std.proofs.Common.{◌≡◌, ◌≢◌, ◌⊎◌, ℕ, zero, suc, ◌<◌, List, [], ◌∷◌, ◌++◌, length, Option, Some, None, Result, Ok, Err, refl, sym, ap, subst, ◌∙◌, append_assoc, arith, inl, inr}
 use Rattle.std.specs.List.{flat_map}
 use Rattle.std.proofs.lemmas.List.{append-nil}
 use Rattle.kfs_model.specs.Entry.{Log}
 use Rattle.kfs_model.specs.PlanRow.{Plan}
-use Rattle.kfs_model.specs.Spelling.{BeginsWithNo, Stand, Stop, LogHeader, IsLogHeader, log_header, header_of, IsEntry, entry_bytes, IsLog, log_bytes, LogAnswer, Counts, AreCounts, plan_header, IsNameRow, name_row_bytes, IsNodeRow, node_row_bytes, IsPiece, piece_bytes, PlanAnswer, SpellingFault, BadHeader, BadEntry, Trailing, BadRow}
-use Rattle.kfs_entry.specs.Reading.{log_header_read, plan_header_read}
-use Rattle.kfs_entry.proofs.Fields.{IsBytes, IsField}
-use Rattle.kfs_entry.proofs.EntryLaws.{entry_field}
-use Rattle.kfs_entry.proofs.HeaderLaws.{log_header_field, plan_header_field}
-use Rattle.kfs_entry.proofs.PlanLaws.{name_row_field, node_row_field, piece_field}
-use Rattle.kfs_entry.proofs.RowsRead.{IsBytes-behind}
-use Rattle.kfs_entry.proofs.DecodedPlan.{plan_is_spelled}
+use Rattle.kfs_model.specs.Spelling.{IsBytes, BeginsWithNo, Stand, Stop, LogHeader, IsLogHeader, log_header, header_of, IsEntry, entry_bytes, IsLog, log_bytes, LogAnswer, Counts, AreCounts, plan_header, counts_of, IsPlan, plan_bytes, IsNameRow, name_row_bytes, IsNodeRow, node_row_bytes, IsPiece, piece_bytes, PlanAnswer, SpellingFault, BadHeader, BadEntry, Trailing, BadRow}
+use Rattle.kfs_model.proofs.Reading.{log_header_read, plan_header_read}
+use Rattle.kfs_model.proofs.Fields.{IsField}
+use Rattle.kfs_model.proofs.EntryLaws.{entry_field}
+use Rattle.kfs_model.proofs.HeaderLaws.{log_header_field, plan_header_field}
+use Rattle.kfs_model.proofs.PlanLaws.{name_row_field, node_row_field, piece_field}
+use Rattle.kfs_model.proofs.RowsRead.{IsBytes-behind}
 
 abbrev pub HasLogAnswer : List ℕ → Type 0
 HasLogAnswer bytes = (answer : Result Log SpellingFault) × LogAnswer bytes answer
@@ -57,7 +56,8 @@ module _ {V : Type 0} {F : V → Type 0} {s : V → List ℕ} {r : List ℕ → 
 
 -- ---- logs
 
-spelled_log : (bytes rest more : List ℕ) (h : LogHeader) → IsLogHeader h → bytes ≡ log_header h ++ rest → (stand : Stand IsEntry entry_bytes h.count rest more)
+-- a header and entries that stand behind it are a log
+pub spelled_log : (bytes rest more : List ℕ) (h : LogHeader) → IsLogHeader h → bytes ≡ log_header h ++ rest → (stand : Stand IsEntry entry_bytes h.count rest more)
     → let l : Log = record { client = h.client; entries = stand.rows } in IsLog l × (bytes ≡ log_bytes l ++ more)
 spelled_log bytes rest more h fits parts stand =
     let l : Log = record { client = h.client; entries = stand.rows } in
@@ -90,6 +90,24 @@ log_has_answer bytes are = by_header (log_header_read bytes) refl
         ]
 
 -- ---- plans
+
+-- three parts that stand are a plan
+pub plan_is_spelled : (source a b d rest : List ℕ) (c : Counts) → AreCounts c → source ≡ plan_header c ++ a
+    → (names : Stand IsNameRow name_row_bytes c.names a b) (nodes : Stand IsNodeRow node_row_bytes c.nodes b d) (pieces : Stand IsPiece piece_bytes c.pieces d rest)
+    → let p : Plan = record { names = names.rows; nodes = nodes.rows; pieces = pieces.rows } in IsPlan p × (source ≡ plan_bytes p ++ rest)
+plan_is_spelled source a b d rest c fits front names nodes pieces =
+    let p : Plan = record { names = names.rows; nodes = nodes.rows; pieces = pieces.rows } in
+    let same : counts_of p ≡ c = ap (λ (n : ℕ × ℕ × ℕ). record { names = n.0; nodes = n.1; pieces = n.2 }) (let e : (length names.rows, length nodes.rows, length pieces.rows) ≡ (c.names, c.nodes, c.pieces) = rw (names.number, nodes.number, pieces.number) refl in e) in
+    let n = flat_map name_row_bytes names.rows in
+    let m = flat_map node_row_bytes nodes.rows in
+    let q = flat_map piece_bytes pieces.rows in
+    let whole : source ≡ plan_header c ++ (n ++ (m ++ (q ++ rest))) =
+    front ∙ ap (λ (l : List ℕ). plan_header c ++ l) (names.spelled ∙ ap (λ (l : List ℕ). n ++ l) (nodes.spelled ∙ ap (λ (l : List ℕ). m ++ l) pieces.spelled)) in
+    let joined : plan_header c ++ n ++ m ++ q ++ rest ≡ plan_header c ++ (n ++ (m ++ (q ++ rest))) =
+    append_assoc (plan_header c ++ n ++ m) q rest ∙ append_assoc (plan_header c ++ n) m (q ++ rest) ∙ append_assoc (plan_header c) n (m ++ (q ++ rest)) in (
+      (subst AreCounts (sym same) fits, names.fit, nodes.fit, pieces.fit),
+      whole ∙ sym joined ∙ ap (λ (h : Counts). plan_header h ++ n ++ m ++ q ++ rest) (sym same),
+    )
 
 plan_behind : (bytes a b d rest : List ℕ) (c : Counts) → AreCounts c → bytes ≡ plan_header c ++ a
     → (names : Stand IsNameRow name_row_bytes c.names a b) (nodes : Stand IsNodeRow node_row_bytes c.nodes b d) (pieces : Stand IsPiece piece_bytes c.pieces d rest) → HasPlanAnswer bytes

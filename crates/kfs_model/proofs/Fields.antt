@@ -1,16 +1,14 @@
 -- The laws of a field: what is read stands there, and what is spelled is read.
-use Rattle.std.proofs.Common.{◌≡◌, ◌⊎◌, ℕ, suc, ◌+◌, ◌^◌, ◌<◌, ◌≤◌, Bool, true, false, cond, eqb, ltb, leb, List, [], ◌∷◌, ◌++◌, length, get_or, take, drop, Option, Some, None, refl, sym, ap, subst, ◌∙◌, append_assoc, arith, inl, inr}
+use Rattle.std.proofs.Common.{◌≡◌, ◌⊎◌, ℕ, suc, ◌+◌, ◌^◌, ◌<◌, ◌≤◌, Bool, true, false, cond, eqb, ltb, leb, List, [], ◌∷◌, ◌++◌, length, take, drop, Option, Some, None, refl, sym, ap, subst, ◌∙◌, append_assoc, arith, inl, inr}
 use Rattle.std.specs.Int.{Width, w16, w32, w64, byte_len, from_be_bytes, to_be_bytes}
 use Rattle.std.proofs.lemmas.Bool.{cases_lt, ltb-false, leb-true, le-leb, le-ltb, eqb-true}
 use Rattle.std.proofs.lemmas.List.{take_at, drop_at, take-append-drop, length-append, length-take, get_or-drop, get_or-take, get_or_past}
 use Rattle.std.proofs.lemmas.Nat.{be_bytes_2, be_bytes_4, be_bytes_8, from_be_bytes-to_be_bytes_2, from_be_bytes-to_be_bytes_4, from_be_bytes-to_be_bytes_8}
 use Rattle.kfs_model.specs.Header.{Kind, File, Directory}
-use Rattle.kfs_model.specs.Spelling.{byte, number16, number32, number64, IsName, name_bytes, IsPayload, payload_bytes, kind_bytes, IsMode}
-use Rattle.kfs_entry.specs.Reading.{◌>>=◌, ◌&◌, made, byte_read, number_read, number16_read, number32_read, number64_read, bytes_read, is_name, name_read, payload_read, kind_read, mode_read}
-use Rattle.kfs_entry.proofs.Names.{is_name_true, is_name_sound}
-
-abbrev pub IsBytes : List ℕ → Type 0
-IsBytes bytes = (i : ℕ) → get_or bytes i 0 < 256
+use Rattle.kfs_model.specs.Steps.{◌>>=◌}
+use Rattle.kfs_model.specs.Spelling.{IsBytes, is_name, byte, number16, number32, number64, IsName, name_bytes, IsPayload, payload_bytes, kind_bytes, IsMode}
+use Rattle.kfs_model.proofs.Reading.{◌&◌, made, byte_read, number_read, number16_read, number32_read, number64_read, bytes_read, name_read, payload_read, kind_read, mode_read}
+use Rattle.kfs_model.proofs.NameTest.{is_name_true, is_name_sound}
 
 pub IsBytes-drop : (n : ℕ) (bytes : List ℕ) → IsBytes bytes → IsBytes (drop n bytes)
 IsBytes-drop n bytes h i = rw get_or-drop (h (n + i))

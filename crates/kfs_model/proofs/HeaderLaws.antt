@@ -6,9 +6,9 @@ use Rattle.std.proofs.lemmas.Bool.{leb-true, le-leb}
 use Rattle.std.proofs.lemmas.Bool.Decides.{Decides-eqb}
 use Rattle.std.proofs.lemmas.Slice.Eq.{starts_is}
 use Rattle.std.proofs.lemmas.List.{drop_at}
-use Rattle.kfs_model.specs.Spelling.{IsLogHeader, log_header, AreCounts, plan_header, number16}
-use Rattle.kfs_entry.specs.Reading.{number16_read, mark_read, count_read, log_header_read, plan_header_read}
-use Rattle.kfs_entry.proofs.Fields.{IsBytes, IsBytes-drop, some_from, some_if, some_is, Stands, IsField, both, number16_field, number32_field, record_field}
+use Rattle.kfs_model.specs.Spelling.{IsBytes, IsLogHeader, log_header, AreCounts, plan_header, number16}
+use Rattle.kfs_model.proofs.Reading.{number16_read, mark_read, count_read, log_header_read, plan_header_read}
+use Rattle.kfs_model.proofs.Fields.{IsBytes-drop, some_from, some_if, some_is, Stands, IsField, both, number16_field, number32_field, record_field}
 
 abbrev is_count : ℕ → Type 0
 is_count n = n ≤ 4096

@@ -1,9 +1,9 @@
 -- The laws of an entry: what is read is an entry that stands there, and what is spelled is read.
 use Rattle.std.proofs.Common.{◌≡◌, ℕ, List, ◌∷◌, ◌++◌, Some, None, refl, inl, inr}
 use Rattle.kfs_model.specs.Entry.{Entry, Create, Write, Truncate, Link, Unlink, Rename, Chmod}
-use Rattle.kfs_model.specs.Spelling.{entry_bytes, IsEntry}
-use Rattle.kfs_entry.specs.Reading.{create_of, write_of, truncate_of, link_of, unlink_of, rename_of, chmod_of, byte_read, create_read, write_read, truncate_read, link_read, unlink_read, rename_read, chmod_read, tagged_read, entry_read}
-use Rattle.kfs_entry.proofs.Fields.{IsBytes, some_from, Stands, IsField, both, made_again, byte_field, byte_is, number32_field, number64_field, mode_field, name_field, payload_field, kind_field, tagged_takes}
+use Rattle.kfs_model.specs.Spelling.{IsBytes, entry_bytes, IsEntry}
+use Rattle.kfs_model.proofs.Reading.{create_of, write_of, truncate_of, link_of, unlink_of, rename_of, chmod_of, byte_read, create_read, write_read, truncate_read, link_read, unlink_read, rename_read, chmod_read, tagged_read, entry_read}
+use Rattle.kfs_model.proofs.Fields.{some_from, Stands, IsField, both, made_again, byte_field, byte_is, number32_field, number64_field, mode_field, name_field, payload_field, kind_field, tagged_takes}
 
 chosen_takes : (bytes after : List ℕ) (tag : ℕ) (x : Entry × List ℕ) → bytes ≡ tag ∷ after → IsBytes after → tagged_read tag after ≡ Some x → Stands IsEntry entry_bytes bytes x.0 x.1
 chosen_takes bytes after tag x front fits e =

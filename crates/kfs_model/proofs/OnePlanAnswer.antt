@@ -3,12 +3,11 @@ use Rattle.std.proofs.Common.{◌≡◌, ◌≢◌, ℕ, zero, suc, List, [], �
 use Rattle.std.specs.List.{flat_map}
 use Rattle.std.proofs.lemmas.List.{append-nil}
 use Rattle.kfs_model.specs.PlanRow.{NameRow, NodeRow, Piece, Plan}
-use Rattle.kfs_model.specs.Spelling.{BeginsWithNo, Stand, Counts, AreCounts, plan_header, counts_of, name_row_bytes, IsNameRow, node_row_bytes, IsNodeRow, piece_bytes, IsPiece, IsPlan, plan_bytes, PartStops, PlanAnswer, SpellingFault, BadHeader, BadEntry, Trailing, BadRow}
-use Rattle.kfs_entry.specs.Reading.{plan_header_read, name_row_read, node_row_read, piece_read}
-use Rattle.kfs_entry.proofs.Fields.{IsBytes}
-use Rattle.kfs_entry.proofs.PlanLaws.{name_row_field, node_row_field, piece_field}
-use Rattle.kfs_entry.proofs.HeaderLaws.{plan_header_field}
-use Rattle.kfs_entry.proofs.RowsRead.{IsBytes-behind, with_option, rows_read, none_read, stand_is_read, stop_is_read}
+use Rattle.kfs_model.specs.Spelling.{IsBytes, BeginsWithNo, Stand, Counts, AreCounts, plan_header, counts_of, name_row_bytes, IsNameRow, node_row_bytes, IsNodeRow, piece_bytes, IsPiece, IsPlan, plan_bytes, PartStops, PlanAnswer, SpellingFault, BadHeader, BadEntry, Trailing, BadRow}
+use Rattle.kfs_model.proofs.Reading.{plan_header_read, name_row_read, node_row_read, piece_read}
+use Rattle.kfs_model.proofs.PlanLaws.{name_row_field, node_row_field, piece_field}
+use Rattle.kfs_model.proofs.HeaderLaws.{plan_header_field}
+use Rattle.kfs_model.proofs.RowsRead.{IsBytes-behind, with_option, rows_read, none_read, stand_is_read, stop_is_read}
 
 -- the rows of a part and what is read behind them, or how many came before the one that is missing
 abbrev part_then : {V : Type 0} → ℕ → Result (List V × List ℕ) ℕ → (List V → List ℕ → Result Plan SpellingFault) → Result Plan SpellingFault

@@ -2,11 +2,8 @@
 use Rattle.std.proofs.Common.{◌≡◌, ℕ, zero, suc, ◌+◌, ◌-◌, ◌<◌, List, [], ◌∷◌, ◌++◌, length, Option, Some, None, Result, Ok, Err, refl, ap, subst, ◌∙◌, append_assoc, arith}
 use Rattle.std.specs.List.{flat_map, AllByRecursion}
 use Rattle.std.proofs.lemmas.List.{get_or-append-add}
-use Rattle.kfs_model.specs.Spelling.{BeginsWithNo, Stand, Stop, SpellingFault, BadHeader, BadEntry, Trailing, BadRow}
-use Rattle.kfs_entry.specs.declared.fault.SpellFault.{SpellFault}
-use Rattle.kfs_entry.specs.declared.fault.SpellFault.TheVariants as faults
-use Rattle.kfs_entry.specs.Answers.{Refused, Answered}
-use Rattle.kfs_entry.proofs.Fields.{IsBytes, IsField}
+use Rattle.kfs_model.specs.Spelling.{IsBytes, BeginsWithNo, Stand, Stop}
+use Rattle.kfs_model.proofs.Fields.{IsField}
 
 pub IsBytes-behind : (front rest : List ℕ) → IsBytes (front ++ rest) → IsBytes rest
 IsBytes-behind front rest fits i = rw (← get_or-append-add front rest i 0) (fits (length front + i))
@@ -66,16 +63,3 @@ module _ {V : Type 0} (F : V → Type 0) (s : V → List ℕ) (r : List ℕ → 
       let number : length before.rows ≡ k = before.number in
       let n : count ≡ length before.rows + suc (count - suc k) = omega arith in
       rw (n, before.spelled) (rows_stop before.rows (count - suc k) stop.rest before.fit behind stop.none ∙ ap Err before.number)
-
--- ---- the answer of the code
-
-Refused-weaker : {M : Type 0} (P Q : Result M SpellingFault → Type 0) → ((a : Result M SpellingFault) → P a → Q a) → (fault : SpellFault) → Refused P fault → Refused Q fault
-Refused-weaker P Q f faults.BadHeader h = f (Err BadHeader) h
-Refused-weaker P Q f (faults.BadEntry k) h = f (Err (BadEntry k)) h
-Refused-weaker P Q f faults.Trailing h = f (Err Trailing) h
-Refused-weaker P Q f (faults.BadRow part k) h = f (Err (BadRow part k)) h
-Refused-weaker P Q f faults.OutOfMemory h = tt
-
-pub Answered-weaker : {V M : Type 0} (view : V → M) (P Q : Result M SpellingFault → Type 0) → ((a : Result M SpellingFault) → P a → Q a) → (result : Result V SpellFault) → Answered view P result → Answered view Q result
-Answered-weaker view P Q f (Ok v) h = f (Ok (view v)) h
-Answered-weaker view P Q f (Err fault) h = Refused-weaker P Q f fault h

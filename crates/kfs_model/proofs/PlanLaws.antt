@@ -2,9 +2,9 @@
 use Rattle.std.proofs.Common.{◌≡◌, ℕ, ◌^◌, ◌<◌, cond, eqb, List, ◌∷◌, ◌++◌, Option, Some, None, refl, ap, subst, ◌∙◌, inl, inr}
 use Rattle.kfs_model.specs.Header.{Kind, File, Directory, Header}
 use Rattle.kfs_model.specs.PlanRow.{Source, Zero, Payload}
-use Rattle.kfs_model.specs.Spelling.{name_row_bytes, IsNameRow, header_bytes, IsHeader, node_row_bytes, IsNodeRow, source_bytes, IsSource, piece_bytes, IsPiece}
-use Rattle.kfs_entry.specs.Reading.{◌&◌, made, byte_read, number16_read, number32_read, name_row_read, present_read, header_read, node_row_read, source_read, piece_read}
-use Rattle.kfs_entry.proofs.Fields.{IsBytes, some_from, some_is, Stands, IsField, both, made_again, byte_field, byte_is, number16_field, number32_field, number64_field, name_field, tagged_takes, record_field}
+use Rattle.kfs_model.specs.Spelling.{IsBytes, name_row_bytes, IsNameRow, header_bytes, IsHeader, node_row_bytes, IsNodeRow, source_bytes, IsSource, piece_bytes, IsPiece}
+use Rattle.kfs_model.proofs.Reading.{◌&◌, made, byte_read, number16_read, number32_read, name_row_read, present_read, header_read, node_row_read, source_read, piece_read}
+use Rattle.kfs_model.proofs.Fields.{some_from, some_is, Stands, IsField, both, made_again, byte_field, byte_is, number16_field, number32_field, number64_field, name_field, tagged_takes, record_field}
 
 pub name_row_field : IsField IsNameRow name_row_bytes name_row_read
 unfolding name_row_read
