@@ -9,7 +9,7 @@ use Rattle.std.proofs.lemmas.Bool.{or_cases, or_left, or_right, not-true}
 use Rattle.kfs_model.specs.Table.{numbers, pairs, get, retain, get-insert, get-retain}
 use Rattle.kfs_model.specs.Tree.{Tree, headers}
 use Rattle.kfs_model.specs.Run.{Mark}
-use Rattle.kfs_model.specs.Placement.{Place, Placement, IsBlock, IsPlacement, in_first_tier, is_free, below, numbers_from, written_blocks}
+use Rattle.kfs_model.specs.Placement.{Place, Placement, IsBlock, IsPlacement, tier_size, in_first_tier, is_free, below, numbers_from, written_blocks}
 use Rattle.kfs_model.specs.Judgement.{State, free_places}
 use Rattle.kfs_model.specs.Machine.{are_distinct, are_chosen, stays, placed, placement_after}
 use Rattle.kfs_model.proofs.CleanIsAllowed.{found, left, right}
@@ -162,10 +162,10 @@ module _ (s : State) (after : Tree ℕ) (marked_after : Tree Mark) (places : Lis
       (found_placed blocks places base other place also))
       (found_placed blocks places base block place is)
 
-  in_tier_after : (block : ℕ × ℕ) (place : Place) → get (placement_after s after marked_after places) block ≡ Some place → place.place < cond (place.tier == 0) s.sizes.first (cond (place.tier == 1) s.sizes.second (cond (place.tier == 2) s.sizes.third 0))
+  in_tier_after : (block : ℕ × ℕ) (place : Place) → get (placement_after s after marked_after places) block ≡ Some place → place.place < tier_size s.sizes place.tier
   in_tier_after block place is =
       ⊎_elim
-      (λ one. subst (λ (p : Place). p.place < cond (p.tier == 0) s.sizes.first (cond (p.tier == 1) s.sizes.second (cond (p.tier == 2) s.sizes.third 0))) (sym one.2) (free_one block one.0 one.1).1)
+      (λ one. subst (λ (p : Place). p.place < tier_size s.sizes p.tier) (sym one.2) (free_one block one.0 one.1).1)
       (λ stays. old.in_tier block place (from_base block place stays).1)
       (found_placed blocks places base block place is)
 

@@ -1,4 +1,4 @@
--- Which blocks of files a log writes and clears, and how much room it needs.
+-- Where the blocks of files lie, which of them a log writes and clears, and how much room it needs.
 use Rattle.std.specs.Prelude.{◌≡◌, ℕ, zero, suc, ◌+◌, ◌*◌, ◌/◌, ◌<◌, ◌&&◌, ◌||◌, ◌==◌, not, Bool, true, false, List, [], ◌∷◌, length, take, drop, filter, map, flat_map, Option, Some, IsTrue, if◌then◌else◌}
 use Rattle.std.specs.List.{list_any, list_all}
 use Rattle.kfs_model.specs.Header.{Header}
@@ -57,6 +57,7 @@ abbrev pub numbers_from : (first count : ℕ) → List ℕ
 numbers_from first zero = []
 numbers_from first (suc count) = first ∷ numbers_from (first + 1) count
 
+-- 0, 1 and so on, so many
 abbrev pub below : (count : ℕ) → List ℕ
 below count = numbers_from 0 count
 
