@@ -3,6 +3,7 @@
 use kfs_program::{EngineFault, engine, run_words};
 use std::io;
 use std::io::{ErrorKind, Read, Write};
+use std::process::Abort;
 use std::test::Fail;
 
 /// Gives its bytes one at a time, and then fails, ends, or gives `x` without an end.
@@ -64,9 +65,29 @@ impl Write for Narrow {
     }
 }
 
+/// How the engine ends over this reader and this writer.
+fn ended<I: Read, O: Write>(
+    rt: &impl AllocGlobal,
+    reader: &mut I,
+    writer: &mut O,
+) -> Result<(), EngineFault> {
+    engine(rt, rt.alloc(), reader, writer)
+}
+
+/// Whether the engine ends like this over the reader, and has written these replies.
+fn ends<I: Read>(
+    rt: &impl AllocGlobal,
+    reader: &mut I,
+    end: Result<(), EngineFault>,
+    replies: &str,
+) -> bool {
+    let mut written = Vec::new(rt.alloc());
+    ended(rt, reader, &mut written) == end && written.as_slice() == replies.as_bytes()
+}
+
 #[test]
-fn the_lines_before_a_fault_are_answered(rt: HostRuntime) -> Result<(), Fail> {
-    for (then, ended, replies) in [
+fn the_lines_before_a_fault_are_answered(rt: HostRuntime) {
+    for (then, end, replies) in [
         (Then::Ends, Ok(()), "ok\nbad line\nok\n"),
         (Then::Fails, Err(EngineFault::ReadFault), "ok\nbad line\n"),
         (Then::Repeats, Err(EngineFault::LongLine), "ok\nbad line\n"),
@@ -75,12 +96,8 @@ fn the_lines_before_a_fault_are_answered(rt: HostRuntime) -> Result<(), Fail> {
             bytes: b"new 1 1 1\nnone\nbegin 1",
             then,
         };
-        let mut written = Vec::new(rt.alloc());
-        let outcome = engine(&rt, rt.alloc(), &mut reader, &mut written);
-        assert_eq!(rt; outcome, ended);
-        assert_eq!(rt; str::from_utf8(&written)?, replies);
+        assert!(rt; ends(&rt, &mut reader, end, replies), "{replies}");
     }
-    Ok(())
 }
 
 #[test]
@@ -91,54 +108,76 @@ fn a_writer_that_takes_no_more(rt: HostRuntime) {
             then: Then::Ends,
         };
         let mut writer = Narrow { room, fails };
-        let outcome = engine(&rt, rt.alloc(), &mut reader, &mut writer);
-        assert_eq!(rt; outcome, Err(EngineFault::WriteFault));
+        let end = ended(&rt, &mut reader, &mut writer);
+        assert_eq!(rt; end, Err(EngineFault::WriteFault), "{room}");
     }
 }
 
 #[test]
 fn the_longest_line(rt: HostRuntime) -> Result<(), Fail> {
     let line = vec![in rt.alloc(); b'x'; 16_777_217]?;
-    for (from, ended, replies) in [
+    for (from, end, replies) in [
         (1, Ok(()), "bad line\n"),
         (0, Err(EngineFault::LongLine), ""),
     ] {
         let mut reader = line.get(from..).ok_or("a line")?;
-        let mut written = Vec::new(rt.alloc());
-        let outcome = engine(&rt, rt.alloc(), &mut reader, &mut written);
-        assert_eq!(rt; outcome, ended);
-        assert_eq!(rt; str::from_utf8(&written)?, replies);
+        assert!(rt; ends(&rt, &mut reader, end, replies), "{replies}");
     }
     Ok(())
 }
 
-#[test]
-fn words_of_the_command_line(rt: HostRuntime) -> Result<(), Fail> {
-    for (words, status, replies) in [
-        (["kfs"].as_slice(), 0, "ok\n"),
-        (["kfs", "run"].as_slice(), 0, "ok\n"),
-        (["kfs", "--"].as_slice(), 2, ""),
-        (["kfs", "ru"].as_slice(), 2, ""),
-        (["kfs", "run", "run"].as_slice(), 2, ""),
-        (["kfs", "run", "--"].as_slice(), 2, ""),
-        (["kfs", "help"].as_slice(), 2, ""),
-        (["kfs", "--help"].as_slice(), 2, ""),
-        (["kfs", "run", "--help"].as_slice(), 2, ""),
-        (["kfs", "--version"].as_slice(), 2, ""),
-        (["kfs", ""].as_slice(), 2, ""),
-    ] {
+/// How the program with these words ends over this reader and this writer.
+fn status<I: Read, O: Write>(
+    rt: &impl AllocGlobal,
+    words: &[&str],
+    reader: &mut I,
+    writer: &mut O,
+) -> u8 {
+    run_words(rt, rt.alloc(), words, reader, writer)
+}
+
+/// Whether the program with these words ends with this status over the reader, and has written these
+/// replies.
+fn ends_with<I: Read>(
+    rt: &impl AllocGlobal,
+    words: &[&str],
+    reader: &mut I,
+    wanted: u8,
+    replies: &str,
+) -> bool {
+    let mut written = Vec::new(rt.alloc());
+    status(rt, words, reader, &mut written) == wanted && written.as_slice() == replies.as_bytes()
+}
+
+/// The program with each of these words, over one line, ends with its status, and has written its replies.
+fn expect_statuses(rt: &(impl Abort + AllocGlobal), cases: &[(&[&str], u8, &str)]) {
+    for (words, status, replies) in cases {
         let mut reader = "new 1 1 1\n".as_bytes();
-        let mut written = Vec::new(rt.alloc());
-        let ended = run_words(&rt, rt.alloc(), words, &mut reader, &mut written);
-        assert_eq!(rt; ended, status, "for {words:?}");
-        assert_eq!(rt; str::from_utf8(&written)?, replies);
+        let ends = ends_with(rt, words, &mut reader, *status, replies);
+        assert!(rt; ends, "for {words:?}");
     }
+}
+
+const WORDS: [(&[&str], u8, &str); 11] = [
+    (&["kfs"], 0, "ok\n"),
+    (&["kfs", "run"], 0, "ok\n"),
+    (&["kfs", "--"], 2, ""),
+    (&["kfs", "ru"], 2, ""),
+    (&["kfs", "run", "run"], 2, ""),
+    (&["kfs", "run", "--"], 2, ""),
+    (&["kfs", "help"], 2, ""),
+    (&["kfs", "--help"], 2, ""),
+    (&["kfs", "run", "--help"], 2, ""),
+    (&["kfs", "--version"], 2, ""),
+    (&["kfs", ""], 2, ""),
+];
+
+#[test]
+fn words_of_the_command_line(rt: HostRuntime) {
+    expect_statuses(&rt, &WORDS);
     let mut broken = Slow {
         bytes: &[],
         then: Then::Fails,
     };
-    let mut written = Vec::new(rt.alloc());
-    let ended = run_words(&rt, rt.alloc(), &["kfs"], &mut broken, &mut written);
-    assert_eq!(rt; ended, 3);
-    Ok(())
+    assert!(rt; ends_with(&rt, &["kfs"], &mut broken, 3, ""));
 }
