@@ -3,9 +3,11 @@
 #![tactic(auto)]
 
 mod fault;
+mod script;
 
 use fault::Fault;
 use kfs_program::run_words;
+use script::Script;
 use std::alloc::Global;
 use std::collections::BTreeSet;
 use std::io::ErrorKind;
@@ -49,7 +51,8 @@ fn script_names<R: Files + AllocGlobal + Clone + Drop>(
     Ok(names)
 }
 
-/// Runs one script, with its words, and compares its replies and its status.
+/// Runs one script, with its words, and compares its replies and its status. Where it has a file
+/// `.broken`, reading fails behind its last byte.
 fn run_script<R: Files + AllocGlobal>(rt: &R, name: &str) -> Result<(), Fault> {
     let script = needed_file(rt, name, ".kfs")?;
     let expected = needed_file(rt, name, ".out")?;
@@ -57,7 +60,9 @@ fn run_script<R: Files + AllocGlobal>(rt: &R, name: &str) -> Result<(), Fault> {
     let status = optional_file(rt, name, ".status")?;
     let words = words_of(rt.alloc(), words.as_ref())?;
     let status = status_of(status.as_ref())?;
-    let (ended, written) = answers(rt, &words, &script);
+    let is_broken = optional_file(rt, name, ".broken")?.is_some();
+    let bytes = script.as_slice();
+    let (ended, written) = answers(rt, &words, Script { bytes, is_broken });
     compare_replies(&written, &expected)?;
     if ended == status {
         Ok(())
@@ -67,7 +72,7 @@ fn run_script<R: Files + AllocGlobal>(rt: &R, name: &str) -> Result<(), Fault> {
 }
 
 /// The exit status, and all that is written.
-fn answers<R: AllocGlobal>(rt: &R, words: &[&str], script: &[u8]) -> (u8, Vec<u8>) {
+fn answers<R: AllocGlobal>(rt: &R, words: &[&str], script: Script<'_>) -> (u8, Vec<u8>) {
     let mut reader = script;
     let mut written = Vec::new(rt.alloc());
     let status = run_words(rt, rt.alloc(), words, &mut reader, &mut written);

@@ -1,6 +1,5 @@
-//! Logs and plans as bytes: what decodes to what, what is refused where, and what encodes back.
+//! Logs and plans as bytes: what decodes to what, what encodes back, and what each refused growth is answered.
 
 mod decoded;
 mod memory;
-mod refused;
-mod vectors;
+pub mod vectors;

@@ -1,16 +1,24 @@
-//! Tests that cross crates, through public calls: logs and plans, leases and permission bits, and what
-//! the desk makes of a log. The expected values come from docs/FORMATS.md and from the worked examples of
-//! kfs_model, never from the program's own output.
+//! Tests of what only calls can say: logs and plans, clients and permission bits, leases, the desk and the
+//! engine, and what each does where a growth, a read or a write fails. What command lines can say stands
+//! in the scripts of kfs_rows. The expected values come from docs/FORMATS.md and from the worked examples
+//! of kfs_model, never from the program's own output.
+//!
+//! A test is proved, too, and carries the clauses of all calls that it makes. So each call stands in a
+//! small function without clauses, which a test then makes over a table.
 #![tactic(auto)]
 
 #[cfg(test)]
-mod chmods;
-#[cfg(test)]
 mod codec;
 #[cfg(test)]
-mod creating;
+mod desks;
+#[cfg(test)]
+mod judging;
 #[cfg(test)]
 mod leases;
 #[cfg(test)]
 mod modes;
 pub mod refusing;
+#[cfg(test)]
+mod stopping;
+#[cfg(test)]
+mod submitting;

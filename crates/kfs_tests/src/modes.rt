@@ -1,137 +1,125 @@
-//! Clients, and what the permission bits of a node grant them.
+//! What the permission bits of a node grant a client.
 
 use kfs_mode::Want::{Read, Search, Write};
-use kfs_mode::{Class, Client, ClientFault, class_of, may};
-use std::test::Fail;
+use kfs_mode::{Class, Client, ClientFault, Want, class_of, may};
+use std::process::Abort;
 
-/// A client with supplementary groups, not privileged, with the numbers from 2 to 99.
-fn client_of(uid: u32, gid: u32, groups: &[u32]) -> Result<Client, ClientFault> {
-    Client::new(7, uid, gid, groups, false, 2, 99)
+/// The class that a client with these ids and supplementary groups is in, to a node of these ids.
+fn class(uid: u32, gid: u32, groups: &[u32], node: (u32, u32)) -> Result<Class, ClientFault> {
+    let client = Client::new(7, uid, gid, groups, false, 2, 99)?;
+    Ok(class_of(&client, node.0, node.1))
 }
 
-#[test]
-fn the_bits_of_the_one_class_that_holds(rt: HostRuntime) -> Result<(), Fail> {
-    let client = client_of(1000, 1000, &[])?;
-    let of_a_group = client_of(1000, 1000, &[50])?;
-    for (who, uid, gid, mode, want, granted) in [
-        // its owner may not write, though its group and the others may
-        (&client, 1000, 1000, 0o077, Write, false),
-        (&client, 1000, 1, 0o077, Read, false),
-        (&client, 1001, 1000, 0o077, Write, true),
-        (&client, 1001, 1001, 0o077, Write, true),
-        // a supplementary group takes the client out of the others
-        (&of_a_group, 1, 50, 0o602, Write, false),
-        (&client, 1, 50, 0o602, Write, true),
-        (&of_a_group, 1, 50, 0o060, Write, true),
-        (&client, 1, 50, 0o060, Write, false),
-        // as does its own group
-        (&client, 1, 1000, 0o707, Search, false),
-        // without the bit of writing the owner reads alone
-        (&client, 1000, 1000, 0o400, Write, false),
-        (&client, 1000, 1000, 0o400, Read, true),
-        // the root of a fresh image is open to all
-        (&client, 0, 0, 0o777, Write, true),
-        (&client, 0, 0, 0o700, Search, false),
-    ] {
-        let answer = may(who, uid, gid, mode, want);
-        assert_eq!(rt; answer, granted, "{who:?} {uid} {gid} {mode} {want:?}");
+/// Whether a node of these ids and this mode grants it to such a client, privileged or not.
+fn is_granted(
+    ids: (u32, u32),
+    groups: &[u32],
+    privileged: bool,
+    node: (u32, u32, u16),
+    want: Want,
+) -> Result<bool, ClientFault> {
+    let client = Client::new(7, ids.0, ids.1, groups, privileged, 2, 99)?;
+    Ok(may(&client, node.0, node.1, node.2, want))
+}
+
+/// The groups of a client of uid and gid 1000, a node, and whether it is granted.
+const ONE_CLASS: [(&[u32], u32, u32, u16, Want, bool); 13] = [
+    // its owner may not write, though its group and the others may
+    (&[], 1000, 1000, 0o077, Write, false),
+    (&[], 1000, 1, 0o077, Read, false),
+    (&[], 1001, 1000, 0o077, Write, true),
+    (&[], 1001, 1001, 0o077, Write, true),
+    // a supplementary group takes the client out of the others
+    (&[50], 1, 50, 0o602, Write, false),
+    (&[], 1, 50, 0o602, Write, true),
+    (&[50], 1, 50, 0o060, Write, true),
+    (&[], 1, 50, 0o060, Write, false),
+    // as does its own group
+    (&[], 1, 1000, 0o707, Search, false),
+    // without the bit of writing the owner reads alone
+    (&[], 1000, 1000, 0o400, Write, false),
+    (&[], 1000, 1000, 0o400, Read, true),
+    // the root of a fresh image is open to all
+    (&[], 0, 0, 0o777, Write, true),
+    (&[], 0, 0, 0o700, Search, false),
+];
+
+/// The same for user 0 without the flag, which has no privilege.
+const USER_0: [(&[u32], u32, u32, u16, Want, bool); 3] = [
+    (&[], 0, 1, 0o700, Write, true),
+    (&[], 1, 1, 0o770, Write, false),
+    (&[], 0, 0, 0o077, Search, false),
+];
+
+/// The ids of a node, the class of a client of uid 1000, gid 2000 and the groups 3000 and 4000, and the
+/// place of its bits.
+const CLASSES: [(u32, u32, Class, u16); 8] = [
+    (1000, 1, Class::Owner, 0o100),
+    (1000, 2000, Class::Owner, 0o100),
+    (1000, 4000, Class::Owner, 0o100),
+    (1, 2000, Class::Group, 0o010),
+    (1, 3000, Class::Group, 0o010),
+    (1, 4000, Class::Group, 0o010),
+    (2000, 1000, Class::Other, 0o001),
+    (0, 0, Class::Other, 0o001),
+];
+
+/// Whether of nine bits this one alone grants it to that client, and a privileged one needs none.
+fn is_the_bit(node: (u32, u32), bit: u16, want: Want) -> Result<bool, ClientFault> {
+    let (uid, gid) = node;
+    let ids = (1000, 2000);
+    let groups = [3000, 4000];
+    let by_the_bit = is_granted(ids, &groups, false, (uid, gid, bit), want)?;
+    let by_the_others = is_granted(ids, &groups, false, (uid, gid, 0o777 ^ bit), want)?;
+    let by_privilege = is_granted(ids, &groups, true, (uid, gid, 0), want)?;
+    Ok(by_the_bit && !by_the_others && by_privilege)
+}
+
+/// Whether that client is in this class to the node, and its three bits grant one thing each.
+fn is_class(row: (u32, u32, Class, u16)) -> Result<bool, ClientFault> {
+    let (uid, gid, wanted, unit) = row;
+    let node = (uid, gid);
+    Ok(
+        class(1000, 2000, &[3000, 4000], node)? == wanted
+            && is_the_bit(node, unit.saturating_mul(4), Read)?
+            && is_the_bit(node, unit.saturating_mul(2), Write)?
+            && is_the_bit(node, unit, Search)?,
+    )
+}
+
+/// Whether a client of these ids and groups, not privileged, is granted what the row says.
+fn is_row(ids: (u32, u32), row: (&[u32], u32, u32, u16, Want, bool)) -> Result<bool, ClientFault> {
+    let (groups, uid, gid, mode, want, granted) = row;
+    Ok(is_granted(ids, groups, false, (uid, gid, mode), want)? == granted)
+}
+
+/// Each row holds, for a client of these ids.
+fn expect_rows(rt: &impl Abort, ids: (u32, u32), rows: &[(&[u32], u32, u32, u16, Want, bool)]) {
+    for row in rows {
+        assert!(rt;
+            is_row(ids, *row) == Ok(true),
+            "{} {} {}",
+            row.1,
+            row.2,
+            row.3
+        );
     }
-    Ok(())
 }
 
-#[test]
-fn each_bit_grants_one_thing_to_one_class(rt: HostRuntime) -> Result<(), Fail> {
-    let client = client_of(1000, 2000, &[3000, 4000])?;
-    let privileged = Client::new(8, 1, 1, &[], true, 2, 99)?;
-    for (uid, gid, class, bits) in [
-        (1000, 1, Class::Owner, [0o400, 0o200, 0o100]),
-        (1000, 2000, Class::Owner, [0o400, 0o200, 0o100]),
-        (1000, 4000, Class::Owner, [0o400, 0o200, 0o100]),
-        (1, 2000, Class::Group, [0o040, 0o020, 0o010]),
-        (1, 3000, Class::Group, [0o040, 0o020, 0o010]),
-        (1, 4000, Class::Group, [0o040, 0o020, 0o010]),
-        (2000, 1000, Class::Other, [0o004, 0o002, 0o001]),
-        (0, 0, Class::Other, [0o004, 0o002, 0o001]),
-    ] {
-        assert_eq!(rt; class_of(&client, uid, gid), class, "{uid} {gid}");
-        for (want, bit) in [Read, Write, Search].into_iter().zip(bits) {
-            let others = 0o777 ^ bit;
-            assert!(rt; may(&client, uid, gid, bit, want), "{uid} {gid} {want:?}");
-            assert!(rt;
-                !may(&client, uid, gid, others, want),
-                "{uid} {gid} {want:?}"
-            );
-            assert!(rt; may(&privileged, uid, gid, 0, want), "{uid} {gid} {want:?}");
-        }
-    }
-    Ok(())
-}
-
-#[test]
-fn user_0_without_the_flag_has_no_privilege(rt: HostRuntime) -> Result<(), Fail> {
-    let root = client_of(0, 0, &[])?;
-    assert!(rt; may(&root, 0, 1, 0o700, Write));
-    assert!(rt; !may(&root, 1, 1, 0o770, Write));
-    assert!(rt; !may(&root, 0, 0, 0o077, Search));
-    Ok(())
-}
-
-#[test]
-fn clients_that_are_refused(rt: HostRuntime) {
-    let sixteen = [50u32; 16];
-    let seventeen = [50u32; 17];
-    for (groups, first, last, answer) in [
-        (seventeen.as_slice(), 2, 99, Err(ClientFault::TooManyGroups)),
-        (&seventeen, 0, 99, Err(ClientFault::TooManyGroups)),
-        (&sixteen, 0, 99, Err(ClientFault::BadGrant)),
-        (&sixteen, 2, 99, Ok((2, 99))),
-        (&[], 0, 0, Err(ClientFault::BadGrant)),
-        (&[], 1, 65_536, Ok((1, 65_536))),
-        (&[], 1, 65_537, Err(ClientFault::BadGrant)),
-        (&[], 70_000, 65_537, Err(ClientFault::BadGrant)),
-        (&[], 70_000, 3, Ok((70_000, 3))),
-        (&[], 5, 4, Ok((5, 4))),
-        (&[], 5, 0, Ok((5, 0))),
-    ] {
-        let made = Client::new(7, 1000, 1000, groups, false, first, last);
-        let grant = made.map(|client| client.grant());
-        assert_eq!(rt; grant, answer, "{groups:?}, {first} to {last}");
+/// Each row holds.
+fn expect_classes(rt: &impl Abort, rows: &[(u32, u32, Class, u16)]) {
+    for row in rows {
+        assert!(rt; is_class(*row) == Ok(true), "{} {}", row.0, row.1);
     }
 }
 
 #[test]
-fn sixteen_groups_all_count(rt: HostRuntime) -> Result<(), Fail> {
-    let groups = [
-        10u32, 11, 12, 13, 14, 15, 16, 17, 18, 19, 20, 21, 22, 23, 24, 25,
-    ];
-    let client = client_of(1000, 1000, &groups)?;
-    for gid in groups {
-        assert!(rt; client.has_group(gid), "{gid}");
-        assert_eq!(rt; class_of(&client, 1, gid), Class::Group, "{gid}");
-        assert!(rt; !may(&client, 1, gid, 0o707, Write), "{gid}");
-    }
-    assert!(rt; client.has_group(1000));
-    assert!(rt; !client.has_group(26));
-    assert_eq!(rt; class_of(&client, 1, 26), Class::Other);
-    Ok(())
+fn the_bits_of_the_one_class_that_holds(rt: HostRuntime) {
+    expect_rows(&rt, (1000, 1000), &ONE_CLASS);
+    expect_rows(&rt, (0, 0), &USER_0);
 }
 
 #[test]
-fn a_grant_is_the_numbers_from_its_first_to_its_last(rt: HostRuntime) -> Result<(), Fail> {
-    for (first, last, number, granted) in [
-        (2, 99, 1, false),
-        (2, 99, 2, true),
-        (2, 99, 99, true),
-        (2, 99, 100, false),
-        (5, 5, 5, true),
-        (5, 4, 4, false),
-        (5, 4, 5, false),
-        (1, 65_536, 65_536, true),
-        (1, 65_536, 65_537, false),
-    ] {
-        let client = Client::new(7, 1000, 1000, &[], false, first, last)?;
-        let answer = client.is_granted(number);
-        assert_eq!(rt; answer, granted, "{number} of {first} to {last}");
-    }
-    Ok(())
+fn each_bit_grants_one_thing_to_one_class(rt: HostRuntime) {
+    expect_classes(&rt, &CLASSES);
 }

@@ -18,6 +18,11 @@ impl<B: Allocator> Refusing<B> {
         }
     }
 
+    /// Lets `left` growths pass from now on, refuses the next one, and lets all others pass again.
+    pub fn refuse_after(&self, left: u64) {
+        self.left.set(left);
+    }
+
     /// Whether the growth has come that is refused.
     pub fn has_refused(&self) -> bool {
         self.left.get() > u64::MAX / 2

@@ -1,18 +1,62 @@
 //! Bytes that are logs and plans, what they say, and that this encodes to the same bytes.
 
+use crate::codec::memory::is_same_again;
 use crate::codec::vectors::{
-    CREATE_LOG, CREATE_PLAN, EDITS_LOG, EDITS_PLAN, EMPTY_LOG, EMPTY_PLAN, MOVE_LOG, MOVE_PLAN,
-    name,
+    CREATE_LOG, CREATE_PLAN, EDITS_LOG, EDITS_PLAN, EMPTY_LOG, EMPTY_PLAN, GONE_PLAN, MOVE_LOG,
+    MOVE_PLAN, OTHERS_LOG, name,
 };
 use kfs_entry::{
-    Entry, Header, Kind, NameRow, NodeRow, Piece, Source, Span, decode_log, decode_plan,
-    encode_log, encode_plan,
+    Entry, Header, Kind, NameRow, NodeRow, Piece, Source, Span, SpellFault, decode_log, decode_plan,
 };
+use std::alloc::{AllocError, Global};
+use std::process::Abort;
 use std::test::Fail;
 
+/// Whether the bytes are a log of this client with these entries.
+fn is_log(
+    alloc: Global,
+    bytes: &[u8],
+    client: u32,
+    entries: &[Entry<Span>],
+) -> Result<bool, SpellFault> {
+    let log = decode_log(alloc, bytes)?;
+    Ok(log.client == client && log.entries.as_slice() == entries)
+}
+
+/// Whether the bytes are a plan with these rows.
+fn is_plan(
+    alloc: Global,
+    bytes: &[u8],
+    names: &[NameRow],
+    nodes: &[NodeRow],
+    pieces: &[Piece],
+) -> Result<bool, SpellFault> {
+    let plan = decode_plan(alloc, bytes)?;
+    Ok(
+        plan.names.as_slice() == names
+            && plan.nodes.as_slice() == nodes
+            && plan.pieces.as_slice() == pieces,
+    )
+}
+
+/// Each of these is the same after it is decoded and encoded.
+fn expect_same_again(rt: &(impl Abort + AllocGlobal), all: &[&[u8]]) {
+    for bytes in all {
+        assert!(rt; is_same_again(rt.alloc(), bytes) == Ok(true), "{bytes:?}");
+    }
+}
+
+/// A Write to file 5 of the bytes at this place of the log.
+fn write(offset: u64, start: usize, end: usize) -> Entry<Span> {
+    Entry::Write {
+        number: 5,
+        offset,
+        payload: Span { start, end },
+    }
+}
+
 #[test]
-fn log_that_creates(rt: HostRuntime) -> Result<(), Fail> {
-    let log = decode_log(rt.alloc(), CREATE_LOG)?;
+fn logs(rt: HostRuntime) -> Result<(), Fail> {
     let create = Entry::Create {
         dir: 1,
         name: name(b"a")?,
@@ -20,63 +64,23 @@ fn log_that_creates(rt: HostRuntime) -> Result<(), Fail> {
         kind: Kind::File,
         mode: 0o644,
     };
-    assert_eq!(rt; log.client, 7);
-    assert_eq!(rt; log.entries.as_slice(), [create].as_slice());
-    assert_eq!(rt;
-        encode_log(rt.alloc(), &log, CREATE_LOG)?.as_slice(),
-        CREATE_LOG
-    );
-    Ok(())
-}
-
-#[test]
-fn log_that_edits(rt: HostRuntime) -> Result<(), Fail> {
-    let log = decode_log(rt.alloc(), EDITS_LOG)?;
-    let write = |offset, start, end| Entry::Write {
-        number: 5,
-        offset,
-        payload: Span { start, end },
-    };
-    let entries = [
+    assert!(rt; is_log(rt.alloc(), CREATE_LOG, 7, &[create])?);
+    let edits = [
         write(2, 28, 30),
         write(3, 47, 50),
         Entry::Truncate { number: 5, size: 4 },
         Entry::Truncate { number: 5, size: 8 },
         write(12, 93, 94),
     ];
-    assert_eq!(rt; log.client, 7);
-    assert_eq!(rt; log.entries.as_slice(), entries.as_slice());
-    assert_eq!(rt;
-        encode_log(rt.alloc(), &log, EDITS_LOG)?.as_slice(),
-        EDITS_LOG
-    );
-    Ok(())
-}
-
-#[test]
-fn log_that_moves(rt: HostRuntime) -> Result<(), Fail> {
-    let log = decode_log(rt.alloc(), MOVE_LOG)?;
+    assert!(rt; is_log(rt.alloc(), EDITS_LOG, 7, &edits)?);
     let rename = Entry::Rename {
         dir: 20,
         name: name(b"x")?,
         new_dir: 12,
         new_name: name(b"x")?,
     };
-    assert_eq!(rt; log.client, 7);
-    assert_eq!(rt; log.entries.as_slice(), [rename].as_slice());
-    assert_eq!(rt;
-        encode_log(rt.alloc(), &log, MOVE_LOG)?.as_slice(),
-        MOVE_LOG
-    );
-    Ok(())
-}
-
-#[test]
-fn log_of_each_other_entry(rt: HostRuntime) -> Result<(), Fail> {
-    let bytes =
-        b"KLOG\x01\0\0\0\x09\0\x03\x04\0\0\0\x05\0\0\0\x01\x02bb\x05\0\0\0\x01\x01c\x01\x07\0\0\0\x05\x01\xff".as_slice();
-    let log = decode_log(rt.alloc(), bytes)?;
-    let entries = [
+    assert!(rt; is_log(rt.alloc(), MOVE_LOG, 7, &[rename])?);
+    let others = [
         Entry::Link {
             number: 5,
             dir: 1,
@@ -92,9 +96,12 @@ fn log_of_each_other_entry(rt: HostRuntime) -> Result<(), Fail> {
             mode: 0o777,
         },
     ];
-    assert_eq!(rt; log.client, 9);
-    assert_eq!(rt; log.entries.as_slice(), entries.as_slice());
-    assert_eq!(rt; encode_log(rt.alloc(), &log, bytes)?.as_slice(), bytes);
+    assert!(rt; is_log(rt.alloc(), OTHERS_LOG, 9, &others)?);
+    assert!(rt; is_log(rt.alloc(), EMPTY_LOG, 7, &[])?);
+    expect_same_again(
+        &rt,
+        &[CREATE_LOG, EDITS_LOG, MOVE_LOG, OTHERS_LOG, EMPTY_LOG],
+    );
     Ok(())
 }
 
@@ -113,91 +120,64 @@ fn file_row(size: u64) -> NodeRow {
     }
 }
 
-#[test]
-fn plan_of_a_creation(rt: HostRuntime) -> Result<(), Fail> {
-    let plan = decode_plan(rt.alloc(), CREATE_PLAN)?;
-    let row = NameRow {
-        dir: 1,
-        name: name(b"a")?,
-        number: 5,
-    };
-    assert_eq!(rt; plan.names.as_slice(), [row].as_slice());
-    assert_eq!(rt; plan.nodes.as_slice(), [file_row(0)].as_slice());
-    assert!(rt; plan.pieces.is_empty());
-    assert_eq!(rt; encode_plan(rt.alloc(), &plan)?.as_slice(), CREATE_PLAN);
-    Ok(())
+fn name_row(dir: u32, bytes: &[u8], number: u32) -> Result<NameRow, Fail> {
+    Ok(NameRow {
+        dir,
+        name: name(bytes)?,
+        number,
+    })
 }
 
-#[test]
-fn plan_of_edits(rt: HostRuntime) -> Result<(), Fail> {
-    let plan = decode_plan(rt.alloc(), EDITS_PLAN)?;
-    let piece = |start, len, source| Piece {
+/// A piece of file 5.
+fn piece(start: u64, len: u64, source: Source) -> Piece {
+    Piece {
         number: 5,
         start,
         len,
         source,
-    };
+    }
+}
+
+#[test]
+fn plans(rt: HostRuntime) -> Result<(), Fail> {
+    let names = [name_row(1, b"a", 5)?];
+    assert!(rt; is_plan(rt.alloc(), CREATE_PLAN, &names, &[file_row(0)], &[])?);
     let pieces = [
         piece(2, 1, Source::Payload { entry: 0, place: 0 }),
         piece(3, 1, Source::Payload { entry: 1, place: 0 }),
         piece(4, 8, Source::Zero),
         piece(12, 1, Source::Payload { entry: 4, place: 0 }),
     ];
-    assert!(rt; plan.names.is_empty());
-    assert_eq!(rt; plan.nodes.as_slice(), [file_row(13)].as_slice());
-    assert_eq!(rt; plan.pieces.as_slice(), pieces.as_slice());
-    assert_eq!(rt; encode_plan(rt.alloc(), &plan)?.as_slice(), EDITS_PLAN);
-    Ok(())
-}
-
-#[test]
-fn plan_of_a_move(rt: HostRuntime) -> Result<(), Fail> {
-    let plan = decode_plan(rt.alloc(), MOVE_PLAN)?;
-    let rows = [
-        NameRow {
-            dir: 12,
-            name: name(b"x")?,
-            number: 10,
-        },
-        NameRow {
-            dir: 20,
-            name: name(b"x")?,
-            number: 0,
-        },
-    ];
-    assert_eq!(rt; plan.names.as_slice(), rows.as_slice());
-    assert!(rt; plan.nodes.is_empty());
-    assert!(rt; plan.pieces.is_empty());
-    assert_eq!(rt; encode_plan(rt.alloc(), &plan)?.as_slice(), MOVE_PLAN);
-    Ok(())
-}
-
-#[test]
-fn nothing_asked_and_nothing_changed(rt: HostRuntime) -> Result<(), Fail> {
-    let log = decode_log(rt.alloc(), EMPTY_LOG)?;
-    assert_eq!(rt; log.client, 7);
-    assert!(rt; log.entries.is_empty());
-    assert_eq!(rt;
-        encode_log(rt.alloc(), &log, EMPTY_LOG)?.as_slice(),
-        EMPTY_LOG
-    );
-    let plan = decode_plan(rt.alloc(), EMPTY_PLAN)?;
-    assert!(rt; plan.names.is_empty());
-    assert!(rt; plan.nodes.is_empty());
-    assert!(rt; plan.pieces.is_empty());
-    assert_eq!(rt; encode_plan(rt.alloc(), &plan)?.as_slice(), EMPTY_PLAN);
-    Ok(())
-}
-
-#[test]
-fn node_that_is_gone(rt: HostRuntime) -> Result<(), Fail> {
-    let bytes = b"KPLN\x01\0\0\0\x01\0\0\0\0\0\0\0\x14\0".as_slice();
-    let plan = decode_plan(rt.alloc(), bytes)?;
+    assert!(rt; is_plan(rt.alloc(), EDITS_PLAN, &[], &[file_row(13)], &pieces)?);
+    let names = [name_row(12, b"x", 10)?, name_row(20, b"x", 0)?];
+    assert!(rt; is_plan(rt.alloc(), MOVE_PLAN, &names, &[], &[])?);
     let gone = NodeRow {
         number: 20,
         now: None,
     };
-    assert_eq!(rt; plan.nodes.as_slice(), [gone].as_slice());
-    assert_eq!(rt; encode_plan(rt.alloc(), &plan)?.as_slice(), bytes);
+    assert!(rt; is_plan(rt.alloc(), GONE_PLAN, &[], &[gone], &[])?);
+    assert!(rt; is_plan(rt.alloc(), EMPTY_PLAN, &[], &[], &[])?);
+    expect_same_again(
+        &rt,
+        &[CREATE_PLAN, EDITS_PLAN, MOVE_PLAN, GONE_PLAN, EMPTY_PLAN],
+    );
+    Ok(())
+}
+
+/// What a log of one Write with a payload of `len` zero bytes is refused with.
+fn write_fault(rt: &impl AllocGlobal, len: u32) -> Result<Option<SpellFault>, AllocError> {
+    let head = b"KLOG\x01\0\0\0\x07\0\x01\x02\0\0\0\x05\0\0\0\0\0\0\0\0";
+    let mut bytes = Vec::from_slice(rt.alloc(), head)?;
+    bytes.extend_from_slice(&len.to_be_bytes())?;
+    for _ in 0..len {
+        bytes.push(0)?;
+    }
+    Ok(decode_log(rt.alloc(), &bytes).err())
+}
+
+#[test]
+fn greatest_payload(rt: HostRuntime) -> Result<(), Fail> {
+    assert_eq!(rt; write_fault(&rt, 65_536)?, None);
+    assert_eq!(rt; write_fault(&rt, 65_537)?, Some(SpellFault::BadEntry(0)));
     Ok(())
 }

@@ -2,7 +2,8 @@
 
 use crate::refusing::Refusing;
 use kfs_entry::{SpellFault, decode_log, decode_plan, encode_log, encode_plan};
-use std::alloc::{AllocError, Global};
+use std::alloc::{AllocError, Allocator, Global};
+use std::process::Abort;
 use std::test::Fail;
 
 /// More growths than any of these calls makes.
@@ -18,120 +19,96 @@ fn long_log(alloc: Global) -> Result<Vec<u8>, AllocError> {
     Ok(bytes)
 }
 
+/// 40 rows of names, of nodes that are gone, and of pieces of zero bytes.
+fn push_rows(bytes: &mut Vec<u8, Global>, before: &[u8], behind: &[u8]) -> Result<(), AllocError> {
+    for number in 0..40u32 {
+        bytes.extend_from_slice(before)?;
+        bytes.extend_from_slice(&number.to_be_bytes())?;
+        bytes.extend_from_slice(behind)?;
+    }
+    Ok(())
+}
+
 /// A plan of 40 rows in each part, each of which grows several times.
 fn long_plan(alloc: Global) -> Result<Vec<u8>, AllocError> {
     let mut bytes = Vec::from_slice(alloc, b"KPLN\x01\0\x28\0\x28\0\0\0\x28")?;
-    for number in 0..40u32 {
-        bytes.extend_from_slice(b"\0\0\0\x01\x01a")?;
-        bytes.extend_from_slice(&number.to_be_bytes())?;
-    }
-    for number in 0..40u32 {
-        bytes.extend_from_slice(&number.to_be_bytes())?;
-        bytes.push(0)?;
-    }
-    for number in 0..40u32 {
-        bytes.extend_from_slice(&number.to_be_bytes())?;
-        bytes.extend_from_slice(&[0u8; 17])?;
-    }
+    push_rows(&mut bytes, b"\0\0\0\x01\x01a", b"")?;
+    push_rows(&mut bytes, b"", b"\0")?;
+    push_rows(&mut bytes, b"", &[0u8; 17])?;
     Ok(bytes)
 }
 
-#[test]
-fn decoding_a_log(rt: HostRuntime) -> Result<(), Fail> {
-    let bytes = long_log(rt.alloc())?;
-    let ample = decode_log(rt.alloc(), &bytes)?;
+/// What the log that the bytes are encodes to.
+fn log_again<A: Allocator + Copy>(alloc: A, bytes: &[u8]) -> Result<Vec<u8, A>, SpellFault> {
+    let log = decode_log(alloc, bytes)?;
+    encode_log(alloc, &log, bytes).map_err(|_| SpellFault::OutOfMemory)
+}
+
+/// What the plan that the bytes are encodes to.
+fn plan_again<A: Allocator + Copy>(alloc: A, bytes: &[u8]) -> Result<Vec<u8, A>, SpellFault> {
+    let plan = decode_plan(alloc, bytes)?;
+    encode_plan(alloc, &plan).map_err(|_| SpellFault::OutOfMemory)
+}
+
+/// Whether the bytes, decoded and encoded again, are the same.
+pub fn is_same_again<A: Allocator + Copy>(alloc: A, bytes: &[u8]) -> Result<bool, SpellFault> {
+    let again = if bytes.starts_with(b"KLOG") {
+        log_again(alloc, bytes)?
+    } else {
+        plan_again(alloc, bytes)?
+    };
+    Ok(again.as_slice() == bytes)
+}
+
+/// How many growths it takes to decode and encode the bytes, each of which is refused in turn.
+fn growths(rt: &(impl Abort + AllocGlobal), bytes: &[u8]) -> u64 {
     for growth in 0..MANY {
         let heap = Refusing::new(rt.alloc(), growth);
-        match decode_log(&heap, &bytes) {
-            Ok(log) => {
-                assert_eq!(rt; log.client, ample.client);
-                assert_eq!(rt; log.entries.as_slice(), ample.entries.as_slice());
-            }
-            Err(fault) => assert_eq!(rt; fault, SpellFault::OutOfMemory),
-        }
+        let answer = is_same_again(&heap, bytes);
         if !heap.has_refused() {
-            assert!(rt; growth > 5, "{growth}");
-            return Ok(());
+            assert_eq!(rt; answer, Ok(true));
+            return growth;
         }
-        let again = decode_log(&heap, &bytes)?;
-        assert_eq!(rt; again.client, ample.client);
-        assert_eq!(rt; again.entries.as_slice(), ample.entries.as_slice());
+        if answer != Ok(true) {
+            assert_eq!(rt; answer, Err(SpellFault::OutOfMemory), "{growth}");
+        }
+        assert_eq!(rt; is_same_again(&heap, bytes), Ok(true), "after {growth}");
     }
-    Err("more growths than expected")?
+    MANY
 }
 
 #[test]
-fn decoding_a_plan(rt: HostRuntime) -> Result<(), Fail> {
-    let bytes = long_plan(rt.alloc())?;
-    let ample = decode_plan(rt.alloc(), &bytes)?;
-    for growth in 0..MANY {
-        let heap = Refusing::new(rt.alloc(), growth);
-        match decode_plan(&heap, &bytes) {
-            Ok(plan) => {
-                assert_eq!(rt; plan.names.as_slice(), ample.names.as_slice());
-                assert_eq!(rt; plan.nodes.as_slice(), ample.nodes.as_slice());
-                assert_eq!(rt; plan.pieces.as_slice(), ample.pieces.as_slice());
-            }
-            Err(fault) => assert_eq!(rt; fault, SpellFault::OutOfMemory),
-        }
-        if !heap.has_refused() {
-            assert!(rt; growth > 5, "{growth}");
-            return Ok(());
-        }
-        let again = decode_plan(&heap, &bytes)?;
-        assert_eq!(rt; again.names.as_slice(), ample.names.as_slice());
-        assert_eq!(rt; again.nodes.as_slice(), ample.nodes.as_slice());
-        assert_eq!(rt; again.pieces.as_slice(), ample.pieces.as_slice());
-    }
-    Err("more growths than expected")?
+fn each_growth_refused_in_turn(rt: HostRuntime) -> Result<(), Fail> {
+    let of_the_log = growths(&rt, &long_log(rt.alloc())?);
+    assert!(rt; 6 < of_the_log && of_the_log < MANY, "{of_the_log}");
+    let of_the_plan = growths(&rt, &long_plan(rt.alloc())?);
+    assert!(rt; 6 < of_the_plan && of_the_plan < MANY, "{of_the_plan}");
+    Ok(())
 }
 
-#[test]
-fn encoding_a_log(rt: HostRuntime) -> Result<(), Fail> {
-    let bytes = long_log(rt.alloc())?;
-    let log = decode_log(rt.alloc(), &bytes)?;
-    for growth in 0..MANY {
-        let heap = Refusing::new(rt.alloc(), growth);
-        if let Ok(encoded) = encode_log(&heap, &log, &bytes) {
-            assert_eq!(rt; encoded.as_slice(), bytes.as_slice());
-        }
-        if !heap.has_refused() {
-            assert!(rt; growth > 0);
-            return Ok(());
-        }
-        let again = encode_log(&heap, &log, &bytes)?;
-        assert_eq!(rt; again.as_slice(), bytes.as_slice());
-    }
-    Err("more growths than expected")?
-}
-
-#[test]
-fn encoding_a_plan(rt: HostRuntime) -> Result<(), Fail> {
-    let bytes = long_plan(rt.alloc())?;
-    let plan = decode_plan(rt.alloc(), &bytes)?;
-    for growth in 0..MANY {
-        let heap = Refusing::new(rt.alloc(), growth);
-        if let Ok(encoded) = encode_plan(&heap, &plan) {
-            assert_eq!(rt; encoded.as_slice(), bytes.as_slice());
-        }
-        if !heap.has_refused() {
-            assert!(rt; growth > 0);
-            return Ok(());
-        }
-        let again = encode_plan(&heap, &plan)?;
-        assert_eq!(rt; again.as_slice(), bytes.as_slice());
-    }
-    Err("more growths than expected")?
+/// What the bytes are refused with where no growth is granted, and whether one was asked for.
+fn fault_without_memory(rt: &impl AllocGlobal, bytes: &[u8]) -> (Option<SpellFault>, bool) {
+    let heap = Refusing::new(rt.alloc(), 0);
+    let fault = if bytes.starts_with(b"KLOG") {
+        decode_log(&heap, bytes).err()
+    } else {
+        decode_plan(&heap, bytes).err()
+    };
+    (fault, heap.has_refused())
 }
 
 #[test]
 fn nothing_is_reserved_by_a_count(rt: HostRuntime) {
-    let heap = Refusing::new(rt.alloc(), 0);
-    let plan = decode_plan(&heap, b"KPLN\x01\xff\xff\0\0\0\0\0\0");
-    assert_eq!(rt; plan.err(), Some(SpellFault::BadRow(0, 0)));
-    let plan = decode_plan(&heap, b"KPLN\x01\0\0\0\0\xff\xff\xff\xff");
-    assert_eq!(rt; plan.err(), Some(SpellFault::BadRow(2, 0)));
-    let log = decode_log(&heap, b"KLOG\x01\0\0\0\x07\x10\0");
-    assert_eq!(rt; log.err(), Some(SpellFault::BadEntry(0)));
-    assert!(rt; !heap.has_refused());
+    let cases: [(&[u8], SpellFault); 3] = [
+        (b"KPLN\x01\xff\xff\0\0\0\0\0\0", SpellFault::BadRow(0, 0)),
+        (
+            b"KPLN\x01\0\0\0\0\xff\xff\xff\xff",
+            SpellFault::BadRow(2, 0),
+        ),
+        (b"KLOG\x01\0\0\0\x07\x10\0", SpellFault::BadEntry(0)),
+    ];
+    for (bytes, fault) in cases {
+        let answer = fault_without_memory(&rt, bytes);
+        assert_eq!(rt; answer, (Some(fault), false), "{bytes:?}");
+    }
 }

@@ -31,6 +31,13 @@ pub const MOVE_LOG: &[u8] = b"KLOG\x01\0\0\0\x07\0\x01\x06\0\0\0\x14\x01x\0\0\0\
 pub const MOVE_PLAN: &[u8] = b"KPLN\x01\0\x02\0\0\0\0\0\0\0\0\0\x0c\x01x\0\0\0\x0a\0\0\0\x14\
       \x01x\0\0\0\0";
 
+/// Client 9 links node 5 as "bb" in the root, takes the directory "c" from there, and opens 5 to all.
+pub const OTHERS_LOG: &[u8] = b"KLOG\x01\0\0\0\x09\0\x03\x04\0\0\0\x05\0\0\0\x01\x02bb\
+      \x05\0\0\0\x01\x01c\x01\x07\0\0\0\x05\x01\xff";
+
+/// Node 20 is gone.
+pub const GONE_PLAN: &[u8] = b"KPLN\x01\0\0\0\x01\0\0\0\0\0\0\0\x14\0";
+
 /// No entry of client 7.
 pub const EMPTY_LOG: &[u8] = b"KLOG\x01\0\0\0\x07\0\0";
 
