@@ -289,9 +289,9 @@ module _ (desk : Parts) (order : IsInOrder desk) (lawful : IsLawful desk.image.c
           said = refl;
           places = [];
           fits = row_fits s (state_of (desk_after (outcomes.Yes log plan net need_told) rows)) _ (
-            ap (λ verdict. replied s [] verdict (reply_to s verdict)) (sym judgement.judgement)
-            ∙ yes_fits log plan net need_told after marked_after told_so rows
-          );
+              ap (λ verdict. replied s [] verdict (reply_to s verdict)) (sym judgement.judgement)
+              ∙ yes_fits log plan net need_told after marked_after told_so rows
+              );
         }
         by (No refusal) judgement told_so = absurd told_so
 

@@ -1,7 +1,8 @@
 -- A command's words are read one by one.
 use Rattle.std.proofs.Common.{◌≡◌, ℕ, nat_lt, ◌==◌, Bool, true, false, ◌&&◌, List, [], ◌∷◌, length, take, Option, Some, None, option_map, refl, sym, ap, ◌∙◌, if◌then◌else◌}
 use Rattle.kfs_judge.specs.Judging.{submission_with}
-use Rattle.kfs_engine.specs.Command.{Command, Opening, Desk, Row, Begin, Lease, Drop, Tick, Submit, Node, Names, are_words, bytes_of, client_of, client_row, drop_of, kind_named, command_of, asked_in, asked_by, lease_of, new_of, number_within, number32, number64, numbers32, submit_of, with_number, ◌>>=◌}
+use Rattle.kfs_model.specs.Steps.{◌>>=◌}
+use Rattle.kfs_engine.specs.Command.{Command, Opening, Desk, Row, Begin, Lease, Drop, Tick, Submit, Node, Names, are_words, bytes_of, client_of, client_row, drop_of, kind_named, command_of, asked_in, asked_by, lease_of, new_of, number_within, number32, number64, numbers32, submit_of, with_number}
 use Rattle.kfs_engine.specs.Reading.{begin_of, checked, command_named, ended, first_by, names_of, node_of, only, tick_of}
 use Rattle.kfs_engine.specs.Cut.{cut, space}
 use Rattle.kfs_engine.specs.declared.command.Name.{Name}

@@ -8,7 +8,8 @@ use Rattle.std.proofs.lemmas.Bool.Decides.{nat_tests}
 use Rattle.kfs_model.specs.Access.{Client}
 use Rattle.kfs_mode.specs.declared.client.ClientFault.{ClientFault}
 use Rattle.kfs_mode.specs.declared.client.ClientFault.TheVariants.{TooManyGroups, BadGrant}
-use Rattle.kfs_engine.specs.Command.{Command, Opening, New, Row, client_row, is_digit, number_within, number32, new_of, ◌>>=◌}
+use Rattle.kfs_model.specs.Steps.{◌>>=◌}
+use Rattle.kfs_engine.specs.Command.{Command, Opening, New, Row, client_row, is_digit, number_within, number32, new_of}
 
 -- ---- the sizes of an image
 

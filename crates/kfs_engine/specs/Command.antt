@@ -4,6 +4,7 @@ use Rattle.std.specs.List.{list_all}
 use Rattle.std.specs.Str.Parse.{digits_value}
 use Rattle.hex.specs.Hex.{decode_of}
 use Rattle.kfs_model.specs.Access.{Client}
+use Rattle.kfs_model.specs.Steps.{◌>>=◌}
 use Rattle.kfs_model.specs.Lease.{LeaseKind, ReadLease, WriteLease}
 use Rattle.kfs_model.specs.Judgement.{Submission}
 use Rattle.kfs_model.specs.Placement.{TierSizes}
@@ -71,12 +72,6 @@ client_row number uid gid groups privileged first last =
     if nat_lt 16 (length groups) then Err TooManyGroups
     else if (first == 0) || nat_lt 65536 last then Err BadGrant
     else Ok (record { number = number; uid = uid; gid = gid; groups = groups; privileged = privileged; first = first; last = last })
-
--- the next reading of a value, where there is one
-infixl 10 ◌>>=◌
-abbrev pub ◌>>=◌ : {A B : Type 0} → Option A → (A → Option B) → Option B
-Some x >>= f = f x
-None >>= f = None
 
 abbrev pub new_of : List (List ℕ) → Option Command
 new_of (a ∷ b ∷ c ∷ []) = do

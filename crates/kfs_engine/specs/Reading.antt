@@ -1,6 +1,7 @@
 -- What is read of words, one after the other.
 use Rattle.std.specs.Prelude.{◌≡◌, ℕ, nat_lt, List, [], ◌∷◌, length, Option, Some, None, option_map, Result, MatchResult, if◌then◌else◌}
-use Rattle.kfs_engine.specs.Command.{Command, Opening, Begin, Desk, Tick, Node, Names, IsBadLine, are_words, client_of, drop_of, lease_of, new_of, number32, number64, submit_of, with_number, ◌>>=◌}
+use Rattle.kfs_model.specs.Steps.{◌>>=◌}
+use Rattle.kfs_engine.specs.Command.{Command, Opening, Begin, Desk, Tick, Node, Names, IsBadLine, are_words, client_of, drop_of, lease_of, new_of, number32, number64, submit_of, with_number}
 use Rattle.kfs_engine.specs.Views.{asked_of}
 use Rattle.kfs_engine.specs.declared.command.Command.{Command as CodeCommand}
 use Rattle.kfs_engine.specs.declared.command.Name.{Name}

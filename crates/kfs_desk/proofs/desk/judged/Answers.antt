@@ -21,8 +21,8 @@ returns-clause-verdict g c =
     let sights = ap sight_of c.in-Ok.ensures.contents ∙ sight_shown image.contents c.view_of.ensures.lawful in
     let seen : seen_of c.in-Ok.view number ≡ seen_in (tree_of image.contents) (holds c.args.leases.now.value number) = λ i. record { sight = sights i; held = holds (c.in-Ok.ensures.leases i) number } in
     three c.judge.result c.judge.ensures.known c.judge.ensures.client c.judge.ensures.view_agrees (λ judged known client agrees.
-        known _ (record {
-          sound = c.view_of.ensures.lawful.sound;
-          row = sym (client ∙ ap (λ rows. row_of rows number) c.in-Ok.ensures.clients);
-          agrees = subst (Agrees judged.reads.entries) seen agrees;
-        }))
+    known _ (record {
+      sound = c.view_of.ensures.lawful.sound;
+      row = sym (client ∙ ap (λ rows. row_of rows number) c.in-Ok.ensures.clients);
+      agrees = subst (Agrees judged.reads.entries) seen agrees;
+    }))
