@@ -9,9 +9,11 @@ ghost use Rattle.kfs_image.specs.Contents.{root_alone};
 ghost use Rattle.kfs_image.specs.ShownTree.{tree_of};
 ghost use Rattle.kfs_judge.specs.Judging.{submission_with};
 ghost use Rattle.kfs_engine.specs.Command.{Begin, Desk, Drop, Lease, Names, New, Node, Opening, Row, Submit, Tick, asked_by, client_row};
+ghost use Rattle.kfs_engine.specs.Conversation.{BreaksOff};
 ghost use Rattle.kfs_engine.specs.Cut.{lines_of};
+ghost use Rattle.kfs_engine.specs.Example.{desk_of_7, root_leased};
 ghost use Rattle.kfs_engine.specs.Listing.{list_text};
-ghost use Rattle.kfs_engine.specs.Session.{After, Before, fresh, opened};
+ghost use Rattle.kfs_engine.specs.Session.{After, Before, Runs, fresh, opened};
 ghost use Rattle.kfs_engine.specs.Text.{line_of};
 
 /// The lines of an input, and a last line that lacks its end; an input that ends with a line's end has no further line.
@@ -69,4 +71,14 @@ pub fn openings()
 pub fn lists()
     ensures of_root { list_text 1 (record { entries = ((1, codes "a"), 5) ∷ ((1, codes "b"), 9) ∷ ((5, codes "z"), 7) ∷ []; sorted = tt }) ≡ codes "list 1 61:5 62:9" }
     ensures of_another { list_text 6 (record { entries = ((1, codes "a"), 5) ∷ []; sorted = tt }) ≡ codes "list 6" }
+{}
+
+/// A lease on the root, and the root's line then: a directory has one link and size 0.
+pub fn node_after_a_lease()
+    ensures { Runs (After desk_of_7) (codes "lease 7 / w 100" ∷ codes "node 1" ∷ []) (codes "0 leased 1\nnode 1 dir 0777 0 0 1 0\n") (After root_leased) }
+{}
+
+/// A reader that gave one line with its end, and a writer that failed behind the reply: there is no further line.
+pub fn write_broken_off()
+    ensures { BreaksOff (codes "x\n") (codes "bad line\n") }
 {}

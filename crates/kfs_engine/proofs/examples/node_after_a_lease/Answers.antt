@@ -1,0 +1,41 @@
+-- Each line is answered by computation.
+use Rattle.std.proofs.Common.{ℕ, List, [], ◌∷◌, Ok, inl, inr, refl}
+use Rattle.std.specs.Prelude.{codes}
+use Rattle.std.specs.Fmt.{digits}
+use native.Mathlib.Decide.{ℕ_discrete}
+use Rattle.kfs_model.specs.Example.{computing}
+use Rattle.kfs_image.specs.Slots.{changed}
+use Rattle.kfs_entry.specs.declared.header.Kind.TheVariants.{Directory}
+use Rattle.kfs_desk.specs.declared.answers.Done.TheVariants.{Leased}
+use Rattle.kfs_engine.specs.Cut.{cut}
+use Rattle.kfs_engine.specs.Command.{numbers32}
+use Rattle.kfs_engine.specs.Example.{root_leased}
+use Rattle.kfs_engine.specs.Session.{After}
+use Rattle.kfs_engine.proofs.examples.node_after_a_lease.Goals as goal
+
+shown_line : List ℕ
+shown_line = codes "node 1 dir 0777 0 0 1 0\n"
+
+pub returns : goal.returns
+unfolding shown_line computing changed ℕ_discrete digits cut numbers32
+returns c = (
+  codes "0 leased 1\n",
+  After root_leased,
+  shown_line,
+  inr (inl (inr (record {
+    answer = record { position = 0; answer = Ok (Leased 1) };
+    next = root_leased;
+    below = λ full. cc;
+    acted = record { step = record { outcome = Ok 1; said = refl; fits = refl }; position = refl; rows = refl; limit = refl };
+    is = refl;
+  }))),
+  (
+    shown_line,
+    After root_leased,
+    [],
+    inr (inl (inr (record { header = record { kind = Directory; mode = 511; uid = 0; gid = 0; links = 1; size = 0 }; shown = refl; is = refl }))),
+    (refl, refl),
+    refl,
+  ),
+  refl,
+)
