@@ -5,18 +5,29 @@ use kfs_program::{run_words, status_message};
 use std::process::ExitCode;
 use std::{env, io};
 
-fn main(rt: HostRuntime) -> io::Result<ExitCode> {
-    let status = match env::args(&rt) {
-        Ok(args) => {
-            let words: Vec<String> = args.collect(rt.alloc())?;
-            let words: Vec<&str> = words.iter().map(|word| word.as_str()).collect(rt.alloc())?;
-            run_words(&rt, rt.alloc(), &words, &mut rt.stdin(), &mut rt.stdout())
-        }
+fn main(rt: HostRuntime) -> ExitCode {
+    let status = match words(&rt) {
+        Ok(words) => run(&rt, &words),
         Err(error) if error.kind() == io::ErrorKind::OutOfMemory => 4,
         Err(_) => 2,
     };
     if let Some(message) = status_message(status) {
-        eprintln!(rt; "kfs: {message}")?;
+        // the status says it, too, where standard error can't be written
+        let _ = eprintln!(rt; "kfs: {message}");
     }
-    Ok(ExitCode::from(status))
+    ExitCode::from(status)
+}
+
+/// The words of the command line, the program's name first.
+fn words(rt: &HostRuntime) -> io::Result<Vec<String>> {
+    Ok(env::args(rt)?.collect(rt.alloc())?)
+}
+
+/// The exit status. It is 4, too, where there is no memory for the words.
+fn run(rt: &HostRuntime, words: &[String]) -> u8 {
+    let Ok(words) = words.iter().map(|word| word.as_str()).collect(rt.alloc()) else {
+        return 4;
+    };
+    let words: Vec<&str> = words;
+    run_words(rt, rt.alloc(), &words, &mut rt.stdin(), &mut rt.stdout())
 }
