@@ -51,3 +51,4 @@ pub mod RowsRead
 pub mod OneLogAnswer
 pub mod OnePlanAnswer
 pub mod AnswersExist
+pub mod ReadingIs

@@ -18,7 +18,7 @@ log_rows client (Ok x) = log_rest client x.0 x.1
 log_rows client (Err k) = Err (BadEntry k)
 
 -- the one answer to the bytes
-unfoldable log_reading : List ℕ → Result Log SpellingFault
+unfoldable pub log_reading : List ℕ → Result Log SpellingFault
 log_reading bytes = with_option (log_header_read bytes) (Err BadHeader) (λ h. log_rows h.0.client (rows_read entry_read h.0.count h.1))
 
 trailing : (client : ℕ) (entries : List Entry) (more : List ℕ) → more ≢ [] → log_rest client entries more ≡ Err Trailing
@@ -41,7 +41,7 @@ whole_log l more fits =
     ∙ behind_header (header_of l) (flat_map entry_bytes l.entries ++ more) fits.0
     ∙ ap (log_rows l.client) (rows_stand IsEntry entry_bytes entry_read entry_field l.entries more fits.1)
 
-log_is_read : (bytes : List ℕ) → IsBytes bytes → (answer : Result Log SpellingFault) → LogAnswer bytes answer → log_reading bytes ≡ answer
+pub log_is_read : (bytes : List ℕ) → IsBytes bytes → (answer : Result Log SpellingFault) → LogAnswer bytes answer → log_reading bytes ≡ answer
 log_is_read bytes fits (Ok l) is = ap log_reading (is.1 ∙ sym (append-nil (log_bytes l))) ∙ whole_log l [] is.0
 log_is_read bytes fits (Err Trailing) is = ap log_reading is.4 ∙ whole_log is.0 is.1 is.2 ∙ trailing is.0.client is.0.entries is.1 is.3
 log_is_read bytes fits (Err BadHeader) is = no_header bytes fits is

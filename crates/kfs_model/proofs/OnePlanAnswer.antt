@@ -28,7 +28,7 @@ abbrev names_reading : Counts → List ℕ → Result Plan SpellingFault
 names_reading c bytes = part_then 0 (rows_read name_row_read c.names bytes) (λ names rest. nodes_reading c names rest)
 
 -- the one answer to the bytes
-unfoldable plan_reading : List ℕ → Result Plan SpellingFault
+unfoldable pub plan_reading : List ℕ → Result Plan SpellingFault
 plan_reading bytes = with_option (plan_header_read bytes) (Err BadHeader) (λ c. names_reading c.0 c.1)
 
 trailing : (names : List NameRow) (nodes : List NodeRow) (pieces : List Piece) (more : List ℕ) → more ≢ [] → plan_rest names nodes pieces more ≡ Err Trailing
@@ -81,7 +81,7 @@ whole_plan p more fits =
     ∙ behind_nodes (counts_of p) p.names (nodes ++ (pieces ++ more)) (pieces ++ more) (record { rows = p.nodes; number = refl; fit = fits.2; spelled = refl })
     ∙ behind_pieces (counts_of p) p.names p.nodes (pieces ++ more) more (record { rows = p.pieces; number = refl; fit = fits.3; spelled = refl })
 
-plan_is_read : (bytes : List ℕ) → IsBytes bytes → (answer : Result Plan SpellingFault) → PlanAnswer bytes answer → plan_reading bytes ≡ answer
+pub plan_is_read : (bytes : List ℕ) → IsBytes bytes → (answer : Result Plan SpellingFault) → PlanAnswer bytes answer → plan_reading bytes ≡ answer
 plan_is_read bytes fits (Ok p) is = ap plan_reading (is.1 ∙ sym (append-nil (plan_bytes p))) ∙ whole_plan p [] is.0
 plan_is_read bytes fits (Err Trailing) is = ap plan_reading is.4 ∙ whole_plan is.0 is.1 is.2 ∙ trailing is.0.names is.0.nodes is.0.pieces is.1 is.3
 plan_is_read bytes fits (Err BadHeader) is = no_header bytes fits is

@@ -71,7 +71,7 @@ after_creation = record after_removal { tree = removed_file.tree; leases = lease
 -- ---- directories and files
 
 abbrev pub folder : State
-folder = held_by_7 (tree (root ∷ own_file 5 420 [] ∷ own_directory 10 ∷ own_directory 20 ∷ []) (named 1 name_p 20 ∷ named 20 name_x 10 ∷ named 1 name_a 5 ∷ [])) (1 ∷ 20 ∷ 10 ∷ 5 ∷ [])
+folder = held_by_7 (tree (root ∷ own_file 5 511 [] ∷ own_directory 10 ∷ own_directory 20 ∷ []) (named 1 name_p 20 ∷ named 20 name_x 10 ∷ named 1 name_a 5 ∷ [])) (1 ∷ 20 ∷ 10 ∷ 5 ∷ [])
 
 abbrev pub unlink_p : Kind → List Entry
 unlink_p kind = Unlink 1 name_p kind ∷ []
@@ -95,4 +95,4 @@ abbrev pub empty_folder_plan : Plan
 empty_folder_plan = plan (name_row 1 name_p 0 ∷ name_row 20 name_x 0 ∷ []) (gone 10 ∷ gone 20 ∷ []) []
 
 abbrev pub emptied : Tree ℕ
-emptied = tree (root ∷ own_file 5 420 [] ∷ []) (named 1 name_a 5 ∷ [])
+emptied = tree (root ∷ own_file 5 511 [] ∷ []) (named 1 name_a 5 ∷ [])

@@ -5,9 +5,10 @@ use Rattle.kfs_model.specs.Entry.{Entry, Write, Truncate, Unlink}
 use Rattle.kfs_model.specs.PlanRow.{Piece, Plan}
 use Rattle.kfs_model.specs.Table.{empty}
 use Rattle.kfs_model.specs.Judgement.{State, Reply, Accepted}
-use Rattle.kfs_model.specs.Machine.{Row, Submit, Replied, placed}
-use Rattle.kfs_model.specs.Example.{name_a, name_b, name_row, gone, file_row, zero_piece, log_piece, plan, tree, root, own_file, named, held_by_7, with_file}
-use Rattle.kfs_model.specs.Example.FileCases.{letters}
+use Rattle.kfs_model.specs.Lease.{WriteLease}
+use Rattle.kfs_model.specs.Machine.{Row, Submit, Tick, Done, Replied, placed}
+use Rattle.kfs_model.specs.Example.{table, name_a, name_b, name_row, gone, file_row, zero_piece, log_piece, plan, tree, root, own_file, named, held_by_7, with_file}
+use Rattle.kfs_model.specs.Example.FileCases.{letters, file_state}
 
 -- a docket's row: what a log and its plan are answered, and the places of its written blocks
 abbrev pub row : List Entry → Plan → Reply → (places : List ℕ) → Row
@@ -93,3 +94,15 @@ unlink_a = row (Unlink 1 name_a File ∷ []) (plan (name_row 1 name_a 0 ∷ []) 
 
 abbrev pub without_a : State
 without_a = held_by_7 (tree (root ∷ []) []) (1 ∷ [])
+
+-- ---- a lease that ends
+
+-- file 5 is empty, and client 7 holds it until 10
+abbrev pub held_to_10 : State
+held_to_10 = record (file_state []) { leases = record { rows = table (((7, 5), record { kind = WriteLease; end = 10 }) ∷ []); moment = 0 } }
+
+abbrev pub tick_10 : Row
+tick_10 = record { call = Tick 10; answer = Done 10; places = [] }
+
+abbrev pub at_10 : State
+at_10 = record (file_state []) { leases = record { rows = empty; moment = 10 } }

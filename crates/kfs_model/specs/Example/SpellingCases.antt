@@ -1,5 +1,5 @@
 -- The bytes of some of the examples' logs and plans.
-use Rattle.std.specs.Prelude.{ℕ, List, [], ◌∷◌}
+use Rattle.std.specs.Prelude.{ℕ, List, [], ◌∷◌, take}
 use Rattle.kfs_model.specs.Entry.{Entry, Log}
 
 -- the log that client 7 hands in
@@ -37,3 +37,11 @@ empty_log_bytes = 75 ∷ 76 ∷ 79 ∷ 71 ∷ 1 ∷ 0 ∷ 0 ∷ 0 ∷ 7 ∷ 0 �
 -- no row
 abbrev pub empty_plan_bytes : List ℕ
 empty_plan_bytes = 75 ∷ 80 ∷ 76 ∷ 78 ∷ 1 ∷ 0 ∷ 0 ∷ 0 ∷ 0 ∷ 0 ∷ 0 ∷ 0 ∷ 0 ∷ []
+
+-- ---- bytes that are no log and no plan: the first ones of those above, so many, or with more behind
+
+abbrev pub cut_log : (count : ℕ) → List ℕ
+cut_log count = take count create_a_log_bytes
+
+abbrev pub cut_plan : (count : ℕ) → List ℕ
+cut_plan count = take count create_a_plan_bytes

@@ -2,8 +2,11 @@
 
 ghost use Rattle.std.specs.Prelude.{◌≡◌, List, [], ◌∷◌, Some, None};
 ghost use Rattle.kfs_model.specs.Judgement.{Accepted, NoRoom, free_places};
-ghost use Rattle.kfs_model.specs.Machine.{next};
-ghost use Rattle.kfs_model.specs.Example.PlacementCases.{one_block, write_5, written_5, rewrite_6, rewritten_6, write_both, written_both, narrow, two_blocks_long, one_block_long, cut, lettered, clear, cleared, unlink_a, without_a};
+ghost use Rattle.kfs_model.specs.Check.{NoLease};
+ghost use Rattle.kfs_model.specs.Machine.{after, next};
+ghost use Rattle.kfs_model.specs.Example.{no_plan, refused_at};
+ghost use Rattle.kfs_model.specs.Example.FileCases.{write_x};
+ghost use Rattle.kfs_model.specs.Example.PlacementCases.{at_10, held_to_10, tick_10, row, one_block, write_5, written_5, rewrite_6, rewritten_6, write_both, written_both, narrow, two_blocks_long, one_block_long, cut, lettered, clear, cleared, unlink_a, without_a};
 
 /// A written block lies at the place that was chosen for it: one free place of tier 0 for each written block, no fewer and
 /// no more. At place 2 lies a block of another file, and tier 0 ends before place 8.
@@ -55,4 +58,11 @@ pub fn block_cleared()
 #[tactic(auto, unfolding(crate::specs::Example::computing))]
 pub fn file_that_goes()
     ensures { next lettered unlink_a ≡ Some without_a }
+{}
+
+/// A lease that has ended by the landing serves no log, though it was live before: the tick and the refusal are a docket.
+#[tactic(auto, unfolding(crate::specs::Example::computing, crate::specs::Machine::after))]
+pub fn lease_that_ended()
+    ensures docket { after held_to_10 (tick_10 ∷ row (write_x 5) no_plan (refused_at 0 (NoLease 5)) [] ∷ []) ≡ Some at_10 }
+    ensures before { next held_to_10 (row (write_x 5) no_plan (refused_at 0 (NoLease 5)) []) ≡ None }
 {}
