@@ -3,6 +3,7 @@ use Rattle.std.specs.Prelude.{ℕ, ◌-◌, ◌^◌, ◌&&◌, ◌||◌, ◌==�
 use Rattle.std.specs.List.{list_all}
 use Rattle.std.specs.Str.Parse.{digits_value}
 use Rattle.hex.specs.Hex.{decode_of}
+use Rattle.kfs_model.specs.Limits.{greatest_number, tier_limit}
 use Rattle.kfs_model.specs.Access.{Client}
 use Rattle.kfs_model.specs.Steps.{◌>>=◌}
 use Rattle.kfs_model.specs.Lease.{LeaseKind, ReadLease, WriteLease}
@@ -70,14 +71,14 @@ numbers32 (word ∷ words) = elim (number32 word) [
 abbrev pub client_row : (number uid gid : ℕ) (groups : List ℕ) (privileged : Bool) (first last : ℕ) → Result Client ClientFault
 client_row number uid gid groups privileged first last =
     if nat_lt 16 (length groups) then Err TooManyGroups
-    else if (first == 0) || nat_lt 65536 last then Err BadGrant
+    else if (first == 0) || nat_lt greatest_number last then Err BadGrant
     else Ok (record { number = number; uid = uid; gid = gid; groups = groups; privileged = privileged; first = first; last = last })
 
 abbrev pub new_of : List (List ℕ) → Option Command
 new_of (a ∷ b ∷ c ∷ []) = do
-  first ← number_within 65536 a
-  second ← number_within 65536 b
-  third ← number_within 65536 c
+  first ← number_within tier_limit a
+  second ← number_within tier_limit b
+  third ← number_within tier_limit c
   Some (Opening (New (record { first = first; second = second; third = third })))
 new_of words = None
 

@@ -1,6 +1,7 @@
 -- What contracts see of a shape and of an image.
 use Rattle.std.specs.Prelude.{pos, Some}
 use Rattle.kfs_model.specs.Header.{Directory, Header}
+use Rattle.kfs_model.specs.Limits.{greatest_mode}
 use Rattle.kfs_model.specs.Table.{Table, numbers, get, empty}
 use Rattle.kfs_model.specs.Tree.{Links, target, entry_count}
 use Rattle.kfs_model.specs.Sight.{Sight, parent_in}
@@ -23,7 +24,7 @@ sight_of c = record {
 
 -- the root directory of an image without files, open to all
 abbrev pub root_header : Header
-root_header = record { kind = Directory; mode = 511; uid = 0; gid = 0; links = 1; size = 0 }
+root_header = record { kind = Directory; mode = greatest_mode; uid = 0; gid = 0; links = 1; size = 0 }
 
 abbrev pub root_alone : Contents
 root_alone = record { heads = changed empty 1 (Some root_header); names = empty }

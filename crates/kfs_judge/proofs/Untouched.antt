@@ -8,7 +8,8 @@ use Rattle.kfs_model.specs.Tree.{Tree, Node, cells_of}
 use Rattle.kfs_model.specs.Run.{Mark}
 use Rattle.kfs_model.specs.PlanRow.{Piece, Source, Zero, Payload}
 use Rattle.kfs_model.specs.Plan.{mark_at, is_base, said_by, covers}
-use Rattle.kfs_model.specs.Placement.{block_size, is_payload, is_zero, is_written, blocks_from, blocks_that, block_count, written_blocks, need}
+use Rattle.kfs_model.specs.Limits.{block_size}
+use Rattle.kfs_model.specs.Placement.{is_payload, is_zero, is_written, blocks_from, blocks_that, block_count, written_blocks, need}
 use Rattle.kfs_model.specs.FirstWrong.{same_option, same_mark, changed_bytes, holds_along, is_missed, is_wrong, begins_early, first_wrong_below, first_wrong_piece, lies_before}
 use Rattle.kfs_model.proofs.ChangedBytes.{none_from_changed}
 use Rattle.kfs_model.proofs.Tables.{found_from_any}

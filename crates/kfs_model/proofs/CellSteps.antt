@@ -7,7 +7,8 @@ use Rattle.kfs_model.specs.Table.{get}
 use Rattle.kfs_model.specs.Tree.{Tree, Node, Body, Cells, Names, Links, headers, header_of, size_of, name_count}
 use Rattle.kfs_model.specs.Entry.{Write, Truncate, Chmod}
 use Rattle.kfs_model.specs.Sight.{sight, is_directory}
-use Rattle.kfs_model.specs.Check.{Spot, fault, checks_of, size_limit, payload_fits}
+use Rattle.kfs_model.specs.Limits.{size_limit}
+use Rattle.kfs_model.specs.Check.{Spot, fault, checks_of, payload_fits}
 use Rattle.kfs_model.specs.Effect.{Fabric, change_of, overwritten, resized, lengthened, on_cells}
 use Rattle.kfs_model.specs.Run.{Scene, spot}
 use Rattle.kfs_model.specs.SeenAfter.{written_size, seen_after}

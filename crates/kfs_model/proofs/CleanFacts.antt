@@ -6,7 +6,8 @@ use Rattle.kfs_model.specs.Header.{Kind, File, Directory, Header}
 use Rattle.kfs_model.specs.Access.{Client}
 use Rattle.kfs_model.specs.Entry.{Create, Link, Unlink, Rename}
 use Rattle.kfs_model.specs.Sight.{Sight, is_directory, climb_limit, climb_meets}
-use Rattle.kfs_model.specs.Check.{Spot, fault, checks_of, first_fault, link_limit, Check, may_go, on_number, unless_same, move_checks, stays_apart, kind_moved}
+use Rattle.kfs_model.specs.Limits.{link_limit}
+use Rattle.kfs_model.specs.Check.{Spot, fault, checks_of, first_fault, Check, may_go, on_number, unless_same, move_checks, stays_apart, kind_moved}
 use Rattle.kfs_model.proofs.CleanIsAllowed.{AllPass, all_pass, passed, found, left, right}
 
 pub none_is : {X : Type 0} (o : Option X) → IsTrue (is_none o) → o ≡ None

@@ -5,7 +5,8 @@ use Rattle.std.specs.FinMap.Entries.{find, is_sorted}
 use Rattle.kfs_model.specs.Table.{Order, numbers, get}
 use Rattle.kfs_model.specs.Tree.{Tree, Node, Body, Cells, Names, headers, header_of}
 use Rattle.kfs_model.specs.Run.{Mark}
-use Rattle.kfs_model.specs.Placement.{IsBlock, block_size, block_count, blocks_from, blocks_that, is_written, written_blocks}
+use Rattle.kfs_model.specs.Limits.{block_size}
+use Rattle.kfs_model.specs.Placement.{IsBlock, block_count, blocks_from, blocks_that, is_written, written_blocks}
 use Rattle.kfs_model.proofs.Heads.{get-headers}
 use Rattle.kfs_model.proofs.Tables.{right_part, find_head, find_behind}
 

@@ -1,6 +1,7 @@
 -- What is checked at each entry, in order, and the first fault.
 use Rattle.std.specs.Prelude.{ℕ, ◌+◌, ◌==◌, ◌&&◌, ◌||◌, not, nat_le, nat_lt, pos, Bool, true, false, List, [], ◌∷◌, ◌++◌, map, length, Option, Some, None, is_some, is_none, if◌then◌else◌}
 use Rattle.std.specs.Ordering.{int_eq}
+use Rattle.kfs_model.specs.Limits.{link_limit, size_limit}
 use Rattle.kfs_model.specs.Header.{Kind}
 use Rattle.kfs_model.specs.Header.Kind.{File, Directory}
 use Rattle.kfs_model.specs.Access.{Client, Want, Search, may_header, owns, is_granted}
@@ -31,13 +32,6 @@ pub data Check : Type 0 where
   IsNotAbove : (node directory : ℕ) → Check
   -- never fails: what comes after it depends on the cell
   Sees : Cell → Check
-
--- the greatest size of a file, in bytes, and the greatest number of its names
-abbrev pub size_limit : ℕ
-size_limit = 4294967296
-
-abbrev pub link_limit : ℕ
-link_limit = 1024
 
 abbrev pub is_some_and : {X : Type 0} → Option X → (X → Bool) → Bool
 is_some_and None test = false

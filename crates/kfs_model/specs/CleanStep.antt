@@ -1,5 +1,6 @@
 -- What a clean entry keeps: a sound tree stays sound, and what the cells show moves cell by cell.
 use Rattle.std.specs.Prelude.{◌≡◌, ℕ, ◌<◌, ◌≤◌, ◌^◌, List, length, None}
+use Rattle.kfs_model.specs.Limits.{greatest_number}
 use Rattle.kfs_model.specs.Access.{Client}
 use Rattle.kfs_model.specs.Tree.{Tree}
 use Rattle.kfs_model.specs.Sight.{sight}
@@ -16,7 +17,7 @@ pub record IsClient (client : Client) : Type 0 where
   pub uid : client.uid < 2 ^ 32
   pub gid : client.gid < 2 ^ 32
   pub first : 1 ≤ client.first
-  pub last : client.last ≤ 65536
+  pub last : client.last ≤ greatest_number
 
 -- a payload has a cell for each byte
 pub record IsFaithful {B : Type 0} (fabric : Fabric B) : Type 0 where

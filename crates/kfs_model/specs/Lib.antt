@@ -19,6 +19,7 @@ pub mod FirstWrong
 pub mod SeenAfter
 pub mod Overlay
 pub mod CleanStep
+pub mod Limits
 pub mod Looked
 pub mod Placement
 pub mod Spelling

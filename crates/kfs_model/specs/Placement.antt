@@ -1,16 +1,13 @@
 -- Where the blocks of files lie, which of them a log writes and clears, and how much room it needs.
-use Rattle.std.specs.Prelude.{◌≡◌, ℕ, zero, suc, ◌+◌, ◌*◌, ◌/◌, ◌<◌, ◌&&◌, ◌||◌, ◌==◌, not, Bool, true, false, List, [], ◌∷◌, length, take, drop, filter, map, flat_map, Option, Some, IsTrue, if◌then◌else◌}
+use Rattle.std.specs.Prelude.{◌≡◌, ℕ, zero, suc, ◌+◌, ◌-◌, ◌*◌, ◌/◌, ◌<◌, ◌&&◌, ◌||◌, ◌==◌, not, Bool, true, false, List, [], ◌∷◌, length, take, drop, filter, map, flat_map, Option, Some, IsTrue, if◌then◌else◌}
 use Rattle.std.specs.List.{list_any, list_all}
 use Rattle.kfs_model.specs.Header.{Header}
+use Rattle.kfs_model.specs.Limits.{block_size}
 use Rattle.kfs_model.specs.Table.{Table, numbers, pairs, get}
 use Rattle.kfs_model.specs.Tree.{Tree, Node, cells_of}
 use Rattle.kfs_model.specs.Sight.{is_file}
 use Rattle.kfs_model.specs.Run.{Mark}
 use Rattle.kfs_model.specs.Plan.{is_base}
-
--- bytes in a block of a file and of a device
-abbrev pub block_size : ℕ
-block_size = 4096
 
 -- blocks of each tier
 pub record TierSizes : Type 0 where
@@ -80,7 +77,7 @@ abbrev pub is_cleared : List Mark → Bool
 is_cleared block = list_all is_zero block
 
 abbrev pub block_count : ℕ → ℕ
-block_count size = (size + 4095) / block_size
+block_count size = (size + (block_size - 1)) / block_size
 
 -- the marks cut into blocks, with their block numbers
 abbrev pub blocks_from : (count block : ℕ) → List Mark → List (ℕ × List Mark)

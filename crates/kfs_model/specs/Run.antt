@@ -80,9 +80,6 @@ places_from at place (b ∷ bs) = at place ∷ places_from at (place + 1) bs
 abbrev pub marks : Fabric Mark
 marks = record { gap = Zero; payload = λ index payload. places_from (Payload index) 0 payload }
 
-abbrev pub lengths : Fabric (Unit {0})
-lengths = record { gap = tt; payload = λ index payload. map (λ _. tt) payload }
-
 module _ {B C : Type 0} where
   abbrev pub mapped_body : (List B → List C) → Body B → Body C
   mapped_body f (Cells cells) = Cells (f cells)
@@ -94,10 +91,6 @@ module _ {B C : Type 0} where
     nodes = mapped (λ n (node : Node B). record { mode = node.mode; uid = node.uid; gid = node.gid; body = mapped_body (f n) node.body }) t.nodes;
     names = t.names;
   }
-
--- the tree without what its files hold
-abbrev pub skeleton : {B : Type 0} → Tree B → Tree (Unit {0})
-skeleton t = mapped_tree (λ n cells. map (λ _. tt) cells) t
 
 abbrev pub base_marks : ℕ → ℕ → List ℕ → List Mark
 base_marks number place cells = places_from (Base number) place cells

@@ -2,6 +2,7 @@
 use Rattle.std.specs.Prelude.{ℕ, zero, suc, ◌==◌, ◌&&◌, not, ℤ, pos, List, [], ◌∷◌, find, Option, Some, None, option_map, if◌then◌else◌, Bool, true, false}
 use Rattle.kfs_model.specs.Header.{Kind, Header}
 use Rattle.kfs_model.specs.Header.Kind.{File, Directory}
+use Rattle.kfs_model.specs.Limits.{greatest_number}
 use Rattle.kfs_model.specs.Table.{get}
 use Rattle.kfs_model.specs.Tree.{Tree, Links, headers, target, entry_count}
 
@@ -77,7 +78,7 @@ answer s (LeaseOn n) = Held (s.held n)
 
 -- how far a climb goes at the most: no directory of a sound tree lies deeper than there are numbers
 abbrev pub climb_limit : ℕ
-climb_limit = 65536
+climb_limit = greatest_number
 
 -- whether the climb along the parents meets the node, where it begins included
 unfoldable pub climb_meets : (ℕ → Option ℕ) → (fuel node from : ℕ) → Bool

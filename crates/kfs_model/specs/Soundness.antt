@@ -2,6 +2,7 @@
 -- the names, so that it is the same whatever a file is made of.
 use Rattle.std.specs.Prelude.{◌≡◌, ◌≢◌, ℕ, zero, suc, ◌<◌, ◌≤◌, ◌^◌, List, Option, Some, IsTrue}
 use Rattle.kfs_model.specs.Header.{Header}
+use Rattle.kfs_model.specs.Limits.{greatest_mode, greatest_number, link_limit, size_limit}
 use Rattle.kfs_model.specs.Table.{get}
 use Rattle.kfs_model.specs.Tree.{Tree, Links, headers, target, name_count}
 use Rattle.kfs_model.specs.Sight.{parent_in, is_directory, is_file}
@@ -14,11 +15,11 @@ Climbs parent (suc steps) from to = (up : ℕ) × (parent from ≡ Some up) × C
 
 pub record InRange (number : ℕ) (h : Header) : Type 0 where
   pub least : 1 ≤ number
-  pub greatest : number ≤ 65536
-  pub mode : h.mode ≤ 511
+  pub greatest : number ≤ greatest_number
+  pub mode : h.mode ≤ greatest_mode
   pub uid : h.uid < 2 ^ 32
   pub gid : h.gid < 2 ^ 32
-  pub size : h.size ≤ 4294967296
+  pub size : h.size ≤ size_limit
 
 module _ (head : ℕ → Option Header) (names : Links) where
   pub record NameIsSound (directory : ℕ) (name : List ℕ) (number : ℕ) : Type 0 where
@@ -31,7 +32,7 @@ module _ (head : ℕ → Option Header) (names : Links) where
     pub root : IsTrue (is_directory (head 1))
     pub names_sound : (directory : ℕ) (name : List ℕ) (number : ℕ) → target names directory name ≡ Some number → NameIsSound directory name number
     pub directories : (number : ℕ) → IsTrue (is_directory (head number)) → number ≢ 1 → name_count names number ≡ 1
-    pub files : (number : ℕ) → IsTrue (is_file (head number)) → (1 ≤ name_count names number) × (name_count names number ≤ 1024)
+    pub files : (number : ℕ) → IsTrue (is_file (head number)) → (1 ≤ name_count names number) × (name_count names number ≤ link_limit)
     pub reaches : (number : ℕ) → IsTrue (is_directory (head number)) → (steps : ℕ) × Climbs (parent_in head names) steps number 1
     pub ranges : (number : ℕ) (h : Header) → head number ≡ Some h → InRange number h
 

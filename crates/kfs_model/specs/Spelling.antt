@@ -4,6 +4,7 @@ use Rattle.std.specs.Prelude.{◌≡◌, ◌≢◌, ℕ, zero, suc, ◌^◌, ◌
 use Rattle.std.specs.List.{list_all, flat_map, AllByRecursion}
 use Rattle.std.specs.Int.{w16, w32, w64, to_be_bytes}
 use Rattle.kfs_model.specs.Header.{Kind, File, Directory, Header}
+use Rattle.kfs_model.specs.Limits.{entry_limit, greatest_mode, payload_limit}
 use Rattle.kfs_model.specs.Entry.{Entry, Log, Create, Write, Truncate, Link, Unlink, Rename, Chmod}
 use Rattle.kfs_model.specs.PlanRow.{NameRow, NodeRow, Source, Zero, Payload, Piece, Plan}
 
@@ -52,15 +53,14 @@ abbrev pub payload_bytes : List ℕ → List ℕ
 payload_bytes bytes = number32 (length bytes) ++ bytes
 
 abbrev pub IsPayload : List ℕ → Type 0
-IsPayload bytes = length bytes ≤ 65536
+IsPayload bytes = length bytes ≤ payload_limit
 
 abbrev pub kind_bytes : Kind → List ℕ
 kind_bytes File = byte 0
 kind_bytes Directory = byte 1
 
--- the greatest mode of an entry is 0o777
 abbrev pub IsMode : ℕ → Type 0
-IsMode mode = mode ≤ 511
+IsMode mode = mode ≤ greatest_mode
 
 -- ---- rows, one after another
 
@@ -113,7 +113,7 @@ abbrev pub log_header : LogHeader → List ℕ
 log_header h = 75 ∷ 76 ∷ 79 ∷ 71 ∷ 1 ∷ number32 h.client ++ number16 h.count
 
 abbrev pub IsLogHeader : LogHeader → Type 0
-IsLogHeader h = (h.client < 2 ^ 32) × (h.count ≤ 4096)
+IsLogHeader h = (h.client < 2 ^ 32) × (h.count ≤ entry_limit)
 
 abbrev pub header_of : Log → LogHeader
 header_of l = record { client = l.client; count = length l.entries }
