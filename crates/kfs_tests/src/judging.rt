@@ -73,7 +73,7 @@ fn are_answered(
 ) -> bool {
     match desk.submit_all(submissions) {
         Ok(given) => {
-            let pairs = given.iter().zip(answers);
+            let mut pairs = given.iter().zip(answers);
             given.len() == answers.len() && pairs.all(|(given, wanted)| is_answer(given, wanted))
         }
         Err(_) => false,
