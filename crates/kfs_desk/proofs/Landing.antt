@@ -25,9 +25,9 @@ use Rattle.kfs_model.proofs.Links.{named_has_target}
 use Rattle.kfs_model.proofs.Marks.{marks_give_bytes}
 use Rattle.kfs_model.proofs.NameAdded.{kept_target}
 use Rattle.kfs_entry.specs.Answers.{log_of}
-use Rattle.kfs_entry.specs.Views.{entry_of}
-use Rattle.kfs_entry.specs.declared.entry.Log.{Log as CodeLog}
-use Rattle.kfs_entry.specs.declared.plan.Plan.{Plan as CodePlan}
+use Rattle.kfs_value.specs.Views.{entry_of}
+use Rattle.kfs_value.specs.declared.entry.Log.{Log as CodeLog}
+use Rattle.kfs_value.specs.declared.plan.Plan.{Plan as CodePlan}
 use Rattle.kfs_image.specs.declared.shape.Net.{Net}
 use Rattle.kfs_image.specs.Change.{after_rows}
 use Rattle.kfs_image.specs.Contents.{Contents}

@@ -6,8 +6,8 @@ use Rattle.kfs_model.specs.Entry.{Log}
 use Rattle.kfs_model.specs.Spelling.{SpellingFault, LogAnswer}
 use Rattle.kfs_model.specs.Judgement.{Submission}
 use Rattle.kfs_entry.specs.Answers.{Refused, log_of}
-use Rattle.kfs_entry.specs.Views.{entry_of}
-use Rattle.kfs_entry.specs.declared.entry.Log.{Log as CodeLog}
+use Rattle.kfs_value.specs.Views.{entry_of}
+use Rattle.kfs_value.specs.declared.entry.Log.{Log as CodeLog}
 use Rattle.kfs_entry.specs.declared.fault.SpellFault.{SpellFault}
 use Rattle.kfs_entry.specs.declared.fault.SpellFault.TheVariants as faults
 use Rattle.kfs_judge.specs.JudgedEntries.{IsJudged, is_judged}

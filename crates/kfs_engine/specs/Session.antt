@@ -8,8 +8,8 @@ use Rattle.kfs_model.specs.Judgement.{Submission}
 use Rattle.kfs_model.specs.Machine as machine
 use Rattle.kfs_model.specs.Machine.{opening}
 use Rattle.kfs_mode.specs.declared.client.ClientFault.{ClientFault}
-use Rattle.kfs_entry.specs.Views.{header_of}
-use Rattle.kfs_entry.specs.declared.header.Header.{Header as CodeHeader}
+use Rattle.kfs_value.specs.Views.{header_of}
+use Rattle.kfs_value.specs.declared.header.Header.{Header as CodeHeader}
 use Rattle.kfs_image.specs.Contents.{Shown as ImageShown, root_alone}
 use Rattle.kfs_mode.specs.declared.client.ClientFault.{ClientFault}
 use Rattle.kfs_judge.specs.Judging.{HasOtherEntry}

@@ -2,9 +2,9 @@
 use Rattle.std.specs.Prelude.{ℕ, ◌+◌, ◌/◌, ◌%◌, List, [], ◌∷◌, ◌++◌, Bool, if◌then◌else◌, codes, decimal, Result, Ok, Err}
 use Rattle.kfs_entry.specs.declared.fault.SpellFault.{SpellFault}
 use Rattle.kfs_entry.specs.declared.fault.SpellFault.TheVariants as spell
-use Rattle.kfs_entry.specs.declared.header.Header.{Header}
-use Rattle.kfs_entry.specs.declared.header.Kind.{Kind}
-use Rattle.kfs_entry.specs.declared.header.Kind.TheVariants.{File, Directory}
+use Rattle.kfs_value.specs.declared.header.Header.{Header}
+use Rattle.kfs_value.specs.declared.header.Kind.{Kind}
+use Rattle.kfs_value.specs.declared.header.Kind.TheVariants.{File, Directory}
 use Rattle.kfs_judge.specs.declared.check.Reason.{Reason}
 use Rattle.kfs_judge.specs.declared.check.Reason.TheVariants as reason
 use Rattle.kfs_lease.specs.declared.leases.LeaseFault.{LeaseFault}

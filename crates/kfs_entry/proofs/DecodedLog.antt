@@ -7,11 +7,11 @@ use Rattle.std.proofs.lemmas.List.{append-nil, drop_all, length-drop, length-map
 use Rattle.kfs_model.specs.Entry.{Log}
 use Rattle.kfs_model.specs.Spelling.{Stand, LogHeader, IsLogHeader, log_header, IsEntry, entry_bytes, IsLog, log_bytes, LogAnswer}
 use Rattle.kfs_model.proofs.AnswersExist.{spelled_log}
-use Rattle.kfs_entry.specs.declared.entry.Entry.{Entry as CodeEntry}
-use Rattle.kfs_entry.specs.declared.entry.Span.{Span}
+use Rattle.kfs_value.specs.declared.entry.Entry.{Entry as CodeEntry}
+use Rattle.kfs_value.specs.declared.entry.Span.{Span}
 use Rattle.kfs_entry.specs.declared.fault.SpellFault.{SpellFault}
 use Rattle.kfs_entry.specs.declared.fault.SpellFault.TheVariants as faults
-use Rattle.kfs_entry.specs.Views.{entry_of, IsWithin}
+use Rattle.kfs_value.specs.Views.{entry_of, IsWithin}
 use Rattle.kfs_entry.specs.RowList.{AreRows, Begins, EntryMissing}
 use Rattle.kfs_entry.specs.Answers.{Refused}
 use Rattle.kfs_entry.proofs.RowLaws.{both_hold, map_holds, AllByRecursion-weaker, flat_map-map, stop_from}

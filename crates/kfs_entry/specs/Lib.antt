@@ -1,4 +1,3 @@
-pub mod Views
 pub mod Reading
 pub mod RowList
 pub mod Answers

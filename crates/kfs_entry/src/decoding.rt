@@ -7,11 +7,11 @@ ghost use Rattle.kfs_entry.specs.RowList.{AreRows, EntryMissing, PartRowMissing}
 ghost use Rattle.kfs_entry.specs.Answers.{Answered, log_of, plan_of, SpansAreWithin};
 
 use crate::codec::headers;
-use crate::entry::{Entry, Log, Span};
+use kfs_value::{Entry, Log, Span};
 use crate::fault::SpellFault;
-use crate::plan::{NameRow, NodeRow, Piece, Plan};
+use kfs_value::{NameRow, NodeRow, Piece, Plan};
 use crate::row::{Row, RowsFault, read_rows};
-use crate::rows::Rows;
+use kfs_value::Rows;
 use std::alloc::Allocator;
 
 /// The entries of a log.

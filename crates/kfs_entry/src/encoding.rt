@@ -5,8 +5,8 @@ ghost use Rattle.kfs_entry.specs.Answers.{log_of, plan_of, SpansAreWithin};
 
 use crate::codec::headers;
 use crate::codec::headers::{LogCounts, PlanCounts};
-use crate::entry::Log;
-use crate::plan::Plan;
+use kfs_value::Log;
+use kfs_value::Plan;
 use crate::row::{rows_len, write_rows};
 use std::alloc::{AllocError, Allocator};
 

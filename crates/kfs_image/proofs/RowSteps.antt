@@ -5,11 +5,11 @@ use Rattle.std.specs.Ordering.{nat_cmp, eq_by_cmp}
 use Rattle.std.specs.BTreeMap.{BTreeMap}
 use Rattle.kfs_model.specs.Table.{numbers, get, same_table}
 use Rattle.kfs_model.specs.Tree.{directory_entries}
-use Rattle.kfs_entry.specs.declared.header.Header.{Header as CodeHeader}
+use Rattle.kfs_value.specs.declared.header.Header.{Header as CodeHeader}
 use Rattle.kfs_image.specs.declared.rows.Rows.{Rows}
 use Rattle.kfs_image.specs.Slots.{shown_at, changed}
 use Rattle.kfs_image.specs.Rows.{IsIndexed, ShowsSame, KeepsSlots, HasSlots, heads_of, names_of, heads_in, names_in}
-use Rattle.kfs_entry.specs.Views.{header_of}
+use Rattle.kfs_value.specs.Views.{header_of}
 use Rattle.kfs_image.proofs.SlotTables.{get-table_of, get-changed}
 
 same_option : (o : Option ℕ) → option_map (λ number. number) o ≡ o

@@ -4,7 +4,7 @@ use Rattle.std.specs.declared.cmp.Ordering.TheVariants.{Less}
 use Rattle.std.specs.Ordering.{nat_cmp, is_lt}
 use Rattle.std.specs.Cmp.Lexicographic.{slice_cmp}
 use Rattle.std.specs.Borrow.{Bor}
-use Rattle.kfs_entry.specs.Views.{header_of}
+use Rattle.kfs_value.specs.Views.{header_of}
 use Rattle.kfs_model.specs.Table.{get}
 use Rattle.kfs_model.specs.Tree.{Links, target, entry_count}
 use Rattle.kfs_model.specs.Sight.{parent_in}

@@ -3,14 +3,14 @@ use Rattle.std.specs.Prelude.{◌≡◌, ℕ, ◌<◌, ◌==◌, ◌&&◌, List,
 use Rattle.std.specs.Ordering.{nat_cmp, eq_by_cmp}
 use Rattle.std.specs.BTreeMap as slots_of
 use Rattle.std.specs.BTreeMap.{BTreeMap}
-use Rattle.kfs_entry.specs.declared.header.Header.{Header as CodeHeader}
+use Rattle.kfs_value.specs.declared.header.Header.{Header as CodeHeader}
 use Rattle.kfs_model.specs.Header.{Header}
 use Rattle.kfs_model.specs.Table.{Table, numbers, pairs, get}
 use Rattle.kfs_model.specs.Spelling.{IsName}
 use Rattle.kfs_model.specs.Tree.{Links, directory_entries, entry_count}
 use Rattle.kfs_image.specs.declared.rows.Rows.{Rows}
 use Rattle.kfs_image.specs.Slots.{table_of, shown_at, tallied}
-use Rattle.kfs_entry.specs.Views.{header_of}
+use Rattle.kfs_value.specs.Views.{header_of}
 
 -- how many names of a directory lead to a node
 abbrev pub ways_count : Links → (number directory : ℕ) → ℕ

@@ -1,6 +1,6 @@
 //! What can be looked up in a shape.
 
-use kfs_entry::{Header, Name};
+use kfs_value::{Header, Name};
 
 /// One thing that a shape shows.
 #[derive(Clone, Debug, PartialEq, Eq, Hash, Drop)]

@@ -8,7 +8,7 @@ ghost use Rattle.kfs_image.specs.ShownTree.{IsLawful};
 
 use crate::layout::Shape;
 use crate::sizes::TierSizes;
-use kfs_entry::{Name, NameRow, NodeRow};
+use kfs_value::{Name, NameRow, NodeRow};
 use std::alloc::{AllocError, Allocator};
 use std::marker::Model;
 use std::sync::Arc;

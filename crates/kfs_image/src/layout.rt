@@ -1,6 +1,6 @@
 //! The nodes and names of an image, as views share them.
 ghost use Rattle.std.specs.Prelude.{◌≡◌, ℕ, List, Some, option_map, IfSome, IfNone, IfOk, OnOk, OnErr};
-ghost use Rattle.kfs_entry.specs.Views.{header_of};
+ghost use Rattle.kfs_value.specs.Views.{header_of};
 ghost use Rattle.kfs_model.specs.Table.{get};
 ghost use Rattle.kfs_model.specs.Tree.{entry_count, target};
 ghost use Rattle.kfs_model.specs.Sight.{parent_in};
@@ -10,7 +10,7 @@ ghost use Rattle.kfs_image.specs.Change.{after_rows};
 
 use crate::cell::{Answer, Cell};
 use crate::rows::{Rows, name_key};
-use kfs_entry::{Header, Kind, Name, NameRow, NodeRow};
+use kfs_value::{Header, Kind, Name, NameRow, NodeRow};
 use std::alloc::{AllocError, Allocator};
 use std::marker::Model;
 

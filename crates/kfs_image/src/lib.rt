@@ -12,6 +12,6 @@ mod tally;
 
 pub use cell::{Answer, Cell};
 pub use image::Image;
-pub use kfs_entry::{Header, Kind, Name};
+pub use kfs_value::{Header, Kind, Name};
 pub use layout::{Shape, look};
 pub use sizes::TierSizes;

@@ -10,10 +10,10 @@ ghost use Rattle.kfs_image.specs.Rows.{heads_of, heads_in, names_in, count_step,
 ghost use Rattle.kfs_model.specs.Spelling.{IsName};
 ghost use Rattle.kfs_image.specs.Change.{led_to, renamed, reheaded};
 ghost use Rattle.kfs_image.specs.Slots.{shown_at, tallied, changed, IsFrom};
-ghost use Rattle.kfs_entry.specs.Views.{header_of};
+ghost use Rattle.kfs_value.specs.Views.{header_of};
 
 use crate::{slots, tally};
-use kfs_entry::{Header, Name, NameRow, NodeRow};
+use kfs_value::{Header, Name, NameRow, NodeRow};
 use std::alloc::{AllocError, Allocator};
 use std::collections::BTreeMap;
 use std::ops::Bound;

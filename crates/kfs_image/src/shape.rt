@@ -4,7 +4,7 @@ ghost use Rattle.kfs_image.specs.Change.{after_net};
 ghost use Rattle.kfs_image.specs.ShownTree.{IsLawful};
 
 use crate::image::Image;
-use kfs_entry::{NameRow, NodeRow};
+use kfs_value::{NameRow, NodeRow};
 use std::alloc::{AllocError, Allocator};
 use std::marker::PhantomData;
 

@@ -18,10 +18,10 @@ use Rattle.kfs_judge.specs.Rows.{changed_rows, keyed_name_row, keyed_node_row, s
 use Rattle.kfs_judge.specs.Walks.{AreNamesOf, AreNodesOf}
 use Rattle.kfs_judge.specs.Overlay.{over}
 use Rattle.kfs_judge.specs.declared.draft.Draft.{Draft}
-use Rattle.kfs_entry.specs.Views.{header_of}
-use Rattle.kfs_entry.specs.declared.header.Header.{Header as CodeHeader}
-use Rattle.kfs_entry.specs.declared.plan.NameRow.{NameRow as CodeNameRow}
-use Rattle.kfs_entry.specs.declared.plan.NodeRow.{NodeRow as CodeNodeRow}
+use Rattle.kfs_value.specs.Views.{header_of}
+use Rattle.kfs_value.specs.declared.header.Header.{Header as CodeHeader}
+use Rattle.kfs_value.specs.declared.plan.NameRow.{NameRow as CodeNameRow}
+use Rattle.kfs_value.specs.declared.plan.NodeRow.{NodeRow as CodeNodeRow}
 use Rattle.kfs_model.specs.Tree.{directory_entries}
 use Rattle.kfs_model.specs.Sight.{Sight}
 use Rattle.std.specs.Option.{option_map}

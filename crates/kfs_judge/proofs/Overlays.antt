@@ -14,8 +14,8 @@ use Rattle.kfs_model.specs.Sight.{Sight}
 use Rattle.kfs_model.specs.FirstWrong.{same_place}
 use Rattle.kfs_model.specs.SeenAfter.{put_at, put_name, shifted, put_parent}
 use Rattle.kfs_model.proofs.Links.{place_tie_turned}
-use Rattle.kfs_entry.specs.Views.{header_of, kind_of}
-use Rattle.kfs_entry.specs.declared.header.Header.{Header as CodeHeader}
+use Rattle.kfs_value.specs.Views.{header_of, kind_of}
+use Rattle.kfs_value.specs.declared.header.Header.{Header as CodeHeader}
 use Rattle.kfs_judge.specs.declared.draft.Draft.{Draft}
 use Rattle.kfs_judge.specs.Overlay.{over, with_node, shift_of, PutsAt, ShiftsBy}
 

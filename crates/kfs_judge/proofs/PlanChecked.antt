@@ -16,11 +16,11 @@ use Rattle.kfs_model.specs.FirstWrong.{Names, Nodes, Pieces, same_header, same_h
 use Rattle.kfs_model.proofs.Exact.{numbers-exact, headers-exact}
 use Rattle.kfs_model.proofs.Differences.{differences_only}
 use Rattle.kfs_entry.specs.Answers.{plan_of}
-use Rattle.kfs_entry.specs.Views.{entry_of, name_row_of, node_row_of}
-use Rattle.kfs_entry.specs.declared.entry.Entry.{Entry as CodeEntry}
-use Rattle.kfs_entry.specs.declared.entry.Entry.TheVariants as entries
-use Rattle.kfs_entry.specs.declared.entry.Span.{Span}
-use Rattle.kfs_entry.specs.declared.plan.Plan.{Plan as CodePlan}
+use Rattle.kfs_value.specs.Views.{entry_of, name_row_of, node_row_of}
+use Rattle.kfs_value.specs.declared.entry.Entry.{Entry as CodeEntry}
+use Rattle.kfs_value.specs.declared.entry.Entry.TheVariants as entries
+use Rattle.kfs_value.specs.declared.entry.Span.{Span}
+use Rattle.kfs_value.specs.declared.plan.Plan.{Plan as CodePlan}
 use Rattle.kfs_image.specs.declared.shape.Net.{Net}
 use Rattle.kfs_judge.specs.declared.plan.RowFault.{RowFault as CodeRowFault}
 use Rattle.kfs_judge.specs.declared.walk.EntryFault.{EntryFault as CodeEntryFault}

@@ -7,18 +7,18 @@ use Rattle.std.proofs.Common.{ap, sym, ◌∙◌, arith, inl, inr}
 use Rattle.std.proofs.lemmas.Bool.{eq-eqb, ne_eqb, cases_eq}
 use Rattle.std.proofs.lemmas.Iterator.Adapters.{position_from-zero}
 use Rattle.kfs_model.specs.FirstWrong.{Names, Nodes, Pieces, same_kind, same_header, same_headers, same_place, same_pair, first_difference, or_else}
-use Rattle.kfs_entry.specs.Views.{header_of, kind_of}
-use Rattle.kfs_entry.specs.declared.header.Kind.{Kind as CodeKind}
-use Rattle.kfs_entry.specs.declared.header.Kind.TheVariants as kinds
-use Rattle.kfs_entry.specs.declared.header.Header.{Header as CodeHeader}
-use Rattle.kfs_entry.specs.declared.plan.NameRow.{NameRow as CodeNameRow}
-use Rattle.kfs_entry.specs.declared.plan.NodeRow.{NodeRow as CodeNodeRow}
-use Rattle.kfs_entry.specs.declared.plan.Piece.{Piece as CodePiece}
-use Rattle.kfs_entry.specs.declared.plan.Plan.{Plan as CodePlan}
-use Rattle.kfs_entry.specs.contracts.plan.NameRowPartialEq.TheImpl as names
-use Rattle.kfs_entry.specs.contracts.plan.NodeRowPartialEq.TheImpl as nodes
-use Rattle.kfs_entry.specs.contracts.header.HeaderPartialEq.TheImpl as heads
-use Rattle.kfs_entry.specs.contracts.header.KindPartialEq.TheImpl as kind_tests
+use Rattle.kfs_value.specs.Views.{header_of, kind_of}
+use Rattle.kfs_value.specs.declared.header.Kind.{Kind as CodeKind}
+use Rattle.kfs_value.specs.declared.header.Kind.TheVariants as kinds
+use Rattle.kfs_value.specs.declared.header.Header.{Header as CodeHeader}
+use Rattle.kfs_value.specs.declared.plan.NameRow.{NameRow as CodeNameRow}
+use Rattle.kfs_value.specs.declared.plan.NodeRow.{NodeRow as CodeNodeRow}
+use Rattle.kfs_value.specs.declared.plan.Piece.{Piece as CodePiece}
+use Rattle.kfs_value.specs.declared.plan.Plan.{Plan as CodePlan}
+use Rattle.kfs_value.specs.contracts.plan.NameRowPartialEq.TheImpl as names
+use Rattle.kfs_value.specs.contracts.plan.NodeRowPartialEq.TheImpl as nodes
+use Rattle.kfs_value.specs.contracts.header.HeaderPartialEq.TheImpl as heads
+use Rattle.kfs_value.specs.contracts.header.KindPartialEq.TheImpl as kind_tests
 use Rattle.kfs_image.specs.declared.shape.Net.{Net}
 use Rattle.kfs_judge.specs.PlanCheck.{first_unlike, first_of_pieces}
 use Rattle.kfs_judge.specs.Rows.{keyed_name_row, keyed_node_row}

@@ -13,8 +13,8 @@ use Rattle.kfs_model.specs.Placement.{is_payload, is_zero, is_written, blocks_fr
 use Rattle.kfs_model.specs.FirstWrong.{same_option, same_mark, changed_bytes, holds_along, is_missed, is_wrong, begins_early, first_wrong_below, first_wrong_piece, lies_before}
 use Rattle.kfs_model.proofs.ChangedBytes.{none_from_changed}
 use Rattle.kfs_model.proofs.Tables.{found_from_any}
-use Rattle.kfs_entry.specs.Views.{piece_of}
-use Rattle.kfs_entry.specs.declared.plan.Piece.{Piece as CodePiece}
+use Rattle.kfs_value.specs.Views.{piece_of}
+use Rattle.kfs_value.specs.declared.plan.Piece.{Piece as CodePiece}
 use Rattle.kfs_judge.specs.PlanCheck.{first_of_pieces}
 use Rattle.kfs_judge.proofs.MarkedRuns.{IsUntouched}
 

@@ -19,8 +19,8 @@ use Rattle.kfs_model.specs.Machine.{OneByOne}
 use Rattle.kfs_model.specs.CleanStep.{IsClient}
 use Rattle.kfs_model.proofs.RightPlan.{right_from_none}
 use Rattle.kfs_entry.specs.Answers.{log_of, plan_of, Refused}
-use Rattle.kfs_entry.specs.declared.entry.Log.{Log as CodeLog}
-use Rattle.kfs_entry.specs.declared.plan.Plan.{Plan as CodePlan}
+use Rattle.kfs_value.specs.declared.entry.Log.{Log as CodeLog}
+use Rattle.kfs_value.specs.declared.plan.Plan.{Plan as CodePlan}
 use Rattle.kfs_entry.specs.declared.fault.SpellFault.{SpellFault}
 use Rattle.kfs_entry.specs.declared.fault.SpellFault.TheVariants as spelling
 use Rattle.kfs_image.specs.declared.shape.Net.{Net}

@@ -1,8 +1,8 @@
 -- The entries that are judged today. After each of them every byte of a file is as it was.
 use Rattle.std.specs.Prelude.{Bool, true, false}
-use Rattle.kfs_entry.specs.declared.entry.Entry.{Entry as CodeEntry}
-use Rattle.kfs_entry.specs.declared.entry.Entry.TheVariants as entries
-use Rattle.kfs_entry.specs.declared.entry.Span.{Span}
+use Rattle.kfs_value.specs.declared.entry.Entry.{Entry as CodeEntry}
+use Rattle.kfs_value.specs.declared.entry.Entry.TheVariants as entries
+use Rattle.kfs_value.specs.declared.entry.Span.{Span}
 use Rattle.kfs_model.specs.Entry.{Entry, Create, Write, Truncate, Link, Unlink, Rename, Chmod}
 
 abbrev pub is_judged : Entry → Bool

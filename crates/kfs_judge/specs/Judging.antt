@@ -17,8 +17,8 @@ use Rattle.kfs_model.specs.Machine.{OneByOne}
 use Rattle.kfs_model.specs.Spelling.{SpellingFault, BadHeader, BadEntry, Trailing, BadRow, LogAnswer, PlanAnswer}
 use Rattle.kfs_model.specs.Judgement.{State, Submission, Fault, ClientUnknown, ClientWrong, BadLog, BadPlan, AtEntry, AtRow, Verdict, Yes, No, IsJudgement, scene_of}
 use Rattle.kfs_entry.specs.Answers.{log_of, plan_of}
-use Rattle.kfs_entry.specs.declared.entry.Log.{Log as CodeLog}
-use Rattle.kfs_entry.specs.declared.plan.Plan.{Plan as CodePlan}
+use Rattle.kfs_value.specs.declared.entry.Log.{Log as CodeLog}
+use Rattle.kfs_value.specs.declared.plan.Plan.{Plan as CodePlan}
 use Rattle.kfs_entry.specs.declared.fault.SpellFault.{SpellFault}
 use Rattle.kfs_entry.specs.declared.fault.SpellFault.TheVariants as spelling
 use Rattle.kfs_image.specs.declared.shape.Net.{Net}

@@ -12,8 +12,8 @@ use Rattle.kfs_model.specs.SeenAfter.{put_at, put_name, shifted, put_parent}
 use Rattle.kfs_model.specs.Tree.{directory_entries}
 use Rattle.kfs_model.specs.Sight.{Sight, Seen, Cell, NameIn, HeaderOf}
 use Rattle.kfs_model.specs.Check.{Spot}
-use Rattle.kfs_entry.specs.Views.{header_of}
-use Rattle.kfs_entry.specs.declared.header.Header.{Header as CodeHeader}
+use Rattle.kfs_value.specs.Views.{header_of}
+use Rattle.kfs_value.specs.declared.header.Header.{Header as CodeHeader}
 use Rattle.kfs_judge.specs.declared.draft.Draft.{Draft}
 
 module _ {A : Type 0} where

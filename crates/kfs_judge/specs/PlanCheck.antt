@@ -7,10 +7,10 @@ use Rattle.kfs_model.specs.Run.{Mark, Scene, run, marks, marked}
 use Rattle.kfs_model.specs.FirstWrong.{RowFault, Names, Nodes, Pieces, same_pair, same_place, same_headers, first_difference, or_else, first_wrong_row}
 use Rattle.kfs_model.specs.Placement.{need}
 use Rattle.kfs_entry.specs.Answers.{plan_of}
-use Rattle.kfs_entry.specs.Views.{entry_of}
-use Rattle.kfs_entry.specs.declared.entry.Log.{Log as CodeLog}
-use Rattle.kfs_entry.specs.declared.plan.Piece.{Piece as CodePiece}
-use Rattle.kfs_entry.specs.declared.plan.Plan.{Plan as CodePlan}
+use Rattle.kfs_value.specs.Views.{entry_of}
+use Rattle.kfs_value.specs.declared.entry.Log.{Log as CodeLog}
+use Rattle.kfs_value.specs.declared.plan.Piece.{Piece as CodePiece}
+use Rattle.kfs_value.specs.declared.plan.Plan.{Plan as CodePlan}
 use Rattle.kfs_image.specs.declared.shape.Net.{Net}
 use Rattle.kfs_judge.specs.declared.plan.RowFault.{RowFault as CodeRowFault}
 use Rattle.kfs_judge.specs.declared.plan.RowFault.TheVariants as faults

@@ -10,7 +10,7 @@ use Rattle.kfs_judge.specs.declared.reads.Read.{Read}
 use Rattle.kfs_judge.specs.declared.reads.Read.TheVariants as reads
 use Rattle.kfs_judge.specs.declared.reads.Seen.{Seen as CodeSeen}
 use Rattle.kfs_judge.specs.declared.reads.Seen.TheVariants as seen
-use Rattle.kfs_entry.specs.Views.{header_of}
+use Rattle.kfs_value.specs.Views.{header_of}
 use Rattle.kfs_model.specs.Sight.{Cell, HeaderOf, NameIn, CountOf, ParentOf, LeaseOn, Answer, Head, Number, Count, Held, Seen, answer}
 
 abbrev pub look_of : CodeCell → Cell

@@ -4,10 +4,10 @@ use Rattle.std.specs.Option.{option_map}
 use Rattle.kfs_model.specs.FirstWrong.{same_option}
 use Rattle.kfs_model.specs.Header.{Header}
 use Rattle.kfs_model.specs.Plan.{keyed_name, keyed_node}
-use Rattle.kfs_entry.specs.Views.{header_of, name_row_of, node_row_of}
-use Rattle.kfs_entry.specs.declared.plan.NameRow.{NameRow as CodeNameRow}
-use Rattle.kfs_entry.specs.declared.plan.NodeRow.{NodeRow as CodeNodeRow}
-use Rattle.kfs_entry.specs.declared.header.Header.{Header as CodeHeader}
+use Rattle.kfs_value.specs.Views.{header_of, name_row_of, node_row_of}
+use Rattle.kfs_value.specs.declared.plan.NameRow.{NameRow as CodeNameRow}
+use Rattle.kfs_value.specs.declared.plan.NodeRow.{NodeRow as CodeNodeRow}
+use Rattle.kfs_value.specs.declared.header.Header.{Header as CodeHeader}
 
 module _ {K X Y : Type 0} (same : X → X → Bool) (now : Option X → Y) (before : K → Option X) where
   unfoldable pub changed_rows : List (K × Option X) → List (K × Y)

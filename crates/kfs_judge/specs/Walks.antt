@@ -16,8 +16,8 @@ use Rattle.kfs_model.specs.Run.{Scene, EntryFault, run, bytes}
 use Rattle.kfs_model.specs.SeenAfter.{seen_run_from}
 use Rattle.kfs_model.specs.Plan.{AreDifferences, number_now, header_now}
 use Rattle.kfs_judge.specs.Rows.{keyed_name_row, keyed_node_row}
-use Rattle.kfs_entry.specs.declared.plan.NameRow.{NameRow as CodeNameRow}
-use Rattle.kfs_entry.specs.declared.plan.NodeRow.{NodeRow as CodeNodeRow}
+use Rattle.kfs_value.specs.declared.plan.NameRow.{NameRow as CodeNameRow}
+use Rattle.kfs_value.specs.declared.plan.NodeRow.{NodeRow as CodeNodeRow}
 use Rattle.kfs_image.specs.declared.shape.Net.{Net}
 use Rattle.kfs_judge.specs.declared.walk.EntryFault.{EntryFault as CodeEntryFault}
 use Rattle.kfs_judge.specs.Spots.{reason_of}

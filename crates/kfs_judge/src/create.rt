@@ -1,7 +1,7 @@
 //! The entry Create.
 ghost use Rattle.std.specs.Prelude.{◌≡◌, ℕ, ◌+◌, ◌==◌, ◌||◌, pos, ◌<ℤ◌, None, Ok, IfOk, List, OnOk, ◌++◌};
 ghost use Rattle.std.specs.Option.{option_map};
-ghost use Rattle.kfs_entry.specs.Views.{kind_of};
+ghost use Rattle.kfs_value.specs.Views.{kind_of};
 ghost use Rattle.kfs_model.specs.Check.{first_fault, looked, checks_of};
 ghost use Rattle.kfs_model.specs.Header.{Kind as KindShown};
 ghost use Rattle.kfs_model.specs.Entry as entry;

@@ -2,7 +2,7 @@
 
 ghost use Rattle.std.specs.Prelude.{◌≡◌, ℕ, ◌+◌, ◌==◌, ◌||◌, ℤ, pos, ◌+ℤ◌, ◌<ℤ◌, Option, unwrap_or, OnOk, false, List, [], Contains};
 ghost use Rattle.std.specs.Option.{option_map};
-ghost use Rattle.kfs_entry.specs.Views.{header_of, kind_of};
+ghost use Rattle.kfs_value.specs.Views.{header_of, kind_of};
 ghost use Rattle.kfs_model.specs.Sight.{Sight, Cell, HeaderOf, NameIn};
 ghost use Rattle.kfs_model.specs.SeenAfter.{put_at, put_parent};
 ghost use Rattle.std.specs.Ordering.{nat_cmp};

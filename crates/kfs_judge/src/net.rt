@@ -1,7 +1,7 @@
 //! What differs after a log.
 ghost use Rattle.std.specs.Prelude.{IfOk, List, [], ◌∷◌, OnOk};
 ghost use Rattle.std.specs.Option.{option_map};
-ghost use Rattle.kfs_entry.specs.Views.{header_of};
+ghost use Rattle.kfs_value.specs.Views.{header_of};
 ghost use Rattle.kfs_model.specs.Plan.{header_now, number_now};
 ghost use Rattle.kfs_judge.specs.Reads.{Always, Within};
 ghost use Rattle.kfs_judge.specs.Recorders.{GoesOn};

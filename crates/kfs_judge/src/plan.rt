@@ -1,6 +1,6 @@
 //! The plan of a log against what the log comes to, and the judgement of both.
 ghost use Rattle.std.specs.Prelude.{◌≡◌, ◌≢◌, ◌↔◌, ℕ, Bool, List, [], None, map, position, zip, not, All, IsOk, IfOk, IfErr, IsTrue};
-ghost use Rattle.kfs_entry.specs.Views.{entry_of};
+ghost use Rattle.kfs_value.specs.Views.{entry_of};
 ghost use Rattle.kfs_model.specs.Access.{Client as ClientRow};
 ghost use Rattle.kfs_model.specs.FirstWrong.{first_difference};
 ghost use Rattle.kfs_model.specs.Judgement.{State};

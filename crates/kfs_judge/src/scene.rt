@@ -2,7 +2,7 @@
 ghost use Rattle.std.specs.Prelude.{◌≡◌, ℕ, ◌+◌, ◌==◌, pos, ◌<ℤ◌, List, None, Ok, IfOk, false, [], OnOk, ◌++◌};
 ghost use Rattle.std.specs.Option.{option_map};
 ghost use Rattle.std.specs.List.{list_any};
-ghost use Rattle.kfs_entry.specs.Views.{entry_of};
+ghost use Rattle.kfs_value.specs.Views.{entry_of};
 ghost use Rattle.kfs_model.specs.Check.{first_fault, looked, checks_of};
 ghost use Rattle.kfs_model.specs.Run.{created_by};
 ghost use Rattle.kfs_model.specs.SeenAfter.{seen_after};

@@ -1,7 +1,7 @@
 //! Where an entry stands, and the first of its checks that fails there.
 ghost use Rattle.std.specs.Prelude.{◌≡◌, IfOk, is_none, not, ◌&&◌, ◌||◌, map, OnOk, [], ◌∷◌};
 ghost use Rattle.std.specs.Option.{option_map};
-ghost use Rattle.kfs_entry.specs.Views.{header_of};
+ghost use Rattle.kfs_value.specs.Views.{header_of};
 ghost use Rattle.kfs_model.specs.Access.{may_header, owns};
 ghost use Rattle.kfs_model.specs.Check as checks;
 ghost use Rattle.kfs_model.specs.Check.{first_failing, looked};

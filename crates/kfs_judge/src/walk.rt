@@ -1,6 +1,6 @@
 //! The entries of a log against a view.
 ghost use Rattle.std.specs.Prelude.{◌≡◌, ℕ, ◌≤◌, Bool, false, List, length, map, All, IsSome, IfOk, [], None, Ok, OnOk};
-ghost use Rattle.kfs_entry.specs.Views.{entry_of};
+ghost use Rattle.kfs_value.specs.Views.{entry_of};
 ghost use Rattle.kfs_model.specs.Access.{Client as ClientRow};
 ghost use Rattle.kfs_model.specs.Lease.{row_of};
 ghost use Rattle.kfs_model.specs.Sight.{Sight};

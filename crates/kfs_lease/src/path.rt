@@ -9,7 +9,7 @@ ghost use Rattle.kfs_image.specs.Contents.{sight_of};
 ghost use Rattle.kfs_model.specs.Table.{get};
 ghost use Rattle.kfs_model.specs.Tree.{target};
 ghost use Rattle.kfs_model.specs.Sight.{is_directory};
-ghost use Rattle.kfs_entry.specs.Views.{header_of as header_shown};
+ghost use Rattle.kfs_value.specs.Views.{header_of as header_shown};
 ghost use Rattle.kfs_lease.specs.Paths.{left_of, parts_left};
 ghost use Rattle.kfs_lease.specs.Faults.{fault_of};
 

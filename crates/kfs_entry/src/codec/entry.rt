@@ -1,11 +1,11 @@
 //! An entry: its tag and its fields, as the table lists them.
 ghost use Rattle.std.specs.Prelude.{◌≡◌, ◌≤◌, length, drop, IfSome};
-ghost use Rattle.kfs_entry.specs.Views.{entry_of, IsWithin};
+ghost use Rattle.kfs_value.specs.Views.{entry_of, IsWithin};
 ghost use Rattle.kfs_model.proofs.Reading.{tagged_read, entry_read};
 ghost use Rattle.kfs_entry.specs.Reading.{seen};
 
 use crate::codec::{byte, kind, mode, name, number32, number64, payload};
-use crate::entry::{Entry, Span};
+use kfs_value::{Entry, Span};
 use crate::entry_table;
 use crate::row::Row;
 use std::alloc::{AllocError, Allocator};
@@ -82,7 +82,7 @@ fn read_entry(source: &[u8], at: usize) -> Option<(Entry<Span>, usize)>
 impl Row for Entry<Span> {
     ghost use Rattle.std.specs.Prelude.{length};
     ghost use Rattle.kfs_model.specs.Spelling.{IsEntry, entry_bytes};
-    ghost use Rattle.kfs_entry.specs.Views.{entry_of, IsWithin};
+    ghost use Rattle.kfs_value.specs.Views.{entry_of, IsWithin};
     ghost use Rattle.kfs_entry.specs.RowList.{Begins};
 
     ghost spelling = { λ source entry. entry_bytes (entry_of source entry) };

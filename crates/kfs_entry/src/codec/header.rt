@@ -3,12 +3,12 @@
 ghost use Rattle.std.specs.Prelude.{◌≡◌, ◌≤◌, ◌++◌, length, drop, Some, IfSome, OnOk};
 ghost use Rattle.std.specs.Option.{option_map};
 ghost use Rattle.kfs_model.specs.Spelling.{header_bytes};
-ghost use Rattle.kfs_entry.specs.Views.{kind_of, header_of};
+ghost use Rattle.kfs_value.specs.Views.{kind_of, header_of};
 ghost use Rattle.kfs_model.proofs.Reading.{present_read, header_read};
 ghost use Rattle.kfs_entry.specs.Reading.{seen};
 
 use crate::codec::{byte, number16, number32, number64};
-use crate::header::{Header, Kind};
+use kfs_value::{Header, Kind};
 use std::alloc::{AllocError, Allocator};
 
 fn read_present(source: &[u8], at: usize, kind: Kind) -> Option<(Header, usize)>

@@ -1,12 +1,12 @@
 //! A kind: 0 for a file, 1 for a directory.
 ghost use Rattle.std.specs.Prelude.{◌≡◌, ◌≤◌, ◌++◌, length, drop, IfSome, OnOk};
 ghost use Rattle.kfs_model.specs.Spelling.{kind_bytes};
-ghost use Rattle.kfs_entry.specs.Views.{kind_of};
+ghost use Rattle.kfs_value.specs.Views.{kind_of};
 ghost use Rattle.kfs_model.proofs.Reading.{kind_read};
 ghost use Rattle.kfs_entry.specs.Reading.{seen};
 
 use crate::codec::byte;
-use crate::header::Kind;
+use kfs_value::Kind;
 use std::alloc::{AllocError, Allocator};
 
 /// The field that stands at `at`, and the place after it.

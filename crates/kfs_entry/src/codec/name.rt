@@ -5,7 +5,7 @@ ghost use Rattle.kfs_model.proofs.Reading.{name_read};
 ghost use Rattle.kfs_entry.specs.Reading.{seen};
 
 use crate::codec::{byte, bytes};
-use crate::name::Name;
+use kfs_value::Name;
 use std::alloc::{AllocError, Allocator};
 
 /// The field that stands at `at`, and the place after it.

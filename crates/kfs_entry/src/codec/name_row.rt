@@ -1,12 +1,12 @@
 //! A name row of a plan.
 ghost use Rattle.std.specs.Prelude.{◌≡◌, ◌≤◌, ◌++◌, length, drop, IfSome, OnOk};
 ghost use Rattle.kfs_model.specs.Spelling.{name_row_bytes};
-ghost use Rattle.kfs_entry.specs.Views.{name_row_of};
+ghost use Rattle.kfs_value.specs.Views.{name_row_of};
 ghost use Rattle.kfs_model.proofs.Reading.{name_row_read};
 ghost use Rattle.kfs_entry.specs.Reading.{seen};
 
 use crate::codec::{name, number32};
-use crate::plan::NameRow;
+use kfs_value::NameRow;
 use crate::row::Row;
 use std::alloc::{AllocError, Allocator};
 
@@ -24,7 +24,7 @@ fn read_row(source: &[u8], at: usize) -> Option<(NameRow, usize)>
 
 impl Row for NameRow {
     ghost use Rattle.kfs_model.specs.Spelling.{IsNameRow, name_row_bytes};
-    ghost use Rattle.kfs_entry.specs.Views.{name_row_of};
+    ghost use Rattle.kfs_value.specs.Views.{name_row_of};
     ghost use Rattle.kfs_entry.specs.RowList.{Begins};
 
     ghost spelling = { λ _ row. name_row_bytes (name_row_of row) };

@@ -1,12 +1,12 @@
 //! A node row of a plan.
 ghost use Rattle.std.specs.Prelude.{◌≡◌, ◌≤◌, ◌++◌, length, drop, IfSome, OnOk};
 ghost use Rattle.kfs_model.specs.Spelling.{node_row_bytes};
-ghost use Rattle.kfs_entry.specs.Views.{node_row_of};
+ghost use Rattle.kfs_value.specs.Views.{node_row_of};
 ghost use Rattle.kfs_model.proofs.Reading.{node_row_read};
 ghost use Rattle.kfs_entry.specs.Reading.{seen};
 
 use crate::codec::{header, number32};
-use crate::plan::NodeRow;
+use kfs_value::NodeRow;
 use crate::row::Row;
 use std::alloc::{AllocError, Allocator};
 
@@ -23,7 +23,7 @@ fn read_row(source: &[u8], at: usize) -> Option<(NodeRow, usize)>
 
 impl Row for NodeRow {
     ghost use Rattle.kfs_model.specs.Spelling.{IsNodeRow, node_row_bytes};
-    ghost use Rattle.kfs_entry.specs.Views.{node_row_of};
+    ghost use Rattle.kfs_value.specs.Views.{node_row_of};
     ghost use Rattle.kfs_entry.specs.RowList.{Begins};
 
     ghost spelling = { λ _ row. node_row_bytes (node_row_of row) };

@@ -1,12 +1,12 @@
 //! A payload of at most 65,536 bytes behind four bytes of length, held as its span in the source.
 ghost use Rattle.std.specs.Prelude.{◌≡◌, ◌≤◌, ◌++◌, length, drop, IfSome, OnOk};
 ghost use Rattle.kfs_model.specs.Spelling.{IsPayload, payload_bytes};
-ghost use Rattle.kfs_entry.specs.Views.{span_bytes};
+ghost use Rattle.kfs_value.specs.Views.{span_bytes};
 ghost use Rattle.kfs_model.proofs.Reading.{payload_read};
 ghost use Rattle.kfs_entry.specs.Reading.{seen};
 
 use crate::codec::{bytes, number32};
-use crate::entry::Span;
+use kfs_value::Span;
 use std::alloc::{AllocError, Allocator};
 
 const LIMIT: u32 = 65_536;

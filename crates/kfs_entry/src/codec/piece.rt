@@ -1,12 +1,12 @@
 //! A piece of a plan.
 ghost use Rattle.std.specs.Prelude.{◌≡◌, ◌≤◌, ◌++◌, length, drop, IfSome, OnOk};
 ghost use Rattle.kfs_model.specs.Spelling.{source_bytes, piece_bytes};
-ghost use Rattle.kfs_entry.specs.Views.{source_of, piece_of};
+ghost use Rattle.kfs_value.specs.Views.{source_of, piece_of};
 ghost use Rattle.kfs_model.proofs.Reading.{source_read, piece_read};
 ghost use Rattle.kfs_entry.specs.Reading.{seen};
 
 use crate::codec::{byte, number16, number32, number64};
-use crate::plan::{Piece, Source};
+use kfs_value::{Piece, Source};
 use crate::row::Row;
 use std::alloc::{AllocError, Allocator};
 
@@ -66,7 +66,7 @@ fn read_piece(source: &[u8], at: usize) -> Option<(Piece, usize)>
 
 impl Row for Piece {
     ghost use Rattle.kfs_model.specs.Spelling.{IsPiece, piece_bytes};
-    ghost use Rattle.kfs_entry.specs.Views.{piece_of};
+    ghost use Rattle.kfs_value.specs.Views.{piece_of};
     ghost use Rattle.kfs_entry.specs.RowList.{Begins};
 
     ghost spelling = { λ _ piece. piece_bytes (piece_of piece) };

@@ -5,7 +5,7 @@ use Rattle.std.specs.Fmt.{digits}
 use native.Mathlib.Decide.{ℕ_discrete}
 use Rattle.kfs_model.specs.Example.{computing}
 use Rattle.kfs_image.specs.Slots.{changed}
-use Rattle.kfs_entry.specs.declared.header.Kind.TheVariants.{Directory}
+use Rattle.kfs_value.specs.declared.header.Kind.TheVariants.{Directory}
 use Rattle.kfs_desk.specs.declared.answers.Done.TheVariants.{Leased}
 use Rattle.kfs_engine.specs.Cut.{cut}
 use Rattle.kfs_engine.specs.Command.{numbers32}

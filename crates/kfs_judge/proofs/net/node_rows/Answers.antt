@@ -9,7 +9,7 @@ use Rattle.kfs_model.specs.Table.{numbers}
 use Rattle.kfs_model.specs.Plan.{header_now}
 use Rattle.kfs_model.specs.FirstWrong.{same_header}
 use Rattle.std.specs.Option.{option_map}
-use Rattle.kfs_entry.specs.Views.{header_of}
+use Rattle.kfs_value.specs.Views.{header_of}
 use Rattle.kfs_model.proofs.Exact.{headers-exact}
 use Rattle.kfs_judge.specs.Rows.{IsRow, keyed_node_row, shown_heads}
 use Rattle.kfs_judge.proofs.Recording.{goes_then, within_then, within_wider, one_is_part}

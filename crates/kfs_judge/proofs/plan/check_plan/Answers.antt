@@ -1,7 +1,7 @@
 -- What the entries come to over bytes and over marks, and the first row that isn't the net's.
 use Rattle.std.proofs.Common.{◌≡◌, map, Ok, sym, ap, ◌∙◌}
 use Rattle.std.specs.Result.{result_copied}
-use Rattle.kfs_entry.specs.Views.{entry_of}
+use Rattle.kfs_value.specs.Views.{entry_of}
 use Rattle.kfs_judge.proofs.PlanChecked.{walk_is_checked, all_judged}
 use Rattle.kfs_judge.proofs.plan.check_plan.Goals as goal
 

@@ -7,7 +7,7 @@ use Rattle.kfs_model.specs.CleanStep.{IsClient}
 use Rattle.kfs_model.specs.Lease.{row_of}
 use Rattle.kfs_model.specs.Looked.{looked_cells}
 use Rattle.kfs_entry.specs.Answers.{log_of}
-use Rattle.kfs_entry.specs.Views.{entry_of}
+use Rattle.kfs_value.specs.Views.{entry_of}
 use Rattle.kfs_judge.specs.declared.plan.Fault.TheVariants as faults
 use Rattle.kfs_judge.specs.declared.plan.Spelled.TheVariants as readings
 use Rattle.kfs_judge.specs.Judging.{submission_with, AreSpelled, IsEarly, IsVerdict, IsReading}

@@ -3,7 +3,7 @@ use Rattle.std.proofs.Common.{◌≡◌, ◌+◌, ◌++◌, map, drop, length, �
 use Rattle.std.specs.Option.{option_map}
 use Rattle.kfs_model.specs.Check.{first_fault, looked, checks_of}
 use Rattle.kfs_model.specs.SeenAfter.{seen_after}
-use Rattle.kfs_entry.specs.Views.{entry_of}
+use Rattle.kfs_value.specs.Views.{entry_of}
 use Rattle.kfs_judge.specs.Overlay.{over, spot_of, IsWritten}
 use Rattle.kfs_judge.specs.Reads.{Within}
 use Rattle.kfs_judge.specs.Spots.{reason_of}

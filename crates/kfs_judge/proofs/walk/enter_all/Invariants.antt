@@ -1,6 +1,6 @@
 -- What the entries so far have come to, in every state that agrees.
 use Rattle.std.proofs.Common.{◌≡◌, ℕ, List, map, drop}
-use Rattle.kfs_entry.specs.Views.{entry_of}
+use Rattle.kfs_value.specs.Views.{entry_of}
 use Rattle.kfs_judge.specs.Overlay.{ShiftsBy}
 use Rattle.kfs_judge.specs.Recorders.{GoesOn}
 use Rattle.kfs_judge.proofs.Entering.{RunsOn}

@@ -1,6 +1,6 @@
 -- What holds over the cells holds of the trees that show them.
 use Rattle.std.proofs.Common.{map}
-use Rattle.kfs_entry.specs.Views.{entry_of}
+use Rattle.kfs_value.specs.Views.{entry_of}
 use Rattle.kfs_judge.specs.Walks.{seen_in}
 use Rattle.kfs_judge.proofs.TreeWalks.{comes_to_tree}
 use Rattle.kfs_judge.proofs.walk.judge_entries.Goals as goal

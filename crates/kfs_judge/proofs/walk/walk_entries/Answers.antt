@@ -1,7 +1,7 @@
 -- The run of the entries, and the net of the draft that they leave.
 use Rattle.std.proofs.Common.{map, Some, None, Ok, subst, ap, sym, ◌∙◌}
 use Rattle.std.specs.Option.{option_map}
-use Rattle.kfs_entry.specs.Views.{entry_of}
+use Rattle.kfs_value.specs.Views.{entry_of}
 use Rattle.kfs_model.specs.Looked.{looked_cells}
 use Rattle.kfs_judge.specs.Overlay.{over}
 use Rattle.kfs_judge.specs.Reads.{Agrees, AreAmong, AreOnce}

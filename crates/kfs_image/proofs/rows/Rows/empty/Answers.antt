@@ -5,7 +5,7 @@ use Rattle.std.specs.Map.{lookup}
 use Rattle.std.specs.BTreeMap.{is_at}
 use Rattle.kfs_model.specs.Table.{numbers, pairs, get}
 use Rattle.kfs_model.specs.Tree.{directory_entries}
-use Rattle.kfs_entry.specs.Views.{header_of}
+use Rattle.kfs_value.specs.Views.{header_of}
 use Rattle.kfs_image.specs.Slots.{table_of, opened}
 use Rattle.kfs_image.proofs.rows.Rows.empty.Goals as goal
 

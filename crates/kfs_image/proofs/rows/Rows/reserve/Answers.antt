@@ -1,7 +1,7 @@
 use Rattle.std.proofs.Common.{ℕ, List, slice_index_or, subst, ◌∙◌}
 use Rattle.std.proofs.lemmas.List.{get_or_default}
-use Rattle.kfs_entry.specs.declared.plan.NameRow.{NameRow}
-use Rattle.kfs_entry.specs.declared.plan.NodeRow.{NodeRow}
+use Rattle.kfs_value.specs.declared.plan.NameRow.{NameRow}
+use Rattle.kfs_value.specs.declared.plan.NodeRow.{NodeRow}
 use borrow.Author.Count.{below_more}
 use Rattle.std.specs.Prelude.{IsSome}
 use Rattle.std.specs.Ordering.{nat_cmp}

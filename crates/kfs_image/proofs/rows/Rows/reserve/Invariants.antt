@@ -2,8 +2,8 @@ use Rattle.std.proofs.Common.{ℕ, ◌<◌, All, slice_index_or}
 use Rattle.std.specs.Prelude.{IsSome}
 use Rattle.std.specs.Ordering.{nat_cmp}
 use Rattle.std.specs.BTreeMap.{get}
-use Rattle.kfs_entry.specs.declared.plan.NameRow.{NameRow}
-use Rattle.kfs_entry.specs.declared.plan.NodeRow.{NodeRow}
+use Rattle.kfs_value.specs.declared.plan.NameRow.{NameRow}
+use Rattle.kfs_value.specs.declared.plan.NodeRow.{NodeRow}
 use Rattle.kfs_image.specs.Rows.{ShowsSame, HasSlots}
 use Rattle.kfs_image.proofs.rows.Rows.reserve.Given as goal
 

@@ -1,5 +1,5 @@
 use Rattle.std.proofs.Common.{Some, ap, ◌∙◌}
-use Rattle.kfs_entry.specs.Views.{header_of}
+use Rattle.kfs_value.specs.Views.{header_of}
 use Rattle.kfs_image.specs.Slots.{changed}
 use Rattle.kfs_image.proofs.RowSteps.{same_heads, same_names, still_indexed}
 use Rattle.kfs_image.proofs.rows.Rows.with_node.Goals as goal

@@ -4,7 +4,7 @@ use Rattle.std.proofs.Common.{ap, ◌++◌, ◌∙◌}
 use Rattle.kfs_model.specs.Check.{checks_of, looked}
 use Rattle.kfs_model.specs.Entry.{Create}
 use Rattle.kfs_model.specs.Sight.{NameIn, HeaderOf}
-use Rattle.kfs_entry.specs.Views.{kind_of}
+use Rattle.kfs_value.specs.Views.{kind_of}
 use Rattle.kfs_model.specs.SeenAfter.{seen_after}
 use Rattle.kfs_judge.specs.Overlay.{over, spot_of, with_node}
 use Rattle.kfs_judge.specs.Spots.{reason_of}

@@ -1,5 +1,5 @@
 use Rattle.std.proofs.Common.{◌≤◌, length, drop, arith}
-use Rattle.kfs_entry.specs.Views.{entry_of, IsWithin}
+use Rattle.kfs_value.specs.Views.{entry_of, IsWithin}
 use Rattle.kfs_model.proofs.EntryLaws.{entry_field}
 use Rattle.kfs_entry.proofs.Found.{is_found, is_none, IfSome-weaker}
 use Rattle.kfs_entry.proofs.codec.entry.EntrySpanRow.read.Goals as goal

@@ -1,5 +1,5 @@
 use Rattle.std.proofs.Common.{◌≤◌, length, drop, arith}
-use Rattle.kfs_entry.specs.Views.{name_row_of}
+use Rattle.kfs_value.specs.Views.{name_row_of}
 use Rattle.kfs_model.proofs.PlanLaws.{name_row_field}
 use Rattle.kfs_entry.proofs.Found.{is_found, is_none}
 use Rattle.kfs_entry.proofs.codec.name_row.NameRowRow.read.Goals as goal

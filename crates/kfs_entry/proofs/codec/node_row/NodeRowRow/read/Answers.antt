@@ -1,5 +1,5 @@
 use Rattle.std.proofs.Common.{◌≤◌, length, drop, arith}
-use Rattle.kfs_entry.specs.Views.{node_row_of}
+use Rattle.kfs_value.specs.Views.{node_row_of}
 use Rattle.kfs_model.proofs.PlanLaws.{node_row_field}
 use Rattle.kfs_entry.proofs.Found.{is_found, is_none}
 use Rattle.kfs_entry.proofs.codec.node_row.NodeRowRow.read.Goals as goal

@@ -1,5 +1,5 @@
 use Rattle.std.proofs.Common.{◌≤◌, length, drop, arith}
-use Rattle.kfs_entry.specs.Views.{piece_of}
+use Rattle.kfs_value.specs.Views.{piece_of}
 use Rattle.kfs_model.proofs.PlanLaws.{piece_field}
 use Rattle.kfs_entry.proofs.Found.{is_found, is_none}
 use Rattle.kfs_entry.proofs.codec.piece.PieceRow.read.Goals as goal

@@ -1,17 +1,17 @@
 -- Logs and plans of the code as the values of the definitions.
 use Rattle.std.specs.Prelude.{ℕ, ◌≤◌, List, slice_range}
 use Rattle.std.specs.Option.{option_map}
-use Rattle.kfs_entry.specs.declared.header.Kind.{Kind as CodeKind}
-use Rattle.kfs_entry.specs.declared.header.Kind.TheVariants as kinds
-use Rattle.kfs_entry.specs.declared.header.Header.{Header as CodeHeader}
-use Rattle.kfs_entry.specs.declared.plan.NameRow.{NameRow as CodeNameRow}
-use Rattle.kfs_entry.specs.declared.plan.NodeRow.{NodeRow as CodeNodeRow}
-use Rattle.kfs_entry.specs.declared.plan.Piece.{Piece as CodePiece}
-use Rattle.kfs_entry.specs.declared.plan.Source.{Source as CodeSource}
-use Rattle.kfs_entry.specs.declared.plan.Source.TheVariants as sources
-use Rattle.kfs_entry.specs.declared.entry.Span.{Span}
-use Rattle.kfs_entry.specs.declared.entry.Entry.{Entry as CodeEntry}
-use Rattle.kfs_entry.specs.declared.entry.Entry.TheVariants as entries
+use Rattle.kfs_value.specs.declared.header.Kind.{Kind as CodeKind}
+use Rattle.kfs_value.specs.declared.header.Kind.TheVariants as kinds
+use Rattle.kfs_value.specs.declared.header.Header.{Header as CodeHeader}
+use Rattle.kfs_value.specs.declared.plan.NameRow.{NameRow as CodeNameRow}
+use Rattle.kfs_value.specs.declared.plan.NodeRow.{NodeRow as CodeNodeRow}
+use Rattle.kfs_value.specs.declared.plan.Piece.{Piece as CodePiece}
+use Rattle.kfs_value.specs.declared.plan.Source.{Source as CodeSource}
+use Rattle.kfs_value.specs.declared.plan.Source.TheVariants as sources
+use Rattle.kfs_value.specs.declared.entry.Span.{Span}
+use Rattle.kfs_value.specs.declared.entry.Entry.{Entry as CodeEntry}
+use Rattle.kfs_value.specs.declared.entry.Entry.TheVariants as entries
 use Rattle.kfs_model.specs.Header.{Kind, File, Directory, Header}
 use Rattle.kfs_model.specs.Entry.{Entry, Create, Write, Truncate, Link, Unlink, Rename, Chmod}
 use Rattle.kfs_model.specs.PlanRow.{NameRow, NodeRow, Source, Zero, Payload, Piece}

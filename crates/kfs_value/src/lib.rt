@@ -1,0 +1,14 @@
+//! Names, headers, and the values that update logs and digest plans are made of.
+#![tactic(auto)]
+
+mod entry;
+mod header;
+mod name;
+mod plan;
+mod rows;
+
+pub use entry::{Entry, Log, Span};
+pub use header::{Header, Kind};
+pub use name::Name;
+pub use plan::{NameRow, NodeRow, Piece, Plan, Source};
+pub use rows::Rows;
