@@ -5,7 +5,7 @@ use Rattle.std.specs.BTreeMap as slots_of
 use Rattle.std.specs.BTreeMap.{BTreeMap}
 use Rattle.kfs_value.specs.declared.header.Header.{Header as CodeHeader}
 use Rattle.kfs_model.specs.Header.{Header}
-use Rattle.kfs_model.specs.Table.{Table, numbers, pairs, get}
+use Rattle.kfs_model.specs.Table.{Order, Table, numbers, pairs, get}
 use Rattle.kfs_model.specs.Spelling.{IsName}
 use Rattle.kfs_model.specs.Tree.{Links, directory_entries, entry_count}
 use Rattle.kfs_image.specs.declared.rows.Rows.{Rows}
@@ -26,6 +26,10 @@ abbrev pub uplink_step : (directory : ℕ) → Option ℕ → ℕ × ℕ → ℕ
 uplink_step directory None q = 0
 uplink_step directory (Some number) q = if eq_by_cmp (pairs numbers numbers).compare q (number, directory) then 1 else 0
 
+-- the order of the ways up: by the node's number and then the directory's
+abbrev pub by_node : Order (ℕ × ℕ)
+by_node = pairs numbers numbers
+
 -- the headers that the slots show
 abbrev pub heads_of : BTreeMap ℕ (Option CodeHeader) → Table numbers Header
 heads_of slots = table_of numbers header_of slots.entries
@@ -41,29 +45,45 @@ module _ {A : Type 0} where
   abbrev pub names_in : Rows A → Links
   names_in rows = names_of rows.names
 
+  -- how often a name of the directory was counted
+  abbrev pub names_counted : Rows A → (directory : ℕ) → ℕ
+  names_counted rows directory = tallied nat_cmp rows.counts directory
+
+  -- how often a way from the node to the directory was counted
+  abbrev pub ways_counted : Rows A → (way : ℕ × ℕ) → ℕ
+  ways_counted rows way = tallied by_node.compare rows.uplinks way
+
+  -- each way that is shown was counted
+  abbrev pub AreCounted : Rows A → Type 0
+  AreCounted rows = (way : ℕ × ℕ) (count : ℕ) → shown_at by_node.compare rows.uplinks way ≡ Some count → 0 < count
+
   -- each name is one, and the counts are those of the names
   pub record IsIndexed (rows : Rows A) : Type 0 where
     pub names : (key : ℕ × List ℕ) (number : ℕ) → get (names_in rows) key ≡ Some number → IsName key.1
-    pub positive : (key : ℕ × ℕ) (count : ℕ) → shown_at (pairs numbers numbers).compare rows.uplinks key ≡ Some count → 0 < count
-    pub counts : (directory : ℕ) → tallied nat_cmp rows.counts directory ≡ entry_count (names_in rows) directory
-    pub uplinks : (number directory : ℕ) → tallied (pairs numbers numbers).compare rows.uplinks (number, directory) ≡ ways_count (names_in rows) number directory
+    pub positive : AreCounted rows
+    pub counts : (directory : ℕ) → names_counted rows directory ≡ entry_count (names_in rows) directory
+    pub uplinks : (number directory : ℕ) → ways_counted rows (number, directory) ≡ ways_count (names_in rows) number directory
 
   -- each map shows the same
   pub record ShowsSame (old new : Rows A) : Type 0 where
     pub headers : (q : ℕ) → shown_at nat_cmp new.headers q ≡ shown_at nat_cmp old.headers q
     pub names : (q : ℕ × List ℕ) → shown_at directory_entries.compare new.names q ≡ shown_at directory_entries.compare old.names q
     pub counts : (q : ℕ) → shown_at nat_cmp new.counts q ≡ shown_at nat_cmp old.counts q
-    pub uplinks : (q : ℕ × ℕ) → shown_at (pairs numbers numbers).compare new.uplinks q ≡ shown_at (pairs numbers numbers).compare old.uplinks q
+    pub uplinks : (q : ℕ × ℕ) → shown_at by_node.compare new.uplinks q ≡ shown_at by_node.compare old.uplinks q
 
   -- no slot goes
   pub record KeepsSlots (old new : Rows A) : Type 0 where
     pub headers : (q : ℕ) → IsSome (slots_of.get nat_cmp old.headers q) → IsSome (slots_of.get nat_cmp new.headers q)
     pub names : (q : ℕ × List ℕ) → IsSome (slots_of.get directory_entries.compare old.names q) → IsSome (slots_of.get directory_entries.compare new.names q)
     pub counts : (q : ℕ) → IsSome (slots_of.get nat_cmp old.counts q) → IsSome (slots_of.get nat_cmp new.counts q)
-    pub uplinks : (q : ℕ × ℕ) → IsSome (slots_of.get (pairs numbers numbers).compare old.uplinks q) → IsSome (slots_of.get (pairs numbers numbers).compare new.uplinks q)
+    pub uplinks : (q : ℕ × ℕ) → IsSome (slots_of.get by_node.compare old.uplinks q) → IsSome (slots_of.get by_node.compare new.uplinks q)
+
+  -- there are slots for the counts of a name that comes to lead to the number
+  abbrev pub HasCounts : Rows A → (directory number : ℕ) → Type 0
+  HasCounts rows directory number = IsSome (slots_of.get nat_cmp rows.counts directory) × IsSome (slots_of.get by_node.compare rows.uplinks (number, directory))
 
   -- there are slots for what a name comes to lead to
   pub record HasSlots (rows : Rows A) (directory : ℕ) (name : List ℕ) (number : ℕ) : Type 0 where
     pub names : IsSome (slots_of.get directory_entries.compare rows.names (directory, name))
     pub counts : IsSome (slots_of.get nat_cmp rows.counts directory)
-    pub uplinks : IsSome (slots_of.get (pairs numbers numbers).compare rows.uplinks (number, directory))
+    pub uplinks : IsSome (slots_of.get by_node.compare rows.uplinks (number, directory))

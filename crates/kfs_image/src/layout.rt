@@ -10,7 +10,7 @@ ghost use Rattle.kfs_image.specs.Change.{after_rows};
 
 use crate::cell::{Answer, Cell};
 use crate::rows::{Rows, name_key};
-use kfs_value::{Header, Kind, Name, NameRow, NodeRow};
+use kfs_value::{GREATEST_MODE, Header, Kind, Name, NameRow, NodeRow, ROOT};
 use std::alloc::{AllocError, Allocator};
 use std::marker::Model;
 
@@ -40,8 +40,6 @@ impl<A: Allocator + Clone> Clone for Shape<A> {
         })
     }
 }
-
-const ROOT: u32 = 1;
 
 /// What the shape shows at a cell. Takes no memory.
 pub fn look<A: Allocator>(shape: &Shape<A>, cell: &Cell) -> Answer
@@ -99,7 +97,7 @@ impl<A: Allocator + Clone> Shape<A> {
     {
         let root = Header {
             kind: Kind::Directory,
-            mode: 0o777,
+            mode: GREATEST_MODE,
             uid: 0,
             gid: 0,
             links: 1,

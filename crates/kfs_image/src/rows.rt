@@ -6,7 +6,7 @@ ghost use Rattle.kfs_model.specs.Table.{get, pairs, numbers, empty};
 ghost use Rattle.kfs_model.specs.Tree.{entry_count, directory_entries, target};
 ghost use Rattle.kfs_model.specs.Sight.{holder};
 ghost use Rattle.kfs_image.specs.Look.{IsAfter, IsNext};
-ghost use Rattle.kfs_image.specs.Rows.{heads_of, heads_in, names_in, count_step, uplink_step, IsIndexed, ShowsSame, KeepsSlots, HasSlots};
+ghost use Rattle.kfs_image.specs.Rows.{heads_of, heads_in, names_in, count_step, uplink_step, names_counted, ways_counted, AreCounted, HasCounts, IsIndexed, ShowsSame, KeepsSlots, HasSlots};
 ghost use Rattle.kfs_model.specs.Spelling.{IsName};
 ghost use Rattle.kfs_image.specs.Change.{led_to, renamed, reheaded};
 ghost use Rattle.kfs_image.specs.Slots.{shown_at, tallied, changed, IsFrom};
@@ -121,14 +121,14 @@ pub(crate) fn target_of(row: &NameRow) -> Option<u32>
 impl<A: Allocator> Rows<A> {
     /// Counts a name of the directory less, where it led to a node.
     fn leave(&mut self, dir: u32, from: Option<u32>)
-        requires counts { (n : ℕ) → from ≡ Some n → 0 < tallied nat_cmp self.old.counts dir }
-        requires uplinks { (n : ℕ) → from ≡ Some n → 0 < tallied (pairs numbers numbers).compare self.old.uplinks (n, dir) }
+        requires counts { (n : ℕ) → from ≡ Some n → 0 < names_counted self.old dir }
+        requires uplinks { (n : ℕ) → from ≡ Some n → 0 < ways_counted self.old (n, dir) }
         ensures kept { KeepsSlots self.old self.new }
         ensures headers { self.new.headers ≡ self.old.headers }
         ensures names { self.new.names ≡ self.old.names }
-        ensures positive { ((q : ℕ × ℕ) (n : ℕ) → shown_at (pairs numbers numbers).compare self.old.uplinks q ≡ Some n → 0 < n) → (q : ℕ × ℕ) (n : ℕ) → shown_at (pairs numbers numbers).compare self.new.uplinks q ≡ Some n → 0 < n }
-        ensures counts { (q : ℕ) → tallied nat_cmp self.new.counts q + count_step dir from q ≡ tallied nat_cmp self.old.counts q }
-        ensures uplinks { (q : ℕ × ℕ) → tallied (pairs numbers numbers).compare self.new.uplinks q + uplink_step dir from q ≡ tallied (pairs numbers numbers).compare self.old.uplinks q }
+        ensures positive { AreCounted self.old → AreCounted self.new }
+        ensures counts { (q : ℕ) → names_counted self.new q + count_step dir from q ≡ names_counted self.old q }
+        ensures uplinks { (q : ℕ × ℕ) → ways_counted self.new q + uplink_step dir from q ≡ ways_counted self.old q }
     {
         if let Some(number) = from {
             tally::take(&mut self.counts, &dir);
@@ -138,15 +138,15 @@ impl<A: Allocator> Rows<A> {
 
     /// Counts a name of the directory more, where it comes to lead to a node.
     fn enter(&mut self, dir: u32, to: Option<u32>)
-        requires slots { (n : ℕ) → to ≡ Some n → IsSome (slots_of.get nat_cmp self.old.counts dir) × IsSome (slots_of.get (pairs numbers numbers).compare self.old.uplinks (n, dir)) }
-        requires counts { (n : ℕ) → to ≡ Some n → tallied nat_cmp self.old.counts dir + 1 < 2 ^ 64 }
-        requires uplinks { (n : ℕ) → to ≡ Some n → tallied (pairs numbers numbers).compare self.old.uplinks (n, dir) + 1 < 2 ^ 64 }
+        requires slots { (n : ℕ) → to ≡ Some n → HasCounts self.old dir n }
+        requires counts { (n : ℕ) → to ≡ Some n → names_counted self.old dir + 1 < 2 ^ 64 }
+        requires uplinks { (n : ℕ) → to ≡ Some n → ways_counted self.old (n, dir) + 1 < 2 ^ 64 }
         ensures kept { KeepsSlots self.old self.new }
         ensures headers { self.new.headers ≡ self.old.headers }
         ensures names { self.new.names ≡ self.old.names }
-        ensures positive { ((q : ℕ × ℕ) (n : ℕ) → shown_at (pairs numbers numbers).compare self.old.uplinks q ≡ Some n → 0 < n) → (q : ℕ × ℕ) (n : ℕ) → shown_at (pairs numbers numbers).compare self.new.uplinks q ≡ Some n → 0 < n }
-        ensures counts { (q : ℕ) → tallied nat_cmp self.new.counts q ≡ tallied nat_cmp self.old.counts q + count_step dir to q }
-        ensures uplinks { (q : ℕ × ℕ) → tallied (pairs numbers numbers).compare self.new.uplinks q ≡ tallied (pairs numbers numbers).compare self.old.uplinks q + uplink_step dir to q }
+        ensures positive { AreCounted self.old → AreCounted self.new }
+        ensures counts { (q : ℕ) → names_counted self.new q ≡ names_counted self.old q + count_step dir to q }
+        ensures uplinks { (q : ℕ × ℕ) → ways_counted self.new q ≡ ways_counted self.old q + uplink_step dir to q }
     {
         if let Some(number) = to {
             tally::add(&mut self.counts, &dir);

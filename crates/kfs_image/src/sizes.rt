@@ -1,5 +1,6 @@
 //! The sizes of the tiers.
 ghost use Rattle.std.specs.Prelude.{◌≡◌, ◌≤◌, IsSome, IfSome, ◌↔◌};
+ghost use Rattle.kfs_model.specs.Limits.{tier_limit};
 
 use std::marker::Model;
 
@@ -14,13 +15,14 @@ pub struct TierSizes {
 
 impl Model for TierSizes {
     ghost use Rattle.std.specs.Prelude.{◌≤◌};
+    ghost use Rattle.kfs_model.specs.Limits.{tier_limit};
     ghost use Rattle.kfs_model.specs.Placement.{TierSizes as Sizes};
 
     ghost Value = { Sizes };
 
     ghost view = { λ s. record { first = s.first; second = s.second; third = s.third } };
 
-    ghost invariant = { λ s. (s.first ≤ 65536) × (s.second ≤ 65536) × (s.third ≤ 65536) };
+    ghost invariant = { λ s. (s.first ≤ tier_limit) × (s.second ≤ tier_limit) × (s.third ≤ tier_limit) };
 
     ghost inverse = { λ v. record { first = v.first; second = v.second; third = v.third } };
 }
@@ -31,7 +33,7 @@ pub const LARGEST_TIER: u32 = 65_536;
 impl TierSizes {
     /// The sizes of tiers 0, 1 and 2 in blocks, or none where one is over 65,536. Takes no memory.
     pub fn new(first: u32, second: u32, third: u32) -> Option<TierSizes>
-        ensures in_range { IsSome result ↔ ((first ≤ 65536) × (second ≤ 65536) × (third ≤ 65536)) }
+        ensures in_range { IsSome result ↔ ((first ≤ tier_limit) × (second ≤ tier_limit) × (third ≤ tier_limit)) }
         ensures value { IfSome result (λ sizes. sizes ≡ record { first = first; second = second; third = third }) }
     {
         if first > LARGEST_TIER || second > LARGEST_TIER || third > LARGEST_TIER {

@@ -1,5 +1,5 @@
 -- The refusals of the code as those of the definitions.
-use Rattle.std.specs.Prelude.{Option, Some, None}
+use Rattle.std.specs.Prelude.{◌≡◌, Option, Some, None, IfSome, Err}
 use Rattle.kfs_model.specs.Lease as model
 use Rattle.kfs_lease.specs.declared.leases.LeaseFault.{LeaseFault}
 use Rattle.kfs_lease.specs.declared.leases.LeaseFault.TheVariants.{UnknownClient, BadPath, NoSuchName, NotDirectory, NoSearch, Past, LeaseHeld, NoLeaseHeld, Backwards, OutOfMemory}
@@ -16,3 +16,7 @@ fault_of (LeaseHeld client) = Some (model.LeaseHeld client)
 fault_of NoLeaseHeld = Some model.NoLeaseHeld
 fault_of Backwards = Some model.Backwards
 fault_of OutOfMemory = None
+
+-- the outcome is this refusal, memory aside, with these leases
+abbrev pub Refuses : model.Outcome → LeaseFault → model.Leases → Type 0
+Refuses outcome fault leases = IfSome (fault_of fault) (λ refusal. outcome ≡ (Err refusal, leases))

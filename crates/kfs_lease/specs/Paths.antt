@@ -1,7 +1,11 @@
--- The parts of a path that are still to come.
-use Rattle.std.specs.Prelude.{ℕ, List, [], Option, Some, None}
+-- The parts of a path that are still to come, and one step along it.
+use Rattle.std.specs.Prelude.{◌≡◌, ℕ, ◌+◌, List, [], ◌∷◌, Option, Some, None, IsSomeAnd, Err}
 use Rattle.std.specs.Borrow.{Bor}
-use Rattle.kfs_model.specs.Lease.{parts_of}
+use Rattle.kfs_model.specs.Access.{Client}
+use Rattle.kfs_model.specs.Sight.{Sight}
+use Rattle.kfs_model.specs.Lease.{parts_of, walked}
+use Rattle.kfs_lease.specs.Faults.{fault_of}
+use Rattle.kfs_lease.specs.declared.leases.LeaseFault.{LeaseFault}
 use Rattle.kfs_lease.specs.declared.path.Parts.{Parts}
 
 -- the parts of the bytes that are left, none where nothing is
@@ -11,3 +15,12 @@ left_of (Some rest) = parts_of rest.now
 
 abbrev pub parts_left : Parts → List (List ℕ)
 parts_left parts = left_of parts.rest
+
+module _ (sight : Sight) (client : Client) (directory index : ℕ) (name : List ℕ) where
+  -- the name leads from the directory to the next node, where the walk goes on
+  abbrev pub LeadsTo : (next : ℕ) → Type 0
+  LeadsTo next = (names : List (List ℕ)) → walked sight client directory index (name ∷ names) ≡ walked sight client next (index + 1) names
+
+  -- the walk stops at the name
+  abbrev pub StopsAt : LeaseFault → Type 0
+  StopsAt fault = (names : List (List ℕ)) → IsSomeAnd (fault_of fault) (λ refusal. walked sight client directory index (name ∷ names) ≡ Err refusal)

@@ -38,6 +38,14 @@ live_at moment t = retain (λ key. is_some_and (get t key) (model.is_live moment
 unfoldable pub without_node : (number : ℕ) → Table (pairs numbers numbers) model.Lease → Table (pairs numbers numbers) model.Lease
 without_node number t = retain (λ key. not (key.1 == number)) t
 
+-- how many rows there are
+abbrev pub row_count : {A : Type 0} → Rows A → ℕ
+row_count rows = slots_of.btree_map_len rows.leases
+
+-- whether this end stands beside the key
+abbrev pub has_end : set.BTreeSet (ℕ × (ℕ × ℕ)) → (end : ℕ) → (key : ℕ × ℕ) → Bool
+has_end ends end key = set.contains by_end.compare ends (end, key)
+
 -- whether a row has this end
 abbrev pub ends_at : Option Lease → (end : ℕ) → Bool
 ends_at row end = is_some_and row (λ (lease : Lease). lease.end == end)

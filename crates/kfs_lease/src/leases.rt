@@ -3,7 +3,7 @@ ghost use Rattle.std.specs.Prelude.{◌≡◌, ◌==◌, not, Ok, Err, IfOk, IfE
 ghost use Rattle.kfs_model.specs.Lease.{no_leases, holds, granted, dropped, ticked, without_gone};
 ghost use Rattle.kfs_mode.specs.Clients.{AreDistinct};
 ghost use Rattle.kfs_image.specs.Contents.{sight_of};
-ghost use Rattle.kfs_lease.specs.Faults.{fault_of};
+ghost use Rattle.kfs_lease.specs.Faults.{fault_of, Refuses};
 ghost use Rattle.kfs_lease.specs.Rows.{kind_of};
 ghost use Rattle.kfs_lease.specs.declared.leases.LeaseFault.TheVariants.{OutOfMemory};
 
@@ -177,7 +177,7 @@ impl<A: Allocator + Clone> Leases<A> {
     ) -> Result<u32, LeaseFault>
         requires distinct { AreDistinct clients.now }
         ensures ok { IfOk result (λ number. granted self.old (sight_of shape.now) clients.now client path.now (kind_of kind) end ≡ (Ok number, self.new)) }
-        ensures err { IfErr result (λ fault. IfSome (fault_of fault) (λ f. granted self.old (sight_of shape.now) clients.now client path.now (kind_of kind) end ≡ (Err f, self.new))) }
+        ensures err { IfErr result (λ fault. Refuses (granted self.old (sight_of shape.now) clients.now client path.now (kind_of kind) end) fault self.new) }
         ensures unchanged { OnErr result (self.new ≡ self.old) }
     {
         let Some(row) = find_client(clients, client) else {

@@ -10,15 +10,14 @@ ghost use Rattle.kfs_model.specs.Table.{get};
 ghost use Rattle.kfs_model.specs.Tree.{target};
 ghost use Rattle.kfs_model.specs.Sight.{is_directory};
 ghost use Rattle.kfs_value.specs.Views.{header_of as header_shown};
-ghost use Rattle.kfs_lease.specs.Paths.{left_of, parts_left};
+ghost use Rattle.kfs_lease.specs.Paths.{left_of, parts_left, LeadsTo, StopsAt};
 ghost use Rattle.kfs_lease.specs.Faults.{fault_of};
 
 use crate::leases::LeaseFault;
 use kfs_image::{Answer, Cell, Header, Kind, Name, Shape, look};
 use kfs_mode::{Client, Want, may};
+use kfs_value::ROOT;
 use std::alloc::Allocator;
-
-const ROOT: u32 = 1;
 
 /// The parts of a path between its slashes, from first to last.
 #[derive(Clone, Copy)]
@@ -116,8 +115,8 @@ fn step<A: Allocator>(
     index: usize,
 ) -> Result<u32, LeaseFault>
     requires { IsTrue (spelling.is_name component.now) }
-    ensures ok { IfOk result (λ next. (names : List (List ℕ)) → model.walked (sight_of shape.now) client.now dir index (component.now ∷ names) ≡ model.walked (sight_of shape.now) client.now next (index + 1) names) }
-    ensures err { IfErr result (λ fault. (names : List (List ℕ)) → IsSomeAnd (fault_of fault) (λ f. model.walked (sight_of shape.now) client.now dir index (component.now ∷ names) ≡ Err f)) }
+    ensures ok { IfOk result (λ next. LeadsTo (sight_of shape.now) client.now dir index component.now next) }
+    ensures err { IfErr result (λ fault. StopsAt (sight_of shape.now) client.now dir index component.now fault) }
 {
     let Some(header) = directory(shape, dir) else {
         return Err(LeaseFault::NotDirectory(index));

@@ -5,7 +5,7 @@ ghost use Rattle.std.specs.BTreeMap as slots_of;
 ghost use Rattle.std.specs.BTreeSet as set;
 ghost use Rattle.kfs_model.specs.Table.{empty, get, insert, remove};
 ghost use Rattle.kfs_model.specs.Lease as model;
-ghost use Rattle.kfs_lease.specs.Rows.{kind_of, lease_of, by_node, by_end, table_in, ends_at, live_at, without_node, IsIndexed};
+ghost use Rattle.kfs_lease.specs.Rows.{kind_of, lease_of, by_node, by_end, table_in, ends_at, has_end, row_count, live_at, without_node, IsIndexed};
 
 use std::alloc::{AllocError, Allocator};
 use std::collections::{BTreeMap, BTreeSet};
@@ -106,7 +106,7 @@ impl<A: Allocator> Rows<A> {
         ensures found { result ≡ is_some (get (table_in self.old) (client, number)) }
         ensures table { table_in self.new ≡ remove (table_in self.old) (client, number) }
         ensures kept { result ≡ false → table_in self.new ≡ table_in self.old }
-        ensures fewer { IsSome (slots_of.get by_node.compare self.old.leases (number, client)) → slots_of.btree_map_len self.new.leases < slots_of.btree_map_len self.old.leases }
+        ensures fewer { IsSome (slots_of.get by_node.compare self.old.leases (number, client)) → row_count self.new < row_count self.old }
     {
         let key = (number, client);
         match self.leases.remove(&key) {
@@ -208,8 +208,8 @@ fn leave_end<A: Allocator>(
     old: Option<Lease>,
     end: u64,
 )
-    requires { (e : ℕ) → set.contains by_end.compare ends.old (e, key) ≡ (end == e) || ends_at old e }
-    ensures { (e : ℕ) (q : ℕ × ℕ) → set.contains by_end.compare ends.new (e, q) ≡ (if eq_by_cmp by_node.compare key q then end == e else set.contains by_end.compare ends.old (e, q)) }
+    requires { (e : ℕ) → has_end ends.old e key ≡ (end == e) || ends_at old e }
+    ensures { (e : ℕ) (q : ℕ × ℕ) → has_end ends.new e q ≡ (if eq_by_cmp by_node.compare key q then end == e else has_end ends.old e q) }
 {
     if let Some(lease) = old {
         if lease.end != end {

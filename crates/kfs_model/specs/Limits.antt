@@ -5,6 +5,14 @@ use Rattle.std.specs.Prelude.{ℕ}
 abbrev pub greatest_number : ℕ
 greatest_number = 65536
 
+-- number 1 is the root directory
+abbrev pub root_number : ℕ
+root_number = 1
+
+-- a client's supplementary groups at the most
+abbrev pub group_limit : ℕ
+group_limit = 16
+
 -- 0o777
 abbrev pub greatest_mode : ℕ
 greatest_mode = 511

@@ -3,12 +3,14 @@
 
 mod entry;
 mod header;
+mod limits;
 mod name;
 mod plan;
 mod rows;
 
 pub use entry::{Entry, Log, Span};
 pub use header::{Header, Kind};
+pub use limits::{GREATEST_MODE, ROOT};
 pub use name::Name;
 pub use plan::{NameRow, NodeRow, Piece, Plan, Source};
 pub use rows::Rows;

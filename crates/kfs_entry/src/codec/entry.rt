@@ -5,9 +5,9 @@ ghost use Rattle.kfs_model.proofs.Reading.{tagged_read, entry_read};
 ghost use Rattle.kfs_entry.specs.Reading.{seen};
 
 use crate::codec::{byte, kind, mode, name, number32, number64, payload};
-use kfs_value::{Entry, Span};
 use crate::entry_table;
 use crate::row::Row;
+use kfs_value::{Entry, Span};
 use std::alloc::{AllocError, Allocator};
 
 /// The tag of a Write, as the table has it. Only the speed depends on it.

@@ -5,9 +5,8 @@ ghost use Rattle.kfs_model.proofs.Reading.{mode_read};
 ghost use Rattle.kfs_entry.specs.Reading.{seen};
 
 use crate::codec::number16;
+use kfs_value::GREATEST_MODE;
 use std::alloc::{AllocError, Allocator};
-
-const GREATEST: u16 = 0o777;
 
 /// The field that stands at `at`, and the place after it.
 #[tactic(auto, unfolding(kfs_model::proofs::Reading::mode_read))]
@@ -17,7 +16,7 @@ pub fn read(source: &[u8], at: usize) -> Option<(u16, usize)>
     ensures within { IfSome result (λ x. x.1 ≤ length source.now) }
 {
     let (mode, at) = number16::read(source, at)?;
-    if mode > GREATEST {
+    if mode > GREATEST_MODE {
         return None;
     }
     Some((mode, at))

@@ -6,8 +6,8 @@ ghost use Rattle.kfs_model.proofs.Reading.{name_row_read};
 ghost use Rattle.kfs_entry.specs.Reading.{seen};
 
 use crate::codec::{name, number32};
-use kfs_value::NameRow;
 use crate::row::Row;
+use kfs_value::NameRow;
 use std::alloc::{AllocError, Allocator};
 
 #[tactic(auto, unfolding(kfs_model::proofs::Reading::name_row_read))]

@@ -6,8 +6,8 @@ ghost use Rattle.kfs_model.proofs.Reading.{node_row_read};
 ghost use Rattle.kfs_entry.specs.Reading.{seen};
 
 use crate::codec::{header, number32};
-use kfs_value::NodeRow;
 use crate::row::Row;
+use kfs_value::NodeRow;
 use std::alloc::{AllocError, Allocator};
 
 #[tactic(auto, unfolding(kfs_model::proofs::Reading::node_row_read))]

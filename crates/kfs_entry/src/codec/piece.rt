@@ -6,8 +6,8 @@ ghost use Rattle.kfs_model.proofs.Reading.{source_read, piece_read};
 ghost use Rattle.kfs_entry.specs.Reading.{seen};
 
 use crate::codec::{byte, number16, number32, number64};
-use kfs_value::{Piece, Source};
 use crate::row::Row;
+use kfs_value::{Piece, Source};
 use std::alloc::{AllocError, Allocator};
 
 #[tactic(auto, unfolding(kfs_model::proofs::Reading::source_read))]
