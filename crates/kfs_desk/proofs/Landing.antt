@@ -6,16 +6,17 @@ use Rattle.std.proofs.lemmas.Bool.{and_parts, eqb-false, le-ltb}
 use Rattle.kfs_model.specs.Header.{Kind, File, Directory, Header}
 use Rattle.kfs_model.specs.Table.{get, insert, empty, retain, numbers, same_table, same_entries_table, get-mapped, get-retain}
 use Rattle.kfs_model.specs.Tree.{Tree, Node, Body, Cells, Names, headers, header_of, target, cells_of, name_count}
-use Rattle.kfs_model.specs.Sight.{sight, is_directory, is_file}
+use Rattle.kfs_model.specs.Access.{Client}
+use Rattle.kfs_model.specs.Sight.{ClientSight, sight, is_directory, is_file}
 use Rattle.kfs_model.specs.Soundness.{IsSound}
 use Rattle.kfs_model.specs.Entry.{Entry, Create, Write, Truncate, Link, Unlink, Rename, Chmod}
 use Rattle.kfs_model.specs.Check.{Reason, first_fault}
 use Rattle.kfs_model.specs.Effect.{effect, change_of, changed_node, swept}
-use Rattle.kfs_model.specs.Run.{Mark, Scene, EntryFault, run_from, bytes, spot, created_by, byte_of, looked_up}
+use Rattle.kfs_model.specs.Run.{Mark, EntryFault, run_from, bytes, entry_context, created_by, byte_of, looked_up}
 use Rattle.kfs_model.specs.Plan.{header_now, is_base, AreDifferences}
 use Rattle.kfs_model.specs.Placement.{written_blocks, need}
 use Rattle.kfs_model.specs.Lease.{Lease, without_gone}
-use Rattle.kfs_model.specs.Judgement.{State, Submission, IsJudgement, Verdict, Yes, No, Accepted, NoRoom, Refused, scene_of, free_places, reply_to}
+use Rattle.kfs_model.specs.Judgement.{State, Submission, IsJudgement, Verdict, Yes, No, Accepted, NoRoom, Refused, client_sight_of, free_places, reply_to}
 use Rattle.kfs_model.specs.Machine.{OneByOne, Replied, are_chosen, leases_after, landed, outcome_of, placed, placement_after, replied, stays}
 use Rattle.kfs_model.proofs.RowFits.{row_fits}
 use Rattle.kfs_model.proofs.Cells.{on_node, recut}
@@ -59,31 +60,31 @@ changed_names t n change = by (get t.nodes n)
     by None = refl
     by (Some node) = refl
 
-entry_keeps_name : (scene : Scene) (index : ℕ) (created : List ℕ) (t : Tree ℕ) (entry : Entry) → is_judged entry ≡ true → first_fault (spot scene (sight t) created) entry ≡ None
-    → (d : ℕ) (m : List ℕ) (n : ℕ) → target t.names d m ≡ Some n → target (effect bytes scene.client index entry t).names d m ≡ Some n
+entry_keeps_name : (client : Client) (before : ClientSight) (index : ℕ) (created : List ℕ) (t : Tree ℕ) (entry : Entry) → is_judged entry ≡ true → first_fault (entry_context client before (sight t) created) entry ≡ None
+    → (d : ℕ) (m : List ℕ) (n : ℕ) → target t.names d m ≡ Some n → target (effect bytes client index entry t).names d m ≡ Some n
 unfolding change_of swept
-entry_keeps_name scene index created t (Create e k number kind mode) is clean d m n there =
-    kept_target t.names e k number (create_facts (spot scene (sight t) created) e k number kind mode clean).free_name d m n there
-entry_keeps_name scene index created t (Write number offset payload) is clean d m n there = cc
-entry_keeps_name scene index created t (Truncate number size) is clean d m n there = cc
-entry_keeps_name scene index created t (Link number e k) is clean d m n there = cc
-entry_keeps_name scene index created t (Unlink e k kind) is clean d m n there = cc
-entry_keeps_name scene index created t (Rename e k f l) is clean d m n there = cc
-entry_keeps_name scene index created t (Chmod number mode) is clean d m n there = ap (λ names. target names d m) (changed_names t number (λ node. record node { mode = mode })) ∙ there
+entry_keeps_name client before index created t (Create e k number kind mode) is clean d m n there =
+    kept_target t.names e k number (create_facts (entry_context client before (sight t) created) e k number kind mode clean).free_name d m n there
+entry_keeps_name client before index created t (Write number offset payload) is clean d m n there = cc
+entry_keeps_name client before index created t (Truncate number size) is clean d m n there = cc
+entry_keeps_name client before index created t (Link number e k) is clean d m n there = cc
+entry_keeps_name client before index created t (Unlink e k kind) is clean d m n there = cc
+entry_keeps_name client before index created t (Rename e k f l) is clean d m n there = cc
+entry_keeps_name client before index created t (Chmod number mode) is clean d m n there = ap (λ names. target names d m) (changed_names t number (λ node. record node { mode = mode })) ∙ there
 
-names_stay : (scene : Scene) (index : ℕ) (created : List ℕ) (t : Tree ℕ) (entries : List Entry) → list_all is_judged entries ≡ true → (after : Tree ℕ) → run_from bytes scene index created t entries ≡ Ok after
+names_stay : (client : Client) (before : ClientSight) (index : ℕ) (created : List ℕ) (t : Tree ℕ) (entries : List Entry) → list_all is_judged entries ≡ true → (after : Tree ℕ) → run_from bytes client before index created t entries ≡ Ok after
     → (d : ℕ) (m : List ℕ) (n : ℕ) → target t.names d m ≡ Some n → target after.names d m ≡ Some n
 unfolding run_from
-names_stay scene index created t [] are after ran d m n there = let same : t ≡ after = cc in subst (λ (u : Tree ℕ). target u.names d m ≡ Some n) same there
-names_stay scene index created t (entry ∷ entries) are after ran d m n there =
+names_stay client before index created t [] are after ran d m n there = let same : t ≡ after = cc in subst (λ (u : Tree ℕ). target u.names d m ≡ Some n) same there
+names_stay client before index created t (entry ∷ entries) are after ran d m n there =
     let (is, rest) = and_parts _ _ are in
     by_fault
-    (λ later clean. names_stay scene (index + 1) (created_by entry created) (effect bytes scene.client index entry t) entries rest after later d m n (entry_keeps_name scene index created t entry is clean d m n there))
-    (first_fault (spot scene (sight t) created) entry) refl ran
+    (λ later clean. names_stay client before (index + 1) (created_by entry created) (effect bytes client index entry t) entries rest after later d m n (entry_keeps_name client before index created t entry is clean d m n there))
+    (first_fault (entry_context client before (sight t) created) entry) refl ran
   where
-    by_fault : (run_from bytes scene (index + 1) (created_by entry created) (effect bytes scene.client index entry t) entries ≡ Ok after → first_fault (spot scene (sight t) created) entry ≡ None → target after.names d m ≡ Some n)
-        → (found : Option Reason) → first_fault (spot scene (sight t) created) entry ≡ found
-        → ◌≡◌ {A = Result (Tree ℕ) EntryFault} (elim found [ None ↦ run_from bytes scene (index + 1) (created_by entry created) (effect bytes scene.client index entry t) entries | Some reason ↦ Err (record { entry = index; reason = reason }) ]) (Ok after)
+    by_fault : (run_from bytes client before (index + 1) (created_by entry created) (effect bytes client index entry t) entries ≡ Ok after → first_fault (entry_context client before (sight t) created) entry ≡ None → target after.names d m ≡ Some n)
+        → (found : Option Reason) → first_fault (entry_context client before (sight t) created) entry ≡ found
+        → ◌≡◌ {A = Result (Tree ℕ) EntryFault} (elim found [ None ↦ run_from bytes client before (index + 1) (created_by entry created) (effect bytes client index entry t) entries | Some reason ↦ Err (record { entry = index; reason = reason }) ]) (Ok after)
         → target after.names d m ≡ Some n
     by_fault later None clean ran' = later ran' clean
     by_fault later (Some reason) clean ran' = cc
@@ -132,15 +133,15 @@ module _ (desk : Parts) (order : IsInOrder desk) (lawful : IsLawful desk.image.c
     abbrev entries : List Entry
     entries = map (entry_of submission.log) log.entries
 
-    abbrev scene : Scene
-    scene = scene_of s yes.client
+    abbrev sight_before : ClientSight
+    sight_before = client_sight_of s yes.client.number
 
     are_judged : list_all is_judged entries ≡ true
     are_judged = all_judged submission.log log.entries yes.spelled.judged
 
     untouched : IsUntouched marked_after
     untouched =
-        let beside = ends_beside scene s.tree entries are_judged after yes.comes.ran in
+        let beside = ends_beside yes.client sight_before s.tree entries are_judged after yes.comes.ran in
         let same : beside.marked_after ≡ marked_after = cc (beside.ran, yes.comes.ran_marked) in
         subst IsUntouched same beside.untouched
 
@@ -171,7 +172,7 @@ module _ (desk : Parts) (order : IsInOrder desk) (lawful : IsLawful desk.image.c
 
     blank : IsBlank after
     blank =
-        let both : ◌≡◌ {A = Result (Tree ℕ) EntryFault} (Ok (recut byte marked_after)) (Ok after) = ap (looked_up byte) (sym yes.comes.ran_marked) ∙ marks_give_bytes scene s.tree entries ∙ yes.comes.ran in
+        let both : ◌≡◌ {A = Result (Tree ℕ) EntryFault} (Ok (recut byte marked_after)) (Ok after) = ap (looked_up byte) (sym yes.comes.ran_marked) ∙ marks_give_bytes yes.client sight_before s.tree entries ∙ yes.comes.ran in
         let same : recut byte marked_after ≡ after = cc in
         subst IsBlank same (record {
           cells = λ number.
@@ -194,7 +195,7 @@ module _ (desk : Parts) (order : IsInOrder desk) (lawful : IsLawful desk.image.c
     stays_node : (client number : ℕ) → IsTrue (is_some (get desk.leases.rows (client, number))) → is_some (get (headers after) number) ≡ true
     stays_node client number leased =
         let before = subst (λ heads. is_some (get heads number) ≡ true) (sym lawful.counted) (order.on_nodes client number leased) in
-        heads_stay s.tree after lawful.sound yes.comes.sound (names_stay scene 0 [] s.tree entries are_judged after yes.comes.ran) number before
+        heads_stay s.tree after lawful.sound yes.comes.sound (names_stay yes.client sight_before 0 [] s.tree entries are_judged after yes.comes.ran) number before
 
     leases_stay : leases_after s after ≡ desk.leases
     unfolding without_gone
@@ -243,7 +244,7 @@ module _ (desk : Parts) (order : IsInOrder desk) (lawful : IsLawful desk.image.c
       row = yes.row;
       log = log_of submission.log log;
       spelled = yes.spelled.log_read;
-      one_by_one = subst (OneByOne scene 0 [] s.tree entries) (sym tree_is) yes.comes.allowed;
+      one_by_one = subst (OneByOne yes.client sight_before 0 [] s.tree entries) (sym tree_is) yes.comes.allowed;
       sound = subst IsSound (sym tree_is) yes.comes.sound;
     }
 

@@ -8,7 +8,7 @@ use Rattle.kfs_model.specs.Lease as leases
 use Rattle.kfs_model.specs.Sight.{Sight}
 use Rattle.kfs_model.specs.Soundness.{IsSound}
 use Rattle.kfs_model.specs.Spelling.{LogAnswer}
-use Rattle.kfs_model.specs.Judgement.{State, Submission, Reading, IsReadAs, Reply, Accepted, Refused, scene_of}
+use Rattle.kfs_model.specs.Judgement.{State, Submission, Reading, IsReadAs, Reply, Accepted, Refused, client_sight_of}
 use Rattle.kfs_model.specs.Machine.{Call, Submit, Lease, Drop, Tick, CallAnswer, Replied, OneByOne, next}
 use Rattle.kfs_model.specs.Machine as machine
 use Rattle.kfs_mode.specs.Clients.{AreDistinct}
@@ -88,7 +88,7 @@ pub record IsDone (s : State) (submission : Submission) (t : State) : Type 0 whe
   pub row : row_of s.clients submission.client ≡ Some client
   pub log : Log
   pub spelled : LogAnswer submission.log (Ok log)
-  pub one_by_one : OneByOne (scene_of s client) 0 [] s.tree log.entries t.tree
+  pub one_by_one : OneByOne client (client_sight_of s client.number) 0 [] s.tree log.entries t.tree
   pub sound : IsSound t.tree
 
 -- a Yes says that it is done, and a No leaves the tree and the leases

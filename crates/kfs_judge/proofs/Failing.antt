@@ -1,9 +1,9 @@
 -- The first failing check, one check at a time.
 use Rattle.std.specs.Prelude.{◌≡◌, List, [], ◌∷◌, Option, Some, None, refl}
 use Rattle.std.proofs.Common.{ap}
-use Rattle.kfs_model.specs.Check.{Spot, Check, Reason, fault, first_failing}
+use Rattle.kfs_model.specs.Check.{EntryContext, Check, Reason, fault, first_failing}
 
-module _ (p : Spot) where
+module _ (p : EntryContext) where
   by_fault : (check : Check) (checks : List Check) (found : Option Reason) → fault p check ≡ found → first_failing p (check ∷ checks) ≡ elim found [ None ↦ first_failing p checks | Some reason ↦ Some reason ]
   unfolding first_failing
   by_fault check checks found is = ap (λ (f : Option Reason). elim f as (λ _. Option Reason) [ None ↦ first_failing p checks | Some reason ↦ Some reason ]) is

@@ -4,24 +4,23 @@ use Rattle.std.proofs.Common.{ap, sym, subst, ◌∙◌}
 use Rattle.kfs_model.specs.Access.{Client}
 use Rattle.kfs_model.specs.Entry.{Entry, Create, Chmod}
 use Rattle.kfs_model.specs.Header.{Kind}
-use Rattle.kfs_model.specs.Sight.{Sight, Seen, Cell, HeaderOf, NameIn}
-use Rattle.kfs_model.specs.Check.{Spot, Check, Reason, fault, cells, checks_of, first_fault, looked}
+use Rattle.kfs_model.specs.Sight.{Sight, ClientSight, Cell, HeaderOf, NameIn}
+use Rattle.kfs_model.specs.Check.{EntryContext, Check, Reason, fault, cells, checks_of, first_fault, looked}
 use Rattle.kfs_model.specs.Run.{created_by}
 use Rattle.kfs_model.specs.SeenAfter.{seen_after}
 use Rattle.kfs_model.specs.Looked.{looked_from, looked_cells}
 use Rattle.kfs_model.proofs.CleanIsAllowed.{AllPass, all_pass}
 use Rattle.kfs_judge.specs.declared.draft.Draft.{Draft}
 use Rattle.kfs_judge.specs.declared.reads.Read.{Read}
-use Rattle.kfs_judge.specs.declared.reads.Seen.{Seen as CodeSeen}
-use Rattle.kfs_judge.specs.Overlay.{over, has_created, spot_of, IsWritten}
+use Rattle.kfs_judge.specs.declared.reads.ReadAnswer.{ReadAnswer}
+use Rattle.kfs_judge.specs.Overlay.{over, has_created, entry_context_of, IsWritten}
 use Rattle.kfs_judge.specs.Reads.{Always, Grows, Within, IsPart}
-use Rattle.kfs_judge.specs.Walks.{scene_in}
-use Rattle.kfs_judge.proofs.Entering.{AreCreated, same_spot}
+use Rattle.kfs_judge.proofs.Entering.{AreCreated, same_context}
 use Rattle.kfs_judge.proofs.Recording.{within_same, within_then, within_wider, first_is_in, part_of_itself, left_is_part, right_is_part, both_are_part, none_is_part}
 
 -- ---- checks
 
-module _ (p : Spot) where
+module _ (p : EntryContext) where
   by_fault : (check : Check) (checks : List Check) (found : Option Reason) → fault p check ≡ found → looked p (check ∷ checks) ≡ cells p check ++ elim found [ None ↦ looked p checks | Some reason ↦ [] ]
   unfolding looked
   by_fault check checks found is = ap (λ (f : Option Reason). cells p check ++ elim f as (λ _. List Cell) [ None ↦ looked p checks | Some reason ↦ [] ]) is
@@ -64,71 +63,71 @@ module _ {A : Type 0} where
 
 module _ {A : Type 0} (client : Client) where
   -- in a state, what is left of the entries looks at no more than all of them, and what was read and written so far is among that
-  pub record LooksAt (first reads : List (Read × CodeSeen)) (draft : Draft A) (rest all : List Cell) : Type 0 where
+  pub record LooksAt (first reads : List (Read × ReadAnswer)) (draft : Draft A) (rest all : List Cell) : Type 0 where
     pub rest_among : IsPart rest all
     pub reads_among : Within first reads all
     pub written_among : IsWritten draft all
 
-  pub record LooksOn (draft : Draft A) (first reads : List (Read × CodeSeen)) (entries rest : List Entry) : Type 0 where
+  pub record LooksOn (draft : Draft A) (first reads : List (Read × ReadAnswer)) (entries rest : List Entry) : Type 0 where
     pub numbers : List ℕ
     pub created : AreCreated draft numbers
-    pub looks : Always reads (λ state. LooksAt first reads draft (looked_from (scene_in client state) numbers (over draft state.sight) rest) (looked_cells client state entries))
+    pub looks : Always reads (λ state. LooksAt first reads draft (looked_from client state numbers (over draft state.sight) rest) (looked_cells client state entries))
 
-  module _ (draft : Draft A) (state : Seen) (numbers : List ℕ) (created : AreCreated draft numbers) where
-    by_first : (entry : Entry) (entries : List Entry) (found : Option Reason) → first_fault (spot_of client draft state) entry ≡ found
-        → looked_from (scene_in client state) numbers (over draft state.sight) (entry ∷ entries) ≡ looked (spot_of client draft state) (checks_of (spot_of client draft state) entry) ++ elim found [ None ↦ looked_from (scene_in client state) (created_by entry numbers) (seen_after client (over draft state.sight) entry) entries | Some reason ↦ [] ]
+  module _ (draft : Draft A) (state : ClientSight) (numbers : List ℕ) (created : AreCreated draft numbers) where
+    by_first : (entry : Entry) (entries : List Entry) (found : Option Reason) → first_fault (entry_context_of client draft state) entry ≡ found
+        → looked_from client state numbers (over draft state.sight) (entry ∷ entries) ≡ looked (entry_context_of client draft state) (checks_of (entry_context_of client draft state) entry) ++ elim found [ None ↦ looked_from client state (created_by entry numbers) (seen_after client (over draft state.sight) entry) entries | Some reason ↦ [] ]
     unfolding looked_from
-    by_first entry entries found is = ap (λ p. looked p (checks_of p entry) ++ at (first_fault p entry)) (sym (same_spot client draft state numbers created)) ∙ ap (λ f. looked (spot_of client draft state) (checks_of (spot_of client draft state) entry) ++ at f) is
+    by_first entry entries found is = ap (λ p. looked p (checks_of p entry) ++ at (first_fault p entry)) (sym (same_context client draft state numbers created)) ∙ ap (λ f. looked (entry_context_of client draft state) (checks_of (entry_context_of client draft state) entry) ++ at f) is
       where
         at : Option Reason → List Cell
-        at f = elim f [ None ↦ looked_from (scene_in client state) (created_by entry numbers) (seen_after client (over draft state.sight) entry) entries | Some reason ↦ [] ]
+        at f = elim f [ None ↦ looked_from client state (created_by entry numbers) (seen_after client (over draft state.sight) entry) entries | Some reason ↦ [] ]
 
     -- the cells of the entry are among those of it and all behind it
-    entry_among : (entry : Entry) (entries : List Entry) → IsPart (looked (spot_of client draft state) (checks_of (spot_of client draft state) entry)) (looked_from (scene_in client state) numbers (over draft state.sight) (entry ∷ entries))
-    entry_among entry entries = subst (IsPart (looked (spot_of client draft state) (checks_of (spot_of client draft state) entry))) (sym (by_first entry entries (first_fault (spot_of client draft state) entry) refl)) (left_is_part _ _)
+    entry_among : (entry : Entry) (entries : List Entry) → IsPart (looked (entry_context_of client draft state) (checks_of (entry_context_of client draft state) entry)) (looked_from client state numbers (over draft state.sight) (entry ∷ entries))
+    entry_among entry entries = subst (IsPart (looked (entry_context_of client draft state) (checks_of (entry_context_of client draft state) entry))) (sym (by_first entry entries (first_fault (entry_context_of client draft state) entry) refl)) (left_is_part _ _)
 
-  pub looks_first : (draft : Draft A) (reads : List (Read × CodeSeen)) (entries : List Entry) → ((s : Sight) → over draft s ≡ s) → ((n : ℕ) → has_created draft n ≡ false) → IsWritten draft [] → LooksOn draft reads reads entries entries
+  pub looks_first : (draft : Draft A) (reads : List (Read × ReadAnswer)) (entries : List Entry) → ((s : Sight) → over draft s ≡ s) → ((n : ℕ) → has_created draft n ≡ false) → IsWritten draft [] → LooksOn draft reads reads entries entries
   looks_first draft reads entries shown created written = record {
     numbers = [];
     created = created;
     looks = λ state agrees. record {
-      rest_among = subst (λ s. IsPart (looked_from (scene_in client state) [] s entries) (looked_cells client state entries)) (sym (shown state.sight)) (part_of_itself (looked_cells client state entries));
+      rest_among = subst (λ s. IsPart (looked_from client state [] s entries) (looked_cells client state entries)) (sym (shown state.sight)) (part_of_itself (looked_cells client state entries));
       reads_among = within_same reads (looked_cells client state entries);
       written_among = written_wider draft [] (looked_cells client state entries) (none_is_part (looked_cells client state entries)) written;
     };
   }
 
   -- the entry passes
-  pub looks_next : (old new : Draft A) (first before after : List (Read × CodeSeen)) (entries rest : List Entry) (entry : Entry)
+  pub looks_next : (old new : Draft A) (first before after : List (Read × ReadAnswer)) (entries rest : List Entry) (entry : Entry)
       → LooksOn old first before entries (entry ∷ rest)
       → Grows before after
-      → Always after (λ state. first_fault (spot_of client old state) entry ≡ None)
-      → Always after (λ state. Within before after (looked (spot_of client old state) (checks_of (spot_of client old state) entry)))
+      → Always after (λ state. first_fault (entry_context_of client old state) entry ≡ None)
+      → Always after (λ state. Within before after (looked (entry_context_of client old state) (checks_of (entry_context_of client old state) entry)))
       → Always after (λ state. over new state.sight ≡ seen_after client (over old state.sight) entry)
       → ((numbers : List ℕ) → AreCreated old numbers → AreCreated new (created_by entry numbers))
-      → Always after (λ state. (among : List Cell) → IsWritten old among → IsWritten new (looked (spot_of client old state) (checks_of (spot_of client old state) entry) ++ among))
+      → Always after (λ state. (among : List Cell) → IsWritten old among → IsWritten new (looked (entry_context_of client old state) (checks_of (entry_context_of client old state) entry) ++ among))
       → LooksOn new first after entries rest
   looks_next old new first before after entries rest entry on grows clean read shown created written = record {
     numbers = created_by entry on.numbers;
     created = created on.numbers on.created;
     looks = λ state agrees.
         let all = looked_cells client state entries in
-        let looked_here = looked (spot_of client old state) (checks_of (spot_of client old state) entry) in
+        let looked_here = looked (entry_context_of client old state) (checks_of (entry_context_of client old state) entry) in
         let so_far = on.looks state (grows state agrees) in
         let here : IsPart looked_here all = λ cell there. so_far.rest_among cell (entry_among old state on.numbers on.created entry rest cell there) in
         let behind = subst (λ cells. IsPart cells all) (by_first old state on.numbers on.created entry rest None (clean state agrees)) so_far.rest_among in
         record {
-          rest_among = λ cell there. behind cell (right_is_part looked_here _ cell (subst (λ s. Contains (looked_from (scene_in client state) (created_by entry on.numbers) s rest) cell) (shown state agrees) there));
+          rest_among = λ cell there. behind cell (right_is_part looked_here _ cell (subst (λ s. Contains (looked_from client state (created_by entry on.numbers) s rest) cell) (shown state agrees) there));
           reads_among = within_then so_far.reads_among (within_wider here (read state agrees));
           written_among = written_wider new (looked_here ++ all) all (both_are_part looked_here all all here (part_of_itself all)) (written state agrees all so_far.written_among);
         };
   }
 
   -- the entry is the first bad one
-  pub looks_fails : (old : Draft A) (first before after : List (Read × CodeSeen)) (entries rest : List Entry) (entry : Entry)
+  pub looks_fails : (old : Draft A) (first before after : List (Read × ReadAnswer)) (entries rest : List Entry) (entry : Entry)
       → LooksOn old first before entries (entry ∷ rest)
       → Grows before after
-      → Always after (λ state. Within before after (looked (spot_of client old state) (checks_of (spot_of client old state) entry)))
+      → Always after (λ state. Within before after (looked (entry_context_of client old state) (checks_of (entry_context_of client old state) entry)))
       → Always after (λ state. Within first after (looked_cells client state entries))
   looks_fails old first before after entries rest entry on grows read state agrees =
       let so_far = on.looks state (grows state agrees) in

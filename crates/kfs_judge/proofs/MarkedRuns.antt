@@ -9,10 +9,10 @@ use Rattle.kfs_model.specs.Access.{Client}
 use Rattle.kfs_model.specs.Entry.{Entry, Create, Write, Truncate, Link, Unlink, Rename, Chmod}
 use Rattle.kfs_model.specs.Table.{numbers, get, insert, get-insert, get-retain, get-mapped}
 use Rattle.kfs_model.specs.Tree.{Tree, Node, Body, Cells, Names, headers, cells_of, is_named}
-use Rattle.kfs_model.specs.Sight.{sight}
+use Rattle.kfs_model.specs.Sight.{sight, ClientSight}
 use Rattle.kfs_model.specs.Check.{Reason, first_fault}
 use Rattle.kfs_model.specs.Effect.{effect, change_of, swept, new_body}
-use Rattle.kfs_model.specs.Run.{Mark, Base, Scene, EntryFault, run, run_from, bytes, marks, marked, spot, created_by, places_from, base_marks, mapped_body, byte_of, looked_up}
+use Rattle.kfs_model.specs.Run.{Mark, Base, EntryFault, run, run_from, bytes, marks, marked, created_by, places_from, base_marks, mapped_body, byte_of, looked_up, entry_context}
 use Rattle.kfs_model.specs.Plan.{is_base}
 use Rattle.kfs_model.proofs.Cells.{recut, headers-recut}
 use Rattle.kfs_model.proofs.Marks.{marks_give_bytes}
@@ -106,23 +106,23 @@ entry-untouched client index (Chmod n mode) t is untouched = chmod-untouched cli
 
 -- ---- a run
 
-run-untouched : (scene : Scene) (index : ℕ) (created : List ℕ) (t : Tree Mark) (entries : List Entry) → list_all is_judged entries ≡ true → IsUntouched t → (after : Tree Mark) → run_from marks scene index created t entries ≡ Ok after → IsUntouched after
+run-untouched : (client : Client) (before : ClientSight) (index : ℕ) (created : List ℕ) (t : Tree Mark) (entries : List Entry) → list_all is_judged entries ≡ true → IsUntouched t → (after : Tree Mark) → run_from marks client before index created t entries ≡ Ok after → IsUntouched after
 unfolding run_from
-run-untouched scene index created t [] are untouched after ran = let same : t ≡ after = cc in subst IsUntouched same untouched
-run-untouched scene index created t (entry ∷ entries) are untouched after ran =
+run-untouched client before index created t [] are untouched after ran = let same : t ≡ after = cc in subst IsUntouched same untouched
+run-untouched client before index created t (entry ∷ entries) are untouched after ran =
     let (is, rest) = and_parts _ _ are in
-    by_fault (run-untouched scene (index + 1) (created_by entry created) (effect marks scene.client index entry t) entries rest (entry-untouched scene.client index entry t is untouched) after) (first_fault (spot scene (sight t) created) entry) ran
+    by_fault (run-untouched client before (index + 1) (created_by entry created) (effect marks client index entry t) entries rest (entry-untouched client index entry t is untouched) after) (first_fault (entry_context client before (sight t) created) entry) ran
   where
-    by_fault : (run_from marks scene (index + 1) (created_by entry created) (effect marks scene.client index entry t) entries ≡ Ok after → IsUntouched after) → (found : Option Reason)
-        → ◌≡◌ {A = Result (Tree Mark) EntryFault} (elim found [ None ↦ run_from marks scene (index + 1) (created_by entry created) (effect marks scene.client index entry t) entries | Some reason ↦ Err (record { entry = index; reason = reason }) ]) (Ok after)
+    by_fault : (run_from marks client before (index + 1) (created_by entry created) (effect marks client index entry t) entries ≡ Ok after → IsUntouched after) → (found : Option Reason)
+        → ◌≡◌ {A = Result (Tree Mark) EntryFault} (elim found [ None ↦ run_from marks client before (index + 1) (created_by entry created) (effect marks client index entry t) entries | Some reason ↦ Err (record { entry = index; reason = reason }) ]) (Ok after)
         → IsUntouched after
     by_fault later None ran' = later ran'
     by_fault later (Some reason) ran' = cc
 
 -- the run over marks ends beside the run over bytes: the same names and headers, and no byte touched
-pub record EndsBeside (scene : Scene) (before : Tree ℕ) (entries : List Entry) (after : Tree ℕ) : Type 0 where
+pub record EndsBeside (client : Client) (before : ClientSight) (tree : Tree ℕ) (entries : List Entry) (after : Tree ℕ) : Type 0 where
   pub marked_after : Tree Mark
-  pub ran : run marks scene (marked before) entries ≡ Ok marked_after
+  pub ran : run marks client before (marked tree) entries ≡ Ok marked_after
   pub names : after.names ≡ marked_after.names
   pub heads : headers after ≡ headers marked_after
   pub untouched : IsUntouched marked_after
@@ -131,14 +131,14 @@ ended : (byte : Mark → ℕ) (after : Tree ℕ) (ran : Result (Tree Mark) Entry
 ended byte after (Ok end) is = (end, refl, cc)
 ended byte after (Err fault) is = cc
 
-pub ends_beside : (scene : Scene) (before : Tree ℕ) (entries : List Entry) → list_all is_judged entries ≡ true → (after : Tree ℕ) → run bytes scene before entries ≡ Ok after → EndsBeside scene before entries after
-ends_beside scene before entries are after ran =
-    let byte = byte_of before entries in
-    let (end, is, same) = ended byte after (run marks scene (marked before) entries) (marks_give_bytes scene before entries ∙ ran) in
+pub ends_beside : (client : Client) (before : ClientSight) (tree : Tree ℕ) (entries : List Entry) → list_all is_judged entries ≡ true → (after : Tree ℕ) → run bytes client before tree entries ≡ Ok after → EndsBeside client before tree entries after
+ends_beside client before tree entries are after ran =
+    let byte = byte_of tree entries in
+    let (end, is, same) = ended byte after (run marks client before (marked tree) entries) (marks_give_bytes client before tree entries ∙ ran) in
     record {
       marked_after = end;
       ran = is;
       names = ap (λ (t : Tree ℕ). t.names) (sym same);
       heads = ap (λ (t : Tree ℕ). headers t) (sym same) ∙ headers-recut byte end;
-      untouched = run-untouched scene 0 [] (marked before) entries are (marked-untouched before) end is;
+      untouched = run-untouched client before 0 [] (marked tree) entries are (marked-untouched tree) end is;
     }

@@ -8,8 +8,7 @@ use mathlib.Core.List.{map-map}
 use Rattle.kfs_model.specs.Access.{Client}
 use Rattle.kfs_model.specs.Entry.{Entry}
 use Rattle.kfs_model.specs.Tree.{Tree, headers}
-use Rattle.kfs_model.specs.Sight.{sight}
-use Rattle.kfs_model.specs.Run.{Scene}
+use Rattle.kfs_model.specs.Sight.{sight, client_sight, ClientSight}
 use Rattle.kfs_model.specs.Plan.{number_now, header_now, keyed_name, keyed_node}
 use Rattle.kfs_model.specs.Placement.{need}
 use Rattle.kfs_model.specs.FirstWrong.{Names, Nodes, Pieces, same_header, same_headers, same_place, same_pair, first_difference, first_wrong_name, first_wrong_node, first_wrong_row, or_else}
@@ -27,35 +26,35 @@ use Rattle.kfs_judge.specs.declared.walk.EntryFault.{EntryFault as CodeEntryFaul
 use Rattle.kfs_judge.specs.JudgedEntries.{IsJudged, is_judged}
 use Rattle.kfs_judge.specs.PlanCheck.{first_unlike, TellsRow, IsChecked}
 use Rattle.kfs_judge.specs.Rows.{keyed_name_row, keyed_node_row}
-use Rattle.kfs_judge.specs.Walks.{IsNetOf, ComesToTree, scene_in, seen_in}
+use Rattle.kfs_judge.specs.Walks.{IsNetOf, ComesToTree}
 use Rattle.kfs_judge.proofs.MarkedRuns.{EndsBeside, ends_beside}
 use Rattle.kfs_judge.proofs.Untouched.{first_of_pieces-wrong, need-untouched}
 
-module _ {A : Type 0} (scene : Scene) (before : Tree ℕ) (entries : List Entry) (after : Tree ℕ) (net : Net A) (plan : CodePlan A) (beside : EndsBeside scene before entries after) (differs : IsNetOf (sight before) (sight after) net) where
-  wrong_name : first_wrong_name before.names beside.marked_after.names (plan_of plan).names ≡ first_difference (same_pair same_place nat_eq) (map keyed_name_row plan.names) (map keyed_name_row net.names.items)
+module _ {A : Type 0} (client : Client) (before : ClientSight) (tree : Tree ℕ) (entries : List Entry) (after : Tree ℕ) (net : Net A) (plan : CodePlan A) (beside : EndsBeside client before tree entries after) (differs : IsNetOf (sight tree) (sight after) net) where
+  wrong_name : first_wrong_name tree.names beside.marked_after.names (plan_of plan).names ≡ first_difference (same_pair same_place nat_eq) (map keyed_name_row plan.names) (map keyed_name_row net.names.items)
   wrong_name =
       let shown = map-map keyed_name name_row_of plan.names in
-      let rows = differences_only nat_eq numbers-exact number_now before.names after.names (map keyed_name_row net.names.items) differs.names in
-      ap (λ names. first_wrong_name before.names names (plan_of plan).names) (sym beside.names)
+      let rows = differences_only nat_eq numbers-exact number_now tree.names after.names (map keyed_name_row net.names.items) differs.names in
+      ap (λ names. first_wrong_name tree.names names (plan_of plan).names) (sym beside.names)
       ∙ λ i. first_difference (same_pair same_place nat_eq) (shown i) (sym rows i)
 
-  wrong_node : first_wrong_node (headers before) (headers beside.marked_after) (plan_of plan).nodes ≡ first_difference (same_pair nat_eq same_headers) (map keyed_node_row plan.nodes) (map keyed_node_row net.nodes.items)
+  wrong_node : first_wrong_node (headers tree) (headers beside.marked_after) (plan_of plan).nodes ≡ first_difference (same_pair nat_eq same_headers) (map keyed_node_row plan.nodes) (map keyed_node_row net.nodes.items)
   wrong_node =
       let shown = map-map keyed_node node_row_of plan.nodes in
-      let rows = differences_only same_header headers-exact header_now (headers before) (headers after) (map keyed_node_row net.nodes.items) differs.nodes in
-      ap (λ heads. first_wrong_node (headers before) heads (plan_of plan).nodes) (sym beside.heads)
+      let rows = differences_only same_header headers-exact header_now (headers tree) (headers after) (map keyed_node_row net.nodes.items) differs.nodes in
+      ap (λ heads. first_wrong_node (headers tree) heads (plan_of plan).nodes) (sym beside.heads)
       ∙ λ i. first_difference (same_pair nat_eq same_headers) (shown i) (sym rows i)
 
-  pub first_wrong-unlike : first_wrong_row before beside.marked_after (plan_of plan) ≡ first_unlike net plan
+  pub first_wrong-unlike : first_wrong_row tree beside.marked_after (plan_of plan) ≡ first_unlike net plan
   unfolding first_wrong_row
   first_wrong-unlike = λ i. or_else Names (wrong_name i) (or_else Nodes (wrong_node i) (or_else Pieces (first_of_pieces-wrong beside.marked_after beside.untouched plan.pieces i) None))
 
-  tells_wrong : (result : Result ℕ CodeRowFault) → TellsRow (first_unlike net plan) 0 result → TellsRow (first_wrong_row before beside.marked_after (plan_of plan)) (need beside.marked_after) result
+  tells_wrong : (result : Result ℕ CodeRowFault) → TellsRow (first_unlike net plan) 0 result → TellsRow (first_wrong_row tree beside.marked_after (plan_of plan)) (need beside.marked_after) result
   tells_wrong result told =
       subst (λ first. TellsRow first (need beside.marked_after) result) (sym first_wrong-unlike)
       (subst (λ n. TellsRow (first_unlike net plan) n result) (sym (need-untouched beside.marked_after beside.untouched)) told)
 
-  is_checked : (result : Result ℕ CodeRowFault) → TellsRow (first_unlike net plan) 0 result → IsChecked scene before entries plan result
+  is_checked : (result : Result ℕ CodeRowFault) → TellsRow (first_unlike net plan) 0 result → IsChecked client before tree entries plan result
   is_checked result told = record { after = beside.marked_after; ran = beside.ran; told = tells_wrong result told }
 
 judged_shown : (source : List ℕ) (entry : CodeEntry Span) → IsJudged entry → is_judged (entry_of source entry) ≡ true
@@ -91,8 +90,8 @@ not_all_judged source entries other = false_from_ne_true _ (λ are. other (all_j
 
 -- a walk that ends, and what is told of its net
 pub walk_is_checked : {A : Type 0} (client : Client) (held : ℕ → Bool) (tree : Tree ℕ) (entries : List Entry) (outcome : Result (Net A) CodeEntryFault) (net : Net A) (plan : CodePlan A) (result : Result ℕ CodeRowFault)
-    → list_all is_judged entries ≡ true → outcome ≡ Ok net → ComesToTree client held tree entries outcome → TellsRow (first_unlike net plan) 0 result → IsChecked (scene_in client (seen_in tree held)) tree entries plan result
+    → list_all is_judged entries ≡ true → outcome ≡ Ok net → ComesToTree client held tree entries outcome → TellsRow (first_unlike net plan) 0 result → IsChecked client (client_sight tree held) tree entries plan result
 walk_is_checked client held tree entries outcome net plan result are is comes told =
     let end = subst (ComesToTree client held tree entries) is comes in
-    let scene = scene_in client (seen_in tree held) in
-    is_checked scene tree entries end.0 net plan (ends_beside scene tree entries are end.0 end.1) end.4 result told
+    let before = client_sight tree held in
+    is_checked client before tree entries end.0 net plan (ends_beside client before tree entries are end.0 end.1) end.4 result told

@@ -2,9 +2,9 @@
 use Rattle.std.specs.Prelude.{◌≡◌, ◌⊎◌, List, [], ◌∷◌, ◌++◌, Contains, slice_index_or, refl}
 use Rattle.std.proofs.Common.{inl, inr, ⊎_elim, subst, sym, ◌∙◌, arith}
 use Rattle.std.proofs.lemmas.List.Elements.{Contains-get_or, Contains-push_cases, Contains-append_left, Contains-append_right, Contains-append_cases}
-use Rattle.kfs_model.specs.Sight.{Cell, Seen}
+use Rattle.kfs_model.specs.Sight.{Cell, ClientSight}
 use Rattle.kfs_judge.specs.declared.reads.Read.{Read}
-use Rattle.kfs_judge.specs.declared.reads.Seen.{Seen as CodeSeen}
+use Rattle.kfs_judge.specs.declared.reads.ReadAnswer.{ReadAnswer}
 use Rattle.kfs_judge.specs.declared.reads.Recorder.{Recorder}
 use Rattle.kfs_judge.specs.Reads.{cell_of, Agrees, AreAmong, AreOnce, IsPart, Within}
 use Rattle.kfs_judge.specs.Recorders.{GoesOn, seen_by}
@@ -25,32 +25,32 @@ module _ {A : Type 0} where
 
 -- ---- the cells of what is read
 
-pub within_same : (entries : List (Read × CodeSeen)) (among : List Cell) → Within entries entries among
+pub within_same : (entries : List (Read × ReadAnswer)) (among : List Cell) → Within entries entries among
 within_same entries among = record { each = λ e there. inl there }
 
-pub within_then : {first then last : List (Read × CodeSeen)} {among : List Cell} → Within first then among → Within then last among → Within first last among
+pub within_then : {first then last : List (Read × ReadAnswer)} {among : List Cell} → Within first then among → Within then last among → Within first last among
 within_then {first} {then} {last} {among} front back = record { each = λ e there. at e (back.each e there) }
   where
-    at : (e : Read × CodeSeen) → Contains then e ⊎ Contains among (cell_of e.0) → Contains first e ⊎ Contains among (cell_of e.0)
+    at : (e : Read × ReadAnswer) → Contains then e ⊎ Contains among (cell_of e.0) → Contains first e ⊎ Contains among (cell_of e.0)
     at e (inl earlier) = front.each e earlier
     at e (inr here) = inr here
 
-pub within_wider : {first last : List (Read × CodeSeen)} {few many : List Cell} → IsPart few many → Within first last few → Within first last many
+pub within_wider : {first last : List (Read × ReadAnswer)} {few many : List Cell} → IsPart few many → Within first last few → Within first last many
 within_wider {first} {last} {few} {many} part within = record { each = λ e there. at e (within.each e there) }
   where
-    at : (e : Read × CodeSeen) → Contains first e ⊎ Contains few (cell_of e.0) → Contains first e ⊎ Contains many (cell_of e.0)
+    at : (e : Read × ReadAnswer) → Contains first e ⊎ Contains few (cell_of e.0) → Contains first e ⊎ Contains many (cell_of e.0)
     at e (inl earlier) = inl earlier
     at e (inr here) = inr (part (cell_of e.0) here)
 
 pub first_is_in : (cell : Cell) (cells : List Cell) → Contains (cell ∷ cells) cell
 first_is_in cell cells = Contains-get_or (cell ∷ cells) 0 cell (omega arith)
 
-pub within_one : (old new : List (Read × CodeSeen)) (read : Read) (seen : CodeSeen) → new ≡ old ++ (read, seen) ∷ [] → Within old new (cell_of read ∷ [])
+pub within_one : (old new : List (Read × ReadAnswer)) (read : Read) (seen : ReadAnswer) → new ≡ old ++ (read, seen) ∷ [] → Within old new (cell_of read ∷ [])
 within_one old new read seen is = record { each = λ e there. at e (Contains-push_cases old (read, seen) e (subst (λ es. Contains es e) is there)) }
   where
-    at : (e : Read × CodeSeen) → Contains old e ⊎ ((read, seen) ≡ e) → Contains old e ⊎ Contains (cell_of read ∷ []) (cell_of e.0)
+    at : (e : Read × ReadAnswer) → Contains old e ⊎ ((read, seen) ≡ e) → Contains old e ⊎ Contains (cell_of read ∷ []) (cell_of e.0)
     at e (inl earlier) = inl earlier
-    at e (inr last) = inr (subst (λ (other : Read × CodeSeen). Contains (cell_of read ∷ []) (cell_of other.0)) last (first_is_in (cell_of read) []))
+    at e (inr last) = inr (subst (λ (other : Read × ReadAnswer). Contains (cell_of read ∷ []) (cell_of other.0)) last (first_is_in (cell_of read) []))
 
 -- ---- parts of a list of cells
 
@@ -74,10 +74,10 @@ one_is_part cell cells here other there = ⊎_elim (λ none. absurd (omega (arit
 
 -- ---- from no read on
 
-no_read : (e : Read × CodeSeen) → Contains [] e → ⊥
+no_read : (e : Read × ReadAnswer) → Contains [] e → ⊥
 no_read e there = omega (arith, there.1)
 
-module _ {A : Type 0} (shown : Seen) (fresh recorder : Recorder A) (none : fresh.reads.entries ≡ []) where
+module _ {A : Type 0} (shown : ClientSight) (fresh recorder : Recorder A) (none : fresh.reads.entries ≡ []) where
   pub agrees_from_none : seen_by fresh ≡ shown → GoesOn fresh recorder → Agrees recorder.reads.entries shown
   agrees_from_none is goes = subst (Agrees recorder.reads.entries) (goes.same ∙ is) (goes.agrees (subst (λ entries. Agrees entries (seen_by fresh)) (sym none) (record { each = tt })))
 

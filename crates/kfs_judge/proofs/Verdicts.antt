@@ -12,11 +12,11 @@ use Rattle.kfs_model.specs.Lease.{holds, row_of}
 use Rattle.kfs_model.specs.Run.{Mark, EntryFault, run, bytes, marks, marked}
 use Rattle.kfs_model.specs.FirstWrong.{RowFault, first_wrong_row}
 use Rattle.kfs_model.specs.Spelling.{IsBytes, SpellingFault, BadHeader, BadEntry, Trailing, BadRow, LogAnswer, PlanAnswer}
-use Rattle.kfs_model.specs.Judgement.{State, Submission, Fault, Verdict, scene_of, judged, judged_log, judged_plan, judged_run, judged_rows}
+use Rattle.kfs_model.specs.Judgement.{State, Submission, Fault, Verdict, client_sight_of, judged, judged_log, judged_plan, judged_run, judged_rows}
 use Rattle.kfs_model.specs.Judgement.Fault.{ClientUnknown, ClientWrong, BadLog, BadPlan, AtEntry, AtRow}
 use Rattle.kfs_model.specs.Judgement.Verdict.{Yes, No}
 use Rattle.kfs_model.specs.Machine.{OneByOne}
-use Rattle.kfs_model.specs.CleanStep.{IsClient}
+use Rattle.kfs_model.specs.CleanStep.{IsClient, Fits}
 use Rattle.kfs_model.proofs.RightPlan.{right_from_none}
 use Rattle.kfs_entry.specs.Answers.{log_of, plan_of, Refused}
 use Rattle.kfs_value.specs.declared.entry.Log.{Log as CodeLog}
@@ -33,12 +33,12 @@ use Rattle.kfs_judge.specs.declared.walk.EntryFault.{EntryFault as CodeEntryFaul
 use Rattle.kfs_judge.specs.Judging.{row_fault_of, refusal_of, is_before_entries, stops_before, AreOfLog, AreLooked, AreSpelled, IsAlike, IsVerdict, IsSettled}
 use Rattle.kfs_judge.specs.declared.walk.Walk.{Walk}
 use Rattle.kfs_judge.specs.declared.reads.Read.{Read}
-use Rattle.kfs_judge.specs.declared.reads.Seen.{Seen as CodeSeen}
+use Rattle.kfs_judge.specs.declared.reads.ReadAnswer.{ReadAnswer}
 use Rattle.kfs_judge.specs.PlanCheck.{first_unlike, IsWalkOf}
 use Rattle.kfs_judge.specs.declared.view.View.{View}
 use Rattle.kfs_judge.specs.Reads.{Agrees}
-use Rattle.kfs_judge.specs.View.{seen_of}
-use Rattle.kfs_judge.specs.Walks.{ComesToTree, Fits, fault_of, scene_in, seen_in}
+use Rattle.kfs_judge.specs.View.{client_sight_in}
+use Rattle.kfs_judge.specs.Walks.{ComesToTree, fault_of}
 use Rattle.kfs_model.proofs.AnswersExist.{log_has_answer, plan_has_answer}
 use Rattle.kfs_judge.proofs.MarkedRuns.{EndsBeside, ends_beside}
 use Rattle.kfs_judge.proofs.PlanChecked.{first_wrong-unlike, all_judged}
@@ -76,21 +76,21 @@ module _ (s : State) (number : ℕ) where
         ∙ ap (λ b. cond b (judged_plan s client log plan) (No ClientWrong)) (eq-eqb log.client client.number (own ∙ sym (numbered s.clients number client row)))
 
     module _ (log : Log) (plan : Plan) (own : log.client ≡ number) where
-      judged-entry : (fault : EntryFault) → run bytes (scene_of s client) s.tree log.entries ≡ Err fault → judged s number (Ok log) (Ok plan) ≡ No (AtEntry fault)
-      judged-entry fault ran = judged-own log (Ok plan) own ∙ ap (λ r. judged_run s plan r (run marks (scene_of s client) (marked s.tree) log.entries)) ran
+      judged-entry : (fault : EntryFault) → run bytes client (client_sight_of s client.number) s.tree log.entries ≡ Err fault → judged s number (Ok log) (Ok plan) ≡ No (AtEntry fault)
+      judged-entry fault ran = judged-own log (Ok plan) own ∙ ap (λ r. judged_run s plan r (run marks client (client_sight_of s client.number) (marked s.tree) log.entries)) ran
 
-      judged-ran : (after : Tree ℕ) (marked_after : Tree Mark) → run bytes (scene_of s client) s.tree log.entries ≡ Ok after → run marks (scene_of s client) (marked s.tree) log.entries ≡ Ok marked_after → judged s number (Ok log) (Ok plan) ≡ judged_rows s plan after marked_after
+      judged-ran : (after : Tree ℕ) (marked_after : Tree Mark) → run bytes client (client_sight_of s client.number) s.tree log.entries ≡ Ok after → run marks client (client_sight_of s client.number) (marked s.tree) log.entries ≡ Ok marked_after → judged s number (Ok log) (Ok plan) ≡ judged_rows s plan after marked_after
       judged-ran after marked_after ran ran_marked = judged-own log (Ok plan) own ∙ λ i. judged_run s plan (ran i) (ran_marked i)
 
-      judged-row : (after : Tree ℕ) (marked_after : Tree Mark) (first : Option RowFault) → run bytes (scene_of s client) s.tree log.entries ≡ Ok after → run marks (scene_of s client) (marked s.tree) log.entries ≡ Ok marked_after → first_wrong_row s.tree marked_after plan ≡ first
+      judged-row : (after : Tree ℕ) (marked_after : Tree Mark) (first : Option RowFault) → run bytes client (client_sight_of s client.number) s.tree log.entries ≡ Ok after → run marks client (client_sight_of s client.number) (marked s.tree) log.entries ≡ Ok marked_after → first_wrong_row s.tree marked_after plan ≡ first
           → judged s number (Ok log) (Ok plan) ≡ elim first as (λ _. Verdict) [ None ↦ Yes after marked_after | Some fault ↦ No (AtRow fault) ]
       judged-row after marked_after first ran ran_marked wrong = judged-ran after marked_after ran ran_marked ∙ ap (λ o. elim o as (λ _. Verdict) [ None ↦ Yes after marked_after | Some fault ↦ No (AtRow fault) ]) wrong
 
 -- ---- outcomes of the code
 
--- the scene over cells is that of the state
-same_scene : (s : State) (number : ℕ) (client : Client) → row_of s.clients number ≡ Some client → scene_in client (seen_in s.tree (holds s.leases number)) ≡ scene_of s client
-same_scene s number client row = ap (λ (k : ℕ). record { client = client; held = holds s.leases k; before = sight s.tree }) (sym (numbered s.clients number client row))
+-- what the client of a row sees
+same_sight : (s : State) (number : ℕ) (client : Client) → row_of s.clients number ≡ Some client → client_sight_of s number ≡ client_sight_of s client.number
+same_sight s number client row = ap (client_sight_of s) (sym (numbered s.clients number client row))
 
 module _ (A : Type 0) (s : State) (submission : Submission) where
   -- a verdict on what the bytes are, in which a fault of the code is refused
@@ -146,8 +146,8 @@ module _ (A : Type 0) (s : State) (submission : Submission) where
 
     -- ---- a log and a plan that were read
 
-    scenes : scene_in client (seen_in s.tree (holds s.leases submission.client)) ≡ scene_of s client
-    scenes = same_scene s submission.client client row
+    sights : client_sight_of s submission.client ≡ client_sight_of s client.number
+    sights = same_sight s submission.client client row
 
     module _ (log : CodeLog A) (plan : CodePlan A) (spelled : AreSpelled submission log plan) where
       abbrev the_log : Log
@@ -156,17 +156,17 @@ module _ (A : Type 0) (s : State) (submission : Submission) where
       bad_entry : (fault : CodeEntryFault) → ComesToTree {A = A} client (holds s.leases submission.client) s.tree the_log.entries (Err fault) → IsVerdict {A = A} s submission (outcomes.No (faults.Entry fault))
       bad_entry fault comes =
           refused (faults.Entry fault) (AtEntry (fault_of fault)) (Ok the_log) (Ok (plan_of plan)) spelled.log_read spelled.plan_read
-          (judged-entry s submission.client client row the_log (plan_of plan) spelled.owner (fault_of fault) (ap (λ scene. run bytes scene s.tree the_log.entries) (sym scenes) ∙ comes)) refl
+          (judged-entry s submission.client client row the_log (plan_of plan) spelled.owner (fault_of fault) (ap (λ before. run bytes client before s.tree the_log.entries) (sym sights) ∙ comes)) refl
 
       module _ (net : Net A) (comes : ComesToTree client (holds s.leases submission.client) s.tree the_log.entries (Ok net)) where
-        ends : EndsBeside (scene_of s client) s.tree the_log.entries comes.0
-        ends = ends_beside (scene_of s client) s.tree the_log.entries (all_judged submission.log log.entries spelled.judged) comes.0 (ap (λ scene. run bytes scene s.tree the_log.entries) (sym scenes) ∙ comes.1)
+        ends : EndsBeside client (client_sight_of s client.number) s.tree the_log.entries comes.0
+        ends = ends_beside client (client_sight_of s client.number) s.tree the_log.entries (all_judged submission.log log.entries spelled.judged) comes.0 (ap (λ before. run bytes client before s.tree the_log.entries) (sym sights) ∙ comes.1)
 
         first : first_wrong_row s.tree ends.marked_after (plan_of plan) ≡ first_unlike net plan
-        first = first_wrong-unlike (scene_of s client) s.tree the_log.entries comes.0 net plan ends comes.4
+        first = first_wrong-unlike client (client_sight_of s client.number) s.tree the_log.entries comes.0 net plan ends comes.4
 
-        ran : run bytes (scene_of s client) s.tree the_log.entries ≡ Ok comes.0
-        ran = ap (λ scene. run bytes scene s.tree the_log.entries) (sym scenes) ∙ comes.1
+        ran : run bytes client (client_sight_of s client.number) s.tree the_log.entries ≡ Ok comes.0
+        ran = ap (λ before. run bytes client before s.tree the_log.entries) (sym sights) ∙ comes.1
 
         bad_row : (fault : CodeRowFault) (wrong : RowFault) → row_fault_of fault ≡ Some wrong → first_unlike net plan ≡ Some wrong → IsVerdict {A = A} s submission (outcomes.No (faults.Row fault))
         bad_row fault wrong shown is =
@@ -189,7 +189,7 @@ module _ (A : Type 0) (s : State) (submission : Submission) where
             comes = record {
               ran = ran;
               sound = comes.2;
-              allowed = subst (λ scene. OneByOne scene 0 [] s.tree the_log.entries comes.0) scenes comes.3;
+              allowed = subst (λ before. OneByOne client before 0 [] s.tree the_log.entries comes.0) sights comes.3;
               differs = comes.4;
               ran_marked = ends.ran;
             };
@@ -212,34 +212,34 @@ module _ (A : Type 0) (s : State) (submission : Submission) where
           subst (λ (o : Outcome A). IsVerdict s submission o) same (right net comes told is.3 is.4)
 
 -- a finding on a log that was walked
-pub walked_verdict : (A : Type 0) (s : State) (submission : Submission) (client : Client) (found : Option Client) (log : CodeLog A) (plan : CodePlan A) (walk : Walk A) (reads : List (Read × CodeSeen)) (outcome : Outcome A)
+pub walked_verdict : (A : Type 0) (s : State) (submission : Submission) (client : Client) (found : Option Client) (log : CodeLog A) (plan : CodePlan A) (walk : Walk A) (reads : List (Read × ReadAnswer)) (outcome : Outcome A)
     → AreSpelled submission log plan → IsClient client → found ≡ Some client → reads ≡ walk.reads.entries → IsWalkOf client log walk → IsSettled log plan walk.outcome outcome
     → IsAlike s submission.client found reads → IsVerdict s submission outcome
 walked_verdict A s submission client found log plan walk reads outcome spelled in_range is same_reads walks is_settled alike =
-    let agrees = subst (λ es. Agrees es (seen_in s.tree (holds s.leases submission.client))) same_reads alike.agrees in
+    let agrees = subst (λ es. Agrees es (client_sight_of s submission.client)) same_reads alike.agrees in
     let fits : Fits client s.tree (log_of submission.log log).entries = record { in_range = in_range; sound = alike.sound; fitting = spelled.log_read.0.1 } in
     settled A s submission client (alike.row ∙ is) log plan spelled walk.outcome outcome (walks submission.log s.tree (holds s.leases submission.client) fits agrees) is_settled
 
 -- any state agrees with no reads
-pub nothing_read : {A : Type 0} (view : View A) (number : ℕ) (reads : List (Read × CodeSeen)) → reads ≡ [] → Agrees reads (seen_of view number)
-nothing_read view number reads none = subst (λ es. Agrees es (seen_of view number)) (sym none) (record { each = tt })
+pub nothing_read : {A : Type 0} (view : View A) (number : ℕ) (reads : List (Read × ReadAnswer)) → reads ≡ [] → Agrees reads (client_sight_in view number)
+nothing_read view number reads none = subst (λ es. Agrees es (client_sight_in view number)) (sym none) (record { each = tt })
 
 -- ---- what was read
 
 module _ {A : Type 0} (view : View A) (submission : Submission) where
-  pub unread_looked : (fault : CodeFault) (outcome : Outcome A) (reads : List (Read × CodeSeen)) → is_before_entries fault ≡ true → outcome ≡ outcomes.No fault → reads ≡ [] → AreLooked view submission outcome reads
+  pub unread_looked : (fault : CodeFault) (outcome : Outcome A) (reads : List (Read × ReadAnswer)) → is_before_entries fault ≡ true → outcome ≡ outcomes.No fault → reads ≡ [] → AreLooked view submission outcome reads
   unread_looked fault outcome reads early is none = record {
     unread = λ stops. none;
     looked = λ goes. let stops : stops_before outcome ≡ true = ap stops_before is ∙ early in let never : true ≡ false = sym stops ∙ goes in absurd cc;
   }
 
-  of_log : (outcome : Outcome A) (reads : List (Read × CodeSeen)) → stops_before outcome ≡ false → AreOfLog view submission reads → AreLooked view submission outcome reads
+  of_log : (outcome : Outcome A) (reads : List (Read × ReadAnswer)) → stops_before outcome ≡ false → AreOfLog view submission reads → AreLooked view submission outcome reads
   of_log outcome reads goes of = record {
     unread = λ stops. let never : true ≡ false = sym stops ∙ goes in absurd cc;
     looked = λ _. of;
   }
 
-  pub settled_looked : (log : CodeLog A) (plan : CodePlan A) (walked : Result (Net A) CodeEntryFault) (outcome : Outcome A) (reads : List (Read × CodeSeen)) → IsSettled log plan walked outcome → AreOfLog view submission reads → AreLooked view submission outcome reads
+  pub settled_looked : (log : CodeLog A) (plan : CodePlan A) (walked : Result (Net A) CodeEntryFault) (outcome : Outcome A) (reads : List (Read × ReadAnswer)) → IsSettled log plan walked outcome → AreOfLog view submission reads → AreLooked view submission outcome reads
   settled_looked log plan (Err fault) (outcomes.No refusal) reads is of = of_log (outcomes.No refusal) reads (ap is_before_entries is) of
   settled_looked log plan (Err fault) (outcomes.Yes l p n told) reads is of = absurd is
   settled_looked log plan (Ok net) (outcomes.No (faults.Row fault)) reads is of = of_log (outcomes.No (faults.Row fault)) reads refl of

@@ -15,7 +15,7 @@ use Rattle.kfs_model.specs.Placement.{need}
 use Rattle.kfs_model.specs.Soundness.{IsSound}
 use Rattle.kfs_model.specs.Machine.{OneByOne}
 use Rattle.kfs_model.specs.Spelling.{SpellingFault, BadHeader, BadEntry, Trailing, BadRow, LogAnswer, PlanAnswer}
-use Rattle.kfs_model.specs.Judgement.{State, Submission, Fault, ClientUnknown, ClientWrong, BadLog, BadPlan, AtEntry, AtRow, Verdict, Yes, No, IsJudgement, scene_of}
+use Rattle.kfs_model.specs.Judgement.{State, Submission, Fault, ClientUnknown, ClientWrong, BadLog, BadPlan, AtEntry, AtRow, Verdict, Yes, No, IsJudgement, client_sight_of}
 use Rattle.kfs_entry.specs.Answers.{log_of, plan_of}
 use Rattle.kfs_value.specs.declared.entry.Log.{Log as CodeLog}
 use Rattle.kfs_value.specs.declared.plan.Plan.{Plan as CodePlan}
@@ -34,12 +34,12 @@ use Rattle.kfs_judge.specs.declared.plan.Spelled.TheVariants as readings
 use Rattle.kfs_judge.specs.declared.view.View.{View}
 use Rattle.kfs_judge.specs.declared.walk.EntryFault.{EntryFault as CodeEntryFault}
 use Rattle.kfs_judge.specs.declared.reads.Read.{Read}
-use Rattle.kfs_judge.specs.declared.reads.Seen.{Seen as CodeSeen}
+use Rattle.kfs_judge.specs.declared.reads.ReadAnswer.{ReadAnswer}
 use Rattle.kfs_judge.specs.JudgedEntries.{IsJudged, is_judged}
 use Rattle.kfs_judge.specs.PlanCheck.{first_unlike}
 use Rattle.kfs_judge.specs.Reads.{Agrees, AreAmong}
-use Rattle.kfs_judge.specs.View.{clients_of, seen_of}
-use Rattle.kfs_judge.specs.Walks.{IsNetOf, fault_of, seen_in}
+use Rattle.kfs_judge.specs.View.{clients_of, client_sight_in}
+use Rattle.kfs_judge.specs.Walks.{IsNetOf, fault_of}
 
 -- ---- faults, none where a growth was refused: that is no fault of a submission
 
@@ -88,10 +88,10 @@ pub record AreSpelled {A : Type 0} (submission : Submission) (log : CodeLog A) (
 -- ---- verdicts
 
 -- a sound state in which the client has this row, and which agrees with the reads of a judgement
-pub record IsAlike (s : State) (number : ℕ) (client : Option Client) (reads : List (Read × CodeSeen)) : Type 0 where
+pub record IsAlike (s : State) (number : ℕ) (client : Option Client) (reads : List (Read × ReadAnswer)) : Type 0 where
   pub sound : IsSound s.tree
   pub row : row_of s.clients number ≡ client
-  pub agrees : Agrees reads (seen_in s.tree (holds s.leases number))
+  pub agrees : Agrees reads (client_sight_of s number)
 
 -- faults that are found before the entries are looked at
 abbrev pub is_before_entries : CodeFault → Bool
@@ -107,26 +107,26 @@ stops_before (outcomes.No fault) = is_before_entries fault
 stops_before (outcomes.Yes log plan net told) = false
 
 -- the bytes spell a log of this client, who has a row, and what was read is among the cells that the log looks at
-pub record AreOfLog {A : Type 0} (view : View A) (submission : Submission) (reads : List (Read × CodeSeen)) : Type 0 where
+pub record AreOfLog {A : Type 0} (view : View A) (submission : Submission) (reads : List (Read × ReadAnswer)) : Type 0 where
   pub client : Client
   pub row : row_of (clients_of view) submission.client ≡ Some client
   pub log : Log
   pub spelled : LogAnswer submission.log (Ok log)
   pub owner : log.client ≡ submission.client
-  pub among : AreAmong reads (looked_cells client (seen_of view submission.client) log.entries)
+  pub among : AreAmong reads (looked_cells client (client_sight_in view submission.client) log.entries)
 
 -- nothing was read where the judgement stops before the entries, and elsewhere what the client's own log looks at
-pub record AreLooked {A : Type 0} (view : View A) (submission : Submission) (outcome : Outcome A) (reads : List (Read × CodeSeen)) : Type 0 where
+pub record AreLooked {A : Type 0} (view : View A) (submission : Submission) (outcome : Outcome A) (reads : List (Read × ReadAnswer)) : Type 0 where
   pub unread : stops_before outcome ≡ true → reads ≡ []
   pub looked : stops_before outcome ≡ false → AreOfLog view submission reads
 
 -- what the entries of a right plan's log come to: a sound tree, one by one and each allowed, with this net, and marked
 pub record ComesToNet {A : Type 0} (s : State) (client : Client) (entries : List Entry) (net : Net A) (after : Tree ℕ) (marked_after : Tree Mark) : Type 0 where
-  pub ran : run bytes (scene_of s client) s.tree entries ≡ Ok after
+  pub ran : run bytes client (client_sight_of s client.number) s.tree entries ≡ Ok after
   pub sound : IsSound after
-  pub allowed : OneByOne (scene_of s client) 0 [] s.tree entries after
+  pub allowed : OneByOne client (client_sight_of s client.number) 0 [] s.tree entries after
   pub differs : IsNetOf (sight s.tree) (sight after) net
-  pub ran_marked : run marks (scene_of s client) (marked s.tree) entries ≡ Ok marked_after
+  pub ran_marked : run marks client (client_sight_of s client.number) (marked s.tree) entries ≡ Ok marked_after
 
 -- a Yes tells what the bytes spell, what the entries come to, and how many blocks are written
 pub record TellsYes {A : Type 0} (s : State) (submission : Submission) (log : CodeLog A) (plan : CodePlan A) (net : Net A) (told : ℕ) (after : Tree ℕ) (marked_after : Tree Mark) : Type 0 where

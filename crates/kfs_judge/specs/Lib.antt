@@ -3,7 +3,7 @@ pub mod View
 pub mod Reads
 pub mod Recorders
 pub mod Overlay
-pub mod Spots
+pub mod Checks
 pub mod Walks
 pub mod Rows
 pub mod PlanCheck

@@ -7,11 +7,11 @@ use Rattle.std.specs.BTreeMap.{BTreeMap, get}
 use Rattle.std.specs.BTreeSet.{contains}
 use Rattle.kfs_model.specs.Header.{Header}
 use Rattle.kfs_model.specs.Access.{Client}
-use Rattle.kfs_model.specs.Overlay as laid
+use Rattle.kfs_model.proofs.Overlay as laid
 use Rattle.kfs_model.specs.SeenAfter.{put_at, put_name, shifted, put_parent}
 use Rattle.kfs_model.specs.Tree.{directory_entries}
-use Rattle.kfs_model.specs.Sight.{Sight, Seen, Cell, NameIn, HeaderOf}
-use Rattle.kfs_model.specs.Check.{Spot}
+use Rattle.kfs_model.specs.Sight.{Sight, ClientSight, Cell, NameIn, HeaderOf}
+use Rattle.kfs_model.specs.Check.{EntryContext}
 use Rattle.kfs_value.specs.Views.{header_of}
 use Rattle.kfs_value.specs.declared.header.Header.{Header as CodeHeader}
 use Rattle.kfs_judge.specs.declared.draft.Draft.{Draft}
@@ -36,13 +36,12 @@ module _ {A : Type 0} where
   abbrev pub has_created : Draft A → ℕ → Bool
   has_created draft n = contains nat_cmp draft.created n
 
-  -- where an entry stands, in a state
-  abbrev pub spot_of : Client → Draft A → Seen → Spot
-  spot_of client draft state = record {
+  -- where an entry is judged, by what the client saw before the log
+  abbrev pub entry_context_of : Client → Draft A → ClientSight → EntryContext
+  entry_context_of client draft before = record {
     client = client;
-    held = state.held;
-    before = state.sight;
-    now = over draft state.sight;
+    before = before;
+    now = over draft before.sight;
     created = has_created draft;
   }
 

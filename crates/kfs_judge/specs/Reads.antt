@@ -8,10 +8,10 @@ use Rattle.kfs_image.specs.declared.cell.Answer.{Answer as CodeAnswer}
 use Rattle.kfs_image.specs.declared.cell.Answer.TheVariants as answers
 use Rattle.kfs_judge.specs.declared.reads.Read.{Read}
 use Rattle.kfs_judge.specs.declared.reads.Read.TheVariants as reads
-use Rattle.kfs_judge.specs.declared.reads.Seen.{Seen as CodeSeen}
-use Rattle.kfs_judge.specs.declared.reads.Seen.TheVariants as seen
+use Rattle.kfs_judge.specs.declared.reads.ReadAnswer.{ReadAnswer}
+use Rattle.kfs_judge.specs.declared.reads.ReadAnswer.TheVariants as read_answers
 use Rattle.kfs_value.specs.Views.{header_of}
-use Rattle.kfs_model.specs.Sight.{Cell, HeaderOf, NameIn, CountOf, ParentOf, LeaseOn, Answer, Head, Number, Count, Held, Seen, answer}
+use Rattle.kfs_model.specs.Sight.{Cell, HeaderOf, NameIn, CountOf, ParentOf, LeaseOn, Answer, Head, Number, Count, Held, ClientSight, answer}
 
 abbrev pub look_of : CodeCell → Cell
 look_of (cells.Header n) = HeaderOf n
@@ -29,31 +29,31 @@ look_answer_of (answers.Name n) = Number n
 look_answer_of (answers.Count c) = Count (pos c)
 look_answer_of (answers.Parent n) = Number n
 
-abbrev pub answer_of : CodeSeen → Answer
-answer_of (seen.Look a) = look_answer_of a
-answer_of (seen.Lease held) = Held held
+abbrev pub answer_of : ReadAnswer → Answer
+answer_of (read_answers.Look a) = look_answer_of a
+answer_of (read_answers.Lease held) = Held held
 
 -- the state has, at each recorded cell, the recorded answer
-abbrev pub AgreesAlong : List (Read × CodeSeen) → Seen → Type 0
+abbrev pub AgreesAlong : List (Read × ReadAnswer) → ClientSight → Type 0
 AgreesAlong entries state = AllByRecursion (λ e. answer state (cell_of e.0) ≡ answer_of e.1) entries
 
-pub record Agrees (entries : List (Read × CodeSeen)) (state : Seen) : Type 0 where
+pub record Agrees (entries : List (Read × ReadAnswer)) (state : ClientSight) : Type 0 where
   pub each : AgreesAlong entries state
 
 -- P of each state that agrees
-abbrev pub Always : List (Read × CodeSeen) → (Seen → Type 0) → Type 0
-Always entries P = (state : Seen) → Agrees entries state → P state
+abbrev pub Always : List (Read × ReadAnswer) → (ClientSight → Type 0) → Type 0
+Always entries P = (state : ClientSight) → Agrees entries state → P state
 
 -- what agrees with the later reads agrees with the earlier
-abbrev pub Grows : List (Read × CodeSeen) → List (Read × CodeSeen) → Type 0
-Grows old new = (state : Seen) → Agrees new state → Agrees old state
+abbrev pub Grows : List (Read × ReadAnswer) → List (Read × ReadAnswer) → Type 0
+Grows old new = (state : ClientSight) → Agrees new state → Agrees old state
 
 -- each of the later reads is an earlier one, or at one of these cells
-pub record Within (old new : List (Read × CodeSeen)) (among : List Cell) : Type 0 where
-  pub each : (e : Read × CodeSeen) → Contains new e → Contains old e ⊎ Contains among (cell_of e.0)
+pub record Within (old new : List (Read × ReadAnswer)) (among : List Cell) : Type 0 where
+  pub each : (e : Read × ReadAnswer) → Contains new e → Contains old e ⊎ Contains among (cell_of e.0)
 
 -- each read is at one of these cells
-abbrev pub AreAmong : List (Read × CodeSeen) → List Cell → Type 0
+abbrev pub AreAmong : List (Read × ReadAnswer) → List Cell → Type 0
 AreAmong entries among = All (λ e. Contains among (cell_of e.0)) entries
 
 -- each of the few cells is one of the many
@@ -61,5 +61,5 @@ abbrev pub IsPart : List Cell → List Cell → Type 0
 IsPart few many = (cell : Cell) → Contains few cell → Contains many cell
 
 -- no read stands twice
-abbrev pub AreOnce : List (Read × CodeSeen) → Type 0
+abbrev pub AreOnce : List (Read × ReadAnswer) → Type 0
 AreOnce entries = AllPairs (λ e f. e.0 ≢ f.0) entries

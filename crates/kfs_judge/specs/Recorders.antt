@@ -1,14 +1,14 @@
 -- A recorder before and after a call.
 use Rattle.std.specs.Prelude.{◌≡◌}
-use Rattle.kfs_model.specs.Sight.{Seen}
+use Rattle.kfs_model.specs.Sight.{ClientSight}
 use Rattle.kfs_judge.specs.declared.reads.Recorder.{Recorder}
 use Rattle.kfs_judge.specs.Reads.{Agrees, AreOnce, Grows}
-use Rattle.kfs_judge.specs.View.{seen_of}
+use Rattle.kfs_judge.specs.View.{client_sight_in}
 
 module _ {A : Type 0} where
   -- what the recorder's view shows to its client
-  abbrev pub seen_by : Recorder A → Seen
-  seen_by recorder = seen_of recorder.view.now recorder.client
+  abbrev pub seen_by : Recorder A → ClientSight
+  seen_by recorder = client_sight_in recorder.view.now recorder.client
 
   -- the reads go on over the same view, agree with it if they did, and stand once if they did
   pub record GoesOn (old new : Recorder A) : Type 0 where

@@ -2,7 +2,7 @@
 use Rattle.std.specs.Prelude.{ℕ, List}
 use Rattle.kfs_model.specs.Access.{Client}
 use Rattle.kfs_model.specs.Lease.{Leases, holds}
-use Rattle.kfs_model.specs.Sight.{Seen}
+use Rattle.kfs_model.specs.Sight.{ClientSight}
 use Rattle.kfs_image.specs.Contents.{Contents, sight_of}
 use Rattle.kfs_judge.specs.declared.view.View.{View}
 
@@ -18,6 +18,6 @@ module _ {A : Type 0} where
   abbrev pub clients_of : View A → List Client
   clients_of view = view.clients.value.items
 
-  -- the state as the client of this number sees it
-  abbrev pub seen_of : View A → (client : ℕ) → Seen
-  seen_of view client = record { sight = sight_of (contents_of view); held = holds (leases_of view) client }
+  -- what the client of this number sees
+  abbrev pub client_sight_in : View A → (client : ℕ) → ClientSight
+  client_sight_in view client = record { sight = sight_of (contents_of view); held = holds (leases_of view) client }

@@ -1,32 +1,28 @@
 -- What a walk over a log's entries has found, in a state.
 use Rattle.std.specs.Prelude.{◌≡◌, ℕ, List, [], map, Option, None, Some, Result, Ok, Err}
+use Rattle.kfs_model.specs.Looked.{seen_run}
 use Rattle.kfs_model.specs.Access.{Client}
 use Rattle.kfs_model.specs.Lease.{row_of}
 use Rattle.kfs_model.specs.Table.{numbers}
 use Rattle.kfs_model.specs.Tree.{Tree, directory_entries}
 use Rattle.std.specs.List.{AllByRecursion}
 use Rattle.std.specs.Prelude.{Bool}
-use Rattle.kfs_model.specs.Sight.{Sight, Seen, sight}
+use Rattle.kfs_model.specs.Sight.{Sight, ClientSight, sight, client_sight}
 use Rattle.kfs_model.specs.Soundness.{IsSound}
 use Rattle.kfs_model.specs.Spelling.{IsEntry}
 use Rattle.kfs_model.specs.CleanStep.{IsClient}
 use Rattle.kfs_model.specs.Machine.{OneByOne}
 use Rattle.kfs_model.specs.Entry.{Entry}
-use Rattle.kfs_model.specs.Run.{Scene, EntryFault, run, bytes}
-use Rattle.kfs_model.specs.SeenAfter.{seen_run_from}
+use Rattle.kfs_model.specs.Run.{EntryFault, run, bytes}
 use Rattle.kfs_model.specs.Plan.{AreDifferences, number_now, header_now}
 use Rattle.kfs_judge.specs.Rows.{keyed_name_row, keyed_node_row}
 use Rattle.kfs_value.specs.declared.plan.NameRow.{NameRow as CodeNameRow}
 use Rattle.kfs_value.specs.declared.plan.NodeRow.{NodeRow as CodeNodeRow}
 use Rattle.kfs_image.specs.declared.shape.Net.{Net}
 use Rattle.kfs_judge.specs.declared.walk.EntryFault.{EntryFault as CodeEntryFault}
-use Rattle.kfs_judge.specs.Spots.{reason_of}
+use Rattle.kfs_judge.specs.Checks.{reason_of}
 use Rattle.kfs_judge.specs.declared.draft.Draft.{Draft}
 use Rattle.kfs_judge.specs.Overlay.{over}
-
--- who judges, in a state
-abbrev pub scene_in : Client → Seen → Scene
-scene_in client state = record { client = client; held = state.held; before = state.sight }
 
 abbrev pub fault_of : CodeEntryFault → EntryFault
 fault_of fault = record { entry = fault.index; reason = reason_of fault.reason }
@@ -40,34 +36,24 @@ AreNodesOf before after rows = AreDifferences numbers header_now before.head aft
 
 module _ {A : Type 0} where
   -- the run over the cells stops at this fault, or ends at what the draft shows
-  abbrev pub EndsAt : Client → Draft A → Seen → List Entry → Option CodeEntryFault → Type 0
-  EndsAt client draft state entries None = seen_run_from (scene_in client state) 0 [] state.sight entries ≡ Ok (over draft state.sight)
-  EndsAt client draft state entries (Some fault) = seen_run_from (scene_in client state) 0 [] state.sight entries ≡ Err (fault_of fault)
+  abbrev pub EndsAt : Client → Draft A → ClientSight → List Entry → Option CodeEntryFault → Type 0
+  EndsAt client draft state entries None = seen_run client state entries ≡ Ok (over draft state.sight)
+  EndsAt client draft state entries (Some fault) = seen_run client state entries ≡ Err (fault_of fault)
 
   pub record IsNetOf (before after : Sight) (net : Net A) : Type 0 where
     pub names : AreNamesOf before after net.names.items
     pub nodes : AreNodesOf before after net.nodes.items
 
   -- the run over the cells stops at this fault, or shows what differs
-  abbrev pub ComesTo : Client → Seen → List Entry → Result (Net A) CodeEntryFault → Type 0
-  ComesTo client state entries (Err fault) = seen_run_from (scene_in client state) 0 [] state.sight entries ≡ Err (fault_of fault)
-  ComesTo client state entries (Ok net) = (after : Sight) × (seen_run_from (scene_in client state) 0 [] state.sight entries ≡ Ok after) × IsNetOf state.sight after net
-
--- a state of sound tree, client and leases in their ranges
-pub record Fits (client : Client) (t : Tree ℕ) (entries : List Entry) : Type 0 where
-  pub in_range : IsClient client
-  pub sound : IsSound t
-  pub fitting : AllByRecursion IsEntry entries
-
--- what the client sees of a tree under its leases
-abbrev pub seen_in : Tree ℕ → (ℕ → Bool) → Seen
-seen_in t held = record { sight = sight t; held = held }
+  abbrev pub ComesTo : Client → ClientSight → List Entry → Result (Net A) CodeEntryFault → Type 0
+  ComesTo client state entries (Err fault) = seen_run client state entries ≡ Err (fault_of fault)
+  ComesTo client state entries (Ok net) = (after : Sight) × (seen_run client state entries ≡ Ok after) × IsNetOf state.sight after net
 
 module _ {A : Type 0} where
   -- the entries one by one stop at this fault, or leave a sound tree of which this is the net, each of them allowed
   abbrev pub ComesToTree : Client → (ℕ → Bool) → Tree ℕ → List Entry → Result (Net A) CodeEntryFault → Type 0
-  ComesToTree client held t entries (Err fault) = run bytes (scene_in client (seen_in t held)) t entries ≡ Err (fault_of fault)
-  ComesToTree client held t entries (Ok net) = (after : Tree ℕ) × (run bytes (scene_in client (seen_in t held)) t entries ≡ Ok after) × IsSound after × OneByOne (scene_in client (seen_in t held)) 0 [] t entries after × IsNetOf (sight t) (sight after) net
+  ComesToTree client held t entries (Err fault) = run bytes client (client_sight t held) t entries ≡ Err (fault_of fault)
+  ComesToTree client held t entries (Ok net) = (after : Tree ℕ) × (run bytes client (client_sight t held) t entries ≡ Ok after) × IsSound after × OneByOne client (client_sight t held) 0 [] t entries after × IsNetOf (sight t) (sight after) net
 
 -- the client is the one of the rows that has the number
 abbrev pub IsRowOf : List Client → ℕ → Client → Type 0

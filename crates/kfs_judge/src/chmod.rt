@@ -7,59 +7,59 @@ ghost use Rattle.kfs_model.specs.Entry as entry;
 ghost use Rattle.kfs_model.specs.Header.{Header as HeaderShown};
 ghost use Rattle.kfs_model.specs.SeenAfter.{seen_after};
 ghost use Rattle.kfs_model.specs.Sight.{Cell};
-ghost use Rattle.kfs_judge.specs.Overlay.{has_created, over, spot_of, ShiftsBy, IsWritten};
+ghost use Rattle.kfs_judge.specs.Overlay.{has_created, over, entry_context_of, ShiftsBy, IsWritten};
 ghost use Rattle.kfs_judge.specs.Reads.{Always, Within};
 ghost use Rattle.kfs_judge.specs.Recorders.{GoesOn};
-ghost use Rattle.kfs_judge.specs.Spots.{reason_of, stands_in};
+ghost use Rattle.kfs_judge.specs.Checks.{reason_of, entry_context_in};
 
 use crate::check::{Check, Reason};
 use crate::reads::Recorder;
-use crate::scene::Scene;
-use crate::spot::Spot;
+use crate::log_judge::LogJudge;
+use crate::entry_judge::EntryJudge;
 use kfs_image::Header;
 use std::alloc::{AllocError, Allocator};
 
 /// Why the mode of the node `number` can't be changed, if so.
 #[tactic(auto, unfolding(kfs_model::specs::Check::checks_of))]
 fn chmod_fault<A: Allocator + Copy>(
-    spot: &Spot<'_, A>,
+    judge: &EntryJudge<'_, A>,
     recorder: &mut Recorder<'_, A>,
     number: u32,
 ) -> Result<Option<Reason>, AllocError>
     ensures goes { GoesOn recorder.old recorder.new }
-    ensures known { IfOk result (λ reason. Always recorder.new.reads.entries (λ state. (mode : ℕ) → first_fault (stands_in spot.now state) (entry.Chmod number mode) ≡ option_map reason_of reason)) }
-    ensures among { OnOk result (Always recorder.new.reads.entries (λ state. (mode : ℕ) → Within recorder.old.reads.entries recorder.new.reads.entries (looked (stands_in spot.now state) (checks_of (stands_in spot.now state) (entry.Chmod number mode))))) }
+    ensures known { IfOk result (λ reason. Always recorder.new.reads.entries (λ state. (mode : ℕ) → first_fault (entry_context_in judge.now state) (entry.Chmod number mode) ≡ option_map reason_of reason)) }
+    ensures among { OnOk result (Always recorder.new.reads.entries (λ state. (mode : ℕ) → Within recorder.old.reads.entries recorder.new.reads.entries (looked (entry_context_in judge.now state) (checks_of (entry_context_in judge.now state) (entry.Chmod number mode))))) }
 {
     let checks = [
         Check::Exists(number),
         Check::MayChangeMode(number),
         Check::IsLeased(number),
     ];
-    let reason = spot.first_fault(recorder, &checks)?;
+    let reason = judge.first_fault(recorder, &checks)?;
     Ok(reason)
 }
 
-impl<A: Allocator + Copy> Scene<'_, A> {
+impl<A: Allocator + Copy> LogJudge<'_, A> {
     /// Sets the permission bits of the node `number`, or answers why not.
     pub(crate) fn chmod(&mut self, number: u32, mode: u16) -> Result<Option<Reason>, AllocError>
         ensures goes { GoesOn self.old.recorder self.new.recorder }
         ensures client { self.new.client.now ≡ self.old.client.now }
-        ensures known { IfOk result (λ reason. Always self.new.recorder.reads.entries (λ state. first_fault (spot_of self.old.client.now self.old.draft state) (entry.Chmod number mode) ≡ option_map reason_of reason)) }
-        ensures among { OnOk result (Always self.new.recorder.reads.entries (λ state. Within self.old.recorder.reads.entries self.new.recorder.reads.entries (looked (spot_of self.old.client.now self.old.draft state) (checks_of (spot_of self.old.client.now self.old.draft state) (entry.Chmod number mode))))) }
+        ensures known { IfOk result (λ reason. Always self.new.recorder.reads.entries (λ state. first_fault (entry_context_of self.old.client.now self.old.draft state) (entry.Chmod number mode) ≡ option_map reason_of reason)) }
+        ensures among { OnOk result (Always self.new.recorder.reads.entries (λ state. Within self.old.recorder.reads.entries self.new.recorder.reads.entries (looked (entry_context_of self.old.client.now self.old.draft state) (checks_of (entry_context_of self.old.client.now self.old.draft state) (entry.Chmod number mode))))) }
         ensures shown { result ≡ Ok None → Always self.new.recorder.reads.entries (λ state. over self.new.draft state.sight ≡ seen_after self.old.client.now (over self.old.draft state.sight) (entry.Chmod number mode)) }
-        ensures written { result ≡ Ok None → Always self.new.recorder.reads.entries (λ state. (among : List Cell) → IsWritten self.old.draft among → IsWritten self.new.draft (looked (spot_of self.old.client.now self.old.draft state) (checks_of (spot_of self.old.client.now self.old.draft state) (entry.Chmod number mode)) ++ among)) }
+        ensures written { result ≡ Ok None → Always self.new.recorder.reads.entries (λ state. (among : List Cell) → IsWritten self.old.draft among → IsWritten self.new.draft (looked (entry_context_of self.old.client.now self.old.draft state) (checks_of (entry_context_of self.old.client.now self.old.draft state) (entry.Chmod number mode)) ++ among)) }
         ensures created { result ≡ Ok None → (n : ℕ) → has_created self.new.draft n ≡ has_created self.old.draft n }
         ensures shifts { result ≡ Ok None → (most : ℕ) → ShiftsBy most self.old.draft → ShiftsBy (most + 1) self.new.draft }
     {
-        let spot = Spot {
+        let judge = EntryJudge {
             client: self.client,
             draft: &self.draft,
         };
-        let fault = chmod_fault(&spot, &mut self.recorder, number)?;
+        let fault = chmod_fault(&judge, &mut self.recorder, number)?;
         if let Some(reason) = fault {
             return Ok(Some(reason));
         }
-        let header = spot.header(&mut self.recorder, number)?;
+        let header = judge.header(&mut self.recorder, number)?;
         self.draft.set_header(number, with_mode(header, mode))?;
         Ok(None)
     }

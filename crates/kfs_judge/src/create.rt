@@ -7,29 +7,29 @@ ghost use Rattle.kfs_model.specs.Header.{Kind as KindShown};
 ghost use Rattle.kfs_model.specs.Entry as entry;
 ghost use Rattle.kfs_model.specs.SeenAfter.{seen_after};
 ghost use Rattle.kfs_model.specs.Sight.{Sight, Cell};
-ghost use Rattle.kfs_judge.specs.Overlay.{has_created, over, shift_of, spot_of, ShiftsBy, IsWritten};
+ghost use Rattle.kfs_judge.specs.Overlay.{has_created, over, shift_of, entry_context_of, ShiftsBy, IsWritten};
 ghost use Rattle.kfs_judge.specs.Reads.{Always, Within};
 ghost use Rattle.kfs_judge.specs.Recorders.{GoesOn};
-ghost use Rattle.kfs_judge.specs.Spots.{reason_of, stands_in};
+ghost use Rattle.kfs_judge.specs.Checks.{reason_of, entry_context_in};
 
 use crate::check::{Check, Reason};
 use crate::reads::Recorder;
-use crate::scene::Scene;
-use crate::spot::Spot;
+use crate::log_judge::LogJudge;
+use crate::entry_judge::EntryJudge;
 use kfs_image::{Header, Kind, Name};
 use std::alloc::{AllocError, Allocator};
 
 /// Why a node `number` can't be made under the name `key`, if so.
 #[tactic(auto, unfolding(kfs_model::specs::Check::checks_of))]
 fn create_fault<A: Allocator + Copy>(
-    spot: &Spot<'_, A>,
+    judge: &EntryJudge<'_, A>,
     recorder: &mut Recorder<'_, A>,
     key: &(u32, Name),
     number: u32,
 ) -> Result<Option<Reason>, AllocError>
     ensures goes { GoesOn recorder.old recorder.new }
-    ensures known { IfOk result (λ reason. Always recorder.new.reads.entries (λ state. (kind : KindShown) (mode : ℕ) → first_fault (stands_in spot.now state) (entry.Create key.now.0 key.now.1 number kind mode) ≡ option_map reason_of reason)) }
-    ensures among { OnOk result (Always recorder.new.reads.entries (λ state. (kind : KindShown) (mode : ℕ) → Within recorder.old.reads.entries recorder.new.reads.entries (looked (stands_in spot.now state) (checks_of (stands_in spot.now state) (entry.Create key.now.0 key.now.1 number kind mode))))) }
+    ensures known { IfOk result (λ reason. Always recorder.new.reads.entries (λ state. (kind : KindShown) (mode : ℕ) → first_fault (entry_context_in judge.now state) (entry.Create key.now.0 key.now.1 number kind mode) ≡ option_map reason_of reason)) }
+    ensures among { OnOk result (Always recorder.new.reads.entries (λ state. (kind : KindShown) (mode : ℕ) → Within recorder.old.reads.entries recorder.new.reads.entries (looked (entry_context_in judge.now state) (checks_of (entry_context_in judge.now state) (entry.Create key.now.0 key.now.1 number kind mode))))) }
 {
     let dir = key.0;
     let checks = [
@@ -42,11 +42,11 @@ fn create_fault<A: Allocator + Copy>(
         Check::NumberIsGranted(number),
         Check::NumberIsFree(number),
     ];
-    let reason = spot.first_fault(recorder, &checks)?;
+    let reason = judge.first_fault(recorder, &checks)?;
     Ok(reason)
 }
 
-impl<'a, A: Allocator + Copy> Scene<'a, A> {
+impl<'a, A: Allocator + Copy> LogJudge<'a, A> {
     /// Makes the node `number` without bytes under the name `key`, with the client's uid and gid, or
     /// answers why not. No directory's count differs by 2^31 - 1 yet.
     pub(crate) fn create(
@@ -59,18 +59,18 @@ impl<'a, A: Allocator + Copy> Scene<'a, A> {
         requires { (d : ℕ) → shift_of self.old.draft d <ℤ pos 2147483647 }
         ensures goes { GoesOn self.old.recorder self.new.recorder }
         ensures client { self.new.client.now ≡ self.old.client.now }
-        ensures known { IfOk result (λ reason. Always self.new.recorder.reads.entries (λ state. first_fault (spot_of self.old.client.now self.old.draft state) (entry.Create key.0 key.1 number (kind_of kind) mode) ≡ option_map reason_of reason)) }
-        ensures among { OnOk result (Always self.new.recorder.reads.entries (λ state. Within self.old.recorder.reads.entries self.new.recorder.reads.entries (looked (spot_of self.old.client.now self.old.draft state) (checks_of (spot_of self.old.client.now self.old.draft state) (entry.Create key.0 key.1 number (kind_of kind) mode))))) }
+        ensures known { IfOk result (λ reason. Always self.new.recorder.reads.entries (λ state. first_fault (entry_context_of self.old.client.now self.old.draft state) (entry.Create key.0 key.1 number (kind_of kind) mode) ≡ option_map reason_of reason)) }
+        ensures among { OnOk result (Always self.new.recorder.reads.entries (λ state. Within self.old.recorder.reads.entries self.new.recorder.reads.entries (looked (entry_context_of self.old.client.now self.old.draft state) (checks_of (entry_context_of self.old.client.now self.old.draft state) (entry.Create key.0 key.1 number (kind_of kind) mode))))) }
         ensures shown { result ≡ Ok None → (s : Sight) → over self.new.draft s ≡ seen_after self.old.client.now (over self.old.draft s) (entry.Create key.0 key.1 number (kind_of kind) mode) }
-        ensures written { result ≡ Ok None → Always self.new.recorder.reads.entries (λ state. (among : List Cell) → IsWritten self.old.draft among → IsWritten self.new.draft (looked (spot_of self.old.client.now self.old.draft state) (checks_of (spot_of self.old.client.now self.old.draft state) (entry.Create key.0 key.1 number (kind_of kind) mode)) ++ among)) }
+        ensures written { result ≡ Ok None → Always self.new.recorder.reads.entries (λ state. (among : List Cell) → IsWritten self.old.draft among → IsWritten self.new.draft (looked (entry_context_of self.old.client.now self.old.draft state) (checks_of (entry_context_of self.old.client.now self.old.draft state) (entry.Create key.0 key.1 number (kind_of kind) mode)) ++ among)) }
         ensures created { result ≡ Ok None → (n : ℕ) → has_created self.new.draft n ≡ ((number == n) || has_created self.old.draft n) }
         ensures shifts { result ≡ Ok None → (most : ℕ) → ShiftsBy most self.old.draft → ShiftsBy (most + 1) self.new.draft }
     {
-        let spot = Spot {
+        let judge = EntryJudge {
             client: self.client,
             draft: &self.draft,
         };
-        let fault = create_fault(&spot, &mut self.recorder, &key, number)?;
+        let fault = create_fault(&judge, &mut self.recorder, &key, number)?;
         if let Some(reason) = fault {
             return Ok(Some(reason));
         }

@@ -8,12 +8,12 @@ mod draft;
 mod net;
 pub mod plan;
 mod reads;
-mod scene;
-mod spot;
+mod log_judge;
+mod entry_judge;
 mod view;
 mod walk;
 
 pub use check::Reason;
-pub use reads::{Read, Seen};
+pub use reads::{Read, ReadAnswer};
 pub use view::View;
 pub use walk::{EntryFault, Walk, judge_entries};

@@ -1,6 +1,8 @@
 //! The plan of a log against what the log comes to, and the judgement of both.
 ghost use Rattle.std.specs.Prelude.{◌≡◌, ◌≢◌, ◌↔◌, ℕ, Bool, List, [], None, map, position, zip, not, All, IsOk, IfOk, IfErr, IsTrue};
 ghost use Rattle.kfs_value.specs.Views.{entry_of};
+ghost use Rattle.kfs_model.specs.CleanStep.{Fits};
+ghost use Rattle.kfs_model.specs.Sight.{client_sight};
 ghost use Rattle.kfs_model.specs.Access.{Client as ClientRow};
 ghost use Rattle.kfs_model.specs.FirstWrong.{first_difference};
 ghost use Rattle.kfs_model.specs.Judgement.{State};
@@ -10,11 +12,10 @@ ghost use Rattle.kfs_judge.specs.JudgedEntries.{IsJudged};
 ghost use Rattle.kfs_judge.specs.Judging.{AreLooked, HasOtherEntry, IsAlike, IsEarly, IsReading, IsSettled, IsVerdict, submission_of, submission_with};
 ghost use Rattle.kfs_judge.specs.PlanCheck.{first_unlike, IsChecked, IsWalkOf, TellsRow};
 ghost use Rattle.kfs_judge.specs.Reads.{Agrees};
-ghost use Rattle.kfs_judge.specs.View.{clients_of, seen_of};
-ghost use Rattle.kfs_judge.specs.Walks.{Fits, scene_in, seen_in};
+ghost use Rattle.kfs_judge.specs.View.{clients_of, client_sight_in};
 ghost use Rattle.kfs_judge.specs.declared.plan.RowFault.TheVariants.{OutOfMemory};
 
-use crate::reads::{Read, Seen};
+use crate::reads::{Read, ReadAnswer};
 use crate::view::View;
 use crate::walk::{EntryFault, Walk, judge_entries};
 use indexmap::IndexMap;
@@ -57,8 +58,8 @@ pub fn check_plan<A: Allocator + Copy>(
     requires walked { IsOk walk.now.outcome }
     // At every sound tree and all leases that agree with the walk's reads, the first wrong row of the definitions is named.
     ensures { (client : ClientRow) → IsWalkOf client _log.now walk.now → All IsJudged _log.now.entries
-        → (source : List ℕ) (tree : Tree ℕ) (held : ℕ → Bool) → Fits client tree (map (entry_of source) _log.now.entries) → Agrees walk.now.reads.entries (seen_in tree held)
-        → IsChecked (scene_in client (seen_in tree held)) tree (map (entry_of source) _log.now.entries) plan.now result }
+        → (source : List ℕ) (tree : Tree ℕ) (held : ℕ → Bool) → Fits client tree (map (entry_of source) _log.now.entries) → Agrees walk.now.reads.entries (client_sight tree held)
+        → IsChecked client (client_sight tree held) tree (map (entry_of source) _log.now.entries) plan.now result }
 {
     let net = walk.outcome.as_ref().unwrap();
     check_rows(net, plan)
@@ -147,7 +148,7 @@ pub enum Outcome<A: Allocator> {
 pub struct Judged<A: Allocator> {
     pub submission: Submission<A>,
     pub client: Option<Client>,
-    pub reads: IndexMap<Read, Seen, BuildHasherDefault<FoldHasher>, A>,
+    pub reads: IndexMap<Read, ReadAnswer, BuildHasherDefault<FoldHasher>, A>,
     pub outcome: Outcome<A>,
 }
 
@@ -192,7 +193,7 @@ pub fn judge<A: Allocator + Copy>(
 
     // In every state that is alike, this is the verdict.
     ensures known { IfOk result (λ j. (s : State) → IsAlike s submission.client j.client j.reads.entries → IsVerdict s (submission_of submission) j.outcome) }
-    ensures view_agrees { IfOk result (λ j. Agrees j.reads.entries (seen_of view.now submission.client)) }
+    ensures view_agrees { IfOk result (λ j. Agrees j.reads.entries (client_sight_in view.now submission.client)) }
     ensures among { IfOk result (λ j. AreLooked view.now (submission_of submission) j.outcome j.reads.entries) }
     ensures other { IfErr result (λ b. b.why ≡ Why.OtherEntry → HasOtherEntry submission.log.items) }
     ensures not_full { IfErr result (λ b. b.why ≢ Why.DocketFull) }
@@ -213,7 +214,7 @@ pub fn judge<A: Allocator + Copy>(
 #[derive(Drop)]
 struct Finding<A: Allocator> {
     client: Option<Client>,
-    reads: IndexMap<Read, Seen, BuildHasherDefault<FoldHasher>, A>,
+    reads: IndexMap<Read, ReadAnswer, BuildHasherDefault<FoldHasher>, A>,
     outcome: Outcome<A>,
 }
 
@@ -241,7 +242,7 @@ fn find<A: Allocator + Copy>(
 ) -> Result<Finding<A>, Why>
     ensures client { IfOk result (λ f. f.client ≡ row_of (clients_of view.now) number) }
     ensures known { IfOk result (λ f. (s : State) → IsAlike s number f.client f.reads.entries → IsVerdict s (submission_with number log.now plan.now) f.outcome) }
-    ensures view_agrees { IfOk result (λ f. Agrees f.reads.entries (seen_of view.now number)) }
+    ensures view_agrees { IfOk result (λ f. Agrees f.reads.entries (client_sight_in view.now number)) }
     ensures among { IfOk result (λ f. AreLooked view.now (submission_with number log.now plan.now) f.outcome f.reads.entries) }
     ensures other { IfErr result (λ why. why ≡ Why.OtherEntry → HasOtherEntry log.now) }
     ensures not_full { IfErr result (λ why. why ≢ Why.DocketFull) }

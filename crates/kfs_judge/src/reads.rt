@@ -7,7 +7,7 @@ ghost use Rattle.kfs_model.specs.Header.{Header as HeaderShown};
 ghost use Rattle.kfs_model.specs.Sight.{answer, Head, Number, Held, HeaderOf, NameIn, LeaseOn};
 ghost use Rattle.kfs_judge.specs.Reads.{Always, Within, cell_of, answer_of};
 ghost use Rattle.kfs_judge.specs.Recorders.{GoesOn, seen_by};
-ghost use Rattle.kfs_judge.specs.View.{seen_of};
+ghost use Rattle.kfs_judge.specs.View.{client_sight_in};
 
 use crate::view::View;
 use indexmap::IndexMap;
@@ -26,27 +26,27 @@ pub enum Read {
 
 /// What a state shows at a cell of the same case.
 #[derive(Clone, Copy, Debug, PartialEq, Eq)]
-pub enum Seen {
+pub enum ReadAnswer {
     Look(Answer),
     Lease(bool),
 }
 
 /// The recorded reads with their answers.
-pub type Reads<A> = IndexMap<Read, Seen, BuildHasherDefault<FoldHasher>, A>;
+pub type Reads<A> = IndexMap<Read, ReadAnswer, BuildHasherDefault<FoldHasher>, A>;
 
 /// Reads a view for one client, and keeps what it read.
 #[derive(Drop)]
 pub(crate) struct Recorder<'a, A: Allocator> {
     view: &'a View<A>,
     client: u32,
-    reads: IndexMap<Read, Seen, BuildHasherDefault<FoldHasher>, A>,
+    reads: IndexMap<Read, ReadAnswer, BuildHasherDefault<FoldHasher>, A>,
 }
 
 impl<'a, A: Allocator + Copy> Recorder<'a, A> {
     /// Nothing read yet.
     pub(crate) fn new(alloc: A, view: &'a View<A>, client: u32) -> Recorder<'a, A>
         ensures none { result.reads.entries ≡ [] }
-        ensures seen { seen_by result ≡ seen_of view.now client }
+        ensures seen { seen_by result ≡ client_sight_in view.now client }
     {
         Recorder {
             view,
@@ -56,26 +56,26 @@ impl<'a, A: Allocator + Copy> Recorder<'a, A> {
     }
 
     /// The answer at a cell: the recorded one, or else the view's, which is recorded then.
-    fn read(&mut self, read: Read) -> Result<Seen, AllocError>
+    fn read(&mut self, read: Read) -> Result<ReadAnswer, AllocError>
         ensures goes { GoesOn self.old self.new }
-        ensures known { IfOk result (λ seen. Always self.new.reads.entries (λ state. answer state (cell_of read) ≡ answer_of seen)) }
+        ensures known { IfOk result (λ told. Always self.new.reads.entries (λ state. answer state (cell_of read) ≡ answer_of told)) }
         ensures among { OnOk result (Within self.old.reads.entries self.new.reads.entries (cell_of read ∷ [])) }
     {
-        if let Some(seen) = self.reads.get(&read) {
-            return Ok(*seen);
+        if let Some(answer) = self.reads.get(&read) {
+            return Ok(*answer);
         }
-        let seen = self.seen(&read);
-        self.reads.insert(read, seen)?;
-        Ok(seen)
+        let answer = self.view_answer(&read);
+        self.reads.insert(read, answer)?;
+        Ok(answer)
     }
 
     /// What the view shows at a cell.
-    fn seen(&self, read: &Read) -> Seen
+    fn view_answer(&self, read: &Read) -> ReadAnswer
         ensures { answer (seen_by self.now) (cell_of read.now) ≡ answer_of result }
     {
         match read {
-            Read::Look(cell) => Seen::Look(self.view.look(cell)),
-            Read::Lease(number) => Seen::Lease(self.view.holds(self.client, *number)),
+            Read::Look(cell) => ReadAnswer::Look(self.view.look(cell)),
+            Read::Lease(number) => ReadAnswer::Lease(self.view.holds(self.client, *number)),
         }
     }
 
@@ -85,8 +85,8 @@ impl<'a, A: Allocator + Copy> Recorder<'a, A> {
         ensures known { IfOk result (λ header. Always self.new.reads.entries (λ state. state.sight.head number ≡ option_map header_of header)) }
         ensures among { OnOk result (Within self.old.reads.entries self.new.reads.entries (HeaderOf number ∷ [])) }
     {
-        let seen = self.read(Read::Look(Cell::Header(number)))?;
-        Ok(header_in(seen))
+        let answer = self.read(Read::Look(Cell::Header(number)))?;
+        Ok(header_in(answer))
     }
 
     /// The number that a name leads to.
@@ -96,8 +96,8 @@ impl<'a, A: Allocator + Copy> Recorder<'a, A> {
         ensures among { OnOk result (Within self.old.reads.entries self.new.reads.entries (NameIn key.now.0 key.now.1 ∷ [])) }
     {
         let name = key.1.clone()?;
-        let seen = self.read(Read::Look(Cell::Name(key.0, name)))?;
-        Ok(number_in(seen))
+        let answer = self.read(Read::Look(Cell::Name(key.0, name)))?;
+        Ok(number_in(answer))
     }
 
     /// Whether the client holds a live write lease on the node.
@@ -106,12 +106,12 @@ impl<'a, A: Allocator + Copy> Recorder<'a, A> {
         ensures known { IfOk result (λ held. Always self.new.reads.entries (λ state. state.held number ≡ held)) }
         ensures among { OnOk result (Within self.old.reads.entries self.new.reads.entries (LeaseOn number ∷ [])) }
     {
-        let seen = self.read(Read::Lease(number))?;
-        Ok(held_in(seen))
+        let answer = self.read(Read::Lease(number))?;
+        Ok(held_in(answer))
     }
 
     /// The recorded reads.
-    pub(crate) fn into_reads(self) -> IndexMap<Read, Seen, BuildHasherDefault<FoldHasher>, A>
+    pub(crate) fn into_reads(self) -> IndexMap<Read, ReadAnswer, BuildHasherDefault<FoldHasher>, A>
         ensures { result.entries ≡ self.entry.reads.entries }
     {
         self.reads
@@ -119,31 +119,31 @@ impl<'a, A: Allocator + Copy> Recorder<'a, A> {
 }
 
 /// The header that an answer tells.
-fn header_in(seen: Seen) -> Option<Header>
-    ensures { (header : Option HeaderShown) → Head header ≡ answer_of seen → header ≡ option_map header_of result }
+fn header_in(answer: ReadAnswer) -> Option<Header>
+    ensures { (header : Option HeaderShown) → Head header ≡ answer_of answer → header ≡ option_map header_of result }
 {
-    match seen {
-        Seen::Look(Answer::Header(header)) => header,
+    match answer {
+        ReadAnswer::Look(Answer::Header(header)) => header,
         _ => None,
     }
 }
 
 /// The number that an answer tells.
-fn number_in(seen: Seen) -> Option<u32>
-    ensures { (number : Option ℕ) → Number number ≡ answer_of seen → number ≡ result }
+fn number_in(answer: ReadAnswer) -> Option<u32>
+    ensures { (number : Option ℕ) → Number number ≡ answer_of answer → number ≡ result }
 {
-    match seen {
-        Seen::Look(Answer::Name(number)) | Seen::Look(Answer::Parent(number)) => number,
+    match answer {
+        ReadAnswer::Look(Answer::Name(number)) | ReadAnswer::Look(Answer::Parent(number)) => number,
         _ => None,
     }
 }
 
 /// Whether an answer tells of a lease that is held.
-fn held_in(seen: Seen) -> bool
-    ensures { (held : Bool) → Held held ≡ answer_of seen → held ≡ result }
+fn held_in(answer: ReadAnswer) -> bool
+    ensures { (held : Bool) → Held held ≡ answer_of answer → held ≡ result }
 {
-    match seen {
-        Seen::Lease(held) => held,
+    match answer {
+        ReadAnswer::Lease(held) => held,
         _ => false,
     }
 }

@@ -1,21 +1,22 @@
 //! The entries of a log against a view.
 ghost use Rattle.std.specs.Prelude.{◌≡◌, ℕ, ◌≤◌, Bool, false, List, length, map, All, IsSome, IfOk, [], None, Ok, OnOk};
 ghost use Rattle.kfs_value.specs.Views.{entry_of};
+ghost use Rattle.kfs_model.specs.CleanStep.{Fits};
 ghost use Rattle.kfs_model.specs.Access.{Client as ClientRow};
 ghost use Rattle.kfs_model.specs.Lease.{row_of};
-ghost use Rattle.kfs_model.specs.Sight.{Sight};
+ghost use Rattle.kfs_model.specs.Sight.{Sight, client_sight};
 ghost use Rattle.kfs_model.specs.Tree.{Tree};
 ghost use Rattle.kfs_judge.specs.JudgedEntries.{IsJudged};
 ghost use Rattle.kfs_judge.specs.Overlay.{has_created, over, ShiftsBy, IsWritten};
 ghost use Rattle.kfs_judge.specs.Reads.{Agrees, Always, AreAmong, AreOnce, Within};
 ghost use Rattle.kfs_judge.specs.Recorders.{GoesOn};
-ghost use Rattle.kfs_judge.specs.View.{clients_of, seen_of};
-ghost use Rattle.kfs_judge.specs.Walks.{ComesTo, ComesToTree, EndsAt, Fits, IsRowOf, seen_in};
+ghost use Rattle.kfs_judge.specs.View.{clients_of, client_sight_in};
+ghost use Rattle.kfs_judge.specs.Walks.{ComesTo, ComesToTree, EndsAt, IsRowOf};
 ghost use Rattle.kfs_model.specs.Looked.{looked_cells};
 
 use crate::check::Reason;
-use crate::reads::{Read, Seen};
-use crate::scene::Scene;
+use crate::reads::{Read, ReadAnswer};
+use crate::log_judge::LogJudge;
 use crate::view::View;
 use indexmap::IndexMap;
 use kfs_entry::{Entry, Log, Span};
@@ -34,7 +35,7 @@ pub struct EntryFault {
 /// and the first bad entry, or else what differs after the log.
 #[derive(Drop)]
 pub struct Walk<A: Allocator> {
-    pub reads: IndexMap<Read, Seen, BuildHasherDefault<FoldHasher>, A>,
+    pub reads: IndexMap<Read, ReadAnswer, BuildHasherDefault<FoldHasher>, A>,
     pub outcome: Result<Net<A>, EntryFault>,
 }
 
@@ -49,10 +50,10 @@ pub fn judge_entries<A: Allocator + Copy>(
     requires judged { All IsJudged log.now.entries }
     requires count { length log.now.entries ≤ 4096 }
     // At every sound tree and all leases that agree with the reads, the entries come to this outcome one by one.
-    ensures known { IfOk result (λ walk. (client : ClientRow) × IsRowOf (clients_of view.now) log.now.client client × ((source : List ℕ) (tree : Tree ℕ) (held : ℕ → Bool) → Fits client tree (map (entry_of source) log.now.entries) → Agrees walk.reads.entries (seen_in tree held) → ComesToTree client held tree (map (entry_of source) log.now.entries) walk.outcome)) }
-    ensures view_agrees { IfOk result (λ walk. Agrees walk.reads.entries (seen_of view.now log.now.client)) }
+    ensures known { IfOk result (λ walk. (client : ClientRow) × IsRowOf (clients_of view.now) log.now.client client × ((source : List ℕ) (tree : Tree ℕ) (held : ℕ → Bool) → Fits client tree (map (entry_of source) log.now.entries) → Agrees walk.reads.entries (client_sight tree held) → ComesToTree client held tree (map (entry_of source) log.now.entries) walk.outcome)) }
+    ensures view_agrees { IfOk result (λ walk. Agrees walk.reads.entries (client_sight_in view.now log.now.client)) }
     ensures once { IfOk result (λ walk. AreOnce walk.reads.entries) }
-    ensures among { IfOk result (λ walk. (client : ClientRow) → IsRowOf (clients_of view.now) log.now.client client → (source : List ℕ) → AreAmong walk.reads.entries (looked_cells client (seen_of view.now log.now.client) (map (entry_of source) log.now.entries))) }
+    ensures among { IfOk result (λ walk. (client : ClientRow) → IsRowOf (clients_of view.now) log.now.client client → (source : List ℕ) → AreAmong walk.reads.entries (looked_cells client (client_sight_in view.now log.now.client) (map (entry_of source) log.now.entries))) }
 {
     let walk = walk_entries(alloc, view, log)?;
     Ok(walk)
@@ -68,45 +69,45 @@ fn walk_entries<A: Allocator + Copy>(
     requires count { length log.now.entries ≤ 4096 }
     // In every state that agrees with the reads, the run over its cells comes to this outcome.
     ensures known { IfOk result (λ walk. (client : ClientRow) × IsRowOf (clients_of view.now) log.now.client client × Always walk.reads.entries (λ state. (source : List ℕ) → ComesTo client state (map (entry_of source) log.now.entries) walk.outcome)) }
-    ensures view_agrees { IfOk result (λ walk. Agrees walk.reads.entries (seen_of view.now log.now.client)) }
+    ensures view_agrees { IfOk result (λ walk. Agrees walk.reads.entries (client_sight_in view.now log.now.client)) }
     ensures once { IfOk result (λ walk. AreOnce walk.reads.entries) }
-    ensures among { IfOk result (λ walk. (client : ClientRow) → IsRowOf (clients_of view.now) log.now.client client → (source : List ℕ) → AreAmong walk.reads.entries (looked_cells client (seen_of view.now log.now.client) (map (entry_of source) log.now.entries))) }
+    ensures among { IfOk result (λ walk. (client : ClientRow) → IsRowOf (clients_of view.now) log.now.client client → (source : List ℕ) → AreAmong walk.reads.entries (looked_cells client (client_sight_in view.now log.now.client) (map (entry_of source) log.now.entries))) }
 {
     let client = view.client(log.client).unwrap();
-    let mut scene = Scene::new(alloc, view, client);
-    let fault = enter_all(&mut scene, log.entries.as_slice())?;
+    let mut judge = LogJudge::new(alloc, view, client);
+    let fault = enter_all(&mut judge, log.entries.as_slice())?;
     if let Some(fault) = fault {
         return Ok(Walk {
-            reads: scene.into_reads(),
+            reads: judge.into_reads(),
             outcome: Err(fault),
         });
     }
-    let net = scene.net(alloc)?;
+    let net = judge.net(alloc)?;
     Ok(Walk {
-        reads: scene.into_reads(),
+        reads: judge.into_reads(),
         outcome: Ok(net),
     })
 }
 
 /// Enters one entry after another, up to the first bad one.
 fn enter_all<A: Allocator + Copy>(
-    scene: &mut Scene<'_, A>,
+    judge: &mut LogJudge<'_, A>,
     entries: &[Entry<Span>],
 ) -> Result<Option<EntryFault>, AllocError>
     requires judged { All IsJudged entries.now }
     requires count { length entries.now ≤ 4096 }
-    requires shown { (s : Sight) → over scene.old.draft s ≡ s }
-    requires created { (n : ℕ) → has_created scene.old.draft n ≡ false }
-    requires written { IsWritten scene.old.draft [] }
-    requires shifts { ShiftsBy 0 scene.old.draft }
-    ensures goes { GoesOn scene.old.recorder scene.new.recorder }
-    ensures client { scene.new.client.now ≡ scene.old.client.now }
-    ensures known { IfOk result (λ fault. Always scene.new.recorder.reads.entries (λ state. (source : List ℕ) → EndsAt scene.old.client.now scene.new.draft state (map (entry_of source) entries.now) fault)) }
-    ensures among { OnOk result (Always scene.new.recorder.reads.entries (λ state. (source : List ℕ) → Within scene.old.recorder.reads.entries scene.new.recorder.reads.entries (looked_cells scene.old.client.now state (map (entry_of source) entries.now)))) }
-    ensures written { result ≡ Ok None → Always scene.new.recorder.reads.entries (λ state. (source : List ℕ) → IsWritten scene.new.draft (looked_cells scene.old.client.now state (map (entry_of source) entries.now))) }
+    requires shown { (s : Sight) → over judge.old.draft s ≡ s }
+    requires created { (n : ℕ) → has_created judge.old.draft n ≡ false }
+    requires written { IsWritten judge.old.draft [] }
+    requires shifts { ShiftsBy 0 judge.old.draft }
+    ensures goes { GoesOn judge.old.recorder judge.new.recorder }
+    ensures client { judge.new.client.now ≡ judge.old.client.now }
+    ensures known { IfOk result (λ fault. Always judge.new.recorder.reads.entries (λ state. (source : List ℕ) → EndsAt judge.old.client.now judge.new.draft state (map (entry_of source) entries.now) fault)) }
+    ensures among { OnOk result (Always judge.new.recorder.reads.entries (λ state. (source : List ℕ) → Within judge.old.recorder.reads.entries judge.new.recorder.reads.entries (looked_cells judge.old.client.now state (map (entry_of source) entries.now)))) }
+    ensures written { result ≡ Ok None → Always judge.new.recorder.reads.entries (λ state. (source : List ℕ) → IsWritten judge.new.draft (looked_cells judge.old.client.now state (map (entry_of source) entries.now))) }
 {
     for (index, entry) in entries.iter().enumerate() {
-        if let Some(reason) = scene.enter(entry)? {
+        if let Some(reason) = judge.enter(entry)? {
             return Ok(Some(EntryFault { index, reason }));
         }
     }

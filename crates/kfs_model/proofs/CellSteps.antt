@@ -6,15 +6,14 @@ use Rattle.kfs_model.specs.Header.{File}
 use Rattle.kfs_model.specs.Table.{get}
 use Rattle.kfs_model.specs.Tree.{Tree, Node, Body, Cells, Names, Links, headers, header_of, size_of, name_count}
 use Rattle.kfs_model.specs.Entry.{Write, Truncate, Chmod}
-use Rattle.kfs_model.specs.Sight.{sight, is_directory}
+use Rattle.kfs_model.specs.Sight.{is_directory}
 use Rattle.kfs_model.specs.Limits.{size_limit}
-use Rattle.kfs_model.specs.Check.{Spot, fault, checks_of, payload_fits}
+use Rattle.kfs_model.specs.Check.{EntryContext, fault, checks_of, payload_fits}
 use Rattle.kfs_model.specs.Effect.{Fabric, change_of, overwritten, resized, lengthened, on_cells}
-use Rattle.kfs_model.specs.Run.{Scene, spot}
 use Rattle.kfs_model.specs.SeenAfter.{written_size, seen_after}
-use Rattle.kfs_model.specs.CleanStep.{IsFaithful, IsClean, IsKept}
+use Rattle.kfs_model.specs.CleanStep.{IsClean, IsKept}
 use Rattle.kfs_model.proofs.CleanIsAllowed.{AllPass, all_pass, passed}
-use Rattle.kfs_model.proofs.CleanFacts.{some_is}
+use Rattle.kfs_model.proofs.CleanFacts.{some_is, at_tree, clean_at}
 use Rattle.kfs_model.proofs.Heads.{get-headers}
 use Rattle.kfs_model.proofs.NodeStep.{node_seen, node_sound}
 
@@ -62,11 +61,15 @@ file_shown {B} fabric names n node change size file long = at node.body file
     at (Cells cells) file = λ i. record { kind = File; mode = node.mode; uid = node.uid; gid = node.gid; links = name_count names n; size = long cells i }
     at Names file = cc
 
-module _ {B : Type 0} (fabric : Fabric B) (scene : Scene) (index : ℕ) (created : List ℕ) (t : Tree B) where
-  pub chmod_kept : (n mode : ℕ) → IsClean scene created t (Chmod n mode) → IsKept fabric scene index t (Chmod n mode)
+-- a payload has a cell for each byte
+pub record IsFaithful {B : Type 0} (fabric : Fabric B) : Type 0 where
+  pub long : (index : ℕ) (payload : List ℕ) → length (fabric.payload index payload) ≡ length payload
+
+module _ {B : Type 0} (fabric : Fabric B) (context : EntryContext) (index : ℕ) (t : Tree B) where
+  pub chmod_kept : (n mode : ℕ) → IsClean context t (Chmod n mode) → IsKept fabric context.client index t (Chmod n mode)
   unfolding checks_of fault change_of seen_after
   chmod_kept n mode h =
-      let pass = all_pass (spot scene (sight t) created) _ h.clean in
+      let pass = all_pass (at_tree context t) _ (clean_at context t h) in
       let (node, there) = node_there t n (passed _ _ pass.0) in
       record {
         sound = node_sound t h.sound n node there (λ node. record node { mode = mode }) (λ h. record h { mode = mode }) (λ h. refl) refl
@@ -77,10 +80,10 @@ module _ {B : Type 0} (fabric : Fabric B) (scene : Scene) (index : ℕ) (created
   shown_as_file : (n : ℕ) (node : Node B) → get t.nodes n ≡ Some node → is_directory (get (headers t) n) ≡ false → is_directory (Some (header_of t.names n node)) ≡ false
   shown_as_file n node there file = sym (ap is_directory (get-headers t n ∙ ap (option_map (header_of t.names n)) there)) ∙ file
 
-  pub truncate_kept : (n size : ℕ) → IsClean scene created t (Truncate n size) → IsKept fabric scene index t (Truncate n size)
+  pub truncate_kept : (n size : ℕ) → IsClean context t (Truncate n size) → IsKept fabric context.client index t (Truncate n size)
   unfolding checks_of fault change_of seen_after
   truncate_kept n size h =
-      let pass = all_pass (spot scene (sight t) created) _ h.clean in
+      let pass = all_pass (at_tree context t) _ (clean_at context t h) in
       let (node, there) = node_there t n (passed _ _ pass.0) in
       let file = shown_as_file n node there (not-true _ (passed _ _ pass.1.0)) in
       let fits = leb-true size size_limit (passed _ _ pass.1.1.1.1.0) in
@@ -91,20 +94,20 @@ module _ {B : Type 0} (fabric : Fabric B) (scene : Scene) (index : ℕ) (created
         seen = node_seen t h.sound n node there (λ node. record node { body = on_cells fabric (resized fabric size) node.body }) (λ h. record h { size = size }) (λ h. refl) shown;
       }
 
-  written_fits : (p : Spot) (offset : ℕ) (payload : List ℕ) (size : ℕ) → AllPass p (payload_fits offset payload) → size ≤ 4294967296 → written_size offset payload size ≤ 4294967296
+  written_fits : (p : EntryContext) (offset : ℕ) (payload : List ℕ) (size : ℕ) → AllPass p (payload_fits offset payload) → size ≤ 4294967296 → written_size offset payload size ≤ 4294967296
   unfolding fault
   written_fits p offset [] size pass fits = fits
   written_fits p offset (b ∷ bs) size pass fits = let ends = leb-true (offset + length (b ∷ bs)) size_limit (passed _ _ pass.0) in omega arith
 
-  pub write_kept : IsFaithful fabric → (n offset : ℕ) (payload : List ℕ) → IsClean scene created t (Write n offset payload) → IsKept fabric scene index t (Write n offset payload)
+  pub write_kept : IsFaithful fabric → (n offset : ℕ) (payload : List ℕ) → IsClean context t (Write n offset payload) → IsKept fabric context.client index t (Write n offset payload)
   unfolding checks_of fault change_of seen_after
   write_kept faithful n offset payload h =
-      let pass = all_pass (spot scene (sight t) created) _ h.clean in
+      let pass = all_pass (at_tree context t) _ (clean_at context t h) in
       let (node, there) = node_there t n (passed _ _ pass.0) in
       let file = shown_as_file n node there (not-true _ (passed _ _ pass.1.0)) in
       let shown = file_shown fabric t.names n node (overwritten fabric offset (fabric.payload index payload)) (written_size offset payload) file (λ cells. overwritten_long fabric offset (fabric.payload index payload) payload cells (faithful.long index payload)) in
       record {
         sound = node_sound t h.sound n node there (λ node. record node { body = on_cells fabric (overwritten fabric offset (fabric.payload index payload)) node.body }) (λ h. record h { size = written_size offset payload h.size }) (λ h. refl) shown
-            (λ g is. let old = h.sound.ranges n g is in record { least = old.least; greatest = old.greatest; mode = old.mode; uid = old.uid; gid = old.gid; size = written_fits (spot scene (sight t) created) offset payload g.size pass.1.1.1.1 old.size });
+            (λ g is. let old = h.sound.ranges n g is in record { least = old.least; greatest = old.greatest; mode = old.mode; uid = old.uid; gid = old.gid; size = written_fits (at_tree context t) offset payload g.size pass.1.1.1.1 old.size });
         seen = node_seen t h.sound n node there (λ node. record node { body = on_cells fabric (overwritten fabric offset (fabric.payload index payload)) node.body }) (λ h. record h { size = written_size offset payload h.size }) (λ h. refl) shown;
       }

@@ -10,10 +10,10 @@ use Rattle.kfs_model.specs.Header.{Kind, File, Directory}
 use Rattle.kfs_model.specs.Access.{Client}
 use Rattle.kfs_model.specs.Table.{Order, Table, get, insert, retain, mapped, changed_entries, same_table, same_entries_table, get-insert, get-retain, get-mapped}
 use Rattle.kfs_model.specs.Tree.{Tree, Node, Body, Cells, Names, Links, headers, header_of, name_count, entry_count, target, is_named}
-use Rattle.kfs_model.specs.Sight.{sight, parent_in}
+use Rattle.kfs_model.specs.Sight.{sight, parent_in, ClientSight}
 use Rattle.kfs_model.specs.Entry.{Entry, Create, Write, Truncate, Link, Unlink, Rename, Chmod}
 use Rattle.kfs_model.specs.Effect.{Fabric, lengthened, overwritten, resized, change_of, effect, swept, new_body, on_cells, changed_node}
-use Rattle.kfs_model.specs.Run.{Scene, EntryFault, mapped_tree, mapped_body, payload_of, run_from, created_by, spot}
+use Rattle.kfs_model.specs.Run.{EntryFault, mapped_tree, mapped_body, payload_of, run_from, created_by, entry_context}
 use Rattle.kfs_model.specs.Check.{Reason, first_fault}
 
 -- ---- lists
@@ -154,19 +154,19 @@ module _ {B C : Type 0} (f : B → C) (from : Fabric B) (to : Fabric C) (gap : f
   recut_outcome (Ok t) = Ok (recut f t)
   recut_outcome (Err fault) = Err fault
 
-  pub run_from-recut : (scene : Scene) (index : ℕ) (created : List ℕ) (t : Tree B) (entries : List Entry) → SamePayloads index entries → recut_outcome (run_from from scene index created t entries) ≡ run_from to scene index created (recut f t) entries
+  pub run_from-recut : (client : Client) (before : ClientSight) (index : ℕ) (created : List ℕ) (t : Tree B) (entries : List Entry) → SamePayloads index entries → recut_outcome (run_from from client before index created t entries) ≡ run_from to client before index created (recut f t) entries
   unfolding run_from
-  run_from-recut scene index created t [] same = refl
-  run_from-recut scene index created t (entry ∷ entries) same =
-      by_fault (run_from-recut scene (index + 1) (created_by entry created) (effect from scene.client index entry t) entries same.1) (first_fault (spot scene (sight t) created) entry)
-      ∙ ap (λ s. at_fault (first_fault (spot scene s created) entry)) (sym (sight-recut f t))
+  run_from-recut client before index created t [] same = refl
+  run_from-recut client before index created t (entry ∷ entries) same =
+      by_fault (run_from-recut client before (index + 1) (created_by entry created) (effect from client index entry t) entries same.1) (first_fault (entry_context client before (sight t) created) entry)
+      ∙ ap (λ s. at_fault (first_fault (entry_context client before s created) entry)) (sym (sight-recut f t))
     where
       at_fault : Option Reason → Result (Tree C) EntryFault
       at_fault found = elim found [
-        | None ↦ run_from to scene (index + 1) (created_by entry created) (effect to scene.client index entry (recut f t)) entries
+        | None ↦ run_from to client before (index + 1) (created_by entry created) (effect to client index entry (recut f t)) entries
         | Some reason ↦ Err (record { entry = index; reason = reason })
       ]
 
-      by_fault : recut_outcome (run_from from scene (index + 1) (created_by entry created) (effect from scene.client index entry t) entries) ≡ run_from to scene (index + 1) (created_by entry created) (recut f (effect from scene.client index entry t)) entries → (found : Option Reason) → recut_outcome (elim found [ None ↦ run_from from scene (index + 1) (created_by entry created) (effect from scene.client index entry t) entries | Some reason ↦ Err (record { entry = index; reason = reason }) ]) ≡ at_fault found
-      by_fault rest None = rest ∙ ap (λ u. run_from to scene (index + 1) (created_by entry created) u entries) (effect-recut scene.client index entry same.0 t)
+      by_fault : recut_outcome (run_from from client before (index + 1) (created_by entry created) (effect from client index entry t) entries) ≡ run_from to client before (index + 1) (created_by entry created) (recut f (effect from client index entry t)) entries → (found : Option Reason) → recut_outcome (elim found [ None ↦ run_from from client before (index + 1) (created_by entry created) (effect from client index entry t) entries | Some reason ↦ Err (record { entry = index; reason = reason }) ]) ≡ at_fault found
+      by_fault rest None = rest ∙ ap (λ u. run_from to client before (index + 1) (created_by entry created) u entries) (effect-recut client index entry same.0 t)
       by_fault rest (Some reason) = refl

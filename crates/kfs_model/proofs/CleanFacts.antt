@@ -4,10 +4,12 @@ use Rattle.std.proofs.lemmas.Bool.{leb-true, not-true, eqb-false, false≢true}
 use Rattle.std.proofs.lemmas.Bool.Decides.{Decides-int_eq}
 use Rattle.kfs_model.specs.Header.{Kind, File, Directory, Header}
 use Rattle.kfs_model.specs.Access.{Client}
-use Rattle.kfs_model.specs.Entry.{Create, Link, Unlink, Rename}
-use Rattle.kfs_model.specs.Sight.{Sight, is_directory, climb_limit, climb_meets}
+use Rattle.kfs_model.specs.Entry.{Entry, Create, Link, Unlink, Rename}
+use Rattle.kfs_model.specs.Sight.{Sight, sight, is_directory, climb_limit, climb_meets}
 use Rattle.kfs_model.specs.Limits.{link_limit}
-use Rattle.kfs_model.specs.Check.{Spot, fault, checks_of, first_fault, Check, may_go, on_number, unless_same, move_checks, stays_apart, kind_moved}
+use Rattle.kfs_model.specs.Check.{EntryContext, fault, checks_of, first_fault, Check, may_go, on_number, unless_same, move_checks, stays_apart, kind_moved}
+use Rattle.kfs_model.specs.Tree.{Tree}
+use Rattle.kfs_model.specs.CleanStep.{IsClean}
 use Rattle.kfs_model.proofs.CleanIsAllowed.{AllPass, all_pass, passed, found, left, right}
 
 pub none_is : {X : Type 0} (o : Option X) → IsTrue (is_none o) → o ≡ None
@@ -18,6 +20,15 @@ pub some_is : {X : Type 0} (o : Option X) → IsTrue (is_some o) → (x : X) × 
 some_is None e = cc
 some_is (Some x) e = (x, refl)
 
+-- ---- where the tree is what shows now
+
+module _ {B : Type 0} (context : EntryContext) (t : Tree B) where
+  abbrev pub at_tree : EntryContext
+  at_tree = record context { now = sight t }
+
+  pub clean_at : {entry : Entry} → IsClean context t entry → first_fault at_tree entry ≡ None
+  clean_at {entry} h = subst (λ now. first_fault (record context { now = now }) entry ≡ None) h.shown h.clean
+
 -- ---- what the checks of a Create say
 
 pub record CreateFacts (client : Client) (s : Sight) (d : ℕ) (m : List ℕ) (n : ℕ) : Type 0 where
@@ -27,7 +38,7 @@ pub record CreateFacts (client : Client) (s : Sight) (d : ℕ) (m : List ℕ) (n
   pub greatest : n ≤ client.last
   pub free_number : s.head n ≡ None
 
-pub create_facts : (p : Spot) (d : ℕ) (m : List ℕ) (n : ℕ) (kind : Kind) (mode : ℕ) → first_fault p (Create d m n kind mode) ≡ None → CreateFacts p.client p.now d m n
+pub create_facts : (p : EntryContext) (d : ℕ) (m : List ℕ) (n : ℕ) (kind : Kind) (mode : ℕ) → first_fault p (Create d m n kind mode) ≡ None → CreateFacts p.client p.now d m n
 unfolding checks_of fault
 create_facts p d m n kind mode clean =
     let pass = all_pass p _ clean in
@@ -49,7 +60,7 @@ pub record LinkFacts (s : Sight) (n d : ℕ) (m : List ℕ) : Type 0 where
   pub free : s.name d m ≡ None
   pub room : (h : Header) → s.head n ≡ Some h → h.links < 1024
 
-pub link_facts : (p : Spot) (n d : ℕ) (m : List ℕ) → first_fault p (Link n d m) ≡ None → LinkFacts p.now n d m
+pub link_facts : (p : EntryContext) (n d : ℕ) (m : List ℕ) → first_fault p (Link n d m) ≡ None → LinkFacts p.now n d m
 unfolding checks_of fault
 link_facts p n d m clean =
     let pass = all_pass p _ clean in
@@ -66,7 +77,7 @@ link_facts p n d m clean =
 -- ---- what the checks of an Unlink say, and of what a Rename replaces
 
 -- what is to go has no names where it is a directory
-pub goes_empty : (p : Spot) (kind : Kind) (t : ℕ) → AllPass p (may_go kind t) → IsTrue (is_directory (p.now.head t)) → p.now.count t ≡ pos 0
+pub goes_empty : (p : EntryContext) (kind : Kind) (t : ℕ) → AllPass p (may_go kind t) → IsTrue (is_directory (p.now.head t)) → p.now.count t ≡ pos 0
 unfolding fault
 goes_empty p File t pass directory = let file = not-true _ (passed _ _ pass.0) in absurd (false≢true (sym file ∙ directory))
 goes_empty p Directory t pass directory = (Decides-int_eq (p.now.count t) (pos 0)).0 (passed _ _ pass.1.1.0)
@@ -76,7 +87,7 @@ pub record UnlinkFacts (s : Sight) (d : ℕ) (m : List ℕ) : Type 0 where
   pub there : s.name d m ≡ Some number
   pub empty : IsTrue (is_directory (s.head number)) → s.count number ≡ pos 0
 
-pub unlink_facts : (p : Spot) (d : ℕ) (m : List ℕ) (kind : Kind) → first_fault p (Unlink d m kind) ≡ None → UnlinkFacts p.now d m
+pub unlink_facts : (p : EntryContext) (d : ℕ) (m : List ℕ) (kind : Kind) → first_fault p (Unlink d m kind) ≡ None → UnlinkFacts p.now d m
 unfolding checks_of fault
 unlink_facts p d m kind clean =
     let pass = all_pass p _ clean in
@@ -101,16 +112,16 @@ pub record RenameFacts (s : Sight) (d : ℕ) (m : List ℕ) (e : ℕ) (k : List 
   pub way : RenameCase s d m e k number
 
 -- a list of checks passes where both its parts do
-parts_pass : (p : Spot) (front back : List Check) → AllPass p (front ++ back) → AllPass p front × AllPass p back
+parts_pass : (p : EntryContext) (front back : List Check) → AllPass p (front ++ back) → AllPass p front × AllPass p back
 parts_pass p [] back pass = (tt, pass)
 parts_pass p (check ∷ front) back pass = let rest = parts_pass p front back pass.1 in ((pass.0, rest.0), rest.1)
 
-keeps_apart : (p : Spot) (b : Bool) (n e : ℕ) → AllPass p (stays_apart b n e) → b ≡ true → climb_meets p.now.parent climb_limit n e ≡ false
+keeps_apart : (p : EntryContext) (b : Bool) (n e : ℕ) → AllPass p (stays_apart b n e) → b ≡ true → climb_meets p.now.parent climb_limit n e ≡ false
 unfolding fault
 keeps_apart p true n e pass is = not-true _ (passed _ _ pass.0)
 keeps_apart p false n e pass is = cc
 
-pub rename_facts : (p : Spot) (d : ℕ) (m : List ℕ) (e : ℕ) (k : List ℕ) → first_fault p (Rename d m e k) ≡ None → RenameFacts p.now d m e k
+pub rename_facts : (p : EntryContext) (d : ℕ) (m : List ℕ) (e : ℕ) (k : List ℕ) → first_fault p (Rename d m e k) ≡ None → RenameFacts p.now d m e k
 unfolding checks_of fault
 rename_facts p d m e k clean =
     let pass = all_pass p _ clean in

@@ -7,14 +7,14 @@ use Rattle.kfs_model.specs.Header.{Kind, File, Directory, Header}
 use Rattle.kfs_model.specs.Access.{Want, Search, may_header, owns}
 use Rattle.kfs_model.specs.Entry.{Entry, Create, Write, Truncate, Link, Unlink, Rename, Chmod}
 use Rattle.kfs_model.specs.Sight.{is_directory, is_file}
-use Rattle.kfs_model.specs.Check.{Spot, Reason, Check, MaySearch, MayWrite, IsLeased, IsADirectory, NumberIsGranted, NoSuchName, kind_moved, stays_apart, unless, fault, is_some_and, on_number, may_go, unless_same, move_checks, checks_of, first_failing, first_fault}
+use Rattle.kfs_model.specs.Check.{EntryContext, Reason, Check, MaySearch, MayWrite, IsLeased, IsADirectory, NumberIsGranted, NoSuchName, kind_moved, stays_apart, unless, fault, is_some_and, on_number, may_go, unless_same, move_checks, checks_of, first_failing, first_fault}
 use Rattle.kfs_model.specs.Allowed.{IsGrantedBit, IsLeasedTo, MayChangeDirectory, MayChangeFile, LeadsTo, MayMove, IsAllowed}
 
 -- none of the checks fails
-abbrev pub AllPass : Spot → List Check → Type 0
+abbrev pub AllPass : EntryContext → List Check → Type 0
 AllPass p checks = AllByRecursion (λ check. fault p check ≡ None) checks
 
-pub all_pass : (p : Spot) (checks : List Check) → first_failing p checks ≡ None → AllPass p checks
+pub all_pass : (p : EntryContext) (checks : List Check) → first_failing p checks ≡ None → AllPass p checks
 unfolding first_failing
 all_pass p [] clean = tt
 all_pass p (check ∷ checks) clean = by_fault (all_pass p checks) (fault p check) refl clean
@@ -57,14 +57,14 @@ no_file (Some h) directory file = by_kind h.kind directory file
 
 -- ---- what the checks say
 
-module _ (p : Spot) where
+module _ (p : EntryContext) where
   searches : (n : ℕ) → fault p (MaySearch n) ≡ None → IsGrantedBit p Search n
   unfolding fault
   searches n e = found (p.now.head n) (λ h. may_header p.client h Search) (passed _ _ e)
 
   leased : (n : ℕ) → fault p (IsLeased n) ≡ None → IsLeasedTo p n
   unfolding fault
-  leased n e = either (p.created n) (p.held n) (passed _ _ e)
+  leased n e = either (p.created n) (p.before.held n) (passed _ _ e)
 
   -- a file that the log created needs no bit
   writes : (n : ℕ) → fault p (MayWrite n) ≡ None → IsGrantedBit p Want.Write n ⊎ (IsTrue (p.created n) × IsTrue (is_file (p.now.head n)))
@@ -98,7 +98,7 @@ module _ (p : Spot) where
 
 -- ---- each entry
 
-clean_create : (p : Spot) (d : ℕ) (m : List ℕ) (n : ℕ) (kind : Kind) (mode : ℕ) → first_fault p (Create d m n kind mode) ≡ None → IsAllowed p (Create d m n kind mode)
+clean_create : (p : EntryContext) (d : ℕ) (m : List ℕ) (n : ℕ) (kind : Kind) (mode : ℕ) → first_fault p (Create d m n kind mode) ≡ None → IsAllowed p (Create d m n kind mode)
 unfolding checks_of
 clean_create p d m n kind mode clean =
     let pass = all_pass p _ clean in
@@ -108,15 +108,15 @@ clean_create p d m n kind mode clean =
       greatest = (granted_number p n pass.1.1.1.1.1.1.0).1;
     }
 
-clean_write : (p : Spot) (n offset : ℕ) (payload : List ℕ) → first_fault p (Write n offset payload) ≡ None → IsAllowed p (Write n offset payload)
+clean_write : (p : EntryContext) (n offset : ℕ) (payload : List ℕ) → first_fault p (Write n offset payload) ≡ None → IsAllowed p (Write n offset payload)
 unfolding checks_of
 clean_write p n offset payload clean = let pass = all_pass p _ clean in changes_file p n pass.1.1.0 pass.1.1.1.0
 
-clean_truncate : (p : Spot) (n size : ℕ) → first_fault p (Truncate n size) ≡ None → IsAllowed p (Truncate n size)
+clean_truncate : (p : EntryContext) (n size : ℕ) → first_fault p (Truncate n size) ≡ None → IsAllowed p (Truncate n size)
 unfolding checks_of
 clean_truncate p n size clean = let pass = all_pass p _ clean in changes_file p n pass.1.1.0 pass.1.1.1.0
 
-clean_link : (p : Spot) (n d : ℕ) (m : List ℕ) → first_fault p (Link n d m) ≡ None → IsAllowed p (Link n d m)
+clean_link : (p : EntryContext) (n d : ℕ) (m : List ℕ) → first_fault p (Link n d m) ≡ None → IsAllowed p (Link n d m)
 unfolding checks_of
 clean_link p n d m clean =
     let pass = all_pass p _ clean in
@@ -126,18 +126,18 @@ clean_link p n d m clean =
       leased = leased p n after_file.1.1.1.1.1.0;
     }
 
-clean_chmod : (p : Spot) (n mode : ℕ) → first_fault p (Chmod n mode) ≡ None → IsAllowed p (Chmod n mode)
+clean_chmod : (p : EntryContext) (n mode : ℕ) → first_fault p (Chmod n mode) ≡ None → IsAllowed p (Chmod n mode)
 unfolding checks_of fault
 clean_chmod p n mode clean =
     let pass = all_pass p _ clean in
     record { owner = found (p.now.head n) (λ h. owns p.client h.uid) (passed _ _ pass.1.0); leased = leased p n pass.1.1.0 }
 
 -- the node that a name leads to is leased, whichever kind is to go
-goes_leased : (p : Spot) (kind : Kind) (t : ℕ) → AllPass p (may_go kind t) → IsLeasedTo p t
+goes_leased : (p : EntryContext) (kind : Kind) (t : ℕ) → AllPass p (may_go kind t) → IsLeasedTo p t
 goes_leased p File t pass = leased p t pass.1.0
 goes_leased p Directory t pass = leased p t pass.1.0
 
-clean_unlink : (p : Spot) (d : ℕ) (m : List ℕ) (kind : Kind) → first_fault p (Unlink d m kind) ≡ None → IsAllowed p (Unlink d m kind)
+clean_unlink : (p : EntryContext) (d : ℕ) (m : List ℕ) (kind : Kind) → first_fault p (Unlink d m kind) ≡ None → IsAllowed p (Unlink d m kind)
 unfolding checks_of fault
 clean_unlink p d m kind clean =
     let pass = all_pass p _ clean in
@@ -152,11 +152,11 @@ clean_unlink p d m kind clean =
 
 -- ---- a Rename
 
-behind : (p : Spot) (before after : List Check) → AllPass p (before ++ after) → AllPass p after
+behind : (p : EntryContext) (before after : List Check) → AllPass p (before ++ after) → AllPass p after
 behind p [] after pass = pass
 behind p (check ∷ before) after pass = behind p before after pass.1
 
-module _ (p : Spot) (d : ℕ) (m : List ℕ) (e : ℕ) (k : List ℕ) where
+module _ (p : EntryContext) (d : ℕ) (m : List ℕ) (e : ℕ) (k : List ℕ) where
   -- what is there beside the checks of the node that moves
   abbrev Replaced : (s : ℕ) (to : Option ℕ) → Type 0
   Replaced s to = AllPass p (on_number to (may_go (kind_moved (is_directory (p.now.head s)))))
@@ -203,7 +203,7 @@ module _ (p : Spot) (d : ℕ) (m : List ℕ) (e : ℕ) (k : List ℕ) where
       from_name (Some s) is there rest = keeps_or_moves s is (p.now.name e k) refl rest
 
 -- a clean entry is allowed
-pub clean_is_allowed : (p : Spot) (entry : Entry) → first_fault p entry ≡ None → IsAllowed p entry
+pub clean_is_allowed : (p : EntryContext) (entry : Entry) → first_fault p entry ≡ None → IsAllowed p entry
 clean_is_allowed p (Create d m n kind mode) clean = clean_create p d m n kind mode clean
 clean_is_allowed p (Write n offset payload) clean = clean_write p n offset payload clean
 clean_is_allowed p (Truncate n size) clean = clean_truncate p n size clean

@@ -8,12 +8,12 @@ use Rattle.kfs_model.specs.Tree.{Tree, Node, Links, headers, header_of, target, 
 use Rattle.kfs_model.specs.Entry.{Entry, Create}
 use Rattle.kfs_model.specs.Sight.{sight, is_directory, is_file, parent_in}
 use Rattle.kfs_model.specs.Effect.{Fabric, change_of, effect, swept, new_body}
-use Rattle.kfs_model.specs.Run.{Scene, spot}
+use Rattle.kfs_model.specs.Check.{EntryContext}
 use Rattle.kfs_model.specs.Soundness.{Climbs, InRange, NameIsSound, AreSound, IsSound}
 use Rattle.kfs_model.specs.Spelling.{IsEntry, IsName}
 use Rattle.kfs_model.specs.SeenAfter.{put_at, put_parent, new_header, seen_after}
 use Rattle.kfs_model.specs.CleanStep.{IsClient, IsClean, IsKept}
-use Rattle.kfs_model.proofs.CleanFacts.{CreateFacts, create_facts}
+use Rattle.kfs_model.proofs.CleanFacts.{at_tree, clean_at, CreateFacts, create_facts}
 use Rattle.kfs_model.proofs.Links.{at_number-insert, target-insert}
 use Rattle.kfs_model.proofs.NameAdded.{new_target, kept_target, new_or_old, others_count, own_count, count_shifted}
 use Rattle.kfs_model.proofs.Heads.{stays, named_stays, unnamed, root_is_node, get-swept_headers, kept_head, parent_kept, parent_is, parent_of_none, has_parent, climbs_with, put_parent_elsewhere, put_parent_here}
@@ -178,10 +178,10 @@ module _ {B : Type 0} (fabric : Fabric B) (client : Client) (index : ℕ) (t : T
   unfolding change_of swept
   create_sound fits entry_fits = subst (λ heads. AreSound heads after) (λ i k. sym (head_after k) i) (heads_sound fits entry_fits)
 
-pub create_kept : {B : Type 0} (fabric : Fabric B) (scene : Scene) (index : ℕ) (created : List ℕ) (t : Tree B) (d : ℕ) (m : List ℕ) (n : ℕ) (kind : Kind) (mode : ℕ) → IsClean scene created t (Create d m n kind mode) → IsKept fabric scene index t (Create d m n kind mode)
-create_kept fabric scene index created t d m n kind mode h =
-    let facts = create_facts (spot scene (sight t) created) d m n kind mode h.clean in
+pub create_kept : {B : Type 0} (fabric : Fabric B) (context : EntryContext) (index : ℕ) (t : Tree B) (d : ℕ) (m : List ℕ) (n : ℕ) (kind : Kind) (mode : ℕ) → IsClean context t (Create d m n kind mode) → IsKept fabric context.client index t (Create d m n kind mode)
+create_kept fabric context index t d m n kind mode h =
+    let facts = create_facts (at_tree context t) d m n kind mode (clean_at context t h) in
     record {
-      sound = create_sound fabric scene.client index t d m n kind mode h.sound facts h.client h.entry_fits;
-      seen = create_seen fabric scene.client index t d m n kind mode h.sound facts;
+      sound = create_sound fabric context.client index t d m n kind mode h.sound facts h.client h.entry_fits;
+      seen = create_seen fabric context.client index t d m n kind mode h.sound facts;
     }

@@ -9,6 +9,7 @@ pub mod Cut
 pub mod CleanIsAllowed
 pub mod Cells
 pub mod Marks
+pub mod Ends
 pub mod OneByOne
 pub mod Counts
 pub mod Links
@@ -29,6 +30,7 @@ pub mod SameChecks
 pub mod SameSteps
 pub mod SameLooked
 pub mod NameStep
+pub mod Overlay
 pub mod Overlays
 pub mod Unlooked
 pub mod SameNet

@@ -7,12 +7,12 @@ use Rattle.kfs_model.specs.Tree.{Tree, Node, Body, Cells, Names, Links, headers,
 use Rattle.kfs_model.specs.Entry.{Link}
 use Rattle.kfs_model.specs.Sight.{sight, is_directory, is_file, parent_in}
 use Rattle.kfs_model.specs.Effect.{Fabric, change_of, swept, with_names}
-use Rattle.kfs_model.specs.Run.{Scene, spot}
+use Rattle.kfs_model.specs.Check.{EntryContext}
 use Rattle.kfs_model.specs.Soundness.{IsSound}
 use Rattle.kfs_model.specs.Spelling.{IsName}
 use Rattle.kfs_model.specs.SeenAfter.{put_name, put_header, shifted, seen_after}
 use Rattle.kfs_model.specs.CleanStep.{IsClean, IsKept}
-use Rattle.kfs_model.proofs.CleanFacts.{LinkFacts, link_facts}
+use Rattle.kfs_model.proofs.CleanFacts.{at_tree, clean_at, LinkFacts, link_facts}
 use Rattle.kfs_model.proofs.Links.{target-insert, target_is_named}
 use Rattle.kfs_model.proofs.NameAdded.{new_target, kept_target, new_or_old, others_count, own_count, count_shifted}
 use Rattle.kfs_model.proofs.Heads.{stays, named_stays, get-headers, kept_head, directory_stays, directory_count, parent_kept, parent_of_none, climbs_with}
@@ -147,9 +147,9 @@ module _ {B : Type 0} (t : Tree B) (sound : IsSound t) (n d : ℕ) (m : List ℕ
   pub link_sound : IsName m → IsSound (swept (with_names after t))
   link_sound spelled = names_kept_sound t after sound (names_kept spelled)
 
-module _ {B : Type 0} (fabric : Fabric B) (scene : Scene) (index : ℕ) (created : List ℕ) (t : Tree B) where
-  pub link_kept : (n d : ℕ) (m : List ℕ) → IsClean scene created t (Link n d m) → IsKept fabric scene index t (Link n d m)
+module _ {B : Type 0} (fabric : Fabric B) (context : EntryContext) (index : ℕ) (t : Tree B) where
+  pub link_kept : (n d : ℕ) (m : List ℕ) → IsClean context t (Link n d m) → IsKept fabric context.client index t (Link n d m)
   unfolding change_of seen_after
   link_kept n d m h =
-      let facts = link_facts (spot scene (sight t) created) n d m h.clean in
+      let facts = link_facts (at_tree context t) n d m (clean_at context t h) in
       record { sound = link_sound t h.sound n d m facts h.entry_fits.2; seen = link_seen t h.sound n d m facts }

@@ -1,10 +1,12 @@
 -- The bytes of a run are the marks of its marked run, looked up.
 use Rattle.std.specs.Prelude.{◌≡◌, ℕ, suc, ◌+◌, List, [], ◌∷◌, map, Option, Some, None, option_map, slice_get, Result, Ok, Err, refl}
 use Rattle.std.proofs.Common.{ap, ◌∙◌, arith}
+use Rattle.kfs_model.specs.Access.{Client}
+use Rattle.kfs_model.specs.Sight.{ClientSight}
 use Rattle.kfs_model.specs.Table.{get, same_table, get-mapped}
 use Rattle.kfs_model.specs.Tree.{Tree, Node, Body, Cells, Names, cells_of}
 use Rattle.kfs_model.specs.Entry.{Entry}
-use Rattle.kfs_model.specs.Run.{Mark, Base, Payload, Scene, EntryFault, run, bytes, marks, marked, byte_at, byte_of, payload_of, places_from, base_marks, mapped_body, looked_up}
+use Rattle.kfs_model.specs.Run.{Mark, Base, Payload, EntryFault, run, bytes, marks, marked, byte_at, byte_of, payload_of, places_from, base_marks, mapped_body, looked_up}
 use Rattle.kfs_model.proofs.Cells.{recut, on_node, recut_outcome, SamePayloads, run_from-recut}
 
 -- marks of places, looked up where each gives the byte at its place, are the bytes
@@ -44,8 +46,8 @@ looked_up-is : (before : Tree ℕ) (entries : List Entry) (outcome : Result (Tre
 looked_up-is before entries (Ok t) = refl
 looked_up-is before entries (Err fault) = refl
 
-pub marks_give_bytes : (scene : Scene) (before : Tree ℕ) (entries : List Entry) → looked_up (byte_of before entries) (run marks scene (marked before) entries) ≡ run bytes scene before entries
-marks_give_bytes scene before entries =
-    looked_up-is before entries (run marks scene (marked before) entries)
-    ∙ run_from-recut (byte_of before entries) marks bytes refl scene 0 [] (marked before) entries (same_payloads before entries 0 entries (λ j. let zero_more : 0 + j ≡ j = omega arith in ap (slice_get entries) zero_more))
-    ∙ ap (λ t. run bytes scene t entries) (recut-marked before entries)
+pub marks_give_bytes : (client : Client) (before : ClientSight) (tree : Tree ℕ) (entries : List Entry) → looked_up (byte_of tree entries) (run marks client before (marked tree) entries) ≡ run bytes client before tree entries
+marks_give_bytes client before tree entries =
+    looked_up-is tree entries (run marks client before (marked tree) entries)
+    ∙ run_from-recut (byte_of tree entries) marks bytes refl client before 0 [] (marked tree) entries (same_payloads tree entries 0 entries (λ j. let zero_more : 0 + j ≡ j = omega arith in ap (slice_get entries) zero_more))
+    ∙ ap (λ t. run bytes client before t entries) (recut-marked tree entries)

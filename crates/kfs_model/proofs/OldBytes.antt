@@ -5,13 +5,13 @@ use Rattle.std.proofs.lemmas.Option.{get_or_from_slice_get}
 use Rattle.kfs_model.specs.Header.{Kind, File, Directory}
 use Rattle.kfs_model.specs.Table.{get, insert, get-mapped, get-retain}
 use Rattle.kfs_model.specs.Tree.{Tree, Node, Body, Cells, Names, cells_of, is_named}
-use Rattle.kfs_model.specs.Sight.{sight}
+use Rattle.kfs_model.specs.Sight.{sight, ClientSight}
 use Rattle.kfs_model.specs.Access.{Client}
 use Rattle.kfs_model.specs.Entry.{Entry, Create, Write, Truncate, Link, Unlink, Rename, Chmod}
 use Rattle.kfs_model.specs.Check.{Reason, first_fault}
 use Rattle.kfs_model.specs.Effect.{effect, change_of, swept, changed_node, new_body, on_cells, overwritten, resized}
-use Rattle.kfs_model.specs.Run.{Mark, Base, Zero, Payload, marks, marked, base_marks, mapped_body, Scene, EntryFault, spot, created_by, run_from, run}
-use Rattle.kfs_model.specs.Plan.{mark_at}
+use Rattle.kfs_model.specs.Run.{Mark, Base, Zero, Payload, marks, marked, base_marks, mapped_body, EntryFault, entry_context, created_by, run_from, run}
+use Rattle.kfs_model.specs.Plan.{OldBytesStay}
 use Rattle.kfs_model.proofs.Heads.{stays}
 use Rattle.kfs_model.proofs.Links.{at_number-insert}
 use Rattle.kfs_model.proofs.Tape.{resized_read, overwritten_read}
@@ -115,21 +115,21 @@ change_own client index (Chmod n mode) t own = changed_own t n (λ node. record 
 
 -- ---- of a run
 
-run_own : (scene : Scene) (index : ℕ) (created : List ℕ) (t : Tree Mark) (entries : List Entry) (after : Tree Mark) → TreeOwn t → run_from marks scene index created t entries ≡ Ok after → TreeOwn after
+run_own : (client : Client) (before : ClientSight) (index : ℕ) (created : List ℕ) (t : Tree Mark) (entries : List Entry) (after : Tree Mark) → TreeOwn t → run_from marks client before index created t entries ≡ Ok after → TreeOwn after
 unfolding run_from
-run_own scene index created t [] after own is = let same : t ≡ after = cc in subst TreeOwn same own
-run_own scene index created t (entry ∷ entries) after own is =
-    at (first_fault (spot scene (sight t) created) entry)
-    (run_own scene (index + 1) (created_by entry created) (effect marks scene.client index entry t) entries after (swept_own _ (change_own scene.client index entry t own))) is
+run_own client before index created t [] after own is = let same : t ≡ after = cc in subst TreeOwn same own
+run_own client before index created t (entry ∷ entries) after own is =
+    at (first_fault (entry_context client before (sight t) created) entry)
+    (run_own client before (index + 1) (created_by entry created) (effect marks client index entry t) entries after (swept_own _ (change_own client index entry t own))) is
   where
-    at : (o : Option Reason) → (run_from marks scene (index + 1) (created_by entry created) (effect marks scene.client index entry t) entries ≡ Ok after → TreeOwn after)
-        → ◌≡◌ {A = Result (Tree Mark) EntryFault} (elim o [ None ↦ run_from marks scene (index + 1) (created_by entry created) (effect marks scene.client index entry t) entries | Some reason ↦ Err (record { entry = index; reason = reason }) ]) (Ok after)
+    at : (o : Option Reason) → (run_from marks client before (index + 1) (created_by entry created) (effect marks client index entry t) entries ≡ Ok after → TreeOwn after)
+        → ◌≡◌ {A = Result (Tree Mark) EntryFault} (elim o [ None ↦ run_from marks client before (index + 1) (created_by entry created) (effect marks client index entry t) entries | Some reason ↦ Err (record { entry = index; reason = reason }) ]) (Ok after)
         → TreeOwn after
     at None rest is = rest is
     at (Some reason) rest is = cc
 
-pub old_bytes_stand : (scene : Scene) (before : Tree ℕ) (entries : List Entry) (after : Tree Mark) → run marks scene (marked before) entries ≡ Ok after
-    → (number place n p : ℕ) → mark_at after number place ≡ Some (Base n p) → (n ≡ number) × (p ≡ place)
-old_bytes_stand scene before entries after is number place n p there =
-    let own = run_own scene 0 [] (marked before) entries after (marked_own before) is in
+pub old_bytes_stand : (client : Client) (before : ClientSight) (tree : Tree ℕ) (entries : List Entry) (after : Tree Mark) → run marks client before (marked tree) entries ≡ Ok after
+    → OldBytesStay after
+old_bytes_stand client before tree entries after is number place n p there =
+    let own = run_own client before 0 [] (marked tree) entries after (marked_own tree) is in
     (own.each number).stand place n p (get_or_from_slice_get (cells_of (get after.nodes number)) place (Base n p) Zero there)

@@ -4,17 +4,17 @@ use Rattle.std.specs.List.{AllByRecursion}
 use Rattle.kfs_model.specs.Access.{Client, AreDistinct}
 use Rattle.kfs_model.specs.Table.{get, empty}
 use Rattle.kfs_model.specs.Tree.{Tree, headers}
-use Rattle.kfs_model.specs.Sight.{sight}
+use Rattle.kfs_model.specs.Sight.{sight, ClientSight}
 use Rattle.kfs_model.specs.Entry.{Entry, Log}
 use Rattle.kfs_model.specs.Lease.{Leases, LeaseFault, row_of, granted, dropped, ticked}
 use Rattle.kfs_model.specs.PlanRow.{Plan}
-use Rattle.kfs_model.specs.Run.{Mark, EntryFault, Scene, run, bytes, marks, marked, byte_of, looked_up}
+use Rattle.kfs_model.specs.Run.{Mark, EntryFault, run, bytes, marks, marked, byte_of, looked_up}
 use Rattle.kfs_model.specs.FirstWrong.{RowFault, first_wrong_row}
 use Rattle.kfs_model.specs.Spelling.{SpellingFault, LogAnswer, IsEntry}
 use Rattle.kfs_model.specs.CleanStep.{IsClient}
 use Rattle.kfs_model.specs.Fresh.{fresh_tree}
 use Rattle.kfs_model.specs.Placement.{TierSizes, written_blocks}
-use Rattle.kfs_model.specs.Judgement.{State, Verdict, Yes, No, ClientUnknown, ClientWrong, AtRow, Reply, Accepted, NoRoom, Refused, Submission, Reading, IsReadAs, scene_of, judged, judged_log, judged_plan, judged_run, verdict_on, reply_to}
+use Rattle.kfs_model.specs.Judgement.{State, Verdict, Yes, No, ClientUnknown, ClientWrong, AtRow, Reply, Accepted, NoRoom, Refused, Submission, Reading, IsReadAs, client_sight_of, judged, judged_log, judged_plan, judged_run, verdict_on, reply_to}
 use Rattle.kfs_model.specs.Machine.{Call, Submit, Lease, Drop, Tick, CallAnswer, Replied, Outcome, Row, IsRead, same_answer, answered, unplaced, replied, leased, are_chosen, landed, outcome_of, next, after, opening}
 use Rattle.kfs_model.specs.Order.{IsInOrder}
 use Rattle.kfs_model.proofs.Cells.{recut, headers-recut}
@@ -32,8 +32,8 @@ record IsYes (s : State) (number : ℕ) (log : Result Log SpellingFault) (after 
   row : row_of s.clients number ≡ Some client
   read : Log
   log_is : log ≡ Ok read
-  ran : run bytes (scene_of s client) s.tree read.entries ≡ Ok after
-  ran_marked : run marks (scene_of s client) (marked s.tree) read.entries ≡ Ok marked_after
+  ran : run bytes client (client_sight_of s client.number) s.tree read.entries ≡ Ok after
+  ran_marked : run marks client (client_sight_of s client.number) (marked s.tree) read.entries ≡ Ok marked_after
 
 module _ (s : State) (number : ℕ) (log : Result Log SpellingFault) (plan : Result Plan SpellingFault) (after : Tree ℕ) (marked_after : Tree Mark) where
   yes_means : judged s number log plan ≡ Yes after marked_after → IsYes s number log after marked_after
@@ -41,7 +41,7 @@ module _ (s : State) (number : ℕ) (log : Result Log SpellingFault) (plan : Res
   yes_means is = by_client (row_of s.clients number) refl is
     where
       by_rows : (client : Client) (read : Log) (rows : Plan) (t : Tree ℕ) (u : Tree Mark) → row_of s.clients number ≡ Some client → log ≡ Ok read
-          → run bytes (scene_of s client) s.tree read.entries ≡ Ok t → run marks (scene_of s client) (marked s.tree) read.entries ≡ Ok u
+          → run bytes client (client_sight_of s client.number) s.tree read.entries ≡ Ok t → run marks client (client_sight_of s client.number) (marked s.tree) read.entries ≡ Ok u
           → (wrong : Option RowFault) → ◌≡◌ {A = Verdict} (elim wrong [ None ↦ Yes t u | Some fault ↦ No (AtRow fault) ]) (Yes after marked_after) → IsYes s number log after marked_after
       by_rows client read rows t u row log_is ran ran_marked None is =
           let same : t ≡ after = cc in
@@ -50,7 +50,7 @@ module _ (s : State) (number : ℕ) (log : Result Log SpellingFault) (plan : Res
       by_rows client read rows t u row log_is ran ran_marked (Some fault) is = cc
 
       by_run : (client : Client) (read : Log) (rows : Plan) → row_of s.clients number ≡ Some client → log ≡ Ok read
-          → (end : Result (Tree ℕ) EntryFault) (marked_end : Result (Tree Mark) EntryFault) → run bytes (scene_of s client) s.tree read.entries ≡ end → run marks (scene_of s client) (marked s.tree) read.entries ≡ marked_end
+          → (end : Result (Tree ℕ) EntryFault) (marked_end : Result (Tree Mark) EntryFault) → run bytes client (client_sight_of s client.number) s.tree read.entries ≡ end → run marks client (client_sight_of s client.number) (marked s.tree) read.entries ≡ marked_end
           → judged_run s rows end marked_end ≡ Yes after marked_after → IsYes s number log after marked_after
       by_run client read rows row log_is (Err fault) marked_end ran ran_marked is = cc
       by_run client read rows row log_is (Ok t) (Err fault) ran ran_marked is = cc
@@ -59,7 +59,7 @@ module _ (s : State) (number : ℕ) (log : Result Log SpellingFault) (plan : Res
       by_plan : (client : Client) (read : Log) (rows : Result Plan SpellingFault) → row_of s.clients number ≡ Some client → log ≡ Ok read → judged_plan s client read rows ≡ Yes after marked_after → IsYes s number log after marked_after
       by_plan client read (Err fault) row log_is is = cc
       by_plan client read (Ok rows) row log_is is =
-          by_run client read rows row log_is (run bytes (scene_of s client) s.tree read.entries) (run marks (scene_of s client) (marked s.tree) read.entries) refl refl is
+          by_run client read rows row log_is (run bytes client (client_sight_of s client.number) s.tree read.entries) (run marks client (client_sight_of s client.number) (marked s.tree) read.entries) refl refl is
 
       by_owner : (client : Client) (read : Log) → row_of s.clients number ≡ Some client → log ≡ Ok read → (own : Bool) → cond own (judged_plan s client read plan) (No ClientWrong) ≡ Yes after marked_after → IsYes s number log after marked_after
       by_owner client read row log_is true is = by_plan client read plan row log_is is
@@ -84,10 +84,10 @@ client_in_range (c ∷ clients) number client all row = at (c.number == number) 
     at false rest is = rest is
 
 -- bytes and marks show the same headers
-heads_alike : (scene : Scene) (before : Tree ℕ) (entries : List Entry) (after : Tree ℕ) (marked_after : Tree Mark) → run bytes scene before entries ≡ Ok after → run marks scene (marked before) entries ≡ Ok marked_after → headers marked_after ≡ headers after
-heads_alike scene before entries after marked_after ran ran_marked =
-    let byte = byte_of before entries in
-    let both : ◌≡◌ {A = Result (Tree ℕ) EntryFault} (Ok (recut byte marked_after)) (Ok after) = ap (looked_up byte) (sym ran_marked) ∙ marks_give_bytes scene before entries ∙ ran in
+heads_alike : (client : Client) (before : ClientSight) (tree : Tree ℕ) (entries : List Entry) (after : Tree ℕ) (marked_after : Tree Mark) → run bytes client before tree entries ≡ Ok after → run marks client before (marked tree) entries ≡ Ok marked_after → headers marked_after ≡ headers after
+heads_alike client before tree entries after marked_after ran ran_marked =
+    let byte = byte_of tree entries in
+    let both : ◌≡◌ {A = Result (Tree ℕ) EntryFault} (Ok (recut byte marked_after)) (Ok after) = ap (looked_up byte) (sym ran_marked) ∙ marks_give_bytes client before tree entries ∙ ran in
     let same : recut byte marked_after ≡ after = cc in
     sym (headers-recut byte marked_after) ∙ ap (λ (t : Tree ℕ). headers t) same
 
@@ -118,11 +118,11 @@ module _ (s : State) (order : IsInOrder s) (places : List ℕ) where
   landed_in_order : (number : ℕ) (log : Result Log SpellingFault) (submission : List ℕ) (after : Tree ℕ) (marked_after : Tree Mark) → LogAnswer submission log → IsYes s number log after marked_after
       → are_chosen s (written_blocks marked_after) places ≡ true → IsInOrder (landed s after marked_after places)
   landed_in_order number log submission after marked_after answer said chosen = record {
-    sound = run_keeps_sound bytes bytes_faithful (scene_of s said.client) (client_in_range s.clients number said.client order.clients said.row) 0 [] s.tree said.read.entries order.sound (entries_fit submission log said.read answer said.log_is) after said.ran;
+    sound = run_keeps_sound bytes bytes_faithful said.client (client_sight_of s said.client.number) (client_in_range s.clients number said.client order.clients said.row) 0 [] s.tree said.read.entries order.sound (entries_fit submission log said.read answer said.log_is) after said.ran;
     on_nodes = without_gone_keeps s.leases after;
     distinct = order.distinct;
     clients = order.clients;
-    placement = placement_kept s after marked_after places order.placement chosen (heads_alike (scene_of s said.client) s.tree said.read.entries after marked_after said.ran said.ran_marked);
+    placement = placement_kept s after marked_after places order.placement chosen (heads_alike said.client (client_sight_of s said.client.number) s.tree said.read.entries after marked_after said.ran said.ran_marked);
   }
 
   replied_in_order : (submission : Submission) (reading : Reading) → IsReadAs submission reading → (verdict : Verdict) → verdict_on s submission.client reading ≡ verdict → (reply : Reply) → InOrder (replied s places verdict reply)

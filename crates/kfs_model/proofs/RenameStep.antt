@@ -7,13 +7,13 @@ use Rattle.kfs_model.specs.Tree.{Tree, Node, Links, headers, target, entry_count
 use Rattle.kfs_model.specs.Entry.{Unlink, Rename}
 use Rattle.kfs_model.specs.Sight.{Sight, sight, is_directory, climb_limit, climb_meets}
 use Rattle.kfs_model.specs.Effect.{Fabric, change_of, effect, swept, with_names, moved_name}
-use Rattle.kfs_model.specs.Run.{Scene, spot}
+use Rattle.kfs_model.specs.Check.{EntryContext}
 use Rattle.kfs_model.specs.Soundness.{IsSound}
 use Rattle.kfs_model.specs.Spelling.{IsName}
 use Rattle.kfs_model.specs.FirstWrong.{same_place}
 use Rattle.kfs_model.specs.SeenAfter.{unlinked, seen_without, seen_moved, seen_renamed, seen_unlinked, seen_after}
 use Rattle.kfs_model.specs.CleanStep.{IsClean, IsKept}
-use Rattle.kfs_model.proofs.CleanFacts.{unlink_facts, RenameFacts, RenameCase, Same, ToNone, Over, rename_facts}
+use Rattle.kfs_model.proofs.CleanFacts.{at_tree, clean_at, unlink_facts, RenameFacts, RenameCase, Same, ToNone, Over, rename_facts}
 use Rattle.kfs_model.proofs.Links.{target-insert, target-remove, is_named_counts}
 use Rattle.kfs_model.proofs.NameRemoved as Removed
 use Rattle.kfs_model.proofs.Heads.{stays, own_sweep}
@@ -146,11 +146,11 @@ module _ (names : Links) (d : ℕ) (m : List ℕ) (e : ℕ) (k : List ℕ) (n : 
   moved_nowhere : target names e k ≡ Some n → moved_name names d m e k ≡ names
   moved_nowhere also = let same : (n == n) ≡ true = eq-eqb n n refl in rw (there, moved_name) (rw (also, moved_name) (ap unless same))
 
-module _ {B : Type 0} (fabric : Fabric B) (scene : Scene) (index : ℕ) (created : List ℕ) (t : Tree B) where
-  pub unlink_kept : (d : ℕ) (m : List ℕ) (kind : Kind) → IsClean scene created t (Unlink d m kind) → IsKept fabric scene index t (Unlink d m kind)
+module _ {B : Type 0} (fabric : Fabric B) (context : EntryContext) (index : ℕ) (t : Tree B) where
+  pub unlink_kept : (d : ℕ) (m : List ℕ) (kind : Kind) → IsClean context t (Unlink d m kind) → IsKept fabric context.client index t (Unlink d m kind)
   unfolding change_of seen_after
   unlink_kept d m kind h =
-      let facts = unlink_facts (spot scene (sight t) created) d m kind h.clean in
+      let facts = unlink_facts (at_tree context t) d m kind (clean_at context t h) in
       let empty : (IsTrue (is_directory (get (headers t) facts.number)) → entry_count t.names facts.number ≡ 0) = λ directory. same_pos _ 0 (facts.empty directory) in
       record {
         sound = unlink_sound t h.sound d m facts.number facts.there empty;
@@ -158,28 +158,28 @@ module _ {B : Type 0} (fabric : Fabric B) (scene : Scene) (index : ℕ) (created
       }
 
   -- the entry's change, where the names are left so
-  with_names_left : (d : ℕ) (m : List ℕ) (e : ℕ) (k : List ℕ) (left : Links) → moved_name t.names d m e k ≡ left → effect fabric scene.client index (Rename d m e k) t ≡ swept (with_names left t)
+  with_names_left : (d : ℕ) (m : List ℕ) (e : ℕ) (k : List ℕ) (left : Links) → moved_name t.names d m e k ≡ left → effect fabric context.client index (Rename d m e k) t ≡ swept (with_names left t)
   unfolding change_of
   with_names_left d m e k left is = ap (λ names. swept (with_names names t)) is
 
   renamed_as : (d : ℕ) (m : List ℕ) (e : ℕ) (k : List ℕ) (left : Links) (there also : Option ℕ) → moved_name t.names d m e k ≡ left → target t.names d m ≡ there → target t.names e k ≡ also
-      → IsSound (swept (with_names left t)) → sight (swept (with_names left t)) ≡ seen_renamed d m e k there also (sight t) → IsKept fabric scene index t (Rename d m e k)
+      → IsSound (swept (with_names left t)) → sight (swept (with_names left t)) ≡ seen_renamed d m e k there also (sight t) → IsKept fabric context.client index t (Rename d m e k)
   unfolding seen_after
   renamed_as d m e k left there also is there_is also_is sound seen = record {
     sound = subst IsSound (sym (with_names_left d m e k left is)) sound;
     seen = ap sight (with_names_left d m e k left is) ∙ seen ∙ ap₂ (λ there also. seen_renamed d m e k there also (sight t)) (sym there_is) (sym also_is);
   }
 
-  pub rename_kept : (d : ℕ) (m : List ℕ) (e : ℕ) (k : List ℕ) → IsClean scene created t (Rename d m e k) → IsKept fabric scene index t (Rename d m e k)
+  pub rename_kept : (d : ℕ) (m : List ℕ) (e : ℕ) (k : List ℕ) → IsClean context t (Rename d m e k) → IsKept fabric context.client index t (Rename d m e k)
   rename_kept d m e k h = by_way facts.way
     where
       facts : RenameFacts (sight t) d m e k
-      facts = rename_facts (spot scene (sight t) created) d m e k h.clean
+      facts = rename_facts (at_tree context t) d m e k (clean_at context t h)
 
       n : ℕ
       n = facts.number
 
-      by_way : RenameCase (sight t) d m e k n → IsKept fabric scene index t (Rename d m e k)
+      by_way : RenameCase (sight t) d m e k n → IsKept fabric context.client index t (Rename d m e k)
       by_way (Same over also same) =
           let also_n = also ∙ ap Some same in
           renamed_as d m e k t.names (Some n) (Some n) (moved_nowhere t.names d m e k n facts.there also_n) facts.there also_n

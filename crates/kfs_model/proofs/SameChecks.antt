@@ -4,24 +4,24 @@ use Rattle.std.specs.List.{AllByRecursion}
 use Rattle.kfs_model.specs.Header.{Kind, Header}
 use Rattle.kfs_model.specs.Access.{Client}
 use Rattle.kfs_model.specs.Entry.{Entry, Create, Write, Truncate, Link, Unlink, Rename, Chmod}
-use Rattle.kfs_model.specs.Sight.{Sight, Cell, HeaderOf, NameIn, ParentOf, answer, is_directory, climb_limit, climb_meets, climbed}
+use Rattle.kfs_model.specs.Sight.{Sight, ClientSight, Cell, HeaderOf, NameIn, ParentOf, answer, is_directory, climb_limit, climb_meets, climbed}
 use Rattle.kfs_model.specs.Check
 use Rattle.kfs_model.proofs.CleanIsAllowed.{AllPass, all_pass}
 use Rattle.kfs_model.proofs.SameSteps.{MovedAlike, ReadsAlike}
-use Rattle.kfs_model.specs.Check.{Spot, Reason, Check, fault, cells, unless, is_some_and, first_failing, first_fault, looked, checks_of, may_go, on_number, unless_same, move_checks, stays_apart, kind_moved}
+use Rattle.kfs_model.specs.Check.{EntryContext, Reason, Check, fault, cells, unless, is_some_and, first_failing, first_fault, looked, checks_of, may_go, on_number, unless_same, move_checks, stays_apart, kind_moved}
 
 -- one client at two spots, with the same numbers created
-module _ (client : Client) (created : ℕ → Bool) (held other_held : ℕ → Bool) (before now other_before other_now : Sight) where
-  abbrev p : Spot
-  p = record { client = client; held = held; before = before; now = now; created = created }
+module _ (client : Client) (created : ℕ → Bool) (before : ClientSight) (now : Sight) (other_before : ClientSight) (other_now : Sight) where
+  abbrev p : EntryContext
+  p = record { client = client; before = before; now = now; created = created }
 
-  abbrev q : Spot
-  q = record { client = client; held = other_held; before = other_before; now = other_now; created = created }
+  abbrev q : EntryContext
+  q = record { client = client; before = other_before; now = other_now; created = created }
 
   -- the cell answers alike at both, before the log and now
   pub record SameAt (cell : Cell) : Type 0 where
-    pub at_now : answer (record { sight = now; held = held }) cell ≡ answer (record { sight = other_now; held = other_held }) cell
-    pub at_first : answer (record { sight = before; held = held }) cell ≡ answer (record { sight = other_before; held = other_held }) cell
+    pub at_now : answer (record before { sight = now }) cell ≡ answer (record other_before { sight = other_now }) cell
+    pub at_first : answer before cell ≡ answer other_before cell
 
   abbrev pub SameAtAll : List Cell → Type 0
   SameAtAll cells = AllByRecursion SameAt cells
@@ -29,7 +29,7 @@ module _ (client : Client) (created : ℕ → Bool) (held other_held : ℕ → B
   same_head : (n : ℕ) → SameAt (HeaderOf n) → now.head n ≡ other_now.head n
   same_head n same = let e = same.at_now in cc
 
-  same_head_before : (n : ℕ) → SameAt (HeaderOf n) → before.head n ≡ other_before.head n
+  same_head_before : (n : ℕ) → SameAt (HeaderOf n) → before.sight.head n ≡ other_before.sight.head n
   same_head_before n same = let e = same.at_first in cc
 
   same_name : (d : ℕ) (m : List ℕ) → SameAt (NameIn d m) → now.name d m ≡ other_now.name d m
@@ -76,7 +76,7 @@ module _ (client : Client) (created : ℕ → Bool) (held other_held : ℕ → B
   same_fault (Check.MaySearch n) same = let e = same_head n same.0 in cc
   same_fault (Check.MayWrite n) same = let e = same_head n same.0 in cc
   same_fault (Check.MayChangeMode n) same = let e = same_head n same.0 in cc
-  same_fault (Check.IsLeased n) same = let same_held : held n ≡ other_held n = (let e = same.0.at_now in cc) in cc
+  same_fault (Check.IsLeased n) same = let same_held : before.held n ≡ other_before.held n = (let e = same.0.at_now in cc) in cc
   same_fault (Check.HasNoNames n) same = let same_count : now.count n ≡ other_now.count n = (let e = same.0.at_now in cc) in cc
   same_fault (Check.HasRoomForLink n) same = let e = same_head n same.0 in cc
   same_fault (Check.NumberIsGranted n) same = refl
@@ -177,7 +177,7 @@ module _ (client : Client) (created : ℕ → Bool) (held other_held : ℕ → B
       at false = move_alike d e n (Some t)
 
   -- of the node that the old name leads to, and what the new one does
-  renamed_by : Spot → (d e : ℕ) → (o there : Option ℕ) → List Check
+  renamed_by : EntryContext → (d e : ℕ) → (o there : Option ℕ) → List Check
   renamed_by s d e o there = on_number o (λ n. unless_same there n (move_checks s d e n there))
 
   renamed_alike : (d e : ℕ) (o there : Option ℕ) → Alike (renamed_by p d e o there) (renamed_by q d e o there)

@@ -3,7 +3,7 @@ use Rattle.std.proofs.Common.{◌≡◌, ℕ, ◌+◌, ◌==◌, Bool, true, fal
 use Rattle.kfs_model.specs.Header.{Kind, File, Directory, Header}
 use Rattle.kfs_model.specs.Entry.{Entry, Create, Write, Truncate, Link, Unlink, Rename, Chmod}
 use Rattle.kfs_model.specs.Sight.{Sight, Cell, HeaderOf, NameIn, is_directory}
-use Rattle.kfs_model.specs.Check.{Spot, Check, fault, cells, first_fault, looked, checks_of, may_go, on_number, unless_same, move_checks, stays_apart, kind_moved}
+use Rattle.kfs_model.specs.Check.{EntryContext, Check, fault, cells, first_fault, looked, checks_of, may_go, on_number, unless_same, move_checks, stays_apart, kind_moved}
 use Rattle.kfs_model.specs.FirstWrong.{same_place}
 use Rattle.kfs_model.specs.SeenAfter.{put_at, put_name, put_header, new_header, written_size, unlinked, seen_without, seen_moved, seen_renamed, seen_unlinked, seen_after}
 use Rattle.kfs_model.proofs.CleanIsAllowed.{AllPass, all_pass}
@@ -22,7 +22,7 @@ pub among_back : (cell : Cell) (front back : List Cell) → Among cell back → 
 among_back cell [] back h = h
 among_back cell (c ∷ front) back h = inr (among_back cell front back h)
 
-module _ (p : Spot) where
+module _ (p : EntryContext) where
   -- of checks that pass, each one's cells are looked at
   among_rest : (check : Check) (rest : List Check) (cell : Cell) → fault p check ≡ None → Among cell (looked p rest) → Among cell (looked p (check ∷ rest))
   unfolding looked
@@ -89,7 +89,7 @@ touches_wider few many now next wider touches = record {
 
 -- ---- the entries
 
-module _ (p : Spot) where
+module _ (p : EntryContext) where
   goes_among : (kind : Kind) (t : ℕ) (front : List Check) → AllPass p (front ++ may_go kind t) → Among (HeaderOf t) (looked p (front ++ may_go kind t))
   unfolding cells
   goes_among File t front pass = among_at p front (Check.IsAFile t) (Check.IsLeased t ∷ []) (HeaderOf t) pass (inl refl)

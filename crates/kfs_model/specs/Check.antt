@@ -6,7 +6,7 @@ use Rattle.kfs_model.specs.Header.{Kind}
 use Rattle.kfs_model.specs.Header.Kind.{File, Directory}
 use Rattle.kfs_model.specs.Access.{Client, Want, Search, may_header, owns, is_granted}
 use Rattle.kfs_model.specs.Entry.{Entry, Create, Write, Truncate, Link, Unlink, Rename, Chmod}
-use Rattle.kfs_model.specs.Sight.{Sight, Cell, HeaderOf, NameIn, CountOf, ParentOf, LeaseOn, is_directory, is_file, climb_limit, climb_meets, climbed}
+use Rattle.kfs_model.specs.Sight.{Sight, ClientSight, Cell, HeaderOf, NameIn, CountOf, ParentOf, LeaseOn, is_directory, is_file, climb_limit, climb_meets, climbed}
 
 -- why an entry is refused
 pub data Reason : Type 0 where
@@ -14,12 +14,11 @@ pub data Reason : Type 0 where
   NoLease : (number : ℕ) → Reason
   deriving Discrete as Reason-discrete
 
--- where an entry stands: its client, the client's live write leases, what the cells showed before the log and show now,
--- and the numbers that the log has created
-pub record Spot : Type 0 where
+-- where an entry is judged: its client, what the client saw before the log, what nodes and names show now, and the numbers
+-- that the log has created
+pub record EntryContext : Type 0 where
   pub client : Client
-  pub held : ℕ → Bool
-  pub before : Sight
+  pub before : ClientSight
   pub now : Sight
   pub created : ℕ → Bool
 
@@ -43,42 +42,42 @@ unless true reason = None
 unless false reason = Some reason
 
 -- what a check finds wrong
-unfoldable pub fault : Spot → Check → Option Reason
-fault p (Exists n) = unless (is_some (p.now.head n)) NoSuchNode
-fault p (IsADirectory n) = unless (is_directory (p.now.head n)) NotDirectory
-fault p (IsAFile n) = unless (not (is_directory (p.now.head n))) IsDirectory
-fault p (MaySearch n) = unless (is_some_and (p.now.head n) (λ h. may_header p.client h Search)) NoSearch
-fault p (MayWrite n) = unless ((p.created n && is_file (p.now.head n)) || is_some_and (p.now.head n) (λ h. may_header p.client h Want.Write)) NoWrite
-fault p (MayChangeMode n) = unless (is_some_and (p.now.head n) (λ h. owns p.client h.uid)) NotOwner
-fault p (IsLeased n) = unless (p.created n || p.held n) (NoLease n)
-fault p (HasNoNames n) = unless (int_eq (p.now.count n) (pos 0)) NotEmpty
-fault p (HasRoomForLink n) = unless (is_some_and (p.now.head n) (λ h. nat_lt h.links link_limit)) TooManyLinks
-fault p (NumberIsGranted n) = unless (is_granted p.client n) NumberNotGranted
-fault p (NumberIsFree n) = unless (is_none (p.before.head n) && is_none (p.now.head n) && not (p.created n)) NumberTaken
-fault p (NameIsThere d m) = unless (is_some (p.now.name d m)) NoSuchName
-fault p (NameIsFree d m) = unless (is_none (p.now.name d m)) NameTaken
-fault p (EndIsInRange end) = unless (nat_le end size_limit) TooBig
-fault p (IsNotAbove n d) = unless (not (climb_meets p.now.parent climb_limit n d)) BelowItself
-fault p (Sees cell) = None
+unfoldable pub fault : EntryContext → Check → Option Reason
+fault context (Exists n) = unless (is_some (context.now.head n)) NoSuchNode
+fault context (IsADirectory n) = unless (is_directory (context.now.head n)) NotDirectory
+fault context (IsAFile n) = unless (not (is_directory (context.now.head n))) IsDirectory
+fault context (MaySearch n) = unless (is_some_and (context.now.head n) (λ h. may_header context.client h Search)) NoSearch
+fault context (MayWrite n) = unless ((context.created n && is_file (context.now.head n)) || is_some_and (context.now.head n) (λ h. may_header context.client h Want.Write)) NoWrite
+fault context (MayChangeMode n) = unless (is_some_and (context.now.head n) (λ h. owns context.client h.uid)) NotOwner
+fault context (IsLeased n) = unless (context.created n || context.before.held n) (NoLease n)
+fault context (HasNoNames n) = unless (int_eq (context.now.count n) (pos 0)) NotEmpty
+fault context (HasRoomForLink n) = unless (is_some_and (context.now.head n) (λ h. nat_lt h.links link_limit)) TooManyLinks
+fault context (NumberIsGranted n) = unless (is_granted context.client n) NumberNotGranted
+fault context (NumberIsFree n) = unless (is_none (context.before.sight.head n) && is_none (context.now.head n) && not (context.created n)) NumberTaken
+fault context (NameIsThere d m) = unless (is_some (context.now.name d m)) NoSuchName
+fault context (NameIsFree d m) = unless (is_none (context.now.name d m)) NameTaken
+fault context (EndIsInRange end) = unless (nat_le end size_limit) TooBig
+fault context (IsNotAbove n d) = unless (not (climb_meets context.now.parent climb_limit n d)) BelowItself
+fault context (Sees cell) = None
 
 -- the cells that a check looks at
-unfoldable pub cells : Spot → Check → List Cell
-cells p (Exists n) = HeaderOf n ∷ []
-cells p (IsADirectory n) = HeaderOf n ∷ []
-cells p (IsAFile n) = HeaderOf n ∷ []
-cells p (MaySearch n) = HeaderOf n ∷ []
-cells p (MayWrite n) = HeaderOf n ∷ []
-cells p (MayChangeMode n) = HeaderOf n ∷ []
-cells p (IsLeased n) = LeaseOn n ∷ []
-cells p (HasNoNames n) = CountOf n ∷ []
-cells p (HasRoomForLink n) = HeaderOf n ∷ []
-cells p (NumberIsGranted n) = []
-cells p (NumberIsFree n) = HeaderOf n ∷ []
-cells p (NameIsThere d m) = NameIn d m ∷ []
-cells p (NameIsFree d m) = NameIn d m ∷ []
-cells p (EndIsInRange end) = []
-cells p (IsNotAbove n d) = map ParentOf (climbed p.now.parent climb_limit d)
-cells p (Sees cell) = cell ∷ []
+unfoldable pub cells : EntryContext → Check → List Cell
+cells context (Exists n) = HeaderOf n ∷ []
+cells context (IsADirectory n) = HeaderOf n ∷ []
+cells context (IsAFile n) = HeaderOf n ∷ []
+cells context (MaySearch n) = HeaderOf n ∷ []
+cells context (MayWrite n) = HeaderOf n ∷ []
+cells context (MayChangeMode n) = HeaderOf n ∷ []
+cells context (IsLeased n) = LeaseOn n ∷ []
+cells context (HasNoNames n) = CountOf n ∷ []
+cells context (HasRoomForLink n) = HeaderOf n ∷ []
+cells context (NumberIsGranted n) = []
+cells context (NumberIsFree n) = HeaderOf n ∷ []
+cells context (NameIsThere d m) = NameIn d m ∷ []
+cells context (NameIsFree d m) = NameIn d m ∷ []
+cells context (EndIsInRange end) = []
+cells context (IsNotAbove n d) = map ParentOf (climbed context.now.parent climb_limit d)
+cells context (Sees cell) = cell ∷ []
 
 -- a directory that is to change
 abbrev pub may_change_directory : ℕ → List Check
@@ -114,10 +113,10 @@ kind_moved true = Directory
 kind_moved false = File
 
 -- of a Rename whose names lead to two nodes, or one to none
-abbrev pub move_checks : Spot → (d e s : ℕ) → Option ℕ → List Check
-move_checks p d e s there =
+abbrev pub move_checks : EntryContext → (d e s : ℕ) → Option ℕ → List Check
+move_checks context d e s there =
     MayWrite d ∷ MayWrite e ∷ IsLeased d ∷ IsLeased e ∷ IsLeased s ∷ Sees (HeaderOf s)
-    ∷ (stays_apart (is_directory (p.now.head s)) s e ++ on_number there (may_go (kind_moved (is_directory (p.now.head s)))))
+    ∷ (stays_apart (is_directory (context.now.head s)) s e ++ on_number there (may_go (kind_moved (is_directory (context.now.head s)))))
 
 -- nothing changes where both names lead to one node
 abbrev pub unless_same : Option ℕ → ℕ → List Check → List Check
@@ -125,26 +124,26 @@ unless_same None s checks = checks
 unless_same (Some t) s checks = if t == s then [] else checks
 
 -- the checks of an entry, in order
-unfoldable pub checks_of : Spot → Entry → List Check
-checks_of p (Create d m n kind mode) = is_directory_node d ++ (may_change_directory d ++ (NameIsFree d m ∷ NumberIsGranted n ∷ NumberIsFree n ∷ []))
-checks_of p (Write n offset payload) = is_file_node n ++ (MayWrite n ∷ IsLeased n ∷ payload_fits offset payload)
-checks_of p (Truncate n size) = is_file_node n ++ (MayWrite n ∷ IsLeased n ∷ EndIsInRange size ∷ [])
-checks_of p (Link n d m) = is_file_node n ++ (is_directory_node d ++ (may_change_directory d ++ (IsLeased n ∷ NameIsFree d m ∷ HasRoomForLink n ∷ [])))
-checks_of p (Unlink d m kind) = is_directory_node d ++ (may_change_directory d ++ (NameIsThere d m ∷ on_number (p.now.name d m) (may_go kind)))
-checks_of p (Rename d m e k) =
+unfoldable pub checks_of : EntryContext → Entry → List Check
+checks_of context (Create d m n kind mode) = is_directory_node d ++ (may_change_directory d ++ (NameIsFree d m ∷ NumberIsGranted n ∷ NumberIsFree n ∷ []))
+checks_of context (Write n offset payload) = is_file_node n ++ (MayWrite n ∷ IsLeased n ∷ payload_fits offset payload)
+checks_of context (Truncate n size) = is_file_node n ++ (MayWrite n ∷ IsLeased n ∷ EndIsInRange size ∷ [])
+checks_of context (Link n d m) = is_file_node n ++ (is_directory_node d ++ (may_change_directory d ++ (IsLeased n ∷ NameIsFree d m ∷ HasRoomForLink n ∷ [])))
+checks_of context (Unlink d m kind) = is_directory_node d ++ (may_change_directory d ++ (NameIsThere d m ∷ on_number (context.now.name d m) (may_go kind)))
+checks_of context (Rename d m e k) =
     is_directory_node d ++ (is_directory_node e ++ (MaySearch d ∷ MaySearch e ∷ NameIsThere d m ∷ Sees (NameIn e k)
-    ∷ on_number (p.now.name d m) (λ s. unless_same (p.now.name e k) s (move_checks p d e s (p.now.name e k)))))
-checks_of p (Chmod n mode) = Exists n ∷ MayChangeMode n ∷ IsLeased n ∷ []
+    ∷ on_number (context.now.name d m) (λ s. unless_same (context.now.name e k) s (move_checks context d e s (context.now.name e k)))))
+checks_of context (Chmod n mode) = Exists n ∷ MayChangeMode n ∷ IsLeased n ∷ []
 
 -- the reason of the first check that fails
-unfoldable pub first_failing : Spot → List Check → Option Reason
-first_failing p [] = None
-first_failing p (check ∷ checks) = elim (fault p check) [ None ↦ first_failing p checks | Some reason ↦ Some reason ]
+unfoldable pub first_failing : EntryContext → List Check → Option Reason
+first_failing context [] = None
+first_failing context (check ∷ checks) = elim (fault context check) [ None ↦ first_failing context checks | Some reason ↦ Some reason ]
 
-abbrev pub first_fault : Spot → Entry → Option Reason
-first_fault p entry = first_failing p (checks_of p entry)
+abbrev pub first_fault : EntryContext → Entry → Option Reason
+first_fault context entry = first_failing context (checks_of context entry)
 
 -- the cells of the checks up to the first that fails
-unfoldable pub looked : Spot → List Check → List Cell
-looked p [] = []
-looked p (check ∷ checks) = cells p check ++ elim (fault p check) [ None ↦ looked p checks | Some reason ↦ [] ]
+unfoldable pub looked : EntryContext → List Check → List Cell
+looked context [] = []
+looked context (check ∷ checks) = cells context check ++ elim (fault context check) [ None ↦ looked context checks | Some reason ↦ [] ]

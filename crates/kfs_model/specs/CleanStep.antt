@@ -1,16 +1,18 @@
--- What a clean entry keeps: a sound tree stays sound, and what the cells show moves cell by cell.
-use Rattle.std.specs.Prelude.{◌≡◌, ℕ, ◌<◌, ◌≤◌, ◌^◌, List, length, None}
+-- What a clean entry keeps: a sound tree stays sound, and what the cells show moves cell by cell; and so a log of clean
+-- entries.
+use Rattle.std.specs.Prelude.{◌≡◌, ℕ, ◌<◌, ◌≤◌, ◌^◌, List, [], None}
+use Rattle.std.specs.List.{AllByRecursion}
 use Rattle.kfs_model.specs.Limits.{greatest_number}
 use Rattle.kfs_model.specs.Access.{Client}
 use Rattle.kfs_model.specs.Tree.{Tree}
-use Rattle.kfs_model.specs.Sight.{sight}
+use Rattle.kfs_model.specs.Sight.{ClientSight, sight}
 use Rattle.kfs_model.specs.Entry.{Entry}
-use Rattle.kfs_model.specs.Check.{first_fault}
+use Rattle.kfs_model.specs.Check.{EntryContext, first_fault}
 use Rattle.kfs_model.specs.Effect.{Fabric, effect}
-use Rattle.kfs_model.specs.Run.{Scene, spot}
+use Rattle.kfs_model.specs.Run.{run, bytes}
 use Rattle.kfs_model.specs.Soundness.{IsSound}
 use Rattle.kfs_model.specs.Spelling.{IsEntry}
-use Rattle.kfs_model.specs.SeenAfter.{seen_after}
+use Rattle.kfs_model.specs.SeenAfter.{seen_after, seen_run_from, shown_run}
 
 -- a client's row, whose numbers may be nodes
 pub record IsClient (client : Client) : Type 0 where
@@ -19,18 +21,27 @@ pub record IsClient (client : Client) : Type 0 where
   pub first : 1 ≤ client.first
   pub last : client.last ≤ greatest_number
 
--- a payload has a cell for each byte
-pub record IsFaithful {B : Type 0} (fabric : Fabric B) : Type 0 where
-  pub long : (index : ℕ) (payload : List ℕ) → length (fabric.payload index payload) ≡ length payload
-
--- a tree, a client and an entry in their ranges, and no check fails
-pub record IsClean {B : Type 0} (scene : Scene) (created : List ℕ) (t : Tree B) (entry : Entry) : Type 0 where
+-- a sound tree, a client and an entry in their ranges; no check fails where the tree is what shows now
+pub record IsClean {B : Type 0} (context : EntryContext) (t : Tree B) (entry : Entry) : Type 0 where
   pub sound : IsSound t
-  pub client : IsClient scene.client
+  pub client : IsClient context.client
   pub entry_fits : IsEntry entry
-  pub clean : first_fault (spot scene (sight t) created) entry ≡ None
+  pub shown : context.now ≡ sight t
+  pub clean : first_fault context entry ≡ None
 
 -- the entry with this number in its log leaves the tree sound
-pub record IsKept {B : Type 0} (fabric : Fabric B) (scene : Scene) (index : ℕ) (t : Tree B) (entry : Entry) : Type 0 where
-  pub sound : IsSound (effect fabric scene.client index entry t)
-  pub seen : sight (effect fabric scene.client index entry t) ≡ seen_after scene.client (sight t) entry
+pub record IsKept {B : Type 0} (fabric : Fabric B) (client : Client) (index : ℕ) (t : Tree B) (entry : Entry) : Type 0 where
+  pub sound : IsSound (effect fabric client index entry t)
+  pub seen : sight (effect fabric client index entry t) ≡ seen_after client (sight t) entry
+
+-- ---- a log
+
+-- a sound tree, a client and entries in their ranges
+pub record Fits (client : Client) (t : Tree ℕ) (entries : List Entry) : Type 0 where
+  pub in_range : IsClient client
+  pub sound : IsSound t
+  pub fitting : AllByRecursion IsEntry entries
+
+-- the run over the tree and the run over its cells have one fault or show the same
+abbrev pub IsSeenInCells : Client → (before : ClientSight) → Tree ℕ → List Entry → Type 0
+IsSeenInCells client before t entries = shown_run (run bytes client before t entries) ≡ seen_run_from client before 0 [] (sight t) entries

@@ -3,11 +3,11 @@ use Rattle.std.specs.Prelude.{◌≡◌, ℕ, ◌==◌, nat_lt, Bool, true, fals
 use native.Mathlib.Decide.{ℕ_discrete}
 use Rattle.kfs_model.specs.Access.{Client}
 use Rattle.kfs_model.specs.Tree.{Tree}
-use Rattle.kfs_model.specs.Sight.{sight}
+use Rattle.kfs_model.specs.Sight.{ClientSight, client_sight}
 use Rattle.kfs_model.specs.Lease.{Leases, holds, row_of}
 use Rattle.kfs_model.specs.Entry.{Entry, Log}
 use Rattle.kfs_model.specs.PlanRow.{Plan}
-use Rattle.kfs_model.specs.Run.{Mark, EntryFault, EntryFault-equality, Scene, run, bytes, marks, marked}
+use Rattle.kfs_model.specs.Run.{Mark, EntryFault, EntryFault-equality, run, bytes, marks, marked}
 use Rattle.kfs_model.specs.FirstWrong.{RowFault, RowFault-discrete, first_wrong_row}
 use Rattle.kfs_model.specs.Placement.{Placement, need, in_first_tier, is_free, below}
 pub use Rattle.kfs_model.specs.Placement.{TierSizes}
@@ -33,8 +33,9 @@ pub data Verdict : Type 0 where
   Yes : (after : Tree ℕ) (marks : Tree Mark) → Verdict
   No : (fault : Fault) → Verdict
 
-abbrev pub scene_of : State → Client → Scene
-scene_of s client = record { client = client; held = holds s.leases client.number; before = sight s.tree }
+-- what the client of this number sees
+abbrev pub client_sight_of : State → (number : ℕ) → ClientSight
+client_sight_of s number = client_sight s.tree (holds s.leases number)
 
 -- ---- the order of the judgement: client, log, whose log, plan, entries, rows
 
@@ -47,7 +48,7 @@ judged_run s plan (Ok after) (Err fault) = No (AtEntry fault)
 judged_run s plan (Ok after) (Ok marked_after) = judged_rows s plan after marked_after
 
 abbrev pub judged_entries : State → Client → List Entry → Plan → Verdict
-judged_entries s client entries plan = judged_run s plan (run bytes (scene_of s client) s.tree entries) (run marks (scene_of s client) (marked s.tree) entries)
+judged_entries s client entries plan = judged_run s plan (run bytes client (client_sight_of s client.number) s.tree entries) (run marks client (client_sight_of s client.number) (marked s.tree) entries)
 
 abbrev pub judged_plan : State → Client → Log → Result Plan SpellingFault → Verdict
 judged_plan s client log (Err fault) = No (BadPlan fault)

@@ -17,7 +17,6 @@ pub mod Plan
 pub mod PlanCut
 pub mod FirstWrong
 pub mod SeenAfter
-pub mod Overlay
 pub mod CleanStep
 pub mod Limits
 pub mod Looked

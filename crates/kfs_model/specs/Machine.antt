@@ -6,13 +6,13 @@ use native.Mathlib.Decide.{ℕ_discrete}
 use Rattle.kfs_model.specs.Access.{Client}
 use Rattle.kfs_model.specs.Table.{get, insert, retain}
 use Rattle.kfs_model.specs.Tree.{Tree, headers}
-use Rattle.kfs_model.specs.Sight.{sight, is_file}
+use Rattle.kfs_model.specs.Sight.{ClientSight, sight, is_file}
 use Rattle.kfs_model.specs.Lease.{Leases, LeaseKind, LeaseFault, LeaseFault-discrete, no_leases, granted, dropped, ticked, without_gone}
 use Rattle.kfs_model.specs.Check.{is_some_and}
 use Rattle.kfs_model.specs.Allowed.{IsAllowed}
 use Rattle.kfs_model.specs.Entry.{Entry}
 use Rattle.kfs_model.specs.Effect.{effect}
-use Rattle.kfs_model.specs.Run.{Mark, Scene, bytes, spot, created_by}
+use Rattle.kfs_model.specs.Run.{Mark, bytes, entry_context, created_by}
 use Rattle.kfs_model.specs.Placement.{Placement, TierSizes, in_first_tier, written_blocks, cleared_blocks, block_count}
 use Rattle.kfs_model.specs.Judgement.{State, Verdict, Yes, Reply, Reply-equality, is_yes, Accepted, Submission, Reading, IsReadAs, verdict_on, reply_to, free_places}
 
@@ -137,7 +137,7 @@ pub record IsLegal (opened : State) (docket : List Row) : Type 0 where
 -- ---- what a Yes means
 
 -- the tree is what the entries give one by one, each of them allowed where it stands
-abbrev pub OneByOne : Scene → (index : ℕ) → (created : List ℕ) → Tree ℕ → List Entry → Tree ℕ → Type 0
-OneByOne scene index created t [] after = after ≡ t
-OneByOne scene index created t (entry ∷ entries) after =
-    IsAllowed (spot scene (sight t) created) entry × OneByOne scene (index + 1) (created_by entry created) (effect bytes scene.client index entry t) entries after
+abbrev pub OneByOne : Client → (before : ClientSight) → (index : ℕ) → (created : List ℕ) → Tree ℕ → List Entry → Tree ℕ → Type 0
+OneByOne client before index created t [] after = after ≡ t
+OneByOne client before index created t (entry ∷ entries) after =
+    IsAllowed (entry_context client before (sight t) created) entry × OneByOne client before (index + 1) (created_by entry created) (effect bytes client index entry t) entries after

@@ -39,6 +39,10 @@ AreNodeRows before after rows = AreDifferences numbers header_now (get before) (
 abbrev pub mark_at : Tree Mark → (number place : ℕ) → Option Mark
 mark_at t number place = slice_get (cells_of (get t.nodes number)) place
 
+-- each byte from before the log stands in the file and at the place where it stood
+abbrev pub OldBytesStay : Tree Mark → Type 0
+OldBytesStay after = (number place n p : ℕ) → mark_at after number place ≡ Some (Mark.Base n p) → (n ≡ number) × (p ≡ place)
+
 -- the mark that a source gives its byte at this distance from the piece's start
 abbrev pub said_by : Source → (distance : ℕ) → Mark
 said_by Zero distance = Mark.Zero

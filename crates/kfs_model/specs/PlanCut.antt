@@ -20,3 +20,8 @@ pub record SaySame (plan other : Plan) : Type 0 where
 pub record AreInOrder (pieces : List Piece) : Type 0 where
   pub ascending : Ascend pieces
   pub filled : AllByRecursion (λ (p : Piece). 0 < p.length) pieces
+
+-- the same said, in pieces that are in order
+pub record IsCutAnew (plan other : Plan) : Type 0 where
+  pub same : SaySame plan other
+  pub order : AreInOrder other.pieces

@@ -1,21 +1,15 @@
 -- The run of a log: its entries one by one, each judged at its own point, up to the first fault.
-use Rattle.std.specs.Prelude.{◌≡◌, ℕ, ◌+◌, ◌==◌, Bool, List, [], ◌∷◌, map, Option, Some, None, Result, Ok, Err, unwrap_or, slice_get}
+use Rattle.std.specs.Prelude.{◌≡◌, ℕ, ◌+◌, ◌==◌, List, [], ◌∷◌, map, Option, Some, None, Result, Ok, Err, unwrap_or, slice_get}
 use Rattle.std.specs.List.{list_any}
 use Rattle.kfs_model.specs.Access.{Client}
 use Rattle.kfs_model.specs.Table.{mapped, numbers, get}
 use Rattle.kfs_model.specs.Tree.{Tree, Node, Body, Cells, Names, cells_of}
-use Rattle.kfs_model.specs.Sight.{Sight, sight}
-use Rattle.kfs_model.specs.Check.{Reason, Reason-discrete, Spot, first_fault}
+use Rattle.kfs_model.specs.Sight.{Sight, ClientSight, sight}
+use Rattle.kfs_model.specs.Check.{Reason, Reason-discrete, EntryContext, first_fault}
 use mathlib.Core.Path.{ap}
 use native.Mathlib.Decide.{ℕ_discrete}
 use Rattle.kfs_model.specs.Entry.{Entry, Create, Write, Truncate, Link, Unlink, Rename, Chmod}
 use Rattle.kfs_model.specs.Effect.{Fabric, effect}
-
--- who judges: the client and its live write leases, and what the cells showed before the log
-pub record Scene : Type 0 where
-  pub client : Client
-  pub held : ℕ → Bool
-  pub before : Sight
 
 -- the numbers that the log has created so far, the latest first
 abbrev pub created_by : Entry → List ℕ → List ℕ
@@ -27,11 +21,10 @@ created_by (Unlink d m kind) numbers = numbers
 created_by (Rename d m e k) numbers = numbers
 created_by (Chmod n mode) numbers = numbers
 
-abbrev pub spot : Scene → Sight → (created : List ℕ) → Spot
-spot scene now created = record {
-  client = scene.client;
-  held = scene.held;
-  before = scene.before;
+abbrev pub entry_context : Client → (before : ClientSight) → (now : Sight) → (created : List ℕ) → EntryContext
+entry_context client before now created = record {
+  client = client;
+  before = before;
   now = now;
   created = λ n. list_any (λ c. c == n) created;
 }
@@ -50,12 +43,12 @@ EntryFault-equality f g = both (ℕ_discrete f.entry g.entry) (Reason-discrete �
     both (yes e) (no differ) = no (λ p. differ (ap (λ (fault : EntryFault). fault.reason) p))
     both (no differ) r = no (λ p. differ (ap (λ (fault : EntryFault). fault.entry) p))
 
-module _ {B : Type 0} (fabric : Fabric B) (scene : Scene) where
+module _ {B : Type 0} (fabric : Fabric B) (client : Client) (before : ClientSight) where
   -- the entries from the one with this number on, from this tree
   unfoldable pub run_from : (index : ℕ) → (created : List ℕ) → Tree B → List Entry → Result (Tree B) EntryFault
   run_from index created t [] = Ok t
-  run_from index created t (entry ∷ entries) = elim (first_fault (spot scene (sight t) created) entry) [
-    | None ↦ run_from (index + 1) (created_by entry created) (effect fabric scene.client index entry t) entries
+  run_from index created t (entry ∷ entries) = elim (first_fault (entry_context client before (sight t) created) entry) [
+    | None ↦ run_from (index + 1) (created_by entry created) (effect fabric client index entry t) entries
     | Some reason ↦ Err (record { entry = index; reason = reason })
   ]
 
@@ -118,3 +111,7 @@ byte_of before entries (Payload entry place) = byte_at (payload_of (slice_get en
 abbrev pub looked_up : (Mark → ℕ) → Result (Tree Mark) EntryFault → Result (Tree ℕ) EntryFault
 looked_up byte (Ok t) = Ok (mapped_tree (λ n cells. map byte cells) t)
 looked_up byte (Err fault) = Err fault
+
+-- a log's run over marks, looked up in the tree and in the payloads
+abbrev pub run_by_marks : Client → (before : ClientSight) → Tree ℕ → List Entry → Result (Tree ℕ) EntryFault
+run_by_marks client before t entries = looked_up (byte_of t entries) (run marks client before (marked t) entries)

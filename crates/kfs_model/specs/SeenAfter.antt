@@ -5,10 +5,10 @@ use Rattle.kfs_model.specs.Header.{Kind, File, Directory, Header}
 use Rattle.kfs_model.specs.Access.{Client}
 use Rattle.kfs_model.specs.Entry.{Entry, Create, Write, Truncate, Link, Unlink, Rename, Chmod}
 use Rattle.kfs_model.specs.Tree.{Tree}
-use Rattle.kfs_model.specs.Sight.{Sight, sight}
+use Rattle.kfs_model.specs.Sight.{Sight, ClientSight, sight}
 use Rattle.kfs_model.specs.Check.{first_fault}
 use Rattle.kfs_model.specs.FirstWrong.{same_place}
-use Rattle.kfs_model.specs.Run.{Scene, EntryFault, spot, created_by}
+use Rattle.kfs_model.specs.Run.{EntryFault, entry_context, created_by}
 
 -- ---- a cell with another answer
 
@@ -104,12 +104,12 @@ seen_after client s (Unlink d m kind) = seen_unlinked d m (s.name d m) s
 seen_after client s (Rename d m e k) = seen_renamed d m e k (s.name d m) (s.name e k) s
 seen_after client s (Chmod n mode) = record s { head = put_header n (λ h. record h { mode = mode }) s.head }
 
-module _ (scene : Scene) where
+module _ (client : Client) (before : ClientSight) where
   -- the entries from the one with this number on
   unfoldable pub seen_run_from : (index : ℕ) → (created : List ℕ) → Sight → List Entry → Result Sight EntryFault
   seen_run_from index created now [] = Ok now
-  seen_run_from index created now (entry ∷ entries) = elim (first_fault (spot scene now created) entry) [
-    | None ↦ seen_run_from (index + 1) (created_by entry created) (seen_after scene.client now entry) entries
+  seen_run_from index created now (entry ∷ entries) = elim (first_fault (entry_context client before now created) entry) [
+    | None ↦ seen_run_from (index + 1) (created_by entry created) (seen_after client now entry) entries
     | Some reason ↦ Err (record { entry = index; reason = reason })
   ]
 

@@ -64,12 +64,16 @@ pub data Answer : Type 0 where
   Count : ℤ → Answer
   Held : Bool → Answer
 
--- a state as one client sees it
-pub record Seen : Type 0 where
+-- what one client sees of a state: nodes and names, and whether it holds a live write lease on a node
+pub record ClientSight : Type 0 where
   pub sight : Sight
   pub held : ℕ → Bool
 
-abbrev pub answer : Seen → Cell → Answer
+-- of a tree, where the client holds these nodes
+abbrev pub client_sight : {B : Type 0} → Tree B → (held : ℕ → Bool) → ClientSight
+client_sight t held = record { sight = sight t; held = held }
+
+abbrev pub answer : ClientSight → Cell → Answer
 answer s (HeaderOf n) = Head (s.sight.head n)
 answer s (NameIn d m) = Number (s.sight.name d m)
 answer s (CountOf d) = Count (s.sight.count d)

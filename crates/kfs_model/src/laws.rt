@@ -1,14 +1,14 @@
 //! Laws of the definitions: each is the contract of a function without a body.
 
-ghost use Rattle.std.specs.Prelude.{◌≡◌, ℕ, List, [], Some, None, Result, Ok, true};
+ghost use Rattle.std.specs.Prelude.{◌≡◌, ℕ, List, [], Some, None, Result, IfOk, true};
 ghost use Rattle.kfs_model.specs.Tree.{Tree};
 ghost use Rattle.kfs_model.specs.Entry.{Entry, Log};
-ghost use Rattle.kfs_model.specs.Check.{Spot, first_fault};
+ghost use Rattle.kfs_model.specs.Check.{EntryContext, first_fault};
 ghost use Rattle.kfs_model.specs.Allowed.{IsAllowed};
-ghost use Rattle.kfs_model.specs.Run.{Mark, Scene, run, bytes, marks, marked, byte_of, looked_up};
+ghost use Rattle.kfs_model.specs.Run.{Mark, run, bytes, marks, marked, run_by_marks};
 ghost use Rattle.kfs_model.specs.PlanRow.{Plan};
-ghost use Rattle.kfs_model.specs.Plan.{IsRight, mark_at};
-ghost use Rattle.kfs_model.specs.PlanCut.{SaySame, AreInOrder};
+ghost use Rattle.kfs_model.specs.Plan.{IsRight, OldBytesStay};
+ghost use Rattle.kfs_model.specs.PlanCut.{SaySame, IsCutAnew};
 ghost use Rattle.kfs_model.specs.FirstWrong.{first_wrong_row};
 ghost use Rattle.kfs_model.specs.Judgement.{State};
 ghost use Rattle.kfs_model.specs.Machine.{OneByOne, Row, IsRead, next, after, opening};
@@ -16,30 +16,28 @@ ghost use Rattle.kfs_model.specs.Placement.{TierSizes};
 ghost use Rattle.kfs_model.specs.Table.{empty};
 ghost use Rattle.kfs_model.specs.Order.{IsInOrder};
 ghost use Rattle.std.specs.List.{AllByRecursion};
-ghost use Rattle.kfs_model.specs.Sight.{Sight, sight, Seen};
-ghost use Rattle.kfs_model.specs.Overlay.{Overlay, over, nothing_put, laid_after};
+ghost use Rattle.kfs_model.specs.Sight.{ClientSight};
 ghost use Rattle.kfs_model.specs.Access.{Client, AreDistinct};
-ghost use Rattle.kfs_model.specs.Looked.{Leased, seen_in, scene_in, looked_cells, seen_run, AnswerAlike, EndAlike, NetAlike};
+ghost use Rattle.kfs_model.specs.Looked.{LooksAlike, GoesAlike, TreesEndAlike};
 ghost use Rattle.kfs_model.specs.Soundness.{IsSound};
 ghost use Rattle.kfs_model.specs.Fresh.{fresh_tree};
-ghost use Rattle.kfs_model.specs.Spelling.{IsName, is_name, IsEntry, IsBytes, SpellingFault, LogAnswer, PlanAnswer};
-ghost use Rattle.kfs_model.specs.SeenAfter.{seen_after, seen_run_from, shown_run};
-ghost use Rattle.kfs_model.specs.CleanStep.{IsClient, IsClean, IsKept};
+ghost use Rattle.kfs_model.specs.Spelling.{IsName, is_name, IsBytes, SpellingFault, LogAnswer, PlanAnswer};
+ghost use Rattle.kfs_model.specs.CleanStep.{IsClient, IsClean, IsKept, Fits, IsSeenInCells};
 
 /// An entry of which no check fails is allowed to its client, by mode bits and leases, whichever of the seven it is.
 pub fn clean_is_allowed()
-    ensures { (spot : Spot) (entry : Entry) → first_fault spot entry ≡ None → IsAllowed spot entry }
+    ensures { (context : EntryContext) (entry : Entry) → first_fault context entry ≡ None → IsAllowed context entry }
 {}
 
 /// The bytes that a run gives are the marks that it gives, looked up in the tree before and in the payloads; and both stop
 /// at the same entry for the same reason.
 pub fn marks_give_bytes()
-    ensures { (scene : Scene) (before : Tree ℕ) (entries : List Entry) → looked_up (byte_of before entries) (run marks scene (marked before) entries) ≡ run bytes scene before entries }
+    ensures { (client : Client) (before : ClientSight) (tree : Tree ℕ) (entries : List Entry) → run_by_marks client before tree entries ≡ run bytes client before tree entries }
 {}
 
 /// After a run a byte from before the log stands only where it stood: in the same file, at the same place.
 pub fn old_bytes_keep_their_place()
-    ensures { (scene : Scene) (before : Tree ℕ) (entries : List Entry) (after : Tree Mark) → run marks scene (marked before) entries ≡ Ok after → (number place n p : ℕ) → mark_at after number place ≡ Some (Mark.Base n p) → (n ≡ number) × (p ≡ place) }
+    ensures { (client : Client) (before : ClientSight) (tree : Tree ℕ) (entries : List Entry) → IfOk (run marks client before (marked tree) entries) OldBytesStay }
 {}
 
 /// A plan has no wrong row exactly where it is right.
@@ -52,12 +50,12 @@ pub fn right_plan_has_no_wrong_row()
 /// order is right too.
 pub fn right_plans_differ_in_their_cut()
     ensures same { (before : Tree ℕ) (after : Tree Mark) (plan other : Plan) → IsRight before after plan → IsRight before after other → SaySame plan other }
-    ensures cut_anew { (before : Tree ℕ) (after : Tree Mark) (plan other : Plan) → IsRight before after plan → SaySame plan other → AreInOrder other.pieces → IsRight before after other }
+    ensures cut_anew { (before : Tree ℕ) (after : Tree Mark) (plan other : Plan) → IsRight before after plan → IsCutAnew plan other → IsRight before after other }
 {}
 
 /// Where a run has no fault, its tree is what the entries give one by one, each of them allowed where it stands.
 pub fn accepted_entries_one_by_one()
-    ensures { (scene : Scene) (before : Tree ℕ) (entries : List Entry) (after : Tree ℕ) → run bytes scene before entries ≡ Ok after → OneByOne scene 0 [] before entries after }
+    ensures { (client : Client) (before : ClientSight) (tree : Tree ℕ) (entries : List Entry) → IfOk (run bytes client before tree entries) (OneByOne client before 0 [] tree entries) }
 {}
 
 /// The tree of a new image is sound.
@@ -68,32 +66,23 @@ pub fn fresh_tree_is_sound()
 /// An entry in range of which no check fails, at a sound tree, leaves a sound tree, and what the cells show moves as the
 /// effect on cells says; of bytes and of marks.
 pub fn clean_entry_keeps_tree_sound()
-    ensures of_bytes { (scene : Scene) (index : ℕ) (created : List ℕ) (before : Tree ℕ) (entry : Entry) → IsClean scene created before entry → IsKept bytes scene index before entry }
-    ensures of_marks { (scene : Scene) (index : ℕ) (created : List ℕ) (before : Tree Mark) (entry : Entry) → IsClean scene created before entry → IsKept marks scene index before entry }
+    ensures of_bytes { (context : EntryContext) (index : ℕ) (tree : Tree ℕ) (entry : Entry) → IsClean context tree entry → IsKept bytes context.client index tree entry }
+    ensures of_marks { (context : EntryContext) (index : ℕ) (tree : Tree Mark) (entry : Entry) → IsClean context tree entry → IsKept marks context.client index tree entry }
 {}
 
 /// From a sound tree, a run of entries in range shows at each of its ends what the run over the cells alone shows: the same
 /// first fault, or a tree with these cells, which is sound.
 pub fn run_is_seen_in_cells()
-    ensures seen { (scene : Scene) (before : Tree ℕ) (entries : List Entry) → IsClient scene.client → IsSound before → AllByRecursion IsEntry entries → shown_run (run bytes scene before entries) ≡ seen_run_from scene 0 [] (sight before) entries }
-    ensures sound { (scene : Scene) (before after : Tree ℕ) (entries : List Entry) → IsClient scene.client → IsSound before → AllByRecursion IsEntry entries → run bytes scene before entries ≡ Ok after → IsSound after }
+    ensures seen { (client : Client) (before : ClientSight) (tree : Tree ℕ) (entries : List Entry) → Fits client tree entries → IsSeenInCells client before tree entries }
+    ensures sound { (client : Client) (before : ClientSight) (tree : Tree ℕ) (entries : List Entry) → Fits client tree entries → IfOk (run bytes client before tree entries) IsSound }
 {}
 
 /// Two states that answer alike, to one client, at the cells that a log looks at in the one, have the same first fault of
 /// the log, or none and the same names and headers changed by it; and the log looks at the same cells in the other. Two
 /// sound trees end alike too, whatever their bytes.
 pub fn looked_cells_decide()
-    ensures ends { (client : Client) (one other : Seen) (entries : List Entry) → AnswerAlike one other (looked_cells client one entries) → EndAlike one other (seen_run client one entries) (seen_run client other entries) }
-    ensures looks { (client : Client) (one other : Seen) (entries : List Entry) → AnswerAlike one other (looked_cells client one entries) → looked_cells client one entries ≡ looked_cells client other entries }
-    ensures changes { (client : Client) (one other : Seen) (entries : List Entry) → AnswerAlike one other (looked_cells client one entries) → NetAlike one other (seen_run client one entries) (seen_run client other entries) }
-    ensures of_trees { (client : Client) (one other : Leased) (entries : List Entry) → IsClient client → IsSound one.tree → IsSound other.tree → AllByRecursion IsEntry entries → AnswerAlike (seen_in one) (seen_in other) (looked_cells client (seen_in one) entries) → EndAlike (seen_in one) (seen_in other) (shown_run (run bytes (scene_in client (seen_in one)) one.tree entries)) (shown_run (run bytes (scene_in client (seen_in other)) other.tree entries)) }
-{}
-
-/// What entries put into cells, laid over what the cells showed before, shows after one more entry what the entry's change
-/// of cells shows; with nothing put it shows what was there.
-pub fn overlay_shows_the_change()
-    ensures begins { (before : Sight) → over nothing_put before ≡ before }
-    ensures goes_on { (client : Client) (put : Overlay) (before : Sight) (entry : Entry) → over (laid_after client entry (over put before) put) before ≡ seen_after client (over put before) entry }
+    ensures decides { (client : Client) (one other : ClientSight) (entries : List Entry) → LooksAlike client one other entries → GoesAlike client one other entries }
+    ensures of_trees { (client : Client) (one other : Tree ℕ) (entries : List Entry) → Fits client one entries → Fits client other entries → TreesEndAlike client one other entries }
 {}
 
 /// The test of bytes says whether they are a name.

@@ -4,7 +4,7 @@ use Rattle.kfs_model.specs.Header.{File}
 use Rattle.kfs_model.specs.Entry.{Entry, Create, Write, Link, Chmod}
 use Rattle.kfs_model.specs.PlanRow.{Plan}
 use Rattle.kfs_model.specs.Sight.{Sight, sight}
-use Rattle.kfs_model.specs.Check.{Spot}
+use Rattle.kfs_model.specs.Check.{EntryContext}
 use Rattle.kfs_model.specs.Judgement.{State}
 use Rattle.kfs_model.specs.Example.{client_7, name_a, name_z, log_piece, plan, tree, root, file, named, held_by_7, with_file}
 
@@ -43,8 +43,8 @@ many_names = record {
   parent = (sight both_held.tree).parent;
 }
 
-abbrev pub with_many_names : Spot
-with_many_names = record { client = client_7; held = λ n. true; before = many_names; now = many_names; created = λ n. false }
+abbrev pub with_many_names : EntryContext
+with_many_names = record { client = client_7; before = record { sight = many_names; held = λ n. true }; now = many_names; created = λ n. false }
 
 abbrev pub one_more_name : Entry
 one_more_name = Link 5 1 name_z

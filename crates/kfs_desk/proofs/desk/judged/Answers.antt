@@ -2,12 +2,12 @@
 use Rattle.std.proofs.Common.{◌≡◌, Result, Ok, Err, sym, ap, subst, ◌∙◌}
 use Rattle.std.specs.Prelude.{IfOk}
 use Rattle.kfs_model.specs.Lease.{holds, row_of}
+use Rattle.kfs_model.specs.Sight.{client_sight}
 use Rattle.kfs_image.specs.Contents.{sight_of}
 use Rattle.kfs_image.specs.ShownTree.{tree_of}
 use Rattle.kfs_image.proofs.ShownTrees.{sight_shown}
 use Rattle.kfs_judge.specs.Reads.{Agrees}
-use Rattle.kfs_judge.specs.View.{seen_of}
-use Rattle.kfs_judge.specs.Walks.{seen_in}
+use Rattle.kfs_judge.specs.View.{client_sight_in}
 use Rattle.kfs_desk.proofs.desk.judged.Goals as goal
 
 three : {X E : Type 0} {P Q R S : X → Type 0} (result : Result X E) → IfOk result P → IfOk result Q → IfOk result R → ((x : X) → P x → Q x → R x → S x) → IfOk result S
@@ -19,7 +19,7 @@ returns-clause-verdict g c =
     let number = c.args.submission.client in
     let image = c.args.image.now in
     let sights = ap sight_of c.in-Ok.ensures.contents ∙ sight_shown image.contents c.view_of.ensures.lawful in
-    let seen : seen_of c.in-Ok.view number ≡ seen_in (tree_of image.contents) (holds c.args.leases.now.value number) = λ i. record { sight = sights i; held = holds (c.in-Ok.ensures.leases i) number } in
+    let seen : client_sight_in c.in-Ok.view number ≡ client_sight (tree_of image.contents) (holds c.args.leases.now.value number) = λ i. record { sight = sights i; held = holds (c.in-Ok.ensures.leases i) number } in
     three c.judge.result c.judge.ensures.known c.judge.ensures.client c.judge.ensures.view_agrees (λ judged known client agrees.
     known _ (record {
       sound = c.view_of.ensures.lawful.sound;

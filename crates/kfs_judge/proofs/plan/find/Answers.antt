@@ -12,7 +12,7 @@ use Rattle.kfs_judge.specs.declared.plan.Fault.TheVariants as faults
 use Rattle.kfs_judge.specs.declared.plan.Spelled.TheVariants as readings
 use Rattle.kfs_judge.specs.Judging.{submission_with, AreSpelled, IsEarly, IsVerdict, IsReading}
 use Rattle.kfs_judge.specs.Reads.{Agrees, AreAmong}
-use Rattle.kfs_judge.specs.View.{clients_of, seen_of}
+use Rattle.kfs_judge.specs.View.{clients_of, client_sight_in}
 use Rattle.kfs_judge.proofs.Verdicts.{numbered, unknown_client, walked_verdict, nothing_read, unread_looked, settled_looked}
 use Rattle.kfs_judge.proofs.plan.find.Goals as goal
 
@@ -73,8 +73,8 @@ returns-in_ok-finding-in-Yes-clause-view_agrees g c =
     let row = sym c.client.ensures ∙ ap (option_map (λ r. r.now)) c.in-Some.is in
     let same = c.number.ensures.number ∙ numbered (clients_of c.args.view.now) c.args.number c.in-Some.client.now row in
     let read = subst (λ r. IsReading {A = g.row.A.Denot} (submission_with c.number.result c.args.log.now c.args.plan.now) r) c.in-Yes.is c.in_ok-fault.ensures.read in
-    subst (λ n. Agrees c.in_ok-finding-in-Yes.finding.reads.entries (seen_of c.args.view.now n)) (read.owner ∙ same)
-    (subst (λ r. Agrees r.entries (seen_of c.args.view.now c.in-Yes.log.client)) (sym c.in_ok-finding-in-Yes.ensures.reads) c.in_ok-walk-in-Yes.ensures.view_agrees)
+    subst (λ n. Agrees c.in_ok-finding-in-Yes.finding.reads.entries (client_sight_in c.args.view.now n)) (read.owner ∙ same)
+    (subst (λ r. Agrees r.entries (client_sight_in c.args.view.now c.in-Yes.log.client)) (sym c.in_ok-finding-in-Yes.ensures.reads) c.in_ok-walk-in-Yes.ensures.view_agrees)
 
 pub returns-in_ok-finding-in-Yes-clause-among : goal.returns-in_ok-finding-in-Yes-clause-among
 returns-in_ok-finding-in-Yes-clause-among g c =
@@ -90,7 +90,7 @@ returns-in_ok-finding-in-Yes-clause-among g c =
       log = log_of c.args.log.now c.in-Yes.log;
       spelled = read.log_read;
       owner = own;
-      among = subst (λ n. AreAmong c.in_ok-finding-in-Yes.finding.reads.entries (looked_cells c.in-Some.client.now (seen_of view n) entries)) own
-          (subst (λ r. AreAmong r.entries (looked_cells c.in-Some.client.now (seen_of view c.in-Yes.log.client) entries)) (sym c.in_ok-finding-in-Yes.ensures.reads)
+      among = subst (λ n. AreAmong c.in_ok-finding-in-Yes.finding.reads.entries (looked_cells c.in-Some.client.now (client_sight_in view n) entries)) own
+          (subst (λ r. AreAmong r.entries (looked_cells c.in-Some.client.now (client_sight_in view c.in-Yes.log.client) entries)) (sym c.in_ok-finding-in-Yes.ensures.reads)
           (c.in_ok-walk-in-Yes.ensures.among c.in-Some.client.now (ap (row_of (clients_of view)) own ∙ row) c.args.log.now));
     })

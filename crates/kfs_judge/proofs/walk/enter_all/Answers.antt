@@ -4,9 +4,9 @@ use Rattle.std.specs.Option.{option_map}
 use Rattle.kfs_model.specs.Check.{first_fault, looked, checks_of}
 use Rattle.kfs_model.specs.SeenAfter.{seen_after}
 use Rattle.kfs_value.specs.Views.{entry_of}
-use Rattle.kfs_judge.specs.Overlay.{over, spot_of, IsWritten}
+use Rattle.kfs_judge.specs.Overlay.{over, entry_context_of, IsWritten}
 use Rattle.kfs_judge.specs.Reads.{Within}
-use Rattle.kfs_judge.specs.Spots.{reason_of}
+use Rattle.kfs_judge.specs.Checks.{reason_of}
 use Rattle.kfs_judge.proofs.Entering.{RunsOn, runs_first, runs_next, runs_fails, runs_out}
 use Rattle.kfs_judge.proofs.Looking.{LooksOn, looks_first, looks_next, looks_fails}
 use Rattle.kfs_judge.proofs.Recording.{goes_nowhere, goes_then}
@@ -15,11 +15,11 @@ use Rattle.kfs_judge.proofs.walk.enter_all.Goals as goal
 
 pub loop-index-init : goal.loop-index-init
 loop-index-init g c = record {
-  client = λ i. c.args.scene.now.client.now;
-  goes = goes_nowhere c.args.scene.now.recorder;
+  client = λ i. c.args.judge.now.client.now;
+  goes = goes_nowhere c.args.judge.now.recorder;
   shifts = c.requires.shifts;
-  runs = λ source. runs_first c.args.scene.now.client.now c.args.scene.now.draft c.args.scene.now.recorder.reads.entries (map (entry_of source) c.args.entries.now) c.requires.shown c.requires.created;
-  looks = λ source. looks_first c.args.scene.now.client.now c.args.scene.now.draft c.args.scene.now.recorder.reads.entries (map (entry_of source) c.args.entries.now) c.requires.shown c.requires.created c.requires.written;
+  runs = λ source. runs_first c.args.judge.now.client.now c.args.judge.now.draft c.args.judge.now.recorder.reads.entries (map (entry_of source) c.args.entries.now) c.requires.shown c.requires.created;
+  looks = λ source. looks_first c.args.judge.now.client.now c.args.judge.now.draft c.args.judge.now.recorder.reads.entries (map (entry_of source) c.args.entries.now) c.requires.shown c.requires.created c.requires.written;
 }
 
 pub returns-in_err-reason-clause-goes : goal.returns-in_err-reason-clause-goes
@@ -30,26 +30,26 @@ returns-in-Some-clause-goes g c = goes_then c.loop-index.invariant.goes c.in_ok-
 
 pub returns-in-Some-clause-known : goal.returns-in-Some-clause-known
 returns-in-Some-clause-known g c state agrees source =
-    let client = c.args.scene.now.client.now in
+    let client = c.args.judge.now.client.now in
     let item = c.index-entries-index.result in
     let rest = map (entry_of source) (drop (c.loop-index.index + 1) c.args.entries.now) in
-    let on = subst (λ es. RunsOn client c.loop-index.scene.draft c.loop-index.scene.recorder.reads.entries (map (entry_of source) c.args.entries.now) es c.loop-index.index)
+    let on = subst (λ es. RunsOn client c.loop-index.judge.draft c.loop-index.judge.recorder.reads.entries (map (entry_of source) c.args.entries.now) es c.loop-index.index)
     (map-drop-cons (entry_of source) c.args.entries.now c.loop-index.index item c.loop-index-test.true c.index-entries-index.is) (c.loop-index.invariant.runs source) in
-    runs_fails client c.loop-index.scene.draft c.loop-index.scene.recorder.reads.entries c.enter.new.self.recorder.reads.entries (map (entry_of source) c.args.entries.now) rest (entry_of source item) c.loop-index.index (reason_of c.in-Some.reason)
+    runs_fails client c.loop-index.judge.draft c.loop-index.judge.recorder.reads.entries c.enter.new.self.recorder.reads.entries (map (entry_of source) c.args.entries.now) rest (entry_of source item) c.loop-index.index (reason_of c.in-Some.reason)
     on c.in_ok-reason.ensures.goes.grows
-    (λ s a. subst (λ cl. first_fault (spot_of cl c.loop-index.scene.draft s) (entry_of source item) ≡ Some (reason_of c.in-Some.reason)) c.loop-index.invariant.client (c.in_ok-reason.ensures.known source s a ∙ ap (option_map reason_of) c.in-Some.is))
+    (λ s a. subst (λ cl. first_fault (entry_context_of cl c.loop-index.judge.draft s) (entry_of source item) ≡ Some (reason_of c.in-Some.reason)) c.loop-index.invariant.client (c.in_ok-reason.ensures.known source s a ∙ ap (option_map reason_of) c.in-Some.is))
     state agrees
 
 pub returns-in-Some-clause-among : goal.returns-in-Some-clause-among
 returns-in-Some-clause-among g c state agrees source =
-    let client = c.args.scene.now.client.now in
+    let client = c.args.judge.now.client.now in
     let item = c.index-entries-index.result in
     let rest = map (entry_of source) (drop (c.loop-index.index + 1) c.args.entries.now) in
-    let on = subst (λ es. LooksOn client c.loop-index.scene.draft c.args.scene.now.recorder.reads.entries c.loop-index.scene.recorder.reads.entries (map (entry_of source) c.args.entries.now) es)
+    let on = subst (λ es. LooksOn client c.loop-index.judge.draft c.args.judge.now.recorder.reads.entries c.loop-index.judge.recorder.reads.entries (map (entry_of source) c.args.entries.now) es)
     (map-drop-cons (entry_of source) c.args.entries.now c.loop-index.index item c.loop-index-test.true c.index-entries-index.is) (c.loop-index.invariant.looks source) in
-    looks_fails client c.loop-index.scene.draft c.args.scene.now.recorder.reads.entries c.loop-index.scene.recorder.reads.entries c.enter.new.self.recorder.reads.entries (map (entry_of source) c.args.entries.now) rest (entry_of source item)
+    looks_fails client c.loop-index.judge.draft c.args.judge.now.recorder.reads.entries c.loop-index.judge.recorder.reads.entries c.enter.new.self.recorder.reads.entries (map (entry_of source) c.args.entries.now) rest (entry_of source item)
     on c.in_ok-reason.ensures.goes.grows
-    (λ s a. subst (λ cl. Within c.loop-index.scene.recorder.reads.entries c.enter.new.self.recorder.reads.entries (looked (spot_of cl c.loop-index.scene.draft s) (checks_of (spot_of cl c.loop-index.scene.draft s) (entry_of source item)))) c.loop-index.invariant.client (c.in_ok-reason.ensures.among source s a))
+    (λ s a. subst (λ cl. Within c.loop-index.judge.recorder.reads.entries c.enter.new.self.recorder.reads.entries (looked (entry_context_of cl c.loop-index.judge.draft s) (checks_of (entry_context_of cl c.loop-index.judge.draft s) (entry_of source item)))) c.loop-index.invariant.client (c.in_ok-reason.ensures.among source s a))
     state agrees
 
 pub loop-index-preserved : goal.loop-index-preserved
@@ -58,38 +58,38 @@ loop-index-preserved g c = record {
   goes = goes_then c.loop-index.invariant.goes c.in_ok-reason.ensures.goes;
   shifts = c.in_ok-reason.ensures.shifts (ap Ok c.in_default.is) c.loop-index.index c.loop-index.invariant.shifts;
   runs = λ source.
-      let client = c.args.scene.now.client.now in
+      let client = c.args.judge.now.client.now in
       let item = c.index-entries-index.result in
       let rest = map (entry_of source) (drop (c.loop-index.index + 1) c.args.entries.now) in
-      let on = subst (λ es. RunsOn client c.loop-index.scene.draft c.loop-index.scene.recorder.reads.entries (map (entry_of source) c.args.entries.now) es c.loop-index.index)
+      let on = subst (λ es. RunsOn client c.loop-index.judge.draft c.loop-index.judge.recorder.reads.entries (map (entry_of source) c.args.entries.now) es c.loop-index.index)
       (map-drop-cons (entry_of source) c.args.entries.now c.loop-index.index item c.loop-index-test.true c.index-entries-index.is) (c.loop-index.invariant.runs source) in
-      runs_next client c.loop-index.scene.draft c.enter.new.self.draft c.loop-index.scene.recorder.reads.entries c.enter.new.self.recorder.reads.entries (map (entry_of source) c.args.entries.now) rest (entry_of source item) c.loop-index.index
+      runs_next client c.loop-index.judge.draft c.enter.new.self.draft c.loop-index.judge.recorder.reads.entries c.enter.new.self.recorder.reads.entries (map (entry_of source) c.args.entries.now) rest (entry_of source item) c.loop-index.index
       on c.in_ok-reason.ensures.goes.grows
-      (λ s a. subst (λ cl. first_fault (spot_of cl c.loop-index.scene.draft s) (entry_of source item) ≡ None) c.loop-index.invariant.client (c.in_ok-reason.ensures.known source s a ∙ ap (option_map reason_of) c.in_default.is))
-      (λ s a. subst (λ cl. over c.enter.new.self.draft s.sight ≡ seen_after cl (over c.loop-index.scene.draft s.sight) (entry_of source item)) c.loop-index.invariant.client (c.in_ok-reason.ensures.shown source (ap Ok c.in_default.is) s a))
+      (λ s a. subst (λ cl. first_fault (entry_context_of cl c.loop-index.judge.draft s) (entry_of source item) ≡ None) c.loop-index.invariant.client (c.in_ok-reason.ensures.known source s a ∙ ap (option_map reason_of) c.in_default.is))
+      (λ s a. subst (λ cl. over c.enter.new.self.draft s.sight ≡ seen_after cl (over c.loop-index.judge.draft s.sight) (entry_of source item)) c.loop-index.invariant.client (c.in_ok-reason.ensures.shown source (ap Ok c.in_default.is) s a))
       (c.in_ok-reason.ensures.created source (ap Ok c.in_default.is));
   looks = λ source.
-      let client = c.args.scene.now.client.now in
+      let client = c.args.judge.now.client.now in
       let item = c.index-entries-index.result in
       let rest = map (entry_of source) (drop (c.loop-index.index + 1) c.args.entries.now) in
-      let on = subst (λ es. LooksOn client c.loop-index.scene.draft c.args.scene.now.recorder.reads.entries c.loop-index.scene.recorder.reads.entries (map (entry_of source) c.args.entries.now) es)
+      let on = subst (λ es. LooksOn client c.loop-index.judge.draft c.args.judge.now.recorder.reads.entries c.loop-index.judge.recorder.reads.entries (map (entry_of source) c.args.entries.now) es)
       (map-drop-cons (entry_of source) c.args.entries.now c.loop-index.index item c.loop-index-test.true c.index-entries-index.is) (c.loop-index.invariant.looks source) in
-      looks_next client c.loop-index.scene.draft c.enter.new.self.draft c.args.scene.now.recorder.reads.entries c.loop-index.scene.recorder.reads.entries c.enter.new.self.recorder.reads.entries (map (entry_of source) c.args.entries.now) rest (entry_of source item)
+      looks_next client c.loop-index.judge.draft c.enter.new.self.draft c.args.judge.now.recorder.reads.entries c.loop-index.judge.recorder.reads.entries c.enter.new.self.recorder.reads.entries (map (entry_of source) c.args.entries.now) rest (entry_of source item)
       on c.in_ok-reason.ensures.goes.grows
-      (λ s a. subst (λ cl. first_fault (spot_of cl c.loop-index.scene.draft s) (entry_of source item) ≡ None) c.loop-index.invariant.client (c.in_ok-reason.ensures.known source s a ∙ ap (option_map reason_of) c.in_default.is))
-      (λ s a. subst (λ cl. Within c.loop-index.scene.recorder.reads.entries c.enter.new.self.recorder.reads.entries (looked (spot_of cl c.loop-index.scene.draft s) (checks_of (spot_of cl c.loop-index.scene.draft s) (entry_of source item)))) c.loop-index.invariant.client (c.in_ok-reason.ensures.among source s a))
-      (λ s a. subst (λ cl. over c.enter.new.self.draft s.sight ≡ seen_after cl (over c.loop-index.scene.draft s.sight) (entry_of source item)) c.loop-index.invariant.client (c.in_ok-reason.ensures.shown source (ap Ok c.in_default.is) s a))
+      (λ s a. subst (λ cl. first_fault (entry_context_of cl c.loop-index.judge.draft s) (entry_of source item) ≡ None) c.loop-index.invariant.client (c.in_ok-reason.ensures.known source s a ∙ ap (option_map reason_of) c.in_default.is))
+      (λ s a. subst (λ cl. Within c.loop-index.judge.recorder.reads.entries c.enter.new.self.recorder.reads.entries (looked (entry_context_of cl c.loop-index.judge.draft s) (checks_of (entry_context_of cl c.loop-index.judge.draft s) (entry_of source item)))) c.loop-index.invariant.client (c.in_ok-reason.ensures.among source s a))
+      (λ s a. subst (λ cl. over c.enter.new.self.draft s.sight ≡ seen_after cl (over c.loop-index.judge.draft s.sight) (entry_of source item)) c.loop-index.invariant.client (c.in_ok-reason.ensures.shown source (ap Ok c.in_default.is) s a))
       (c.in_ok-reason.ensures.created source (ap Ok c.in_default.is))
-      (λ s a among written. subst (λ cl. IsWritten c.enter.new.self.draft (looked (spot_of cl c.loop-index.scene.draft s) (checks_of (spot_of cl c.loop-index.scene.draft s) (entry_of source item)) ++ among)) c.loop-index.invariant.client (c.in_ok-reason.ensures.written source (ap Ok c.in_default.is) s a among written));
+      (λ s a among written. subst (λ cl. IsWritten c.enter.new.self.draft (looked (entry_context_of cl c.loop-index.judge.draft s) (checks_of (entry_context_of cl c.loop-index.judge.draft s) (entry_of source item)) ++ among)) c.loop-index.invariant.client (c.in_ok-reason.ensures.written source (ap Ok c.in_default.is) s a among written));
 }
 
 pub returns-clause-known : goal.returns-clause-known
 returns-clause-known g c state agrees source =
-    let client = c.args.scene.now.client.now in
+    let client = c.args.judge.now.client.now in
     let past : length c.args.entries.now ≤ c.loop-index.index = omega arith in
-    let on = subst (λ es. RunsOn client c.loop-index.scene.draft c.loop-index.scene.recorder.reads.entries (map (entry_of source) c.args.entries.now) es c.loop-index.index)
+    let on = subst (λ es. RunsOn client c.loop-index.judge.draft c.loop-index.judge.recorder.reads.entries (map (entry_of source) c.args.entries.now) es c.loop-index.index)
     (map-drop-past (entry_of source) c.args.entries.now c.loop-index.index past) (c.loop-index.invariant.runs source) in
-    runs_out client c.loop-index.scene.draft c.loop-index.scene.recorder.reads.entries (map (entry_of source) c.args.entries.now) c.loop-index.index on state agrees
+    runs_out client c.loop-index.judge.draft c.loop-index.judge.recorder.reads.entries (map (entry_of source) c.args.entries.now) c.loop-index.index on state agrees
 
 pub returns-clause-among : goal.returns-clause-among
 returns-clause-among g c state agrees source = ((c.loop-index.invariant.looks source).looks state agrees).reads_among

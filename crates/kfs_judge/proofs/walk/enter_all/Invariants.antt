@@ -9,9 +9,9 @@ use Rattle.kfs_judge.proofs.walk.enter_all.Given as goal
 
 abbrev pub invariant-loop-index : goal.invariant-loop-index
 invariant-loop-index g l = record {
-  client : l.scene.client.now ≡ l.initial.scene.client.now;
-  goes : GoesOn l.initial.scene.recorder l.scene.recorder;
-  shifts : ShiftsBy l.index l.scene.draft;
-  runs : (source : List ℕ) → RunsOn l.initial.scene.client.now l.scene.draft l.scene.recorder.reads.entries (map (entry_of source) l.entries) (map (entry_of source) (drop l.index l.entries)) l.index;
-  looks : (source : List ℕ) → LooksOn l.initial.scene.client.now l.scene.draft l.initial.scene.recorder.reads.entries l.scene.recorder.reads.entries (map (entry_of source) l.entries) (map (entry_of source) (drop l.index l.entries));
+  client : l.judge.client.now ≡ l.initial.judge.client.now;
+  goes : GoesOn l.initial.judge.recorder l.judge.recorder;
+  shifts : ShiftsBy l.index l.judge.draft;
+  runs : (source : List ℕ) → RunsOn l.initial.judge.client.now l.judge.draft l.judge.recorder.reads.entries (map (entry_of source) l.entries) (map (entry_of source) (drop l.index l.entries)) l.index;
+  looks : (source : List ℕ) → LooksOn l.initial.judge.client.now l.judge.draft l.initial.judge.recorder.reads.entries l.judge.recorder.reads.entries (map (entry_of source) l.entries) (map (entry_of source) (drop l.index l.entries));
 }

@@ -5,7 +5,7 @@ use Rattle.kfs_value.specs.Views.{entry_of}
 use Rattle.kfs_model.specs.Looked.{looked_cells}
 use Rattle.kfs_judge.specs.Overlay.{over}
 use Rattle.kfs_judge.specs.Reads.{Agrees, AreAmong, AreOnce}
-use Rattle.kfs_judge.specs.View.{clients_of, seen_of}
+use Rattle.kfs_judge.specs.View.{clients_of, client_sight_in}
 use Rattle.kfs_judge.specs.Walks.{EndsAt}
 use Rattle.kfs_judge.proofs.Lists.{row_has_number, one_row}
 use Rattle.kfs_judge.proofs.Recording.{agrees_from_none, among_from_none, once_from_none, goes_then, within_then}
@@ -16,33 +16,33 @@ returns-in-Some-clause-known g c = (
   c.unwrap-client.result.now,
   sym c.client.ensures ∙ ap (option_map (λ r. r.now)) c.unwrap-client.ensures,
   λ state agrees source.
-      subst (λ cl. EndsAt cl c.enter_all.new.scene.draft state (map (entry_of source) c.args.log.now.entries) (Some c.in-Some.fault)) c.new-scene.ensures.client
-      (subst (λ es. EndsAt c.new-scene.result.client.now c.enter_all.new.scene.draft state (map (entry_of source) es) (Some c.in-Some.fault)) c.as_slice.ensures
-      (subst (λ f. EndsAt c.new-scene.result.client.now c.enter_all.new.scene.draft state (map (entry_of source) c.as_slice.result.now) f) c.in-Some.is
+      subst (λ cl. EndsAt cl c.enter_all.new.judge.draft state (map (entry_of source) c.args.log.now.entries) (Some c.in-Some.fault)) c.new-judge.ensures.client
+      (subst (λ es. EndsAt c.new-judge.result.client.now c.enter_all.new.judge.draft state (map (entry_of source) es) (Some c.in-Some.fault)) c.as_slice.ensures
+      (subst (λ f. EndsAt c.new-judge.result.client.now c.enter_all.new.judge.draft state (map (entry_of source) c.as_slice.result.now) f) c.in-Some.is
       (c.in_ok-fault.ensures.known state (subst (λ es. Agrees es state) c.into_reads.ensures agrees) source))),
 )
 
 pub returns-in-Some-clause-view_agrees : goal.returns-in-Some-clause-view_agrees
 returns-in-Some-clause-view_agrees g c =
     let row = sym c.client.ensures ∙ ap (option_map (λ r. r.now)) c.unwrap-client.ensures in
-    let shown = seen_of c.args.view.now c.args.log.now.client in
-    let seen = c.new-scene.ensures.seen ∙ ap (seen_of c.args.view.now) (row_has_number (clients_of c.args.view.now) c.args.log.now.client c.unwrap-client.result.now row) in
-    subst (λ es. Agrees es shown) (sym c.into_reads.ensures) (agrees_from_none shown c.new-scene.result.recorder c.enter_all.new.scene.recorder c.new-scene.ensures.none seen c.in_ok-fault.ensures.goes)
+    let shown = client_sight_in c.args.view.now c.args.log.now.client in
+    let seen = c.new-judge.ensures.seen ∙ ap (client_sight_in c.args.view.now) (row_has_number (clients_of c.args.view.now) c.args.log.now.client c.unwrap-client.result.now row) in
+    subst (λ es. Agrees es shown) (sym c.into_reads.ensures) (agrees_from_none shown c.new-judge.result.recorder c.enter_all.new.judge.recorder c.new-judge.ensures.none seen c.in_ok-fault.ensures.goes)
 
 pub returns-in-Some-clause-once : goal.returns-in-Some-clause-once
-returns-in-Some-clause-once g c = subst AreOnce (sym c.into_reads.ensures) (once_from_none (seen_of c.args.view.now c.args.log.now.client) c.new-scene.result.recorder c.enter_all.new.scene.recorder c.new-scene.ensures.none c.in_ok-fault.ensures.goes)
+returns-in-Some-clause-once g c = subst AreOnce (sym c.into_reads.ensures) (once_from_none (client_sight_in c.args.view.now c.args.log.now.client) c.new-judge.result.recorder c.enter_all.new.judge.recorder c.new-judge.ensures.none c.in_ok-fault.ensures.goes)
 
 pub returns-in-Some-clause-among : goal.returns-in-Some-clause-among
 returns-in-Some-clause-among g c client is source =
     let row = sym c.client.ensures ∙ ap (option_map (λ r. r.now)) c.unwrap-client.ensures in
-    let shown = seen_of c.args.view.now c.args.log.now.client in
-    let seen = c.new-scene.ensures.seen ∙ ap (seen_of c.args.view.now) (row_has_number (clients_of c.args.view.now) c.args.log.now.client c.unwrap-client.result.now row) in
-    let agrees = agrees_from_none shown c.new-scene.result.recorder c.enter_all.new.scene.recorder c.new-scene.ensures.none seen c.in_ok-fault.ensures.goes in
-    let same = c.new-scene.ensures.client ∙ one_row (clients_of c.args.view.now) c.args.log.now.client c.unwrap-client.result.now client row is in
+    let shown = client_sight_in c.args.view.now c.args.log.now.client in
+    let seen = c.new-judge.ensures.seen ∙ ap (client_sight_in c.args.view.now) (row_has_number (clients_of c.args.view.now) c.args.log.now.client c.unwrap-client.result.now row) in
+    let agrees = agrees_from_none shown c.new-judge.result.recorder c.enter_all.new.judge.recorder c.new-judge.ensures.none seen c.in_ok-fault.ensures.goes in
+    let same = c.new-judge.ensures.client ∙ one_row (clients_of c.args.view.now) c.args.log.now.client c.unwrap-client.result.now client row is in
     subst (λ reads. AreAmong reads (looked_cells client shown (map (entry_of source) c.args.log.now.entries))) (sym c.into_reads.ensures)
-    (subst (λ cl. AreAmong c.enter_all.new.scene.recorder.reads.entries (looked_cells cl shown (map (entry_of source) c.args.log.now.entries))) same
-    (subst (λ es. AreAmong c.enter_all.new.scene.recorder.reads.entries (looked_cells c.new-scene.result.client.now shown (map (entry_of source) es))) c.as_slice.ensures
-    (among_from_none shown c.new-scene.result.recorder c.enter_all.new.scene.recorder c.new-scene.ensures.none _ (c.in_ok-fault.ensures.among shown agrees source))))
+    (subst (λ cl. AreAmong c.enter_all.new.judge.recorder.reads.entries (looked_cells cl shown (map (entry_of source) c.args.log.now.entries))) same
+    (subst (λ es. AreAmong c.enter_all.new.judge.recorder.reads.entries (looked_cells c.new-judge.result.client.now shown (map (entry_of source) es))) c.as_slice.ensures
+    (among_from_none shown c.new-judge.result.recorder c.enter_all.new.judge.recorder c.new-judge.ensures.none _ (c.in_ok-fault.ensures.among shown agrees source))))
 
 pub returns-clause-known : goal.returns-clause-known
 returns-clause-known g c = (
@@ -50,10 +50,10 @@ returns-clause-known g c = (
   sym c.client.ensures ∙ ap (option_map (λ r. r.now)) c.unwrap-client.ensures,
   λ state agrees source.
       let agreed = subst (λ es. Agrees es state) c.into_reads-2.ensures agrees in (
-        over c.enter_all.new.scene.draft state.sight,
-        subst (λ cl. EndsAt cl c.enter_all.new.scene.draft state (map (entry_of source) c.args.log.now.entries) None) c.new-scene.ensures.client
-            (subst (λ es. EndsAt c.new-scene.result.client.now c.enter_all.new.scene.draft state (map (entry_of source) es) None) c.as_slice.ensures
-            (subst (λ f. EndsAt c.new-scene.result.client.now c.enter_all.new.scene.draft state (map (entry_of source) c.as_slice.result.now) f) c.in_default.is
+        over c.enter_all.new.judge.draft state.sight,
+        subst (λ cl. EndsAt cl c.enter_all.new.judge.draft state (map (entry_of source) c.args.log.now.entries) None) c.new-judge.ensures.client
+            (subst (λ es. EndsAt c.new-judge.result.client.now c.enter_all.new.judge.draft state (map (entry_of source) es) None) c.as_slice.ensures
+            (subst (λ f. EndsAt c.new-judge.result.client.now c.enter_all.new.judge.draft state (map (entry_of source) c.as_slice.result.now) f) c.in_default.is
             (c.in_ok-fault.ensures.known state (c.in_ok-net.ensures.goes.grows state agreed) source))),
         c.in_ok-net.ensures.known state agreed,
       ),
@@ -62,24 +62,24 @@ returns-clause-known g c = (
 pub returns-clause-view_agrees : goal.returns-clause-view_agrees
 returns-clause-view_agrees g c =
     let row = sym c.client.ensures ∙ ap (option_map (λ r. r.now)) c.unwrap-client.ensures in
-    let shown = seen_of c.args.view.now c.args.log.now.client in
-    let seen = c.new-scene.ensures.seen ∙ ap (seen_of c.args.view.now) (row_has_number (clients_of c.args.view.now) c.args.log.now.client c.unwrap-client.result.now row) in
-    subst (λ es. Agrees es shown) (sym c.into_reads-2.ensures) (agrees_from_none shown c.new-scene.result.recorder c.net.new.self.recorder c.new-scene.ensures.none seen (goes_then c.in_ok-fault.ensures.goes c.in_ok-net.ensures.goes))
+    let shown = client_sight_in c.args.view.now c.args.log.now.client in
+    let seen = c.new-judge.ensures.seen ∙ ap (client_sight_in c.args.view.now) (row_has_number (clients_of c.args.view.now) c.args.log.now.client c.unwrap-client.result.now row) in
+    subst (λ es. Agrees es shown) (sym c.into_reads-2.ensures) (agrees_from_none shown c.new-judge.result.recorder c.net.new.self.recorder c.new-judge.ensures.none seen (goes_then c.in_ok-fault.ensures.goes c.in_ok-net.ensures.goes))
 
 pub returns-clause-once : goal.returns-clause-once
-returns-clause-once g c = subst AreOnce (sym c.into_reads-2.ensures) (once_from_none (seen_of c.args.view.now c.args.log.now.client) c.new-scene.result.recorder c.net.new.self.recorder c.new-scene.ensures.none (goes_then c.in_ok-fault.ensures.goes c.in_ok-net.ensures.goes))
+returns-clause-once g c = subst AreOnce (sym c.into_reads-2.ensures) (once_from_none (client_sight_in c.args.view.now c.args.log.now.client) c.new-judge.result.recorder c.net.new.self.recorder c.new-judge.ensures.none (goes_then c.in_ok-fault.ensures.goes c.in_ok-net.ensures.goes))
 
 pub returns-clause-among : goal.returns-clause-among
 returns-clause-among g c client is source =
     let row = sym c.client.ensures ∙ ap (option_map (λ r. r.now)) c.unwrap-client.ensures in
-    let shown = seen_of c.args.view.now c.args.log.now.client in
-    let seen = c.new-scene.ensures.seen ∙ ap (seen_of c.args.view.now) (row_has_number (clients_of c.args.view.now) c.args.log.now.client c.unwrap-client.result.now row) in
-    let agrees = agrees_from_none shown c.new-scene.result.recorder c.enter_all.new.scene.recorder c.new-scene.ensures.none seen c.in_ok-fault.ensures.goes in
-    let cells = looked_cells c.new-scene.result.client.now shown (map (entry_of source) c.as_slice.result.now) in
+    let shown = client_sight_in c.args.view.now c.args.log.now.client in
+    let seen = c.new-judge.ensures.seen ∙ ap (client_sight_in c.args.view.now) (row_has_number (clients_of c.args.view.now) c.args.log.now.client c.unwrap-client.result.now row) in
+    let agrees = agrees_from_none shown c.new-judge.result.recorder c.enter_all.new.judge.recorder c.new-judge.ensures.none seen c.in_ok-fault.ensures.goes in
+    let cells = looked_cells c.new-judge.result.client.now shown (map (entry_of source) c.as_slice.result.now) in
     let front = c.in_ok-fault.ensures.among shown agrees source in
     let back = c.in_ok-net.ensures.among cells (c.in_ok-fault.ensures.written (ap Ok c.in_default.is) shown agrees source) in
-    let same = c.new-scene.ensures.client ∙ one_row (clients_of c.args.view.now) c.args.log.now.client c.unwrap-client.result.now client row is in
+    let same = c.new-judge.ensures.client ∙ one_row (clients_of c.args.view.now) c.args.log.now.client c.unwrap-client.result.now client row is in
     subst (λ reads. AreAmong reads (looked_cells client shown (map (entry_of source) c.args.log.now.entries))) (sym c.into_reads-2.ensures)
     (subst (λ cl. AreAmong c.net.new.self.recorder.reads.entries (looked_cells cl shown (map (entry_of source) c.args.log.now.entries))) same
-    (subst (λ es. AreAmong c.net.new.self.recorder.reads.entries (looked_cells c.new-scene.result.client.now shown (map (entry_of source) es))) c.as_slice.ensures
-    (among_from_none shown c.new-scene.result.recorder c.net.new.self.recorder c.new-scene.ensures.none cells (within_then front back))))
+    (subst (λ es. AreAmong c.net.new.self.recorder.reads.entries (looked_cells c.new-judge.result.client.now shown (map (entry_of source) es))) c.as_slice.ensures
+    (among_from_none shown c.new-judge.result.recorder c.net.new.self.recorder c.new-judge.ensures.none cells (within_then front back))))

@@ -5,4 +5,4 @@ pub returns-clause-same : goal.returns-clause-same
 returns-clause-same c before after plan other right also = right_say_same before after plan other right also
 
 pub returns-clause-cut_anew : goal.returns-clause-cut_anew
-returns-clause-cut_anew c before after plan other right same order = right_cut_anew before after plan other right same order
+returns-clause-cut_anew c before after plan other right cut = right_cut_anew before after plan other right cut.same cut.order

@@ -17,16 +17,16 @@ returns-in-Some-clause-among g c = within_same c.args.self.now.reads.entries (ce
 
 pub returns-clause-goes : goal.returns-clause-goes
 returns-clause-goes g c =
-    let last = c.in_ok-insert.ensures.entries ∙ insert_entry-new same_read c.args.self.now.reads c.args.read c.seen-seen.result (sym c.in_default.ensures.value) in
+    let last = c.in_ok-insert.ensures.entries ∙ insert_entry-new same_read c.args.self.now.reads c.args.read c.view_answer-answer.result (sym c.in_default.ensures.value) in
     record {
       grows = grows_by_one _ _ _ _ last;
       same = refl;
-      agrees = agrees_by_one _ _ _ _ _ last c.seen-seen.ensures;
+      agrees = agrees_by_one _ _ _ _ _ last c.view_answer-answer.ensures;
       once = once_by_one _ _ _ _ last (sym c.in_default.ensures.value);
     }
 
 pub returns-clause-known : goal.returns-clause-known
-returns-clause-known g c = known_at_end _ _ _ _ (c.in_ok-insert.ensures.entries ∙ insert_entry-new same_read c.args.self.now.reads c.args.read c.seen-seen.result (sym c.in_default.ensures.value))
+returns-clause-known g c = known_at_end _ _ _ _ (c.in_ok-insert.ensures.entries ∙ insert_entry-new same_read c.args.self.now.reads c.args.read c.view_answer-answer.result (sym c.in_default.ensures.value))
 
 pub returns-clause-among : goal.returns-clause-among
-returns-clause-among g c = within_one _ _ _ _ (c.in_ok-insert.ensures.entries ∙ insert_entry-new same_read c.args.self.now.reads c.args.read c.seen-seen.result (sym c.in_default.ensures.value))
+returns-clause-among g c = within_one _ _ _ _ (c.in_ok-insert.ensures.entries ∙ insert_entry-new same_read c.args.self.now.reads c.args.read c.view_answer-answer.result (sym c.in_default.ensures.value))

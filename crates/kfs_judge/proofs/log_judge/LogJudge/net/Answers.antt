@@ -1,6 +1,6 @@
 -- What the first rows tell still holds after the second.
 use Rattle.kfs_judge.proofs.Recording.{goes_then, within_then}
-use Rattle.kfs_judge.proofs.scene.Scene.net.Goals as goal
+use Rattle.kfs_judge.proofs.log_judge.LogJudge.net.Goals as goal
 
 pub returns-in_err-nodes-clause-goes : goal.returns-in_err-nodes-clause-goes
 returns-in_err-nodes-clause-goes g c = goes_then c.in_ok-names.ensures.goes c.in_err-nodes.ensures.goes

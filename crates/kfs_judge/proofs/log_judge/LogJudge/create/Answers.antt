@@ -6,11 +6,11 @@ use Rattle.kfs_model.specs.Entry.{Create}
 use Rattle.kfs_model.specs.Sight.{NameIn, HeaderOf}
 use Rattle.kfs_value.specs.Views.{kind_of}
 use Rattle.kfs_model.specs.SeenAfter.{seen_after}
-use Rattle.kfs_judge.specs.Overlay.{over, spot_of, with_node}
-use Rattle.kfs_judge.specs.Spots.{reason_of}
+use Rattle.kfs_judge.specs.Overlay.{over, entry_context_of, with_node}
+use Rattle.kfs_judge.specs.Checks.{reason_of}
 use Rattle.kfs_judge.proofs.Looking.{create_looks, written_wider}
 use Rattle.kfs_judge.proofs.Recording.{left_is_part, right_is_part}
-use Rattle.kfs_judge.proofs.scene.Scene.create.Goals as goal
+use Rattle.kfs_judge.proofs.log_judge.LogJudge.create.Goals as goal
 
 pub returns-clause-shown : goal.returns-clause-shown
 unfolding seen_after
@@ -20,7 +20,7 @@ returns-clause-shown g c _ s =
 
 pub returns-clause-written : goal.returns-clause-written
 returns-clause-written g c _ state agrees among written =
-    let p = spot_of c.args.self.now.client.now c.args.self.now.draft state in
+    let p = entry_context_of c.args.self.now.client.now c.args.self.now.draft state in
     let entry = Create c.args.key.0 c.args.key.1 c.args.number (kind_of c.args.kind) c.args.mode in
     let front = looked p (checks_of p entry) in
     let looks = create_looks p c.args.key.0 c.args.key.1 c.args.number (kind_of c.args.kind) c.args.mode (c.in_ok-fault.ensures.known state agrees (kind_of c.args.kind) c.args.mode ∙ ap (option_map reason_of) c.in_default.is) in

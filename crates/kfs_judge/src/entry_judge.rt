@@ -1,4 +1,4 @@
-//! Where an entry stands, and the first of its checks that fails there.
+//! What judges one entry: the first of its checks that fails where it stands.
 ghost use Rattle.std.specs.Prelude.{◌≡◌, IfOk, is_none, not, ◌&&◌, ◌||◌, map, OnOk, [], ◌∷◌};
 ghost use Rattle.std.specs.Option.{option_map};
 ghost use Rattle.kfs_value.specs.Views.{header_of};
@@ -10,7 +10,7 @@ ghost use Rattle.kfs_model.specs.Sight.{HeaderOf, LeaseOn, NameIn};
 ghost use Rattle.kfs_mode.specs.Mode.{want_shown};
 ghost use Rattle.kfs_judge.specs.Reads.{Always, Within};
 ghost use Rattle.kfs_judge.specs.Recorders.{GoesOn};
-ghost use Rattle.kfs_judge.specs.Spots.{check_of, reason_of, stands_in};
+ghost use Rattle.kfs_judge.specs.Checks.{check_of, reason_of, entry_context_in};
 
 use crate::check::{Check, Reason};
 use crate::draft::Draft;
@@ -19,14 +19,14 @@ use kfs_image::{Header, Kind, Name};
 use kfs_mode::{Client, Want, may};
 use std::alloc::{AllocError, Allocator};
 
-/// The client of a log, and the draft of its entries so far.
+/// What judges the next entry: the log's client, and the draft of the entries so far.
 #[derive(Clone, Copy)]
-pub(crate) struct Spot<'a, A: Allocator> {
+pub(crate) struct EntryJudge<'a, A: Allocator> {
     pub(crate) client: &'a Client,
     pub(crate) draft: &'a Draft<A>,
 }
 
-impl<A: Allocator + Copy> Spot<'_, A> {
+impl<A: Allocator + Copy> EntryJudge<'_, A> {
     /// The header of the node now.
     pub(crate) fn header(
         &self,
@@ -34,7 +34,7 @@ impl<A: Allocator + Copy> Spot<'_, A> {
         number: u32,
     ) -> Result<Option<Header>, AllocError>
         ensures goes { GoesOn recorder.old recorder.new }
-        ensures known { IfOk result (λ header. Always recorder.new.reads.entries (λ state. (stands_in self.now state).now.head number ≡ option_map header_of header)) }
+        ensures known { IfOk result (λ header. Always recorder.new.reads.entries (λ state. (entry_context_in self.now state).now.head number ≡ option_map header_of header)) }
         ensures among { OnOk result (Within recorder.old.reads.entries recorder.new.reads.entries (HeaderOf number ∷ [])) }
     {
         match self.draft.header(number) {
@@ -49,7 +49,7 @@ impl<A: Allocator + Copy> Spot<'_, A> {
         key: &(u32, Name),
     ) -> Result<Option<u32>, AllocError>
         ensures goes { GoesOn recorder.old recorder.new }
-        ensures known { IfOk result (λ number. Always recorder.new.reads.entries (λ state. (stands_in self.now state).now.name key.now.0 key.now.1 ≡ number)) }
+        ensures known { IfOk result (λ number. Always recorder.new.reads.entries (λ state. (entry_context_in self.now state).now.name key.now.0 key.now.1 ≡ number)) }
         ensures among { OnOk result (Within recorder.old.reads.entries recorder.new.reads.entries (NameIn key.now.0 key.now.1 ∷ [])) }
     {
         match self.draft.target(key) {
@@ -65,7 +65,7 @@ impl<A: Allocator + Copy> Spot<'_, A> {
         want: Want,
     ) -> Result<bool, AllocError>
         ensures goes { GoesOn recorder.old recorder.new }
-        ensures known { IfOk result (λ granted. Always recorder.new.reads.entries (λ state. checks.is_some_and ((stands_in self.now state).now.head number) (λ h. may_header self.now.client.now h (want_shown want)) ≡ granted)) }
+        ensures known { IfOk result (λ granted. Always recorder.new.reads.entries (λ state. checks.is_some_and ((entry_context_in self.now state).now.head number) (λ h. may_header self.now.client.now h (want_shown want)) ≡ granted)) }
         ensures among { OnOk result (Within recorder.old.reads.entries recorder.new.reads.entries (HeaderOf number ∷ [])) }
     {
         let header = self.header(recorder, number)?;
@@ -79,8 +79,8 @@ impl<A: Allocator + Copy> Spot<'_, A> {
         checks: &[Check<'_>],
     ) -> Result<Option<Reason>, AllocError>
         ensures goes { GoesOn recorder.old recorder.new }
-        ensures known { IfOk result (λ reason. Always recorder.new.reads.entries (λ state. first_failing (stands_in self.now state) (map check_of checks.now) ≡ option_map reason_of reason)) }
-        ensures among { OnOk result (Always recorder.new.reads.entries (λ state. Within recorder.old.reads.entries recorder.new.reads.entries (looked (stands_in self.now state) (map check_of checks.now)))) }
+        ensures known { IfOk result (λ reason. Always recorder.new.reads.entries (λ state. first_failing (entry_context_in self.now state) (map check_of checks.now) ≡ option_map reason_of reason)) }
+        ensures among { OnOk result (Always recorder.new.reads.entries (λ state. Within recorder.old.reads.entries recorder.new.reads.entries (looked (entry_context_in self.now state) (map check_of checks.now)))) }
     {
         for check in checks {
             if let Some(reason) = self.fault(recorder, check)? {
@@ -97,8 +97,8 @@ impl<A: Allocator + Copy> Spot<'_, A> {
         check: &Check<'_>,
     ) -> Result<Option<Reason>, AllocError>
         ensures goes { GoesOn recorder.old recorder.new }
-        ensures known { IfOk result (λ reason. Always recorder.new.reads.entries (λ state. checks.fault (stands_in self.now state) (check_of check.now) ≡ option_map reason_of reason)) }
-        ensures among { OnOk result (Always recorder.new.reads.entries (λ state. Within recorder.old.reads.entries recorder.new.reads.entries (checks.cells (stands_in self.now state) (check_of check.now)))) }
+        ensures known { IfOk result (λ reason. Always recorder.new.reads.entries (λ state. checks.fault (entry_context_in self.now state) (check_of check.now) ≡ option_map reason_of reason)) }
+        ensures among { OnOk result (Always recorder.new.reads.entries (λ state. Within recorder.old.reads.entries recorder.new.reads.entries (checks.cells (entry_context_in self.now state) (check_of check.now)))) }
     {
         match check {
             Check::Exists(number) => {
@@ -142,7 +142,7 @@ impl<A: Allocator + Copy> Spot<'_, A> {
 
     fn may_write(&self, recorder: &mut Recorder<'_, A>, number: u32) -> Result<bool, AllocError>
         ensures goes { GoesOn recorder.old recorder.new }
-        ensures known { IfOk result (λ granted. Always recorder.new.reads.entries (λ state. ((stands_in self.now state).created number && sight.is_file ((stands_in self.now state).now.head number)) || checks.is_some_and ((stands_in self.now state).now.head number) (λ h. may_header self.now.client.now h (want_shown Want.Write)) ≡ granted)) }
+        ensures known { IfOk result (λ granted. Always recorder.new.reads.entries (λ state. ((entry_context_in self.now state).created number && sight.is_file ((entry_context_in self.now state).now.head number)) || checks.is_some_and ((entry_context_in self.now state).now.head number) (λ h. may_header self.now.client.now h (want_shown Want.Write)) ≡ granted)) }
         ensures among { OnOk result (Within recorder.old.reads.entries recorder.new.reads.entries (HeaderOf number ∷ [])) }
     {
         let header = self.header(recorder, number)?;
@@ -152,7 +152,7 @@ impl<A: Allocator + Copy> Spot<'_, A> {
 
     fn is_leased(&self, recorder: &mut Recorder<'_, A>, number: u32) -> Result<bool, AllocError>
         ensures goes { GoesOn recorder.old recorder.new }
-        ensures known { IfOk result (λ leased. Always recorder.new.reads.entries (λ state. (stands_in self.now state).created number || state.held number ≡ leased)) }
+        ensures known { IfOk result (λ leased. Always recorder.new.reads.entries (λ state. (entry_context_in self.now state).created number || state.held number ≡ leased)) }
         ensures among { OnOk result (Within recorder.old.reads.entries recorder.new.reads.entries (LeaseOn number ∷ [])) }
     {
         if self.draft.has_created(number) {
@@ -167,7 +167,7 @@ impl<A: Allocator + Copy> Spot<'_, A> {
         number: u32,
     ) -> Result<bool, AllocError>
         ensures goes { GoesOn recorder.old recorder.new }
-        ensures known { IfOk result (λ free. Always recorder.new.reads.entries (λ state. is_none (state.sight.head number) && is_none ((stands_in self.now state).now.head number) && not ((stands_in self.now state).created number) ≡ free)) }
+        ensures known { IfOk result (λ free. Always recorder.new.reads.entries (λ state. is_none (state.sight.head number) && is_none ((entry_context_in self.now state).now.head number) && not ((entry_context_in self.now state).created number) ≡ free)) }
         ensures among { OnOk result (Within recorder.old.reads.entries recorder.new.reads.entries (HeaderOf number ∷ [])) }
     {
         let before = recorder.header(number)?;

@@ -1,6 +1,6 @@
 -- What the first look tells still holds after the second.
 use Rattle.kfs_judge.proofs.Recording.{goes_then, within_then}
-use Rattle.kfs_judge.proofs.spot.Spot.is_number_free.Goals as goal
+use Rattle.kfs_judge.proofs.entry_judge.EntryJudge.is_number_free.Goals as goal
 
 pub returns-in_err-now-clause-goes : goal.returns-in_err-now-clause-goes
 returns-in_err-now-clause-goes g c = goes_then c.in_ok-before.ensures.goes c.in_err-now.ensures.goes

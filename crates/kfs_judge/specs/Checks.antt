@@ -1,12 +1,12 @@
--- The code's checks, reasons and spots as those of the definitions.
+-- The code's checks, reasons and entry contexts as those of the definitions.
 use Rattle.kfs_model.specs.Check as checks
-use Rattle.kfs_model.specs.Sight.{Seen}
+use Rattle.kfs_model.specs.Sight.{ClientSight}
 use Rattle.kfs_judge.specs.declared.check.Reason.{Reason}
 use Rattle.kfs_judge.specs.declared.check.Reason.TheVariants as reasons
 use Rattle.kfs_judge.specs.declared.check.Check.{Check}
 use Rattle.kfs_judge.specs.declared.check.Check.TheVariants as variants
-use Rattle.kfs_judge.specs.declared.spot.Spot.{Spot}
-use Rattle.kfs_judge.specs.Overlay.{spot_of}
+use Rattle.kfs_judge.specs.declared.entry_judge.EntryJudge.{EntryJudge}
+use Rattle.kfs_judge.specs.Overlay.{entry_context_of}
 
 abbrev pub reason_of : Reason → checks.Reason
 reason_of reasons.NoSuchNode = checks.NoSuchNode
@@ -36,6 +36,6 @@ check_of (variants.NameIsFree key) = checks.NameIsFree key.now.0 key.now.1
 check_of (variants.NumberIsGranted n) = checks.NumberIsGranted n
 check_of (variants.NumberIsFree n) = checks.NumberIsFree n
 
--- where the entry stands in a state
-abbrev pub stands_in : {A : Type 0} → Spot A → Seen → checks.Spot
-stands_in spot state = spot_of spot.client.now spot.draft.now state
+-- where the entry is judged, by what the client saw before the log
+abbrev pub entry_context_in : {A : Type 0} → EntryJudge A → ClientSight → checks.EntryContext
+entry_context_in judge before = entry_context_of judge.client.now judge.draft.now before

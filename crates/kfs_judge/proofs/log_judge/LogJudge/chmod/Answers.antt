@@ -6,12 +6,12 @@ use Rattle.kfs_model.specs.Check.{checks_of, looked}
 use Rattle.kfs_model.specs.Entry.{Chmod}
 use Rattle.kfs_model.specs.Sight.{HeaderOf}
 use Rattle.kfs_model.specs.SeenAfter.{put_at, seen_after}
-use Rattle.kfs_judge.specs.Overlay.{over, spot_of}
-use Rattle.kfs_judge.specs.Spots.{reason_of}
+use Rattle.kfs_judge.specs.Overlay.{over, entry_context_of}
+use Rattle.kfs_judge.specs.Checks.{reason_of}
 use Rattle.kfs_judge.proofs.Looking.{chmod_looks, written_wider}
 use Rattle.kfs_judge.proofs.Overlays.{shifts_wider}
 use Rattle.kfs_judge.proofs.Recording.{goes_then, within_then, within_wider, first_is_in, left_is_part, right_is_part}
-use Rattle.kfs_judge.proofs.scene.Scene.chmod.Goals as goal
+use Rattle.kfs_judge.proofs.log_judge.LogJudge.chmod.Goals as goal
 
 pub returns-in_err-header-clause-goes : goal.returns-in_err-header-clause-goes
 returns-in_err-header-clause-goes g c = goes_then c.in_ok-fault.ensures.goes c.in_err-header.ensures.goes
@@ -27,7 +27,7 @@ returns-clause-known g c state agrees = c.in_ok-fault.ensures.known state (c.in_
 
 pub returns-clause-among : goal.returns-clause-among
 returns-clause-among g c state agrees =
-    let p = spot_of c.args.self.now.client.now c.args.self.now.draft state in
+    let p = entry_context_of c.args.self.now.client.now c.args.self.now.draft state in
     within_then (c.in_ok-fault.ensures.among state (c.in_ok-header.ensures.goes.grows state agrees) c.args.mode) (within_wider (chmod_looks p c.args.number c.args.mode) c.in_ok-header.ensures.among)
 
 pub returns-clause-shown : goal.returns-clause-shown
@@ -40,7 +40,7 @@ returns-clause-shown g c _ state agrees =
 
 pub returns-clause-written : goal.returns-clause-written
 returns-clause-written g c _ state agrees among written =
-    let p = spot_of c.args.self.now.client.now c.args.self.now.draft state in
+    let p = entry_context_of c.args.self.now.client.now c.args.self.now.draft state in
     let front = looked p (checks_of p (Chmod c.args.number c.args.mode)) in
     c.in_ok-set_header.ensures.written (front ++ among) (written_wider c.args.self.now.draft among (front ++ among) (right_is_part front among) written)
     (left_is_part front among (HeaderOf c.args.number) (chmod_looks p c.args.number c.args.mode (HeaderOf c.args.number) (first_is_in (HeaderOf c.args.number) [])))

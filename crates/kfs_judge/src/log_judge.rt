@@ -8,17 +8,17 @@ ghost use Rattle.kfs_model.specs.Run.{created_by};
 ghost use Rattle.kfs_model.specs.SeenAfter.{seen_after};
 ghost use Rattle.kfs_model.specs.Sight.{Sight, Cell};
 ghost use Rattle.kfs_judge.specs.JudgedEntries.{IsJudged};
-ghost use Rattle.kfs_judge.specs.Overlay.{has_created, over, shift_of, spot_of, ShiftsBy, IsWritten};
+ghost use Rattle.kfs_judge.specs.Overlay.{has_created, over, shift_of, entry_context_of, ShiftsBy, IsWritten};
 ghost use Rattle.kfs_judge.specs.Reads.{Always, Within};
 ghost use Rattle.kfs_judge.specs.Recorders.{GoesOn, seen_by};
-ghost use Rattle.kfs_judge.specs.Spots.{reason_of};
+ghost use Rattle.kfs_judge.specs.Checks.{reason_of};
 ghost use Rattle.kfs_judge.specs.Walks.{IsNetOf};
-ghost use Rattle.kfs_judge.specs.View.{seen_of};
+ghost use Rattle.kfs_judge.specs.View.{client_sight_in};
 
 use crate::check::Reason;
 use crate::draft::Draft;
 use crate::net::{name_rows, node_rows};
-use crate::reads::{Read, Recorder, Seen};
+use crate::reads::{Read, ReadAnswer, Recorder};
 use crate::view::View;
 use indexmap::IndexMap;
 use kfs_entry::{Entry, Span};
@@ -27,26 +27,27 @@ use kfs_mode::Client;
 use std::alloc::{AllocError, Allocator};
 use std::hash::{BuildHasherDefault, FoldHasher};
 
-/// The client of a log, the draft of its entries so far, and the recorded view.
+/// What judges the entries of a log one after another: the log's client, the draft of its entries so
+/// far, and the recorded view.
 #[derive(Drop)]
-pub(crate) struct Scene<'a, A: Allocator> {
+pub(crate) struct LogJudge<'a, A: Allocator> {
     pub(crate) client: &'a Client,
     pub(crate) draft: Draft<A>,
     pub(crate) recorder: Recorder<'a, A>,
 }
 
-impl<'a, A: Allocator + Copy> Scene<'a, A> {
+impl<'a, A: Allocator + Copy> LogJudge<'a, A> {
     /// Before the first entry of a log of this client.
-    pub(crate) fn new(alloc: A, view: &'a View<A>, client: &'a Client) -> Scene<'a, A>
+    pub(crate) fn new(alloc: A, view: &'a View<A>, client: &'a Client) -> LogJudge<'a, A>
         ensures client { result.client.now ≡ client.now }
         ensures none { result.recorder.reads.entries ≡ [] }
-        ensures seen { seen_by result.recorder ≡ seen_of view.now client.now.number }
+        ensures seen { seen_by result.recorder ≡ client_sight_in view.now client.now.number }
         ensures shown { (s : Sight) → over result.draft s ≡ s }
         ensures written { IsWritten result.draft [] }
         ensures created { (n : ℕ) → has_created result.draft n ≡ false }
         ensures shifts { ShiftsBy 0 result.draft }
     {
-        Scene {
+        LogJudge {
             client,
             draft: Draft::new(alloc),
             recorder: Recorder::new(alloc, view, client.number()),
@@ -59,10 +60,10 @@ impl<'a, A: Allocator + Copy> Scene<'a, A> {
         requires room { (d : ℕ) → shift_of self.old.draft d <ℤ pos 2147483647 }
         ensures goes { GoesOn self.old.recorder self.new.recorder }
         ensures client { self.new.client.now ≡ self.old.client.now }
-        ensures known { (source : List ℕ) → IfOk result (λ reason. Always self.new.recorder.reads.entries (λ state. first_fault (spot_of self.old.client.now self.old.draft state) (entry_of source entry.now) ≡ option_map reason_of reason)) }
-        ensures among { (source : List ℕ) → OnOk result (Always self.new.recorder.reads.entries (λ state. Within self.old.recorder.reads.entries self.new.recorder.reads.entries (looked (spot_of self.old.client.now self.old.draft state) (checks_of (spot_of self.old.client.now self.old.draft state) (entry_of source entry.now))))) }
+        ensures known { (source : List ℕ) → IfOk result (λ reason. Always self.new.recorder.reads.entries (λ state. first_fault (entry_context_of self.old.client.now self.old.draft state) (entry_of source entry.now) ≡ option_map reason_of reason)) }
+        ensures among { (source : List ℕ) → OnOk result (Always self.new.recorder.reads.entries (λ state. Within self.old.recorder.reads.entries self.new.recorder.reads.entries (looked (entry_context_of self.old.client.now self.old.draft state) (checks_of (entry_context_of self.old.client.now self.old.draft state) (entry_of source entry.now))))) }
         ensures shown { (source : List ℕ) → result ≡ Ok None → Always self.new.recorder.reads.entries (λ state. over self.new.draft state.sight ≡ seen_after self.old.client.now (over self.old.draft state.sight) (entry_of source entry.now)) }
-        ensures written { (source : List ℕ) → result ≡ Ok None → Always self.new.recorder.reads.entries (λ state. (among : List Cell) → IsWritten self.old.draft among → IsWritten self.new.draft (looked (spot_of self.old.client.now self.old.draft state) (checks_of (spot_of self.old.client.now self.old.draft state) (entry_of source entry.now)) ++ among)) }
+        ensures written { (source : List ℕ) → result ≡ Ok None → Always self.new.recorder.reads.entries (λ state. (among : List Cell) → IsWritten self.old.draft among → IsWritten self.new.draft (looked (entry_context_of self.old.client.now self.old.draft state) (checks_of (entry_context_of self.old.client.now self.old.draft state) (entry_of source entry.now)) ++ among)) }
         ensures created { (source : List ℕ) → result ≡ Ok None → (numbers : List ℕ) → ((n : ℕ) → has_created self.old.draft n ≡ list_any (λ c. c == n) numbers) → (n : ℕ) → has_created self.new.draft n ≡ list_any (λ c. c == n) (created_by (entry_of source entry.now) numbers) }
         ensures shifts { result ≡ Ok None → (most : ℕ) → ShiftsBy most self.old.draft → ShiftsBy (most + 1) self.new.draft }
     {
@@ -91,7 +92,7 @@ impl<'a, A: Allocator + Copy> Scene<'a, A> {
     }
 
     /// The recorded reads.
-    pub(crate) fn into_reads(self) -> IndexMap<Read, Seen, BuildHasherDefault<FoldHasher>, A>
+    pub(crate) fn into_reads(self) -> IndexMap<Read, ReadAnswer, BuildHasherDefault<FoldHasher>, A>
         ensures { result.entries ≡ self.entry.recorder.reads.entries }
     {
         self.recorder.into_reads()

@@ -5,7 +5,7 @@ use Rattle.kfs_model.specs.Sight.{answer}
 use Rattle.kfs_judge.specs.Reads.{cell_of}
 use Rattle.kfs_judge.specs.Recorders.{seen_by}
 use Rattle.kfs_judge.specs.View.{contents_of}
-use Rattle.kfs_judge.proofs.reads.Recorder.seen.Goals as goal
+use Rattle.kfs_judge.proofs.reads.Recorder.view_answer.Goals as goal
 
 pub returns-in-Look : goal.returns-in-Look
 returns-in-Look g c = ap (λ read. answer (seen_by c.args.self.now) (cell_of read)) c.in-Look.is ∙ look_shows (contents_of c.args.self.now.view.now) (seen_by c.args.self.now).held c.in-Look.cell c.look.result c.look.ensures
