@@ -1,4 +1,6 @@
 use Rattle.std.proofs.Common.{◌≡◌, None, take}
+use Rattle.std.specs.List.{AllByRecursion}
+use Rattle.kfs_model.specs.CleanStep.{IsClient}
 use Rattle.kfs_mode.specs.Clients.{AreDistinct}
 use Rattle.kfs_desk.specs.Opening.{begin_fault}
 use Rattle.kfs_desk.proofs.desk.first_fault.Given as goal
@@ -7,4 +9,5 @@ abbrev pub invariant-loop-index : goal.invariant-loop-index
 invariant-loop-index l = record {
   first : begin_fault (take l.index l.clients) ≡ None;
   distinct : AreDistinct (take l.index l.clients);
+  in_range : AllByRecursion IsClient (take l.index l.clients);
 }
