@@ -1,9 +1,10 @@
 -- Rows of clients no two of which have one number.
 use Rattle.std.proofs.Common.{◌≡◌, ℕ, ◌==◌, Bool, true, false, cond, ◌||◌, List, [], ◌∷◌, ◌++◌, Option, Some, None, is_some, refl, sym, ap, ◌∙◌}
-use Rattle.std.specs.List.{list_any}
+use Rattle.std.specs.List.{list_any, AllByRecursion}
 use Rattle.std.specs.Prelude.{is_none}
 use Rattle.std.proofs.lemmas.Bool.{eqb-true, eq-eqb, and_parts, and_from}
 use Rattle.kfs_model.specs.Access.{Client}
+use Rattle.kfs_model.specs.CleanStep.{IsClient}
 use Rattle.kfs_model.specs.Lease.{row_of}
 use Rattle.kfs_model.proofs.CleanFacts.{none_is}
 use Rattle.kfs_mode.specs.Clients.{AreDistinct, are_distinct}
@@ -45,6 +46,10 @@ distinct_more (row ∷ rows) last distinct none =
         by : (b : Bool) → (last.number == row.number) ≡ b → b ≡ false
         by true same = cc (eq-eqb row.number last.number (sym (eqb-true last.number row.number same)), other)
         by false apart = refl
+
+pub in_range_more : (rows : List Client) (last : Client) → AllByRecursion IsClient rows → IsClient last → AllByRecursion IsClient (rows ++ last ∷ [])
+in_range_more [] last all is = (is, tt)
+in_range_more (row ∷ rows) last all is = (all.0, in_range_more rows last all.1 is)
 
 pub without_row : (rows : List Client) (number : ℕ) → list_any (λ (row : Client). row.number == number) rows ≡ false → row_of rows number ≡ None
 without_row rows number none = by (row_of rows number) (sym (has_row rows number) ∙ none)

@@ -1,32 +1,22 @@
--- A call for the leases is the machine's step, and leaves each lease on a node.
-use Rattle.std.proofs.Common.{◌≡◌, ℕ, ◌≤◌, List, [], Some, is_some, IsTrue, Result, Ok, Err, refl, sym, ap, subst, ◌∙◌}
+-- A call for the leases is the machine's step, and so keeps the desk's state in order.
+use Rattle.std.proofs.Common.{◌≡◌, ℕ, ◌≤◌, List, [], Some, Result, Ok, Err, refl, ap, subst, ◌∙◌}
 use Rattle.kfs_model.specs.Access.{Client}
-use Rattle.kfs_model.specs.Table.{get}
-use Rattle.kfs_model.specs.Tree.{Tree, headers}
 use Rattle.kfs_model.specs.Sight.{sight}
-use Rattle.kfs_model.specs.Soundness.{IsSound}
-use Rattle.kfs_model.specs.Lease.{LeaseFault, Leases, Outcome}
+use Rattle.kfs_model.specs.Lease.{LeaseFault, Leases}
 use Rattle.kfs_model.specs.Judgement.{State}
-use Rattle.kfs_model.specs.Machine.{outcome_of, leased}
+use Rattle.kfs_model.specs.Machine.{IsRead, outcome_of, leased}
+use Rattle.kfs_model.proofs.OrderKept.{step_keeps_order}
 use Rattle.kfs_model.proofs.RowFits.{row_fits}
-use Rattle.kfs_lease.specs.Rows.{kind_of}
-use Rattle.kfs_model.proofs.LeasesKept.{IsNode, KeepsToNodes, granted_keeps, dropped_keeps, ticked_keeps}
 use Rattle.kfs_lease.specs.declared.leases.LeaseFault.{LeaseFault as CodeFault}
+use Rattle.kfs_image.specs.Contents.{Contents, sight_of}
 use Rattle.kfs_image.specs.ShownTree.{tree_of, IsLawful}
+use Rattle.kfs_image.proofs.ShownTrees.{sight_shown}
 use Rattle.kfs_desk.specs.declared.answers.Act.{Act}
 use Rattle.kfs_desk.specs.declared.answers.Act.TheVariants as acts
 use Rattle.kfs_desk.specs.declared.answers.Done.{Done}
-use Rattle.kfs_desk.specs.Machine.{Parts, IsInOrder, IsChange, IsLeaseStep, call_of, done_by, outcome_at, row_answer}
+use Rattle.kfs_desk.specs.Machine.{Parts, IsDesk, IsChange, IsLeaseStep, call_of, done_by, outcome_at, row_answer, state_of}
 
-module _ (t : Tree ℕ) (sound : IsSound t) (leases : Leases) (on_nodes : (client number : ℕ) → IsTrue (is_some (get leases.rows (client, number))) → IsNode t number) where
-  act_keeps : (clients : List Client) (act : Act) → KeepsToNodes t sound leases on_nodes (outcome_at leases (sight t) clients act)
-  act_keeps clients (acts.Lease client path kind end) = granted_keeps t sound leases on_nodes clients client path.now (kind_of kind) end
-  act_keeps clients (acts.Drop client number) = dropped_keeps t sound leases on_nodes clients client number
-  act_keeps clients (acts.Tick moment) = ticked_keeps t sound leases on_nodes moment
-
--- ---- the step
-
-abbrev with_leases : State → Leases → State
+abbrev pub with_leases : State → Leases → State
 with_leases s leases = record s { leases = leases }
 
 leased_is : (s : State) (told : Result ℕ LeaseFault) (new : Leases) → leased s [] (told, new) ≡ Some (row_answer told, with_leases s new)
@@ -34,7 +24,7 @@ leased_is s (Ok number) new = refl
 leased_is s (Err fault) new = refl
 
 module _ (act : Act) (answer : Result Done CodeFault) (new : Leases) where
-  pub change_is_step : (s : State) → IsChange (outcome_at s.leases (sight s.tree) s.clients act) (done_by act) answer new → IsLeaseStep s (call_of act) (done_by act) answer (with_leases s new)
+  change_is_step : (s : State) → IsChange (outcome_at s.leases (sight s.tree) s.clients act) (done_by act) answer new → IsLeaseStep s (call_of act) (done_by act) answer (with_leases s new)
   unfolding outcome_of
   change_is_step s is = record { outcome = is.told; said = is.said; fits = row_fits s (with_leases s new) _ (by act is.is) }
     where
@@ -43,16 +33,22 @@ module _ (act : Act) (answer : Result Done CodeFault) (new : Leases) where
       by (acts.Drop client number) same = ap (leased s []) same ∙ leased_is s is.told new
       by (acts.Tick moment) same = ap (leased s []) same ∙ leased_is s is.told new
 
-  -- the desk keeps its order
-  pub change_in_order : (desk : Parts) → IsInOrder desk → IsLawful desk.image.contents → (clients : List Client) → IsChange (outcome_at desk.leases (sight (tree_of desk.image.contents)) clients act) (done_by act) answer new
-      → (rows : ℕ) → rows ≤ desk.limit → IsInOrder (record desk { leases = new; rows = rows })
-  change_in_order desk order lawful clients is rows within = record {
+  -- a change that looks at the desk's contents and clients
+  pub act_is_step : (desk : Parts) → IsLawful desk.image.contents → (contents : Contents) (clients : List Client) → contents ≡ desk.image.contents → clients ≡ desk.clients
+      → IsChange (outcome_at desk.leases (sight_of contents) clients act) (done_by act) answer new → IsLeaseStep (state_of desk) (call_of act) (done_by act) answer (with_leases (state_of desk) new)
+  act_is_step desk lawful contents clients contents_are clients_are is =
+      let shown = ap sight_of contents_are ∙ sight_shown desk.image.contents lawful in
+      let looked = subst (λ s. IsChange (outcome_at desk.leases s clients act) (done_by act) answer new) shown is in
+      change_is_step (state_of desk) (subst (λ rows. IsChange (outcome_at desk.leases (sight (tree_of desk.image.contents)) rows act) (done_by act) answer new) clients_are looked)
+
+  pub step_in_order : (desk : Parts) → IsDesk desk → IsLeaseStep (state_of desk) (call_of act) (done_by act) answer (with_leases (state_of desk) new)
+      → (rows : ℕ) → rows ≤ desk.limit → IsDesk (record desk { leases = new; rows = rows })
+  step_in_order desk is_desk step rows within = record {
     within_limit = within;
-    distinct = order.distinct;
-    on_nodes = λ holder number leased.
-        let on_nodes : (holder number : ℕ) → IsTrue (is_some (get desk.leases.rows (holder, number))) → IsTrue (is_some (get (headers (tree_of desk.image.contents)) number)) =
-        λ holder number leased. subst (λ heads. IsTrue (is_some (get heads number))) (sym lawful.counted) (order.on_nodes holder number leased) in
-        let before = subst (λ (l : Leases). IsTrue (is_some (get l.rows (holder, number)))) (sym (ap (λ (o : Outcome). o.1) is.is)) leased in
-        subst (λ heads. IsTrue (is_some (get heads number))) lawful.counted
-        (act_keeps (tree_of desk.image.contents) lawful.sound desk.leases on_nodes clients act holder number before);
+    in_order = step_keeps_order (state_of desk) (with_leases (state_of desk) new) (record { call = call_of act; answer = row_answer step.outcome; places = [] }) is_desk.in_order (read act) step.fits;
   }
+    where
+      read : (a : Act) → IsRead (record { call = call_of a; answer = row_answer step.outcome; places = [] })
+      read (acts.Lease client path kind end) = tt
+      read (acts.Drop client number) = tt
+      read (acts.Tick moment) = tt

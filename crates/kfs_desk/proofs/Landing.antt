@@ -17,7 +17,8 @@ use Rattle.kfs_model.specs.Plan.{header_now, is_base, AreDifferences}
 use Rattle.kfs_model.specs.Placement.{written_blocks, need}
 use Rattle.kfs_model.specs.Lease.{Lease, without_gone}
 use Rattle.kfs_model.specs.Judgement.{State, Submission, IsJudgement, Verdict, Yes, No, Accepted, NoRoom, Refused, client_sight_of, free_places, reply_to}
-use Rattle.kfs_model.specs.Machine.{OneByOne, Replied, are_chosen, leases_after, landed, outcome_of, placed, placement_after, replied, stays}
+use Rattle.kfs_model.specs.Machine.{OneByOne, Replied, Submit, are_chosen, leases_after, landed, outcome_of, placed, placement_after, replied, stays}
+use Rattle.kfs_model.proofs.OrderKept.{step_keeps_order}
 use Rattle.kfs_model.proofs.RowFits.{row_fits}
 use Rattle.kfs_model.proofs.Cells.{on_node, recut}
 use Rattle.kfs_model.proofs.CleanFacts.{create_facts, some_is}
@@ -31,7 +32,6 @@ use Rattle.kfs_value.specs.declared.entry.Log.{Log as CodeLog}
 use Rattle.kfs_value.specs.declared.plan.Plan.{Plan as CodePlan}
 use Rattle.kfs_image.specs.declared.shape.Net.{Net}
 use Rattle.kfs_image.specs.Change.{after_rows}
-use Rattle.kfs_image.specs.Contents.{Contents}
 use Rattle.kfs_image.specs.ShownTree.{tree_of, IsLawful}
 use Rattle.kfs_image.proofs.BlankTrees.{IsBlank, blank_is_shown, blank_is_lawful, shown_zero}
 use Rattle.kfs_image.proofs.NetTables.{contents_in, net_makes}
@@ -48,7 +48,7 @@ use Rattle.kfs_desk.specs.declared.answers.Reply.{Reply}
 use Rattle.kfs_desk.specs.declared.answers.Reply.TheVariants as replies
 use Rattle.kfs_desk.specs.Docket.{is_rejudged, position_of}
 use Rattle.kfs_desk.specs.Landing.{CanLand, answer_at, image_after}
-use Rattle.kfs_desk.specs.Machine.{Parts, IsInOrder, IsAnswered, IsStep, IsDone, Means, shown, state_of}
+use Rattle.kfs_desk.specs.Machine.{Parts, IsDesk, IsAnswered, IsStep, IsDone, Means, shown, state_of}
 
 -- ---- no judged entry takes a name away
 
@@ -125,7 +125,7 @@ nothing_in : {X : Type 0} (xs : List X) → length xs ≡ 0 → xs ≡ []
 nothing_in [] none = refl
 nothing_in (x ∷ xs) none = absurd (omega arith)
 
-module _ (desk : Parts) (order : IsInOrder desk) (lawful : IsLawful desk.image.contents) (submission : Submission) where
+module _ (desk : Parts) (is_desk : IsDesk desk) (lawful : IsLawful desk.image.contents) (submission : Submission) where
   abbrev s : State
   s = state_of desk
 
@@ -194,8 +194,7 @@ module _ (desk : Parts) (order : IsInOrder desk) (lawful : IsLawful desk.image.c
     -- the nodes of leases stay
     stays_node : (client number : ℕ) → IsTrue (is_some (get desk.leases.rows (client, number))) → is_some (get (headers after) number) ≡ true
     stays_node client number leased =
-        let before = subst (λ heads. is_some (get heads number) ≡ true) (sym lawful.counted) (order.on_nodes client number leased) in
-        heads_stay s.tree after lawful.sound yes.comes.sound (names_stay yes.client sight_before 0 [] s.tree entries are_judged after yes.comes.ran) number before
+        heads_stay s.tree after lawful.sound yes.comes.sound (names_stay yes.client sight_before 0 [] s.tree entries are_judged after yes.comes.ran) number (is_desk.in_order.on_nodes client number leased)
 
     leases_stay : leases_after s after ≡ desk.leases
     unfolding without_gone
@@ -247,9 +246,6 @@ module _ (desk : Parts) (order : IsInOrder desk) (lawful : IsLawful desk.image.c
       one_by_one = subst (OneByOne yes.client sight_before 0 [] s.tree entries) (sym tree_is) yes.comes.allowed;
       sound = subst IsSound (sym tree_is) yes.comes.sound;
     }
-
-    yes_on_nodes : (client number : ℕ) → IsTrue (is_some (get desk.leases.rows (client, number))) → IsTrue (is_some (get (after_rows desk.image.contents net.names.items net.nodes.items).heads number))
-    yes_on_nodes client number leased = subst (λ (c : Contents). is_some (get c.heads number) ≡ true) (sym contents_are) (stays_node client number leased)
 
   -- ---- any verdict
 
@@ -319,10 +315,11 @@ module _ (desk : Parts) (order : IsInOrder desk) (lawful : IsLawful desk.image.c
         by_case (outcomes.No fault) P refused accepted = refused fault
         by_case (outcomes.Yes log plan net told) P refused accepted = accepted told
 
-    pub lands_in_order : (outcome : Outcome A) → IsVerdict s submission outcome → (rows : ℕ) → rows ≤ desk.limit → IsInOrder (desk_after outcome rows)
-    lands_in_order (outcomes.No fault) is rows within = record { within_limit = within; distinct = order.distinct; on_nodes = order.on_nodes }
-    lands_in_order (outcomes.Yes log plan net need_told) is rows within = by is.verdict is.told
-      where
-        by : (verdict : Verdict) → Tells s submission (outcomes.Yes log plan net need_told) verdict → IsInOrder (desk_after (outcomes.Yes log plan net need_told) rows)
-        by (Yes after marked_after) told_so = record { within_limit = within; distinct = order.distinct; on_nodes = yes_on_nodes log plan net need_told after marked_after told_so }
-        by (No refusal) told_so = absurd told_so
+    -- a landing is a step, which keeps the state in order
+    pub lands_in_order : (outcome : Outcome A) → IsVerdict s submission outcome → (rows : ℕ) → rows ≤ desk.limit → IsDesk (desk_after outcome rows)
+    lands_in_order outcome is rows within =
+        let step = lands_as_step outcome is desk.rows rows in
+        record {
+          within_limit = within;
+          in_order = step_keeps_order s (state_of (desk_after outcome rows)) (record { call = Submit submission step.reading; answer = Replied step.reply; places = step.places }) is_desk.in_order step.read step.fits;
+        }

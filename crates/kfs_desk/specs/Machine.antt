@@ -1,7 +1,7 @@
 -- The desk as a state of the machine, and its calls as rows that fit.
-use Rattle.std.specs.Prelude.{◌≡◌, ◌≢◌, ℕ, ◌+◌, ◌≤◌, IsTrue, false, List, [], ◌∷◌, Option, Some, is_some, option_map, Result, Ok, Err}
+use Rattle.std.specs.Prelude.{◌≡◌, ◌≢◌, ℕ, ◌+◌, ◌≤◌, false, List, [], ◌∷◌, Option, Some, option_map, Result, Ok, Err}
 use Rattle.kfs_model.specs.Access.{Client}
-use Rattle.kfs_model.specs.Table.{get, empty}
+use Rattle.kfs_model.specs.Table.{empty}
 use Rattle.kfs_model.specs.Entry.{Log}
 use Rattle.kfs_model.specs.Lease.{Leases, row_of}
 use Rattle.kfs_model.specs.Lease as leases
@@ -11,7 +11,7 @@ use Rattle.kfs_model.specs.Spelling.{LogAnswer}
 use Rattle.kfs_model.specs.Judgement.{State, Submission, Reading, IsReadAs, Reply, Accepted, Refused, client_sight_of}
 use Rattle.kfs_model.specs.Machine.{Call, Submit, Lease, Drop, Tick, CallAnswer, Replied, OneByOne, next}
 use Rattle.kfs_model.specs.Machine as machine
-use Rattle.kfs_mode.specs.Clients.{AreDistinct}
+use Rattle.kfs_model.specs.Order.{IsInOrder}
 use Rattle.kfs_lease.specs.Faults.{fault_of}
 use Rattle.kfs_lease.specs.Rows.{kind_of}
 use Rattle.kfs_lease.specs.declared.leases.LeaseFault.{LeaseFault}
@@ -45,12 +45,6 @@ pub record Parts : Type 0 where
   pub rows : ℕ
   pub limit : ℕ
 
--- the docket keeps to its limit, no two clients have one number, and each lease is on a node
-pub record IsInOrder (desk : Parts) : Type 0 where
-  pub within_limit : desk.rows ≤ desk.limit
-  pub distinct : AreDistinct desk.clients
-  pub on_nodes : (client number : ℕ) → IsTrue (is_some (get desk.leases.rows (client, number))) → IsTrue (is_some (get desk.image.contents.heads number))
-
 -- no block of a file is placed as yet
 abbrev pub state_at : ImageShown → List Client → Leases → State
 state_at image clients held = record { clients = clients; sizes = image.sizes; tree = tree_of image.contents; leases = held; placement = empty }
@@ -60,6 +54,11 @@ state_of desk = state_at desk.image desk.clients desk.leases
 
 abbrev pub shown : Parts → Desk
 shown desk = record { state = state_of desk; rows = desk.rows; limit = desk.limit }
+
+-- the docket keeps to its limit, and the machine's state is in order
+pub record IsDesk (desk : Parts) : Type 0 where
+  pub within_limit : desk.rows ≤ desk.limit
+  pub in_order : IsInOrder (state_of desk)
 
 -- the image shows the state's tree, and its tiers are the state's
 pub record IsImageOf (image : ImageShown) (s : State) : Type 0 where

@@ -1,7 +1,8 @@
 -- Why a desk can't be begun with a list of clients.
-use Rattle.std.specs.Prelude.{◌==◌, nat_le, max, min, Bool, List, [], ◌∷◌, ◌++◌, length, Option, Some, None, if◌then◌else◌}
+use Rattle.std.specs.Prelude.{◌==◌, nat_le, max, min, Bool, List, length, Option, Some, None, if◌then◌else◌}
 use Rattle.std.specs.List.{list_any}
 use Rattle.kfs_model.specs.Access.{Client}
+use Rattle.kfs_model.specs.FirstAnswer.{first_answer}
 use Rattle.kfs_desk.specs.declared.answers.BeginFault.{BeginFault}
 use Rattle.kfs_desk.specs.declared.answers.BeginFault.TheVariants.{ClientTwice, GrantOverlap}
 
@@ -16,10 +17,6 @@ fault_behind earlier client =
     else if list_any (λ row. do_overlap row client) earlier then Some (GrantOverlap (length earlier))
     else None
 
--- the fault of the first of these clients that can't stand behind those before it
-unfoldable pub fault_among : (earlier clients : List Client) → Option BeginFault
-fault_among earlier [] = None
-fault_among earlier (client ∷ clients) = elim (fault_behind earlier client) [ None ↦ fault_among (earlier ++ client ∷ []) clients | Some fault ↦ Some fault ]
-
+-- the fault of the first client that can't stand behind those before it
 abbrev pub begin_fault : List Client → Option BeginFault
-begin_fault clients = fault_among [] clients
+begin_fault clients = first_answer fault_behind clients

@@ -1,6 +1,8 @@
 //! The desk: it owns the image and the leases, and lands what was judged.
 ghost use Rattle.std.specs.Prelude.{◌≡◌, ◌↔◌, ◌+◌, ◌≤◌, ◌<◌, ◌==◌, ◌++◌, ◌∷◌, [], IfOk, IfErr, OnErr, OnOk, IfSome, IfNone, IsErrOf, IsFalse, IsTrue, Ok, Err, None, unwrap_or};
-ghost use Rattle.std.specs.List.{list_any};
+ghost use Rattle.std.specs.List.{list_any, AllByRecursion};
+ghost use Rattle.kfs_model.specs.CleanStep.{IsClient};
+ghost use Rattle.kfs_model.specs.Order.{IsInOrder};
 ghost use Rattle.kfs_model.specs.Machine as machine;
 ghost use Rattle.kfs_model.specs.Machine.{opening};
 ghost use Rattle.kfs_model.specs.Table.{empty};
@@ -30,7 +32,7 @@ use std::marker::Model;
 use std::sync::Arc;
 
 /// The image, the clients, their leases, and the length of the docket, which has a row for each call
-/// that was answered, refusals included. No two clients have one number, and each lease is on a node.
+/// that was answered, refusals included. Its state is in order.
 #[derive(Drop)]
 pub struct Desk<A: Allocator> {
     alloc: A,
@@ -42,13 +44,13 @@ pub struct Desk<A: Allocator> {
 }
 
 impl<A: Allocator> Model for Desk<A> {
-    ghost use Rattle.kfs_desk.specs.Machine.{Desk as Shown, IsInOrder, shown};
+    ghost use Rattle.kfs_desk.specs.Machine.{Desk as Shown, IsDesk, shown};
 
     ghost Value = { Shown };
 
     ghost view = { λ d. shown (record { image = d.image; clients = d.clients.value.items; leases = d.leases.value; rows = d.rows; limit = d.limit }) };
 
-    ghost invariant = { λ d. IsInOrder (record { image = d.image; clients = d.clients.value.items; leases = d.leases.value; rows = d.rows; limit = d.limit }) };
+    ghost invariant = { λ d. IsDesk (record { image = d.image; clients = d.clients.value.items; leases = d.leases.value; rows = d.rows; limit = d.limit }) };
 }
 
 impl<A: Allocator + Copy> Desk<A> {
@@ -66,6 +68,8 @@ impl<A: Allocator + Copy> Desk<A> {
         // Where the clients have a fault, it is named; else a growth was refused.
         ensures why { IfErr result (λ back. back.why ≡ unwrap_or (begin_fault clients.items) BeginFault.OutOfMemory) }
     {
+        // An image's tree is sound.
+        let _shape = image.shape();
         let fault = first_fault(&clients);
         if let Some(why) = fault {
             return Err(BeginBack {
@@ -98,9 +102,10 @@ impl<A: Allocator + Copy> Desk<A> {
         }
     }
 
-    /// The image of now.
+    /// The image of now. The desk's state is in order, as each call leaves it.
     pub fn image(&self) -> &Image<A>
-        ensures { IsImageOf result.now self.now.state }
+        ensures shown { IsImageOf result.now self.now.state }
+        ensures in_order { IsInOrder self.now.state }
     {
         &self.image
     }
@@ -368,6 +373,7 @@ fn land<A: Allocator + Copy>(
 fn first_fault(clients: &[Client]) -> Option<BeginFault>
     ensures first { result ≡ begin_fault clients.now }
     ensures distinct { IfNone result (AreDistinct clients.now) }
+    ensures in_range { IfNone result (AllByRecursion IsClient clients.now) }
 {
     for (index, client) in clients.iter().enumerate() {
         let fault = fault_of(&clients[..index], client);
@@ -380,7 +386,8 @@ fn first_fault(clients: &[Client]) -> Option<BeginFault>
 
 /// Why the client can't stand behind these: its number before its grant.
 fn fault_of(earlier: &[Client], client: &Client) -> Option<BeginFault>
-    ensures { result ≡ fault_behind earlier.now client.now }
+    ensures fault { result ≡ fault_behind earlier.now client.now }
+    ensures in_range { IsClient client.now }
 {
     if has_number(earlier, client.number()) {
         return Some(BeginFault::ClientTwice(earlier.len()));

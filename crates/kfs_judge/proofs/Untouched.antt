@@ -1,5 +1,5 @@
 -- Where no byte is touched: every piece is wrong, none is missed, and no block is written.
-use Rattle.std.specs.Prelude.{◌≡◌, ℕ, zero, suc, ◌+◌, ◌==◌, ◌||◌, not, Bool, true, false, cond, List, [], ◌∷◌, ◌++◌, map, filter, flat_map, take, drop, length, Option, Some, None, slice_get, refl}
+use Rattle.std.specs.Prelude.{◌≡◌, ℕ, zero, suc, ◌+◌, ◌==◌, ◌||◌, not, Bool, true, false, cond, List, [], ◌∷◌, ◌++◌, map, filter, flat_map, take, drop, length, Option, Some, None, is_some, slice_get, refl}
 use Rattle.std.specs.List.{list_all, list_any}
 use Rattle.std.proofs.Common.{ap, subst, ◌∙◌}
 use Rattle.std.proofs.lemmas.Bool.{and_parts, and_from, both_ways, false_from_ne_true, ne_eqb}
@@ -10,7 +10,9 @@ use Rattle.kfs_model.specs.PlanRow.{Piece, Source, Zero, Payload}
 use Rattle.kfs_model.specs.Plan.{mark_at, is_base, said_by, covers}
 use Rattle.kfs_model.specs.Limits.{block_size}
 use Rattle.kfs_model.specs.Placement.{is_payload, is_zero, is_written, blocks_from, blocks_that, block_count, written_blocks, need}
-use Rattle.kfs_model.specs.FirstWrong.{same_option, same_mark, changed_bytes, holds_along, is_missed, is_wrong, begins_early, first_wrong_below, first_wrong_piece, lies_before}
+use Rattle.kfs_model.specs.FirstWrong.{same_option, same_mark, changed_bytes, holds_along, is_missed, is_wrong, begins_early, wrong_below, missed_by, first_wrong_piece, lies_before}
+use Rattle.kfs_model.specs.FirstAnswer.{first_answer}
+use Rattle.kfs_model.proofs.FirstAnswer.{first_is}
 use Rattle.kfs_model.proofs.ChangedBytes.{none_from_changed}
 use Rattle.kfs_model.proofs.Tables.{found_from_any}
 use Rattle.kfs_value.specs.Views.{piece_of}
@@ -60,8 +62,10 @@ module _ (t : Tree Mark) (untouched : IsUntouched t) where
   pub first_of_pieces-wrong : (pieces : List CodePiece) → first_wrong_piece t (map piece_of pieces) ≡ first_of_pieces pieces
   first_of_pieces-wrong [] = ap (λ (b : Bool). elim b as (λ _. Option ℕ) [ true ↦ Some 0 | false ↦ None ]) (none_missed [])
   first_of_pieces-wrong (p ∷ ps) =
-      let rest = first_wrong_below t (piece_of p ∷ []) (0 + 1) (map piece_of ps) in
-      ap (λ (b : Bool). elim b as (λ _. Option ℕ) [ true ↦ Some 0 | false ↦ rest ]) (piece_is_wrong p.number p.start p.len (piece_of p).source)
+      let all = map piece_of (p ∷ ps) in
+      let here : wrong_below t [] (piece_of p) ≡ Some 0 = ap (λ (b : Bool). elim b as (λ _. Option ℕ) [ true ↦ Some 0 | false ↦ None ]) (piece_is_wrong p.number p.start p.len (piece_of p).source) in
+      let first : first_answer (wrong_below t) all ≡ Some 0 = first_is (wrong_below t) [] (piece_of p) (map piece_of ps) refl (ap is_some here) ∙ here in
+      ap (λ (found : Option ℕ). elim found as (λ _. Option ℕ) [ Some index ↦ Some index | None ↦ missed_by t all ]) first
 
 -- ---- blocks
 

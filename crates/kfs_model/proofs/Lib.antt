@@ -3,6 +3,7 @@ pub mod Exact
 pub mod Differences
 pub mod Tables
 pub mod ChangedBytes
+pub mod FirstAnswer
 pub mod Pieces
 pub mod RightPlan
 pub mod Cut

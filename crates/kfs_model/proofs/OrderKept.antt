@@ -1,18 +1,19 @@
 -- Each step of the machine keeps its state in order.
-use Rattle.std.proofs.Common.{◌≡◌, ℕ, ◌==◌, Bool, true, false, cond, List, [], ◌∷◌, Option, Some, None, Result, Ok, Err, refl, sym, ap, subst, ◌∙◌}
+use Rattle.std.proofs.Common.{◌≡◌, ℕ, ◌==◌, Bool, true, false, cond, List, [], ◌∷◌, Option, Some, None, is_some, Result, Ok, Err, refl, sym, ap, subst, ◌∙◌}
 use Rattle.std.specs.List.{AllByRecursion}
 use Rattle.kfs_model.specs.Access.{Client, AreDistinct}
-use Rattle.kfs_model.specs.Table.{get, empty}
+use Rattle.kfs_model.specs.Table.{get, insert, empty}
 use Rattle.kfs_model.specs.Tree.{Tree, headers}
 use Rattle.kfs_model.specs.Sight.{sight, ClientSight}
 use Rattle.kfs_model.specs.Entry.{Entry, Log}
-use Rattle.kfs_model.specs.Lease.{Leases, LeaseFault, row_of, granted, dropped, ticked}
+use Rattle.kfs_model.specs.Lease.{LeaseFault, LeaseKind, Leases, row_of, walked, in_conflict, granted, dropped, ticked}
 use Rattle.kfs_model.specs.PlanRow.{Plan}
 use Rattle.kfs_model.specs.Run.{Mark, EntryFault, run, bytes, marks, marked, byte_of, looked_up}
 use Rattle.kfs_model.specs.FirstWrong.{RowFault, first_wrong_row}
 use Rattle.kfs_model.specs.Spelling.{SpellingFault, LogAnswer, IsEntry}
 use Rattle.kfs_model.specs.CleanStep.{IsClient}
 use Rattle.kfs_model.specs.Fresh.{fresh_tree}
+use Rattle.kfs_model.specs.Soundness.{IsSound}
 use Rattle.kfs_model.specs.Placement.{TierSizes, written_blocks}
 use Rattle.kfs_model.specs.Judgement.{State, Verdict, Yes, No, ClientUnknown, ClientWrong, AtRow, Reply, Accepted, NoRoom, Refused, Submission, Reading, IsReadAs, client_sight_of, judged, judged_log, judged_plan, judged_run, verdict_on, reply_to}
 use Rattle.kfs_model.specs.Machine.{Call, Submit, Lease, Drop, Tick, CallAnswer, Replied, Outcome, Row, IsRead, same_answer, answered, unplaced, replied, leased, are_chosen, landed, outcome_of, next, after, opening}
@@ -21,7 +22,8 @@ use Rattle.kfs_model.proofs.Cells.{recut, headers-recut}
 use Rattle.kfs_model.proofs.FreshTree.{fresh_is_sound}
 use Rattle.kfs_model.proofs.Marks.{marks_give_bytes}
 use Rattle.kfs_model.proofs.SeenRun.{run_keeps_sound, bytes_faithful}
-use Rattle.kfs_model.proofs.LeasesKept.{KeepsToNodes, granted_keeps, dropped_keeps, ticked_keeps, without_gone_keeps}
+use Rattle.kfs_model.proofs.LeasesKept.{KeptByFewer, granted_keeps, dropped_keeps, ticked_keeps, on_nodes-insert, on_nodes-retain, compatible-insert, compatible-retain, without_gone_on_nodes, without_gone_compatible}
+use Rattle.kfs_model.proofs.WalkedNode.{walked_to_node}
 use Rattle.kfs_model.proofs.PlacementKept.{placement_kept}
 
 -- ---- what a Yes says
@@ -105,21 +107,35 @@ unplaced_in_order [] answer t order = order
 unplaced_in_order (place ∷ places) answer t order = tt
 
 module _ (s : State) (order : IsInOrder s) (places : List ℕ) where
-  leased_in_order : (told : Result ℕ LeaseFault) (leases : Leases) → KeepsToNodes s.tree order.sound s.leases order.on_nodes (told, leases) → InOrder (leased s places (told, leases))
-  leased_in_order told leases keeps = by told
-    where
-      with_these : IsInOrder (record s { leases = leases })
-      with_these = record { sound = order.sound; on_nodes = keeps; distinct = order.distinct; clients = order.clients; placement = order.placement }
+  -- the state with these leases is in order
+  abbrev OrderWith : Leases → Type 0
+  OrderWith leases = IsInOrder (record s { leases = leases })
 
-      by : (told : Result ℕ LeaseFault) → InOrder (leased s places (told, leases))
-      by (Ok number) = unplaced_in_order places _ (record s { leases = leases }) with_these
-      by (Err fault) = unplaced_in_order places _ (record s { leases = leases }) with_these
+  with_fewer : KeptByFewer s.leases OrderWith order
+  with_fewer stays moment later =
+      record { sound = order.sound; on_nodes = on_nodes-retain s.tree s.leases.rows stays order.on_nodes; compatible = compatible-retain s.leases stays moment later order.compatible; distinct = order.distinct; clients = order.clients; placement = order.placement }
+
+  with_one_more : (kind : LeaseKind) (end : ℕ) (client : Client) (names : List (List ℕ)) (n : ℕ) → walked (sight s.tree) client 1 0 names ≡ Ok n → in_conflict s.leases client.number n kind ≡ None
+      → OrderWith (record s.leases { rows = insert s.leases.rows (client.number, n) (record { kind = kind; end = end }) })
+  with_one_more kind end client names n came none = record {
+    sound = order.sound;
+    on_nodes = on_nodes-insert s.tree s.leases.rows client.number n (record { kind = kind; end = end }) order.on_nodes (walked_to_node s.tree order.sound client names n came);
+    compatible = compatible-insert s.leases client.number n kind end order.compatible none;
+    distinct = order.distinct;
+    clients = order.clients;
+    placement = order.placement;
+  }
+
+  leased_in_order : (told : Result ℕ LeaseFault) (leases : Leases) → OrderWith leases → InOrder (leased s places (told, leases))
+  leased_in_order (Ok number) leases with_these = unplaced_in_order places _ (record s { leases = leases }) with_these
+  leased_in_order (Err fault) leases with_these = unplaced_in_order places _ (record s { leases = leases }) with_these
 
   landed_in_order : (number : ℕ) (log : Result Log SpellingFault) (submission : List ℕ) (after : Tree ℕ) (marked_after : Tree Mark) → LogAnswer submission log → IsYes s number log after marked_after
       → are_chosen s (written_blocks marked_after) places ≡ true → IsInOrder (landed s after marked_after places)
   landed_in_order number log submission after marked_after answer said chosen = record {
     sound = run_keeps_sound bytes bytes_faithful said.client (client_sight_of s said.client.number) (client_in_range s.clients number said.client order.clients said.row) 0 [] s.tree said.read.entries order.sound (entries_fit submission log said.read answer said.log_is) after said.ran;
-    on_nodes = without_gone_keeps s.leases after;
+    on_nodes = without_gone_on_nodes s.leases after;
+    compatible = without_gone_compatible s.leases (λ n. is_some (get after.nodes n)) order.compatible;
     distinct = order.distinct;
     clients = order.clients;
     placement = placement_kept s after marked_after places order.placement chosen (heads_alike said.client (client_sight_of s said.client.number) s.tree said.read.entries after marked_after said.ran said.ran_marked);
@@ -142,13 +158,13 @@ module _ (s : State) (order : IsInOrder s) (places : List ℕ) where
       replied_in_order submission reading read_as (verdict_on s submission.client reading) refl (reply_to s (verdict_on s submission.client reading))
   outcome_in_order (Lease client path kind end) row is read =
       let outcome = granted s.leases (sight s.tree) s.clients client path kind end in
-      leased_in_order outcome.0 outcome.1 (granted_keeps s.tree order.sound s.leases order.on_nodes s.clients client path kind end)
+      leased_in_order outcome.0 outcome.1 (granted_keeps s.leases OrderWith order (sight s.tree) s.clients client path kind end (with_one_more kind end))
   outcome_in_order (Drop client number) row is read =
       let outcome = dropped s.leases s.clients client number in
-      leased_in_order outcome.0 outcome.1 (dropped_keeps s.tree order.sound s.leases order.on_nodes s.clients client number)
+      leased_in_order outcome.0 outcome.1 (dropped_keeps s.leases OrderWith order s.clients client number with_fewer)
   outcome_in_order (Tick moment) row is read =
       let outcome = ticked s.leases moment in
-      leased_in_order outcome.0 outcome.1 (ticked_keeps s.tree order.sound s.leases order.on_nodes moment)
+      leased_in_order outcome.0 outcome.1 (ticked_keeps s.leases OrderWith order moment with_fewer)
 
 -- ---- a step
 
@@ -173,13 +189,14 @@ docket_keeps_order s last (row ∷ rows) order read is = by (next s row) refl (�
     by None fits later is = cc
     by (Some t) fits later is = later t (step_keeps_order s t row order read.0 fits) is
 
--- ---- the state of a new image
+-- ---- the state at the start
 
-pub fresh_in_order : (clients : List Client) (sizes : TierSizes) → AreDistinct clients → AllByRecursion IsClient clients → IsInOrder (opening clients sizes (fresh_tree {B = ℕ}) empty)
+pub opens_in_order : (clients : List Client) (sizes : TierSizes) (tree : Tree ℕ) → AreDistinct clients → AllByRecursion IsClient clients → IsSound tree → IsInOrder (opening clients sizes tree empty)
 unfolding get
-fresh_in_order clients sizes distinct in_range = record {
-  sound = fresh_is_sound ℕ;
+opens_in_order clients sizes tree distinct in_range sound = record {
+  sound = sound;
   on_nodes = λ client number leased. cc;
+  compatible = λ client other number one two apart first second. let never = first.0 in cc;
   distinct = distinct;
   clients = in_range;
   placement = record {
@@ -188,3 +205,6 @@ fresh_in_order clients sizes distinct in_range = record {
     of_files = λ number block place is. cc;
   };
 }
+
+pub fresh_in_order : (clients : List Client) (sizes : TierSizes) → AreDistinct clients → AllByRecursion IsClient clients → IsInOrder (opening clients sizes (fresh_tree {B = ℕ}) empty)
+fresh_in_order clients sizes distinct in_range = opens_in_order clients sizes (fresh_tree {B = ℕ}) distinct in_range (fresh_is_sound ℕ)

@@ -1,14 +1,18 @@
 -- Pieces have no wrong one exactly where they are right.
-use Rattle.std.proofs.Common.{◌≡◌, ℕ, zero, suc, ◌+◌, ◌<◌, ◌≤◌, Bool, true, false, not, ◌&&◌, ◌||◌, ltb, leb, eqb, ◌==◌, List, [], ◌∷◌, filter, cond, Option, Some, None, ◌⊎◌, ⊎_elim, refl, sym, ap, subst, ◌∙◌, arith}
+use Rattle.std.proofs.Common.{◌≡◌, ℕ, zero, suc, ◌+◌, ◌<◌, ◌≤◌, Bool, true, false, not, ◌&&◌, ◌||◌, ltb, leb, eqb, ◌==◌, List, [], ◌∷◌, ◌++◌, length, filter, cond, Option, Some, None, ◌⊎◌, ⊎_elim, refl, sym, ap, subst, ◌∙◌, append_assoc, arith}
 use Rattle.std.specs.Bool.{Decides}
-use Rattle.std.specs.List.{list_any, AllByRecursion}
-use Rattle.std.proofs.lemmas.Bool.{or_parts, or_from, or_left, not-false, not_from_true, eqb-false, ne_eqb}
+use Rattle.std.specs.List.{list_any, last_or, AllByRecursion}
+use Rattle.std.proofs.lemmas.Bool.{or_parts, or_from, not-false, not_from_true, eqb-false, ne_eqb}
 use Rattle.std.proofs.lemmas.Bool.Decides.{nat_tests}
 use Rattle.kfs_model.specs.Tree.{Tree}
 use Rattle.kfs_model.specs.Run.{Mark}
 use Rattle.kfs_model.specs.PlanRow.{Piece}
-use Rattle.kfs_model.specs.Plan.{mark_at, said_by, end_of, covers, Ascend, IsTrueOf, ArePieces}
-use Rattle.kfs_model.specs.FirstWrong.{same_option, same_mark, holds_along, begins_early, is_missed, lies_before, is_wrong, changed_bytes, first_wrong_below, first_wrong_piece}
+use Rattle.kfs_model.specs.Plan.{mark_at, said_by, end_of, covers, IsBehind, Ascend, IsTrueOf, ArePieces}
+use Rattle.kfs_model.specs.FirstWrong.{same_option, same_mark, holds_along, begins_early, is_missed, lies_before, is_wrong, changed_bytes, wrong_below, missed_by, first_wrong_piece}
+use Rattle.kfs_model.specs.FirstAnswer.{first_answer}
+use Rattle.kfs_model.specs.Check.{is_some_and}
+use Rattle.std.proofs.lemmas.List.Folds.{list_any-append}
+use Rattle.kfs_model.proofs.FirstAnswer.{NoneBehind, each_from_none, none_from_each}
 use Rattle.kfs_model.proofs.Exact.{options-exact, marks-exact}
 use Rattle.kfs_model.proofs.ChangedBytes.{IsChanged, none_changed, none_from_changed}
 
@@ -66,25 +70,27 @@ none_before n i p (q ∷ rest) ascending before =
     or_from _ _ (covers_apart n i p.number p.start (end_of p) before)
     (none_before n i q rest ascending.1 (further n i p.number p.start (end_of p) q.number q.start (omega arith) ascending.0 before))
 
--- ---- the pieces from one on, below others
+-- those that stand behind some ascend too
+ascend_behind : (above ps : List Piece) → Ascend (above ++ ps) → Ascend ps
+ascend_behind [] ps ascending = ascending
+ascend_behind (p ∷ []) [] ascending = tt
+ascend_behind (p ∷ []) (q ∷ rest) ascending = ascending.1
+ascend_behind (p ∷ q ∷ above) ps ascending = ascend_behind (q ∷ above) ps ascending.1
 
-none_parts : (b : Bool) (index : ℕ) (rest : Option ℕ) → ◌≡◌ {A = Option ℕ} (elim b [ true ↦ Some index | false ↦ rest ]) None → (b ≡ false) × (rest ≡ None)
-none_parts true index rest e = (cc, cc)
-none_parts false index rest e = (refl, e)
+all_behind : (P : Piece → Type 0) (above ps : List Piece) → AllByRecursion P (above ++ ps) → AllByRecursion P ps
+all_behind P [] ps all = all
+all_behind P (p ∷ above) ps all = all_behind P above ps all.1
 
-none_from : (b : Bool) (index : ℕ) (rest : Option ℕ) → b ≡ false → rest ≡ None → ◌≡◌ {A = Option ℕ} (elim b [ true ↦ Some index | false ↦ rest ]) None
-none_from true index rest e n = cc
-none_from false index rest e n = n
+begins_behind : (above : List Piece) (p : Piece) (ps : List Piece) → Ascend (above ++ p ∷ ps) → begins_early above p ≡ false
+begins_behind [] p ps ascending = refl
+begins_behind (q ∷ []) p ps ascending = early_from q.number p.number p.start (end_of q) ascending.0
+begins_behind (q ∷ r ∷ above) p ps ascending = begins_behind (r ∷ above) p ps ascending.1
 
-or_shifted : (a b c : Bool) → ((a || b) || c) ≡ (b || (a || c))
-or_shifted true true c = refl
-or_shifted true false c = refl
-or_shifted false true c = refl
-or_shifted false false c = refl
+last_is : (o : Option Piece) (above : List Piece) (p : Piece) → last_or o (above ++ p ∷ []) ≡ Some p
+last_is o [] p = refl
+last_is o (q ∷ above) p = last_is (Some q) above p
 
-or_none : (b : Bool) → (b || false) ≡ true → b ≡ true
-or_none true e = refl
-or_none false e = e
+-- ---- all pieces
 
 list_any-filter : {X : Type 0} (test f : X → Bool) (xs : List X) → list_any test (filter f xs) ≡ list_any (λ x. f x && test x) xs
 list_any-filter test f [] = refl
@@ -94,17 +100,18 @@ list_any-filter test f (x ∷ xs) = at (f x) (list_any-filter test f xs)
     at true e = ap (λ r. test x || r) e
     at false e = e
 
+none_to_false : (b : Bool) (index : ℕ) → ◌≡◌ {A = Option ℕ} (elim b [ true ↦ Some index | false ↦ None ]) None → b ≡ false
+none_to_false true index none = cc
+none_to_false false index none = refl
+
+none_from_false : (b : Bool) (index : ℕ) → b ≡ false → ◌≡◌ {A = Option ℕ} (elim b [ true ↦ Some index | false ↦ None ]) None
+none_from_false b index is = ap (λ (c : Bool). elim c as (λ _. Option ℕ) [ true ↦ Some index | false ↦ None ]) is
+
+none_parts : (found rest : Option ℕ) → ◌≡◌ {A = Option ℕ} (elim found [ Some index ↦ Some index | None ↦ rest ]) None → (found ≡ None) × (rest ≡ None)
+none_parts None rest none = (refl, none)
+none_parts (Some index) rest none = cc
+
 module _ (t : Tree Mark) where
-  BeginsWell : (above ps : List Piece) → Type 0
-  BeginsWell above [] = Unit {0}
-  BeginsWell above (p ∷ ps) = begins_early above p ≡ false
-
-  record ArePiecesBelow (above ps : List Piece) : Type 0 where
-    begins : BeginsWell above ps
-    ascending : Ascend ps
-    said : AllByRecursion (IsTrueOf t) ps
-    covered : (n i : ℕ) → IsChanged t n i → (list_any (covers n i) above || list_any (covers n i) ps) ≡ true
-
   -- no changed byte is in no piece
   covered_from_none : (pieces : List Piece) → is_missed pieces (changed_bytes t) ≡ false → (n i : ℕ) → IsChanged t n i → list_any (covers n i) pieces ≡ true
   covered_from_none pieces none n i is = not-false _ (none_changed t (λ byte. not (list_any (covers byte.0 byte.1) pieces)) none n i is)
@@ -119,17 +126,17 @@ module _ (t : Tree Mark) where
     holds : holds_along t p 0 p.length ≡ true
     missed : is_missed above (filter (λ byte. lies_before byte p.number p.start) (changed_bytes t)) ≡ false
 
-  well_parts : (above : List Piece) (p : Piece) → is_wrong t above p ≡ false → IsWell above p
+  well_parts : (above : List Piece) (p : Piece) → wrong_below t above p ≡ None → IsWell above p
   unfolding is_wrong
   well_parts above p h =
-      let last = or_parts _ _ h in
+      let last = or_parts _ _ (none_to_false (is_wrong t above p) (length above) h) in
       let third = or_parts _ _ last.0 in
       let second = or_parts _ _ third.0 in
       record { filled = second.0; begins = second.1; holds = not-false _ third.1; missed = last.1 }
 
-  well_from : (above : List Piece) (p : Piece) → IsWell above p → is_wrong t above p ≡ false
+  well_from : (above : List Piece) (p : Piece) → IsWell above p → wrong_below t above p ≡ None
   unfolding is_wrong
-  well_from above p h = or_from _ _ (or_from _ _ (or_from _ _ h.filled h.begins) (not_from_true _ h.holds)) h.missed
+  well_from above p h = none_from_false (is_wrong t above p) (length above) (or_from _ _ (or_from _ _ (or_from _ _ h.filled h.begins) (not_from_true _ h.holds)) h.missed)
 
   well_is_true : (above : List Piece) (p : Piece) → IsWell above p → IsTrueOf t p
   unfolding HasMark
@@ -138,92 +145,69 @@ module _ (t : Tree Mark) where
     said = λ distance below. all_along t p p.length 0 well.holds distance (omega arith) (omega arith);
   }
 
-  ascend_from : (above : List Piece) (p : Piece) (ps : List Piece) → BeginsWell (p ∷ above) ps → Ascend ps → Ascend (p ∷ ps)
-  unfolding BeginsWell
-  ascend_from above p [] begins ascending = tt
-  ascend_from above p (q ∷ rest) begins ascending = (early_parts p.number q.number q.start (end_of p) begins, ascending)
+  -- ---- none is wrong
 
-  below_from_none : (above : List Piece) (index : ℕ) (ps : List Piece) → first_wrong_below t above index ps ≡ None → ArePiecesBelow above ps
-  unfolding BeginsWell
-  below_from_none above index [] e =
-      let parts = none_parts (is_missed above (changed_bytes t)) index None e in
-      record { begins = tt; ascending = tt; said = tt; covered = λ n i is. or_left _ _ (covered_from_none above parts.0 n i is) }
-  below_from_none above index (p ∷ ps) e =
-      let parts = none_parts (is_wrong t above p) index (first_wrong_below t (p ∷ above) (index + 1) ps) e in
-      let well = well_parts above p parts.0 in
-      let rest = below_from_none (p ∷ above) (index + 1) ps parts.1 in
-      record {
-        begins = well.begins;
-        ascending = ascend_from above p ps rest.begins rest.ascending;
-        said = (well_is_true above p well, rest.said);
-        covered = λ n i is. sym (or_shifted (covers n i p) (list_any (covers n i) above) (list_any (covers n i) ps)) ∙ rest.covered n i is;
-      }
+  module _ (pieces : List Piece) (none : NoneBehind (wrong_below t) pieces) where
+    well_behind : (above : List Piece) (p : Piece) (ps : List Piece) → pieces ≡ above ++ p ∷ ps → IsWell above p
+    well_behind above p ps is = well_parts above p (none above p ps is)
 
-  -- a changed byte that lies before the piece is in one above
-  before_is_above : (above : List Piece) (p : Piece) (ps : List Piece) → ArePiecesBelow above (p ∷ ps) → (n i : ℕ) → IsChanged t n i → (lies_before (n, i) p.number p.start && not (list_any (covers n i) above)) ≡ false
-  before_is_above above p ps h n i is = at (lies_before (n, i) p.number p.start) refl
-    where
-      above_only : (a b : Bool) → (a || b) ≡ true → b ≡ false → not a ≡ false
-      above_only true b e f = refl
-      above_only false b e f = cc
+    all_said : (above ps : List Piece) → pieces ≡ above ++ ps → AllByRecursion (IsTrueOf t) ps
+    all_said above [] is = tt
+    all_said above (p ∷ ps) is = (well_is_true above p (well_behind above p ps is), all_said (above ++ p ∷ []) ps (is ∙ sym (append_assoc above (p ∷ []) ps)))
 
-      at : (b : Bool) → lies_before (n, i) p.number p.start ≡ b → (b && not (list_any (covers n i) above)) ≡ false
-      at true e = above_only _ _ (h.covered n i is) (none_before n i p ps h.ascending (before_parts n i p.number p.start e))
-      at false e = refl
+    behind_last : (above : List Piece) (p q : Piece) → begins_early (above ++ p ∷ []) q ≡ false → IsBehind p q
+    behind_last above p q begins =
+        early_parts p.number q.number q.start (end_of p) (sym (ap (λ o. is_some_and o (λ r. lies_before (q.number, q.start) r.number (end_of r))) (last_is None above p)) ∙ begins)
 
-  well_below : (above : List Piece) (p : Piece) (ps : List Piece) → ArePiecesBelow above (p ∷ ps) → IsWell above p
-  unfolding BeginsWell HasMark
-  well_below above p ps h = record {
-    filled = ne_eqb p.length 0 (let filled = h.said.0.filled in λ e. omega arith);
-    begins = h.begins;
-    holds = along_all t p p.length 0 (λ d low high. h.said.0.said d (omega arith));
-    missed = list_any-filter (λ byte. not (list_any (covers byte.0 byte.1) above)) (λ byte. lies_before byte p.number p.start) (changed_bytes t)
-        ∙ none_from_changed t (λ byte. lies_before byte p.number p.start && not (list_any (covers byte.0 byte.1) above)) (before_is_above above p ps h);
-  }
-
-  next_below : (above : List Piece) (p : Piece) (ps : List Piece) → ArePiecesBelow above (p ∷ ps) → ArePiecesBelow (p ∷ above) ps
-  unfolding BeginsWell
-  next_below above p ps h = record {
-    begins = begins_next ps h.ascending;
-    ascending = ascending_next ps h.ascending;
-    said = h.said.1;
-    covered = λ n i is. or_shifted (covers n i p) (list_any (covers n i) above) (list_any (covers n i) ps) ∙ h.covered n i is;
-  }
-    where
-      begins_next : (ps : List Piece) → Ascend (p ∷ ps) → BeginsWell (p ∷ above) ps
-      begins_next [] ascending = tt
-      begins_next (q ∷ rest) ascending = early_from p.number q.number q.start (end_of p) ascending.0
-
-      ascending_next : (ps : List Piece) → Ascend (p ∷ ps) → Ascend ps
-      ascending_next [] ascending = tt
-      ascending_next (q ∷ rest) ascending = ascending.1
-
-  none_from_below : (above : List Piece) (index : ℕ) (ps : List Piece) → ArePiecesBelow above ps → first_wrong_below t above index ps ≡ None
-  none_from_below above index [] h = none_from (is_missed above (changed_bytes t)) index None (none_from_covered above (λ n i is. or_none _ (h.covered n i is))) refl
-  none_from_below above index (p ∷ ps) h =
-      none_from (is_wrong t above p) index (first_wrong_below t (p ∷ above) (index + 1) ps) (well_from above p (well_below above p ps h)) (none_from_below (p ∷ above) (index + 1) ps (next_below above p ps h))
-
-  -- ---- all pieces
+    all_ascend : (above ps : List Piece) → pieces ≡ above ++ ps → Ascend ps
+    all_ascend above [] is = tt
+    all_ascend above (p ∷ []) is = tt
+    all_ascend above (p ∷ q ∷ rest) is =
+        let later : pieces ≡ (above ++ p ∷ []) ++ q ∷ rest = is ∙ sym (append_assoc above (p ∷ []) (q ∷ rest)) in
+        (behind_last above p q (well_behind (above ++ p ∷ []) q rest later).begins, all_ascend (above ++ p ∷ []) (q ∷ rest) later)
 
   pub pieces_from_none : (pieces : List Piece) → first_wrong_piece t pieces ≡ None → ArePieces t pieces
   pieces_from_none pieces e =
-      let all = below_from_none [] 0 pieces e in
+      let parts = none_parts (first_answer (wrong_below t) pieces) (missed_by t pieces) e in
+      let none = each_from_none (wrong_below t) pieces parts.0 in
+      let covered = covered_from_none pieces (none_to_false (is_missed pieces (changed_bytes t)) (length pieces) parts.1) in
       record {
-        ascending = all.ascending;
-        said = all.said;
-        covered = λ n i mark stands changed. all.covered n i (record { mark = mark; stands = stands; changed = changed });
+        ascending = all_ascend pieces none [] pieces refl;
+        said = all_said pieces none [] pieces refl;
+        covered = λ n i mark stands changed. covered n i (record { mark = mark; stands = stands; changed = changed });
       }
 
+  -- ---- right pieces
+
+  module _ (above : List Piece) (p : Piece) (ps : List Piece) (h : ArePieces t (above ++ p ∷ ps)) where
+    -- a changed byte that lies before the piece is in one above
+    before_is_above : (n i : ℕ) → IsChanged t n i → (lies_before (n, i) p.number p.start && not (list_any (covers n i) above)) ≡ false
+    before_is_above n i is = at (lies_before (n, i) p.number p.start) refl
+      where
+        above_only : (a b : Bool) → (a || b) ≡ true → b ≡ false → not a ≡ false
+        above_only true b e f = refl
+        above_only false b e f = cc
+
+        at : (b : Bool) → lies_before (n, i) p.number p.start ≡ b → (b && not (list_any (covers n i) above)) ≡ false
+        at true e =
+            above_only (list_any (covers n i) above) (list_any (covers n i) (p ∷ ps)) (sym (list_any-append (covers n i) above (p ∷ ps)) ∙ h.covered n i is.mark is.stands is.changed)
+            (none_before n i p ps (ascend_behind above (p ∷ ps) h.ascending) (before_parts n i p.number p.start e))
+        at false e = refl
+
+    piece_is_well : IsWell above p
+    unfolding HasMark
+    piece_is_well =
+        let said = (all_behind (IsTrueOf t) above (p ∷ ps) h.said).0 in
+        record {
+          filled = ne_eqb p.length 0 (let filled = said.filled in λ e. omega arith);
+          begins = begins_behind above p ps h.ascending;
+          holds = along_all t p p.length 0 (λ d low high. said.said d (omega arith));
+          missed = list_any-filter (λ byte. not (list_any (covers byte.0 byte.1) above)) (λ byte. lies_before byte p.number p.start) (changed_bytes t)
+              ∙ none_from_changed t (λ byte. lies_before byte p.number p.start && not (list_any (covers byte.0 byte.1) above)) before_is_above;
+        }
+
   pub none_from_pieces : (pieces : List Piece) → ArePieces t pieces → first_wrong_piece t pieces ≡ None
-  unfolding BeginsWell
   none_from_pieces pieces h =
-      none_from_below [] 0 pieces (record {
-        begins = begins pieces;
-        ascending = h.ascending;
-        said = h.said;
-        covered = λ n i is. h.covered n i is.mark is.stands is.changed;
-      })
-    where
-      begins : (pieces : List Piece) → BeginsWell [] pieces
-      begins [] = tt
-      begins (p ∷ ps) = refl
+      let none = none_from_each (wrong_below t) pieces (λ above p ps is. well_from above p (piece_is_well above p ps (subst (ArePieces t) is h))) in
+      let missed = none_from_covered pieces (λ n i is. h.covered n i is.mark is.stands is.changed) in
+      ap (λ (found : Option ℕ). elim found as (λ _. Option ℕ) [ Some index ↦ Some index | None ↦ missed_by t pieces ]) none ∙ none_from_false (is_missed pieces (changed_bytes t)) (length pieces) missed

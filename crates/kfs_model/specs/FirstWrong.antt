@@ -1,12 +1,14 @@
 -- The first wrong row of a plan: names before nodes before pieces.
-use Rattle.std.specs.Prelude.{ℕ, zero, suc, ◌+◌, ◌==◌, ◌&&◌, ◌||◌, not, Bool, true, false, nat_lt, List, [], ◌∷◌, map, filter, flat_map, Option, Some, None, option_map}
-use Rattle.std.specs.List.{list_any}
+use Rattle.std.specs.Prelude.{ℕ, zero, suc, ◌+◌, ◌==◌, ◌&&◌, ◌||◌, not, Bool, true, false, nat_lt, List, [], ◌∷◌, length, map, filter, flat_map, Option, Some, None, option_map}
+use Rattle.std.specs.List.{list_any, last_or}
 use Rattle.std.specs.Cmp.Lexicographic.{pointwise}
 use Rattle.std.specs.Prelude.{nat_eq}
 use Rattle.kfs_model.specs.Header.{Header, Kind, File, Directory}
 use Rattle.kfs_model.specs.Table.{Order, Table, numbers, get, retain, mapped, united}
 use Rattle.kfs_model.specs.Tree.{Tree, Node, Links, headers, cells_of}
+use Rattle.kfs_model.specs.Check.{is_some_and}
 use Rattle.kfs_model.specs.Run.{Mark}
+use Rattle.kfs_model.specs.FirstAnswer.{first_answer}
 use Rattle.kfs_model.specs.PlanRow.{NameRow, NodeRow, Piece, Plan}
 use Rattle.kfs_model.specs.Plan.{number_now, header_now, keyed_name, keyed_node, mark_at, said_by, is_base, end_of, covers}
 
@@ -98,23 +100,28 @@ holds_along t p distance zero = true
 holds_along t p distance (suc count) =
     elim (same_option same_mark (mark_at t p.number (p.start + distance)) (Some (said_by p.source distance))) [ true ↦ holds_along t p (distance + 1) count | false ↦ false ]
 
--- whether the piece begins before the one above it ends; the pieces above stand latest first
-abbrev pub begins_early : List Piece → Piece → Bool
-begins_early [] q = false
-begins_early (p ∷ ps) q = nat_lt q.number p.number || ((q.number == p.number) && nat_lt q.start (end_of p))
+-- whether the piece begins before the last of those above it ends
+abbrev pub begins_early : (above : List Piece) → Piece → Bool
+begins_early above p = is_some_and (last_or None above) (λ q. lies_before (p.number, p.start) q.number (end_of q))
 
+-- a piece is wrong below those above it: empty, begun before the one above it ends, with a byte that the file hasn't or that has
+-- another mark, or where a changed byte that lies before the piece is in none above
 unfoldable pub is_wrong : Tree Mark → (above : List Piece) → Piece → Bool
 is_wrong after above p =
     (p.length == 0) || begins_early above p || not (holds_along after p 0 p.length)
     || is_missed above (filter (λ byte. lies_before byte p.number p.start) (changed_bytes after))
 
--- the pieces above stand latest first
-abbrev pub first_wrong_below : Tree Mark → (above : List Piece) → (index : ℕ) → List Piece → Option ℕ
-first_wrong_below after above index [] = elim (is_missed above (changed_bytes after)) [ true ↦ Some index | false ↦ None ]
-first_wrong_below after above index (p ∷ ps) = elim (is_wrong after above p) [ true ↦ Some index | false ↦ first_wrong_below after (p ∷ above) (index + 1) ps ]
+-- the piece's index where it is wrong below those above it
+abbrev pub wrong_below : Tree Mark → (above : List Piece) → Piece → Option ℕ
+wrong_below after above p = elim (is_wrong after above p) [ true ↦ Some (length above) | false ↦ None ]
 
+-- the number of the pieces where some changed byte is in none of them
+abbrev pub missed_by : Tree Mark → List Piece → Option ℕ
+missed_by after pieces = elim (is_missed pieces (changed_bytes after)) [ true ↦ Some (length pieces) | false ↦ None ]
+
+-- the first piece that is wrong, or else what all of them miss
 abbrev pub first_wrong_piece : Tree Mark → List Piece → Option ℕ
-first_wrong_piece after pieces = first_wrong_below after [] 0 pieces
+first_wrong_piece after pieces = elim (first_answer (wrong_below after) pieces) [ Some index ↦ Some index | None ↦ missed_by after pieces ]
 
 -- ---- the whole plan
 

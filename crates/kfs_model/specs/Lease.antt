@@ -1,5 +1,5 @@
 -- Leases on nodes: who holds what until when (Strata, leases: read shared, write exclusive).
-use Rattle.std.specs.Prelude.{ℕ, ◌+◌, ◌==◌, ◌&&◌, ◌||◌, not, nat_lt, nat_le, Bool, true, false, List, [], ◌∷◌, find, Option, Some, None, is_none, Result, Ok, Err, if◌then◌else◌}
+use Rattle.std.specs.Prelude.{◌≡◌, ◌≢◌, ℕ, ◌+◌, ◌==◌, ◌&&◌, ◌||◌, not, nat_lt, nat_le, Bool, true, false, List, [], ◌∷◌, find, Option, Some, None, is_none, IsTrue, Result, Ok, Err, if◌then◌else◌}
 use Rattle.std.specs.List.{list_all}
 use Rattle.kfs_model.specs.Access.{Client, Search, may_header}
 use Rattle.kfs_model.specs.Table.{Table, numbers, pairs, get, insert, remove, retain, empty}
@@ -79,6 +79,14 @@ walked sight client node component (name ∷ names) = elim (is_directory (sight.
 abbrev pub conflicts : Leases → (client number : ℕ) → LeaseKind → ((ℕ × ℕ) × Lease) → Bool
 conflicts leases client number kind row =
     (row.0.1 == number) && not (row.0.0 == client) && is_live leases.moment row.1 && (is_write kind || is_write row.1.kind)
+
+-- the client has this lease on the node, and it is live
+abbrev pub HasLive : Leases → (client number : ℕ) → Lease → Type 0
+HasLive leases client number lease = (get leases.rows (client, number) ≡ Some lease) × IsTrue (is_live leases.moment lease)
+
+-- no two live leases conflict: one that stands beside another client's on its node is for reading
+abbrev pub AreCompatible : Leases → Type 0
+AreCompatible leases = (client other number : ℕ) (one two : Lease) → client ≢ other → HasLive leases client number one → HasLive leases other number two → one.kind ≡ ReadLease
 
 -- the least client in conflict: the rows stand in the order of their clients
 abbrev pub in_conflict : Leases → (client number : ℕ) → LeaseKind → Option ((ℕ × ℕ) × Lease)

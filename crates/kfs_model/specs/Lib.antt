@@ -15,6 +15,7 @@ pub mod Allowed
 pub mod PlanRow
 pub mod Plan
 pub mod PlanCut
+pub mod FirstAnswer
 pub mod FirstWrong
 pub mod SeenAfter
 pub mod CleanStep

@@ -45,6 +45,14 @@ edits_plan first last = plan [] (file_row 5 13 ∷ []) (first ∷ log_piece 5 3 
 abbrev pub edits_plan_without_node : Plan
 edits_plan_without_node = plan [] [] (first_piece 1 ∷ log_piece 5 3 1 1 0 ∷ zero_piece 5 4 8 ∷ last_piece ∷ [])
 
+-- without the piece of byte 3
+abbrev pub edits_plan_with_gap : Plan
+edits_plan_with_gap = plan [] (file_row 5 13 ∷ []) (first_piece 1 ∷ zero_piece 5 4 8 ∷ last_piece ∷ [])
+
+-- a byte of the zero piece once more
+abbrev pub zero_again : List Piece
+zero_again = zero_piece 5 11 1 ∷ last_piece ∷ []
+
 -- no bytes behind the end
 abbrev pub nothing_written : List Entry
 nothing_written = Write 5 100 [] ∷ []

@@ -5,7 +5,7 @@ ghost use Rattle.kfs_model.specs.Check.{NameTaken, NoWrite, TooBig};
 ghost use Rattle.kfs_model.specs.FirstWrong.{Names, Nodes, Pieces};
 ghost use Rattle.kfs_model.specs.Judgement.{Accepted, NoRoom, Refused, AtRow};
 ghost use Rattle.kfs_model.specs.Example.{Replies, Leaves, refused_at, held_by_7, with_file, tree, root, no_plan};
-ghost use Rattle.kfs_model.specs.Example.FileCases.{empty_state, file_state, create_a, create_a_plan, letters, edits, edited, first_piece, last_piece, edits_plan, edits_plan_without_node, nothing_written, passing_file, read_only_file, read_only_plan, read_only_tree, write_x, two_blocks, two_blocks_plan, with_room, write_at_limit};
+ghost use Rattle.kfs_model.specs.Example.FileCases.{empty_state, file_state, create_a, create_a_plan, letters, edits, edited, first_piece, last_piece, edits_plan, edits_plan_without_node, edits_plan_with_gap, zero_again, nothing_written, passing_file, read_only_file, read_only_plan, read_only_tree, write_x, two_blocks, two_blocks_plan, with_room, write_at_limit};
 
 /// Client 7 creates file 5 at "/a" in an empty tree, with its right plan; the same again finds the name taken.
 #[tactic(auto, unfolding(crate::specs::Example::computing))]
@@ -17,13 +17,16 @@ pub fn create_in_the_root()
 {}
 
 /// File 5 holds ABCDEFGHIJ. The log writes twice into one place, cuts the file to 4 bytes, lengthens it to 8 and writes
-/// behind its end. A plan is wrong without its last piece, with a first piece that takes the byte of the second, and
-/// without its row for the node.
+/// behind its end. A plan is wrong without its last piece, where three pieces miss a byte; without its second, at the piece
+/// behind the missed byte; at a piece that begins before the one above it ends; with a first piece that takes the byte of
+/// the second; and without its row for the node.
 #[tactic(auto, unfolding(crate::specs::Example::computing))]
 pub fn overlapping_writes()
     ensures accepted { Replies (file_state letters) 7 edits (edits_plan (first_piece 1) (last_piece ∷ [])) (Accepted 1) }
     ensures shows { Leaves (file_state letters) 7 edits (edits_plan (first_piece 1) (last_piece ∷ [])) (with_file edited) }
     ensures without_last { Replies (file_state letters) 7 edits (edits_plan (first_piece 1) []) (Refused (AtRow (Pieces 3))) }
+    ensures without_second { Replies (file_state letters) 7 edits edits_plan_with_gap (Refused (AtRow (Pieces 1))) }
+    ensures byte_again { Replies (file_state letters) 7 edits (edits_plan (first_piece 1) zero_again) (Refused (AtRow (Pieces 3))) }
     ensures first_too_long { Replies (file_state letters) 7 edits (edits_plan (first_piece 2) (last_piece ∷ [])) (Refused (AtRow (Pieces 0))) }
     ensures without_node { Replies (file_state letters) 7 edits edits_plan_without_node (Refused (AtRow (Nodes 0))) }
 {}

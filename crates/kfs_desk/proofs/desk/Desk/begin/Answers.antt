@@ -1,18 +1,25 @@
--- There is no lease yet.
-use Rattle.std.proofs.Common.{◌≡◌, ℕ, true, is_some, sym, ap, subst, ◌∙◌, arith}
-use Rattle.std.proofs.lemmas.Bool.{false≢true}
-use Rattle.kfs_model.specs.Table.{get}
-use Rattle.kfs_model.specs.Lease.{Leases, no_leases}
+-- There is no lease yet, and the image's tree is sound.
+use Rattle.std.proofs.Common.{◌≡◌, List, sym, ap, subst, ◌∙◌, arith}
+use Rattle.std.specs.List.{AllByRecursion}
+use Rattle.kfs_model.specs.Access.{Client}
+use Rattle.kfs_model.specs.CleanStep.{IsClient}
+use Rattle.kfs_model.specs.Lease.{no_leases}
+use Rattle.kfs_model.specs.Order.{IsInOrder}
+use Rattle.kfs_model.proofs.OrderKept.{opens_in_order}
+use Rattle.kfs_image.specs.ShownTree.{tree_of}
 use Rattle.kfs_mode.specs.Clients.{AreDistinct}
+use Rattle.kfs_desk.specs.Machine.{state_at}
 use Rattle.kfs_desk.proofs.desk.Desk.begin.Goals as goal
 
-no_lease : (leases : Leases) (key : ℕ × ℕ) → leases ≡ no_leases → is_some (get leases.rows key) ≡ true → ⊥
-unfolding get
-no_lease leases key is some = false≢true (sym (ap (λ (l : Leases). is_some (get l.rows key)) is) ∙ some)
-
 pub invariant_of-result : goal.invariant_of-result
-invariant_of-result g c = record {
-  within_limit = omega arith;
-  distinct = subst AreDistinct (c.deref.ensures.value ∙ ap (λ v. v.items) (sym c.in-Ok-new.ensures.ok)) c.in_default.ensures.distinct;
-  on_nodes = λ client number leased. absurd (no_lease c.in-Ok.leases.value (client, number) (c.in-Ok.ensures.ok ∙ c.new.ensures) leased);
-}
+invariant_of-result g c =
+    let image = c.args.image in
+    let leases : c.in-Ok.leases.value ≡ no_leases = c.in-Ok.ensures.ok ∙ c.new.ensures in
+    let clients = c.deref.ensures.value ∙ ap (λ v. v.items) (sym c.in-Ok-new.ensures.ok) in
+    let distinct = subst AreDistinct clients c.in_default.ensures.distinct in
+    let in_range = subst (λ (rows : List Client). AllByRecursion IsClient rows) clients c.in_default.ensures.in_range in
+    record {
+      within_limit = omega arith;
+      in_order = subst (λ held. IsInOrder (state_at image c.in-Ok-new.clients.value.items held)) (sym leases)
+          (opens_in_order c.in-Ok-new.clients.value.items image.sizes (tree_of image.contents) distinct in_range c.shape-shape.ensures.lawful.sound);
+    }

@@ -2,12 +2,12 @@
 use Rattle.std.proofs.Common.{ap, ◌+◌, ◌≤◌, sym, subst, arith}
 use Rattle.kfs_judge.specs.Judging.{submission_of}
 use Rattle.kfs_desk.specs.Landing.{answer_at}
-use Rattle.kfs_desk.specs.Machine.{Desk, Parts, IsInOrder, IsAnswered, shown}
+use Rattle.kfs_desk.specs.Machine.{Desk, Parts, IsDesk, IsAnswered, shown}
 use Rattle.kfs_desk.proofs.Landing.{can_land, lands_as_said, lands_in_order}
 use Rattle.kfs_desk.proofs.desk.Desk.submit.Goals as goal
 
 pub judged-requires : goal.judged-requires
-judged-requires g c = record { distinct = c.self.invariant.distinct }
+judged-requires g c = record { distinct = c.self.invariant.in_order.distinct }
 
 pub land-requires : goal.land-requires
 land-requires g c =
@@ -23,7 +23,7 @@ invariant_of-self-2 g c =
     let is_rows = ap (λ (d : Desk). d.rows) c.self.view_is in
     let is_limit = ap (λ (d : Desk). d.limit) c.self.view_is in
     let within : inside.rows + 1 ≤ inside.limit = omega arith in
-    subst (λ image. IsInOrder (record desk { image = image; rows = inside.rows + 1 })) (sym c.in_ok-reply.ensures.ok)
+    subst (λ image. IsDesk (record desk { image = image; rows = inside.rows + 1 })) (sym c.in_ok-reply.ensures.ok)
     (lands_in_order desk c.self.invariant c.judged.ensures.lawful (submission_of c.args.submission) c.in_ok-judged.judged.outcome c.in_ok-judged.ensures.verdict (inside.rows + 1) within)
 
 pub returns-clause-answered : goal.returns-clause-answered
