@@ -3,8 +3,8 @@ use Rattle.std.proofs.Common.{◌≡◌, ℕ, ◌+◌, ◌<◌, ◌≤◌, ◌==
 use Rattle.std.specs.List.{onto_first, position_or_len}
 use Rattle.std.proofs.lemmas.List.Splits.{slice_split_first}
 use Rattle.std.proofs.lemmas.Bool.Decides.{nat_tests}
-use Rattle.kfs_engine.specs.Cut.{cut}
-use Rattle.kfs_engine.specs.Reading.{ended}
+use Rattle.kfs_text.specs.Cut.{cut}
+use Rattle.kfs_text.specs.Reading.{ended}
 
 -- the parts with one more byte before them, which may be a mark
 abbrev pub with_byte : (is_mark : Bool) → ℕ → List (List ℕ) → List (List ℕ)

@@ -1,9 +1,9 @@
 -- The first word of a text stands before its first space.
 use Rattle.std.proofs.Common.{◌∙◌, ◌∷◌, ◌+◌, ap, sym, take}
 use Rattle.std.proofs.lemmas.List.{take_rest}
-use Rattle.kfs_engine.specs.Cut.{cut, space}
-use Rattle.kfs_engine.proofs.WordsCut.{cut_at, uncut}
-use Rattle.kfs_engine.proofs.words.first_part.Goals as goal
+use Rattle.kfs_text.specs.Cut.{cut, space}
+use Rattle.kfs_text.proofs.WordsCut.{cut_at, uncut}
+use Rattle.kfs_text.proofs.words.first_part.Goals as goal
 
 pub returns-in-Some : goal.returns-in-Some
 returns-in-Some c =

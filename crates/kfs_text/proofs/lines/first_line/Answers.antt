@@ -1,10 +1,10 @@
 use Rattle.std.proofs.Common.{◌≡◌, ◌+◌, ◌==◌, ◌∷◌, [], MatchOption, drop, rules, take, tests}
 use Rattle.std.proofs.lemmas.Iterator.{YieldsList-from_slice}
 use Rattle.std.proofs.lemmas.Iterator.Search.{position_from_yields_List}
-use Rattle.kfs_engine.specs.Cut.{cut, line_end}
-use Rattle.kfs_engine.proofs.Cuts.{cut-found, slice-back}
-use Rattle.kfs_engine.proofs.conversation.first_line.Goals as goal
-use Rattle.kfs_engine.proofs.conversation.first_line.Goals.{After-position}
+use Rattle.kfs_text.specs.Cut.{cut, line_end}
+use Rattle.kfs_text.proofs.Cuts.{cut-found, slice-back}
+use Rattle.kfs_text.proofs.lines.first_line.Goals as goal
+use Rattle.kfs_text.proofs.lines.first_line.Goals.{After-position}
 
 cut-at_place : (c : After-position)
     → MatchOption c.position.result (cut line_end c.args.bytes.now ≡ c.args.bytes.now ∷ []) (λ place. cut line_end c.args.bytes.now ≡ take place c.args.bytes.now ∷ cut line_end (drop (place + 1) c.args.bytes.now))

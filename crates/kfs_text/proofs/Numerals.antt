@@ -8,7 +8,7 @@ use Rattle.std.proofs.lemmas.Bool.{and_parts}
 use Rattle.std.proofs.lemmas.Bool.Decides.{nat_tests}
 use Rattle.std.proofs.lemmas.Str.{IsUtf8-from_ascii}
 use Rattle.std.proofs.lemmas.Str.Parse.{IsDigitsTest, IsNumeralModel, numerals_by_value, parse_digits}
-use Rattle.kfs_engine.specs.Command.{is_digit, number_within}
+use Rattle.kfs_text.specs.Decimals.{is_digit, decimal_within}
 
 digits_test : IsDigitsTest (λ ds. list_all is_digit ds ≡ true)
 digits_test = search rules
@@ -30,7 +30,7 @@ digits_are_utf8 word are = IsUtf8-from_ascii word (digits_are_ascii word are)
 no_number : (most len n : ℕ) (are : Bool) → most < 2 ^ 64 → (0 < len → n < 2 ^ 64 → ⊥) → (if nat_lt 0 len && (are && nat_le n most) then Some n else None) ≡ None
 no_number most len n are fits never = grind (arith, nat_tests)
 
-pub unparsed : {E : Type 0} (most : ℕ) (word : List ℕ) (e : E) → most < 2 ^ 64 → list_all is_digit word ≡ true → ParsesUnsigned 64 10 word (Err e) → number_within most word ≡ None
+pub unparsed : {E : Type 0} (most : ℕ) (word : List ℕ) (e : E) → most < 2 ^ 64 → list_all is_digit word ≡ true → ParsesUnsigned 64 10 word (Err e) → decimal_within most word ≡ None
 unparsed most word e fits are parses =
     let never : (0 < length word) × (digits_value 10 word < 2 ^ 64) → ⊥ = parse_digits numerals 64 word (Err e) parses are in
     no_number most (length word) (digits_value 10 word) (list_all is_digit word) fits (λ some small. never (some, small))

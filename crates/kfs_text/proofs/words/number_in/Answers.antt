@@ -1,7 +1,7 @@
 -- A word of digits alone is text, and is refused only where its number is too large.
 use Rattle.std.proofs.Common.{◌<◌, ◌^◌, sym, ◌∙◌, arith}
-use Rattle.kfs_engine.proofs.Numerals.{digits_are_utf8, unparsed}
-use Rattle.kfs_engine.proofs.words.number_in.Goals as goal
+use Rattle.kfs_text.proofs.Numerals.{digits_are_utf8, unparsed}
+use Rattle.kfs_text.proofs.words.number_in.Goals as goal
 
 pub returns-in_default : goal.returns-in_default
 returns-in_default c =

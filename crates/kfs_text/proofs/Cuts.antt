@@ -1,8 +1,8 @@
 -- How bytes are cut that come in pieces.
 use Rattle.std.proofs.Common.{◌≡◌, ℕ, ◌+◌, ◌-◌, ◌==◌, Bool, true, false, List, [], ◌∷◌, ◌++◌, length, take, drop, refl, sym, ap, MatchOption, Option, Some, None, arith, length-drop, position, take_all}
 use Rattle.std.specs.List.{onto_first}
-use Rattle.kfs_engine.specs.Cut.{cut}
-use Rattle.kfs_engine.proofs.WordsCut.{cut_at, uncut, with_byte}
+use Rattle.kfs_text.specs.Cut.{cut}
+use Rattle.kfs_text.proofs.WordsCut.{cut_at, uncut, with_byte}
 
 -- ---- there is a first part
 

@@ -1,7 +1,7 @@
 use Rattle.std.proofs.Common.{◌≡◌, ◌++◌, take, drop, ap, sym, ◌∙◌, append_assoc, take-append-drop}
 use Rattle.std.proofs.KnownBytes.{Appends-trans}
-use Rattle.kfs_engine.proofs.Cuts.{slice-back}
-use Rattle.kfs_engine.proofs.writing.write_whole.Goals as goal
+use Rattle.kfs_text.proofs.Cuts.{slice-back}
+use Rattle.kfs_text.proofs.writing.write_whole.Goals as goal
 
 pub writes-preserved : goal.writes-preserved
 writes-preserved g c =

@@ -2,10 +2,9 @@
 
 ghost use Rattle.std.specs.Prelude.{◌≡◌, ◌==◌, ◌≤◌, [], ◌∷◌, ◌++◌, Some, option_map, position, take, IfOk};
 ghost use Rattle.std.specs.List.{list_all};
-ghost use Rattle.kfs_engine.specs.Command.{bytes_of, is_digit, number_within, number32, number64, numbers32};
-ghost use Rattle.kfs_engine.specs.Cut.{cut, space};
-ghost use Rattle.kfs_engine.specs.Reading.{IsRead, ended, first_by, only};
-ghost use Rattle.kfs_engine.specs.Views.{left_of};
+ghost use Rattle.kfs_text.specs.Cut.{cut, space};
+ghost use Rattle.kfs_text.specs.Decimals.{decimal32, decimal64, decimal_within, decimals32, hexadecimal, is_digit};
+ghost use Rattle.kfs_text.specs.Reading.{ReadsAs, ended, first_by, only, words_left};
 
 use arrayvec::ArrayVec;
 use std::alloc::{AllocError, AllocFailed, Allocator};
@@ -20,7 +19,7 @@ pub enum Refusal {
 }
 
 impl From<AllocError> for Refusal {
-    ghost use Rattle.kfs_engine.specs.declared.words.Refusal.TheVariants.{OutOfMemory};
+    ghost use Rattle.kfs_text.specs.declared.words.Refusal.TheVariants.{OutOfMemory};
     ghost use Rattle.std.specs.Prelude.{◌≡◌};
 
     ghost from_gives = { λ _ refusal. refusal ≡ OutOfMemory };
@@ -31,7 +30,7 @@ impl From<AllocError> for Refusal {
 }
 
 impl<T: Drop> From<AllocFailed<T>> for Refusal {
-    ghost use Rattle.kfs_engine.specs.declared.words.Refusal.TheVariants.{OutOfMemory};
+    ghost use Rattle.kfs_text.specs.declared.words.Refusal.TheVariants.{OutOfMemory};
     ghost use Rattle.std.specs.Prelude.{◌≡◌};
 
     ghost from_gives = { λ _ refusal. refusal ≡ OutOfMemory };
@@ -51,7 +50,7 @@ pub struct Words<'a> {
 impl<'a> Words<'a> {
     /// All words of `line`, which comes without its end.
     pub fn new(line: &'a [u8]) -> Words<'a>
-        ensures { left_of result ≡ cut space line.now }
+        ensures { words_left result ≡ cut space line.now }
     {
         Words { rest: Some(line) }
     }
@@ -59,7 +58,7 @@ impl<'a> Words<'a> {
     /// The next word.
     #[tactic(auto, unfolding(crate::specs::Reading::first_by))]
     pub fn word(&mut self) -> Result<&'a [u8], Refusal>
-        ensures { IsRead (λ word. (word.now, left_of self.new)) (first_by (λ word. Some word) (left_of self.old)) result }
+        ensures { ReadsAs (λ word. (word.now, words_left self.new)) (first_by (λ word. Some word) (words_left self.old)) result }
     {
         let rest = self.rest.ok_or(Refusal::BadLine)?;
         let (word, behind) = first_part(rest);
@@ -75,28 +74,28 @@ impl<'a> Words<'a> {
     #[tactic(auto, unfolding(crate::specs::Reading::first_by))]
     pub fn number(&mut self, most: u64) -> Result<u64, Refusal>
         ensures range { IfOk result (λ n. n ≤ most) }
-        ensures read { IsRead (λ n. (n, left_of self.new)) (first_by (number_within most) (left_of self.old)) result }
+        ensures read { ReadsAs (λ n. (n, words_left self.new)) (first_by (decimal_within most) (words_left self.old)) result }
     {
         number_in(self.word()?, most).ok_or(Refusal::BadLine)
     }
 
     /// The next word as a decimal number of 32 bits.
     pub fn number32(&mut self) -> Result<u32, Refusal>
-        ensures { IsRead (λ n. (n, left_of self.new)) (first_by number32 (left_of self.old)) result }
+        ensures { ReadsAs (λ n. (n, words_left self.new)) (first_by decimal32 (words_left self.old)) result }
     {
         Ok(self.number(u64::from(u32::MAX))? as u32)
     }
 
     /// The next word as a decimal number of 64 bits.
     pub fn number64(&mut self) -> Result<u64, Refusal>
-        ensures { IsRead (λ n. (n, left_of self.new)) (first_by number64 (left_of self.old)) result }
+        ensures { ReadsAs (λ n. (n, words_left self.new)) (first_by decimal64 (words_left self.old)) result }
     {
         self.number(u64::MAX)
     }
 
     /// The only word that is left as a decimal number of 32 bits.
     pub fn only_number32(&mut self) -> Result<u32, Refusal>
-        ensures { IsRead (λ n. n) (only number32 (left_of self.old)) result }
+        ensures { ReadsAs (λ n. n) (only decimal32 (words_left self.old)) result }
     {
         let number = self.number32()?;
         self.end()?;
@@ -105,7 +104,7 @@ impl<'a> Words<'a> {
 
     /// The only word that is left as a decimal number of 64 bits.
     pub fn only_number64(&mut self) -> Result<u64, Refusal>
-        ensures { IsRead (λ n. n) (only number64 (left_of self.old)) result }
+        ensures { ReadsAs (λ n. n) (only decimal64 (words_left self.old)) result }
     {
         let number = self.number64()?;
         self.end()?;
@@ -114,7 +113,7 @@ impl<'a> Words<'a> {
 
     /// All words that are left as decimal numbers. The first `N` are kept.
     pub fn numbers<const N: usize>(&mut self) -> Result<ArrayVec<u32, N>, Refusal>
-        ensures { IsRead (λ numbers. numbers.items) (option_map (λ ns. take N ns) (numbers32 (left_of self.old))) result }
+        ensures { ReadsAs (λ numbers. numbers.items) (option_map (λ ns. take N ns) (decimals32 (words_left self.old))) result }
     {
         let mut numbers = ArrayVec::new();
         while self.rest.is_some() {
@@ -126,7 +125,7 @@ impl<'a> Words<'a> {
     /// The next word as hexadecimal text, in either case; `-` stands for no bytes.
     #[tactic(auto, unfolding(crate::specs::Reading::first_by))]
     pub fn bytes<A: Allocator>(&mut self, alloc: A) -> Result<Vec<u8, A>, Refusal>
-        ensures { IsRead (λ bytes. (bytes.items, left_of self.new)) (first_by bytes_of (left_of self.old)) result }
+        ensures { ReadsAs (λ bytes. (bytes.items, words_left self.new)) (first_by hexadecimal (words_left self.old)) result }
     {
         bytes_in(alloc, self.word()?)
     }
@@ -134,7 +133,7 @@ impl<'a> Words<'a> {
     /// No word is left.
     #[tactic(auto, using(crate::proofs::WordsCut::cut_not_ended), unfolding(crate::specs::Reading::ended))]
     pub fn end(&self) -> Result<(), Refusal>
-        ensures { IsRead (λ done. done) (ended (left_of self.now)) result }
+        ensures { ReadsAs (λ done. done) (ended (words_left self.now)) result }
     {
         match self.rest {
             Some(_) => Err(Refusal::BadLine),
@@ -145,7 +144,7 @@ impl<'a> Words<'a> {
 
 /// What stands before the first space of the text, and what behind it where there is one.
 fn first_part(text: &[u8]) -> (&[u8], Option<&[u8]>)
-    ensures { cut space text.now ≡ result.0.now ∷ left_of (record { rest = result.1 }) }
+    ensures { cut space text.now ≡ result.0.now ∷ words_left (record { rest = result.1 }) }
 {
     match first_space(text) {
         Some(place) => (&text[..place], Some(&text[place + 1..])),
@@ -161,7 +160,7 @@ fn first_space(text: &[u8]) -> Option<usize>
 
 /// The word as a decimal number that is at most `most`.
 fn number_in(word: &[u8], most: u64) -> Option<u64>
-    ensures { result ≡ number_within most word.now }
+    ensures { result ≡ decimal_within most word.now }
 {
     if !are_digits(word) {
         return None;
@@ -190,7 +189,7 @@ fn keep<const N: usize>(numbers: &mut ArrayVec<u32, N>, number: u32)
 
 /// The word as hexadecimal text, in either case; `-` stands for no bytes.
 fn bytes_in<A: Allocator>(alloc: A, word: &[u8]) -> Result<Vec<u8, A>, Refusal>
-    ensures { IsRead (λ bytes. bytes.items) (bytes_of word.now) result }
+    ensures { ReadsAs (λ bytes. bytes.items) (hexadecimal word.now) result }
 {
     if word == b"-".as_slice() {
         return Ok(Vec::new(alloc));

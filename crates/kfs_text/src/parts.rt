@@ -1,7 +1,7 @@
 //! The parts that a line is made of. The caller has made room for them.
 ghost use Rattle.std.specs.Prelude.{◌≡◌, ◌+◌, ◌≤◌, ◌++◌, length, decimal};
-ghost use Rattle.kfs_desk.specs.Room.{spare_of};
-ghost use Rattle.kfs_engine.specs.Text.{octal_text, field_text, flag_text, numbered_text};
+ghost use Rattle.kfs_value.specs.Room.{spare_of};
+ghost use Rattle.kfs_text.specs.Parts.{field_text, flag_text, numbered_text, octal_text};
 
 use itoa::Buffer;
 use std::alloc::Allocator;
