@@ -1,8 +1,5 @@
 //! Logs and plans beside the bytes that spell them, from the description of the formats.
 
-use kfs_entry::Name;
-use std::test::Fail;
-
 /// Client 7 creates file 5 named "a" in the root, with mode 0o644.
 pub const CREATE_LOG: &[u8] = b"KLOG\x01\0\0\0\x07\0\x01\x01\0\0\0\x01\x01a\0\0\0\x05\0\x01\xa4";
 
@@ -43,8 +40,3 @@ pub const EMPTY_LOG: &[u8] = b"KLOG\x01\0\0\0\x07\0\0";
 
 /// No row.
 pub const EMPTY_PLAN: &[u8] = b"KPLN\x01\0\0\0\0\0\0\0\0";
-
-/// The name with these bytes.
-pub fn name(bytes: &[u8]) -> Result<Name, Fail> {
-    Ok(Name::new(bytes).ok_or("a name")?)
-}

@@ -1,12 +1,12 @@
 //! A view from before a submission, and submissions one after another.
 
-use crate::codec::vectors::{CREATE_LOG, CREATE_PLAN, name};
 use crate::desks::{opening, shows, submission, submit, yes};
 use kfs_desk::Desk;
 use kfs_desk::answers::Reply;
 use kfs_image::Name;
 use kfs_judge::plan::{Back, Fault, Submission, Why};
 use kfs_judge::{EntryFault, Reason};
+use kfs_tests::vectors::{CREATE_LOG, CREATE_PLAN};
 use std::alloc::{AllocError, Global};
 use std::process::Abort;
 use std::test::Fail;
@@ -48,7 +48,7 @@ fn expect_created(rt: &(impl Abort + AllocGlobal), desk: &mut Desk<Global>, name
 
 #[test]
 fn a_view_from_before_a_create(rt: HostRuntime) -> Result<(), Fail> {
-    let name = name(b"a")?;
+    let name = Name::new(b"a").ok_or("a name")?;
     let mut desk = opening(rt.alloc(), 100).ok_or("an opening")?;
     let before = desk.image().shape().clone()?;
     expect_created(&rt, &mut desk, &name);

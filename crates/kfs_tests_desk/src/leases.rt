@@ -2,12 +2,12 @@
 //! here have uid and gid 1000, as all nodes below the root.
 
 use crate::desks::{AMPLE, opening, submission, submit, yes};
-use crate::refusing::Refusing;
 use kfs_desk::Desk;
 use kfs_image::Shape;
 use kfs_lease::LeaseKind::{Read, Write};
 use kfs_lease::{LeaseFault, LeaseKind, Leases};
 use kfs_mode::Client;
+use kfs_tests::refusing::Refusing;
 use std::alloc::Allocator;
 use std::process::Abort;
 use std::test::Fail;

@@ -1,12 +1,12 @@
 //! Submissions: as many Creates as a log may have, and a Create and a Chmod with each growth refused.
 
-use crate::codec::vectors::{CREATE_LOG, CREATE_PLAN, name};
 use crate::desks::{AMPLE, is_leased, opening, shows, submission, submit, yes};
-use crate::refusing::Refusing;
 use kfs_desk::Desk;
 use kfs_desk::answers::Reply;
-use kfs_image::{Answer, Cell, look};
+use kfs_image::{Answer, Cell, Name, look};
 use kfs_judge::plan::{Submission, Why};
+use kfs_tests::refusing::Refusing;
+use kfs_tests::vectors::{CREATE_LOG, CREATE_PLAN};
 use std::alloc::{AllocError, Allocator, Global};
 use std::process::Abort;
 use std::test::Fail;
@@ -106,7 +106,7 @@ fn are_created(
 
 #[test]
 fn as_many_as_a_log_may_have(rt: HostRuntime) -> Result<(), Fail> {
-    let cell = Cell::Name(1, name(&letters(4_097))?);
+    let cell = Cell::Name(1, Name::new(&letters(4_097)).ok_or("a name")?);
     let answer = Answer::Name(Some(4_097));
     assert!(rt; are_created(rt.alloc(), false, 4_096, &cell, answer) == Some(true));
     let cell = Cell::Parent(4_097);
