@@ -2,4 +2,3 @@ pub mod Docket
 pub mod Landing
 pub mod Machine
 pub mod Opening
-pub mod Room

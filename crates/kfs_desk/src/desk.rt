@@ -16,7 +16,7 @@ ghost use Rattle.kfs_judge.specs.Judging.{HasOtherEntry, IsVerdict, submission_o
 ghost use Rattle.kfs_desk.specs.Landing.{CanLand, answer_at, image_after};
 ghost use Rattle.kfs_desk.specs.Machine.{IsActed, IsAnswered, IsBackFor, IsChange, IsImageOf, RunsThrough, call_of, done_by, number_of, outcome_at, state_at};
 ghost use Rattle.kfs_desk.specs.Opening.{begin_fault, do_overlap, fault_behind};
-ghost use Rattle.kfs_desk.specs.Room.{spare_of};
+ghost use Rattle.kfs_value.specs.Room.{spare_of};
 
 use crate::answers::{
     Act, ActReply, BeginBack, BeginFault, Done, Reply, SubmissionsBack, Unanswered,

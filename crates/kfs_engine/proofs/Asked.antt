@@ -5,8 +5,8 @@ use Rattle.kfs_engine.specs.Command.{Command, IsBadLine}
 use Rattle.kfs_engine.specs.Reading.{IsAsked}
 use Rattle.kfs_engine.specs.Views.{asked_of}
 use Rattle.kfs_engine.specs.declared.command.Command.{Command as CodeCommand}
-use Rattle.kfs_engine.specs.declared.words.Refusal.{Refusal}
-use Rattle.kfs_engine.specs.declared.words.Refusal.TheVariants.{BadLine}
+use Rattle.kfs_text.specs.declared.words.Refusal.{Refusal}
+use Rattle.kfs_text.specs.declared.words.Refusal.TheVariants.{BadLine}
 
 pub asked_ok : (A : Type 0) (asked : Option Command) (r : Result (CodeCommand A) Refusal) → IsAsked {A = A} asked r → IfOk r (λ command. asked ≡ Some (asked_of {A = A} command))
 asked_ok A asked (Ok command) is = is.0

@@ -2,14 +2,14 @@
 use Rattle.std.proofs.Common.{◌≡◌, ◌≢◌, ℕ, List, [], ◌∷◌, ◌++◌, refl, sym, ap, ◌∙◌, append_assoc, append-nil, subst, Result, Ok, Err, IfErr, MatchResult, arith}
 use Rattle.std.specs.List.{AllByRecursion}
 use Rattle.kfs_engine.specs.Conversation.{IsSession, IsShort}
-use Rattle.kfs_engine.specs.Cut.{cut, line_end, lines_in, lines_of}
+use Rattle.kfs_text.specs.Cut.{cut, line_end, lines_in, lines_of}
 use Rattle.kfs_engine.specs.Progress.{IsStopped, IsTaken, Stands}
 use Rattle.kfs_engine.specs.Session.{Answers, Runs, Stage, fresh}
 use Rattle.kfs_engine.specs.Views.{stage_of}
 use Rattle.kfs_engine.specs.declared.conversation.Conversation.{Conversation}
 use Rattle.kfs_engine.specs.declared.fault.EngineFault.{EngineFault}
 use Rattle.kfs_engine.specs.declared.fault.EngineFault.TheVariants.{ReadFault, WriteFault, LongLine, OutOfMemory}
-use Rattle.kfs_engine.proofs.Cuts.{cut-joined, cut-more, cut-some}
+use Rattle.kfs_text.proofs.Cuts.{cut-joined, cut-more, cut-some}
 
 -- one more line
 pub Runs-more : (s : Stage) (lines : List (List ℕ)) (text : List ℕ) (mid : Stage) (line reply : List ℕ) (next : Stage)

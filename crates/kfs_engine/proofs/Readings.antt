@@ -1,62 +1,15 @@
 -- A command's words are read one by one.
-use Rattle.std.proofs.Common.{◌≡◌, ℕ, nat_lt, ◌==◌, Bool, true, false, ◌&&◌, List, [], ◌∷◌, length, take, Option, Some, None, option_map, refl, sym, ap, ◌∙◌, if◌then◌else◌}
+use Rattle.std.proofs.Common.{◌≡◌, ℕ, nat_lt, ◌==◌, ◌&&◌, List, [], ◌∷◌, length, take, Option, Some, None, option_map, refl, sym, ap, ◌∙◌, if◌then◌else◌}
 use Rattle.kfs_judge.specs.Judging.{submission_with}
 use Rattle.kfs_model.specs.Steps.{◌>>=◌}
-use Rattle.kfs_engine.specs.Command.{Command, Opening, Desk, Row, Begin, Lease, Drop, Tick, Submit, Node, Names, are_words, bytes_of, client_of, client_row, drop_of, kind_named, command_of, asked_in, asked_by, lease_of, new_of, number_within, number32, number64, numbers32, submit_of, with_number}
-use Rattle.kfs_engine.specs.Reading.{begin_of, checked, command_named, ended, first_by, names_of, node_of, only, tick_of}
-use Rattle.kfs_engine.specs.Cut.{cut, space}
+use Rattle.kfs_engine.specs.Command.{Command, Opening, Desk, Row, Begin, Lease, Drop, Tick, Submit, Node, Names, asked_by, asked_in, client_of, client_row, command_of, drop_of, kind_named, lease_of, new_of, submit_of, with_number}
+use Rattle.kfs_engine.specs.Reading.{begin_of, command_named, listing_of, node_of, tick_of}
+use Rattle.kfs_text.specs.Cut.{cut, space}
+use Rattle.kfs_text.specs.Decimals.{decimal32, decimal64, decimal_within, decimals32, hexadecimal}
+use Rattle.kfs_text.specs.Reading.{are_words, checked, ended, first_by, only}
 use Rattle.kfs_engine.specs.declared.command.Name.{Name}
-use Rattle.kfs_engine.proofs.NumbersRead.{empty_numbers}
+use Rattle.kfs_text.proofs.WordByWord.{bind_all, bind_none, checked_decimals, checked_nothing, checked_same, checked_then, decimals_then, first_if, if_none, map_bind, nothing_if, nothing_then, word_then}
 use Rattle.kfs_engine.proofs.Rows.{sizes_by, new_by_sizes, kept_groups}
-
-module _ {T : Type 0} where
-  if_none : (b : Bool) (o : Option T) → o ≡ None → (if b then o else None) ≡ None
-  if_none true o is = is
-  if_none false o is = refl
-
-module _ {X T : Type 0} where
-  bind_all : (o : Option X) (f g : X → Option T) → ((x : X) → f x ≡ g x) → (o >>= f) ≡ (o >>= g)
-  bind_all None f g same = refl
-  bind_all (Some x) f g same = same x
-
-  bind_none : (o : Option X) (f : X → Option T) → ((x : X) → f x ≡ None) → None ≡ (o >>= f)
-  bind_none None f none = refl
-  bind_none (Some x) f none = sym (none x)
-
-  -- a reading of the first word, and then of the others
-  word_then : (List ℕ → Option X) → (X → List (List ℕ) → Option T) → List (List ℕ) → Option T
-  word_then read next [] = None
-  word_then read next (word ∷ words) = read word >>= λ x. next x words
-
-  checked_bind : (some : Bool) (words : List (List ℕ)) (o : Option X) (next : X → List (List ℕ) → Option T)
-      → (if some && are_words words then (o >>= λ x. next x words) else None) ≡ ((if some then option_map {U = X × List (List ℕ)} (λ x. (x, words)) o else None) >>= λ x. checked (next x.0) x.1)
-  unfolding checked
-  checked_bind false words o next = refl
-  checked_bind true words None next = if_none (are_words words) None refl
-  checked_bind true words (Some x) next = refl
-
-  checked_then : (read : List ℕ → Option X) (next : X → List (List ℕ) → Option T) (words : List (List ℕ)) → checked (word_then read next) words ≡ (first_by read words >>= λ x. checked (next x.0) x.1)
-  unfolding checked first_by word_then
-  checked_then read next [] = refl
-  checked_then read next (word ∷ words) = checked_bind (nat_lt 0 (length word)) words (read word) next
-
-  map_bind : {U : Type 0} (o : Option X) (f : X → Option T) (g : T → U) → option_map g (o >>= f) ≡ (o >>= λ x. option_map g (f x))
-  map_bind None f g = refl
-  map_bind (Some x) f g = refl
-
-module _ {T : Type 0} where
-  -- nothing more is read
-  nothing_then : Option T → List (List ℕ) → Option T
-  nothing_then o words = ended words >>= λ done. o
-
-  checked_nothing : (o : Option T) (words : List (List ℕ)) → checked (nothing_then o) words ≡ (ended words >>= λ done. o)
-  unfolding checked ended nothing_then
-  checked_nothing o [] = refl
-  checked_nothing o (word ∷ words) = if_none (are_words (word ∷ words)) None refl
-
-  checked_same : (f g : List (List ℕ) → Option T) → ((words : List (List ℕ)) → f words ≡ g words) → (words : List (List ℕ)) → checked f words ≡ checked g words
-  unfolding checked
-  checked_same f g same words = ap (λ o. if are_words words then o else None) (same words)
 
 -- ---- one number
 
@@ -77,128 +30,116 @@ only_steps number command words =
     ∙ bind_all (first_by number words) _ _ (λ x. sym (map_bind (ended x.1) (λ done. Some x.0) command))
     ∙ sym (map_bind (first_by number words) (λ x. ended x.1 >>= λ done. Some x.0) command)
 
-pub begin_steps : (words : List (List ℕ)) → checked begin_of words ≡ option_map (λ limit. Opening (Begin limit)) (only number32 words)
+pub begin_steps : (words : List (List ℕ)) → checked begin_of words ≡ option_map (λ limit. Opening (Begin limit)) (only decimal32 words)
 unfolding begin_of
-begin_steps words = only_steps number32 (λ limit. Opening (Begin limit)) words
+begin_steps words = only_steps decimal32 (λ limit. Opening (Begin limit)) words
 
-pub tick_steps : (words : List (List ℕ)) → checked tick_of words ≡ option_map (λ moment. Desk (Tick moment)) (only number64 words)
+pub tick_steps : (words : List (List ℕ)) → checked tick_of words ≡ option_map (λ moment. Desk (Tick moment)) (only decimal64 words)
 unfolding tick_of
-tick_steps words = only_steps number64 (λ moment. Desk (Tick moment)) words
+tick_steps words = only_steps decimal64 (λ moment. Desk (Tick moment)) words
 
-pub node_steps : (words : List (List ℕ)) → checked node_of words ≡ option_map (λ number. Desk (Node number)) (only number32 words)
+pub node_steps : (words : List (List ℕ)) → checked node_of words ≡ option_map (λ number. Desk (Node number)) (only decimal32 words)
 unfolding node_of
-node_steps words = only_steps number32 (λ number. Desk (Node number)) words
+node_steps words = only_steps decimal32 (λ number. Desk (Node number)) words
 
-pub names_steps : (words : List (List ℕ)) → checked names_of words ≡ option_map (λ directory. Desk (Names directory)) (only number32 words)
-unfolding names_of
-names_steps words = only_steps number32 (λ directory. Desk (Names directory)) words
+pub listing_steps : (words : List (List ℕ)) → checked listing_of words ≡ option_map (λ directory. Desk (Names directory)) (only decimal32 words)
+unfolding listing_of
+listing_steps words = only_steps decimal32 (λ directory. Desk (Names directory)) words
 
 -- ---- new
 
-new_then : (words : List (List ℕ)) → new_of words ≡ word_then number32 (λ a. word_then number32 (λ b. word_then number32 (λ c. nothing_then (sizes_by a b c)))) words
+new_then : (words : List (List ℕ)) → new_of words ≡ word_then decimal32 (λ a. word_then decimal32 (λ b. word_then decimal32 (λ c. nothing_then (sizes_by a b c)))) words
 unfolding ended word_then nothing_then
 new_then [] = refl
-new_then (a ∷ []) = bind_none (number32 a) _ (λ x. refl)
-new_then (a ∷ b ∷ []) = bind_none (number32 a) _ (λ x. sym (bind_none (number32 b) _ (λ y. refl)))
+new_then (a ∷ []) = bind_none (decimal32 a) _ (λ x. refl)
+new_then (a ∷ b ∷ []) = bind_none (decimal32 a) _ (λ x. sym (bind_none (decimal32 b) _ (λ y. refl)))
 new_then (a ∷ b ∷ c ∷ []) = new_by_sizes a b c
-new_then (a ∷ b ∷ c ∷ d ∷ words) = bind_none (number32 a) _ (λ x. sym (bind_none (number32 b) _ (λ y. sym (bind_none (number32 c) _ (λ z. refl)))))
+new_then (a ∷ b ∷ c ∷ d ∷ words) = bind_none (decimal32 a) _ (λ x. sym (bind_none (decimal32 b) _ (λ y. sym (bind_none (decimal32 c) _ (λ z. refl)))))
 
-pub new_steps : (words : List (List ℕ)) → checked new_of words ≡ (first_by number32 words >>= λ x. first_by number32 x.1 >>= λ y. first_by number32 y.1 >>= λ z. ended z.1 >>= λ done. sizes_by x.0 y.0 z.0)
+pub new_steps : (words : List (List ℕ)) → checked new_of words ≡ (first_by decimal32 words >>= λ x. first_by decimal32 x.1 >>= λ y. first_by decimal32 y.1 >>= λ z. ended z.1 >>= λ done. sizes_by x.0 y.0 z.0)
 new_steps words =
-    checked_same _ _ new_then words ∙ checked_then number32 _ words
-    ∙ bind_all (first_by number32 words) _ _ (λ x. checked_then number32 _ x.1
-    ∙ bind_all (first_by number32 x.1) _ _ (λ y. checked_then number32 _ y.1
-    ∙ bind_all (first_by number32 y.1) _ _ (λ z. checked_nothing _ z.1)))
+    checked_same _ _ new_then words ∙ checked_then decimal32 _ words
+    ∙ bind_all (first_by decimal32 words) _ _ (λ x. checked_then decimal32 _ x.1
+    ∙ bind_all (first_by decimal32 x.1) _ _ (λ y. checked_then decimal32 _ y.1
+    ∙ bind_all (first_by decimal32 y.1) _ _ (λ z. checked_nothing _ z.1)))
 
 -- ---- drop
 
-drop_then : (words : List (List ℕ)) → drop_of words ≡ word_then number32 (λ a. word_then number32 (λ b. nothing_then (Some (Desk (Drop a b))))) words
+drop_then : (words : List (List ℕ)) → drop_of words ≡ word_then decimal32 (λ a. word_then decimal32 (λ b. nothing_then (Some (Desk (Drop a b))))) words
 unfolding ended word_then nothing_then
 drop_then [] = refl
-drop_then (a ∷ []) = bind_none (number32 a) _ (λ x. refl)
+drop_then (a ∷ []) = bind_none (decimal32 a) _ (λ x. refl)
 drop_then (a ∷ b ∷ []) = refl
-drop_then (a ∷ b ∷ c ∷ words) = bind_none (number32 a) _ (λ x. sym (bind_none (number32 b) _ (λ y. refl)))
+drop_then (a ∷ b ∷ c ∷ words) = bind_none (decimal32 a) _ (λ x. sym (bind_none (decimal32 b) _ (λ y. refl)))
 
-pub drop_steps : (words : List (List ℕ)) → checked drop_of words ≡ (first_by number32 words >>= λ x. first_by number32 x.1 >>= λ y. ended y.1 >>= λ done. Some (Desk (Drop x.0 y.0)))
+pub drop_steps : (words : List (List ℕ)) → checked drop_of words ≡ (first_by decimal32 words >>= λ x. first_by decimal32 x.1 >>= λ y. ended y.1 >>= λ done. Some (Desk (Drop x.0 y.0)))
 drop_steps words =
-    checked_same _ _ drop_then words ∙ checked_then number32 _ words
-    ∙ bind_all (first_by number32 words) _ _ (λ x. checked_then number32 _ x.1
-    ∙ bind_all (first_by number32 x.1) _ _ (λ y. checked_nothing _ y.1))
+    checked_same _ _ drop_then words ∙ checked_then decimal32 _ words
+    ∙ bind_all (first_by decimal32 words) _ _ (λ x. checked_then decimal32 _ x.1
+    ∙ bind_all (first_by decimal32 x.1) _ _ (λ y. checked_nothing _ y.1))
 
 -- ---- submit
 
-submit_then : (words : List (List ℕ)) → submit_of words ≡ word_then number32 (λ a. word_then bytes_of (λ b. word_then bytes_of (λ c. nothing_then (Some (Desk (Submit (submission_with a b c))))))) words
+submit_then : (words : List (List ℕ)) → submit_of words ≡ word_then decimal32 (λ a. word_then hexadecimal (λ b. word_then hexadecimal (λ c. nothing_then (Some (Desk (Submit (submission_with a b c))))))) words
 unfolding ended word_then nothing_then
 submit_then [] = refl
-submit_then (a ∷ []) = bind_none (number32 a) _ (λ x. refl)
-submit_then (a ∷ b ∷ []) = bind_none (number32 a) _ (λ x. sym (bind_none (bytes_of b) _ (λ y. refl)))
+submit_then (a ∷ []) = bind_none (decimal32 a) _ (λ x. refl)
+submit_then (a ∷ b ∷ []) = bind_none (decimal32 a) _ (λ x. sym (bind_none (hexadecimal b) _ (λ y. refl)))
 submit_then (a ∷ b ∷ c ∷ []) = refl
-submit_then (a ∷ b ∷ c ∷ d ∷ words) = bind_none (number32 a) _ (λ x. sym (bind_none (bytes_of b) _ (λ y. sym (bind_none (bytes_of c) _ (λ z. refl)))))
+submit_then (a ∷ b ∷ c ∷ d ∷ words) = bind_none (decimal32 a) _ (λ x. sym (bind_none (hexadecimal b) _ (λ y. sym (bind_none (hexadecimal c) _ (λ z. refl)))))
 
-pub submit_steps : (words : List (List ℕ)) → checked submit_of words ≡ (first_by number32 words >>= λ x. first_by bytes_of x.1 >>= λ y. first_by bytes_of y.1 >>= λ z. ended z.1 >>= λ done. Some (Desk (Submit (submission_with x.0 y.0 z.0))))
+pub submit_steps : (words : List (List ℕ)) → checked submit_of words ≡ (first_by decimal32 words >>= λ x. first_by hexadecimal x.1 >>= λ y. first_by hexadecimal y.1 >>= λ z. ended z.1 >>= λ done. Some (Desk (Submit (submission_with x.0 y.0 z.0))))
 submit_steps words =
-    checked_same _ _ submit_then words ∙ checked_then number32 _ words
-    ∙ bind_all (first_by number32 words) _ _ (λ x. checked_then bytes_of _ x.1
-    ∙ bind_all (first_by bytes_of x.1) _ _ (λ y. checked_then bytes_of _ y.1
-    ∙ bind_all (first_by bytes_of y.1) _ _ (λ z. checked_nothing _ z.1)))
+    checked_same _ _ submit_then words ∙ checked_then decimal32 _ words
+    ∙ bind_all (first_by decimal32 words) _ _ (λ x. checked_then hexadecimal _ x.1
+    ∙ bind_all (first_by hexadecimal x.1) _ _ (λ y. checked_then hexadecimal _ y.1
+    ∙ bind_all (first_by hexadecimal y.1) _ _ (λ z. checked_nothing _ z.1)))
 
 -- ---- lease
 
 abbrev word_itself : List ℕ → Option (List ℕ)
 word_itself word = Some word
 
-lease_then : (words : List (List ℕ)) → lease_of words ≡ word_then number32 (λ a. word_then word_itself (λ path. word_then kind_named (λ kind. word_then number64 (λ end. nothing_then (Some (Desk (Lease a path kind end))))))) words
+lease_then : (words : List (List ℕ)) → lease_of words ≡ word_then decimal32 (λ a. word_then word_itself (λ path. word_then kind_named (λ kind. word_then decimal64 (λ end. nothing_then (Some (Desk (Lease a path kind end))))))) words
 unfolding ended word_then nothing_then
 lease_then [] = refl
-lease_then (a ∷ []) = bind_none (number32 a) _ (λ x. refl)
-lease_then (a ∷ path ∷ []) = bind_none (number32 a) _ (λ x. refl)
-lease_then (a ∷ path ∷ b ∷ []) = bind_none (number32 a) _ (λ x. sym (bind_none (kind_named b) _ (λ y. refl)))
+lease_then (a ∷ []) = bind_none (decimal32 a) _ (λ x. refl)
+lease_then (a ∷ path ∷ []) = bind_none (decimal32 a) _ (λ x. refl)
+lease_then (a ∷ path ∷ b ∷ []) = bind_none (decimal32 a) _ (λ x. sym (bind_none (kind_named b) _ (λ y. refl)))
 lease_then (a ∷ path ∷ b ∷ c ∷ []) = refl
-lease_then (a ∷ path ∷ b ∷ c ∷ d ∷ words) = bind_none (number32 a) _ (λ x. sym (bind_none (kind_named b) _ (λ y. sym (bind_none (number64 c) _ (λ z. refl)))))
+lease_then (a ∷ path ∷ b ∷ c ∷ d ∷ words) = bind_none (decimal32 a) _ (λ x. sym (bind_none (kind_named b) _ (λ y. sym (bind_none (decimal64 c) _ (λ z. refl)))))
 
-pub lease_steps : (words : List (List ℕ)) → checked lease_of words ≡ (first_by number32 words >>= λ x. first_by (λ word. Some word) x.1 >>= λ path. first_by kind_named path.1 >>= λ kind. first_by number64 kind.1 >>= λ end. ended end.1 >>= λ done. Some (Desk (Lease x.0 path.0 kind.0 end.0)))
+pub lease_steps : (words : List (List ℕ)) → checked lease_of words ≡ (first_by decimal32 words >>= λ x. first_by (λ word. Some word) x.1 >>= λ path. first_by kind_named path.1 >>= λ kind. first_by decimal64 kind.1 >>= λ end. ended end.1 >>= λ done. Some (Desk (Lease x.0 path.0 kind.0 end.0)))
 lease_steps words =
-    checked_same _ _ lease_then words ∙ checked_then number32 _ words
-    ∙ bind_all (first_by number32 words) _ _ (λ x. checked_then word_itself _ x.1
+    checked_same _ _ lease_then words ∙ checked_then decimal32 _ words
+    ∙ bind_all (first_by decimal32 words) _ _ (λ x. checked_then word_itself _ x.1
     ∙ bind_all (first_by word_itself x.1) _ _ (λ path. checked_then kind_named _ path.1
-    ∙ bind_all (first_by kind_named path.1) _ _ (λ kind. checked_then number64 _ kind.1
-    ∙ bind_all (first_by number64 kind.1) _ _ (λ end. checked_nothing _ end.1))))
+    ∙ bind_all (first_by kind_named path.1) _ _ (λ kind. checked_then decimal64 _ kind.1
+    ∙ bind_all (first_by decimal64 kind.1) _ _ (λ end. checked_nothing _ end.1))))
 
 -- ---- client
 
-groups_if : (are : Bool) (o : Option (List ℕ)) → (are ≡ false → o ≡ None) → (command : List ℕ → Command) → (if are then (o >>= λ groups. Some (command groups)) else None) ≡ (o >>= λ groups. Some (command groups))
-groups_if true o unless command = refl
-groups_if false o unless command = sym (ap (λ read. read >>= (λ groups. Some (command groups))) (unless refl))
-
--- the groups, and then the row
-groups_then : (List ℕ → Command) → List (List ℕ) → Option Command
-groups_then command words = numbers32 words >>= λ groups. Some (command groups)
-
-checked_groups : (command : List ℕ → Command) (words : List (List ℕ)) → checked (groups_then command) words ≡ (numbers32 words >>= λ groups. Some (command groups))
-unfolding checked groups_then
-checked_groups command words = groups_if (are_words words) (numbers32 words) (empty_numbers words) command
-
-client_then : (words : List (List ℕ)) → client_of words ≡ word_then number32 (λ a. word_then number32 (λ b. word_then number32 (λ c. word_then (number_within 1) (λ d. word_then number32 (λ e. word_then number32 (λ f.
-    groups_then (λ groups. Opening (Row (client_row a b c groups (d == 1) e f))))))))) words
-unfolding word_then groups_then
+client_then : (words : List (List ℕ)) → client_of words ≡ word_then decimal32 (λ a. word_then decimal32 (λ b. word_then decimal32 (λ c. word_then (decimal_within 1) (λ d. word_then decimal32 (λ e. word_then decimal32 (λ f.
+    decimals_then (λ groups. Opening (Row (client_row a b c groups (d == 1) e f))))))))) words
+unfolding word_then decimals_then
 client_then [] = refl
-client_then (a ∷ []) = bind_none (number32 a) _ (λ x. refl)
-client_then (a ∷ b ∷ []) = bind_none (number32 a) _ (λ x. sym (bind_none (number32 b) _ (λ y. refl)))
-client_then (a ∷ b ∷ c ∷ []) = bind_none (number32 a) _ (λ x. sym (bind_none (number32 b) _ (λ y. sym (bind_none (number32 c) _ (λ z. refl)))))
-client_then (a ∷ b ∷ c ∷ d ∷ []) = bind_none (number32 a) _ (λ x. sym (bind_none (number32 b) _ (λ y. sym (bind_none (number32 c) _ (λ z. sym (bind_none (number_within 1 d) _ (λ p. refl)))))))
-client_then (a ∷ b ∷ c ∷ d ∷ e ∷ []) = bind_none (number32 a) _ (λ x. sym (bind_none (number32 b) _ (λ y. sym (bind_none (number32 c) _ (λ z. sym (bind_none (number_within 1 d) _ (λ p. sym (bind_none (number32 e) _ (λ q. refl)))))))))
+client_then (a ∷ []) = bind_none (decimal32 a) _ (λ x. refl)
+client_then (a ∷ b ∷ []) = bind_none (decimal32 a) _ (λ x. sym (bind_none (decimal32 b) _ (λ y. refl)))
+client_then (a ∷ b ∷ c ∷ []) = bind_none (decimal32 a) _ (λ x. sym (bind_none (decimal32 b) _ (λ y. sym (bind_none (decimal32 c) _ (λ z. refl)))))
+client_then (a ∷ b ∷ c ∷ d ∷ []) = bind_none (decimal32 a) _ (λ x. sym (bind_none (decimal32 b) _ (λ y. sym (bind_none (decimal32 c) _ (λ z. sym (bind_none (decimal_within 1 d) _ (λ p. refl)))))))
+client_then (a ∷ b ∷ c ∷ d ∷ e ∷ []) = bind_none (decimal32 a) _ (λ x. sym (bind_none (decimal32 b) _ (λ y. sym (bind_none (decimal32 c) _ (λ z. sym (bind_none (decimal_within 1 d) _ (λ p. sym (bind_none (decimal32 e) _ (λ q. refl)))))))))
 client_then (a ∷ b ∷ c ∷ d ∷ e ∷ f ∷ words) = refl
 
-pub client_steps : (words : List (List ℕ)) → checked client_of words ≡ (first_by number32 words >>= λ number. first_by number32 number.1 >>= λ uid. first_by number32 uid.1 >>= λ gid. first_by (number_within 1) gid.1 >>= λ privileged. first_by number32 privileged.1 >>= λ first. first_by number32 first.1 >>= λ last.
-    option_map (λ ns. take 17 ns) (numbers32 last.1) >>= λ groups. Some (Opening (Row (client_row number.0 uid.0 gid.0 groups (privileged.0 == 1) first.0 last.0))))
+pub client_steps : (words : List (List ℕ)) → checked client_of words ≡ (first_by decimal32 words >>= λ number. first_by decimal32 number.1 >>= λ uid. first_by decimal32 uid.1 >>= λ gid. first_by (decimal_within 1) gid.1 >>= λ privileged. first_by decimal32 privileged.1 >>= λ first. first_by decimal32 first.1 >>= λ last.
+    option_map (λ ns. take 17 ns) (decimals32 last.1) >>= λ groups. Some (Opening (Row (client_row number.0 uid.0 gid.0 groups (privileged.0 == 1) first.0 last.0))))
 client_steps words =
-    checked_same _ _ client_then words ∙ checked_then number32 _ words
-    ∙ bind_all (first_by number32 words) _ _ (λ number. checked_then number32 _ number.1
-    ∙ bind_all (first_by number32 number.1) _ _ (λ uid. checked_then number32 _ uid.1
-    ∙ bind_all (first_by number32 uid.1) _ _ (λ gid. checked_then (number_within 1) _ gid.1
-    ∙ bind_all (first_by (number_within 1) gid.1) _ _ (λ privileged. checked_then number32 _ privileged.1
-    ∙ bind_all (first_by number32 privileged.1) _ _ (λ first. checked_then number32 _ first.1
-    ∙ bind_all (first_by number32 first.1) _ _ (λ last. checked_groups _ last.1 ∙ kept_groups number.0 uid.0 gid.0 (privileged.0 == 1) first.0 last.0 (numbers32 last.1)))))))
+    checked_same _ _ client_then words ∙ checked_then decimal32 _ words
+    ∙ bind_all (first_by decimal32 words) _ _ (λ number. checked_then decimal32 _ number.1
+    ∙ bind_all (first_by decimal32 number.1) _ _ (λ uid. checked_then decimal32 _ uid.1
+    ∙ bind_all (first_by decimal32 uid.1) _ _ (λ gid. checked_then (decimal_within 1) _ gid.1
+    ∙ bind_all (first_by (decimal_within 1) gid.1) _ _ (λ privileged. checked_then decimal32 _ privileged.1
+    ∙ bind_all (first_by decimal32 privileged.1) _ _ (λ first. checked_then decimal32 _ first.1
+    ∙ bind_all (first_by decimal32 first.1) _ _ (λ last. checked_decimals _ last.1 ∙ kept_groups number.0 uid.0 gid.0 (privileged.0 == 1) first.0 last.0 (decimals32 last.1)))))))
 
 -- ---- lines
 
@@ -206,12 +147,6 @@ client_steps words =
 pub nameless : (words : List (List ℕ)) → checked (command_named None) words ≡ None
 unfolding checked
 nameless words = if_none (are_words words) None refl
-
-first_if : (some : Bool) (name word : List ℕ) (words left : List (List ℕ)) → (if some then option_map {U = List ℕ × List (List ℕ)} (λ x. (x, words)) (Some name) else None) ≡ Some (word, left) → (some ≡ true) × (name ≡ word) × (words ≡ left)
-first_if false name word words left is = cc
-first_if true name word words left is =
-    let same : ◌≡◌ {A = List ℕ × List (List ℕ)} (name, words) (word, left) = cc in
-    (refl, ap (λ x. x.0) same, ap (λ x. x.1) same)
 
 asked_parts : (parts : List (List ℕ)) (word : List ℕ) (left : List (List ℕ)) (name : Option Name) → first_by (λ w. Some w) parts ≡ Some (word, left) → ((words : List (List ℕ)) → command_of word words ≡ command_named name words)
     → asked_in parts ≡ checked (command_named name) left
@@ -228,10 +163,6 @@ asked_parts (first ∷ words) word left name is named =
 pub asked_named : (line word : List ℕ) (left : List (List ℕ)) (name : Option Name) → first_by (λ w. Some w) (cut space line) ≡ Some (word, left) → ((words : List (List ℕ)) → command_of word words ≡ command_named name words)
     → asked_by line ≡ checked (command_named name) left
 asked_named line word left name is named = asked_parts (cut space line) word left name is named
-
-nothing_if : (some are : Bool) (word : List ℕ) (words : List (List ℕ)) (o : Option Command) → (if some then option_map {U = List ℕ × List (List ℕ)} (λ x. (x, words)) (Some word) else None) ≡ None → (if some && are then o else None) ≡ None
-nothing_if false are word words o is = refl
-nothing_if true are word words o is = cc
 
 nothing_parts : (parts : List (List ℕ)) → first_by (λ w. Some w) parts ≡ None → asked_in parts ≡ None
 unfolding first_by

@@ -9,7 +9,8 @@ use Rattle.kfs_model.specs.Access.{Client}
 use Rattle.kfs_mode.specs.declared.client.ClientFault.{ClientFault}
 use Rattle.kfs_mode.specs.declared.client.ClientFault.TheVariants.{TooManyGroups, BadGrant}
 use Rattle.kfs_model.specs.Steps.{◌>>=◌}
-use Rattle.kfs_engine.specs.Command.{Command, Opening, New, Row, client_row, is_digit, number_within, number32, new_of}
+use Rattle.kfs_engine.specs.Command.{Command, Opening, New, Row, client_row, new_of}
+use Rattle.kfs_text.specs.Decimals.{decimal32, decimal_within, is_digit}
 
 -- ---- the sizes of an image
 
@@ -39,7 +40,7 @@ kept_if true true fits v larger = kept_of v fits larger
 fits_32 : (v : ℕ) → within v ≡ true → nat_le v 4294967295 ≡ true
 fits_32 v small = grind (arith, nat_tests)
 
-narrowed : (word : List ℕ) → number_within 65536 word ≡ (number32 word >>= kept)
+narrowed : (word : List ℕ) → decimal_within 65536 word ≡ (decimal32 word >>= kept)
 narrowed word = kept_if (nat_lt 0 (length word)) (list_all is_digit word) (nat_le (digits_value 10 word) 4294967295) (digits_value 10 word) (fits_32 (digits_value 10 word))
 
 abbrev nothing : Option Command
@@ -68,12 +69,12 @@ three_kept (Some a) None z f = one_within (within a) a
 three_kept (Some a) (Some b) None f = two_within (within a) (within b) a b
 three_kept (Some a) (Some b) (Some c) f = three_within (within a) (within b) (within c) a b c f
 
-pub new_by_sizes : (a b c : List ℕ) → new_of (a ∷ b ∷ c ∷ []) ≡ (number32 a >>= λ x. number32 b >>= λ y. number32 c >>= λ z. sizes_by x y z)
+pub new_by_sizes : (a b c : List ℕ) → new_of (a ∷ b ∷ c ∷ []) ≡ (decimal32 a >>= λ x. decimal32 b >>= λ y. decimal32 c >>= λ z. sizes_by x y z)
 new_by_sizes a b c =
-    ap (λ o. o >>= λ x. number_within 65536 b >>= λ y. number_within 65536 c >>= λ z. Some (Opening (New (record { first = x; second = y; third = z })))) (narrowed a)
-    ∙ ap (λ o. (number32 a >>= kept) >>= λ x. o >>= λ y. number_within 65536 c >>= λ z. Some (Opening (New (record { first = x; second = y; third = z })))) (narrowed b)
-    ∙ ap (λ o. (number32 a >>= kept) >>= λ x. (number32 b >>= kept) >>= λ y. o >>= λ z. Some (Opening (New (record { first = x; second = y; third = z })))) (narrowed c)
-    ∙ three_kept (number32 a) (number32 b) (number32 c) (λ x y z. Opening (New (record { first = x; second = y; third = z })))
+    ap (λ o. o >>= λ x. decimal_within 65536 b >>= λ y. decimal_within 65536 c >>= λ z. Some (Opening (New (record { first = x; second = y; third = z })))) (narrowed a)
+    ∙ ap (λ o. (decimal32 a >>= kept) >>= λ x. o >>= λ y. decimal_within 65536 c >>= λ z. Some (Opening (New (record { first = x; second = y; third = z })))) (narrowed b)
+    ∙ ap (λ o. (decimal32 a >>= kept) >>= λ x. (decimal32 b >>= kept) >>= λ y. o >>= λ z. Some (Opening (New (record { first = x; second = y; third = z })))) (narrowed c)
+    ∙ three_kept (decimal32 a) (decimal32 b) (decimal32 c) (λ x y z. Opening (New (record { first = x; second = y; third = z })))
 
 -- ---- the row of a client
 

@@ -1,7 +1,7 @@
 -- What the engine writes of what it reads.
 use Rattle.std.specs.Prelude.{◌≡◌, ◌<◌, ◌≤◌, ℕ, List, [], ◌∷◌, ◌++◌, length, Result, Ok, Err}
 use Rattle.std.specs.List.{AllByRecursion}
-use Rattle.kfs_engine.specs.Cut.{cut, line_end, lines_of}
+use Rattle.kfs_text.specs.Cut.{cut, line_end, lines_of}
 use Rattle.kfs_engine.specs.Session.{Stage, Runs, fresh}
 use Rattle.kfs_engine.specs.declared.fault.EngineFault.{EngineFault}
 use Rattle.kfs_engine.specs.declared.fault.EngineFault.TheVariants.{ReadFault, WriteFault, LongLine, OutOfMemory}

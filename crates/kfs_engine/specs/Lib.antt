@@ -1,6 +1,5 @@
 pub mod Command
 pub mod Conversation
-pub mod Cut
 pub mod Example
 pub mod Listing
 pub mod Progress

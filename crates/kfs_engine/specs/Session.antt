@@ -23,7 +23,8 @@ use Rattle.kfs_desk.specs.declared.answers.Done.TheVariants.{Leased, Dropped, Ti
 use Rattle.kfs_desk.specs.declared.answers.Reply.{Reply}
 use Rattle.kfs_engine.specs.Command.{Command, Opening, Desk as ToDesk, OpeningCommand, New, Row, Begin, DeskCommand, Lease, Drop, Tick, Submit, Node, Names, IsBadLine, asked_by}
 use Rattle.kfs_engine.specs.Listing.{list_text}
-use Rattle.kfs_engine.specs.Text.{act_text, begin_text, client_text, line_of, node_text, reply_text}
+use Rattle.kfs_engine.specs.Text.{act_text, begin_text, client_text, node_text, reply_text}
+use Rattle.kfs_text.specs.Parts.{line_of}
 
 -- what a desk is begun with: the image, where one was made, and the clients
 pub record Start : Type 0 where
@@ -40,34 +41,34 @@ abbrev pub fresh : Stage
 fresh = Before (record { image = None; clients = [] })
 
 -- a reply, and the stage that it leaves
-abbrev pub Outcome : Type 0
-Outcome = List ℕ × Stage
+abbrev pub LineOutcome : Type 0
+LineOutcome = List ℕ × Stage
 
 -- a text is appended that, with this stage, is such an outcome
-abbrev pub Replies : (Outcome → Type 0) → (before after : List ℕ) → Stage → Type 0
-Replies Holds before after stage = (text : List ℕ) × (after ≡ before ++ text) × Holds (text, stage)
+abbrev pub IsReplied : (LineOutcome → Type 0) → (before after : List ℕ) → Stage → Type 0
+IsReplied Holds before after stage = (text : List ℕ) × (after ≡ before ++ text) × Holds (text, stage)
 
 -- this line, and the stage as it was
-abbrev pub IsSaid : (text : List ℕ) → Stage → Outcome → Type 0
+abbrev pub IsSaid : (text : List ℕ) → Stage → LineOutcome → Type 0
 IsSaid text s outcome = outcome ≡ (line_of text, s)
 
 -- ---- before the desk is begun
 
 -- the desk, or the fault of the clients: the image stays then, and they are forgotten
-abbrev pub begun : ImageShown → List Client → (limit : ℕ) → Option BeginFault → Outcome
+abbrev pub begun : ImageShown → List Client → (limit : ℕ) → Option BeginFault → LineOutcome
 begun image clients limit None = (line_of (codes "ok"), After (record { state = opening clients image.sizes (tree_of image.contents) empty; rows = 0; limit = limit }))
 begun image clients limit (Some fault) = (line_of (codes "begin " ++ begin_text fault), Before (record { image = Some image; clients = [] }))
 
 -- without an image there is no desk
-abbrev pub begun_over : Option ImageShown → List Client → (limit : ℕ) → Outcome
+abbrev pub begun_over : Option ImageShown → List Client → (limit : ℕ) → LineOutcome
 begun_over None clients limit = (line_of (codes "bad line"), Before (record { image = None; clients = clients }))
 begun_over (Some image) clients limit = begun image clients limit (begin_fault clients)
 
-abbrev pub admitted : Start → Result Client ClientFault → Outcome
+abbrev pub admitted : Start → Result Client ClientFault → LineOutcome
 admitted start (Ok client) = (line_of (codes "ok"), Before (record start { clients = start.clients ++ client ∷ [] }))
 admitted start (Err fault) = (line_of (codes "client " ++ client_text fault), Before start)
 
-abbrev pub opened : Start → OpeningCommand → Outcome
+abbrev pub opened : Start → OpeningCommand → LineOutcome
 opened start (New sizes) = (line_of (codes "ok"), Before (record start { image = Some (record { contents = root_alone; sizes = sizes }) }))
 opened start (Row client) = admitted start client
 opened start (Begin limit) = begun_over start.image start.clients limit
@@ -75,19 +76,23 @@ opened start (Begin limit) = begun_over start.image start.clients limit
 -- ---- calls of the desk
 
 -- the docket has as many rows as its limit
-abbrev pub IsFull : Desk → Outcome → Type 0
+abbrev pub IsFull : Desk → LineOutcome → Type 0
 IsFull desk outcome = (desk.rows ≡ desk.limit) × IsSaid (codes "full") (After desk) outcome
 
 -- the machine's step of the call, told in these words, with the docket's next row
-pub record IsCalled (desk : Desk) (call : machine.Call) (words : ℕ → Done) (outcome : Outcome) : Type 0 where
+pub record IsCalled (desk : Desk) (call : machine.Call) (words : ℕ → Done) (outcome : LineOutcome) : Type 0 where
   pub answer : ActReply
   pub next : Desk
   pub below : desk.rows ≢ desk.limit
   pub acted : IsActed desk call words answer next
   pub is : outcome ≡ (line_of (act_text answer), After next)
 
+-- a full docket answers no call
+abbrev pub IsCallAnswered : Desk → machine.Call → (ℕ → Done) → LineOutcome → Type 0
+IsCallAnswered desk call words outcome = IsFull desk outcome ⊎ IsCalled desk call words outcome
+
 -- the submission is answered: the desk's reply to it
-pub record IsSubmitted (desk : Desk) (submission : Submission) (outcome : Outcome) : Type 0 where
+pub record IsSubmitted (desk : Desk) (submission : Submission) (outcome : LineOutcome) : Type 0 where
   pub judged : HasOtherEntry submission.log → ⊥
   pub answer : Reply
   pub next : Desk
@@ -98,12 +103,12 @@ pub record IsSubmitted (desk : Desk) (submission : Submission) (outcome : Outcom
 -- ---- looks
 
 -- the node's line
-pub record IsNode (desk : Desk) (number : ℕ) (outcome : Outcome) : Type 0 where
+pub record IsNode (desk : Desk) (number : ℕ) (outcome : LineOutcome) : Type 0 where
   pub header : CodeHeader
   pub shown : get (headers desk.state.tree) number ≡ Some (header_of header)
   pub is : IsSaid (node_text number header) (After desk) outcome
 
-abbrev pub IsNone : Desk → (number : ℕ) → Outcome → Type 0
+abbrev pub IsNone : Desk → (number : ℕ) → LineOutcome → Type 0
 IsNone desk number outcome = (get (headers desk.state.tree) number ≡ None) × IsSaid (codes "none") (After desk) outcome
 
 -- the line of its names, where it is a directory
@@ -112,29 +117,29 @@ names_line desk directory = if is_directory (get (headers desk.state.tree) direc
 
 -- ---- lines
 
--- a command to the desk; a full docket answers no call
-abbrev pub Serves : Desk → DeskCommand → Outcome → Type 0
-Serves desk (Lease client path kind end) outcome = IsFull desk outcome ⊎ IsCalled desk (machine.Lease client path kind end) Leased outcome
-Serves desk (Drop client number) outcome = IsFull desk outcome ⊎ IsCalled desk (machine.Drop client number) Dropped outcome
-Serves desk (Tick moment) outcome = IsFull desk outcome ⊎ IsCalled desk (machine.Tick moment) Ticked outcome
+-- a command to the desk
+abbrev pub Serves : Desk → DeskCommand → LineOutcome → Type 0
+Serves desk (Lease client path kind end) outcome = IsCallAnswered desk (machine.Lease client path kind end) Leased outcome
+Serves desk (Drop client number) outcome = IsCallAnswered desk (machine.Drop client number) Dropped outcome
+Serves desk (Tick moment) outcome = IsCallAnswered desk (machine.Tick moment) Ticked outcome
 Serves desk (Submit submission) outcome = ((HasOtherEntry submission.log → ⊥) × IsFull desk outcome) ⊎ IsSubmitted desk submission outcome
 Serves desk (Node number) outcome = IsNone desk number outcome ⊎ IsNode desk number outcome
 Serves desk (Names directory) outcome = IsSaid (names_line desk directory) (After desk) outcome
 
 -- a command where it is due
-abbrev pub Does : Stage → Command → Outcome → Type 0
+abbrev pub Does : Stage → Command → LineOutcome → Type 0
 Does (Before start) (Opening command) outcome = outcome ≡ opened start command
 Does (Before start) (ToDesk command) outcome = IsSaid (codes "bad line") (Before start) outcome
 Does (After desk) (Opening command) outcome = IsSaid (codes "bad line") (After desk) outcome
 Does (After desk) (ToDesk command) outcome = Serves desk command outcome
 
 -- what the line asks for is done, where it is a command
-abbrev pub Obeys : Stage → Option Command → Outcome → Type 0
+abbrev pub Obeys : Stage → Option Command → LineOutcome → Type 0
 Obeys s None outcome = ⊥
 Obeys s (Some command) outcome = Does s command outcome
 
 -- a bad line, or what the line asks for, or want of memory, which may come at any line and leaves the stage
-abbrev pub Answers : Stage → (line : List ℕ) → Outcome → Type 0
+abbrev pub Answers : Stage → (line : List ℕ) → LineOutcome → Type 0
 Answers s line outcome =
     (IsBadLine (asked_by line) × IsSaid (codes "bad line") s outcome)
     ⊎ (Obeys s (asked_by line) outcome ⊎ IsSaid (codes "memory") s outcome)

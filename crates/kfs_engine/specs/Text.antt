@@ -1,5 +1,5 @@
 -- The text of each answer.
-use Rattle.std.specs.Prelude.{ℕ, ◌+◌, ◌/◌, ◌%◌, List, [], ◌∷◌, ◌++◌, Bool, if◌then◌else◌, codes, decimal, Result, Ok, Err}
+use Rattle.std.specs.Prelude.{ℕ, List, ◌++◌, Bool, codes, decimal, Result, Ok, Err}
 use Rattle.kfs_entry.specs.declared.fault.SpellFault.{SpellFault}
 use Rattle.kfs_entry.specs.declared.fault.SpellFault.TheVariants as spell
 use Rattle.kfs_value.specs.declared.header.Header.{Header}
@@ -22,22 +22,7 @@ use Rattle.kfs_desk.specs.declared.answers.Done.{Done}
 use Rattle.kfs_desk.specs.declared.answers.Done.TheVariants as done
 use Rattle.kfs_desk.specs.declared.answers.Reply.{Reply}
 use Rattle.kfs_desk.specs.declared.answers.Reply.TheVariants.{Yes, No}
-
--- ---- parts
-
--- a name, and a number in brackets
-abbrev pub numbered_text : List ℕ → ℕ → List ℕ
-numbered_text name n = name ++ (codes "(" ++ (decimal n ++ codes ")"))
-
-abbrev pub flag_text : Bool → List ℕ
-flag_text b = if b then codes "1" else codes "0"
-
-abbrev pub field_text : ℕ → List ℕ
-field_text n = codes " " ++ decimal n
-
--- four octal digits
-abbrev pub octal_text : ℕ → List ℕ
-octal_text mode = (48 + mode / 512 % 8) ∷ (48 + mode / 64 % 8) ∷ (48 + mode / 8 % 8) ∷ (48 + mode % 8) ∷ []
+use Rattle.kfs_text.specs.Parts.{field_text, flag_text, numbered_text, octal_text}
 
 -- ---- refusals by name
 
@@ -133,7 +118,3 @@ header_text header = kind_text header.kind ++ (octal_text header.mode ++ counts_
 
 abbrev pub node_text : ℕ → Header → List ℕ
 node_text node header = codes "node " ++ (decimal node ++ header_text header)
-
--- the line's end
-abbrev pub line_of : List ℕ → List ℕ
-line_of text = text ++ codes "\n"

@@ -1,13 +1,12 @@
 -- What the parts of a session are in the definitions.
-use Rattle.std.specs.Prelude.{ℕ, List, [], Option, None, Some}
+use Rattle.std.specs.Prelude.{◌≡◌, Option, None, Some}
 use Rattle.kfs_lease.specs.Rows.{kind_of}
 use Rattle.kfs_judge.specs.Judging.{submission_of}
 use Rattle.kfs_desk.specs.Machine.{Desk}
 use Rattle.kfs_desk.specs.declared.answers.Act.{Act}
 use Rattle.kfs_desk.specs.declared.answers.Act.TheVariants as acts
 use Rattle.kfs_engine.specs.Command as commands
-use Rattle.kfs_engine.specs.Cut.{cut, space}
-use Rattle.kfs_engine.specs.Session.{Stage, Start, Before, After}
+use Rattle.kfs_engine.specs.Session.{LineOutcome, Stage, Start, Before, After, opened}
 use Rattle.kfs_engine.specs.declared.command.Command.{Command}
 use Rattle.kfs_engine.specs.declared.command.Command.TheVariants as read
 use Rattle.kfs_engine.specs.declared.command.OpeningCommand.{OpeningCommand}
@@ -18,11 +17,6 @@ use Rattle.kfs_engine.specs.declared.opening.Opening.{Opening}
 use Rattle.kfs_engine.specs.declared.session.Session.{Session}
 use Rattle.kfs_engine.specs.declared.session.Stage.{Stage as CodeStage}
 use Rattle.kfs_engine.specs.declared.session.Stage.TheVariants as stages
-use Rattle.kfs_engine.specs.declared.words.Words.{Words}
-
--- the words that are still to be read
-abbrev pub left_of : Words → List (List ℕ)
-left_of words = elim words.rest [ None ↦ [] | Some rest ↦ cut space rest.now ]
 
 abbrev pub opening_of : OpeningCommand → commands.OpeningCommand
 opening_of (opening.New sizes) = commands.New sizes
@@ -47,6 +41,10 @@ module _ {A : Type 0} where
 
   abbrev pub start_of : Opening A → Start
   start_of opening = record { image = opening.image; clients = opening.clients.items }
+
+  -- the command is done to what the desk is begun with
+  abbrev pub Opens : Opening A → commands.OpeningCommand → LineOutcome → Type 0
+  Opens opening command outcome = opened (start_of opening) command ≡ outcome
 
   abbrev pub stage_in : CodeStage A → Stage
   stage_in (stages.Before opening) = Before (start_of opening)

@@ -3,16 +3,17 @@ ghost use Rattle.std.specs.Prelude.{◌≡◌, ℕ, List, true, false, IfOk, IfE
 ghost use Rattle.kfs_lease.specs.Rows.{kind_of};
 ghost use Rattle.kfs_judge.specs.Judging.{HasOtherEntry, submission_of};
 ghost use Rattle.kfs_engine.specs.Command.{Desk as DeskLine, Names as NamesLine, Node as NodeLine, Opening as OpeningLine, Submit as SubmitLine, IsBadLine, asked_by, client_of, command_of, drop_of, kind_named, lease_of, new_of, submit_of};
-ghost use Rattle.kfs_engine.specs.Reading.{IsAsked, IsRead, begin_of, checked, command_named, first_by, names_of, node_of, tick_of};
-ghost use Rattle.kfs_engine.specs.Views.{act_of, asked_of, left_of, opening_of};
+ghost use Rattle.kfs_engine.specs.Reading.{IsAsked, begin_of, command_named, listing_of, node_of, tick_of};
+ghost use Rattle.kfs_engine.specs.Views.{act_of, asked_of, opening_of};
+ghost use Rattle.kfs_text.specs.Reading.{ReadsAs, checked, first_by, words_left};
 
-use crate::words::{Refusal, Words};
 use kfs_desk::answers::Act;
 use kfs_entry::{SpellFault, decode_log};
 use kfs_image::TierSizes;
 use kfs_judge::plan::{Submission, are_judged};
 use kfs_lease::LeaseKind;
 use kfs_mode::{Client, ClientFault};
+use kfs_text::{Refusal, Words};
 use std::alloc::Allocator;
 
 /// A command with its words read.
@@ -62,7 +63,7 @@ impl<'a, A: Allocator + Copy> Command<'a, A> {
     /// The command of this name with the words behind it.
     #[tactic(auto, using(crate::proofs::Readings::nameless, crate::proofs::Submitted::none_is_bad))]
     fn named(alloc: A, name: Option<Name>, words: &mut Words<'a>) -> Result<Command<'a, A>, Refusal>
-        ensures { IsAsked (checked (command_named name) (left_of words.old)) result }
+        ensures { IsAsked (checked (command_named name) (words_left words.old)) result }
     {
         match name.ok_or(Refusal::BadLine)? {
             Name::New => Ok(Command::Opening(read_new(words)?)),
@@ -93,7 +94,7 @@ enum Name {
 }
 
 /// The command that the word names.
-#[tactic(auto, unfolding(crate::specs::Reading::begin_of, crate::specs::Reading::tick_of, crate::specs::Reading::node_of, crate::specs::Reading::names_of))]
+#[tactic(auto, unfolding(crate::specs::Reading::begin_of, crate::specs::Reading::tick_of, crate::specs::Reading::node_of, crate::specs::Reading::listing_of))]
 fn name_in(word: &[u8]) -> Option<Name>
     ensures { (words : List (List ℕ)) → command_of word.now words ≡ command_named result words }
 {
@@ -122,14 +123,14 @@ fn name_in(word: &[u8]) -> Option<Name>
 
 #[tactic(auto, using(crate::proofs::Readings::begin_steps))]
 fn read_begin(words: &mut Words<'_>) -> Result<OpeningCommand, Refusal>
-    ensures { IsRead (λ command. OpeningLine (opening_of command)) (checked begin_of (left_of words.old)) result }
+    ensures { ReadsAs (λ command. OpeningLine (opening_of command)) (checked begin_of (words_left words.old)) result }
 {
     Ok(OpeningCommand::Begin(words.only_number32()?))
 }
 
 #[tactic(auto, using(crate::proofs::Readings::tick_steps))]
 fn read_tick<'a>(words: &mut Words<'_>) -> Result<Act<'a>, Refusal>
-    ensures { IsRead (λ act. DeskLine (act_of act)) (checked tick_of (left_of words.old)) result }
+    ensures { ReadsAs (λ act. DeskLine (act_of act)) (checked tick_of (words_left words.old)) result }
 {
     let moment = words.only_number64()?;
     Ok(Act::Tick { moment })
@@ -137,7 +138,7 @@ fn read_tick<'a>(words: &mut Words<'_>) -> Result<Act<'a>, Refusal>
 
 #[tactic(auto, using(crate::proofs::Readings::new_steps))]
 fn read_new(words: &mut Words<'_>) -> Result<OpeningCommand, Refusal>
-    ensures { IsRead (λ command. OpeningLine (opening_of command)) (checked new_of (left_of words.old)) result }
+    ensures { ReadsAs (λ command. OpeningLine (opening_of command)) (checked new_of (words_left words.old)) result }
 {
     let first = words.number32()?;
     let second = words.number32()?;
@@ -149,7 +150,7 @@ fn read_new(words: &mut Words<'_>) -> Result<OpeningCommand, Refusal>
 
 #[tactic(auto, using(crate::proofs::Readings::client_steps))]
 fn read_client(words: &mut Words<'_>) -> Result<OpeningCommand, Refusal>
-    ensures { IsRead (λ command. OpeningLine (opening_of command)) (checked client_of (left_of words.old)) result }
+    ensures { ReadsAs (λ command. OpeningLine (opening_of command)) (checked client_of (words_left words.old)) result }
 {
     let number = words.number32()?;
     let uid = words.number32()?;
@@ -165,7 +166,7 @@ fn read_client(words: &mut Words<'_>) -> Result<OpeningCommand, Refusal>
 
 #[tactic(auto, using(crate::proofs::Readings::lease_steps))]
 fn read_lease<'a>(words: &mut Words<'a>) -> Result<Act<'a>, Refusal>
-    ensures { IsRead (λ act. DeskLine (act_of act)) (checked lease_of (left_of words.old)) result }
+    ensures { ReadsAs (λ act. DeskLine (act_of act)) (checked lease_of (words_left words.old)) result }
 {
     let client = words.number32()?;
     let path = words.word()?;
@@ -180,9 +181,9 @@ fn read_lease<'a>(words: &mut Words<'a>) -> Result<Act<'a>, Refusal>
     })
 }
 
-#[tactic(auto, unfolding(crate::specs::Reading::first_by))]
+#[tactic(auto, unfolding(kfs_text::specs::Reading::first_by))]
 fn lease_kind(words: &mut Words<'_>) -> Result<LeaseKind, Refusal>
-    ensures { IsRead (λ kind. (kind_of kind, left_of words.new)) (first_by kind_named (left_of words.old)) result }
+    ensures { ReadsAs (λ kind. (kind_of kind, words_left words.new)) (first_by kind_named (words_left words.old)) result }
 {
     match words.word()? {
         b"r" => Ok(LeaseKind::Read),
@@ -193,7 +194,7 @@ fn lease_kind(words: &mut Words<'_>) -> Result<LeaseKind, Refusal>
 
 #[tactic(auto, using(crate::proofs::Readings::drop_steps))]
 fn read_drop<'a>(words: &mut Words<'_>) -> Result<Act<'a>, Refusal>
-    ensures { IsRead (λ act. DeskLine (act_of act)) (checked drop_of (left_of words.old)) result }
+    ensures { ReadsAs (λ act. DeskLine (act_of act)) (checked drop_of (words_left words.old)) result }
 {
     let client = words.number32()?;
     let number = words.number32()?;
@@ -203,14 +204,14 @@ fn read_drop<'a>(words: &mut Words<'_>) -> Result<Act<'a>, Refusal>
 
 #[tactic(auto, using(crate::proofs::Readings::node_steps))]
 fn read_node(words: &mut Words<'_>) -> Result<u32, Refusal>
-    ensures { IsRead (λ number. DeskLine (NodeLine number)) (checked node_of (left_of words.old)) result }
+    ensures { ReadsAs (λ number. DeskLine (NodeLine number)) (checked node_of (words_left words.old)) result }
 {
     words.only_number32()
 }
 
-#[tactic(auto, using(crate::proofs::Readings::names_steps))]
+#[tactic(auto, using(crate::proofs::Readings::listing_steps))]
 fn read_list(words: &mut Words<'_>) -> Result<u32, Refusal>
-    ensures { IsRead (λ directory. DeskLine (NamesLine directory)) (checked names_of (left_of words.old)) result }
+    ensures { ReadsAs (λ directory. DeskLine (NamesLine directory)) (checked listing_of (words_left words.old)) result }
 {
     words.only_number32()
 }
@@ -221,9 +222,9 @@ fn read_submit<A: Allocator + Copy>(
     alloc: A,
     words: &mut Words<'_>,
 ) -> Result<Submission<A>, Refusal>
-    ensures ok { IfOk result (λ submission. checked submit_of (left_of words.old) ≡ Some (DeskLine (SubmitLine (submission_of submission)))) }
+    ensures ok { IfOk result (λ submission. checked submit_of (words_left words.old) ≡ Some (DeskLine (SubmitLine (submission_of submission)))) }
     ensures judged { IfOk result (λ submission. HasOtherEntry submission.log.items → ⊥) }
-    ensures bad { IfErr result (λ refusal. refusal ≡ Refusal.BadLine → IsBadLine (checked submit_of (left_of words.old))) }
+    ensures bad { IfErr result (λ refusal. refusal ≡ Refusal.BadLine → IsBadLine (checked submit_of (words_left words.old))) }
 {
     let submission = read_submission(alloc, words)?;
     if has_other_entry(alloc, submission.log.as_slice())? {
@@ -237,7 +238,7 @@ fn read_submission<A: Allocator + Copy>(
     alloc: A,
     words: &mut Words<'_>,
 ) -> Result<Submission<A>, Refusal>
-    ensures { IsRead (λ submission. DeskLine (SubmitLine (submission_of submission))) (checked submit_of (left_of words.old)) result }
+    ensures { ReadsAs (λ submission. DeskLine (SubmitLine (submission_of submission))) (checked submit_of (words_left words.old)) result }
 {
     let client = words.number32()?;
     let log = words.bytes(alloc)?;

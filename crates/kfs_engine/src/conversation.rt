@@ -1,17 +1,14 @@
 //! Cuts the input into lines and writes the reply of each.
-ghost use Rattle.std.specs.Prelude.{◌≡◌, ◌≢◌, ◌<◌, ◌++◌, [], ◌∷◌, ℕ, List, length, IfSome, MatchOption, MatchResult, OnOk};
-ghost use Rattle.std.specs.Io.KnownBytes.{Appends};
-ghost use Rattle.kfs_engine.specs.Conversation.{IsSession, IsShort};
-ghost use Rattle.kfs_engine.specs.Cut.{cut, line_end};
-ghost use Rattle.kfs_engine.specs.Progress.{IsAnswered, IsStopped, IsTaken, StandsAt, said};
+ghost use Rattle.std.specs.Prelude.{◌≡◌, ◌++◌, [], OnOk};
+ghost use Rattle.kfs_engine.specs.Progress.{Ends, IsHeldAnswered, IsKept, IsLineAnswered, StandsAt, Takes, said};
 ghost use Rattle.kfs_engine.specs.Session.{Answers};
 ghost use Rattle.kfs_engine.specs.Views.{stage_of};
+ghost use Rattle.kfs_text.specs.Streams.{Writes};
 
 use crate::fault::EngineFault;
 use crate::report::LONGEST_LINE;
 use crate::session::Session;
-use crate::words::Refusal;
-use crate::writing::{flush, write_whole};
+use kfs_text::{Refusal, first_line, flush, write_whole};
 use std::alloc::Allocator;
 use std::io::Write;
 
@@ -39,7 +36,7 @@ impl<A: Allocator + Copy> Conversation<A> {
 
     /// Answers each line that ends in `bytes`, and keeps the bytes after the last end.
     pub fn take<W: Write>(&mut self, bytes: &[u8], writer: &mut W) -> Result<(), EngineFault>
-        ensures { (more : List ℕ) × Appends (W.contents writer.old) (W.contents writer.new) more × ((input text : List ℕ) → StandsAt self.old bytes.now input text → IsTaken result self.new input (text ++ more)) }
+        ensures { Writes (W.contents writer.old) (W.contents writer.new) (Takes self.old bytes.now result self.new) }
     {
         let mut rest = bytes;
         'lines: while let Some((line, behind)) = first_line(rest) {
@@ -51,18 +48,18 @@ impl<A: Allocator + Copy> Conversation<A> {
 
     /// Answers the last line, where it lacks its end.
     pub fn finish<W: Write>(&mut self, writer: &mut W) -> Result<(), EngineFault>
-        ensures { (more : List ℕ) × Appends (W.contents writer.old) (W.contents writer.new) more × ((input text : List ℕ) → StandsAt self.old [] input text → IsSession result input (text ++ more)) }
+        ensures { Writes (W.contents writer.old) (W.contents writer.new) (Ends self.old result) }
     {
         if self.line.is_empty() {
-            return flush(writer);
+            return Ok(flush(writer)?);
         }
         self.answer(writer)?;
-        flush(writer)
+        Ok(flush(writer)?)
     }
 
     /// Answers the line, of which `part` is the last bytes.
     fn end_line<W: Write>(&mut self, part: &[u8], writer: &mut W) -> Result<(), EngineFault>
-        ensures session { (text : List ℕ) × Appends (W.contents writer.old) (W.contents writer.new) text × IsAnswered result (stage_of self.old.session) (self.old.line.items ++ part.now) (stage_of self.new.session) text }
+        ensures session { Writes (W.contents writer.old) (W.contents writer.new) (IsLineAnswered result self.old (self.old.line.items ++ part.now) self.new) }
         ensures cleared { OnOk result (self.new.line.items ≡ []) }
     {
         self.keep(part)?;
@@ -70,7 +67,7 @@ impl<A: Allocator + Copy> Conversation<A> {
     }
 
     fn keep(&mut self, part: &[u8]) -> Result<(), EngineFault>
-        ensures line { MatchResult result (λ _. (self.new.line.items ≡ self.old.line.items ++ part.now) × IsShort (self.old.line.items ++ part.now)) (λ fault. IsStopped fault (stage_of self.old.session) (self.old.line.items ++ part.now) [] × (fault ≢ EngineFault.WriteFault)) }
+        ensures line { IsKept result (stage_of self.old.session) (self.old.line.items ++ part.now) self.new.line.items }
         ensures session { self.new.session ≡ self.old.session }
     {
         if self.line.len().saturating_add(part.len()) > LONGEST_INPUT_LINE {
@@ -81,13 +78,13 @@ impl<A: Allocator + Copy> Conversation<A> {
     }
 
     fn answer<W: Write>(&mut self, writer: &mut W) -> Result<(), EngineFault>
-        ensures session { (text : List ℕ) × Appends (W.contents writer.old) (W.contents writer.new) text × (IsShort self.old.line.items → IsAnswered result (stage_of self.old.session) self.old.line.items (stage_of self.new.session) text) }
+        ensures session { Writes (W.contents writer.old) (W.contents writer.new) (IsHeldAnswered result self.old self.new) }
         ensures cleared { self.new.line.items ≡ [] }
     {
         let replied = self.reply();
         let written = write_whole(writer, text_of(replied, &self.reply));
         self.line.clear();
-        written
+        Ok(written?)
     }
 
     /// Makes room for the reply before anything changes.
@@ -110,13 +107,4 @@ fn text_of(replied: Result<(), Refusal>, reply: &[u8]) -> &[u8]
         Err(Refusal::BadLine) => b"bad line\n",
         Err(Refusal::OutOfMemory) => b"memory\n",
     }
-}
-
-/// The bytes before the first end of a line, and those behind it.
-fn first_line(bytes: &[u8]) -> Option<(&[u8], &[u8])>
-    ensures cut { MatchOption result (cut line_end bytes.now ≡ bytes.now ∷ []) (λ parts. cut line_end bytes.now ≡ parts.0.now ∷ cut line_end parts.1.now) }
-    ensures shorter { IfSome result (λ parts. length parts.1.now < length bytes.now) }
-{
-    let place = bytes.iter().position(|byte| *byte == b'\n')?;
-    Some((&bytes[..place], &bytes[place + 1..]))
 }

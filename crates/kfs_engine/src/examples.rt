@@ -10,14 +10,13 @@ ghost use Rattle.kfs_image.specs.ShownTree.{tree_of};
 ghost use Rattle.kfs_judge.specs.Judging.{submission_with};
 ghost use Rattle.kfs_engine.specs.Command.{Begin, Desk, Drop, Lease, Names, New, Node, Opening, Row, Submit, Tick, asked_by, client_row};
 ghost use Rattle.kfs_engine.specs.Conversation.{BreaksOff};
-ghost use Rattle.kfs_engine.specs.Cut.{lines_of};
 ghost use Rattle.kfs_engine.specs.Example.{desk_of_7, root_leased};
 ghost use Rattle.kfs_engine.specs.Listing.{list_text};
 ghost use Rattle.kfs_engine.specs.Session.{After, Before, Runs, fresh, opened};
-ghost use Rattle.kfs_engine.specs.Text.{line_of};
+ghost use Rattle.kfs_text.specs.Cut.{lines_of};
 
 /// The lines of an input, and a last line that lacks its end; an input that ends with a line's end has no further line.
-#[tactic(auto, unfolding(crate::specs::Cut::cut))]
+#[tactic(auto, unfolding(kfs_text::specs::Cut::cut))]
 pub fn lines_of_an_input()
     ensures ended { lines_of (codes "tick 1\nnode 5\n") ≡ codes "tick 1" ∷ codes "node 5" ∷ [] }
     ensures unended { lines_of (codes "tick 1\nnode 5") ≡ codes "tick 1" ∷ codes "node 5" ∷ [] }
@@ -26,7 +25,7 @@ pub fn lines_of_an_input()
 {}
 
 /// Each command by its words.
-#[tactic(auto, unfolding(crate::specs::Cut::cut, crate::specs::Command::numbers32, hex::specs::Hex::decode_pairs))]
+#[tactic(auto, unfolding(kfs_text::specs::Cut::cut, kfs_text::specs::Decimals::decimals32, hex::specs::Hex::decode_pairs))]
 pub fn commands()
     ensures new { asked_by (codes "new 8 08 65536") ≡ Some (Opening (New (record { first = 8; second = 8; third = 65536 }))) }
     ensures client { asked_by (codes "client 7 1000 100 0 2 99 4 4") ≡ Some (Opening (Row (Ok (record { number = 7; uid = 1000; gid = 100; groups = 4 ∷ 4 ∷ []; privileged = false; first = 2; last = 99 })))) }
@@ -42,7 +41,7 @@ pub fn commands()
 
 /// What is no command: an empty word, a word too many or too few, a number out of its range or with a sign, text that is not
 /// hexadecimal, and any other name.
-#[tactic(auto, unfolding(crate::specs::Cut::cut, crate::specs::Command::numbers32, hex::specs::Hex::decode_pairs))]
+#[tactic(auto, unfolding(kfs_text::specs::Cut::cut, kfs_text::specs::Decimals::decimals32, hex::specs::Hex::decode_pairs))]
 pub fn bad_lines()
     ensures empty { asked_by [] ≡ None }
     ensures empty_word { asked_by (codes "node  5") ≡ None }

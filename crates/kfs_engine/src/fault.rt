@@ -1,7 +1,8 @@
 //! Why the engine stops before the end of its input.
 ghost use Rattle.std.specs.Prelude.{◌≡◌};
-ghost use Rattle.kfs_engine.specs.declared.fault.EngineFault.TheVariants.{OutOfMemory};
+ghost use Rattle.kfs_engine.specs.declared.fault.EngineFault.TheVariants.{OutOfMemory, ReadFault as Unread, WriteFault as Unwritten};
 
+use kfs_text::{ReadFault, WriteFault};
 use std::alloc::AllocError;
 use thiserror::Error;
 
@@ -27,5 +28,21 @@ impl From<AllocError> for EngineFault {
 
     fn from(_error: AllocError) -> EngineFault {
         EngineFault::OutOfMemory
+    }
+}
+
+impl From<ReadFault> for EngineFault {
+    ghost from_gives = { λ _ fault. fault ≡ Unread };
+
+    fn from(_fault: ReadFault) -> EngineFault {
+        EngineFault::ReadFault
+    }
+}
+
+impl From<WriteFault> for EngineFault {
+    ghost from_gives = { λ _ fault. fault ≡ Unwritten };
+
+    fn from(_fault: WriteFault) -> EngineFault {
+        EngineFault::WriteFault
     }
 }

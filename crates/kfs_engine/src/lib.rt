@@ -1,9 +1,10 @@
 //! The engine: command lines in, and the replies of the desk out.
 #![tactic(auto)]
 
-ghost use Rattle.std.specs.Prelude.{◌≡◌, ◌≤◌, ◌<◌, ℕ, List, length, take, IfErr, IfOk, IfSome, MatchOption, MatchResult, OnOk};
-ghost use Rattle.std.specs.Io.KnownBytes.{Appends, Consumes, IsAtEnd, Keeps};
+ghost use Rattle.std.specs.Prelude.{◌≡◌, ◌<◌, length, IfErr, IfOk, OnOk};
+ghost use Rattle.std.specs.Io.KnownBytes.{IsAtEnd};
 ghost use Rattle.kfs_engine.specs.Conversation.{IsSession};
+ghost use Rattle.kfs_text.specs.Streams.{Exchanges};
 
 mod command;
 mod conversation;
@@ -13,13 +14,12 @@ mod listing;
 mod opening;
 mod report;
 mod session;
-mod words;
-mod writing;
 
 use conversation::Conversation;
 pub use fault::EngineFault;
+use kfs_text::read_some;
 use std::alloc::{AllocError, Allocator};
-use std::io::{ErrorKind, Read, Write};
+use std::io::{Read, Write};
 
 /// How often a reader is asked for bytes before it is taken never to end.
 const MOST_READS: u64 = 1 << 32;
@@ -41,7 +41,7 @@ where
     A: Allocator + Copy,
     I: Read,
     O: Write,
-    ensures session { (input : List ℕ) × (text : List ℕ) × Consumes (I.remaining reader.old) (I.remaining reader.new) input × Appends (O.contents writer.old) (O.contents writer.new) text × IsSession result input text }
+    ensures session { Exchanges (I.remaining reader.old) (I.remaining reader.new) (O.contents writer.old) (O.contents writer.new) (IsSession result) }
     ensures end { OnOk result (IsAtEnd (I.remaining reader.new)) }
 {
     let mut chunk = new_chunk(alloc)?;
@@ -67,7 +67,7 @@ where
     I: Read,
     O: Write,
     requires { 0 < length chunk.old }
-    ensures session { (input : List ℕ) × (text : List ℕ) × Consumes (I.remaining reader.old) (I.remaining reader.new) input × Appends (O.contents writer.old) (O.contents writer.new) text × IsSession result input text }
+    ensures session { Exchanges (I.remaining reader.old) (I.remaining reader.new) (O.contents writer.old) (O.contents writer.new) (IsSession result) }
     ensures end { OnOk result (IsAtEnd (I.remaining reader.new)) }
 {
     let mut conversation = Conversation::new(alloc);
@@ -81,19 +81,4 @@ where
         conversation.take(&chunk[..count], writer)?;
     }
     Err(EngineFault::ReadFault)
-}
-
-/// The count of bytes that one read gave, 0 at the end; none where the read was interrupted.
-fn read_some<I: Read>(reader: &mut I, chunk: &mut [u8]) -> Result<Option<usize>, EngineFault>
-    requires { 0 < length chunk.old }
-    ensures bytes { MatchResult result (λ read. MatchOption read (Keeps (I.remaining reader.old) (I.remaining reader.new)) (λ count. Consumes (I.remaining reader.old) (I.remaining reader.new) (take count chunk.new))) (λ _. Keeps (I.remaining reader.old) (I.remaining reader.new)) }
-    ensures count { IfOk result (λ read. IfSome read (λ count. count ≤ length chunk.old)) }
-    ensures end { IfOk result (λ read. IfSome read (λ count. count ≡ 0 → IsAtEnd (I.remaining reader.new))) }
-    ensures fault { IfErr result (λ fault. fault ≡ EngineFault.ReadFault) }
-{
-    match reader.read(chunk) {
-        Ok(count) => Ok(Some(count)),
-        Err(error) if error.kind() == ErrorKind::Interrupted => Ok(None),
-        Err(_) => Err(EngineFault::ReadFault),
-    }
 }

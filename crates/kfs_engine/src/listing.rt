@@ -2,11 +2,11 @@
 ghost use Rattle.std.specs.Prelude.{◌≡◌, ◌++◌, OnOk, codes, decimal};
 ghost use Rattle.hex.specs.Hex.{encode_lower};
 ghost use Rattle.kfs_engine.specs.Listing.{list_text, names_in, names_text};
-ghost use Rattle.kfs_engine.specs.Text.{line_of};
+ghost use Rattle.kfs_text.specs.Parts.{line_of};
 
 use crate::report::LONGEST_LINE;
-use crate::report::parts::{field, number, text};
 use kfs_image::{Image, Name};
+use kfs_text::parts::{field, number, text};
 use std::alloc::{AllocError, Allocator};
 
 /// Appends `list N`, and for each name of the directory in order a space and `HEXNAME:NUMBER`. Where

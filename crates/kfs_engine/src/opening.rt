@@ -1,19 +1,19 @@
 //! What a desk is begun with: the image and the clients.
-ghost use Rattle.std.specs.Prelude.{◌≡◌, ℕ, ◌≤◌, ◌++◌, List, codes, IfErr, IfOk, IsErrOf, OnOk};
+ghost use Rattle.std.specs.Prelude.{◌≡◌, ◌≤◌, codes, IfErr, IfOk, IsErrOf, OnOk};
 ghost use Rattle.kfs_engine.specs.Command as commands;
-ghost use Rattle.kfs_engine.specs.Session.{Before, admitted, fresh, opened};
-ghost use Rattle.kfs_engine.specs.Text.{line_of};
-ghost use Rattle.kfs_engine.specs.Views.{opening_of, stage_after, start_of};
-ghost use Rattle.kfs_desk.specs.Room.{spare_of};
+ghost use Rattle.kfs_engine.specs.Session.{Before, IsReplied, fresh};
+ghost use Rattle.kfs_engine.specs.Views.{Opens, opening_of, stage_after, start_of};
+ghost use Rattle.kfs_text.specs.Parts.{line_of};
+ghost use Rattle.kfs_value.specs.Room.{spare_of};
 
 use crate::command::OpeningCommand;
-use crate::report::parts::text;
 use crate::report::{begin_line, client_line};
-use crate::words::Refusal;
 use kfs_desk::Desk;
 use kfs_desk::answers::BeginFault;
 use kfs_image::{Image, TierSizes};
 use kfs_mode::{Client, ClientFault};
+use kfs_text::Refusal;
+use kfs_text::parts::text;
 use std::alloc::Allocator;
 use std::mem;
 
@@ -45,8 +45,8 @@ impl<A: Allocator + Copy> Opening<A> {
         reply: &mut Vec<u8, A>,
     ) -> Result<Option<Desk<A>>, Refusal>
         requires { 128 ≤ spare_of reply.old }
-        ensures ok { IfOk result (λ begun. (text : List ℕ) × (reply.new.items ≡ reply.old.items ++ text) × (opened (start_of self.old) (opening_of command) ≡ (text, stage_after begun (start_of self.new)))) }
-        ensures bad { IsErrOf result Refusal.BadLine → opened (start_of self.old) (opening_of command) ≡ (line_of (codes "bad line"), Before (start_of self.new)) }
+        ensures ok { IfOk result (λ begun. IsReplied (Opens self.old (opening_of command)) reply.old.items reply.new.items (stage_after begun (start_of self.new))) }
+        ensures bad { IsErrOf result Refusal.BadLine → Opens self.old (opening_of command) (line_of (codes "bad line"), Before (start_of self.new)) }
         ensures memory { IsErrOf result Refusal.OutOfMemory → start_of self.new ≡ start_of self.old }
     {
         match command {
@@ -60,7 +60,7 @@ impl<A: Allocator + Copy> Opening<A> {
     /// Takes a fresh image in place of the one before.
     fn renew(&mut self, sizes: TierSizes, reply: &mut Vec<u8, A>) -> Result<(), Refusal>
         requires { 128 ≤ spare_of reply.old }
-        ensures ok { OnOk result ((reply.new.items ≡ reply.old.items ++ line_of (codes "ok")) × (opened (start_of self.old) (commands.New sizes) ≡ (line_of (codes "ok"), Before (start_of self.new)))) }
+        ensures ok { OnOk result (IsReplied (Opens self.old (commands.New sizes)) reply.old.items reply.new.items (Before (start_of self.new))) }
         ensures err { IfErr result (λ why. (why ≡ Refusal.OutOfMemory) × (start_of self.new ≡ start_of self.old)) }
     {
         self.image = Some(Image::fresh(self.alloc, sizes)?);
@@ -75,7 +75,7 @@ impl<A: Allocator + Copy> Opening<A> {
         reply: &mut Vec<u8, A>,
     ) -> Result<(), Refusal>
         requires { 128 ≤ spare_of reply.old }
-        ensures ok { OnOk result ((reply.new.items ≡ reply.old.items ++ (admitted (start_of self.old) client).0) × ((admitted (start_of self.old) client).1 ≡ Before (start_of self.new))) }
+        ensures ok { OnOk result (IsReplied (Opens self.old (commands.Row client)) reply.old.items reply.new.items (Before (start_of self.new))) }
         ensures err { IfErr result (λ why. (why ≡ Refusal.OutOfMemory) × (start_of self.new ≡ start_of self.old)) }
     {
         match client {
@@ -92,8 +92,8 @@ impl<A: Allocator + Copy> Opening<A> {
     /// want of memory.
     fn begin(&mut self, limit: u32, reply: &mut Vec<u8, A>) -> Result<Option<Desk<A>>, Refusal>
         requires { 128 ≤ spare_of reply.old }
-        ensures ok { IfOk result (λ begun. (text : List ℕ) × (reply.new.items ≡ reply.old.items ++ text) × (opened (start_of self.old) (commands.Begin limit) ≡ (text, stage_after begun (start_of self.new)))) }
-        ensures bad { IsErrOf result Refusal.BadLine → opened (start_of self.old) (commands.Begin limit) ≡ (line_of (codes "bad line"), Before (start_of self.new)) }
+        ensures ok { IfOk result (λ begun. IsReplied (Opens self.old (commands.Begin limit)) reply.old.items reply.new.items (stage_after begun (start_of self.new))) }
+        ensures bad { IsErrOf result Refusal.BadLine → Opens self.old (commands.Begin limit) (line_of (codes "bad line"), Before (start_of self.new)) }
         ensures memory { IsErrOf result Refusal.OutOfMemory → start_of self.new ≡ start_of self.old }
     {
         let image = self.image.take().ok_or(Refusal::BadLine)?;

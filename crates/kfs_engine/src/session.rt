@@ -1,27 +1,27 @@
 //! A session: what each command does, and its reply.
-ghost use Rattle.std.specs.Prelude.{◌≡◌, ℕ, ◌⊎◌, ◌≤◌, ◌++◌, List, codes, Some, IfErr, OnErr, OnOk, IsErrOf, option_map};
+ghost use Rattle.std.specs.Prelude.{◌≡◌, ◌≤◌, ◌++◌, codes, Some, IfErr, OnErr, OnOk, IsErrOf, option_map};
 ghost use Rattle.kfs_model.specs.Table.{get};
 ghost use Rattle.kfs_model.specs.Tree.{headers};
 ghost use Rattle.kfs_value.specs.Views.{header_of};
 ghost use Rattle.kfs_judge.specs.Judging.{HasOtherEntry, submission_of};
 ghost use Rattle.kfs_desk.specs.Machine.{call_of, done_by};
-ghost use Rattle.kfs_desk.specs.Room.{spare_of};
 ghost use Rattle.kfs_engine.specs.Command as commands;
 ghost use Rattle.kfs_engine.specs.Command.{IsBadLine};
-ghost use Rattle.kfs_engine.specs.Session.{After, Answers, Does, IsCalled, IsFull, Replies, Serves, fresh, names_line};
-ghost use Rattle.kfs_engine.specs.Text.{line_of};
+ghost use Rattle.kfs_engine.specs.Session.{After, Answers, Does, IsCallAnswered, IsReplied, Serves, fresh, names_line};
 ghost use Rattle.kfs_engine.specs.Views.{asked_of_desk, opening_of, stage_of};
+ghost use Rattle.kfs_text.specs.Parts.{line_of};
+ghost use Rattle.kfs_value.specs.Room.{spare_of};
 
 use crate::command::{Command, DeskCommand, OpeningCommand};
 use crate::listing::list_line;
 use crate::opening::Opening;
-use crate::report::parts::text;
 use crate::report::{act_line, node_line, reply_line};
-use crate::words::Refusal;
 use kfs_desk::Desk;
 use kfs_desk::answers::{Act, Unanswered};
 use kfs_image::{Answer, Cell, Header, Kind, look};
 use kfs_judge::plan::{Submission, Why};
+use kfs_text::Refusal;
+use kfs_text::parts::text;
 use std::alloc::Allocator;
 
 /// What lines were answered before: the desk, or what it is begun with.
@@ -52,7 +52,7 @@ impl<A: Allocator + Copy> Session<A> {
     /// as it was.
     pub fn answer(&mut self, line: &[u8], reply: &mut Vec<u8, A>) -> Result<(), Refusal>
         requires { 128 ≤ spare_of reply.old }
-        ensures ok { OnOk result ((text : List ℕ) × (reply.new.items ≡ reply.old.items ++ text) × Answers (stage_of self.old) line.now (text, stage_of self.new)) }
+        ensures ok { OnOk result (IsReplied (Answers (stage_of self.old) line.now) reply.old.items reply.new.items (stage_of self.new)) }
         ensures bad { IsErrOf result Refusal.BadLine → Answers (stage_of self.old) line.now (line_of (codes "bad line"), stage_of self.new) }
         ensures memory { IsErrOf result Refusal.OutOfMemory → stage_of self.new ≡ stage_of self.old }
     {
@@ -69,7 +69,7 @@ impl<A: Allocator + Copy> Session<A> {
         reply: &mut Vec<u8, A>,
     ) -> Result<(), Refusal>
         requires { 128 ≤ spare_of reply.old }
-        ensures ok { OnOk result (Replies (Does (stage_of self.old) (commands.Opening (opening_of command))) reply.old.items reply.new.items (stage_of self.new)) }
+        ensures ok { OnOk result (IsReplied (Does (stage_of self.old) (commands.Opening (opening_of command))) reply.old.items reply.new.items (stage_of self.new)) }
         ensures bad { IsErrOf result Refusal.BadLine → Does (stage_of self.old) (commands.Opening (opening_of command)) (line_of (codes "bad line"), stage_of self.new) }
         ensures memory { IsErrOf result Refusal.OutOfMemory → stage_of self.new ≡ stage_of self.old }
     {
@@ -92,7 +92,7 @@ impl<A: Allocator + Copy> Session<A> {
     ) -> Result<(), Refusal>
         requires room { 128 ≤ spare_of reply.old }
         requires good { IsBadLine (Some (commands.Desk (asked_of_desk command))) → ⊥ }
-        ensures ok { OnOk result (Replies (Does (stage_of self.old) (commands.Desk (asked_of_desk command.entry))) reply.old.items reply.new.items (stage_of self.new)) }
+        ensures ok { OnOk result (IsReplied (Does (stage_of self.old) (commands.Desk (asked_of_desk command.entry))) reply.old.items reply.new.items (stage_of self.new)) }
         ensures bad { IsErrOf result Refusal.BadLine → Does (stage_of self.old) (commands.Desk (asked_of_desk command.entry)) (line_of (codes "bad line"), stage_of self.new) }
         ensures memory { IsErrOf result Refusal.OutOfMemory → stage_of self.new ≡ stage_of self.old }
     {
@@ -112,7 +112,7 @@ fn answer_by_desk<A: Allocator + Copy>(
 ) -> Result<(), Refusal>
     requires room { 128 ≤ spare_of reply.old }
     requires good { IsBadLine (Some (commands.Desk (asked_of_desk command))) → ⊥ }
-    ensures ok { OnOk result (Replies (Serves desk.old (asked_of_desk command.entry)) reply.old.items reply.new.items (After desk.new)) }
+    ensures ok { OnOk result (IsReplied (Serves desk.old (asked_of_desk command.entry)) reply.old.items reply.new.items (After desk.new)) }
     ensures err { IfErr result (λ why. (why ≡ Refusal.OutOfMemory) × (desk.new ≡ desk.old)) }
 {
     match command {
@@ -130,7 +130,7 @@ fn make_call<A: Allocator + Copy>(
     reply: &mut Vec<u8, A>,
 ) -> Result<(), Refusal>
     requires { 128 ≤ spare_of reply.old }
-    ensures ok { OnOk result (Replies (λ outcome. IsFull desk.old outcome ⊎ IsCalled desk.old (call_of act.entry) (done_by act.entry) outcome) reply.old.items reply.new.items (After desk.new)) }
+    ensures ok { OnOk result (IsReplied (IsCallAnswered desk.old (call_of act.entry) (done_by act.entry)) reply.old.items reply.new.items (After desk.new)) }
     ensures err { IfErr result (λ why. (why ≡ Refusal.OutOfMemory) × (desk.new ≡ desk.old)) }
 {
     match desk.act(act) {
@@ -148,7 +148,7 @@ fn hand_in<A: Allocator + Copy>(
 ) -> Result<(), Refusal>
     requires room { 128 ≤ spare_of reply.old }
     requires judged { HasOtherEntry submission.log.items → ⊥ }
-    ensures ok { OnOk result (Replies (Serves desk.old (commands.Submit (submission_of submission))) reply.old.items reply.new.items (After desk.new)) }
+    ensures ok { OnOk result (IsReplied (Serves desk.old (commands.Submit (submission_of submission))) reply.old.items reply.new.items (After desk.new)) }
     ensures err { IfErr result (λ why. (why ≡ Refusal.OutOfMemory) × (desk.new ≡ desk.old)) }
 {
     match desk.submit(submission) {
@@ -187,7 +187,7 @@ fn show_node<A: Allocator + Copy>(
     reply: &mut Vec<u8, A>,
 ) -> Result<(), Refusal>
     requires { 128 ≤ spare_of reply.old }
-    ensures ok { OnOk result (Replies (Serves desk.now (commands.Node number)) reply.old.items reply.new.items (After desk.now)) }
+    ensures ok { OnOk result (IsReplied (Serves desk.now (commands.Node number)) reply.old.items reply.new.items (After desk.now)) }
     ensures err { OnErr result ⊥ }
 {
     match header_of_node(desk, number) {

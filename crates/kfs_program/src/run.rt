@@ -1,7 +1,7 @@
 //! The words of the command line, and the exit status.
-ghost use Rattle.std.specs.Prelude.{◌≡◌, ◌≤◌, ℕ, List, length, MatchOption, None, OnOk, Some};
-ghost use Rattle.std.specs.Io.KnownBytes.{Appends, Consumes};
+ghost use Rattle.std.specs.Prelude.{◌≡◌, ◌≤◌, length, MatchOption, None, OnOk, Some};
 ghost use Rattle.kfs_program.specs.Exit.{IsExit, message_of, status_of};
+ghost use Rattle.kfs_text.specs.Streams.{Exchanges};
 
 use clap::Command;
 use clap::error::ErrorKind;
@@ -36,7 +36,7 @@ where
     A: Allocator + Copy,
     I: Read,
     O: Write,
-    ensures { (input : List ℕ) × (text : List ℕ) × Consumes (I.remaining reader.old) (I.remaining reader.new) input × Appends (O.contents writer.old) (O.contents writer.new) text × IsExit (length words.now) result input text }
+    ensures { Exchanges (I.remaining reader.old) (I.remaining reader.new) (O.contents writer.old) (O.contents writer.new) (IsExit (length words.now) result) }
 {
     match asked_of(rt.alloc(), words) {
         Ok(Subcommand::Run) => exit_status(engine(rt, alloc, reader, writer)),

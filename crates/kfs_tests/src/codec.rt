@@ -2,4 +2,3 @@
 
 mod decoded;
 mod memory;
-pub mod vectors;

@@ -9,7 +9,7 @@ pub returns-in_err-count-clause-session : goal.returns-in_err-count-clause-sessi
 returns-in_err-count-clause-session g c =
     let p = err_from_is_err_and c.from_residual.result c.from_residual.ensures.1 in
     let done = c.reads.invariant in
-    (done.0, done.1, Consumes-kept _ _ _ _ done.2 c.in_err-count.ensures.bytes, done.3, rw (p.1, p.2) (Stands-unread (Unit {0}) _ _ _ done.0 done.1 c.in_err-count.ensures.fault done.4))
+    (done.0, done.1, Consumes-kept _ _ _ _ done.2 c.in_err-count.ensures.bytes, done.3, rw (p.1, p.2) (Stands-unread (Unit {0}) ReadFault _ _ done.0 done.1 refl done.4))
 
 pub returns-then-count-eq0-clause-session : goal.returns-then-count-eq0-clause-session
 returns-then-count-eq0-clause-session g c =

@@ -1,15 +1,15 @@
 //! The refusals by their names, with their numbers in brackets. The caller has made room for them.
 ghost use Rattle.std.specs.Prelude.{◌≡◌, ◌+◌, ◌≤◌, ◌++◌};
-ghost use Rattle.kfs_desk.specs.Room.{spare_of};
 ghost use Rattle.kfs_engine.specs.Text.{fault_text, spell_text, row_text, reason_text, lease_text, client_text, begin_text};
+ghost use Rattle.kfs_value.specs.Room.{spare_of};
 
-use super::parts::{number, numbered, text};
 use kfs_desk::answers::BeginFault;
 use kfs_entry::SpellFault;
 use kfs_judge::Reason;
 use kfs_judge::plan::{Fault, RowFault};
 use kfs_lease::LeaseFault;
 use kfs_mode::ClientFault;
+use kfs_text::parts::{number, numbered, text};
 use std::alloc::Allocator;
 
 /// Appends why a submission was refused.

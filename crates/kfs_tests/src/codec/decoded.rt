@@ -1,16 +1,22 @@
 //! Bytes that are logs and plans, what they say, and that this encodes to the same bytes.
 
 use crate::codec::memory::is_same_again;
-use crate::codec::vectors::{
+use crate::vectors::{
     CREATE_LOG, CREATE_PLAN, EDITS_LOG, EDITS_PLAN, EMPTY_LOG, EMPTY_PLAN, GONE_PLAN, MOVE_LOG,
-    MOVE_PLAN, OTHERS_LOG, name,
+    MOVE_PLAN, OTHERS_LOG,
 };
 use kfs_entry::{
-    Entry, Header, Kind, NameRow, NodeRow, Piece, Source, Span, SpellFault, decode_log, decode_plan,
+    Entry, Header, Kind, Name, NameRow, NodeRow, Piece, Source, Span, SpellFault, decode_log,
+    decode_plan,
 };
 use std::alloc::{AllocError, Global};
 use std::process::Abort;
 use std::test::Fail;
+
+/// The name with these bytes.
+fn name(bytes: &[u8]) -> Result<Name, Fail> {
+    Ok(Name::new(bytes).ok_or("a name")?)
+}
 
 /// Whether the bytes are a log of this client with these entries.
 fn is_log(

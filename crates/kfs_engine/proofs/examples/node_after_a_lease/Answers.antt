@@ -1,5 +1,5 @@
 -- Each line is answered by computation.
-use Rattle.std.proofs.Common.{ℕ, List, [], ◌∷◌, Ok, inl, inr, refl}
+use Rattle.std.proofs.Common.{ℕ, List, [], Ok, inl, inr, refl}
 use Rattle.std.specs.Prelude.{codes}
 use Rattle.std.specs.Fmt.{digits}
 use native.Mathlib.Decide.{ℕ_discrete}
@@ -7,8 +7,8 @@ use Rattle.kfs_model.specs.Example.{computing}
 use Rattle.kfs_image.specs.Slots.{changed}
 use Rattle.kfs_value.specs.declared.header.Kind.TheVariants.{Directory}
 use Rattle.kfs_desk.specs.declared.answers.Done.TheVariants.{Leased}
-use Rattle.kfs_engine.specs.Cut.{cut}
-use Rattle.kfs_engine.specs.Command.{numbers32}
+use Rattle.kfs_text.specs.Cut.{cut}
+use Rattle.kfs_text.specs.Decimals.{decimals32}
 use Rattle.kfs_engine.specs.Example.{root_leased}
 use Rattle.kfs_engine.specs.Session.{After}
 use Rattle.kfs_engine.proofs.examples.node_after_a_lease.Goals as goal
@@ -17,7 +17,7 @@ shown_line : List ℕ
 shown_line = codes "node 1 dir 0777 0 0 1 0\n"
 
 pub returns : goal.returns
-unfolding shown_line computing changed ℕ_discrete digits cut numbers32
+unfolding shown_line computing changed ℕ_discrete digits cut decimals32
 returns c = (
   codes "0 leased 1\n",
   After root_leased,

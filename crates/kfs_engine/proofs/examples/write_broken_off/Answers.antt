@@ -2,7 +2,7 @@
 use Rattle.std.proofs.Common.{List, ℕ, [], ◌∷◌, inl, refl, arith}
 use Rattle.std.specs.Prelude.{codes}
 use Rattle.kfs_engine.specs.Conversation.{IsText}
-use Rattle.kfs_engine.specs.Cut.{cut}
+use Rattle.kfs_text.specs.Cut.{cut}
 use Rattle.kfs_engine.specs.Session.{fresh}
 use Rattle.kfs_engine.proofs.examples.write_broken_off.Goals as goal
 

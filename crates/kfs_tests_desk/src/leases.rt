@@ -1,0 +1,409 @@
+//! Leases by calls: paths that no line can say, a node that goes, copies, and refused growths. All clients
+//! here have uid and gid 1000, as all nodes below the root.
+
+use crate::desks::{AMPLE, opening, submission, submit, yes};
+use kfs_desk::Desk;
+use kfs_image::Shape;
+use kfs_lease::LeaseKind::{Read, Write};
+use kfs_lease::{LeaseFault, LeaseKind, Leases};
+use kfs_mode::Client;
+use kfs_tests::refusing::Refusing;
+use std::alloc::Allocator;
+use std::process::Abort;
+use std::test::Fail;
+
+/// More growths than a tree or its leases make.
+const MANY: u64 = 2_000;
+
+/// Client 7 makes the file 5 at `/a`, the directories 20, 30, 31 and 120 at `/d`, `/m`, `/n` and `/p`, the
+/// directory 121 at `/d/e` and the file 122 at `/d/e/f`.
+const TREE_LOG: &[u8] =
+    b"KLOG\x01\0\0\0\x07\0\x07\x01\0\0\0\x01\x01a\0\0\0\x05\0\x01\xa4\x01\0\0\0\x01\
+      \x01d\0\0\0\x14\x01\x01\xed\x01\0\0\0\x01\x01m\0\0\0\x1e\x01\x01\xb6\x01\0\0\0\
+      \x01\x01n\0\0\0\x1f\x01\0I\x01\0\0\0\x01\x01p\0\0\0x\x01\x01\xc0\x01\0\0\0\x14\
+      \x01e\0\0\0y\x01\x01\xc9\x01\0\0\0y\x01f\0\0\0z\0\0\0";
+
+/// The right plan of that log.
+const TREE_PLAN: &[u8] =
+    b"KPLN\x01\0\x07\0\x07\0\0\0\0\0\0\0\x01\x01a\0\0\0\x05\0\0\0\x01\x01d\0\0\0\x14\0\
+      \0\0\x01\x01m\0\0\0\x1e\0\0\0\x01\x01n\0\0\0\x1f\0\0\0\x01\x01p\0\0\0x\0\0\0\x14\
+      \x01e\0\0\0y\0\0\0y\x01f\0\0\0z\0\0\0\x05\x01\x01\xa4\0\0\x03\xe8\0\0\x03\xe8\0\
+      \x01\0\0\0\0\0\0\0\0\0\0\0\x14\x02\x01\xed\0\0\x03\xe8\0\0\x03\xe8\0\x01\0\0\0\0\
+      \0\0\0\0\0\0\0\x1e\x02\x01\xb6\0\0\x03\xe8\0\0\x03\xe8\0\x01\0\0\0\0\0\0\0\0\0\0\
+      \0\x1f\x02\0I\0\0\x03\xe8\0\0\x03\xe8\0\x01\0\0\0\0\0\0\0\0\0\0\0x\x02\x01\xc0\0\
+      \0\x03\xe8\0\0\x03\xe8\0\x01\0\0\0\0\0\0\0\0\0\0\0y\x02\x01\xc9\0\0\x03\xe8\0\0\
+      \x03\xe8\0\x01\0\0\0\0\0\0\0\0\0\0\0z\x01\0\0\0\0\x03\xe8\0\0\x03\xe8\0\x01\0\0\
+      \0\0\0\0\0\0";
+
+/// A desk with these nodes, where there is memory.
+fn tree<A: Allocator + Copy>(alloc: A) -> Option<Desk<A>> {
+    let mut desk = opening(alloc, 100)?;
+    if submit(&mut desk, submission(alloc, TREE_LOG, TREE_PLAN).ok()?) == Ok(yes(1)) {
+        Some(desk)
+    } else {
+        None
+    }
+}
+
+/// A client of uid and gid 1000 without numbers.
+fn client(number: u32) -> Option<Client> {
+    Client::new(number, 1000, 1000, &[], false, 2, 1).ok()
+}
+
+/// Asks for a lease, of a client that is known.
+fn grant<A: Allocator + Clone>(
+    leases: &mut Leases<A>,
+    shape: &Shape<A>,
+    number: u32,
+    path: &str,
+    kind: LeaseKind,
+    end: u64,
+) -> Result<u32, LeaseFault> {
+    let Some(client) = client(number) else {
+        return Err(LeaseFault::UnknownClient);
+    };
+    leases.grant(shape, &[client], number, path.as_bytes(), kind, end)
+}
+
+/// Gives up a lease, of a client that is known.
+fn drop_lease<A: Allocator>(
+    leases: &mut Leases<A>,
+    number: u32,
+    node: u32,
+) -> Result<(), LeaseFault> {
+    let Some(client) = client(number) else {
+        return Err(LeaseFault::UnknownClient);
+    };
+    leases.drop_lease(&[client], number, node)
+}
+
+/// A call of the leases, and what it answers where it answers.
+#[derive(Clone, Copy)]
+enum Call<'a> {
+    Grant(u32, &'a str, LeaseKind, u64, Result<u32, LeaseFault>),
+    Drop(u32, u32, Result<(), LeaseFault>),
+    Tick(u64, Result<(), LeaseFault>),
+    Holds(u32, u32, bool),
+    Moment(u64),
+    RemoveNode(u32),
+}
+
+/// Makes the call, and answers whether it is answered as it says.
+fn is_answered<A: Allocator + Clone>(
+    leases: &mut Leases<A>,
+    shape: &Shape<A>,
+    call: Call<'_>,
+) -> bool {
+    match call {
+        Call::Grant(client, path, kind, end, wanted) => {
+            grant(leases, shape, client, path, kind, end) == wanted
+        }
+        Call::Drop(client, number, wanted) => drop_lease(leases, client, number) == wanted,
+        Call::Tick(moment, wanted) => leases.tick(moment) == wanted,
+        Call::Holds(client, number, wanted) => leases.holds(client, number) == wanted,
+        Call::Moment(wanted) => leases.moment() == wanted,
+        Call::RemoveNode(number) => {
+            leases.remove_node(number);
+            true
+        }
+    }
+}
+
+/// Makes the calls one after another; each is answered as it says.
+fn make_calls<A: Allocator + Clone>(
+    rt: &impl Abort,
+    leases: &mut Leases<A>,
+    shape: &Shape<A>,
+    calls: &[Call<'_>],
+) {
+    let mut count = 0u32;
+    for call in calls {
+        assert!(rt; is_answered(leases, shape, *call), "call {count}");
+        count = count.saturating_add(1);
+    }
+}
+
+/// Makes the calls on the tree of this module, from no leases on.
+fn expect_calls(rt: &(impl Abort + AllocGlobal), calls: &[Call<'_>]) -> Result<(), Fail> {
+    let desk = tree(rt.alloc()).ok_or("a tree")?;
+    let mut leases = Leases::new(rt.alloc());
+    make_calls(rt, &mut leases, desk.image().shape(), calls);
+    Ok(())
+}
+
+const PATHS_THAT_NO_LINE_CAN_SAY: [Call<'static>; 3] = [
+    Call::Grant(7, "", Write, 1, Err(LeaseFault::BadPath)),
+    Call::Grant(7, "/\0", Write, 1, Err(LeaseFault::BadPath)),
+    Call::Grant(7, "/a\0", Write, 1, Err(LeaseFault::BadPath)),
+];
+
+const CALLS_AND_NODES_THAT_GO: [Call<'static>; 14] = [
+    Call::Grant(7, "/a", Read, 100, Ok(5)),
+    Call::Grant(9, "/a", Read, 100, Ok(5)),
+    Call::Grant(7, "/", Write, 100, Ok(1)),
+    Call::Grant(8, "/d", Write, 100, Ok(20)),
+    Call::RemoveNode(5),
+    Call::Drop(7, 5, Err(LeaseFault::NoLeaseHeld)),
+    Call::Drop(9, 5, Err(LeaseFault::NoLeaseHeld)),
+    Call::Holds(7, 1, true),
+    Call::Holds(8, 20, true),
+    Call::RemoveNode(6),
+    Call::RemoveNode(20),
+    Call::Holds(7, 1, true),
+    Call::Holds(8, 20, false),
+    Call::Grant(9, "/d", Write, 100, Ok(20)),
+];
+
+#[test]
+fn paths_that_no_line_can_say_and_nodes_that_go(rt: HostRuntime) -> Result<(), Fail> {
+    expect_calls(&rt, &PATHS_THAT_NO_LINE_CAN_SAY)?;
+    expect_calls(&rt, &CALLS_AND_NODES_THAT_GO)
+}
+
+const BEFORE_THE_COPY: [Call<'static>; 6] = [
+    Call::Grant(7, "/m", Read, 20, Ok(30)),
+    Call::Drop(7, 30, Ok(())),
+    Call::Grant(7, "/a", Write, 10, Ok(5)),
+    Call::Grant(8, "/d", Read, 20, Ok(20)),
+    Call::Tick(3, Ok(())),
+    Call::Moment(3),
+];
+
+const ON_THE_COPY: [Call<'static>; 6] = [
+    Call::Holds(7, 5, true),
+    Call::Tick(2, Err(LeaseFault::Backwards)),
+    Call::Moment(3),
+    Call::Tick(10, Ok(())),
+    Call::Holds(7, 5, false),
+    Call::Drop(8, 20, Ok(())),
+];
+
+const ON_THE_TABLE: [Call<'static>; 7] = [
+    Call::Tick(4, Ok(())),
+    Call::Holds(7, 5, true),
+    Call::Grant(7, "/d", Write, 20, Err(LeaseFault::LeaseHeld(8))),
+    Call::Drop(7, 5, Ok(())),
+    Call::Drop(8, 20, Ok(())),
+    Call::Grant(8, "/m", Write, 100, Ok(30)),
+    Call::Holds(8, 30, true),
+];
+
+const ON_THE_COPY_THEN: [Call<'static>; 3] = [
+    Call::Moment(10),
+    Call::Holds(8, 30, false),
+    Call::Grant(7, "/m", Write, 20, Ok(30)),
+];
+
+#[test]
+fn a_copy_and_the_table_go_on_apart(rt: HostRuntime) -> Result<(), Fail> {
+    let desk = tree(rt.alloc()).ok_or("a tree")?;
+    let shape = desk.image().shape();
+    let mut leases = Leases::new(rt.alloc());
+    make_calls(&rt, &mut leases, shape, &BEFORE_THE_COPY);
+    let mut copied = leases.copy()?;
+    make_calls(&rt, &mut copied, shape, &ON_THE_COPY);
+    make_calls(&rt, &mut leases, shape, &ON_THE_TABLE);
+    make_calls(&rt, &mut copied, shape, &ON_THE_COPY_THEN);
+    Ok(())
+}
+
+/// A lease that is granted: the client, the path, the number of the node there, the kind and the end.
+type Granted = (u32, &'static str, u32, LeaseKind, u64);
+
+/// Leases that are granted one after another, more than one node of a map has room for. The last takes
+/// the place of the first, which the same client has on the same node.
+const GRANTS: [Granted; 19] = [
+    (7, "/a", 5, Write, 20),
+    (9, "/", 1, Read, 90),
+    (7, "/d", 20, Write, 30),
+    (10, "/", 1, Read, 10),
+    (9, "/d/e", 121, Read, 25),
+    (8, "/", 1, Read, 60),
+    (7, "/", 1, Read, 50),
+    (8, "/d/e", 121, Read, 70),
+    (10, "/d/e", 121, Read, 15),
+    (7, "/d/e", 121, Read, 80),
+    (9, "/m", 30, Read, 35),
+    (8, "/m", 30, Read, 55),
+    (10, "/n", 31, Write, 45),
+    (8, "/p", 120, Write, 65),
+    (7, "/d/e/f", 122, Read, 12),
+    (8, "/d/e/f", 122, Read, 11),
+    (9, "/d/e/f", 122, Read, 14),
+    (10, "/d/e/f", 122, Read, 13),
+    (7, "/a", 5, Write, 40),
+];
+
+/// The last of the first `count` grants that is of this client on this node: its kind and its end.
+fn last_of(grants: &[Granted], count: u32, client: u32, number: u32) -> Option<(LeaseKind, u64)> {
+    let mut last = None;
+    let mut index = 0u32;
+    for (of, _, on, kind, end) in grants {
+        if index < count && *of == client && *on == number {
+            last = Some((*kind, *end));
+        }
+        index = index.saturating_add(1);
+    }
+    last
+}
+
+/// Whether the client still has a lease on the node at this moment.
+fn is_live<A: Allocator + Clone>(
+    leases: &Leases<A>,
+    client: u32,
+    number: u32,
+    moment: u64,
+) -> Option<bool> {
+    let mut copied = leases.copy().ok()?;
+    copied.tick(moment).ok()?;
+    match drop_lease(&mut copied, client, number) {
+        Ok(()) => Some(true),
+        Err(LeaseFault::NoLeaseHeld) => Some(false),
+        Err(_) => None,
+    }
+}
+
+/// Whether the client has the lease on the node that it has by the first `count` grants, of that kind and
+/// until that end.
+fn is_as_granted<A: Allocator + Clone>(
+    leases: &Leases<A>,
+    grants: &[Granted],
+    count: u32,
+    client: u32,
+    number: u32,
+) -> bool {
+    let holds = leases.holds(client, number);
+    match last_of(grants, count, client, number) {
+        Some((kind, end)) => {
+            holds == (kind == Write)
+                && is_live(leases, client, number, end.saturating_sub(1)) == Some(true)
+                && is_live(leases, client, number, end) == Some(false)
+        }
+        None => !holds && is_live(leases, client, number, 0) == Some(false),
+    }
+}
+
+/// Whether the table has the leases of the first `count` grants and no other of these grants, at moment 0.
+fn are_as_granted<A: Allocator + Clone>(
+    leases: &Leases<A>,
+    grants: &[Granted],
+    count: u32,
+) -> bool {
+    let mut are_right = leases.moment() == 0;
+    for (client, _, number, _, _) in grants {
+        are_right = are_right && is_as_granted(leases, grants, count, *client, *number);
+    }
+    are_right
+}
+
+/// Makes these grants one after another. Where one finds no memory, the leases are as they were, and it is
+/// made once more. Answers how often that was.
+fn make_grants<A: Allocator + Clone>(
+    rt: &impl Abort,
+    leases: &mut Leases<A>,
+    shape: &Shape<A>,
+    grants: &[Granted],
+) -> u32 {
+    let mut refusals = 0u32;
+    let mut count = 0u32;
+    for (client, path, number, kind, end) in grants {
+        let mut answer = grant(leases, shape, *client, path, *kind, *end);
+        if answer == Err(LeaseFault::OutOfMemory) {
+            assert!(rt;
+                are_as_granted(leases, grants, count),
+                "before grant {count}"
+            );
+            refusals = refusals.saturating_add(1);
+            answer = grant(leases, shape, *client, path, *kind, *end);
+        }
+        assert!(rt; answer == Ok(*number), "grant {count}");
+        count = count.saturating_add(1);
+    }
+    refusals
+}
+
+/// Whether a copy is made.
+fn is_copied<A: Allocator + Clone>(leases: &Leases<A>) -> bool {
+    leases.copy().is_ok()
+}
+
+/// Whether the table and a copy of it have the leases of all grants.
+fn are_both_as_granted<A: Allocator + Clone>(leases: &Leases<A>, grants: &[Granted]) -> bool {
+    match leases.copy() {
+        Ok(copied) => {
+            are_as_granted(leases, grants, u32::MAX) && are_as_granted(&copied, grants, u32::MAX)
+        }
+        Err(_) => false,
+    }
+}
+
+/// Makes the grants and a copy with the growth of this index refused, which leaves the leases as they
+/// were. Answers whether it was one of a grant, and whether it was one of the copy.
+fn make_with_one_refused(
+    rt: &(impl Abort + AllocGlobal),
+    grants: &[Granted],
+    growth: u64,
+) -> Option<(bool, bool)> {
+    let heap = Refusing::new(rt.alloc(), AMPLE);
+    let desk = tree(&heap)?;
+    let mut leases = Leases::new(&heap);
+    heap.refuse_after(growth);
+    let refusals = make_grants(rt, &mut leases, desk.image().shape(), grants);
+    let of_a_grant = heap.has_refused();
+    assert!(rt; refusals == u32::from(of_a_grant), "{growth}");
+    let of_the_copy = !is_copied(&leases);
+    assert!(rt;
+        of_the_copy == (!of_a_grant && heap.has_refused()),
+        "{growth}"
+    );
+    heap.refuse_after(AMPLE);
+    assert!(rt; are_both_as_granted(&leases, grants), "{growth}");
+    Some((of_a_grant, of_the_copy))
+}
+
+/// How many growths the grants make, and then the copy, each of which is refused in turn.
+fn growths(rt: &(impl Abort + AllocGlobal), grants: &[Granted]) -> Option<(u32, u32)> {
+    let mut of_grants = 0u32;
+    let mut of_copies = 0u32;
+    for growth in 0..MANY {
+        let (of_a_grant, of_the_copy) = make_with_one_refused(rt, grants, growth)?;
+        if of_a_grant {
+            of_grants = of_grants.saturating_add(1);
+        } else if of_the_copy {
+            of_copies = of_copies.saturating_add(1);
+        } else {
+            return Some((of_grants, of_copies));
+        }
+    }
+    None
+}
+
+#[test]
+fn each_growth_of_a_grant_or_a_copy_refused(rt: HostRuntime) -> Result<(), Fail> {
+    let (of_grants, of_copies) = growths(&rt, &GRANTS).ok_or("few growths")?;
+    assert!(rt; of_grants > 2 && of_copies > 2, "{of_grants}, {of_copies}");
+    Ok(())
+}
+
+/// Whether a tree is made with the growth of this index refused, and whether there was such a growth. After
+/// it a tree is made all the same.
+fn tree_with_one_refused(rt: &(impl Abort + AllocGlobal), growth: u64) -> (bool, bool) {
+    let heap = Refusing::new(rt.alloc(), growth);
+    let is_made = tree(&heap).is_some();
+    let has_refused = heap.has_refused();
+    heap.refuse_after(AMPLE);
+    assert!(rt; tree(&heap).is_some(), "after {growth}");
+    (is_made, has_refused)
+}
+
+#[test]
+fn each_growth_of_an_opening_and_a_tree_refused(rt: HostRuntime) {
+    for growth in 0..MANY {
+        let (is_made, has_refused) = tree_with_one_refused(&rt, growth);
+        if !has_refused {
+            assert!(rt; is_made && growth > 5, "{growth}");
+            return;
+        }
+    }
+    assert!(rt; false, "more growths than expected");
+}

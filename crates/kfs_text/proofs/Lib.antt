@@ -1,0 +1,6 @@
+-- Lemmas on cuts, words and numbers.
+pub mod Cuts
+pub mod NumbersRead
+pub mod Numerals
+pub mod WordByWord
+pub mod WordsCut

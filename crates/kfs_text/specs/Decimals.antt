@@ -1,0 +1,32 @@
+-- Words as numbers and as bytes.
+use Rattle.std.specs.Prelude.{ℕ, ◌-◌, ◌^◌, ◌&&◌, nat_le, nat_lt, Bool, List, [], ◌∷◌, length, codes, bytes_eq, Option, Some, None, option_map, Ok, Err, if◌then◌else◌}
+use Rattle.std.specs.List.{list_all}
+use Rattle.std.specs.Str.Parse.{digits_value}
+use Rattle.hex.specs.Hex.{decode_of}
+
+abbrev pub is_digit : ℕ → Bool
+is_digit byte = nat_le 48 byte && nat_le byte 57
+
+-- decimal digits alone, at least one, of a number that is at most this one; zeros may lead
+abbrev pub decimal_within : (most : ℕ) → List ℕ → Option ℕ
+decimal_within most word =
+    if nat_lt 0 (length word) && (list_all is_digit word && nat_le (digits_value 10 word) most) then Some (digits_value 10 word)
+    else None
+
+abbrev pub decimal32 : List ℕ → Option ℕ
+decimal32 = decimal_within (2 ^ 32 - 1)
+
+abbrev pub decimal64 : List ℕ → Option ℕ
+decimal64 = decimal_within (2 ^ 64 - 1)
+
+-- each word as a number, none where one isn't
+unfoldable pub decimals32 : List (List ℕ) → Option (List ℕ)
+decimals32 [] = Some []
+decimals32 (word ∷ words) = elim (decimal32 word) [
+  | None ↦ None
+  | Some n ↦ option_map (λ ns. n ∷ ns) (decimals32 words)
+]
+
+-- two digits for each byte, and a minus alone for no byte
+abbrev pub hexadecimal : List ℕ → Option (List ℕ)
+hexadecimal word = if bytes_eq word (codes "-") then Some [] else elim (decode_of word) [ Ok bytes ↦ Some bytes | Err fault ↦ None ]

@@ -1,0 +1,5 @@
+pub mod Cut
+pub mod Decimals
+pub mod Parts
+pub mod Reading
+pub mod Streams
