@@ -17,7 +17,7 @@ ghost use Rattle.kfs_model.specs.Table.{empty};
 ghost use Rattle.kfs_model.specs.Lease.{LeaseKind, Leases, AreCompatible, granted, dropped, ticked};
 ghost use Rattle.kfs_model.specs.Order.{IsInOrder};
 ghost use Rattle.std.specs.List.{AllByRecursion};
-ghost use Rattle.kfs_model.specs.Sight.{ClientSight};
+ghost use Rattle.kfs_model.specs.Sight.{Sight, ClientSight};
 ghost use Rattle.kfs_model.specs.Access.{Client, AreDistinct};
 ghost use Rattle.kfs_model.specs.Looked.{LooksAlike, GoesAlike, TreesEndAlike};
 ghost use Rattle.kfs_model.specs.Soundness.{IsSound};
