@@ -1,33 +1,30 @@
 -- What a verdict comes to at the desk is the machine's step.
-use Rattle.std.proofs.Common.{◌≡◌, ℕ, ◌+◌, ◌≤◌, ◌==◌, Bool, true, false, cond, List, [], ◌∷◌, map, length, replicate, Option, Some, None, option_map, is_some, IsTrue, Result, Ok, Err, refl, sym, ap, subst, ◌∙◌, arith, eqb-true}
-use Rattle.std.specs.Prelude.{nat_lt, zip}
-use Rattle.std.specs.List.{list_all}
-use Rattle.std.proofs.lemmas.Bool.{and_parts, eqb-false, le-ltb}
-use Rattle.kfs_model.specs.Header.{Kind, File, Directory, Header}
-use Rattle.kfs_model.specs.Table.{get, insert, empty, retain, numbers, same_table, same_entries_table, get-mapped, get-retain}
-use Rattle.kfs_model.specs.Tree.{Tree, Node, Body, Cells, Names, headers, header_of, target, cells_of, name_count}
-use Rattle.kfs_model.specs.Access.{Client}
-use Rattle.kfs_model.specs.Sight.{ClientSight, sight, is_directory, is_file}
+use Rattle.std.proofs.Common.{◌≡◌, ◌≢◌, ℕ, ◌+◌, ◌≤◌, ◌==◌, ◌&&◌, ◌||◌, not, Bool, true, false, cond, T, List, [], ◌∷◌, map, length, replicate, Option, Some, None, option_map, is_some, Result, Ok, refl, sym, ap, subst, ◌∙◌, arith, eqb-true}
+use Rattle.std.specs.Prelude.{nat_lt, zip, is_none}
+use Rattle.std.specs.List.{list_all, list_any}
+use Rattle.std.proofs.lemmas.Bool.{and_parts, and_from, both_ways, false_from_ne_true, eq-eqb, le-ltb}
+use Rattle.kfs_model.specs.Header.{Header}
+use Rattle.kfs_model.specs.Table.{get, empty, retain, numbers, same_table, same_entries_table, get-mapped, get-retain}
+use Rattle.kfs_model.specs.Tree.{Tree, Node, Body, Cells, Names, headers, header_of, cells_of}
+use Rattle.kfs_model.specs.Sight.{ClientSight}
 use Rattle.kfs_model.specs.Soundness.{IsSound}
-use Rattle.kfs_model.specs.Entry.{Entry, Create, Write, Truncate, Link, Unlink, Rename, Chmod}
-use Rattle.kfs_model.specs.Check.{Reason, first_fault}
-use Rattle.kfs_model.specs.Effect.{effect, change_of, changed_node, swept}
-use Rattle.kfs_model.specs.Run.{Mark, EntryFault, run_from, bytes, entry_context, created_by, byte_of, looked_up}
+use Rattle.kfs_model.specs.Entry.{Entry}
+use Rattle.kfs_model.specs.Run.{Mark, EntryFault, byte_of, looked_up}
 use Rattle.kfs_model.specs.Plan.{header_now, is_base, AreDifferences}
 use Rattle.kfs_model.specs.Placement.{written_blocks, need}
-use Rattle.kfs_model.specs.Lease.{Lease, without_gone}
+use Rattle.kfs_model.specs.Lease.{Lease, Leases, without_gone}
 use Rattle.kfs_model.specs.Judgement.{State, Submission, IsJudgement, Verdict, Yes, No, Accepted, NoRoom, Refused, client_sight_of, free_places, reply_to}
 use Rattle.kfs_model.specs.Machine.{OneByOne, Replied, Submit, are_chosen, leases_after, landed, outcome_of, placed, placement_after, replied, stays}
 use Rattle.kfs_model.proofs.OrderKept.{step_keeps_order}
+use Rattle.kfs_model.proofs.Tables.{found_from_any, any_from_found}
 use Rattle.kfs_model.proofs.RowFits.{row_fits}
 use Rattle.kfs_model.proofs.Cells.{on_node, recut}
-use Rattle.kfs_model.proofs.CleanFacts.{create_facts, some_is}
 use Rattle.kfs_model.proofs.Heads.{get-headers}
-use Rattle.kfs_model.proofs.Links.{named_has_target}
 use Rattle.kfs_model.proofs.Marks.{marks_give_bytes}
-use Rattle.kfs_model.proofs.NameAdded.{kept_target}
 use Rattle.kfs_entry.specs.Answers.{log_of}
-use Rattle.kfs_value.specs.Views.{entry_of}
+use Rattle.kfs_value.specs.Views.{entry_of, header_of as shown_header}
+use Rattle.kfs_value.specs.declared.header.Header.{Header as CodeHeader}
+use Rattle.kfs_value.specs.declared.plan.NodeRow.{NodeRow}
 use Rattle.kfs_value.specs.declared.entry.Log.{Log as CodeLog}
 use Rattle.kfs_value.specs.declared.plan.Plan.{Plan as CodePlan}
 use Rattle.kfs_image.specs.declared.shape.Net.{Net}
@@ -47,53 +44,10 @@ use Rattle.kfs_judge.specs.declared.plan.Fault.{Fault}
 use Rattle.kfs_desk.specs.declared.answers.Reply.{Reply}
 use Rattle.kfs_desk.specs.declared.answers.Reply.TheVariants as replies
 use Rattle.kfs_desk.specs.Docket.{is_rejudged, position_of}
-use Rattle.kfs_desk.specs.Landing.{CanLand, answer_at, image_after}
+use Rattle.kfs_desk.specs.Landing.{CanLand, answer_at, ended_by, ended_with, image_after, leases_left}
 use Rattle.kfs_desk.specs.Machine.{Parts, IsDesk, IsAnswered, IsStep, IsDone, Means, shown, state_of}
 
--- ---- no judged entry takes a name away
-
--- another node has the names that were there
-changed_names : (t : Tree ℕ) (n : ℕ) (change : Node ℕ → Node ℕ) → (changed_node change n t).names ≡ t.names
-changed_names t n change = by (get t.nodes n)
-  where
-    by : (found : Option (Node ℕ)) → (elim found as (λ _. Tree ℕ) [ None ↦ t | Some node ↦ record { nodes = insert t.nodes n (change node); names = t.names } ]).names ≡ t.names
-    by None = refl
-    by (Some node) = refl
-
-entry_keeps_name : (client : Client) (before : ClientSight) (index : ℕ) (created : List ℕ) (t : Tree ℕ) (entry : Entry) → is_judged entry ≡ true → first_fault (entry_context client before (sight t) created) entry ≡ None
-    → (d : ℕ) (m : List ℕ) (n : ℕ) → target t.names d m ≡ Some n → target (effect bytes client index entry t).names d m ≡ Some n
-unfolding change_of swept
-entry_keeps_name client before index created t (Create e k number kind mode) is clean d m n there =
-    kept_target t.names e k number (create_facts (entry_context client before (sight t) created) e k number kind mode clean).free_name d m n there
-entry_keeps_name client before index created t (Write number offset payload) is clean d m n there = cc
-entry_keeps_name client before index created t (Truncate number size) is clean d m n there = cc
-entry_keeps_name client before index created t (Link number e k) is clean d m n there = cc
-entry_keeps_name client before index created t (Unlink e k kind) is clean d m n there = cc
-entry_keeps_name client before index created t (Rename e k f l) is clean d m n there = cc
-entry_keeps_name client before index created t (Chmod number mode) is clean d m n there = ap (λ names. target names d m) (changed_names t number (λ node. record node { mode = mode })) ∙ there
-
-names_stay : (client : Client) (before : ClientSight) (index : ℕ) (created : List ℕ) (t : Tree ℕ) (entries : List Entry) → list_all is_judged entries ≡ true → (after : Tree ℕ) → run_from bytes client before index created t entries ≡ Ok after
-    → (d : ℕ) (m : List ℕ) (n : ℕ) → target t.names d m ≡ Some n → target after.names d m ≡ Some n
-unfolding run_from
-names_stay client before index created t [] are after ran d m n there = let same : t ≡ after = cc in subst (λ (u : Tree ℕ). target u.names d m ≡ Some n) same there
-names_stay client before index created t (entry ∷ entries) are after ran d m n there =
-    let (is, rest) = and_parts _ _ are in
-    by_fault
-    (λ later clean. names_stay client before (index + 1) (created_by entry created) (effect bytes client index entry t) entries rest after later d m n (entry_keeps_name client before index created t entry is clean d m n there))
-    (first_fault (entry_context client before (sight t) created) entry) refl ran
-  where
-    by_fault : (run_from bytes client before (index + 1) (created_by entry created) (effect bytes client index entry t) entries ≡ Ok after → first_fault (entry_context client before (sight t) created) entry ≡ None → target after.names d m ≡ Some n)
-        → (found : Option Reason) → first_fault (entry_context client before (sight t) created) entry ≡ found
-        → ◌≡◌ {A = Result (Tree ℕ) EntryFault} (elim found [ None ↦ run_from bytes client before (index + 1) (created_by entry created) (effect bytes client index entry t) entries | Some reason ↦ Err (record { entry = index; reason = reason }) ]) (Ok after)
-        → target after.names d m ≡ Some n
-    by_fault later None clean ran' = later ran' clean
-    by_fault later (Some reason) clean ran' = cc
-
--- ---- nodes stay where their names do
-
-is_some_from_directory : (o : Option Header) → is_directory o ≡ true → is_some o ≡ true
-is_some_from_directory None is = cc
-is_some_from_directory (Some h) is = refl
+-- ---- leases on nodes that go
 
 is_some_node : (t : Tree ℕ) (k : ℕ) → is_some (get (headers t) k) ≡ is_some (get t.nodes k)
 is_some_node t k = ap is_some (get-headers t k) ∙ by (get t.nodes k)
@@ -102,22 +56,58 @@ is_some_node t k = ap is_some (get-headers t k) ∙ by (get t.nodes k)
     by None = refl
     by (Some node) = refl
 
-module _ (before after : Tree ℕ) (sound : IsSound before) (sound_after : IsSound after) (kept : (d : ℕ) (m : List ℕ) (n : ℕ) → target before.names d m ≡ Some n → target after.names d m ≡ Some n) where
-  named_stays : (k : ℕ) → 1 ≤ name_count before.names k → is_some (get (headers after) k) ≡ true
-  named_stays k some =
-      let (d, m, there) = named_has_target before.names k some in
-      let node = (sound_after.names_sound d m k (kept d m k there)).node in
-      ap is_some node.1
+-- whether a row says that the node is gone
+abbrev says_gone : ℕ → NodeRow → Bool
+says_gone number row = (number == row.number) && is_none row.now
 
-  heads_stay : (k : ℕ) → is_some (get (headers before) k) ≡ true → is_some (get (headers after) k) ≡ true
-  heads_stay k some = let (h, shown) = some_is (get (headers before) k) some in by (k == 1) refl h shown h.kind refl
-    where
-      by : (root : Bool) → (k == 1) ≡ root → (h : Header) → get (headers before) k ≡ Some h → (kind : Kind) → h.kind ≡ kind → is_some (get (headers after) k) ≡ true
-      by true same h shown kind is = subst (λ n. is_some (get (headers after) n) ≡ true) (sym (eqb-true k 1 same)) (is_some_from_directory (get (headers after) 1) sound_after.root)
-      by false other h shown File is = named_stays k (sound.files k (ap is_file shown ∙ ap (λ (kind : Kind). is_file (Some (record h { kind = kind }))) is)).0
-      by false other h shown Directory is =
-          let one = sound.directories k (ap is_directory shown ∙ ap (λ (kind : Kind). is_directory (Some (record h { kind = kind }))) is) (eqb-false k 1 other) in
-          named_stays k (omega arith)
+cond_twice : {X : Type 0} (a b : Bool) (x : Option X) → cond b None (cond (not a) x None) ≡ cond (a || b) None x
+cond_twice true true x = refl
+cond_twice true false x = refl
+cond_twice false b x = refl
+
+-- the leases that are left on a node
+left_on : (leases : Leases) (rows : List NodeRow) (key : ℕ × ℕ) → get (ended_by leases rows).rows key ≡ cond (list_any (says_gone key.1) rows) None (get leases.rows key)
+unfolding without_gone
+left_on leases [] key = refl
+left_on leases (row ∷ rows) key = by row.now (λ left. left_on left rows key)
+  where
+    by : (now : Option CodeHeader) → ((left : Leases) → get (ended_by left rows).rows key ≡ cond (list_any (says_gone key.1) rows) None (get left.rows key)) → get (ended_by (ended_with leases row.number now) rows).rows key ≡ cond (((key.1 == row.number) && is_none now) || list_any (says_gone key.1) rows) None (get leases.rows key)
+    by None rest =
+        rest (without_gone leases (λ node. not (node == row.number)))
+        ∙ ap (cond (list_any (says_gone key.1) rows) None) (get-retain (λ (k : ℕ × ℕ). not (k.1 == row.number)) leases.rows key)
+        ∙ cond_twice (key.1 == row.number) (list_any (says_gone key.1) rows) (get leases.rows key)
+        ∙ at (key.1 == row.number)
+      where
+        at : (b : Bool) → cond (b || list_any (says_gone key.1) rows) None (get leases.rows key) ≡ cond ((b && true) || list_any (says_gone key.1) rows) None (get leases.rows key)
+        at true = refl
+        at false = refl
+    by (Some header) rest = rest leases ∙ at (key.1 == row.number)
+      where
+        at : (b : Bool) → cond (list_any (says_gone key.1) rows) None (get leases.rows key) ≡ cond ((b && false) || list_any (says_gone key.1) rows) None (get leases.rows key)
+        at true = refl
+        at false = refl
+
+same_moment : (leases : Leases) (rows : List NodeRow) → (ended_by leases rows).moment ≡ leases.moment
+unfolding without_gone
+same_moment leases [] = refl
+same_moment leases (row ∷ rows) = same_moment (ended_with leases row.number row.now) rows ∙ by row.now
+  where
+    by : (now : Option CodeHeader) → (ended_with leases row.number now).moment ≡ leases.moment
+    by None = refl
+    by (Some header) = refl
+
+is_none_is : {X : Type 0} (o : Option X) → is_none o ≡ true → o ≡ None
+is_none_is None is = refl
+is_none_is (Some x) is = cc
+
+-- the rows by the keys of the definitions
+any-keyed : (number : ℕ) (rows : List NodeRow) → list_any (says_gone number) rows ≡ list_any (λ (e : ℕ × Option Header). (number == e.0) && is_none e.1) (map keyed_node_row rows)
+any-keyed number [] = refl
+any-keyed number (row ∷ rows) = λ i. ((number == row.number) && same row.now i) || any-keyed number rows i
+  where
+    same : (now : Option CodeHeader) → is_none now ≡ is_none (option_map shown_header now)
+    same None = refl
+    same (Some header) = refl
 
 -- ---- a Yes
 
@@ -191,25 +181,56 @@ module _ (desk : Parts) (is_desk : IsDesk desk) (lawful : IsLawful desk.image.co
     lawful_after : IsLawful (after_rows desk.image.contents net.names.items net.nodes.items)
     lawful_after = subst IsLawful (sym contents_are) (blank_is_lawful after blank yes.comes.sound)
 
-    -- the nodes of leases stay
-    stays_node : (client number : ℕ) → IsTrue (is_some (get desk.leases.rows (client, number))) → is_some (get (headers after) number) ≡ true
-    stays_node client number leased =
-        heads_stay s.tree after lawful.sound yes.comes.sound (names_stay yes.client sight_before 0 [] s.tree entries are_judged after yes.comes.ran) number (is_desk.in_order.on_nodes client number leased)
+    abbrev entries_of : List (ℕ × Option Header)
+    entries_of = map keyed_node_row net.nodes.items
 
-    leases_stay : leases_after s after ≡ desk.leases
-    unfolding without_gone
-    leases_stay =
-        let is_node : ℕ × ℕ → Bool = λ key. is_some (get after.nodes key.1) in
-        let rows = same_table (retain is_node desk.leases.rows) desk.leases.rows (λ key. get-retain is_node desk.leases.rows key ∙ by key (get desk.leases.rows key) refl) in
-        λ i. record { rows = rows i; moment = desk.leases.moment }
+    abbrev is_gone : ℕ → ℕ × Option Header → Bool
+    is_gone number e = (number == e.0) && is_none e.1
+
+    -- a row says that a node is gone which the tree after hasn't
+    gone_after : (number : ℕ) → list_any (is_gone number) entries_of ≡ true → get (headers after) number ≡ None
+    gone_after number any =
+        let (key, value, found, passes) = found_from_any numbers (is_gone number) entries_of (subst T (sym yes.comes.differs.nodes.ascending) tt) any in
+        let (same, none) = and_parts (number == key) (is_none value) passes in
+        let key_is : number ≡ key = eqb-true number key same in
+        let differs : get (headers s.tree) key ≢ get (headers after) key = λ alike. let missing = yes.comes.differs.nodes.unchanged key alike in cc in
+        let says = yes.comes.differs.nodes.changed key differs in
+        let value_is : value ≡ get (headers after) key = cc in
+        subst (λ k. get (headers after) k ≡ None) (sym key_is) (sym value_is ∙ is_none_is value none)
+
+    gone_said : (number : ℕ) → is_some (get (headers s.tree) number) ≡ true → get (headers after) number ≡ None → list_any (is_gone number) entries_of ≡ true
+    gone_said number there none =
+        let differs : get (headers s.tree) number ≢ get (headers after) number = λ alike. both_ways _ (ap is_some (alike ∙ none)) there in
+        any_from_found numbers (is_gone number) entries_of number None (yes.comes.differs.nodes.changed number differs ∙ ap Some none) (and_from (number == number) true (eq-eqb number number refl) refl)
+
+    gone_rows : (number : ℕ) → is_some (get (headers s.tree) number) ≡ true → list_any (says_gone number) net.nodes.items ≡ not (is_some (get after.nodes number))
+    gone_rows number there = any-keyed number net.nodes.items ∙ by (get (headers after) number) refl ∙ ap not (is_some_node after number)
       where
-        by : (key : ℕ × ℕ) (found : Option Lease) → get desk.leases.rows key ≡ found → cond (is_some (get after.nodes key.1)) (get desk.leases.rows key) None ≡ get desk.leases.rows key
-        by key None is = ap (λ o. cond (is_some (get after.nodes key.1)) o None) is ∙ either (is_some (get after.nodes key.1)) ∙ sym is
+        by : (found : Option Header) → get (headers after) number ≡ found → list_any (is_gone number) entries_of ≡ not (is_some (get (headers after) number))
+        by None is = gone_said number there is ∙ sym (ap (λ o. not (is_some o)) is)
+        by (Some h) is = false_from_ne_true _ (λ any. let none = gone_after number any in cc) ∙ sym (ap (λ o. not (is_some o)) is)
+
+    -- the leases on nodes that go end, and no other
+    leases_end : ended_by desk.leases net.nodes.items ≡ leases_after s after
+    unfolding without_gone
+    leases_end =
+        let is_node : ℕ × ℕ → Bool = λ key. is_some (get after.nodes key.1) in
+        let rows = same_table (ended_by desk.leases net.nodes.items).rows (retain is_node desk.leases.rows) (λ key. left_on desk.leases net.nodes.items key ∙ by key (get desk.leases.rows key) refl ∙ sym (get-retain is_node desk.leases.rows key)) in
+        λ i. record { rows = rows i; moment = same_moment desk.leases net.nodes.items i }
+      where
+        by : (key : ℕ × ℕ) (found : Option Lease) → get desk.leases.rows key ≡ found → cond (list_any (says_gone key.1) net.nodes.items) None (get desk.leases.rows key) ≡ cond (is_some (get after.nodes key.1)) (get desk.leases.rows key) None
+        by key None is =
+            ap (cond (list_any (says_gone key.1) net.nodes.items) None) is ∙ either (list_any (says_gone key.1) net.nodes.items)
+            ∙ sym (ap (λ o. cond (is_some (get after.nodes key.1)) o None) is ∙ either (is_some (get after.nodes key.1)))
           where
             either : (b : Bool) → ◌≡◌ {A = Option Lease} (cond b None None) None
             either true = refl
             either false = refl
-        by key (Some lease) is = ap (λ b. cond b (get desk.leases.rows key) None) (sym (is_some_node after key.1) ∙ stays_node key.0 key.1 (ap is_some is))
+        by key (Some lease) is = ap (λ b. cond b None (get desk.leases.rows key)) (gone_rows key.1 (is_desk.in_order.on_nodes key.0 key.1 (ap is_some is))) ∙ turned (is_some (get after.nodes key.1)) (get desk.leases.rows key)
+          where
+            turned : (b : Bool) (o : Option Lease) → cond (not b) None o ≡ cond b o None
+            turned true o = refl
+            turned false o = refl
 
     no_blocks : written_blocks marked_after ≡ []
     no_blocks = nothing_in (written_blocks marked_after) no_need
@@ -218,8 +239,8 @@ module _ (desk : Parts) (is_desk : IsDesk desk) (lawful : IsLawful desk.image.co
     unfolding retain
     none_placed = ap (λ blocks. placed (zip blocks []) (retain (stays after marked_after) empty)) no_blocks ∙ same_entries_table (retain (stays after marked_after) empty) empty refl
 
-    state_after : (rows : ℕ) → state_of (record desk { image = image_after desk.image (outcomes.Yes log plan net told); rows = rows }) ≡ landed s after marked_after []
-    state_after rows = λ i. record { clients = desk.clients; sizes = desk.image.sizes; tree = tree_is i; leases = sym leases_stay i; placement = sym none_placed i }
+    state_after : (rows : ℕ) → state_of (record desk { image = image_after desk.image (outcomes.Yes log plan net told); leases = ended_by desk.leases net.nodes.items; rows = rows }) ≡ landed s after marked_after []
+    state_after rows = λ i. record { clients = desk.clients; sizes = desk.image.sizes; tree = tree_is i; leases = leases_end i; placement = sym none_placed i }
 
     yes_answer : Accepted told ≡ reply_to s (Yes after marked_after)
     unfolding reply_to
@@ -231,13 +252,13 @@ module _ (desk : Parts) (is_desk : IsDesk desk) (lawful : IsLawful desk.image.co
     chosen : are_chosen s (written_blocks marked_after) [] ≡ true
     chosen = ap (λ blocks. are_chosen s blocks []) no_blocks
 
-    yes_fits : (rows : ℕ) → replied s [] (Yes after marked_after) (reply_to s (Yes after marked_after)) ≡ Some (Replied (Accepted told), state_of (record desk { image = image_after desk.image (outcomes.Yes log plan net told); rows = rows }))
+    yes_fits : (rows : ℕ) → replied s [] (Yes after marked_after) (reply_to s (Yes after marked_after)) ≡ Some (Replied (Accepted told), state_of (record desk { image = image_after desk.image (outcomes.Yes log plan net told); leases = ended_by desk.leases net.nodes.items; rows = rows }))
     yes_fits rows =
         ap (replied s [] (Yes after marked_after)) (sym yes_answer)
         ∙ ap (λ b. cond b (Some (Replied (Accepted told), landed s after marked_after [])) None) chosen
         ∙ ap (λ t. Some (Replied (Accepted told), t)) (sym (state_after rows))
 
-    yes_done : (rows : ℕ) → IsDone s submission (state_of (record desk { image = image_after desk.image (outcomes.Yes log plan net told); rows = rows }))
+    yes_done : (rows : ℕ) → IsDone s submission (state_of (record desk { image = image_after desk.image (outcomes.Yes log plan net told); leases = ended_by desk.leases net.nodes.items; rows = rows }))
     yes_done rows = record {
       client = yes.client;
       row = yes.row;
@@ -260,7 +281,7 @@ module _ (desk : Parts) (is_desk : IsDesk desk) (lawful : IsLawful desk.image.co
 
     -- the desk where the outcome has landed
     abbrev pub desk_after : Outcome A → (rows : ℕ) → Parts
-    desk_after outcome rows = record desk { image = image_after desk.image outcome; rows = rows }
+    desk_after outcome rows = record desk { image = image_after desk.image outcome; leases = leases_left desk.leases outcome; rows = rows }
 
     lands_as_step : (outcome : Outcome A) → IsVerdict s submission outcome → (position rows : ℕ) → IsStep s submission (answer_at position outcome) (state_of (desk_after outcome rows))
     unfolding outcome_of reply_to

@@ -1,5 +1,8 @@
--- What a verdict's outcome makes of an image, and the answer to it.
-use Rattle.std.specs.Prelude.{ℕ, false}
+-- What a verdict's outcome makes of an image and of the leases, and the answer to it.
+use Rattle.std.specs.Prelude.{ℕ, ◌==◌, not, false, List, [], ◌∷◌, Option, None, Some}
+use Rattle.kfs_model.specs.Lease.{Leases, without_gone}
+use Rattle.kfs_value.specs.declared.header.Header.{Header}
+use Rattle.kfs_value.specs.declared.plan.NodeRow.{NodeRow}
 use Rattle.kfs_image.specs.Contents.{Shown as ImageShown}
 use Rattle.kfs_image.specs.Change.{after_net}
 use Rattle.kfs_image.specs.ShownTree.{IsLawful}
@@ -8,10 +11,24 @@ use Rattle.kfs_judge.specs.declared.plan.Outcome.TheVariants as outcomes
 use Rattle.kfs_desk.specs.declared.answers.Reply.{Reply}
 use Rattle.kfs_desk.specs.declared.answers.Reply.TheVariants as replies
 
+-- the leases after a row of a net: those on its node end where it is gone
+abbrev pub ended_with : Leases → (number : ℕ) → Option Header → Leases
+ended_with leases number None = without_gone leases (λ node. not (node == number))
+ended_with leases number (Some header) = leases
+
+-- the leases after the rows, one after the other
+abbrev pub ended_by : Leases → List NodeRow → Leases
+ended_by leases [] = leases
+ended_by leases (row ∷ rows) = ended_by (ended_with leases row.number row.now) rows
+
 module _ {A : Type 0} where
   abbrev pub image_after : ImageShown → Outcome A → ImageShown
   image_after image (outcomes.No fault) = image
   image_after image (outcomes.Yes log plan net need) = after_net image net.names.items net.nodes.items
+
+  abbrev pub leases_left : Leases → Outcome A → Leases
+  leases_left leases (outcomes.No fault) = leases
+  leases_left leases (outcomes.Yes log plan net need) = ended_by leases net.nodes.items
 
   -- the tree after is sound, with headers of its own
   abbrev pub CanLand : ImageShown → Outcome A → Type 0

@@ -13,7 +13,8 @@ ghost use Rattle.kfs_image.specs.Contents.{sight_of};
 ghost use Rattle.kfs_image.specs.ShownTree.{IsLawful, tree_of};
 ghost use Rattle.kfs_judge.specs.View.{clients_of, contents_of, leases_of};
 ghost use Rattle.kfs_judge.specs.Judging.{HasOtherEntry, IsVerdict, submission_of};
-ghost use Rattle.kfs_desk.specs.Landing.{CanLand, answer_at, image_after};
+ghost use Rattle.kfs_image.specs.Change.{after_net};
+ghost use Rattle.kfs_desk.specs.Landing.{CanLand, answer_at, ended_by, ended_with, image_after, leases_left};
 ghost use Rattle.kfs_desk.specs.Machine.{IsActed, IsAnswered, IsBackFor, IsChange, IsImageOf, RunsThrough, call_of, done_by, number_of, outcome_at, state_at};
 ghost use Rattle.kfs_desk.specs.Opening.{begin_fault, do_overlap, fault_behind};
 ghost use Rattle.kfs_value.specs.Room.{spare_of};
@@ -21,7 +22,8 @@ ghost use Rattle.kfs_value.specs.Room.{spare_of};
 use crate::answers::{
     Act, ActReply, BeginBack, BeginFault, Done, Reply, SubmissionsBack, Unanswered,
 };
-use kfs_image::shape::{Fill, net_apply};
+use kfs_entry::NodeRow;
+use kfs_image::shape::{Fill, Net, net_apply};
 use kfs_image::{Image, Shape};
 use kfs_judge::View;
 use kfs_judge::plan::{Back, Judged, Outcome, Submission, Why, judge};
@@ -182,7 +184,7 @@ impl<A: Allocator + Copy> Desk<A> {
             &self.clients,
             submission,
         )?;
-        let reply = land(&mut self.image, position, judged)?;
+        let reply = land(&mut self.image, &mut self.leases, position, judged)?;
         self.rows = position + 1;
         Ok(reply)
     }
@@ -331,16 +333,19 @@ fn push_within<T: Drop, A: Allocator>(out: &mut Vec<T, A>, value: T)
     out.push(value).unwrap();
 }
 
-/// Makes the change of what was judged right, at its place in the docket.
+/// Makes the change of what was judged right, at its place in the docket. Leases on nodes that go end.
 fn land<A: Allocator + Copy>(
     image: &mut Image<A>,
+    leases: &mut Arc<Leases<A>, A>,
     position: u32,
     judged: Judged<A>,
 ) -> Result<Reply, Back<A>>
     requires { CanLand image.old judged.outcome }
     ensures answer { IfOk result (λ reply. reply ≡ answer_at position judged.outcome) }
     ensures ok { OnOk result (image.new ≡ image_after image.old judged.outcome) }
-    ensures err { IfErr result (λ back. (back.submission ≡ judged.submission) × (back.why ≡ Why.OutOfMemory) × (image.new ≡ image.old)) }
+    ensures leases { OnOk result (leases.new.value ≡ leases_left leases.old.value judged.outcome) }
+    ensures back { IfErr result (λ back. (back.submission ≡ judged.submission) × (back.why ≡ Why.OutOfMemory)) }
+    ensures err { OnErr result ((image.new ≡ image.old) × (leases.new.value ≡ leases.old.value)) }
 {
     let Judged {
         submission,
@@ -358,7 +363,7 @@ fn land<A: Allocator + Copy>(
             });
         }
     };
-    if net_apply(image, &net, &Fill::empty()).is_err() {
+    if change_state(image, leases, &net).is_err() {
         let why = Why::OutOfMemory;
         return Err(Back { submission, why });
     }
@@ -367,6 +372,41 @@ fn land<A: Allocator + Copy>(
         rejudged,
         need,
     })
+}
+
+/// Makes a net's change. The leases are made the desk's own before the first change: no view shares
+/// them then.
+fn change_state<A: Allocator + Copy>(
+    image: &mut Image<A>,
+    leases: &mut Arc<Leases<A>, A>,
+    net: &Net<A>,
+) -> Result<(), AllocError>
+    requires { IsLawful (after_net image.old net.now.names.items net.now.nodes.items).contents }
+    ensures image { OnOk result (image.new ≡ after_net image.old net.now.names.items net.now.nodes.items) }
+    ensures leases { OnOk result (leases.new.value ≡ ended_by leases.old.value net.now.nodes.items) }
+    ensures err { OnErr result ((image.new ≡ image.old) × (leases.new.value ≡ leases.old.value)) }
+{
+    let leases = Arc::make_mut(leases)?;
+    net_apply(image, net, &Fill::empty())?;
+    end_leases(leases, net.nodes.as_slice());
+    Ok(())
+}
+
+/// Ends the leases on the nodes that go.
+fn end_leases<A: Allocator>(leases: &mut Leases<A>, nodes: &[NodeRow])
+    ensures { leases.new ≡ ended_by leases.old nodes.now }
+{
+    for row in nodes {
+        end_leases_on(leases, row);
+    }
+}
+
+fn end_leases_on<A: Allocator>(leases: &mut Leases<A>, row: &NodeRow)
+    ensures { leases.new ≡ ended_with leases.old row.entry.now.number row.entry.now.now }
+{
+    if row.now.is_none() {
+        leases.remove_node(row.number);
+    }
 }
 
 /// Why a desk can't have these clients: the fault of the first that can't stand behind the earlier ones.

@@ -7,11 +7,11 @@ use Rattle.std.proofs.lemmas.Bool.{and_parts}
 use Rattle.kfs_model.specs.Header.{Kind, File, Directory}
 use Rattle.kfs_model.specs.Access.{Client}
 use Rattle.kfs_model.specs.Entry.{Entry, Create, Write, Truncate, Link, Unlink, Rename, Chmod}
-use Rattle.kfs_model.specs.Table.{numbers, get, insert, get-insert, get-retain, get-mapped}
-use Rattle.kfs_model.specs.Tree.{Tree, Node, Body, Cells, Names, headers, cells_of, is_named}
+use Rattle.kfs_model.specs.Table.{numbers, get, insert, remove, get-insert, get-retain, get-mapped}
+use Rattle.kfs_model.specs.Tree.{Tree, Node, Body, Cells, Names, Links, headers, cells_of, is_named}
 use Rattle.kfs_model.specs.Sight.{sight, ClientSight}
 use Rattle.kfs_model.specs.Check.{Reason, first_fault}
-use Rattle.kfs_model.specs.Effect.{effect, change_of, swept, new_body}
+use Rattle.kfs_model.specs.Effect.{effect, change_of, swept, new_body, with_names, moved_name}
 use Rattle.kfs_model.specs.Run.{Mark, Base, EntryFault, run, run_from, bytes, marks, marked, created_by, places_from, base_marks, mapped_body, byte_of, looked_up, entry_context}
 use Rattle.kfs_model.specs.Plan.{is_base}
 use Rattle.kfs_model.proofs.Cells.{recut, headers-recut}
@@ -95,13 +95,18 @@ module _ (client : Client) (index n mode : ℕ) (t : Tree Mark) (untouched : IsU
   unfolding change_of
   chmod-untouched = swept-untouched _ (changed-untouched (get t.nodes n) refl)
 
+-- other names, the same nodes
+names-untouched : (t : Tree Mark) (names : Links) → IsUntouched t → IsUntouched (swept (with_names names t))
+names-untouched t names untouched = swept-untouched (with_names names t) (record { cells = untouched.cells })
+
 entry-untouched : (client : Client) (index : ℕ) (entry : Entry) (t : Tree Mark) → is_judged entry ≡ true → IsUntouched t → IsUntouched (effect marks client index entry t)
+unfolding change_of
 entry-untouched client index (Create d m n kind mode) t is untouched = create-untouched client index d m n kind mode t untouched
 entry-untouched client index (Write n offset payload) t is untouched = cc
 entry-untouched client index (Truncate n size) t is untouched = cc
-entry-untouched client index (Link n d m) t is untouched = cc
-entry-untouched client index (Unlink d m kind) t is untouched = cc
-entry-untouched client index (Rename d m e k) t is untouched = cc
+entry-untouched client index (Link n d m) t is untouched = names-untouched t (insert t.names (d, m) n) untouched
+entry-untouched client index (Unlink d m kind) t is untouched = names-untouched t (remove t.names (d, m)) untouched
+entry-untouched client index (Rename d m e k) t is untouched = names-untouched t (moved_name t.names d m e k) untouched
 entry-untouched client index (Chmod n mode) t is untouched = chmod-untouched client index n mode t untouched
 
 -- ---- a run
