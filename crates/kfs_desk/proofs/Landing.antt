@@ -14,7 +14,7 @@ use Rattle.kfs_model.specs.Effect.{effect, change_of, changed_node, swept}
 use Rattle.kfs_model.specs.Run.{Mark, Scene, EntryFault, run_from, bytes, spot, created_by, byte_of, looked_up}
 use Rattle.kfs_model.specs.Plan.{header_now, is_base, AreDifferences}
 use Rattle.kfs_model.specs.Placement.{written_blocks, need}
-use Rattle.kfs_model.specs.Lease.{Lease, without_gone}
+use Rattle.kfs_model.specs.Lease.{Lease, on_those, without_gone}
 use Rattle.kfs_model.specs.Judgement.{State, Submission, IsJudgement, Verdict, Yes, No, Accepted, NoRoom, Refused, scene_of, free_places, reply_to}
 use Rattle.kfs_model.specs.Machine.{OneByOne, Replied, Submit, are_chosen, leases_after, landed, outcome_of, placed, placement_after, replied, stays}
 use Rattle.kfs_model.proofs.OrderKept.{step_keeps_order}
@@ -33,7 +33,8 @@ use Rattle.kfs_image.specs.declared.shape.Net.{Net}
 use Rattle.kfs_image.specs.Change.{after_rows}
 use Rattle.kfs_image.specs.ShownTree.{tree_of, IsLawful}
 use Rattle.kfs_image.proofs.BlankTrees.{IsBlank, blank_is_shown, blank_is_lawful, shown_zero}
-use Rattle.kfs_image.proofs.NetTables.{contents_in, net_makes}
+use Rattle.kfs_image.specs.Contents.{contents_in}
+use Rattle.kfs_image.proofs.NetTables.{net_makes}
 use Rattle.kfs_judge.specs.JudgedEntries.{is_judged}
 use Rattle.kfs_judge.specs.Rows.{keyed_node_row}
 use Rattle.kfs_judge.specs.Judging.{IsVerdict, Tells, TellsYes}
@@ -196,7 +197,7 @@ module _ (desk : Parts) (is_desk : IsDesk desk) (lawful : IsLawful desk.image.co
         heads_stay s.tree after lawful.sound yes.comes.sound (names_stay scene 0 [] s.tree entries are_judged after yes.comes.ran) number (is_desk.in_order.on_nodes client number leased)
 
     leases_stay : leases_after s after ≡ desk.leases
-    unfolding without_gone
+    unfolding without_gone on_those
     leases_stay =
         let is_node : ℕ × ℕ → Bool = λ key. is_some (get after.nodes key.1) in
         let rows = same_table (retain is_node desk.leases.rows) desk.leases.rows (λ key. get-retain is_node desk.leases.rows key ∙ by key (get desk.leases.rows key) refl) in

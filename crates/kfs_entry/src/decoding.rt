@@ -2,16 +2,14 @@
 ghost use Rattle.std.specs.Prelude.{◌≡◌, ◌≤◌, Result, length, drop, IfOk, IfErr};
 ghost use Rattle.kfs_model.specs.Entry.{Log as LogValue};
 ghost use Rattle.kfs_model.specs.PlanRow.{Plan as PlanValue};
-ghost use Rattle.kfs_model.specs.Spelling.{SpellingFault, LogAnswer, PlanAnswer};
-ghost use Rattle.kfs_entry.specs.RowList.{AreRows, EntryMissing, PartRowMissing};
+ghost use Rattle.kfs_model.specs.Spelling.{AreRows, SpellingFault, LogAnswer, PlanAnswer};
+ghost use Rattle.kfs_entry.specs.RowList.{EntryMissing, PartRowMissing};
 ghost use Rattle.kfs_entry.specs.Answers.{Answered, log_of, plan_of, SpansAreWithin};
 
 use crate::codec::headers;
-use kfs_value::{Entry, Log, Span};
 use crate::fault::SpellFault;
-use kfs_value::{NameRow, NodeRow, Piece, Plan};
 use crate::row::{Row, RowsFault, read_rows};
-use kfs_value::Rows;
+use kfs_value::{Entry, Log, NameRow, NodeRow, Piece, Plan, Rows, Span};
 use std::alloc::Allocator;
 
 /// The entries of a log.

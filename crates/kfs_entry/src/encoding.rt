@@ -5,9 +5,8 @@ ghost use Rattle.kfs_entry.specs.Answers.{log_of, plan_of, SpansAreWithin};
 
 use crate::codec::headers;
 use crate::codec::headers::{LogCounts, PlanCounts};
-use kfs_value::Log;
-use kfs_value::Plan;
 use crate::row::{rows_len, write_rows};
+use kfs_value::{Log, Plan};
 use std::alloc::{AllocError, Allocator};
 
 /// The spelling of a log whose payloads lie in `source`.

@@ -11,5 +11,7 @@ mod table;
 pub use decoding::{decode_log, decode_plan};
 pub use encoding::{encode_log, encode_plan};
 pub use fault::SpellFault;
-pub use kfs_value::{Entry, Header, Kind, Log, Name, NameRow, NodeRow, Piece, Plan, Rows, Source, Span};
+pub use kfs_value::{
+    Entry, Header, Kind, Log, Name, NameRow, NodeRow, Piece, Plan, Rows, Source, Span,
+};
 pub use row::{Row, RowsFault, read_rows, write_rows};

@@ -5,9 +5,9 @@ ghost use Rattle.kfs_model.proofs.Reading.{tagged_read, entry_read};
 ghost use Rattle.kfs_entry.specs.Reading.{seen};
 
 use crate::codec::{byte, kind, mode, name, number32, number64, payload};
-use kfs_value::{Entry, Span};
 use crate::entry_table;
 use crate::row::Row;
+use kfs_value::{Entry, Span};
 use std::alloc::{AllocError, Allocator};
 
 /// The tag of a Write, as the table has it. Only the speed depends on it.
@@ -83,7 +83,7 @@ impl Row for Entry<Span> {
     ghost use Rattle.std.specs.Prelude.{length};
     ghost use Rattle.kfs_model.specs.Spelling.{IsEntry, entry_bytes};
     ghost use Rattle.kfs_value.specs.Views.{entry_of, IsWithin};
-    ghost use Rattle.kfs_entry.specs.RowList.{Begins};
+    ghost use Rattle.kfs_model.specs.Spelling.{Begins};
 
     ghost spelling = { λ source entry. entry_bytes (entry_of source entry) };
 

@@ -6,8 +6,8 @@ ghost use Rattle.kfs_model.proofs.Reading.{node_row_read};
 ghost use Rattle.kfs_entry.specs.Reading.{seen};
 
 use crate::codec::{header, number32};
-use kfs_value::NodeRow;
 use crate::row::Row;
+use kfs_value::NodeRow;
 use std::alloc::{AllocError, Allocator};
 
 #[tactic(auto, unfolding(kfs_model::proofs::Reading::node_row_read))]
@@ -24,7 +24,7 @@ fn read_row(source: &[u8], at: usize) -> Option<(NodeRow, usize)>
 impl Row for NodeRow {
     ghost use Rattle.kfs_model.specs.Spelling.{IsNodeRow, node_row_bytes};
     ghost use Rattle.kfs_value.specs.Views.{node_row_of};
-    ghost use Rattle.kfs_entry.specs.RowList.{Begins};
+    ghost use Rattle.kfs_model.specs.Spelling.{Begins};
 
     ghost spelling = { λ _ row. node_row_bytes (node_row_of row) };
 

@@ -6,8 +6,8 @@ ghost use Rattle.kfs_model.proofs.Reading.{source_read, piece_read};
 ghost use Rattle.kfs_entry.specs.Reading.{seen};
 
 use crate::codec::{byte, number16, number32, number64};
-use kfs_value::{Piece, Source};
 use crate::row::Row;
+use kfs_value::{Piece, Source};
 use std::alloc::{AllocError, Allocator};
 
 #[tactic(auto, unfolding(kfs_model::proofs::Reading::source_read))]
@@ -67,7 +67,7 @@ fn read_piece(source: &[u8], at: usize) -> Option<(Piece, usize)>
 impl Row for Piece {
     ghost use Rattle.kfs_model.specs.Spelling.{IsPiece, piece_bytes};
     ghost use Rattle.kfs_value.specs.Views.{piece_of};
-    ghost use Rattle.kfs_entry.specs.RowList.{Begins};
+    ghost use Rattle.kfs_model.specs.Spelling.{Begins};
 
     ghost spelling = { λ _ piece. piece_bytes (piece_of piece) };
 
