@@ -1,8 +1,8 @@
 -- The leases that the rows of the code show, and what ties their ends to them.
-use Rattle.std.specs.Prelude.{◌≡◌, ℕ, Bool, ◌==◌, not, List, [], ◌∷◌, Option}
+use Rattle.std.specs.Prelude.{◌≡◌, ℕ, Bool, ◌==◌, List, [], ◌∷◌, Option}
 use Rattle.std.specs.BTreeMap as slots_of
 use Rattle.std.specs.BTreeSet as set
-use Rattle.kfs_model.specs.Table.{Order, Table, numbers, pairs, get, insert, retain, empty}
+use Rattle.kfs_model.specs.Table.{Order, numbers, pairs, insert, empty}
 use Rattle.kfs_model.specs.Check.{is_some_and}
 use Rattle.kfs_model.specs.Lease as model
 use Rattle.kfs_lease.specs.declared.rows.LeaseKind.{LeaseKind}

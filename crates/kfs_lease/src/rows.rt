@@ -1,5 +1,5 @@
 //! The rows of leases by node and client, and their ends in order.
-ghost use Rattle.std.specs.Prelude.{◌≡◌, ℕ, ◌<◌, ◌≤◌, ◌==◌, ◌&&◌, ◌||◌, IsTrue, IsSome, IfSome, IfNone, IfOk, OnOk, OnErr, option_map, is_some, None, false, if◌then◌else◌};
+ghost use Rattle.std.specs.Prelude.{◌≡◌, ℕ, ◌<◌, ◌≤◌, ◌==◌, ◌&&◌, ◌||◌, not, IsTrue, IsSome, IfSome, IfNone, IfOk, OnOk, OnErr, option_map, is_some, None, false, if◌then◌else◌};
 ghost use Rattle.std.specs.Ordering.{eq_by_cmp};
 ghost use Rattle.std.specs.BTreeMap as slots_of;
 ghost use Rattle.std.specs.BTreeSet as set;
