@@ -12,7 +12,7 @@ use Rattle.kfs_model.specs.Entry.{Entry}
 use Rattle.kfs_model.specs.Run.{Mark, EntryFault, byte_of, looked_up}
 use Rattle.kfs_model.specs.Plan.{header_now, is_base, AreDifferences}
 use Rattle.kfs_model.specs.Placement.{written_blocks, need}
-use Rattle.kfs_model.specs.Lease.{Lease, Leases, without_gone}
+use Rattle.kfs_model.specs.Lease.{Lease, Leases, on_those, without_gone}
 use Rattle.kfs_model.specs.Judgement.{State, Submission, IsJudgement, Verdict, Yes, No, Accepted, NoRoom, Refused, client_sight_of, free_places, reply_to}
 use Rattle.kfs_model.specs.Machine.{OneByOne, Replied, Submit, are_chosen, leases_after, landed, outcome_of, placed, placement_after, replied, stays}
 use Rattle.kfs_model.proofs.OrderKept.{step_keeps_order}
@@ -31,7 +31,8 @@ use Rattle.kfs_image.specs.declared.shape.Net.{Net}
 use Rattle.kfs_image.specs.Change.{after_rows}
 use Rattle.kfs_image.specs.ShownTree.{tree_of, IsLawful}
 use Rattle.kfs_image.proofs.BlankTrees.{IsBlank, blank_is_shown, blank_is_lawful, shown_zero}
-use Rattle.kfs_image.proofs.NetTables.{contents_in, net_makes}
+use Rattle.kfs_image.specs.Contents.{contents_in}
+use Rattle.kfs_image.proofs.NetTables.{net_makes}
 use Rattle.kfs_judge.specs.JudgedEntries.{is_judged}
 use Rattle.kfs_judge.specs.Rows.{keyed_node_row}
 use Rattle.kfs_judge.specs.Judging.{IsVerdict, Tells, TellsYes}
@@ -67,7 +68,7 @@ cond_twice false b x = refl
 
 -- the leases that are left on a node
 left_on : (leases : Leases) (rows : List NodeRow) (key : ℕ × ℕ) → get (ended_by leases rows).rows key ≡ cond (list_any (says_gone key.1) rows) None (get leases.rows key)
-unfolding without_gone
+unfolding without_gone on_those
 left_on leases [] key = refl
 left_on leases (row ∷ rows) key = by row.now (λ left. left_on left rows key)
   where
@@ -88,7 +89,7 @@ left_on leases (row ∷ rows) key = by row.now (λ left. left_on left rows key)
         at false = refl
 
 same_moment : (leases : Leases) (rows : List NodeRow) → (ended_by leases rows).moment ≡ leases.moment
-unfolding without_gone
+unfolding without_gone on_those
 same_moment leases [] = refl
 same_moment leases (row ∷ rows) = same_moment (ended_with leases row.number row.now) rows ∙ by row.now
   where
@@ -212,7 +213,7 @@ module _ (desk : Parts) (is_desk : IsDesk desk) (lawful : IsLawful desk.image.co
 
     -- the leases on nodes that go end, and no other
     leases_end : ended_by desk.leases net.nodes.items ≡ leases_after s after
-    unfolding without_gone
+    unfolding without_gone on_those
     leases_end =
         let is_node : ℕ × ℕ → Bool = λ key. is_some (get after.nodes key.1) in
         let rows = same_table (ended_by desk.leases net.nodes.items).rows (retain is_node desk.leases.rows) (λ key. left_on desk.leases net.nodes.items key ∙ by key (get desk.leases.rows key) refl ∙ sym (get-retain is_node desk.leases.rows key)) in

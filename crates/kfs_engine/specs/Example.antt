@@ -1,15 +1,12 @@
 -- The desk of the worked sessions: a new image of three tiers of eight blocks, and client 7.
-use Rattle.std.specs.Prelude.{[], ◌∷◌, false}
-use Rattle.kfs_model.specs.Access.{Client}
+use Rattle.std.specs.Prelude.{[], ◌∷◌}
+use Rattle.kfs_model.specs.Example.{client_7}
 use Rattle.kfs_model.specs.Lease.{WriteLease}
 use Rattle.kfs_model.specs.Machine.{opening}
 use Rattle.kfs_model.specs.Table.{empty, insert}
 use Rattle.kfs_image.specs.Contents.{root_alone}
 use Rattle.kfs_image.specs.ShownTree.{tree_of}
 use Rattle.kfs_desk.specs.Machine.{Desk}
-
-abbrev pub client_7 : Client
-client_7 = record { number = 7; uid = 1000; gid = 1000; groups = []; privileged = false; first = 2; last = 99 }
 
 abbrev pub desk_of_7 : Desk
 desk_of_7 = record {

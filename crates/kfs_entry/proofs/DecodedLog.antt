@@ -1,20 +1,20 @@
 -- A log that was decoded, and why one was not, as the definitions say it.
-use Rattle.std.proofs.Common.{◌≡◌, ◌≢◌, ℕ, ◌<◌, ◌≤◌, List, [], ◌++◌, length, drop, map, sym, ap, ◌∙◌, arith}
+use Rattle.std.proofs.Common.{◌≡◌, ◌≢◌, ℕ, ◌<◌, ◌≤◌, List, [], ◌++◌, length, drop, map, ap, ◌∙◌, arith}
 use Rattle.std.specs.List.{AllByRecursion}
 use Rattle.std.specs.Prelude.{All}
 use Rattle.std.proofs.lemmas.List.Elements.{All-from_recursion}
-use Rattle.std.proofs.lemmas.List.{append-nil, drop_all, length-drop, length-map}
+use Rattle.std.proofs.lemmas.List.{append-nil, drop_all, length-drop}
 use Rattle.kfs_model.specs.Entry.{Log}
-use Rattle.kfs_model.specs.Spelling.{Stand, LogHeader, IsLogHeader, log_header, IsEntry, entry_bytes, IsLog, log_bytes, LogAnswer}
+use Rattle.kfs_model.specs.Spelling.{AreRows, Begins, LogHeader, IsLogHeader, log_header, IsEntry, entry_bytes, IsLog, log_bytes, LogAnswer}
 use Rattle.kfs_model.proofs.AnswersExist.{spelled_log}
 use Rattle.kfs_value.specs.declared.entry.Entry.{Entry as CodeEntry}
 use Rattle.kfs_value.specs.declared.entry.Span.{Span}
 use Rattle.kfs_entry.specs.declared.fault.SpellFault.{SpellFault}
 use Rattle.kfs_entry.specs.declared.fault.SpellFault.TheVariants as faults
 use Rattle.kfs_value.specs.Views.{entry_of, IsWithin}
-use Rattle.kfs_entry.specs.RowList.{AreRows, Begins, EntryMissing}
+use Rattle.kfs_entry.specs.RowList.{EntryMissing}
 use Rattle.kfs_entry.specs.Answers.{Refused}
-use Rattle.kfs_entry.proofs.RowLaws.{both_hold, map_holds, AllByRecursion-weaker, flat_map-map, stop_from}
+use Rattle.kfs_entry.proofs.RowLaws.{both_hold, AllByRecursion-weaker, stand_from, stop_from}
 
 -- what is known of the entries that were read
 abbrev pub Fit : List ℕ → CodeEntry Span → Type 0
@@ -31,13 +31,8 @@ pub log_is_spelled : (source : List ℕ) (h : LogHeader) (at end : ℕ) (entries
     → length entries ≡ h.count → AreRows (Fit source) (spelled source) entries (drop at source) (drop end source)
     → IsLog (log_from h source entries) × (source ≡ log_bytes (log_from h source entries) ++ drop end source)
 log_is_spelled source h at end entries fits front number are =
-    let stand : Stand IsEntry entry_bytes h.count (drop at source) (drop end source) = record {
-      rows = map (entry_of source) entries;
-      number = length-map entries (entry_of source) ∙ number;
-      fit = map_holds (entry_of source) (Fit source) IsEntry (λ e f. f.1) entries are.fit;
-      spelled = are.spelled ∙ ap (λ (b : List ℕ). b ++ drop end source) (sym (flat_map-map (entry_of source) entry_bytes entries));
-    } in
-    spelled_log source (drop at source) (drop end source) h fits front stand
+    spelled_log source (drop at source) (drop end source) h fits front
+    (stand_from (entry_of source) (Fit source) IsEntry entry_bytes (λ e f. f.1) entries h.count (drop at source) (drop end source) number are)
 
 pub spans_are_within : (source : List ℕ) (entries : List (CodeEntry Span)) (bytes rest : List ℕ) → AreRows (Fit source) (spelled source) entries bytes rest → AllByRecursion (IsWithin (length source)) entries
 spans_are_within source entries bytes rest are = AllByRecursion-weaker (Fit source) (IsWithin (length source)) (λ e f. f.0) entries are.fit

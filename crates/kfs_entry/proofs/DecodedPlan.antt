@@ -1,22 +1,16 @@
 -- A plan that was decoded, and why one was not, as the definitions say it.
-use Rattle.std.proofs.Common.{◌≡◌, ℕ, List, ◌++◌, length, map, sym, ap, subst, ◌∙◌}
-use Rattle.std.proofs.lemmas.List.{length-map}
-use Rattle.kfs_model.specs.Spelling.{Stand, Stop, Counts, AreCounts, plan_header, PartStops, PlanAnswer}
+use Rattle.std.proofs.Common.{◌≡◌, ℕ, List, ◌++◌, length, sym, subst}
+use Rattle.kfs_model.specs.Spelling.{AreRows, Begins, Stand, Stop, Counts, AreCounts, plan_header, PartStops, PlanAnswer}
 use Rattle.kfs_entry.specs.declared.fault.SpellFault.{SpellFault}
 use Rattle.kfs_entry.specs.declared.fault.SpellFault.TheVariants as faults
-use Rattle.kfs_entry.specs.RowList.{AreRows, Begins, PartRowMissing}
+use Rattle.kfs_entry.specs.RowList.{PartRowMissing}
 use Rattle.kfs_entry.specs.Answers.{Refused}
-use Rattle.kfs_entry.proofs.RowLaws.{map_holds, flat_map-map, stop_from}
+use Rattle.kfs_entry.proofs.RowLaws.{stand_from, stop_from}
 
 -- the rows of a part that were read stand there
 abbrev pub part_stands : {R V : Type 0} (view : R → V) (F : V → Type 0) (s : V → List ℕ) (rows : List R) (count : ℕ) (bytes rest : List ℕ)
     → length rows ≡ count → AreRows (λ r. F (view r)) (λ r. s (view r)) rows bytes rest → Stand F s count bytes rest
-part_stands view F s rows count bytes rest number are = record {
-  rows = map view rows;
-  number = length-map rows view ∙ number;
-  fit = map_holds view (λ r. F (view r)) F (λ r f. f) rows are.fit;
-  spelled = are.spelled ∙ ap (λ (l : List ℕ). l ++ rest) (sym (flat_map-map view s rows));
-}
+part_stands view F s rows count bytes rest number are = stand_from view (λ r. F (view r)) F s (λ r f. f) rows count bytes rest number are
 
 -- a part of a plan whose row is missing: what stands before it makes the answer
 pub part_is_missing : {R V : Type 0} (view : R → V) (F : V → Type 0) (s : V → List ℕ) (source bytes : List ℕ) (c : Counts) (rows : List ℕ) (number given count : ℕ) (fault : SpellFault)

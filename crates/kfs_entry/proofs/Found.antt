@@ -1,9 +1,8 @@
 -- What a reader of the code found, by the laws of its field.
 use Rattle.std.proofs.Common.{◌≡◌, ℕ, List, ◌++◌, drop, Option, Some, None, sym, ap, ◌∙◌}
 use Rattle.std.specs.Prelude.{IfSome, IfNone}
-use Rattle.kfs_model.specs.Spelling.{IsBytes, BeginsWithNo}
+use Rattle.kfs_model.specs.Spelling.{IsBytes, Begins}
 use Rattle.kfs_entry.specs.Reading.{seen}
-use Rattle.kfs_entry.specs.RowList.{Begins}
 use Rattle.kfs_model.proofs.Fields.{IsBytes-drop, IsField}
 
 -- what was read stands there
@@ -30,9 +29,6 @@ is_none view field source bytes (Some x) e = tt
 is_none {V} {M} {F} {s} {r} view field source bytes None e = λ begins.
     let again : read_none {V = M × List ℕ} ≡ Some (begins.0, begins.1) = e ∙ ap r begins.3 ∙ field.again begins.0 begins.1 begins.2 in
     cc
-
-pub begins_with_no : {M : Type 0} (F : M → Type 0) (s : M → List ℕ) (bytes : List ℕ) → (Begins F s bytes → ⊥) → BeginsWithNo F s bytes
-begins_with_no F s bytes never = λ value rest fits parts. never (value, rest, fits, parts)
 
 pub IfNone-weaker : {V P Q : Type 0} → (P → Q) → (o : Option V) → IfNone o P → IfNone o Q
 IfNone-weaker f (Some x) h = tt

@@ -1,10 +1,9 @@
 -- Rows one after another: one row more.
-use Rattle.std.proofs.Common.{◌≡◌, ℕ, List, [], ◌∷◌, ◌++◌, length, refl, sym, ap, subst, ◌∙◌, append_assoc}
+use Rattle.std.proofs.Common.{◌≡◌, ℕ, List, [], ◌∷◌, ◌++◌, length, refl, sym, ap, ◌∙◌, append_assoc}
 use Rattle.std.specs.List.{flat_map, AllByRecursion}
 use Rattle.std.proofs.lemmas.List.{flat_map_more, length-map}
 use Rattle.std.specs.Prelude.{map}
-use Rattle.kfs_model.specs.Spelling.{Stand, Stop}
-use Rattle.kfs_entry.specs.RowList.{AreRows, Stops, Begins}
+use Rattle.kfs_model.specs.Spelling.{AreRows, Begins, Stand, Stop, Stops}
 
 pub AllByRecursion-push : {R : Type 0} (P : R → Type 0) (rows : List R) (row : R) → AllByRecursion P rows → P row → AllByRecursion P (rows ++ row ∷ [])
 AllByRecursion-push P [] row all here = (here, tt)
@@ -40,20 +39,21 @@ AllByRecursion-weaker P Q f [] all = tt
 AllByRecursion-weaker P Q f (row ∷ rows) all = (f row all.0, AllByRecursion-weaker P Q f rows all.1)
 
 -- rows of the code, as rows of the definitions
-pub stand_from : {R V : Type 0} (view : R → V) (fits : R → Type 0) (F : V → Type 0) (s : V → List ℕ) → ((r : R) → fits r → F (view r)) → (rows : List R) (bytes rest : List ℕ)
-    → AreRows fits (λ r. s (view r)) rows bytes rest → Stand F s (length rows) bytes rest
-stand_from view fits F s f rows bytes rest are = record {
-  rows = map view rows;
-  number = length-map rows view;
-  fit = map_holds view fits F f rows are.fit;
-  spelled = are.spelled ∙ ap (λ (l : List ℕ). l ++ rest) (sym (flat_map-map view s rows));
-}
+module _ {R V : Type 0} (view : R → V) (fits : R → Type 0) (F : V → Type 0) (s : V → List ℕ) (fit_too : (r : R) → fits r → F (view r)) where
+  abbrev pub stand_from : (rows : List R) (count : ℕ) (bytes rest : List ℕ) → length rows ≡ count → AreRows fits (λ r. s (view r)) rows bytes rest → Stand F s count bytes rest
+  stand_from rows count bytes rest number are = record {
+    rows = map view rows;
+    number = length-map rows view ∙ number;
+    are = record {
+      fit = map_holds view fits F fit_too rows are.fit;
+      spelled = are.spelled ∙ ap (λ (l : List ℕ). l ++ rest) (sym (flat_map-map view s rows));
+    };
+  }
 
-pub stop_from : {R V : Type 0} (view : R → V) (fits : R → Type 0) (F : V → Type 0) (s : V → List ℕ) → ((r : R) → fits r → F (view r)) → (count k : ℕ) (bytes : List ℕ)
-    → Stops fits (λ r. s (view r)) (Begins F s) count k bytes → Stop F s count k bytes
-stop_from view fits F s f count k bytes stops = record {
-  rest = stops.rest;
-  before = subst (λ (n : ℕ). Stand F s n bytes stops.rest) stops.number (stand_from view fits F s f stops.rows bytes stops.rest stops.before);
-  fewer = stops.fewer;
-  none = λ value rest fit parts. stops.none (value, rest, fit, parts);
-}
+  pub stop_from : (count k : ℕ) (bytes : List ℕ) → Stops fits (λ r. s (view r)) (Begins F s) count k bytes → Stop F s count k bytes
+  stop_from count k bytes stops = record {
+    rest = stops.rest;
+    before = stand_from stops.before.rows k bytes stops.rest stops.before.number stops.before.are;
+    fewer = stops.fewer;
+    none = stops.none;
+  }

@@ -2,8 +2,8 @@
 ghost use Rattle.std.specs.Prelude.{◌≡◌, ◌≤◌, Result, length, drop, IfOk, IfErr};
 ghost use Rattle.kfs_model.specs.Entry.{Log as LogValue};
 ghost use Rattle.kfs_model.specs.PlanRow.{Plan as PlanValue};
-ghost use Rattle.kfs_model.specs.Spelling.{SpellingFault, LogAnswer, PlanAnswer};
-ghost use Rattle.kfs_entry.specs.RowList.{AreRows, EntryMissing, PartRowMissing};
+ghost use Rattle.kfs_model.specs.Spelling.{AreRows, SpellingFault, LogAnswer, PlanAnswer};
+ghost use Rattle.kfs_entry.specs.RowList.{EntryMissing, PartRowMissing};
 ghost use Rattle.kfs_entry.specs.Answers.{Answered, log_of, plan_of, SpansAreWithin};
 
 use crate::codec::headers;

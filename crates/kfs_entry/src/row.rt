@@ -1,7 +1,8 @@
 //! Rows of a format, one after another.
 ghost use Rattle.std.specs.Prelude.{◌≡◌, ℕ, ◌<◌, ◌≤◌, List, ◌++◌, length, drop, IfSome, IfNone, IfOk, IfErr, OnOk, All};
 ghost use Rattle.std.specs.List.{flat_map};
-ghost use Rattle.kfs_entry.specs.RowList.{AreRows, RowMissing};
+ghost use Rattle.kfs_model.specs.Spelling.{AreRows};
+ghost use Rattle.kfs_entry.specs.RowList.{RowMissing};
 
 use std::alloc::{AllocError, AllocFailed, Allocator};
 

@@ -1,13 +1,17 @@
 -- A tree all of whose bytes are zero is the one that its headers and names show.
-use Rattle.std.proofs.Common.{◌≡◌, ℕ, zero, suc, length, replicate, Option, Some, None, option_map, refl, sym, ap, subst, ◌∙◌}
+use Rattle.std.proofs.Common.{◌≡◌, ℕ, zero, suc, Bool, true, false, cond, length, replicate, Option, Some, None, option_map, refl, sym, ap, subst, ◌∙◌}
 use Rattle.kfs_model.specs.Header.{Kind, File, Directory, Header}
-use Rattle.kfs_model.specs.Table.{get, same_table, get-mapped}
+use Rattle.kfs_model.specs.Table.{numbers, empty, get, insert, mapped, same_table, same_entries_table, get-mapped}
 use Rattle.kfs_model.specs.Tree.{Tree, Node, Body, Cells, Names, headers, header_of, kind_of, size_of, cells_of}
 use Rattle.kfs_model.specs.Soundness.{IsSound}
 use Rattle.kfs_model.specs.Run.{byte_at}
-use Rattle.kfs_image.specs.Contents.{Contents}
+use Rattle.kfs_model.specs.Fresh.{fresh_tree}
+use Rattle.kfs_model.specs.Limits.{greatest_mode}
+use Rattle.kfs_model.proofs.FreshTree.{fresh_is_sound}
+use Rattle.std.specs.Ordering.{eq_by_cmp}
+use Rattle.kfs_image.specs.Contents.{Contents, contents_in, root_alone}
+use Rattle.kfs_image.specs.Slots.{changed}
 use Rattle.kfs_image.specs.ShownTree.{body_shown, node_shown, tree_of, IsLawful}
-use Rattle.kfs_image.proofs.NetTables.{contents_in}
 
 -- all bytes of all files are zero
 pub record IsBlank (t : Tree ℕ) : Type 0 where
@@ -53,3 +57,23 @@ zero_of number place (Some h) = by h.kind
 
 pub shown_zero : (c : Contents) (number place : ℕ) → byte_at (cells_of (get (tree_of c).nodes number)) place ≡ 0
 shown_zero c number place = ap (λ o. byte_at (cells_of o) place) (get-mapped node_shown c.heads number) ∙ zero_of number place (get c.heads number)
+
+-- ---- the tree of a new image
+
+fresh_is_blank : IsBlank (fresh_tree {B = ℕ})
+unfolding get
+fresh_is_blank = record { cells = λ number. by (eq_by_cmp numbers.compare number 1) }
+  where
+    by : (root : Bool) → let found : Option (Node ℕ) = cond root (Some (record { mode = greatest_mode; uid = 0; gid = 0; body = Names })) None in cells_of found ≡ replicate (length (cells_of found)) 0
+    by true = refl
+    by false = refl
+
+pub fresh_is_lawful : IsLawful root_alone
+fresh_is_lawful = blank_is_lawful fresh_tree fresh_is_blank (fresh_is_sound ℕ)
+
+pub root_is_alone : (rows : Contents) → rows.heads ≡ changed empty 1 (Some (record { kind = Directory; mode = greatest_mode; uid = 0; gid = 0; links = 1; size = 0 })) → rows.names ≡ empty → rows ≡ root_alone
+unfolding changed insert mapped
+root_is_alone rows heads names =
+    let one = same_entries_table (changed empty 1 (Some (record { kind = Directory; mode = greatest_mode; uid = 0; gid = 0; links = 1; size = 0 }))) root_alone.heads refl in
+    let none = same_entries_table empty root_alone.names refl in
+    λ i. record { heads = (heads ∙ one) i; names = (names ∙ none) i }

@@ -18,7 +18,7 @@ use Rattle.kfs_value.specs.Views.{header_of, name_row_of, node_row_of}
 use Rattle.kfs_value.specs.declared.plan.NameRow.{NameRow}
 use Rattle.kfs_value.specs.declared.plan.NodeRow.{NodeRow}
 use Rattle.kfs_image.specs.Slots.{changed}
-use Rattle.kfs_image.specs.Contents.{Contents}
+use Rattle.kfs_image.specs.Contents.{Contents, contents_in}
 use Rattle.kfs_image.specs.Change.{led_to, renamed, reheaded, after_rows}
 use Rattle.kfs_image.proofs.SlotTables.{get-changed}
 
@@ -86,10 +86,6 @@ reheaded_is : (heads : Table numbers Header) (rows : List NodeRow) → reheaded 
 unfolding put_rows
 reheaded_is heads [] = refl
 reheaded_is heads (row ∷ rows) = reheaded_is (changed heads row.number (option_map header_of row.now)) rows
-
--- the names and headers of a tree
-abbrev pub contents_in : {B : Type 0} → Tree B → Contents
-contents_in t = record { heads = headers t; names = t.names }
 
 -- no name of a sound tree leads to 0
 led_back : (after : Tree ℕ) → IsSound after → (key : ℕ × List ℕ) → led_to (number_now (get after.names key)) ≡ get after.names key

@@ -1,12 +1,11 @@
 -- What contracts see of a shape and of an image.
-use Rattle.std.specs.Prelude.{pos, Some}
-use Rattle.kfs_model.specs.Header.{Directory, Header}
-use Rattle.kfs_model.specs.Limits.{greatest_mode}
-use Rattle.kfs_model.specs.Table.{Table, numbers, get, empty}
-use Rattle.kfs_model.specs.Tree.{Links, target, entry_count}
+use Rattle.std.specs.Prelude.{ℕ, pos}
+use Rattle.kfs_model.specs.Header.{Header}
+use Rattle.kfs_model.specs.Table.{Table, numbers, get}
+use Rattle.kfs_model.specs.Tree.{Tree, Links, headers, target, entry_count}
+use Rattle.kfs_model.specs.Fresh.{fresh_tree}
 use Rattle.kfs_model.specs.Sight.{Sight, parent_in}
 use Rattle.kfs_model.specs.Placement.{TierSizes}
-use Rattle.kfs_image.specs.Slots.{changed}
 
 -- the nodes and names of a tree, without its bytes
 pub record Contents : Type 0 where
@@ -22,12 +21,13 @@ sight_of c = record {
   parent = parent_in (get c.heads) c.names;
 }
 
--- the root directory of an image without files, open to all
-abbrev pub root_header : Header
-root_header = record { kind = Directory; mode = greatest_mode; uid = 0; gid = 0; links = 1; size = 0 }
+-- the headers and names of a tree
+abbrev pub contents_in : {B : Type 0} → Tree B → Contents
+contents_in t = record { heads = headers t; names = t.names }
 
+-- of a new image
 abbrev pub root_alone : Contents
-root_alone = record { heads = changed empty 1 (Some root_header); names = empty }
+root_alone = contents_in (fresh_tree {B = ℕ})
 
 -- what an image shows
 pub record Shown : Type 0 where

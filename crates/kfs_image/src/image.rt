@@ -36,7 +36,7 @@ impl<A: Allocator> Model for Image<A> {
 impl<A: Allocator + Clone> Image<A> {
     /// The image with the root directory alone, of mode 0o777, uid 0 and gid 0, over tiers of these
     /// sizes.
-    #[tactic(auto, using(crate::proofs::ShownTrees::fresh_is_lawful))]
+    #[tactic(auto, using(crate::proofs::BlankTrees::fresh_is_lawful))]
     pub fn fresh(alloc: A, sizes: TierSizes) -> Result<Image<A>, AllocError>
         ensures { IfOk result (λ image. image ≡ record { contents = root_alone; sizes = sizes }) }
     {

@@ -9,11 +9,12 @@ use Rattle.std.specs.BTreeMap as slots_of
 use Rattle.std.specs.BTreeMap.{BTreeMap, is_at}
 use Rattle.std.proofs.lemmas.Bool.Decides.{nat_tests}
 use borrow.Author.Tests.{eqb-true}
-use Rattle.kfs_model.specs.Table.{Table, numbers, pairs, get, insert, remove, get-insert, get-retain, get-remove, same_table}
+use Rattle.kfs_model.specs.Table.{numbers, pairs, get, insert, remove, get-insert, get-retain, get-remove, same_table}
 use Rattle.kfs_model.specs.Check.{is_some_and}
 use Rattle.kfs_model.specs.Lease as model
+use Rattle.kfs_model.specs.Lease.{LeaseTable, live_at, on_those}
 use Rattle.kfs_lease.specs.declared.rows.Lease.{Lease}
-use Rattle.kfs_lease.specs.Rows.{lease_of, by_node, table_of, ends_at, live_at, without_node}
+use Rattle.kfs_lease.specs.Rows.{lease_of, by_node, table_of, ends_at}
 
 pub both_equal : (a b : Ordering) → is_eq (ordering_then a b) ≡ (is_eq a && is_eq b)
 both_equal Less b = refl
@@ -55,12 +56,16 @@ kept_live : (moment : ℕ) (o : Option model.Lease) → cond (is_some_and o (mod
 kept_live moment None = refl
 kept_live moment (Some lease) = refl
 
-pub get-live_at : (moment : ℕ) (t : Table (pairs numbers numbers) model.Lease) (q : ℕ × ℕ) → get (live_at moment t) q ≡ if_live moment (get t q)
+pub get-live_at : (moment : ℕ) (t : LeaseTable) (q : ℕ × ℕ) → get (live_at moment t) q ≡ if_live moment (get t q)
 unfolding live_at
 get-live_at moment t q = get-retain (λ key. is_some_and (get t key) (model.is_live moment)) t q ∙ kept_live moment (get t q)
 
-pub get-without_node : (number : ℕ) (t : Table (pairs numbers numbers) model.Lease) (q : ℕ × ℕ) → get (without_node number t) q ≡ cond (not (q.1 == number)) (get t q) None
-unfolding without_node
+-- the leases on other nodes
+abbrev pub without_node : (number : ℕ) → LeaseTable → LeaseTable
+without_node number t = on_those (λ node. not (node == number)) t
+
+get-without_node : (number : ℕ) (t : LeaseTable) (q : ℕ × ℕ) → get (without_node number t) q ≡ cond (not (q.1 == number)) (get t q) None
+unfolding on_those
 get-without_node number t q = get-retain (λ key. not (key.1 == number)) t q
 
 without_key : (b : Bool) (o : Option Lease) → option_map lease_of (cond b None o) ≡ cond (not b) (option_map lease_of o) None
@@ -126,7 +131,7 @@ module _ (moment : ℕ) where
       ap (λ b. cond b (Some (lease_of lease)) None) live
 
   -- without a row that isn't live, the same ones are live
-  pub live_at-remove : (t : Table (pairs numbers numbers) model.Lease) (k : ℕ × ℕ) → if_live moment (get t k) ≡ None → live_at moment (remove t k) ≡ live_at moment t
+  pub live_at-remove : (t : LeaseTable) (k : ℕ × ℕ) → if_live moment (get t k) ≡ None → live_at moment (remove t k) ≡ live_at moment t
   live_at-remove t k gone =
       same_table _ _ (λ q.
       get-live_at moment (remove t k) q ∙ ap (if_live moment) (get-remove t k q)
@@ -147,7 +152,7 @@ module _ (moment : ℕ) where
 
 module _ (number : ℕ) where
   -- without a row of the node, the others are the same
-  pub without_node-remove : (t : Table (pairs numbers numbers) model.Lease) (client : ℕ) → without_node number (remove t (client, number)) ≡ without_node number t
+  pub without_node-remove : (t : LeaseTable) (client : ℕ) → without_node number (remove t (client, number)) ≡ without_node number t
   without_node-remove t client =
       same_table _ _ (λ q.
       get-without_node number (remove t (client, number)) q ∙ ap (λ o. cond (not (q.1 == number)) o None) (get-remove t (client, number) q)

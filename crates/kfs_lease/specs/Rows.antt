@@ -1,8 +1,8 @@
 -- The leases that the rows of the code show, and what ties their ends to them.
-use Rattle.std.specs.Prelude.{◌≡◌, ℕ, Bool, ◌==◌, not, List, [], ◌∷◌, Option}
+use Rattle.std.specs.Prelude.{◌≡◌, ℕ, Bool, ◌==◌, List, [], ◌∷◌, Option}
 use Rattle.std.specs.BTreeMap as slots_of
 use Rattle.std.specs.BTreeSet as set
-use Rattle.kfs_model.specs.Table.{Order, Table, numbers, pairs, get, insert, retain, empty}
+use Rattle.kfs_model.specs.Table.{Order, numbers, pairs, insert, empty}
 use Rattle.kfs_model.specs.Check.{is_some_and}
 use Rattle.kfs_model.specs.Lease as model
 use Rattle.kfs_lease.specs.declared.rows.LeaseKind.{LeaseKind}
@@ -26,17 +26,9 @@ abbrev pub by_end : Order (ℕ × (ℕ × ℕ))
 by_end = pairs numbers by_node
 
 -- the table that rows by node and client show
-unfoldable pub table_of : List ((ℕ × ℕ) × Lease) → Table (pairs numbers numbers) model.Lease
+unfoldable pub table_of : List ((ℕ × ℕ) × Lease) → model.LeaseTable
 table_of [] = empty
 table_of (row ∷ rows) = insert (table_of rows) (row.0.1, row.0.0) (lease_of row.1)
-
--- the leases that are live at the moment
-unfoldable pub live_at : (moment : ℕ) → Table (pairs numbers numbers) model.Lease → Table (pairs numbers numbers) model.Lease
-live_at moment t = retain (λ key. is_some_and (get t key) (model.is_live moment)) t
-
--- the leases on other nodes
-unfoldable pub without_node : (number : ℕ) → Table (pairs numbers numbers) model.Lease → Table (pairs numbers numbers) model.Lease
-without_node number t = retain (λ key. not (key.1 == number)) t
 
 -- how many rows there are
 abbrev pub row_count : {A : Type 0} → Rows A → ℕ
@@ -51,7 +43,7 @@ abbrev pub ends_at : Option Lease → (end : ℕ) → Bool
 ends_at row end = is_some_and row (λ (lease : Lease). lease.end == end)
 
 module _ {A : Type 0} where
-  abbrev pub table_in : Rows A → Table (pairs numbers numbers) model.Lease
+  abbrev pub table_in : Rows A → model.LeaseTable
   table_in rows = table_of rows.leases.entries
 
   -- the ends are those of the rows

@@ -135,7 +135,7 @@ impl<A: Allocator> Leases<A> {
     }
 
     /// Goes to a moment, and ends the leases that are no longer live. Takes no memory.
-    #[tactic(auto, unfolding(kfs_model::specs::Lease::ticked, crate::specs::Rows::live_at))]
+    #[tactic(auto, unfolding(kfs_model::specs::Lease::ticked, kfs_model::specs::Lease::live_at))]
     pub fn tick(&mut self, moment: u64) -> Result<(), LeaseFault>
         ensures ok { OnOk result (ticked self.old moment ≡ (Ok moment, self.new)) }
         ensures err { IfErr result (λ fault. IsSomeAnd (fault_of fault) (λ f. ticked self.old moment ≡ (Err f, self.new))) }

@@ -1,11 +1,11 @@
 //! The rows of leases by node and client, and their ends in order.
-ghost use Rattle.std.specs.Prelude.{◌≡◌, ℕ, ◌<◌, ◌≤◌, ◌==◌, ◌&&◌, ◌||◌, IsTrue, IsSome, IfSome, IfNone, IfOk, OnOk, OnErr, option_map, is_some, None, false, if◌then◌else◌};
+ghost use Rattle.std.specs.Prelude.{◌≡◌, ℕ, ◌<◌, ◌≤◌, ◌==◌, ◌&&◌, ◌||◌, not, IsTrue, IsSome, IfSome, IfNone, IfOk, OnOk, OnErr, option_map, is_some, None, false, if◌then◌else◌};
 ghost use Rattle.std.specs.Ordering.{eq_by_cmp};
 ghost use Rattle.std.specs.BTreeMap as slots_of;
 ghost use Rattle.std.specs.BTreeSet as set;
 ghost use Rattle.kfs_model.specs.Table.{empty, get, insert, remove};
 ghost use Rattle.kfs_model.specs.Lease as model;
-ghost use Rattle.kfs_lease.specs.Rows.{kind_of, lease_of, by_node, by_end, table_in, ends_at, has_end, row_count, live_at, without_node, IsIndexed};
+ghost use Rattle.kfs_lease.specs.Rows.{kind_of, lease_of, by_node, by_end, table_in, ends_at, has_end, row_count, IsIndexed};
 
 use std::alloc::{AllocError, Allocator};
 use std::collections::{BTreeMap, BTreeSet};
@@ -122,7 +122,7 @@ impl<A: Allocator> Rows<A> {
     pub(crate) fn end_until(&mut self, moment: u64)
         requires { IsIndexed self.old }
         ensures indexed { IsIndexed self.new }
-        ensures table { table_in self.new ≡ live_at moment (table_in self.old) }
+        ensures table { table_in self.new ≡ model.live_at moment (table_in self.old) }
     {
         while let Some((_, key)) = take_ended(&mut self.ends, moment) {
             let _ = self.leases.remove(&key);
@@ -133,7 +133,7 @@ impl<A: Allocator> Rows<A> {
     pub(crate) fn remove_node(&mut self, number: u32)
         requires { IsIndexed self.old }
         ensures indexed { IsIndexed self.new }
-        ensures table { table_in self.new ≡ without_node number (table_in self.old) }
+        ensures table { table_in self.new ≡ model.on_those (λ node. not (node == number)) (table_in self.old) }
     {
         while let Some(client) = first_client(&self.leases, number) {
             let _ = self.take(client, number);

@@ -1,12 +1,12 @@
 -- Where no two rows have one number, the row with a number is the one that a look-up finds.
-use Rattle.std.specs.Prelude.{◌≡◌, ℕ, zero, suc, ◌<◌, ◌==◌, Bool, true, false, cond, List, [], ◌∷◌, length, slice_index_or, Contains, is_none, Some, refl}
+use Rattle.std.specs.Prelude.{◌≡◌, ℕ, zero, suc, ◌<◌, ◌==◌, Bool, true, false, cond, List, [], ◌∷◌, length, slice_index_or, Contains, None, Some, refl}
 use Rattle.std.proofs.Common.{ap, sym, subst, ◌∙◌}
-use Rattle.std.specs.Cmp.{first_so, second_so}
 use Rattle.std.proofs.lemmas.Bool.{eqb-true, eq-eqb}
 use native.Mathlib.Omega.{arith}
 use Rattle.kfs_model.specs.Access.{Client}
 use Rattle.kfs_model.specs.Lease.{row_of}
-use Rattle.kfs_mode.specs.Clients.{are_distinct, AreDistinct}
+use Rattle.kfs_model.proofs.ClientNumbers.{none_with_number, rest_distinct}
+use Rattle.kfs_mode.specs.Clients.{AreDistinct}
 
 below_rest : (k n : ℕ) → suc k < suc n → k < n
 below_rest k n below = omega arith
@@ -20,12 +20,12 @@ found_at (r ∷ rows) row zero distinct below is = subst (λ (c : Client). row_o
   where
     first : row_of (row ∷ rows) row.number ≡ Some row
     first = ap (λ t. cond t (Some row) (row_of rows row.number)) (eq-eqb row.number row.number refl)
-found_at (r ∷ rows) row (suc k) distinct below is = by_test (found_at rows row k (second_so (is_none (row_of rows r.number)) (are_distinct rows) distinct) (below_rest k (length rows) below) is) (r.number == row.number) refl
+found_at (r ∷ rows) row (suc k) distinct below is = by_test (found_at rows row k (rest_distinct r rows distinct) (below_rest k (length rows) below) is) (r.number == row.number) refl
   where
     by_test : row_of rows row.number ≡ Some row → (same : Bool) → (r.number == row.number) ≡ same → cond same (Some r) (row_of rows row.number) ≡ Some row
-    by_test later true same = absurd (taken (first_so (is_none (row_of rows r.number)) (are_distinct rows) distinct) (ap (row_of rows) (eqb-true r.number row.number same) ∙ later))
+    by_test later true same = absurd (taken (none_with_number r rows distinct) (ap (row_of rows) (eqb-true r.number row.number same) ∙ later))
       where
-        taken : is_none (row_of rows r.number) ≡ true → row_of rows r.number ≡ Some row → ⊥
+        taken : row_of rows r.number ≡ None → row_of rows r.number ≡ Some row → ⊥
         taken free held = cc
     by_test later false same = later
 

@@ -1,2 +1,2 @@
 -- The rows of clients: no two have one number.
-pub use Rattle.kfs_model.specs.Access.{are_distinct, AreDistinct}
+pub use Rattle.kfs_model.specs.Access.{AreDistinct}

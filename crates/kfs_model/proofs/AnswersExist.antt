@@ -21,20 +21,22 @@ HasPlanAnswer bytes = (answer : Result Plan SpellingFault) × PlanAnswer bytes a
 module _ {V : Type 0} {F : V → Type 0} {s : V → List ℕ} {r : List ℕ → Option (V × List ℕ)} (field : IsField F s r) where
   -- where none is read, none begins
   begins_with_none : (bytes : List ℕ) → r bytes ≡ None → BeginsWithNo F s bytes
-  begins_with_none bytes is = λ value rest fits parts. let again : r bytes ≡ Some (value, rest) = ap r parts ∙ field.again value rest fits in cc
+  begins_with_none bytes is = λ begins. let again : r bytes ≡ Some (begins.0, begins.1) = ap r begins.3 ∙ field.again begins.0 begins.1 begins.2 in cc
 
   abbrev RowsOrStop : ℕ → List ℕ → Type 0
   RowsOrStop count bytes = ((rest : List ℕ) × Stand F s count bytes rest) ⊎ ((k : ℕ) × Stop F s count k bytes)
 
   no_row : (bytes : List ℕ) → Stand F s 0 bytes bytes
-  no_row bytes = record { rows = []; number = refl; fit = tt; spelled = refl }
+  no_row bytes = record { rows = []; number = refl; are = record { fit = tt; spelled = refl } }
 
   row_before : (count : ℕ) (row : V) (bytes rest end : List ℕ) → F row → bytes ≡ s row ++ rest → Stand F s count rest end → Stand F s (suc count) bytes end
   row_before count row bytes rest end fits parts stand = record {
     rows = row ∷ stand.rows;
     number = ap suc stand.number;
-    fit = (fits, stand.fit);
-    spelled = parts ∙ ap (λ (l : List ℕ). s row ++ l) stand.spelled ∙ sym (append_assoc (s row) (flat_map s stand.rows) end);
+    are = record {
+      fit = (fits, stand.are.fit);
+      spelled = parts ∙ ap (λ (l : List ℕ). s row ++ l) stand.are.spelled ∙ sym (append_assoc (s row) (flat_map s stand.rows) end);
+    };
   }
 
   -- so many rows stand, or they stop before
@@ -62,9 +64,9 @@ pub spelled_log : (bytes rest more : List ℕ) (h : LogHeader) → IsLogHeader h
 spelled_log bytes rest more h fits parts stand =
     let l : Log = record { client = h.client; entries = stand.rows } in
     let same : header_of l ≡ h = ap (λ (n : ℕ). record { client = h.client; count = n }) stand.number in
-    let whole : bytes ≡ log_header h ++ (flat_map entry_bytes l.entries ++ more) = parts ∙ ap (λ (b : List ℕ). log_header h ++ b) stand.spelled in
+    let whole : bytes ≡ log_header h ++ (flat_map entry_bytes l.entries ++ more) = parts ∙ ap (λ (b : List ℕ). log_header h ++ b) stand.are.spelled in
     let joined : bytes ≡ log_header h ++ flat_map entry_bytes l.entries ++ more = whole ∙ sym (append_assoc (log_header h) (flat_map entry_bytes l.entries) more) in (
-      (subst IsLogHeader (sym same) fits, stand.fit),
+      (subst IsLogHeader (sym same) fits, stand.are.fit),
       joined ∙ ap (λ (g : LogHeader). log_header g ++ flat_map entry_bytes l.entries ++ more) (sym same),
     )
 
@@ -102,10 +104,10 @@ plan_is_spelled source a b d rest c fits front names nodes pieces =
     let m = flat_map node_row_bytes nodes.rows in
     let q = flat_map piece_bytes pieces.rows in
     let whole : source ≡ plan_header c ++ (n ++ (m ++ (q ++ rest))) =
-    front ∙ ap (λ (l : List ℕ). plan_header c ++ l) (names.spelled ∙ ap (λ (l : List ℕ). n ++ l) (nodes.spelled ∙ ap (λ (l : List ℕ). m ++ l) pieces.spelled)) in
+    front ∙ ap (λ (l : List ℕ). plan_header c ++ l) (names.are.spelled ∙ ap (λ (l : List ℕ). n ++ l) (nodes.are.spelled ∙ ap (λ (l : List ℕ). m ++ l) pieces.are.spelled)) in
     let joined : plan_header c ++ n ++ m ++ q ++ rest ≡ plan_header c ++ (n ++ (m ++ (q ++ rest))) =
     append_assoc (plan_header c ++ n ++ m) q rest ∙ append_assoc (plan_header c ++ n) m (q ++ rest) ∙ append_assoc (plan_header c) n (m ++ (q ++ rest)) in (
-      (subst AreCounts (sym same) fits, names.fit, nodes.fit, pieces.fit),
+      (subst AreCounts (sym same) fits, names.are.fit, nodes.are.fit, pieces.are.fit),
       whole ∙ sym joined ∙ ap (λ (h : Counts). plan_header h ++ n ++ m ++ q ++ rest) (sym same),
     )
 
@@ -120,7 +122,7 @@ plan_behind bytes a b d (byte ∷ more) c fits parts names nodes pieces =
     (Err Trailing, (record { names = names.rows; nodes = nodes.rows; pieces = pieces.rows }, byte ∷ more, p.0, some, p.1))
 
 bytes_behind : {V : Type 0} {F : V → Type 0} {s : V → List ℕ} {count : ℕ} {bytes rest : List ℕ} → IsBytes bytes → Stand F s count bytes rest → IsBytes rest
-bytes_behind {V} {F} {s} {count} {bytes} {rest} are stand = IsBytes-behind (flat_map s stand.rows) rest (subst IsBytes stand.spelled are)
+bytes_behind {V} {F} {s} {count} {bytes} {rest} are stand = IsBytes-behind (flat_map s stand.rows) rest (subst IsBytes stand.are.spelled are)
 
 module _ (bytes a : List ℕ) (c : Counts) (fits : AreCounts c) (parts : bytes ≡ plan_header c ++ a) where
   pieces_behind : (b d : List ℕ) → IsBytes d → Stand IsNameRow name_row_bytes c.names a b → Stand IsNodeRow node_row_bytes c.nodes b d → HasPlanAnswer bytes

@@ -8,15 +8,12 @@ use Rattle.std.specs.Ordering.{is_eq, eq_by_cmp}
 use Rattle.std.proofs.lemmas.Bool.{both_ways, eq-eqb, false_from_ne_true, lt-ltb, ltb-false, ltb-true, ne_eqb, or_parts}
 use Rattle.kfs_model.specs.Access.{Client}
 use Rattle.kfs_model.specs.Check.{is_some_and}
-use Rattle.kfs_model.specs.Table.{Table, numbers, pairs, get, insert, remove, retain, get-insert, get-retain}
+use Rattle.kfs_model.specs.Table.{numbers, pairs, get, insert, remove, retain, get-insert, get-retain}
 use Rattle.kfs_model.specs.Tree.{Tree, Node, headers, header_of}
 use Rattle.kfs_model.specs.Sight.{Sight}
-use Rattle.kfs_model.specs.Lease.{Lease, LeaseKind, ReadLease, WriteLease, LeaseFault, Leases, Outcome, row_of, names_of, walked, conflicts, in_conflict, is_live, is_write, refused, granted, granted_on, granted_by_walk, dropped, ticked, without_gone, HasLive, AreCompatible, Past, LeaseHeld, UnknownClient, NoLeaseHeld, Backwards}
+use Rattle.kfs_model.specs.Lease.{Lease, LeaseKind, ReadLease, WriteLease, LeaseFault, LeaseTable, Leases, Outcome, live_at, on_those, row_of, names_of, walked, conflicts, in_conflict, is_live, is_write, refused, granted, granted_on, granted_by_walk, dropped, ticked, without_gone, HasLive, AreCompatible, Past, LeaseHeld, UnknownClient, NoLeaseHeld, Backwards}
 use Rattle.kfs_model.proofs.Heads.{get-headers}
 use Rattle.kfs_model.proofs.Tables.{any_from_found}
-
-abbrev pub LeaseTable : Type 0
-LeaseTable = Table (pairs numbers numbers) Lease
 
 -- ---- what holds of the leases before holds of those after a call, where it holds of those that a grant, drop or tick makes
 
@@ -67,10 +64,10 @@ module _ (leases : Leases) (Kept : Leases → Type 0) (kept : Kept leases) where
       by false false = fewer (λ key. not (eq_by_cmp (pairs numbers numbers).compare (client, number) key)) leases.moment (omega arith)
 
   pub ticked_keeps : (moment : ℕ) → KeptByFewer → KeptBy (ticked leases moment)
-  unfolding ticked
+  unfolding ticked live_at
   ticked_keeps moment fewer = by (nat_lt moment leases.moment) refl
     where
-      by : (back : Bool) → nat_lt moment leases.moment ≡ back → KeptBy (cond back (refused Backwards leases) (Ok moment, record { rows = retain (λ key. is_some_and (get leases.rows key) (is_live moment)) leases.rows; moment = moment }))
+      by : (back : Bool) → nat_lt moment leases.moment ≡ back → KeptBy (cond back (refused Backwards leases) (Ok moment, record { rows = live_at moment leases.rows; moment = moment }))
       by true is = kept
       by false is = let not_before = ltb-false moment leases.moment is in fewer (λ key. is_some_and (get leases.rows key) (is_live moment)) moment (omega arith)
 
@@ -202,12 +199,12 @@ header_there t n some = ap is_some (get-headers t n) ∙ by (get t.nodes n) some
     by (Some node) some = refl
 
 pub without_gone_on_nodes : (leases : Leases) (t : Tree ℕ) → AreOnNodes t (without_gone leases (λ n. is_some (get t.nodes n))).rows
-unfolding without_gone
+unfolding without_gone on_those
 without_gone_on_nodes leases t client number leased =
     let stays : ℕ × ℕ → Bool = λ key. is_some (get t.nodes key.1) in
     let (found, is) = some_is (get (retain stays leases.rows) (client, number)) leased in
     header_there t number (was_there leases.rows stays (client, number) found is).0
 
 pub without_gone_compatible : (leases : Leases) (is_node : ℕ → Bool) → AreCompatible leases → AreCompatible (without_gone leases is_node)
-unfolding without_gone
+unfolding without_gone on_those
 without_gone_compatible leases is_node compatible = compatible-retain leases (λ key. is_node key.1) leases.moment (omega arith) compatible

@@ -16,6 +16,7 @@ pub mod Counts
 pub mod Links
 pub mod Heads
 pub mod CleanFacts
+pub mod ClientNumbers
 pub mod NameAdded
 pub mod NameRemoved
 pub mod CreateStep

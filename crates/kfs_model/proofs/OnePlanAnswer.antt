@@ -54,7 +54,7 @@ behind_pieces : (c : Counts) (names : List NameRow) (nodes : List NodeRow) (byte
 behind_pieces c names nodes bytes rest stand = ap (λ x. part_then 2 x (λ pieces rest. plan_rest names nodes pieces rest)) (stand_is_read IsPiece piece_bytes piece_read piece_field c.pieces bytes rest stand)
 
 stand_bytes : {V : Type 0} {F : V → Type 0} {s : V → List ℕ} {count : ℕ} {bytes rest : List ℕ} → IsBytes bytes → Stand F s count bytes rest → IsBytes rest
-stand_bytes {V} {F} {s} {count} {bytes} {rest} fits stand = IsBytes-behind (flat_map s stand.rows) rest (subst IsBytes stand.spelled fits)
+stand_bytes {V} {F} {s} {count} {bytes} {rest} fits stand = IsBytes-behind (flat_map s stand.rows) rest (subst IsBytes stand.are.spelled fits)
 
 row_is_missing : (c : Counts) (part k : ℕ) (bytes : List ℕ) → IsBytes bytes → PartStops c part k bytes → names_reading c bytes ≡ Err (BadRow part k)
 row_is_missing c zero k bytes fits stop =
@@ -77,9 +77,9 @@ whole_plan p more fits =
     ∙ append_assoc (plan_header (counts_of p)) names (nodes ++ (pieces ++ more)) in
     ap plan_reading regrouped
     ∙ behind_header (counts_of p) (names ++ (nodes ++ (pieces ++ more))) fits.0
-    ∙ behind_names (counts_of p) (names ++ (nodes ++ (pieces ++ more))) (nodes ++ (pieces ++ more)) (record { rows = p.names; number = refl; fit = fits.1; spelled = refl })
-    ∙ behind_nodes (counts_of p) p.names (nodes ++ (pieces ++ more)) (pieces ++ more) (record { rows = p.nodes; number = refl; fit = fits.2; spelled = refl })
-    ∙ behind_pieces (counts_of p) p.names p.nodes (pieces ++ more) more (record { rows = p.pieces; number = refl; fit = fits.3; spelled = refl })
+    ∙ behind_names (counts_of p) (names ++ (nodes ++ (pieces ++ more))) (nodes ++ (pieces ++ more)) (record { rows = p.names; number = refl; are = record { fit = fits.1; spelled = refl } })
+    ∙ behind_nodes (counts_of p) p.names (nodes ++ (pieces ++ more)) (pieces ++ more) (record { rows = p.nodes; number = refl; are = record { fit = fits.2; spelled = refl } })
+    ∙ behind_pieces (counts_of p) p.names p.nodes (pieces ++ more) more (record { rows = p.pieces; number = refl; are = record { fit = fits.3; spelled = refl } })
 
 pub plan_is_read : (bytes : List ℕ) → IsBytes bytes → (answer : Result Plan SpellingFault) → PlanAnswer bytes answer → plan_reading bytes ≡ answer
 plan_is_read bytes fits (Ok p) is = ap plan_reading (is.1 ∙ sym (append-nil (plan_bytes p))) ∙ whole_plan p [] is.0

@@ -11,7 +11,8 @@ use Rattle.kfs_model.specs.Tree.{Tree, headers}
 use Rattle.kfs_model.specs.Run.{Mark}
 use Rattle.kfs_model.specs.Placement.{Place, Placement, IsBlock, IsPlacement, tier_size, in_first_tier, is_free, below, numbers_from, written_blocks}
 use Rattle.kfs_model.specs.Judgement.{State, free_places}
-use Rattle.kfs_model.specs.Machine.{are_distinct, are_chosen, stays, placed, placement_after}
+use Rattle.kfs_model.specs.Distinct.{are_distinct}
+use Rattle.kfs_model.specs.Machine.{are_chosen, stays, placed, placement_after}
 use Rattle.kfs_model.proofs.CleanIsAllowed.{found, left, right}
 use Rattle.kfs_model.proofs.Tables.{any_from_found}
 use Rattle.kfs_model.proofs.WrittenBlocks.{begins_below, written_in_files}

@@ -30,7 +30,7 @@ none_read {V} F s r field bytes fits never = go (r bytes) refl
   where
     go : (o : Option (V × List ℕ)) → r bytes ≡ o → o ≡ None
     go None is = refl
-    go (Some x) is = let stands = field.takes bytes x fits is in absurd (never x.0 x.1 stands.fits stands.parts)
+    go (Some x) is = let stands = field.takes bytes x fits is in absurd (never (x.0, x.1, stands.fits, stands.parts))
 
 module _ {V : Type 0} (F : V → Type 0) (s : V → List ℕ) (r : List ℕ → Option (V × List ℕ)) (field : IsField F s r) where
   pub rows_stand : (rows : List V) (rest : List ℕ) → AllByRecursion F rows → rows_read r (length rows) (flat_map s rows ++ rest) ≡ Ok (rows, rest)
@@ -53,13 +53,13 @@ module _ {V : Type 0} (F : V → Type 0) (s : V → List ℕ) (r : List ℕ → 
   -- what is read where rows stand, and where they stop
   pub stand_is_read : (count : ℕ) (bytes rest : List ℕ) (stand : Stand F s count bytes rest) → rows_read r count bytes ≡ Ok (stand.rows, rest)
   stand_is_read count bytes rest stand =
-      rw (← stand.number, stand.spelled) (rows_stand stand.rows rest stand.fit)
+      rw (← stand.number, stand.are.spelled) (rows_stand stand.rows rest stand.are.fit)
 
   pub stop_is_read : (count k : ℕ) (bytes : List ℕ) → IsBytes bytes → Stop F s count k bytes → rows_read r count bytes ≡ Err k
   stop_is_read count k bytes fits stop =
       let before = stop.before in
-      let behind : IsBytes stop.rest = IsBytes-behind (flat_map s before.rows) stop.rest (subst IsBytes before.spelled fits) in
+      let behind : IsBytes stop.rest = IsBytes-behind (flat_map s before.rows) stop.rest (subst IsBytes before.are.spelled fits) in
       let fewer : k < count = stop.fewer in
       let number : length before.rows ≡ k = before.number in
       let n : count ≡ length before.rows + suc (count - suc k) = omega arith in
-      rw (n, before.spelled) (rows_stop before.rows (count - suc k) stop.rest before.fit behind stop.none ∙ ap Err before.number)
+      rw (n, before.are.spelled) (rows_stop before.rows (count - suc k) stop.rest before.are.fit behind stop.none ∙ ap Err before.number)

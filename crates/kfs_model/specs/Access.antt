@@ -1,7 +1,8 @@
 -- Who may do what: file access permissions by class (POSIX.1-2017, XBD 4.5).
-use Rattle.std.specs.Prelude.{ℕ, ◌*◌, ◌/◌, ◌%◌, Bool, true, ◌==◌, ◌&&◌, ◌||◌, nat_le, if◌then◌else◌, List, [], ◌∷◌, find, is_none, IsTrue}
+use Rattle.std.specs.Prelude.{ℕ, ◌*◌, ◌/◌, ◌%◌, Bool, ◌==◌, ◌&&◌, ◌||◌, nat_le, if◌then◌else◌, List, map, IsTrue}
 use Rattle.std.specs.List.{list_any}
 use Rattle.kfs_model.specs.Header.{Header}
+use Rattle.kfs_model.specs.Distinct.{are_distinct}
 
 -- a client's row: who it is, and the numbers that it may give to new nodes
 pub record Client : Type 0 where
@@ -13,13 +14,9 @@ pub record Client : Type 0 where
   pub first : ℕ
   pub last : ℕ
 
-abbrev pub are_distinct : List Client → Bool
-are_distinct [] = true
-are_distinct (row ∷ rows) = is_none (find (λ (c : Client). c.number == row.number) rows) && are_distinct rows
-
 -- no two rows have one number
 abbrev pub AreDistinct : List Client → Type 0
-AreDistinct rows = IsTrue (are_distinct rows)
+AreDistinct rows = IsTrue (are_distinct (map (λ (row : Client). row.number) rows))
 
 pub data Class : Type 0 where
   Owner Group Other : Class

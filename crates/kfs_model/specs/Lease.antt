@@ -14,9 +14,13 @@ pub record Lease : Type 0 where
   pub kind : LeaseKind
   pub end : ℕ
 
--- leases by client and number, and the moment
+-- leases by client and number
+abbrev pub LeaseTable : Type 0
+LeaseTable = Table (pairs numbers numbers) Lease
+
+-- such leases, and the moment
 pub record Leases : Type 0 where
-  pub rows : Table (pairs numbers numbers) Lease
+  pub rows : LeaseTable
   pub moment : ℕ
 
 pub data LeaseFault : Type 0 where
@@ -34,6 +38,14 @@ is_write WriteLease = true
 
 abbrev pub is_live : (moment : ℕ) → Lease → Bool
 is_live moment lease = nat_lt moment lease.end
+
+-- the leases that are live at the moment
+unfoldable pub live_at : (moment : ℕ) → LeaseTable → LeaseTable
+live_at moment rows = retain (λ key. is_some_and (get rows key) (is_live moment)) rows
+
+-- the leases on numbers that pass the test
+unfoldable pub on_those : (ℕ → Bool) → LeaseTable → LeaseTable
+on_those test rows = retain (λ key. test key.1) rows
 
 -- whether the client holds a live write lease on the node
 abbrev pub holds : Leases → (client number : ℕ) → Bool
@@ -131,8 +143,8 @@ module _ (leases : Leases) where
   unfoldable pub ticked : (moment : ℕ) → Outcome
   ticked moment =
       if nat_lt moment leases.moment then refused Backwards leases
-      else (Ok moment, record { rows = retain (λ key. is_some_and (get leases.rows key) (is_live moment)) leases.rows; moment = moment })
+      else (Ok moment, record { rows = live_at moment leases.rows; moment = moment })
 
   -- leases on numbers that are no node end
   unfoldable pub without_gone : (ℕ → Bool) → Leases
-  without_gone is_node = record { rows = retain (λ key. is_node key.1) leases.rows; moment = leases.moment }
+  without_gone is_node = record { rows = on_those is_node leases.rows; moment = leases.moment }

@@ -3,6 +3,7 @@ pub mod Steps
 pub mod Header
 pub mod Entry
 pub mod Tree
+pub mod Distinct
 pub mod Access
 pub mod Sight
 pub mod Check

@@ -1,9 +1,10 @@
 -- The machine: one step is a call with its answer and, for a Yes, the places of the written blocks. A docket is a list of such
 -- rows.
-use Rattle.std.specs.Prelude.{◌≡◌, ℕ, ◌+◌, ◌==◌, ◌&&◌, not, nat_lt, Bool, true, List, [], ◌∷◌, length, zip, Option, Some, None, is_some, Result, Ok, Err, if◌then◌else◌}
+use Rattle.std.specs.Prelude.{◌≡◌, ℕ, ◌+◌, ◌==◌, ◌&&◌, not, nat_lt, Bool, List, [], ◌∷◌, length, zip, Option, Some, None, is_some, Result, Ok, Err, if◌then◌else◌}
 use Rattle.std.specs.List.{list_any, list_all, AllByRecursion}
 use native.Mathlib.Decide.{ℕ_discrete}
 use Rattle.kfs_model.specs.Access.{Client}
+use Rattle.kfs_model.specs.Distinct.{are_distinct}
 use Rattle.kfs_model.specs.Table.{get, insert, retain}
 use Rattle.kfs_model.specs.Tree.{Tree, headers}
 use Rattle.kfs_model.specs.Sight.{ClientSight, sight, is_file}
@@ -17,10 +18,6 @@ use Rattle.kfs_model.specs.Placement.{Placement, TierSizes, in_first_tier, writt
 use Rattle.kfs_model.specs.Judgement.{State, Verdict, Yes, Reply, Reply-equality, is_yes, Accepted, Submission, Reading, IsReadAs, verdict_on, reply_to, free_places}
 
 -- ---- landing
-
-abbrev pub are_distinct : List ℕ → Bool
-are_distinct [] = true
-are_distinct (place ∷ places) = not (list_any (λ other. other == place) places) && are_distinct places
 
 -- one free place of tier 0 for each block, no two of them the same
 abbrev pub are_chosen : State → (blocks : List (ℕ × ℕ)) → (places : List ℕ) → Bool

@@ -64,23 +64,33 @@ IsMode mode = mode ≤ greatest_mode
 
 -- ---- rows, one after another
 
--- the bytes begin with the spelling of no value that fits
+-- the bytes begin with the spelling of a value that fits
+abbrev pub Begins : {V : Type 0} → (V → Type 0) → (V → List ℕ) → List ℕ → Type 0
+Begins {V} Fits spelling bytes = (value : V) × (rest : List ℕ) × Fits value × (bytes ≡ spelling value ++ rest)
+
 abbrev pub BeginsWithNo : {V : Type 0} → (V → Type 0) → (V → List ℕ) → List ℕ → Type 0
-BeginsWithNo {V} Fits spelling bytes = (value : V) (rest : List ℕ) → Fits value → bytes ≢ spelling value ++ rest
+BeginsWithNo Fits spelling bytes = Begins Fits spelling bytes → ⊥
+
+-- the bytes are these rows, and then the rest
+pub record AreRows {V : Type 0} (Fits : V → Type 0) (spelling : V → List ℕ) (rows : List V) (bytes rest : List ℕ) : Type 0 where
+  pub fit : AllByRecursion Fits rows
+  pub spelled : bytes ≡ flat_map spelling rows ++ rest
 
 -- the bytes are this many rows, and then the rest
 pub record Stand {V : Type 0} (Fits : V → Type 0) (spelling : V → List ℕ) (count : ℕ) (bytes rest : List ℕ) : Type 0 where
   pub rows : List V
   pub number : length rows ≡ count
-  pub fit : AllByRecursion Fits rows
-  pub spelled : bytes ≡ flat_map spelling rows ++ rest
+  pub are : AreRows Fits spelling rows bytes rest
 
--- the bytes are k rows, fewer than the count, and what follows begins with no row
-pub record Stop {V : Type 0} (Fits : V → Type 0) (spelling : V → List ℕ) (count k : ℕ) (bytes : List ℕ) : Type 0 where
+-- the bytes are k rows, fewer than the count, and what follows doesn't begin as a row does
+pub record Stops {V : Type 0} (Fits : V → Type 0) (spelling : V → List ℕ) (begins : List ℕ → Type 0) (count k : ℕ) (bytes : List ℕ) : Type 0 where
   pub rest : List ℕ
   pub before : Stand Fits spelling k bytes rest
   pub fewer : k < count
-  pub none : BeginsWithNo Fits spelling rest
+  pub none : begins rest → ⊥
+
+abbrev pub Stop : {V : Type 0} → (V → Type 0) → (V → List ℕ) → (count k : ℕ) → List ℕ → Type 0
+Stop Fits spelling count k bytes = Stops Fits spelling (Begins Fits spelling) count k bytes
 
 -- ---- logs
 

@@ -83,7 +83,7 @@ impl Row for Entry<Span> {
     ghost use Rattle.std.specs.Prelude.{length};
     ghost use Rattle.kfs_model.specs.Spelling.{IsEntry, entry_bytes};
     ghost use Rattle.kfs_value.specs.Views.{entry_of, IsWithin};
-    ghost use Rattle.kfs_entry.specs.RowList.{Begins};
+    ghost use Rattle.kfs_model.specs.Spelling.{Begins};
 
     ghost spelling = { λ source entry. entry_bytes (entry_of source entry) };
 

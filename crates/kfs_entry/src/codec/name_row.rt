@@ -25,7 +25,7 @@ fn read_row(source: &[u8], at: usize) -> Option<(NameRow, usize)>
 impl Row for NameRow {
     ghost use Rattle.kfs_model.specs.Spelling.{IsNameRow, name_row_bytes};
     ghost use Rattle.kfs_value.specs.Views.{name_row_of};
-    ghost use Rattle.kfs_entry.specs.RowList.{Begins};
+    ghost use Rattle.kfs_model.specs.Spelling.{Begins};
 
     ghost spelling = { λ _ row. name_row_bytes (name_row_of row) };
 

@@ -24,7 +24,7 @@ fn read_row(source: &[u8], at: usize) -> Option<(NodeRow, usize)>
 impl Row for NodeRow {
     ghost use Rattle.kfs_model.specs.Spelling.{IsNodeRow, node_row_bytes};
     ghost use Rattle.kfs_value.specs.Views.{node_row_of};
-    ghost use Rattle.kfs_entry.specs.RowList.{Begins};
+    ghost use Rattle.kfs_model.specs.Spelling.{Begins};
 
     ghost spelling = { λ _ row. node_row_bytes (node_row_of row) };
 

@@ -67,7 +67,7 @@ fn read_piece(source: &[u8], at: usize) -> Option<(Piece, usize)>
 impl Row for Piece {
     ghost use Rattle.kfs_model.specs.Spelling.{IsPiece, piece_bytes};
     ghost use Rattle.kfs_value.specs.Views.{piece_of};
-    ghost use Rattle.kfs_entry.specs.RowList.{Begins};
+    ghost use Rattle.kfs_model.specs.Spelling.{Begins};
 
     ghost spelling = { λ _ piece. piece_bytes (piece_of piece) };
 

@@ -8,7 +8,7 @@ use Rattle.kfs_model.specs.Access.{Client}
 use Rattle.kfs_model.specs.CleanStep.{IsClient}
 use Rattle.kfs_mode.specs.Clients.{AreDistinct}
 use Rattle.kfs_desk.specs.Opening.{begin_fault, fault_behind}
-use Rattle.kfs_desk.proofs.ClientRows.{distinct_more, in_range_more, without_row}
+use Rattle.kfs_desk.proofs.ClientRows.{distinct_more, in_range_more}
 use Rattle.kfs_desk.proofs.Openings.{no_fault, number_is_new}
 use Rattle.kfs_desk.proofs.desk.first_fault.Goals as goal
 
@@ -31,7 +31,7 @@ loop-index-preserved c =
     let grown : take (i + 1) clients ≡ take i clients ++ client ∷ [] = ap (λ n. take n clients) (add-one i) ∙ take-suc clients i client c.loop-index-test.true ∙ ap (λ row. take i clients ++ row ∷ []) (sym c.index-clients-index.is) in
     record {
       first = ap begin_fault grown ∙ none_more fault_behind (take i clients) client c.loop-index.invariant.first none;
-      distinct = subst AreDistinct (sym grown) (distinct_more (take i clients) client c.loop-index.invariant.distinct (without_row (take i clients) client.number (number_is_new (take i clients) client none)));
+      distinct = subst AreDistinct (sym grown) (distinct_more (take i clients) client c.loop-index.invariant.distinct (number_is_new (take i clients) client none));
       in_range = subst (λ (rows : List Client). AllByRecursion IsClient rows) (sym grown) (in_range_more (take i clients) client c.loop-index.invariant.in_range c.fault_of-fault.ensures.in_range);
     }
 

@@ -1,5 +1,5 @@
 use Rattle.std.proofs.Common.{◌≡◌, ◌≤◌, length, drop}
-use Rattle.kfs_entry.specs.RowList.{AreRows}
+use Rattle.kfs_model.specs.Spelling.{AreRows}
 use Rattle.kfs_entry.proofs.row.read_rows.Given as goal
 
 abbrev pub invariant-loop-k : goal.invariant-loop-k

@@ -1,8 +1,7 @@
 use Rattle.std.proofs.Common.{◌≤◌, length, arith}
-use Rattle.kfs_model.specs.Spelling.{IsLogHeader, log_header}
 use Rattle.kfs_entry.specs.Headers.{log_header_of}
 use Rattle.kfs_model.proofs.HeaderLaws.{log_header_field}
-use Rattle.kfs_entry.proofs.Found.{is_found, is_none, IfNone-weaker, begins_with_no}
+use Rattle.kfs_entry.proofs.Found.{is_found, is_none}
 use Rattle.kfs_entry.proofs.codec.headers.read_log.Goals as goal
 
 pub returns-clause-found : goal.returns-clause-found
@@ -12,4 +11,4 @@ returns-clause-found c =
 pub returns-clause-none : goal.returns-clause-none
 returns-clause-none c =
     let source = c.args.source.now in
-    IfNone-weaker (begins_with_no IsLogHeader log_header source) c.log_counts.result (is_none log_header_of log_header_field source source c.log_counts.result c.log_counts.ensures.value)
+    is_none log_header_of log_header_field source source c.log_counts.result c.log_counts.ensures.value

@@ -1,12 +1,12 @@
 use Rattle.std.proofs.Common.{◌≡◌, Bool, false, Ok, sym, ap, ◌∙◌, arith}
 use Rattle.std.specs.Prelude.{nat_lt, if◌then◌else◌}
 use Rattle.std.proofs.lemmas.Bool.Decides.{nat_tests}
-use Rattle.kfs_model.specs.Lease.{Leases, Outcome, Backwards, refused, ticked}
-use Rattle.kfs_lease.specs.Rows.{table_in, live_at}
+use Rattle.kfs_model.specs.Lease.{Leases, Outcome, Backwards, live_at, refused, ticked}
+use Rattle.kfs_lease.specs.Rows.{table_in}
 use Rattle.kfs_lease.proofs.leases.Leases.tick.Goals as goal
 
 pub returns-clause-ok : goal.returns-clause-ok
-unfolding ticked live_at
+unfolding ticked
 returns-clause-ok g c =
     let old : Leases = record { rows = table_in c.self.inside.rows; moment = c.self.inside.moment } in
     let later : nat_lt c.args.moment c.self.inside.moment ≡ false = grind (arith, nat_tests) in

@@ -1,5 +1,6 @@
 use Rattle.std.proofs.Common.{ℕ, None, sym, ap, ◌∙◌}
-use Rattle.kfs_lease.specs.Rows.{table_of, live_at}
+use Rattle.kfs_lease.specs.Rows.{table_of}
+use Rattle.kfs_model.specs.Lease.{live_at}
 use Rattle.kfs_lease.proofs.RowTables.{get-table_of, table_removed, if_live, not_live, live_at-remove, all_live}
 use Rattle.kfs_lease.proofs.RowSteps.{indexed_set, end_left, only_end}
 use Rattle.kfs_lease.proofs.rows.Rows.end_until.Goals as goal

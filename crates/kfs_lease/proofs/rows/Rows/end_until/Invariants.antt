@@ -1,6 +1,7 @@
 use Rattle.std.proofs.Common.{◌≡◌}
 use Rattle.std.specs.BTreeSet.{btree_set_len}
-use Rattle.kfs_lease.specs.Rows.{IsIndexed, table_in, live_at}
+use Rattle.kfs_lease.specs.Rows.{IsIndexed, table_in}
+use Rattle.kfs_model.specs.Lease.{live_at}
 use Rattle.kfs_lease.proofs.rows.Rows.end_until.Given as goal
 
 abbrev pub invariant-loop-key : goal.invariant-loop-key

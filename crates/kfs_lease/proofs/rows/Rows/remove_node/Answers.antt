@@ -1,6 +1,6 @@
 use Rattle.std.proofs.Common.{sym, ap, ◌∙◌}
-use Rattle.kfs_lease.specs.Rows.{table_in, without_node}
-use Rattle.kfs_lease.proofs.RowTables.{without_node-remove, none_on_node}
+use Rattle.kfs_lease.specs.Rows.{table_in}
+use Rattle.kfs_lease.proofs.RowTables.{without_node, without_node-remove, none_on_node}
 use Rattle.kfs_lease.proofs.rows.Rows.remove_node.Goals as goal
 
 pub loop-client-smaller : goal.loop-client-smaller

@@ -1,6 +1,7 @@
 use Rattle.std.proofs.Common.{◌≡◌}
 use Rattle.std.specs.BTreeMap.{btree_map_len}
-use Rattle.kfs_lease.specs.Rows.{IsIndexed, table_in, without_node}
+use Rattle.kfs_lease.specs.Rows.{IsIndexed, table_in}
+use Rattle.kfs_lease.proofs.RowTables.{without_node}
 use Rattle.kfs_lease.proofs.rows.Rows.remove_node.Given as goal
 
 abbrev pub invariant-loop-client : goal.invariant-loop-client

@@ -1,0 +1,7 @@
+-- Numbers no two of which are the same.
+use Rattle.std.specs.Prelude.{ℕ, ◌==◌, ◌&&◌, not, Bool, true, List, [], ◌∷◌}
+use Rattle.std.specs.List.{list_any}
+
+abbrev pub are_distinct : List ℕ → Bool
+are_distinct [] = true
+are_distinct (number ∷ numbers) = not (list_any (λ other. other == number) numbers) && are_distinct numbers
