@@ -296,8 +296,43 @@ fn are_as_granted<A: Allocator + Clone>(
     are_right
 }
 
-/// Makes these grants one after another. Where one finds no memory, the leases are as they were, and it is
-/// made once more. Answers how often that was.
+/// Makes the grant. Answers whether it is made; none where it finds no memory.
+fn is_made<A: Allocator + Clone>(
+    leases: &mut Leases<A>,
+    shape: &Shape<A>,
+    granted: Granted,
+) -> Option<bool> {
+    let (client, path, number, kind, end) = granted;
+    match grant(leases, shape, client, path, kind, end) {
+        Ok(node) => Some(node == number),
+        Err(LeaseFault::OutOfMemory) => None,
+        Err(_) => Some(false),
+    }
+}
+
+/// Makes the grant behind the first `count`. Where it finds no memory, the leases are as they were, and it
+/// is made once more. Answers how often that was.
+fn make_grant<A: Allocator + Clone>(
+    rt: &impl Abort,
+    leases: &mut Leases<A>,
+    shape: &Shape<A>,
+    grants: &[Granted],
+    count: u32,
+    granted: Granted,
+) -> u32 {
+    if let Some(is_right) = is_made(leases, shape, granted) {
+        assert!(rt; is_right, "grant {count}");
+        return 0;
+    }
+    assert!(rt; are_as_granted(leases, grants, count), "before {count}");
+    assert!(rt;
+        is_made(leases, shape, granted) == Some(true),
+        "again {count}"
+    );
+    1
+}
+
+/// Makes these grants one after another. Answers how often one found no memory.
 fn make_grants<A: Allocator + Clone>(
     rt: &impl Abort,
     leases: &mut Leases<A>,
@@ -306,17 +341,9 @@ fn make_grants<A: Allocator + Clone>(
 ) -> u32 {
     let mut refusals = 0u32;
     let mut count = 0u32;
-    for (client, path, number, kind, end) in grants {
-        let mut answer = grant(leases, shape, *client, path, *kind, *end);
-        if answer == Err(LeaseFault::OutOfMemory) {
-            assert!(rt;
-                are_as_granted(leases, grants, count),
-                "before grant {count}"
-            );
-            refusals = refusals.saturating_add(1);
-            answer = grant(leases, shape, *client, path, *kind, *end);
-        }
-        assert!(rt; answer == Ok(*number), "grant {count}");
+    for granted in grants {
+        let refused = make_grant(rt, leases, shape, grants, count, *granted);
+        refusals = refusals.saturating_add(refused);
         count = count.saturating_add(1);
     }
     refusals
