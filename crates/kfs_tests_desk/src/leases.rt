@@ -4,11 +4,12 @@
 use crate::desks::{AMPLE, opening, submission, submit, yes};
 use kfs_desk::Desk;
 use kfs_image::Shape;
+use kfs_judge::plan::Submission;
 use kfs_lease::LeaseKind::{Read, Write};
 use kfs_lease::{LeaseFault, LeaseKind, Leases};
 use kfs_mode::Client;
 use kfs_tests::refusing::Refusing;
-use std::alloc::Allocator;
+use std::alloc::{AllocError, Allocator};
 use std::process::Abort;
 use std::test::Fail;
 
@@ -35,10 +36,15 @@ const TREE_PLAN: &[u8] =
       \x03\xe8\0\x01\0\0\0\0\0\0\0\0\0\0\0z\x01\0\0\0\0\x03\xe8\0\0\x03\xe8\0\x01\0\0\
       \0\0\0\0\0\0";
 
+/// What makes these nodes.
+fn nodes<A: Allocator + Copy>(alloc: A) -> Result<Submission<A>, AllocError> {
+    submission(alloc, TREE_LOG, TREE_PLAN)
+}
+
 /// A desk with these nodes, where there is memory.
 fn tree<A: Allocator + Copy>(alloc: A) -> Option<Desk<A>> {
     let mut desk = opening(alloc, 100)?;
-    if submit(&mut desk, submission(alloc, TREE_LOG, TREE_PLAN).ok()?) == Ok(yes(1)) {
+    if submit(&mut desk, nodes(alloc).ok()?) == Ok(yes(1)) {
         Some(desk)
     } else {
         None
