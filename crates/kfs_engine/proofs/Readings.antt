@@ -1,13 +1,15 @@
 -- A command's words are read one by one.
-use Rattle.std.proofs.Common.{◌≡◌, ℕ, nat_lt, ◌==◌, ◌&&◌, List, [], ◌∷◌, length, take, Option, Some, None, option_map, refl, sym, ap, ◌∙◌, if◌then◌else◌}
+use Rattle.std.proofs.Common.{◌≡◌, ℕ, nat_lt, ◌==◌, ◌&&◌, List, [], ◌∷◌, length, take, Option, Some, None, option_map, refl, sym, ap, ◌∙◌, Bool, true, false, if◌then◌else◌}
 use Rattle.kfs_judge.specs.Judging.{submission_with}
 use Rattle.kfs_model.specs.Steps.{◌>>=◌}
 use Rattle.kfs_engine.specs.Command.{Command, Opening, Desk, Row, Begin, Lease, Drop, Tick, Submit, Node, Names, asked_by, asked_in, client_of, client_row, command_of, drop_of, kind_named, lease_of, new_of, submit_of, with_number}
-use Rattle.kfs_engine.specs.Reading.{begin_of, command_named, listing_of, node_of, tick_of}
+use Rattle.kfs_engine.specs.Reading.{begin_of, command_named, listing_of, named_by, node_of, tick_of}
 use Rattle.kfs_text.specs.Cut.{cut, space}
 use Rattle.kfs_text.specs.Decimals.{decimal32, decimal64, decimal_within, decimals32, hexadecimal}
 use Rattle.kfs_text.specs.Reading.{are_words, checked, ended, first_by, only}
 use Rattle.kfs_engine.specs.declared.command.Name.{Name}
+use Rattle.kfs_engine.specs.declared.command.Name.TheVariants as names
+use Rattle.std.specs.Prelude.{bytes_eq, codes}
 use Rattle.kfs_text.proofs.WordByWord.{bind_all, bind_none, checked_decimals, checked_nothing, checked_same, checked_then, decimals_then, first_if, if_none, map_bind, nothing_if, nothing_then, word_then}
 use Rattle.kfs_engine.proofs.Rows.{sizes_by, new_by_sizes, kept_groups}
 
@@ -142,6 +144,26 @@ client_steps words =
     ∙ bind_all (first_by decimal32 first.1) _ _ (λ last. checked_decimals _ last.1 ∙ kept_groups number.0 uid.0 gid.0 (privileged.0 == 1) first.0 last.0 (decimals32 last.1)))))))
 
 -- ---- lines
+
+name_or : (is : Bool) (name : Name) (others : Option Name) (other : Option Command) (words : List (List ℕ)) → other ≡ command_named others words
+    → (if is then command_named (Some name) words else other) ≡ command_named (if is then Some name else others) words
+name_or true name others other words same = refl
+name_or false name others other words same = same
+
+-- a word's command is that of its name
+pub command_by_name : (word : List ℕ) (name : Option Name) → name ≡ named_by word → (words : List (List ℕ)) → command_of word words ≡ command_named name words
+unfolding begin_of tick_of node_of listing_of
+command_by_name word name is words =
+    name_or (bytes_eq word (codes "new")) names.New _ _ words
+    (name_or (bytes_eq word (codes "client")) names.Client _ _ words
+    (name_or (bytes_eq word (codes "begin")) names.Begin _ _ words
+    (name_or (bytes_eq word (codes "lease")) names.Lease _ _ words
+    (name_or (bytes_eq word (codes "drop")) names.Drop _ _ words
+    (name_or (bytes_eq word (codes "tick")) names.Tick _ _ words
+    (name_or (bytes_eq word (codes "submit")) names.Submit _ _ words
+    (name_or (bytes_eq word (codes "node")) names.Node _ _ words
+    (name_or (bytes_eq word (codes "list")) names.List None None words refl))))))))
+    ∙ ap (λ n. command_named n words) (sym is)
 
 -- a word that names nothing begins no command
 pub nameless : (words : List (List ℕ)) → checked (command_named None) words ≡ None

@@ -1,6 +1,7 @@
 -- The sizes of an image and the row of a client, by the numbers that are read for them.
 use Rattle.std.proofs.Common.{◌≡◌, ℕ, ◌<◌, ◌≤◌, ◌==◌, nat_lt, nat_le, suc, zero, Bool, true, false, ◌&&◌, ◌||◌, List, [], ◌∷◌, length, take, Option, Some, None, Result, Ok, Err, option_map, refl, sym, ap, ◌∙◌, ◌⊎◌, arith, if◌then◌else◌}
-use Rattle.std.specs.Prelude.{IfOk}
+use Rattle.std.specs.Prelude.{◌↔◌, IfOk, IfSome, IsSome}
+use Rattle.kfs_model.specs.Placement.{TierSizes}
 use Rattle.std.specs.List.{list_all}
 use Rattle.std.specs.Str.Parse.{digits_value}
 use Rattle.std.proofs.lemmas.List.{length-take}
@@ -75,6 +76,20 @@ new_by_sizes a b c =
     ∙ ap (λ o. (decimal32 a >>= kept) >>= λ x. o >>= λ y. decimal_within 65536 c >>= λ z. Some (Opening (New (record { first = x; second = y; third = z })))) (narrowed b)
     ∙ ap (λ o. (decimal32 a >>= kept) >>= λ x. (decimal32 b >>= kept) >>= λ y. o >>= λ z. Some (Opening (New (record { first = x; second = y; third = z })))) (narrowed c)
     ∙ three_kept (decimal32 a) (decimal32 b) (decimal32 c) (λ x y z. Opening (New (record { first = x; second = y; third = z })))
+
+all_fit : (a b c : ℕ) → a ≤ 65536 → b ≤ 65536 → c ≤ 65536 → sizes_by a b c ≡ Some (Opening (New (record { first = a; second = b; third = c })))
+all_fit a b c first second third = grind (arith, nat_tests)
+
+not_all_fit : (a b c : ℕ) → (a ≤ 65536 → b ≤ 65536 → c ≤ 65536 → ⊥) → sizes_by a b c ≡ None
+not_all_fit a b c never = grind (arith, nat_tests)
+
+-- sizes are made exactly where each is small enough
+pub sizes_are : (a b c : ℕ) (o : Option TierSizes) → (IsSome o ↔ (a ≤ 65536) × (b ≤ 65536) × (c ≤ 65536)) → IfSome o (λ sizes. sizes ≡ record { first = a; second = b; third = c })
+    → sizes_by a b c ≡ option_map (λ sizes. Opening (New sizes)) o
+sizes_are a b c None is value = not_all_fit a b c (λ first second third. let e : false ≡ true = is.1 (first, second, third) in cc)
+sizes_are a b c (Some sizes) is value =
+    let fits = is.0 refl in
+    all_fit a b c fits.0 fits.1 fits.2 ∙ ap (λ sizes. Some (Opening (New sizes))) (sym value)
 
 -- ---- the row of a client
 

@@ -1,5 +1,5 @@
 -- What is read is the command that a line asks for.
-use Rattle.std.specs.Prelude.{◌≡◌, ℕ, List, Option, Some, None, Result, MatchResult}
+use Rattle.std.specs.Prelude.{◌≡◌, ℕ, List, codes, bytes_eq, Option, Some, None, Result, MatchResult, if◌then◌else◌}
 use Rattle.kfs_engine.specs.Command.{Command, Opening, Begin, Desk, Tick, Node, Names, IsBadLine, client_of, drop_of, lease_of, new_of, submit_of, with_number}
 use Rattle.kfs_engine.specs.Views.{asked_of}
 use Rattle.kfs_engine.specs.declared.command.Command.{Command as CodeCommand}
@@ -26,6 +26,20 @@ node_of = with_number decimal32 (λ number. Desk (Node number))
 
 unfoldable pub listing_of : List (List ℕ) → Option Command
 listing_of = with_number decimal32 (λ directory. Desk (Names directory))
+
+-- the command that a word names
+abbrev pub named_by : (word : List ℕ) → Option Name
+named_by word =
+    if bytes_eq word (codes "new") then Some names.New
+    else if bytes_eq word (codes "client") then Some names.Client
+    else if bytes_eq word (codes "begin") then Some names.Begin
+    else if bytes_eq word (codes "lease") then Some names.Lease
+    else if bytes_eq word (codes "drop") then Some names.Drop
+    else if bytes_eq word (codes "tick") then Some names.Tick
+    else if bytes_eq word (codes "submit") then Some names.Submit
+    else if bytes_eq word (codes "node") then Some names.Node
+    else if bytes_eq word (codes "list") then Some names.List
+    else None
 
 abbrev pub command_named : Option Name → List (List ℕ) → Option Command
 command_named None words = None

@@ -2,8 +2,8 @@
 ghost use Rattle.std.specs.Prelude.{◌≡◌, ℕ, List, true, false, IfOk, IfErr, IsErrOf, Some};
 ghost use Rattle.kfs_lease.specs.Rows.{kind_of};
 ghost use Rattle.kfs_judge.specs.Judging.{HasOtherEntry, submission_of};
-ghost use Rattle.kfs_engine.specs.Command.{Desk as DeskLine, Names as NamesLine, Node as NodeLine, Opening as OpeningLine, Submit as SubmitLine, IsBadLine, asked_by, client_of, command_of, drop_of, kind_named, lease_of, new_of, submit_of};
-ghost use Rattle.kfs_engine.specs.Reading.{IsAsked, begin_of, command_named, listing_of, node_of, tick_of};
+ghost use Rattle.kfs_engine.specs.Command.{Desk as DeskLine, Names as NamesLine, Node as NodeLine, Opening as OpeningLine, Submit as SubmitLine, IsBadLine, asked_by, client_of, drop_of, kind_named, lease_of, new_of, submit_of};
+ghost use Rattle.kfs_engine.specs.Reading.{IsAsked, begin_of, command_named, listing_of, named_by, node_of, tick_of};
 ghost use Rattle.kfs_engine.specs.Views.{act_of, asked_of, opening_of};
 ghost use Rattle.kfs_text.specs.Reading.{ReadsAs, checked, first_by, words_left};
 
@@ -94,9 +94,8 @@ enum Name {
 }
 
 /// The command that the word names.
-#[tactic(auto, unfolding(crate::specs::Reading::begin_of, crate::specs::Reading::tick_of, crate::specs::Reading::node_of, crate::specs::Reading::listing_of))]
 fn name_in(word: &[u8]) -> Option<Name>
-    ensures { (words : List (List ℕ)) → command_of word.now words ≡ command_named result words }
+    ensures { result ≡ named_by word.now }
 {
     if word == b"new".as_slice() {
         Some(Name::New)

@@ -4,9 +4,14 @@ use kfs_mode::Want::{Read, Search, Write};
 use kfs_mode::{Class, Client, ClientFault, Want, class_of, may};
 use std::process::Abort;
 
-/// The class that a client with these ids and supplementary groups is in, to a node of these ids.
-fn class(uid: u32, gid: u32, groups: &[u32], node: (u32, u32)) -> Result<Class, ClientFault> {
-    let client = Client::new(7, uid, gid, groups, false, 2, 99)?;
+/// A client with these ids and supplementary groups.
+fn client(ids: (u32, u32), groups: &[u32], privileged: bool) -> Result<Client, ClientFault> {
+    Client::new(7, ids.0, ids.1, groups, privileged, 2, 99)
+}
+
+/// The class that such a client, not privileged, is in, to a node of these ids.
+fn class(ids: (u32, u32), groups: &[u32], node: (u32, u32)) -> Result<Class, ClientFault> {
+    let client = client(ids, groups, false)?;
     Ok(class_of(&client, node.0, node.1))
 }
 
@@ -18,7 +23,7 @@ fn is_granted(
     node: (u32, u32, u16),
     want: Want,
 ) -> Result<bool, ClientFault> {
-    let client = Client::new(7, ids.0, ids.1, groups, privileged, 2, 99)?;
+    let client = client(ids, groups, privileged)?;
     Ok(may(&client, node.0, node.1, node.2, want))
 }
 
@@ -80,7 +85,7 @@ fn is_class(row: (u32, u32, Class, u16)) -> Result<bool, ClientFault> {
     let (uid, gid, wanted, unit) = row;
     let node = (uid, gid);
     Ok(
-        class(1000, 2000, &[3000, 4000], node)? == wanted
+        class((1000, 2000), &[3000, 4000], node)? == wanted
             && is_the_bit(node, unit.saturating_mul(4), Read)?
             && is_the_bit(node, unit.saturating_mul(2), Write)?
             && is_the_bit(node, unit, Search)?,

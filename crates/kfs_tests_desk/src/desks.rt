@@ -6,6 +6,7 @@ use kfs_image::{Answer, Cell, Header, Image, Kind, Name, Shape, TierSizes, look}
 use kfs_judge::plan::{Submission, Why};
 use kfs_lease::LeaseKind;
 use kfs_mode::Client;
+use kfs_tests::vectors::{CREATE_LOG, CREATE_PLAN};
 use std::alloc::{AllocError, Allocator};
 
 /// As many growths as nothing here makes.
@@ -48,6 +49,11 @@ pub fn submission<A: Allocator + Copy>(
         log: Vec::from_slice(alloc, log)?,
         plan: Vec::from_slice(alloc, plan)?,
     })
+}
+
+/// The Create of the file 5, named `a`, in the root.
+pub fn create<A: Allocator + Copy>(alloc: A) -> Result<Submission<A>, AllocError> {
+    submission(alloc, CREATE_LOG, CREATE_PLAN)
 }
 
 pub fn submit<A: Allocator + Copy>(

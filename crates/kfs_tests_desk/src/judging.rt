@@ -1,6 +1,6 @@
 //! A view from before a submission, and submissions one after another.
 
-use crate::desks::{opening, shows, submission, submit, yes};
+use crate::desks::{create, opening, shows, submission, submit, yes};
 use kfs_desk::Desk;
 use kfs_desk::answers::Reply;
 use kfs_image::Name;
@@ -33,17 +33,17 @@ fn is_only_name(desk: &Desk<Global>, name: &Name) -> bool {
 }
 
 /// What the desk answers to the Create of `a`, where there is memory for it.
-fn create(alloc: Global, desk: &mut Desk<Global>) -> Option<Result<Reply, Why>> {
-    let create = submission(alloc, CREATE_LOG, CREATE_PLAN).ok()?;
+fn created(alloc: Global, desk: &mut Desk<Global>) -> Option<Result<Reply, Why>> {
+    let create = create(alloc).ok()?;
     Some(submit(desk, create))
 }
 
 /// The Create is accepted, is then seen, and isn't accepted twice.
 fn expect_created(rt: &(impl Abort + AllocGlobal), desk: &mut Desk<Global>, name: &Name) {
-    assert!(rt; create(rt.alloc(), desk) == Some(Ok(yes(1))));
+    assert!(rt; created(rt.alloc(), desk) == Some(Ok(yes(1))));
     assert!(rt; shows(desk.image().shape(), Some(0o644)));
     assert!(rt; is_only_name(desk, name));
-    assert!(rt; create(rt.alloc(), desk) == Some(Ok(taken(2))));
+    assert!(rt; created(rt.alloc(), desk) == Some(Ok(taken(2))));
 }
 
 #[test]

@@ -4,11 +4,12 @@
 use crate::desks::{AMPLE, opening, submission, submit, yes};
 use kfs_desk::Desk;
 use kfs_image::Shape;
+use kfs_judge::plan::Submission;
 use kfs_lease::LeaseKind::{Read, Write};
 use kfs_lease::{LeaseFault, LeaseKind, Leases};
 use kfs_mode::Client;
 use kfs_tests::refusing::Refusing;
-use std::alloc::Allocator;
+use std::alloc::{AllocError, Allocator};
 use std::process::Abort;
 use std::test::Fail;
 
@@ -35,10 +36,15 @@ const TREE_PLAN: &[u8] =
       \x03\xe8\0\x01\0\0\0\0\0\0\0\0\0\0\0z\x01\0\0\0\0\x03\xe8\0\0\x03\xe8\0\x01\0\0\
       \0\0\0\0\0\0";
 
+/// What makes these nodes.
+fn nodes<A: Allocator + Copy>(alloc: A) -> Result<Submission<A>, AllocError> {
+    submission(alloc, TREE_LOG, TREE_PLAN)
+}
+
 /// A desk with these nodes, where there is memory.
 fn tree<A: Allocator + Copy>(alloc: A) -> Option<Desk<A>> {
     let mut desk = opening(alloc, 100)?;
-    if submit(&mut desk, submission(alloc, TREE_LOG, TREE_PLAN).ok()?) == Ok(yes(1)) {
+    if submit(&mut desk, nodes(alloc).ok()?) == Ok(yes(1)) {
         Some(desk)
     } else {
         None
@@ -296,8 +302,43 @@ fn are_as_granted<A: Allocator + Clone>(
     are_right
 }
 
-/// Makes these grants one after another. Where one finds no memory, the leases are as they were, and it is
-/// made once more. Answers how often that was.
+/// Makes the grant. Answers whether it is made; none where it finds no memory.
+fn is_made<A: Allocator + Clone>(
+    leases: &mut Leases<A>,
+    shape: &Shape<A>,
+    granted: Granted,
+) -> Option<bool> {
+    let (client, path, number, kind, end) = granted;
+    match grant(leases, shape, client, path, kind, end) {
+        Ok(node) => Some(node == number),
+        Err(LeaseFault::OutOfMemory) => None,
+        Err(_) => Some(false),
+    }
+}
+
+/// Makes the grant behind the first `count`. Where it finds no memory, the leases are as they were, and it
+/// is made once more. Answers how often that was.
+fn make_grant<A: Allocator + Clone>(
+    rt: &impl Abort,
+    leases: &mut Leases<A>,
+    shape: &Shape<A>,
+    grants: &[Granted],
+    count: u32,
+    granted: Granted,
+) -> u32 {
+    if let Some(is_right) = is_made(leases, shape, granted) {
+        assert!(rt; is_right, "grant {count}");
+        return 0;
+    }
+    assert!(rt; are_as_granted(leases, grants, count), "before {count}");
+    assert!(rt;
+        is_made(leases, shape, granted) == Some(true),
+        "again {count}"
+    );
+    1
+}
+
+/// Makes these grants one after another. Answers how often one found no memory.
 fn make_grants<A: Allocator + Clone>(
     rt: &impl Abort,
     leases: &mut Leases<A>,
@@ -306,17 +347,9 @@ fn make_grants<A: Allocator + Clone>(
 ) -> u32 {
     let mut refusals = 0u32;
     let mut count = 0u32;
-    for (client, path, number, kind, end) in grants {
-        let mut answer = grant(leases, shape, *client, path, *kind, *end);
-        if answer == Err(LeaseFault::OutOfMemory) {
-            assert!(rt;
-                are_as_granted(leases, grants, count),
-                "before grant {count}"
-            );
-            refusals = refusals.saturating_add(1);
-            answer = grant(leases, shape, *client, path, *kind, *end);
-        }
-        assert!(rt; answer == Ok(*number), "grant {count}");
+    for granted in grants {
+        let refused = make_grant(rt, leases, shape, grants, count, *granted);
+        refusals = refusals.saturating_add(refused);
         count = count.saturating_add(1);
     }
     refusals

@@ -1,12 +1,11 @@
 //! Submissions: as many Creates as a log may have, and a Create and a Chmod with each growth refused.
 
-use crate::desks::{AMPLE, is_leased, opening, shows, submission, submit, yes};
+use crate::desks::{AMPLE, create, is_leased, opening, shows, submission, submit, yes};
 use kfs_desk::Desk;
 use kfs_desk::answers::Reply;
 use kfs_image::{Answer, Cell, Name, look};
 use kfs_judge::plan::{Submission, Why};
 use kfs_tests::refusing::Refusing;
-use kfs_tests::vectors::{CREATE_LOG, CREATE_PLAN};
 use std::alloc::{AllocError, Allocator, Global};
 use std::process::Abort;
 use std::test::Fail;
@@ -125,7 +124,7 @@ const CLOSE_PLAN: &[u8] = b"KPLN\x01\0\0\0\x01\0\0\0\0\0\0\0\x05\x01\x01\x80\0\0
 /// A desk with the file 5 of client 7, which holds a write lease on it, where there is memory.
 fn with_a_file<A: Allocator + Copy>(alloc: A) -> Option<Desk<A>> {
     let mut desk = opening(alloc, 100)?;
-    let create = submission(alloc, CREATE_LOG, CREATE_PLAN).ok()?;
+    let create = create(alloc).ok()?;
     if submit(&mut desk, create) == Ok(yes(1)) && is_leased(&mut desk, b"/a", 5) {
         Some(desk)
     } else {
@@ -138,7 +137,7 @@ fn change<A: Allocator + Copy>(alloc: A, has_file: bool) -> Result<Submission<A>
     if has_file {
         submission(alloc, CLOSE_LOG, CLOSE_PLAN)
     } else {
-        submission(alloc, CREATE_LOG, CREATE_PLAN)
+        create(alloc)
     }
 }
 

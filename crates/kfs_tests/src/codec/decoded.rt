@@ -11,12 +11,6 @@ use kfs_entry::{
 };
 use std::alloc::{AllocError, Global};
 use std::process::Abort;
-use std::test::Fail;
-
-/// The name with these bytes.
-fn name(bytes: &[u8]) -> Result<Name, Fail> {
-    Ok(Name::new(bytes).ok_or("a name")?)
-}
 
 /// Whether the bytes are a log of this client with these entries.
 fn is_log(
@@ -61,16 +55,18 @@ fn write(offset: u64, start: usize, end: usize) -> Entry<Span> {
     }
 }
 
-#[test]
-fn logs(rt: HostRuntime) -> Result<(), Fail> {
+fn is_the_create(alloc: Global) -> Option<bool> {
     let create = Entry::Create {
         dir: 1,
-        name: name(b"a")?,
+        name: Name::new(b"a")?,
         number: 5,
         kind: Kind::File,
         mode: 0o644,
     };
-    assert!(rt; is_log(rt.alloc(), CREATE_LOG, 7, &[create])?);
+    is_log(alloc, CREATE_LOG, 7, &[create]).ok()
+}
+
+fn are_the_edits(alloc: Global) -> Option<bool> {
     let edits = [
         write(2, 28, 30),
         write(3, 47, 50),
@@ -78,23 +74,29 @@ fn logs(rt: HostRuntime) -> Result<(), Fail> {
         Entry::Truncate { number: 5, size: 8 },
         write(12, 93, 94),
     ];
-    assert!(rt; is_log(rt.alloc(), EDITS_LOG, 7, &edits)?);
+    is_log(alloc, EDITS_LOG, 7, &edits).ok()
+}
+
+fn is_the_move(alloc: Global) -> Option<bool> {
     let rename = Entry::Rename {
         dir: 20,
-        name: name(b"x")?,
+        name: Name::new(b"x")?,
         new_dir: 12,
-        new_name: name(b"x")?,
+        new_name: Name::new(b"x")?,
     };
-    assert!(rt; is_log(rt.alloc(), MOVE_LOG, 7, &[rename])?);
+    is_log(alloc, MOVE_LOG, 7, &[rename]).ok()
+}
+
+fn are_the_others(alloc: Global) -> Option<bool> {
     let others = [
         Entry::Link {
             number: 5,
             dir: 1,
-            name: name(b"bb")?,
+            name: Name::new(b"bb")?,
         },
         Entry::Unlink {
             dir: 1,
-            name: name(b"c")?,
+            name: Name::new(b"c")?,
             kind: Kind::Directory,
         },
         Entry::Chmod {
@@ -102,13 +104,20 @@ fn logs(rt: HostRuntime) -> Result<(), Fail> {
             mode: 0o777,
         },
     ];
-    assert!(rt; is_log(rt.alloc(), OTHERS_LOG, 9, &others)?);
-    assert!(rt; is_log(rt.alloc(), EMPTY_LOG, 7, &[])?);
+    is_log(alloc, OTHERS_LOG, 9, &others).ok()
+}
+
+#[test]
+fn logs(rt: HostRuntime) {
+    assert!(rt; is_the_create(rt.alloc()) == Some(true));
+    assert!(rt; are_the_edits(rt.alloc()) == Some(true));
+    assert!(rt; is_the_move(rt.alloc()) == Some(true));
+    assert!(rt; are_the_others(rt.alloc()) == Some(true));
+    assert!(rt; is_log(rt.alloc(), EMPTY_LOG, 7, &[]) == Ok(true));
     expect_same_again(
         &rt,
         &[CREATE_LOG, EDITS_LOG, MOVE_LOG, OTHERS_LOG, EMPTY_LOG],
     );
-    Ok(())
 }
 
 /// The header of file 5 of client 7, with mode 0o644 and one name.
@@ -126,10 +135,10 @@ fn file_row(size: u64) -> NodeRow {
     }
 }
 
-fn name_row(dir: u32, bytes: &[u8], number: u32) -> Result<NameRow, Fail> {
-    Ok(NameRow {
+fn name_row(dir: u32, bytes: &[u8], number: u32) -> Option<NameRow> {
+    Some(NameRow {
         dir,
-        name: name(bytes)?,
+        name: Name::new(bytes)?,
         number,
     })
 }
@@ -144,30 +153,45 @@ fn piece(start: u64, len: u64, source: Source) -> Piece {
     }
 }
 
-#[test]
-fn plans(rt: HostRuntime) -> Result<(), Fail> {
+fn is_of_the_create(alloc: Global) -> Option<bool> {
     let names = [name_row(1, b"a", 5)?];
-    assert!(rt; is_plan(rt.alloc(), CREATE_PLAN, &names, &[file_row(0)], &[])?);
+    is_plan(alloc, CREATE_PLAN, &names, &[file_row(0)], &[]).ok()
+}
+
+fn is_of_the_edits(alloc: Global) -> Option<bool> {
     let pieces = [
         piece(2, 1, Source::Payload { entry: 0, place: 0 }),
         piece(3, 1, Source::Payload { entry: 1, place: 0 }),
         piece(4, 8, Source::Zero),
         piece(12, 1, Source::Payload { entry: 4, place: 0 }),
     ];
-    assert!(rt; is_plan(rt.alloc(), EDITS_PLAN, &[], &[file_row(13)], &pieces)?);
+    is_plan(alloc, EDITS_PLAN, &[], &[file_row(13)], &pieces).ok()
+}
+
+fn is_of_the_move(alloc: Global) -> Option<bool> {
     let names = [name_row(12, b"x", 10)?, name_row(20, b"x", 0)?];
-    assert!(rt; is_plan(rt.alloc(), MOVE_PLAN, &names, &[], &[])?);
+    is_plan(alloc, MOVE_PLAN, &names, &[], &[]).ok()
+}
+
+fn is_of_a_node_that_is_gone(alloc: Global) -> Option<bool> {
     let gone = NodeRow {
         number: 20,
         now: None,
     };
-    assert!(rt; is_plan(rt.alloc(), GONE_PLAN, &[], &[gone], &[])?);
-    assert!(rt; is_plan(rt.alloc(), EMPTY_PLAN, &[], &[], &[])?);
+    is_plan(alloc, GONE_PLAN, &[], &[gone], &[]).ok()
+}
+
+#[test]
+fn plans(rt: HostRuntime) {
+    assert!(rt; is_of_the_create(rt.alloc()) == Some(true));
+    assert!(rt; is_of_the_edits(rt.alloc()) == Some(true));
+    assert!(rt; is_of_the_move(rt.alloc()) == Some(true));
+    assert!(rt; is_of_a_node_that_is_gone(rt.alloc()) == Some(true));
+    assert!(rt; is_plan(rt.alloc(), EMPTY_PLAN, &[], &[], &[]) == Ok(true));
     expect_same_again(
         &rt,
         &[CREATE_PLAN, EDITS_PLAN, MOVE_PLAN, GONE_PLAN, EMPTY_PLAN],
     );
-    Ok(())
 }
 
 /// What a log of one Write with a payload of `len` zero bytes is refused with.
@@ -182,8 +206,7 @@ fn write_fault(rt: &impl AllocGlobal, len: u32) -> Result<Option<SpellFault>, Al
 }
 
 #[test]
-fn greatest_payload(rt: HostRuntime) -> Result<(), Fail> {
-    assert_eq!(rt; write_fault(&rt, 65_536)?, None);
-    assert_eq!(rt; write_fault(&rt, 65_537)?, Some(SpellFault::BadEntry(0)));
-    Ok(())
+fn greatest_payload(rt: HostRuntime) {
+    assert!(rt; write_fault(&rt, 65_536) == Ok(None));
+    assert!(rt; write_fault(&rt, 65_537) == Ok(Some(SpellFault::BadEntry(0))));
 }

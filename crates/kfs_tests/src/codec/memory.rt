@@ -4,7 +4,6 @@ use crate::refusing::Refusing;
 use kfs_entry::{SpellFault, decode_log, decode_plan, encode_log, encode_plan};
 use std::alloc::{AllocError, Allocator, Global};
 use std::process::Abort;
-use std::test::Fail;
 
 /// More growths than any of these calls makes.
 const MANY: u64 = 100;
@@ -60,30 +59,37 @@ pub fn is_same_again<A: Allocator + Copy>(alloc: A, bytes: &[u8]) -> Result<bool
     Ok(again.as_slice() == bytes)
 }
 
+/// Whether the bytes came out the same, or, where a growth was refused, want of memory was said.
+fn is_as_due(answer: Result<bool, SpellFault>, has_refused: bool) -> bool {
+    answer == Ok(true) || (has_refused && answer == Err(SpellFault::OutOfMemory))
+}
+
 /// How many growths it takes to decode and encode the bytes, each of which is refused in turn.
 fn growths(rt: &(impl Abort + AllocGlobal), bytes: &[u8]) -> u64 {
     for growth in 0..MANY {
         let heap = Refusing::new(rt.alloc(), growth);
         let answer = is_same_again(&heap, bytes);
+        assert!(rt; is_as_due(answer, heap.has_refused()), "{growth}");
         if !heap.has_refused() {
-            assert_eq!(rt; answer, Ok(true));
             return growth;
         }
-        if answer != Ok(true) {
-            assert_eq!(rt; answer, Err(SpellFault::OutOfMemory), "{growth}");
-        }
-        assert_eq!(rt; is_same_again(&heap, bytes), Ok(true), "after {growth}");
+        assert!(rt; is_same_again(&heap, bytes) == Ok(true), "after {growth}");
     }
     MANY
 }
 
+/// How many it takes for the long log, and for the long plan, where there is memory for these.
+fn growths_of_both(rt: &(impl Abort + AllocGlobal)) -> Result<(u64, u64), AllocError> {
+    let of_the_log = growths(rt, &long_log(rt.alloc())?);
+    let of_the_plan = growths(rt, &long_plan(rt.alloc())?);
+    Ok((of_the_log, of_the_plan))
+}
+
 #[test]
-fn each_growth_refused_in_turn(rt: HostRuntime) -> Result<(), Fail> {
-    let of_the_log = growths(&rt, &long_log(rt.alloc())?);
+fn each_growth_refused_in_turn(rt: HostRuntime) {
+    let (of_the_log, of_the_plan) = growths_of_both(&rt).unwrap_or((MANY, MANY));
     assert!(rt; 6 < of_the_log && of_the_log < MANY, "{of_the_log}");
-    let of_the_plan = growths(&rt, &long_plan(rt.alloc())?);
     assert!(rt; 6 < of_the_plan && of_the_plan < MANY, "{of_the_plan}");
-    Ok(())
 }
 
 /// What the bytes are refused with where no growth is granted, and whether one was asked for.

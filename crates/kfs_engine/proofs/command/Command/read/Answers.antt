@@ -4,7 +4,7 @@ use Rattle.kfs_engine.specs.Command.{IsBadLine, asked_by}
 use Rattle.kfs_engine.specs.Reading.{IsAsked}
 use Rattle.kfs_text.specs.Reading.{words_left}
 use Rattle.kfs_text.specs.declared.words.Refusal.TheVariants.{BadLine}
-use Rattle.kfs_engine.proofs.Readings.{asked_named, nothing_asked}
+use Rattle.kfs_engine.proofs.Readings.{asked_named, command_by_name, nothing_asked}
 use Rattle.kfs_engine.proofs.Asked.{asked_bad, asked_good, asked_ok}
 use Rattle.kfs_engine.proofs.Submitted.{none_is_bad}
 use Rattle.kfs_engine.proofs.command.Command.read.Goals as goal
@@ -17,12 +17,12 @@ returns-in_err-word-clause-bad g c =
 
 pub returns-clause-ok : goal.returns-clause-ok
 returns-clause-ok g c =
-    asked_ok g.row.A.Denot (asked_by c.args.line.now) c.named.result (subst (λ o. IsAsked {A = g.row.A.Denot} o c.named.result) (sym (asked_named c.args.line.now c.in_ok-word.field-0.now (words_left c.word.new.self) c.name_in-name.result (rw c.new-words.ensures at c.in_ok-word.ensures) c.name_in-name.ensures)) c.named.ensures)
+    asked_ok g.row.A.Denot (asked_by c.args.line.now) c.named.result (subst (λ o. IsAsked {A = g.row.A.Denot} o c.named.result) (sym (asked_named c.args.line.now c.in_ok-word.field-0.now (words_left c.word.new.self) c.name_in-name.result (rw c.new-words.ensures at c.in_ok-word.ensures) (command_by_name c.in_ok-word.field-0.now c.name_in-name.result c.name_in-name.ensures))) c.named.ensures)
 
 pub returns-clause-good : goal.returns-clause-good
 returns-clause-good g c =
-    asked_good g.row.A.Denot (asked_by c.args.line.now) c.named.result (subst (λ o. IsAsked {A = g.row.A.Denot} o c.named.result) (sym (asked_named c.args.line.now c.in_ok-word.field-0.now (words_left c.word.new.self) c.name_in-name.result (rw c.new-words.ensures at c.in_ok-word.ensures) c.name_in-name.ensures)) c.named.ensures)
+    asked_good g.row.A.Denot (asked_by c.args.line.now) c.named.result (subst (λ o. IsAsked {A = g.row.A.Denot} o c.named.result) (sym (asked_named c.args.line.now c.in_ok-word.field-0.now (words_left c.word.new.self) c.name_in-name.result (rw c.new-words.ensures at c.in_ok-word.ensures) (command_by_name c.in_ok-word.field-0.now c.name_in-name.result c.name_in-name.ensures))) c.named.ensures)
 
 pub returns-clause-bad : goal.returns-clause-bad
 returns-clause-bad g c =
-    asked_bad g.row.A.Denot (asked_by c.args.line.now) c.named.result (subst (λ o. IsAsked {A = g.row.A.Denot} o c.named.result) (sym (asked_named c.args.line.now c.in_ok-word.field-0.now (words_left c.word.new.self) c.name_in-name.result (rw c.new-words.ensures at c.in_ok-word.ensures) c.name_in-name.ensures)) c.named.ensures)
+    asked_bad g.row.A.Denot (asked_by c.args.line.now) c.named.result (subst (λ o. IsAsked {A = g.row.A.Denot} o c.named.result) (sym (asked_named c.args.line.now c.in_ok-word.field-0.now (words_left c.word.new.self) c.name_in-name.result (rw c.new-words.ensures at c.in_ok-word.ensures) (command_by_name c.in_ok-word.field-0.now c.name_in-name.result c.name_in-name.ensures))) c.named.ensures)
