@@ -1,7 +1,7 @@
 -- The machine: one step is a call with its answer and, for a Yes, the places of the written blocks. A docket is a list of such
 -- rows.
 use Rattle.std.specs.Prelude.{◌≡◌, ℕ, ◌+◌, ◌==◌, ◌&&◌, not, nat_lt, Bool, true, List, [], ◌∷◌, length, zip, Option, Some, None, is_some, Result, Ok, Err, if◌then◌else◌}
-use Rattle.std.specs.List.{list_any, list_all, AllByRecursion}
+use Rattle.std.specs.List.{list_any, list_all}
 use native.Mathlib.Decide.{ℕ_discrete}
 use Rattle.kfs_model.specs.Access.{Client}
 use Rattle.kfs_model.specs.Table.{get, insert, retain}
@@ -128,11 +128,6 @@ IsRead row = IsReadCall row.call
     IsReadCall (Lease client path kind end) = Unit {0}
     IsReadCall (Drop client number) = Unit {0}
     IsReadCall (Tick moment) = Unit {0}
-
--- each row is read rightly and fits where it stands
-pub record IsLegal (opened : State) (docket : List Row) : Type 0 where
-  pub read : AllByRecursion IsRead docket
-  pub fits : (last : State) × (after opened docket ≡ Some last)
 
 -- ---- what a Yes means
 
