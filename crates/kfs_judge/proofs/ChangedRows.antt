@@ -9,12 +9,13 @@ use Rattle.std.specs.Map.{lookup}
 use Rattle.std.specs.BTreeMap.{is_at}
 use Rattle.std.specs.FinMap.Entries.{find, is_sorted, below_all}
 use Rattle.std.proofs.Common.{ap, sym, subst, ◌∙◌, append_assoc, append-nil}
+use Rattle.kfs_model.specs.Header.{Header}
 use Rattle.kfs_model.specs.Table.{Order, numbers}
 use Rattle.kfs_model.specs.FirstWrong.{same_option, same_header}
 use Rattle.kfs_model.specs.Plan.{AreDifferences, number_now, header_now}
 use Rattle.kfs_model.proofs.Exact.{IsExact, options-exact, numbers-exact, headers-exact}
 use Rattle.kfs_model.proofs.Tables.{left_part, right_part, find_tie, find_below}
-use Rattle.kfs_judge.specs.Rows.{changed_rows, keyed_name_row, keyed_node_row, shown_heads}
+use Rattle.kfs_judge.specs.Rows.{keyed_name_row, keyed_node_row}
 use Rattle.kfs_judge.specs.Walks.{AreNamesOf, AreNodesOf}
 use Rattle.kfs_judge.specs.Overlay.{over}
 use Rattle.kfs_judge.specs.declared.draft.Draft.{Draft}
@@ -25,6 +26,16 @@ use Rattle.kfs_value.specs.declared.plan.NodeRow.{NodeRow as CodeNodeRow}
 use Rattle.kfs_model.specs.Tree.{directory_entries}
 use Rattle.kfs_model.specs.Sight.{Sight}
 use Rattle.std.specs.Option.{option_map}
+
+-- the rows of entries: those at whose keys something else stood before
+module _ {K X Y : Type 0} (same : X → X → Bool) (now : Option X → Y) (before : K → Option X) where
+  unfoldable pub changed_rows : List (K × Option X) → List (K × Y)
+  changed_rows [] = []
+  changed_rows (e ∷ es) = elim (same_option same (before e.0) e.1) [ true ↦ changed_rows es | false ↦ (e.0, now e.1) ∷ changed_rows es ]
+
+-- headers by number, as the definitions have them
+abbrev pub shown_heads : List (ℕ × Option CodeHeader) → List (ℕ × Option Header)
+shown_heads entries = map (λ e. (e.0, option_map header_of e.1)) entries
 
 true_is_false : true ≡ false → ⊥
 true_is_false e = cc

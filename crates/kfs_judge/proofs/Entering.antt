@@ -1,6 +1,5 @@
 -- A log's entries, one after another: what the run over the cells is from the draft so far on.
-use Rattle.std.specs.Prelude.{◌≡◌, ℕ, ◌+◌, ◌==◌, false, List, [], ◌∷◌, Option, Some, None, Result, Ok, Err}
-use Rattle.std.specs.List.{list_any}
+use Rattle.std.specs.Prelude.{◌≡◌, ℕ, ◌+◌, false, List, [], ◌∷◌, Option, Some, None, Result, Ok, Err}
 use Rattle.std.proofs.Common.{ap, sym, ◌∙◌}
 use Rattle.kfs_model.specs.Looked.{seen_run}
 use Rattle.kfs_model.specs.Access.{Client}
@@ -12,12 +11,8 @@ use Rattle.kfs_model.specs.SeenAfter.{seen_after, seen_run_from}
 use Rattle.kfs_judge.specs.declared.draft.Draft.{Draft}
 use Rattle.kfs_judge.specs.declared.reads.Read.{Read}
 use Rattle.kfs_judge.specs.declared.reads.ReadAnswer.{ReadAnswer}
-use Rattle.kfs_judge.specs.Overlay.{over, has_created, entry_context_of}
+use Rattle.kfs_judge.specs.Overlay.{over, has_created, entry_context_of, AreCreated}
 use Rattle.kfs_judge.specs.Reads.{Always, Grows}
-
--- the numbers created so far are those that the draft has
-abbrev pub AreCreated : {A : Type 0} → Draft A → List ℕ → Type 0
-AreCreated draft numbers = (n : ℕ) → has_created draft n ≡ list_any (λ c. c == n) numbers
 
 module _ {A : Type 0} (client : Client) (draft : Draft A) (state : ClientSight) (numbers : List ℕ) (created : AreCreated draft numbers) where
   pub same_context : entry_context_of client draft state ≡ entry_context client state (over draft state.sight) numbers

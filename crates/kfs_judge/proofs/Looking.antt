@@ -13,10 +13,10 @@ use Rattle.kfs_model.proofs.CleanIsAllowed.{AllPass, all_pass}
 use Rattle.kfs_judge.specs.declared.draft.Draft.{Draft}
 use Rattle.kfs_judge.specs.declared.reads.Read.{Read}
 use Rattle.kfs_judge.specs.declared.reads.ReadAnswer.{ReadAnswer}
-use Rattle.kfs_judge.specs.Overlay.{over, has_created, entry_context_of, IsWritten}
-use Rattle.kfs_judge.specs.Reads.{Always, Grows, Within, IsPart}
-use Rattle.kfs_judge.proofs.Entering.{AreCreated, same_context}
-use Rattle.kfs_judge.proofs.Recording.{within_same, within_then, within_wider, first_is_in, part_of_itself, left_is_part, right_is_part, both_are_part, none_is_part}
+use Rattle.kfs_judge.specs.Overlay.{over, has_created, entry_context_of, IsWritten, AreCreated}
+use Rattle.kfs_judge.specs.Reads.{Always, Grows, Within}
+use Rattle.kfs_judge.proofs.Entering.{same_context}
+use Rattle.kfs_judge.proofs.Recording.{IsPart, within_same, within_then, within_wider, first_is_in, part_of_itself, left_is_part, right_is_part, both_are_part, none_is_part}
 
 -- ---- checks
 

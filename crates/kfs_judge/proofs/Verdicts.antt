@@ -7,7 +7,6 @@ use Rattle.kfs_model.specs.Access.{Client}
 use Rattle.kfs_model.specs.Entry.{Log}
 use Rattle.kfs_model.specs.PlanRow.{Plan}
 use Rattle.kfs_model.specs.Tree.{Tree}
-use Rattle.kfs_model.specs.Sight.{sight}
 use Rattle.kfs_model.specs.Lease.{holds, row_of}
 use Rattle.kfs_model.specs.Run.{Mark, EntryFault, run, bytes, marks, marked}
 use Rattle.kfs_model.specs.FirstWrong.{RowFault, first_wrong_row}
@@ -34,11 +33,11 @@ use Rattle.kfs_judge.specs.Judging.{row_fault_of, refusal_of, is_before_entries,
 use Rattle.kfs_judge.specs.declared.walk.Walk.{Walk}
 use Rattle.kfs_judge.specs.declared.reads.Read.{Read}
 use Rattle.kfs_judge.specs.declared.reads.ReadAnswer.{ReadAnswer}
-use Rattle.kfs_judge.specs.PlanCheck.{first_unlike, IsWalkOf}
+use Rattle.kfs_judge.specs.PlanCheck.{first_unlike}
 use Rattle.kfs_judge.specs.declared.view.View.{View}
 use Rattle.kfs_judge.specs.Reads.{Agrees}
 use Rattle.kfs_judge.specs.View.{client_sight_in}
-use Rattle.kfs_judge.specs.Walks.{ComesToTree, fault_of}
+use Rattle.kfs_judge.specs.Walks.{ComesToTree, fault_of, IsWalkOf}
 use Rattle.kfs_model.proofs.AnswersExist.{log_has_answer, plan_has_answer}
 use Rattle.kfs_judge.proofs.MarkedRuns.{EndsBeside, ends_beside}
 use Rattle.kfs_judge.proofs.PlanChecked.{first_wrong-unlike, all_judged}

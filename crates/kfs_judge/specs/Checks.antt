@@ -1,10 +1,16 @@
 -- The code's checks, reasons and entry contexts as those of the definitions.
+use Rattle.std.specs.Prelude.{◌≡◌, Option}
+use Rattle.std.specs.Option.{option_map}
+use Rattle.kfs_judge.specs.Recorders.{Known, ReadsAt}
+use Rattle.kfs_model.specs.Check.{first_fault, entry_cells}
+use Rattle.kfs_model.specs.Entry.{Entry}
 use Rattle.kfs_model.specs.Check as checks
 use Rattle.kfs_model.specs.Sight.{ClientSight}
 use Rattle.kfs_judge.specs.declared.check.Reason.{Reason}
 use Rattle.kfs_judge.specs.declared.check.Reason.TheVariants as reasons
 use Rattle.kfs_judge.specs.declared.check.Check.{Check}
 use Rattle.kfs_judge.specs.declared.check.Check.TheVariants as variants
+use Rattle.kfs_judge.specs.declared.reads.Recorder.{Recorder}
 use Rattle.kfs_judge.specs.declared.entry_judge.EntryJudge.{EntryJudge}
 use Rattle.kfs_judge.specs.Overlay.{entry_context_of}
 
@@ -39,3 +45,11 @@ check_of (variants.NumberIsFree n) = checks.NumberIsFree n
 -- where the entry is judged, by what the client saw before the log
 abbrev pub entry_context_in : {A : Type 0} → EntryJudge A → ClientSight → checks.EntryContext
 entry_context_in judge before = entry_context_of judge.client.now judge.draft.now before
+
+-- the entry's first fault, as what was read tells it
+abbrev pub FindsFault : {A : Type 0} → EntryJudge A → Recorder A → Entry → Option Reason → Type 0
+FindsFault judge recorder entry reason = Known recorder (λ before. first_fault (entry_context_in judge before) entry ≡ option_map reason_of reason)
+
+-- the further reads are at the cells of the entry's checks
+abbrev pub ReadsCellsOf : {A : Type 0} → EntryJudge A → (old new : Recorder A) → Entry → Type 0
+ReadsCellsOf judge old new entry = Known new (λ before. ReadsAt old new (entry_cells (entry_context_in judge before) entry))

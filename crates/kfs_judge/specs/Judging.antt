@@ -6,7 +6,7 @@ use Rattle.kfs_model.specs.Access.{Client}
 use Rattle.kfs_model.specs.Entry.{Entry, Log}
 use Rattle.kfs_model.specs.Tree.{Tree}
 use Rattle.kfs_model.specs.Sight.{sight}
-use Rattle.kfs_model.specs.Lease.{holds, row_of}
+use Rattle.kfs_model.specs.Lease.{row_of}
 use Rattle.kfs_model.specs.Run.{Mark, run, bytes, marks, marked}
 use Rattle.kfs_model.specs.Plan.{IsRight}
 use Rattle.kfs_model.specs.FirstWrong.{RowFault, Names, Nodes, Pieces}

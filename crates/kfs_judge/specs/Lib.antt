@@ -5,6 +5,7 @@ pub mod Recorders
 pub mod Overlay
 pub mod Checks
 pub mod Walks
+pub mod Entered
 pub mod Rows
 pub mod PlanCheck
 pub mod Judging

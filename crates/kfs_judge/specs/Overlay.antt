@@ -1,10 +1,11 @@
 -- What a draft shows over a state: the cells that entries have written, and the state's own where they have not.
-use Rattle.std.specs.Prelude.{◌≡◌, ℕ, Bool, cond, ℤ, pos, ◌≤ℤ◌, List, Contains, Option, Some, unwrap_or}
+use Rattle.std.specs.Prelude.{◌≡◌, ℕ, Bool, cond, ℤ, pos, ◌≤ℤ◌, List, Contains, Option, Some, unwrap_or, ◌==◌}
 use Rattle.std.specs.Option.{option_map}
 use Rattle.std.specs.declared.cmp.Ordering.{Ordering}
 use Rattle.std.specs.Ordering.{nat_cmp, eq_by_cmp}
 use Rattle.std.specs.BTreeMap.{BTreeMap, get}
 use Rattle.std.specs.BTreeSet.{contains}
+use Rattle.std.specs.List.{list_any}
 use Rattle.kfs_model.specs.Header.{Header}
 use Rattle.kfs_model.specs.Access.{Client}
 use Rattle.kfs_model.proofs.Overlay as laid
@@ -36,6 +37,10 @@ module _ {A : Type 0} where
   abbrev pub has_created : Draft A → ℕ → Bool
   has_created draft n = contains nat_cmp draft.created n
 
+  -- the log has created exactly these
+  abbrev pub AreCreated : Draft A → List ℕ → Type 0
+  AreCreated draft numbers = (n : ℕ) → has_created draft n ≡ list_any (λ c. c == n) numbers
+
   -- where an entry is judged, by what the client saw before the log
   abbrev pub entry_context_of : Client → Draft A → ClientSight → EntryContext
   entry_context_of client draft before = record {
@@ -57,6 +62,14 @@ with_node d m n header s = record {
   count = shifted d (pos 1) s.count;
   parent = put_parent header.kind n d s.parent;
 }
+
+-- the state with another header of a node
+abbrev pub with_header : (number : ℕ) → Option Header → Sight → Sight
+with_header n header s = record s { head = put_at n header s.head }
+
+-- the parents that were put, over those before
+abbrev pub parents_over : BTreeMap ℕ (Option ℕ) → (ℕ → Option ℕ) → ℕ → Option ℕ
+parents_over parents before n = unwrap_or (get nat_cmp parents n) (before n)
 
 module _ {A : Type 0} where
   -- no count differs by more

@@ -1,7 +1,6 @@
 -- What a check of a plan tells, as the definitions say it.
-use Rattle.std.specs.Prelude.{◌≡◌, ℕ, List, [], ◌∷◌, map, nat_eq, Bool, Option, None, Some, Result, Ok, Err}
-use Rattle.kfs_model.specs.CleanStep.{Fits}
-use Rattle.kfs_model.specs.Sight.{client_sight, ClientSight}
+use Rattle.std.specs.Prelude.{◌≡◌, ℕ, List, [], ◌∷◌, map, nat_eq, Option, None, Some, Result, Ok, Err}
+use Rattle.kfs_model.specs.Sight.{ClientSight}
 use Rattle.kfs_model.specs.Access.{Client}
 use Rattle.kfs_model.specs.Entry.{Entry}
 use Rattle.kfs_model.specs.Tree.{Tree}
@@ -9,17 +8,12 @@ use Rattle.kfs_model.specs.Run.{Mark, run, marks, marked}
 use Rattle.kfs_model.specs.FirstWrong.{RowFault, Names, Nodes, Pieces, same_pair, same_place, same_headers, first_difference, or_else, first_wrong_row}
 use Rattle.kfs_model.specs.Placement.{need}
 use Rattle.kfs_entry.specs.Answers.{plan_of}
-use Rattle.kfs_value.specs.Views.{entry_of}
-use Rattle.kfs_value.specs.declared.entry.Log.{Log as CodeLog}
 use Rattle.kfs_value.specs.declared.plan.Piece.{Piece as CodePiece}
 use Rattle.kfs_value.specs.declared.plan.Plan.{Plan as CodePlan}
 use Rattle.kfs_image.specs.declared.shape.Net.{Net}
 use Rattle.kfs_judge.specs.declared.plan.RowFault.{RowFault as CodeRowFault}
 use Rattle.kfs_judge.specs.declared.plan.RowFault.TheVariants as faults
-use Rattle.kfs_judge.specs.declared.walk.Walk.{Walk}
-use Rattle.kfs_judge.specs.Reads.{Agrees}
 use Rattle.kfs_judge.specs.Rows.{keyed_name_row, keyed_node_row}
-use Rattle.kfs_judge.specs.Walks.{ComesToTree}
 
 -- The first wrong row is named, or there is none and so many blocks are written. A refused growth tells nothing.
 abbrev pub TellsRow : Option RowFault → (need : ℕ) → Result ℕ CodeRowFault → Type 0
@@ -40,12 +34,6 @@ first_unlike net plan =
     or_else Names (first_difference (same_pair same_place nat_eq) (map keyed_name_row plan.names) (map keyed_name_row net.names.items))
     (or_else Nodes (first_difference (same_pair nat_eq same_headers) (map keyed_node_row plan.nodes) (map keyed_node_row net.nodes.items))
     (or_else Pieces (first_of_pieces plan.pieces) None))
-
--- the client's walk over the log: at every fitting tree and all leases that agree with its reads, the entries come to its outcome
-abbrev pub IsWalkOf : {A : Type 0} → Client → CodeLog A → Walk A → Type 0
-IsWalkOf client log walk =
-    (source : List ℕ) (tree : Tree ℕ) (held : ℕ → Bool) → Fits client tree (map (entry_of source) log.entries) → Agrees walk.reads.entries (client_sight tree held)
-    → ComesToTree client held tree (map (entry_of source) log.entries) walk.outcome
 
 -- the entries' run over marks ends, and this is told of its end
 pub record IsChecked {A : Type 0} (client : Client) (before : ClientSight) (tree : Tree ℕ) (entries : List Entry) (plan : CodePlan A) (result : Result ℕ CodeRowFault) : Type 0 where

@@ -1,21 +1,19 @@
 //! The entry Chmod.
-ghost use Rattle.std.specs.Prelude.{◌≡◌, ℕ, ◌+◌, None, Ok, IfOk, List, OnOk, ◌++◌};
+ghost use Rattle.std.specs.Prelude.{◌≡◌, ℕ, ◌+◌, None, Ok, IfOk, OnOk, ◌++◌};
 ghost use Rattle.std.specs.Option.{option_map};
 ghost use Rattle.kfs_value.specs.Views.{header_of};
-ghost use Rattle.kfs_model.specs.Check.{first_fault, looked, checks_of};
+ghost use Rattle.kfs_model.specs.Check.{checks_of};
 ghost use Rattle.kfs_model.specs.Entry as entry;
 ghost use Rattle.kfs_model.specs.Header.{Header as HeaderShown};
-ghost use Rattle.kfs_model.specs.SeenAfter.{seen_after};
-ghost use Rattle.kfs_model.specs.Sight.{Cell};
-ghost use Rattle.kfs_judge.specs.Overlay.{has_created, over, entry_context_of, ShiftsBy, IsWritten};
-ghost use Rattle.kfs_judge.specs.Reads.{Always, Within};
+ghost use Rattle.kfs_judge.specs.Entered.{IsFirstFault, ReadsItsCells, ShowsItsChange, WritesItsCells};
+ghost use Rattle.kfs_judge.specs.Overlay.{has_created, ShiftsBy};
 ghost use Rattle.kfs_judge.specs.Recorders.{GoesOn};
-ghost use Rattle.kfs_judge.specs.Checks.{reason_of, entry_context_in};
+ghost use Rattle.kfs_judge.specs.Checks.{FindsFault, ReadsCellsOf};
 
 use crate::check::{Check, Reason};
-use crate::reads::Recorder;
-use crate::log_judge::LogJudge;
 use crate::entry_judge::EntryJudge;
+use crate::log_judge::LogJudge;
+use crate::reads::Recorder;
 use kfs_image::Header;
 use std::alloc::{AllocError, Allocator};
 
@@ -27,8 +25,8 @@ fn chmod_fault<A: Allocator + Copy>(
     number: u32,
 ) -> Result<Option<Reason>, AllocError>
     ensures goes { GoesOn recorder.old recorder.new }
-    ensures known { IfOk result (λ reason. Always recorder.new.reads.entries (λ state. (mode : ℕ) → first_fault (entry_context_in judge.now state) (entry.Chmod number mode) ≡ option_map reason_of reason)) }
-    ensures among { OnOk result (Always recorder.new.reads.entries (λ state. (mode : ℕ) → Within recorder.old.reads.entries recorder.new.reads.entries (looked (entry_context_in judge.now state) (checks_of (entry_context_in judge.now state) (entry.Chmod number mode))))) }
+    ensures known { IfOk result (λ reason. (mode : ℕ) → FindsFault judge.now recorder.new (entry.Chmod number mode) reason) }
+    ensures among { OnOk result ((mode : ℕ) → ReadsCellsOf judge.now recorder.old recorder.new (entry.Chmod number mode)) }
 {
     let checks = [
         Check::Exists(number),
@@ -44,10 +42,10 @@ impl<A: Allocator + Copy> LogJudge<'_, A> {
     pub(crate) fn chmod(&mut self, number: u32, mode: u16) -> Result<Option<Reason>, AllocError>
         ensures goes { GoesOn self.old.recorder self.new.recorder }
         ensures client { self.new.client.now ≡ self.old.client.now }
-        ensures known { IfOk result (λ reason. Always self.new.recorder.reads.entries (λ state. first_fault (entry_context_of self.old.client.now self.old.draft state) (entry.Chmod number mode) ≡ option_map reason_of reason)) }
-        ensures among { OnOk result (Always self.new.recorder.reads.entries (λ state. Within self.old.recorder.reads.entries self.new.recorder.reads.entries (looked (entry_context_of self.old.client.now self.old.draft state) (checks_of (entry_context_of self.old.client.now self.old.draft state) (entry.Chmod number mode))))) }
-        ensures shown { result ≡ Ok None → Always self.new.recorder.reads.entries (λ state. over self.new.draft state.sight ≡ seen_after self.old.client.now (over self.old.draft state.sight) (entry.Chmod number mode)) }
-        ensures written { result ≡ Ok None → Always self.new.recorder.reads.entries (λ state. (among : List Cell) → IsWritten self.old.draft among → IsWritten self.new.draft (looked (entry_context_of self.old.client.now self.old.draft state) (checks_of (entry_context_of self.old.client.now self.old.draft state) (entry.Chmod number mode)) ++ among)) }
+        ensures known { IfOk result (IsFirstFault self.old self.new (entry.Chmod number mode)) }
+        ensures among { OnOk result (ReadsItsCells self.old self.new (entry.Chmod number mode)) }
+        ensures shown { result ≡ Ok None → ShowsItsChange self.old self.new (entry.Chmod number mode) }
+        ensures written { result ≡ Ok None → WritesItsCells self.old self.new (entry.Chmod number mode) }
         ensures created { result ≡ Ok None → (n : ℕ) → has_created self.new.draft n ≡ has_created self.old.draft n }
         ensures shifts { result ≡ Ok None → (most : ℕ) → ShiftsBy most self.old.draft → ShiftsBy (most + 1) self.new.draft }
     {

@@ -1,21 +1,21 @@
 //! The entry Create.
-ghost use Rattle.std.specs.Prelude.{◌≡◌, ℕ, ◌+◌, ◌==◌, ◌||◌, pos, ◌<ℤ◌, None, Ok, IfOk, List, OnOk, ◌++◌};
+ghost use Rattle.std.specs.Prelude.{◌≡◌, ℕ, ◌+◌, ◌==◌, ◌||◌, pos, ◌<ℤ◌, None, Ok, IfOk, OnOk, ◌++◌};
 ghost use Rattle.std.specs.Option.{option_map};
 ghost use Rattle.kfs_value.specs.Views.{kind_of};
-ghost use Rattle.kfs_model.specs.Check.{first_fault, looked, checks_of};
+ghost use Rattle.kfs_model.specs.Check.{checks_of};
 ghost use Rattle.kfs_model.specs.Header.{Kind as KindShown};
 ghost use Rattle.kfs_model.specs.Entry as entry;
 ghost use Rattle.kfs_model.specs.SeenAfter.{seen_after};
-ghost use Rattle.kfs_model.specs.Sight.{Sight, Cell};
-ghost use Rattle.kfs_judge.specs.Overlay.{has_created, over, shift_of, entry_context_of, ShiftsBy, IsWritten};
-ghost use Rattle.kfs_judge.specs.Reads.{Always, Within};
+ghost use Rattle.kfs_model.specs.Sight.{Sight};
+ghost use Rattle.kfs_judge.specs.Entered.{IsFirstFault, ReadsItsCells, WritesItsCells};
+ghost use Rattle.kfs_judge.specs.Overlay.{has_created, over, shift_of, ShiftsBy};
 ghost use Rattle.kfs_judge.specs.Recorders.{GoesOn};
-ghost use Rattle.kfs_judge.specs.Checks.{reason_of, entry_context_in};
+ghost use Rattle.kfs_judge.specs.Checks.{FindsFault, ReadsCellsOf};
 
 use crate::check::{Check, Reason};
-use crate::reads::Recorder;
-use crate::log_judge::LogJudge;
 use crate::entry_judge::EntryJudge;
+use crate::log_judge::LogJudge;
+use crate::reads::Recorder;
 use kfs_image::{Header, Kind, Name};
 use std::alloc::{AllocError, Allocator};
 
@@ -28,8 +28,8 @@ fn create_fault<A: Allocator + Copy>(
     number: u32,
 ) -> Result<Option<Reason>, AllocError>
     ensures goes { GoesOn recorder.old recorder.new }
-    ensures known { IfOk result (λ reason. Always recorder.new.reads.entries (λ state. (kind : KindShown) (mode : ℕ) → first_fault (entry_context_in judge.now state) (entry.Create key.now.0 key.now.1 number kind mode) ≡ option_map reason_of reason)) }
-    ensures among { OnOk result (Always recorder.new.reads.entries (λ state. (kind : KindShown) (mode : ℕ) → Within recorder.old.reads.entries recorder.new.reads.entries (looked (entry_context_in judge.now state) (checks_of (entry_context_in judge.now state) (entry.Create key.now.0 key.now.1 number kind mode))))) }
+    ensures known { IfOk result (λ reason. (kind : KindShown) (mode : ℕ) → FindsFault judge.now recorder.new (entry.Create key.now.0 key.now.1 number kind mode) reason) }
+    ensures among { OnOk result ((kind : KindShown) (mode : ℕ) → ReadsCellsOf judge.now recorder.old recorder.new (entry.Create key.now.0 key.now.1 number kind mode)) }
 {
     let dir = key.0;
     let checks = [
@@ -59,10 +59,10 @@ impl<'a, A: Allocator + Copy> LogJudge<'a, A> {
         requires { (d : ℕ) → shift_of self.old.draft d <ℤ pos 2147483647 }
         ensures goes { GoesOn self.old.recorder self.new.recorder }
         ensures client { self.new.client.now ≡ self.old.client.now }
-        ensures known { IfOk result (λ reason. Always self.new.recorder.reads.entries (λ state. first_fault (entry_context_of self.old.client.now self.old.draft state) (entry.Create key.0 key.1 number (kind_of kind) mode) ≡ option_map reason_of reason)) }
-        ensures among { OnOk result (Always self.new.recorder.reads.entries (λ state. Within self.old.recorder.reads.entries self.new.recorder.reads.entries (looked (entry_context_of self.old.client.now self.old.draft state) (checks_of (entry_context_of self.old.client.now self.old.draft state) (entry.Create key.0 key.1 number (kind_of kind) mode))))) }
+        ensures known { IfOk result (IsFirstFault self.old self.new (entry.Create key.0 key.1 number (kind_of kind) mode)) }
+        ensures among { OnOk result (ReadsItsCells self.old self.new (entry.Create key.0 key.1 number (kind_of kind) mode)) }
         ensures shown { result ≡ Ok None → (s : Sight) → over self.new.draft s ≡ seen_after self.old.client.now (over self.old.draft s) (entry.Create key.0 key.1 number (kind_of kind) mode) }
-        ensures written { result ≡ Ok None → Always self.new.recorder.reads.entries (λ state. (among : List Cell) → IsWritten self.old.draft among → IsWritten self.new.draft (looked (entry_context_of self.old.client.now self.old.draft state) (checks_of (entry_context_of self.old.client.now self.old.draft state) (entry.Create key.0 key.1 number (kind_of kind) mode)) ++ among)) }
+        ensures written { result ≡ Ok None → WritesItsCells self.old self.new (entry.Create key.0 key.1 number (kind_of kind) mode) }
         ensures created { result ≡ Ok None → (n : ℕ) → has_created self.new.draft n ≡ ((number == n) || has_created self.old.draft n) }
         ensures shifts { result ≡ Ok None → (most : ℕ) → ShiftsBy most self.old.draft → ShiftsBy (most + 1) self.new.draft }
     {

@@ -4,11 +4,11 @@ ghost use Rattle.std.specs.Prelude.{◌≡◌, ℕ, ◌+◌, ◌==◌, ◌||◌,
 ghost use Rattle.std.specs.Option.{option_map};
 ghost use Rattle.kfs_value.specs.Views.{header_of, kind_of};
 ghost use Rattle.kfs_model.specs.Sight.{Sight, Cell, HeaderOf, NameIn};
-ghost use Rattle.kfs_model.specs.SeenAfter.{put_at, put_parent};
+ghost use Rattle.kfs_model.specs.SeenAfter.{put_parent};
 ghost use Rattle.std.specs.Ordering.{nat_cmp};
 ghost use Rattle.std.specs.BTreeMap.{get};
 ghost use Rattle.kfs_model.specs.Tree.{directory_entries};
-ghost use Rattle.kfs_judge.specs.Overlay.{has_created, over, with_node, shift_of, ShiftsBy, PutsAt, IsWritten};
+ghost use Rattle.kfs_judge.specs.Overlay.{has_created, over, with_node, shift_of, ShiftsBy, PutsAt, IsWritten, with_header, parents_over};
 
 use kfs_image::{Header, Kind, Name};
 use std::alloc::{AllocError, Allocator};
@@ -71,7 +71,7 @@ impl<A: Allocator + Copy> Draft<A> {
         number: u32,
         header: Option<Header>,
     ) -> Result<(), AllocError>
-        ensures shown { OnOk result ((s : Sight) → over self.new s ≡ record (over self.old s) { head = put_at number (option_map header_of header) (over self.old s).head }) }
+        ensures shown { OnOk result ((s : Sight) → over self.new s ≡ with_header number (option_map header_of header) (over self.old s)) }
         ensures written { OnOk result ((among : List Cell) → IsWritten self.old among → Contains among (HeaderOf number) → IsWritten self.new among) }
         ensures created { OnOk result ((n : ℕ) → has_created self.new n ≡ has_created self.old n) }
         ensures shifts { OnOk result ((most : ℕ) → ShiftsBy most self.old → ShiftsBy most self.new) }
@@ -99,7 +99,7 @@ fn put_parent<A: Allocator + Clone>(
     number: u32,
     dir: u32,
 ) -> Result<(), AllocError>
-    ensures { OnOk result ((s : ℕ → Option ℕ) (n : ℕ) → unwrap_or (get nat_cmp parents.new n) (s n) ≡ put_parent (kind_of kind) number dir (λ k. unwrap_or (get nat_cmp parents.old k) (s k)) n) }
+    ensures { OnOk result ((s : ℕ → Option ℕ) (n : ℕ) → parents_over parents.new s n ≡ put_parent (kind_of kind) number dir (parents_over parents.old s) n) }
 {
     if kind == Kind::Directory {
         put(parents, number, Some(dir))?;

@@ -8,8 +8,7 @@ ghost use Rattle.kfs_model.specs.Check.{first_failing, looked};
 ghost use Rattle.kfs_model.specs.Sight as sight;
 ghost use Rattle.kfs_model.specs.Sight.{HeaderOf, LeaseOn, NameIn};
 ghost use Rattle.kfs_mode.specs.Mode.{want_shown};
-ghost use Rattle.kfs_judge.specs.Reads.{Always, Within};
-ghost use Rattle.kfs_judge.specs.Recorders.{GoesOn};
+ghost use Rattle.kfs_judge.specs.Recorders.{GoesOn, Known, ReadsAt};
 ghost use Rattle.kfs_judge.specs.Checks.{check_of, reason_of, entry_context_in};
 
 use crate::check::{Check, Reason};
@@ -34,8 +33,8 @@ impl<A: Allocator + Copy> EntryJudge<'_, A> {
         number: u32,
     ) -> Result<Option<Header>, AllocError>
         ensures goes { GoesOn recorder.old recorder.new }
-        ensures known { IfOk result (λ header. Always recorder.new.reads.entries (λ state. (entry_context_in self.now state).now.head number ≡ option_map header_of header)) }
-        ensures among { OnOk result (Within recorder.old.reads.entries recorder.new.reads.entries (HeaderOf number ∷ [])) }
+        ensures known { IfOk result (λ header. Known recorder.new (λ before. (entry_context_in self.now before).now.head number ≡ option_map header_of header)) }
+        ensures among { OnOk result (ReadsAt recorder.old recorder.new (HeaderOf number ∷ [])) }
     {
         match self.draft.header(number) {
             Some(header) => Ok(header),
@@ -49,8 +48,8 @@ impl<A: Allocator + Copy> EntryJudge<'_, A> {
         key: &(u32, Name),
     ) -> Result<Option<u32>, AllocError>
         ensures goes { GoesOn recorder.old recorder.new }
-        ensures known { IfOk result (λ number. Always recorder.new.reads.entries (λ state. (entry_context_in self.now state).now.name key.now.0 key.now.1 ≡ number)) }
-        ensures among { OnOk result (Within recorder.old.reads.entries recorder.new.reads.entries (NameIn key.now.0 key.now.1 ∷ [])) }
+        ensures known { IfOk result (λ number. Known recorder.new (λ before. (entry_context_in self.now before).now.name key.now.0 key.now.1 ≡ number)) }
+        ensures among { OnOk result (ReadsAt recorder.old recorder.new (NameIn key.now.0 key.now.1 ∷ [])) }
     {
         match self.draft.target(key) {
             Some(number) => Ok(number),
@@ -65,8 +64,8 @@ impl<A: Allocator + Copy> EntryJudge<'_, A> {
         want: Want,
     ) -> Result<bool, AllocError>
         ensures goes { GoesOn recorder.old recorder.new }
-        ensures known { IfOk result (λ granted. Always recorder.new.reads.entries (λ state. checks.is_some_and ((entry_context_in self.now state).now.head number) (λ h. may_header self.now.client.now h (want_shown want)) ≡ granted)) }
-        ensures among { OnOk result (Within recorder.old.reads.entries recorder.new.reads.entries (HeaderOf number ∷ [])) }
+        ensures known { IfOk result (λ granted. Known recorder.new (λ before. checks.is_permitted (entry_context_in self.now before) (want_shown want) number ≡ granted)) }
+        ensures among { OnOk result (ReadsAt recorder.old recorder.new (HeaderOf number ∷ [])) }
     {
         let header = self.header(recorder, number)?;
         Ok(may_want(self.client, header, want))
@@ -79,8 +78,8 @@ impl<A: Allocator + Copy> EntryJudge<'_, A> {
         checks: &[Check<'_>],
     ) -> Result<Option<Reason>, AllocError>
         ensures goes { GoesOn recorder.old recorder.new }
-        ensures known { IfOk result (λ reason. Always recorder.new.reads.entries (λ state. first_failing (entry_context_in self.now state) (map check_of checks.now) ≡ option_map reason_of reason)) }
-        ensures among { OnOk result (Always recorder.new.reads.entries (λ state. Within recorder.old.reads.entries recorder.new.reads.entries (looked (entry_context_in self.now state) (map check_of checks.now)))) }
+        ensures known { IfOk result (λ reason. Known recorder.new (λ before. first_failing (entry_context_in self.now before) (map check_of checks.now) ≡ option_map reason_of reason)) }
+        ensures among { OnOk result (Known recorder.new (λ before. ReadsAt recorder.old recorder.new (looked (entry_context_in self.now before) (map check_of checks.now)))) }
     {
         for check in checks {
             if let Some(reason) = self.fault(recorder, check)? {
@@ -97,8 +96,8 @@ impl<A: Allocator + Copy> EntryJudge<'_, A> {
         check: &Check<'_>,
     ) -> Result<Option<Reason>, AllocError>
         ensures goes { GoesOn recorder.old recorder.new }
-        ensures known { IfOk result (λ reason. Always recorder.new.reads.entries (λ state. checks.fault (entry_context_in self.now state) (check_of check.now) ≡ option_map reason_of reason)) }
-        ensures among { OnOk result (Always recorder.new.reads.entries (λ state. Within recorder.old.reads.entries recorder.new.reads.entries (checks.cells (entry_context_in self.now state) (check_of check.now)))) }
+        ensures known { IfOk result (λ reason. Known recorder.new (λ before. checks.fault (entry_context_in self.now before) (check_of check.now) ≡ option_map reason_of reason)) }
+        ensures among { OnOk result (Known recorder.new (λ before. ReadsAt recorder.old recorder.new (checks.cells (entry_context_in self.now before) (check_of check.now)))) }
     {
         match check {
             Check::Exists(number) => {
@@ -142,8 +141,8 @@ impl<A: Allocator + Copy> EntryJudge<'_, A> {
 
     fn may_write(&self, recorder: &mut Recorder<'_, A>, number: u32) -> Result<bool, AllocError>
         ensures goes { GoesOn recorder.old recorder.new }
-        ensures known { IfOk result (λ granted. Always recorder.new.reads.entries (λ state. ((entry_context_in self.now state).created number && sight.is_file ((entry_context_in self.now state).now.head number)) || checks.is_some_and ((entry_context_in self.now state).now.head number) (λ h. may_header self.now.client.now h (want_shown Want.Write)) ≡ granted)) }
-        ensures among { OnOk result (Within recorder.old.reads.entries recorder.new.reads.entries (HeaderOf number ∷ [])) }
+        ensures known { IfOk result (λ granted. Known recorder.new (λ before. checks.may_write (entry_context_in self.now before) number ≡ granted)) }
+        ensures among { OnOk result (ReadsAt recorder.old recorder.new (HeaderOf number ∷ [])) }
     {
         let header = self.header(recorder, number)?;
         let own_file = self.draft.has_created(number) && is_file(header);
@@ -152,8 +151,8 @@ impl<A: Allocator + Copy> EntryJudge<'_, A> {
 
     fn is_leased(&self, recorder: &mut Recorder<'_, A>, number: u32) -> Result<bool, AllocError>
         ensures goes { GoesOn recorder.old recorder.new }
-        ensures known { IfOk result (λ leased. Always recorder.new.reads.entries (λ state. (entry_context_in self.now state).created number || state.held number ≡ leased)) }
-        ensures among { OnOk result (Within recorder.old.reads.entries recorder.new.reads.entries (LeaseOn number ∷ [])) }
+        ensures known { IfOk result (λ leased. Known recorder.new (λ before. checks.is_leased (entry_context_in self.now before) number ≡ leased)) }
+        ensures among { OnOk result (ReadsAt recorder.old recorder.new (LeaseOn number ∷ [])) }
     {
         if self.draft.has_created(number) {
             return Ok(true);
@@ -167,8 +166,8 @@ impl<A: Allocator + Copy> EntryJudge<'_, A> {
         number: u32,
     ) -> Result<bool, AllocError>
         ensures goes { GoesOn recorder.old recorder.new }
-        ensures known { IfOk result (λ free. Always recorder.new.reads.entries (λ state. is_none (state.sight.head number) && is_none ((entry_context_in self.now state).now.head number) && not ((entry_context_in self.now state).created number) ≡ free)) }
-        ensures among { OnOk result (Within recorder.old.reads.entries recorder.new.reads.entries (HeaderOf number ∷ [])) }
+        ensures known { IfOk result (λ free. Known recorder.new (λ before. checks.is_number_free (entry_context_in self.now before) number ≡ free)) }
+        ensures among { OnOk result (ReadsAt recorder.old recorder.new (HeaderOf number ∷ [])) }
     {
         let before = recorder.header(number)?;
         let now = self.header(recorder, number)?;

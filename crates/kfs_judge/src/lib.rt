@@ -5,11 +5,11 @@ mod check;
 mod chmod;
 mod create;
 mod draft;
+mod entry_judge;
+mod log_judge;
 mod net;
 pub mod plan;
 mod reads;
-mod log_judge;
-mod entry_judge;
 mod view;
 mod walk;
 

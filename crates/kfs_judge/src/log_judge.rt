@@ -1,17 +1,11 @@
 //! Where an entry stands: its client, what the entries before it changed, and the state under that.
 ghost use Rattle.std.specs.Prelude.{◌≡◌, ℕ, ◌+◌, ◌==◌, pos, ◌<ℤ◌, List, None, Ok, IfOk, false, [], OnOk, ◌++◌};
-ghost use Rattle.std.specs.Option.{option_map};
-ghost use Rattle.std.specs.List.{list_any};
 ghost use Rattle.kfs_value.specs.Views.{entry_of};
-ghost use Rattle.kfs_model.specs.Check.{first_fault, looked, checks_of};
-ghost use Rattle.kfs_model.specs.Run.{created_by};
-ghost use Rattle.kfs_model.specs.SeenAfter.{seen_after};
 ghost use Rattle.kfs_model.specs.Sight.{Sight, Cell};
 ghost use Rattle.kfs_judge.specs.JudgedEntries.{IsJudged};
-ghost use Rattle.kfs_judge.specs.Overlay.{has_created, over, shift_of, entry_context_of, ShiftsBy, IsWritten};
-ghost use Rattle.kfs_judge.specs.Reads.{Always, Within};
-ghost use Rattle.kfs_judge.specs.Recorders.{GoesOn, seen_by};
-ghost use Rattle.kfs_judge.specs.Checks.{reason_of};
+ghost use Rattle.kfs_judge.specs.Entered.{IsFirstFault, ReadsItsCells, ShowsItsChange, WritesItsCells, CreatesItsNumber};
+ghost use Rattle.kfs_judge.specs.Overlay.{has_created, over, shift_of, ShiftsBy, IsWritten};
+ghost use Rattle.kfs_judge.specs.Recorders.{GoesOn, seen_by, Known, ReadsAt};
 ghost use Rattle.kfs_judge.specs.Walks.{IsNetOf};
 ghost use Rattle.kfs_judge.specs.View.{client_sight_in};
 
@@ -60,11 +54,11 @@ impl<'a, A: Allocator + Copy> LogJudge<'a, A> {
         requires room { (d : ℕ) → shift_of self.old.draft d <ℤ pos 2147483647 }
         ensures goes { GoesOn self.old.recorder self.new.recorder }
         ensures client { self.new.client.now ≡ self.old.client.now }
-        ensures known { (source : List ℕ) → IfOk result (λ reason. Always self.new.recorder.reads.entries (λ state. first_fault (entry_context_of self.old.client.now self.old.draft state) (entry_of source entry.now) ≡ option_map reason_of reason)) }
-        ensures among { (source : List ℕ) → OnOk result (Always self.new.recorder.reads.entries (λ state. Within self.old.recorder.reads.entries self.new.recorder.reads.entries (looked (entry_context_of self.old.client.now self.old.draft state) (checks_of (entry_context_of self.old.client.now self.old.draft state) (entry_of source entry.now))))) }
-        ensures shown { (source : List ℕ) → result ≡ Ok None → Always self.new.recorder.reads.entries (λ state. over self.new.draft state.sight ≡ seen_after self.old.client.now (over self.old.draft state.sight) (entry_of source entry.now)) }
-        ensures written { (source : List ℕ) → result ≡ Ok None → Always self.new.recorder.reads.entries (λ state. (among : List Cell) → IsWritten self.old.draft among → IsWritten self.new.draft (looked (entry_context_of self.old.client.now self.old.draft state) (checks_of (entry_context_of self.old.client.now self.old.draft state) (entry_of source entry.now)) ++ among)) }
-        ensures created { (source : List ℕ) → result ≡ Ok None → (numbers : List ℕ) → ((n : ℕ) → has_created self.old.draft n ≡ list_any (λ c. c == n) numbers) → (n : ℕ) → has_created self.new.draft n ≡ list_any (λ c. c == n) (created_by (entry_of source entry.now) numbers) }
+        ensures known { (source : List ℕ) → IfOk result (IsFirstFault self.old self.new (entry_of source entry.now)) }
+        ensures among { (source : List ℕ) → OnOk result (ReadsItsCells self.old self.new (entry_of source entry.now)) }
+        ensures shown { (source : List ℕ) → result ≡ Ok None → ShowsItsChange self.old self.new (entry_of source entry.now) }
+        ensures written { (source : List ℕ) → result ≡ Ok None → WritesItsCells self.old self.new (entry_of source entry.now) }
+        ensures created { (source : List ℕ) → result ≡ Ok None → CreatesItsNumber self.old self.new (entry_of source entry.now) }
         ensures shifts { result ≡ Ok None → (most : ℕ) → ShiftsBy most self.old.draft → ShiftsBy (most + 1) self.new.draft }
     {
         match entry {
@@ -83,8 +77,8 @@ impl<'a, A: Allocator + Copy> LogJudge<'a, A> {
     /// What differs after the entries so far.
     pub(crate) fn net(&mut self, alloc: A) -> Result<Net<A>, AllocError>
         ensures goes { GoesOn self.old.recorder self.new.recorder }
-        ensures known { IfOk result (λ net. Always self.new.recorder.reads.entries (λ state. IsNetOf state.sight (over self.old.draft state.sight) net)) }
-        ensures among { OnOk result ((among : List Cell) → IsWritten self.old.draft among → Within self.old.recorder.reads.entries self.new.recorder.reads.entries among) }
+        ensures known { IfOk result (λ net. Known self.new.recorder (λ before. IsNetOf before.sight (over self.old.draft before.sight) net)) }
+        ensures among { OnOk result ((among : List Cell) → IsWritten self.old.draft among → ReadsAt self.old.recorder self.new.recorder among) }
     {
         let names = name_rows(alloc, &self.draft, &mut self.recorder)?;
         let nodes = node_rows(alloc, &self.draft, &mut self.recorder)?;

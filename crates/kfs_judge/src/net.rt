@@ -3,8 +3,7 @@ ghost use Rattle.std.specs.Prelude.{IfOk, List, [], ◌∷◌, OnOk};
 ghost use Rattle.std.specs.Option.{option_map};
 ghost use Rattle.kfs_value.specs.Views.{header_of};
 ghost use Rattle.kfs_model.specs.Plan.{header_now, number_now};
-ghost use Rattle.kfs_judge.specs.Reads.{Always, Within};
-ghost use Rattle.kfs_judge.specs.Recorders.{GoesOn};
+ghost use Rattle.kfs_judge.specs.Recorders.{GoesOn, Known, ReadsAt};
 ghost use Rattle.kfs_judge.specs.Overlay.{over, IsWritten};
 ghost use Rattle.kfs_judge.specs.Rows.{IsRow, keyed_name_row, keyed_node_row};
 ghost use Rattle.kfs_judge.specs.Walks.{AreNamesOf, AreNodesOf};
@@ -23,8 +22,8 @@ pub(crate) fn name_rows<A: Allocator + Copy>(
     recorder: &mut Recorder<'_, A>,
 ) -> Result<Vec<NameRow, A>, AllocError>
     ensures goes { GoesOn recorder.old recorder.new }
-    ensures known { IfOk result (λ rows. Always recorder.new.reads.entries (λ state. AreNamesOf state.sight (over draft.now state.sight) rows.items)) }
-    ensures among { OnOk result ((among : List Cell) → IsWritten draft.now among → Within recorder.old.reads.entries recorder.new.reads.entries among) }
+    ensures known { IfOk result (λ rows. Known recorder.new (λ before. AreNamesOf before.sight (over draft.now before.sight) rows.items)) }
+    ensures among { OnOk result ((among : List Cell) → IsWritten draft.now among → ReadsAt recorder.old recorder.new among) }
 {
     let mut rows = Vec::new(alloc);
     for (key, now) in draft.targets().iter() {
@@ -42,8 +41,8 @@ fn name_row<A: Allocator + Copy>(
     now: Option<u32>,
 ) -> Result<Option<NameRow>, AllocError>
     ensures goes { GoesOn recorder.old recorder.new }
-    ensures known { IfOk result (λ row. Always recorder.new.reads.entries (λ state. IsRow number_now keyed_name_row key.now (state.sight.name key.now.0 key.now.1) now row)) }
-    ensures among { OnOk result (Within recorder.old.reads.entries recorder.new.reads.entries (NameIn key.now.0 key.now.1 ∷ [])) }
+    ensures known { IfOk result (λ row. Known recorder.new (λ before. IsRow number_now keyed_name_row key.now (before.sight.name key.now.0 key.now.1) now row)) }
+    ensures among { OnOk result (ReadsAt recorder.old recorder.new (NameIn key.now.0 key.now.1 ∷ [])) }
 {
     let before = recorder.target(key)?;
     if before == now {
@@ -64,8 +63,8 @@ pub(crate) fn node_rows<A: Allocator + Copy>(
     recorder: &mut Recorder<'_, A>,
 ) -> Result<Vec<NodeRow, A>, AllocError>
     ensures goes { GoesOn recorder.old recorder.new }
-    ensures known { IfOk result (λ rows. Always recorder.new.reads.entries (λ state. AreNodesOf state.sight (over draft.now state.sight) rows.items)) }
-    ensures among { OnOk result ((among : List Cell) → IsWritten draft.now among → Within recorder.old.reads.entries recorder.new.reads.entries among) }
+    ensures known { IfOk result (λ rows. Known recorder.new (λ before. AreNodesOf before.sight (over draft.now before.sight) rows.items)) }
+    ensures among { OnOk result ((among : List Cell) → IsWritten draft.now among → ReadsAt recorder.old recorder.new among) }
 {
     let mut rows = Vec::new(alloc);
     for (number, now) in draft.headers().iter() {
@@ -83,8 +82,8 @@ fn node_row<A: Allocator + Copy>(
     now: Option<Header>,
 ) -> Result<Option<NodeRow>, AllocError>
     ensures goes { GoesOn recorder.old recorder.new }
-    ensures known { IfOk result (λ row. Always recorder.new.reads.entries (λ state. IsRow header_now keyed_node_row number (state.sight.head number) (option_map header_of now) row)) }
-    ensures among { OnOk result (Within recorder.old.reads.entries recorder.new.reads.entries (HeaderOf number ∷ [])) }
+    ensures known { IfOk result (λ row. Known recorder.new (λ before. IsRow header_now keyed_node_row number (before.sight.head number) (option_map header_of now) row)) }
+    ensures among { OnOk result (ReadsAt recorder.old recorder.new (HeaderOf number ∷ [])) }
 {
     let before = recorder.header(number)?;
     if before == now {

@@ -1,6 +1,7 @@
 //! The plan of a log against what the log comes to, and the judgement of both.
 ghost use Rattle.std.specs.Prelude.{◌≡◌, ◌≢◌, ◌↔◌, ℕ, Bool, List, [], None, map, position, zip, not, All, IsOk, IfOk, IfErr, IsTrue};
 ghost use Rattle.kfs_value.specs.Views.{entry_of};
+ghost use Rattle.kfs_judge.specs.Walks.{IsWalkOf};
 ghost use Rattle.kfs_model.specs.CleanStep.{Fits};
 ghost use Rattle.kfs_model.specs.Sight.{client_sight};
 ghost use Rattle.kfs_model.specs.Access.{Client as ClientRow};
@@ -10,7 +11,7 @@ ghost use Rattle.kfs_model.specs.Lease.{row_of};
 ghost use Rattle.kfs_model.specs.Tree.{Tree};
 ghost use Rattle.kfs_judge.specs.JudgedEntries.{IsJudged};
 ghost use Rattle.kfs_judge.specs.Judging.{AreLooked, HasOtherEntry, IsAlike, IsEarly, IsReading, IsSettled, IsVerdict, submission_of, submission_with};
-ghost use Rattle.kfs_judge.specs.PlanCheck.{first_unlike, IsChecked, IsWalkOf, TellsRow};
+ghost use Rattle.kfs_judge.specs.PlanCheck.{first_unlike, IsChecked, TellsRow};
 ghost use Rattle.kfs_judge.specs.Reads.{Agrees};
 ghost use Rattle.kfs_judge.specs.View.{clients_of, client_sight_in};
 ghost use Rattle.kfs_judge.specs.declared.plan.RowFault.TheVariants.{OutOfMemory};

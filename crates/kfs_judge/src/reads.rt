@@ -5,8 +5,8 @@ ghost use Rattle.std.specs.Option.{option_map};
 ghost use Rattle.kfs_value.specs.Views.{header_of};
 ghost use Rattle.kfs_model.specs.Header.{Header as HeaderShown};
 ghost use Rattle.kfs_model.specs.Sight.{answer, Head, Number, Held, HeaderOf, NameIn, LeaseOn};
-ghost use Rattle.kfs_judge.specs.Reads.{Always, Within, cell_of, answer_of};
-ghost use Rattle.kfs_judge.specs.Recorders.{GoesOn, seen_by};
+ghost use Rattle.kfs_judge.specs.Reads.{cell_of, answer_of};
+ghost use Rattle.kfs_judge.specs.Recorders.{GoesOn, seen_by, Known, ReadsAt};
 ghost use Rattle.kfs_judge.specs.View.{client_sight_in};
 
 use crate::view::View;
@@ -58,8 +58,8 @@ impl<'a, A: Allocator + Copy> Recorder<'a, A> {
     /// The answer at a cell: the recorded one, or else the view's, which is recorded then.
     fn read(&mut self, read: Read) -> Result<ReadAnswer, AllocError>
         ensures goes { GoesOn self.old self.new }
-        ensures known { IfOk result (λ told. Always self.new.reads.entries (λ state. answer state (cell_of read) ≡ answer_of told)) }
-        ensures among { OnOk result (Within self.old.reads.entries self.new.reads.entries (cell_of read ∷ [])) }
+        ensures known { IfOk result (λ told. Known self.new (λ before. answer before (cell_of read) ≡ answer_of told)) }
+        ensures among { OnOk result (ReadsAt self.old self.new (cell_of read ∷ [])) }
     {
         if let Some(answer) = self.reads.get(&read) {
             return Ok(*answer);
@@ -82,8 +82,8 @@ impl<'a, A: Allocator + Copy> Recorder<'a, A> {
     /// The header of a node.
     pub(crate) fn header(&mut self, number: u32) -> Result<Option<Header>, AllocError>
         ensures goes { GoesOn self.old self.new }
-        ensures known { IfOk result (λ header. Always self.new.reads.entries (λ state. state.sight.head number ≡ option_map header_of header)) }
-        ensures among { OnOk result (Within self.old.reads.entries self.new.reads.entries (HeaderOf number ∷ [])) }
+        ensures known { IfOk result (λ header. Known self.new (λ before. before.sight.head number ≡ option_map header_of header)) }
+        ensures among { OnOk result (ReadsAt self.old self.new (HeaderOf number ∷ [])) }
     {
         let answer = self.read(Read::Look(Cell::Header(number)))?;
         Ok(header_in(answer))
@@ -92,8 +92,8 @@ impl<'a, A: Allocator + Copy> Recorder<'a, A> {
     /// The number that a name leads to.
     pub(crate) fn target(&mut self, key: &(u32, Name)) -> Result<Option<u32>, AllocError>
         ensures goes { GoesOn self.old self.new }
-        ensures known { IfOk result (λ number. Always self.new.reads.entries (λ state. state.sight.name key.now.0 key.now.1 ≡ number)) }
-        ensures among { OnOk result (Within self.old.reads.entries self.new.reads.entries (NameIn key.now.0 key.now.1 ∷ [])) }
+        ensures known { IfOk result (λ number. Known self.new (λ before. before.sight.name key.now.0 key.now.1 ≡ number)) }
+        ensures among { OnOk result (ReadsAt self.old self.new (NameIn key.now.0 key.now.1 ∷ [])) }
     {
         let name = key.1.clone()?;
         let answer = self.read(Read::Look(Cell::Name(key.0, name)))?;
@@ -103,8 +103,8 @@ impl<'a, A: Allocator + Copy> Recorder<'a, A> {
     /// Whether the client holds a live write lease on the node.
     pub(crate) fn is_held(&mut self, number: u32) -> Result<bool, AllocError>
         ensures goes { GoesOn self.old self.new }
-        ensures known { IfOk result (λ held. Always self.new.reads.entries (λ state. state.held number ≡ held)) }
-        ensures among { OnOk result (Within self.old.reads.entries self.new.reads.entries (LeaseOn number ∷ [])) }
+        ensures known { IfOk result (λ held. Known self.new (λ before. before.held number ≡ held)) }
+        ensures among { OnOk result (ReadsAt self.old self.new (LeaseOn number ∷ [])) }
     {
         let answer = self.read(Read::Lease(number))?;
         Ok(held_in(answer))

@@ -1,22 +1,19 @@
 //! The entries of a log against a view.
-ghost use Rattle.std.specs.Prelude.{◌≡◌, ℕ, ◌≤◌, Bool, false, List, length, map, All, IsSome, IfOk, [], None, Ok, OnOk};
-ghost use Rattle.kfs_value.specs.Views.{entry_of};
-ghost use Rattle.kfs_model.specs.CleanStep.{Fits};
+ghost use Rattle.std.specs.Prelude.{◌≡◌, ℕ, ◌≤◌, false, length, All, IsSome, IfOk, [], None, Ok, OnOk};
 ghost use Rattle.kfs_model.specs.Access.{Client as ClientRow};
 ghost use Rattle.kfs_model.specs.Lease.{row_of};
-ghost use Rattle.kfs_model.specs.Sight.{Sight, client_sight};
-ghost use Rattle.kfs_model.specs.Tree.{Tree};
+ghost use Rattle.kfs_model.specs.Sight.{Sight};
 ghost use Rattle.kfs_judge.specs.JudgedEntries.{IsJudged};
+ghost use Rattle.kfs_judge.specs.Entered.{StopsAt, ReadsTheirCells, WritesTheirCells};
 ghost use Rattle.kfs_judge.specs.Overlay.{has_created, over, ShiftsBy, IsWritten};
-ghost use Rattle.kfs_judge.specs.Reads.{Agrees, Always, AreAmong, AreOnce, Within};
+ghost use Rattle.kfs_judge.specs.Reads.{Agrees, AreOnce};
 ghost use Rattle.kfs_judge.specs.Recorders.{GoesOn};
 ghost use Rattle.kfs_judge.specs.View.{clients_of, client_sight_in};
-ghost use Rattle.kfs_judge.specs.Walks.{ComesTo, ComesToTree, EndsAt, IsRowOf};
-ghost use Rattle.kfs_model.specs.Looked.{looked_cells};
+ghost use Rattle.kfs_judge.specs.Walks.{IsRowOf, IsWalkOf, IsCellWalkOf, ReadsLookedCells};
 
 use crate::check::Reason;
-use crate::reads::{Read, ReadAnswer};
 use crate::log_judge::LogJudge;
+use crate::reads::{Read, ReadAnswer};
 use crate::view::View;
 use indexmap::IndexMap;
 use kfs_entry::{Entry, Log, Span};
@@ -50,10 +47,10 @@ pub fn judge_entries<A: Allocator + Copy>(
     requires judged { All IsJudged log.now.entries }
     requires count { length log.now.entries ≤ 4096 }
     // At every sound tree and all leases that agree with the reads, the entries come to this outcome one by one.
-    ensures known { IfOk result (λ walk. (client : ClientRow) × IsRowOf (clients_of view.now) log.now.client client × ((source : List ℕ) (tree : Tree ℕ) (held : ℕ → Bool) → Fits client tree (map (entry_of source) log.now.entries) → Agrees walk.reads.entries (client_sight tree held) → ComesToTree client held tree (map (entry_of source) log.now.entries) walk.outcome)) }
+    ensures known { IfOk result (λ walk. (client : ClientRow) × IsRowOf (clients_of view.now) log.now.client client × IsWalkOf client log.now walk) }
     ensures view_agrees { IfOk result (λ walk. Agrees walk.reads.entries (client_sight_in view.now log.now.client)) }
     ensures once { IfOk result (λ walk. AreOnce walk.reads.entries) }
-    ensures among { IfOk result (λ walk. (client : ClientRow) → IsRowOf (clients_of view.now) log.now.client client → (source : List ℕ) → AreAmong walk.reads.entries (looked_cells client (client_sight_in view.now log.now.client) (map (entry_of source) log.now.entries))) }
+    ensures among { IfOk result (ReadsLookedCells view.now log.now) }
 {
     let walk = walk_entries(alloc, view, log)?;
     Ok(walk)
@@ -68,10 +65,10 @@ fn walk_entries<A: Allocator + Copy>(
     requires judged { All IsJudged log.now.entries }
     requires count { length log.now.entries ≤ 4096 }
     // In every state that agrees with the reads, the run over its cells comes to this outcome.
-    ensures known { IfOk result (λ walk. (client : ClientRow) × IsRowOf (clients_of view.now) log.now.client client × Always walk.reads.entries (λ state. (source : List ℕ) → ComesTo client state (map (entry_of source) log.now.entries) walk.outcome)) }
+    ensures known { IfOk result (λ walk. (client : ClientRow) × IsRowOf (clients_of view.now) log.now.client client × IsCellWalkOf client log.now walk) }
     ensures view_agrees { IfOk result (λ walk. Agrees walk.reads.entries (client_sight_in view.now log.now.client)) }
     ensures once { IfOk result (λ walk. AreOnce walk.reads.entries) }
-    ensures among { IfOk result (λ walk. (client : ClientRow) → IsRowOf (clients_of view.now) log.now.client client → (source : List ℕ) → AreAmong walk.reads.entries (looked_cells client (client_sight_in view.now log.now.client) (map (entry_of source) log.now.entries))) }
+    ensures among { IfOk result (ReadsLookedCells view.now log.now) }
 {
     let client = view.client(log.client).unwrap();
     let mut judge = LogJudge::new(alloc, view, client);
@@ -102,9 +99,9 @@ fn enter_all<A: Allocator + Copy>(
     requires shifts { ShiftsBy 0 judge.old.draft }
     ensures goes { GoesOn judge.old.recorder judge.new.recorder }
     ensures client { judge.new.client.now ≡ judge.old.client.now }
-    ensures known { IfOk result (λ fault. Always judge.new.recorder.reads.entries (λ state. (source : List ℕ) → EndsAt judge.old.client.now judge.new.draft state (map (entry_of source) entries.now) fault)) }
-    ensures among { OnOk result (Always judge.new.recorder.reads.entries (λ state. (source : List ℕ) → Within judge.old.recorder.reads.entries judge.new.recorder.reads.entries (looked_cells judge.old.client.now state (map (entry_of source) entries.now)))) }
-    ensures written { result ≡ Ok None → Always judge.new.recorder.reads.entries (λ state. (source : List ℕ) → IsWritten judge.new.draft (looked_cells judge.old.client.now state (map (entry_of source) entries.now))) }
+    ensures known { IfOk result (StopsAt judge.old judge.new entries.now) }
+    ensures among { OnOk result (ReadsTheirCells judge.old judge.new entries.now) }
+    ensures written { result ≡ Ok None → WritesTheirCells judge.old judge.new entries.now }
 {
     for (index, entry) in entries.iter().enumerate() {
         if let Some(reason) = judge.enter(entry)? {

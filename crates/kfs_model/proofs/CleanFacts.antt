@@ -1,13 +1,13 @@
 -- What the checks of a clean entry say of what the cells show.
-use Rattle.std.proofs.Common.{◌≡◌, ◌≢◌, ℕ, ◌<◌, ◌≤◌, Bool, true, false, ltb, ◌==◌, if◌then◌else◌, pos, List, [], ◌∷◌, ◌++◌, Option, Some, None, is_some, is_none, IsTrue, refl, sym, subst, ◌∙◌, ltb-true, eqb-true}
+use Rattle.std.proofs.Common.{◌≡◌, ◌≢◌, ℕ, ◌<◌, ◌≤◌, Bool, true, false, ltb, ◌==◌, if◌then◌else◌, pos, List, [], Option, Some, None, is_some, is_none, IsTrue, refl, sym, subst, ◌∙◌, ltb-true, eqb-true}
 use Rattle.std.proofs.lemmas.Bool.{leb-true, not-true, eqb-false, false≢true}
 use Rattle.std.proofs.lemmas.Bool.Decides.{Decides-int_eq}
 use Rattle.kfs_model.specs.Header.{Kind, File, Directory, Header}
 use Rattle.kfs_model.specs.Access.{Client}
 use Rattle.kfs_model.specs.Entry.{Entry, Create, Link, Unlink, Rename}
-use Rattle.kfs_model.specs.Sight.{Sight, sight, is_directory, climb_limit, climb_meets}
+use Rattle.kfs_model.specs.Sight.{Sight, sight, is_directory, kind_shown, climb_limit, climb_meets}
 use Rattle.kfs_model.specs.Limits.{link_limit}
-use Rattle.kfs_model.specs.Check.{EntryContext, fault, checks_of, first_fault, Check, may_go, on_number, unless_same, move_checks, stays_apart, kind_moved}
+use Rattle.kfs_model.specs.Check.{EntryContext, fault, checks_of, first_fault, may_go, on_number, arrival_checks, move_checks, rename_checks}
 use Rattle.kfs_model.specs.Tree.{Tree}
 use Rattle.kfs_model.specs.CleanStep.{IsClean}
 use Rattle.kfs_model.proofs.CleanIsAllowed.{AllPass, all_pass, passed, found, left, right}
@@ -111,36 +111,39 @@ pub record RenameFacts (s : Sight) (d : ℕ) (m : List ℕ) (e : ℕ) (k : List 
   pub there : s.name d m ≡ Some number
   pub way : RenameCase s d m e k number
 
--- a list of checks passes where both its parts do
-parts_pass : (p : EntryContext) (front back : List Check) → AllPass p (front ++ back) → AllPass p front × AllPass p back
-parts_pass p [] back pass = (tt, pass)
-parts_pass p (check ∷ front) back pass = let rest = parts_pass p front back pass.1 in ((pass.0, rest.0), rest.1)
+is_kind : (o : Option Header) → IsTrue (is_directory o) → kind_shown o ≡ Directory
+is_kind None directory = cc
+is_kind (Some h) directory = at h.kind directory
+  where
+    at : (kind : Kind) → IsTrue (is_directory (Some (record h { kind = kind }))) → kind ≡ Directory
+    at File directory = cc
+    at Directory directory = refl
 
-keeps_apart : (p : EntryContext) (b : Bool) (n e : ℕ) → AllPass p (stays_apart b n e) → b ≡ true → climb_meets p.now.parent climb_limit n e ≡ false
+-- a directory is kept apart, and what is there may go
+arrives : (p : EntryContext) (kind : Kind) (n e : ℕ) (there : Option ℕ) → AllPass p (arrival_checks kind n e there) → (kind ≡ Directory → climb_meets p.now.parent climb_limit n e ≡ false) × AllPass p (on_number there (may_go kind))
 unfolding fault
-keeps_apart p true n e pass is = not-true _ (passed _ _ pass.0)
-keeps_apart p false n e pass is = cc
+arrives p File n e there pass = (λ is. cc, pass)
+arrives p Directory n e there pass = (λ is. not-true _ (passed _ _ pass.0), pass.1)
 
 pub rename_facts : (p : EntryContext) (d : ℕ) (m : List ℕ) (e : ℕ) (k : List ℕ) → first_fault p (Rename d m e k) ≡ None → RenameFacts p.now d m e k
 unfolding checks_of fault
 rename_facts p d m e k clean =
     let pass = all_pass p _ clean in
     let to = pass.1.1.1.0 in
-    at (p.now.name d m) refl (passed _ _ pass.1.1.1.1.1.1.0) (passed _ _ to) pass.1.1.1.1.1.1.1.1
+    at (p.now.name d m) (p.now.name e k) refl refl (passed _ _ pass.1.1.1.1.1.1.0) (passed _ _ to) pass.1.1.1.1.1.1.1.1
   where
-    moved : (n : ℕ) (there : Option ℕ) → AllPass p (move_checks p d e n there) → AllPass p (stays_apart (is_directory (p.now.head n)) n e) × AllPass p (on_number there (may_go (kind_moved (is_directory (p.now.head n)))))
-    moved n there pass = parts_pass p (stays_apart (is_directory (p.now.head n)) n e) _ pass.1.1.1.1.1.1
+    arrived : (n : ℕ) (there : Option ℕ) → AllPass p (move_checks p d e n there) → (IsTrue (is_directory (p.now.head n)) → climb_meets p.now.parent climb_limit n e ≡ false) × AllPass p (on_number there (may_go (kind_shown (p.now.head n))))
+    arrived n there pass =
+        let facts = arrives p (kind_shown (p.now.head n)) n e there pass.1.1.1.1.1.1 in
+        (λ directory. facts.0 (is_kind (p.now.head n) directory), facts.1)
 
-    way : (n : ℕ) (there : Option ℕ) → p.now.name e k ≡ there → AllPass p (unless_same there n (move_checks p d e n there)) → RenameCase p.now d m e k n
-    way n None is pass = ToNone is (keeps_apart p (is_directory (p.now.head n)) n e (moved n None pass).0)
-    way n (Some t) is pass = to_other (t == n) refl pass
+    at : (o there : Option ℕ) → p.now.name d m ≡ o → p.now.name e k ≡ there → IsTrue (is_some o) → IsTrue (is_directory (p.now.head e)) → AllPass p (rename_checks p d e o there) → RenameFacts p.now d m e k
+    at None there is also some to pass = cc
+    at (Some n) None is also some to pass = record { to = to; number = n; there = is; way = ToNone also (arrived n None pass).0 }
+    at (Some n) (Some t) is also some to pass = record { to = to; number = n; there = is; way = by_test (t == n) refl pass }
       where
-        to_other : (b : Bool) → (t == n) ≡ b → AllPass p (if b then [] else move_checks p d e n (Some t)) → RenameCase p.now d m e k n
-        to_other true same pass = Same t is (eqb-true t n same)
-        to_other false other pass =
-            let parts = moved n (Some t) pass in
-            Over t is (eqb-false t n other) (keeps_apart p (is_directory (p.now.head n)) n e parts.0) (goes_empty p (kind_moved (is_directory (p.now.head n))) t parts.1)
-
-    at : (o : Option ℕ) → p.now.name d m ≡ o → IsTrue (is_some o) → IsTrue (is_directory (p.now.head e)) → AllPass p (on_number o (λ n. unless_same (p.now.name e k) n (move_checks p d e n (p.now.name e k)))) → RenameFacts p.now d m e k
-    at None is some to pass = cc
-    at (Some n) is some to pass = record { to = to; number = n; there = is; way = way n (p.now.name e k) refl pass }
+        by_test : (b : Bool) → (t == n) ≡ b → AllPass p (if b then [] else move_checks p d e n (Some t)) → RenameCase p.now d m e k n
+        by_test true same pass = Same t also (eqb-true t n same)
+        by_test false other pass =
+            let facts = arrived n (Some t) pass in
+            Over t also (eqb-false t n other) facts.0 (goes_empty p (kind_shown (p.now.head n)) t facts.1)

@@ -1,13 +1,13 @@
 -- A clean entry is allowed: each condition follows from a check that did not fail.
-use Rattle.std.specs.Prelude.{◌≡◌, ℕ, Bool, true, false, ◌==◌, if◌then◌else◌, ◌&&◌, ◌||◌, ◌≤◌, List, [], ◌∷◌, ◌++◌, Option, Some, None, is_some, refl, IsTrue, ◌⊎◌}
+use Rattle.std.specs.Prelude.{◌≡◌, ℕ, Bool, true, false, ◌==◌, if◌then◌else◌, ◌&&◌, ◌||◌, ◌≤◌, List, [], ◌∷◌, Option, Some, None, is_some, refl, IsTrue, ◌⊎◌}
 use Rattle.std.specs.List.{AllByRecursion}
 use Rattle.std.proofs.Common.{subst, ap, inl, inr, ◌∙◌}
 use Rattle.std.proofs.lemmas.Bool.{leb-true, eqb-true}
 use Rattle.kfs_model.specs.Header.{Kind, File, Directory, Header}
 use Rattle.kfs_model.specs.Access.{Want, Search, may_header, owns}
 use Rattle.kfs_model.specs.Entry.{Entry, Create, Write, Truncate, Link, Unlink, Rename, Chmod}
-use Rattle.kfs_model.specs.Sight.{is_directory, is_file}
-use Rattle.kfs_model.specs.Check.{EntryContext, Reason, Check, MaySearch, MayWrite, IsLeased, IsADirectory, NumberIsGranted, NoSuchName, kind_moved, stays_apart, unless, fault, is_some_and, on_number, may_go, unless_same, move_checks, checks_of, first_failing, first_fault}
+use Rattle.kfs_model.specs.Sight.{is_directory, is_file, kind_shown}
+use Rattle.kfs_model.specs.Check.{EntryContext, Reason, Check, MaySearch, MayWrite, IsLeased, IsADirectory, NumberIsGranted, NoSuchName, unless, fault, is_some_and, on_number, may_go, arrival_checks, move_checks, rename_checks, checks_of, first_failing, first_fault}
 use Rattle.kfs_model.specs.Allowed.{IsGrantedBit, IsLeasedTo, MayChangeDirectory, MayChangeFile, LeadsTo, MayMove, IsAllowed}
 
 -- none of the checks fails
@@ -152,27 +152,27 @@ clean_unlink p d m kind clean =
 
 -- ---- a Rename
 
-behind : (p : EntryContext) (before after : List Check) → AllPass p (before ++ after) → AllPass p after
-behind p [] after pass = pass
-behind p (check ∷ before) after pass = behind p before after pass.1
+what_goes : (p : EntryContext) (kind : Kind) (s e : ℕ) (there : Option ℕ) → AllPass p (arrival_checks kind s e there) → AllPass p (on_number there (may_go kind))
+what_goes p File s e there pass = pass
+what_goes p Directory s e there pass = pass.1
 
 module _ (p : EntryContext) (d : ℕ) (m : List ℕ) (e : ℕ) (k : List ℕ) where
   -- what is there beside the checks of the node that moves
   abbrev Replaced : (s : ℕ) (to : Option ℕ) → Type 0
-  Replaced s to = AllPass p (on_number to (may_go (kind_moved (is_directory (p.now.head s)))))
+  Replaced s to = AllPass p (on_number to (may_go (kind_shown (p.now.head s))))
 
   replaced_leased : (s : ℕ) (to : Option ℕ) → p.now.name e k ≡ to → Replaced s to → (number : ℕ) → LeadsTo p e k number → IsLeasedTo p number
   replaced_leased s None is pass number leads = cc
   replaced_leased s (Some t) is pass number leads =
       let same : t ≡ number = cc in
-      subst (IsLeasedTo p) same (goes_leased p (kind_moved (is_directory (p.now.head s))) t pass)
+      subst (IsLeasedTo p) same (goes_leased p (kind_shown (p.now.head s)) t pass)
 
   moves : IsTrue (is_directory (p.now.head d)) → IsTrue (is_directory (p.now.head e)) → IsGrantedBit p Search d → IsGrantedBit p Search e → (s : ℕ) → LeadsTo p d m s → (to : Option ℕ) → p.now.name e k ≡ to → AllPass p (move_checks p d e s to) → MayMove p d m e k
   moves directory_d directory_e search_d search_e s from to is pass = record {
     from = record { search = search_d; write = bit d directory_d (writes p d pass.0); leased = leased p d pass.1.1.0 };
     to = record { search = search_e; write = bit e directory_e (writes p e pass.1.0); leased = leased p e pass.1.1.1.0 };
     moved = (s, from, leased p s pass.1.1.1.1.0);
-    replaced = replaced_leased s to is (behind p (stays_apart (is_directory (p.now.head s)) s e) _ pass.1.1.1.1.1.1);
+    replaced = replaced_leased s to is (what_goes p (kind_shown (p.now.head s)) s e to pass.1.1.1.1.1.1);
   }
     where
       bit : (n : ℕ) → IsTrue (is_directory (p.now.head n)) → IsGrantedBit p Want.Write n ⊎ (IsTrue (p.created n) × IsTrue (is_file (p.now.head n))) → IsGrantedBit p Want.Write n
@@ -181,26 +181,26 @@ module _ (p : EntryContext) (d : ℕ) (m : List ℕ) (e : ℕ) (k : List ℕ) wh
 
   clean_rename : first_fault p (Rename d m e k) ≡ None → IsAllowed p (Rename d m e k)
   unfolding checks_of fault
-  clean_rename clean = from_name (p.now.name d m) refl pass.1.1.1.1.1.1.0 pass.1.1.1.1.1.1.1.1
+  clean_rename clean = by_names (p.now.name d m) (p.now.name e k) refl refl pass.1.1.1.1.1.1.0 pass.1.1.1.1.1.1.1.1
     where
       pass : AllPass p (checks_of p (Rename d m e k))
       pass = all_pass p _ clean
 
-      keeps_or_moves : (s : ℕ) → LeadsTo p d m s → (to : Option ℕ) → p.now.name e k ≡ to → AllPass p (unless_same to s (move_checks p d e s to)) → IsAllowed p (Rename d m e k)
-      keeps_or_moves s from None is rest = inr (moves (passed _ _ pass.1.0) (passed _ _ pass.1.1.1.0) (searches p d pass.1.1.1.1.0) (searches p e pass.1.1.1.1.1.0) s from None is rest)
-      keeps_or_moves s from (Some t) is rest = by_test (t == s) refl rest
+      moved : (s : ℕ) → LeadsTo p d m s → (to : Option ℕ) → p.now.name e k ≡ to → AllPass p (move_checks p d e s to) → IsAllowed p (Rename d m e k)
+      moved s from to is rest = inr (moves (passed _ _ pass.1.0) (passed _ _ pass.1.1.1.0) (searches p d pass.1.1.1.1.0) (searches p e pass.1.1.1.1.1.0) s from to is rest)
+
+      by_names : (from to : Option ℕ) → p.now.name d m ≡ from → p.now.name e k ≡ to → unless (is_some from) NoSuchName ≡ None → AllPass p (rename_checks p d e from to) → IsAllowed p (Rename d m e k)
+      by_names None to is also there rest = cc
+      by_names (Some s) None is also there rest = moved s is None also rest
+      by_names (Some s) (Some t) is also there rest = by_test (t == s) refl rest
         where
           by_test : (same : Bool) → (t == s) ≡ same → AllPass p (if same then [] else move_checks p d e s (Some t)) → IsAllowed p (Rename d m e k)
           by_test true equal rest' = inl (record {
-            same = (s, from, is ∙ ap Some (eqb-true t s equal));
+            same = (s, is, also ∙ ap Some (eqb-true t s equal));
             from = searches p d pass.1.1.1.1.0;
             to = searches p e pass.1.1.1.1.1.0;
           })
-          by_test false other rest' = inr (moves (passed _ _ pass.1.0) (passed _ _ pass.1.1.1.0) (searches p d pass.1.1.1.1.0) (searches p e pass.1.1.1.1.1.0) s from (Some t) is rest')
-
-      from_name : (from : Option ℕ) → p.now.name d m ≡ from → unless (is_some from) NoSuchName ≡ None → AllPass p (on_number from (λ s. unless_same (p.now.name e k) s (move_checks p d e s (p.now.name e k)))) → IsAllowed p (Rename d m e k)
-      from_name None is there rest = cc
-      from_name (Some s) is there rest = keeps_or_moves s is (p.now.name e k) refl rest
+          by_test false other rest' = moved s is (Some t) also rest'
 
 -- a clean entry is allowed
 pub clean_is_allowed : (p : EntryContext) (entry : Entry) → first_fault p entry ≡ None → IsAllowed p entry

@@ -5,12 +5,12 @@ use Rattle.std.proofs.lemmas.Bool.{eqb-false}
 use Rattle.kfs_model.specs.Header.{Kind, File, Directory, Header}
 use Rattle.kfs_model.specs.Table.{get, insert, remove}
 use Rattle.kfs_model.specs.Tree.{Tree, Links, headers, target, name_count, entry_count}
-use Rattle.kfs_model.specs.Sight.{sight, is_directory, parent_in, climb_limit, climb_meets}
+use Rattle.kfs_model.specs.Sight.{sight, is_directory, parent_in, climb_limit, climb_meets, kind_shown}
 use Rattle.kfs_model.specs.Effect.{swept, with_names}
 use Rattle.kfs_model.specs.Soundness.{Climbs, NameIsSound, IsSound}
 use Rattle.kfs_model.specs.Spelling.{IsName}
 use Rattle.kfs_model.specs.FirstWrong.{same_place}
-use Rattle.kfs_model.specs.SeenAfter.{put_name, put_parent, shifted, kind_shown, seen_moved}
+use Rattle.kfs_model.specs.SeenAfter.{put_name, put_parent, shifted, seen_moved}
 use Rattle.kfs_model.proofs.Links.{target-insert, target-remove, target_is_named, is_named_counts}
 use Rattle.kfs_model.proofs.NameAdded as Added
 use Rattle.kfs_model.proofs.NameRemoved as Removed

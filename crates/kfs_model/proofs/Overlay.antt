@@ -3,8 +3,8 @@ use Rattle.std.specs.Prelude.{ℕ, ◌+◌, ◌==◌, ℤ, pos, negsuc, ◌+ℤ�
 use Rattle.kfs_model.specs.Header.{Header}
 use Rattle.kfs_model.specs.Access.{Client}
 use Rattle.kfs_model.specs.Entry.{Entry, Create, Write, Truncate, Link, Unlink, Rename, Chmod}
-use Rattle.kfs_model.specs.Sight.{Sight}
-use Rattle.kfs_model.specs.SeenAfter.{put_at, put_name, put_of_directory, shifted, new_header, unlinked, written_size, kind_shown, seen_without}
+use Rattle.kfs_model.specs.Sight.{Sight, kind_shown}
+use Rattle.kfs_model.specs.SeenAfter.{put_at, put_name, put_of_directory, shifted, new_header, unlinked, written_size, seen_without}
 
 -- none where nothing was put
 pub record Overlay : Type 0 where

@@ -4,9 +4,9 @@ use Rattle.std.proofs.lemmas.Int.{ints}
 use Rattle.kfs_model.specs.Header.{Kind, File, Directory, Header}
 use Rattle.kfs_model.specs.Access.{Client}
 use Rattle.kfs_model.specs.Entry.{Entry, Create, Write, Truncate, Link, Unlink, Rename, Chmod}
-use Rattle.kfs_model.specs.Sight.{Sight}
+use Rattle.kfs_model.specs.Sight.{Sight, kind_shown}
 use Rattle.kfs_model.specs.FirstWrong.{same_place}
-use Rattle.kfs_model.specs.SeenAfter.{put_at, put_name, put_header, put_of_directory, shifted, unlinked, kind_shown, seen_without, seen_moved, seen_renamed, seen_unlinked, seen_after, new_header, written_size}
+use Rattle.kfs_model.specs.SeenAfter.{put_at, put_name, put_header, put_of_directory, shifted, unlinked, seen_without, seen_moved, seen_renamed, seen_unlinked, seen_after, new_header, written_size}
 use Rattle.kfs_model.proofs.Overlay.{Overlay, nothing_put, over, laid_header, laid_without, laid_moved, laid_renamed, laid_unlinked, laid_after}
 
 -- ---- one cell put

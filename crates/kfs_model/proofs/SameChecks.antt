@@ -4,11 +4,11 @@ use Rattle.std.specs.List.{AllByRecursion}
 use Rattle.kfs_model.specs.Header.{Kind, Header}
 use Rattle.kfs_model.specs.Access.{Client}
 use Rattle.kfs_model.specs.Entry.{Entry, Create, Write, Truncate, Link, Unlink, Rename, Chmod}
-use Rattle.kfs_model.specs.Sight.{Sight, ClientSight, Cell, HeaderOf, NameIn, ParentOf, answer, is_directory, climb_limit, climb_meets, climbed}
+use Rattle.kfs_model.specs.Sight.{Sight, ClientSight, Cell, HeaderOf, NameIn, ParentOf, answer, kind_shown, climb_limit, climb_meets, climbed}
 use Rattle.kfs_model.specs.Check
 use Rattle.kfs_model.proofs.CleanIsAllowed.{AllPass, all_pass}
 use Rattle.kfs_model.proofs.SameSteps.{MovedAlike, ReadsAlike}
-use Rattle.kfs_model.specs.Check.{EntryContext, Reason, Check, fault, cells, unless, is_some_and, first_failing, first_fault, looked, checks_of, may_go, on_number, unless_same, move_checks, stays_apart, kind_moved}
+use Rattle.kfs_model.specs.Check.{EntryContext, Reason, Check, fault, cells, unless, is_some_and, first_failing, first_fault, looked, checks_of, may_go, on_number, arrival_checks, move_checks, rename_checks}
 
 -- one client at two spots, with the same numbers created
 module _ (client : Client) (created : ℕ → Bool) (before : ClientSight) (now : Sight) (other_before : ClientSight) (other_now : Sight) where
@@ -159,7 +159,7 @@ module _ (client : Client) (created : ℕ → Bool) (before : ClientSight) (now 
 
   -- what is checked of the nodes that a Rename moves and replaces, by what the header of the one shows
   moved_by : (e n : ℕ) → Option ℕ → Option Header → List Check
-  moved_by e n there h = stays_apart (is_directory h) n e ++ on_number there (may_go (kind_moved (is_directory h)))
+  moved_by e n there h = arrival_checks (kind_shown h) n e there
 
   move_alike : (d e n : ℕ) (there : Option ℕ) → Alike (move_checks p d e n there) (move_checks q d e n there)
   unfolding cells moved_by
@@ -168,31 +168,24 @@ module _ (client : Client) (created : ℕ → Bool) (before : ClientSight) (now 
       (alike_more (Check.Sees (HeaderOf n)) (moved_by e n there (now.head n)) (moved_by e n there (other_now.head n)) (λ same.
       subst (λ h. Alike (moved_by e n there (now.head n)) (moved_by e n there h)) (same_head n same.0) (alike_itself (moved_by e n there (now.head n)))))
 
-  unless_alike : (d e n : ℕ) (there : Option ℕ) → Alike (unless_same there n (move_checks p d e n there)) (unless_same there n (move_checks q d e n there))
-  unless_alike d e n None = move_alike d e n None
-  unless_alike d e n (Some t) = at (t == n)
+  -- of the node that the old name leads to, and what the new one does
+  renamed_alike : (d e : ℕ) (o there : Option ℕ) → Alike (rename_checks p d e o there) (rename_checks q d e o there)
+  renamed_alike d e None there = alike_none
+  renamed_alike d e (Some n) None = move_alike d e n None
+  renamed_alike d e (Some n) (Some t) = at (t == n)
     where
       at : (b : Bool) → Alike (if b then [] else move_checks p d e n (Some t)) (if b then [] else move_checks q d e n (Some t))
       at true = alike_none
       at false = move_alike d e n (Some t)
 
-  -- of the node that the old name leads to, and what the new one does
-  renamed_by : EntryContext → (d e : ℕ) → (o there : Option ℕ) → List Check
-  renamed_by s d e o there = on_number o (λ n. unless_same there n (move_checks s d e n there))
-
-  renamed_alike : (d e : ℕ) (o there : Option ℕ) → Alike (renamed_by p d e o there) (renamed_by q d e o there)
-  unfolding renamed_by
-  renamed_alike d e None there = alike_none
-  renamed_alike d e (Some n) there = unless_alike d e n there
-
   rename_alike : (d : ℕ) (m : List ℕ) (e : ℕ) (k : List ℕ) → Alike (checks_of p (Rename d m e k)) (checks_of q (Rename d m e k))
-  unfolding checks_of cells renamed_by
+  unfolding checks_of cells
   rename_alike d m e k =
       alike_behind (Check.Exists d ∷ Check.IsADirectory d ∷ Check.Exists e ∷ Check.IsADirectory e ∷ Check.MaySearch d ∷ Check.MaySearch e ∷ []) _ _
-      (alike_more (Check.NameIsThere d m) (Check.Sees (NameIn e k) ∷ renamed_by p d e (now.name d m) (now.name e k)) (Check.Sees (NameIn e k) ∷ renamed_by q d e (other_now.name d m) (other_now.name e k)) (λ same.
-      alike_more (Check.Sees (NameIn e k)) (renamed_by p d e (now.name d m) (now.name e k)) (renamed_by q d e (other_now.name d m) (other_now.name e k)) (λ also.
-      subst (λ o. Alike (renamed_by p d e (now.name d m) (now.name e k)) (renamed_by q d e o (other_now.name e k))) (same_name d m same.0)
-      (subst (λ there. Alike (renamed_by p d e (now.name d m) (now.name e k)) (renamed_by q d e (now.name d m) there)) (same_name e k also.0) (renamed_alike d e (now.name d m) (now.name e k))))))
+      (alike_more (Check.NameIsThere d m) (Check.Sees (NameIn e k) ∷ rename_checks p d e (now.name d m) (now.name e k)) (Check.Sees (NameIn e k) ∷ rename_checks q d e (other_now.name d m) (other_now.name e k)) (λ same.
+      alike_more (Check.Sees (NameIn e k)) (rename_checks p d e (now.name d m) (now.name e k)) (rename_checks q d e (other_now.name d m) (other_now.name e k)) (λ also.
+      subst (λ o. Alike (rename_checks p d e (now.name d m) (now.name e k)) (rename_checks q d e o (other_now.name e k))) (same_name d m same.0)
+      (subst (λ there. Alike (rename_checks p d e (now.name d m) (now.name e k)) (rename_checks q d e (now.name d m) there)) (same_name e k also.0) (renamed_alike d e (now.name d m) (now.name e k))))))
 
   checks_alike : (entry : Entry) → Alike (checks_of p entry) (checks_of q entry)
   unfolding checks_of
@@ -220,8 +213,8 @@ module _ (client : Client) (created : ℕ → Bool) (before : ClientSight) (now 
       let front = parts (cells p check) (elim (fault p check) [ None ↦ looked p checks | Some reason ↦ [] ]) same in
       (front.0, each_same checks pass.1 (subst (λ o. SameAtAll (elim o [ None ↦ looked p checks | Some reason ↦ [] ])) pass.0 front.1))
 
-  moved_reads : (d e : ℕ) (o there : Option ℕ) → EachSame (renamed_by p d e o there) → MovedAlike now other_now o there
-  unfolding EachSame renamed_by cells
+  moved_reads : (d e : ℕ) (o there : Option ℕ) → EachSame (rename_checks p d e o there) → MovedAlike now other_now o there
+  unfolding EachSame cells
   moved_reads d e None there same = tt
   moved_reads d e (Some n) None same = same_head n same.1.1.1.1.1.0.0
   moved_reads d e (Some n) (Some t) same = at (t == n) same
@@ -231,7 +224,7 @@ module _ (client : Client) (created : ℕ → Bool) (before : ClientSight) (now 
       at false same apart = same_head n same.1.1.1.1.1.0.0
 
   pub reads_alike : (entry : Entry) → first_fault p entry ≡ None → SameAtAll (looked p (checks_of p entry)) → ReadsAlike client now other_now entry
-  unfolding checks_of EachSame cells renamed_by
+  unfolding checks_of EachSame cells
   reads_alike (Create d m n kind mode) clean same = tt
   reads_alike (Write n offset payload) clean same = tt
   reads_alike (Truncate n size) clean same = tt

@@ -3,9 +3,9 @@ use Rattle.std.proofs.Common.{◌≡◌, ℕ, ◌+◌, ◌==◌, Bool, true, fal
 use Rattle.kfs_model.specs.Header.{Kind, File, Directory, Header}
 use Rattle.kfs_model.specs.Access.{Client}
 use Rattle.kfs_model.specs.Entry.{Entry, Create, Write, Truncate, Link, Unlink, Rename, Chmod}
-use Rattle.kfs_model.specs.Sight.{Sight, Cell, HeaderOf, NameIn, CountOf, ParentOf, LeaseOn, Head, Number, Count, answer}
+use Rattle.kfs_model.specs.Sight.{Sight, Cell, HeaderOf, NameIn, CountOf, ParentOf, LeaseOn, Head, Number, Count, answer, kind_shown}
 use Rattle.kfs_model.specs.FirstWrong.{same_place}
-use Rattle.kfs_model.specs.SeenAfter.{put_at, put_name, put_header, put_parent, shifted, unlinked, new_header, written_size, kind_shown, seen_without, seen_moved, seen_renamed, seen_unlinked, seen_after}
+use Rattle.kfs_model.specs.SeenAfter.{put_at, put_name, put_header, put_parent, shifted, unlinked, new_header, written_size, seen_without, seen_moved, seen_renamed, seen_unlinked, seen_after}
 
 -- what is alike at a place stays alike there
 pub record Follows (now other next other_next : Sight) : Type 0 where

@@ -2,8 +2,8 @@
 use Rattle.std.proofs.Common.{◌≡◌, ℕ, ◌+◌, ◌==◌, Bool, true, false, cond, List, [], ◌∷◌, ◌++◌, Option, Some, None, option_map, option_and_then, if◌then◌else◌, refl, sym, subst, ◌∙◌, ◌⊎◌, inl, inr, ⊎_elim, eqb-true}
 use Rattle.kfs_model.specs.Header.{Kind, File, Directory, Header}
 use Rattle.kfs_model.specs.Entry.{Entry, Create, Write, Truncate, Link, Unlink, Rename, Chmod}
-use Rattle.kfs_model.specs.Sight.{Sight, Cell, HeaderOf, NameIn, is_directory}
-use Rattle.kfs_model.specs.Check.{EntryContext, Check, fault, cells, first_fault, looked, checks_of, may_go, on_number, unless_same, move_checks, stays_apart, kind_moved}
+use Rattle.kfs_model.specs.Sight.{Sight, Cell, HeaderOf, NameIn, kind_shown}
+use Rattle.kfs_model.specs.Check.{EntryContext, Check, fault, cells, first_fault, looked, checks_of, may_go, on_number, move_checks, arrival_checks, rename_checks}
 use Rattle.kfs_model.specs.FirstWrong.{same_place}
 use Rattle.kfs_model.specs.SeenAfter.{put_at, put_name, put_header, new_header, written_size, unlinked, seen_without, seen_moved, seen_renamed, seen_unlinked, seen_after}
 use Rattle.kfs_model.proofs.CleanIsAllowed.{AllPass, all_pass}
@@ -106,15 +106,19 @@ module _ (p : EntryContext) where
       (among_behind p front (Check.NameIsThere d m ∷ may_go kind t) (HeaderOf t) pass (goes_among kind t (Check.NameIsThere d m ∷ [])))
 
   -- the header of the node that a Rename replaces
+  arrives_among : (kind : Kind) (e n t : ℕ) → AllPass p (arrival_checks kind n e (Some t)) → Among (HeaderOf t) (looked p (arrival_checks kind n e (Some t)))
+  arrives_among File e n t = goes_among File t []
+  arrives_among Directory e n t = goes_among Directory t (Check.IsNotAbove n e ∷ [])
+
   replaced_among : (d e n t : ℕ) → AllPass p (move_checks p d e n (Some t)) → Among (HeaderOf t) (looked p (move_checks p d e n (Some t)))
   replaced_among d e n t pass =
       among_behind p (Check.MayWrite d ∷ Check.MayWrite e ∷ Check.IsLeased d ∷ Check.IsLeased e ∷ Check.IsLeased n ∷ Check.Sees (HeaderOf n) ∷ []) _ (HeaderOf t) pass
-      (goes_among (kind_moved (is_directory (p.now.head n))) t (stays_apart (is_directory (p.now.head n)) n e))
+      (arrives_among (kind_shown (p.now.head n)) e n t)
 
   -- of a Rename, by what the two names lead to
   rename_touches : (d : ℕ) (m : List ℕ) (e : ℕ) (k : List ℕ) (front : List Check) (o there : Option ℕ)
-      → AllPass p (front ++ (Check.NameIsThere d m ∷ Check.Sees (NameIn e k) ∷ on_number o (λ n. unless_same there n (move_checks p d e n there))))
-      → Touches (looked p (front ++ (Check.NameIsThere d m ∷ Check.Sees (NameIn e k) ∷ on_number o (λ n. unless_same there n (move_checks p d e n there))))) p.now (seen_renamed d m e k o there p.now)
+      → AllPass p (front ++ (Check.NameIsThere d m ∷ Check.Sees (NameIn e k) ∷ rename_checks p d e o there))
+      → Touches (looked p (front ++ (Check.NameIsThere d m ∷ Check.Sees (NameIn e k) ∷ rename_checks p d e o there))) p.now (seen_renamed d m e k o there p.now)
   unfolding cells
   rename_touches d m e k front None there pass = touches_nothing (looked p (front ++ (Check.NameIsThere d m ∷ Check.Sees (NameIn e k) ∷ []))) p.now
   rename_touches d m e k front (Some n) None pass =

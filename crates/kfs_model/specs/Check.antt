@@ -6,7 +6,7 @@ use Rattle.kfs_model.specs.Header.{Kind}
 use Rattle.kfs_model.specs.Header.Kind.{File, Directory}
 use Rattle.kfs_model.specs.Access.{Client, Want, Search, may_header, owns, is_granted}
 use Rattle.kfs_model.specs.Entry.{Entry, Create, Write, Truncate, Link, Unlink, Rename, Chmod}
-use Rattle.kfs_model.specs.Sight.{Sight, ClientSight, Cell, HeaderOf, NameIn, CountOf, ParentOf, LeaseOn, is_directory, is_file, climb_limit, climb_meets, climbed}
+use Rattle.kfs_model.specs.Sight.{Sight, ClientSight, Cell, HeaderOf, NameIn, CountOf, ParentOf, LeaseOn, is_directory, is_file, kind_shown, climb_limit, climb_meets, climbed}
 
 -- why an entry is refused
 pub data Reason : Type 0 where
@@ -41,19 +41,35 @@ abbrev pub unless : Bool → Reason → Option Reason
 unless true reason = None
 unless false reason = Some reason
 
+-- whether the client has the bit on the node
+abbrev pub is_permitted : EntryContext → Want → ℕ → Bool
+is_permitted context want n = is_some_and (context.now.head n) (λ h. may_header context.client h want)
+
+-- or the log created the node as a file
+abbrev pub may_write : EntryContext → ℕ → Bool
+may_write context n = (context.created n && is_file (context.now.head n)) || is_permitted context Want.Write n
+
+-- by the client, or the log created the node
+abbrev pub is_leased : EntryContext → ℕ → Bool
+is_leased context n = context.created n || context.before.held n
+
+-- no node's before the log nor now, nor created by the log
+abbrev pub is_number_free : EntryContext → ℕ → Bool
+is_number_free context n = is_none (context.before.sight.head n) && is_none (context.now.head n) && not (context.created n)
+
 -- what a check finds wrong
 unfoldable pub fault : EntryContext → Check → Option Reason
 fault context (Exists n) = unless (is_some (context.now.head n)) NoSuchNode
 fault context (IsADirectory n) = unless (is_directory (context.now.head n)) NotDirectory
 fault context (IsAFile n) = unless (not (is_directory (context.now.head n))) IsDirectory
-fault context (MaySearch n) = unless (is_some_and (context.now.head n) (λ h. may_header context.client h Search)) NoSearch
-fault context (MayWrite n) = unless ((context.created n && is_file (context.now.head n)) || is_some_and (context.now.head n) (λ h. may_header context.client h Want.Write)) NoWrite
+fault context (MaySearch n) = unless (is_permitted context Search n) NoSearch
+fault context (MayWrite n) = unless (may_write context n) NoWrite
 fault context (MayChangeMode n) = unless (is_some_and (context.now.head n) (λ h. owns context.client h.uid)) NotOwner
-fault context (IsLeased n) = unless (context.created n || context.before.held n) (NoLease n)
+fault context (IsLeased n) = unless (is_leased context n) (NoLease n)
 fault context (HasNoNames n) = unless (int_eq (context.now.count n) (pos 0)) NotEmpty
 fault context (HasRoomForLink n) = unless (is_some_and (context.now.head n) (λ h. nat_lt h.links link_limit)) TooManyLinks
 fault context (NumberIsGranted n) = unless (is_granted context.client n) NumberNotGranted
-fault context (NumberIsFree n) = unless (is_none (context.before.sight.head n) && is_none (context.now.head n) && not (context.created n)) NumberTaken
+fault context (NumberIsFree n) = unless (is_number_free context n) NumberTaken
 fault context (NameIsThere d m) = unless (is_some (context.now.name d m)) NoSuchName
 fault context (NameIsFree d m) = unless (is_none (context.now.name d m)) NameTaken
 fault context (EndIsInRange end) = unless (nat_le end size_limit) TooBig
@@ -103,25 +119,20 @@ abbrev pub payload_fits : ℕ → List ℕ → List Check
 payload_fits offset [] = []
 payload_fits offset (b ∷ bs) = EndIsInRange (offset + length (b ∷ bs)) ∷ []
 
--- a directory stays out of what lies below itself, and replaces only a directory
-abbrev pub stays_apart : Bool → (moved directory : ℕ) → List Check
-stays_apart true s e = IsNotAbove s e ∷ []
-stays_apart false s e = []
+-- what a node comes to that a Rename moves: a directory stays out of what lies below itself, and what is there is of its kind
+abbrev pub arrival_checks : Kind → (moved directory : ℕ) → Option ℕ → List Check
+arrival_checks File s e there = on_number there (may_go File)
+arrival_checks Directory s e there = IsNotAbove s e ∷ on_number there (may_go Directory)
 
-abbrev pub kind_moved : Bool → Kind
-kind_moved true = Directory
-kind_moved false = File
-
--- of a Rename whose names lead to two nodes, or one to none
-abbrev pub move_checks : EntryContext → (d e s : ℕ) → Option ℕ → List Check
+abbrev pub move_checks : EntryContext → (d e moved : ℕ) → Option ℕ → List Check
 move_checks context d e s there =
-    MayWrite d ∷ MayWrite e ∷ IsLeased d ∷ IsLeased e ∷ IsLeased s ∷ Sees (HeaderOf s)
-    ∷ (stays_apart (is_directory (context.now.head s)) s e ++ on_number there (may_go (kind_moved (is_directory (context.now.head s)))))
+    MayWrite d ∷ MayWrite e ∷ IsLeased d ∷ IsLeased e ∷ IsLeased s ∷ Sees (HeaderOf s) ∷ arrival_checks (kind_shown (context.now.head s)) s e there
 
--- nothing changes where both names lead to one node
-abbrev pub unless_same : Option ℕ → ℕ → List Check → List Check
-unless_same None s checks = checks
-unless_same (Some t) s checks = if t == s then [] else checks
+-- of a Rename, by what its two names lead to: where that is one node nothing changes, and nothing more is checked
+abbrev pub rename_checks : EntryContext → (d e : ℕ) → (from to : Option ℕ) → List Check
+rename_checks context d e None to = []
+rename_checks context d e (Some s) None = move_checks context d e s None
+rename_checks context d e (Some s) (Some t) = if t == s then [] else move_checks context d e s (Some t)
 
 -- the checks of an entry, in order
 unfoldable pub checks_of : EntryContext → Entry → List Check
@@ -132,7 +143,7 @@ checks_of context (Link n d m) = is_file_node n ++ (is_directory_node d ++ (may_
 checks_of context (Unlink d m kind) = is_directory_node d ++ (may_change_directory d ++ (NameIsThere d m ∷ on_number (context.now.name d m) (may_go kind)))
 checks_of context (Rename d m e k) =
     is_directory_node d ++ (is_directory_node e ++ (MaySearch d ∷ MaySearch e ∷ NameIsThere d m ∷ Sees (NameIn e k)
-    ∷ on_number (context.now.name d m) (λ s. unless_same (context.now.name e k) s (move_checks context d e s (context.now.name e k)))))
+    ∷ rename_checks context d e (context.now.name d m) (context.now.name e k)))
 checks_of context (Chmod n mode) = Exists n ∷ MayChangeMode n ∷ IsLeased n ∷ []
 
 -- the reason of the first check that fails
@@ -147,3 +158,6 @@ first_fault context entry = first_failing context (checks_of context entry)
 unfoldable pub looked : EntryContext → List Check → List Cell
 looked context [] = []
 looked context (check ∷ checks) = cells context check ++ elim (fault context check) [ None ↦ looked context checks | Some reason ↦ [] ]
+
+abbrev pub entry_cells : EntryContext → Entry → List Cell
+entry_cells context entry = looked context (checks_of context entry)

@@ -5,7 +5,7 @@ use Rattle.kfs_model.specs.Access.{Client}
 use Rattle.kfs_model.specs.Tree.{Tree}
 use Rattle.kfs_model.specs.Entry.{Entry}
 use Rattle.kfs_model.specs.Sight.{Sight, ClientSight, Cell, client_sight, answer}
-use Rattle.kfs_model.specs.Check.{checks_of, first_fault, looked}
+use Rattle.kfs_model.specs.Check.{first_fault, entry_cells}
 use Rattle.kfs_model.specs.Run.{EntryFault, entry_context, created_by, run, bytes}
 use Rattle.kfs_model.specs.SeenAfter.{seen_after, seen_run_from, shown_run}
 
@@ -14,7 +14,7 @@ module _ (client : Client) (before : ClientSight) where
   unfoldable pub looked_from : (created : List ℕ) → Sight → List Entry → List Cell
   looked_from created now [] = []
   looked_from created now (entry ∷ entries) =
-      looked (entry_context client before now created) (checks_of (entry_context client before now created) entry)
+      entry_cells (entry_context client before now created) entry
       ++ elim (first_fault (entry_context client before now created) entry) [ None ↦ looked_from (created_by entry created) (seen_after client now entry) entries | Some reason ↦ [] ]
 
   abbrev pub looked_cells : List Entry → List Cell

@@ -126,11 +126,6 @@ IsRead row = IsReadCall row.call
     IsReadCall (Drop client number) = Unit {0}
     IsReadCall (Tick moment) = Unit {0}
 
--- each row is read rightly and fits where it stands
-pub record IsLegal (opened : State) (docket : List Row) : Type 0 where
-  pub read : AllByRecursion IsRead docket
-  pub fits : (last : State) × (after opened docket ≡ Some last)
-
 -- ---- what a Yes means
 
 -- the tree is what the entries give one by one, each of them allowed where it stands

@@ -5,7 +5,7 @@ use Rattle.kfs_model.specs.Header.{Kind, File, Directory, Header}
 use Rattle.kfs_model.specs.Access.{Client}
 use Rattle.kfs_model.specs.Entry.{Entry, Create, Write, Truncate, Link, Unlink, Rename, Chmod}
 use Rattle.kfs_model.specs.Tree.{Tree}
-use Rattle.kfs_model.specs.Sight.{Sight, ClientSight, sight}
+use Rattle.kfs_model.specs.Sight.{Sight, ClientSight, sight, kind_shown}
 use Rattle.kfs_model.specs.Check.{first_fault}
 use Rattle.kfs_model.specs.FirstWrong.{same_place}
 use Rattle.kfs_model.specs.Run.{EntryFault, entry_context, created_by}
@@ -60,10 +60,6 @@ seen_without d m t s = record {
   count = shifted d (negsuc 0) s.count;
   parent = put_at t None s.parent;
 }
-
-abbrev pub kind_shown : Option Header → Kind
-kind_shown None = File
-kind_shown (Some h) = h.kind
 
 -- the name leads to nothing any more, and the other one, which led to nothing, leads to the node
 abbrev pub seen_moved : (d : ℕ) (m : List ℕ) (e : ℕ) (k : List ℕ) (number : ℕ) → Sight → Sight

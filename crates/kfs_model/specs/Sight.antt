@@ -41,6 +41,11 @@ is_file (Some h) = of_kind h.kind
     of_kind File = true
     of_kind Directory = false
 
+-- a file's where there is no node
+abbrev pub kind_shown : Option Header → Kind
+kind_shown None = File
+kind_shown (Some h) = h.kind
+
 -- the directory of the first name that leads to the number
 abbrev pub holder : Links → ℕ → Option ℕ
 holder names number = option_map (λ e. e.0.0) (find (λ e. e.1 == number) names.entries)

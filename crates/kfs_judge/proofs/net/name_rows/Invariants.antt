@@ -5,7 +5,8 @@ use Rattle.kfs_model.specs.Sight.{Cell}
 use Rattle.kfs_judge.specs.Overlay.{IsWritten}
 use Rattle.kfs_judge.specs.Reads.{Always, Within}
 use Rattle.kfs_judge.specs.Recorders.{GoesOn}
-use Rattle.kfs_judge.specs.Rows.{keyed_name_row, changed_rows}
+use Rattle.kfs_judge.specs.Rows.{keyed_name_row}
+use Rattle.kfs_judge.proofs.ChangedRows.{changed_rows}
 use Rattle.kfs_judge.proofs.net.name_rows.Given as goal
 
 abbrev pub invariant-loop-key : goal.invariant-loop-key

@@ -11,9 +11,9 @@ use Rattle.kfs_model.specs.FirstWrong.{same_header}
 use Rattle.std.specs.Option.{option_map}
 use Rattle.kfs_value.specs.Views.{header_of}
 use Rattle.kfs_model.proofs.Exact.{headers-exact}
-use Rattle.kfs_judge.specs.Rows.{IsRow, keyed_node_row, shown_heads}
+use Rattle.kfs_judge.specs.Rows.{IsRow, keyed_node_row}
 use Rattle.kfs_judge.proofs.Recording.{goes_then, within_then, within_wider, one_is_part}
-use Rattle.kfs_judge.proofs.ChangedRows.{rows_same, rows_more, rows_all, heads-differ}
+use Rattle.kfs_judge.proofs.ChangedRows.{shown_heads, rows_same, rows_more, rows_all, heads-differ}
 use Rattle.kfs_judge.proofs.net.node_rows.Goals as goal
 
 pub returns-in_err-row-clause-goes : goal.returns-in_err-row-clause-goes

@@ -6,7 +6,8 @@ use Rattle.kfs_model.specs.Sight.{Cell}
 use Rattle.kfs_judge.specs.Overlay.{IsWritten}
 use Rattle.kfs_judge.specs.Reads.{Always, Within}
 use Rattle.kfs_judge.specs.Recorders.{GoesOn}
-use Rattle.kfs_judge.specs.Rows.{keyed_node_row, changed_rows, shown_heads}
+use Rattle.kfs_judge.specs.Rows.{keyed_node_row}
+use Rattle.kfs_judge.proofs.ChangedRows.{changed_rows, shown_heads}
 use Rattle.kfs_judge.proofs.net.node_rows.Given as goal
 
 abbrev pub invariant-loop-number : goal.invariant-loop-number

@@ -23,12 +23,12 @@ pub returns-clause-goes : goal.returns-clause-goes
 returns-clause-goes g c = goes_then c.in_ok-fault.ensures.goes c.in_ok-header.ensures.goes
 
 pub returns-clause-known : goal.returns-clause-known
-returns-clause-known g c state agrees = c.in_ok-fault.ensures.known state (c.in_ok-header.ensures.goes.grows state agrees) c.args.mode ∙ ap (option_map reason_of) c.in_default.is
+returns-clause-known g c state agrees = c.in_ok-fault.ensures.known c.args.mode state (c.in_ok-header.ensures.goes.grows state agrees) ∙ ap (option_map reason_of) c.in_default.is
 
 pub returns-clause-among : goal.returns-clause-among
 returns-clause-among g c state agrees =
     let p = entry_context_of c.args.self.now.client.now c.args.self.now.draft state in
-    within_then (c.in_ok-fault.ensures.among state (c.in_ok-header.ensures.goes.grows state agrees) c.args.mode) (within_wider (chmod_looks p c.args.number c.args.mode) c.in_ok-header.ensures.among)
+    within_then (c.in_ok-fault.ensures.among c.args.mode state (c.in_ok-header.ensures.goes.grows state agrees)) (within_wider (chmod_looks p c.args.number c.args.mode) c.in_ok-header.ensures.among)
 
 pub returns-clause-shown : goal.returns-clause-shown
 unfolding seen_after

@@ -23,5 +23,5 @@ returns-clause-written g c _ state agrees among written =
     let p = entry_context_of c.args.self.now.client.now c.args.self.now.draft state in
     let entry = Create c.args.key.0 c.args.key.1 c.args.number (kind_of c.args.kind) c.args.mode in
     let front = looked p (checks_of p entry) in
-    let looks = create_looks p c.args.key.0 c.args.key.1 c.args.number (kind_of c.args.kind) c.args.mode (c.in_ok-fault.ensures.known state agrees (kind_of c.args.kind) c.args.mode ∙ ap (option_map reason_of) c.in_default.is) in
+    let looks = create_looks p c.args.key.0 c.args.key.1 c.args.number (kind_of c.args.kind) c.args.mode (c.in_ok-fault.ensures.known (kind_of c.args.kind) c.args.mode state agrees ∙ ap (option_map reason_of) c.in_default.is) in
     c.in_ok-add_node.ensures.written (front ++ among) (written_wider c.args.self.now.draft among (front ++ among) (right_is_part front among) written) (left_is_part front among (NameIn c.args.key.0 c.args.key.1) looks.0) (left_is_part front among (HeaderOf c.args.number) looks.1)

@@ -1,0 +1,53 @@
+-- What a log's judge has made of an entry, and of entries one after another.
+use Rattle.std.specs.Prelude.{◌≡◌, ℕ, List, ◌++◌, map, Option}
+use Rattle.std.specs.Option.{option_map}
+use Rattle.kfs_model.specs.Entry.{Entry}
+use Rattle.kfs_model.specs.Sight.{ClientSight, Cell}
+use Rattle.kfs_model.specs.Check.{EntryContext, first_fault, entry_cells}
+use Rattle.kfs_model.specs.Run.{created_by}
+use Rattle.kfs_model.specs.SeenAfter.{seen_after}
+use Rattle.kfs_model.specs.Looked.{looked_cells}
+use Rattle.kfs_value.specs.Views.{entry_of}
+use Rattle.kfs_value.specs.declared.entry.Entry.{Entry as CodeEntry}
+use Rattle.kfs_value.specs.declared.entry.Span.{Span}
+use Rattle.kfs_judge.specs.declared.check.Reason.{Reason}
+use Rattle.kfs_judge.specs.declared.log_judge.LogJudge.{LogJudge}
+use Rattle.kfs_judge.specs.declared.walk.EntryFault.{EntryFault}
+use Rattle.kfs_judge.specs.Checks.{reason_of}
+use Rattle.kfs_judge.specs.Overlay.{over, entry_context_of, AreCreated, IsWritten}
+use Rattle.kfs_judge.specs.Recorders.{Known, ReadsAt}
+use Rattle.kfs_judge.specs.Walks.{EndsAt}
+
+-- where the next entry is judged, by what the client saw before the log
+abbrev pub next_context : {A : Type 0} → LogJudge A → ClientSight → EntryContext
+next_context judge before = entry_context_of judge.client.now judge.draft before
+
+-- an entry, and the judge before it and behind it
+module _ {A : Type 0} (old new : LogJudge A) (entry : Entry) where
+  abbrev pub IsFirstFault : Option Reason → Type 0
+  IsFirstFault reason = Known new.recorder (λ before. first_fault (next_context old before) entry ≡ option_map reason_of reason)
+
+  abbrev pub ReadsItsCells : Type 0
+  ReadsItsCells = Known new.recorder (λ before. ReadsAt old.recorder new.recorder (entry_cells (next_context old before) entry))
+
+  abbrev pub ShowsItsChange : Type 0
+  ShowsItsChange = Known new.recorder (λ before. over new.draft before.sight ≡ seen_after old.client.now (over old.draft before.sight) entry)
+
+  -- what the draft has was there before, or the entry looked at it
+  abbrev pub WritesItsCells : Type 0
+  WritesItsCells = Known new.recorder (λ before. (among : List Cell) → IsWritten old.draft among → IsWritten new.draft (entry_cells (next_context old before) entry ++ among))
+
+  abbrev pub CreatesItsNumber : Type 0
+  CreatesItsNumber = (numbers : List ℕ) → AreCreated old.draft numbers → AreCreated new.draft (created_by entry numbers)
+
+-- entries, from a judge that has entered none
+module _ {A : Type 0} (old new : LogJudge A) (entries : List (CodeEntry Span)) where
+  -- the run over the cells stops at this fault, or ends at what the draft shows
+  abbrev pub StopsAt : Option EntryFault → Type 0
+  StopsAt fault = Known new.recorder (λ before. (source : List ℕ) → EndsAt old.client.now new.draft before (map (entry_of source) entries) fault)
+
+  abbrev pub ReadsTheirCells : Type 0
+  ReadsTheirCells = Known new.recorder (λ before. (source : List ℕ) → ReadsAt old.recorder new.recorder (looked_cells old.client.now before (map (entry_of source) entries)))
+
+  abbrev pub WritesTheirCells : Type 0
+  WritesTheirCells = Known new.recorder (λ before. (source : List ℕ) → IsWritten new.draft (looked_cells old.client.now before (map (entry_of source) entries)))
