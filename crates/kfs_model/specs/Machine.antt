@@ -1,7 +1,7 @@
 -- The machine: one step is a call with its answer and, for a Yes, the places of the written blocks. A docket is a list of such
 -- rows.
 use Rattle.std.specs.Prelude.{◌≡◌, ℕ, ◌+◌, ◌==◌, ◌&&◌, not, nat_lt, Bool, List, [], ◌∷◌, length, zip, Option, Some, None, is_some, Result, Ok, Err, if◌then◌else◌}
-use Rattle.std.specs.List.{list_any, list_all, AllByRecursion}
+use Rattle.std.specs.List.{list_any, list_all}
 use native.Mathlib.Decide.{ℕ_discrete}
 use Rattle.kfs_model.specs.Access.{Client}
 use Rattle.kfs_model.specs.Distinct.{are_distinct}
