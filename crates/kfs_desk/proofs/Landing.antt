@@ -5,7 +5,7 @@ use Rattle.std.specs.List.{list_all, list_any}
 use Rattle.std.proofs.lemmas.Bool.{and_parts, and_from, both_ways, false_from_ne_true, eq-eqb, le-ltb}
 use Rattle.kfs_model.specs.Header.{Header}
 use Rattle.kfs_model.specs.Table.{get, empty, retain, numbers, same_table, same_entries_table, get-mapped, get-retain}
-use Rattle.kfs_model.specs.Tree.{Tree, Node, Body, Cells, Names, headers, header_of, cells_of}
+use Rattle.kfs_model.specs.Tree.{Tree, Node, Body, FileBody, DirectoryBody, headers, header_of, cells_of}
 use Rattle.kfs_model.specs.Sight.{ClientSight}
 use Rattle.kfs_model.specs.Soundness.{IsSound}
 use Rattle.kfs_model.specs.Entry.{Entry}
@@ -154,8 +154,8 @@ module _ (desk : Parts) (is_desk : IsDesk desk) (lawful : IsLawful desk.image.co
 
     zero_body : (number mode uid gid : ℕ) (body : Body Mark) → list_all is_base (cells_of (Some (record { mode = mode; uid = uid; gid = gid; body = body }))) ≡ true
         → cells_of (Some (on_node byte number (record { mode = mode; uid = uid; gid = gid; body = body }))) ≡ replicate (length (cells_of (Some (on_node byte number (record { mode = mode; uid = uid; gid = gid; body = body }))))) 0
-    zero_body number mode uid gid (Cells cells) all = zero_bytes cells all
-    zero_body number mode uid gid Names all = refl
+    zero_body number mode uid gid (FileBody cells) all = zero_bytes cells all
+    zero_body number mode uid gid DirectoryBody all = refl
 
     zero_cells : (number : ℕ) (found : Option (Node Mark)) → list_all is_base (cells_of found) ≡ true → cells_of (option_map (on_node byte number) found) ≡ replicate (length (cells_of (option_map (on_node byte number) found))) 0
     zero_cells number None all = refl

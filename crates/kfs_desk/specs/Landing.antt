@@ -3,7 +3,7 @@ use Rattle.std.specs.Prelude.{ℕ, ◌==◌, not, false, List, [], ◌∷◌, Op
 use Rattle.kfs_model.specs.Lease.{Leases, without_gone}
 use Rattle.kfs_value.specs.declared.header.Header.{Header}
 use Rattle.kfs_value.specs.declared.plan.NodeRow.{NodeRow}
-use Rattle.kfs_image.specs.Contents.{Shown as ImageShown}
+use Rattle.kfs_image.specs.Contents.{ImageShown}
 use Rattle.kfs_image.specs.Change.{after_net}
 use Rattle.kfs_image.specs.ShownTree.{IsLawful}
 use Rattle.kfs_judge.specs.declared.plan.Outcome.{Outcome}

@@ -15,7 +15,7 @@ use Rattle.kfs_model.specs.Order.{IsInOrder}
 use Rattle.kfs_lease.specs.Faults.{fault_of}
 use Rattle.kfs_lease.specs.Rows.{kind_of}
 use Rattle.kfs_lease.specs.declared.leases.LeaseFault.{LeaseFault}
-use Rattle.kfs_image.specs.Contents.{Shown as ImageShown}
+use Rattle.kfs_image.specs.Contents.{ImageShown}
 use Rattle.kfs_image.specs.ShownTree.{tree_of}
 use Rattle.kfs_judge.specs.Judging.{HasOtherEntry, refusal_of, submission_of}
 use Rattle.kfs_judge.specs.declared.plan.Back.{Back}
@@ -145,7 +145,7 @@ number_of (dones.Dropped number) = number
 number_of (dones.Ticked moment) = moment
 
 -- what the act makes of the leases
-abbrev pub outcome_at : Leases → Sight → List Client → Act → leases.Outcome
+abbrev pub outcome_at : Leases → Sight → List Client → Act → leases.LeaseOutcome
 outcome_at table sight clients (acts.Lease client path kind end) = leases.granted table sight clients client path.now (kind_of kind) end
 outcome_at table sight clients (acts.Drop client number) = leases.dropped table clients client number
 outcome_at table sight clients (acts.Tick moment) = leases.ticked table moment
@@ -162,7 +162,7 @@ row_answer (Ok number) = machine.Done number
 row_answer (Err fault) = machine.NotDone fault
 
 -- the answer and the leases after it are the outcome
-pub record IsChange (outcome : leases.Outcome) (words : ℕ → Done) (answer : Result Done LeaseFault) (new : Leases) : Type 0 where
+pub record IsChange (outcome : leases.LeaseOutcome) (words : ℕ → Done) (answer : Result Done LeaseFault) (new : Leases) : Type 0 where
   pub told : Result ℕ leases.LeaseFault
   pub said : IsTold words answer told
   pub is : outcome ≡ (told, new)

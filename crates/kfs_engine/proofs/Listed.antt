@@ -6,8 +6,8 @@ use Rattle.std.specs.Ordering.{nat_cmp, is_eq, is_lt, ordering_reverse}
 use Rattle.std.specs.Cmp.Lexicographic.{slice_cmp}
 use Rattle.std.specs.FinMap.Entries.{find, where_key, below_all, is_sorted, is_sorted-where_key, find-where_key, same_entries}
 use borrow.Author.Tests.{eqb-true, eq-eqb}
-use Rattle.kfs_model.specs.Table.{bytes, get}
-use Rattle.kfs_model.specs.Tree.{Links, directory_entries, target}
+use Rattle.kfs_model.specs.Table.{byte_order, get}
+use Rattle.kfs_model.specs.Tree.{NameTable, name_order, target}
 use Rattle.kfs_image.specs.Look.{IsAfter, IsNext}
 use Rattle.kfs_image.proofs.NameOrder.{in_directory}
 use Rattle.kfs_engine.specs.Listing.{name_text, names_text}
@@ -23,8 +23,8 @@ abbrev pub is_left : (directory : ℕ) → Option (Bor (List ℕ)) → ℕ × Li
 is_left directory after key = is_after after key.1 && (key.0 == directory)
 
 -- the names of the directory after this one, in their order
-abbrev pub names_after : Links → (directory : ℕ) → Option (Bor (List ℕ)) → List ((ℕ × List ℕ) × ℕ)
-names_after names directory after = where_key directory_entries.compare (is_left directory after) names.entries
+abbrev pub names_after : NameTable → (directory : ℕ) → Option (Bor (List ℕ)) → List ((ℕ × List ℕ) × ℕ)
+names_after names directory after = where_key name_order.compare (is_left directory after) names.entries
 
 less : (o : Ordering) → is_lt o ≡ true → o ≡ Less
 less Less e = refl
@@ -81,16 +81,16 @@ and_both : (a b : Bool) → (a && b) ≡ true → (a ≡ true) × (b ≡ true)
 and_both true b e = (refl, e)
 and_both false b e = cc
 
-looked_at : (p : ℕ × List ℕ → Bool) (key : ℕ × List ℕ) (names : Links) → find directory_entries.compare key (where_key directory_entries.compare p names.entries) ≡ cond (p key) (get names key) None
+looked_at : (p : ℕ × List ℕ → Bool) (key : ℕ × List ℕ) (names : NameTable) → find name_order.compare key (where_key name_order.compare p names.entries) ≡ cond (p key) (get names key) None
 unfolding get
-looked_at p key names = find-where_key directory_entries.compare p key (λ x e. ap p (sym (directory_entries.exact key x e))) names.entries
+looked_at p key names = find-where_key name_order.compare p key (λ x e. ap p (sym (name_order.exact key x e))) names.entries
 
-module _ (names : Links) (directory : ℕ) (after : Option (Bor (List ℕ))) where
-  in_order : T (is_sorted directory_entries.compare (names_after names directory after))
-  in_order = is_sorted-where_key directory_entries.compare (is_left directory after) names.entries names.sorted
+module _ (names : NameTable) (directory : ℕ) (after : Option (Bor (List ℕ))) where
+  in_order : T (is_sorted name_order.compare (names_after names directory after))
+  in_order = is_sorted-where_key name_order.compare (is_left directory after) names.entries names.sorted
 
   pub none_after : ((m : List ℕ) (n : ℕ) → target names directory m ≡ Some n → IsAfter after m → ⊥) → names_after names directory after ≡ []
-  none_after none = same_entries directory_entries.compare directory_entries.total directory_entries.exact _ _ in_order tt (λ q. looked_at (is_left directory after) q names ∙ picked _ false _ (left_out q.0 q.1))
+  none_after none = same_entries name_order.compare name_order.total name_order.exact _ _ in_order tt (λ q. looked_at (is_left directory after) q names ∙ picked _ false _ (left_out q.0 q.1))
     where
       left_out : (k : ℕ) (m : List ℕ) (n : ℕ) → target names k m ≡ Some n → is_left directory after (k, m) ≡ false
       left_out k m n leads =
@@ -103,7 +103,7 @@ module _ (names : Links) (directory : ℕ) (after : Option (Bor (List ℕ))) whe
 
 -- ---- the next name
 
-module _ (names : Links) (directory : ℕ) (after : Option (Bor (List ℕ))) (name : Bor (List ℕ)) (number : ℕ) (next : IsNext names directory after name.now number) where
+module _ (names : NameTable) (directory : ℕ) (after : Option (Bor (List ℕ))) (name : Bor (List ℕ)) (number : ℕ) (next : IsNext names directory after name.now number) where
   alike : (m : List ℕ) (n : ℕ) → target names directory m ≡ Some n → (o : Ordering) → slice_cmp nat_cmp m name.now ≡ o → (o ≢ Equal) → is_after after m ≡ is_after (Some name) m
   alike m n leads Less e apart =
       elim (is_after after m) as (λ b. is_after after m ≡ b → b ≡ false) [
@@ -116,48 +116,48 @@ module _ (names : Links) (directory : ℕ) (after : Option (Bor (List ℕ))) (na
       let later = turned m name.now Greater e in
       tested after m (further after name.now m next.later later) ∙ sym (ap is_lt later)
 
-  left_alike : (k : ℕ) (m : List ℕ) (n : ℕ) → target names k m ≡ Some n → (directory_entries.compare (k, m) (directory, name.now) ≢ Equal) → is_left directory after (k, m) ≡ is_left directory (Some name) (k, m)
+  left_alike : (k : ℕ) (m : List ℕ) (n : ℕ) → target names k m ≡ Some n → (name_order.compare (k, m) (directory, name.now) ≢ Equal) → is_left directory after (k, m) ≡ is_left directory (Some name) (k, m)
   left_alike k m n leads apart =
       elim (k == directory) as (λ b. (k == directory) ≡ b → (is_after after m && b) ≡ (is_after (Some name) m && b)) [
         | true ↦ λ h.
             let here = eqb-true k directory h in
-            ap (λ b. b && true) (alike m n (subst (λ j. target names j m ≡ Some n) here leads) (slice_cmp nat_cmp m name.now) refl (λ e. apart (subst (λ j. directory_entries.compare (j, m) (directory, name.now) ≡ Equal) (sym here) (in_directory directory m name.now ∙ e))))
+            ap (λ b. b && true) (alike m n (subst (λ j. target names j m ≡ Some n) here leads) (slice_cmp nat_cmp m name.now) refl (λ e. apart (subst (λ j. name_order.compare (j, m) (directory, name.now) ≡ Equal) (sym here) (in_directory directory m name.now ∙ e))))
         | false ↦ λ h. and_false (is_after after m) (is_after (Some name) m)
       ] refl
 
-  elsewhere : (k : ℕ) (m : List ℕ) → (directory_entries.compare (k, m) (directory, name.now) ≢ Equal) → find directory_entries.compare (k, m) (names_after names directory after) ≡ find directory_entries.compare (k, m) (names_after names directory (Some name))
+  elsewhere : (k : ℕ) (m : List ℕ) → (name_order.compare (k, m) (directory, name.now) ≢ Equal) → find name_order.compare (k, m) (names_after names directory after) ≡ find name_order.compare (k, m) (names_after names directory (Some name))
   elsewhere k m apart =
       looked_at (is_left directory after) (k, m) names
       ∙ picked _ _ _ (λ n leads. left_alike k m n leads apart)
       ∙ sym (looked_at (is_left directory (Some name)) (k, m) names)
 
-  at_name : find directory_entries.compare (directory, name.now) (names_after names directory after) ≡ Some number
+  at_name : find name_order.compare (directory, name.now) (names_after names directory after) ≡ Some number
   at_name =
       looked_at (is_left directory after) (directory, name.now) names
       ∙ ap (λ b. cond (b && (directory == directory)) (target names directory name.now) None) (tested after name.now next.later)
       ∙ ap (λ b. cond b (target names directory name.now) None) (eq-eqb directory directory refl)
       ∙ next.leads
 
-  at_key : (k : ℕ) (m : List ℕ) → find directory_entries.compare (k, m) (names_after names directory after) ≡ find directory_entries.compare (k, m) (((directory, name.now), number) ∷ names_after names directory (Some name))
+  at_key : (k : ℕ) (m : List ℕ) → find name_order.compare (k, m) (names_after names directory after) ≡ find name_order.compare (k, m) (((directory, name.now), number) ∷ names_after names directory (Some name))
   at_key k m =
-      elim (directory_entries.compare (k, m) (directory, name.now)) as (λ o. directory_entries.compare (k, m) (directory, name.now) ≡ o → find directory_entries.compare (k, m) (names_after names directory after) ≡ cond (is_eq o) (Some number) (find directory_entries.compare (k, m) (names_after names directory (Some name)))) [
+      elim (name_order.compare (k, m) (directory, name.now)) as (λ o. name_order.compare (k, m) (directory, name.now) ≡ o → find name_order.compare (k, m) (names_after names directory after) ≡ cond (is_eq o) (Some number) (find name_order.compare (k, m) (names_after names directory (Some name)))) [
         | Less ↦ λ e. elsewhere k m (λ f. never (ap is_eq (sym e ∙ f)))
-        | Equal ↦ λ e. subst (λ key. find directory_entries.compare key (names_after names directory after) ≡ Some number) (sym (directory_entries.exact (k, m) (directory, name.now) e)) at_name
+        | Equal ↦ λ e. subst (λ key. find name_order.compare key (names_after names directory after) ≡ Some number) (sym (name_order.exact (k, m) (directory, name.now) e)) at_name
         | Greater ↦ λ e. elsewhere k m (λ f. never (ap is_eq (sym e ∙ f)))
       ] refl
     where
       never : false ≡ true → ⊥
       never e = cc
 
-  later_keys : (key : ℕ × List ℕ) → is_left directory (Some name) key ≡ true → directory_entries.compare (directory, name.now) key ≡ Less
+  later_keys : (key : ℕ × List ℕ) → is_left directory (Some name) key ≡ true → name_order.compare (directory, name.now) key ≡ Less
   later_keys key h =
       let parts = and_both _ _ h in
-      subst (λ j. directory_entries.compare (directory, name.now) (j, key.1) ≡ Less) (sym (eqb-true key.0 directory parts.1)) (in_directory directory name.now key.1 ∙ less _ parts.0)
+      subst (λ j. name_order.compare (directory, name.now) (j, key.1) ≡ Less) (sym (eqb-true key.0 directory parts.1)) (in_directory directory name.now key.1 ∙ less _ parts.0)
 
   pub next_after : names_after names directory after ≡ ((directory, name.now), number) ∷ names_after names directory (Some name)
   next_after =
-      same_entries directory_entries.compare directory_entries.total directory_entries.exact _ _ (in_order names directory after)
-      (both _ _ (below_where directory_entries.compare (directory, name.now) (is_left directory (Some name)) later_keys names.entries) (in_order names directory (Some name)))
+      same_entries name_order.compare name_order.total name_order.exact _ _ (in_order names directory after)
+      (both _ _ (below_where name_order.compare (directory, name.now) (is_left directory (Some name)) later_keys names.entries) (in_order names directory (Some name)))
       (λ q. at_key q.0 q.1)
 
 -- ---- texts

@@ -1,10 +1,10 @@
 -- The line of a directory's names.
 use Rattle.std.specs.Prelude.{ℕ, ◌==◌, List, [], ◌∷◌, ◌++◌, filter, codes, decimal}
 use Rattle.hex.specs.Hex.{encode_lower}
-use Rattle.kfs_model.specs.Tree.{Links}
+use Rattle.kfs_model.specs.Tree.{NameTable}
 
 -- the names of the directory in their order, each with the number that it leads to
-abbrev pub names_in : Links → (directory : ℕ) → List ((ℕ × List ℕ) × ℕ)
+abbrev pub names_in : NameTable → (directory : ℕ) → List ((ℕ × List ℕ) × ℕ)
 names_in names directory = filter (λ e. e.0.0 == directory) names.entries
 
 -- the bytes of the name in hexadecimal text, and the number
@@ -15,5 +15,5 @@ unfoldable pub names_text : List ((ℕ × List ℕ) × ℕ) → List ℕ
 names_text [] = []
 names_text (e ∷ es) = name_text e ++ names_text es
 
-abbrev pub list_text : (directory : ℕ) → Links → List ℕ
+abbrev pub list_text : (directory : ℕ) → NameTable → List ℕ
 list_text directory names = codes "list " ++ (decimal directory ++ names_text (names_in names directory))

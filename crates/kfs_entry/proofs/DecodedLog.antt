@@ -13,7 +13,7 @@ use Rattle.kfs_entry.specs.declared.fault.SpellFault.{SpellFault}
 use Rattle.kfs_entry.specs.declared.fault.SpellFault.TheVariants as faults
 use Rattle.kfs_value.specs.Views.{entry_of, IsWithin}
 use Rattle.kfs_entry.specs.RowList.{EntryMissing}
-use Rattle.kfs_entry.specs.Answers.{Refused}
+use Rattle.kfs_entry.specs.Answers.{OnRefusal}
 use Rattle.kfs_entry.proofs.RowLaws.{both_hold, AllByRecursion-weaker, stand_from, stop_from}
 
 -- what is known of the entries that were read
@@ -45,7 +45,7 @@ pub some_rest : (source : List ℕ) (end : ℕ) → end < length source → drop
 some_rest source end lt none = let zero : length (drop end source) ≡ 0 = ap length none in omega (arith, length-drop end source, zero)
 
 pub entry_is_missing : (source : List ℕ) (h : LogHeader) (at : ℕ) (fault : SpellFault) → IsLogHeader h → source ≡ log_header h ++ drop at source
-    → EntryMissing (Fit source) (spelled source) (Begins IsEntry entry_bytes) h.count (drop at source) fault → Refused (LogAnswer source) fault
+    → EntryMissing (Fit source) (spelled source) (Begins IsEntry entry_bytes) h.count (drop at source) fault → OnRefusal (LogAnswer source) fault
 entry_is_missing source h at (faults.BadEntry k) fits front stops =
     (h, drop at source, fits, front, stop_from (entry_of source) (Fit source) IsEntry entry_bytes (λ e f. f.1) h.count k (drop at source) stops)
 entry_is_missing source h at faults.OutOfMemory fits front stops = tt

@@ -4,7 +4,7 @@ use Rattle.kfs_model.specs.Spelling.{AreRows, Begins, Stand, Stop, Counts, AreCo
 use Rattle.kfs_entry.specs.declared.fault.SpellFault.{SpellFault}
 use Rattle.kfs_entry.specs.declared.fault.SpellFault.TheVariants as faults
 use Rattle.kfs_entry.specs.RowList.{PartRowMissing}
-use Rattle.kfs_entry.specs.Answers.{Refused}
+use Rattle.kfs_entry.specs.Answers.{OnRefusal}
 use Rattle.kfs_entry.proofs.RowLaws.{stand_from, stop_from}
 
 -- the rows of a part that were read stand there
@@ -15,7 +15,7 @@ part_stands view F s rows count bytes rest number are = stand_from view (λ r. F
 -- a part of a plan whose row is missing: what stands before it makes the answer
 pub part_is_missing : {R V : Type 0} (view : R → V) (F : V → Type 0) (s : V → List ℕ) (source bytes : List ℕ) (c : Counts) (rows : List ℕ) (number given count : ℕ) (fault : SpellFault)
     → given ≡ count → AreCounts c → source ≡ plan_header c ++ rows → ((k : ℕ) → Stop F s count k bytes → PartStops c number k rows)
-    → PartRowMissing (λ r. F (view r)) (λ r. s (view r)) (Begins F s) given number bytes fault → Refused (PlanAnswer source) fault
+    → PartRowMissing (λ r. F (view r)) (λ r. s (view r)) (Begins F s) given number bytes fault → OnRefusal (PlanAnswer source) fault
 part_is_missing view F s source bytes c rows number given count (faults.BadRow part k) same fits front stops missing =
     let stop : Stop F s count k bytes = subst (λ (n : ℕ). Stop F s n k bytes) same (stop_from view (λ r. F (view r)) F s (λ r f. f) given k bytes missing.1) in
     (c, rows, fits, front, subst (λ (n : ℕ). PartStops c n k rows) (sym missing.0) (stops k stop))

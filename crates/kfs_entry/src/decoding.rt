@@ -4,7 +4,7 @@ ghost use Rattle.kfs_model.specs.Entry.{Log as LogValue};
 ghost use Rattle.kfs_model.specs.PlanRow.{Plan as PlanValue};
 ghost use Rattle.kfs_model.specs.Spelling.{AreRows, SpellingFault, LogAnswer, PlanAnswer};
 ghost use Rattle.kfs_entry.specs.RowList.{EntryMissing, PartRowMissing};
-ghost use Rattle.kfs_entry.specs.Answers.{Answered, log_of, plan_of, SpansAreWithin};
+ghost use Rattle.kfs_entry.specs.Answers.{OnAnswer, log_of, plan_of, SpansAreWithin};
 
 use crate::codec::headers;
 use crate::fault::SpellFault;
@@ -53,7 +53,7 @@ fn part<R: Row, A: Allocator>(
 
 /// The log that the source spells, or the place where it leaves the grammar.
 fn log_in<A: Allocator>(alloc: A, source: &[u8]) -> Result<Log<A>, SpellFault>
-    ensures found { Answered (log_of source.now) (LogAnswer source.now) result }
+    ensures found { OnAnswer (log_of source.now) (LogAnswer source.now) result }
     ensures spans { IfOk result (SpansAreWithin (length source.now)) }
 {
     let Some((header, at)) = headers::read_log(source) else {
@@ -73,9 +73,9 @@ fn log_in<A: Allocator>(alloc: A, source: &[u8]) -> Result<Log<A>, SpellFault>
 /// keeps nothing. No payload byte is touched: the entries hold spans of the source.
 pub fn decode_log<A: Allocator>(alloc: A, source: &[u8]) -> Result<Log<A>, SpellFault>
     // What is answered is so.
-    ensures found { Answered (log_of source.now) (LogAnswer source.now) result }
+    ensures found { OnAnswer (log_of source.now) (LogAnswer source.now) result }
     // What is so is answered, unless memory runs out.
-    ensures only { (answer : Result LogValue SpellingFault) → LogAnswer source.now answer → Answered (log_of source.now) (λ given. given ≡ answer) result }
+    ensures only { (answer : Result LogValue SpellingFault) → LogAnswer source.now answer → OnAnswer (log_of source.now) (λ given. given ≡ answer) result }
     ensures spans { IfOk result (SpansAreWithin (length source.now)) }
 {
     log_in(alloc, source)
@@ -83,7 +83,7 @@ pub fn decode_log<A: Allocator>(alloc: A, source: &[u8]) -> Result<Log<A>, Spell
 
 /// The plan that the source spells, or the place where it leaves the grammar.
 fn plan_in<A: Allocator + Clone>(alloc: A, source: &[u8]) -> Result<Plan<A>, SpellFault>
-    ensures { Answered plan_of (PlanAnswer source.now) result }
+    ensures { OnAnswer plan_of (PlanAnswer source.now) result }
 {
     let Some((counts, at)) = headers::read_plan(source) else {
         return Err(SpellFault::BadHeader);
@@ -107,9 +107,9 @@ fn plan_in<A: Allocator + Clone>(alloc: A, source: &[u8]) -> Result<Plan<A>, Spe
 /// keeps nothing.
 pub fn decode_plan<A: Allocator + Clone>(alloc: A, source: &[u8]) -> Result<Plan<A>, SpellFault>
     // What is answered is so.
-    ensures found { Answered plan_of (PlanAnswer source.now) result }
+    ensures found { OnAnswer plan_of (PlanAnswer source.now) result }
     // What is so is answered, unless memory runs out.
-    ensures only { (answer : Result PlanValue SpellingFault) → PlanAnswer source.now answer → Answered plan_of (λ given. given ≡ answer) result }
+    ensures only { (answer : Result PlanValue SpellingFault) → PlanAnswer source.now answer → OnAnswer plan_of (λ given. given ≡ answer) result }
 {
     plan_in(alloc, source)
 }

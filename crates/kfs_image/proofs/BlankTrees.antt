@@ -2,7 +2,7 @@
 use Rattle.std.proofs.Common.{◌≡◌, ℕ, zero, suc, Bool, true, false, cond, length, replicate, Option, Some, None, option_map, refl, sym, ap, subst, ◌∙◌}
 use Rattle.kfs_model.specs.Header.{Kind, File, Directory, Header}
 use Rattle.kfs_model.specs.Table.{numbers, empty, get, insert, mapped, same_table, same_entries_table, get-mapped}
-use Rattle.kfs_model.specs.Tree.{Tree, Node, Body, Cells, Names, headers, header_of, kind_of, size_of, cells_of}
+use Rattle.kfs_model.specs.Tree.{Tree, Node, Body, FileBody, DirectoryBody, headers, header_of, kind_of, size_of, cells_of}
 use Rattle.kfs_model.specs.Soundness.{IsSound}
 use Rattle.kfs_model.specs.Run.{byte_at}
 use Rattle.kfs_model.specs.Fresh.{fresh_tree}
@@ -22,8 +22,8 @@ module _ (t : Tree ℕ) (blank : IsBlank t) where
   blank_body number node is = by node.body (subst (λ o. cells_of o ≡ replicate (length (cells_of o)) 0) is (blank.cells number))
     where
       by : (body : Body ℕ) → cells_of (Some (record node { body = body })) ≡ replicate (length (cells_of (Some (record node { body = body })))) 0 → body_shown (kind_of body) (size_of body) ≡ body
-      by (Cells cells) zeros = ap Cells (sym zeros)
-      by Names zeros = refl
+      by (FileBody cells) zeros = ap FileBody (sym zeros)
+      by DirectoryBody zeros = refl
 
   blank_node : (number : ℕ) (found : Option (Node ℕ)) → get t.nodes number ≡ found → option_map (node_shown number) (option_map (header_of t.names number) found) ≡ found
   blank_node number None is = refl
@@ -64,7 +64,7 @@ fresh_is_blank : IsBlank (fresh_tree {B = ℕ})
 unfolding get
 fresh_is_blank = record { cells = λ number. by (eq_by_cmp numbers.compare number 1) }
   where
-    by : (root : Bool) → let found : Option (Node ℕ) = cond root (Some (record { mode = greatest_mode; uid = 0; gid = 0; body = Names })) None in cells_of found ≡ replicate (length (cells_of found)) 0
+    by : (root : Bool) → let found : Option (Node ℕ) = cond root (Some (record { mode = greatest_mode; uid = 0; gid = 0; body = DirectoryBody })) None in cells_of found ≡ replicate (length (cells_of found)) 0
     by true = refl
     by false = refl
 

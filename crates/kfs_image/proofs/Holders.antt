@@ -12,7 +12,7 @@ use Rattle.std.proofs.lemmas.List.Sums.{sum_by-cons}
 use Rattle.std.proofs.lemmas.Cmp.{ranked}
 use Rattle.std.proofs.lemmas.Bool.Decides.{nat_tests}
 use Rattle.kfs_model.specs.Table.{numbers, pairs}
-use Rattle.kfs_model.specs.Tree.{Links, directory_entries}
+use Rattle.kfs_model.specs.Tree.{NameTable, name_order}
 use Rattle.kfs_model.specs.Sight.{holder}
 use Rattle.kfs_image.specs.declared.rows.Rows.{Rows}
 use Rattle.kfs_image.specs.Slots.{shown_at, IsFrom}
@@ -59,19 +59,19 @@ counts_not true b e = ap one_if e
 counts_not false b e = refl
 
 -- entries behind one of a later directory don't stand in an earlier one
-none_behind : (e : Entry) (es : List Entry) (n d : ℕ) → d < e.0.0 → T (below_all directory_entries.compare e.0 es) → ways es n d ≡ 0
+none_behind : (e : Entry) (es : List Entry) (n d : ℕ) → d < e.0.0 → T (below_all name_order.compare e.0 es) → ways es n d ≡ 0
 none_behind e [] n d before below = refl
 none_behind e (f ∷ es) n d before below =
     let later : e.0.0 ≤ f.0.0 = not_below e.0.0 f.0.0 _ (left_part _ _ below) in
     let here : one_if ((f.1 == n) && (f.0.0 == d)) ≡ 0 = counts_not (f.1 == n) (f.0.0 == d) (apart f.0.0 d (omega arith)) in
-    let rest : ways es n d ≡ 0 = none_behind e es n d before (right_part (is_lt (directory_entries.compare e.0 f.0)) (below_all directory_entries.compare e.0 es) below) in
+    let rest : ways es n d ≡ 0 = none_behind e es n d before (right_part (is_lt (name_order.compare e.0 f.0)) (below_all name_order.compare e.0 es) below) in
     omega (arith, here, rest, ways-cons f es n d)
 
 abbrev held_by : List Entry → ℕ → Option ℕ
 held_by es number = option_map (λ (e : Entry). e.0.0) (find (λ (e : Entry). e.1 == number) es)
 
 -- the first entry that leads to the node stands in the least directory that has one
-first_holds : (es : List Entry) (n d : ℕ) → T (is_sorted directory_entries.compare es) → 0 < ways es n d → ((c : ℕ) → c < d → ways es n c ≡ 0) → held_by es n ≡ Some d
+first_holds : (es : List Entry) (n d : ℕ) → T (is_sorted name_order.compare es) → 0 < ways es n d → ((c : ℕ) → c < d → ways es n c ≡ 0) → held_by es n ≡ Some d
 first_holds [] n d sorted some least = absurd (let none : ways [] n d ≡ 0 = refl in omega arith)
 first_holds (e ∷ es) n d sorted some least = at (e.1 == n) refl (λ some least. first_holds es n d (right_part _ _ sorted) some least)
   where
@@ -110,10 +110,10 @@ no_holder (e ∷ es) n none = at (e.1 == n) refl (λ none. no_holder es n none)
         ∙ rest (λ c. let here : one_if ((e.1 == n) && (e.0.0 == c)) ≡ 0 = ap (λ b. one_if (b && (e.0.0 == c))) is in omega (arith, here, none c, ways-cons e es n c))
 
 -- the least directory with a name that leads to the node holds it
-pub least_holds : (names : Links) (n d : ℕ) → 0 < ways_count names n d → ((c : ℕ) → c < d → ways_count names n c ≡ 0) → holder names n ≡ Some d
+pub least_holds : (names : NameTable) (n d : ℕ) → 0 < ways_count names n d → ((c : ℕ) → c < d → ways_count names n c ≡ 0) → holder names n ≡ Some d
 least_holds names n d some least = first_holds names.entries n d names.sorted some least
 
-pub nothing_holds : (names : Links) (n : ℕ) → ((c : ℕ) → ways_count names n c ≡ 0) → holder names n ≡ None
+pub nothing_holds : (names : NameTable) (n : ℕ) → ((c : ℕ) → ways_count names n c ≡ 0) → holder names n ≡ None
 nothing_holds names n none = no_holder names.entries n none
 
 -- ---- by what the counts of ways show

@@ -7,7 +7,7 @@ use Rattle.std.specs.Bool.{Decides, passes}
 use Rattle.std.specs.FinMap.Entries.{find, is_sorted}
 use Rattle.kfs_model.specs.Header.{Header}
 use Rattle.kfs_model.specs.Table.{Order, Table, numbers, get, same_table}
-use Rattle.kfs_model.specs.Tree.{Tree, Links, headers, directory_entries}
+use Rattle.kfs_model.specs.Tree.{Tree, NameTable, headers, name_order}
 use Rattle.kfs_model.specs.Soundness.{IsSound}
 use Rattle.kfs_model.specs.FirstWrong.{same_option, same_header}
 use Rattle.kfs_model.specs.Plan.{AreDifferences, number_now, header_now, keyed_name, keyed_node}
@@ -77,7 +77,7 @@ keyed_name_row row = keyed_name (name_row_of row)
 abbrev keyed_node_row : NodeRow → ℕ × Option Header
 keyed_node_row row = keyed_node (node_row_of row)
 
-renamed_is : (names : Links) (rows : List NameRow) → renamed names rows ≡ put_rows directory_entries keyed_name_row led_to names rows
+renamed_is : (names : NameTable) (rows : List NameRow) → renamed names rows ≡ put_rows name_order keyed_name_row led_to names rows
 unfolding put_rows
 renamed_is names [] = refl
 renamed_is names (row ∷ rows) = renamed_is (changed names (row.dir, row.name) (led_to row.number)) rows
@@ -101,7 +101,7 @@ led_back after sound key = by (get after.names key) refl
 
 -- the rows that differ, put into contents, make the contents of the tree after
 pub net_makes : (c : Contents) (after : Tree ℕ) (names : List NameRow) (nodes : List NodeRow) → IsSound after
-    → AreDifferences directory_entries number_now (get c.names) (get after.names) (map keyed_name_row names)
+    → AreDifferences name_order number_now (get c.names) (get after.names) (map keyed_name_row names)
     → AreDifferences numbers header_now (get c.heads) (get (headers after)) (map keyed_node_row nodes)
     → after_rows c names nodes ≡ contents_in after
 net_makes c after names nodes sound names_differ nodes_differ =

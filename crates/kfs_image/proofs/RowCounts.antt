@@ -6,7 +6,7 @@ use Rattle.std.specs.Ordering.{nat_cmp, is_eq, eq_by_cmp, ordering_then}
 use Rattle.std.specs.Cmp.{unsigned_ties, eq_by_cmp_equiv, nat_cmp_total}
 use Rattle.std.specs.List.{count_by}
 use Rattle.kfs_model.specs.Table.{Order, numbers, pairs, get}
-use Rattle.kfs_model.specs.Tree.{Links, directory_entries}
+use Rattle.kfs_model.specs.Tree.{NameTable, name_order}
 use Rattle.kfs_image.specs.declared.rows.Rows.{Rows}
 use Rattle.kfs_image.specs.Slots.{shown_at, tallied, changed, table_of}
 use Rattle.kfs_image.specs.Rows.{IsIndexed, names_in, count_step, uplink_step}
@@ -40,11 +40,11 @@ module _ {K X Y : Type 0} (R : Order K) (view : X → Y) (p : K × Y → Bool) w
       omega (arith, count-table_of slots, count-changed p (table_of R view slots) slot.0 (option_map view slot.1), one_or_none slot.0 (option_map view slot.1))
 
 -- a name's step of a directory's count is its count there
-count_step-counted : (d : ℕ) (m : List ℕ) (w : Option ℕ) (q : ℕ) → count_step d w q ≡ counted directory_entries (λ (e : (ℕ × List ℕ) × ℕ). e.0.0 == q) (d, m) w
+count_step-counted : (d : ℕ) (m : List ℕ) (w : Option ℕ) (q : ℕ) → count_step d w q ≡ counted name_order (λ (e : (ℕ × List ℕ) × ℕ). e.0.0 == q) (d, m) w
 count_step-counted d m None q = refl
 count_step-counted d m (Some n) q = ap (λ b. cond b 1 0) (sym (turned d q))
 
-uplink_step-counted : (d : ℕ) (m : List ℕ) (w : Option ℕ) (n q : ℕ) → uplink_step d w (n, q) ≡ counted directory_entries (λ (e : (ℕ × List ℕ) × ℕ). (e.1 == n) && (e.0.0 == q)) (d, m) w
+uplink_step-counted : (d : ℕ) (m : List ℕ) (w : Option ℕ) (n q : ℕ) → uplink_step d w (n, q) ≡ counted name_order (λ (e : (ℕ × List ℕ) × ℕ). (e.1 == n) && (e.0.0 == q)) (d, m) w
 uplink_step-counted d m None n q = refl
 uplink_step-counted d m (Some v) n q = ap (λ b. cond b 1 0) (sym (turned_pair v n d q))
 
@@ -52,12 +52,12 @@ itself : (n : ℕ) → (n == n) ≡ true
 itself n = unsigned_ties n n ∙ (eq_by_cmp_equiv nat_cmp_total).refl n
 
 -- names stay names where one of them comes to lead elsewhere
-still_names : (names : Links) (d : ℕ) (m : List ℕ) (w : Option ℕ) → ((key : ℕ × List ℕ) (n : ℕ) → get names key ≡ Some n → IsName key.1) → IsName m
+still_names : (names : NameTable) (d : ℕ) (m : List ℕ) (w : Option ℕ) → ((key : ℕ × List ℕ) (n : ℕ) → get names key ≡ Some n → IsName key.1) → IsName m
     → (key : ℕ × List ℕ) (n : ℕ) → get (changed names (d, m) w) key ≡ Some n → IsName key.1
-still_names names d m w all name key n found = at (directory_entries.compare key (d, m)) refl
+still_names names d m w all name key n found = at (name_order.compare key (d, m)) refl
   where
-    at : (o : Ordering) → directory_entries.compare key (d, m) ≡ o → IsName key.1
-    at Equal tied = subst (λ (k : ℕ × List ℕ). IsName k.1) (sym (directory_entries.exact key (d, m) tied)) name
+    at : (o : Ordering) → name_order.compare key (d, m) ≡ o → IsName key.1
+    at Equal tied = subst (λ (k : ℕ × List ℕ). IsName k.1) (sym (name_order.exact key (d, m) tied)) name
     at Less apart = all key n (sym (get-changed names (d, m) w key ∙ ap (λ o. cond (is_eq o) w (get names key)) apart) ∙ found)
     at Greater apart = all key n (sym (get-changed names (d, m) w key ∙ ap (λ o. cond (is_eq o) w (get names key)) apart) ∙ found)
 
@@ -68,8 +68,8 @@ module _ {A : Type 0} where
   counted_name rows indexed d m n found =
       let p : (ℕ × List ℕ) × ℕ → Bool = λ e. e.0.0 == d in
       let w : (ℕ × List ℕ) × ℕ → Bool = λ e. (e.1 == n) && (e.0.0 == d) in
-      let there : counted directory_entries p (d, m) (get (names_in rows) (d, m)) ≡ 1 = ap (counted directory_entries p (d, m)) found ∙ ap (λ b. cond b 1 0) (itself d) in
-      let here : counted directory_entries w (d, m) (get (names_in rows) (d, m)) ≡ 1 = ap (counted directory_entries w (d, m)) found ∙ ap (λ b. cond (b && (d == d)) 1 0) (itself n) ∙ ap (λ b. cond b 1 0) (itself d) in
+      let there : counted name_order p (d, m) (get (names_in rows) (d, m)) ≡ 1 = ap (counted name_order p (d, m)) found ∙ ap (λ b. cond b 1 0) (itself d) in
+      let here : counted name_order w (d, m) (get (names_in rows) (d, m)) ≡ 1 = ap (counted name_order w (d, m)) found ∙ ap (λ b. cond (b && (d == d)) 1 0) (itself n) ∙ ap (λ b. cond b 1 0) (itself d) in
       let counts = indexed.counts d in
       let uplinks = indexed.uplinks n d in
       let in_dir = count-changed p (names_in rows) (d, m) None in

@@ -4,11 +4,11 @@ use Rattle.std.specs.Prelude.{unwrap_or}
 use Rattle.std.specs.Ordering.{nat_cmp, eq_by_cmp}
 use Rattle.std.specs.BTreeMap.{BTreeMap}
 use Rattle.kfs_model.specs.Table.{numbers, get, same_table}
-use Rattle.kfs_model.specs.Tree.{directory_entries}
+use Rattle.kfs_model.specs.Tree.{name_order}
 use Rattle.kfs_value.specs.declared.header.Header.{Header as CodeHeader}
 use Rattle.kfs_image.specs.declared.rows.Rows.{Rows}
 use Rattle.kfs_image.specs.Slots.{shown_at, changed}
-use Rattle.kfs_image.specs.Rows.{IsIndexed, ShowsSame, KeepsSlots, HasSlots, heads_of, names_of, heads_in, names_in}
+use Rattle.kfs_image.specs.Rows.{IsIndexed, ShowsSame, KeepsSlots, HasSlots, heads_shown, names_shown, heads_in, names_in}
 use Rattle.kfs_value.specs.Views.{header_of}
 use Rattle.kfs_image.proofs.SlotTables.{get-table_of, get-changed}
 
@@ -16,29 +16,29 @@ same_option : (o : Option ℕ) → option_map (λ number. number) o ≡ o
 same_option None = refl
 same_option (Some n) = refl
 
-pub get-names_of : (slots : BTreeMap (ℕ × List ℕ) (Option ℕ)) (q : ℕ × List ℕ) → get (names_of slots) q ≡ shown_at directory_entries.compare slots q
-get-names_of slots q = get-table_of directory_entries (λ number. number) slots.entries q ∙ same_option _
+pub get-names_of : (slots : BTreeMap (ℕ × List ℕ) (Option ℕ)) (q : ℕ × List ℕ) → get (names_shown slots) q ≡ shown_at name_order.compare slots q
+get-names_of slots q = get-table_of name_order (λ number. number) slots.entries q ∙ same_option _
 
-pub get-heads_of : (slots : BTreeMap ℕ (Option CodeHeader)) (q : ℕ) → get (heads_of slots) q ≡ option_map header_of (shown_at nat_cmp slots q)
+pub get-heads_of : (slots : BTreeMap ℕ (Option CodeHeader)) (q : ℕ) → get (heads_shown slots) q ≡ option_map header_of (shown_at nat_cmp slots q)
 get-heads_of slots q = get-table_of numbers header_of slots.entries q
 
 pub names_changed : (old new : BTreeMap (ℕ × List ℕ) (Option ℕ)) (key : ℕ × List ℕ) (w : Option ℕ)
-    → ((q : ℕ × List ℕ) → shown_at directory_entries.compare new q ≡ cond (eq_by_cmp directory_entries.compare q key) w (shown_at directory_entries.compare old q))
-    → names_of new ≡ changed (names_of old) key w
+    → ((q : ℕ × List ℕ) → shown_at name_order.compare new q ≡ cond (eq_by_cmp name_order.compare q key) w (shown_at name_order.compare old q))
+    → names_shown new ≡ changed (names_shown old) key w
 names_changed old new key w shown =
     same_table _ _ (λ q.
-    get-names_of new q ∙ shown q ∙ ap (cond (eq_by_cmp directory_entries.compare q key) w) (sym (get-names_of old q)) ∙ sym (get-changed (names_of old) key w q))
+    get-names_of new q ∙ shown q ∙ ap (cond (eq_by_cmp name_order.compare q key) w) (sym (get-names_of old q)) ∙ sym (get-changed (names_shown old) key w q))
 
 viewed : (b : Bool) (w o : Option CodeHeader) → option_map header_of (cond b w o) ≡ cond b (option_map header_of w) (option_map header_of o)
 viewed true w o = refl
 viewed false w o = refl
 
 pub heads_changed : (old new : BTreeMap ℕ (Option CodeHeader)) (key : ℕ) (w : Option CodeHeader)
-    → ((q : ℕ) → shown_at nat_cmp new q ≡ cond (eq_by_cmp nat_cmp q key) w (shown_at nat_cmp old q)) → heads_of new ≡ changed (heads_of old) key (option_map header_of w)
+    → ((q : ℕ) → shown_at nat_cmp new q ≡ cond (eq_by_cmp nat_cmp q key) w (shown_at nat_cmp old q)) → heads_shown new ≡ changed (heads_shown old) key (option_map header_of w)
 heads_changed old new key w shown =
     same_table _ _ (λ q.
     get-heads_of new q ∙ ap (option_map header_of) (shown q) ∙ viewed (eq_by_cmp nat_cmp q key) w (shown_at nat_cmp old q)
-    ∙ ap (cond (eq_by_cmp nat_cmp q key) (option_map header_of w)) (sym (get-heads_of old q)) ∙ sym (get-changed (heads_of old) key (option_map header_of w) q))
+    ∙ ap (cond (eq_by_cmp nat_cmp q key) (option_map header_of w)) (sym (get-heads_of old q)) ∙ sym (get-changed (heads_shown old) key (option_map header_of w) q))
 
 module _ {A : Type 0} where
   pub keeps_all : (a b c : Rows A) → KeepsSlots a b → KeepsSlots b c → KeepsSlots a c

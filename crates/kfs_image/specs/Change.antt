@@ -5,16 +5,16 @@ use Rattle.kfs_value.specs.declared.plan.NodeRow.{NodeRow}
 use Rattle.kfs_value.specs.Views.{header_of}
 use Rattle.kfs_model.specs.Header.{Header}
 use Rattle.kfs_model.specs.Table.{Table, numbers}
-use Rattle.kfs_model.specs.Tree.{Links}
+use Rattle.kfs_model.specs.Tree.{NameTable}
 use Rattle.kfs_image.specs.Slots.{changed}
-use Rattle.kfs_image.specs.Contents.{Contents, Shown}
+use Rattle.kfs_image.specs.Contents.{Contents, ImageShown}
 
 -- a row's number, where 0 stands for none
 abbrev pub led_to : ℕ → Option ℕ
 led_to number = if number == 0 then None else Some number
 
 -- the names after the rows, one after the other
-abbrev pub renamed : Links → List NameRow → Links
+abbrev pub renamed : NameTable → List NameRow → NameTable
 renamed names [] = names
 renamed names (row ∷ rows) = renamed (changed names (row.dir, row.name) (led_to row.number)) rows
 
@@ -27,5 +27,5 @@ abbrev pub after_rows : Contents → List NameRow → List NodeRow → Contents
 after_rows c names nodes = record { heads = reheaded c.heads nodes; names = renamed c.names names }
 
 -- what a net makes of an image
-abbrev pub after_net : Shown → List NameRow → List NodeRow → Shown
+abbrev pub after_net : ImageShown → List NameRow → List NodeRow → ImageShown
 after_net image names nodes = record image { contents = after_rows image.contents names nodes }

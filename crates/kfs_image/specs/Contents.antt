@@ -2,7 +2,7 @@
 use Rattle.std.specs.Prelude.{ℕ, pos}
 use Rattle.kfs_model.specs.Header.{Header}
 use Rattle.kfs_model.specs.Table.{Table, numbers, get}
-use Rattle.kfs_model.specs.Tree.{Tree, Links, headers, target, entry_count}
+use Rattle.kfs_model.specs.Tree.{Tree, NameTable, headers, target, entry_count}
 use Rattle.kfs_model.specs.Fresh.{fresh_tree}
 use Rattle.kfs_model.specs.Sight.{Sight, parent_in}
 use Rattle.kfs_model.specs.Placement.{TierSizes}
@@ -10,7 +10,7 @@ use Rattle.kfs_model.specs.Placement.{TierSizes}
 -- the nodes and names of a tree, without its bytes
 pub record Contents : Type 0 where
   pub heads : Table numbers Header
-  pub names : Links
+  pub names : NameTable
 
 -- what the cells show
 abbrev pub sight_of : Contents → Sight
@@ -30,6 +30,6 @@ abbrev pub root_alone : Contents
 root_alone = contents_in (fresh_tree {B = ℕ})
 
 -- what an image shows
-pub record Shown : Type 0 where
+pub record ImageShown : Type 0 where
   pub contents : Contents
   pub sizes : TierSizes

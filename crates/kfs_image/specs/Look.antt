@@ -6,7 +6,7 @@ use Rattle.std.specs.Cmp.Lexicographic.{slice_cmp}
 use Rattle.std.specs.Borrow.{Bor}
 use Rattle.kfs_value.specs.Views.{header_of}
 use Rattle.kfs_model.specs.Table.{get}
-use Rattle.kfs_model.specs.Tree.{Links, target, entry_count}
+use Rattle.kfs_model.specs.Tree.{NameTable, target, entry_count}
 use Rattle.kfs_model.specs.Sight.{parent_in}
 use Rattle.kfs_image.specs.declared.cell.Cell.{Cell}
 use Rattle.kfs_image.specs.declared.cell.Cell.TheVariants as cells
@@ -51,7 +51,7 @@ IsAfter None name = Unit {0}
 IsAfter (Some before) name = slice_cmp nat_cmp before.now name ≡ Less
 
 -- the name is the least in the directory of those that come after, and it leads to the number
-pub record IsNext (names : Links) (directory : ℕ) (after : Option (Bor (List ℕ))) (name : List ℕ) (number : ℕ) : Type 0 where
+pub record IsNext (names : NameTable) (directory : ℕ) (after : Option (Bor (List ℕ))) (name : List ℕ) (number : ℕ) : Type 0 where
   pub leads : target names directory name ≡ Some number
   pub later : IsAfter after name
   pub least : (m : List ℕ) (n : ℕ) → target names directory m ≡ Some n → IsAfter after m → is_lt (slice_cmp nat_cmp m name) ≡ false

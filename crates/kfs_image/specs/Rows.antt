@@ -7,13 +7,13 @@ use Rattle.kfs_value.specs.declared.header.Header.{Header as CodeHeader}
 use Rattle.kfs_model.specs.Header.{Header}
 use Rattle.kfs_model.specs.Table.{Order, Table, numbers, pairs, get}
 use Rattle.kfs_model.specs.Spelling.{IsName}
-use Rattle.kfs_model.specs.Tree.{Links, directory_entries, entry_count}
+use Rattle.kfs_model.specs.Tree.{NameTable, name_order, entry_count}
 use Rattle.kfs_image.specs.declared.rows.Rows.{Rows}
 use Rattle.kfs_image.specs.Slots.{table_of, shown_at, tallied}
 use Rattle.kfs_value.specs.Views.{header_of}
 
 -- how many names of a directory lead to a node
-abbrev pub ways_count : Links → (number directory : ℕ) → ℕ
+abbrev pub ways_count : NameTable → (number directory : ℕ) → ℕ
 ways_count names number directory = count_by (λ e. (e.1 == number) && (e.0.0 == directory)) names.entries
 
 -- what a directory's count gains where a name of it comes to lead to the number
@@ -31,19 +31,19 @@ abbrev pub by_node : Order (ℕ × ℕ)
 by_node = pairs numbers numbers
 
 -- the headers that the slots show
-abbrev pub heads_of : BTreeMap ℕ (Option CodeHeader) → Table numbers Header
-heads_of slots = table_of numbers header_of slots.entries
+abbrev pub heads_shown : BTreeMap ℕ (Option CodeHeader) → Table numbers Header
+heads_shown slots = table_of numbers header_of slots.entries
 
 -- the names that the slots show
-abbrev pub names_of : BTreeMap (ℕ × List ℕ) (Option ℕ) → Links
-names_of slots = table_of directory_entries (λ number. number) slots.entries
+abbrev pub names_shown : BTreeMap (ℕ × List ℕ) (Option ℕ) → NameTable
+names_shown slots = table_of name_order (λ number. number) slots.entries
 
 module _ {A : Type 0} where
   abbrev pub heads_in : Rows A → Table numbers Header
-  heads_in rows = heads_of rows.headers
+  heads_in rows = heads_shown rows.headers
 
-  abbrev pub names_in : Rows A → Links
-  names_in rows = names_of rows.names
+  abbrev pub names_in : Rows A → NameTable
+  names_in rows = names_shown rows.names
 
   -- how often a name of the directory was counted
   abbrev pub names_counted : Rows A → (directory : ℕ) → ℕ
@@ -67,14 +67,14 @@ module _ {A : Type 0} where
   -- each map shows the same
   pub record ShowsSame (old new : Rows A) : Type 0 where
     pub headers : (q : ℕ) → shown_at nat_cmp new.headers q ≡ shown_at nat_cmp old.headers q
-    pub names : (q : ℕ × List ℕ) → shown_at directory_entries.compare new.names q ≡ shown_at directory_entries.compare old.names q
+    pub names : (q : ℕ × List ℕ) → shown_at name_order.compare new.names q ≡ shown_at name_order.compare old.names q
     pub counts : (q : ℕ) → shown_at nat_cmp new.counts q ≡ shown_at nat_cmp old.counts q
     pub uplinks : (q : ℕ × ℕ) → shown_at by_node.compare new.uplinks q ≡ shown_at by_node.compare old.uplinks q
 
   -- no slot goes
   pub record KeepsSlots (old new : Rows A) : Type 0 where
     pub headers : (q : ℕ) → IsSome (slots_of.get nat_cmp old.headers q) → IsSome (slots_of.get nat_cmp new.headers q)
-    pub names : (q : ℕ × List ℕ) → IsSome (slots_of.get directory_entries.compare old.names q) → IsSome (slots_of.get directory_entries.compare new.names q)
+    pub names : (q : ℕ × List ℕ) → IsSome (slots_of.get name_order.compare old.names q) → IsSome (slots_of.get name_order.compare new.names q)
     pub counts : (q : ℕ) → IsSome (slots_of.get nat_cmp old.counts q) → IsSome (slots_of.get nat_cmp new.counts q)
     pub uplinks : (q : ℕ × ℕ) → IsSome (slots_of.get by_node.compare old.uplinks q) → IsSome (slots_of.get by_node.compare new.uplinks q)
 
@@ -84,6 +84,6 @@ module _ {A : Type 0} where
 
   -- there are slots for what a name comes to lead to
   pub record HasSlots (rows : Rows A) (directory : ℕ) (name : List ℕ) (number : ℕ) : Type 0 where
-    pub names : IsSome (slots_of.get directory_entries.compare rows.names (directory, name))
+    pub names : IsSome (slots_of.get name_order.compare rows.names (directory, name))
     pub counts : IsSome (slots_of.get nat_cmp rows.counts directory)
     pub uplinks : IsSome (slots_of.get by_node.compare rows.uplinks (number, directory))

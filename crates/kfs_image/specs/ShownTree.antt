@@ -2,14 +2,14 @@
 use Rattle.std.specs.Prelude.{◌≡◌, ℕ, replicate}
 use Rattle.kfs_model.specs.Header.{Kind, File, Directory, Header}
 use Rattle.kfs_model.specs.Table.{mapped}
-use Rattle.kfs_model.specs.Tree.{Tree, Node, Body, Cells, Names, headers}
+use Rattle.kfs_model.specs.Tree.{Tree, Node, Body, FileBody, DirectoryBody, headers}
 use Rattle.kfs_model.specs.Soundness.{IsSound}
 use Rattle.kfs_image.specs.Contents.{Contents}
 
 -- a file's zero bytes, as many as its size says
 abbrev pub body_shown : Kind → (size : ℕ) → Body ℕ
-body_shown File size = Cells (replicate size 0)
-body_shown Directory size = Names
+body_shown File size = FileBody (replicate size 0)
+body_shown Directory size = DirectoryBody
 
 abbrev pub node_shown : ℕ → Header → Node ℕ
 node_shown number h = record { mode = h.mode; uid = h.uid; gid = h.gid; body = body_shown h.kind h.size }

@@ -23,10 +23,10 @@ pub struct Image<A: Allocator> {
 }
 
 impl<A: Allocator> Model for Image<A> {
-    ghost use Rattle.kfs_image.specs.Contents.{Shown};
+    ghost use Rattle.kfs_image.specs.Contents.{ImageShown};
     ghost use Rattle.kfs_image.specs.ShownTree.{IsLawful};
 
-    ghost Value = { Shown };
+    ghost Value = { ImageShown };
 
     ghost view = { λ i. record { contents = i.shape.value; sizes = i.sizes } };
 

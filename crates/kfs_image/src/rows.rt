@@ -3,10 +3,10 @@ ghost use Rattle.std.specs.Prelude.{◌≡◌, ℕ, ◌+◌, ◌<◌, ◌≤◌,
 ghost use Rattle.std.specs.Ordering.{nat_cmp};
 ghost use Rattle.std.specs.BTreeMap as slots_of;
 ghost use Rattle.kfs_model.specs.Table.{get, pairs, numbers, empty};
-ghost use Rattle.kfs_model.specs.Tree.{entry_count, directory_entries, target};
+ghost use Rattle.kfs_model.specs.Tree.{entry_count, name_order, target};
 ghost use Rattle.kfs_model.specs.Sight.{holder};
 ghost use Rattle.kfs_image.specs.Look.{IsAfter, IsNext};
-ghost use Rattle.kfs_image.specs.Rows.{heads_of, heads_in, names_in, count_step, uplink_step, names_counted, ways_counted, AreCounted, HasCounts, IsIndexed, ShowsSame, KeepsSlots, HasSlots};
+ghost use Rattle.kfs_image.specs.Rows.{heads_shown, heads_in, names_in, count_step, uplink_step, names_counted, ways_counted, AreCounted, HasCounts, IsIndexed, ShowsSame, KeepsSlots, HasSlots};
 ghost use Rattle.kfs_model.specs.Spelling.{IsName};
 ghost use Rattle.kfs_image.specs.Change.{led_to, renamed, reheaded};
 ghost use Rattle.kfs_image.specs.Slots.{shown_at, tallied, changed, IsFrom};
@@ -81,9 +81,9 @@ impl<A: Allocator> Rows<A> {
 
 /// Where the names of a directory begin that come after a name, or all of them.
 fn start_after(dir: u32, after: Option<&Name>) -> Bound<(u32, Name)>
-    ensures within { (m : List ℕ) → IsName m → IsAfter after.entry m → IsFrom directory_entries.compare result (dir, m) }
-    ensures later { (m : List ℕ) → IsFrom directory_entries.compare result (dir, m) → IsAfter after.entry m }
-    ensures directory { (key : ℕ × List ℕ) → IsFrom directory_entries.compare result key → dir ≤ key.0 }
+    ensures within { (m : List ℕ) → IsName m → IsAfter after.entry m → IsFrom name_order.compare result (dir, m) }
+    ensures later { (m : List ℕ) → IsFrom name_order.compare result (dir, m) → IsAfter after.entry m }
+    ensures directory { (key : ℕ × List ℕ) → IsFrom name_order.compare result key → dir ≤ key.0 }
 {
     match after {
         Some(name) => Bound::Excluded(name_key(dir, name)),
@@ -158,7 +158,7 @@ impl<A: Allocator> Rows<A> {
     fn set_name(&mut self, key: &(u32, Name), to: Option<u32>)
         requires indexed { IsIndexed self.old }
         requires name { IsName key.now.1 }
-        requires slot { IsSome (slots_of.get directory_entries.compare self.old.names key.now) }
+        requires slot { IsSome (slots_of.get name_order.compare self.old.names key.now) }
         requires slots { (n : ℕ) → to ≡ Some n → HasSlots self.old key.now.0 key.now.1 n }
         ensures indexed { IsIndexed self.new }
         ensures kept { KeepsSlots self.old self.new }
@@ -325,7 +325,7 @@ impl<A: Allocator + Clone> Rows<A> {
 /// Makes the changes of node rows. Each has a slot.
 fn set_headers<A: Allocator>(headers: &mut BTreeMap<u32, Option<Header>, A>, nodes: &[NodeRow])
     requires { All (λ row. IsSome (slots_of.get nat_cmp headers.old row.number)) nodes.now }
-    ensures { heads_of headers.new ≡ reheaded (heads_of headers.old) nodes.now }
+    ensures { heads_shown headers.new ≡ reheaded (heads_shown headers.old) nodes.now }
 {
     for row in nodes {
         set_header(headers, row.number, row.now);
@@ -340,7 +340,7 @@ fn set_header<A: Allocator>(
 )
     requires { IsSome (slots_of.get nat_cmp headers.old number) }
     ensures kept { (q : ℕ) → IsSome (slots_of.get nat_cmp headers.old q) → IsSome (slots_of.get nat_cmp headers.new q) }
-    ensures header { heads_of headers.new ≡ changed (heads_of headers.old) number (option_map header_of now) }
+    ensures header { heads_shown headers.new ≡ changed (heads_shown headers.old) number (option_map header_of now) }
 {
     slots::set(headers, &number, now);
 }

@@ -23,7 +23,7 @@ use Rattle.kfs_value.specs.Views.{header_of}
 use Rattle.kfs_value.specs.declared.header.Header.{Header as CodeHeader}
 use Rattle.kfs_value.specs.declared.plan.NameRow.{NameRow as CodeNameRow}
 use Rattle.kfs_value.specs.declared.plan.NodeRow.{NodeRow as CodeNodeRow}
-use Rattle.kfs_model.specs.Tree.{directory_entries}
+use Rattle.kfs_model.specs.Tree.{name_order}
 use Rattle.kfs_model.specs.Sight.{Sight}
 use Rattle.std.specs.Option.{option_map}
 
@@ -182,12 +182,12 @@ module _ {K X : Type 0} (R : Order K) where
 -- ---- what a draft's maps show
 
 module _ {A : Type 0} (draft : Draft A) (s : Sight) where
-  pub names-differ : IsStrictlySortedBy directory_entries.compare (map (λ e. e.0) draft.names.entries) → (rows : List CodeNameRow) → map keyed_name_row rows ≡ changed_rows nat_eq number_now (λ key. s.name key.0 key.1) draft.names.entries → AreNamesOf s (over draft s) rows
+  pub names-differ : IsStrictlySortedBy name_order.compare (map (λ e. e.0) draft.names.entries) → (rows : List CodeNameRow) → map keyed_name_row rows ≡ changed_rows nat_eq number_now (λ key. s.name key.0 key.1) draft.names.entries → AreNamesOf s (over draft s) rows
   names-differ ordered rows is =
-      let differ = changed-differences nat_eq numbers-exact number_now (λ key. s.name key.0 key.1) directory_entries draft.names.entries (sorted-entries directory_entries draft.names.entries ordered) in
-      let shown : (key : ℕ × List ℕ) → unwrap_or (find directory_entries.compare key draft.names.entries) (s.name key.0 key.1) ≡ (over draft s).name key.0 key.1 = λ key. ap (λ f. unwrap_or f (s.name key.0 key.1)) (sym (find-lookup directory_entries key draft.names.entries)) in
-      subst (λ rs. AreDifferences directory_entries number_now (λ key. s.name key.0 key.1) (λ key. (over draft s).name key.0 key.1) rs) (sym is)
-      (subst (λ after. AreDifferences directory_entries number_now (λ key. s.name key.0 key.1) after (changed_rows nat_eq number_now (λ key. s.name key.0 key.1) draft.names.entries)) (λ i key. shown key i) differ)
+      let differ = changed-differences nat_eq numbers-exact number_now (λ key. s.name key.0 key.1) name_order draft.names.entries (sorted-entries name_order draft.names.entries ordered) in
+      let shown : (key : ℕ × List ℕ) → unwrap_or (find name_order.compare key draft.names.entries) (s.name key.0 key.1) ≡ (over draft s).name key.0 key.1 = λ key. ap (λ f. unwrap_or f (s.name key.0 key.1)) (sym (find-lookup name_order key draft.names.entries)) in
+      subst (λ rs. AreDifferences name_order number_now (λ key. s.name key.0 key.1) (λ key. (over draft s).name key.0 key.1) rs) (sym is)
+      (subst (λ after. AreDifferences name_order number_now (λ key. s.name key.0 key.1) after (changed_rows nat_eq number_now (λ key. s.name key.0 key.1) draft.names.entries)) (λ i key. shown key i) differ)
 
   keys-shown_heads : (es : List (ℕ × Option CodeHeader)) → map (λ e. e.0) (shown_heads es) ≡ map (λ e. e.0) es
   keys-shown_heads [] = refl

@@ -8,11 +8,11 @@ use Rattle.kfs_model.specs.Header.{Kind, File, Directory}
 use Rattle.kfs_model.specs.Access.{Client}
 use Rattle.kfs_model.specs.Entry.{Entry, Create, Write, Truncate, Link, Unlink, Rename, Chmod}
 use Rattle.kfs_model.specs.Table.{numbers, get, insert, remove, get-insert, get-retain, get-mapped}
-use Rattle.kfs_model.specs.Tree.{Tree, Node, Body, Cells, Names, Links, headers, cells_of, is_named}
+use Rattle.kfs_model.specs.Tree.{Tree, Node, Body, FileBody, DirectoryBody, NameTable, headers, cells_of, is_named}
 use Rattle.kfs_model.specs.Sight.{sight, ClientSight}
 use Rattle.kfs_model.specs.Check.{Reason, first_fault}
 use Rattle.kfs_model.specs.Effect.{effect, change_of, swept, new_body, with_names, moved_name}
-use Rattle.kfs_model.specs.Run.{Mark, Base, EntryFault, run, run_from, bytes, marks, marked, created_by, places_from, base_marks, mapped_body, byte_of, looked_up, entry_context}
+use Rattle.kfs_model.specs.Run.{Mark, Base, EntryFault, run, run_from, over_bytes, over_marks, marked, created_by, places_from, base_marks, mapped_body, byte_of, looked_up, entry_context}
 use Rattle.kfs_model.specs.Plan.{is_base}
 use Rattle.kfs_model.proofs.Cells.{recut, headers-recut}
 use Rattle.kfs_model.proofs.Marks.{marks_give_bytes}
@@ -32,8 +32,8 @@ abbrev marked_node : ℕ → Node ℕ → Node Mark
 marked_node n node = record { mode = node.mode; uid = node.uid; gid = node.gid; body = mapped_body (base_marks n 0) node.body }
 
 base_body : (n mode uid gid : ℕ) (body : Body ℕ) → list_all is_base (cells_of (Some (marked_node n (record { mode = mode; uid = uid; gid = gid; body = body })))) ≡ true
-base_body n mode uid gid (Cells cells) = base_places n 0 cells
-base_body n mode uid gid Names = refl
+base_body n mode uid gid (FileBody cells) = base_places n 0 cells
+base_body n mode uid gid DirectoryBody = refl
 
 base_node : (n : ℕ) (found : Option (Node ℕ)) → list_all is_base (cells_of (option_map (marked_node n) found)) ≡ true
 base_node n None = refl
@@ -55,7 +55,7 @@ swept-untouched t untouched =
     by q false = refl
 
 abbrev new_node : Client → Kind → (mode : ℕ) → Node Mark
-new_node client kind mode = record { mode = mode; uid = client.uid; gid = client.gid; body = new_body marks kind }
+new_node client kind mode = record { mode = mode; uid = client.uid; gid = client.gid; body = new_body over_marks kind }
 
 base_new : (client : Client) (kind : Kind) (mode : ℕ) → list_all is_base (cells_of (Some (new_node client kind mode))) ≡ true
 base_new client File mode = refl
@@ -66,7 +66,7 @@ module _ (client : Client) (index d : ℕ) (m : List ℕ) (n : ℕ) (kind : Kind
   base_after q true = base_new client kind mode
   base_after q false = untouched.cells q
 
-  create-untouched : IsUntouched (effect marks client index (Create d m n kind mode) t)
+  create-untouched : IsUntouched (effect over_marks client index (Create d m n kind mode) t)
   unfolding change_of
   create-untouched = swept-untouched _ (record {
     cells = λ q. ap (λ o. list_all is_base (cells_of o)) (get-insert t.nodes n (new_node client kind mode) q) ∙ base_after q (eq_by_cmp numbers.compare q n);
@@ -78,8 +78,8 @@ module _ (client : Client) (index n mode : ℕ) (t : Tree Mark) (untouched : IsU
   base_same node all = by node.body all
     where
       by : (body : Body Mark) → list_all is_base (cells_of (Some (record node { body = body }))) ≡ true → list_all is_base (cells_of (Some (record node { mode = mode; body = body }))) ≡ true
-      by (Cells cells) all' = all'
-      by Names all' = refl
+      by (FileBody cells) all' = all'
+      by DirectoryBody all' = refl
 
   changed-untouched : (found : Option (Node Mark)) → get t.nodes n ≡ found → IsUntouched (elim found as (λ _. Tree Mark) [ None ↦ t | Some node ↦ record { nodes = insert t.nodes n (record node { mode = mode }); names = t.names } ])
   changed-untouched None is = untouched
@@ -91,15 +91,15 @@ module _ (client : Client) (index n mode : ℕ) (t : Tree Mark) (untouched : IsU
       by q true here = here
       by q false here = untouched.cells q
 
-  chmod-untouched : IsUntouched (effect marks client index (Chmod n mode) t)
+  chmod-untouched : IsUntouched (effect over_marks client index (Chmod n mode) t)
   unfolding change_of
   chmod-untouched = swept-untouched _ (changed-untouched (get t.nodes n) refl)
 
 -- other names, the same nodes
-names-untouched : (t : Tree Mark) (names : Links) → IsUntouched t → IsUntouched (swept (with_names names t))
+names-untouched : (t : Tree Mark) (names : NameTable) → IsUntouched t → IsUntouched (swept (with_names names t))
 names-untouched t names untouched = swept-untouched (with_names names t) (record { cells = untouched.cells })
 
-entry-untouched : (client : Client) (index : ℕ) (entry : Entry) (t : Tree Mark) → is_judged entry ≡ true → IsUntouched t → IsUntouched (effect marks client index entry t)
+entry-untouched : (client : Client) (index : ℕ) (entry : Entry) (t : Tree Mark) → is_judged entry ≡ true → IsUntouched t → IsUntouched (effect over_marks client index entry t)
 unfolding change_of
 entry-untouched client index (Create d m n kind mode) t is untouched = create-untouched client index d m n kind mode t untouched
 entry-untouched client index (Write n offset payload) t is untouched = cc
@@ -111,15 +111,15 @@ entry-untouched client index (Chmod n mode) t is untouched = chmod-untouched cli
 
 -- ---- a run
 
-run-untouched : (client : Client) (before : ClientSight) (index : ℕ) (created : List ℕ) (t : Tree Mark) (entries : List Entry) → list_all is_judged entries ≡ true → IsUntouched t → (after : Tree Mark) → run_from marks client before index created t entries ≡ Ok after → IsUntouched after
+run-untouched : (client : Client) (before : ClientSight) (index : ℕ) (created : List ℕ) (t : Tree Mark) (entries : List Entry) → list_all is_judged entries ≡ true → IsUntouched t → (after : Tree Mark) → run_from over_marks client before index created t entries ≡ Ok after → IsUntouched after
 unfolding run_from
 run-untouched client before index created t [] are untouched after ran = let same : t ≡ after = cc in subst IsUntouched same untouched
 run-untouched client before index created t (entry ∷ entries) are untouched after ran =
     let (is, rest) = and_parts _ _ are in
-    by_fault (run-untouched client before (index + 1) (created_by entry created) (effect marks client index entry t) entries rest (entry-untouched client index entry t is untouched) after) (first_fault (entry_context client before (sight t) created) entry) ran
+    by_fault (run-untouched client before (index + 1) (created_by entry created) (effect over_marks client index entry t) entries rest (entry-untouched client index entry t is untouched) after) (first_fault (entry_context client before (sight t) created) entry) ran
   where
-    by_fault : (run_from marks client before (index + 1) (created_by entry created) (effect marks client index entry t) entries ≡ Ok after → IsUntouched after) → (found : Option Reason)
-        → ◌≡◌ {A = Result (Tree Mark) EntryFault} (elim found [ None ↦ run_from marks client before (index + 1) (created_by entry created) (effect marks client index entry t) entries | Some reason ↦ Err (record { entry = index; reason = reason }) ]) (Ok after)
+    by_fault : (run_from over_marks client before (index + 1) (created_by entry created) (effect over_marks client index entry t) entries ≡ Ok after → IsUntouched after) → (found : Option Reason)
+        → ◌≡◌ {A = Result (Tree Mark) EntryFault} (elim found [ None ↦ run_from over_marks client before (index + 1) (created_by entry created) (effect over_marks client index entry t) entries | Some reason ↦ Err (record { entry = index; reason = reason }) ]) (Ok after)
         → IsUntouched after
     by_fault later None ran' = later ran'
     by_fault later (Some reason) ran' = cc
@@ -127,7 +127,7 @@ run-untouched client before index created t (entry ∷ entries) are untouched af
 -- the run over marks ends beside the run over bytes: the same names and headers, and no byte touched
 pub record EndsBeside (client : Client) (before : ClientSight) (tree : Tree ℕ) (entries : List Entry) (after : Tree ℕ) : Type 0 where
   pub marked_after : Tree Mark
-  pub ran : run marks client before (marked tree) entries ≡ Ok marked_after
+  pub ran : run over_marks client before (marked tree) entries ≡ Ok marked_after
   pub names : after.names ≡ marked_after.names
   pub heads : headers after ≡ headers marked_after
   pub untouched : IsUntouched marked_after
@@ -136,10 +136,10 @@ ended : (byte : Mark → ℕ) (after : Tree ℕ) (ran : Result (Tree Mark) Entry
 ended byte after (Ok end) is = (end, refl, cc)
 ended byte after (Err fault) is = cc
 
-pub ends_beside : (client : Client) (before : ClientSight) (tree : Tree ℕ) (entries : List Entry) → list_all is_judged entries ≡ true → (after : Tree ℕ) → run bytes client before tree entries ≡ Ok after → EndsBeside client before tree entries after
+pub ends_beside : (client : Client) (before : ClientSight) (tree : Tree ℕ) (entries : List Entry) → list_all is_judged entries ≡ true → (after : Tree ℕ) → run over_bytes client before tree entries ≡ Ok after → EndsBeside client before tree entries after
 ends_beside client before tree entries are after ran =
     let byte = byte_of tree entries in
-    let (end, is, same) = ended byte after (run marks client before (marked tree) entries) (marks_give_bytes client before tree entries ∙ ran) in
+    let (end, is, same) = ended byte after (run over_marks client before (marked tree) entries) (marks_give_bytes client before tree entries ∙ ran) in
     record {
       marked_after = end;
       ran = is;

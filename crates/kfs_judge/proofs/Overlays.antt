@@ -9,11 +9,11 @@ use Rattle.std.proofs.lemmas.Bool.{eqb-true}
 use Rattle.std.proofs.lemmas.Int.{ints}
 use Rattle.std.proofs.lemmas.Map.Views.{tells_apart}
 use Rattle.kfs_model.specs.Table.{Order}
-use Rattle.kfs_model.specs.Tree.{directory_entries}
+use Rattle.kfs_model.specs.Tree.{name_order}
 use Rattle.kfs_model.specs.Sight.{Sight}
 use Rattle.kfs_model.specs.FirstWrong.{same_place}
 use Rattle.kfs_model.specs.SeenAfter.{put_at, put_name, shifted, put_parent}
-use Rattle.kfs_model.proofs.Links.{place_tie_turned}
+use Rattle.kfs_model.proofs.NameTable.{place_tie_turned}
 use Rattle.kfs_value.specs.Views.{header_of, kind_of}
 use Rattle.kfs_value.specs.declared.header.Header.{Header as CodeHeader}
 use Rattle.kfs_judge.specs.declared.draft.Draft.{Draft}
@@ -35,7 +35,7 @@ counted count shift by = omega (arith, ints)
 
 module _ {A : Type 0} (old new : Draft A) (d : ℕ) (m : List ℕ) (n : ℕ) (header : CodeHeader) where
   pub node_shown : PutsAt nat_cmp old.heads new.heads n (Some header)
-      → PutsAt directory_entries.compare old.names new.names (d, m) (Some n)
+      → PutsAt name_order.compare old.names new.names (d, m) (Some n)
       → PutsAt nat_cmp old.shifts new.shifts d (shift_of old d +ℤ pos 1)
       → ((s : ℕ → Option ℕ) (k : ℕ) → unwrap_or (get nat_cmp new.parents k) (s k) ≡ put_parent (kind_of header.kind) n d (λ j. unwrap_or (get nat_cmp old.parents j) (s j)) k)
       → (s : Sight) → over new s ≡ with_node d m n (header_of header) (over old s)

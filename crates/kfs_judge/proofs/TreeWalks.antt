@@ -6,7 +6,7 @@ use Rattle.kfs_model.specs.Access.{Client}
 use Rattle.kfs_model.specs.Entry.{Entry}
 use Rattle.kfs_model.specs.Tree.{Tree}
 use Rattle.kfs_model.specs.Sight.{Sight, sight, client_sight}
-use Rattle.kfs_model.specs.Run.{EntryFault, run, bytes}
+use Rattle.kfs_model.specs.Run.{EntryFault, run, over_bytes}
 use Rattle.kfs_model.specs.SeenAfter.{seen_run_from, shown_run}
 use Rattle.kfs_model.proofs.OneByOne.{run_is_one_by_one}
 use Rattle.kfs_model.proofs.SeenRun.{run_is_seen, run_keeps_sound, bytes_faithful}
@@ -23,8 +23,8 @@ ended shown (Ok after) is = (after, refl, cc)
 ended shown (Err fault) is = cc
 
 module _ (client : Client) (held : ℕ → Bool) (t : Tree ℕ) (entries : List Entry) (fits : Fits client t entries) where
-  seen : shown_run (run bytes client (client_sight t held) t entries) ≡ seen_run_from client (client_sight t held) 0 [] (sight t) entries
-  seen = run_is_seen bytes bytes_faithful client (client_sight t held) fits.in_range 0 [] t entries fits.sound fits.fitting
+  seen : shown_run (run over_bytes client (client_sight t held) t entries) ≡ seen_run_from client (client_sight t held) 0 [] (sight t) entries
+  seen = run_is_seen over_bytes bytes_faithful client (client_sight t held) fits.in_range 0 [] t entries fits.sound fits.fitting
 
   pub comes_to_tree : {A : Type 0} (outcome : Result (Net A) CodeEntryFault) → ComesTo client (client_sight t held) entries outcome → ComesToTree client held t entries outcome
   comes_to_tree (Err fault) comes = stopped (fault_of fault) _ (seen ∙ comes)
@@ -32,7 +32,7 @@ module _ (client : Client) (held : ℕ → Bool) (t : Tree ℕ) (entries : List 
       let (after, is, shown) = ended comes.0 _ (seen ∙ comes.1) in (
         after,
         is,
-        run_keeps_sound bytes bytes_faithful client (client_sight t held) fits.in_range 0 [] t entries fits.sound fits.fitting after is,
+        run_keeps_sound over_bytes bytes_faithful client (client_sight t held) fits.in_range 0 [] t entries fits.sound fits.fitting after is,
         run_is_one_by_one client (client_sight t held) 0 [] t entries after is,
         subst (λ s. IsNetOf (sight t) s net) (sym shown) comes.2,
       )

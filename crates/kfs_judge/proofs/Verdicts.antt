@@ -8,7 +8,7 @@ use Rattle.kfs_model.specs.Entry.{Log}
 use Rattle.kfs_model.specs.PlanRow.{Plan}
 use Rattle.kfs_model.specs.Tree.{Tree}
 use Rattle.kfs_model.specs.Lease.{holds, row_of}
-use Rattle.kfs_model.specs.Run.{Mark, EntryFault, run, bytes, marks, marked}
+use Rattle.kfs_model.specs.Run.{Mark, EntryFault, run, over_bytes, over_marks, marked}
 use Rattle.kfs_model.specs.FirstWrong.{RowFault, first_wrong_row}
 use Rattle.kfs_model.specs.Spelling.{IsBytes, SpellingFault, BadHeader, BadEntry, Trailing, BadRow, LogAnswer, PlanAnswer}
 use Rattle.kfs_model.specs.Judgement.{State, Submission, Fault, Verdict, client_sight_of, judged, judged_log, judged_plan, judged_run, judged_rows}
@@ -75,13 +75,13 @@ module _ (s : State) (number : ℕ) where
         ∙ ap (λ b. cond b (judged_plan s client log plan) (No ClientWrong)) (eq-eqb log.client client.number (own ∙ sym (numbered s.clients number client row)))
 
     module _ (log : Log) (plan : Plan) (own : log.client ≡ number) where
-      judged-entry : (fault : EntryFault) → run bytes client (client_sight_of s client.number) s.tree log.entries ≡ Err fault → judged s number (Ok log) (Ok plan) ≡ No (AtEntry fault)
-      judged-entry fault ran = judged-own log (Ok plan) own ∙ ap (λ r. judged_run s plan r (run marks client (client_sight_of s client.number) (marked s.tree) log.entries)) ran
+      judged-entry : (fault : EntryFault) → run over_bytes client (client_sight_of s client.number) s.tree log.entries ≡ Err fault → judged s number (Ok log) (Ok plan) ≡ No (AtEntry fault)
+      judged-entry fault ran = judged-own log (Ok plan) own ∙ ap (λ r. judged_run s plan r (run over_marks client (client_sight_of s client.number) (marked s.tree) log.entries)) ran
 
-      judged-ran : (after : Tree ℕ) (marked_after : Tree Mark) → run bytes client (client_sight_of s client.number) s.tree log.entries ≡ Ok after → run marks client (client_sight_of s client.number) (marked s.tree) log.entries ≡ Ok marked_after → judged s number (Ok log) (Ok plan) ≡ judged_rows s plan after marked_after
+      judged-ran : (after : Tree ℕ) (marked_after : Tree Mark) → run over_bytes client (client_sight_of s client.number) s.tree log.entries ≡ Ok after → run over_marks client (client_sight_of s client.number) (marked s.tree) log.entries ≡ Ok marked_after → judged s number (Ok log) (Ok plan) ≡ judged_rows s plan after marked_after
       judged-ran after marked_after ran ran_marked = judged-own log (Ok plan) own ∙ λ i. judged_run s plan (ran i) (ran_marked i)
 
-      judged-row : (after : Tree ℕ) (marked_after : Tree Mark) (first : Option RowFault) → run bytes client (client_sight_of s client.number) s.tree log.entries ≡ Ok after → run marks client (client_sight_of s client.number) (marked s.tree) log.entries ≡ Ok marked_after → first_wrong_row s.tree marked_after plan ≡ first
+      judged-row : (after : Tree ℕ) (marked_after : Tree Mark) (first : Option RowFault) → run over_bytes client (client_sight_of s client.number) s.tree log.entries ≡ Ok after → run over_marks client (client_sight_of s client.number) (marked s.tree) log.entries ≡ Ok marked_after → first_wrong_row s.tree marked_after plan ≡ first
           → judged s number (Ok log) (Ok plan) ≡ elim first as (λ _. Verdict) [ None ↦ Yes after marked_after | Some fault ↦ No (AtRow fault) ]
       judged-row after marked_after first ran ran_marked wrong = judged-ran after marked_after ran ran_marked ∙ ap (λ o. elim o as (λ _. Verdict) [ None ↦ Yes after marked_after | Some fault ↦ No (AtRow fault) ]) wrong
 
@@ -155,17 +155,17 @@ module _ (A : Type 0) (s : State) (submission : Submission) where
       bad_entry : (fault : CodeEntryFault) → ComesToTree {A = A} client (holds s.leases submission.client) s.tree the_log.entries (Err fault) → IsVerdict {A = A} s submission (outcomes.No (faults.Entry fault))
       bad_entry fault comes =
           refused (faults.Entry fault) (AtEntry (fault_of fault)) (Ok the_log) (Ok (plan_of plan)) spelled.log_read spelled.plan_read
-          (judged-entry s submission.client client row the_log (plan_of plan) spelled.owner (fault_of fault) (ap (λ before. run bytes client before s.tree the_log.entries) (sym sights) ∙ comes)) refl
+          (judged-entry s submission.client client row the_log (plan_of plan) spelled.owner (fault_of fault) (ap (λ before. run over_bytes client before s.tree the_log.entries) (sym sights) ∙ comes)) refl
 
       module _ (net : Net A) (comes : ComesToTree client (holds s.leases submission.client) s.tree the_log.entries (Ok net)) where
         ends : EndsBeside client (client_sight_of s client.number) s.tree the_log.entries comes.0
-        ends = ends_beside client (client_sight_of s client.number) s.tree the_log.entries (all_judged submission.log log.entries spelled.judged) comes.0 (ap (λ before. run bytes client before s.tree the_log.entries) (sym sights) ∙ comes.1)
+        ends = ends_beside client (client_sight_of s client.number) s.tree the_log.entries (all_judged submission.log log.entries spelled.judged) comes.0 (ap (λ before. run over_bytes client before s.tree the_log.entries) (sym sights) ∙ comes.1)
 
         first : first_wrong_row s.tree ends.marked_after (plan_of plan) ≡ first_unlike net plan
         first = first_wrong-unlike client (client_sight_of s client.number) s.tree the_log.entries comes.0 net plan ends comes.4
 
-        ran : run bytes client (client_sight_of s client.number) s.tree the_log.entries ≡ Ok comes.0
-        ran = ap (λ before. run bytes client before s.tree the_log.entries) (sym sights) ∙ comes.1
+        ran : run over_bytes client (client_sight_of s client.number) s.tree the_log.entries ≡ Ok comes.0
+        ran = ap (λ before. run over_bytes client before s.tree the_log.entries) (sym sights) ∙ comes.1
 
         bad_row : (fault : CodeRowFault) (wrong : RowFault) → row_fault_of fault ≡ Some wrong → first_unlike net plan ≡ Some wrong → IsVerdict {A = A} s submission (outcomes.No (faults.Row fault))
         bad_row fault wrong shown is =

@@ -7,7 +7,7 @@ use Rattle.kfs_model.specs.Entry.{Entry, Log}
 use Rattle.kfs_model.specs.Tree.{Tree}
 use Rattle.kfs_model.specs.Sight.{sight}
 use Rattle.kfs_model.specs.Lease.{row_of}
-use Rattle.kfs_model.specs.Run.{Mark, run, bytes, marks, marked}
+use Rattle.kfs_model.specs.Run.{Mark, run, over_bytes, over_marks, marked}
 use Rattle.kfs_model.specs.Plan.{IsRight}
 use Rattle.kfs_model.specs.FirstWrong.{RowFault, Names, Nodes, Pieces}
 use Rattle.kfs_model.specs.Looked.{looked_cells}
@@ -122,11 +122,11 @@ pub record AreLooked {A : Type 0} (view : View A) (submission : Submission) (out
 
 -- what the entries of a right plan's log come to: a sound tree, one by one and each allowed, with this net, and marked
 pub record ComesToNet {A : Type 0} (s : State) (client : Client) (entries : List Entry) (net : Net A) (after : Tree ℕ) (marked_after : Tree Mark) : Type 0 where
-  pub ran : run bytes client (client_sight_of s client.number) s.tree entries ≡ Ok after
+  pub ran : run over_bytes client (client_sight_of s client.number) s.tree entries ≡ Ok after
   pub sound : IsSound after
   pub allowed : OneByOne client (client_sight_of s client.number) 0 [] s.tree entries after
   pub differs : IsNetOf (sight s.tree) (sight after) net
-  pub ran_marked : run marks client (client_sight_of s client.number) (marked s.tree) entries ≡ Ok marked_after
+  pub ran_marked : run over_marks client (client_sight_of s client.number) (marked s.tree) entries ≡ Ok marked_after
 
 -- a Yes tells what the bytes spell, what the entries come to, and how many blocks are written
 pub record TellsYes {A : Type 0} (s : State) (submission : Submission) (log : CodeLog A) (plan : CodePlan A) (net : Net A) (told : ℕ) (after : Tree ℕ) (marked_after : Tree Mark) : Type 0 where

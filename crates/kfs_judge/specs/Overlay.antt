@@ -10,7 +10,7 @@ use Rattle.kfs_model.specs.Header.{Header}
 use Rattle.kfs_model.specs.Access.{Client}
 use Rattle.kfs_model.proofs.Overlay as laid
 use Rattle.kfs_model.specs.SeenAfter.{put_at, put_name, shifted, put_parent}
-use Rattle.kfs_model.specs.Tree.{directory_entries}
+use Rattle.kfs_model.specs.Tree.{name_order}
 use Rattle.kfs_model.specs.Sight.{Sight, ClientSight, Cell, NameIn, HeaderOf}
 use Rattle.kfs_model.specs.Check.{EntryContext}
 use Rattle.kfs_value.specs.Views.{header_of}
@@ -26,7 +26,7 @@ module _ {A : Type 0} where
   abbrev pub overlay_of : Draft A → laid.Overlay
   overlay_of draft = record {
     heads = λ n. option_map (option_map header_of) (get nat_cmp draft.heads n);
-    names = λ d m. get directory_entries.compare draft.names (d, m);
+    names = λ d m. get name_order.compare draft.names (d, m);
     shift = shift_of draft;
     parents = get nat_cmp draft.parents;
   }
@@ -78,5 +78,5 @@ module _ {A : Type 0} where
 
   -- the names and headers that the draft has are among these cells
   pub record IsWritten (draft : Draft A) (among : List Cell) : Type 0 where
-    pub names : (key : ℕ × List ℕ) (value : Option ℕ) → get directory_entries.compare draft.names key ≡ Some value → Contains among (NameIn key.0 key.1)
+    pub names : (key : ℕ × List ℕ) (value : Option ℕ) → get name_order.compare draft.names key ≡ Some value → Contains among (NameIn key.0 key.1)
     pub heads : (n : ℕ) (value : Option CodeHeader) → get nat_cmp draft.heads n ≡ Some value → Contains among (HeaderOf n)

@@ -4,7 +4,7 @@ use Rattle.kfs_model.specs.Sight.{ClientSight}
 use Rattle.kfs_model.specs.Access.{Client}
 use Rattle.kfs_model.specs.Entry.{Entry}
 use Rattle.kfs_model.specs.Tree.{Tree}
-use Rattle.kfs_model.specs.Run.{Mark, run, marks, marked}
+use Rattle.kfs_model.specs.Run.{Mark, run, over_marks, marked}
 use Rattle.kfs_model.specs.FirstWrong.{RowFault, Names, Nodes, Pieces, same_pair, same_place, same_headers, first_difference, or_else, first_wrong_row}
 use Rattle.kfs_model.specs.Placement.{need}
 use Rattle.kfs_entry.specs.Answers.{plan_of}
@@ -38,5 +38,5 @@ first_unlike net plan =
 -- the entries' run over marks ends, and this is told of its end
 pub record IsChecked {A : Type 0} (client : Client) (before : ClientSight) (tree : Tree ℕ) (entries : List Entry) (plan : CodePlan A) (result : Result ℕ CodeRowFault) : Type 0 where
   pub after : Tree Mark
-  pub ran : run marks client before (marked tree) entries ≡ Ok after
+  pub ran : run over_marks client before (marked tree) entries ≡ Ok after
   pub told : TellsRow (first_wrong_row tree after (plan_of plan)) (need after) result

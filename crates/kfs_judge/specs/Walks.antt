@@ -6,14 +6,14 @@ use Rattle.kfs_model.specs.Looked.{seen_run, looked_cells}
 use Rattle.kfs_model.specs.Access.{Client}
 use Rattle.kfs_model.specs.Lease.{row_of}
 use Rattle.kfs_model.specs.Table.{numbers}
-use Rattle.kfs_model.specs.Tree.{Tree, directory_entries}
+use Rattle.kfs_model.specs.Tree.{Tree, name_order}
 use Rattle.std.specs.Prelude.{Bool}
 use Rattle.kfs_model.specs.Sight.{Sight, ClientSight, sight, client_sight}
 use Rattle.kfs_model.specs.Soundness.{IsSound}
 use Rattle.kfs_model.specs.CleanStep.{Fits}
 use Rattle.kfs_model.specs.Machine.{OneByOne}
 use Rattle.kfs_model.specs.Entry.{Entry}
-use Rattle.kfs_model.specs.Run.{EntryFault, run, bytes}
+use Rattle.kfs_model.specs.Run.{EntryFault, run, over_bytes}
 use Rattle.kfs_model.specs.Plan.{AreDifferences, number_now, header_now}
 use Rattle.kfs_judge.specs.Rows.{keyed_name_row, keyed_node_row}
 use Rattle.kfs_value.specs.declared.plan.NameRow.{NameRow as CodeNameRow}
@@ -33,7 +33,7 @@ fault_of fault = record { entry = fault.index; reason = reason_of fault.reason }
 
 -- the rows are exactly the names that differ, and the headers
 abbrev pub AreNamesOf : Sight → Sight → List CodeNameRow → Type 0
-AreNamesOf before after rows = AreDifferences directory_entries number_now (λ key. before.name key.0 key.1) (λ key. after.name key.0 key.1) (map keyed_name_row rows)
+AreNamesOf before after rows = AreDifferences name_order number_now (λ key. before.name key.0 key.1) (λ key. after.name key.0 key.1) (map keyed_name_row rows)
 
 abbrev pub AreNodesOf : Sight → Sight → List CodeNodeRow → Type 0
 AreNodesOf before after rows = AreDifferences numbers header_now before.head after.head (map keyed_node_row rows)
@@ -56,8 +56,8 @@ module _ {A : Type 0} where
 module _ {A : Type 0} where
   -- the entries one by one stop at this fault, or leave a sound tree of which this is the net, each of them allowed
   abbrev pub ComesToTree : Client → (ℕ → Bool) → Tree ℕ → List Entry → Result (Net A) CodeEntryFault → Type 0
-  ComesToTree client held t entries (Err fault) = run bytes client (client_sight t held) t entries ≡ Err (fault_of fault)
-  ComesToTree client held t entries (Ok net) = (after : Tree ℕ) × (run bytes client (client_sight t held) t entries ≡ Ok after) × IsSound after × OneByOne client (client_sight t held) 0 [] t entries after × IsNetOf (sight t) (sight after) net
+  ComesToTree client held t entries (Err fault) = run over_bytes client (client_sight t held) t entries ≡ Err (fault_of fault)
+  ComesToTree client held t entries (Ok net) = (after : Tree ℕ) × (run over_bytes client (client_sight t held) t entries ≡ Ok after) × IsSound after × OneByOne client (client_sight t held) 0 [] t entries after × IsNetOf (sight t) (sight after) net
 
 -- the client is the one of the rows that has the number
 abbrev pub IsRowOf : List Client → ℕ → Client → Type 0

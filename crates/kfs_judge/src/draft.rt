@@ -7,7 +7,7 @@ ghost use Rattle.kfs_model.specs.Sight.{Sight, Cell, HeaderOf, NameIn};
 ghost use Rattle.kfs_model.specs.SeenAfter.{put_parent};
 ghost use Rattle.std.specs.Ordering.{nat_cmp};
 ghost use Rattle.std.specs.BTreeMap.{get};
-ghost use Rattle.kfs_model.specs.Tree.{directory_entries};
+ghost use Rattle.kfs_model.specs.Tree.{name_order};
 ghost use Rattle.kfs_judge.specs.Overlay.{has_created, over, with_node, shift_of, ShiftsBy, PutsAt, IsWritten, with_header, parents_over};
 
 use kfs_image::{Header, Kind, Name};
@@ -129,7 +129,7 @@ impl<A: Allocator> Draft<A> {
 
     /// The number that the name leads to, or none, where an entry wrote it.
     pub(crate) fn target(&self, key: &(u32, Name)) -> Option<Option<u32>>
-        ensures { result ≡ get directory_entries.compare self.now.names key.now }
+        ensures { result ≡ get name_order.compare self.now.names key.now }
     {
         self.names.get(key).copied()
     }

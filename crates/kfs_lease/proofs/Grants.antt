@@ -6,7 +6,7 @@ use Rattle.std.proofs.lemmas.Bool.{eqb-true}
 use Rattle.kfs_model.specs.Access.{Client}
 use Rattle.kfs_model.specs.Sight.{Sight}
 use Rattle.kfs_model.specs.Table.{get, insert, remove}
-use Rattle.kfs_model.specs.Lease.{Leases, Lease, LeaseKind, LeaseFault, Outcome, UnknownClient, Past, LeaseHeld, NoLeaseHeld, BadPath, refused, row_of, names_of, walked, in_conflict, granted_at, granted_by_walk, granted_on, granted, dropped}
+use Rattle.kfs_model.specs.Lease.{Leases, Lease, LeaseKind, LeaseFault, LeaseOutcome, UnknownClient, Past, LeaseHeld, NoLeaseHeld, BadPath, refused, row_of, names_of, walked, in_conflict, granted_at, granted_by_walk, granted_on, granted, dropped}
 
 -- the row of a number has that number
 pub number_of_row : (clients : List Client) (number : ℕ) (client : Client) → Some client ≡ row_of clients number → client.number ≡ number
@@ -18,7 +18,7 @@ number_of_row (row ∷ rows) number client found = at (row.number == number) ref
     at false other found later = later found
 
 module _ (old : Leases) (sight : Sight) (clients : List Client) (number : ℕ) (path : List ℕ) (kind : LeaseKind) (end : ℕ) where
-  abbrev by_row : Option Client → Outcome
+  abbrev by_row : Option Client → LeaseOutcome
   by_row row = elim row [ None ↦ refused UnknownClient old | Some client ↦ granted_on old sight (names_of path) client kind end ]
 
   in_order : granted old sight clients number path kind end ≡ by_row (row_of clients number)
@@ -46,13 +46,13 @@ module _ (old : Leases) (sight : Sight) (clients : List Client) (number : ℕ) (
         at_node : granted old sight clients number path kind end ≡ granted_at old client node kind end
         at_node = on_walk ∙ ap (λ walk. granted_by_walk old walk client kind end) reached
 
-        abbrev after_past : Option ((ℕ × ℕ) × Lease) → Outcome
+        abbrev after_past : Option ((ℕ × ℕ) × Lease) → LeaseOutcome
         after_past conflict = elim conflict [
           | Some row ↦ refused (LeaseHeld row.0.0) old
           | None ↦ (Ok node, record old { rows = insert old.rows (client.number, node) (record { kind = kind; end = end }) })
         ]
 
-        abbrev in_time : Bool → Outcome
+        abbrev in_time : Bool → LeaseOutcome
         in_time past = if past then refused Past old else after_past (in_conflict old client.number node kind)
 
         pub in_the_past : end ≤ old.moment → granted old sight clients number path kind end ≡ refused Past old
@@ -99,10 +99,10 @@ if_weaker None P Q h p = tt
 if_weaker (Some x) P Q h p = h x p
 
 module _ (old : Leases) (clients : List Client) (number node : ℕ) where
-  abbrev by_lease : Bool → Outcome
+  abbrev by_lease : Bool → LeaseOutcome
   by_lease none = if none then refused NoLeaseHeld old else (Ok node, record old { rows = remove old.rows (number, node) })
 
-  abbrev by_client : Bool → Outcome
+  abbrev by_client : Bool → LeaseOutcome
   by_client none = if none then refused UnknownClient old else by_lease (is_none (get old.rows (number, node)))
 
   drop_in_order : dropped old clients number node ≡ by_client (is_none (row_of clients number))

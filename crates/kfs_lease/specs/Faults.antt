@@ -18,5 +18,5 @@ fault_of Backwards = Some model.Backwards
 fault_of OutOfMemory = None
 
 -- the outcome is this refusal, memory aside, with these leases
-abbrev pub Refuses : model.Outcome → LeaseFault → model.Leases → Type 0
+abbrev pub Refuses : model.LeaseOutcome → LeaseFault → model.Leases → Type 0
 Refuses outcome fault leases = IfSome (fault_of fault) (λ refusal. outcome ≡ (Err refusal, leases))

@@ -9,10 +9,10 @@ use Rattle.std.specs.declared.cmp.Ordering.TheVariants.{Less, Equal, Greater}
 use Rattle.kfs_model.specs.Header.{Kind, File, Directory}
 use Rattle.kfs_model.specs.Access.{Client}
 use Rattle.kfs_model.specs.Table.{Order, Table, get, insert, retain, mapped, changed_entries, same_table, same_entries_table, get-insert, get-retain, get-mapped}
-use Rattle.kfs_model.specs.Tree.{Tree, Node, Body, Cells, Names, Links, headers, header_of, name_count, entry_count, target, is_named}
+use Rattle.kfs_model.specs.Tree.{Tree, Node, Body, FileBody, DirectoryBody, NameTable, headers, header_of, name_count, entry_count, target, is_named}
 use Rattle.kfs_model.specs.Sight.{sight, parent_in, ClientSight}
 use Rattle.kfs_model.specs.Entry.{Entry, Create, Write, Truncate, Link, Unlink, Rename, Chmod}
-use Rattle.kfs_model.specs.Effect.{Fabric, lengthened, overwritten, resized, change_of, effect, swept, new_body, on_cells, changed_node}
+use Rattle.kfs_model.specs.Effect.{CellMaker, lengthened, overwritten, resized, change_of, effect, swept, new_body, on_cells, changed_node}
 use Rattle.kfs_model.specs.Run.{EntryFault, mapped_tree, mapped_body, payload_of, run_from, created_by, entry_context}
 use Rattle.kfs_model.specs.Check.{Reason, first_fault}
 
@@ -50,14 +50,14 @@ module _ {B C : Type 0} (f : B → C) where
   abbrev pub recut : Tree B → Tree C
   recut t = mapped_tree (λ n cells. map f cells) t
 
-  header-on_node : (names : Links) (n : ℕ) (node : Node B) → header_of names n (on_node n node) ≡ header_of names n node
+  header-on_node : (names : NameTable) (n : ℕ) (node : Node B) → header_of names n (on_node n node) ≡ header_of names n node
   header-on_node names n node = by_body node.body
     where
       by_body : (body : Body B) → header_of names n (record { mode = node.mode; uid = node.uid; gid = node.gid; body = mapped_body (map f) body }) ≡ header_of names n (record node { body = body })
-      by_body (Cells cells) = λ i. record { kind = File; mode = node.mode; uid = node.uid; gid = node.gid; links = name_count names n; size = length-map cells f i }
-      by_body Names = refl
+      by_body (FileBody cells) = λ i. record { kind = File; mode = node.mode; uid = node.uid; gid = node.gid; links = name_count names n; size = length-map cells f i }
+      by_body DirectoryBody = refl
 
-  header_entries : (names : Links) (es : List (ℕ × Node B)) → changed_entries (header_of names) (changed_entries on_node es) ≡ changed_entries (header_of names) es
+  header_entries : (names : NameTable) (es : List (ℕ × Node B)) → changed_entries (header_of names) (changed_entries on_node es) ≡ changed_entries (header_of names) es
   header_entries names [] = refl
   header_entries names (e ∷ es) = λ i. (e.0, header-on_node names e.0 e.1 i) ∷ header_entries names es i
 
@@ -93,7 +93,7 @@ module _ {B C : Type 0} (f : B → C) where
 
 -- ---- steps and runs
 
-module _ {B C : Type 0} (f : B → C) (from : Fabric B) (to : Fabric C) (gap : f from.gap ≡ to.gap) where
+module _ {B C : Type 0} (f : B → C) (from : CellMaker B) (to : CellMaker C) (gap : f from.gap ≡ to.gap) where
   lengthened-map : (size : ℕ) (cells : List B) → map f (lengthened from size cells) ≡ lengthened to size (map f cells)
   lengthened-map size cells =
       let same_length = sym (length-map cells f) in
@@ -118,8 +118,8 @@ module _ {B C : Type 0} (f : B → C) (from : Fabric B) (to : Fabric C) (gap : f
   new_body-map Directory = refl
 
   on_cells-map : (change : List B → List B) (change' : List C → List C) → ((cells : List B) → map f (change cells) ≡ change' (map f cells)) → (body : Body B) → mapped_body (map f) (on_cells from change body) ≡ on_cells to change' (mapped_body (map f) body)
-  on_cells-map change change' alike (Cells cells) = ap Cells (alike cells)
-  on_cells-map change change' alike Names = refl
+  on_cells-map change change' alike (FileBody cells) = ap FileBody (alike cells)
+  on_cells-map change change' alike DirectoryBody = refl
 
   on_node-cells : (change : List B → List B) (change' : List C → List C) → ((cells : List B) → map f (change cells) ≡ change' (map f cells)) → (n : ℕ) (node : Node B) → on_node f n (record node { body = on_cells from change node.body }) ≡ record (on_node f n node) { body = on_cells to change' (mapped_body (map f) node.body) }
   on_node-cells change change' alike n node = λ i. record { mode = node.mode; uid = node.uid; gid = node.gid; body = on_cells-map change change' alike node.body i }

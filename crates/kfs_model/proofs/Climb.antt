@@ -4,7 +4,7 @@ use Rattle.std.specs.List.{list_any, AllByRecursion, IsDistinct}
 use Rattle.std.proofs.lemmas.Bool.{or_cases, or_parts, false_from_ne_true, false≢true}
 use Rattle.std.proofs.lemmas.Map.Steps.{length-le_from_distinct_below}
 use Rattle.kfs_model.specs.Header.{Header}
-use Rattle.kfs_model.specs.Tree.{Links}
+use Rattle.kfs_model.specs.Tree.{NameTable}
 use Rattle.kfs_model.specs.Sight.{is_directory, parent_in, climb_meets}
 use Rattle.kfs_model.specs.Soundness.{Climbs, AreSound}
 use Rattle.kfs_model.proofs.Heads.{root_has_none, has_parent}
@@ -56,7 +56,7 @@ module _ (parent : ℕ → Option ℕ) (root_end : parent 1 ≡ None) where
 
 -- ---- how long a climb is
 
-module _ (head : ℕ → Option Header) (names : Links) (sound : AreSound head names) where
+module _ (head : ℕ → Option Header) (names : NameTable) (sound : AreSound head names) where
   passed_in_range : (steps k : ℕ) → Climbs (parent_in head names) steps k 1 → k < 65537
   passed_in_range zero k climb = omega arith
   passed_in_range (suc steps) k climb = at (head k) refl

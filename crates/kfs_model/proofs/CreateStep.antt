@@ -4,23 +4,23 @@ use Rattle.std.proofs.lemmas.Bool.{false≢true}
 use Rattle.kfs_model.specs.Header.{Kind, File, Directory, Header}
 use Rattle.kfs_model.specs.Access.{Client}
 use Rattle.kfs_model.specs.Table.{get, insert}
-use Rattle.kfs_model.specs.Tree.{Tree, Node, Links, headers, header_of, target, name_count}
+use Rattle.kfs_model.specs.Tree.{Tree, Node, NameTable, headers, header_of, target, name_count}
 use Rattle.kfs_model.specs.Entry.{Entry, Create}
 use Rattle.kfs_model.specs.Sight.{sight, is_directory, is_file, parent_in}
-use Rattle.kfs_model.specs.Effect.{Fabric, change_of, effect, swept, new_body}
+use Rattle.kfs_model.specs.Effect.{CellMaker, change_of, effect, swept, new_body}
 use Rattle.kfs_model.specs.Check.{EntryContext}
 use Rattle.kfs_model.specs.Soundness.{Climbs, InRange, NameIsSound, AreSound, IsSound}
 use Rattle.kfs_model.specs.Spelling.{IsEntry, IsName}
 use Rattle.kfs_model.specs.SeenAfter.{put_at, put_parent, new_header, seen_after}
 use Rattle.kfs_model.specs.CleanStep.{IsClient, IsClean, IsKept}
 use Rattle.kfs_model.proofs.CleanFacts.{at_tree, clean_at, CreateFacts, create_facts}
-use Rattle.kfs_model.proofs.Links.{at_number-insert, target-insert}
+use Rattle.kfs_model.proofs.NameTable.{at_number-insert, target-insert}
 use Rattle.kfs_model.proofs.NameAdded.{new_target, kept_target, new_or_old, others_count, own_count, count_shifted}
 use Rattle.kfs_model.proofs.Heads.{stays, named_stays, unnamed, root_is_node, get-swept_headers, kept_head, parent_kept, parent_is, parent_of_none, has_parent, climbs_with, put_parent_elsewhere, put_parent_here}
 
 -- ---- what shows after it
 
-module _ {B : Type 0} (fabric : Fabric B) (client : Client) (index : ℕ) (t : Tree B) (d : ℕ) (m : List ℕ) (n : ℕ) (kind : Kind) (mode : ℕ) (sound : IsSound t) (facts : CreateFacts client (sight t) d m n) where
+module _ {B : Type 0} (maker : CellMaker B) (client : Client) (index : ℕ) (t : Tree B) (d : ℕ) (m : List ℕ) (n : ℕ) (kind : Kind) (mode : ℕ) (sound : IsSound t) (facts : CreateFacts client (sight t) d m n) where
   abbrev entry : Entry
   entry = Create d m n kind mode
 
@@ -30,11 +30,11 @@ module _ {B : Type 0} (fabric : Fabric B) (client : Client) (index : ℕ) (t : T
   abbrev heads : ℕ → Option Header
   heads = put_at n (Some (new_header client kind mode)) head
 
-  abbrev after : Links
+  abbrev after : NameTable
   after = insert t.names (d, m) n
 
   abbrev node : Node B
-  node = record { mode = mode; uid = client.uid; gid = client.gid; body = new_body fabric kind }
+  node = record { mode = mode; uid = client.uid; gid = client.gid; body = new_body maker kind }
 
   new_is_named_once : name_count after n ≡ 1
   new_is_named_once = own_count t.names d m n facts.free_name ∙ ap (λ c. c + 1) (unnamed head t.names sound n facts.free_number)
@@ -42,7 +42,7 @@ module _ {B : Type 0} (fabric : Fabric B) (client : Client) (index : ℕ) (t : T
   new_shown : header_of after n node ≡ new_header client kind mode
   new_shown = at kind
     where
-      at : (kind : Kind) → header_of after n (record { mode = mode; uid = client.uid; gid = client.gid; body = new_body fabric kind }) ≡ new_header client kind mode
+      at : (kind : Kind) → header_of after n (record { mode = mode; uid = client.uid; gid = client.gid; body = new_body maker kind }) ≡ new_header client kind mode
       at File = λ i. record { kind = File; mode = mode; uid = client.uid; gid = client.gid; links = new_is_named_once i; size = 0 }
       at Directory = refl
 
@@ -55,10 +55,10 @@ module _ {B : Type 0} (fabric : Fabric B) (client : Client) (index : ℕ) (t : T
       (ap (λ b. option_map (header_of after n) (cond b (Some node) None)) new_stays ∙ ap Some new_shown)
   shown_at k false other = kept_head t sound after k (others_count t.names d m n facts.free_name k other)
 
-  head_after : (k : ℕ) → get (headers (effect fabric client index entry t)) k ≡ heads k
+  head_after : (k : ℕ) → get (headers (effect maker client index entry t)) k ≡ heads k
   unfolding change_of
   head_after k =
-      get-swept_headers (change_of fabric client index entry t) k
+      get-swept_headers (change_of maker client index entry t) k
       ∙ ap (λ o. option_map (header_of after k) (cond (stays after k) o None)) (at_number-insert t.nodes n node k)
       ∙ shown_at k (k == n) refl
 
@@ -84,7 +84,7 @@ module _ {B : Type 0} (fabric : Fabric B) (client : Client) (index : ℕ) (t : T
       at true same = subst (λ k. parent_in heads after k ≡ put_parent kind n d (parent_in head t.names) k) (sym (eqb-true k n same)) (parent_new kind (head_new n refl))
       at false other = parent_other k other ∙ sym (put_parent_elsewhere kind n d (parent_in head t.names) k other)
 
-  pub create_seen : sight (effect fabric client index entry t) ≡ seen_after client (sight t) entry
+  pub create_seen : sight (effect maker client index entry t) ≡ seen_after client (sight t) entry
   unfolding change_of swept seen_after
   create_seen = λ i. record {
     head = λ k. head_after k i;
@@ -174,14 +174,14 @@ module _ {B : Type 0} (fabric : Fabric B) (client : Client) (index : ℕ) (t : T
           subst (λ k. InRange k h) (sym (eqb-true k n same)) (subst (InRange n) header_is (new_in_range fits entry_fits))
       range_at k h false other shown = sound.ranges k h (sym (head_other k other) ∙ shown)
 
-  pub create_sound : IsClient client → IsEntry entry → IsSound (effect fabric client index entry t)
+  pub create_sound : IsClient client → IsEntry entry → IsSound (effect maker client index entry t)
   unfolding change_of swept
   create_sound fits entry_fits = subst (λ heads. AreSound heads after) (λ i k. sym (head_after k) i) (heads_sound fits entry_fits)
 
-pub create_kept : {B : Type 0} (fabric : Fabric B) (context : EntryContext) (index : ℕ) (t : Tree B) (d : ℕ) (m : List ℕ) (n : ℕ) (kind : Kind) (mode : ℕ) → IsClean context t (Create d m n kind mode) → IsKept fabric context.client index t (Create d m n kind mode)
-create_kept fabric context index t d m n kind mode h =
+pub create_kept : {B : Type 0} (maker : CellMaker B) (context : EntryContext) (index : ℕ) (t : Tree B) (d : ℕ) (m : List ℕ) (n : ℕ) (kind : Kind) (mode : ℕ) → IsClean context t (Create d m n kind mode) → IsKept maker context.client index t (Create d m n kind mode)
+create_kept maker context index t d m n kind mode h =
     let facts = create_facts (at_tree context t) d m n kind mode (clean_at context t h) in
     record {
-      sound = create_sound fabric context.client index t d m n kind mode h.sound facts h.client h.entry_fits;
-      seen = create_seen fabric context.client index t d m n kind mode h.sound facts;
+      sound = create_sound maker context.client index t d m n kind mode h.sound facts h.client h.entry_fits;
+      seen = create_seen maker context.client index t d m n kind mode h.sound facts;
     }

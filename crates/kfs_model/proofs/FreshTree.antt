@@ -9,7 +9,7 @@ use Rattle.kfs_model.specs.Tree.{Tree, headers, target}
 use Rattle.kfs_model.specs.Sight.{is_directory, is_file}
 use Rattle.kfs_model.specs.Soundness.{InRange, IsSound}
 use Rattle.kfs_model.specs.Fresh.{fresh_tree}
-use Rattle.kfs_model.proofs.Links.{ties_decide}
+use Rattle.kfs_model.proofs.NameTable.{ties_decide}
 
 abbrev root_header : Header
 root_header = record { kind = Directory; mode = 511; uid = 0; gid = 0; links = 1; size = 0 }

@@ -3,17 +3,17 @@ use Rattle.std.proofs.Common.{◌≡◌, ◌≢◌, ℕ, zero, suc, ◌≤◌, B
 use Rattle.std.proofs.lemmas.Bool.{or_left, or_right, eqb-false, false≢true}
 use Rattle.kfs_model.specs.Header.{Kind, File, Directory, Header}
 use Rattle.kfs_model.specs.Table.{get, same_table, get-mapped, get-retain}
-use Rattle.kfs_model.specs.Tree.{Tree, Node, Body, Cells, Names, Links, headers, header_of, links_of, kind_of, size_of, target, name_count, is_named}
+use Rattle.kfs_model.specs.Tree.{Tree, Node, Body, FileBody, DirectoryBody, NameTable, headers, header_of, links_of, kind_of, size_of, target, name_count, is_named}
 use Rattle.kfs_model.specs.Sight.{is_directory, is_file, holder, parent_in}
 use Rattle.kfs_model.specs.Effect.{swept}
 use Rattle.kfs_model.specs.SeenAfter.{put_parent}
 use Rattle.kfs_model.specs.Soundness.{Climbs, AreSound, IsSound}
-use Rattle.kfs_model.proofs.Links.{is_named_counts, named_has_target, holder_of_only}
+use Rattle.kfs_model.proofs.NameTable.{is_named_counts, named_has_target, holder_of_only}
 
 -- ---- heads
 
 -- whether a node stays when the nodes without a name go
-abbrev pub stays : Links → ℕ → Bool
+abbrev pub stays : NameTable → ℕ → Bool
 stays names k = (k == 1) || is_named names k
 
 module _ {B : Type 0} where
@@ -25,7 +25,7 @@ module _ {B : Type 0} where
   get-swept_headers t k = get-headers (swept t) k ∙ ap (option_map (header_of t.names k)) (get-retain (λ n. (n == 1) || is_named t.names n) t.nodes k)
 
   -- a header counts the names of a file alone
-  pub same_count_header : (names others : Links) (k : ℕ) (node : Node B) → name_count others k ≡ name_count names k → header_of others k node ≡ header_of names k node
+  pub same_count_header : (names others : NameTable) (k : ℕ) (node : Node B) → name_count others k ≡ name_count names k → header_of others k node ≡ header_of names k node
   same_count_header names others k node same = λ i. record {
     kind = kind_of node.body;
     mode = node.mode;
@@ -36,15 +36,15 @@ module _ {B : Type 0} where
   }
     where
       same_links : (body : Body B) → links_of others k body ≡ links_of names k body
-      same_links (Cells cells) = same
-      same_links Names = refl
+      same_links (FileBody cells) = same
+      same_links DirectoryBody = refl
 
 -- ---- what is named stays
 
-pub named_stays : (names : Links) (k : ℕ) → 1 ≤ name_count names k → stays names k ≡ true
+pub named_stays : (names : NameTable) (k : ℕ) → 1 ≤ name_count names k → stays names k ≡ true
 named_stays names k some = or_right (k == 1) _ (is_named_counts names k ∙ lt-ltb 0 _ some)
 
-root_stays : (names : Links) → stays names 1 ≡ true
+root_stays : (names : NameTable) → stays names 1 ≡ true
 root_stays names = refl
 
 module _ {B : Type 0} (t : Tree B) (sound : IsSound t) where
@@ -63,8 +63,8 @@ module _ {B : Type 0} (t : Tree B) (sound : IsSound t) where
       shown = get-headers t k ∙ ap (option_map (header_of t.names k)) there
 
       at : (body : Body B) → node.body ≡ body → stays t.names k ≡ true
-      at (Cells cells) e = named_stays t.names k (sound.files k (ap is_file shown ∙ ap (λ b. is_file (Some (header_of t.names k (record node { body = b })))) e)).0
-      at Names e = directory_stays k (ap is_directory shown ∙ ap (λ b. is_directory (Some (header_of t.names k (record node { body = b })))) e)
+      at (FileBody cells) e = named_stays t.names k (sound.files k (ap is_file shown ∙ ap (λ b. is_file (Some (header_of t.names k (record node { body = b })))) e)).0
+      at DirectoryBody e = directory_stays k (ap is_directory shown ∙ ap (λ b. is_directory (Some (header_of t.names k (record node { body = b })))) e)
 
   -- a sound tree is its own sweep
   pub own_sweep : swept t ≡ t
@@ -80,7 +80,7 @@ module _ {B : Type 0} (t : Tree B) (sound : IsSound t) where
       at k (Some node) is = ap (λ b. cond b (get t.nodes k) None) (node_stays k node is)
 
   -- what a node shows stays where as many names lead to it as before
-  pub kept_head : (others : Links) (k : ℕ) → name_count others k ≡ name_count t.names k → option_map (header_of others k) (cond (stays others k) (get t.nodes k) None) ≡ get (headers t) k
+  pub kept_head : (others : NameTable) (k : ℕ) → name_count others k ≡ name_count t.names k → option_map (header_of others k) (cond (stays others k) (get t.nodes k) None) ≡ get (headers t) k
   kept_head others k same = at (get t.nodes k) refl ∙ sym (get-headers t k)
     where
       as_before : stays others k ≡ stays t.names k
@@ -96,7 +96,7 @@ module _ {B : Type 0} (t : Tree B) (sound : IsSound t) where
 
 -- ---- parents
 
-module _ (head : ℕ → Option Header) (names : Links) where
+module _ (head : ℕ → Option Header) (names : NameTable) where
   pub parent_is : (k d : ℕ) (m : List ℕ) → IsTrue (is_directory (head k)) → k ≢ 1 → name_count names k ≡ 1 → target names d m ≡ Some k → parent_in head names k ≡ Some d
   parent_is k d m directory other one there =
       ap (λ b. cond (b && not (k == 1)) (holder names k) None) directory ∙ ap (λ b. cond (not b) (holder names k) None) (ne_eqb k 1 other) ∙ holder_of_only names k d m one there
@@ -120,7 +120,7 @@ module _ (head : ℕ → Option Header) (names : Links) where
       at true false e f is = (e, (eqb-false k 1 f), is)
       at false root e f is = cc
 
-module _ (head : ℕ → Option Header) (names : Links) (sound : AreSound head names) where
+module _ (head : ℕ → Option Header) (names : NameTable) (sound : AreSound head names) where
   -- no name leads to what is no node
   pub unnamed : (k : ℕ) → head k ≡ None → name_count names k ≡ 0
   unnamed k none = at (name_count names k) refl
@@ -167,7 +167,7 @@ module _ (head : ℕ → Option Header) (names : Links) (sound : AreSound head n
       (m, subst (λ d. target names d m ≡ Some k) same there)
 
   -- a parent stays where the node shows what it showed and its names are as many and are still there
-  pub parent_kept : (heads_after : ℕ → Option Header) (after : Links) (k : ℕ) → heads_after k ≡ head k → name_count after k ≡ name_count names k
+  pub parent_kept : (heads_after : ℕ → Option Header) (after : NameTable) (k : ℕ) → heads_after k ≡ head k → name_count after k ≡ name_count names k
       → ((d : ℕ) (m : List ℕ) → target names d m ≡ Some k → target after d m ≡ Some k) → parent_in heads_after after k ≡ parent_in head names k
   parent_kept heads_after after k same_head same_count there = at (is_directory (head k)) (k == 1) refl refl
     where

@@ -11,14 +11,14 @@ use Rattle.kfs_model.specs.Check.{is_some_and}
 use Rattle.kfs_model.specs.Table.{numbers, pairs, get, insert, remove, retain, get-insert, get-retain}
 use Rattle.kfs_model.specs.Tree.{Tree, Node, headers, header_of}
 use Rattle.kfs_model.specs.Sight.{Sight}
-use Rattle.kfs_model.specs.Lease.{Lease, LeaseKind, ReadLease, WriteLease, LeaseFault, LeaseTable, Leases, Outcome, live_at, on_those, row_of, names_of, walked, conflicts, in_conflict, is_live, is_write, refused, granted, granted_on, granted_by_walk, dropped, ticked, without_gone, HasLive, AreCompatible, Past, LeaseHeld, UnknownClient, NoLeaseHeld, Backwards}
+use Rattle.kfs_model.specs.Lease.{Lease, LeaseKind, ReadLease, WriteLease, LeaseFault, LeaseTable, Leases, LeaseOutcome, live_at, on_those, row_of, names_of, walked, conflicts, in_conflict, is_live, is_write, refused, granted, granted_on, granted_by_walk, dropped, ticked, without_gone, HasLive, AreCompatible, Past, LeaseHeld, UnknownClient, NoLeaseHeld, Backwards}
 use Rattle.kfs_model.proofs.Heads.{get-headers}
 use Rattle.kfs_model.proofs.Tables.{any_from_found}
 
 -- ---- what holds of the leases before holds of those after a call, where it holds of those that a grant, drop or tick makes
 
 module _ (leases : Leases) (Kept : Leases → Type 0) (kept : Kept leases) where
-  abbrev KeptBy : Outcome → Type 0
+  abbrev KeptBy : LeaseOutcome → Type 0
   KeptBy outcome = Kept outcome.1
 
   pub granted_keeps : (sight : Sight) (clients : List Client) (number : ℕ) (path : List ℕ) (kind : LeaseKind) (end : ℕ)

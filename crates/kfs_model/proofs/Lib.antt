@@ -13,7 +13,7 @@ pub mod Marks
 pub mod Ends
 pub mod OneByOne
 pub mod Counts
-pub mod Links
+pub mod NameTable
 pub mod Heads
 pub mod CleanFacts
 pub mod ClientNumbers

@@ -3,17 +3,17 @@ use Rattle.std.proofs.Common.{◌≡◌, ℕ, ◌+◌, ◌<◌, ◌≤◌, Bool,
 use Rattle.std.proofs.lemmas.Bool.{eqb-false, false≢true, or_left}
 use Rattle.kfs_model.specs.Header.{File, Header}
 use Rattle.kfs_model.specs.Table.{get, insert}
-use Rattle.kfs_model.specs.Tree.{Tree, Node, Body, Cells, Names, Links, headers, header_of, target, name_count}
+use Rattle.kfs_model.specs.Tree.{Tree, Node, Body, FileBody, DirectoryBody, NameTable, headers, header_of, target, name_count}
 use Rattle.kfs_model.specs.Entry.{Link}
 use Rattle.kfs_model.specs.Sight.{sight, is_directory, is_file, parent_in}
-use Rattle.kfs_model.specs.Effect.{Fabric, change_of, swept, with_names}
+use Rattle.kfs_model.specs.Effect.{CellMaker, change_of, swept, with_names}
 use Rattle.kfs_model.specs.Check.{EntryContext}
 use Rattle.kfs_model.specs.Soundness.{IsSound}
 use Rattle.kfs_model.specs.Spelling.{IsName}
 use Rattle.kfs_model.specs.SeenAfter.{put_name, put_header, shifted, seen_after}
 use Rattle.kfs_model.specs.CleanStep.{IsClean, IsKept}
 use Rattle.kfs_model.proofs.CleanFacts.{at_tree, clean_at, LinkFacts, link_facts}
-use Rattle.kfs_model.proofs.Links.{target-insert, target_is_named}
+use Rattle.kfs_model.proofs.NameTable.{target-insert, target_is_named}
 use Rattle.kfs_model.proofs.NameAdded.{new_target, kept_target, new_or_old, others_count, own_count, count_shifted}
 use Rattle.kfs_model.proofs.Heads.{stays, named_stays, get-headers, kept_head, directory_stays, directory_count, parent_kept, parent_of_none, climbs_with}
 use Rattle.kfs_model.proofs.NodeStep.{put_header_kinds}
@@ -27,7 +27,7 @@ module _ {B : Type 0} (t : Tree B) (sound : IsSound t) (n d : ℕ) (m : List ℕ
   abbrev head : ℕ → Option Header
   head = get (headers t)
 
-  abbrev after : Links
+  abbrev after : NameTable
   after = insert t.names (d, m) n
 
   abbrev heads : ℕ → Option Header
@@ -39,15 +39,15 @@ module _ {B : Type 0} (t : Tree B) (sound : IsSound t) (n d : ℕ) (m : List ℕ
     where
       at : (body : Body B) → is_directory (Some (header_of t.names n (record node { body = body }))) ≡ false
           → header_of after n (record node { body = body }) ≡ record (header_of t.names n (record node { body = body })) { links = (header_of t.names n (record node { body = body })).links + 1 }
-      at (Cells cells) file = λ i. record { kind = File; mode = node.mode; uid = node.uid; gid = node.gid; links = own_count t.names d m n facts.free i; size = length cells }
-      at Names file = cc
+      at (FileBody cells) file = λ i. record { kind = File; mode = node.mode; uid = node.uid; gid = node.gid; links = own_count t.names d m n facts.free i; size = length cells }
+      at DirectoryBody file = cc
 
   few_links : (node : Node B) → get t.nodes n ≡ Some node → is_directory (Some (header_of t.names n node)) ≡ false → name_count t.names n < 1024
   few_links node there file = at node.body file (facts.room (header_of t.names n node) (get-headers t n ∙ ap (option_map (header_of t.names n)) there))
     where
       at : (body : Body B) → is_directory (Some (header_of t.names n (record node { body = body }))) ≡ false → (header_of t.names n (record node { body = body })).links < 1024 → name_count t.names n < 1024
-      at (Cells cells) file few = few
-      at Names file few = cc
+      at (FileBody cells) file few = few
+      at DirectoryBody file few = cc
 
   node : Node B
   node = (node_there t n facts.there).0
@@ -147,8 +147,8 @@ module _ {B : Type 0} (t : Tree B) (sound : IsSound t) (n d : ℕ) (m : List ℕ
   pub link_sound : IsName m → IsSound (swept (with_names after t))
   link_sound spelled = names_kept_sound t after sound (names_kept spelled)
 
-module _ {B : Type 0} (fabric : Fabric B) (context : EntryContext) (index : ℕ) (t : Tree B) where
-  pub link_kept : (n d : ℕ) (m : List ℕ) → IsClean context t (Link n d m) → IsKept fabric context.client index t (Link n d m)
+module _ {B : Type 0} (maker : CellMaker B) (context : EntryContext) (index : ℕ) (t : Tree B) where
+  pub link_kept : (n d : ℕ) (m : List ℕ) → IsClean context t (Link n d m) → IsKept maker context.client index t (Link n d m)
   unfolding change_of seen_after
   link_kept n d m h =
       let facts = link_facts (at_tree context t) n d m (clean_at context t h) in

@@ -4,14 +4,14 @@ use Rattle.std.proofs.Common.{◌≡◌, ◌≢◌, ℕ, zero, suc, Bool, true, 
 use Rattle.std.proofs.lemmas.Bool.{eqb-false}
 use Rattle.kfs_model.specs.Header.{Kind, File, Directory, Header}
 use Rattle.kfs_model.specs.Table.{get, insert, remove}
-use Rattle.kfs_model.specs.Tree.{Tree, Links, headers, target, name_count, entry_count}
+use Rattle.kfs_model.specs.Tree.{Tree, NameTable, headers, target, name_count, entry_count}
 use Rattle.kfs_model.specs.Sight.{sight, is_directory, parent_in, climb_limit, climb_meets, kind_shown}
 use Rattle.kfs_model.specs.Effect.{swept, with_names}
 use Rattle.kfs_model.specs.Soundness.{Climbs, NameIsSound, IsSound}
 use Rattle.kfs_model.specs.Spelling.{IsName}
 use Rattle.kfs_model.specs.FirstWrong.{same_place}
 use Rattle.kfs_model.specs.SeenAfter.{put_name, put_parent, shifted, seen_moved}
-use Rattle.kfs_model.proofs.Links.{target-insert, target-remove, target_is_named, is_named_counts}
+use Rattle.kfs_model.proofs.NameTable.{target-insert, target-remove, target_is_named, is_named_counts}
 use Rattle.kfs_model.proofs.NameAdded as Added
 use Rattle.kfs_model.proofs.NameRemoved as Removed
 use Rattle.kfs_model.proofs.Heads.{stays, kept_head, directory_stays, directory_count, parent_is, parent_kept, parent_of_none, has_parent, put_parent_elsewhere, put_parent_here}
@@ -22,10 +22,10 @@ module _ {B : Type 0} (t : Tree B) (sound : IsSound t) (d : ℕ) (m : List ℕ) 
   abbrev head : ℕ → Option Header
   head = get (headers t)
 
-  abbrev between : Links
+  abbrev between : NameTable
   between = remove t.names (d, m)
 
-  abbrev after : Links
+  abbrev after : NameTable
   after = insert between (e, k) n
 
   free_between : target between e k ≡ None

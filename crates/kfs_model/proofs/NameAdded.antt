@@ -2,17 +2,17 @@
 use Rattle.std.proofs.Common.{◌≡◌, ℕ, ◌+◌, Bool, true, false, cond, ◌==◌, pos, ◌+ℤ◌, List, Some, None, refl, sym, ap, ◌∙◌, eqb-true, eq-eqb, ne_eqb, add-zero}
 use Rattle.std.proofs.lemmas.Bool.{eqb-false}
 use Rattle.kfs_model.specs.Table.{get, insert}
-use Rattle.kfs_model.specs.Tree.{Links, target, name_count, entry_count}
+use Rattle.kfs_model.specs.Tree.{NameTable, target, name_count, entry_count}
 use Rattle.kfs_model.specs.FirstWrong.{same_place}
 use Rattle.kfs_model.specs.SeenAfter.{shifted}
 use Rattle.kfs_model.proofs.Exact.{places-exact}
-use Rattle.kfs_model.proofs.Links.{target-insert, name_count-insert, entry_count-insert}
+use Rattle.kfs_model.proofs.NameTable.{target-insert, name_count-insert, entry_count-insert}
 
 pub turned_test : (a b : ℕ) → (a == b) ≡ false → ◌≡◌ {A = ℕ} (cond (b == a) 1 0) 0
 turned_test a b e = ap {B = ℕ} (λ t. cond t 1 0) (ne_eqb b a (λ same. eqb-false a b e (sym same)))
 
-module _ (names : Links) (d : ℕ) (m : List ℕ) (n : ℕ) (free : target names d m ≡ None) where
-  abbrev after : Links
+module _ (names : NameTable) (d : ℕ) (m : List ℕ) (n : ℕ) (free : target names d m ≡ None) where
+  abbrev after : NameTable
   after = insert names (d, m) n
 
   pub new_target : target after d m ≡ Some n

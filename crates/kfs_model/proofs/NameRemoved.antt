@@ -2,18 +2,18 @@
 use Rattle.std.proofs.Common.{◌≡◌, ◌≢◌, ℕ, ◌+◌, Bool, true, false, cond, ◌==◌, pos, negsuc, ◌+ℤ◌, List, Some, None, refl, sym, ap, ◌∙◌, arith, eqb-true, eq-eqb, add-zero}
 use Rattle.std.proofs.lemmas.Int.{ints}
 use Rattle.kfs_model.specs.Table.{get, remove}
-use Rattle.kfs_model.specs.Tree.{Links, target, name_count, entry_count}
+use Rattle.kfs_model.specs.Tree.{NameTable, target, name_count, entry_count}
 use Rattle.kfs_model.specs.FirstWrong.{same_place}
 use Rattle.kfs_model.specs.SeenAfter.{shifted}
 use Rattle.kfs_model.proofs.Exact.{places-exact}
-use Rattle.kfs_model.proofs.Links.{target-remove, name_count-remove, entry_count-remove}
+use Rattle.kfs_model.proofs.NameTable.{target-remove, name_count-remove, entry_count-remove}
 use Rattle.kfs_model.proofs.NameAdded.{turned_test}
 
 one_less : (c : ℕ) → pos c ≡ pos (c + 1) +ℤ negsuc 0
 one_less c = omega (arith, ints)
 
-module _ (names : Links) (d : ℕ) (m : List ℕ) (n : ℕ) (there : target names d m ≡ Some n) where
-  abbrev after : Links
+module _ (names : NameTable) (d : ℕ) (m : List ℕ) (n : ℕ) (there : target names d m ≡ Some n) where
+  abbrev after : NameTable
   after = remove names (d, m)
 
   pub gone : target after d m ≡ None

@@ -3,20 +3,20 @@ use Rattle.std.proofs.Common.{◌≡◌, ◌≢◌, ℕ, ◌≤◌, Bool, true, 
 use Rattle.std.proofs.lemmas.Bool.{or_cases, false≢true}
 use Rattle.kfs_model.specs.Header.{Kind, File, Directory, Header}
 use Rattle.kfs_model.specs.Table.{get}
-use Rattle.kfs_model.specs.Tree.{Tree, Node, Links, headers, header_of, target, name_count}
+use Rattle.kfs_model.specs.Tree.{Tree, Node, NameTable, headers, header_of, target, name_count}
 use Rattle.kfs_model.specs.Sight.{is_directory, is_file, parent_in}
 use Rattle.kfs_model.specs.Effect.{swept, with_names}
 use Rattle.kfs_model.specs.Soundness.{Climbs, InRange, IsSound}
 use Rattle.kfs_model.specs.Spelling.{IsName}
-use Rattle.kfs_model.proofs.Links.{is_named_counts}
+use Rattle.kfs_model.proofs.NameTable.{is_named_counts}
 use Rattle.kfs_model.proofs.Heads.{stays, named_stays, get-headers, get-swept_headers}
 
 -- what stays but the root is named
-pub stays_named : (names : Links) (k : ℕ) → stays names k ≡ true → k ≢ 1 → 1 ≤ name_count names k
+pub stays_named : (names : NameTable) (k : ℕ) → stays names k ≡ true → k ≢ 1 → 1 ≤ name_count names k
 stays_named names k stay other =
     ⊎_elim (λ root. absurd (other (eqb-true k 1 root))) (λ named. ltb-true 0 _ (sym (is_named_counts names k) ∙ named)) (or_cases (k == 1) _ stay)
 
-module _ {B : Type 0} (t : Tree B) (after : Links) where
+module _ {B : Type 0} (t : Tree B) (after : NameTable) where
   abbrev pub head : ℕ → Option Header
   head = get (headers t)
 

@@ -2,12 +2,12 @@
 use Rattle.std.proofs.Common.{◌≡◌, ℕ, Bool, true, false, cond, not, ◌&&◌, ◌==◌, Option, Some, None, option_map, refl, sym, ap, subst, ◌∙◌, eqb-true}
 use Rattle.kfs_model.specs.Header.{Header}
 use Rattle.kfs_model.specs.Table.{get, insert}
-use Rattle.kfs_model.specs.Tree.{Tree, Node, Links, headers, header_of, target}
+use Rattle.kfs_model.specs.Tree.{Tree, Node, NameTable, headers, header_of, target}
 use Rattle.kfs_model.specs.Sight.{sight, is_directory, is_file, holder, parent_in}
 use Rattle.kfs_model.specs.Effect.{swept, changed_node}
 use Rattle.kfs_model.specs.Soundness.{InRange, AreSound, IsSound}
 use Rattle.kfs_model.specs.SeenAfter.{put_header}
-use Rattle.kfs_model.proofs.Links.{at_number-insert}
+use Rattle.kfs_model.proofs.NameTable.{at_number-insert}
 use Rattle.kfs_model.proofs.Heads.{stays, get-headers, get-swept_headers, node_stays, kept_head, climbs_with}
 
 -- ---- nodes that show the same kinds
@@ -17,7 +17,7 @@ pub record SameKinds (head heads : ℕ → Option Header) : Type 0 where
   pub file : (k : ℕ) → is_file (heads k) ≡ is_file (head k)
   pub some : (k : ℕ) (h : Header) → head k ≡ Some h → (g : Header) × (heads k ≡ Some g)
 
-module _ (head heads : ℕ → Option Header) (names : Links) (same : SameKinds head heads) where
+module _ (head heads : ℕ → Option Header) (names : NameTable) (same : SameKinds head heads) where
   pub same_parent : (k : ℕ) → parent_in heads names k ≡ parent_in head names k
   same_parent k = ap (λ b. cond (b && not (k == 1)) (holder names k) None) (same.directory k)
 

@@ -4,16 +4,16 @@ use Rattle.std.specs.Prelude.{◌-◌, suc, zero}
 use Rattle.std.proofs.lemmas.Option.{get_or_from_slice_get}
 use Rattle.kfs_model.specs.Header.{Kind, File, Directory}
 use Rattle.kfs_model.specs.Table.{get, insert, get-mapped, get-retain}
-use Rattle.kfs_model.specs.Tree.{Tree, Node, Body, Cells, Names, cells_of, is_named}
+use Rattle.kfs_model.specs.Tree.{Tree, Node, Body, FileBody, DirectoryBody, cells_of, is_named}
 use Rattle.kfs_model.specs.Sight.{sight, ClientSight}
 use Rattle.kfs_model.specs.Access.{Client}
 use Rattle.kfs_model.specs.Entry.{Entry, Create, Write, Truncate, Link, Unlink, Rename, Chmod}
 use Rattle.kfs_model.specs.Check.{Reason, first_fault}
 use Rattle.kfs_model.specs.Effect.{effect, change_of, swept, changed_node, new_body, on_cells, overwritten, resized}
-use Rattle.kfs_model.specs.Run.{Mark, Base, Zero, Payload, marks, marked, base_marks, mapped_body, EntryFault, entry_context, created_by, run_from, run}
+use Rattle.kfs_model.specs.Run.{Mark, Base, Zero, Payload, over_marks, marked, base_marks, mapped_body, EntryFault, entry_context, created_by, run_from, run}
 use Rattle.kfs_model.specs.Plan.{OldBytesStay}
 use Rattle.kfs_model.proofs.Heads.{stays}
-use Rattle.kfs_model.proofs.Links.{at_number-insert}
+use Rattle.kfs_model.proofs.NameTable.{at_number-insert}
 use Rattle.kfs_model.proofs.Tape.{resized_read, overwritten_read}
 
 -- ---- the marks of one file
@@ -33,14 +33,14 @@ base_own number cells = record { stand = λ i n p is. let (same, there) = from n
     from number first (b ∷ bs) zero n p is = (cc, let e : p ≡ first = cc in omega arith)
     from number first (b ∷ bs) (suc i) n p is = let (same, there) = from number (first + 1) bs i n p is in (same, omega arith)
 
-resized_own : (number size : ℕ) (cells : List Mark) → AreOwn number cells → AreOwn number (resized marks size cells)
+resized_own : (number size : ℕ) (cells : List Mark) → AreOwn number cells → AreOwn number (resized over_marks size cells)
 resized_own number size cells own = record { stand = λ i n p is. at (leb size i) i n p (sym (resized_read size cells i) ∙ is) }
   where
     at : (b : Bool) (i n p : ℕ) → cond b Zero (get_or cells i Zero) ≡ Base n p → (n ≡ number) × (p ≡ i)
     at true i n p is = cc
     at false i n p is = own.stand i n p is
 
-overwritten_own : (number index offset : ℕ) (payload : List ℕ) (cells : List Mark) → AreOwn number cells → AreOwn number (overwritten marks offset (marks.payload index payload) cells)
+overwritten_own : (number index offset : ℕ) (payload : List ℕ) (cells : List Mark) → AreOwn number cells → AreOwn number (overwritten over_marks offset (over_marks.payload index payload) cells)
 overwritten_own number index offset payload cells own =
     record { stand = λ i n p is. at (leb offset i && ltb i (offset + length payload)) (i - offset) i n p (sym (overwritten_read index offset payload cells i) ∙ is) }
   where
@@ -60,8 +60,8 @@ marked_own : (before : Tree ℕ) → TreeOwn (marked before)
 marked_own before = record { each = λ n. subst (NodeOwn n) (sym (get-mapped _ before.nodes n)) (at n (get before.nodes n)) }
   where
     at_body : (n mode uid gid : ℕ) (body : Body ℕ) → NodeOwn n (Some (record { mode = mode; uid = uid; gid = gid; body = mapped_body (base_marks n 0) body }))
-    at_body n mode uid gid (Cells cells) = base_own n cells
-    at_body n mode uid gid Names = none_own n
+    at_body n mode uid gid (FileBody cells) = base_own n cells
+    at_body n mode uid gid DirectoryBody = none_own n
 
     at : (n : ℕ) (found : Option (Node ℕ)) → NodeOwn n (option_map (λ (node : Node ℕ). record { mode = node.mode; uid = node.uid; gid = node.gid; body = mapped_body (base_marks n 0) node.body }) found)
     at n None = none_own n
@@ -90,24 +90,24 @@ changed_own t n change keeps own = at (get t.nodes n) (own.each n)
     at None here = own
     at (Some node) here = record { each = λ k. inserted_own t n (change node) k own (keeps node here) }
 
-cells_own : (n : ℕ) (change : List Mark → List Mark) → ((cells : List Mark) → AreOwn n cells → AreOwn n (change cells)) → (node : Node Mark) → NodeOwn n (Some node) → NodeOwn n (Some (record node { body = on_cells marks change node.body }))
+cells_own : (n : ℕ) (change : List Mark → List Mark) → ((cells : List Mark) → AreOwn n cells → AreOwn n (change cells)) → (node : Node Mark) → NodeOwn n (Some node) → NodeOwn n (Some (record node { body = on_cells over_marks change node.body }))
 cells_own n change keeps node own = at node.mode node.uid node.gid node.body own
   where
-    at : (mode uid gid : ℕ) (body : Body Mark) → NodeOwn n (Some (record { mode = mode; uid = uid; gid = gid; body = body })) → NodeOwn n (Some (record { mode = mode; uid = uid; gid = gid; body = on_cells marks change body }))
-    at mode uid gid (Cells cells) own = keeps cells own
-    at mode uid gid Names own = own
+    at : (mode uid gid : ℕ) (body : Body Mark) → NodeOwn n (Some (record { mode = mode; uid = uid; gid = gid; body = body })) → NodeOwn n (Some (record { mode = mode; uid = uid; gid = gid; body = on_cells over_marks change body }))
+    at mode uid gid (FileBody cells) own = keeps cells own
+    at mode uid gid DirectoryBody own = own
 
-change_own : (client : Client) (index : ℕ) (entry : Entry) (t : Tree Mark) → TreeOwn t → TreeOwn (change_of marks client index entry t)
+change_own : (client : Client) (index : ℕ) (entry : Entry) (t : Tree Mark) → TreeOwn t → TreeOwn (change_of over_marks client index entry t)
 unfolding change_of
-change_own client index (Create d m n kind mode) t own = record { each = λ k. inserted_own t n (record { mode = mode; uid = client.uid; gid = client.gid; body = new_body marks kind }) k own (empty kind) }
+change_own client index (Create d m n kind mode) t own = record { each = λ k. inserted_own t n (record { mode = mode; uid = client.uid; gid = client.gid; body = new_body over_marks kind }) k own (empty kind) }
   where
-    empty : (kind : Kind) → NodeOwn n (Some (record { mode = mode; uid = client.uid; gid = client.gid; body = new_body marks kind }))
+    empty : (kind : Kind) → NodeOwn n (Some (record { mode = mode; uid = client.uid; gid = client.gid; body = new_body over_marks kind }))
     empty File = none_own n
     empty Directory = none_own n
 change_own client index (Write n offset payload) t own =
-    changed_own t n (λ node. record node { body = on_cells marks (overwritten marks offset (marks.payload index payload)) node.body })
-    (cells_own n (overwritten marks offset (marks.payload index payload)) (overwritten_own n index offset payload)) own
-change_own client index (Truncate n size) t own = changed_own t n (λ node. record node { body = on_cells marks (resized marks size) node.body }) (cells_own n (resized marks size) (resized_own n size)) own
+    changed_own t n (λ node. record node { body = on_cells over_marks (overwritten over_marks offset (over_marks.payload index payload)) node.body })
+    (cells_own n (overwritten over_marks offset (over_marks.payload index payload)) (overwritten_own n index offset payload)) own
+change_own client index (Truncate n size) t own = changed_own t n (λ node. record node { body = on_cells over_marks (resized over_marks size) node.body }) (cells_own n (resized over_marks size) (resized_own n size)) own
 change_own client index (Link n d m) t own = record { each = own.each }
 change_own client index (Unlink d m kind) t own = record { each = own.each }
 change_own client index (Rename d m e k) t own = record { each = own.each }
@@ -115,20 +115,20 @@ change_own client index (Chmod n mode) t own = changed_own t n (λ node. record 
 
 -- ---- of a run
 
-run_own : (client : Client) (before : ClientSight) (index : ℕ) (created : List ℕ) (t : Tree Mark) (entries : List Entry) (after : Tree Mark) → TreeOwn t → run_from marks client before index created t entries ≡ Ok after → TreeOwn after
+run_own : (client : Client) (before : ClientSight) (index : ℕ) (created : List ℕ) (t : Tree Mark) (entries : List Entry) (after : Tree Mark) → TreeOwn t → run_from over_marks client before index created t entries ≡ Ok after → TreeOwn after
 unfolding run_from
 run_own client before index created t [] after own is = let same : t ≡ after = cc in subst TreeOwn same own
 run_own client before index created t (entry ∷ entries) after own is =
     at (first_fault (entry_context client before (sight t) created) entry)
-    (run_own client before (index + 1) (created_by entry created) (effect marks client index entry t) entries after (swept_own _ (change_own client index entry t own))) is
+    (run_own client before (index + 1) (created_by entry created) (effect over_marks client index entry t) entries after (swept_own _ (change_own client index entry t own))) is
   where
-    at : (o : Option Reason) → (run_from marks client before (index + 1) (created_by entry created) (effect marks client index entry t) entries ≡ Ok after → TreeOwn after)
-        → ◌≡◌ {A = Result (Tree Mark) EntryFault} (elim o [ None ↦ run_from marks client before (index + 1) (created_by entry created) (effect marks client index entry t) entries | Some reason ↦ Err (record { entry = index; reason = reason }) ]) (Ok after)
+    at : (o : Option Reason) → (run_from over_marks client before (index + 1) (created_by entry created) (effect over_marks client index entry t) entries ≡ Ok after → TreeOwn after)
+        → ◌≡◌ {A = Result (Tree Mark) EntryFault} (elim o [ None ↦ run_from over_marks client before (index + 1) (created_by entry created) (effect over_marks client index entry t) entries | Some reason ↦ Err (record { entry = index; reason = reason }) ]) (Ok after)
         → TreeOwn after
     at None rest is = rest is
     at (Some reason) rest is = cc
 
-pub old_bytes_stand : (client : Client) (before : ClientSight) (tree : Tree ℕ) (entries : List Entry) (after : Tree Mark) → run marks client before (marked tree) entries ≡ Ok after
+pub old_bytes_stand : (client : Client) (before : ClientSight) (tree : Tree ℕ) (entries : List Entry) (after : Tree Mark) → run over_marks client before (marked tree) entries ≡ Ok after
     → OldBytesStay after
 old_bytes_stand client before tree entries after is number place n p there =
     let own = run_own client before 0 [] (marked tree) entries after (marked_own tree) is in

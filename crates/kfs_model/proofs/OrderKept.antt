@@ -8,7 +8,7 @@ use Rattle.kfs_model.specs.Sight.{sight, ClientSight}
 use Rattle.kfs_model.specs.Entry.{Entry, Log}
 use Rattle.kfs_model.specs.Lease.{LeaseFault, LeaseKind, Leases, row_of, walked, in_conflict, granted, dropped, ticked}
 use Rattle.kfs_model.specs.PlanRow.{Plan}
-use Rattle.kfs_model.specs.Run.{Mark, EntryFault, run, bytes, marks, marked, byte_of, looked_up}
+use Rattle.kfs_model.specs.Run.{Mark, EntryFault, run, over_bytes, over_marks, marked, byte_of, looked_up}
 use Rattle.kfs_model.specs.FirstWrong.{RowFault, first_wrong_row}
 use Rattle.kfs_model.specs.Spelling.{SpellingFault, LogAnswer, IsEntry}
 use Rattle.kfs_model.specs.CleanStep.{IsClient}
@@ -16,7 +16,7 @@ use Rattle.kfs_model.specs.Fresh.{fresh_tree}
 use Rattle.kfs_model.specs.Soundness.{IsSound}
 use Rattle.kfs_model.specs.Placement.{TierSizes, written_blocks}
 use Rattle.kfs_model.specs.Judgement.{State, Verdict, Yes, No, ClientUnknown, ClientWrong, AtRow, Reply, Accepted, NoRoom, Refused, Submission, Reading, IsReadAs, client_sight_of, judged, judged_log, judged_plan, judged_run, verdict_on, reply_to}
-use Rattle.kfs_model.specs.Machine.{Call, Submit, Lease, Drop, Tick, CallAnswer, Replied, Outcome, Row, IsRead, same_answer, answered, unplaced, replied, leased, are_chosen, landed, outcome_of, next, after, opening}
+use Rattle.kfs_model.specs.Machine.{Call, Submit, Lease, Drop, Tick, CallAnswer, Replied, CallOutcome, Row, IsRead, same_answer, answered, unplaced, replied, leased, are_chosen, landed, outcome_of, next, after, opening}
 use Rattle.kfs_model.specs.Order.{IsInOrder}
 use Rattle.kfs_model.proofs.Cells.{recut, headers-recut}
 use Rattle.kfs_model.proofs.FreshTree.{fresh_is_sound}
@@ -34,8 +34,8 @@ record IsYes (s : State) (number : ℕ) (log : Result Log SpellingFault) (after 
   row : row_of s.clients number ≡ Some client
   read : Log
   log_is : log ≡ Ok read
-  ran : run bytes client (client_sight_of s client.number) s.tree read.entries ≡ Ok after
-  ran_marked : run marks client (client_sight_of s client.number) (marked s.tree) read.entries ≡ Ok marked_after
+  ran : run over_bytes client (client_sight_of s client.number) s.tree read.entries ≡ Ok after
+  ran_marked : run over_marks client (client_sight_of s client.number) (marked s.tree) read.entries ≡ Ok marked_after
 
 module _ (s : State) (number : ℕ) (log : Result Log SpellingFault) (plan : Result Plan SpellingFault) (after : Tree ℕ) (marked_after : Tree Mark) where
   yes_means : judged s number log plan ≡ Yes after marked_after → IsYes s number log after marked_after
@@ -43,7 +43,7 @@ module _ (s : State) (number : ℕ) (log : Result Log SpellingFault) (plan : Res
   yes_means is = by_client (row_of s.clients number) refl is
     where
       by_rows : (client : Client) (read : Log) (rows : Plan) (t : Tree ℕ) (u : Tree Mark) → row_of s.clients number ≡ Some client → log ≡ Ok read
-          → run bytes client (client_sight_of s client.number) s.tree read.entries ≡ Ok t → run marks client (client_sight_of s client.number) (marked s.tree) read.entries ≡ Ok u
+          → run over_bytes client (client_sight_of s client.number) s.tree read.entries ≡ Ok t → run over_marks client (client_sight_of s client.number) (marked s.tree) read.entries ≡ Ok u
           → (wrong : Option RowFault) → ◌≡◌ {A = Verdict} (elim wrong [ None ↦ Yes t u | Some fault ↦ No (AtRow fault) ]) (Yes after marked_after) → IsYes s number log after marked_after
       by_rows client read rows t u row log_is ran ran_marked None is =
           let same : t ≡ after = cc in
@@ -52,7 +52,7 @@ module _ (s : State) (number : ℕ) (log : Result Log SpellingFault) (plan : Res
       by_rows client read rows t u row log_is ran ran_marked (Some fault) is = cc
 
       by_run : (client : Client) (read : Log) (rows : Plan) → row_of s.clients number ≡ Some client → log ≡ Ok read
-          → (end : Result (Tree ℕ) EntryFault) (marked_end : Result (Tree Mark) EntryFault) → run bytes client (client_sight_of s client.number) s.tree read.entries ≡ end → run marks client (client_sight_of s client.number) (marked s.tree) read.entries ≡ marked_end
+          → (end : Result (Tree ℕ) EntryFault) (marked_end : Result (Tree Mark) EntryFault) → run over_bytes client (client_sight_of s client.number) s.tree read.entries ≡ end → run over_marks client (client_sight_of s client.number) (marked s.tree) read.entries ≡ marked_end
           → judged_run s rows end marked_end ≡ Yes after marked_after → IsYes s number log after marked_after
       by_run client read rows row log_is (Err fault) marked_end ran ran_marked is = cc
       by_run client read rows row log_is (Ok t) (Err fault) ran ran_marked is = cc
@@ -61,7 +61,7 @@ module _ (s : State) (number : ℕ) (log : Result Log SpellingFault) (plan : Res
       by_plan : (client : Client) (read : Log) (rows : Result Plan SpellingFault) → row_of s.clients number ≡ Some client → log ≡ Ok read → judged_plan s client read rows ≡ Yes after marked_after → IsYes s number log after marked_after
       by_plan client read (Err fault) row log_is is = cc
       by_plan client read (Ok rows) row log_is is =
-          by_run client read rows row log_is (run bytes client (client_sight_of s client.number) s.tree read.entries) (run marks client (client_sight_of s client.number) (marked s.tree) read.entries) refl refl is
+          by_run client read rows row log_is (run over_bytes client (client_sight_of s client.number) s.tree read.entries) (run over_marks client (client_sight_of s client.number) (marked s.tree) read.entries) refl refl is
 
       by_owner : (client : Client) (read : Log) → row_of s.clients number ≡ Some client → log ≡ Ok read → (own : Bool) → cond own (judged_plan s client read plan) (No ClientWrong) ≡ Yes after marked_after → IsYes s number log after marked_after
       by_owner client read row log_is true is = by_plan client read plan row log_is is
@@ -86,7 +86,7 @@ client_in_range (c ∷ clients) number client all row = at (c.number == number) 
     at false rest is = rest is
 
 -- bytes and marks show the same headers
-heads_alike : (client : Client) (before : ClientSight) (tree : Tree ℕ) (entries : List Entry) (after : Tree ℕ) (marked_after : Tree Mark) → run bytes client before tree entries ≡ Ok after → run marks client before (marked tree) entries ≡ Ok marked_after → headers marked_after ≡ headers after
+heads_alike : (client : Client) (before : ClientSight) (tree : Tree ℕ) (entries : List Entry) (after : Tree ℕ) (marked_after : Tree Mark) → run over_bytes client before tree entries ≡ Ok after → run over_marks client before (marked tree) entries ≡ Ok marked_after → headers marked_after ≡ headers after
 heads_alike client before tree entries after marked_after ran ran_marked =
     let byte = byte_of tree entries in
     let both : ◌≡◌ {A = Result (Tree ℕ) EntryFault} (Ok (recut byte marked_after)) (Ok after) = ap (looked_up byte) (sym ran_marked) ∙ marks_give_bytes client before tree entries ∙ ran in
@@ -98,7 +98,7 @@ entries_fit submission log read answer is = let fit = subst (LogAnswer submissio
 
 -- ---- the outcomes of a state in order
 
-abbrev InOrder : Option Outcome → Type 0
+abbrev InOrder : Option CallOutcome → Type 0
 InOrder None = Unit {0}
 InOrder (Some outcome) = IsInOrder outcome.1
 
@@ -133,7 +133,7 @@ module _ (s : State) (order : IsInOrder s) (places : List ℕ) where
   landed_in_order : (number : ℕ) (log : Result Log SpellingFault) (submission : List ℕ) (after : Tree ℕ) (marked_after : Tree Mark) → LogAnswer submission log → IsYes s number log after marked_after
       → are_chosen s (written_blocks marked_after) places ≡ true → IsInOrder (landed s after marked_after places)
   landed_in_order number log submission after marked_after answer said chosen = record {
-    sound = run_keeps_sound bytes bytes_faithful said.client (client_sight_of s said.client.number) (client_in_range s.clients number said.client order.clients said.row) 0 [] s.tree said.read.entries order.sound (entries_fit submission log said.read answer said.log_is) after said.ran;
+    sound = run_keeps_sound over_bytes bytes_faithful said.client (client_sight_of s said.client.number) (client_in_range s.clients number said.client order.clients said.row) 0 [] s.tree said.read.entries order.sound (entries_fit submission log said.read answer said.log_is) after said.ran;
     on_nodes = without_gone_on_nodes s.leases after;
     compatible = without_gone_compatible s.leases (λ n. is_some (get after.nodes n)) order.compatible;
     distinct = order.distinct;
@@ -172,11 +172,11 @@ pub step_keeps_order : (s t : State) (row : Row) → IsInOrder s → IsRead row 
 unfolding next
 step_keeps_order s t row order read is = by (outcome_of s row.call row.places) (outcome_in_order s order row.places row.call row refl read) is
   where
-    by_answer : (outcome : Outcome) (same : Bool) → IsInOrder outcome.1 → cond same (Some outcome.1) None ≡ Some t → IsInOrder t
+    by_answer : (outcome : CallOutcome) (same : Bool) → IsInOrder outcome.1 → cond same (Some outcome.1) None ≡ Some t → IsInOrder t
     by_answer outcome true kept is = let same : outcome.1 ≡ t = cc in subst IsInOrder same kept
     by_answer outcome false kept is = cc
 
-    by : (outcome : Option Outcome) → InOrder outcome → ◌≡◌ {A = Option State} (elim outcome [ None ↦ None | Some outcome ↦ answered row.answer outcome ]) (Some t) → IsInOrder t
+    by : (outcome : Option CallOutcome) → InOrder outcome → ◌≡◌ {A = Option State} (elim outcome [ None ↦ None | Some outcome ↦ answered row.answer outcome ]) (Some t) → IsInOrder t
     by None kept is = cc
     by (Some outcome) kept is = by_answer outcome (same_answer outcome.0 row.answer) kept is
 

@@ -3,10 +3,10 @@
 use Rattle.std.proofs.Common.{◌≡◌, ◌≢◌, ℕ, zero, suc, Bool, true, false, cond, ◌||◌, ◌==◌, ltb, pos, List, Option, Some, None, option_and_then, IsTrue, refl, sym, ap, ap₂, subst, ◌∙◌, ◌⊎◌, inl, inr, eq-eqb, ne_eqb}
 use Rattle.kfs_model.specs.Header.{Kind}
 use Rattle.kfs_model.specs.Table.{get, insert, remove, same_table, get-retain}
-use Rattle.kfs_model.specs.Tree.{Tree, Node, Links, headers, target, entry_count, is_named}
+use Rattle.kfs_model.specs.Tree.{Tree, Node, NameTable, headers, target, entry_count, is_named}
 use Rattle.kfs_model.specs.Entry.{Unlink, Rename}
 use Rattle.kfs_model.specs.Sight.{Sight, sight, is_directory, climb_limit, climb_meets}
-use Rattle.kfs_model.specs.Effect.{Fabric, change_of, effect, swept, with_names, moved_name}
+use Rattle.kfs_model.specs.Effect.{CellMaker, change_of, effect, swept, with_names, moved_name}
 use Rattle.kfs_model.specs.Check.{EntryContext}
 use Rattle.kfs_model.specs.Soundness.{IsSound}
 use Rattle.kfs_model.specs.Spelling.{IsName}
@@ -14,7 +14,7 @@ use Rattle.kfs_model.specs.FirstWrong.{same_place}
 use Rattle.kfs_model.specs.SeenAfter.{unlinked, seen_without, seen_moved, seen_renamed, seen_unlinked, seen_after}
 use Rattle.kfs_model.specs.CleanStep.{IsClean, IsKept}
 use Rattle.kfs_model.proofs.CleanFacts.{at_tree, clean_at, unlink_facts, RenameFacts, RenameCase, Same, ToNone, Over, rename_facts}
-use Rattle.kfs_model.proofs.Links.{target-insert, target-remove, is_named_counts}
+use Rattle.kfs_model.proofs.NameTable.{target-insert, target-remove, is_named_counts}
 use Rattle.kfs_model.proofs.NameRemoved as Removed
 use Rattle.kfs_model.proofs.Heads.{stays, own_sweep}
 use Rattle.kfs_model.proofs.UnlinkStep.{unlink_seen, unlink_sound, holder_apart}
@@ -42,14 +42,14 @@ meets_no_more parent fewer each (suc fuel) n from apart = at (from == n) (parent
 
 module _ {B : Type 0} (t : Tree B) (sound : IsSound t) (d : ℕ) (m : List ℕ) (e : ℕ) (k : List ℕ) (n over : ℕ) (there : target t.names d m ≡ Some n) (also : target t.names e k ≡ Some over) (other : over ≢ n)
     (empty : IsTrue (is_directory (get (headers t) over)) → entry_count t.names over ≡ 0) where
-  abbrev without : Links
+  abbrev without : NameTable
   without = remove t.names (e, k)
 
   -- the tree without the name that is replaced
   abbrev between : Tree B
   between = swept (with_names without t)
 
-  between_names : Links
+  between_names : NameTable
   between_names = without
 
   there_still : target without d m ≡ Some n
@@ -58,10 +58,10 @@ module _ {B : Type 0} (t : Tree B) (sound : IsSound t) (d : ℕ) (m : List ℕ) 
   free_now : target without e k ≡ None
   free_now = Removed.gone t.names e k over also
 
-  abbrev at_once : Links
+  abbrev at_once : NameTable
   at_once = insert (remove t.names (d, m)) (e, k) n
 
-  abbrev in_two : Links
+  abbrev in_two : NameTable
   in_two = insert (remove without (d, m)) (e, k) n
 
   same_names : at_once ≡ in_two
@@ -132,9 +132,9 @@ module _ {B : Type 0} (t : Tree B) (sound : IsSound t) (d : ℕ) (m : List ℕ) 
 -- ---- the entries
 
 -- what a moved name leaves, by what the two names lead to
-module _ (names : Links) (d : ℕ) (m : List ℕ) (e : ℕ) (k : List ℕ) (n : ℕ) (there : target names d m ≡ Some n) where
+module _ (names : NameTable) (d : ℕ) (m : List ℕ) (e : ℕ) (k : List ℕ) (n : ℕ) (there : target names d m ≡ Some n) where
   -- whether nothing changes
-  abbrev unless : Bool → Links
+  abbrev unless : Bool → NameTable
   unless same = elim same [ true ↦ names | false ↦ insert (remove names (d, m)) (e, k) n ]
 
   moved_to_none : target names e k ≡ None → moved_name names d m e k ≡ insert (remove names (d, m)) (e, k) n
@@ -146,8 +146,8 @@ module _ (names : Links) (d : ℕ) (m : List ℕ) (e : ℕ) (k : List ℕ) (n : 
   moved_nowhere : target names e k ≡ Some n → moved_name names d m e k ≡ names
   moved_nowhere also = let same : (n == n) ≡ true = eq-eqb n n refl in rw (there, moved_name) (rw (also, moved_name) (ap unless same))
 
-module _ {B : Type 0} (fabric : Fabric B) (context : EntryContext) (index : ℕ) (t : Tree B) where
-  pub unlink_kept : (d : ℕ) (m : List ℕ) (kind : Kind) → IsClean context t (Unlink d m kind) → IsKept fabric context.client index t (Unlink d m kind)
+module _ {B : Type 0} (maker : CellMaker B) (context : EntryContext) (index : ℕ) (t : Tree B) where
+  pub unlink_kept : (d : ℕ) (m : List ℕ) (kind : Kind) → IsClean context t (Unlink d m kind) → IsKept maker context.client index t (Unlink d m kind)
   unfolding change_of seen_after
   unlink_kept d m kind h =
       let facts = unlink_facts (at_tree context t) d m kind (clean_at context t h) in
@@ -158,19 +158,19 @@ module _ {B : Type 0} (fabric : Fabric B) (context : EntryContext) (index : ℕ)
       }
 
   -- the entry's change, where the names are left so
-  with_names_left : (d : ℕ) (m : List ℕ) (e : ℕ) (k : List ℕ) (left : Links) → moved_name t.names d m e k ≡ left → effect fabric context.client index (Rename d m e k) t ≡ swept (with_names left t)
+  with_names_left : (d : ℕ) (m : List ℕ) (e : ℕ) (k : List ℕ) (left : NameTable) → moved_name t.names d m e k ≡ left → effect maker context.client index (Rename d m e k) t ≡ swept (with_names left t)
   unfolding change_of
   with_names_left d m e k left is = ap (λ names. swept (with_names names t)) is
 
-  renamed_as : (d : ℕ) (m : List ℕ) (e : ℕ) (k : List ℕ) (left : Links) (there also : Option ℕ) → moved_name t.names d m e k ≡ left → target t.names d m ≡ there → target t.names e k ≡ also
-      → IsSound (swept (with_names left t)) → sight (swept (with_names left t)) ≡ seen_renamed d m e k there also (sight t) → IsKept fabric context.client index t (Rename d m e k)
+  renamed_as : (d : ℕ) (m : List ℕ) (e : ℕ) (k : List ℕ) (left : NameTable) (there also : Option ℕ) → moved_name t.names d m e k ≡ left → target t.names d m ≡ there → target t.names e k ≡ also
+      → IsSound (swept (with_names left t)) → sight (swept (with_names left t)) ≡ seen_renamed d m e k there also (sight t) → IsKept maker context.client index t (Rename d m e k)
   unfolding seen_after
   renamed_as d m e k left there also is there_is also_is sound seen = record {
     sound = subst IsSound (sym (with_names_left d m e k left is)) sound;
     seen = ap sight (with_names_left d m e k left is) ∙ seen ∙ ap₂ (λ there also. seen_renamed d m e k there also (sight t)) (sym there_is) (sym also_is);
   }
 
-  pub rename_kept : (d : ℕ) (m : List ℕ) (e : ℕ) (k : List ℕ) → IsClean context t (Rename d m e k) → IsKept fabric context.client index t (Rename d m e k)
+  pub rename_kept : (d : ℕ) (m : List ℕ) (e : ℕ) (k : List ℕ) → IsClean context t (Rename d m e k) → IsKept maker context.client index t (Rename d m e k)
   rename_kept d m e k h = by_way facts.way
     where
       facts : RenameFacts (sight t) d m e k
@@ -179,7 +179,7 @@ module _ {B : Type 0} (fabric : Fabric B) (context : EntryContext) (index : ℕ)
       n : ℕ
       n = facts.number
 
-      by_way : RenameCase (sight t) d m e k n → IsKept fabric context.client index t (Rename d m e k)
+      by_way : RenameCase (sight t) d m e k n → IsKept maker context.client index t (Rename d m e k)
       by_way (Same over also same) =
           let also_n = also ∙ ap Some same in
           renamed_as d m e k t.names (Some n) (Some n) (moved_nowhere t.names d m e k n facts.there also_n) facts.there also_n

@@ -2,7 +2,7 @@
 use Rattle.std.proofs.Common.{◌≡◌, ℕ, List, map, Option, Some, None, nat_eq, refl, sym, subst}
 use Rattle.kfs_model.specs.Header.{Header}
 use Rattle.kfs_model.specs.Table.{Table, numbers, get}
-use Rattle.kfs_model.specs.Tree.{Tree, Links, headers, directory_entries}
+use Rattle.kfs_model.specs.Tree.{Tree, NameTable, headers, name_order}
 use Rattle.kfs_model.specs.Run.{Mark}
 use Rattle.kfs_model.specs.PlanRow.{NameRow, NodeRow, Plan}
 use Rattle.kfs_model.specs.Plan.{AreDifferences, number_now, header_now, keyed_name, keyed_node, AreNameRows, AreNodeRows, IsRight}
@@ -11,12 +11,12 @@ use Rattle.kfs_model.proofs.Exact.{numbers-exact, places-exact, headers-exact, o
 use Rattle.kfs_model.proofs.Differences.{equal_from_none, none_from_equal, differences_are, differences_only}
 use Rattle.kfs_model.proofs.Pieces.{pieces_from_none, none_from_pieces}
 
-names_from_none : (before after : Links) (rows : List NameRow) → first_wrong_name before after rows ≡ None → AreNameRows before after rows
+names_from_none : (before after : NameTable) (rows : List NameRow) → first_wrong_name before after rows ≡ None → AreNameRows before after rows
 names_from_none before after rows e =
     let same = equal_from_none (same_pair same_place nat_eq) (pairs-exact same_place nat_eq places-exact numbers-exact) (map keyed_name rows) (differences nat_eq number_now before after).entries e in
-    subst (AreDifferences directory_entries number_now (get before) (get after)) (sym same) (differences_are nat_eq numbers-exact number_now before after)
+    subst (AreDifferences name_order number_now (get before) (get after)) (sym same) (differences_are nat_eq numbers-exact number_now before after)
 
-none_from_names : (before after : Links) (rows : List NameRow) → AreNameRows before after rows → first_wrong_name before after rows ≡ None
+none_from_names : (before after : NameTable) (rows : List NameRow) → AreNameRows before after rows → first_wrong_name before after rows ≡ None
 none_from_names before after rows h =
     none_from_equal (same_pair same_place nat_eq) (pairs-exact same_place nat_eq places-exact numbers-exact) (map keyed_name rows) (differences nat_eq number_now before after).entries
     (differences_only nat_eq numbers-exact number_now before after (map keyed_name rows) h)

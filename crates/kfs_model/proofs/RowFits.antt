@@ -3,7 +3,7 @@ use Rattle.std.proofs.Common.{◌≡◌, true, cond, Option, Some, None, refl, a
 use native.Mathlib.Decide.{ℕ_discrete}
 use Rattle.kfs_model.specs.Lease.{LeaseFault-discrete}
 use Rattle.kfs_model.specs.Judgement.{State, Reply-equality, is_yes}
-use Rattle.kfs_model.specs.Machine.{CallAnswer, CallAnswer-discrete, same_answer, Outcome, outcome_of, Row, answered, next}
+use Rattle.kfs_model.specs.Machine.{CallAnswer, CallAnswer-discrete, same_answer, CallOutcome, outcome_of, Row, answered, next}
 
 same_answer_itself : (a : CallAnswer) → same_answer a a ≡ true
 same_answer_itself a = by (CallAnswer-discrete Reply-equality ℕ_discrete (LeaseFault-discrete ℕ_discrete) a a)
@@ -15,5 +15,5 @@ same_answer_itself a = by (CallAnswer-discrete Reply-equality ℕ_discrete (Leas
 pub row_fits : (s t : State) (row : Row) → outcome_of s row.call row.places ≡ Some (row.answer, t) → next s row ≡ Some t
 unfolding next
 row_fits s t row is =
-    ap (λ (o : Option Outcome). elim o [ None ↦ None | Some outcome ↦ answered row.answer outcome ]) is
+    ap (λ (o : Option CallOutcome). elim o [ None ↦ None | Some outcome ↦ answered row.answer outcome ]) is
     ∙ ap (λ b. cond b (Some t) None) (same_answer_itself row.answer)

@@ -4,7 +4,7 @@ use Rattle.std.proofs.Math.ListN.{get_or-append}
 use Rattle.std.proofs.Math.Seq.{get_or-append_right}
 use Rattle.std.proofs.lemmas.List.{get_or-take, get_or-drop, get_or-replicate, length-take-le, length-replicate}
 use Rattle.std.proofs.lemmas.Bool.Decides.{nat_tests}
-use Rattle.kfs_model.specs.Run.{Mark, Zero, Payload, places_from, marks}
+use Rattle.kfs_model.specs.Run.{Mark, Zero, Payload, places_from, over_marks}
 use Rattle.kfs_model.specs.Effect.{overwritten, resized, lengthened}
 
 -- ---- cells, read with zero behind their end
@@ -28,7 +28,7 @@ pub below_or_not : (i n : ℕ) → (i < n) ⊎ (n ≤ i)
 below_or_not i n = grind arith
 
 -- behind the end there are zero bytes only
-lengthened_read : (size : ℕ) (cells : List Mark) (i : ℕ) → get_or (lengthened marks size cells) i Zero ≡ get_or cells i Zero
+lengthened_read : (size : ℕ) (cells : List Mark) (i : ℕ) → get_or (lengthened over_marks size cells) i Zero ≡ get_or cells i Zero
 lengthened_read size cells i = ⊎_elim
     (λ (h : i < length cells). get_or-append cells (replicate (size - length cells) Zero) Zero i h)
     (λ (h : length cells ≤ i). get_or-append_right cells (replicate (size - length cells) Zero) i Zero h ∙ all_zero (size - length cells) (i - length cells) ∙ sym (get_or-past cells i Zero h))
@@ -40,17 +40,17 @@ lengthened_read size cells i = ⊎_elim
         (λ (h : n ≤ j). get_or-past (replicate n Zero) j Zero (omega (arith, length-replicate n Zero)))
         (below_or_not j n)
 
-lengthened_long : (size : ℕ) (cells : List Mark) → length (lengthened marks size cells) ≡ length cells + (size - length cells)
+lengthened_long : (size : ℕ) (cells : List Mark) → length (lengthened over_marks size cells) ≡ length cells + (size - length cells)
 lengthened_long size cells = length-append cells (replicate (size - length cells) Zero) ∙ ap (λ n. length cells + n) (length-replicate (size - length cells) Zero)
 
-begun_long : (size : ℕ) (cells : List Mark) → length (take size (lengthened marks size cells)) ≡ size
-begun_long size cells = length-take-le size (lengthened marks size cells) (omega (arith, lengthened_long size cells))
+begun_long : (size : ℕ) (cells : List Mark) → length (take size (lengthened over_marks size cells)) ≡ size
+begun_long size cells = length-take-le size (lengthened over_marks size cells) (omega (arith, lengthened_long size cells))
 
-pub resized_read : (size : ℕ) (cells : List Mark) (i : ℕ) → get_or (resized marks size cells) i Zero ≡ cond (leb size i) Zero (get_or cells i Zero)
+pub resized_read : (size : ℕ) (cells : List Mark) (i : ℕ) → get_or (resized over_marks size cells) i Zero ≡ cond (leb size i) Zero (get_or cells i Zero)
 unfolding resized
 resized_read size cells i = ⊎_elim
-    (λ (h : i < size). get_or-take size (lengthened marks size cells) i Zero h ∙ lengthened_read size cells i ∙ ap (λ b. cond b Zero (get_or cells i Zero)) (sym (not_least size i h)))
-    (λ (h : size ≤ i). get_or-past (take size (lengthened marks size cells)) i Zero (omega (arith, begun_long size cells)) ∙ ap (λ b. cond b Zero (get_or cells i Zero)) (sym (is_least size i h)))
+    (λ (h : i < size). get_or-take size (lengthened over_marks size cells) i Zero h ∙ lengthened_read size cells i ∙ ap (λ b. cond b Zero (get_or cells i Zero)) (sym (not_least size i h)))
+    (λ (h : size ≤ i). get_or-past (take size (lengthened over_marks size cells)) i Zero (omega (arith, begun_long size cells)) ∙ ap (λ b. cond b Zero (get_or cells i Zero)) (sym (is_least size i h)))
     (below_or_not i size)
   where
     not_least : (size i : ℕ) → i < size → leb size i ≡ false
@@ -68,10 +68,10 @@ outside a b i h = grind (arith, nat_tests)
 -- the payload's cells, at the offset, over what was there
 module _ (offset : ℕ) (c : Mark) (cs cells : List Mark) (i : ℕ) where
   abbrev all : List Mark
-  all = take offset (lengthened marks offset cells) ++ (c ∷ cs) ++ drop (offset + length (c ∷ cs)) cells
+  all = take offset (lengthened over_marks offset cells) ++ (c ∷ cs) ++ drop (offset + length (c ∷ cs)) cells
 
   abbrev start : List Mark
-  start = take offset (lengthened marks offset cells)
+  start = take offset (lengthened over_marks offset cells)
 
   front_long : length (start ++ (c ∷ cs)) ≡ offset + length (c ∷ cs)
   front_long = length-append start (c ∷ cs) ∙ ap (λ n. n + length (c ∷ cs)) (begun_long offset cells)
@@ -80,7 +80,7 @@ module _ (offset : ℕ) (c : Mark) (cs cells : List Mark) (i : ℕ) where
   read_before h =
       get_or-append (start ++ (c ∷ cs)) (drop (offset + length (c ∷ cs)) cells) Zero i (omega (arith, front_long))
       ∙ get_or-append start (c ∷ cs) Zero i (omega (arith, begun_long offset cells))
-      ∙ get_or-take offset (lengthened marks offset cells) i Zero h
+      ∙ get_or-take offset (lengthened over_marks offset cells) i Zero h
       ∙ lengthened_read offset cells i
 
   read_inside : offset ≤ i → i < offset + length (c ∷ cs) → get_or all i Zero ≡ get_or (c ∷ cs) (i - offset) Zero
@@ -110,7 +110,7 @@ module _ (index offset b : ℕ) (bs : List ℕ) (cells : List Mark) (i : ℕ) wh
   long : length (Payload index 0 ∷ rest) ≡ length (b ∷ bs)
   long = places_long (Payload index) 0 (b ∷ bs)
 
-  written_read : get_or (take offset (lengthened marks offset cells) ++ (Payload index 0 ∷ rest) ++ drop (offset + length (Payload index 0 ∷ rest)) cells) i Zero
+  written_read : get_or (take offset (lengthened over_marks offset cells) ++ (Payload index 0 ∷ rest) ++ drop (offset + length (Payload index 0 ∷ rest)) cells) i Zero
       ≡ cond (leb offset i && ltb i end) (Payload index (i - offset)) (get_or cells i Zero)
   written_read = ⊎_elim
       (λ (h : i < offset). read_before offset (Payload index 0) rest cells i h ∙ sym (by_test (leb offset i && ltb i end) _ _ (outside offset end i (inl h))))
@@ -128,7 +128,7 @@ behind_start : (offset i : ℕ) → (i < offset) ⊎ (offset + 0 ≤ i)
 behind_start offset i = grind arith
 
 pub overwritten_read : (index offset : ℕ) (payload : List ℕ) (cells : List Mark) (i : ℕ)
-    → get_or (overwritten marks offset (places_from (Payload index) 0 payload) cells) i Zero
+    → get_or (overwritten over_marks offset (places_from (Payload index) 0 payload) cells) i Zero
     ≡ cond (leb offset i && ltb i (offset + length payload)) (Payload index (i - offset)) (get_or cells i Zero)
 unfolding overwritten
 overwritten_read index offset [] cells i = sym (by_test (leb offset i && ltb i (offset + 0)) (Payload index (i - offset)) (get_or cells i Zero) (outside offset (offset + 0) i (behind_start offset i)))

@@ -3,12 +3,12 @@ use Rattle.std.proofs.Common.{◌≡◌, ◌≢◌, ℕ, zero, suc, ◌+◌, ◌
 use Rattle.std.proofs.lemmas.Bool.{eqb-false, le-leb, lt-leb}
 use Rattle.kfs_model.specs.Header.{Kind, File, Directory, Header}
 use Rattle.kfs_model.specs.Table.{get, remove}
-use Rattle.kfs_model.specs.Tree.{Tree, Node, Body, Cells, Names, Links, headers, header_of, target, name_count, entry_count, is_named}
+use Rattle.kfs_model.specs.Tree.{Tree, Node, Body, FileBody, DirectoryBody, NameTable, headers, header_of, target, name_count, entry_count, is_named}
 use Rattle.kfs_model.specs.Sight.{sight, is_directory, parent_in}
 use Rattle.kfs_model.specs.Effect.{swept, with_names}
 use Rattle.kfs_model.specs.Soundness.{Climbs, IsSound}
 use Rattle.kfs_model.specs.SeenAfter.{put_at, unlinked, seen_without}
-use Rattle.kfs_model.proofs.Links.{target-remove, target_is_named, target_is_entry, is_named_counts}
+use Rattle.kfs_model.proofs.NameTable.{target-remove, target_is_named, target_is_entry, is_named_counts}
 use Rattle.kfs_model.proofs.NameRemoved.{was_target, kept_target, others_count, own_count, count_shifted}
 use Rattle.kfs_model.proofs.Heads.{stays, named_stays, get-headers, kept_head, directory_stays, directory_count, parent_kept, parent_of_none, parent_named}
 use Rattle.kfs_model.proofs.NameStep.{left_head, left_head_is, NamesKept, names_kept_sound, stays_named}
@@ -18,7 +18,7 @@ module _ {B : Type 0} (t : Tree B) (sound : IsSound t) (d : ℕ) (m : List ℕ) 
   abbrev head : ℕ → Option Header
   head = get (headers t)
 
-  abbrev after : Links
+  abbrev after : NameTable
   after = remove t.names (d, m)
 
   abbrev heads : ℕ → Option Header
@@ -51,11 +51,11 @@ module _ {B : Type 0} (t : Tree B) (sound : IsSound t) (d : ℕ) (m : List ℕ) 
     where
       at : (body : Body B) → head n ≡ Some (header_of t.names n (record node { body = body }))
           → option_map (header_of after n) (cond (ltb 0 (name_count after n)) (Some (record node { body = body })) None) ≡ unlinked (header_of t.names n (record node { body = body }))
-      at (Cells cells) shown = last_or_not (header_of after n) (record node { body = Cells cells }) (name_count after n) (name_count t.names n) (header_of t.names n (record node { body = Cells cells })) (own_count t.names d m n there) refl
-      at Names shown =
+      at (FileBody cells) shown = last_or_not (header_of after n) (record node { body = FileBody cells }) (name_count after n) (name_count t.names n) (header_of t.names n (record node { body = FileBody cells })) (own_count t.names d m n there) refl
+      at DirectoryBody shown =
           let one = sound.directories n (ap is_directory shown) no_root in
           let none : name_count after n ≤ 0 = omega (arith, own_count t.names d m n there) in
-          ap (λ b. option_map (header_of after n) (cond b (Some (record node { body = Body.Names })) None)) (le-ltb 0 (name_count after n) none)
+          ap (λ b. option_map (header_of after n) (cond b (Some (record node { body = DirectoryBody })) None)) (le-ltb 0 (name_count after n) none)
 
   shown_at : (k : ℕ) (b : Bool) → (k == n) ≡ b → option_map (header_of after k) (cond (stays after k) (get t.nodes k) None) ≡ cond b (option_and_then unlinked (head n)) (head k)
   shown_at k true same =

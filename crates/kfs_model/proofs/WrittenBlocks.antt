@@ -3,7 +3,7 @@ use Rattle.std.proofs.Common.{◌≡◌, ℕ, zero, suc, ◌+◌, ◌*◌, ◌<�
 use Rattle.std.specs.List.{AllByRecursion, flat_map}
 use Rattle.std.specs.FinMap.Entries.{find, is_sorted}
 use Rattle.kfs_model.specs.Table.{Order, numbers, get}
-use Rattle.kfs_model.specs.Tree.{Tree, Node, Body, Cells, Names, headers, header_of}
+use Rattle.kfs_model.specs.Tree.{Tree, Node, Body, FileBody, DirectoryBody, headers, header_of}
 use Rattle.kfs_model.specs.Run.{Mark}
 use Rattle.kfs_model.specs.Limits.{block_size}
 use Rattle.kfs_model.specs.Placement.{IsBlock, block_count, blocks_from, blocks_that, is_written, written_blocks}
@@ -66,9 +66,9 @@ module _ (t : Tree Mark) where
     where
       at : (body : Body Mark) (mode uid gid : ℕ) → get t.nodes n ≡ Some (record { mode = mode; uid = uid; gid = gid; body = body })
           → AllByRecursion IsOfTree (blocks_that test (n, record { mode = mode; uid = uid; gid = gid; body = body }))
-      at Names mode uid gid there = tt
-      at (Cells cells) mode uid gid there =
-          let node : Node Mark = record { mode = mode; uid = uid; gid = gid; body = Cells cells } in
+      at DirectoryBody mode uid gid there = tt
+      at (FileBody cells) mode uid gid there =
+          let node : Node Mark = record { mode = mode; uid = uid; gid = gid; body = FileBody cells } in
           let count = block_count (length cells) in
           all_more (IsBelow test n count) IsOfTree
           (λ block is. record {

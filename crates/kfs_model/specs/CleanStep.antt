@@ -8,8 +8,8 @@ use Rattle.kfs_model.specs.Tree.{Tree}
 use Rattle.kfs_model.specs.Sight.{ClientSight, sight}
 use Rattle.kfs_model.specs.Entry.{Entry}
 use Rattle.kfs_model.specs.Check.{EntryContext, first_fault}
-use Rattle.kfs_model.specs.Effect.{Fabric, effect}
-use Rattle.kfs_model.specs.Run.{run, bytes}
+use Rattle.kfs_model.specs.Effect.{CellMaker, effect}
+use Rattle.kfs_model.specs.Run.{run, over_bytes}
 use Rattle.kfs_model.specs.Soundness.{IsSound}
 use Rattle.kfs_model.specs.Spelling.{IsEntry}
 use Rattle.kfs_model.specs.SeenAfter.{seen_after, seen_run_from, shown_run}
@@ -30,9 +30,9 @@ pub record IsClean {B : Type 0} (context : EntryContext) (t : Tree B) (entry : E
   pub clean : first_fault context entry ≡ None
 
 -- the entry with this number in its log leaves the tree sound
-pub record IsKept {B : Type 0} (fabric : Fabric B) (client : Client) (index : ℕ) (t : Tree B) (entry : Entry) : Type 0 where
-  pub sound : IsSound (effect fabric client index entry t)
-  pub seen : sight (effect fabric client index entry t) ≡ seen_after client (sight t) entry
+pub record IsKept {B : Type 0} (maker : CellMaker B) (client : Client) (index : ℕ) (t : Tree B) (entry : Entry) : Type 0 where
+  pub sound : IsSound (effect maker client index entry t)
+  pub seen : sight (effect maker client index entry t) ≡ seen_after client (sight t) entry
 
 -- ---- a log
 
@@ -44,4 +44,4 @@ pub record Fits (client : Client) (t : Tree ℕ) (entries : List Entry) : Type 0
 
 -- the run over the tree and the run over its cells have one fault or show the same
 abbrev pub IsSeenInCells : Client → (before : ClientSight) → Tree ℕ → List Entry → Type 0
-IsSeenInCells client before t entries = shown_run (run bytes client before t entries) ≡ seen_run_from client before 0 [] (sight t) entries
+IsSeenInCells client before t entries = shown_run (run over_bytes client before t entries) ≡ seen_run_from client before 0 [] (sight t) entries

@@ -3,18 +3,18 @@ use Rattle.std.specs.Prelude.{ℕ, ◌+◌, ◌-◌, ◌==◌, ◌||◌, true, f
 use Rattle.kfs_model.specs.Header.{Kind, File, Directory}
 use Rattle.kfs_model.specs.Access.{Client}
 use Rattle.kfs_model.specs.Table.{get, insert, remove, retain}
-use Rattle.kfs_model.specs.Tree.{Tree, Node, Body, Cells, Names, Links, target, is_named}
+use Rattle.kfs_model.specs.Tree.{Tree, Node, Body, FileBody, DirectoryBody, NameTable, target, is_named}
 use Rattle.kfs_model.specs.Entry.{Entry, Create, Write, Truncate, Link, Unlink, Rename, Chmod}
 
 -- what new cells are: the cell of a gap, and those of the payload of the entry with this number
-pub record Fabric (B : Type 0) : Type 0 where
+pub record CellMaker (B : Type 0) : Type 0 where
   pub gap : B
   pub payload : (entry : ℕ) → List ℕ → List B
 
-module _ {B : Type 0} (fabric : Fabric B) where
+module _ {B : Type 0} (maker : CellMaker B) where
   -- with cells of a gap at its end up to this size, where it is shorter
   abbrev pub lengthened : ℕ → List B → List B
-  lengthened size cells = cells ++ replicate (size - length cells) fabric.gap
+  lengthened size cells = cells ++ replicate (size - length cells) maker.gap
 
   -- the payload stands at the offset, behind a gap where the file ends before it
   unfoldable pub overwritten : (offset : ℕ) → (payload cells : List B) → List B
@@ -26,19 +26,19 @@ module _ {B : Type 0} (fabric : Fabric B) where
   resized size cells = take size (lengthened size cells)
 
   abbrev pub new_body : Kind → Body B
-  new_body File = Cells []
-  new_body Directory = Names
+  new_body File = FileBody []
+  new_body Directory = DirectoryBody
 
   abbrev pub on_cells : (List B → List B) → Body B → Body B
-  on_cells change (Cells cells) = Cells (change cells)
-  on_cells change Names = Names
+  on_cells change (FileBody cells) = FileBody (change cells)
+  on_cells change DirectoryBody = DirectoryBody
 
 module _ {B : Type 0} where
   -- the node changed, where there is one
   abbrev pub changed_node : (Node B → Node B) → ℕ → Tree B → Tree B
   changed_node change n t = elim (get t.nodes n) [ None ↦ t | Some node ↦ record { nodes = insert t.nodes n (change node); names = t.names } ]
 
-  abbrev pub with_names : Links → Tree B → Tree B
+  abbrev pub with_names : NameTable → Tree B → Tree B
   with_names names t = record { nodes = t.nodes; names = names }
 
   -- a node that no name leads to goes, the root stays
@@ -46,25 +46,25 @@ module _ {B : Type 0} where
   swept t = record { nodes = retain (λ n. (n == 1) || is_named t.names n) t.nodes; names = t.names }
 
 -- the old name is gone and the new one leads to the node; nothing changes where both lead to one node
-abbrev pub moved_name : Links → (d : ℕ) → (m : List ℕ) → (e : ℕ) → (k : List ℕ) → Links
+abbrev pub moved_name : NameTable → (d : ℕ) → (m : List ℕ) → (e : ℕ) → (k : List ℕ) → NameTable
 moved_name names d m e k = elim (target names d m) [ None ↦ names | Some s ↦ to_new s (target names e k) ]
   where
-    move : ℕ → Links
+    move : ℕ → NameTable
     move s = insert (remove names (d, m)) (e, k) s
 
-    to_new : ℕ → Option ℕ → Links
+    to_new : ℕ → Option ℕ → NameTable
     to_new s None = move s
     to_new s (Some t) = elim (s == t) [ true ↦ names | false ↦ move s ]
 
-module _ {B : Type 0} (fabric : Fabric B) (client : Client) where
+module _ {B : Type 0} (maker : CellMaker B) (client : Client) where
   -- the change of the entry with this number in its log, before nodes without a name go
   unfoldable pub change_of : (index : ℕ) → Entry → Tree B → Tree B
   change_of index (Create d m n kind mode) t = record {
-    nodes = insert t.nodes n (record { mode = mode; uid = client.uid; gid = client.gid; body = new_body fabric kind });
+    nodes = insert t.nodes n (record { mode = mode; uid = client.uid; gid = client.gid; body = new_body maker kind });
     names = insert t.names (d, m) n;
   }
-  change_of index (Write n offset payload) t = changed_node (λ node. record node { body = on_cells fabric (overwritten fabric offset (fabric.payload index payload)) node.body }) n t
-  change_of index (Truncate n size) t = changed_node (λ node. record node { body = on_cells fabric (resized fabric size) node.body }) n t
+  change_of index (Write n offset payload) t = changed_node (λ node. record node { body = on_cells maker (overwritten maker offset (maker.payload index payload)) node.body }) n t
+  change_of index (Truncate n size) t = changed_node (λ node. record node { body = on_cells maker (resized maker size) node.body }) n t
   change_of index (Link n d m) t = with_names (insert t.names (d, m) n) t
   change_of index (Unlink d m kind) t = with_names (remove t.names (d, m)) t
   change_of index (Rename d m e k) t = with_names (moved_name t.names d m e k) t

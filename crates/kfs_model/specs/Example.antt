@@ -11,7 +11,7 @@ use Rattle.std.specs.Prelude.{◌≡◌, ℕ, Bool, true, false, List, [], ◌�
 use Rattle.kfs_model.specs.Header.{Kind, File, Directory}
 use Rattle.kfs_model.specs.Access.{Client}
 use Rattle.kfs_model.specs.Table.{Order, Table, numbers, pairs, empty, insert, get, retain, remove, mapped, united}
-use Rattle.kfs_model.specs.Tree.{Tree, Node, Body, Cells}
+use Rattle.kfs_model.specs.Tree.{Tree, Node, Body, FileBody}
 use Rattle.kfs_model.specs.Sight.{climb_meets, climbed}
 use Rattle.kfs_model.specs.Lease.{Lease, Leases, WriteLease, granted, dropped, live_at, on_those, ticked, without_gone, walked}
 use Rattle.kfs_model.specs.Spelling.{is_name}
@@ -45,10 +45,10 @@ client_8 = record { number = 8; uid = 1001; gid = 1001; groups = []; privileged 
 -- ---- nodes and names
 
 abbrev pub file : (number mode uid gid : ℕ) → List ℕ → ℕ × Node ℕ
-file number mode uid gid content = (number, record { mode = mode; uid = uid; gid = gid; body = Cells content })
+file number mode uid gid content = (number, record { mode = mode; uid = uid; gid = gid; body = FileBody content })
 
 abbrev pub directory : (number mode uid gid : ℕ) → ℕ × Node ℕ
-directory number mode uid gid = (number, record { mode = mode; uid = uid; gid = gid; body = Body.Names })
+directory number mode uid gid = (number, record { mode = mode; uid = uid; gid = gid; body = Body.DirectoryBody })
 
 -- of client 7, with this mode and content; of client 7, with mode 0o777
 abbrev pub own_file : (number mode : ℕ) → List ℕ → ℕ × Node ℕ

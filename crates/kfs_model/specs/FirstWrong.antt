@@ -5,7 +5,7 @@ use Rattle.std.specs.Cmp.Lexicographic.{pointwise}
 use Rattle.std.specs.Prelude.{nat_eq}
 use Rattle.kfs_model.specs.Header.{Header, Kind, File, Directory}
 use Rattle.kfs_model.specs.Table.{Order, Table, numbers, get, retain, mapped, united}
-use Rattle.kfs_model.specs.Tree.{Tree, Node, Links, headers, cells_of}
+use Rattle.kfs_model.specs.Tree.{Tree, Node, NameTable, headers, cells_of}
 use Rattle.kfs_model.specs.Check.{is_some_and}
 use Rattle.kfs_model.specs.Run.{Mark}
 use Rattle.kfs_model.specs.FirstAnswer.{first_answer}
@@ -67,7 +67,7 @@ first_difference same [] (y ∷ ys) = Some 0
 first_difference same (x ∷ xs) [] = Some 0
 first_difference same (x ∷ xs) (y ∷ ys) = elim (same x y) [ true ↦ option_map (λ i. i + 1) (first_difference same xs ys) | false ↦ Some 0 ]
 
-abbrev pub first_wrong_name : Links → Links → List NameRow → Option ℕ
+abbrev pub first_wrong_name : NameTable → NameTable → List NameRow → Option ℕ
 first_wrong_name before after rows = first_difference (same_pair same_place nat_eq) (map keyed_name rows) (differences nat_eq number_now before after).entries
 
 abbrev pub first_wrong_node : Table numbers Header → Table numbers Header → List NodeRow → Option ℕ

@@ -7,7 +7,7 @@ use Rattle.kfs_model.specs.Sight.{ClientSight, client_sight}
 use Rattle.kfs_model.specs.Lease.{Leases, holds, row_of}
 use Rattle.kfs_model.specs.Entry.{Entry, Log}
 use Rattle.kfs_model.specs.PlanRow.{Plan}
-use Rattle.kfs_model.specs.Run.{Mark, EntryFault, EntryFault-equality, run, bytes, marks, marked}
+use Rattle.kfs_model.specs.Run.{Mark, EntryFault, EntryFault-equality, run, over_bytes, over_marks, marked}
 use Rattle.kfs_model.specs.FirstWrong.{RowFault, RowFault-discrete, first_wrong_row}
 use Rattle.kfs_model.specs.Placement.{Placement, need, in_first_tier, is_free, below}
 pub use Rattle.kfs_model.specs.Placement.{TierSizes}
@@ -48,7 +48,7 @@ judged_run s plan (Ok after) (Err fault) = No (AtEntry fault)
 judged_run s plan (Ok after) (Ok marked_after) = judged_rows s plan after marked_after
 
 abbrev pub judged_entries : State → Client → List Entry → Plan → Verdict
-judged_entries s client entries plan = judged_run s plan (run bytes client (client_sight_of s client.number) s.tree entries) (run marks client (client_sight_of s client.number) (marked s.tree) entries)
+judged_entries s client entries plan = judged_run s plan (run over_bytes client (client_sight_of s client.number) s.tree entries) (run over_marks client (client_sight_of s client.number) (marked s.tree) entries)
 
 abbrev pub judged_plan : State → Client → Log → Result Plan SpellingFault → Verdict
 judged_plan s client log (Err fault) = No (BadPlan fault)

@@ -104,15 +104,15 @@ AreCompatible leases = (client other number : ℕ) (one two : Lease) → client 
 abbrev pub in_conflict : Leases → (client number : ℕ) → LeaseKind → Option ((ℕ × ℕ) × Lease)
 in_conflict leases client number kind = find (conflicts leases client number kind) leases.rows.entries
 
-abbrev pub Outcome : Type 0
-Outcome = Result ℕ LeaseFault × Leases
+abbrev pub LeaseOutcome : Type 0
+LeaseOutcome = Result ℕ LeaseFault × Leases
 
-abbrev pub refused : LeaseFault → Leases → Outcome
+abbrev pub refused : LeaseFault → Leases → LeaseOutcome
 refused fault leases = (Err fault, leases)
 
 module _ (leases : Leases) where
   -- on a node that the walk has found
-  abbrev pub granted_at : Client → (number : ℕ) → LeaseKind → (end : ℕ) → Outcome
+  abbrev pub granted_at : Client → (number : ℕ) → LeaseKind → (end : ℕ) → LeaseOutcome
   granted_at client number kind end =
       if nat_le end leases.moment then refused Past leases
       else elim (in_conflict leases client.number number kind) [
@@ -120,27 +120,27 @@ module _ (leases : Leases) where
         | None ↦ (Ok number, record leases { rows = insert leases.rows (client.number, number) (record { kind = kind; end = end }) })
       ]
 
-  abbrev pub granted_by_walk : Result ℕ LeaseFault → Client → LeaseKind → (end : ℕ) → Outcome
+  abbrev pub granted_by_walk : Result ℕ LeaseFault → Client → LeaseKind → (end : ℕ) → LeaseOutcome
   granted_by_walk (Err fault) client kind end = refused fault leases
   granted_by_walk (Ok number) client kind end = granted_at client number kind end
 
-  abbrev pub granted_on : Sight → Option (List (List ℕ)) → Client → LeaseKind → (end : ℕ) → Outcome
+  abbrev pub granted_on : Sight → Option (List (List ℕ)) → Client → LeaseKind → (end : ℕ) → LeaseOutcome
   granted_on sight None client kind end = refused BadPath leases
   granted_on sight (Some names) client kind end = granted_by_walk (walked sight client 1 0 names) client kind end
 
   -- a lease for the client on the node that the path leads to
-  unfoldable pub granted : Sight → List Client → (client : ℕ) → (path : List ℕ) → LeaseKind → (end : ℕ) → Outcome
+  unfoldable pub granted : Sight → List Client → (client : ℕ) → (path : List ℕ) → LeaseKind → (end : ℕ) → LeaseOutcome
   granted sight clients number path kind end =
       elim (row_of clients number) [ None ↦ refused UnknownClient leases | Some client ↦ granted_on sight (names_of path) client kind end ]
 
-  unfoldable pub dropped : List Client → (client number : ℕ) → Outcome
+  unfoldable pub dropped : List Client → (client number : ℕ) → LeaseOutcome
   dropped clients client number =
       if is_none (row_of clients client) then refused UnknownClient leases
       else if is_none (get leases.rows (client, number)) then refused NoLeaseHeld leases
       else (Ok number, record leases { rows = remove leases.rows (client, number) })
 
   -- the moment goes on, and leases that are no longer live go
-  unfoldable pub ticked : (moment : ℕ) → Outcome
+  unfoldable pub ticked : (moment : ℕ) → LeaseOutcome
   ticked moment =
       if nat_lt moment leases.moment then refused Backwards leases
       else (Ok moment, record { rows = live_at moment leases.rows; moment = moment })

@@ -6,7 +6,7 @@ use Rattle.kfs_model.specs.Tree.{Tree}
 use Rattle.kfs_model.specs.Entry.{Entry}
 use Rattle.kfs_model.specs.Sight.{Sight, ClientSight, Cell, client_sight, answer}
 use Rattle.kfs_model.specs.Check.{first_fault, entry_cells}
-use Rattle.kfs_model.specs.Run.{EntryFault, entry_context, created_by, run, bytes}
+use Rattle.kfs_model.specs.Run.{EntryFault, entry_context, created_by, run, over_bytes}
 use Rattle.kfs_model.specs.SeenAfter.{seen_after, seen_run_from, shown_run}
 
 module _ (client : Client) (before : ClientSight) where
@@ -41,7 +41,7 @@ EndAlike s u (Err fault) (Err other) = fault ≡ other
 abbrev pub TreesEndAlike : Client → (one other : Tree ℕ) → List Entry → Type 0
 TreesEndAlike client one other entries = (held other_held : ℕ → Bool) → LooksAlike client (client_sight one held) (client_sight other other_held) entries
     → EndAlike (client_sight one held) (client_sight other other_held)
-    (shown_run (run bytes client (client_sight one held) one entries)) (shown_run (run bytes client (client_sight other other_held) other entries))
+    (shown_run (run over_bytes client (client_sight one held) one entries)) (shown_run (run over_bytes client (client_sight other other_held) other entries))
 
 -- ---- what a log changes
 

@@ -13,7 +13,7 @@ use Rattle.kfs_model.specs.Check.{is_some_and}
 use Rattle.kfs_model.specs.Allowed.{IsAllowed}
 use Rattle.kfs_model.specs.Entry.{Entry}
 use Rattle.kfs_model.specs.Effect.{effect}
-use Rattle.kfs_model.specs.Run.{Mark, bytes, entry_context, created_by}
+use Rattle.kfs_model.specs.Run.{Mark, over_bytes, entry_context, created_by}
 use Rattle.kfs_model.specs.Placement.{Placement, TierSizes, in_first_tier, written_blocks, cleared_blocks, block_count}
 use Rattle.kfs_model.specs.Judgement.{State, Verdict, Yes, Reply, Reply-equality, is_yes, Accepted, Submission, Reading, IsReadAs, verdict_on, reply_to, free_places}
 
@@ -67,26 +67,26 @@ same_answer a b = is_yes (CallAnswer-discrete Reply-equality ℕ_discrete (Lease
 -- ---- one step
 
 -- an answer, and the state then
-abbrev pub Outcome : Type 0
-Outcome = CallAnswer × State
+abbrev pub CallOutcome : Type 0
+CallOutcome = CallAnswer × State
 
 -- only written blocks have places
-abbrev pub unplaced : (places : List ℕ) → Outcome → Option Outcome
+abbrev pub unplaced : (places : List ℕ) → CallOutcome → Option CallOutcome
 unplaced [] outcome = Some outcome
 unplaced (place ∷ places) outcome = None
 
 -- changed by a Yes with room alone
-abbrev pub replied : State → (places : List ℕ) → Verdict → Reply → Option Outcome
+abbrev pub replied : State → (places : List ℕ) → Verdict → Reply → Option CallOutcome
 replied s places (Yes after marked_after) (Accepted need) =
     if are_chosen s (written_blocks marked_after) places then Some (Replied (Accepted need), landed s after marked_after places) else None
 replied s places verdict reply = unplaced places (Replied reply, s)
 
-abbrev pub leased : State → (places : List ℕ) → Result ℕ LeaseFault × Leases → Option Outcome
+abbrev pub leased : State → (places : List ℕ) → Result ℕ LeaseFault × Leases → Option CallOutcome
 leased s places (Ok number, leases) = unplaced places (Done number, record s { leases = leases })
 leased s places (Err fault, leases) = unplaced places (NotDone fault, record s { leases = leases })
 
 -- what the call is answered, and the state then; none where the places aren't one free place for each written block
-unfoldable pub outcome_of : State → Call → (places : List ℕ) → Option Outcome
+unfoldable pub outcome_of : State → Call → (places : List ℕ) → Option CallOutcome
 outcome_of s (Submit submission reading) places = replied s places (verdict_on s submission.client reading) (reply_to s (verdict_on s submission.client reading))
 outcome_of s (Lease client path kind end) places = leased s places (granted s.leases (sight s.tree) s.clients client path kind end)
 outcome_of s (Drop client number) places = leased s places (dropped s.leases s.clients client number)
@@ -98,7 +98,7 @@ pub record Row : Type 0 where
   pub answer : CallAnswer
   pub places : List ℕ
 
-abbrev pub answered : CallAnswer → Outcome → Option State
+abbrev pub answered : CallAnswer → CallOutcome → Option State
 answered answer outcome = if same_answer outcome.0 answer then Some outcome.1 else None
 
 -- the state after the row, where it fits
@@ -132,4 +132,4 @@ IsRead row = IsReadCall row.call
 abbrev pub OneByOne : Client → (before : ClientSight) → (index : ℕ) → (created : List ℕ) → Tree ℕ → List Entry → Tree ℕ → Type 0
 OneByOne client before index created t [] after = after ≡ t
 OneByOne client before index created t (entry ∷ entries) after =
-    IsAllowed (entry_context client before (sight t) created) entry × OneByOne client before (index + 1) (created_by entry created) (effect bytes client index entry t) entries after
+    IsAllowed (entry_context client before (sight t) created) entry × OneByOne client before (index + 1) (created_by entry created) (effect over_bytes client index entry t) entries after

@@ -4,7 +4,7 @@ use Rattle.std.specs.List.{list_any, AllByRecursion}
 use Rattle.std.specs.FinMap.Entries.{find, is_sorted}
 use Rattle.kfs_model.specs.Header.{Header}
 use Rattle.kfs_model.specs.Table.{Order, Table, numbers, get}
-use Rattle.kfs_model.specs.Tree.{Tree, Links, headers, directory_entries, cells_of}
+use Rattle.kfs_model.specs.Tree.{Tree, NameTable, headers, name_order, cells_of}
 use Rattle.kfs_model.specs.Run.{Mark}
 use Rattle.kfs_model.specs.PlanRow.{NameRow, NodeRow, Piece, Source, Zero, Payload, Plan}
 
@@ -27,8 +27,8 @@ keyed_name row = ((row.directory, row.name), row.number)
 abbrev pub keyed_node : NodeRow → ℕ × Option Header
 keyed_node row = (row.number, row.now)
 
-abbrev pub AreNameRows : Links → Links → List NameRow → Type 0
-AreNameRows before after rows = AreDifferences directory_entries number_now (get before) (get after) (map keyed_name rows)
+abbrev pub AreNameRows : NameTable → NameTable → List NameRow → Type 0
+AreNameRows before after rows = AreDifferences name_order number_now (get before) (get after) (map keyed_name rows)
 
 abbrev pub AreNodeRows : Table numbers Header → Table numbers Header → List NodeRow → Type 0
 AreNodeRows before after rows = AreDifferences numbers header_now (get before) (get after) (map keyed_node rows)

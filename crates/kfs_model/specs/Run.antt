@@ -3,13 +3,13 @@ use Rattle.std.specs.Prelude.{◌≡◌, ℕ, ◌+◌, ◌==◌, List, [], ◌�
 use Rattle.std.specs.List.{list_any}
 use Rattle.kfs_model.specs.Access.{Client}
 use Rattle.kfs_model.specs.Table.{mapped, numbers, get}
-use Rattle.kfs_model.specs.Tree.{Tree, Node, Body, Cells, Names, cells_of}
+use Rattle.kfs_model.specs.Tree.{Tree, Node, Body, FileBody, DirectoryBody, cells_of}
 use Rattle.kfs_model.specs.Sight.{Sight, ClientSight, sight}
 use Rattle.kfs_model.specs.Check.{Reason, Reason-discrete, EntryContext, first_fault}
 use mathlib.Core.Path.{ap}
 use native.Mathlib.Decide.{ℕ_discrete}
 use Rattle.kfs_model.specs.Entry.{Entry, Create, Write, Truncate, Link, Unlink, Rename, Chmod}
-use Rattle.kfs_model.specs.Effect.{Fabric, effect}
+use Rattle.kfs_model.specs.Effect.{CellMaker, effect}
 
 -- the numbers that the log has created so far, the latest first
 abbrev pub created_by : Entry → List ℕ → List ℕ
@@ -43,12 +43,12 @@ EntryFault-equality f g = both (ℕ_discrete f.entry g.entry) (Reason-discrete �
     both (yes e) (no differ) = no (λ p. differ (ap (λ (fault : EntryFault). fault.reason) p))
     both (no differ) r = no (λ p. differ (ap (λ (fault : EntryFault). fault.entry) p))
 
-module _ {B : Type 0} (fabric : Fabric B) (client : Client) (before : ClientSight) where
+module _ {B : Type 0} (maker : CellMaker B) (client : Client) (before : ClientSight) where
   -- the entries from the one with this number on, from this tree
   unfoldable pub run_from : (index : ℕ) → (created : List ℕ) → Tree B → List Entry → Result (Tree B) EntryFault
   run_from index created t [] = Ok t
   run_from index created t (entry ∷ entries) = elim (first_fault (entry_context client before (sight t) created) entry) [
-    | None ↦ run_from (index + 1) (created_by entry created) (effect fabric client index entry t) entries
+    | None ↦ run_from (index + 1) (created_by entry created) (effect maker client index entry t) entries
     | Some reason ↦ Err (record { entry = index; reason = reason })
   ]
 
@@ -57,8 +57,8 @@ module _ {B : Type 0} (fabric : Fabric B) (client : Client) (before : ClientSigh
 
 -- ---- what a file is made of
 
-abbrev pub bytes : Fabric ℕ
-bytes = record { gap = 0; payload = λ index payload. payload }
+abbrev pub over_bytes : CellMaker ℕ
+over_bytes = record { gap = 0; payload = λ index payload. payload }
 
 -- where a byte comes from: the file that had it before the log, a gap, or a place in an entry's payload
 pub data Mark : Type 0 where
@@ -70,13 +70,13 @@ abbrev pub places_from : {X : Type 0} → (ℕ → X) → ℕ → List ℕ → L
 places_from at place [] = []
 places_from at place (b ∷ bs) = at place ∷ places_from at (place + 1) bs
 
-abbrev pub marks : Fabric Mark
-marks = record { gap = Zero; payload = λ index payload. places_from (Payload index) 0 payload }
+abbrev pub over_marks : CellMaker Mark
+over_marks = record { gap = Zero; payload = λ index payload. places_from (Payload index) 0 payload }
 
 module _ {B C : Type 0} where
   abbrev pub mapped_body : (List B → List C) → Body B → Body C
-  mapped_body f (Cells cells) = Cells (f cells)
-  mapped_body f Names = Names
+  mapped_body f (FileBody cells) = FileBody (f cells)
+  mapped_body f DirectoryBody = DirectoryBody
 
   -- the same tree, each file's cells changed by a function of the file's number
   abbrev pub mapped_tree : (ℕ → List B → List C) → Tree B → Tree C
@@ -114,4 +114,4 @@ looked_up byte (Err fault) = Err fault
 
 -- a log's run over marks, looked up in the tree and in the payloads
 abbrev pub run_by_marks : Client → (before : ClientSight) → Tree ℕ → List Entry → Result (Tree ℕ) EntryFault
-run_by_marks client before t entries = looked_up (byte_of t entries) (run marks client before (marked t) entries)
+run_by_marks client before t entries = looked_up (byte_of t entries) (run over_marks client before (marked t) entries)

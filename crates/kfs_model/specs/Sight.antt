@@ -4,7 +4,7 @@ use Rattle.kfs_model.specs.Header.{Kind, Header}
 use Rattle.kfs_model.specs.Header.Kind.{File, Directory}
 use Rattle.kfs_model.specs.Limits.{greatest_number}
 use Rattle.kfs_model.specs.Table.{get}
-use Rattle.kfs_model.specs.Tree.{Tree, Links, headers, target, entry_count}
+use Rattle.kfs_model.specs.Tree.{Tree, NameTable, headers, target, entry_count}
 
 -- A cell of a state, for one client.
 pub data Cell : Type 0 where
@@ -47,10 +47,10 @@ kind_shown None = File
 kind_shown (Some h) = h.kind
 
 -- the directory of the first name that leads to the number
-abbrev pub holder : Links → ℕ → Option ℕ
+abbrev pub holder : NameTable → ℕ → Option ℕ
 holder names number = option_map (λ e. e.0.0) (find (λ e. e.1 == number) names.entries)
 
-abbrev pub parent_in : (ℕ → Option Header) → Links → ℕ → Option ℕ
+abbrev pub parent_in : (ℕ → Option Header) → NameTable → ℕ → Option ℕ
 parent_in head names number = if is_directory (head number) && not (number == 1) then holder names number else None
 
 module _ {B : Type 0} where

@@ -4,7 +4,7 @@ use Rattle.std.specs.Prelude.{◌≡◌, ◌≢◌, ℕ, zero, suc, ◌<◌, ◌
 use Rattle.kfs_model.specs.Header.{Header}
 use Rattle.kfs_model.specs.Limits.{greatest_mode, greatest_number, link_limit, size_limit}
 use Rattle.kfs_model.specs.Table.{get}
-use Rattle.kfs_model.specs.Tree.{Tree, Links, headers, target, name_count}
+use Rattle.kfs_model.specs.Tree.{Tree, NameTable, headers, target, name_count}
 use Rattle.kfs_model.specs.Sight.{parent_in, is_directory, is_file}
 use Rattle.kfs_model.specs.Spelling.{IsName}
 
@@ -21,7 +21,7 @@ pub record InRange (number : ℕ) (h : Header) : Type 0 where
   pub gid : h.gid < 2 ^ 32
   pub size : h.size ≤ size_limit
 
-module _ (head : ℕ → Option Header) (names : Links) where
+module _ (head : ℕ → Option Header) (names : NameTable) where
   pub record NameIsSound (directory : ℕ) (name : List ℕ) (number : ℕ) : Type 0 where
     pub spelled : IsName name
     pub holder : IsTrue (is_directory (head directory))

@@ -29,8 +29,8 @@ pub record Order (K : Type 0) : Type 0 where
 abbrev pub numbers : Order ℕ
 numbers = record { compare = nat_cmp; total = nat_cmp_total; exact = nat_cmp-IsAntisymmetric }
 
-abbrev pub bytes : Order (List ℕ)
-bytes = record { compare = slice_cmp nat_cmp; total = nat_list_cmp_total; exact = slice_cmp-IsAntisymmetric nat_cmp-IsAntisymmetric }
+abbrev pub byte_order : Order (List ℕ)
+byte_order = record { compare = slice_cmp nat_cmp; total = nat_list_cmp_total; exact = slice_cmp-IsAntisymmetric nat_cmp-IsAntisymmetric }
 
 then_first : (a b : Ordering) → ordering_then a b ≡ Equal → a ≡ Equal
 then_first Less b e = absurd (subst (λ r. T (is_eq r)) (sym e) tt)

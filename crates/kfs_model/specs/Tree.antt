@@ -3,12 +3,12 @@ use Rattle.std.specs.Prelude.{ℕ, Bool, ◌==◌, List, [], length, Option, Som
 use Rattle.std.specs.List.{list_any}
 use Rattle.kfs_model.specs.Header.{Kind, Header}
 use Rattle.kfs_model.specs.Header.Kind.{File, Directory}
-use Rattle.kfs_model.specs.Table.{Table, numbers, bytes, pairs, get, mapped, Order}
+use Rattle.kfs_model.specs.Table.{Table, numbers, byte_order, pairs, get, mapped, Order}
 
 -- what stands in a node: a file's cells in their order, or a directory, whose names stand in the tree
 pub data Body (B : Type 0) : Type 0 where
-  Cells : List B → Body B
-  Names : Body B
+  FileBody : List B → Body B
+  DirectoryBody : Body B
 
 pub record Node (B : Type 0) : Type 0 where
   pub mode : ℕ
@@ -17,49 +17,49 @@ pub record Node (B : Type 0) : Type 0 where
   pub body : Body B
 
 -- a name is found by its directory and its bytes
-abbrev pub directory_entries : Order (ℕ × List ℕ)
-directory_entries = pairs numbers bytes
+abbrev pub name_order : Order (ℕ × List ℕ)
+name_order = pairs numbers byte_order
 
 pub record Tree (B : Type 0) : Type 0 where
   pub nodes : Table numbers (Node B)
-  pub names : Table directory_entries ℕ
+  pub names : Table name_order ℕ
 
 module _ {B : Type 0} where
   abbrev pub kind_of : Body B → Kind
-  kind_of (Cells cells) = File
-  kind_of Names = Directory
+  kind_of (FileBody cells) = File
+  kind_of DirectoryBody = Directory
 
   -- a file's length, and 0 for a directory
   abbrev pub size_of : Body B → ℕ
-  size_of (Cells cells) = length cells
-  size_of Names = 0
+  size_of (FileBody cells) = length cells
+  size_of DirectoryBody = 0
 
 -- The tables of names alone say these, whatever a file is made of.
-abbrev pub Links : Type 0
-Links = Table directory_entries ℕ
+abbrev pub NameTable : Type 0
+NameTable = Table name_order ℕ
 
 -- the number that the name leads to
-abbrev pub target : Links → ℕ → List ℕ → Option ℕ
+abbrev pub target : NameTable → ℕ → List ℕ → Option ℕ
 target names directory name = get names (directory, name)
 
 -- how many names lead to the node
-abbrev pub name_count : Links → ℕ → ℕ
+abbrev pub name_count : NameTable → ℕ → ℕ
 name_count names number = count_by (λ e. e.1 == number) names.entries
 
 -- how many names stand in the directory
-abbrev pub entry_count : Links → ℕ → ℕ
+abbrev pub entry_count : NameTable → ℕ → ℕ
 entry_count names directory = count_by (λ e. e.0.0 == directory) names.entries
 
-abbrev pub is_named : Links → ℕ → Bool
+abbrev pub is_named : NameTable → ℕ → Bool
 is_named names number = list_any (λ e. e.1 == number) names.entries
 
 module _ {B : Type 0} where
   -- a directory counts one link, a file its names
-  abbrev pub links_of : Links → ℕ → Body B → ℕ
-  links_of names number (Cells cells) = name_count names number
-  links_of names number Names = 1
+  abbrev pub links_of : NameTable → ℕ → Body B → ℕ
+  links_of names number (FileBody cells) = name_count names number
+  links_of names number DirectoryBody = 1
 
-  abbrev pub header_of : Links → ℕ → Node B → Header
+  abbrev pub header_of : NameTable → ℕ → Node B → Header
   header_of names number node = record {
     kind = kind_of node.body;
     mode = node.mode;
@@ -78,5 +78,5 @@ module _ {B : Type 0} where
   cells_of (Some node) = body_cells node.body
     where
       body_cells : Body B → List B
-      body_cells (Cells cells) = cells
-      body_cells Names = []
+      body_cells (FileBody cells) = cells
+      body_cells DirectoryBody = []

@@ -5,7 +5,7 @@ ghost use Rattle.kfs_model.specs.Tree.{Tree};
 ghost use Rattle.kfs_model.specs.Entry.{Entry, Log};
 ghost use Rattle.kfs_model.specs.Check.{EntryContext, first_fault};
 ghost use Rattle.kfs_model.specs.Allowed.{IsAllowed};
-ghost use Rattle.kfs_model.specs.Run.{Mark, run, bytes, marks, marked, run_by_marks};
+ghost use Rattle.kfs_model.specs.Run.{Mark, run, over_bytes, over_marks, marked, run_by_marks};
 ghost use Rattle.kfs_model.specs.PlanRow.{Plan};
 ghost use Rattle.kfs_model.specs.Plan.{IsRight, OldBytesStay};
 ghost use Rattle.kfs_model.specs.PlanCut.{SaySame, IsCutAnew};
@@ -33,12 +33,12 @@ pub fn clean_is_allowed()
 /// The bytes that a run gives are the marks that it gives, looked up in the tree before and in the payloads; and both stop
 /// at the same entry for the same reason.
 pub fn marks_give_bytes()
-    ensures { (client : Client) (before : ClientSight) (tree : Tree ℕ) (entries : List Entry) → run_by_marks client before tree entries ≡ run bytes client before tree entries }
+    ensures { (client : Client) (before : ClientSight) (tree : Tree ℕ) (entries : List Entry) → run_by_marks client before tree entries ≡ run over_bytes client before tree entries }
 {}
 
 /// After a run a byte from before the log stands only where it stood: in the same file, at the same place.
 pub fn old_bytes_keep_their_place()
-    ensures { (client : Client) (before : ClientSight) (tree : Tree ℕ) (entries : List Entry) → IfOk (run marks client before (marked tree) entries) OldBytesStay }
+    ensures { (client : Client) (before : ClientSight) (tree : Tree ℕ) (entries : List Entry) → IfOk (run over_marks client before (marked tree) entries) OldBytesStay }
 {}
 
 /// A plan has no wrong row exactly where it is right.
@@ -56,7 +56,7 @@ pub fn right_plans_differ_in_their_cut()
 
 /// Where a run has no fault, its tree is what the entries give one by one, each of them allowed where it stands.
 pub fn accepted_entries_one_by_one()
-    ensures { (client : Client) (before : ClientSight) (tree : Tree ℕ) (entries : List Entry) → IfOk (run bytes client before tree entries) (OneByOne client before 0 [] tree entries) }
+    ensures { (client : Client) (before : ClientSight) (tree : Tree ℕ) (entries : List Entry) → IfOk (run over_bytes client before tree entries) (OneByOne client before 0 [] tree entries) }
 {}
 
 /// The tree of a new image is sound.
@@ -67,15 +67,15 @@ pub fn fresh_tree_is_sound()
 /// An entry in range of which no check fails, at a sound tree, leaves a sound tree, and what the cells show moves as the
 /// effect on cells says; of bytes and of marks.
 pub fn clean_entry_keeps_tree_sound()
-    ensures of_bytes { (context : EntryContext) (index : ℕ) (tree : Tree ℕ) (entry : Entry) → IsClean context tree entry → IsKept bytes context.client index tree entry }
-    ensures of_marks { (context : EntryContext) (index : ℕ) (tree : Tree Mark) (entry : Entry) → IsClean context tree entry → IsKept marks context.client index tree entry }
+    ensures of_bytes { (context : EntryContext) (index : ℕ) (tree : Tree ℕ) (entry : Entry) → IsClean context tree entry → IsKept over_bytes context.client index tree entry }
+    ensures of_marks { (context : EntryContext) (index : ℕ) (tree : Tree Mark) (entry : Entry) → IsClean context tree entry → IsKept over_marks context.client index tree entry }
 {}
 
 /// From a sound tree, a run of entries in range shows at each of its ends what the run over the cells alone shows: the same
 /// first fault, or a tree with these cells, which is sound.
 pub fn run_is_seen_in_cells()
     ensures seen { (client : Client) (before : ClientSight) (tree : Tree ℕ) (entries : List Entry) → Fits client tree entries → IsSeenInCells client before tree entries }
-    ensures sound { (client : Client) (before : ClientSight) (tree : Tree ℕ) (entries : List Entry) → Fits client tree entries → IfOk (run bytes client before tree entries) IsSound }
+    ensures sound { (client : Client) (before : ClientSight) (tree : Tree ℕ) (entries : List Entry) → Fits client tree entries → IfOk (run over_bytes client before tree entries) IsSound }
 {}
 
 /// Two states that answer alike, to one client, at the cells that a log looks at in the one, have the same first fault of

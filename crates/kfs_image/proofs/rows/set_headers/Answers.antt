@@ -1,6 +1,6 @@
 use Rattle.std.proofs.Common.{◌≡◌, ℕ, ◌+◌, ◌<◌, List, ◌∷◌, length, slice_index_or, drop, ap, sym, ◌∙◌, add-one}
 use Rattle.std.proofs.Math.Seq.{drop-cons}
-use Rattle.kfs_image.specs.Rows.{heads_of}
+use Rattle.kfs_image.specs.Rows.{heads_shown}
 use Rattle.kfs_image.specs.Change.{reheaded}
 use Rattle.kfs_image.proofs.rows.set_headers.Goals as goal
 
@@ -13,5 +13,5 @@ loop-row-preserved g c = record {
   slots = λ k d below. c.set_header.ensures.kept _ (c.loop-row.invariant.slots k d below);
   headers =
       ap (λ heads. reheaded heads (drop (c.loop-row.row-index + 1) c.args.nodes.now)) c.set_header.ensures.header
-      ∙ ap (reheaded (heads_of c.loop-row.headers)) (sym (rows_left c.args.nodes.now c.loop-row.row-index _ c.loop-row-test.true)) ∙ c.loop-row.invariant.headers;
+      ∙ ap (reheaded (heads_shown c.loop-row.headers)) (sym (rows_left c.args.nodes.now c.loop-row.row-index _ c.loop-row-test.true)) ∙ c.loop-row.invariant.headers;
 }

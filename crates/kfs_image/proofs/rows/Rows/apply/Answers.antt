@@ -1,5 +1,5 @@
 use Rattle.std.proofs.Common.{ap, ◌∙◌}
-use Rattle.kfs_image.specs.Rows.{IsIndexed, heads_of}
+use Rattle.kfs_image.specs.Rows.{IsIndexed, heads_shown}
 use Rattle.kfs_image.specs.Change.{reheaded, renamed}
 use Rattle.kfs_image.proofs.RowSteps.{shows_all, still_indexed, same_heads, same_names}
 use Rattle.kfs_image.proofs.rows.Rows.apply.Goals as goal
@@ -25,7 +25,7 @@ returns-clause-indexed g c = still_indexed _ _ c.release-2.ensures c.set_names.e
 
 pub returns-clause-headers : goal.returns-clause-headers
 returns-clause-headers g c =
-    same_heads _ _ c.release-2.ensures ∙ ap heads_of c.set_names.ensures.headers ∙ c.set_headers.ensures
+    same_heads _ _ c.release-2.ensures ∙ ap heads_shown c.set_names.ensures.headers ∙ c.set_headers.ensures
     ∙ ap (λ heads. reheaded heads c.args.nodes.now) (same_heads _ _ c.reserve.ensures.shown)
 
 pub returns-clause-names : goal.returns-clause-names

@@ -4,7 +4,7 @@ use Rattle.std.specs.Ordering.{nat_cmp}
 use Rattle.std.specs.Map.{lookup}
 use Rattle.std.specs.BTreeMap.{is_at}
 use Rattle.kfs_model.specs.Table.{numbers, pairs, get}
-use Rattle.kfs_model.specs.Tree.{directory_entries}
+use Rattle.kfs_model.specs.Tree.{name_order}
 use Rattle.kfs_value.specs.Views.{header_of}
 use Rattle.kfs_image.specs.Slots.{table_of, opened}
 use Rattle.kfs_image.proofs.rows.Rows.empty.Goals as goal
@@ -18,17 +18,17 @@ returns-clause-heads g c = ap (table_of numbers header_of) c.new.ensures.empty
 
 pub returns-clause-names : goal.returns-clause-names
 unfolding table_of
-returns-clause-names g c = ap (table_of directory_entries (λ number. number)) c.new-2.ensures.empty
+returns-clause-names g c = ap (table_of name_order (λ number. number)) c.new-2.ensures.empty
 
 pub returns-clause-indexed : goal.returns-clause-indexed
 unfolding table_of get
 returns-clause-indexed g c = record {
-  names = λ key n found. absurd (never (sym (ap (λ slots. get (table_of directory_entries (λ number. number) slots) key) c.new-2.ensures.empty) ∙ found));
+  names = λ key n found. absurd (never (sym (ap (λ slots. get (table_of name_order (λ number. number) slots) key) c.new-2.ensures.empty) ∙ found));
   positive = λ key n shown. absurd (never (sym (ap (λ slots. opened (lookup (is_at ((pairs numbers numbers).compare key)) slots)) c.new-4.ensures.empty) ∙ shown));
   counts = λ q.
       ap (λ slots. unwrap_or (opened (lookup (is_at (nat_cmp q)) slots)) 0) c.new-3.ensures.empty
-      ∙ sym (ap (λ slots. count_by (λ e. e.0.0 == q) (table_of directory_entries (λ number. number) slots).entries) c.new-2.ensures.empty);
+      ∙ sym (ap (λ slots. count_by (λ e. e.0.0 == q) (table_of name_order (λ number. number) slots).entries) c.new-2.ensures.empty);
   uplinks = λ n q.
       ap (λ slots. unwrap_or (opened (lookup (is_at ((pairs numbers numbers).compare (n, q))) slots)) 0) c.new-4.ensures.empty
-      ∙ sym (ap (λ slots. count_by (λ e. (e.1 == n) && (e.0.0 == q)) (table_of directory_entries (λ number. number) slots).entries) c.new-2.ensures.empty);
+      ∙ sym (ap (λ slots. count_by (λ e. (e.1 == n) && (e.0.0 == q)) (table_of name_order (λ number. number) slots).entries) c.new-2.ensures.empty);
 }

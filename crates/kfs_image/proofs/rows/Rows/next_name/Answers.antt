@@ -1,7 +1,7 @@
 use Rattle.std.proofs.Common.{◌≡◌, ◌≤◌, ◌<◌, ℕ, true, false, Some, None, List, sym, ap, subst, ◌∙◌, arith}
 use Rattle.std.specs.Prelude.{IfNone, is_some}
 use Rattle.std.specs.Ordering.{is_lt}
-use Rattle.kfs_model.specs.Tree.{directory_entries, target}
+use Rattle.kfs_model.specs.Tree.{name_order, target}
 use Rattle.kfs_image.specs.Look.{IsAfter}
 use Rattle.kfs_image.specs.Rows.{names_in}
 use Rattle.kfs_image.specs.Slots.{shown_at, IsFrom}
@@ -31,11 +31,11 @@ returns-then-key-dir-clause-found g c =
     let key = c.in_ok-key.key.now in
     let here : key ≡ (c.args.dir, key.1) = λ i. (c.if-key-dir.true i, key.1) in
     record {
-      leads = get-names_of c.args.self.now.names (c.args.dir, key.1) ∙ subst (λ k. shown_at directory_entries.compare c.args.self.now.names k ≡ Some c.in_ok-key.number.now) here c.in_ok-key.ensures.shown;
-      later = c.start_after.ensures.later key.1 (subst (IsFrom directory_entries.compare c.start_after.result) here c.in_ok-key.ensures.within);
+      leads = get-names_of c.args.self.now.names (c.args.dir, key.1) ∙ subst (λ k. shown_at name_order.compare c.args.self.now.names k ≡ Some c.in_ok-key.number.now) here c.in_ok-key.ensures.shown;
+      later = c.start_after.ensures.later key.1 (subst (IsFrom name_order.compare c.start_after.result) here c.in_ok-key.ensures.within);
       least = λ m n leads after.
           sym (ap is_lt (in_directory c.args.dir m key.1))
-          ∙ subst (λ k. is_lt (directory_entries.compare (c.args.dir, m) k) ≡ false) here
+          ∙ subst (λ k. is_lt (name_order.compare (c.args.dir, m) k) ≡ false) here
           (c.in_ok-key.ensures.least (c.args.dir, m) (c.start_after.ensures.within m (c.requires.names (c.args.dir, m) n leads) after)
           (ap is_some (sym (get-names_of c.args.self.now.names (c.args.dir, m)) ∙ leads)));
     }

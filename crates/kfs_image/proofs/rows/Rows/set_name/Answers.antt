@@ -1,6 +1,6 @@
 use Rattle.std.proofs.Common.{◌≡◌, cond, ◌==◌, ◌&&◌, sym, ap, ◌∙◌, arith}
 use Rattle.kfs_model.specs.Table.{get}
-use Rattle.kfs_model.specs.Tree.{directory_entries}
+use Rattle.kfs_model.specs.Tree.{name_order}
 use Rattle.kfs_image.specs.Rows.{names_in, count_step, uplink_step}
 use Rattle.std.specs.Ordering.{eq_by_cmp}
 use Rattle.kfs_image.specs.Slots.{shown_at}
@@ -23,17 +23,17 @@ enter-requires-clause-slots g c = λ n is.
 pub enter-requires-clause-counts : goal.enter-requires-clause-counts
 enter-requires-clause-counts g c = λ n is.
     let dir = c.args.key.now.0 in
-    omega (arith, c.leave.ensures.counts dir, c.requires.indexed.counts dir, count-table_of directory_entries (λ number. number) (λ e. e.0.0 == dir) c.args.self.now.names.entries)
+    omega (arith, c.leave.ensures.counts dir, c.requires.indexed.counts dir, count-table_of name_order (λ number. number) (λ e. e.0.0 == dir) c.args.self.now.names.entries)
 
 pub enter-requires-clause-uplinks : goal.enter-requires-clause-uplinks
 enter-requires-clause-uplinks g c = λ n is.
     let dir = c.args.key.now.0 in
-    omega (arith, c.leave.ensures.uplinks (n, dir), c.requires.indexed.uplinks n dir, count-table_of directory_entries (λ number. number) (λ e. (e.1 == n) && (e.0.0 == dir)) c.args.self.now.names.entries)
+    omega (arith, c.leave.ensures.uplinks (n, dir), c.requires.indexed.uplinks n dir, count-table_of name_order (λ number. number) (λ e. (e.1 == n) && (e.0.0 == dir)) c.args.self.now.names.entries)
 
 pub returns-clause-names : goal.returns-clause-names
 returns-clause-names g c =
     names_changed c.args.self.now.names c.set.new.slots c.args.key.now c.args.to
-    (λ q. c.set.ensures.shown q ∙ ap (λ names. cond (eq_by_cmp directory_entries.compare q c.args.key.now) c.args.to (shown_at directory_entries.compare names q)) (c.enter.ensures.names ∙ c.leave.ensures.names))
+    (λ q. c.set.ensures.shown q ∙ ap (λ names. cond (eq_by_cmp name_order.compare q c.args.key.now) c.args.to (shown_at name_order.compare names q)) (c.enter.ensures.names ∙ c.leave.ensures.names))
 
 pub returns-clause-kept : goal.returns-clause-kept
 returns-clause-kept g c =

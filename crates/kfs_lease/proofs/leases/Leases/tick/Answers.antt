@@ -1,7 +1,7 @@
 use Rattle.std.proofs.Common.{◌≡◌, Bool, false, Ok, sym, ap, ◌∙◌, arith}
 use Rattle.std.specs.Prelude.{nat_lt, if◌then◌else◌}
 use Rattle.std.proofs.lemmas.Bool.Decides.{nat_tests}
-use Rattle.kfs_model.specs.Lease.{Leases, Outcome, Backwards, live_at, refused, ticked}
+use Rattle.kfs_model.specs.Lease.{Leases, LeaseOutcome, Backwards, live_at, refused, ticked}
 use Rattle.kfs_lease.specs.Rows.{table_in}
 use Rattle.kfs_lease.proofs.leases.Leases.tick.Goals as goal
 
@@ -10,7 +10,7 @@ unfolding ticked
 returns-clause-ok g c =
     let old : Leases = record { rows = table_in c.self.inside.rows; moment = c.self.inside.moment } in
     let later : nat_lt c.args.moment c.self.inside.moment ≡ false = grind (arith, nat_tests) in
-    let after : Outcome = (Ok c.args.moment, record { rows = live_at c.args.moment old.rows; moment = c.args.moment }) in
+    let after : LeaseOutcome = (Ok c.args.moment, record { rows = live_at c.args.moment old.rows; moment = c.args.moment }) in
     ap (λ (l : Leases). ticked l c.args.moment) (sym c.self.view_is)
     ∙ ap (λ (b : Bool). if b then refused Backwards old else after) later
     ∙ (λ i. (Ok c.args.moment, record { rows = sym c.end_until.ensures.table i; moment = c.args.moment }))
