@@ -1,6 +1,6 @@
 -- Lemmas on what was decoded and encoded.
 pub mod RowLaws
 pub mod Found
-pub mod OnAnswer
+pub mod Answered
 pub mod DecodedLog
 pub mod DecodedPlan

@@ -1,7 +1,7 @@
 use Rattle.std.proofs.Common.{◌≡◌, arith}
 use Rattle.kfs_model.specs.Spelling.{LogAnswer}
 use Rattle.kfs_entry.specs.Answers.{log_of}
-use Rattle.kfs_entry.proofs.OnAnswer.{Answered-weaker}
+use Rattle.kfs_entry.proofs.Answered.{Answered-weaker}
 use Rattle.kfs_model.proofs.OneLogAnswer.{one_log_answer}
 use Rattle.kfs_entry.proofs.decoding.decode_log.Goals as goal
 

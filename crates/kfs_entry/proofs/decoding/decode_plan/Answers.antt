@@ -1,7 +1,7 @@
 use Rattle.std.proofs.Common.{◌≡◌, arith}
 use Rattle.kfs_model.specs.Spelling.{PlanAnswer}
 use Rattle.kfs_entry.specs.Answers.{plan_of}
-use Rattle.kfs_entry.proofs.OnAnswer.{Answered-weaker}
+use Rattle.kfs_entry.proofs.Answered.{Answered-weaker}
 use Rattle.kfs_model.proofs.OnePlanAnswer.{one_plan_answer}
 use Rattle.kfs_entry.proofs.decoding.decode_plan.Goals as goal
 
