@@ -1,6 +1,7 @@
 //! Lines beside what they ask for, and a session line by line, by computation.
 
 ghost use Rattle.std.specs.Prelude.{◌≡◌, [], ◌∷◌, ◌++◌, codes, false, None, Some, Ok, Err};
+ghost use Rattle.kfs_model.specs.Example.{client_7, client_8};
 ghost use Rattle.kfs_model.specs.Lease.{ReadLease, WriteLease};
 ghost use Rattle.kfs_model.specs.Machine.{opening};
 ghost use Rattle.kfs_model.specs.Table.{empty};
@@ -10,7 +11,7 @@ ghost use Rattle.kfs_image.specs.ShownTree.{tree_of};
 ghost use Rattle.kfs_judge.specs.Judging.{submission_with};
 ghost use Rattle.kfs_engine.specs.Command.{Begin, Desk, Drop, Lease, Names, New, Node, Opening, Row, Submit, Tick, asked_by, client_row};
 ghost use Rattle.kfs_engine.specs.Conversation.{BreaksOff};
-ghost use Rattle.kfs_engine.specs.Example.{desk_of_7, root_leased};
+ghost use Rattle.kfs_engine.specs.Example.{desk_of_7, opening_with, root_leased};
 ghost use Rattle.kfs_engine.specs.Listing.{list_text};
 ghost use Rattle.kfs_engine.specs.Session.{After, Before, Runs, fresh, opened};
 ghost use Rattle.kfs_text.specs.Cut.{lines_of};
@@ -57,12 +58,13 @@ pub fn bad_lines()
     ensures name { asked_by (codes "nodes 5") ≡ None }
 {}
 
-/// Before the desk is begun: an image, a client, two clients with one number, and a desk.
-#[tactic(auto, unfolding(kfs_desk::specs::Opening::fault_among))]
+/// Before the desk is begun: an image, a client that is refused, clients of which two later ones have the number of the first,
+/// and a desk.
 pub fn openings()
     ensures image { opened (record { image = None; clients = [] }) (New (record { first = 8; second = 8; third = 8 })) ≡ (codes "ok\n", Before (record { image = Some (record { contents = root_alone; sizes = record { first = 8; second = 8; third = 8 } }); clients = [] })) }
     ensures without_image { opened (record { image = None; clients = [] }) (Begin 100) ≡ (codes "bad line\n", fresh) }
     ensures refused { opened (record { image = None; clients = [] }) (Row (Err TooManyGroups)) ≡ (codes "client TooManyGroups\n", fresh) }
+    ensures twice { opened (opening_with (client_7 ∷ client_8 ∷ client_7 ∷ client_7 ∷ [])) (Begin 3) ≡ (codes "begin ClientTwice 2\n", Before (opening_with [])) }
     ensures begun { opened (record { image = Some (record { contents = root_alone; sizes = record { first = 8; second = 8; third = 8 } }); clients = [] }) (Begin 3) ≡ (codes "ok\n", After (record { state = opening [] (record { first = 8; second = 8; third = 8 }) (tree_of root_alone) empty; rows = 0; limit = 3 })) }
 {}
 

@@ -11,7 +11,7 @@ use Rattle.kfs_model.specs.Check.{is_some_and}
 use Rattle.kfs_model.specs.Table.{numbers, pairs, get, insert, remove, retain, get-insert, get-retain}
 use Rattle.kfs_model.specs.Tree.{Tree, Node, headers, header_of}
 use Rattle.kfs_model.specs.Sight.{Sight}
-use Rattle.kfs_model.specs.Lease.{Lease, LeaseKind, ReadLease, WriteLease, LeaseFault, LeaseTable, Leases, LeaseOutcome, live_at, on_those, row_of, names_of, walked, conflicts, in_conflict, is_live, is_write, refused, granted, granted_on, granted_by_walk, dropped, ticked, without_gone, HasLive, AreCompatible, Past, LeaseHeld, UnknownClient, NoLeaseHeld, Backwards}
+use Rattle.kfs_model.specs.Lease.{Lease, LeaseKind, ReadLease, WriteLease, LeaseFault, LeaseTable, Leases, LeaseOutcome, live_at, on_those, row_of, names_of, walked, conflicts, in_conflict, is_live, is_write, refused, granted, granted_on, granted_by_walk, dropped, ticked, without_gone, HasLive, AreCompatible, KeepsCompatible, Past, LeaseHeld, UnknownClient, NoLeaseHeld, Backwards}
 use Rattle.kfs_model.proofs.Heads.{get-headers}
 use Rattle.kfs_model.proofs.Tables.{any_from_found}
 
@@ -179,15 +179,15 @@ module _ (leases : Leases) where
       ((was_there leases.rows stays (client, number) one first.0).1, live_before one moment later first.1)
       ((was_there leases.rows stays (other, number) two second.0).1, live_before two moment later second.1)
 
-  pub granted_compatible : (sight : Sight) (clients : List Client) (client : ℕ) (path : List ℕ) (kind : LeaseKind) (end : ℕ) → AreCompatible leases → AreCompatible (granted leases sight clients client path kind end).1
-  granted_compatible sight clients number path kind end compatible =
-      granted_keeps leases AreCompatible compatible sight clients number path kind end (λ client names n came none. compatible-insert client.number n kind end compatible none)
+pub granted_compatible : (sight : Sight) (clients : List Client) (client : ℕ) (path : List ℕ) (kind : LeaseKind) (end : ℕ) → KeepsCompatible (λ leases. granted leases sight clients client path kind end)
+granted_compatible sight clients number path kind end leases compatible =
+    granted_keeps leases AreCompatible compatible sight clients number path kind end (λ client names n came none. compatible-insert leases client.number n kind end compatible none)
 
-  pub dropped_compatible : (clients : List Client) (client number : ℕ) → AreCompatible leases → AreCompatible (dropped leases clients client number).1
-  dropped_compatible clients client number compatible = dropped_keeps leases AreCompatible compatible clients client number (λ stays moment later. compatible-retain stays moment later compatible)
+pub dropped_compatible : (clients : List Client) (client number : ℕ) → KeepsCompatible (λ leases. dropped leases clients client number)
+dropped_compatible clients client number leases compatible = dropped_keeps leases AreCompatible compatible clients client number (λ stays moment later. compatible-retain leases stays moment later compatible)
 
-  pub ticked_compatible : (moment : ℕ) → AreCompatible leases → AreCompatible (ticked leases moment).1
-  ticked_compatible moment compatible = ticked_keeps leases AreCompatible compatible moment (λ stays moment' later. compatible-retain stays moment' later compatible)
+pub ticked_compatible : (moment : ℕ) → KeepsCompatible (λ leases. ticked leases moment)
+ticked_compatible moment leases compatible = ticked_keeps leases AreCompatible compatible moment (λ stays moment' later. compatible-retain leases stays moment' later compatible)
 
 -- ---- what is left where nodes have gone is on nodes
 

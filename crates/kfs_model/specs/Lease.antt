@@ -148,3 +148,7 @@ module _ (leases : Leases) where
   -- leases on numbers that are no node end
   unfoldable pub without_gone : (ℕ → Bool) → Leases
   without_gone is_node = record { rows = on_those is_node leases.rows; moment = leases.moment }
+
+-- a call that leads from compatible leases to compatible ones
+abbrev pub KeepsCompatible : (call : Leases → LeaseOutcome) → Type 0
+KeepsCompatible call = (leases : Leases) → AreCompatible leases → AreCompatible (call leases).1

@@ -14,7 +14,7 @@ ghost use Rattle.kfs_model.specs.Judgement.{State};
 ghost use Rattle.kfs_model.specs.Machine.{OneByOne, Row, IsRead, next, after, opening};
 ghost use Rattle.kfs_model.specs.Placement.{TierSizes};
 ghost use Rattle.kfs_model.specs.Table.{empty};
-ghost use Rattle.kfs_model.specs.Lease.{LeaseKind, Leases, AreCompatible, granted, dropped, ticked};
+ghost use Rattle.kfs_model.specs.Lease.{LeaseKind, KeepsCompatible, granted, dropped, ticked};
 ghost use Rattle.kfs_model.specs.Order.{IsInOrder};
 ghost use Rattle.std.specs.List.{AllByRecursion};
 ghost use Rattle.kfs_model.specs.Sight.{Sight, ClientSight};
@@ -94,9 +94,9 @@ pub fn name_test_is_exact()
 
 /// From leases of which no two live ones conflict, a grant, a drop and a tick lead to such leases.
 pub fn leases_stay_compatible()
-    ensures granted { (leases : Leases) (sight : Sight) (clients : List Client) (client : ℕ) (path : List ℕ) (kind : LeaseKind) (end : ℕ) → AreCompatible leases → AreCompatible (granted leases sight clients client path kind end).1 }
-    ensures dropped { (leases : Leases) (clients : List Client) (client number : ℕ) → AreCompatible leases → AreCompatible (dropped leases clients client number).1 }
-    ensures ticked { (leases : Leases) (moment : ℕ) → AreCompatible leases → AreCompatible (ticked leases moment).1 }
+    ensures granted { (sight : Sight) (clients : List Client) (client : ℕ) (path : List ℕ) (kind : LeaseKind) (end : ℕ) → KeepsCompatible (λ leases. granted leases sight clients client path kind end) }
+    ensures dropped { (clients : List Client) (client number : ℕ) → KeepsCompatible (λ leases. dropped leases clients client number) }
+    ensures ticked { (moment : ℕ) → KeepsCompatible (λ leases. ticked leases moment) }
 {}
 
 /// Each step of the machine from a state in order, by a row whose submission is read rightly, leads to a state in order; and

@@ -1,7 +1,8 @@
 //! Which leases are granted and refused, one after another.
 
-ghost use Rattle.std.specs.Prelude.{◌≡◌, Ok, Err, true, false};
-ghost use Rattle.kfs_model.specs.Lease.{LeaseHeld, NoLeaseHeld, BadPath, NoSuchName, NotDirectory, Past, UnknownClient, Backwards, ReadLease, WriteLease, no_leases, holds, ticked};
+ghost use Rattle.std.specs.Prelude.{◌≡◌, [], ◌∷◌, Ok, Err, true, false};
+ghost use Rattle.kfs_model.specs.Lease.{LeaseHeld, NoLeaseHeld, BadPath, NoSuchName, NotDirectory, Past, UnknownClient, Backwards, ReadLease, WriteLease, AreCompatible, no_leases, holds, ticked};
+ghost use Rattle.kfs_model.specs.Example.{leases};
 ghost use Rattle.kfs_model.specs.Example.LeaseCases.{lease, lease_until, drop, root_path, no_slash, no_such, below_file, read_by_7, read_by_both, read_by_8, written_by_8, at_5};
 
 /// Clients 7 and 8 both read file 5; 8 may write only after 7 has dropped its lease, and then holds it.
@@ -29,4 +30,9 @@ pub fn refused_leases()
     ensures goes_on { (ticked no_leases 5).0 ≡ Ok 5 }
     ensures backwards { (ticked at_5 4).0 ≡ Err Backwards }
     ensures same_moment { (ticked at_5 5).0 ≡ Ok 5 }
+{}
+
+/// Clients 7 and 8 with a live lease for writing each, both on file 5, are in conflict.
+pub fn two_writers()
+    ensures { AreCompatible (leases (5 ∷ []) (5 ∷ [])) → ⊥ }
 {}
