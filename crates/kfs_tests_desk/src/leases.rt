@@ -214,37 +214,38 @@ fn a_copy_and_the_table_go_on_apart(rt: HostRuntime) -> Result<(), Fail> {
 }
 
 /// A lease that is granted: the client, the path, the number of the node there, the kind and the end.
-type Granted = (u32, &'static str, u32, LeaseKind, u64);
+#[derive(Clone, Copy)]
+struct Granted(u32, &'static str, u32, LeaseKind, u64);
 
 /// Leases that are granted one after another, more than one node of a map has room for. The last takes
 /// the place of the first, which the same client has on the same node.
 const GRANTS: [Granted; 19] = [
-    (7, "/a", 5, Write, 20),
-    (9, "/", 1, Read, 90),
-    (7, "/d", 20, Write, 30),
-    (10, "/", 1, Read, 10),
-    (9, "/d/e", 121, Read, 25),
-    (8, "/", 1, Read, 60),
-    (7, "/", 1, Read, 50),
-    (8, "/d/e", 121, Read, 70),
-    (10, "/d/e", 121, Read, 15),
-    (7, "/d/e", 121, Read, 80),
-    (9, "/m", 30, Read, 35),
-    (8, "/m", 30, Read, 55),
-    (10, "/n", 31, Write, 45),
-    (8, "/p", 120, Write, 65),
-    (7, "/d/e/f", 122, Read, 12),
-    (8, "/d/e/f", 122, Read, 11),
-    (9, "/d/e/f", 122, Read, 14),
-    (10, "/d/e/f", 122, Read, 13),
-    (7, "/a", 5, Write, 40),
+    Granted(7, "/a", 5, Write, 20),
+    Granted(9, "/", 1, Read, 90),
+    Granted(7, "/d", 20, Write, 30),
+    Granted(10, "/", 1, Read, 10),
+    Granted(9, "/d/e", 121, Read, 25),
+    Granted(8, "/", 1, Read, 60),
+    Granted(7, "/", 1, Read, 50),
+    Granted(8, "/d/e", 121, Read, 70),
+    Granted(10, "/d/e", 121, Read, 15),
+    Granted(7, "/d/e", 121, Read, 80),
+    Granted(9, "/m", 30, Read, 35),
+    Granted(8, "/m", 30, Read, 55),
+    Granted(10, "/n", 31, Write, 45),
+    Granted(8, "/p", 120, Write, 65),
+    Granted(7, "/d/e/f", 122, Read, 12),
+    Granted(8, "/d/e/f", 122, Read, 11),
+    Granted(9, "/d/e/f", 122, Read, 14),
+    Granted(10, "/d/e/f", 122, Read, 13),
+    Granted(7, "/a", 5, Write, 40),
 ];
 
 /// The last of the first `count` grants that is of this client on this node: its kind and its end.
 fn last_of(grants: &[Granted], count: u32, client: u32, number: u32) -> Option<(LeaseKind, u64)> {
     let mut last = None;
     let mut index = 0u32;
-    for (of, _, on, kind, end) in grants {
+    for Granted(of, _, on, kind, end) in grants {
         if index < count && *of == client && *on == number {
             last = Some((*kind, *end));
         }
@@ -296,7 +297,7 @@ fn are_as_granted<A: Allocator + Clone>(
     count: u32,
 ) -> bool {
     let mut are_right = leases.moment() == 0;
-    for (client, _, number, _, _) in grants {
+    for Granted(client, _, number, _, _) in grants {
         are_right = are_right && is_as_granted(leases, grants, count, *client, *number);
     }
     are_right
@@ -308,7 +309,7 @@ fn is_made<A: Allocator + Clone>(
     shape: &Shape<A>,
     granted: Granted,
 ) -> Option<bool> {
-    let (client, path, number, kind, end) = granted;
+    let Granted(client, path, number, kind, end) = granted;
     match grant(leases, shape, client, path, kind, end) {
         Ok(node) => Some(node == number),
         Err(LeaseFault::OutOfMemory) => None,
