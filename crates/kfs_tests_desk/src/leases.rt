@@ -214,37 +214,43 @@ fn a_copy_and_the_table_go_on_apart(rt: HostRuntime) -> Result<(), Fail> {
 }
 
 /// A lease that is granted: the client, the path, the number of the node there, the kind and the end.
-type Granted = (u32, &'static str, u32, LeaseKind, u64);
+#[derive(Clone, Copy)]
+struct Granted<'a>(u32, &'a str, u32, LeaseKind, u64);
 
 /// Leases that are granted one after another, more than one node of a map has room for. The last takes
 /// the place of the first, which the same client has on the same node.
-const GRANTS: [Granted; 19] = [
-    (7, "/a", 5, Write, 20),
-    (9, "/", 1, Read, 90),
-    (7, "/d", 20, Write, 30),
-    (10, "/", 1, Read, 10),
-    (9, "/d/e", 121, Read, 25),
-    (8, "/", 1, Read, 60),
-    (7, "/", 1, Read, 50),
-    (8, "/d/e", 121, Read, 70),
-    (10, "/d/e", 121, Read, 15),
-    (7, "/d/e", 121, Read, 80),
-    (9, "/m", 30, Read, 35),
-    (8, "/m", 30, Read, 55),
-    (10, "/n", 31, Write, 45),
-    (8, "/p", 120, Write, 65),
-    (7, "/d/e/f", 122, Read, 12),
-    (8, "/d/e/f", 122, Read, 11),
-    (9, "/d/e/f", 122, Read, 14),
-    (10, "/d/e/f", 122, Read, 13),
-    (7, "/a", 5, Write, 40),
+const GRANTS: [Granted<'static>; 19] = [
+    Granted(7, "/a", 5, Write, 20),
+    Granted(9, "/", 1, Read, 90),
+    Granted(7, "/d", 20, Write, 30),
+    Granted(10, "/", 1, Read, 10),
+    Granted(9, "/d/e", 121, Read, 25),
+    Granted(8, "/", 1, Read, 60),
+    Granted(7, "/", 1, Read, 50),
+    Granted(8, "/d/e", 121, Read, 70),
+    Granted(10, "/d/e", 121, Read, 15),
+    Granted(7, "/d/e", 121, Read, 80),
+    Granted(9, "/m", 30, Read, 35),
+    Granted(8, "/m", 30, Read, 55),
+    Granted(10, "/n", 31, Write, 45),
+    Granted(8, "/p", 120, Write, 65),
+    Granted(7, "/d/e/f", 122, Read, 12),
+    Granted(8, "/d/e/f", 122, Read, 11),
+    Granted(9, "/d/e/f", 122, Read, 14),
+    Granted(10, "/d/e/f", 122, Read, 13),
+    Granted(7, "/a", 5, Write, 40),
 ];
 
 /// The last of the first `count` grants that is of this client on this node: its kind and its end.
-fn last_of(grants: &[Granted], count: u32, client: u32, number: u32) -> Option<(LeaseKind, u64)> {
+fn last_of(
+    grants: &[Granted<'_>],
+    count: u32,
+    client: u32,
+    number: u32,
+) -> Option<(LeaseKind, u64)> {
     let mut last = None;
     let mut index = 0u32;
-    for (of, _, on, kind, end) in grants {
+    for Granted(of, _, on, kind, end) in grants {
         if index < count && *of == client && *on == number {
             last = Some((*kind, *end));
         }
@@ -273,7 +279,7 @@ fn is_live<A: Allocator + Clone>(
 /// until that end.
 fn is_as_granted<A: Allocator + Clone>(
     leases: &Leases<A>,
-    grants: &[Granted],
+    grants: &[Granted<'_>],
     count: u32,
     client: u32,
     number: u32,
@@ -292,27 +298,35 @@ fn is_as_granted<A: Allocator + Clone>(
 /// Whether the table has the leases of the first `count` grants and no other of these grants, at moment 0.
 fn are_as_granted<A: Allocator + Clone>(
     leases: &Leases<A>,
-    grants: &[Granted],
+    grants: &[Granted<'_>],
     count: u32,
 ) -> bool {
     let mut are_right = leases.moment() == 0;
-    for (client, _, number, _, _) in grants {
+    for Granted(client, _, number, _, _) in grants {
         are_right = are_right && is_as_granted(leases, grants, count, *client, *number);
     }
     are_right
+}
+
+const NO_MEMORY: Result<u32, LeaseFault> = Err(LeaseFault::OutOfMemory);
+
+/// Whether both answers are one.
+fn are_one(left: Result<u32, LeaseFault>, right: Result<u32, LeaseFault>) -> bool {
+    left == right
 }
 
 /// Makes the grant. Answers whether it is made; none where it finds no memory.
 fn is_made<A: Allocator + Clone>(
     leases: &mut Leases<A>,
     shape: &Shape<A>,
-    granted: Granted,
+    granted: Granted<'_>,
 ) -> Option<bool> {
-    let (client, path, number, kind, end) = granted;
-    match grant(leases, shape, client, path, kind, end) {
-        Ok(node) => Some(node == number),
-        Err(LeaseFault::OutOfMemory) => None,
-        Err(_) => Some(false),
+    let Granted(client, path, number, kind, end) = granted;
+    let answer = grant(leases, shape, client, path, kind, end);
+    if are_one(answer, NO_MEMORY) {
+        None
+    } else {
+        Some(are_one(answer, Ok(number)))
     }
 }
 
@@ -322,9 +336,9 @@ fn make_grant<A: Allocator + Clone>(
     rt: &impl Abort,
     leases: &mut Leases<A>,
     shape: &Shape<A>,
-    grants: &[Granted],
+    grants: &[Granted<'_>],
     count: u32,
-    granted: Granted,
+    granted: Granted<'_>,
 ) -> u32 {
     if let Some(is_right) = is_made(leases, shape, granted) {
         assert!(rt; is_right, "grant {count}");
@@ -343,7 +357,7 @@ fn make_grants<A: Allocator + Clone>(
     rt: &impl Abort,
     leases: &mut Leases<A>,
     shape: &Shape<A>,
-    grants: &[Granted],
+    grants: &[Granted<'_>],
 ) -> u32 {
     let mut refusals = 0u32;
     let mut count = 0u32;
@@ -361,7 +375,7 @@ fn is_copied<A: Allocator + Clone>(leases: &Leases<A>) -> bool {
 }
 
 /// Whether the table and a copy of it have the leases of all grants.
-fn are_both_as_granted<A: Allocator + Clone>(leases: &Leases<A>, grants: &[Granted]) -> bool {
+fn are_both_as_granted<A: Allocator + Clone>(leases: &Leases<A>, grants: &[Granted<'_>]) -> bool {
     match leases.copy() {
         Ok(copied) => {
             are_as_granted(leases, grants, u32::MAX) && are_as_granted(&copied, grants, u32::MAX)
@@ -374,7 +388,7 @@ fn are_both_as_granted<A: Allocator + Clone>(leases: &Leases<A>, grants: &[Grant
 /// were. Answers whether it was one of a grant, and whether it was one of the copy.
 fn make_with_one_refused(
     rt: &(impl Abort + AllocGlobal),
-    grants: &[Granted],
+    grants: &[Granted<'_>],
     growth: u64,
 ) -> Option<(bool, bool)> {
     let heap = Refusing::new(rt.alloc(), AMPLE);
@@ -395,7 +409,7 @@ fn make_with_one_refused(
 }
 
 /// How many growths the grants make, and then the copy, each of which is refused in turn.
-fn growths(rt: &(impl Abort + AllocGlobal), grants: &[Granted]) -> Option<(u32, u32)> {
+fn growths(rt: &(impl Abort + AllocGlobal), grants: &[Granted<'_>]) -> Option<(u32, u32)> {
     let mut of_grants = 0u32;
     let mut of_copies = 0u32;
     for growth in 0..MANY {
