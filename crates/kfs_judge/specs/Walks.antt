@@ -41,8 +41,8 @@ AreNodesOf before after rows = AreDifferences numbers header_now before.head aft
 module _ {A : Type 0} where
   -- the run over the cells stops at this fault, or ends at what the draft shows
   abbrev pub EndsAt : Client → Draft A → ClientSight → List Entry → Option CodeEntryFault → Type 0
-  EndsAt client draft state entries None = seen_run client state entries ≡ Ok (over draft state.sight)
-  EndsAt client draft state entries (Some fault) = seen_run client state entries ≡ Err (fault_of fault)
+  EndsAt client draft before entries None = seen_run client before entries ≡ Ok (over draft before.sight)
+  EndsAt client draft before entries (Some fault) = seen_run client before entries ≡ Err (fault_of fault)
 
   pub record IsNetOf (before after : Sight) (net : Net A) : Type 0 where
     pub names : AreNamesOf before after net.names.items
@@ -50,10 +50,9 @@ module _ {A : Type 0} where
 
   -- the run over the cells stops at this fault, or shows what differs
   abbrev pub ComesTo : Client → ClientSight → List Entry → Result (Net A) CodeEntryFault → Type 0
-  ComesTo client state entries (Err fault) = seen_run client state entries ≡ Err (fault_of fault)
-  ComesTo client state entries (Ok net) = (after : Sight) × (seen_run client state entries ≡ Ok after) × IsNetOf state.sight after net
+  ComesTo client before entries (Err fault) = seen_run client before entries ≡ Err (fault_of fault)
+  ComesTo client before entries (Ok net) = (after : Sight) × (seen_run client before entries ≡ Ok after) × IsNetOf before.sight after net
 
-module _ {A : Type 0} where
   -- the entries one by one stop at this fault, or leave a sound tree of which this is the net, each of them allowed
   abbrev pub ComesToTree : Client → (ℕ → Bool) → Tree ℕ → List Entry → Result (Net A) CodeEntryFault → Type 0
   ComesToTree client held t entries (Err fault) = run over_bytes client (client_sight t held) t entries ≡ Err (fault_of fault)
