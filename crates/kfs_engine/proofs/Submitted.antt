@@ -5,7 +5,7 @@ use Rattle.std.specs.List.{list_all}
 use Rattle.kfs_model.specs.Entry.{Log}
 use Rattle.kfs_model.specs.Spelling.{SpellingFault, LogAnswer}
 use Rattle.kfs_model.specs.Judgement.{Submission}
-use Rattle.kfs_entry.specs.Answers.{Refused, log_of}
+use Rattle.kfs_entry.specs.Answers.{OnRefusal, log_of}
 use Rattle.kfs_value.specs.Views.{entry_of}
 use Rattle.kfs_value.specs.declared.entry.Log.{Log as CodeLog}
 use Rattle.kfs_entry.specs.declared.fault.SpellFault.{SpellFault}
@@ -23,14 +23,14 @@ all_are_judged bytes log only all has =
     let e : true ≡ false = sym judged ∙ ap (λ l. list_all is_judged l.entries) log_is ∙ has.other in
     cc
 
-no_log : (fault : SpellFault) (log : Log) → fault ≢ faults.OutOfMemory → Refused (λ given. given ≡ Ok log) fault → ⊥
+no_log : (fault : SpellFault) (log : Log) → fault ≢ faults.OutOfMemory → OnRefusal (λ given. given ≡ Ok log) fault → ⊥
 no_log faults.BadHeader log refused is = cc
 no_log (faults.BadEntry k) log refused is = cc
 no_log faults.Trailing log refused is = cc
 no_log (faults.BadRow part k) log refused is = cc
 no_log faults.OutOfMemory log refused is = refused refl
 
-pub no_log_has_other : (bytes : List ℕ) (fault : SpellFault) → fault ≢ faults.OutOfMemory → ((answer : Result Log SpellingFault) → LogAnswer bytes answer → Refused (λ given. given ≡ answer) fault) → HasOtherEntry bytes → ⊥
+pub no_log_has_other : (bytes : List ℕ) (fault : SpellFault) → fault ≢ faults.OutOfMemory → ((answer : Result Log SpellingFault) → LogAnswer bytes answer → OnRefusal (λ given. given ≡ answer) fault) → HasOtherEntry bytes → ⊥
 no_log_has_other bytes fault refused only has = no_log fault has.log refused (only (Ok has.log) has.spelled)
 
 pub none_is_bad : (asked : Option Command) → asked ≡ None → IsBadLine asked
