@@ -1,5 +1,5 @@
 -- Each line is answered by computation.
-use Rattle.std.proofs.Common.{ℕ, List, [], ◌∷◌, Ok, inl, inr, refl}
+use Rattle.std.proofs.Common.{ℕ, List, [], Ok, inl, inr, refl}
 use Rattle.std.specs.Prelude.{codes}
 use Rattle.std.specs.Fmt.{digits}
 use native.Mathlib.Decide.{ℕ_discrete}
