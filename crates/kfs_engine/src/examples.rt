@@ -64,7 +64,7 @@ pub fn openings()
     ensures image { opened (record { image = None; clients = [] }) (New (record { first = 8; second = 8; third = 8 })) ≡ (codes "ok\n", Before (record { image = Some (record { contents = root_alone; sizes = record { first = 8; second = 8; third = 8 } }); clients = [] })) }
     ensures without_image { opened (record { image = None; clients = [] }) (Begin 100) ≡ (codes "bad line\n", fresh) }
     ensures refused { opened (record { image = None; clients = [] }) (Row (Err TooManyGroups)) ≡ (codes "client TooManyGroups\n", fresh) }
-    ensures twice { opened (opening_with (client_7 ∷ client_8 ∷ client_7 ∷ client_7 ∷ [])) (Begin 3) ≡ (codes "begin ClientTwice 2\n", Before (opening_with [])) }
+    ensures twice { opened (opening_with (client_7 ∷ client_8 ∷ client_7 ∷ client_7 ∷ [])) (Begin 3) ≡ (codes "begin ClientTwice(2)\n", Before (opening_with [])) }
     ensures begun { opened (record { image = Some (record { contents = root_alone; sizes = record { first = 8; second = 8; third = 8 } }); clients = [] }) (Begin 3) ≡ (codes "ok\n", After (record { state = opening [] (record { first = 8; second = 8; third = 8 }) (tree_of root_alone) empty; rows = 0; limit = 3 })) }
 {}
 
