@@ -41,10 +41,10 @@ untested (Some before) name h = less _ h
 
 further : (after : Option (Bor (List ℕ))) (a b : List ℕ) → IsAfter after a → slice_cmp nat_cmp a b ≡ Less → IsAfter after b
 further None a b h e = tt
-further (Some before) a b h e = bytes.total.trans before.now a b h e
+further (Some before) a b h e = byte_order.total.trans before.now a b h e
 
 turned : (a b : List ℕ) (o : Ordering) → slice_cmp nat_cmp a b ≡ o → slice_cmp nat_cmp b a ≡ ordering_reverse o
-turned a b o e = bytes.total.antisymm b a ∙ ap ordering_reverse e
+turned a b o e = byte_order.total.antisymm b a ∙ ap ordering_reverse e
 
 -- ---- tables
 
