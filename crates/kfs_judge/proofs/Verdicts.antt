@@ -17,7 +17,7 @@ use Rattle.kfs_model.specs.Judgement.Verdict.{Yes, No}
 use Rattle.kfs_model.specs.Machine.{OneByOne}
 use Rattle.kfs_model.specs.CleanStep.{IsClient, Fits}
 use Rattle.kfs_model.proofs.RightPlan.{right_from_none}
-use Rattle.kfs_entry.specs.Answers.{log_of, plan_of, Refused}
+use Rattle.kfs_entry.specs.Answers.{log_of, plan_of, OnRefusal}
 use Rattle.kfs_value.specs.declared.entry.Log.{Log as CodeLog}
 use Rattle.kfs_value.specs.declared.plan.Plan.{Plan as CodePlan}
 use Rattle.kfs_entry.specs.declared.fault.SpellFault.{SpellFault}
@@ -109,7 +109,7 @@ module _ (A : Type 0) (s : State) (submission : Submission) where
       refused faults.UnknownClient ClientUnknown log.0 plan.0 log.1 plan.1 (judged-unknown s submission.client log.0 plan.0 row) refl
 
   module _ (client : Client) (row : row_of s.clients submission.client ≡ Some client) where
-    pub bad_log : IsBytes submission.plan → (fault : SpellFault) → fault ≢ spelling.OutOfMemory → Refused (LogAnswer submission.log) fault → IsVerdict {A = A} s submission (outcomes.No (faults.BadLog fault))
+    pub bad_log : IsBytes submission.plan → (fault : SpellFault) → fault ≢ spelling.OutOfMemory → OnRefusal (LogAnswer submission.log) fault → IsVerdict {A = A} s submission (outcomes.No (faults.BadLog fault))
     bad_log plan_bytes fault memory answer = by fault memory answer
       where
         at : (fault : SpellFault) (shown : SpellingFault) → LogAnswer submission.log (Err shown) → refusal_of (faults.BadLog fault) ≡ Some (BadLog shown) → IsVerdict {A = A} s submission (outcomes.No (faults.BadLog fault))
@@ -117,7 +117,7 @@ module _ (A : Type 0) (s : State) (submission : Submission) where
             let plan = plan_has_answer submission.plan plan_bytes in
             refused (faults.BadLog fault) (BadLog shown) (Err shown) plan.0 is plan.1 (judged-bad_log s submission.client client row shown plan.0) same
 
-        by : (fault : SpellFault) → fault ≢ spelling.OutOfMemory → Refused (LogAnswer submission.log) fault → IsVerdict {A = A} s submission (outcomes.No (faults.BadLog fault))
+        by : (fault : SpellFault) → fault ≢ spelling.OutOfMemory → OnRefusal (LogAnswer submission.log) fault → IsVerdict {A = A} s submission (outcomes.No (faults.BadLog fault))
         by spelling.BadHeader memory is = at spelling.BadHeader BadHeader is refl
         by (spelling.BadEntry k) memory is = at (spelling.BadEntry k) (BadEntry k) is refl
         by spelling.Trailing memory is = at spelling.Trailing Trailing is refl
@@ -130,13 +130,13 @@ module _ (A : Type 0) (s : State) (submission : Submission) where
           let plan = plan_has_answer submission.plan plan_bytes in
           refused faults.WrongClient ClientWrong (Ok (log_of submission.log log)) plan.0 log_read plan.1 (judged-wrong s submission.client client row (log_of submission.log log) plan.0 other) refl
 
-      pub bad_plan : log.client ≡ submission.client → (fault : SpellFault) → fault ≢ spelling.OutOfMemory → Refused (PlanAnswer submission.plan) fault → IsVerdict {A = A} s submission (outcomes.No (faults.BadPlan fault))
+      pub bad_plan : log.client ≡ submission.client → (fault : SpellFault) → fault ≢ spelling.OutOfMemory → OnRefusal (PlanAnswer submission.plan) fault → IsVerdict {A = A} s submission (outcomes.No (faults.BadPlan fault))
       bad_plan own fault memory answer = by fault memory answer
         where
           at : (fault : SpellFault) (shown : SpellingFault) → PlanAnswer submission.plan (Err shown) → refusal_of (faults.BadPlan fault) ≡ Some (BadPlan shown) → IsVerdict {A = A} s submission (outcomes.No (faults.BadPlan fault))
           at fault shown is same = refused (faults.BadPlan fault) (BadPlan shown) (Ok (log_of submission.log log)) (Err shown) log_read is (judged-own s submission.client client row (log_of submission.log log) (Err shown) own) same
 
-          by : (fault : SpellFault) → fault ≢ spelling.OutOfMemory → Refused (PlanAnswer submission.plan) fault → IsVerdict {A = A} s submission (outcomes.No (faults.BadPlan fault))
+          by : (fault : SpellFault) → fault ≢ spelling.OutOfMemory → OnRefusal (PlanAnswer submission.plan) fault → IsVerdict {A = A} s submission (outcomes.No (faults.BadPlan fault))
           by spelling.BadHeader memory is = at spelling.BadHeader BadHeader is refl
           by (spelling.BadEntry k) memory is = at (spelling.BadEntry k) (BadEntry k) is refl
           by spelling.Trailing memory is = at spelling.Trailing Trailing is refl
