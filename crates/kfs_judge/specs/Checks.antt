@@ -1,5 +1,5 @@
 -- The code's checks, reasons and entry contexts as those of the definitions.
-use Rattle.std.specs.Prelude.{◌≡◌, Option}
+use Rattle.std.specs.Prelude.{◌≡◌, ℕ, Option}
 use Rattle.std.specs.Option.{option_map}
 use Rattle.kfs_judge.specs.Recorders.{Known, ReadsAt}
 use Rattle.kfs_model.specs.Check.{first_fault, entry_cells}
@@ -45,6 +45,7 @@ check_of (variants.NameIsThere key) = checks.NameIsThere key.now.0 key.now.1
 check_of (variants.NameIsFree key) = checks.NameIsFree key.now.0 key.now.1
 check_of (variants.NumberIsGranted n) = checks.NumberIsGranted n
 check_of (variants.NumberIsFree n) = checks.NumberIsFree n
+check_of (variants.IsNotAbove n d) = checks.IsNotAbove n d
 check_of (variants.SeesName key) = checks.Sees (NameIn key.now.0 key.now.1)
 check_of (variants.SeesHeader n) = checks.Sees (HeaderOf n)
 
@@ -72,6 +73,10 @@ abbrev pub entry_context_in : {A : Type 0} → EntryJudge A → ClientSight → 
 entry_context_in judge before = entry_context_of judge.client.now judge.draft.now before
 
 module _ {A : Type 0} (judge : EntryJudge A) where
+  -- the directory in which a directory stands now
+  abbrev pub parent_in : ClientSight → ℕ → Option ℕ
+  parent_in before = (entry_context_in judge before).now.parent
+
   -- a check's fault, as what was read tells it
   abbrev pub FindsWrong : Recorder A → Check → Option Reason → Type 0
   FindsWrong recorder check reason = Known recorder (λ before. checks.fault (entry_context_in judge before) (check_of check) ≡ option_map reason_of reason)

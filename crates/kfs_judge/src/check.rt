@@ -66,6 +66,8 @@ pub(crate) enum Check<'a> {
     NumberIsGranted(u32),
     /// The number is no node's, was none's before the log, and the log didn't create it.
     NumberIsFree(u32),
+    /// The node isn't the directory and doesn't lie above it.
+    IsNotAbove { node: u32, dir: u32 },
     /// Never fails: what comes after it depends on where the name leads.
     SeesName(&'a (u32, Name)),
     /// Never fails: what comes after it depends on the node's header.

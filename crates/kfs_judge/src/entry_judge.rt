@@ -8,10 +8,10 @@ ghost use Rattle.kfs_model.specs.Access.{may_header, owns};
 ghost use Rattle.kfs_model.specs.Check as checks;
 ghost use Rattle.kfs_model.specs.Check.{first_failing, looked};
 ghost use Rattle.kfs_model.specs.Sight as sight;
-ghost use Rattle.kfs_model.specs.Sight.{CountOf, HeaderOf, LeaseOn, NameIn, ParentOf};
+ghost use Rattle.kfs_model.specs.Sight.{CountOf, HeaderOf, LeaseOn, NameIn, ParentOf, climb_limit, climb_meets, climbed};
 ghost use Rattle.kfs_mode.specs.Mode.{want_shown};
 ghost use Rattle.kfs_judge.specs.Recorders.{GoesOn, Known, ReadsAt};
-ghost use Rattle.kfs_judge.specs.Checks.{check_of, reason_of, entry_context_in, FindsWrong, IsOfHeader, IsOfName, ReadsCellsOfCheck};
+ghost use Rattle.kfs_judge.specs.Checks.{check_of, reason_of, entry_context_in, FindsWrong, IsOfHeader, IsOfName, ReadsCellsOfCheck, parent_in};
 
 use crate::check::{Check, Reason};
 use crate::draft::Draft;
@@ -22,6 +22,9 @@ use std::alloc::{AllocError, Allocator};
 
 /// The most names of a file.
 const LINK_LIMIT: u16 = 1024;
+
+/// The most steps of a climb.
+const CLIMB_LIMIT: u32 = 65_536;
 
 /// What judges the next entry: the log's client, and the draft of the entries so far.
 #[derive(Clone, Copy)]
@@ -123,6 +126,10 @@ impl<A: Allocator + Copy> EntryJudge<'_, A> {
             Check::NumberIsFree(number) => {
                 let free = self.is_number_free(recorder, *number)?;
                 Ok(unless(free, Reason::NumberTaken))
+            }
+            Check::IsNotAbove { node, dir } => {
+                let meets = self.climb_meets(recorder, *node, *dir)?;
+                Ok(unless(!meets, Reason::BelowItself))
             }
             _ => self.header_fault(recorder, check),
         }
@@ -240,13 +247,40 @@ impl<A: Allocator + Copy> EntryJudge<'_, A> {
     /// The directory that the directory stands in now.
     fn parent(&self, recorder: &mut Recorder<'_, A>, number: u32) -> Result<Option<u32>, AllocError>
         ensures goes { GoesOn recorder.old recorder.new }
-        ensures known { IfOk result (λ parent. Known recorder.new (λ before. (entry_context_in self.now before).now.parent number ≡ parent)) }
+        ensures known { IfOk result (λ parent. Known recorder.new (λ before. parent_in self.now before number ≡ parent)) }
         ensures among { OnOk result (ReadsAt recorder.old recorder.new (ParentOf number ∷ [])) }
     {
         match self.draft.parent(number) {
             Some(parent) => Ok(parent),
             None => recorder.parent(number),
         }
+    }
+
+    /// Whether the climb along the parents from the directory on meets the node. It takes as many
+    /// steps as the directory lies deep.
+    fn climb_meets(
+        &self,
+        recorder: &mut Recorder<'_, A>,
+        node: u32,
+        dir: u32,
+    ) -> Result<bool, AllocError>
+        ensures goes { GoesOn recorder.old recorder.new }
+        ensures known { IfOk result (λ meets. Known recorder.new (λ before. climb_meets (parent_in self.now before) climb_limit node dir ≡ meets)) }
+        ensures among { OnOk result (Known recorder.new (λ before. ReadsAt recorder.old recorder.new (map ParentOf (climbed (parent_in self.now before) climb_limit dir)))) }
+    {
+        let mut current = dir;
+        let mut left = CLIMB_LIMIT;
+        while left > 0 {
+            if current == node {
+                return Ok(true);
+            }
+            let Some(up) = self.parent(recorder, current)? else {
+                return Ok(false);
+            };
+            current = up;
+            left -= 1;
+        }
+        Ok(current == node)
     }
 
     fn is_number_free(
