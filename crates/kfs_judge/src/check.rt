@@ -37,6 +37,17 @@ pub enum Reason {
     NoLease(u32),
 }
 
+/// Makes the checks in order, and has the function around it return the reason of the first that fails.
+macro_rules! check {
+    ($judge:expr, $recorder:expr; $($case:ident $of:tt),+ $(,)?) => {
+        if let Some(reason) = $judge.first_fault($recorder, &[$($crate::check::Check::$case $of),+])? {
+            return Ok(Some(reason));
+        }
+    };
+}
+
+pub(crate) use check;
+
 /// One test of where an entry stands.
 #[derive(Clone, Copy)]
 pub(crate) enum Check<'a> {
