@@ -1,6 +1,6 @@
--- The first failing check, one check at a time.
-use Rattle.std.specs.Prelude.{◌≡◌, List, [], ◌∷◌, Option, Some, None, refl}
-use Rattle.std.proofs.Common.{ap}
+-- The first failing check, one check at a time and one group of checks after another.
+use Rattle.std.specs.Prelude.{◌≡◌, List, [], ◌∷◌, ◌++◌, Option, Some, None, refl}
+use Rattle.std.proofs.Common.{ap, sym, ◌∙◌}
 use Rattle.kfs_model.specs.Check.{EntryContext, Check, Reason, fault, first_failing}
 
 module _ (p : EntryContext) where
@@ -17,3 +17,27 @@ module _ (p : EntryContext) where
   pub failing-none : first_failing p [] ≡ None
   unfolding first_failing
   failing-none = refl
+
+  -- ---- two groups of checks
+
+  -- the first group's fault, or else the second's
+  pub failing-groups : (front back : List Check) → first_failing p (front ++ back) ≡ elim (first_failing p front) [ None ↦ first_failing p back | Some reason ↦ Some reason ]
+  unfolding first_failing
+  failing-groups [] back = refl
+  failing-groups (check ∷ front) back = by_first (failing-groups front back) (fault p check) refl
+    where
+      or_behind : Option Reason → Option Reason
+      or_behind found = elim found [ None ↦ first_failing p back | Some reason ↦ Some reason ]
+
+      by_first : first_failing p (front ++ back) ≡ or_behind (first_failing p front) → (found : Option Reason) → fault p check ≡ found → first_failing p (check ∷ (front ++ back)) ≡ or_behind (first_failing p (check ∷ front))
+      by_first rest None is = failing-passes check (front ++ back) is ∙ rest ∙ ap or_behind (sym (failing-passes check front is))
+      by_first rest (Some reason) is = failing-fails check (front ++ back) reason is ∙ ap or_behind (sym (failing-fails check front reason is))
+
+  group_decides : (front back : List Check) (found : Option Reason) → first_failing p front ≡ found → first_failing p (front ++ back) ≡ elim found [ None ↦ first_failing p back | Some reason ↦ Some reason ]
+  group_decides front back found is = failing-groups front back ∙ ap (λ (f : Option Reason). elim f as (λ _. Option Reason) [ None ↦ first_failing p back | Some reason ↦ Some reason ]) is
+
+  pub failing-in_back : (front back : List Check) → first_failing p front ≡ None → first_failing p (front ++ back) ≡ first_failing p back
+  failing-in_back front back is = group_decides front back None is
+
+  pub failing-in_front : (front back : List Check) (reason : Reason) → first_failing p front ≡ Some reason → first_failing p (front ++ back) ≡ Some reason
+  failing-in_front front back reason is = group_decides front back (Some reason) is

@@ -5,6 +5,7 @@ pub mod ViewShows
 pub mod Lists
 pub mod Overlays
 pub mod Failing
+pub mod Climbing
 pub mod Entering
 pub mod Looking
 pub mod ChangedRows

@@ -1,11 +1,11 @@
 -- The cells that checks and entries look at, one after another.
 use Rattle.std.specs.Prelude.{◌≡◌, ℕ, false, List, [], ◌∷◌, ◌++◌, Contains, Option, Some, None, refl}
-use Rattle.std.proofs.Common.{ap, sym, subst, ◌∙◌}
+use Rattle.std.proofs.Common.{ap, sym, subst, append-nil, append_assoc, ◌∙◌}
 use Rattle.kfs_model.specs.Access.{Client}
 use Rattle.kfs_model.specs.Entry.{Entry, Create, Chmod}
 use Rattle.kfs_model.specs.Header.{Kind}
 use Rattle.kfs_model.specs.Sight.{Sight, ClientSight, Cell, HeaderOf, NameIn}
-use Rattle.kfs_model.specs.Check.{EntryContext, Check, Reason, fault, cells, checks_of, first_fault, looked}
+use Rattle.kfs_model.specs.Check.{EntryContext, Check, Reason, fault, cells, checks_of, first_failing, first_fault, looked}
 use Rattle.kfs_model.specs.Run.{created_by}
 use Rattle.kfs_model.specs.SeenAfter.{seen_after}
 use Rattle.kfs_model.specs.Looked.{looked_from, looked_cells}
@@ -16,6 +16,7 @@ use Rattle.kfs_judge.specs.declared.reads.ReadAnswer.{ReadAnswer}
 use Rattle.kfs_judge.specs.Overlay.{over, has_created, entry_context_of, IsWritten, AreCreated}
 use Rattle.kfs_judge.specs.Reads.{Always, Grows, Within}
 use Rattle.kfs_judge.proofs.Entering.{same_context}
+use Rattle.kfs_judge.proofs.Failing.{failing-passes, failing-fails}
 use Rattle.kfs_judge.proofs.Recording.{IsPart, within_same, within_then, within_wider, first_is_in, part_of_itself, left_is_part, right_is_part, both_are_part, none_is_part}
 
 -- ---- checks
@@ -35,6 +36,32 @@ module _ (p : EntryContext) where
   looks_at : (front : List Check) (check : Check) (back : List Check) → AllPass p (front ++ (check ∷ back)) → IsPart (cells p check) (looked p (front ++ (check ∷ back)))
   looks_at [] check back pass cell there = looks_here check back cell there
   looks_at (first ∷ front) check back pass cell there = looks_behind first (front ++ (check ∷ back)) pass.0 cell (looks_at front check back pass.1 cell there)
+
+  -- the first group's cells, and behind them those of the second where no check of the first fails
+  pub looked_groups : (front back : List Check) → looked p (front ++ back) ≡ looked p front ++ elim (first_failing p front) [ None ↦ looked p back | Some reason ↦ [] ]
+  unfolding looked first_failing
+  looked_groups [] back = refl
+  looked_groups (check ∷ front) back = by_first (looked_groups front back) (fault p check) refl
+    where
+      behind : Option Reason → List Cell
+      behind found = elim found [ None ↦ looked p back | Some reason ↦ [] ]
+
+      both : List Check → List Cell
+      both checks = looked p checks ++ behind (first_failing p checks)
+
+      by_first : looked p (front ++ back) ≡ both front → (found : Option Reason) → fault p check ≡ found → looked p (check ∷ (front ++ back)) ≡ both (check ∷ front)
+      by_first rest None is =
+          by_fault check (front ++ back) None is ∙ ap (λ cs. cells p check ++ cs) rest ∙ sym (append_assoc (cells p check) (looked p front) (behind (first_failing p front)))
+          ∙ (λ i. sym (by_fault check front None is) i ++ behind (sym (failing-passes p check front is) i))
+      by_first rest (Some reason) is =
+          by_fault check (front ++ back) (Some reason) is ∙ sym (append-nil (cells p check ++ []))
+          ∙ (λ i. sym (by_fault check front (Some reason) is) i ++ behind (sym (failing-fails p check front reason is) i))
+
+  pub front_is_looked : (front back : List Check) → IsPart (looked p front) (looked p (front ++ back))
+  front_is_looked front back = subst (IsPart (looked p front)) (sym (looked_groups front back)) (left_is_part (looked p front) _)
+
+  pub back_is_looked : (front back : List Check) → first_failing p front ≡ None → IsPart (looked p back) (looked p (front ++ back))
+  back_is_looked front back pass = subst (IsPart (looked p back)) (sym (looked_groups front back ∙ ap (λ (found : Option Reason). looked p front ++ elim found as (λ _. List Cell) [ None ↦ looked p back | Some reason ↦ [] ]) pass)) (right_is_part (looked p front) (looked p back))
 
   -- a clean Create has looked at the cells that it writes
   pub create_looks : (d : ℕ) (m : List ℕ) (n : ℕ) (kind : Kind) (mode : ℕ) → first_fault p (Create d m n kind mode) ≡ None → Contains (looked p (checks_of p (Create d m n kind mode))) (NameIn d m) × Contains (looked p (checks_of p (Create d m n kind mode))) (HeaderOf n)

@@ -1,11 +1,11 @@
 -- The code's checks, reasons and entry contexts as those of the definitions.
-use Rattle.std.specs.Prelude.{◌≡◌, Option}
+use Rattle.std.specs.Prelude.{◌≡◌, ℕ, Option}
 use Rattle.std.specs.Option.{option_map}
 use Rattle.kfs_judge.specs.Recorders.{Known, ReadsAt}
 use Rattle.kfs_model.specs.Check.{first_fault, entry_cells}
 use Rattle.kfs_model.specs.Entry.{Entry}
 use Rattle.kfs_model.specs.Check as checks
-use Rattle.kfs_model.specs.Sight.{ClientSight}
+use Rattle.kfs_model.specs.Sight.{ClientSight, HeaderOf, NameIn}
 use Rattle.kfs_judge.specs.declared.check.Reason.{Reason}
 use Rattle.kfs_judge.specs.declared.check.Reason.TheVariants as reasons
 use Rattle.kfs_judge.specs.declared.check.Check.{Check}
@@ -34,17 +34,56 @@ reason_of (reasons.NoLease n) = checks.NoLease n
 abbrev pub check_of : Check → checks.Check
 check_of (variants.Exists n) = checks.Exists n
 check_of (variants.IsADirectory n) = checks.IsADirectory n
+check_of (variants.IsAFile n) = checks.IsAFile n
 check_of (variants.MaySearch n) = checks.MaySearch n
 check_of (variants.MayWrite n) = checks.MayWrite n
 check_of (variants.MayChangeMode n) = checks.MayChangeMode n
 check_of (variants.IsLeased n) = checks.IsLeased n
+check_of (variants.HasNoNames n) = checks.HasNoNames n
+check_of (variants.HasRoomForLink n) = checks.HasRoomForLink n
+check_of (variants.NameIsThere key) = checks.NameIsThere key.now.0 key.now.1
 check_of (variants.NameIsFree key) = checks.NameIsFree key.now.0 key.now.1
 check_of (variants.NumberIsGranted n) = checks.NumberIsGranted n
 check_of (variants.NumberIsFree n) = checks.NumberIsFree n
+check_of (variants.IsNotAbove n d) = checks.IsNotAbove n d
+check_of (variants.SeesName key) = checks.Sees (NameIn key.now.0 key.now.1)
+check_of (variants.SeesHeader n) = checks.Sees (HeaderOf n)
+
+-- the check looks at where a name leads
+abbrev pub IsOfName : Check → Type 0
+IsOfName (variants.NameIsThere key) = Unit {0}
+IsOfName (variants.NameIsFree key) = Unit {0}
+IsOfName (variants.SeesName key) = Unit {0}
+IsOfName _ = ⊥
+
+-- the check looks at a header as it is now, and at nothing else
+abbrev pub IsOfHeader : Check → Type 0
+IsOfHeader (variants.Exists n) = Unit {0}
+IsOfHeader (variants.IsADirectory n) = Unit {0}
+IsOfHeader (variants.IsAFile n) = Unit {0}
+IsOfHeader (variants.MaySearch n) = Unit {0}
+IsOfHeader (variants.MayWrite n) = Unit {0}
+IsOfHeader (variants.MayChangeMode n) = Unit {0}
+IsOfHeader (variants.HasRoomForLink n) = Unit {0}
+IsOfHeader (variants.SeesHeader n) = Unit {0}
+IsOfHeader _ = ⊥
 
 -- where the entry is judged, by what the client saw before the log
 abbrev pub entry_context_in : {A : Type 0} → EntryJudge A → ClientSight → checks.EntryContext
 entry_context_in judge before = entry_context_of judge.client.now judge.draft.now before
+
+module _ {A : Type 0} (judge : EntryJudge A) where
+  -- the directory in which a directory stands now
+  abbrev pub parent_in : ClientSight → ℕ → Option ℕ
+  parent_in before = (entry_context_in judge before).now.parent
+
+  -- a check's fault, as what was read tells it
+  abbrev pub FindsWrong : Recorder A → Check → Option Reason → Type 0
+  FindsWrong recorder check reason = Known recorder (λ before. checks.fault (entry_context_in judge before) (check_of check) ≡ option_map reason_of reason)
+
+  -- the further reads are at the check's cells
+  abbrev pub ReadsCellsOfCheck : (old new : Recorder A) → Check → Type 0
+  ReadsCellsOfCheck old new check = Known new (λ before. ReadsAt old new (checks.cells (entry_context_in judge before) (check_of check)))
 
 -- the entry's first fault, as what was read tells it
 abbrev pub FindsFault : {A : Type 0} → EntryJudge A → Recorder A → Entry → Option Reason → Type 0

@@ -37,6 +37,17 @@ pub enum Reason {
     NoLease(u32),
 }
 
+/// Makes the checks in order, and has the function around it return the reason of the first that fails.
+macro_rules! check {
+    ($judge:expr, $recorder:expr; $($case:ident $of:tt),+ $(,)?) => {
+        if let Some(reason) = $judge.first_fault($recorder, &[$($crate::check::Check::$case $of),+])? {
+            return Ok(Some(reason));
+        }
+    };
+}
+
+pub(crate) use check;
+
 /// One test of where an entry stands.
 #[derive(Clone, Copy)]
 pub(crate) enum Check<'a> {
@@ -44,6 +55,8 @@ pub(crate) enum Check<'a> {
     Exists(u32),
     /// The node is a directory.
     IsADirectory(u32),
+    /// The node is no directory.
+    IsAFile(u32),
     /// The client may search the directory.
     MaySearch(u32),
     /// The client may write the node, or the log created it as a file.
@@ -52,10 +65,22 @@ pub(crate) enum Check<'a> {
     MayChangeMode(u32),
     /// The log created the node, or the client holds a live write lease on it.
     IsLeased(u32),
+    /// The directory has no names.
+    HasNoNames(u32),
+    /// The file may have one name more.
+    HasRoomForLink(u32),
+    /// The directory has the name.
+    NameIsThere(&'a (u32, Name)),
     /// The directory has no such name.
     NameIsFree(&'a (u32, Name)),
     /// The client may give the number to a new node.
     NumberIsGranted(u32),
     /// The number is no node's, was none's before the log, and the log didn't create it.
     NumberIsFree(u32),
+    /// The node isn't the directory and doesn't lie above it.
+    IsNotAbove { node: u32, dir: u32 },
+    /// Never fails: what comes after it depends on where the name leads.
+    SeesName(&'a (u32, Name)),
+    /// Never fails: what comes after it depends on the node's header.
+    SeesHeader(u32),
 }

@@ -10,7 +10,7 @@ ghost use Rattle.kfs_judge.specs.Overlay.{has_created, ShiftsBy};
 ghost use Rattle.kfs_judge.specs.Recorders.{GoesOn};
 ghost use Rattle.kfs_judge.specs.Checks.{FindsFault, ReadsCellsOf};
 
-use crate::check::{Check, Reason};
+use crate::check::{Reason, check};
 use crate::entry_judge::EntryJudge;
 use crate::log_judge::LogJudge;
 use crate::reads::Recorder;
@@ -28,13 +28,12 @@ fn chmod_fault<A: Allocator + Copy>(
     ensures known { IfOk result (λ reason. (mode : ℕ) → FindsFault judge.now recorder.new (entry.Chmod number mode) reason) }
     ensures among { OnOk result ((mode : ℕ) → ReadsCellsOf judge.now recorder.old recorder.new (entry.Chmod number mode)) }
 {
-    let checks = [
-        Check::Exists(number),
-        Check::MayChangeMode(number),
-        Check::IsLeased(number),
-    ];
-    let reason = judge.first_fault(recorder, &checks)?;
-    Ok(reason)
+    check!(judge, recorder;
+        Exists(number),
+        MayChangeMode(number),
+        IsLeased(number),
+    );
+    Ok(None)
 }
 
 impl<A: Allocator + Copy> LogJudge<'_, A> {

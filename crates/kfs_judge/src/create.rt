@@ -12,7 +12,7 @@ ghost use Rattle.kfs_judge.specs.Overlay.{has_created, over, shift_of, ShiftsBy}
 ghost use Rattle.kfs_judge.specs.Recorders.{GoesOn};
 ghost use Rattle.kfs_judge.specs.Checks.{FindsFault, ReadsCellsOf};
 
-use crate::check::{Check, Reason};
+use crate::check::{Reason, check};
 use crate::entry_judge::EntryJudge;
 use crate::log_judge::LogJudge;
 use crate::reads::Recorder;
@@ -32,18 +32,17 @@ fn create_fault<A: Allocator + Copy>(
     ensures among { OnOk result ((kind : KindShown) (mode : ℕ) → ReadsCellsOf judge.now recorder.old recorder.new (entry.Create key.now.0 key.now.1 number kind mode)) }
 {
     let dir = key.0;
-    let checks = [
-        Check::Exists(dir),
-        Check::IsADirectory(dir),
-        Check::MaySearch(dir),
-        Check::MayWrite(dir),
-        Check::IsLeased(dir),
-        Check::NameIsFree(key),
-        Check::NumberIsGranted(number),
-        Check::NumberIsFree(number),
-    ];
-    let reason = judge.first_fault(recorder, &checks)?;
-    Ok(reason)
+    check!(judge, recorder;
+        Exists(dir),
+        IsADirectory(dir),
+        MaySearch(dir),
+        MayWrite(dir),
+        IsLeased(dir),
+        NameIsFree(key),
+        NumberIsGranted(number),
+        NumberIsFree(number),
+    );
+    Ok(None)
 }
 
 impl<'a, A: Allocator + Copy> LogJudge<'a, A> {

@@ -134,6 +134,20 @@ impl<A: Allocator> Draft<A> {
         self.names.get(key).copied()
     }
 
+    /// The directory that the directory stands in, or none, where an entry wrote it.
+    pub(crate) fn parent(&self, number: u32) -> Option<Option<u32>>
+        ensures { result ≡ get nat_cmp self.now.parents number }
+    {
+        self.parents.get(&number).copied()
+    }
+
+    /// By how much the directory's count of names differs.
+    pub(crate) fn shift(&self, dir: u32) -> i32
+        ensures { result ≡ shift_of self.now dir }
+    {
+        self.shifts.get(&dir).copied().unwrap_or(0)
+    }
+
     /// Whether an entry created the number.
     pub(crate) fn has_created(&self, number: u32) -> bool
         ensures { result ≡ has_created self.now number }

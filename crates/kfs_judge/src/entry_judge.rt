@@ -1,15 +1,17 @@
 //! What judges one entry: the first of its checks that fails where it stands.
-ghost use Rattle.std.specs.Prelude.{◌≡◌, IfOk, is_none, not, ◌&&◌, ◌||◌, map, OnOk, [], ◌∷◌};
+ghost use Rattle.std.specs.Prelude.{◌≡◌, ◌+ℤ◌, pos, nat_lt, IfOk, is_none, not, ◌&&◌, ◌||◌, map, OnOk, [], ◌∷◌};
 ghost use Rattle.std.specs.Option.{option_map};
+ghost use Rattle.std.specs.Ordering.{int_eq};
+ghost use Rattle.kfs_model.specs.Limits.{link_limit};
 ghost use Rattle.kfs_value.specs.Views.{header_of};
 ghost use Rattle.kfs_model.specs.Access.{may_header, owns};
 ghost use Rattle.kfs_model.specs.Check as checks;
 ghost use Rattle.kfs_model.specs.Check.{first_failing, looked};
 ghost use Rattle.kfs_model.specs.Sight as sight;
-ghost use Rattle.kfs_model.specs.Sight.{HeaderOf, LeaseOn, NameIn};
+ghost use Rattle.kfs_model.specs.Sight.{CountOf, HeaderOf, LeaseOn, NameIn, ParentOf, climb_limit, climb_meets, climbed};
 ghost use Rattle.kfs_mode.specs.Mode.{want_shown};
 ghost use Rattle.kfs_judge.specs.Recorders.{GoesOn, Known, ReadsAt};
-ghost use Rattle.kfs_judge.specs.Checks.{check_of, reason_of, entry_context_in};
+ghost use Rattle.kfs_judge.specs.Checks.{check_of, reason_of, entry_context_in, FindsWrong, IsOfHeader, IsOfName, ReadsCellsOfCheck, parent_in};
 
 use crate::check::{Check, Reason};
 use crate::draft::Draft;
@@ -17,6 +19,12 @@ use crate::reads::Recorder;
 use kfs_image::{Header, Kind, Name};
 use kfs_mode::{Client, Want, may};
 use std::alloc::{AllocError, Allocator};
+
+/// The most names of a file.
+const LINK_LIMIT: u16 = 1024;
+
+/// The most steps of a climb.
+const CLIMB_LIMIT: u32 = 65_536;
 
 /// What judges the next entry: the log's client, and the draft of the entries so far.
 #[derive(Clone, Copy)]
@@ -96,8 +104,77 @@ impl<A: Allocator + Copy> EntryJudge<'_, A> {
         check: &Check<'_>,
     ) -> Result<Option<Reason>, AllocError>
         ensures goes { GoesOn recorder.old recorder.new }
-        ensures known { IfOk result (λ reason. Known recorder.new (λ before. checks.fault (entry_context_in self.now before) (check_of check.now) ≡ option_map reason_of reason)) }
-        ensures among { OnOk result (Known recorder.new (λ before. ReadsAt recorder.old recorder.new (checks.cells (entry_context_in self.now before) (check_of check.now)))) }
+        ensures known { IfOk result (FindsWrong self.now recorder.new check.now) }
+        ensures among { OnOk result (ReadsCellsOfCheck self.now recorder.old recorder.new check.now) }
+    {
+        match check {
+            Check::NameIsThere(_) | Check::NameIsFree(_) | Check::SeesName(_) => {
+                self.name_fault(recorder, check)
+            }
+            Check::IsLeased(number) => {
+                let leased = self.is_leased(recorder, *number)?;
+                Ok(unless(leased, Reason::NoLease(*number)))
+            }
+            Check::HasNoNames(number) => {
+                let empty = self.has_no_names(recorder, *number)?;
+                Ok(unless(empty, Reason::NotEmpty))
+            }
+            Check::NumberIsGranted(number) => {
+                let granted = self.client.is_granted(*number);
+                Ok(unless(granted, Reason::NumberNotGranted))
+            }
+            Check::NumberIsFree(number) => {
+                let free = self.is_number_free(recorder, *number)?;
+                Ok(unless(free, Reason::NumberTaken))
+            }
+            Check::IsNotAbove { node, dir } => {
+                let meets = self.climb_meets(recorder, *node, *dir)?;
+                Ok(unless(!meets, Reason::BelowItself))
+            }
+            _ => self.header_fault(recorder, check),
+        }
+    }
+
+    /// What a check of where a name leads finds wrong.
+    #[tactic(auto, unfolding(kfs_model::specs::Check::fault, kfs_model::specs::Check::cells))]
+    fn name_fault(
+        &self,
+        recorder: &mut Recorder<'_, A>,
+        check: &Check<'_>,
+    ) -> Result<Option<Reason>, AllocError>
+        requires { IsOfName check.now }
+        ensures goes { GoesOn recorder.old recorder.new }
+        ensures known { IfOk result (FindsWrong self.now recorder.new check.now) }
+        ensures among { OnOk result (ReadsCellsOfCheck self.now recorder.old recorder.new check.now) }
+    {
+        match check {
+            Check::NameIsThere(key) => {
+                let number = self.target(recorder, key)?;
+                Ok(unless(number.is_some(), Reason::NoSuchName))
+            }
+            Check::NameIsFree(key) => {
+                let number = self.target(recorder, key)?;
+                Ok(unless(number.is_none(), Reason::NameTaken))
+            }
+            Check::SeesName(key) => {
+                self.target(recorder, key)?;
+                Ok(None)
+            }
+            _ => unreachable!(),
+        }
+    }
+
+    /// What a check of a header finds wrong.
+    #[tactic(auto, unfolding(kfs_model::specs::Check::fault, kfs_model::specs::Check::cells))]
+    fn header_fault(
+        &self,
+        recorder: &mut Recorder<'_, A>,
+        check: &Check<'_>,
+    ) -> Result<Option<Reason>, AllocError>
+        requires { IsOfHeader check.now }
+        ensures goes { GoesOn recorder.old recorder.new }
+        ensures known { IfOk result (FindsWrong self.now recorder.new check.now) }
+        ensures among { OnOk result (ReadsCellsOfCheck self.now recorder.old recorder.new check.now) }
     {
         match check {
             Check::Exists(number) => {
@@ -107,6 +184,10 @@ impl<A: Allocator + Copy> EntryJudge<'_, A> {
             Check::IsADirectory(number) => {
                 let header = self.header(recorder, *number)?;
                 Ok(unless(is_directory(header), Reason::NotDirectory))
+            }
+            Check::IsAFile(number) => {
+                let header = self.header(recorder, *number)?;
+                Ok(unless(!is_directory(header), Reason::IsDirectory))
             }
             Check::MaySearch(number) => {
                 let granted = self.is_permitted(recorder, *number, Want::Search)?;
@@ -120,22 +201,15 @@ impl<A: Allocator + Copy> EntryJudge<'_, A> {
                 let header = self.header(recorder, *number)?;
                 Ok(unless(owns(self.client, header), Reason::NotOwner))
             }
-            Check::IsLeased(number) => {
-                let leased = self.is_leased(recorder, *number)?;
-                Ok(unless(leased, Reason::NoLease(*number)))
+            Check::HasRoomForLink(number) => {
+                let header = self.header(recorder, *number)?;
+                Ok(unless(has_room_for_link(header), Reason::TooManyLinks))
             }
-            Check::NameIsFree(key) => {
-                let number = self.target(recorder, key)?;
-                Ok(unless(number.is_none(), Reason::NameTaken))
+            Check::SeesHeader(number) => {
+                self.header(recorder, *number)?;
+                Ok(None)
             }
-            Check::NumberIsGranted(number) => {
-                let granted = self.client.is_granted(*number);
-                Ok(unless(granted, Reason::NumberNotGranted))
-            }
-            Check::NumberIsFree(number) => {
-                let free = self.is_number_free(recorder, *number)?;
-                Ok(unless(free, Reason::NumberTaken))
-            }
+            _ => unreachable!(),
         }
     }
 
@@ -158,6 +232,55 @@ impl<A: Allocator + Copy> EntryJudge<'_, A> {
             return Ok(true);
         }
         recorder.is_held(number)
+    }
+
+    fn has_no_names(&self, recorder: &mut Recorder<'_, A>, dir: u32) -> Result<bool, AllocError>
+        ensures goes { GoesOn recorder.old recorder.new }
+        ensures known { IfOk result (λ empty. Known recorder.new (λ before. int_eq ((entry_context_in self.now before).now.count dir) (pos 0) ≡ empty)) }
+        ensures among { OnOk result (ReadsAt recorder.old recorder.new (CountOf dir ∷ [])) }
+    {
+        let count = recorder.count(dir)?;
+        let shift = self.draft.shift(dir);
+        Ok(is_zero(count, shift))
+    }
+
+    /// The directory that the directory stands in now.
+    fn parent(&self, recorder: &mut Recorder<'_, A>, number: u32) -> Result<Option<u32>, AllocError>
+        ensures goes { GoesOn recorder.old recorder.new }
+        ensures known { IfOk result (λ parent. Known recorder.new (λ before. parent_in self.now before number ≡ parent)) }
+        ensures among { OnOk result (ReadsAt recorder.old recorder.new (ParentOf number ∷ [])) }
+    {
+        match self.draft.parent(number) {
+            Some(parent) => Ok(parent),
+            None => recorder.parent(number),
+        }
+    }
+
+    /// Whether the climb along the parents from the directory on meets the node. It takes as many
+    /// steps as the directory lies deep.
+    fn climb_meets(
+        &self,
+        recorder: &mut Recorder<'_, A>,
+        node: u32,
+        dir: u32,
+    ) -> Result<bool, AllocError>
+        ensures goes { GoesOn recorder.old recorder.new }
+        ensures known { IfOk result (λ meets. Known recorder.new (λ before. climb_meets (parent_in self.now before) climb_limit node dir ≡ meets)) }
+        ensures among { OnOk result (Known recorder.new (λ before. ReadsAt recorder.old recorder.new (map ParentOf (climbed (parent_in self.now before) climb_limit dir)))) }
+    {
+        let mut current = dir;
+        let mut left = CLIMB_LIMIT;
+        while left > 0 {
+            if current == node {
+                return Ok(true);
+            }
+            let Some(up) = self.parent(recorder, current)? else {
+                return Ok(false);
+            };
+            current = up;
+            left -= 1;
+        }
+        Ok(current == node)
     }
 
     fn is_number_free(
@@ -193,6 +316,23 @@ fn owns(client: &Client, header: Option<Header>) -> bool
         Some(header) => client.uid() == header.uid || client.is_privileged(),
         None => false,
     }
+}
+
+/// Whether a file with this header may have one name more.
+fn has_room_for_link(header: Option<Header>) -> bool
+    ensures { result ≡ checks.is_some_and (option_map header_of header) (λ h. nat_lt h.links link_limit) }
+{
+    match header {
+        Some(header) => header.links < LINK_LIMIT,
+        None => false,
+    }
+}
+
+/// Whether so many and so many more come to none.
+fn is_zero(count: u64, shift: i32) -> bool
+    ensures { result ≡ int_eq (pos count +ℤ shift) (pos 0) }
+{
+    i128::from(count) + i128::from(shift) == 0
 }
 
 fn is_free(before: Option<Header>, now: Option<Header>, created: bool) -> bool

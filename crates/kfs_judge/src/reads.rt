@@ -1,10 +1,10 @@
 //! What a judgement reads of its view, each recorded once, in the order of the first look.
 
-ghost use Rattle.std.specs.Prelude.{◌≡◌, ℕ, Bool, [], ◌∷◌, Option, IfOk, OnOk};
+ghost use Rattle.std.specs.Prelude.{◌≡◌, ℕ, ℤ, pos, Bool, [], ◌∷◌, Option, IfOk, OnOk};
 ghost use Rattle.std.specs.Option.{option_map};
 ghost use Rattle.kfs_value.specs.Views.{header_of};
 ghost use Rattle.kfs_model.specs.Header.{Header as HeaderShown};
-ghost use Rattle.kfs_model.specs.Sight.{answer, Head, Number, Held, HeaderOf, NameIn, LeaseOn};
+ghost use Rattle.kfs_model.specs.Sight.{answer, Head, Number, Count, Held, HeaderOf, NameIn, CountOf, ParentOf, LeaseOn};
 ghost use Rattle.kfs_judge.specs.Reads.{cell_of, answer_of};
 ghost use Rattle.kfs_judge.specs.Recorders.{GoesOn, seen_by, Known, ReadsAt};
 ghost use Rattle.kfs_judge.specs.View.{client_sight_in};
@@ -100,6 +100,26 @@ impl<'a, A: Allocator + Copy> Recorder<'a, A> {
         Ok(number_in(answer))
     }
 
+    /// How many names a directory has.
+    pub(crate) fn count(&mut self, dir: u32) -> Result<u64, AllocError>
+        ensures goes { GoesOn self.old self.new }
+        ensures known { IfOk result (λ count. Known self.new (λ before. before.sight.count dir ≡ pos count)) }
+        ensures among { OnOk result (ReadsAt self.old self.new (CountOf dir ∷ [])) }
+    {
+        let answer = self.read(Read::Look(Cell::Count(dir)))?;
+        Ok(count_in(answer))
+    }
+
+    /// The directory that a directory stands in.
+    pub(crate) fn parent(&mut self, number: u32) -> Result<Option<u32>, AllocError>
+        ensures goes { GoesOn self.old self.new }
+        ensures known { IfOk result (λ parent. Known self.new (λ before. before.sight.parent number ≡ parent)) }
+        ensures among { OnOk result (ReadsAt self.old self.new (ParentOf number ∷ [])) }
+    {
+        let answer = self.read(Read::Look(Cell::Parent(number)))?;
+        Ok(number_in(answer))
+    }
+
     /// Whether the client holds a live write lease on the node.
     pub(crate) fn is_held(&mut self, number: u32) -> Result<bool, AllocError>
         ensures goes { GoesOn self.old self.new }
@@ -135,6 +155,16 @@ fn number_in(answer: ReadAnswer) -> Option<u32>
     match answer {
         ReadAnswer::Look(Answer::Name(number)) | ReadAnswer::Look(Answer::Parent(number)) => number,
         _ => None,
+    }
+}
+
+/// The count that an answer tells.
+fn count_in(answer: ReadAnswer) -> u64
+    ensures { (count : ℤ) → Count count ≡ answer_of answer → count ≡ pos result }
+{
+    match answer {
+        ReadAnswer::Look(Answer::Count(count)) => count,
+        _ => 0,
     }
 }
 
