@@ -3,6 +3,7 @@ use Rattle.std.specs.Prelude.{◌≡◌, ℕ, suc, zero, ◌==◌, Bool, true, f
 use Rattle.std.proofs.Common.{ap, sym, subst, ◌∙◌}
 use Rattle.std.proofs.lemmas.Bool.{eq-eqb, ne_eqb}
 use Rattle.kfs_model.specs.Sight.{Cell, ParentOf, climb_meets, climbed}
+use Rattle.kfs_judge.specs.Checks.{climbed_cells}
 use Rattle.kfs_judge.proofs.Recording.{IsPart, first_is_in, one_is_part, right_is_part}
 
 module _ (parent : ℕ → Option ℕ) where
@@ -27,20 +28,17 @@ module _ (parent : ℕ → Option ℕ) where
   pub climb-goes_on : (fuel rest node from up : ℕ) → fuel ≡ suc rest → (from ≡ node → ⊥) → parent from ≡ Some up → climb_meets parent fuel node from ≡ climb_meets parent rest node up
   climb-goes_on fuel rest node from up is other leads = ap (λ left. climb_meets parent left node from) is ∙ by_step rest node from false (Some up) (ne_eqb from node other) leads
 
-  abbrev pub climbed_cells : (fuel from : ℕ) → List Cell
-  climbed_cells fuel from = map ParentOf (climbed parent fuel from)
-
-  begins_here : (fuel from : ℕ) → Contains (climbed_cells fuel from) (ParentOf from)
+  begins_here : (fuel from : ℕ) → Contains (climbed_cells parent fuel from) (ParentOf from)
   unfolding climbed
   begins_here zero from = first_is_in (ParentOf from) []
   begins_here (suc fuel) from = first_is_in (ParentOf from) _
 
-  pub climbed_here : (fuel from : ℕ) (all : List Cell) → IsPart (climbed_cells fuel from) all → IsPart (ParentOf from ∷ []) all
+  pub climbed_here : (fuel from : ℕ) (all : List Cell) → IsPart (climbed_cells parent fuel from) all → IsPart (ParentOf from ∷ []) all
   climbed_here fuel from all part = one_is_part (ParentOf from) all (part (ParentOf from) (begins_here fuel from))
 
-  by_parent : (rest from up : ℕ) → parent from ≡ Some up → climbed_cells (suc rest) from ≡ ParentOf from ∷ climbed_cells rest up
+  by_parent : (rest from up : ℕ) → parent from ≡ Some up → climbed_cells parent (suc rest) from ≡ ParentOf from ∷ climbed_cells parent rest up
   unfolding climbed
   by_parent rest from up leads = ap (λ (o : Option ℕ). ParentOf from ∷ map ParentOf (elim o as (λ _. List ℕ) [ None ↦ [] | Some next ↦ climbed parent rest next ])) leads
 
-  pub climbed_behind : (fuel rest from up : ℕ) → fuel ≡ suc rest → parent from ≡ Some up → IsPart (climbed_cells rest up) (climbed_cells fuel from)
-  climbed_behind fuel rest from up is leads = subst (IsPart (climbed_cells rest up)) (sym (ap (λ left. climbed_cells left from) is ∙ by_parent rest from up leads)) (right_is_part (ParentOf from ∷ []) (climbed_cells rest up))
+  pub climbed_behind : (fuel rest from up : ℕ) → fuel ≡ suc rest → parent from ≡ Some up → IsPart (climbed_cells parent rest up) (climbed_cells parent fuel from)
+  climbed_behind fuel rest from up is leads = subst (IsPart (climbed_cells parent rest up)) (sym (ap (λ left. climbed_cells parent left from) is ∙ by_parent rest from up leads)) (right_is_part (ParentOf from ∷ []) (climbed_cells parent rest up))

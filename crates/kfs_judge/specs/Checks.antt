@@ -1,11 +1,11 @@
 -- The code's checks, reasons and entry contexts as those of the definitions.
-use Rattle.std.specs.Prelude.{◌≡◌, ℕ, Option}
+use Rattle.std.specs.Prelude.{◌≡◌, ℕ, List, map, Option}
 use Rattle.std.specs.Option.{option_map}
 use Rattle.kfs_judge.specs.Recorders.{Known, ReadsAt}
 use Rattle.kfs_model.specs.Check.{first_fault, entry_cells}
 use Rattle.kfs_model.specs.Entry.{Entry}
 use Rattle.kfs_model.specs.Check as checks
-use Rattle.kfs_model.specs.Sight.{ClientSight, HeaderOf, NameIn}
+use Rattle.kfs_model.specs.Sight.{ClientSight, Cell, HeaderOf, NameIn, ParentOf, climbed}
 use Rattle.kfs_judge.specs.declared.check.Reason.{Reason}
 use Rattle.kfs_judge.specs.declared.check.Reason.TheVariants as reasons
 use Rattle.kfs_judge.specs.declared.check.Check.{Check}
@@ -49,6 +49,10 @@ check_of (variants.IsNotAbove n d) = checks.IsNotAbove n d
 check_of (variants.SeesName key) = checks.Sees (NameIn key.now.0 key.now.1)
 check_of (variants.SeesHeader n) = checks.Sees (HeaderOf n)
 
+-- the cells of the nodes that a climb passes
+abbrev pub climbed_cells : (ℕ → Option ℕ) → (fuel from : ℕ) → List Cell
+climbed_cells parent fuel from = map ParentOf (climbed parent fuel from)
+
 -- the check looks at where a name leads
 abbrev pub IsOfName : Check → Type 0
 IsOfName (variants.NameIsThere key) = Unit {0}
@@ -56,14 +60,18 @@ IsOfName (variants.NameIsFree key) = Unit {0}
 IsOfName (variants.SeesName key) = Unit {0}
 IsOfName _ = ⊥
 
--- the check looks at a header as it is now, and at nothing else
+-- the check asks what the client may do, by a header
+abbrev pub IsOfRight : Check → Type 0
+IsOfRight (variants.MaySearch n) = Unit {0}
+IsOfRight (variants.MayWrite n) = Unit {0}
+IsOfRight (variants.MayChangeMode n) = Unit {0}
+IsOfRight _ = ⊥
+
+-- the check asks what a header says, whoever the client is
 abbrev pub IsOfHeader : Check → Type 0
 IsOfHeader (variants.Exists n) = Unit {0}
 IsOfHeader (variants.IsADirectory n) = Unit {0}
 IsOfHeader (variants.IsAFile n) = Unit {0}
-IsOfHeader (variants.MaySearch n) = Unit {0}
-IsOfHeader (variants.MayWrite n) = Unit {0}
-IsOfHeader (variants.MayChangeMode n) = Unit {0}
 IsOfHeader (variants.HasRoomForLink n) = Unit {0}
 IsOfHeader (variants.SeesHeader n) = Unit {0}
 IsOfHeader _ = ⊥

@@ -8,10 +8,10 @@ ghost use Rattle.kfs_model.specs.Access.{may_header, owns};
 ghost use Rattle.kfs_model.specs.Check as checks;
 ghost use Rattle.kfs_model.specs.Check.{first_failing, looked};
 ghost use Rattle.kfs_model.specs.Sight as sight;
-ghost use Rattle.kfs_model.specs.Sight.{CountOf, HeaderOf, LeaseOn, NameIn, ParentOf, climb_limit, climb_meets, climbed};
+ghost use Rattle.kfs_model.specs.Sight.{CountOf, HeaderOf, LeaseOn, NameIn, ParentOf, climb_limit, climb_meets};
 ghost use Rattle.kfs_mode.specs.Mode.{want_shown};
 ghost use Rattle.kfs_judge.specs.Recorders.{GoesOn, Known, ReadsAt};
-ghost use Rattle.kfs_judge.specs.Checks.{check_of, reason_of, entry_context_in, FindsWrong, IsOfHeader, IsOfName, ReadsCellsOfCheck, parent_in};
+ghost use Rattle.kfs_judge.specs.Checks.{check_of, reason_of, entry_context_in, FindsWrong, IsOfHeader, IsOfName, IsOfRight, ReadsCellsOfCheck, climbed_cells, parent_in};
 
 use crate::check::{Check, Reason};
 use crate::draft::Draft;
@@ -131,6 +131,9 @@ impl<A: Allocator + Copy> EntryJudge<'_, A> {
                 let meets = self.climb_meets(recorder, *node, *dir)?;
                 Ok(unless(!meets, Reason::BelowItself))
             }
+            Check::MaySearch(_) | Check::MayWrite(_) | Check::MayChangeMode(_) => {
+                self.right_fault(recorder, check)
+            }
             _ => self.header_fault(recorder, check),
         }
     }
@@ -164,6 +167,35 @@ impl<A: Allocator + Copy> EntryJudge<'_, A> {
         }
     }
 
+    /// What a check of what the client may do finds wrong.
+    #[tactic(auto, unfolding(kfs_model::specs::Check::fault, kfs_model::specs::Check::cells))]
+    fn right_fault(
+        &self,
+        recorder: &mut Recorder<'_, A>,
+        check: &Check<'_>,
+    ) -> Result<Option<Reason>, AllocError>
+        requires { IsOfRight check.now }
+        ensures goes { GoesOn recorder.old recorder.new }
+        ensures known { IfOk result (FindsWrong self.now recorder.new check.now) }
+        ensures among { OnOk result (ReadsCellsOfCheck self.now recorder.old recorder.new check.now) }
+    {
+        match check {
+            Check::MaySearch(number) => {
+                let granted = self.is_permitted(recorder, *number, Want::Search)?;
+                Ok(unless(granted, Reason::NoSearch))
+            }
+            Check::MayWrite(number) => {
+                let granted = self.may_write(recorder, *number)?;
+                Ok(unless(granted, Reason::NoWrite))
+            }
+            Check::MayChangeMode(number) => {
+                let header = self.header(recorder, *number)?;
+                Ok(unless(owns(self.client, header), Reason::NotOwner))
+            }
+            _ => unreachable!(),
+        }
+    }
+
     /// What a check of a header finds wrong.
     #[tactic(auto, unfolding(kfs_model::specs::Check::fault, kfs_model::specs::Check::cells))]
     fn header_fault(
@@ -188,18 +220,6 @@ impl<A: Allocator + Copy> EntryJudge<'_, A> {
             Check::IsAFile(number) => {
                 let header = self.header(recorder, *number)?;
                 Ok(unless(!is_directory(header), Reason::IsDirectory))
-            }
-            Check::MaySearch(number) => {
-                let granted = self.is_permitted(recorder, *number, Want::Search)?;
-                Ok(unless(granted, Reason::NoSearch))
-            }
-            Check::MayWrite(number) => {
-                let granted = self.may_write(recorder, *number)?;
-                Ok(unless(granted, Reason::NoWrite))
-            }
-            Check::MayChangeMode(number) => {
-                let header = self.header(recorder, *number)?;
-                Ok(unless(owns(self.client, header), Reason::NotOwner))
             }
             Check::HasRoomForLink(number) => {
                 let header = self.header(recorder, *number)?;
@@ -266,7 +286,7 @@ impl<A: Allocator + Copy> EntryJudge<'_, A> {
     ) -> Result<bool, AllocError>
         ensures goes { GoesOn recorder.old recorder.new }
         ensures known { IfOk result (λ meets. Known recorder.new (λ before. climb_meets (parent_in self.now before) climb_limit node dir ≡ meets)) }
-        ensures among { OnOk result (Known recorder.new (λ before. ReadsAt recorder.old recorder.new (map ParentOf (climbed (parent_in self.now before) climb_limit dir)))) }
+        ensures among { OnOk result (Known recorder.new (λ before. ReadsAt recorder.old recorder.new (climbed_cells (parent_in self.now before) climb_limit dir))) }
     {
         let mut current = dir;
         let mut left = CLIMB_LIMIT;
@@ -328,7 +348,7 @@ fn has_room_for_link(header: Option<Header>) -> bool
     }
 }
 
-/// Whether so many and so many more come to none.
+/// Whether a count with its change comes to zero.
 fn is_zero(count: u64, shift: i32) -> bool
     ensures { result ≡ int_eq (pos count +ℤ shift) (pos 0) }
 {

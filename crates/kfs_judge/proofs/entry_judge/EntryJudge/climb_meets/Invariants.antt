@@ -3,8 +3,7 @@ use Rattle.std.proofs.Common.{◌≡◌}
 use Rattle.kfs_model.specs.Sight.{climb_limit, climb_meets}
 use Rattle.kfs_judge.specs.Reads.{Always, Within}
 use Rattle.kfs_judge.specs.Recorders.{GoesOn}
-use Rattle.kfs_judge.specs.Checks.{parent_in}
-use Rattle.kfs_judge.proofs.Climbing.{climbed_cells}
+use Rattle.kfs_judge.specs.Checks.{climbed_cells, parent_in}
 use Rattle.kfs_judge.proofs.Recording.{IsPart}
 use Rattle.kfs_judge.proofs.entry_judge.EntryJudge.climb_meets.Given as goal
 
