@@ -46,7 +46,7 @@ impl<A: Allocator + Copy> LogJudge<'_, A> {
         ensures shown { result ≡ Ok None → ShowsItsChange self.old self.new (entry.Chmod number mode) }
         ensures written { result ≡ Ok None → WritesItsCells self.old self.new (entry.Chmod number mode) }
         ensures created { result ≡ Ok None → (n : ℕ) → has_created self.new.draft n ≡ has_created self.old.draft n }
-        ensures shifts { result ≡ Ok None → (most : ℕ) → ShiftsBy most self.old.draft → ShiftsBy (most + 1) self.new.draft }
+        ensures shifts { result ≡ Ok None → (most : ℕ) → ShiftsBy most self.old.draft → ShiftsBy (most + 3) self.new.draft }
     {
         let judge = EntryJudge {
             client: self.client,

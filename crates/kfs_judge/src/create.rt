@@ -1,5 +1,5 @@
 //! The entry Create.
-ghost use Rattle.std.specs.Prelude.{◌≡◌, ℕ, ◌+◌, ◌==◌, ◌||◌, pos, ◌<ℤ◌, None, Ok, IfOk, OnOk, ◌++◌};
+ghost use Rattle.std.specs.Prelude.{◌≡◌, ℕ, ◌+◌, ◌==◌, ◌||◌, None, Ok, IfOk, OnOk, ◌++◌};
 ghost use Rattle.std.specs.Option.{option_map};
 ghost use Rattle.kfs_value.specs.Views.{kind_of};
 ghost use Rattle.kfs_model.specs.Check.{checks_of};
@@ -8,7 +8,7 @@ ghost use Rattle.kfs_model.specs.Entry as entry;
 ghost use Rattle.kfs_model.specs.SeenAfter.{seen_after};
 ghost use Rattle.kfs_model.specs.Sight.{Sight};
 ghost use Rattle.kfs_judge.specs.Entered.{IsFirstFault, ReadsItsCells, WritesItsCells};
-ghost use Rattle.kfs_judge.specs.Overlay.{has_created, over, shift_of, ShiftsBy};
+ghost use Rattle.kfs_judge.specs.Overlay.{has_created, over, ShiftsBy, HasRoom};
 ghost use Rattle.kfs_judge.specs.Recorders.{GoesOn};
 ghost use Rattle.kfs_judge.specs.Checks.{FindsFault, ReadsCellsOf};
 
@@ -47,7 +47,7 @@ fn create_fault<A: Allocator + Copy>(
 
 impl<'a, A: Allocator + Copy> LogJudge<'a, A> {
     /// Makes the node `number` without bytes under the name `key`, with the client's uid and gid, or
-    /// answers why not. No directory's count differs by 2^31 - 1 yet.
+    /// answers why not.
     pub(crate) fn create(
         &mut self,
         key: (u32, Name),
@@ -55,7 +55,7 @@ impl<'a, A: Allocator + Copy> LogJudge<'a, A> {
         kind: Kind,
         mode: u16,
     ) -> Result<Option<Reason>, AllocError>
-        requires { (d : ℕ) → shift_of self.old.draft d <ℤ pos 2147483647 }
+        requires { HasRoom 3 self.old.draft }
         ensures goes { GoesOn self.old.recorder self.new.recorder }
         ensures client { self.new.client.now ≡ self.old.client.now }
         ensures known { IfOk result (IsFirstFault self.old self.new (entry.Create key.0 key.1 number (kind_of kind) mode)) }
@@ -63,7 +63,7 @@ impl<'a, A: Allocator + Copy> LogJudge<'a, A> {
         ensures shown { result ≡ Ok None → (s : Sight) → over self.new.draft s ≡ seen_after self.old.client.now (over self.old.draft s) (entry.Create key.0 key.1 number (kind_of kind) mode) }
         ensures written { result ≡ Ok None → WritesItsCells self.old self.new (entry.Create key.0 key.1 number (kind_of kind) mode) }
         ensures created { result ≡ Ok None → (n : ℕ) → has_created self.new.draft n ≡ ((number == n) || has_created self.old.draft n) }
-        ensures shifts { result ≡ Ok None → (most : ℕ) → ShiftsBy most self.old.draft → ShiftsBy (most + 1) self.new.draft }
+        ensures shifts { result ≡ Ok None → (most : ℕ) → ShiftsBy most self.old.draft → ShiftsBy (most + 3) self.new.draft }
     {
         let judge = EntryJudge {
             client: self.client,

@@ -6,6 +6,7 @@ mod chmod;
 mod create;
 mod draft;
 mod entry_judge;
+mod header;
 mod log_judge;
 mod net;
 pub mod plan;

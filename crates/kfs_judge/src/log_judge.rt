@@ -1,10 +1,10 @@
 //! Where an entry stands: its client, what the entries before it changed, and the state under that.
-ghost use Rattle.std.specs.Prelude.{◌≡◌, ℕ, ◌+◌, ◌==◌, pos, ◌<ℤ◌, List, None, Ok, IfOk, false, [], OnOk, ◌++◌};
+ghost use Rattle.std.specs.Prelude.{◌≡◌, ℕ, ◌+◌, ◌==◌, List, None, Ok, IfOk, false, [], OnOk, ◌++◌};
 ghost use Rattle.kfs_value.specs.Views.{entry_of};
 ghost use Rattle.kfs_model.specs.Sight.{Sight, Cell};
 ghost use Rattle.kfs_judge.specs.JudgedEntries.{IsJudged};
 ghost use Rattle.kfs_judge.specs.Entered.{IsFirstFault, ReadsItsCells, ShowsItsChange, WritesItsCells, CreatesItsNumber};
-ghost use Rattle.kfs_judge.specs.Overlay.{has_created, over, shift_of, ShiftsBy, IsWritten};
+ghost use Rattle.kfs_judge.specs.Overlay.{has_created, over, ShiftsBy, HasRoom, IsWritten};
 ghost use Rattle.kfs_judge.specs.Recorders.{GoesOn, seen_by, Known, ReadsAt};
 ghost use Rattle.kfs_judge.specs.Walks.{IsNetOf};
 ghost use Rattle.kfs_judge.specs.View.{client_sight_in};
@@ -51,7 +51,7 @@ impl<'a, A: Allocator + Copy> LogJudge<'a, A> {
     /// Makes the change of an entry, or answers why not. The entry is one of those that are judged.
     pub(crate) fn enter(&mut self, entry: &Entry<Span>) -> Result<Option<Reason>, AllocError>
         requires judged { IsJudged entry.now }
-        requires room { (d : ℕ) → shift_of self.old.draft d <ℤ pos 2147483647 }
+        requires room { HasRoom 3 self.old.draft }
         ensures goes { GoesOn self.old.recorder self.new.recorder }
         ensures client { self.new.client.now ≡ self.old.client.now }
         ensures known { (source : List ℕ) → IfOk result (IsFirstFault self.old self.new (entry_of source entry.now)) }
@@ -59,7 +59,7 @@ impl<'a, A: Allocator + Copy> LogJudge<'a, A> {
         ensures shown { (source : List ℕ) → result ≡ Ok None → ShowsItsChange self.old self.new (entry_of source entry.now) }
         ensures written { (source : List ℕ) → result ≡ Ok None → WritesItsCells self.old self.new (entry_of source entry.now) }
         ensures created { (source : List ℕ) → result ≡ Ok None → CreatesItsNumber self.old self.new (entry_of source entry.now) }
-        ensures shifts { result ≡ Ok None → (most : ℕ) → ShiftsBy most self.old.draft → ShiftsBy (most + 1) self.new.draft }
+        ensures shifts { result ≡ Ok None → (most : ℕ) → ShiftsBy most self.old.draft → ShiftsBy (most + 3) self.new.draft }
     {
         match entry {
             Entry::Create {

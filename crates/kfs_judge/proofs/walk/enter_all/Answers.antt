@@ -1,5 +1,5 @@
 -- Each entry leaves the run of the ones behind it, and the first bad one is the answer.
-use Rattle.std.proofs.Common.{◌≡◌, ◌+◌, ◌++◌, map, drop, length, ◌≤◌, Some, None, Ok, ap, subst, ◌∙◌, arith}
+use Rattle.std.proofs.Common.{◌≡◌, ◌+◌, ◌*◌, ◌++◌, map, drop, length, ◌≤◌, Some, None, Ok, ap, subst, ◌∙◌, arith}
 use Rattle.std.specs.Option.{option_map}
 use Rattle.kfs_model.specs.Check.{first_fault, looked, checks_of}
 use Rattle.kfs_model.specs.SeenAfter.{seen_after}
@@ -10,6 +10,7 @@ use Rattle.kfs_judge.specs.Checks.{reason_of}
 use Rattle.kfs_judge.proofs.Entering.{RunsOn, runs_first, runs_next, runs_fails, runs_out}
 use Rattle.kfs_judge.proofs.Looking.{LooksOn, looks_first, looks_next, looks_fails}
 use Rattle.kfs_judge.proofs.Recording.{goes_nowhere, goes_then}
+use Rattle.kfs_judge.proofs.Overlays.{shifts_wider}
 use Rattle.kfs_judge.proofs.Lists.{map-drop-cons, map-drop-past}
 use Rattle.kfs_judge.proofs.walk.enter_all.Goals as goal
 
@@ -21,6 +22,9 @@ loop-index-init g c = record {
   runs = λ source. runs_first c.args.judge.now.client.now c.args.judge.now.draft c.args.judge.now.recorder.reads.entries (map (entry_of source) c.args.entries.now) c.requires.shown c.requires.created;
   looks = λ source. looks_first c.args.judge.now.client.now c.args.judge.now.draft c.args.judge.now.recorder.reads.entries (map (entry_of source) c.args.entries.now) c.requires.shown c.requires.created c.requires.written;
 }
+
+pub enter-requires-clause-room : goal.enter-requires-clause-room
+enter-requires-clause-room g c = shifts_wider c.loop-index.judge.draft (3 * c.loop-index.index) 2147483644 (omega (arith, c.loop-index-test.true, c.requires.count)) c.loop-index.invariant.shifts
 
 pub returns-in_err-reason-clause-goes : goal.returns-in_err-reason-clause-goes
 returns-in_err-reason-clause-goes g c = goes_then c.loop-index.invariant.goes c.in_err-reason.ensures.goes
@@ -56,7 +60,7 @@ pub loop-index-preserved : goal.loop-index-preserved
 loop-index-preserved g c = record {
   client = c.in_ok-reason.ensures.client ∙ c.loop-index.invariant.client;
   goes = goes_then c.loop-index.invariant.goes c.in_ok-reason.ensures.goes;
-  shifts = c.in_ok-reason.ensures.shifts (ap Ok c.in_default.is) c.loop-index.index c.loop-index.invariant.shifts;
+  shifts = shifts_wider c.enter.new.self.draft (3 * c.loop-index.index + 3) (3 * (c.loop-index.index + 1)) (omega arith) (c.in_ok-reason.ensures.shifts (ap Ok c.in_default.is) (3 * c.loop-index.index) c.loop-index.invariant.shifts);
   runs = λ source.
       let client = c.args.judge.now.client.now in
       let item = c.index-entries-index.result in

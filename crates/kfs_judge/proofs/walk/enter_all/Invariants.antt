@@ -1,5 +1,5 @@
 -- What the entries so far have come to, in every state that agrees.
-use Rattle.std.proofs.Common.{◌≡◌, ℕ, List, map, drop}
+use Rattle.std.proofs.Common.{◌≡◌, ℕ, ◌*◌, List, map, drop}
 use Rattle.kfs_value.specs.Views.{entry_of}
 use Rattle.kfs_judge.specs.Overlay.{ShiftsBy}
 use Rattle.kfs_judge.specs.Recorders.{GoesOn}
@@ -11,7 +11,7 @@ abbrev pub invariant-loop-index : goal.invariant-loop-index
 invariant-loop-index g l = record {
   client : l.judge.client.now ≡ l.initial.judge.client.now;
   goes : GoesOn l.initial.judge.recorder l.judge.recorder;
-  shifts : ShiftsBy l.index l.judge.draft;
+  shifts : ShiftsBy (3 * l.index) l.judge.draft;
   runs : (source : List ℕ) → RunsOn l.initial.judge.client.now l.judge.draft l.judge.recorder.reads.entries (map (entry_of source) l.entries) (map (entry_of source) (drop l.index l.entries)) l.index;
   looks : (source : List ℕ) → LooksOn l.initial.judge.client.now l.judge.draft l.initial.judge.recorder.reads.entries l.judge.recorder.reads.entries (map (entry_of source) l.entries) (map (entry_of source) (drop l.index l.entries));
 }

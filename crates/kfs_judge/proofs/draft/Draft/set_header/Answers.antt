@@ -15,4 +15,4 @@ returns-clause-written g c among written here = record {
 }
 
 pub returns-clause-shifts : goal.returns-clause-shifts
-returns-clause-shifts g c most bound = record { at = bound.at }
+returns-clause-shifts g c most bound = record { above = bound.above; below = bound.below }

@@ -1,6 +1,6 @@
 -- The header that is there has the other mode then, and it was looked at by the checks.
 use Rattle.std.specs.Option.{option_map}
-use Rattle.std.proofs.Common.{[], ap, sym, ◌++◌, ◌∙◌}
+use Rattle.std.proofs.Common.{[], ap, sym, ◌+◌, ◌++◌, ◌∙◌, arith}
 use Rattle.kfs_model.specs.Header.{Header}
 use Rattle.kfs_model.specs.Check.{checks_of, looked}
 use Rattle.kfs_model.specs.Entry.{Chmod}
@@ -46,4 +46,4 @@ returns-clause-written g c _ state agrees among written =
     (left_is_part front among (HeaderOf c.args.number) (chmod_looks p c.args.number c.args.mode (HeaderOf c.args.number) (first_is_in (HeaderOf c.args.number) [])))
 
 pub returns-clause-shifts : goal.returns-clause-shifts
-returns-clause-shifts g c _ most bound = shifts_wider c.set_header.new.self most (c.in_ok-set_header.ensures.shifts most bound)
+returns-clause-shifts g c _ most bound = shifts_wider c.set_header.new.self most (most + 3) (omega arith) (c.in_ok-set_header.ensures.shifts most bound)

@@ -1,6 +1,6 @@
 -- The new node has the client's uid and gid, and its cells were looked at.
 use Rattle.std.specs.Option.{option_map}
-use Rattle.std.proofs.Common.{ap, ◌++◌, ◌∙◌}
+use Rattle.std.proofs.Common.{ap, ◌+◌, ◌++◌, ◌∙◌, arith}
 use Rattle.kfs_model.specs.Check.{checks_of, looked}
 use Rattle.kfs_model.specs.Entry.{Create}
 use Rattle.kfs_model.specs.Sight.{NameIn, HeaderOf}
@@ -9,6 +9,7 @@ use Rattle.kfs_model.specs.SeenAfter.{seen_after}
 use Rattle.kfs_judge.specs.Overlay.{over, entry_context_of, with_node}
 use Rattle.kfs_judge.specs.Checks.{reason_of}
 use Rattle.kfs_judge.proofs.Looking.{create_looks, written_wider}
+use Rattle.kfs_judge.proofs.Overlays.{shifts_wider}
 use Rattle.kfs_judge.proofs.Recording.{left_is_part, right_is_part}
 use Rattle.kfs_judge.proofs.log_judge.LogJudge.create.Goals as goal
 
@@ -25,3 +26,9 @@ returns-clause-written g c _ state agrees among written =
     let front = looked p (checks_of p entry) in
     let looks = create_looks p c.args.key.0 c.args.key.1 c.args.number (kind_of c.args.kind) c.args.mode (c.in_ok-fault.ensures.known (kind_of c.args.kind) c.args.mode state agrees ∙ ap (option_map reason_of) c.in_default.is) in
     c.in_ok-add_node.ensures.written (front ++ among) (written_wider c.args.self.now.draft among (front ++ among) (right_is_part front among) written) (left_is_part front among (NameIn c.args.key.0 c.args.key.1) looks.0) (left_is_part front among (HeaderOf c.args.number) looks.1)
+
+pub returns-clause-shifts : goal.returns-clause-shifts
+returns-clause-shifts g c _ most bound = shifts_wider c.add_node.new.self (most + 1) (most + 3) (omega arith) (c.in_ok-add_node.ensures.shifts most bound)
+
+pub add_node-requires : goal.add_node-requires
+add_node-requires g c = shifts_wider c.args.self.now.draft 2147483644 2147483646 (omega arith) c.requires
