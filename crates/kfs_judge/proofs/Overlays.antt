@@ -36,16 +36,16 @@ counted count shift by = omega (arith, ints)
 -- ---- the draft with another map
 
 abbrev pub with_heads : {A : Type 0} → Draft A → BTreeMap ℕ (Option CodeHeader) → Draft A
-with_heads draft heads = record { heads = heads; names = draft.names; parents = draft.parents; shifts = draft.shifts; created = draft.created }
+with_heads draft heads = record draft { heads = heads }
 
 abbrev pub with_names : {A : Type 0} → Draft A → BTreeMap (ℕ × List ℕ) (Option ℕ) → Draft A
-with_names draft names = record { heads = draft.heads; names = names; parents = draft.parents; shifts = draft.shifts; created = draft.created }
+with_names draft names = record draft { names = names }
 
 abbrev pub with_parents : {A : Type 0} → Draft A → BTreeMap ℕ (Option ℕ) → Draft A
-with_parents draft parents = record { heads = draft.heads; names = draft.names; parents = parents; shifts = draft.shifts; created = draft.created }
+with_parents draft parents = record draft { parents = parents }
 
 abbrev pub with_shifts : {A : Type 0} → Draft A → BTreeMap ℕ ℤ → Draft A
-with_shifts draft shifts = record { heads = draft.heads; names = draft.names; parents = draft.parents; shifts = shifts; created = draft.created }
+with_shifts draft shifts = record draft { shifts = shifts }
 
 module _ {A : Type 0} (old : Draft A) where
   pub header_shown : (heads : BTreeMap ℕ (Option CodeHeader)) (n : ℕ) (header : Option CodeHeader) → PutsAt nat_cmp old.heads heads n header
@@ -118,6 +118,7 @@ module _ {A : Type 0} (old : Draft A) (shifts : BTreeMap ℕ ℤ) (d : ℕ) (by 
       below e true = let here = bound.below d in omega (arith, ints, here, least)
       below e false = let here = bound.below e in omega (arith, ints, here)
 
+-- a wider bound holds, too
 pub shifts_wider : {A : Type 0} (draft : Draft A) (few most : ℕ) → few ≤ most → ShiftsBy few draft → ShiftsBy most draft
 shifts_wider draft few most fewer bound = record {
   above = λ d. let here = bound.above d in omega (arith, ints, here, fewer);
