@@ -8,8 +8,8 @@ ghost use Rattle.kfs_model.specs.Sight.{Sight, Cell, HeaderOf, NameIn};
 ghost use Rattle.std.specs.Ordering.{nat_cmp};
 ghost use Rattle.std.specs.BTreeMap.{get};
 ghost use Rattle.kfs_model.specs.Tree.{name_order};
-ghost use Rattle.kfs_judge.specs.Overlay.{has_created, over, ShiftsBy, HasRoom, PutsAt, IsWritten, WritesNameAndHeader, WritesTwoNames};
-ghost use Rattle.kfs_judge.specs.Overlay.{with_header, with_target, with_more_names, with_parent, with_directory_in, with_node, with_name, without_name, with_name_moved};
+ghost use Rattle.kfs_judge.specs.Overlay.{has_created, over, ShiftsBy, HasRoom, PutsAt, IsWritten, WritesNameAndHeader, WritesTwoNames, shift_of};
+ghost use Rattle.kfs_judge.specs.Overlay.{with_header, with_target, with_more_names, with_parent, with_directory_in, with_node, with_name, without_name, with_name_moved, shift_of};
 
 use kfs_image::{Header, Kind, Name};
 use std::alloc::{AllocError, Allocator};
