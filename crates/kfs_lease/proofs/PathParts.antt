@@ -4,8 +4,8 @@ use Rattle.std.specs.Prelude.{nat_lt, is_some, if◌then◌else◌, IsSome, ◌�
 use Rattle.std.specs.List.{position, position_or_len}
 use Rattle.std.specs.Cmp.{both_ways}
 use Rattle.std.proofs.lemmas.Bool.{ltb-true, ltb-false}
-use Rattle.kfs_model.specs.Lease.{slash, parts_of, prepended}
-use Rattle.kfs_model.specs.Spelling.{IsName, is_name}
+use Rattle.kfs_model.specs.Lease.{parts_of, prepended}
+use Rattle.kfs_model.specs.Spelling.{IsName, is_name, slash}
 use Rattle.kfs_model.proofs.NameTest.{is_name_sound, is_name_true}
 
 -- what answers whether there is a name answers as the test of its bytes does

@@ -53,7 +53,7 @@ fn split_part(bytes: &[u8]) -> (&[u8], Option<&[u8]>)
 
 /// Where the first slash stands.
 fn slash_in(bytes: &[u8]) -> Option<usize>
-    ensures { result ≡ position (λ byte. byte == model.slash) bytes.now }
+    ensures { result ≡ position (λ byte. byte == spelling.slash) bytes.now }
 {
     bytes.iter().position(|byte| *byte == b'/')
 }

@@ -5,7 +5,7 @@ use Rattle.kfs_model.specs.Access.{Client, Search, may_header}
 use Rattle.kfs_model.specs.Table.{Table, numbers, pairs, get, insert, remove, retain, empty}
 use Rattle.kfs_model.specs.Sight.{Sight, is_directory}
 use Rattle.kfs_model.specs.Check.{is_some_and}
-use Rattle.kfs_model.specs.Spelling.{is_name}
+use Rattle.kfs_model.specs.Spelling.{is_name, slash}
 
 pub data LeaseKind : Type 0 where
   ReadLease WriteLease : LeaseKind
@@ -55,9 +55,6 @@ abbrev pub row_of : List Client → ℕ → Option Client
 row_of clients number = find (λ (c : Client). c.number == number) clients
 
 -- ---- paths (POSIX.1-2017, XBD 4.13: from the root alone)
-
-abbrev pub slash : ℕ
-slash = 47
 
 abbrev pub prepended : ℕ → List (List ℕ) → List (List ℕ)
 prepended b [] = (b ∷ []) ∷ []

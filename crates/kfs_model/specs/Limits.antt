@@ -33,6 +33,10 @@ block_size = 4096
 abbrev pub tier_limit : ℕ
 tier_limit = 65536
 
+-- bytes of a name at the most
+abbrev pub name_limit : ℕ
+name_limit = 255
+
 -- entries of a log, and bytes of a payload, at the most
 abbrev pub entry_limit : ℕ
 entry_limit = 4096

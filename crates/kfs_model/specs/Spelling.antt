@@ -4,7 +4,7 @@ use Rattle.std.specs.Prelude.{◌≡◌, ◌≢◌, ℕ, zero, suc, ◌^◌, ◌
 use Rattle.std.specs.List.{list_all, flat_map, AllByRecursion}
 use Rattle.std.specs.Int.{w16, w32, w64, to_be_bytes}
 use Rattle.kfs_model.specs.Header.{Kind, File, Directory, Header}
-use Rattle.kfs_model.specs.Limits.{entry_limit, greatest_mode, payload_limit}
+use Rattle.kfs_model.specs.Limits.{entry_limit, greatest_mode, name_limit, payload_limit}
 use Rattle.kfs_model.specs.Entry.{Entry, Log, Create, Write, Truncate, Link, Unlink, Rename, Chmod}
 use Rattle.kfs_model.specs.PlanRow.{NameRow, NodeRow, Source, Zero, Payload, Piece, Plan}
 
@@ -26,23 +26,30 @@ number32 n = to_be_bytes w32 n
 unfoldable pub number64 : ℕ → List ℕ
 number64 n = to_be_bytes w64 n
 
+-- the bytes '/' and '.'
+abbrev pub slash : ℕ
+slash = 47
+
+abbrev pub dot : ℕ
+dot = 46
+
 -- 1 to 255 bytes, none of them zero or '/', and neither "." nor ".."
 pub record IsName (name : List ℕ) : Type 0 where
   pub some : 0 < length name
-  pub short : length name ≤ 255
-  pub plain : All (λ byte. (byte ≢ 0) × (byte ≢ 47)) name
-  pub not_this : name ≢ 46 ∷ []
-  pub not_parent : name ≢ 46 ∷ 46 ∷ []
+  pub short : length name ≤ name_limit
+  pub plain : All (λ byte. (byte ≢ 0) × (byte ≢ slash)) name
+  pub not_this : name ≢ dot ∷ []
+  pub not_parent : name ≢ dot ∷ dot ∷ []
 
 abbrev pub is_dots : List ℕ → Bool
 is_dots [] = false
-is_dots (a ∷ []) = a == 46
-is_dots (a ∷ b ∷ []) = (a == 46) && (b == 46)
+is_dots (a ∷ []) = a == dot
+is_dots (a ∷ b ∷ []) = (a == dot) && (b == dot)
 is_dots (a ∷ b ∷ c ∷ bytes) = false
 
 -- whether these bytes are a name
 unfoldable pub is_name : List ℕ → Bool
-is_name bytes = nat_lt 0 (length bytes) && nat_le (length bytes) 255 && list_all (λ byte. not (byte == 0) && not (byte == 47)) bytes && not (is_dots bytes)
+is_name bytes = nat_lt 0 (length bytes) && nat_le (length bytes) name_limit && list_all (λ byte. not (byte == 0) && not (byte == slash)) bytes && not (is_dots bytes)
 
 -- how many bytes, and the bytes
 abbrev pub name_bytes : List ℕ → List ℕ
