@@ -2,7 +2,7 @@
 use Rattle.std.proofs.Common.{◌≡◌, ℕ, nat_lt, ◌==◌, ◌&&◌, List, [], ◌∷◌, length, take, Option, Some, None, option_map, refl, sym, ap, ◌∙◌, Bool, true, false, if◌then◌else◌}
 use Rattle.kfs_judge.specs.Judging.{submission_with}
 use Rattle.kfs_model.specs.Steps.{◌>>=◌}
-use Rattle.kfs_engine.specs.Command.{Command, Opening, Desk, Row, Begin, Lease, Drop, Tick, Submit, Node, Names, asked_by, asked_in, client_of, client_row, command_of, drop_of, kind_named, lease_of, new_of, submit_of, with_number}
+use Rattle.kfs_engine.specs.Command.{Command, Opening, Desk, Row, Begin, Lease, Drop, Tick, Submit, Node, Listing, asked_by, asked_in, client_of, client_row, command_of, drop_of, kind_named, lease_of, new_of, submit_of, with_number}
 use Rattle.kfs_engine.specs.Reading.{begin_of, command_named, listing_of, named_by, node_of, tick_of}
 use Rattle.kfs_text.specs.Cut.{cut, space}
 use Rattle.kfs_text.specs.Decimals.{decimal32, decimal64, decimal_within, decimals32, hexadecimal}
@@ -44,9 +44,9 @@ pub node_steps : (words : List (List ℕ)) → checked node_of words ≡ option_
 unfolding node_of
 node_steps words = only_steps decimal32 (λ number. Desk (Node number)) words
 
-pub listing_steps : (words : List (List ℕ)) → checked listing_of words ≡ option_map (λ directory. Desk (Names directory)) (only decimal32 words)
+pub listing_steps : (words : List (List ℕ)) → checked listing_of words ≡ option_map (λ directory. Desk (Listing directory)) (only decimal32 words)
 unfolding listing_of
-listing_steps words = only_steps decimal32 (λ directory. Desk (Names directory)) words
+listing_steps words = only_steps decimal32 (λ directory. Desk (Listing directory)) words
 
 -- ---- new
 

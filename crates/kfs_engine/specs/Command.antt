@@ -26,7 +26,7 @@ pub data DeskCommand : Type 0 where
   Tick : (moment : ℕ) → DeskCommand
   Submit : (submission : Submission) → DeskCommand
   Node : (number : ℕ) → DeskCommand
-  Names : (directory : ℕ) → DeskCommand
+  Listing : (directory : ℕ) → DeskCommand
 
 pub data Command : Type 0 where
   Opening : (command : OpeningCommand) → Command
@@ -106,7 +106,7 @@ command_of name words =
     else if bytes_eq name (codes "tick") then with_number decimal64 (λ moment. Desk (Tick moment)) words
     else if bytes_eq name (codes "submit") then submit_of words
     else if bytes_eq name (codes "node") then with_number decimal32 (λ number. Desk (Node number)) words
-    else if bytes_eq name (codes "list") then with_number decimal32 (λ directory. Desk (Names directory)) words
+    else if bytes_eq name (codes "list") then with_number decimal32 (λ directory. Desk (Listing directory)) words
     else None
 
 abbrev pub asked_in : List (List ℕ) → Option Command
@@ -129,4 +129,4 @@ IsBadLine (Some (Desk command)) = IsUnjudged command
     IsUnjudged (Tick moment) = ⊥
     IsUnjudged (Submit submission) = HasOtherEntry submission.log
     IsUnjudged (Node number) = ⊥
-    IsUnjudged (Names directory) = ⊥
+    IsUnjudged (Listing directory) = ⊥

@@ -21,7 +21,7 @@ use Rattle.kfs_desk.specs.declared.answers.BeginFault.{BeginFault}
 use Rattle.kfs_desk.specs.declared.answers.Done.{Done}
 use Rattle.kfs_desk.specs.declared.answers.Done.TheVariants.{Leased, Dropped, Ticked}
 use Rattle.kfs_desk.specs.declared.answers.Reply.{Reply}
-use Rattle.kfs_engine.specs.Command.{Command, Opening, Desk as ToDesk, OpeningCommand, New, Row, Begin, DeskCommand, Lease, Drop, Tick, Submit, Node, Names, IsBadLine, asked_by}
+use Rattle.kfs_engine.specs.Command.{Command, Opening, Desk as ToDesk, OpeningCommand, New, Row, Begin, DeskCommand, Lease, Drop, Tick, Submit, Node, Listing, IsBadLine, asked_by}
 use Rattle.kfs_engine.specs.Listing.{list_text}
 use Rattle.kfs_engine.specs.Text.{act_text, begin_text, client_text, node_text, reply_text}
 use Rattle.kfs_text.specs.Parts.{line_of}
@@ -124,7 +124,7 @@ Serves desk (Drop client number) outcome = IsCallAnswered desk (machine.Drop cli
 Serves desk (Tick moment) outcome = IsCallAnswered desk (machine.Tick moment) Ticked outcome
 Serves desk (Submit submission) outcome = ((HasOtherEntry submission.log → ⊥) × IsFull desk outcome) ⊎ IsSubmitted desk submission outcome
 Serves desk (Node number) outcome = IsNone desk number outcome ⊎ IsNode desk number outcome
-Serves desk (Names directory) outcome = IsSaid (names_line desk directory) (After desk) outcome
+Serves desk (Listing directory) outcome = IsSaid (names_line desk directory) (After desk) outcome
 
 -- a command where it is due
 abbrev pub Does : Stage → Command → LineOutcome → Type 0

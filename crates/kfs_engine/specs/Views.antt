@@ -33,7 +33,7 @@ module _ {A : Type 0} where
   asked_of_desk (desk.Act act) = act_of act
   asked_of_desk (desk.Submit submission) = commands.Submit (submission_of submission)
   asked_of_desk (desk.Node number) = commands.Node number
-  asked_of_desk (desk.List number) = commands.Names number
+  asked_of_desk (desk.List number) = commands.Listing number
 
   abbrev pub asked_of : Command A → commands.Command
   asked_of (read.Opening command) = commands.Opening (opening_of command)

@@ -2,7 +2,7 @@
 ghost use Rattle.std.specs.Prelude.{◌≡◌, ℕ, List, true, false, IfOk, IfErr, IsErrOf, Some};
 ghost use Rattle.kfs_lease.specs.Rows.{kind_of};
 ghost use Rattle.kfs_judge.specs.Judging.{HasOtherEntry, submission_of};
-ghost use Rattle.kfs_engine.specs.Command.{Desk as DeskLine, Names as NamesLine, Node as NodeLine, Opening as OpeningLine, Submit as SubmitLine, IsBadLine, asked_by, client_of, drop_of, kind_named, lease_of, new_of, submit_of};
+ghost use Rattle.kfs_engine.specs.Command.{Desk as DeskLine, Listing as ListingLine, Node as NodeLine, Opening as OpeningLine, Submit as SubmitLine, IsBadLine, asked_by, client_of, drop_of, kind_named, lease_of, new_of, submit_of};
 ghost use Rattle.kfs_engine.specs.Reading.{IsAsked, begin_of, command_named, listing_of, named_by, node_of, tick_of};
 ghost use Rattle.kfs_engine.specs.Views.{act_of, asked_of, opening_of};
 ghost use Rattle.kfs_text.specs.Reading.{ReadsAs, checked, first_by, words_left};
@@ -210,7 +210,7 @@ fn read_node(words: &mut Words<'_>) -> Result<u32, Refusal>
 
 #[tactic(auto, using(crate::proofs::Readings::listing_steps))]
 fn read_list(words: &mut Words<'_>) -> Result<u32, Refusal>
-    ensures { ReadsAs (λ directory. DeskLine (NamesLine directory)) (checked listing_of (words_left words.old)) result }
+    ensures { ReadsAs (λ directory. DeskLine (ListingLine directory)) (checked listing_of (words_left words.old)) result }
 {
     words.only_number32()
 }

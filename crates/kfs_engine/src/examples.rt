@@ -9,7 +9,7 @@ ghost use Rattle.kfs_mode.specs.declared.client.ClientFault.TheVariants.{BadGran
 ghost use Rattle.kfs_image.specs.Contents.{root_alone};
 ghost use Rattle.kfs_image.specs.ShownTree.{tree_of};
 ghost use Rattle.kfs_judge.specs.Judging.{submission_with};
-ghost use Rattle.kfs_engine.specs.Command.{Begin, Desk, Drop, Lease, Names, New, Node, Opening, Row, Submit, Tick, asked_by, client_row};
+ghost use Rattle.kfs_engine.specs.Command.{Begin, Desk, Drop, Lease, Listing, New, Node, Opening, Row, Submit, Tick, asked_by, client_row};
 ghost use Rattle.kfs_engine.specs.Conversation.{BreaksOff};
 ghost use Rattle.kfs_engine.specs.Example.{desk_of_7, opening_with, root_leased};
 ghost use Rattle.kfs_engine.specs.Listing.{list_text};
@@ -37,7 +37,7 @@ pub fn commands()
     ensures tick { asked_by (codes "tick 18446744073709551615") ≡ Some (Desk (Tick 18446744073709551615)) }
     ensures submit { asked_by (codes "submit 7 0aFf -") ≡ Some (Desk (Submit (submission_with 7 (10 ∷ 255 ∷ []) []))) }
     ensures node { asked_by (codes "node 5") ≡ Some (Desk (Node 5)) }
-    ensures list { asked_by (codes "list 1") ≡ Some (Desk (Names 1)) }
+    ensures list { asked_by (codes "list 1") ≡ Some (Desk (Listing 1)) }
 {}
 
 /// What is no command: an empty word, a word too many or too few, a number out of its range or with a sign, text that is not
