@@ -8,6 +8,8 @@ pub mod Failing
 pub mod Climbing
 pub mod Entering
 pub mod Looking
+pub mod Groups
+pub mod CleanLooks
 pub mod ChangedRows
 pub mod TreeWalks
 pub mod MarkedRuns

@@ -14,10 +14,10 @@ use Rattle.kfs_judge.specs.declared.draft.Draft.{Draft}
 use Rattle.kfs_judge.specs.declared.reads.Read.{Read}
 use Rattle.kfs_judge.specs.declared.reads.ReadAnswer.{ReadAnswer}
 use Rattle.kfs_judge.specs.Overlay.{over, has_created, entry_context_of, IsWritten, AreCreated}
-use Rattle.kfs_judge.specs.Reads.{Always, Grows, Within}
+use Rattle.kfs_judge.specs.Reads.{Always, Grows, IsPart, Within}
 use Rattle.kfs_judge.proofs.Entering.{same_context}
 use Rattle.kfs_judge.proofs.Failing.{failing-passes, failing-fails}
-use Rattle.kfs_judge.proofs.Recording.{IsPart, within_same, within_then, within_wider, first_is_in, part_of_itself, left_is_part, right_is_part, both_are_part, none_is_part}
+use Rattle.kfs_judge.proofs.Recording.{within_same, within_then, within_wider, first_is_in, part_of_itself, left_is_part, right_is_part, both_are_part, none_is_part}
 
 -- ---- checks
 
@@ -33,7 +33,7 @@ module _ (p : EntryContext) where
   pub looks_behind : (check : Check) (checks : List Check) → fault p check ≡ None → IsPart (looked p checks) (looked p (check ∷ checks))
   looks_behind check checks pass = subst (IsPart (looked p checks)) (sym (by_fault check checks None pass)) (right_is_part (cells p check) (looked p checks))
 
-  looks_at : (front : List Check) (check : Check) (back : List Check) → AllPass p (front ++ (check ∷ back)) → IsPart (cells p check) (looked p (front ++ (check ∷ back)))
+  pub looks_at : (front : List Check) (check : Check) (back : List Check) → AllPass p (front ++ (check ∷ back)) → IsPart (cells p check) (looked p (front ++ (check ∷ back)))
   looks_at [] check back pass cell there = looks_here check back cell there
   looks_at (first ∷ front) check back pass cell there = looks_behind first (front ++ (check ∷ back)) pass.0 cell (looks_at front check back pass.1 cell there)
 
@@ -62,21 +62,6 @@ module _ (p : EntryContext) where
 
   pub back_is_looked : (front back : List Check) → first_failing p front ≡ None → IsPart (looked p back) (looked p (front ++ back))
   back_is_looked front back pass = subst (IsPart (looked p back)) (sym (looked_groups front back ∙ ap (λ (found : Option Reason). looked p front ++ elim found as (λ _. List Cell) [ None ↦ looked p back | Some reason ↦ [] ]) pass)) (right_is_part (looked p front) (looked p back))
-
-  -- a clean Create has looked at the cells that it writes
-  pub create_looks : (d : ℕ) (m : List ℕ) (n : ℕ) (kind : Kind) (mode : ℕ) → first_fault p (Create d m n kind mode) ≡ None → Contains (looked p (checks_of p (Create d m n kind mode))) (NameIn d m) × Contains (looked p (checks_of p (Create d m n kind mode))) (HeaderOf n)
-  unfolding checks_of cells
-  create_looks d m n kind mode clean =
-      let pass = all_pass p _ clean in
-      let front = Check.Exists d ∷ Check.IsADirectory d ∷ Check.MaySearch d ∷ Check.MayWrite d ∷ Check.IsLeased d ∷ [] in (
-        looks_at front (Check.NameIsFree d m) (Check.NumberIsGranted n ∷ Check.NumberIsFree n ∷ []) pass (NameIn d m) (first_is_in (NameIn d m) []),
-        looks_at (front ++ (Check.NameIsFree d m ∷ Check.NumberIsGranted n ∷ [])) (Check.NumberIsFree n) [] pass (HeaderOf n) (first_is_in (HeaderOf n) []),
-      )
-
-  -- the first check's look at the header comes whatever the checks find
-  pub chmod_looks : (n mode : ℕ) → IsPart (HeaderOf n ∷ []) (looked p (checks_of p (Chmod n mode)))
-  unfolding checks_of cells
-  chmod_looks n mode = looks_here (Check.Exists n) (Check.MayChangeMode n ∷ Check.IsLeased n ∷ [])
 
 -- ---- entries
 

@@ -61,9 +61,9 @@ judged_shown : (source : List ℕ) (entry : CodeEntry Span) → IsJudged entry �
 judged_shown source (entries.Create d m n k mode) is = refl
 judged_shown source (entries.Write n offset p) is = absurd is
 judged_shown source (entries.Truncate n size) is = absurd is
-judged_shown source (entries.Link n d m) is = absurd is
-judged_shown source (entries.Unlink d m k) is = absurd is
-judged_shown source (entries.Rename d m e k) is = absurd is
+judged_shown source (entries.Link n d m) is = refl
+judged_shown source (entries.Unlink d m k) is = refl
+judged_shown source (entries.Rename d m e k) is = refl
 judged_shown source (entries.Chmod n mode) is = refl
 
 pub all_judged : (source : List ℕ) (entries : List (CodeEntry Span)) → All IsJudged entries → list_all is_judged (map (entry_of source) entries) ≡ true
@@ -74,9 +74,9 @@ judged_back : (source : List ℕ) (entry : CodeEntry Span) → is_judged (entry_
 judged_back source (entries.Create d m n k mode) is = tt
 judged_back source (entries.Write n offset p) is = cc
 judged_back source (entries.Truncate n size) is = cc
-judged_back source (entries.Link n d m) is = cc
-judged_back source (entries.Unlink d m k) is = cc
-judged_back source (entries.Rename d m e k) is = cc
+judged_back source (entries.Link n d m) is = tt
+judged_back source (entries.Unlink d m k) is = tt
+judged_back source (entries.Rename d m e k) is = tt
 judged_back source (entries.Chmod n mode) is = tt
 
 all_judged_back : (source : List ℕ) (entries : List (CodeEntry Span)) → list_all is_judged (map (entry_of source) entries) ≡ true → All IsJudged entries

@@ -6,7 +6,7 @@ use Rattle.kfs_model.specs.Sight.{Cell, ClientSight}
 use Rattle.kfs_judge.specs.declared.reads.Read.{Read}
 use Rattle.kfs_judge.specs.declared.reads.ReadAnswer.{ReadAnswer}
 use Rattle.kfs_judge.specs.declared.reads.Recorder.{Recorder}
-use Rattle.kfs_judge.specs.Reads.{cell_of, Agrees, AreAmong, AreOnce, Within}
+use Rattle.kfs_judge.specs.Reads.{cell_of, Agrees, AreAmong, AreOnce, IsPart, Within}
 use Rattle.kfs_judge.specs.Recorders.{GoesOn, seen_by}
 
 -- ---- the reads that agree with the view
@@ -34,10 +34,6 @@ within_then {first} {then} {last} {among} front back = record { each = λ e ther
     at : (e : Read × ReadAnswer) → Contains then e ⊎ Contains among (cell_of e.0) → Contains first e ⊎ Contains among (cell_of e.0)
     at e (inl earlier) = front.each e earlier
     at e (inr here) = inr here
-
--- each of the few cells is one of the many
-abbrev pub IsPart : List Cell → List Cell → Type 0
-IsPart few many = (cell : Cell) → Contains few cell → Contains many cell
 
 pub within_wider : {first last : List (Read × ReadAnswer)} {few many : List Cell} → IsPart few many → Within first last few → Within first last many
 within_wider {first} {last} {few} {many} part within = record { each = λ e there. at e (within.each e there) }

@@ -2,7 +2,7 @@
 use Rattle.std.specs.Prelude.{◌≡◌, ℕ, List, map, Option}
 use Rattle.std.specs.Option.{option_map}
 use Rattle.kfs_judge.specs.Recorders.{Known, ReadsAt}
-use Rattle.kfs_model.specs.Check.{first_fault, entry_cells}
+use Rattle.kfs_model.specs.Check.{checks_of, first_failing, looked}
 use Rattle.kfs_model.specs.Entry.{Entry}
 use Rattle.kfs_model.specs.Check as checks
 use Rattle.kfs_model.specs.Sight.{ClientSight, Cell, HeaderOf, NameIn, ParentOf, climbed}
@@ -41,24 +41,14 @@ check_of (variants.MayChangeMode n) = checks.MayChangeMode n
 check_of (variants.IsLeased n) = checks.IsLeased n
 check_of (variants.HasNoNames n) = checks.HasNoNames n
 check_of (variants.HasRoomForLink n) = checks.HasRoomForLink n
-check_of (variants.NameIsThere key) = checks.NameIsThere key.now.0 key.now.1
 check_of (variants.NameIsFree key) = checks.NameIsFree key.now.0 key.now.1
 check_of (variants.NumberIsGranted n) = checks.NumberIsGranted n
 check_of (variants.NumberIsFree n) = checks.NumberIsFree n
 check_of (variants.IsNotAbove n d) = checks.IsNotAbove n d
-check_of (variants.SeesName key) = checks.Sees (NameIn key.now.0 key.now.1)
-check_of (variants.SeesHeader n) = checks.Sees (HeaderOf n)
 
 -- the cells of the nodes that a climb passes
 abbrev pub climbed_cells : (ℕ → Option ℕ) → (fuel from : ℕ) → List Cell
 climbed_cells parent fuel from = map ParentOf (climbed parent fuel from)
-
--- the check looks at where a name leads
-abbrev pub IsOfName : Check → Type 0
-IsOfName (variants.NameIsThere key) = Unit {0}
-IsOfName (variants.NameIsFree key) = Unit {0}
-IsOfName (variants.SeesName key) = Unit {0}
-IsOfName _ = ⊥
 
 -- the check asks what the client may do, by a header
 abbrev pub IsOfRight : Check → Type 0
@@ -73,7 +63,6 @@ IsOfHeader (variants.Exists n) = Unit {0}
 IsOfHeader (variants.IsADirectory n) = Unit {0}
 IsOfHeader (variants.IsAFile n) = Unit {0}
 IsOfHeader (variants.HasRoomForLink n) = Unit {0}
-IsOfHeader (variants.SeesHeader n) = Unit {0}
 IsOfHeader _ = ⊥
 
 -- where the entry is judged, by what the client saw before the log
@@ -93,10 +82,18 @@ module _ {A : Type 0} (judge : EntryJudge A) where
   abbrev pub ReadsCellsOfCheck : (old new : Recorder A) → Check → Type 0
   ReadsCellsOfCheck old new check = Known new (λ before. ReadsAt old new (checks.cells (entry_context_in judge before) (check_of check)))
 
+  -- the first of the listed checks that fails, as what was read tells it
+  abbrev pub FindsFirst : Recorder A → (checks.EntryContext → List checks.Check) → Option Reason → Type 0
+  FindsFirst recorder listed reason = Known recorder (λ before. first_failing (entry_context_in judge before) (listed (entry_context_in judge before)) ≡ option_map reason_of reason)
+
+  -- the further reads are at the cells of the listed checks, up to the first that fails
+  abbrev pub ReadsCellsOfAll : (old new : Recorder A) → (checks.EntryContext → List checks.Check) → Type 0
+  ReadsCellsOfAll old new listed = Known new (λ before. ReadsAt old new (looked (entry_context_in judge before) (listed (entry_context_in judge before))))
+
 -- the entry's first fault, as what was read tells it
 abbrev pub FindsFault : {A : Type 0} → EntryJudge A → Recorder A → Entry → Option Reason → Type 0
-FindsFault judge recorder entry reason = Known recorder (λ before. first_fault (entry_context_in judge before) entry ≡ option_map reason_of reason)
+FindsFault judge recorder entry reason = FindsFirst judge recorder (λ p. checks_of p entry) reason
 
 -- the further reads are at the cells of the entry's checks
 abbrev pub ReadsCellsOf : {A : Type 0} → EntryJudge A → (old new : Recorder A) → Entry → Type 0
-ReadsCellsOf judge old new entry = Known new (λ before. ReadsAt old new (entry_cells (entry_context_in judge before) entry))
+ReadsCellsOf judge old new entry = ReadsCellsOfAll judge old new (λ p. checks_of p entry)

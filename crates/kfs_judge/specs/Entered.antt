@@ -1,11 +1,11 @@
 -- What a log's judge has made of an entry, and of entries one after another.
-use Rattle.std.specs.Prelude.{◌≡◌, ℕ, List, ◌++◌, map, Option}
+use Rattle.std.specs.Prelude.{◌≡◌, ◌==◌, ℕ, List, ◌∷◌, [], Contains, if◌then◌else◌, ◌++◌, map, Option, Some, None}
 use Rattle.std.specs.Option.{option_map}
 use Rattle.kfs_model.specs.Entry.{Entry}
-use Rattle.kfs_model.specs.Sight.{ClientSight, Cell}
+use Rattle.kfs_model.specs.Sight.{ClientSight, Cell, HeaderOf, NameIn}
 use Rattle.kfs_model.specs.Check.{EntryContext, first_fault, entry_cells}
 use Rattle.kfs_model.specs.Run.{created_by}
-use Rattle.kfs_model.specs.SeenAfter.{seen_after}
+use Rattle.kfs_model.specs.SeenAfter.{seen_after, seen_renamed, seen_unlinked}
 use Rattle.kfs_model.specs.Looked.{looked_cells}
 use Rattle.kfs_value.specs.Views.{entry_of}
 use Rattle.kfs_value.specs.declared.entry.Entry.{Entry as CodeEntry}
@@ -15,12 +15,24 @@ use Rattle.kfs_judge.specs.declared.log_judge.LogJudge.{LogJudge}
 use Rattle.kfs_judge.specs.declared.walk.EntryFault.{EntryFault}
 use Rattle.kfs_judge.specs.Checks.{reason_of}
 use Rattle.kfs_judge.specs.Overlay.{over, entry_context_of, AreCreated, IsWritten}
+use Rattle.kfs_judge.specs.Reads.{IsPart}
 use Rattle.kfs_judge.specs.Recorders.{Known, ReadsAt}
 use Rattle.kfs_judge.specs.Walks.{EndsAt}
 
 -- where the next entry is judged, by what the client saw before the log
 abbrev pub next_context : {A : Type 0} → LogJudge A → ClientSight → EntryContext
 next_context judge before = entry_context_of judge.client.now judge.draft before
+
+-- the header of the node that loses a name
+abbrev pub headers_unlinked : (there : Option ℕ) → List Cell
+headers_unlinked None = []
+headers_unlinked (Some t) = HeaderOf t ∷ []
+
+-- the headers that a Rename looks at: of the node moved, and of the one that it replaces
+abbrev pub headers_renamed : (from to : Option ℕ) → List Cell
+headers_renamed None to = []
+headers_renamed (Some s) None = HeaderOf s ∷ []
+headers_renamed (Some s) (Some t) = if t == s then [] else HeaderOf s ∷ HeaderOf t ∷ []
 
 -- an entry, and the judge before it and behind it
 module _ {A : Type 0} (old new : LogJudge A) (entry : Entry) where
@@ -39,6 +51,22 @@ module _ {A : Type 0} (old new : LogJudge A) (entry : Entry) where
 
   abbrev pub CreatesItsNumber : Type 0
   CreatesItsNumber = (numbers : List ℕ) → AreCreated old.draft numbers → AreCreated new.draft (created_by entry numbers)
+
+-- a name goes, which leads to this node
+module _ {A : Type 0} (old new : LogJudge A) (d : ℕ) (m : List ℕ) (there : Option ℕ) where
+  abbrev pub ShowsUnlink : Type 0
+  ShowsUnlink = Known new.recorder (λ before. over new.draft before.sight ≡ seen_unlinked d m there (over old.draft before.sight))
+
+  abbrev pub WritesUnlink : Type 0
+  WritesUnlink = (among : List Cell) → IsWritten old.draft among → Contains among (NameIn d m) → IsPart (headers_unlinked there) among → IsWritten new.draft among
+
+-- a name moves to a second one, where the two lead to these nodes
+module _ {A : Type 0} (old new : LogJudge A) (d : ℕ) (m : List ℕ) (e : ℕ) (k : List ℕ) (from to : Option ℕ) where
+  abbrev pub ShowsRename : Type 0
+  ShowsRename = Known new.recorder (λ before. over new.draft before.sight ≡ seen_renamed d m e k from to (over old.draft before.sight))
+
+  abbrev pub WritesRename : Type 0
+  WritesRename = (among : List Cell) → IsWritten old.draft among → Contains among (NameIn d m) → Contains among (NameIn e k) → IsPart (headers_renamed from to) among → IsWritten new.draft among
 
 -- entries, from a judge that has entered none
 module _ {A : Type 0} (old new : LogJudge A) (entries : List (CodeEntry Span)) where

@@ -9,12 +9,12 @@ abbrev pub is_judged : Entry → Bool
 is_judged (Create d m n kind mode) = true
 is_judged (Write n offset payload) = false
 is_judged (Truncate n size) = false
-is_judged (Link n d m) = false
-is_judged (Unlink d m kind) = false
-is_judged (Rename d m e k) = false
+is_judged (Link n d m) = true
+is_judged (Unlink d m kind) = true
+is_judged (Rename d m e k) = true
 is_judged (Chmod n mode) = true
 
 abbrev pub IsJudged : CodeEntry Span → Type 0
-IsJudged (entries.Create dir name number kind mode) = Unit {0}
-IsJudged (entries.Chmod number mode) = Unit {0}
-IsJudged _ = ⊥
+IsJudged (entries.Write number offset payload) = ⊥
+IsJudged (entries.Truncate number size) = ⊥
+IsJudged _ = Unit {0}

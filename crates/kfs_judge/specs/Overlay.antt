@@ -1,5 +1,5 @@
 -- What a draft shows over a state: the cells that entries have written, and the state's own where they have not.
-use Rattle.std.specs.Prelude.{◌≡◌, ℕ, ◌-◌, Bool, cond, ℤ, pos, negsuc, neg_ℤ, ◌≤ℤ◌, List, Contains, Option, Some, None, unwrap_or, ◌==◌}
+use Rattle.std.specs.Prelude.{◌≡◌, ℕ, ◌-◌, Bool, cond, ℤ, pos, negsuc, neg_ℤ, ◌≤ℤ◌, List, Contains, Option, Some, None, unwrap_or, ◌==◌, ◌+◌, true, nat_lt}
 use Rattle.std.specs.Option.{option_map}
 use Rattle.std.specs.declared.cmp.Ordering.{Ordering}
 use Rattle.std.specs.Ordering.{nat_cmp, eq_by_cmp}
@@ -12,7 +12,8 @@ use Rattle.kfs_model.proofs.Overlay as laid
 use Rattle.kfs_model.specs.SeenAfter.{put_at, put_name, shifted, put_parent}
 use Rattle.kfs_model.specs.Tree.{name_order}
 use Rattle.kfs_model.specs.Sight.{Sight, ClientSight, Cell, NameIn, HeaderOf}
-use Rattle.kfs_model.specs.Check.{EntryContext}
+use Rattle.kfs_model.specs.Check.{EntryContext, is_some_and}
+use Rattle.kfs_model.specs.Limits.{link_limit}
 use Rattle.kfs_value.specs.Views.{header_of}
 use Rattle.kfs_value.specs.declared.header.Header.{Header as CodeHeader}
 use Rattle.kfs_judge.specs.declared.draft.Draft.{Draft}
@@ -85,13 +86,17 @@ with_node d m n header s = record {
 }
 
 -- with one name more for a node, which has this header then
-abbrev pub with_name : (directory : ℕ) (name : List ℕ) (number : ℕ) → Header → Sight → Sight
+abbrev pub with_name : (directory : ℕ) (name : List ℕ) (number : ℕ) → Option Header → Sight → Sight
 with_name d m n header s = record {
-  head = put_at n (Some header) s.head;
+  head = put_at n header s.head;
   name = put_name d m (Some n) s.name;
   count = shifted d (pos 1) s.count;
   parent = s.parent;
 }
+
+-- a header with room for one link more has it
+abbrev pub IsLinked : (before after : Option Header) → Type 0
+IsLinked before after = is_some_and before (λ h. nat_lt h.links link_limit) ≡ true → after ≡ option_map (λ (h : Header). record h { links = h.links + 1 }) before
 
 -- without a name of a node, which has this header then, or is gone
 abbrev pub without_name : (directory : ℕ) (name : List ℕ) (number : ℕ) → Option Header → Sight → Sight

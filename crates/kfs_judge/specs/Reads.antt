@@ -59,3 +59,7 @@ AreAmong entries among = All (λ e. Contains among (cell_of e.0)) entries
 -- no read stands twice
 abbrev pub AreOnce : List (Read × ReadAnswer) → Type 0
 AreOnce entries = AllPairs (λ e f. e.0 ≢ f.0) entries
+
+-- each of the few cells is one of the many
+abbrev pub IsPart : List Cell → List Cell → Type 0
+IsPart few many = (cell : Cell) → Contains few cell → Contains many cell

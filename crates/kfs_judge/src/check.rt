@@ -69,8 +69,6 @@ pub(crate) enum Check<'a> {
     HasNoNames(u32),
     /// The file may have one name more.
     HasRoomForLink(u32),
-    /// The directory has the name.
-    NameIsThere(&'a (u32, Name)),
     /// The directory has no such name.
     NameIsFree(&'a (u32, Name)),
     /// The client may give the number to a new node.
@@ -79,8 +77,4 @@ pub(crate) enum Check<'a> {
     NumberIsFree(u32),
     /// The node isn't the directory and doesn't lie above it.
     IsNotAbove { node: u32, dir: u32 },
-    /// Never fails: what comes after it depends on where the name leads.
-    SeesName(&'a (u32, Name)),
-    /// Never fails: what comes after it depends on the node's header.
-    SeesHeader(u32),
 }

@@ -7,7 +7,7 @@ ghost use Rattle.kfs_model.specs.Header.{Kind as KindShown};
 ghost use Rattle.kfs_model.specs.Entry as entry;
 ghost use Rattle.kfs_model.specs.SeenAfter.{seen_after};
 ghost use Rattle.kfs_model.specs.Sight.{Sight};
-ghost use Rattle.kfs_judge.specs.Entered.{IsFirstFault, ReadsItsCells, WritesItsCells};
+ghost use Rattle.kfs_judge.specs.Entered.{IsFirstFault, ReadsItsCells, ShowsItsChange, WritesItsCells};
 ghost use Rattle.kfs_judge.specs.Overlay.{has_created, over, ShiftsBy, HasRoom};
 ghost use Rattle.kfs_judge.specs.Recorders.{GoesOn};
 ghost use Rattle.kfs_judge.specs.Checks.{FindsFault, ReadsCellsOf};
@@ -46,11 +46,12 @@ fn create_fault<A: Allocator + Copy>(
 }
 
 impl<'a, A: Allocator + Copy> LogJudge<'a, A> {
-    /// Makes the node `number` without bytes under the name `key`, with the client's uid and gid, or
-    /// answers why not.
+    /// Makes the node `number` without bytes under the name `name` in `dir`, with the client's uid and
+    /// gid, or answers why not.
     pub(crate) fn create(
         &mut self,
-        key: (u32, Name),
+        dir: u32,
+        name: Name,
         number: u32,
         kind: Kind,
         mode: u16,
@@ -58,13 +59,14 @@ impl<'a, A: Allocator + Copy> LogJudge<'a, A> {
         requires { HasRoom 3 self.old.draft }
         ensures goes { GoesOn self.old.recorder self.new.recorder }
         ensures client { self.new.client.now ≡ self.old.client.now }
-        ensures known { IfOk result (IsFirstFault self.old self.new (entry.Create key.0 key.1 number (kind_of kind) mode)) }
-        ensures among { OnOk result (ReadsItsCells self.old self.new (entry.Create key.0 key.1 number (kind_of kind) mode)) }
-        ensures shown { result ≡ Ok None → (s : Sight) → over self.new.draft s ≡ seen_after self.old.client.now (over self.old.draft s) (entry.Create key.0 key.1 number (kind_of kind) mode) }
-        ensures written { result ≡ Ok None → WritesItsCells self.old self.new (entry.Create key.0 key.1 number (kind_of kind) mode) }
+        ensures known { IfOk result (IsFirstFault self.old self.new (entry.Create dir name number (kind_of kind) mode)) }
+        ensures among { OnOk result (ReadsItsCells self.old self.new (entry.Create dir name number (kind_of kind) mode)) }
+        ensures shown { result ≡ Ok None → ShowsItsChange self.old self.new (entry.Create dir name number (kind_of kind) mode) }
+        ensures written { result ≡ Ok None → WritesItsCells self.old self.new (entry.Create dir name number (kind_of kind) mode) }
         ensures created { result ≡ Ok None → (n : ℕ) → has_created self.new.draft n ≡ ((number == n) || has_created self.old.draft n) }
         ensures shifts { result ≡ Ok None → (most : ℕ) → ShiftsBy most self.old.draft → ShiftsBy (most + 3) self.new.draft }
     {
+        let key = (dir, name);
         let judge = EntryJudge {
             client: self.client,
             draft: &self.draft,

@@ -58,7 +58,7 @@ impl<A: Allocator + Copy> Draft<A> {
         ensures shifts { OnOk result ((most : ℕ) → ShiftsBy most self.old → ShiftsBy (most + 1) self.new) }
     {
         let dir = key.0;
-        self.add_name(key, number, header)?;
+        self.add_name(key, number, Some(header))?;
         self.set_directory_in(header.kind, number, dir)?;
         self.created.insert(number)?;
         Ok(())
@@ -69,17 +69,17 @@ impl<A: Allocator + Copy> Draft<A> {
         &mut self,
         key: (u32, Name),
         number: u32,
-        header: Header,
+        header: Option<Header>,
     ) -> Result<(), AllocError>
         requires { HasRoom 1 self.old }
-        ensures shown { OnOk result ((s : Sight) → over self.new s ≡ with_name key.0 key.1 number (header_of header) (over self.old s)) }
+        ensures shown { OnOk result ((s : Sight) → over self.new s ≡ with_name key.0 key.1 number (option_map header_of header) (over self.old s)) }
         ensures written { OnOk result (WritesNameAndHeader self.old self.new key.0 key.1 number) }
         ensures created { OnOk result ((n : ℕ) → has_created self.new n ≡ has_created self.old n) }
         ensures shifts { OnOk result ((most : ℕ) → ShiftsBy most self.old → ShiftsBy (most + 1) self.new) }
     {
         self.shift_count(key.0, 1)?;
         self.set_target(key, Some(number))?;
-        self.set_header(number, Some(header))?;
+        self.set_header(number, header)?;
         Ok(())
     }
 

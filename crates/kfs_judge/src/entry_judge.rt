@@ -3,15 +3,14 @@ ghost use Rattle.std.specs.Prelude.{◌≡◌, ◌+ℤ◌, pos, nat_lt, IfOk, is
 ghost use Rattle.std.specs.Option.{option_map};
 ghost use Rattle.std.specs.Ordering.{int_eq};
 ghost use Rattle.kfs_model.specs.Limits.{link_limit};
-ghost use Rattle.kfs_value.specs.Views.{header_of};
+ghost use Rattle.kfs_value.specs.Views.{header_of, kind_of};
 ghost use Rattle.kfs_model.specs.Access.{may_header, owns};
 ghost use Rattle.kfs_model.specs.Check as checks;
-ghost use Rattle.kfs_model.specs.Check.{first_failing, looked};
 ghost use Rattle.kfs_model.specs.Sight as sight;
 ghost use Rattle.kfs_model.specs.Sight.{CountOf, HeaderOf, LeaseOn, NameIn, ParentOf, climb_limit, climb_meets};
 ghost use Rattle.kfs_mode.specs.Mode.{want_shown};
 ghost use Rattle.kfs_judge.specs.Recorders.{GoesOn, Known, ReadsAt};
-ghost use Rattle.kfs_judge.specs.Checks.{check_of, reason_of, entry_context_in, FindsWrong, IsOfHeader, IsOfName, IsOfRight, ReadsCellsOfCheck, climbed_cells, parent_in};
+ghost use Rattle.kfs_judge.specs.Checks.{check_of, reason_of, entry_context_in, FindsFirst, FindsWrong, IsOfHeader, IsOfRight, ReadsCellsOfAll, ReadsCellsOfCheck, climbed_cells, parent_in};
 
 use crate::check::{Check, Reason};
 use crate::draft::Draft;
@@ -50,7 +49,22 @@ impl<A: Allocator + Copy> EntryJudge<'_, A> {
         }
     }
 
-    fn target(
+    /// The kind of the node now, and a file's where there is no node.
+    pub(crate) fn kind(
+        &self,
+        recorder: &mut Recorder<'_, A>,
+        number: u32,
+    ) -> Result<Kind, AllocError>
+        ensures goes { GoesOn recorder.old recorder.new }
+        ensures known { IfOk result (λ kind. Known recorder.new (λ before. sight.kind_shown ((entry_context_in self.now before).now.head number) ≡ kind_of kind)) }
+        ensures among { OnOk result (ReadsAt recorder.old recorder.new (HeaderOf number ∷ [])) }
+    {
+        let header = self.header(recorder, number)?;
+        Ok(kind_in(header))
+    }
+
+    /// The number that the name leads to now.
+    pub(crate) fn target(
         &self,
         recorder: &mut Recorder<'_, A>,
         key: &(u32, Name),
@@ -86,8 +100,8 @@ impl<A: Allocator + Copy> EntryJudge<'_, A> {
         checks: &[Check<'_>],
     ) -> Result<Option<Reason>, AllocError>
         ensures goes { GoesOn recorder.old recorder.new }
-        ensures known { IfOk result (λ reason. Known recorder.new (λ before. first_failing (entry_context_in self.now before) (map check_of checks.now) ≡ option_map reason_of reason)) }
-        ensures among { OnOk result (Known recorder.new (λ before. ReadsAt recorder.old recorder.new (looked (entry_context_in self.now before) (map check_of checks.now)))) }
+        ensures known { IfOk result (FindsFirst self.now recorder.new (λ _. map check_of checks.now)) }
+        ensures among { OnOk result (ReadsCellsOfAll self.now recorder.old recorder.new (λ _. map check_of checks.now)) }
     {
         for check in checks {
             if let Some(reason) = self.fault(recorder, check)? {
@@ -108,8 +122,9 @@ impl<A: Allocator + Copy> EntryJudge<'_, A> {
         ensures among { OnOk result (ReadsCellsOfCheck self.now recorder.old recorder.new check.now) }
     {
         match check {
-            Check::NameIsThere(_) | Check::NameIsFree(_) | Check::SeesName(_) => {
-                self.name_fault(recorder, check)
+            Check::NameIsFree(key) => {
+                let number = self.target(recorder, key)?;
+                Ok(unless(number.is_none(), Reason::NameTaken))
             }
             Check::IsLeased(number) => {
                 let leased = self.is_leased(recorder, *number)?;
@@ -135,35 +150,6 @@ impl<A: Allocator + Copy> EntryJudge<'_, A> {
                 self.right_fault(recorder, check)
             }
             _ => self.header_fault(recorder, check),
-        }
-    }
-
-    /// What a check of where a name leads finds wrong.
-    #[tactic(auto, unfolding(kfs_model::specs::Check::fault, kfs_model::specs::Check::cells))]
-    fn name_fault(
-        &self,
-        recorder: &mut Recorder<'_, A>,
-        check: &Check<'_>,
-    ) -> Result<Option<Reason>, AllocError>
-        requires { IsOfName check.now }
-        ensures goes { GoesOn recorder.old recorder.new }
-        ensures known { IfOk result (FindsWrong self.now recorder.new check.now) }
-        ensures among { OnOk result (ReadsCellsOfCheck self.now recorder.old recorder.new check.now) }
-    {
-        match check {
-            Check::NameIsThere(key) => {
-                let number = self.target(recorder, key)?;
-                Ok(unless(number.is_some(), Reason::NoSuchName))
-            }
-            Check::NameIsFree(key) => {
-                let number = self.target(recorder, key)?;
-                Ok(unless(number.is_none(), Reason::NameTaken))
-            }
-            Check::SeesName(key) => {
-                self.target(recorder, key)?;
-                Ok(None)
-            }
-            _ => unreachable!(),
         }
     }
 
@@ -224,10 +210,6 @@ impl<A: Allocator + Copy> EntryJudge<'_, A> {
             Check::HasRoomForLink(number) => {
                 let header = self.header(recorder, *number)?;
                 Ok(unless(has_room_for_link(header), Reason::TooManyLinks))
-            }
-            Check::SeesHeader(number) => {
-                self.header(recorder, *number)?;
-                Ok(None)
             }
             _ => unreachable!(),
         }
@@ -373,6 +355,15 @@ fn is_directory(header: Option<Header>) -> bool
     match header {
         Some(header) => header.kind == Kind::Directory,
         None => false,
+    }
+}
+
+fn kind_in(header: Option<Header>) -> Kind
+    ensures { kind_of result ≡ sight.kind_shown (option_map header_of header) }
+{
+    match header {
+        Some(header) => header.kind,
+        None => Kind::File,
     }
 }
 

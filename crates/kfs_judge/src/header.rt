@@ -1,14 +1,24 @@
 //! A node's header after a name more or fewer leads to the node.
-ghost use Rattle.std.specs.Prelude.{◌≡◌, ◌+◌, ◌<◌};
+ghost use Rattle.std.specs.Prelude.{◌≡◌, ◌+◌, ◌<◌, option_and_then};
 ghost use Rattle.std.specs.Option.{option_map};
 ghost use Rattle.kfs_value.specs.Views.{header_of};
-ghost use Rattle.kfs_model.specs.SeenAfter.{unlinked};
+ghost use Rattle.kfs_model.specs.SeenAfter as seen;
+ghost use Rattle.kfs_judge.specs.Overlay.{IsLinked};
 
 use kfs_image::{Header, Kind};
 
-/// The header with one link fewer, or none: a directory goes, and a file with its last name.
-pub(crate) fn unlinked_header(header: Header) -> Option<Header>
-    ensures { option_map header_of result ≡ unlinked (header_of header) }
+/// With one link fewer, or none: a directory goes, and a file with its last name.
+pub(crate) fn unlinked(header: Option<Header>) -> Option<Header>
+    ensures { option_map header_of result ≡ option_and_then seen.unlinked (option_map header_of header) }
+{
+    match header {
+        Some(header) => without_link(header),
+        None => None,
+    }
+}
+
+fn without_link(header: Header) -> Option<Header>
+    ensures { option_map header_of result ≡ seen.unlinked (header_of header) }
 {
     match header.kind {
         Kind::File if header.links > 1 => Some(Header {
@@ -19,8 +29,17 @@ pub(crate) fn unlinked_header(header: Header) -> Option<Header>
     }
 }
 
-/// The header with one link more.
-pub(crate) fn linked_header(header: Header) -> Header
+/// With one link more.
+pub(crate) fn linked(header: Option<Header>) -> Option<Header>
+    ensures { IsLinked (option_map header_of header) (option_map header_of result) }
+{
+    match header {
+        Some(header) => Some(with_link(header)),
+        None => None,
+    }
+}
+
+fn with_link(header: Header) -> Header
     ensures { header.links < 65535 → header_of result ≡ record (header_of header) { links = header.links + 1 } }
 {
     Header {

@@ -1,16 +1,20 @@
 //! Judges a client's log and plan against a view of the image, the leases and the clients.
 #![tactic(auto)]
 
+mod bytes;
 mod check;
 mod chmod;
 mod create;
 mod draft;
 mod entry_judge;
 mod header;
+mod link;
 mod log_judge;
 mod net;
 pub mod plan;
 mod reads;
+mod rename;
+mod unlink;
 mod view;
 mod walk;
 

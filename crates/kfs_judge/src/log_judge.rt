@@ -15,11 +15,29 @@ use crate::net::{name_rows, node_rows};
 use crate::reads::{Read, ReadAnswer, Recorder};
 use crate::view::View;
 use indexmap::IndexMap;
-use kfs_entry::{Entry, Span};
+use kfs_entry::{Entry, Span, entry_table};
 use kfs_image::shape::Net;
 use kfs_mode::Client;
 use std::alloc::{AllocError, Allocator};
 use std::hash::{BuildHasherDefault, FoldHasher};
+
+/// A field of an entry as the call takes it.
+macro_rules! taken {
+    (name $field:ident) => {
+        $field.clone()?
+    };
+    ($codec:ident $field:ident) => {
+        *$field
+    };
+}
+
+macro_rules! enter_case {
+    ([$judge:ident, $entry:ident] $($number:literal $variant:ident $call:ident { $($field:ident: $codec:ident),* })*) => {
+        match $entry {
+            $(Entry::$variant { $($field),* } => $judge.$call($(taken!($codec $field)),*),)*
+        }
+    };
+}
 
 /// What judges the entries of a log one after another: the log's client, the draft of its entries so
 /// far, and the recorded view.
@@ -61,17 +79,7 @@ impl<'a, A: Allocator + Copy> LogJudge<'a, A> {
         ensures created { (source : List ℕ) → result ≡ Ok None → CreatesItsNumber self.old self.new (entry_of source entry.now) }
         ensures shifts { result ≡ Ok None → (most : ℕ) → ShiftsBy most self.old.draft → ShiftsBy (most + 3) self.new.draft }
     {
-        match entry {
-            Entry::Create {
-                dir,
-                name,
-                number,
-                kind,
-                mode,
-            } => self.create((*dir, name.clone()?), *number, *kind, *mode),
-            Entry::Chmod { number, mode } => self.chmod(*number, *mode),
-            _ => unreachable!(),
-        }
+        entry_table!(enter_case(self, entry))
     }
 
     /// What differs after the entries so far.

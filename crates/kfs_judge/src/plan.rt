@@ -160,7 +160,7 @@ pub enum Why {
     OutOfMemory,
     /// 2: the docket has as many rows as its limit allows. Only a desk answers so.
     DocketFull,
-    /// 3: the log has an entry that isn't judged yet, one other than Create and Chmod.
+    /// 3: the log has an entry that isn't judged yet, a Write or a Truncate.
     OtherEntry,
 }
 
@@ -314,7 +314,7 @@ fn unless_refused(fault: SpellFault) -> Result<SpellFault, Why>
     }
 }
 
-/// Whether each of these entries is of a kind that is judged: a Create or a Chmod. Takes no memory.
+/// Whether each of these entries is of a kind that is judged: no Write and no Truncate. Takes no memory.
 pub fn are_judged(entries: &[Entry<Span>]) -> bool
     ensures { IsTrue result ↔ All IsJudged entries.now }
 {
@@ -324,7 +324,7 @@ pub fn are_judged(entries: &[Entry<Span>]) -> bool
 fn is_judged(entry: &Entry<Span>) -> bool
     ensures { IsTrue result ↔ IsJudged entry.now }
 {
-    matches!(entry, Entry::Create { .. } | Entry::Chmod { .. })
+    !matches!(entry, Entry::Write { .. } | Entry::Truncate { .. })
 }
 
 /// The finding of a log that was walked: its first bad entry, or else what its plan comes to.

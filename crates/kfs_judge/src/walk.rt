@@ -37,7 +37,7 @@ pub struct Walk<A: Allocator> {
 }
 
 /// Goes through the entries of a log against a view. The log's client has a row there, and the entries
-/// are Creates and Chmods, at most 4,096. Where memory is refused nothing is kept.
+/// are at most 4,096, without a Write and a Truncate. Where memory is refused nothing is kept.
 pub fn judge_entries<A: Allocator + Copy>(
     alloc: A,
     view: &View<A>,

@@ -14,7 +14,7 @@ use std::alloc::{AllocError, Allocator};
 const WRITE: u8 = 2;
 
 macro_rules! read_case {
-    ([$tag:ident, $source:ident, $at:ident] $($number:literal $variant:ident { $($field:ident: $codec:ident),* })*) => {
+    ([$tag:ident, $source:ident, $at:ident] $($number:literal $variant:ident $call:ident { $($field:ident: $codec:ident),* })*) => {
         match $tag {
             $($number => {
                 $(let ($field, $at) = $codec::read($source, $at)?;)*
@@ -26,7 +26,7 @@ macro_rules! read_case {
 }
 
 macro_rules! write_case {
-    ([$out:ident, $source:ident, $entry:ident] $($number:literal $variant:ident { $($field:ident: $codec:ident),* })*) => {
+    ([$out:ident, $source:ident, $entry:ident] $($number:literal $variant:ident $call:ident { $($field:ident: $codec:ident),* })*) => {
         match $entry {
             $(Entry::$variant { $($field),* } => {
                 $out.push($number)?;
@@ -37,7 +37,7 @@ macro_rules! write_case {
 }
 
 macro_rules! len_case {
-    ([$source:ident, $entry:ident] $($number:literal $variant:ident { $($field:ident: $codec:ident),* })*) => {
+    ([$source:ident, $entry:ident] $($number:literal $variant:ident $call:ident { $($field:ident: $codec:ident),* })*) => {
         match $entry {
             $(Entry::$variant { $($field),* } => 1 $(+ $codec::len($source, $field))*,)*
         }

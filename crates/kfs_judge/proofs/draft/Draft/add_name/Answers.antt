@@ -1,5 +1,6 @@
 -- Each step shows its change, one over the other.
 use Rattle.std.proofs.Common.{ap, Some, ◌+◌, ◌∙◌}
+use Rattle.std.specs.Option.{option_map}
 use Rattle.kfs_value.specs.Views.{header_of}
 use Rattle.kfs_judge.specs.Overlay.{with_header, with_target}
 use Rattle.kfs_judge.proofs.draft.Draft.add_name.Goals as goal
@@ -8,7 +9,7 @@ pub returns-clause-shown : goal.returns-clause-shown
 returns-clause-shown g c s =
     let counted = c.in_ok-shift_count.ensures.shown s in
     let named = c.in_ok-set_target.ensures.shown s ∙ ap (with_target c.args.key.0 c.args.key.1 (Some c.args.number)) counted in
-    c.in_ok-set_header.ensures.shown s ∙ ap (with_header c.args.number (Some (header_of c.args.header))) named
+    c.in_ok-set_header.ensures.shown s ∙ ap (with_header c.args.number (option_map header_of c.args.header)) named
 
 pub returns-clause-written : goal.returns-clause-written
 returns-clause-written g c among written name header = c.in_ok-set_header.ensures.written among (c.in_ok-set_target.ensures.written among (c.in_ok-shift_count.ensures.written among written) name) header

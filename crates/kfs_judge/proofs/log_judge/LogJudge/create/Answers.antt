@@ -8,24 +8,25 @@ use Rattle.kfs_value.specs.Views.{kind_of}
 use Rattle.kfs_model.specs.SeenAfter.{seen_after}
 use Rattle.kfs_judge.specs.Overlay.{over, entry_context_of, with_node}
 use Rattle.kfs_judge.specs.Checks.{reason_of}
-use Rattle.kfs_judge.proofs.Looking.{create_looks, written_wider}
+use Rattle.kfs_judge.proofs.CleanLooks.{create_looks}
+use Rattle.kfs_judge.proofs.Looking.{written_wider}
 use Rattle.kfs_judge.proofs.Overlays.{shifts_wider}
 use Rattle.kfs_judge.proofs.Recording.{left_is_part, right_is_part}
 use Rattle.kfs_judge.proofs.log_judge.LogJudge.create.Goals as goal
 
 pub returns-clause-shown : goal.returns-clause-shown
 unfolding seen_after
-returns-clause-shown g c _ s =
-    c.in_ok-add_node.ensures.shown s
-    ∙ λ i. with_node c.args.key.0 c.args.key.1 c.args.number (record { kind = kind_of c.args.kind; mode = c.args.mode; uid = c.uid.ensures i; gid = c.gid.ensures i; links = 1; size = 0 }) (over c.args.self.now.draft s)
+returns-clause-shown g c _ state agrees =
+    c.in_ok-add_node.ensures.shown state.sight
+    ∙ λ i. with_node c.args.dir c.args.name c.args.number (record { kind = kind_of c.args.kind; mode = c.args.mode; uid = c.uid.ensures i; gid = c.gid.ensures i; links = 1; size = 0 }) (over c.args.self.now.draft state.sight)
 
 pub returns-clause-written : goal.returns-clause-written
 returns-clause-written g c _ state agrees among written =
     let p = entry_context_of c.args.self.now.client.now c.args.self.now.draft state in
-    let entry = Create c.args.key.0 c.args.key.1 c.args.number (kind_of c.args.kind) c.args.mode in
+    let entry = Create c.args.dir c.args.name c.args.number (kind_of c.args.kind) c.args.mode in
     let front = looked p (checks_of p entry) in
-    let looks = create_looks p c.args.key.0 c.args.key.1 c.args.number (kind_of c.args.kind) c.args.mode (c.in_ok-fault.ensures.known (kind_of c.args.kind) c.args.mode state agrees ∙ ap (option_map reason_of) c.in_default.is) in
-    c.in_ok-add_node.ensures.written (front ++ among) (written_wider c.args.self.now.draft among (front ++ among) (right_is_part front among) written) (left_is_part front among (NameIn c.args.key.0 c.args.key.1) looks.0) (left_is_part front among (HeaderOf c.args.number) looks.1)
+    let looks = create_looks p c.args.dir c.args.name c.args.number (kind_of c.args.kind) c.args.mode (c.in_ok-fault.ensures.known (kind_of c.args.kind) c.args.mode state agrees ∙ ap (option_map reason_of) c.in_default.is) in
+    c.in_ok-add_node.ensures.written (front ++ among) (written_wider c.args.self.now.draft among (front ++ among) (right_is_part front among) written) (left_is_part front among (NameIn c.args.dir c.args.name) looks.0) (left_is_part front among (HeaderOf c.args.number) looks.1)
 
 pub returns-clause-shifts : goal.returns-clause-shifts
 returns-clause-shifts g c _ most bound = shifts_wider c.add_node.new.self (most + 1) (most + 3) (omega arith) (c.in_ok-add_node.ensures.shifts most bound)
