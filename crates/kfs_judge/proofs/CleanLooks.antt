@@ -1,5 +1,5 @@
 -- What a clean entry has looked at: the cells that it writes are among it.
-use Rattle.std.specs.Prelude.{◌≡◌, ℕ, List, [], ◌∷◌, ◌++◌, ◌==◌, Bool, true, false, Contains, Option, Some, None, IsTrue, nat_lt, if◌then◌else◌, refl}
+use Rattle.std.specs.Prelude.{◌≡◌, ℕ, List, [], ◌∷◌, ◌++◌, ◌==◌, Bool, true, false, Contains, Option, Some, None, nat_lt, if◌then◌else◌, refl}
 use Rattle.std.proofs.Common.{◌∙◌}
 use Rattle.kfs_model.specs.Entry.{Create, Link, Unlink, Rename, Chmod}
 use Rattle.kfs_model.specs.Header.{Kind, File, Directory}
@@ -36,7 +36,7 @@ module _ (p : EntryContext) where
 
   pub link_has_room : (n d : ℕ) (m : List ℕ) → first_fault p (Link n d m) ≡ None → is_some_and (p.now.head n) (λ h. nat_lt h.links link_limit) ≡ true
   unfolding checks_of fault
-  link_has_room n d m clean = IsTrue-is (passed _ _ ((all_pass p _ clean).1.1.1.1.1.1.1.1.1.0))
+  link_has_room n d m clean = passed _ _ ((all_pass p _ clean).1.1.1.1.1.1.1.1.1.0)
 
   going_looks : (front : List Check) (wanted : Kind) (t : ℕ) → AllPass p (front ++ may_go wanted t) → IsPart (HeaderOf t ∷ []) (looked p (front ++ may_go wanted t))
   unfolding cells
@@ -55,12 +55,9 @@ module _ (p : EntryContext) where
     unfolding checks_of
     unlink_looks_at_header = by_target (p.now.name d m) (all_pass p _ clean)
       where
-        abbrev front : List Check
-        front = by_directory ++ (Check.NameIsThere d m ∷ [])
-
-        by_target : (there : Option ℕ) → AllPass p (front ++ on_number there (may_go kind)) → IsPart (headers_unlinked there) (looked p (front ++ on_number there (may_go kind)))
+        by_target : (there : Option ℕ) → AllPass p (by_directory ++ (Check.NameIsThere d m ∷ on_number there (may_go kind))) → IsPart (headers_unlinked there) (looked p (by_directory ++ (Check.NameIsThere d m ∷ on_number there (may_go kind))))
         by_target None pass = none_is_part _
-        by_target (Some t) pass = going_looks front kind t pass
+        by_target (Some t) pass = going_looks (by_directory ++ (Check.NameIsThere d m ∷ [])) kind t pass
 
   module _ (d : ℕ) (m : List ℕ) (e : ℕ) (k : List ℕ) where
     abbrev by_names : List Check

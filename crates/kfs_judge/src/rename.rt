@@ -207,8 +207,15 @@ impl<A: Allocator + Copy> LogJudge<'_, A> {
             draft: &self.draft,
         };
         let kind = judge.kind(&mut self.recorder, moved)?;
-        self.remove_name(new_key.clone()?, to)?;
+        let replaced_key = copied(&new_key)?;
+        self.remove_name(replaced_key, to)?;
         self.draft.move_name(key, new_key, moved, kind)?;
         Ok(())
     }
+}
+
+fn copied(key: &(u32, Name)) -> Result<(u32, Name), AllocError>
+    ensures { IfOk result (λ copy. copy ≡ key.now) }
+{
+    Ok((key.0, key.1.clone()?))
 }
