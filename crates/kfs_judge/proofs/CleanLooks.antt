@@ -1,11 +1,10 @@
 -- What a clean entry has looked at: the cells that it writes are among it.
-use Rattle.std.specs.Prelude.{◌≡◌, ℕ, List, [], ◌∷◌, ◌++◌, ◌==◌, Bool, true, false, Contains, Option, Some, None, nat_lt, if◌then◌else◌, refl}
-use Rattle.std.proofs.Common.{◌∙◌}
+use Rattle.std.specs.Prelude.{◌≡◌, ℕ, List, [], ◌∷◌, ◌++◌, ◌==◌, Bool, true, false, Contains, Option, Some, None, nat_lt, if◌then◌else◌}
 use Rattle.kfs_model.specs.Entry.{Create, Link, Unlink, Rename, Chmod}
 use Rattle.kfs_model.specs.Header.{Kind, File, Directory}
 use Rattle.kfs_model.specs.Limits.{link_limit}
-use Rattle.kfs_model.specs.Sight.{Cell, HeaderOf, NameIn, kind_shown}
-use Rattle.kfs_model.specs.Check.{EntryContext, Check, cells, checks_of, first_failing, first_fault, looked, is_some_and, fault, may_go, on_number, arrival_checks, move_checks, rename_checks}
+use Rattle.kfs_model.specs.Sight.{HeaderOf, NameIn, kind_shown}
+use Rattle.kfs_model.specs.Check.{EntryContext, Check, cells, checks_of, first_fault, looked, is_some_and, fault, may_go, on_number, arrival_checks, move_checks, rename_checks}
 use Rattle.kfs_model.proofs.CleanIsAllowed.{AllPass, all_pass, passed}
 use Rattle.kfs_judge.proofs.Looking.{looks_here, looks_at}
 use Rattle.kfs_judge.specs.Reads.{IsPart}

@@ -4,7 +4,7 @@ use Rattle.std.specs.Option.{option_map}
 use Rattle.std.proofs.Common.{ap, sym, subst, ◌∙◌}
 use Rattle.kfs_model.specs.Check as checks
 use Rattle.kfs_model.specs.Check.{EntryContext, Check, fault, first_failing, looked}
-use Rattle.kfs_model.specs.Sight.{Cell, NameIn, HeaderOf}
+use Rattle.kfs_model.specs.Sight.{Cell, NameIn}
 use Rattle.kfs_judge.specs.declared.check.Reason.{Reason}
 use Rattle.kfs_judge.specs.declared.check.Reason.TheVariants.{NoSuchName}
 use Rattle.kfs_judge.specs.declared.entry_judge.EntryJudge.{EntryJudge}

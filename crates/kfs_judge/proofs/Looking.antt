@@ -2,14 +2,13 @@
 use Rattle.std.specs.Prelude.{◌≡◌, ℕ, false, List, [], ◌∷◌, ◌++◌, Contains, Option, Some, None, refl}
 use Rattle.std.proofs.Common.{ap, sym, subst, append-nil, append_assoc, ◌∙◌}
 use Rattle.kfs_model.specs.Access.{Client}
-use Rattle.kfs_model.specs.Entry.{Entry, Create, Chmod}
-use Rattle.kfs_model.specs.Header.{Kind}
+use Rattle.kfs_model.specs.Entry.{Entry}
 use Rattle.kfs_model.specs.Sight.{Sight, ClientSight, Cell, HeaderOf, NameIn}
 use Rattle.kfs_model.specs.Check.{EntryContext, Check, Reason, fault, cells, checks_of, first_failing, first_fault, looked}
 use Rattle.kfs_model.specs.Run.{created_by}
 use Rattle.kfs_model.specs.SeenAfter.{seen_after}
 use Rattle.kfs_model.specs.Looked.{looked_from, looked_cells}
-use Rattle.kfs_model.proofs.CleanIsAllowed.{AllPass, all_pass}
+use Rattle.kfs_model.proofs.CleanIsAllowed.{AllPass}
 use Rattle.kfs_judge.specs.declared.draft.Draft.{Draft}
 use Rattle.kfs_judge.specs.declared.reads.Read.{Read}
 use Rattle.kfs_judge.specs.declared.reads.ReadAnswer.{ReadAnswer}
@@ -17,7 +16,7 @@ use Rattle.kfs_judge.specs.Overlay.{over, has_created, entry_context_of, IsWritt
 use Rattle.kfs_judge.specs.Reads.{Always, Grows, IsPart, Within}
 use Rattle.kfs_judge.proofs.Entering.{same_context}
 use Rattle.kfs_judge.proofs.Failing.{failing-passes, failing-fails}
-use Rattle.kfs_judge.proofs.Recording.{within_same, within_then, within_wider, first_is_in, part_of_itself, left_is_part, right_is_part, both_are_part, none_is_part}
+use Rattle.kfs_judge.proofs.Recording.{within_same, within_then, within_wider, part_of_itself, left_is_part, right_is_part, both_are_part, none_is_part}
 
 -- ---- checks
 

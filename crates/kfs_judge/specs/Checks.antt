@@ -5,7 +5,7 @@ use Rattle.kfs_judge.specs.Recorders.{Known, ReadsAt}
 use Rattle.kfs_model.specs.Check.{checks_of, first_failing, looked}
 use Rattle.kfs_model.specs.Entry.{Entry}
 use Rattle.kfs_model.specs.Check as checks
-use Rattle.kfs_model.specs.Sight.{ClientSight, Cell, HeaderOf, NameIn, ParentOf, climbed}
+use Rattle.kfs_model.specs.Sight.{ClientSight, Cell, ParentOf, climbed}
 use Rattle.kfs_judge.specs.declared.check.Reason.{Reason}
 use Rattle.kfs_judge.specs.declared.check.Reason.TheVariants as reasons
 use Rattle.kfs_judge.specs.declared.check.Check.{Check}

@@ -1,5 +1,5 @@
 -- The directories and the node moved, then its kind, then what it comes to. Where both names lead to one node, no check.
-use Rattle.std.specs.Prelude.{◌≡◌, ℕ, List, [], ◌∷◌, ◌++◌, Option, Some, None, if◌then◌else◌, refl}
+use Rattle.std.specs.Prelude.{◌≡◌, ℕ, List, [], ◌∷◌, Option, Some, None, if◌then◌else◌, refl}
 use Rattle.std.proofs.Common.{ap, sym, ◌∙◌}
 use Rattle.std.proofs.lemmas.Bool.{eq-eqb, ne_eqb}
 use Rattle.kfs_model.specs.Check.{EntryContext, Check, arrival_checks, move_checks, rename_checks}
@@ -8,7 +8,7 @@ use Rattle.kfs_value.specs.Views.{kind_of}
 use Rattle.kfs_judge.specs.Checks.{entry_context_in}
 use Rattle.kfs_judge.proofs.Failing.{failing-none}
 use Rattle.kfs_judge.proofs.Groups.{found_in_front, found_in_back, read_in_front, read_in_both, found_is, found_as_said, read_as_said, found_behind_cell, read_behind_cell}
-use Rattle.kfs_judge.proofs.Recording.{goes_then, within_same}
+use Rattle.kfs_judge.proofs.Recording.{goes_then}
 use Rattle.kfs_judge.proofs.rename.move_fault.Goals as goal
 
 abbrev by_directories : (d e s : ℕ) → EntryContext → List Check
@@ -83,7 +83,7 @@ returns-clause-known g c =
     let arrived = found_as_said judge (λ p. arrival_checks (kind_of c.in_ok-kind.kind) s e there) (arriving s e there) new rest (λ state agrees. ap (λ kind. arrival_checks kind s e there) (sym (c.in_ok-kind.ensures.known state (c.in_ok-rest.ensures.goes.grows state agrees)))) c.in_ok-rest.ensures.known in
     found_as_said judge (λ p. move_checks p d e s there) (λ p. rename_checks p d e (Some s) there) new rest (λ state agrees. checks_move (entry_context_in judge state) d e s there (c.leads_to.ensures.no c.if-leads_to.false))
     (found_in_back judge (by_directories d e s) (by_kind s e there) old first new (found_is judge (by_directories d e s) first _ _ c.in_default.is c.in_ok-reason.ensures.known) (goes_then c.in_ok-kind.ensures.goes c.in_ok-rest.ensures.goes) rest
-     (found_behind_cell judge (HeaderOf s) (arriving s e there) first seen new c.in_ok-rest.ensures.goes rest arrived))
+    (found_behind_cell judge (HeaderOf s) (arriving s e there) first seen new c.in_ok-rest.ensures.goes rest arrived))
 
 pub returns-clause-among : goal.returns-clause-among
 returns-clause-among g c =
@@ -99,4 +99,4 @@ returns-clause-among g c =
     let arrived = read_as_said judge (λ p. arrival_checks (kind_of c.in_ok-kind.kind) s e there) (arriving s e there) seen new (λ state agrees. ap (λ kind. arrival_checks kind s e there) (sym (c.in_ok-kind.ensures.known state (c.in_ok-rest.ensures.goes.grows state agrees)))) c.in_ok-rest.ensures.among in
     read_as_said judge (λ p. move_checks p d e s there) (λ p. rename_checks p d e (Some s) there) old new (λ state agrees. checks_move (entry_context_in judge state) d e s there (c.leads_to.ensures.no c.if-leads_to.false))
     (read_in_both judge (by_directories d e s) (by_kind s e there) old first new (found_is judge (by_directories d e s) first _ _ c.in_default.is c.in_ok-reason.ensures.known) (goes_then c.in_ok-kind.ensures.goes c.in_ok-rest.ensures.goes) c.in_ok-reason.ensures.among
-     (read_behind_cell judge (HeaderOf s) (arriving s e there) first seen new c.in_ok-rest.ensures.goes c.in_ok-kind.ensures.among arrived))
+    (read_behind_cell judge (HeaderOf s) (arriving s e there) first seen new c.in_ok-rest.ensures.goes c.in_ok-kind.ensures.among arrived))

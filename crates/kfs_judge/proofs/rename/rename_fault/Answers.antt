@@ -1,5 +1,5 @@
 -- The checks of both directories, then where the two names lead, then the move.
-use Rattle.std.specs.Prelude.{ℕ, List, [], ◌∷◌, Option, Some, None}
+use Rattle.std.specs.Prelude.{ℕ, List, [], ◌∷◌, Option, Some}
 use Rattle.std.proofs.Common.{ap, sym, ◌∙◌}
 use Rattle.kfs_model.specs.Check.{EntryContext, Check, checks_of, rename_checks}
 use Rattle.kfs_model.specs.Sight.{NameIn}

@@ -1,5 +1,5 @@
 -- The checks of the directory, then where the name leads, then the node that it leads to.
-use Rattle.std.specs.Prelude.{ℕ, List, [], ◌∷◌, Option, Some, None}
+use Rattle.std.specs.Prelude.{ℕ, List, [], ◌∷◌, Option, Some}
 use Rattle.std.proofs.Common.{◌∙◌}
 use Rattle.kfs_model.specs.Check.{EntryContext, Check, checks_of, may_go, on_number}
 use Rattle.kfs_model.specs.Header.{Kind}

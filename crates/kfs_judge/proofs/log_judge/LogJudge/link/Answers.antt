@@ -1,14 +1,13 @@
 -- The header that is there has a link more, for which there was room, and its cells were looked at.
-use Rattle.std.specs.Prelude.{◌≡◌, [], ◌∷◌, true, nat_lt}
+use Rattle.std.specs.Prelude.{[], ◌∷◌, nat_lt}
 use Rattle.std.specs.Option.{option_map}
-use Rattle.std.proofs.Common.{ap, sym, ◌+◌, ◌++◌, ◌∙◌, arith}
+use Rattle.std.proofs.Common.{ap, sym, ◌+◌, ◌++◌, ◌∙◌}
 use Rattle.kfs_model.specs.Header.{Header}
 use Rattle.kfs_model.specs.Limits.{link_limit}
 use Rattle.kfs_model.specs.Check.{checks_of, looked, is_some_and}
 use Rattle.kfs_model.specs.Entry.{Link}
 use Rattle.kfs_model.specs.Sight.{NameIn, HeaderOf}
 use Rattle.kfs_model.specs.SeenAfter.{seen_after}
-use Rattle.kfs_value.specs.Views.{header_of}
 use Rattle.kfs_judge.specs.Overlay.{over, entry_context_of, with_name}
 use Rattle.kfs_judge.specs.Checks.{reason_of}
 use Rattle.kfs_judge.proofs.CleanLooks.{link_looks, link_has_room}

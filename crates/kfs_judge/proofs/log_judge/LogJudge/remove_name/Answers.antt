@@ -1,6 +1,5 @@
 -- The header that is there has a link fewer, or is gone.
-use Rattle.std.specs.Prelude.{◌≡◌, ℕ, [], ◌∷◌, Contains, Option, Some, None, option_and_then}
-use Rattle.std.specs.Option.{option_map}
+use Rattle.std.specs.Prelude.{[], Contains, option_and_then}
 use Rattle.std.proofs.Common.{ap, sym, subst, ◌∙◌}
 use Rattle.kfs_model.specs.Sight.{HeaderOf}
 use Rattle.kfs_model.specs.SeenAfter.{unlinked, seen_unlinked}

@@ -1,7 +1,7 @@
 -- The first name's node moves, and the cells that change were looked at.
-use Rattle.std.specs.Prelude.{◌≡◌, ℕ, [], ◌∷◌, Option, Contains}
+use Rattle.std.specs.Prelude.{[], ◌∷◌}
 use Rattle.std.specs.Option.{option_map}
-use Rattle.std.proofs.Common.{ap, sym, subst, ◌+◌, ◌++◌, ◌∙◌}
+use Rattle.std.proofs.Common.{ap, sym, subst, ◌++◌, ◌∙◌}
 use Rattle.kfs_model.specs.Check.{checks_of, looked}
 use Rattle.kfs_model.specs.Entry.{Rename}
 use Rattle.kfs_model.specs.Sight.{NameIn}

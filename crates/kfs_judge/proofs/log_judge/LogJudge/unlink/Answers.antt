@@ -1,5 +1,5 @@
 -- What the name leads to loses it, and its cells were looked at.
-use Rattle.std.specs.Prelude.{◌≡◌, ℕ, [], ◌∷◌, Option}
+use Rattle.std.specs.Prelude.{[]}
 use Rattle.std.specs.Option.{option_map}
 use Rattle.std.proofs.Common.{ap, sym, subst, ◌+◌, ◌++◌, ◌∙◌, arith}
 use Rattle.kfs_model.specs.Check.{checks_of, looked}
