@@ -1,7 +1,7 @@
 //! What the desk is asked for and what it answers.
 
 use kfs_image::Image;
-use kfs_judge::plan::{Fault, Submission};
+use kfs_plan::{Fault, Submission};
 use kfs_lease::{LeaseFault, LeaseKind};
 use kfs_mode::Client;
 use std::alloc::{AllocError, Allocator};

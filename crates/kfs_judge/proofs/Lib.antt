@@ -1,4 +1,5 @@
 -- Lemmas on what a judgement reads and changes.
+pub mod JudgedEntries
 pub mod ReadsAgree
 pub mod Recording
 pub mod ViewShows
@@ -10,8 +11,3 @@ pub mod Entering
 pub mod Looking
 pub mod ChangedRows
 pub mod TreeWalks
-pub mod MarkedRuns
-pub mod Untouched
-pub mod RowsCompared
-pub mod PlanChecked
-pub mod Verdicts

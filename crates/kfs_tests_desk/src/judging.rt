@@ -4,7 +4,7 @@ use crate::desks::{create, opening, shows, submission, submit, yes};
 use kfs_desk::Desk;
 use kfs_desk::answers::Reply;
 use kfs_image::Name;
-use kfs_judge::plan::{Back, Fault, Submission, Why};
+use kfs_plan::{Back, Fault, Submission, Why};
 use kfs_judge::{EntryFault, Reason};
 use kfs_tests::vectors::{CREATE_LOG, CREATE_PLAN};
 use std::alloc::{AllocError, Global};

@@ -8,13 +8,13 @@ use Rattle.kfs_model.specs.Lease.{row_of}
 use Rattle.kfs_model.specs.Looked.{looked_cells}
 use Rattle.kfs_entry.specs.Answers.{log_of}
 use Rattle.kfs_value.specs.Views.{entry_of}
-use Rattle.kfs_judge.specs.declared.plan.Fault.TheVariants as faults
-use Rattle.kfs_judge.specs.declared.plan.Spelled.TheVariants as readings
-use Rattle.kfs_judge.specs.Judging.{submission_with, AreSpelled, IsEarly, IsVerdict, IsReading}
+use Rattle.kfs_plan.specs.declared.submission.Fault.TheVariants as faults
+use Rattle.kfs_plan.specs.declared.spelling.Spelled.TheVariants as readings
+use Rattle.kfs_plan.specs.Judging.{submission_with, AreSpelled, IsEarly, IsVerdict, IsReading}
 use Rattle.kfs_judge.specs.Reads.{Agrees, AreAmong}
 use Rattle.kfs_judge.specs.View.{clients_of, client_sight_in}
-use Rattle.kfs_judge.proofs.Verdicts.{numbered, unknown_client, walked_verdict, nothing_read, unread_looked, settled_looked}
-use Rattle.kfs_judge.proofs.plan.find.Goals as goal
+use Rattle.kfs_plan.proofs.Verdicts.{numbered, unknown_client, walked_verdict, nothing_read, unread_looked, settled_looked}
+use Rattle.kfs_plan.proofs.judgement.find.Goals as goal
 
 pub returns-in_default-clause-client : goal.returns-in_default-clause-client
 returns-in_default-clause-client g c = c.unread.ensures.client ∙ sym (sym c.client.ensures ∙ ap (option_map (λ r. r.now)) c.in_default.is)

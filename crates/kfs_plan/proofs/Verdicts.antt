@@ -23,25 +23,26 @@ use Rattle.kfs_value.specs.declared.plan.Plan.{Plan as CodePlan}
 use Rattle.kfs_entry.specs.declared.fault.SpellFault.{SpellFault}
 use Rattle.kfs_entry.specs.declared.fault.SpellFault.TheVariants as spelling
 use Rattle.kfs_image.specs.declared.shape.Net.{Net}
-use Rattle.kfs_judge.specs.declared.plan.RowFault.{RowFault as CodeRowFault}
-use Rattle.kfs_judge.specs.declared.plan.Fault.{Fault as CodeFault}
-use Rattle.kfs_judge.specs.declared.plan.Fault.TheVariants as faults
-use Rattle.kfs_judge.specs.declared.plan.Outcome.{Outcome}
-use Rattle.kfs_judge.specs.declared.plan.Outcome.TheVariants as outcomes
+use Rattle.kfs_plan.specs.declared.rows.RowFault.{RowFault as CodeRowFault}
+use Rattle.kfs_plan.specs.declared.submission.Fault.{Fault as CodeFault}
+use Rattle.kfs_plan.specs.declared.submission.Fault.TheVariants as faults
+use Rattle.kfs_plan.specs.declared.submission.Outcome.{Outcome}
+use Rattle.kfs_plan.specs.declared.submission.Outcome.TheVariants as outcomes
 use Rattle.kfs_judge.specs.declared.walk.EntryFault.{EntryFault as CodeEntryFault}
-use Rattle.kfs_judge.specs.Judging.{row_fault_of, refusal_of, is_before_entries, stops_before, AreOfLog, AreLooked, AreSpelled, IsAlike, IsVerdict, IsSettled}
+use Rattle.kfs_plan.specs.Judging.{row_fault_of, refusal_of, is_before_entries, stops_before, AreOfLog, AreLooked, AreSpelled, IsAlike, IsVerdict, IsSettled}
 use Rattle.kfs_judge.specs.declared.walk.Walk.{Walk}
 use Rattle.kfs_judge.specs.declared.reads.Read.{Read}
 use Rattle.kfs_judge.specs.declared.reads.ReadAnswer.{ReadAnswer}
-use Rattle.kfs_judge.specs.PlanCheck.{first_unlike}
+use Rattle.kfs_plan.specs.PlanCheck.{first_unlike}
 use Rattle.kfs_judge.specs.declared.view.View.{View}
 use Rattle.kfs_judge.specs.Reads.{Agrees}
 use Rattle.kfs_judge.specs.View.{client_sight_in}
 use Rattle.kfs_judge.specs.Walks.{ComesToTree, fault_of, IsWalkOf}
 use Rattle.kfs_model.proofs.AnswersExist.{log_has_answer, plan_has_answer}
-use Rattle.kfs_judge.proofs.MarkedRuns.{EndsBeside, ends_beside}
-use Rattle.kfs_judge.proofs.PlanChecked.{first_wrong-unlike, all_judged}
-use Rattle.kfs_judge.proofs.Untouched.{need-untouched}
+use Rattle.kfs_plan.proofs.MarkedRuns.{EndsBeside, ends_beside}
+use Rattle.kfs_plan.proofs.PlanChecked.{first_wrong-unlike}
+use Rattle.kfs_judge.proofs.JudgedEntries.{all_judged}
+use Rattle.kfs_plan.proofs.Untouched.{need-untouched}
 
 pub numbered : (clients : List Client) (number : ℕ) (client : Client) → row_of clients number ≡ Some client → client.number ≡ number
 numbered [] number client is = cc
