@@ -11,9 +11,9 @@ use kfs_desk::answers::Act;
 use kfs_entry::{SpellFault, decode_log};
 use kfs_image::TierSizes;
 use kfs_judge::are_judged;
-use kfs_plan::Submission;
 use kfs_lease::LeaseKind;
 use kfs_mode::{Client, ClientFault};
+use kfs_plan::Submission;
 use kfs_text::{Refusal, Words};
 use std::alloc::Allocator;
 
