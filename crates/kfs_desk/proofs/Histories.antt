@@ -1,11 +1,11 @@
 -- One submission more at the front of those that were handed in.
 use Rattle.std.proofs.Common.{◌≡◌, ◌↔◌, List, ◌∷◌, Result, Ok, Err, refl, subst}
 use Rattle.std.specs.Prelude.{IfOk, IfErr}
-use Rattle.kfs_judge.specs.Judging.{HasOtherEntry, submission_of}
-use Rattle.kfs_judge.specs.declared.plan.Back.{Back}
-use Rattle.kfs_judge.specs.declared.plan.Submission.{Submission}
-use Rattle.kfs_judge.specs.declared.plan.Why.{Why}
-use Rattle.kfs_judge.specs.declared.plan.Why.TheVariants.{OutOfMemory, DocketFull, OtherEntry}
+use Rattle.kfs_plan.specs.Judging.{HasOtherEntry, submission_of}
+use Rattle.kfs_plan.specs.declared.submission.Back.{Back}
+use Rattle.kfs_plan.specs.declared.submission.Submission.{Submission}
+use Rattle.kfs_plan.specs.declared.submission.Why.{Why}
+use Rattle.kfs_plan.specs.declared.submission.Why.TheVariants.{OutOfMemory, DocketFull, OtherEntry}
 use Rattle.kfs_desk.specs.declared.answers.Reply.{Reply}
 use Rattle.kfs_desk.specs.Machine.{Desk, IsAnswered, IsWhy, IsBackFor, RunsThrough}
 

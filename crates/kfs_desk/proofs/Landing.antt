@@ -35,13 +35,13 @@ use Rattle.kfs_image.specs.Contents.{contents_in}
 use Rattle.kfs_image.proofs.NetTables.{net_makes}
 use Rattle.kfs_judge.specs.JudgedEntries.{is_judged}
 use Rattle.kfs_judge.specs.Rows.{keyed_node_row}
-use Rattle.kfs_judge.specs.Judging.{IsVerdict, Tells, TellsYes}
-use Rattle.kfs_judge.specs.declared.plan.Outcome.{Outcome}
-use Rattle.kfs_judge.specs.declared.plan.Outcome.TheVariants as outcomes
-use Rattle.kfs_judge.proofs.MarkedRuns.{IsUntouched, ends_beside}
-use Rattle.kfs_judge.proofs.Untouched.{need-untouched}
-use Rattle.kfs_judge.proofs.PlanChecked.{all_judged}
-use Rattle.kfs_judge.specs.declared.plan.Fault.{Fault}
+use Rattle.kfs_plan.specs.Judging.{IsVerdict, Tells, TellsYes}
+use Rattle.kfs_plan.specs.declared.submission.Outcome.{Outcome}
+use Rattle.kfs_plan.specs.declared.submission.Outcome.TheVariants as outcomes
+use Rattle.kfs_plan.proofs.MarkedRuns.{IsUntouched, ends_beside}
+use Rattle.kfs_plan.proofs.Untouched.{need-untouched}
+use Rattle.kfs_judge.proofs.JudgedEntries.{all_judged}
+use Rattle.kfs_plan.specs.declared.submission.Fault.{Fault}
 use Rattle.kfs_desk.specs.declared.answers.Reply.{Reply}
 use Rattle.kfs_desk.specs.declared.answers.Reply.TheVariants as replies
 use Rattle.kfs_desk.specs.Docket.{is_rejudged, position_of}

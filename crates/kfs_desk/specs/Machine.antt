@@ -17,11 +17,11 @@ use Rattle.kfs_lease.specs.Rows.{kind_of}
 use Rattle.kfs_lease.specs.declared.leases.LeaseFault.{LeaseFault}
 use Rattle.kfs_image.specs.Contents.{ImageShown}
 use Rattle.kfs_image.specs.ShownTree.{tree_of}
-use Rattle.kfs_judge.specs.Judging.{HasOtherEntry, refusal_of, submission_of}
-use Rattle.kfs_judge.specs.declared.plan.Back.{Back}
-use Rattle.kfs_judge.specs.declared.plan.Submission.{Submission as CodeSubmission}
-use Rattle.kfs_judge.specs.declared.plan.Why.{Why}
-use Rattle.kfs_judge.specs.declared.plan.Why.TheVariants as whys
+use Rattle.kfs_plan.specs.Judging.{HasOtherEntry, refusal_of, submission_of}
+use Rattle.kfs_plan.specs.declared.submission.Back.{Back}
+use Rattle.kfs_plan.specs.declared.submission.Submission.{Submission as CodeSubmission}
+use Rattle.kfs_plan.specs.declared.submission.Why.{Why}
+use Rattle.kfs_plan.specs.declared.submission.Why.TheVariants as whys
 use Rattle.kfs_desk.specs.declared.answers.Act.{Act}
 use Rattle.kfs_desk.specs.declared.answers.ActReply.{ActReply}
 use Rattle.kfs_desk.specs.declared.answers.Act.TheVariants as acts

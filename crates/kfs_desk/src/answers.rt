@@ -1,9 +1,9 @@
 //! What the desk is asked for and what it answers.
 
 use kfs_image::Image;
-use kfs_judge::plan::{Fault, Submission};
 use kfs_lease::{LeaseFault, LeaseKind};
 use kfs_mode::Client;
+use kfs_plan::{Fault, Submission};
 use std::alloc::{AllocError, Allocator};
 
 /// The answer to a submission, with its place in the docket.

@@ -1,6 +1,6 @@
 -- A command's words are read one by one.
 use Rattle.std.proofs.Common.{◌≡◌, ℕ, nat_lt, ◌==◌, ◌&&◌, List, [], ◌∷◌, length, take, Option, Some, None, option_map, refl, sym, ap, ◌∙◌, Bool, true, false, if◌then◌else◌}
-use Rattle.kfs_judge.specs.Judging.{submission_with}
+use Rattle.kfs_plan.specs.Judging.{submission_with}
 use Rattle.kfs_model.specs.Steps.{◌>>=◌}
 use Rattle.kfs_engine.specs.Command.{Command, Opening, Desk, Row, Begin, Lease, Drop, Tick, Submit, Node, Listing, asked_by, asked_in, client_of, client_row, command_of, drop_of, kind_named, lease_of, new_of, submit_of, with_number}
 use Rattle.kfs_engine.specs.Reading.{begin_of, command_named, listing_of, named_by, node_of, tick_of}

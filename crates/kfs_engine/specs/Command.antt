@@ -8,7 +8,7 @@ use Rattle.kfs_model.specs.Judgement.{Submission}
 use Rattle.kfs_model.specs.Placement.{TierSizes}
 use Rattle.kfs_mode.specs.declared.client.ClientFault.{ClientFault}
 use Rattle.kfs_mode.specs.declared.client.ClientFault.TheVariants.{TooManyGroups, BadGrant}
-use Rattle.kfs_judge.specs.Judging.{HasOtherEntry, submission_with}
+use Rattle.kfs_plan.specs.Judging.{HasOtherEntry, submission_with}
 use Rattle.kfs_text.specs.Cut.{cut, space}
 use Rattle.kfs_text.specs.Decimals.{decimal32, decimal64, decimal_within, decimals32, hexadecimal}
 use Rattle.kfs_text.specs.Reading.{are_words}

@@ -11,10 +11,10 @@ use Rattle.kfs_lease.specs.declared.leases.LeaseFault.{LeaseFault}
 use Rattle.kfs_lease.specs.declared.leases.LeaseFault.TheVariants as lease
 use Rattle.kfs_mode.specs.declared.client.ClientFault.{ClientFault}
 use Rattle.kfs_mode.specs.declared.client.ClientFault.TheVariants.{TooManyGroups, BadGrant}
-use Rattle.kfs_judge.specs.declared.plan.Fault.{Fault}
-use Rattle.kfs_judge.specs.declared.plan.Fault.TheVariants.{UnknownClient, BadLog, WrongClient, BadPlan, Entry, Row}
-use Rattle.kfs_judge.specs.declared.plan.RowFault.{RowFault}
-use Rattle.kfs_judge.specs.declared.plan.RowFault.TheVariants as row
+use Rattle.kfs_plan.specs.declared.submission.Fault.{Fault}
+use Rattle.kfs_plan.specs.declared.submission.Fault.TheVariants.{UnknownClient, BadLog, WrongClient, BadPlan, Entry, Row}
+use Rattle.kfs_plan.specs.declared.rows.RowFault.{RowFault}
+use Rattle.kfs_plan.specs.declared.rows.RowFault.TheVariants as row
 use Rattle.kfs_desk.specs.declared.answers.ActReply.{ActReply}
 use Rattle.kfs_desk.specs.declared.answers.BeginFault.{BeginFault}
 use Rattle.kfs_desk.specs.declared.answers.BeginFault.TheVariants as begin

@@ -1,7 +1,7 @@
 -- What the parts of a session are in the definitions.
 use Rattle.std.specs.Prelude.{◌≡◌, Option, None, Some}
 use Rattle.kfs_lease.specs.Rows.{kind_of}
-use Rattle.kfs_judge.specs.Judging.{submission_of}
+use Rattle.kfs_plan.specs.Judging.{submission_of}
 use Rattle.kfs_desk.specs.Machine.{Desk}
 use Rattle.kfs_desk.specs.declared.answers.Act.{Act}
 use Rattle.kfs_desk.specs.declared.answers.Act.TheVariants as acts

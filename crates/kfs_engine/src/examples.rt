@@ -8,7 +8,7 @@ ghost use Rattle.kfs_model.specs.Table.{empty};
 ghost use Rattle.kfs_mode.specs.declared.client.ClientFault.TheVariants.{BadGrant, TooManyGroups};
 ghost use Rattle.kfs_image.specs.Contents.{root_alone};
 ghost use Rattle.kfs_image.specs.ShownTree.{tree_of};
-ghost use Rattle.kfs_judge.specs.Judging.{submission_with};
+ghost use Rattle.kfs_plan.specs.Judging.{submission_with};
 ghost use Rattle.kfs_engine.specs.Command.{Begin, Desk, Drop, Lease, Listing, New, Node, Opening, Row, Submit, Tick, asked_by, client_row};
 ghost use Rattle.kfs_engine.specs.Conversation.{BreaksOff};
 ghost use Rattle.kfs_engine.specs.Example.{desk_of_7, opening_with, root_leased};

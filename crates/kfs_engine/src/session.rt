@@ -3,7 +3,7 @@ ghost use Rattle.std.specs.Prelude.{◌≡◌, ◌≤◌, ◌++◌, codes, Some,
 ghost use Rattle.kfs_model.specs.Table.{get};
 ghost use Rattle.kfs_model.specs.Tree.{headers};
 ghost use Rattle.kfs_value.specs.Views.{header_of};
-ghost use Rattle.kfs_judge.specs.Judging.{HasOtherEntry, submission_of};
+ghost use Rattle.kfs_plan.specs.Judging.{HasOtherEntry, submission_of};
 ghost use Rattle.kfs_desk.specs.Machine.{call_of, done_by};
 ghost use Rattle.kfs_engine.specs.Command as commands;
 ghost use Rattle.kfs_engine.specs.Command.{IsBadLine};
@@ -19,7 +19,7 @@ use crate::report::{act_line, node_line, reply_line};
 use kfs_desk::Desk;
 use kfs_desk::answers::{Act, Unanswered};
 use kfs_image::{Answer, Cell, Header, Kind, look};
-use kfs_judge::plan::{Submission, Why};
+use kfs_plan::{Submission, Why};
 use kfs_text::Refusal;
 use kfs_text::parts::text;
 use std::alloc::Allocator;

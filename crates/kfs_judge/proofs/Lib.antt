@@ -1,4 +1,5 @@
 -- Lemmas on what a judgement reads and changes.
+pub mod JudgedEntries
 pub mod ReadsAgree
 pub mod Recording
 pub mod ViewShows
@@ -12,8 +13,3 @@ pub mod Groups
 pub mod CleanLooks
 pub mod ChangedRows
 pub mod TreeWalks
-pub mod MarkedRuns
-pub mod Untouched
-pub mod RowsCompared
-pub mod PlanChecked
-pub mod Verdicts

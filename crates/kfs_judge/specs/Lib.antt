@@ -7,5 +7,3 @@ pub mod Checks
 pub mod Walks
 pub mod Entered
 pub mod Rows
-pub mod PlanCheck
-pub mod Judging

@@ -1,4 +1,4 @@
-//! Judges a client's log and plan against a view of the image, the leases and the clients.
+//! Judges a client's log against a view of the image, the leases and the clients.
 #![tactic(auto)]
 
 mod bytes;
@@ -8,10 +8,10 @@ mod create;
 mod draft;
 mod entry_judge;
 mod header;
+mod judged;
 mod link;
 mod log_judge;
 mod net;
-pub mod plan;
 mod reads;
 mod rename;
 mod unlink;
@@ -19,6 +19,7 @@ mod view;
 mod walk;
 
 pub use check::Reason;
+pub use judged::are_judged;
 pub use reads::{Read, ReadAnswer};
 pub use view::View;
 pub use walk::{EntryFault, Walk, judge_entries};

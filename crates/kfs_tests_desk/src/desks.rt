@@ -3,9 +3,9 @@
 use kfs_desk::Desk;
 use kfs_desk::answers::{Done, Reply};
 use kfs_image::{Answer, Cell, Header, Image, Kind, Name, Shape, TierSizes, look};
-use kfs_judge::plan::{Submission, Why};
 use kfs_lease::LeaseKind;
 use kfs_mode::Client;
+use kfs_plan::{Submission, Why};
 use kfs_tests::vectors::{CREATE_LOG, CREATE_PLAN};
 use std::alloc::{AllocError, Allocator};
 

@@ -4,10 +4,10 @@
 use crate::desks::{AMPLE, opening, submission, submit, yes};
 use kfs_desk::Desk;
 use kfs_image::Shape;
-use kfs_judge::plan::Submission;
 use kfs_lease::LeaseKind::{Read, Write};
 use kfs_lease::{LeaseFault, LeaseKind, Leases};
 use kfs_mode::Client;
+use kfs_plan::Submission;
 use kfs_tests::refusing::Refusing;
 use std::alloc::{AllocError, Allocator};
 use std::process::Abort;

@@ -4,7 +4,7 @@ use crate::desks::{AMPLE, create, is_leased, opening, shows, submission, submit,
 use kfs_desk::Desk;
 use kfs_desk::answers::Reply;
 use kfs_image::{Answer, Cell, Name, look};
-use kfs_judge::plan::{Submission, Why};
+use kfs_plan::{Submission, Why};
 use kfs_tests::refusing::Refusing;
 use std::alloc::{AllocError, Allocator, Global};
 use std::process::Abort;

@@ -6,9 +6,9 @@ ghost use Rattle.kfs_value.specs.Room.{spare_of};
 use kfs_desk::answers::BeginFault;
 use kfs_entry::SpellFault;
 use kfs_judge::Reason;
-use kfs_judge::plan::{Fault, RowFault};
 use kfs_lease::LeaseFault;
 use kfs_mode::ClientFault;
+use kfs_plan::{Fault, RowFault};
 use kfs_text::parts::{number, numbered, text};
 use std::alloc::Allocator;
 

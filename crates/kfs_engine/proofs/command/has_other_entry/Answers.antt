@@ -4,7 +4,7 @@ use Rattle.std.specs.Prelude.{All}
 use Rattle.std.proofs.lemmas.Bool.{both_ways}
 use Rattle.kfs_entry.specs.Answers.{log_of}
 use Rattle.kfs_judge.specs.JudgedEntries.{IsJudged}
-use Rattle.kfs_judge.proofs.PlanChecked.{not_all_judged}
+use Rattle.kfs_judge.proofs.JudgedEntries.{not_all_judged}
 use Rattle.kfs_engine.proofs.Submitted.{all_are_judged, no_log_has_other}
 use Rattle.kfs_engine.proofs.command.has_other_entry.Goals as goal
 

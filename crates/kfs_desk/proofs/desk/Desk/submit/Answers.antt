@@ -1,6 +1,6 @@
 -- What is judged lands as the machine's step.
 use Rattle.std.proofs.Common.{◌≡◌, ap, ◌+◌, ◌≤◌, sym, subst, arith}
-use Rattle.kfs_judge.specs.Judging.{submission_of}
+use Rattle.kfs_plan.specs.Judging.{submission_of}
 use Rattle.kfs_desk.specs.Landing.{answer_at}
 use Rattle.kfs_desk.specs.Machine.{Desk, Parts, IsDesk, IsAnswered, shown}
 use Rattle.kfs_desk.proofs.Landing.{can_land, desk_after, lands_as_said, lands_in_order}

@@ -1,9 +1,9 @@
 use Rattle.std.proofs.Common.{◌≡◌, List, ◌∷◌, [], ◌++◌, length, Result, Ok, Err, refl, sym, ap, subst, ◌∙◌, append_assoc, append-nil, arith}
 use Rattle.std.specs.Vec.Iter.{into_iter_items}
 use Rattle.std.specs.Prelude.{IfOk, IfErr}
-use Rattle.kfs_judge.specs.Judging.{submission_of}
-use Rattle.kfs_judge.specs.declared.plan.Back.{Back}
-use Rattle.kfs_judge.specs.declared.plan.Submission.{Submission}
+use Rattle.kfs_plan.specs.Judging.{submission_of}
+use Rattle.kfs_plan.specs.declared.submission.Back.{Back}
+use Rattle.kfs_plan.specs.declared.submission.Submission.{Submission}
 use Rattle.kfs_desk.specs.declared.answers.Reply.{Reply}
 use Rattle.kfs_desk.specs.Machine.{Desk, IsAnswered, RunsThrough}
 use Rattle.kfs_desk.proofs.Histories.{runs_first}

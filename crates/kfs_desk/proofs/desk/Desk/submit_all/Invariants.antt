@@ -2,7 +2,7 @@
 use Rattle.std.proofs.Common.{◌≡◌, ◌≤◌, ◌++◌, List, length, Result}
 use Rattle.std.specs.Vec.Iter.{into_iter_items, into_iter_len}
 use Rattle.kfs_desk.specs.declared.answers.Reply.{Reply}
-use Rattle.kfs_judge.specs.declared.plan.Back.{Back}
+use Rattle.kfs_plan.specs.declared.submission.Back.{Back}
 use Rattle.kfs_desk.specs.Machine.{Desk, RunsThrough}
 use Rattle.kfs_value.specs.Room.{spare_of}
 use Rattle.kfs_desk.proofs.desk.Desk.submit_all.Given as goal

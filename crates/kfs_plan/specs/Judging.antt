@@ -22,21 +22,21 @@ use Rattle.kfs_value.specs.declared.plan.Plan.{Plan as CodePlan}
 use Rattle.kfs_entry.specs.declared.fault.SpellFault.{SpellFault}
 use Rattle.kfs_entry.specs.declared.fault.SpellFault.TheVariants as spelling
 use Rattle.kfs_image.specs.declared.shape.Net.{Net}
-use Rattle.kfs_judge.specs.declared.plan.RowFault.{RowFault as CodeRowFault}
-use Rattle.kfs_judge.specs.declared.plan.RowFault.TheVariants as rows
-use Rattle.kfs_judge.specs.declared.plan.Fault.{Fault as CodeFault}
-use Rattle.kfs_judge.specs.declared.plan.Fault.TheVariants as faults
-use Rattle.kfs_judge.specs.declared.plan.Submission.{Submission as CodeSubmission}
-use Rattle.kfs_judge.specs.declared.plan.Outcome.{Outcome}
-use Rattle.kfs_judge.specs.declared.plan.Outcome.TheVariants as outcomes
-use Rattle.kfs_judge.specs.declared.plan.Spelled.{Spelled}
-use Rattle.kfs_judge.specs.declared.plan.Spelled.TheVariants as readings
+use Rattle.kfs_plan.specs.declared.rows.RowFault.{RowFault as CodeRowFault}
+use Rattle.kfs_plan.specs.declared.rows.RowFault.TheVariants as rows
+use Rattle.kfs_plan.specs.declared.submission.Fault.{Fault as CodeFault}
+use Rattle.kfs_plan.specs.declared.submission.Fault.TheVariants as faults
+use Rattle.kfs_plan.specs.declared.submission.Submission.{Submission as CodeSubmission}
+use Rattle.kfs_plan.specs.declared.submission.Outcome.{Outcome}
+use Rattle.kfs_plan.specs.declared.submission.Outcome.TheVariants as outcomes
+use Rattle.kfs_plan.specs.declared.spelling.Spelled.{Spelled}
+use Rattle.kfs_plan.specs.declared.spelling.Spelled.TheVariants as readings
 use Rattle.kfs_judge.specs.declared.view.View.{View}
 use Rattle.kfs_judge.specs.declared.walk.EntryFault.{EntryFault as CodeEntryFault}
 use Rattle.kfs_judge.specs.declared.reads.Read.{Read}
 use Rattle.kfs_judge.specs.declared.reads.ReadAnswer.{ReadAnswer}
 use Rattle.kfs_judge.specs.JudgedEntries.{IsJudged, is_judged}
-use Rattle.kfs_judge.specs.PlanCheck.{first_unlike}
+use Rattle.kfs_plan.specs.PlanCheck.{first_unlike}
 use Rattle.kfs_judge.specs.Reads.{Agrees, AreAmong}
 use Rattle.kfs_judge.specs.View.{clients_of, client_sight_in}
 use Rattle.kfs_judge.specs.Walks.{IsNetOf, fault_of}

@@ -8,13 +8,14 @@ use Rattle.kfs_model.specs.Lease.{row_of}
 use Rattle.kfs_model.specs.Looked.{looked_cells}
 use Rattle.kfs_entry.specs.Answers.{log_of}
 use Rattle.kfs_value.specs.Views.{entry_of}
-use Rattle.kfs_judge.specs.declared.plan.Fault.TheVariants as faults
-use Rattle.kfs_judge.specs.declared.plan.Spelled.TheVariants as readings
-use Rattle.kfs_judge.specs.Judging.{submission_with, AreSpelled, IsEarly, IsVerdict, IsReading}
+use Rattle.kfs_plan.specs.declared.submission.Fault.TheVariants as faults
+use Rattle.kfs_plan.specs.declared.spelling.Spelled.TheVariants as readings
+use Rattle.kfs_plan.specs.Judging.{submission_with, AreSpelled, IsEarly, IsVerdict, IsReading}
 use Rattle.kfs_judge.specs.Reads.{Agrees, AreAmong}
 use Rattle.kfs_judge.specs.View.{clients_of, client_sight_in}
-use Rattle.kfs_judge.proofs.Verdicts.{numbered, unknown_client, walked_verdict, nothing_read, unread_looked, settled_looked}
-use Rattle.kfs_judge.proofs.plan.find.Goals as goal
+use Rattle.kfs_judge.proofs.Lists.{row_has_number}
+use Rattle.kfs_plan.proofs.Verdicts.{unknown_client, walked_verdict, nothing_read, unread_looked, settled_looked}
+use Rattle.kfs_plan.proofs.judgement.find.Goals as goal
 
 pub returns-in_default-clause-client : goal.returns-in_default-clause-client
 returns-in_default-clause-client g c = c.unread.ensures.client ∙ sym (sym c.client.ensures ∙ ap (option_map (λ r. r.now)) c.in_default.is)
@@ -29,7 +30,7 @@ returns-in_default-clause-known g c s alike =
 pub returns-in-No-clause-known : goal.returns-in-No-clause-known
 returns-in-No-clause-known g c s alike =
     let row = sym c.client.ensures ∙ ap (option_map (λ r. r.now)) c.in-Some.is in
-    let same = c.number.ensures.number ∙ numbered (clients_of c.args.view.now) c.args.number c.in-Some.client.now row in
+    let same = c.number.ensures.number ∙ row_has_number (clients_of c.args.view.now) c.args.number c.in-Some.client.now row in
     let read = subst (λ r. IsReading {A = g.row.A.Denot} (submission_with c.number.result c.args.log.now c.args.plan.now) r) c.in-No.is c.in_ok-fault.ensures.read in
     let own = subst (λ n. IsReading {A = g.row.A.Denot} (submission_with n c.args.log.now c.args.plan.now) (readings.No c.in-No.fault)) same read in
     subst (λ o. IsVerdict {A = g.row.A.Denot} s (submission_with c.args.number c.args.log.now c.args.plan.now) o) (sym c.unread-in-No.ensures.outcome)
@@ -38,7 +39,7 @@ returns-in-No-clause-known g c s alike =
 pub judge_entries-requires-clause-client : goal.judge_entries-requires-clause-client
 judge_entries-requires-clause-client g c =
     let row = sym c.client.ensures ∙ ap (option_map (λ r. r.now)) c.in-Some.is in
-    let same = c.number.ensures.number ∙ numbered (clients_of c.args.view.now) c.args.number c.in-Some.client.now row in
+    let same = c.number.ensures.number ∙ row_has_number (clients_of c.args.view.now) c.args.number c.in-Some.client.now row in
     let read = subst (λ r. IsReading {A = g.row.A.Denot} (submission_with c.number.result c.args.log.now c.args.plan.now) r) c.in-Yes.is c.in_ok-fault.ensures.read in
     ap is_some (ap (row_of (clients_of c.args.view.now)) (read.owner ∙ same) ∙ row)
 
@@ -46,7 +47,7 @@ pub returns-in_ok-finding-in-Yes-clause-known : goal.returns-in_ok-finding-in-Ye
 returns-in_ok-finding-in-Yes-clause-known g c s alike =
     let clients = clients_of c.args.view.now in
     let row = sym c.client.ensures ∙ ap (option_map (λ r. r.now)) c.in-Some.is in
-    let same = c.number.ensures.number ∙ numbered clients c.args.number c.in-Some.client.now row in
+    let same = c.number.ensures.number ∙ row_has_number clients c.args.number c.in-Some.client.now row in
     let read = subst (λ r. IsReading {A = g.row.A.Denot} (submission_with c.number.result c.args.log.now c.args.plan.now) r) c.in-Yes.is c.in_ok-fault.ensures.read in
     let spelled = subst (λ n. AreSpelled {A = g.row.A.Denot} (submission_with n c.args.log.now c.args.plan.now) c.in-Yes.log c.in-Yes.plan) same read in
     let known = c.in_ok-walk-in-Yes.ensures.known in
@@ -71,7 +72,7 @@ returns-in-No-clause-among g c =
 pub returns-in_ok-finding-in-Yes-clause-view_agrees : goal.returns-in_ok-finding-in-Yes-clause-view_agrees
 returns-in_ok-finding-in-Yes-clause-view_agrees g c =
     let row = sym c.client.ensures ∙ ap (option_map (λ r. r.now)) c.in-Some.is in
-    let same = c.number.ensures.number ∙ numbered (clients_of c.args.view.now) c.args.number c.in-Some.client.now row in
+    let same = c.number.ensures.number ∙ row_has_number (clients_of c.args.view.now) c.args.number c.in-Some.client.now row in
     let read = subst (λ r. IsReading {A = g.row.A.Denot} (submission_with c.number.result c.args.log.now c.args.plan.now) r) c.in-Yes.is c.in_ok-fault.ensures.read in
     subst (λ n. Agrees c.in_ok-finding-in-Yes.finding.reads.entries (client_sight_in c.args.view.now n)) (read.owner ∙ same)
     (subst (λ r. Agrees r.entries (client_sight_in c.args.view.now c.in-Yes.log.client)) (sym c.in_ok-finding-in-Yes.ensures.reads) c.in_ok-walk-in-Yes.ensures.view_agrees)
@@ -80,7 +81,7 @@ pub returns-in_ok-finding-in-Yes-clause-among : goal.returns-in_ok-finding-in-Ye
 returns-in_ok-finding-in-Yes-clause-among g c =
     let view = c.args.view.now in
     let row = sym c.client.ensures ∙ ap (option_map (λ r. r.now)) c.in-Some.is in
-    let same = c.number.ensures.number ∙ numbered (clients_of view) c.args.number c.in-Some.client.now row in
+    let same = c.number.ensures.number ∙ row_has_number (clients_of view) c.args.number c.in-Some.client.now row in
     let read = subst (λ r. IsReading {A = g.row.A.Denot} (submission_with c.number.result c.args.log.now c.args.plan.now) r) c.in-Yes.is c.in_ok-fault.ensures.read in
     let own = read.owner ∙ same in
     let entries = map (entry_of c.args.log.now) c.in-Yes.log.entries in

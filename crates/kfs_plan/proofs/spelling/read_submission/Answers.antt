@@ -6,12 +6,12 @@ use Rattle.kfs_entry.specs.Answers.{log_of}
 use Rattle.kfs_entry.specs.declared.fault.SpellFault.TheVariants as spelling
 use Rattle.kfs_model.specs.Spelling.{IsBytes}
 use Rattle.kfs_judge.specs.JudgedEntries.{IsJudged}
-use Rattle.kfs_judge.specs.Judging.{submission_with, IsVerdict}
-use Rattle.kfs_judge.specs.declared.plan.Outcome.TheVariants as outcomes
-use Rattle.kfs_judge.specs.declared.plan.Fault.TheVariants as faults
-use Rattle.kfs_judge.proofs.Verdicts.{bad_log, wrong_client, bad_plan}
-use Rattle.kfs_judge.proofs.PlanChecked.{not_all_judged}
-use Rattle.kfs_judge.proofs.plan.read_submission.Goals as goal
+use Rattle.kfs_plan.specs.Judging.{submission_with, IsVerdict}
+use Rattle.kfs_plan.specs.declared.submission.Outcome.TheVariants as outcomes
+use Rattle.kfs_plan.specs.declared.submission.Fault.TheVariants as faults
+use Rattle.kfs_plan.proofs.Verdicts.{bad_log, wrong_client, bad_plan}
+use Rattle.kfs_judge.proofs.JudgedEntries.{not_all_judged}
+use Rattle.kfs_plan.proofs.spelling.read_submission.Goals as goal
 
 pub returns-in-Err-clause-read : goal.returns-in-Err-clause-read
 returns-in-Err-clause-read g c s client row =

@@ -1,7 +1,7 @@
 -- The first pair that differs, or else where the shorter list ends.
 use Rattle.std.proofs.Common.{Some, length, sym, ap, ◌∙◌}
-use Rattle.kfs_judge.proofs.RowsCompared.{at_end, at_end-some, at_end-equal, at_end-shorter, first_difference-position}
-use Rattle.kfs_judge.proofs.plan.first_difference.Goals as goal
+use Rattle.kfs_plan.proofs.RowsCompared.{at_end, at_end-some, at_end-equal, at_end-shorter, first_difference-position}
+use Rattle.kfs_plan.proofs.rows.first_difference.Goals as goal
 
 pub returns-then-is_some : goal.returns-then-is_some
 returns-then-is_some g c =

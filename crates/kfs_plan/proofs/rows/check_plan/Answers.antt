@@ -2,8 +2,9 @@
 use Rattle.std.proofs.Common.{◌≡◌, map, Ok, sym, ap, ◌∙◌}
 use Rattle.std.specs.Result.{result_copied}
 use Rattle.kfs_value.specs.Views.{entry_of}
-use Rattle.kfs_judge.proofs.PlanChecked.{walk_is_checked, all_judged}
-use Rattle.kfs_judge.proofs.plan.check_plan.Goals as goal
+use Rattle.kfs_plan.proofs.PlanChecked.{walk_is_checked}
+use Rattle.kfs_judge.proofs.JudgedEntries.{all_judged}
+use Rattle.kfs_plan.proofs.rows.check_plan.Goals as goal
 
 pub returns : goal.returns
 returns g c client walk are source tree held fits agrees =

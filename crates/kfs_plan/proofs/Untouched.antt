@@ -17,8 +17,8 @@ use Rattle.kfs_model.proofs.ChangedBytes.{none_from_changed}
 use Rattle.kfs_model.proofs.Tables.{found_from_any}
 use Rattle.kfs_value.specs.Views.{piece_of}
 use Rattle.kfs_value.specs.declared.plan.Piece.{Piece as CodePiece}
-use Rattle.kfs_judge.specs.PlanCheck.{first_of_pieces}
-use Rattle.kfs_judge.proofs.MarkedRuns.{IsUntouched}
+use Rattle.kfs_plan.specs.PlanCheck.{first_of_pieces}
+use Rattle.kfs_plan.proofs.MarkedRuns.{IsUntouched}
 
 -- ---- pieces
 

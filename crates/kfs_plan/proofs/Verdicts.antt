@@ -1,8 +1,8 @@
 -- The verdict on a submission, case by case of the judgement's order.
-use Rattle.std.specs.Prelude.{◌≡◌, ◌≢◌, ℕ, ◌==◌, Bool, true, false, cond, List, [], ◌∷◌, Option, Some, None, Result, Ok, Err, refl}
+use Rattle.std.specs.Prelude.{◌≡◌, ◌≢◌, ℕ, true, false, cond, List, [], Option, Some, None, Result, Ok, Err, refl}
 use Rattle.std.specs.Option.{option_map}
 use Rattle.std.proofs.Common.{ap, sym, subst, ◌∙◌}
-use Rattle.std.proofs.lemmas.Bool.{eqb-true, eq-eqb, ne_eqb}
+use Rattle.std.proofs.lemmas.Bool.{eq-eqb, ne_eqb}
 use Rattle.kfs_model.specs.Access.{Client}
 use Rattle.kfs_model.specs.Entry.{Log}
 use Rattle.kfs_model.specs.PlanRow.{Plan}
@@ -23,33 +23,27 @@ use Rattle.kfs_value.specs.declared.plan.Plan.{Plan as CodePlan}
 use Rattle.kfs_entry.specs.declared.fault.SpellFault.{SpellFault}
 use Rattle.kfs_entry.specs.declared.fault.SpellFault.TheVariants as spelling
 use Rattle.kfs_image.specs.declared.shape.Net.{Net}
-use Rattle.kfs_judge.specs.declared.plan.RowFault.{RowFault as CodeRowFault}
-use Rattle.kfs_judge.specs.declared.plan.Fault.{Fault as CodeFault}
-use Rattle.kfs_judge.specs.declared.plan.Fault.TheVariants as faults
-use Rattle.kfs_judge.specs.declared.plan.Outcome.{Outcome}
-use Rattle.kfs_judge.specs.declared.plan.Outcome.TheVariants as outcomes
+use Rattle.kfs_plan.specs.declared.rows.RowFault.{RowFault as CodeRowFault}
+use Rattle.kfs_plan.specs.declared.submission.Fault.{Fault as CodeFault}
+use Rattle.kfs_plan.specs.declared.submission.Fault.TheVariants as faults
+use Rattle.kfs_plan.specs.declared.submission.Outcome.{Outcome}
+use Rattle.kfs_plan.specs.declared.submission.Outcome.TheVariants as outcomes
 use Rattle.kfs_judge.specs.declared.walk.EntryFault.{EntryFault as CodeEntryFault}
-use Rattle.kfs_judge.specs.Judging.{row_fault_of, refusal_of, is_before_entries, stops_before, AreOfLog, AreLooked, AreSpelled, IsAlike, IsVerdict, IsSettled}
+use Rattle.kfs_plan.specs.Judging.{row_fault_of, refusal_of, is_before_entries, stops_before, AreOfLog, AreLooked, AreSpelled, IsAlike, IsVerdict, IsSettled}
 use Rattle.kfs_judge.specs.declared.walk.Walk.{Walk}
 use Rattle.kfs_judge.specs.declared.reads.Read.{Read}
 use Rattle.kfs_judge.specs.declared.reads.ReadAnswer.{ReadAnswer}
-use Rattle.kfs_judge.specs.PlanCheck.{first_unlike}
+use Rattle.kfs_plan.specs.PlanCheck.{first_unlike}
 use Rattle.kfs_judge.specs.declared.view.View.{View}
 use Rattle.kfs_judge.specs.Reads.{Agrees}
 use Rattle.kfs_judge.specs.View.{client_sight_in}
 use Rattle.kfs_judge.specs.Walks.{ComesToTree, fault_of, IsWalkOf}
 use Rattle.kfs_model.proofs.AnswersExist.{log_has_answer, plan_has_answer}
-use Rattle.kfs_judge.proofs.MarkedRuns.{EndsBeside, ends_beside}
-use Rattle.kfs_judge.proofs.PlanChecked.{first_wrong-unlike, all_judged}
-use Rattle.kfs_judge.proofs.Untouched.{need-untouched}
-
-pub numbered : (clients : List Client) (number : ℕ) (client : Client) → row_of clients number ≡ Some client → client.number ≡ number
-numbered [] number client is = cc
-numbered (c ∷ cs) number client is = by (c.number == number) refl is (numbered cs number client)
-  where
-    by : (b : Bool) → (c.number == number) ≡ b → cond b (Some c) (row_of cs number) ≡ Some client → (row_of cs number ≡ Some client → client.number ≡ number) → client.number ≡ number
-    by true same is' rest = let this : c ≡ client = cc in ap (λ (k : Client). k.number) (sym this) ∙ eqb-true c.number number same
-    by false same is' rest = rest is'
+use Rattle.kfs_judge.proofs.Lists.{row_has_number}
+use Rattle.kfs_plan.proofs.MarkedRuns.{EndsBeside, ends_beside}
+use Rattle.kfs_plan.proofs.PlanChecked.{first_wrong-unlike}
+use Rattle.kfs_judge.proofs.JudgedEntries.{all_judged}
+use Rattle.kfs_plan.proofs.Untouched.{need-untouched}
 
 module _ (s : State) (number : ℕ) where
   judged-unknown : (log : Result Log SpellingFault) (plan : Result Plan SpellingFault) → row_of s.clients number ≡ None → judged s number log plan ≡ No ClientUnknown
@@ -67,12 +61,12 @@ module _ (s : State) (number : ℕ) where
     judged-wrong : (log : Log) (plan : Result Plan SpellingFault) → log.client ≢ number → judged s number (Ok log) plan ≡ No ClientWrong
     judged-wrong log plan other =
         judged-known (Ok log) plan
-        ∙ ap (λ b. cond b (judged_plan s client log plan) (No ClientWrong)) (ne_eqb log.client client.number (λ same. other (same ∙ numbered s.clients number client row)))
+        ∙ ap (λ b. cond b (judged_plan s client log plan) (No ClientWrong)) (ne_eqb log.client client.number (λ same. other (same ∙ row_has_number s.clients number client row)))
 
     judged-own : (log : Log) (plan : Result Plan SpellingFault) → log.client ≡ number → judged s number (Ok log) plan ≡ judged_plan s client log plan
     judged-own log plan own =
         judged-known (Ok log) plan
-        ∙ ap (λ b. cond b (judged_plan s client log plan) (No ClientWrong)) (eq-eqb log.client client.number (own ∙ sym (numbered s.clients number client row)))
+        ∙ ap (λ b. cond b (judged_plan s client log plan) (No ClientWrong)) (eq-eqb log.client client.number (own ∙ sym (row_has_number s.clients number client row)))
 
     module _ (log : Log) (plan : Plan) (own : log.client ≡ number) where
       judged-entry : (fault : EntryFault) → run over_bytes client (client_sight_of s client.number) s.tree log.entries ≡ Err fault → judged s number (Ok log) (Ok plan) ≡ No (AtEntry fault)
@@ -89,7 +83,7 @@ module _ (s : State) (number : ℕ) where
 
 -- what the client of a row sees
 same_sight : (s : State) (number : ℕ) (client : Client) → row_of s.clients number ≡ Some client → client_sight_of s number ≡ client_sight_of s client.number
-same_sight s number client row = ap (client_sight_of s) (sym (numbered s.clients number client row))
+same_sight s number client row = ap (client_sight_of s) (sym (row_has_number s.clients number client row))
 
 module _ (A : Type 0) (s : State) (submission : Submission) where
   -- a verdict on what the bytes are, in which a fault of the code is refused

@@ -1,9 +1,7 @@
 -- The first row of a plan that isn't the net's is the first wrong row.
-use Rattle.std.specs.Prelude.{◌≡◌, ℕ, Bool, true, false, nat_eq, List, [], ◌∷◌, map, All, None, Result, Ok, refl}
+use Rattle.std.specs.Prelude.{◌≡◌, ℕ, Bool, true, nat_eq, List, map, None, Result, Ok}
 use Rattle.std.specs.List.{list_all}
 use Rattle.std.proofs.Common.{ap, sym, subst, ◌∙◌}
-use Rattle.std.proofs.lemmas.List.Elements.{All-head, All-tail, All-nil, All-cons}
-use Rattle.std.proofs.lemmas.Bool.{and_parts, false_from_ne_true}
 use mathlib.Core.List.{map-map}
 use Rattle.kfs_model.specs.Access.{Client}
 use Rattle.kfs_model.specs.Entry.{Entry}
@@ -15,20 +13,17 @@ use Rattle.kfs_model.specs.FirstWrong.{Names, Nodes, Pieces, same_header, same_h
 use Rattle.kfs_model.proofs.Exact.{numbers-exact, headers-exact}
 use Rattle.kfs_model.proofs.Differences.{differences_only}
 use Rattle.kfs_entry.specs.Answers.{plan_of}
-use Rattle.kfs_value.specs.Views.{entry_of, name_row_of, node_row_of}
-use Rattle.kfs_value.specs.declared.entry.Entry.{Entry as CodeEntry}
-use Rattle.kfs_value.specs.declared.entry.Entry.TheVariants as entries
-use Rattle.kfs_value.specs.declared.entry.Span.{Span}
+use Rattle.kfs_value.specs.Views.{name_row_of, node_row_of}
 use Rattle.kfs_value.specs.declared.plan.Plan.{Plan as CodePlan}
 use Rattle.kfs_image.specs.declared.shape.Net.{Net}
-use Rattle.kfs_judge.specs.declared.plan.RowFault.{RowFault as CodeRowFault}
+use Rattle.kfs_plan.specs.declared.rows.RowFault.{RowFault as CodeRowFault}
 use Rattle.kfs_judge.specs.declared.walk.EntryFault.{EntryFault as CodeEntryFault}
-use Rattle.kfs_judge.specs.JudgedEntries.{IsJudged, is_judged}
-use Rattle.kfs_judge.specs.PlanCheck.{first_unlike, TellsRow, IsChecked}
+use Rattle.kfs_judge.specs.JudgedEntries.{is_judged}
+use Rattle.kfs_plan.specs.PlanCheck.{first_unlike, TellsRow, IsChecked}
 use Rattle.kfs_judge.specs.Rows.{keyed_name_row, keyed_node_row}
 use Rattle.kfs_judge.specs.Walks.{IsNetOf, ComesToTree}
-use Rattle.kfs_judge.proofs.MarkedRuns.{EndsBeside, ends_beside}
-use Rattle.kfs_judge.proofs.Untouched.{first_of_pieces-wrong, need-untouched}
+use Rattle.kfs_plan.proofs.MarkedRuns.{EndsBeside, ends_beside}
+use Rattle.kfs_plan.proofs.Untouched.{first_of_pieces-wrong, need-untouched}
 
 module _ {A : Type 0} (client : Client) (before : ClientSight) (tree : Tree ℕ) (entries : List Entry) (after : Tree ℕ) (net : Net A) (plan : CodePlan A) (beside : EndsBeside client before tree entries after) (differs : IsNetOf (sight tree) (sight after) net) where
   wrong_name : first_wrong_name tree.names beside.marked_after.names (plan_of plan).names ≡ first_difference (same_pair same_place nat_eq) (map keyed_name_row plan.names) (map keyed_name_row net.names.items)
@@ -56,37 +51,6 @@ module _ {A : Type 0} (client : Client) (before : ClientSight) (tree : Tree ℕ)
 
   is_checked : (result : Result ℕ CodeRowFault) → TellsRow (first_unlike net plan) 0 result → IsChecked client before tree entries plan result
   is_checked result told = record { after = beside.marked_after; ran = beside.ran; told = tells_wrong result told }
-
-judged_shown : (source : List ℕ) (entry : CodeEntry Span) → IsJudged entry → is_judged (entry_of source entry) ≡ true
-judged_shown source (entries.Create d m n k mode) is = refl
-judged_shown source (entries.Write n offset p) is = absurd is
-judged_shown source (entries.Truncate n size) is = absurd is
-judged_shown source (entries.Link n d m) is = refl
-judged_shown source (entries.Unlink d m k) is = refl
-judged_shown source (entries.Rename d m e k) is = refl
-judged_shown source (entries.Chmod n mode) is = refl
-
-pub all_judged : (source : List ℕ) (entries : List (CodeEntry Span)) → All IsJudged entries → list_all is_judged (map (entry_of source) entries) ≡ true
-all_judged source [] are = refl
-all_judged source (e ∷ es) are = rw (judged_shown source e (All-head IsJudged e es are), all_judged source es (All-tail IsJudged e es are)) refl
-
-judged_back : (source : List ℕ) (entry : CodeEntry Span) → is_judged (entry_of source entry) ≡ true → IsJudged entry
-judged_back source (entries.Create d m n k mode) is = tt
-judged_back source (entries.Write n offset p) is = cc
-judged_back source (entries.Truncate n size) is = cc
-judged_back source (entries.Link n d m) is = tt
-judged_back source (entries.Unlink d m k) is = tt
-judged_back source (entries.Rename d m e k) is = tt
-judged_back source (entries.Chmod n mode) is = tt
-
-all_judged_back : (source : List ℕ) (entries : List (CodeEntry Span)) → list_all is_judged (map (entry_of source) entries) ≡ true → All IsJudged entries
-all_judged_back source [] are = All-nil IsJudged
-all_judged_back source (e ∷ es) are =
-    let parts = and_parts (is_judged (entry_of source e)) (list_all is_judged (map (entry_of source) es)) are in
-    All-cons IsJudged e es (judged_back source e parts.0) (all_judged_back source es parts.1)
-
-pub not_all_judged : (source : List ℕ) (entries : List (CodeEntry Span)) → (All IsJudged entries → ⊥) → list_all is_judged (map (entry_of source) entries) ≡ false
-not_all_judged source entries other = false_from_ne_true _ (λ are. other (all_judged_back source entries are))
 
 -- a walk that ends, and what is told of its net
 pub walk_is_checked : {A : Type 0} (client : Client) (held : ℕ → Bool) (tree : Tree ℕ) (entries : List Entry) (outcome : Result (Net A) CodeEntryFault) (net : Net A) (plan : CodePlan A) (result : Result ℕ CodeRowFault)

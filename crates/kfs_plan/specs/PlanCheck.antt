@@ -11,8 +11,8 @@ use Rattle.kfs_entry.specs.Answers.{plan_of}
 use Rattle.kfs_value.specs.declared.plan.Piece.{Piece as CodePiece}
 use Rattle.kfs_value.specs.declared.plan.Plan.{Plan as CodePlan}
 use Rattle.kfs_image.specs.declared.shape.Net.{Net}
-use Rattle.kfs_judge.specs.declared.plan.RowFault.{RowFault as CodeRowFault}
-use Rattle.kfs_judge.specs.declared.plan.RowFault.TheVariants as faults
+use Rattle.kfs_plan.specs.declared.rows.RowFault.{RowFault as CodeRowFault}
+use Rattle.kfs_plan.specs.declared.rows.RowFault.TheVariants as faults
 use Rattle.kfs_judge.specs.Rows.{keyed_name_row, keyed_node_row}
 
 -- The first wrong row is named, or there is none and so many blocks are written. A refused growth tells nothing.

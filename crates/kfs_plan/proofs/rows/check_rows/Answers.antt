@@ -1,8 +1,8 @@
 -- Names before nodes before pieces: the first search that finds a row tells it.
 use Rattle.std.proofs.Common.{sym, ◌∙◌, Some, None}
 use Rattle.std.proofs.lemmas.Bool.{eqb-true, eqb-false}
-use Rattle.kfs_judge.proofs.RowsCompared.{name_found, node_found, unlike-name, unlike-node, unlike-piece, no_piece, a_piece}
-use Rattle.kfs_judge.proofs.plan.check_rows.Goals as goal
+use Rattle.kfs_plan.proofs.RowsCompared.{name_found, node_found, unlike-name, unlike-node, unlike-piece, no_piece, a_piece}
+use Rattle.kfs_plan.proofs.rows.check_rows.Goals as goal
 
 pub returns-in-Some : goal.returns-in-Some
 returns-in-Some g c =

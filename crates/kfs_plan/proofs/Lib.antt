@@ -1,0 +1,6 @@
+-- Lemmas on the comparison of a plan, and on verdicts.
+pub mod MarkedRuns
+pub mod Untouched
+pub mod RowsCompared
+pub mod PlanChecked
+pub mod Verdicts

@@ -1,0 +1,2 @@
+pub mod PlanCheck
+pub mod Judging

@@ -1,0 +1,137 @@
+//! The judgement of a submission: its log and its plan against a view.
+ghost use Rattle.std.specs.Prelude.{◌≡◌, ◌≢◌, [], IfOk, IfErr};
+ghost use Rattle.kfs_model.specs.Judgement.{State};
+ghost use Rattle.kfs_model.specs.Lease.{row_of};
+ghost use Rattle.kfs_judge.specs.Reads.{Agrees};
+ghost use Rattle.kfs_judge.specs.View.{clients_of, client_sight_in};
+ghost use Rattle.kfs_plan.specs.Judging.{AreLooked, HasOtherEntry, IsAlike, IsSettled, IsVerdict, submission_of, submission_with};
+
+use crate::rows::{RowFault, check_rows};
+use crate::spelling::{Spelled, read_submission};
+use crate::submission::{Back, Fault, Judged, Outcome, Submission, Why};
+use indexmap::IndexMap;
+use kfs_entry::{Log, Plan};
+use kfs_judge::{Read, ReadAnswer, View, Walk, judge_entries};
+use kfs_mode::Client;
+use std::alloc::{AllocError, Allocator};
+use std::hash::{BuildHasherDefault, FoldHasher};
+
+/// Judges a submission against a view: the client's row, the log's spelling, whose log it is, the
+/// plan's spelling, the entries, the plan's rows. It touches nothing but the view.
+pub fn judge<A: Allocator + Copy>(
+    alloc: A,
+    view: &View<A>,
+    submission: Submission<A>,
+) -> Result<Judged<A>, Back<A>>
+    ensures submission { IfOk result (λ j. j.submission ≡ submission) }
+    ensures back { IfErr result (λ b. b.submission ≡ submission) }
+    ensures client { IfOk result (λ j. j.client ≡ row_of (clients_of view.now) submission.client) }
+
+    // In every state that is alike, this is the verdict.
+    ensures known { IfOk result (λ j. (s : State) → IsAlike s submission.client j.client j.reads.entries → IsVerdict s (submission_of submission) j.outcome) }
+    ensures view_agrees { IfOk result (λ j. Agrees j.reads.entries (client_sight_in view.now submission.client)) }
+    ensures among { IfOk result (λ j. AreLooked view.now (submission_of submission) j.outcome j.reads.entries) }
+    ensures other { IfErr result (λ b. b.why ≡ Why.OtherEntry → HasOtherEntry submission.log.items) }
+    ensures not_full { IfErr result (λ b. b.why ≢ Why.DocketFull) }
+{
+    let (log, plan) = (submission.log.as_slice(), submission.plan.as_slice());
+    match find(alloc, view, submission.client, log, plan) {
+        Ok(finding) => Ok(Judged {
+            submission,
+            client: finding.client,
+            reads: finding.reads,
+            outcome: finding.outcome,
+        }),
+        Err(why) => Err(Back { submission, why }),
+    }
+}
+
+/// What a verdict says beside the submission.
+#[derive(Drop)]
+struct Finding<A: Allocator> {
+    client: Option<Client>,
+    reads: IndexMap<Read, ReadAnswer, BuildHasherDefault<FoldHasher>, A>,
+    outcome: Outcome<A>,
+}
+
+impl<A: Allocator + Copy> Finding<A> {
+    /// A fault that was found before the entries.
+    fn unread(alloc: A, client: Option<Client>, fault: Fault) -> Finding<A>
+        ensures client { result.client ≡ client }
+        ensures reads { result.reads.entries ≡ [] }
+        ensures outcome { result.outcome ≡ Outcome.No fault }
+    {
+        Finding {
+            client,
+            reads: IndexMap::new(alloc),
+            outcome: Outcome::No(fault),
+        }
+    }
+}
+
+fn find<A: Allocator + Copy>(
+    alloc: A,
+    view: &View<A>,
+    number: u32,
+    log: &[u8],
+    plan: &[u8],
+) -> Result<Finding<A>, Why>
+    ensures client { IfOk result (λ f. f.client ≡ row_of (clients_of view.now) number) }
+    ensures known { IfOk result (λ f. (s : State) → IsAlike s number f.client f.reads.entries → IsVerdict s (submission_with number log.now plan.now) f.outcome) }
+    ensures view_agrees { IfOk result (λ f. Agrees f.reads.entries (client_sight_in view.now number)) }
+    ensures among { IfOk result (λ f. AreLooked view.now (submission_with number log.now plan.now) f.outcome f.reads.entries) }
+    ensures other { IfErr result (λ why. why ≡ Why.OtherEntry → HasOtherEntry log.now) }
+    ensures not_full { IfErr result (λ why. why ≢ Why.DocketFull) }
+{
+    let Some(client) = view.client(number) else {
+        return Ok(Finding::unread(alloc, None, Fault::UnknownClient));
+    };
+    let row = Some(copied(client)?);
+    match read_submission(alloc, client.number(), log, plan)? {
+        Spelled::No(fault) => Ok(Finding::unread(alloc, row, fault)),
+        Spelled::Yes(log, plan) => {
+            let walk = judge_entries(alloc, view, &log)?;
+            let finding = settle(row, log, plan, walk)?;
+            Ok(finding)
+        }
+    }
+}
+
+fn copied(client: &Client) -> Result<Client, AllocError>
+    ensures { IfOk result (λ row. row ≡ client.now) }
+{
+    client.clone()
+}
+
+/// The finding of a log that was walked: its first bad entry, or else what its plan comes to.
+fn settle<A: Allocator + Copy>(
+    client: Option<Client>,
+    log: Log<A>,
+    plan: Plan<A>,
+    walk: Walk<A>,
+) -> Result<Finding<A>, Why>
+    ensures client { IfOk result (λ f. f.client ≡ client) }
+    ensures reads { IfOk result (λ f. f.reads ≡ walk.reads) }
+    ensures outcome { IfOk result (λ f. IsSettled log plan walk.outcome f.outcome) }
+    ensures memory { IfErr result (λ why. why ≡ Why.OutOfMemory) }
+{
+    let Walk { reads, outcome } = walk;
+    let outcome = match outcome {
+        Err(fault) => Outcome::No(Fault::Entry(fault)),
+        Ok(net) => match check_rows(&net, &plan) {
+            Ok(need) => Outcome::Yes {
+                log,
+                plan,
+                net,
+                need,
+            },
+            Err(RowFault::OutOfMemory) => return Err(Why::OutOfMemory),
+            Err(fault) => Outcome::No(Fault::Row(fault)),
+        },
+    };
+    Ok(Finding {
+        client,
+        reads,
+        outcome,
+    })
+}

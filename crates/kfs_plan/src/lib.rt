@@ -1,0 +1,12 @@
+//! Judges a client's submission: the spelling of its log and plan, the entries, and the plan's rows
+//! against what the log comes to.
+#![tactic(auto)]
+
+mod judgement;
+mod rows;
+mod spelling;
+mod submission;
+
+pub use judgement::judge;
+pub use rows::{RowFault, check_plan};
+pub use submission::{Back, Fault, Judged, Outcome, Submission, Why};

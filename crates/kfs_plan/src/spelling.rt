@@ -1,0 +1,54 @@
+//! What the bytes of a submission say.
+ghost use Rattle.std.specs.Prelude.{◌≡◌, ◌≢◌, IfOk, IfErr};
+ghost use Rattle.kfs_plan.specs.Judging.{HasOtherEntry, IsEarly, IsReading, submission_with};
+
+use crate::submission::{Fault, Why};
+use kfs_entry::{Log, Plan, SpellFault, decode_log, decode_plan};
+use kfs_judge::are_judged;
+use std::alloc::Allocator;
+
+/// What the bytes of a submission say.
+#[derive(Drop)]
+pub enum Spelled<A: Allocator> {
+    Yes(Log<A>, Plan<A>),
+    No(Fault),
+}
+
+pub fn read_submission<A: Allocator + Copy>(
+    alloc: A,
+    number: u32,
+    log: &[u8],
+    plan: &[u8],
+) -> Result<Spelled<A>, Why>
+    ensures read { IfOk result (IsReading (submission_with number log.now plan.now)) }
+    ensures early { IfOk result IsEarly }
+    ensures other { IfErr result (λ why. why ≡ Why.OtherEntry → HasOtherEntry log.now) }
+    ensures not_full { IfErr result (λ why. why ≢ Why.DocketFull) }
+{
+    let log = match decode_log(alloc, log) {
+        Ok(log) => log,
+        Err(fault) => return Ok(Spelled::No(Fault::BadLog(unless_refused(fault)?))),
+    };
+    if log.client != number {
+        return Ok(Spelled::No(Fault::WrongClient));
+    }
+    let plan = match decode_plan(alloc, plan) {
+        Ok(plan) => plan,
+        Err(fault) => return Ok(Spelled::No(Fault::BadPlan(unless_refused(fault)?))),
+    };
+    if !are_judged(log.entries.as_slice()) {
+        return Err(Why::OtherEntry);
+    }
+    Ok(Spelled::Yes(log, plan))
+}
+
+/// The fault of the bytes, unless a growth was refused.
+fn unless_refused(fault: SpellFault) -> Result<SpellFault, Why>
+    ensures fault { IfOk result (λ told. (told ≡ fault) × (told ≢ SpellFault.OutOfMemory)) }
+    ensures refused { IfErr result (λ why. why ≡ Why.OutOfMemory) }
+{
+    match fault {
+        SpellFault::OutOfMemory => Err(Why::OutOfMemory),
+        _ => Ok(fault),
+    }
+}

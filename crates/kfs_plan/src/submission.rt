@@ -1,0 +1,87 @@
+//! A submission, the verdict on it, and what is handed back without one.
+ghost use Rattle.std.specs.Prelude.{◌≡◌};
+ghost use Rattle.kfs_plan.specs.declared.submission.Why.TheVariants.{OutOfMemory};
+
+use crate::rows::RowFault;
+use indexmap::IndexMap;
+use kfs_entry::{Log, Plan, SpellFault};
+use kfs_image::shape::Net;
+use kfs_judge::{EntryFault, Read, ReadAnswer};
+use kfs_mode::Client;
+use std::alloc::{AllocError, Allocator};
+use std::hash::{BuildHasherDefault, FoldHasher};
+
+/// What a client hands in: a log and a plan as bytes.
+#[derive(Debug, Drop)]
+pub struct Submission<A: Allocator> {
+    /// The number of the client that hands it in.
+    pub client: u32,
+    pub log: Vec<u8, A>,
+    pub plan: Vec<u8, A>,
+}
+
+/// Why a submission is refused, in the order in which it is looked at.
+#[derive(Clone, Copy, Debug, PartialEq, Eq)]
+pub enum Fault {
+    /// 1: the submission's client has no row.
+    UnknownClient,
+    /// 2: the bytes of the log are no log.
+    BadLog(SpellFault),
+    /// 3: the log's client isn't the submission's.
+    WrongClient,
+    /// 4: the bytes of the plan are no plan.
+    BadPlan(SpellFault),
+    /// 5: the first bad entry.
+    Entry(EntryFault),
+    /// 6: the first bad row of the plan.
+    Row(RowFault),
+}
+
+/// What a submission comes to.
+#[derive(Drop)]
+pub enum Outcome<A: Allocator> {
+    /// The plan is right for the log: both, what differs after the log, and how many blocks are written.
+    Yes {
+        log: Log<A>,
+        plan: Plan<A>,
+        net: Net<A>,
+        need: u64,
+    },
+    No(Fault),
+}
+
+/// The verdict on a submission: what was handed in, the client's row and the reads that it rests on,
+/// and what it comes to.
+#[derive(Drop)]
+pub struct Judged<A: Allocator> {
+    pub submission: Submission<A>,
+    pub client: Option<Client>,
+    pub reads: IndexMap<Read, ReadAnswer, BuildHasherDefault<FoldHasher>, A>,
+    pub outcome: Outcome<A>,
+}
+
+/// Why a submission comes back without a verdict or an answer.
+#[derive(Clone, Copy, Debug, PartialEq, Eq)]
+pub enum Why {
+    /// 1: a growth was refused.
+    OutOfMemory,
+    /// 2: the docket has as many rows as its limit allows. Only a desk answers so.
+    DocketFull,
+    /// 3: the log has an entry that isn't judged yet, a Write or a Truncate.
+    OtherEntry,
+}
+
+/// A submission that comes back as it was handed in.
+#[derive(Debug, Drop)]
+pub struct Back<A: Allocator> {
+    pub submission: Submission<A>,
+    pub why: Why,
+}
+
+impl From<AllocError> for Why {
+    ghost from_gives = { λ _ why. why ≡ OutOfMemory };
+
+    fn from(_error: AllocError) -> Why {
+        Why::OutOfMemory
+    }
+}
