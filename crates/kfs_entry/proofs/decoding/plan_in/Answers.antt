@@ -4,8 +4,7 @@ use Rattle.kfs_model.specs.Spelling.{name_row_bytes, IsNameRow, node_row_bytes, 
 use Rattle.kfs_value.specs.Views.{name_row_of, node_row_of, piece_of}
 use Rattle.kfs_entry.specs.Headers.{counts_of}
 use Rattle.kfs_entry.proofs.DecodedLog.{no_rest, some_rest}
-use Rattle.kfs_model.proofs.AnswersExist.{plan_is_spelled}
-use Rattle.kfs_entry.proofs.DecodedPlan.{part_stands, part_is_missing}
+use Rattle.kfs_entry.proofs.DecodedPlan.{part_stands, part_is_missing, plan_from, plan_was_read}
 use Rattle.kfs_entry.proofs.decoding.plan_in.Goals as goal
 
 pub returns-in_err-names : goal.returns-in_err-names
@@ -47,33 +46,15 @@ pub returns-then-end-source : goal.returns-then-end-source
 returns-then-end-source g c =
     let source = c.args.source.now in
     let header = c.in-Some.ensures.found in
-    let names = c.in_ok-names.ensures.found in
-    let nodes = c.in_ok-nodes.ensures.found in
-    let pieces = c.in_ok-pieces.ensures.found in
-    let a = drop c.in-Some.at source in
-    let b = drop c.in_ok-names.at source in
-    let d = drop c.in_ok-nodes.at source in
-    let rest = drop c.in_ok-pieces.end source in
-    let names_stand = part_stands name_row_of IsNameRow name_row_bytes c.in_ok-names.names.items c.in-Some.counts.names a b (names.number ∙ c.from.ensures) names.are in
-    let nodes_stand = part_stands node_row_of IsNodeRow node_row_bytes c.in_ok-nodes.nodes.items c.in-Some.counts.nodes b d (nodes.number ∙ c.from-2.ensures) nodes.are in
-    let pieces_stand = part_stands piece_of IsPiece piece_bytes c.in_ok-pieces.pieces.items c.in-Some.counts.pieces d rest pieces.number pieces.are in
-    let p = plan_is_spelled source a b d rest (counts_of c.in-Some.counts) header.0 header.1.parts names_stand nodes_stand pieces_stand in
-    (record { names = names_stand.rows; nodes = nodes_stand.rows; pieces = pieces_stand.rows }, rest, p.0, some_rest source c.in_ok-pieces.end c.if-end-source.true, p.1)
+    let p = plan_was_read source c.in-Some.at c.in_ok-names.at c.in_ok-nodes.at c.in_ok-pieces.end c.from.result c.from-2.result (counts_of c.in-Some.counts) c.in_ok-names.names.items c.in_ok-nodes.nodes.items c.in_ok-pieces.pieces.items
+    header.0 header.1.parts c.from.ensures c.in_ok-names.ensures.found c.from-2.ensures c.in_ok-nodes.ensures.found c.in_ok-pieces.ensures.found in
+    (plan_from c.in_ok-names.names.items c.in_ok-nodes.nodes.items c.in_ok-pieces.pieces.items, drop c.in_ok-pieces.end source, p.0, some_rest source c.in_ok-pieces.end c.if-end-source.true, p.1)
 
 pub returns : goal.returns
 returns g c =
     let source = c.args.source.now in
     let header = c.in-Some.ensures.found in
-    let names = c.in_ok-names.ensures.found in
-    let nodes = c.in_ok-nodes.ensures.found in
-    let pieces = c.in_ok-pieces.ensures.found in
-    let a = drop c.in-Some.at source in
-    let b = drop c.in_ok-names.at source in
-    let d = drop c.in_ok-nodes.at source in
-    let rest = drop c.in_ok-pieces.end source in
-    let names_stand = part_stands name_row_of IsNameRow name_row_bytes c.in_ok-names.names.items c.in-Some.counts.names a b (names.number ∙ c.from.ensures) names.are in
-    let nodes_stand = part_stands node_row_of IsNodeRow node_row_bytes c.in_ok-nodes.nodes.items c.in-Some.counts.nodes b d (nodes.number ∙ c.from-2.ensures) nodes.are in
-    let pieces_stand = part_stands piece_of IsPiece piece_bytes c.in_ok-pieces.pieces.items c.in-Some.counts.pieces d rest pieces.number pieces.are in
-    let p = plan_is_spelled source a b d rest (counts_of c.in-Some.counts) header.0 header.1.parts names_stand nodes_stand pieces_stand in
+    let p = plan_was_read source c.in-Some.at c.in_ok-names.at c.in_ok-nodes.at c.in_ok-pieces.end c.from.result c.from-2.result (counts_of c.in-Some.counts) c.in_ok-names.names.items c.in_ok-nodes.nodes.items c.in_ok-pieces.pieces.items
+    header.0 header.1.parts c.from.ensures c.in_ok-names.ensures.found c.from-2.ensures c.in_ok-nodes.ensures.found c.in_ok-pieces.ensures.found in
     rw (c.from_vec.ensures, c.from_vec-2.ensures, c.from_vec-3.ensures)
-    (p.0, no_rest source (plan_bytes (record { names = names_stand.rows; nodes = nodes_stand.rows; pieces = pieces_stand.rows })) c.in_ok-pieces.end c.if-end-source.false p.1)
+    (p.0, no_rest source (plan_bytes (plan_from c.in_ok-names.names.items c.in_ok-nodes.nodes.items c.in_ok-pieces.pieces.items)) c.in_ok-pieces.end c.if-end-source.false p.1)
