@@ -177,7 +177,7 @@ module _ (client number moment : ℕ) (kind : model.LeaseKind) where
         → first_ahead from_node ≡ option_map (λ row. row.0.0) (model.in_conflict (record { rows = table_of rows.entries; moment = moment }) client number kind)
     first_is_conflict ordered left is within =
         let range = subst (IsRangeOf by_node.compare (Included (number, 0)) Unbounded rows) is within in
-        let sorted = subst (IsStrictlySortedBy by_node.compare) (sym (keys_of-filter by_node.compare (range_contains by_node.compare (Included (number, 0)) Unbounded) rows.entries)) (IsStrictlySortedBy-filter by_node.compare (range_contains by_node.compare (Included (number, 0)) Unbounded) (keys_of rows.entries) ordered) in
+        let sorted = subst (IsStrictlySortedBy by_node.compare) (sym (keys_of-filter (range_contains by_node.compare (Included (number, 0)) Unbounded) rows.entries)) (IsStrictlySortedBy-filter by_node.compare (range_contains by_node.compare (Included (number, 0)) Unbounded) (keys_of rows.entries) ordered) in
         let from = to_recursion (λ (row : Row). number ≤ row.0.0) from_node (λ k d less. first_part number _ _ (range.0 k d less).0.0) in
         let t = table_of rows.entries in
         let ahead = first_is_least by_node (on_node number) (λ k. k.1) (λ k. k.0 == number) bars_row (node_line number) from_node sorted in
