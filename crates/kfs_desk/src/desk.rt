@@ -1,5 +1,5 @@
 //! The desk: it owns the image and the leases, and lands what was judged.
-ghost use Rattle.std.specs.Prelude.{◌≡◌, ◌↔◌, ◌+◌, ◌≤◌, ◌<◌, ◌==◌, ◌++◌, ◌∷◌, [], IfOk, IfErr, OnErr, OnOk, IfSome, IfNone, IsErrOf, IsFalse, IsTrue, Ok, Err, None, unwrap_or};
+ghost use Rattle.std.specs.Prelude.{◌≡◌, ◌↔◌, ◌+◌, ◌≤◌, ◌<◌, ◌==◌, ◌++◌, ◌∷◌, [], IfOk, IfErr, OnErr, OnOk, IfNone, IsErrOf, IsFalse, IsTrue, Ok, Err, None, unwrap_or};
 ghost use Rattle.std.specs.List.{list_any, AllByRecursion};
 ghost use Rattle.kfs_model.specs.CleanStep.{IsClient};
 ghost use Rattle.kfs_model.specs.Order.{IsInOrder};
@@ -300,7 +300,7 @@ fn made<A: Allocator + Clone>(
     requires distinct { AreDistinct clients.now }
     ensures ok { IfOk result (λ done. outcome_at leases.old (sight_of shape.now) clients.now act.entry ≡ (Ok (number_of done), leases.new)) }
     ensures words { IfOk result (λ done. done ≡ done_by act.entry (number_of done)) }
-    ensures err { IfErr result (λ fault. IfSome (refusals.fault_of fault) (λ f. outcome_at leases.old (sight_of shape.now) clients.now act.entry ≡ (Err f, leases.new))) }
+    ensures err { IfErr result (λ fault. refusals.Refuses (outcome_at leases.old (sight_of shape.now) clients.now act.entry) fault leases.new) }
     ensures unchanged { IsErrOf result LeaseFault.OutOfMemory → leases.new ≡ leases.old }
 {
     match act {

@@ -5,3 +5,4 @@ pub mod Listed
 pub mod Readings
 pub mod Rows
 pub mod Submitted
+pub mod Texts

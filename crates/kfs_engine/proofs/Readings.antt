@@ -2,7 +2,7 @@
 use Rattle.std.proofs.Common.{◌≡◌, ℕ, nat_lt, ◌==◌, ◌&&◌, List, [], ◌∷◌, length, take, Option, Some, None, option_map, refl, sym, ap, ◌∙◌, Bool, true, false, if◌then◌else◌}
 use Rattle.kfs_plan.specs.Judging.{submission_with}
 use Rattle.kfs_model.specs.Steps.{◌>>=◌}
-use Rattle.kfs_engine.specs.Command.{Command, Opening, Desk, Row, Begin, Lease, Drop, Tick, Submit, Node, Listing, asked_by, asked_in, client_of, client_row, command_of, drop_of, kind_named, lease_of, new_of, submit_of, with_number}
+use Rattle.kfs_engine.specs.Command.{Command, Setup, Request, Row, Begin, Lease, Drop, Tick, Submit, Node, Listing, asked_by, asked_in, client_of, client_row, command_of, drop_of, kind_named, lease_of, new_of, submit_of, with_number}
 use Rattle.kfs_engine.specs.Reading.{begin_of, command_named, listing_of, named_by, node_of, tick_of}
 use Rattle.kfs_text.specs.Cut.{cut, space}
 use Rattle.kfs_text.specs.Decimals.{decimal32, decimal64, decimal_within, decimals32, hexadecimal}
@@ -32,21 +32,21 @@ only_steps number command words =
     ∙ bind_all (first_by number words) _ _ (λ x. sym (map_bind (ended x.1) (λ done. Some x.0) command))
     ∙ sym (map_bind (first_by number words) (λ x. ended x.1 >>= λ done. Some x.0) command)
 
-pub begin_steps : (words : List (List ℕ)) → checked begin_of words ≡ option_map (λ limit. Opening (Begin limit)) (only decimal32 words)
+pub begin_steps : (words : List (List ℕ)) → checked begin_of words ≡ option_map (λ limit. Setup (Begin limit)) (only decimal32 words)
 unfolding begin_of
-begin_steps words = only_steps decimal32 (λ limit. Opening (Begin limit)) words
+begin_steps words = only_steps decimal32 (λ limit. Setup (Begin limit)) words
 
-pub tick_steps : (words : List (List ℕ)) → checked tick_of words ≡ option_map (λ moment. Desk (Tick moment)) (only decimal64 words)
+pub tick_steps : (words : List (List ℕ)) → checked tick_of words ≡ option_map (λ moment. Request (Tick moment)) (only decimal64 words)
 unfolding tick_of
-tick_steps words = only_steps decimal64 (λ moment. Desk (Tick moment)) words
+tick_steps words = only_steps decimal64 (λ moment. Request (Tick moment)) words
 
-pub node_steps : (words : List (List ℕ)) → checked node_of words ≡ option_map (λ number. Desk (Node number)) (only decimal32 words)
+pub node_steps : (words : List (List ℕ)) → checked node_of words ≡ option_map (λ number. Request (Node number)) (only decimal32 words)
 unfolding node_of
-node_steps words = only_steps decimal32 (λ number. Desk (Node number)) words
+node_steps words = only_steps decimal32 (λ number. Request (Node number)) words
 
-pub listing_steps : (words : List (List ℕ)) → checked listing_of words ≡ option_map (λ directory. Desk (Listing directory)) (only decimal32 words)
+pub listing_steps : (words : List (List ℕ)) → checked listing_of words ≡ option_map (λ directory. Request (Listing directory)) (only decimal32 words)
 unfolding listing_of
-listing_steps words = only_steps decimal32 (λ directory. Desk (Listing directory)) words
+listing_steps words = only_steps decimal32 (λ directory. Request (Listing directory)) words
 
 -- ---- new
 
@@ -67,14 +67,14 @@ new_steps words =
 
 -- ---- drop
 
-drop_then : (words : List (List ℕ)) → drop_of words ≡ word_then decimal32 (λ a. word_then decimal32 (λ b. nothing_then (Some (Desk (Drop a b))))) words
+drop_then : (words : List (List ℕ)) → drop_of words ≡ word_then decimal32 (λ a. word_then decimal32 (λ b. nothing_then (Some (Request (Drop a b))))) words
 unfolding ended word_then nothing_then
 drop_then [] = refl
 drop_then (a ∷ []) = bind_none (decimal32 a) _ (λ x. refl)
 drop_then (a ∷ b ∷ []) = refl
 drop_then (a ∷ b ∷ c ∷ words) = bind_none (decimal32 a) _ (λ x. sym (bind_none (decimal32 b) _ (λ y. refl)))
 
-pub drop_steps : (words : List (List ℕ)) → checked drop_of words ≡ (first_by decimal32 words >>= λ x. first_by decimal32 x.1 >>= λ y. ended y.1 >>= λ done. Some (Desk (Drop x.0 y.0)))
+pub drop_steps : (words : List (List ℕ)) → checked drop_of words ≡ (first_by decimal32 words >>= λ x. first_by decimal32 x.1 >>= λ y. ended y.1 >>= λ done. Some (Request (Drop x.0 y.0)))
 drop_steps words =
     checked_same _ _ drop_then words ∙ checked_then decimal32 _ words
     ∙ bind_all (first_by decimal32 words) _ _ (λ x. checked_then decimal32 _ x.1
@@ -82,7 +82,7 @@ drop_steps words =
 
 -- ---- submit
 
-submit_then : (words : List (List ℕ)) → submit_of words ≡ word_then decimal32 (λ a. word_then hexadecimal (λ b. word_then hexadecimal (λ c. nothing_then (Some (Desk (Submit (submission_with a b c))))))) words
+submit_then : (words : List (List ℕ)) → submit_of words ≡ word_then decimal32 (λ a. word_then hexadecimal (λ b. word_then hexadecimal (λ c. nothing_then (Some (Request (Submit (submission_with a b c))))))) words
 unfolding ended word_then nothing_then
 submit_then [] = refl
 submit_then (a ∷ []) = bind_none (decimal32 a) _ (λ x. refl)
@@ -90,7 +90,7 @@ submit_then (a ∷ b ∷ []) = bind_none (decimal32 a) _ (λ x. sym (bind_none (
 submit_then (a ∷ b ∷ c ∷ []) = refl
 submit_then (a ∷ b ∷ c ∷ d ∷ words) = bind_none (decimal32 a) _ (λ x. sym (bind_none (hexadecimal b) _ (λ y. sym (bind_none (hexadecimal c) _ (λ z. refl)))))
 
-pub submit_steps : (words : List (List ℕ)) → checked submit_of words ≡ (first_by decimal32 words >>= λ x. first_by hexadecimal x.1 >>= λ y. first_by hexadecimal y.1 >>= λ z. ended z.1 >>= λ done. Some (Desk (Submit (submission_with x.0 y.0 z.0))))
+pub submit_steps : (words : List (List ℕ)) → checked submit_of words ≡ (first_by decimal32 words >>= λ x. first_by hexadecimal x.1 >>= λ y. first_by hexadecimal y.1 >>= λ z. ended z.1 >>= λ done. Some (Request (Submit (submission_with x.0 y.0 z.0))))
 submit_steps words =
     checked_same _ _ submit_then words ∙ checked_then decimal32 _ words
     ∙ bind_all (first_by decimal32 words) _ _ (λ x. checked_then hexadecimal _ x.1
@@ -102,7 +102,7 @@ submit_steps words =
 abbrev word_itself : List ℕ → Option (List ℕ)
 word_itself word = Some word
 
-lease_then : (words : List (List ℕ)) → lease_of words ≡ word_then decimal32 (λ a. word_then word_itself (λ path. word_then kind_named (λ kind. word_then decimal64 (λ end. nothing_then (Some (Desk (Lease a path kind end))))))) words
+lease_then : (words : List (List ℕ)) → lease_of words ≡ word_then decimal32 (λ a. word_then word_itself (λ path. word_then kind_named (λ kind. word_then decimal64 (λ end. nothing_then (Some (Request (Lease a path kind end))))))) words
 unfolding ended word_then nothing_then
 lease_then [] = refl
 lease_then (a ∷ []) = bind_none (decimal32 a) _ (λ x. refl)
@@ -111,7 +111,7 @@ lease_then (a ∷ path ∷ b ∷ []) = bind_none (decimal32 a) _ (λ x. sym (bin
 lease_then (a ∷ path ∷ b ∷ c ∷ []) = refl
 lease_then (a ∷ path ∷ b ∷ c ∷ d ∷ words) = bind_none (decimal32 a) _ (λ x. sym (bind_none (kind_named b) _ (λ y. sym (bind_none (decimal64 c) _ (λ z. refl)))))
 
-pub lease_steps : (words : List (List ℕ)) → checked lease_of words ≡ (first_by decimal32 words >>= λ x. first_by (λ word. Some word) x.1 >>= λ path. first_by kind_named path.1 >>= λ kind. first_by decimal64 kind.1 >>= λ end. ended end.1 >>= λ done. Some (Desk (Lease x.0 path.0 kind.0 end.0)))
+pub lease_steps : (words : List (List ℕ)) → checked lease_of words ≡ (first_by decimal32 words >>= λ x. first_by (λ word. Some word) x.1 >>= λ path. first_by kind_named path.1 >>= λ kind. first_by decimal64 kind.1 >>= λ end. ended end.1 >>= λ done. Some (Request (Lease x.0 path.0 kind.0 end.0)))
 lease_steps words =
     checked_same _ _ lease_then words ∙ checked_then decimal32 _ words
     ∙ bind_all (first_by decimal32 words) _ _ (λ x. checked_then word_itself _ x.1
@@ -122,7 +122,7 @@ lease_steps words =
 -- ---- client
 
 client_then : (words : List (List ℕ)) → client_of words ≡ word_then decimal32 (λ a. word_then decimal32 (λ b. word_then decimal32 (λ c. word_then (decimal_within 1) (λ d. word_then decimal32 (λ e. word_then decimal32 (λ f.
-    decimals_then (λ groups. Opening (Row (client_row a b c groups (d == 1) e f))))))))) words
+    decimals_then (λ groups. Setup (Row (client_row a b c groups (d == 1) e f))))))))) words
 unfolding word_then decimals_then
 client_then [] = refl
 client_then (a ∷ []) = bind_none (decimal32 a) _ (λ x. refl)
@@ -133,7 +133,7 @@ client_then (a ∷ b ∷ c ∷ d ∷ e ∷ []) = bind_none (decimal32 a) _ (λ x
 client_then (a ∷ b ∷ c ∷ d ∷ e ∷ f ∷ words) = refl
 
 pub client_steps : (words : List (List ℕ)) → checked client_of words ≡ (first_by decimal32 words >>= λ number. first_by decimal32 number.1 >>= λ uid. first_by decimal32 uid.1 >>= λ gid. first_by (decimal_within 1) gid.1 >>= λ privileged. first_by decimal32 privileged.1 >>= λ first. first_by decimal32 first.1 >>= λ last.
-    option_map (λ ns. take 17 ns) (decimals32 last.1) >>= λ groups. Some (Opening (Row (client_row number.0 uid.0 gid.0 groups (privileged.0 == 1) first.0 last.0))))
+    option_map (λ ns. take 17 ns) (decimals32 last.1) >>= λ groups. Some (Setup (Row (client_row number.0 uid.0 gid.0 groups (privileged.0 == 1) first.0 last.0))))
 client_steps words =
     checked_same _ _ client_then words ∙ checked_then decimal32 _ words
     ∙ bind_all (first_by decimal32 words) _ _ (λ number. checked_then decimal32 _ number.1

@@ -10,7 +10,7 @@ use Rattle.kfs_model.specs.Access.{Client}
 use Rattle.kfs_mode.specs.declared.client.ClientFault.{ClientFault}
 use Rattle.kfs_mode.specs.declared.client.ClientFault.TheVariants.{TooManyGroups, BadGrant}
 use Rattle.kfs_model.specs.Steps.{◌>>=◌}
-use Rattle.kfs_engine.specs.Command.{Command, Opening, New, Row, client_row, new_of}
+use Rattle.kfs_engine.specs.Command.{Command, Setup, New, Row, client_row, new_of}
 use Rattle.kfs_text.specs.Decimals.{decimal32, decimal_within, is_digit}
 
 -- ---- the sizes of an image
@@ -19,7 +19,7 @@ abbrev within : ℕ → Bool
 within n = nat_le n 65536
 
 abbrev pub sizes_by : ℕ → ℕ → ℕ → Option Command
-sizes_by a b c = if within a && (within b && within c) then Some (Opening (New (record { first = a; second = b; third = c }))) else None
+sizes_by a b c = if within a && (within b && within c) then Some (Setup (New (record { first = a; second = b; third = c }))) else None
 
 -- the number where it is small enough
 abbrev kept : ℕ → Option ℕ
@@ -72,12 +72,12 @@ three_kept (Some a) (Some b) (Some c) f = three_within (within a) (within b) (wi
 
 pub new_by_sizes : (a b c : List ℕ) → new_of (a ∷ b ∷ c ∷ []) ≡ (decimal32 a >>= λ x. decimal32 b >>= λ y. decimal32 c >>= λ z. sizes_by x y z)
 new_by_sizes a b c =
-    ap (λ o. o >>= λ x. decimal_within 65536 b >>= λ y. decimal_within 65536 c >>= λ z. Some (Opening (New (record { first = x; second = y; third = z })))) (narrowed a)
-    ∙ ap (λ o. (decimal32 a >>= kept) >>= λ x. o >>= λ y. decimal_within 65536 c >>= λ z. Some (Opening (New (record { first = x; second = y; third = z })))) (narrowed b)
-    ∙ ap (λ o. (decimal32 a >>= kept) >>= λ x. (decimal32 b >>= kept) >>= λ y. o >>= λ z. Some (Opening (New (record { first = x; second = y; third = z })))) (narrowed c)
-    ∙ three_kept (decimal32 a) (decimal32 b) (decimal32 c) (λ x y z. Opening (New (record { first = x; second = y; third = z })))
+    ap (λ o. o >>= λ x. decimal_within 65536 b >>= λ y. decimal_within 65536 c >>= λ z. Some (Setup (New (record { first = x; second = y; third = z })))) (narrowed a)
+    ∙ ap (λ o. (decimal32 a >>= kept) >>= λ x. o >>= λ y. decimal_within 65536 c >>= λ z. Some (Setup (New (record { first = x; second = y; third = z })))) (narrowed b)
+    ∙ ap (λ o. (decimal32 a >>= kept) >>= λ x. (decimal32 b >>= kept) >>= λ y. o >>= λ z. Some (Setup (New (record { first = x; second = y; third = z })))) (narrowed c)
+    ∙ three_kept (decimal32 a) (decimal32 b) (decimal32 c) (λ x y z. Setup (New (record { first = x; second = y; third = z })))
 
-all_fit : (a b c : ℕ) → a ≤ 65536 → b ≤ 65536 → c ≤ 65536 → sizes_by a b c ≡ Some (Opening (New (record { first = a; second = b; third = c })))
+all_fit : (a b c : ℕ) → a ≤ 65536 → b ≤ 65536 → c ≤ 65536 → sizes_by a b c ≡ Some (Setup (New (record { first = a; second = b; third = c })))
 all_fit a b c first second third = grind (arith, nat_tests)
 
 not_all_fit : (a b c : ℕ) → (a ≤ 65536 → b ≤ 65536 → c ≤ 65536 → ⊥) → sizes_by a b c ≡ None
@@ -85,11 +85,11 @@ not_all_fit a b c never = grind (arith, nat_tests)
 
 -- sizes are made exactly where each is small enough
 pub sizes_are : (a b c : ℕ) (o : Option TierSizes) → (IsSome o ↔ (a ≤ 65536) × (b ≤ 65536) × (c ≤ 65536)) → IfSome o (λ sizes. sizes ≡ record { first = a; second = b; third = c })
-    → sizes_by a b c ≡ option_map (λ sizes. Opening (New sizes)) o
+    → sizes_by a b c ≡ option_map (λ sizes. Setup (New sizes)) o
 sizes_are a b c None is value = not_all_fit a b c (λ first second third. let e : false ≡ true = is.1 (first, second, third) in cc)
 sizes_are a b c (Some sizes) is value =
     let fits = is.0 refl in
-    all_fit a b c fits.0 fits.1 fits.2 ∙ ap (λ sizes. Some (Opening (New sizes))) (sym value)
+    all_fit a b c fits.0 fits.1 fits.2 ∙ ap (λ sizes. Some (Setup (New sizes))) (sym value)
 
 -- ---- the row of a client
 
@@ -113,10 +113,10 @@ pub kept_row : (number uid gid : ℕ) (privileged : Bool) (first last : ℕ) (gr
 kept_row number uid gid privileged first last groups = kept_by number uid gid privileged first last groups (nat_lt 16 (length groups)) refl
 
 pub kept_groups : (number uid gid : ℕ) (privileged : Bool) (first last : ℕ) (o : Option (List ℕ))
-    → (o >>= λ groups. Some (Opening (Row (client_row number uid gid groups privileged first last))))
-    ≡ (option_map (λ ns. take 17 ns) o >>= λ groups. Some (Opening (Row (client_row number uid gid groups privileged first last))))
+    → (o >>= λ groups. Some (Setup (Row (client_row number uid gid groups privileged first last))))
+    ≡ (option_map (λ ns. take 17 ns) o >>= λ groups. Some (Setup (Row (client_row number uid gid groups privileged first last))))
 kept_groups number uid gid privileged first last None = refl
-kept_groups number uid gid privileged first last (Some groups) = ap (λ row. Some (Opening (Row row))) (kept_row number uid gid privileged first last groups)
+kept_groups number uid gid privileged first last (Some groups) = ap (λ row. Some (Setup (Row row))) (kept_row number uid gid privileged first last groups)
 
 many_is : (n : ℕ) → 16 < n → nat_lt 16 n ≡ true
 many_is n many = grind (arith, nat_tests)

@@ -12,7 +12,7 @@ use Rattle.kfs_entry.specs.declared.fault.SpellFault.{SpellFault}
 use Rattle.kfs_entry.specs.declared.fault.SpellFault.TheVariants as faults
 use Rattle.kfs_judge.specs.JudgedEntries.{IsJudged, is_judged}
 use Rattle.kfs_plan.specs.Judging.{HasOtherEntry}
-use Rattle.kfs_engine.specs.Command.{Command, Desk, Submit, IsBadLine}
+use Rattle.kfs_engine.specs.Command.{Command, Request, Submit, IsBadLine}
 use Rattle.kfs_judge.proofs.JudgedEntries.{all_judged}
 
 pub all_are_judged : {A : Type 0} (bytes : List ℕ) (log : CodeLog A) → ((answer : Result Log SpellingFault) → LogAnswer bytes answer → Ok (log_of bytes log) ≡ answer) → All IsJudged log.entries → HasOtherEntry bytes → ⊥
@@ -36,5 +36,5 @@ no_log_has_other bytes fault refused only has = no_log fault has.log refused (on
 pub none_is_bad : (asked : Option Command) → asked ≡ None → IsBadLine asked
 none_is_bad asked is = subst IsBadLine (sym is) tt
 
-pub other_is_bad : (asked : Option Command) (submission : Submission) → asked ≡ Some (Desk (Submit submission)) → HasOtherEntry submission.log → IsBadLine asked
+pub other_is_bad : (asked : Option Command) (submission : Submission) → asked ≡ Some (Request (Submit submission)) → HasOtherEntry submission.log → IsBadLine asked
 other_is_bad asked submission is has = subst IsBadLine (sym is) has

@@ -29,8 +29,8 @@ pub data DeskCommand : Type 0 where
   Listing : (directory : ℕ) → DeskCommand
 
 pub data Command : Type 0 where
-  Opening : (command : OpeningCommand) → Command
-  Desk : (command : DeskCommand) → Command
+  Setup : (command : OpeningCommand) → Command
+  Request : (command : DeskCommand) → Command
 
 -- ---- words
 
@@ -51,7 +51,7 @@ new_of (a ∷ b ∷ c ∷ []) = do
   first ← decimal_within tier_limit a
   second ← decimal_within tier_limit b
   third ← decimal_within tier_limit c
-  Some (Opening (New (record { first = first; second = second; third = third })))
+  Some (Setup (New (record { first = first; second = second; third = third })))
 new_of words = None
 
 abbrev pub client_of : List (List ℕ) → Option Command
@@ -63,7 +63,7 @@ client_of (a ∷ b ∷ c ∷ d ∷ e ∷ f ∷ words) = do
   first ← decimal32 e
   last ← decimal32 f
   groups ← decimals32 words
-  Some (Opening (Row (client_row number uid gid groups (privileged == 1) first last)))
+  Some (Setup (Row (client_row number uid gid groups (privileged == 1) first last)))
 client_of words = None
 
 abbrev pub lease_of : List (List ℕ) → Option Command
@@ -71,14 +71,14 @@ lease_of (a ∷ path ∷ b ∷ c ∷ []) = do
   client ← decimal32 a
   kind ← kind_named b
   end ← decimal64 c
-  Some (Desk (Lease client path kind end))
+  Some (Request (Lease client path kind end))
 lease_of words = None
 
 abbrev pub drop_of : List (List ℕ) → Option Command
 drop_of (a ∷ b ∷ []) = do
   client ← decimal32 a
   number ← decimal32 b
-  Some (Desk (Drop client number))
+  Some (Request (Drop client number))
 drop_of words = None
 
 abbrev pub submit_of : List (List ℕ) → Option Command
@@ -86,7 +86,7 @@ submit_of (a ∷ b ∷ c ∷ []) = do
   client ← decimal32 a
   log ← hexadecimal b
   plan ← hexadecimal c
-  Some (Desk (Submit (submission_with client log plan)))
+  Some (Request (Submit (submission_with client log plan)))
 submit_of words = None
 
 -- a command with one number alone
@@ -100,13 +100,13 @@ abbrev pub command_of : (name : List ℕ) → (words : List (List ℕ)) → Opti
 command_of name words =
     if bytes_eq name (codes "new") then new_of words
     else if bytes_eq name (codes "client") then client_of words
-    else if bytes_eq name (codes "begin") then with_number decimal32 (λ limit. Opening (Begin limit)) words
+    else if bytes_eq name (codes "begin") then with_number decimal32 (λ limit. Setup (Begin limit)) words
     else if bytes_eq name (codes "lease") then lease_of words
     else if bytes_eq name (codes "drop") then drop_of words
-    else if bytes_eq name (codes "tick") then with_number decimal64 (λ moment. Desk (Tick moment)) words
+    else if bytes_eq name (codes "tick") then with_number decimal64 (λ moment. Request (Tick moment)) words
     else if bytes_eq name (codes "submit") then submit_of words
-    else if bytes_eq name (codes "node") then with_number decimal32 (λ number. Desk (Node number)) words
-    else if bytes_eq name (codes "list") then with_number decimal32 (λ directory. Desk (Listing directory)) words
+    else if bytes_eq name (codes "node") then with_number decimal32 (λ number. Request (Node number)) words
+    else if bytes_eq name (codes "list") then with_number decimal32 (λ directory. Request (Listing directory)) words
     else None
 
 abbrev pub asked_in : List (List ℕ) → Option Command
@@ -120,8 +120,8 @@ asked_by line = asked_in (cut space line)
 -- the line is no command, or hands in a log with an entry that isn't judged yet
 abbrev pub IsBadLine : Option Command → Type 0
 IsBadLine None = Unit {0}
-IsBadLine (Some (Opening command)) = ⊥
-IsBadLine (Some (Desk command)) = IsUnjudged command
+IsBadLine (Some (Setup command)) = ⊥
+IsBadLine (Some (Request command)) = IsUnjudged command
   where
     IsUnjudged : DeskCommand → Type 0
     IsUnjudged (Lease client path kind end) = ⊥

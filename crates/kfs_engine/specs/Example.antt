@@ -1,25 +1,31 @@
 -- The desk of the worked sessions: a new image of three tiers of eight blocks, and client 7.
-use Rattle.std.specs.Prelude.{List, [], ◌∷◌, Some}
+use Rattle.std.specs.Prelude.{ℕ, List, [], ◌∷◌, codes, false, Some}
 use Rattle.kfs_model.specs.Access.{Client}
 use Rattle.kfs_model.specs.Example.{client_7}
 use Rattle.kfs_model.specs.Lease.{WriteLease}
 use Rattle.kfs_model.specs.Machine.{opening}
+use Rattle.kfs_model.specs.Placement.{TierSizes}
 use Rattle.kfs_model.specs.Table.{empty, insert}
+use Rattle.kfs_model.specs.Tree.{NameTable}
 use Rattle.kfs_image.specs.Contents.{root_alone}
 use Rattle.kfs_image.specs.ShownTree.{tree_of}
 use Rattle.kfs_desk.specs.Machine.{Desk}
 use Rattle.kfs_engine.specs.Session.{Start}
 
+-- the sizes of its tiers
+abbrev pub eight_blocks_each : TierSizes
+eight_blocks_each = record { first = 8; second = 8; third = 8 }
+
 -- that image, and these clients
 abbrev pub opening_with : List Client → Start
-opening_with clients = record { image = Some (record { contents = root_alone; sizes = record { first = 8; second = 8; third = 8 } }); clients = clients }
+opening_with clients = record { image = Some (record { contents = root_alone; sizes = eight_blocks_each }); clients = clients }
+
+-- the desk that opens with these
+abbrev pub desk_with : List Client → (limit : ℕ) → Desk
+desk_with clients limit = record { state = opening clients eight_blocks_each (tree_of root_alone) empty; rows = 0; limit = limit }
 
 abbrev pub desk_of_7 : Desk
-desk_of_7 = record {
-  state = opening (client_7 ∷ []) (record { first = 8; second = 8; third = 8 }) (tree_of root_alone) empty;
-  rows = 0;
-  limit = 100;
-}
+desk_of_7 = desk_with (client_7 ∷ []) 100
 
 -- client 7 holds the root until 100
 abbrev pub root_leased : Desk
@@ -28,3 +34,12 @@ root_leased = record {
   rows = 1;
   limit = 100;
 }
+
+-- ---- values of single lines
+
+abbrev pub client_twice_in_group_4 : Client
+client_twice_in_group_4 = record { number = 7; uid = 1000; gid = 100; groups = 4 ∷ 4 ∷ []; privileged = false; first = 2; last = 99 }
+
+-- two names in the root, and one in directory 5
+abbrev pub names_of_two_directories : NameTable
+names_of_two_directories = record { entries = ((1, codes "a"), 5) ∷ ((1, codes "b"), 9) ∷ ((5, codes "z"), 7) ∷ []; sorted = tt }

@@ -1,6 +1,6 @@
 -- What is read is the command that a line asks for.
 use Rattle.std.specs.Prelude.{◌≡◌, ℕ, List, codes, bytes_eq, Option, Some, None, Result, MatchResult, if◌then◌else◌}
-use Rattle.kfs_engine.specs.Command.{Command, Opening, Begin, Desk, Tick, Node, Listing, IsBadLine, client_of, drop_of, lease_of, new_of, submit_of, with_number}
+use Rattle.kfs_engine.specs.Command.{Command, Setup, Begin, Request, Tick, Node, Listing, IsBadLine, client_of, drop_of, lease_of, new_of, submit_of, with_number}
 use Rattle.kfs_engine.specs.Views.{asked_of}
 use Rattle.kfs_engine.specs.declared.command.Command.{Command as CodeCommand}
 use Rattle.kfs_engine.specs.declared.command.Name.{Name}
@@ -16,16 +16,16 @@ IsAsked asked result = MatchResult result (λ command. (asked ≡ Some (asked_of
 -- ---- the commands with one number alone, and each command by its name
 
 unfoldable pub begin_of : List (List ℕ) → Option Command
-begin_of = with_number decimal32 (λ limit. Opening (Begin limit))
+begin_of = with_number decimal32 (λ limit. Setup (Begin limit))
 
 unfoldable pub tick_of : List (List ℕ) → Option Command
-tick_of = with_number decimal64 (λ moment. Desk (Tick moment))
+tick_of = with_number decimal64 (λ moment. Request (Tick moment))
 
 unfoldable pub node_of : List (List ℕ) → Option Command
-node_of = with_number decimal32 (λ number. Desk (Node number))
+node_of = with_number decimal32 (λ number. Request (Node number))
 
 unfoldable pub listing_of : List (List ℕ) → Option Command
-listing_of = with_number decimal32 (λ directory. Desk (Listing directory))
+listing_of = with_number decimal32 (λ directory. Request (Listing directory))
 
 -- the command that a word names
 abbrev pub named_by : (word : List ℕ) → Option Name

@@ -21,7 +21,7 @@ use Rattle.kfs_desk.specs.declared.answers.BeginFault.{BeginFault}
 use Rattle.kfs_desk.specs.declared.answers.Done.{Done}
 use Rattle.kfs_desk.specs.declared.answers.Done.TheVariants.{Leased, Dropped, Ticked}
 use Rattle.kfs_desk.specs.declared.answers.Reply.{Reply}
-use Rattle.kfs_engine.specs.Command.{Command, Opening, Desk as ToDesk, OpeningCommand, New, Row, Begin, DeskCommand, Lease, Drop, Tick, Submit, Node, Listing, IsBadLine, asked_by}
+use Rattle.kfs_engine.specs.Command.{Command, Setup, Request, OpeningCommand, New, Row, Begin, DeskCommand, Lease, Drop, Tick, Submit, Node, Listing, IsBadLine, asked_by}
 use Rattle.kfs_engine.specs.Listing.{list_text}
 use Rattle.kfs_engine.specs.Text.{act_text, begin_text, client_text, node_text, reply_text}
 use Rattle.kfs_text.specs.Parts.{line_of}
@@ -128,10 +128,10 @@ Serves desk (Listing directory) outcome = IsSaid (names_line desk directory) (Af
 
 -- a command where it is due
 abbrev pub Does : Stage → Command → LineOutcome → Type 0
-Does (Before start) (Opening command) outcome = outcome ≡ opened start command
-Does (Before start) (ToDesk command) outcome = IsSaid (codes "bad line") (Before start) outcome
-Does (After desk) (Opening command) outcome = IsSaid (codes "bad line") (After desk) outcome
-Does (After desk) (ToDesk command) outcome = Serves desk command outcome
+Does (Before start) (Setup command) outcome = outcome ≡ opened start command
+Does (Before start) (Request command) outcome = IsSaid (codes "bad line") (Before start) outcome
+Does (After desk) (Setup command) outcome = IsSaid (codes "bad line") (After desk) outcome
+Does (After desk) (Request command) outcome = Serves desk command outcome
 
 -- what the line asks for is done, where it is a command
 abbrev pub Obeys : Stage → Option Command → LineOutcome → Type 0

@@ -39,34 +39,47 @@ row_text (row.Nodes i) = numbered_text (codes "Nodes") i
 row_text (row.Pieces i) = numbered_text (codes "Pieces") i
 row_text row.OutOfMemory = codes "OutOfMemory"
 
-abbrev pub reason_text : Reason → List ℕ
-reason_text reason.NoSuchNode = codes "NoSuchNode"
-reason_text reason.NotDirectory = codes "NotDirectory"
-reason_text reason.IsDirectory = codes "IsDirectory"
-reason_text reason.NoSuchName = codes "NoSuchName"
-reason_text reason.NameTaken = codes "NameTaken"
-reason_text reason.NumberTaken = codes "NumberTaken"
-reason_text reason.NumberNotGranted = codes "NumberNotGranted"
-reason_text reason.NotEmpty = codes "NotEmpty"
-reason_text reason.BelowItself = codes "BelowItself"
-reason_text reason.TooManyLinks = codes "TooManyLinks"
-reason_text reason.TooBig = codes "TooBig"
-reason_text reason.NoSearch = codes "NoSearch"
-reason_text reason.NoWrite = codes "NoWrite"
-reason_text reason.NotOwner = codes "NotOwner"
-reason_text (reason.NoLease node) = numbered_text (codes "NoLease") node
+abbrev pub reason_name : Reason → List ℕ
+reason_name reason.NoSuchNode = codes "NoSuchNode"
+reason_name reason.NotDirectory = codes "NotDirectory"
+reason_name reason.IsDirectory = codes "IsDirectory"
+reason_name reason.NoSuchName = codes "NoSuchName"
+reason_name reason.NameTaken = codes "NameTaken"
+reason_name reason.NumberTaken = codes "NumberTaken"
+reason_name reason.NumberNotGranted = codes "NumberNotGranted"
+reason_name reason.NotEmpty = codes "NotEmpty"
+reason_name reason.BelowItself = codes "BelowItself"
+reason_name reason.TooManyLinks = codes "TooManyLinks"
+reason_name reason.TooBig = codes "TooBig"
+reason_name reason.NoSearch = codes "NoSearch"
+reason_name reason.NoWrite = codes "NoWrite"
+reason_name reason.NotOwner = codes "NotOwner"
+reason_name (reason.NoLease node) = codes "NoLease"
 
+-- the name with its number, where it has one
+abbrev pub reason_text : Reason → List ℕ
+reason_text (reason.NoLease node) = numbered_text (reason_name (reason.NoLease node)) node
+reason_text other = reason_name other
+
+abbrev pub lease_name : LeaseFault → List ℕ
+lease_name lease.UnknownClient = codes "UnknownClient"
+lease_name lease.BadPath = codes "BadPath"
+lease_name (lease.NoSuchName i) = codes "NoSuchName"
+lease_name (lease.NotDirectory i) = codes "NotDirectory"
+lease_name (lease.NoSearch i) = codes "NoSearch"
+lease_name lease.Past = codes "Past"
+lease_name (lease.LeaseHeld client) = codes "LeaseHeld"
+lease_name lease.NoLeaseHeld = codes "NoLeaseHeld"
+lease_name lease.Backwards = codes "Backwards"
+lease_name lease.OutOfMemory = codes "OutOfMemory"
+
+-- the name with its number, where it has one
 abbrev pub lease_text : LeaseFault → List ℕ
-lease_text lease.UnknownClient = codes "UnknownClient"
-lease_text lease.BadPath = codes "BadPath"
-lease_text (lease.NoSuchName i) = numbered_text (codes "NoSuchName") i
-lease_text (lease.NotDirectory i) = numbered_text (codes "NotDirectory") i
-lease_text (lease.NoSearch i) = numbered_text (codes "NoSearch") i
-lease_text lease.Past = codes "Past"
-lease_text (lease.LeaseHeld client) = numbered_text (codes "LeaseHeld") client
-lease_text lease.NoLeaseHeld = codes "NoLeaseHeld"
-lease_text lease.Backwards = codes "Backwards"
-lease_text lease.OutOfMemory = codes "OutOfMemory"
+lease_text (lease.NoSuchName i) = numbered_text (lease_name (lease.NoSuchName i)) i
+lease_text (lease.NotDirectory i) = numbered_text (lease_name (lease.NotDirectory i)) i
+lease_text (lease.NoSearch i) = numbered_text (lease_name (lease.NoSearch i)) i
+lease_text (lease.LeaseHeld client) = numbered_text (lease_name (lease.LeaseHeld client)) client
+lease_text other = lease_name other
 
 abbrev pub client_text : ClientFault → List ℕ
 client_text TooManyGroups = codes "TooManyGroups"

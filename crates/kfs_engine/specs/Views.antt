@@ -1,12 +1,13 @@
 -- What the parts of a session are in the definitions.
-use Rattle.std.specs.Prelude.{◌≡◌, Option, None, Some}
+use Rattle.std.specs.Prelude.{◌≡◌, ℕ, List, codes, Option, None, Some}
 use Rattle.kfs_lease.specs.Rows.{kind_of}
 use Rattle.kfs_plan.specs.Judging.{submission_of}
 use Rattle.kfs_desk.specs.Machine.{Desk}
 use Rattle.kfs_desk.specs.declared.answers.Act.{Act}
 use Rattle.kfs_desk.specs.declared.answers.Act.TheVariants as acts
 use Rattle.kfs_engine.specs.Command as commands
-use Rattle.kfs_engine.specs.Session.{LineOutcome, Stage, Start, Before, After, opened}
+use Rattle.kfs_engine.specs.Session.{Does, IsReplied, LineOutcome, Stage, Start, Before, After, opened}
+use Rattle.kfs_text.specs.Parts.{line_of}
 use Rattle.kfs_engine.specs.declared.command.Command.{Command}
 use Rattle.kfs_engine.specs.declared.command.Command.TheVariants as read
 use Rattle.kfs_engine.specs.declared.command.OpeningCommand.{OpeningCommand}
@@ -36,8 +37,8 @@ module _ {A : Type 0} where
   asked_of_desk (desk.List number) = commands.Listing number
 
   abbrev pub asked_of : Command A → commands.Command
-  asked_of (read.Opening command) = commands.Opening (opening_of command)
-  asked_of (read.Desk command) = commands.Desk (asked_of_desk command)
+  asked_of (read.Opening command) = commands.Setup (opening_of command)
+  asked_of (read.Desk command) = commands.Request (asked_of_desk command)
 
   abbrev pub start_of : Opening A → Start
   start_of opening = record { image = opening.image; clients = opening.clients.items }
@@ -57,3 +58,20 @@ module _ {A : Type 0} where
 abbrev pub stage_after : Option Desk → Start → Stage
 stage_after None start = Before start
 stage_after (Some desk) start = After desk
+
+module _ {A : Type 0} where
+  -- the command is done, with a reply behind this text and, where there is one, a desk
+  abbrev pub IsOpened : Opening A → commands.OpeningCommand → (before after : List ℕ) → Option Desk → Opening A → Type 0
+  IsOpened opening command before after begun next = IsReplied (Opens opening command) before after (stage_after begun (start_of next))
+
+  -- a bad line, since there is no image
+  abbrev pub IsWithoutImage : Opening A → commands.OpeningCommand → Opening A → Type 0
+  IsWithoutImage opening command next = Opens opening command (line_of (codes "bad line"), Before (start_of next))
+
+  -- the command is done where it is due, with a reply behind this text
+  abbrev pub IsDone : Session A → commands.Command → (before after : List ℕ) → Session A → Type 0
+  IsDone session command before after next = IsReplied (Does (stage_of session) command) before after (stage_of next)
+
+  -- a bad line, since the command isn't due
+  abbrev pub IsOutOfPlace : Session A → commands.Command → Session A → Type 0
+  IsOutOfPlace session command next = Does (stage_of session) command (line_of (codes "bad line"), stage_of next)

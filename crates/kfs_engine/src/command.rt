@@ -2,7 +2,7 @@
 ghost use Rattle.std.specs.Prelude.{◌≡◌, ℕ, List, true, false, IfOk, IfErr, IsErrOf, Some};
 ghost use Rattle.kfs_lease.specs.Rows.{kind_of};
 ghost use Rattle.kfs_plan.specs.Judging.{HasOtherEntry, submission_of};
-ghost use Rattle.kfs_engine.specs.Command.{Desk as DeskLine, Listing as ListingLine, Node as NodeLine, Opening as OpeningLine, Submit as SubmitLine, IsBadLine, asked_by, client_of, drop_of, kind_named, lease_of, new_of, submit_of};
+ghost use Rattle.kfs_engine.specs.Command.{Listing as ListingLine, Node as NodeLine, Request, Setup, Submit as SubmitLine, IsBadLine, asked_by, client_of, drop_of, kind_named, lease_of, new_of, submit_of};
 ghost use Rattle.kfs_engine.specs.Reading.{IsAsked, begin_of, command_named, listing_of, named_by, node_of, tick_of};
 ghost use Rattle.kfs_engine.specs.Views.{act_of, asked_of, opening_of};
 ghost use Rattle.kfs_text.specs.Reading.{ReadsAs, checked, first_by, words_left};
@@ -123,14 +123,14 @@ fn name_in(word: &[u8]) -> Option<Name>
 
 #[tactic(auto, using(crate::proofs::Readings::begin_steps))]
 fn read_begin(words: &mut Words<'_>) -> Result<OpeningCommand, Refusal>
-    ensures { ReadsAs (λ command. OpeningLine (opening_of command)) (checked begin_of (words_left words.old)) result }
+    ensures { ReadsAs (λ command. Setup (opening_of command)) (checked begin_of (words_left words.old)) result }
 {
     Ok(OpeningCommand::Begin(words.only_number32()?))
 }
 
 #[tactic(auto, using(crate::proofs::Readings::tick_steps))]
 fn read_tick<'a>(words: &mut Words<'_>) -> Result<Act<'a>, Refusal>
-    ensures { ReadsAs (λ act. DeskLine (act_of act)) (checked tick_of (words_left words.old)) result }
+    ensures { ReadsAs (λ act. Request (act_of act)) (checked tick_of (words_left words.old)) result }
 {
     let moment = words.only_number64()?;
     Ok(Act::Tick { moment })
@@ -138,7 +138,7 @@ fn read_tick<'a>(words: &mut Words<'_>) -> Result<Act<'a>, Refusal>
 
 #[tactic(auto, using(crate::proofs::Readings::new_steps))]
 fn read_new(words: &mut Words<'_>) -> Result<OpeningCommand, Refusal>
-    ensures { ReadsAs (λ command. OpeningLine (opening_of command)) (checked new_of (words_left words.old)) result }
+    ensures { ReadsAs (λ command. Setup (opening_of command)) (checked new_of (words_left words.old)) result }
 {
     let first = words.number32()?;
     let second = words.number32()?;
@@ -150,7 +150,7 @@ fn read_new(words: &mut Words<'_>) -> Result<OpeningCommand, Refusal>
 
 #[tactic(auto, using(crate::proofs::Readings::client_steps))]
 fn read_client(words: &mut Words<'_>) -> Result<OpeningCommand, Refusal>
-    ensures { ReadsAs (λ command. OpeningLine (opening_of command)) (checked client_of (words_left words.old)) result }
+    ensures { ReadsAs (λ command. Setup (opening_of command)) (checked client_of (words_left words.old)) result }
 {
     let number = words.number32()?;
     let uid = words.number32()?;
@@ -166,7 +166,7 @@ fn read_client(words: &mut Words<'_>) -> Result<OpeningCommand, Refusal>
 
 #[tactic(auto, using(crate::proofs::Readings::lease_steps))]
 fn read_lease<'a>(words: &mut Words<'a>) -> Result<Act<'a>, Refusal>
-    ensures { ReadsAs (λ act. DeskLine (act_of act)) (checked lease_of (words_left words.old)) result }
+    ensures { ReadsAs (λ act. Request (act_of act)) (checked lease_of (words_left words.old)) result }
 {
     let client = words.number32()?;
     let path = words.word()?;
@@ -194,7 +194,7 @@ fn lease_kind(words: &mut Words<'_>) -> Result<LeaseKind, Refusal>
 
 #[tactic(auto, using(crate::proofs::Readings::drop_steps))]
 fn read_drop<'a>(words: &mut Words<'_>) -> Result<Act<'a>, Refusal>
-    ensures { ReadsAs (λ act. DeskLine (act_of act)) (checked drop_of (words_left words.old)) result }
+    ensures { ReadsAs (λ act. Request (act_of act)) (checked drop_of (words_left words.old)) result }
 {
     let client = words.number32()?;
     let number = words.number32()?;
@@ -204,14 +204,14 @@ fn read_drop<'a>(words: &mut Words<'_>) -> Result<Act<'a>, Refusal>
 
 #[tactic(auto, using(crate::proofs::Readings::node_steps))]
 fn read_node(words: &mut Words<'_>) -> Result<u32, Refusal>
-    ensures { ReadsAs (λ number. DeskLine (NodeLine number)) (checked node_of (words_left words.old)) result }
+    ensures { ReadsAs (λ number. Request (NodeLine number)) (checked node_of (words_left words.old)) result }
 {
     words.only_number32()
 }
 
 #[tactic(auto, using(crate::proofs::Readings::listing_steps))]
 fn read_list(words: &mut Words<'_>) -> Result<u32, Refusal>
-    ensures { ReadsAs (λ directory. DeskLine (ListingLine directory)) (checked listing_of (words_left words.old)) result }
+    ensures { ReadsAs (λ directory. Request (ListingLine directory)) (checked listing_of (words_left words.old)) result }
 {
     words.only_number32()
 }
@@ -222,7 +222,7 @@ fn read_submit<A: Allocator + Copy>(
     alloc: A,
     words: &mut Words<'_>,
 ) -> Result<Submission<A>, Refusal>
-    ensures ok { IfOk result (λ submission. checked submit_of (words_left words.old) ≡ Some (DeskLine (SubmitLine (submission_of submission)))) }
+    ensures ok { IfOk result (λ submission. checked submit_of (words_left words.old) ≡ Some (Request (SubmitLine (submission_of submission)))) }
     ensures judged { IfOk result (λ submission. HasOtherEntry submission.log.items → ⊥) }
     ensures bad { IfErr result (λ refusal. refusal ≡ Refusal.BadLine → IsBadLine (checked submit_of (words_left words.old))) }
 {
@@ -238,7 +238,7 @@ fn read_submission<A: Allocator + Copy>(
     alloc: A,
     words: &mut Words<'_>,
 ) -> Result<Submission<A>, Refusal>
-    ensures { ReadsAs (λ submission. DeskLine (SubmitLine (submission_of submission))) (checked submit_of (words_left words.old)) result }
+    ensures { ReadsAs (λ submission. Request (SubmitLine (submission_of submission))) (checked submit_of (words_left words.old)) result }
 {
     let client = words.number32()?;
     let log = words.bytes(alloc)?;

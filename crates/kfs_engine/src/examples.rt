@@ -1,17 +1,13 @@
 //! Lines beside what they ask for, and a session line by line, by computation.
 
-ghost use Rattle.std.specs.Prelude.{◌≡◌, [], ◌∷◌, ◌++◌, codes, false, None, Some, Ok, Err};
+ghost use Rattle.std.specs.Prelude.{◌≡◌, [], ◌∷◌, ◌++◌, codes, None, Some, Ok, Err};
 ghost use Rattle.kfs_model.specs.Example.{client_7, client_8};
 ghost use Rattle.kfs_model.specs.Lease.{ReadLease, WriteLease};
-ghost use Rattle.kfs_model.specs.Machine.{opening};
-ghost use Rattle.kfs_model.specs.Table.{empty};
 ghost use Rattle.kfs_mode.specs.declared.client.ClientFault.TheVariants.{BadGrant, TooManyGroups};
-ghost use Rattle.kfs_image.specs.Contents.{root_alone};
-ghost use Rattle.kfs_image.specs.ShownTree.{tree_of};
 ghost use Rattle.kfs_plan.specs.Judging.{submission_with};
-ghost use Rattle.kfs_engine.specs.Command.{Begin, Desk, Drop, Lease, Listing, New, Node, Opening, Row, Submit, Tick, asked_by, client_row};
+ghost use Rattle.kfs_engine.specs.Command.{Begin, Drop, Lease, Listing, New, Node, Request, Row, Setup, Submit, Tick, asked_by, client_row};
 ghost use Rattle.kfs_engine.specs.Conversation.{BreaksOff};
-ghost use Rattle.kfs_engine.specs.Example.{desk_of_7, opening_with, root_leased};
+ghost use Rattle.kfs_engine.specs.Example.{client_twice_in_group_4, desk_of_7, desk_with, eight_blocks_each, names_of_two_directories, opening_with, root_leased};
 ghost use Rattle.kfs_engine.specs.Listing.{list_text};
 ghost use Rattle.kfs_engine.specs.Session.{After, Before, Runs, fresh, opened};
 ghost use Rattle.kfs_text.specs.Cut.{lines_of};
@@ -28,16 +24,16 @@ pub fn lines_of_an_input()
 /// Each command by its words.
 #[tactic(auto, unfolding(kfs_text::specs::Cut::cut, kfs_text::specs::Decimals::decimals32, hex::specs::Hex::decode_pairs))]
 pub fn commands()
-    ensures new { asked_by (codes "new 8 08 65536") ≡ Some (Opening (New (record { first = 8; second = 8; third = 65536 }))) }
-    ensures client { asked_by (codes "client 7 1000 100 0 2 99 4 4") ≡ Some (Opening (Row (Ok (record { number = 7; uid = 1000; gid = 100; groups = 4 ∷ 4 ∷ []; privileged = false; first = 2; last = 99 })))) }
-    ensures bad_grant { asked_by (codes "client 7 1000 100 0 0 99") ≡ Some (Opening (Row (Err BadGrant))) }
-    ensures begin { asked_by (codes "begin 100") ≡ Some (Opening (Begin 100)) }
-    ensures lease { asked_by (codes "lease 7 /a/b w 100") ≡ Some (Desk (Lease 7 (codes "/a/b") WriteLease 100)) }
-    ensures drop { asked_by (codes "drop 7 5") ≡ Some (Desk (Drop 7 5)) }
-    ensures tick { asked_by (codes "tick 18446744073709551615") ≡ Some (Desk (Tick 18446744073709551615)) }
-    ensures submit { asked_by (codes "submit 7 0aFf -") ≡ Some (Desk (Submit (submission_with 7 (10 ∷ 255 ∷ []) []))) }
-    ensures node { asked_by (codes "node 5") ≡ Some (Desk (Node 5)) }
-    ensures list { asked_by (codes "list 1") ≡ Some (Desk (Listing 1)) }
+    ensures new { asked_by (codes "new 8 08 65536") ≡ Some (Setup (New (record { first = 8; second = 8; third = 65536 }))) }
+    ensures client { asked_by (codes "client 7 1000 100 0 2 99 4 4") ≡ Some (Setup (Row (Ok client_twice_in_group_4))) }
+    ensures bad_grant { asked_by (codes "client 7 1000 100 0 0 99") ≡ Some (Setup (Row (Err BadGrant))) }
+    ensures begin { asked_by (codes "begin 100") ≡ Some (Setup (Begin 100)) }
+    ensures lease { asked_by (codes "lease 7 /a/b w 100") ≡ Some (Request (Lease 7 (codes "/a/b") WriteLease 100)) }
+    ensures drop { asked_by (codes "drop 7 5") ≡ Some (Request (Drop 7 5)) }
+    ensures tick { asked_by (codes "tick 18446744073709551615") ≡ Some (Request (Tick 18446744073709551615)) }
+    ensures submit { asked_by (codes "submit 7 0aFf -") ≡ Some (Request (Submit (submission_with 7 (10 ∷ 255 ∷ []) []))) }
+    ensures node { asked_by (codes "node 5") ≡ Some (Request (Node 5)) }
+    ensures list { asked_by (codes "list 1") ≡ Some (Request (Listing 1)) }
 {}
 
 /// What is no command: an empty word, a word too many or too few, a number out of its range or with a sign, text that is not
@@ -61,16 +57,16 @@ pub fn bad_lines()
 /// Before the desk is begun: an image, a client that is refused, clients of which two later ones have the number of the first,
 /// and a desk.
 pub fn openings()
-    ensures image { opened (record { image = None; clients = [] }) (New (record { first = 8; second = 8; third = 8 })) ≡ (codes "ok\n", Before (record { image = Some (record { contents = root_alone; sizes = record { first = 8; second = 8; third = 8 } }); clients = [] })) }
+    ensures image { opened (record { image = None; clients = [] }) (New eight_blocks_each) ≡ (codes "ok\n", Before (opening_with [])) }
     ensures without_image { opened (record { image = None; clients = [] }) (Begin 100) ≡ (codes "bad line\n", fresh) }
     ensures refused { opened (record { image = None; clients = [] }) (Row (Err TooManyGroups)) ≡ (codes "client TooManyGroups\n", fresh) }
     ensures twice { opened (opening_with (client_7 ∷ client_8 ∷ client_7 ∷ client_7 ∷ [])) (Begin 3) ≡ (codes "begin ClientTwice(2)\n", Before (opening_with [])) }
-    ensures begun { opened (record { image = Some (record { contents = root_alone; sizes = record { first = 8; second = 8; third = 8 } }); clients = [] }) (Begin 3) ≡ (codes "ok\n", After (record { state = opening [] (record { first = 8; second = 8; third = 8 }) (tree_of root_alone) empty; rows = 0; limit = 3 })) }
+    ensures begun { opened (opening_with []) (Begin 3) ≡ (codes "ok\n", After (desk_with [] 3)) }
 {}
 
 /// The names of the root, and none of another directory.
 pub fn lists()
-    ensures of_root { list_text 1 (record { entries = ((1, codes "a"), 5) ∷ ((1, codes "b"), 9) ∷ ((5, codes "z"), 7) ∷ []; sorted = tt }) ≡ codes "list 1 61:5 62:9" }
+    ensures of_root { list_text 1 names_of_two_directories ≡ codes "list 1 61:5 62:9" }
     ensures of_another { list_text 6 (record { entries = ((1, codes "a"), 5) ∷ []; sorted = tt }) ≡ codes "list 6" }
 {}
 

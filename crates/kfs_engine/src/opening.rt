@@ -1,9 +1,8 @@
 //! What a desk is begun with: the image and the clients.
-ghost use Rattle.std.specs.Prelude.{◌≡◌, ◌≤◌, codes, IfErr, IfOk, IsErrOf, OnOk};
+ghost use Rattle.std.specs.Prelude.{◌≡◌, ◌≤◌, IfErr, IfOk, IsErrOf, None, OnOk};
 ghost use Rattle.kfs_engine.specs.Command as commands;
-ghost use Rattle.kfs_engine.specs.Session.{Before, IsReplied, fresh};
-ghost use Rattle.kfs_engine.specs.Views.{Opens, opening_of, stage_after, start_of};
-ghost use Rattle.kfs_text.specs.Parts.{line_of};
+ghost use Rattle.kfs_engine.specs.Session.{Before, fresh};
+ghost use Rattle.kfs_engine.specs.Views.{IsOpened, IsWithoutImage, opening_of, start_of};
 ghost use Rattle.kfs_value.specs.Room.{spare_of};
 
 use crate::command::OpeningCommand;
@@ -45,8 +44,8 @@ impl<A: Allocator + Copy> Opening<A> {
         reply: &mut Vec<u8, A>,
     ) -> Result<Option<Desk<A>>, Refusal>
         requires { 128 ≤ spare_of reply.old }
-        ensures ok { IfOk result (λ begun. IsReplied (Opens self.old (opening_of command)) reply.old.items reply.new.items (stage_after begun (start_of self.new))) }
-        ensures bad { IsErrOf result Refusal.BadLine → Opens self.old (opening_of command) (line_of (codes "bad line"), Before (start_of self.new)) }
+        ensures ok { IfOk result (λ begun. IsOpened self.old (opening_of command) reply.old.items reply.new.items begun self.new) }
+        ensures bad { IsErrOf result Refusal.BadLine → IsWithoutImage self.old (opening_of command) self.new }
         ensures memory { IsErrOf result Refusal.OutOfMemory → start_of self.new ≡ start_of self.old }
     {
         match command {
@@ -60,7 +59,7 @@ impl<A: Allocator + Copy> Opening<A> {
     /// Takes a fresh image in place of the one before.
     fn renew(&mut self, sizes: TierSizes, reply: &mut Vec<u8, A>) -> Result<(), Refusal>
         requires { 128 ≤ spare_of reply.old }
-        ensures ok { OnOk result (IsReplied (Opens self.old (commands.New sizes)) reply.old.items reply.new.items (Before (start_of self.new))) }
+        ensures ok { OnOk result (IsOpened self.old (commands.New sizes) reply.old.items reply.new.items None self.new) }
         ensures err { IfErr result (λ why. (why ≡ Refusal.OutOfMemory) × (start_of self.new ≡ start_of self.old)) }
     {
         self.image = Some(Image::fresh(self.alloc, sizes)?);
@@ -75,7 +74,7 @@ impl<A: Allocator + Copy> Opening<A> {
         reply: &mut Vec<u8, A>,
     ) -> Result<(), Refusal>
         requires { 128 ≤ spare_of reply.old }
-        ensures ok { OnOk result (IsReplied (Opens self.old (commands.Row client)) reply.old.items reply.new.items (Before (start_of self.new))) }
+        ensures ok { OnOk result (IsOpened self.old (commands.Row client) reply.old.items reply.new.items None self.new) }
         ensures err { IfErr result (λ why. (why ≡ Refusal.OutOfMemory) × (start_of self.new ≡ start_of self.old)) }
     {
         match client {
@@ -92,8 +91,8 @@ impl<A: Allocator + Copy> Opening<A> {
     /// want of memory.
     fn begin(&mut self, limit: u32, reply: &mut Vec<u8, A>) -> Result<Option<Desk<A>>, Refusal>
         requires { 128 ≤ spare_of reply.old }
-        ensures ok { IfOk result (λ begun. IsReplied (Opens self.old (commands.Begin limit)) reply.old.items reply.new.items (stage_after begun (start_of self.new))) }
-        ensures bad { IsErrOf result Refusal.BadLine → Opens self.old (commands.Begin limit) (line_of (codes "bad line"), Before (start_of self.new)) }
+        ensures ok { IfOk result (λ begun. IsOpened self.old (commands.Begin limit) reply.old.items reply.new.items begun self.new) }
+        ensures bad { IsErrOf result Refusal.BadLine → IsWithoutImage self.old (commands.Begin limit) self.new }
         ensures memory { IsErrOf result Refusal.OutOfMemory → start_of self.new ≡ start_of self.old }
     {
         let image = self.image.take().ok_or(Refusal::BadLine)?;

@@ -7,8 +7,8 @@ ghost use Rattle.kfs_plan.specs.Judging.{HasOtherEntry, submission_of};
 ghost use Rattle.kfs_desk.specs.Machine.{call_of, done_by};
 ghost use Rattle.kfs_engine.specs.Command as commands;
 ghost use Rattle.kfs_engine.specs.Command.{IsBadLine};
-ghost use Rattle.kfs_engine.specs.Session.{After, Answers, Does, IsCallAnswered, IsReplied, Serves, fresh, names_line};
-ghost use Rattle.kfs_engine.specs.Views.{asked_of_desk, opening_of, stage_of};
+ghost use Rattle.kfs_engine.specs.Session.{After, Answers, IsCallAnswered, IsReplied, Serves, fresh, names_line};
+ghost use Rattle.kfs_engine.specs.Views.{IsDone, IsOutOfPlace, asked_of_desk, opening_of, stage_of};
 ghost use Rattle.kfs_text.specs.Parts.{line_of};
 ghost use Rattle.kfs_value.specs.Room.{spare_of};
 
@@ -69,8 +69,8 @@ impl<A: Allocator + Copy> Session<A> {
         reply: &mut Vec<u8, A>,
     ) -> Result<(), Refusal>
         requires { 128 ≤ spare_of reply.old }
-        ensures ok { OnOk result (IsReplied (Does (stage_of self.old) (commands.Opening (opening_of command))) reply.old.items reply.new.items (stage_of self.new)) }
-        ensures bad { IsErrOf result Refusal.BadLine → Does (stage_of self.old) (commands.Opening (opening_of command)) (line_of (codes "bad line"), stage_of self.new) }
+        ensures ok { OnOk result (IsDone self.old (commands.Setup (opening_of command)) reply.old.items reply.new.items self.new) }
+        ensures bad { IsErrOf result Refusal.BadLine → IsOutOfPlace self.old (commands.Setup (opening_of command)) self.new }
         ensures memory { IsErrOf result Refusal.OutOfMemory → stage_of self.new ≡ stage_of self.old }
     {
         match &mut self.stage {
@@ -91,9 +91,9 @@ impl<A: Allocator + Copy> Session<A> {
         reply: &mut Vec<u8, A>,
     ) -> Result<(), Refusal>
         requires room { 128 ≤ spare_of reply.old }
-        requires good { IsBadLine (Some (commands.Desk (asked_of_desk command))) → ⊥ }
-        ensures ok { OnOk result (IsReplied (Does (stage_of self.old) (commands.Desk (asked_of_desk command.entry))) reply.old.items reply.new.items (stage_of self.new)) }
-        ensures bad { IsErrOf result Refusal.BadLine → Does (stage_of self.old) (commands.Desk (asked_of_desk command.entry)) (line_of (codes "bad line"), stage_of self.new) }
+        requires good { IsBadLine (Some (commands.Request (asked_of_desk command))) → ⊥ }
+        ensures ok { OnOk result (IsDone self.old (commands.Request (asked_of_desk command.entry)) reply.old.items reply.new.items self.new) }
+        ensures bad { IsErrOf result Refusal.BadLine → IsOutOfPlace self.old (commands.Request (asked_of_desk command.entry)) self.new }
         ensures memory { IsErrOf result Refusal.OutOfMemory → stage_of self.new ≡ stage_of self.old }
     {
         match &mut self.stage {
@@ -111,7 +111,7 @@ fn answer_by_desk<A: Allocator + Copy>(
     reply: &mut Vec<u8, A>,
 ) -> Result<(), Refusal>
     requires room { 128 ≤ spare_of reply.old }
-    requires good { IsBadLine (Some (commands.Desk (asked_of_desk command))) → ⊥ }
+    requires good { IsBadLine (Some (commands.Request (asked_of_desk command))) → ⊥ }
     ensures ok { OnOk result (IsReplied (Serves desk.old (asked_of_desk command.entry)) reply.old.items reply.new.items (After desk.new)) }
     ensures err { IfErr result (λ why. (why ≡ Refusal.OutOfMemory) × (desk.new ≡ desk.old)) }
 {

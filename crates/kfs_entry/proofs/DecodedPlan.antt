@@ -1,9 +1,15 @@
 -- A plan that was decoded, and why one was not, as the definitions say it.
-use Rattle.std.proofs.Common.{◌≡◌, ℕ, List, ◌++◌, length, sym, subst}
-use Rattle.kfs_model.specs.Spelling.{AreRows, Begins, Stand, Stop, Counts, AreCounts, plan_header, PartStops, PlanAnswer}
+use Rattle.std.proofs.Common.{◌≡◌, ℕ, List, ◌++◌, length, drop, map, sym, subst, ◌∙◌}
+use Rattle.kfs_model.specs.PlanRow.{Plan}
+use Rattle.kfs_model.specs.Spelling.{AreRows, Begins, Stand, Stop, Counts, AreCounts, plan_header, PartStops, PlanAnswer, name_row_bytes, IsNameRow, node_row_bytes, IsNodeRow, piece_bytes, IsPiece, plan_bytes, IsPlan}
+use Rattle.kfs_model.proofs.AnswersExist.{plan_is_spelled}
+use Rattle.kfs_value.specs.declared.plan.NameRow.{NameRow}
+use Rattle.kfs_value.specs.declared.plan.NodeRow.{NodeRow}
+use Rattle.kfs_value.specs.declared.plan.Piece.{Piece}
+use Rattle.kfs_value.specs.Views.{name_row_of, node_row_of, piece_of}
 use Rattle.kfs_entry.specs.declared.fault.SpellFault.{SpellFault}
 use Rattle.kfs_entry.specs.declared.fault.SpellFault.TheVariants as faults
-use Rattle.kfs_entry.specs.RowList.{PartRowMissing}
+use Rattle.kfs_entry.specs.RowList.{AreRead, PartRowMissing}
 use Rattle.kfs_entry.specs.Answers.{OnRefusal}
 use Rattle.kfs_entry.proofs.RowLaws.{stand_from, stop_from}
 
@@ -11,6 +17,22 @@ use Rattle.kfs_entry.proofs.RowLaws.{stand_from, stop_from}
 abbrev pub part_stands : {R V : Type 0} (view : R → V) (F : V → Type 0) (s : V → List ℕ) (rows : List R) (count : ℕ) (bytes rest : List ℕ)
     → length rows ≡ count → AreRows (λ r. F (view r)) (λ r. s (view r)) rows bytes rest → Stand F s count bytes rest
 part_stands view F s rows count bytes rest number are = stand_from view (λ r. F (view r)) F s (λ r f. f) rows count bytes rest number are
+
+-- the plan of these rows
+abbrev pub plan_from : List NameRow → List NodeRow → List Piece → Plan
+plan_from names nodes pieces = record { names = map name_row_of names; nodes = map node_row_of nodes; pieces = map piece_of pieces }
+
+pub plan_was_read : (source : List ℕ) (at b d end given_names given_nodes : ℕ) (c : Counts) (names : List NameRow) (nodes : List NodeRow) (pieces : List Piece)
+    → AreCounts c → source ≡ plan_header c ++ drop at source
+    → given_names ≡ c.names → AreRead (λ r. IsNameRow (name_row_of r)) (λ r. name_row_bytes (name_row_of r)) source at given_names names b
+    → given_nodes ≡ c.nodes → AreRead (λ r. IsNodeRow (node_row_of r)) (λ r. node_row_bytes (node_row_of r)) source b given_nodes nodes d
+    → AreRead (λ r. IsPiece (piece_of r)) (λ r. piece_bytes (piece_of r)) source d c.pieces pieces end
+    → IsPlan (plan_from names nodes pieces) × (source ≡ plan_bytes (plan_from names nodes pieces) ++ drop end source)
+plan_was_read source at b d end given_names given_nodes c names nodes pieces fits front same_names names_read same_nodes nodes_read pieces_read =
+    plan_is_spelled source (drop at source) (drop b source) (drop d source) (drop end source) c fits front
+    (part_stands name_row_of IsNameRow name_row_bytes names c.names (drop at source) (drop b source) (names_read.number ∙ same_names) names_read.are)
+    (part_stands node_row_of IsNodeRow node_row_bytes nodes c.nodes (drop b source) (drop d source) (nodes_read.number ∙ same_nodes) nodes_read.are)
+    (part_stands piece_of IsPiece piece_bytes pieces c.pieces (drop d source) (drop end source) pieces_read.number pieces_read.are)
 
 -- a part of a plan whose row is missing: what stands before it makes the answer
 pub part_is_missing : {R V : Type 0} (view : R → V) (F : V → Type 0) (s : V → List ℕ) (source bytes : List ℕ) (c : Counts) (rows : List ℕ) (number given count : ℕ) (fault : SpellFault)

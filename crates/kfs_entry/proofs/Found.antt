@@ -1,18 +1,22 @@
 -- What a reader of the code found, by the laws of its field.
-use Rattle.std.proofs.Common.{◌≡◌, ℕ, List, ◌++◌, drop, Option, Some, None, sym, ap, ◌∙◌}
+use Rattle.std.proofs.Common.{◌≡◌, ◌≤◌, ℕ, List, length, drop, Option, Some, None, sym, ap, ◌∙◌}
 use Rattle.std.specs.Prelude.{IfSome, IfNone}
 use Rattle.kfs_model.specs.Spelling.{IsBytes, Begins}
-use Rattle.kfs_entry.specs.Reading.{seen}
+use Rattle.kfs_entry.specs.Reading.{StandsIn, seen}
 use Rattle.kfs_model.proofs.Fields.{IsBytes-drop, IsField}
 
 -- what was read stands there
-pub is_found : {V M : Type 0} {F : M → Type 0} {s : M → List ℕ} {r : List ℕ → Option (M × List ℕ)} (view : V → M) (P : V × ℕ → Type 0) → IsField F s r
-    → (source : List ℕ) (at : ℕ) (result : Option (V × ℕ)) → IsBytes source → seen view source result ≡ r (drop at source) → IfSome result P
-    → IfSome result (λ x. P x × F (view x.0) × (drop at source ≡ s (view x.0) ++ drop x.1 source))
-is_found view P field source at (Some x) fits e more =
+pub is_found : {V M : Type 0} {F : M → Type 0} {s : M → List ℕ} {r : List ℕ → Option (M × List ℕ)} (view : V → M) → IsField F s r
+    → (source : List ℕ) (at : ℕ) (result : Option (V × ℕ)) → IsBytes source → seen view source result ≡ r (drop at source) → IfSome result (λ x. x.1 ≤ length source)
+    → IfSome result (λ x. F (view x.0) × StandsIn source at x.1 (s (view x.0)))
+is_found view field source at (Some x) fits e within =
     let stands = field.takes (drop at source) (view x.0, drop x.1 source) (IsBytes-drop at source fits) (sym e) in
-    (more, stands.fits, stands.parts)
-is_found view P field source at None fits e more = tt
+    (stands.fits, record { within = within; parts = stands.parts })
+is_found view field source at None fits e within = tt
+
+pub IfSome-both : {V : Type 0} (P Q R : V → Type 0) → ((x : V) → P x → Q x → R x) → (o : Option V) → IfSome o P → IfSome o Q → IfSome o R
+IfSome-both P Q R f (Some x) h k = f x h k
+IfSome-both P Q R f None h k = tt
 
 pub IfSome-weaker : {V : Type 0} (P Q : V → Type 0) → ((x : V) → P x → Q x) → (o : Option V) → IfSome o P → IfSome o Q
 IfSome-weaker P Q f (Some x) h = f x h

@@ -2,8 +2,8 @@
 ghost use Rattle.std.specs.Prelude.{◌≡◌, ◌≤◌, Result, length, drop, IfOk, IfErr};
 ghost use Rattle.kfs_model.specs.Entry.{Log as LogValue};
 ghost use Rattle.kfs_model.specs.PlanRow.{Plan as PlanValue};
-ghost use Rattle.kfs_model.specs.Spelling.{AreRows, SpellingFault, LogAnswer, PlanAnswer};
-ghost use Rattle.kfs_entry.specs.RowList.{EntryMissing, PartRowMissing};
+ghost use Rattle.kfs_model.specs.Spelling.{SpellingFault, LogAnswer, PlanAnswer};
+ghost use Rattle.kfs_entry.specs.RowList.{AreRead, EntryMissing, PartRowMissing};
 ghost use Rattle.kfs_entry.specs.Answers.{OnAnswer, log_of, plan_of, SpansAreWithin};
 
 use crate::codec::headers;
@@ -20,8 +20,7 @@ fn entries<R: Row, A: Allocator>(
     count: u16,
 ) -> Result<(Vec<R, A>, usize), SpellFault>
     requires { at ≤ length source.now }
-    ensures found { IfOk result (λ x. (x.1 ≤ length source.now) × (length x.0.items ≡ count)
-        × AreRows (R.fits source.now) (R.spelling source.now) x.0.items (drop at source.now) (drop x.1 source.now)) }
+    ensures found { IfOk result (λ x. AreRead (R.fits source.now) (R.spelling source.now) source.now at count x.0.items x.1) }
     ensures missing { IfErr result (EntryMissing (R.fits source.now) (R.spelling source.now) R.begins count (drop at source.now)) }
 {
     match read_rows(alloc, source, at, u32::from(count)) {
@@ -40,8 +39,7 @@ fn part<R: Row, A: Allocator>(
     number: u8,
 ) -> Result<(Vec<R, A>, usize), SpellFault>
     requires { at ≤ length source.now }
-    ensures found { IfOk result (λ x. (x.1 ≤ length source.now) × (length x.0.items ≡ count)
-        × AreRows (R.fits source.now) (R.spelling source.now) x.0.items (drop at source.now) (drop x.1 source.now)) }
+    ensures found { IfOk result (λ x. AreRead (R.fits source.now) (R.spelling source.now) source.now at count x.0.items x.1) }
     ensures missing { IfErr result (PartRowMissing (R.fits source.now) (R.spelling source.now) R.begins count number (drop at source.now)) }
 {
     match read_rows(alloc, source, at, count) {

@@ -1,8 +1,8 @@
 //! Rows of a format, one after another.
 ghost use Rattle.std.specs.Prelude.{◌≡◌, ℕ, ◌<◌, ◌≤◌, List, ◌++◌, length, drop, IfSome, IfNone, IfOk, IfErr, OnOk, All};
 ghost use Rattle.std.specs.List.{flat_map};
-ghost use Rattle.kfs_model.specs.Spelling.{AreRows};
-ghost use Rattle.kfs_entry.specs.RowList.{RowMissing};
+ghost use Rattle.kfs_entry.specs.Reading.{StandsIn};
+ghost use Rattle.kfs_entry.specs.RowList.{AreRead, RowMissing};
 
 use std::alloc::{AllocError, AllocFailed, Allocator};
 
@@ -25,8 +25,7 @@ pub trait Row: Drop {
     /// The row that stands at `at`, and the place after it; none where no row stands there.
     fn read(source: &[u8], at: usize) -> Option<(Self, usize)>
         requires { at ≤ length source.now }
-        ensures found { IfSome result (λ x. (x.1 ≤ length source.now) × fits source.now x.0
-            × (drop at source.now ≡ spelling source.now x.0 ++ drop x.1 source.now)) }
+        ensures found { IfSome result (λ x. fits source.now x.0 × StandsIn source.now at x.1 (spelling source.now x.0)) }
         ensures none { IfNone result (begins (drop at source.now) → ⊥) };
 
     /// Appends the row's spelling.
@@ -79,8 +78,7 @@ pub fn read_rows<R: Row, A: Allocator>(
     count: u32,
 ) -> Result<(Vec<R, A>, usize), RowsFault>
     requires { at ≤ length source.now }
-    ensures found { IfOk result (λ x. (x.1 ≤ length source.now) × (length x.0.items ≡ count)
-        × AreRows (R.fits source.now) (R.spelling source.now) x.0.items (drop at source.now) (drop x.1 source.now)) }
+    ensures found { IfOk result (λ x. AreRead (R.fits source.now) (R.spelling source.now) source.now at count x.0.items x.1) }
     ensures missing { IfErr result (RowMissing (R.fits source.now) (R.spelling source.now) R.begins count (drop at source.now)) }
 {
     let mut rows = Vec::new(alloc);

@@ -34,7 +34,8 @@ as_less Equal t = cc
 as_less Greater t = cc
 
 module _ {K X : Type 0} where
-  keys_of-filter : (p : K → Bool) (es : List (K × X)) → keys_of (filter (λ e. p e.0) es) ≡ filter p (keys_of es)
+  -- the keys of entries that are kept by their keys
+  pub keys_of-filter : (p : K → Bool) (es : List (K × X)) → keys_of (filter (λ e. p e.0) es) ≡ filter p (keys_of es)
   keys_of-filter p [] = refl
   keys_of-filter p (e ∷ es) =
       elim (p e.0) as (λ b. keys_of (cond b (e ∷ filter (λ e. p e.0) es) (filter (λ e. p e.0) es)) ≡ cond b (e.0 ∷ filter p (keys_of es)) (filter p (keys_of es))) [

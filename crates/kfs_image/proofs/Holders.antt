@@ -1,5 +1,5 @@
 -- Which directory holds a node: the least one with a name that leads there.
-use Rattle.std.proofs.Common.{◌≡◌, ℕ, ◌+◌, ◌<◌, ◌≤◌, Bool, true, false, cond, T, ◌&&◌, ◌==◌, List, [], ◌∷◌, Option, Some, None, refl, sym, ap, subst, ◌∙◌, arith}
+use Rattle.std.proofs.Common.{◌≡◌, ℕ, ◌+◌, ◌<◌, ◌≤◌, Bool, true, false, cond, T, ◌&&◌, ◌==◌, List, [], ◌∷◌, Option, Some, None, refl, sym, ap, subst, ◌∙◌, eq-eqb, arith}
 use Rattle.std.specs.Prelude.{option_map, find, unwrap_or, IsSome}
 use Rattle.std.specs.declared.cmp.Ordering.{Ordering}
 use Rattle.std.specs.declared.cmp.Ordering.TheVariants.{Less, Equal, Greater}
@@ -44,9 +44,6 @@ not_below a b o t = at (nat_cmp a b) refl t
     at Equal is t = let h : a ≡ b = ranked a b Equal is in omega arith
     at Greater is t = absurd t
 
-itself : (n : ℕ) → (n == n) ≡ true
-itself n = grind (arith, nat_tests)
-
 -- a test of equality fails at numbers apart
 apart : (a b : ℕ) → b < a → (a == b) ≡ false
 apart a b less = grind (arith, nat_tests)
@@ -78,7 +75,7 @@ first_holds (e ∷ es) n d sorted some least = at (e.1 == n) refl (λ some least
     in_place : (e.1 == n) ≡ true → (r : Ordering) → r ≡ nat_cmp e.0.0 d → Some e.0.0 ≡ Some d
     in_place is Less r =
         let less : e.0.0 < d = ranked e.0.0 d Less r in
-        let here : one_if ((e.1 == n) && (e.0.0 == e.0.0)) ≡ 1 = ap (λ b. one_if (b && (e.0.0 == e.0.0))) is ∙ ap one_if (itself e.0.0) in
+        let here : one_if ((e.1 == n) && (e.0.0 == e.0.0)) ≡ 1 = ap (λ b. one_if (b && (e.0.0 == e.0.0))) is ∙ ap one_if (eq-eqb e.0.0 e.0.0 refl) in
         absurd (omega (arith, here, least e.0.0 less, ways-cons e es n e.0.0))
     in_place is Equal r = ap Some (ranked e.0.0 d Equal r)
     in_place is Greater r =
@@ -103,7 +100,7 @@ no_holder (e ∷ es) n none = at (e.1 == n) refl (λ none. no_holder es n none)
     at : (b : Bool) → (e.1 == n) ≡ b → (((c : ℕ) → ways es n c ≡ 0) → held_by es n ≡ None)
         → option_map (λ (e : Entry). e.0.0) (cond (e.1 == n) (Some e) (find (λ (e : Entry). e.1 == n) es)) ≡ None
     at true is rest =
-        let here : one_if ((e.1 == n) && (e.0.0 == e.0.0)) ≡ 1 = ap (λ b. one_if (b && (e.0.0 == e.0.0))) is ∙ ap one_if (itself e.0.0) in
+        let here : one_if ((e.1 == n) && (e.0.0 == e.0.0)) ≡ 1 = ap (λ b. one_if (b && (e.0.0 == e.0.0))) is ∙ ap one_if (eq-eqb e.0.0 e.0.0 refl) in
         absurd (omega (arith, here, none e.0.0, ways-cons e es n e.0.0))
     at false is rest =
         ap (λ b. option_map (λ (e : Entry). e.0.0) (cond b (Some e) (find (λ (e : Entry). e.1 == n) es))) is

@@ -1,5 +1,5 @@
 -- The counts beside the names after a name came to lead elsewhere.
-use Rattle.std.proofs.Common.{◌≡◌, ℕ, ◌+◌, ◌<◌, ◌≤◌, Bool, true, false, cond, ◌&&◌, ◌==◌, List, [], ◌∷◌, length, Option, Some, None, option_map, refl, sym, ap, subst, ◌∙◌, arith}
+use Rattle.std.proofs.Common.{◌≡◌, ℕ, ◌+◌, ◌<◌, ◌≤◌, Bool, true, false, cond, ◌&&◌, ◌==◌, List, [], ◌∷◌, length, Option, Some, None, option_map, refl, sym, ap, subst, ◌∙◌, eq-eqb, arith}
 use Rattle.std.specs.declared.cmp.Ordering.{Ordering}
 use Rattle.std.specs.declared.cmp.Ordering.TheVariants.{Less, Equal, Greater}
 use Rattle.std.specs.Ordering.{nat_cmp, is_eq, eq_by_cmp, ordering_then}
@@ -48,9 +48,6 @@ uplink_step-counted : (d : ℕ) (m : List ℕ) (w : Option ℕ) (n q : ℕ) → 
 uplink_step-counted d m None n q = refl
 uplink_step-counted d m (Some v) n q = ap (λ b. cond b 1 0) (sym (turned_pair v n d q))
 
-itself : (n : ℕ) → (n == n) ≡ true
-itself n = unsigned_ties n n ∙ (eq_by_cmp_equiv nat_cmp_total).refl n
-
 -- names stay names where one of them comes to lead elsewhere
 still_names : (names : NameTable) (d : ℕ) (m : List ℕ) (w : Option ℕ) → ((key : ℕ × List ℕ) (n : ℕ) → get names key ≡ Some n → IsName key.1) → IsName m
     → (key : ℕ × List ℕ) (n : ℕ) → get (changed names (d, m) w) key ≡ Some n → IsName key.1
@@ -68,8 +65,8 @@ module _ {A : Type 0} where
   counted_name rows indexed d m n found =
       let p : (ℕ × List ℕ) × ℕ → Bool = λ e. e.0.0 == d in
       let w : (ℕ × List ℕ) × ℕ → Bool = λ e. (e.1 == n) && (e.0.0 == d) in
-      let there : counted name_order p (d, m) (get (names_in rows) (d, m)) ≡ 1 = ap (counted name_order p (d, m)) found ∙ ap (λ b. cond b 1 0) (itself d) in
-      let here : counted name_order w (d, m) (get (names_in rows) (d, m)) ≡ 1 = ap (counted name_order w (d, m)) found ∙ ap (λ b. cond (b && (d == d)) 1 0) (itself n) ∙ ap (λ b. cond b 1 0) (itself d) in
+      let there : counted name_order p (d, m) (get (names_in rows) (d, m)) ≡ 1 = ap (counted name_order p (d, m)) found ∙ ap (λ b. cond b 1 0) (eq-eqb d d refl) in
+      let here : counted name_order w (d, m) (get (names_in rows) (d, m)) ≡ 1 = ap (counted name_order w (d, m)) found ∙ ap (λ b. cond (b && (d == d)) 1 0) (eq-eqb n n refl) ∙ ap (λ b. cond b 1 0) (eq-eqb d d refl) in
       let counts = indexed.counts d in
       let uplinks = indexed.uplinks n d in
       let in_dir = count-changed p (names_in rows) (d, m) None in

@@ -1,7 +1,7 @@
 -- The least client in conflict with a lease: the first one that a walk over a node's rows meets.
-use Rattle.std.proofs.Common.{◌≡◌, ℕ, suc, ◌<◌, ◌≤◌, Bool, true, false, cond, not, ◌&&◌, ◌||◌, ◌==◌, T, List, [], ◌∷◌, Option, Some, None, option_map, refl, sym, ap, subst, ◌∙◌, arith}
+use Rattle.std.proofs.Common.{◌≡◌, ℕ, suc, ◌<◌, ◌≤◌, Bool, true, false, cond, not, ◌&&◌, ◌||◌, ◌==◌, T, List, [], ◌∷◌, Option, Some, None, option_map, refl, sym, ap, subst, ◌∙◌, eq-eqb, arith}
 use Rattle.std.specs.Prelude.{find}
-use Rattle.std.specs.List.{All, AllByRecursion, filter}
+use Rattle.std.specs.List.{All, AllByRecursion}
 use Rattle.std.specs.declared.cmp.Ordering.{Ordering}
 use Rattle.std.specs.declared.cmp.Ordering.TheVariants.{Less, Equal, Greater}
 use Rattle.std.specs.declared.ops.Bound.TheVariants.{Included, Unbounded}
@@ -19,6 +19,7 @@ use borrow.Author.Tests.{eqb-true}
 use Rattle.kfs_model.specs.Table.{Table, pairs, numbers, get}
 use Rattle.kfs_model.specs.Check.{is_some_and}
 use Rattle.kfs_model.specs.Lease as model
+use Rattle.kfs_image.proofs.Ahead.{keys_of-filter}
 use Rattle.kfs_lease.specs.declared.rows.Lease.{Lease}
 use Rattle.kfs_lease.specs.Rows.{by_node, lease_of, table_of}
 use Rattle.kfs_lease.proofs.RowTables.{get-table_of}
@@ -33,9 +34,6 @@ right_part : (a b : Bool) → T (a && b) → T b
 right_part true b t = t
 right_part false b t = absurd t
 
-itself : (n : ℕ) → (n == n) ≡ true
-itself n = grind (arith, nat_tests)
-
 less_number : (c d : ℕ) → c < d → nat_cmp c d ≡ Less
 less_number c d less = sym (nat_cmp_is c d Less less)
 
@@ -45,7 +43,7 @@ module _ (number : ℕ) where
 
   node_line : IsLine by_node on_node (λ k. k.1) (λ k. k.0 == number)
   node_line = record {
-    within = λ c. itself number;
+    within = λ c. eq-eqb number number refl;
     again = λ c. refl;
     back = λ k is. let same : k.0 ≡ number = eqb-true k.0 number is in (λ i. (sym same i, k.1));
     rising = λ c d less. same_first number (nat_cmp c d) ∙ less_number c d less;
@@ -53,7 +51,7 @@ module _ (number : ℕ) where
 
   table_line : IsLine (pairs numbers numbers) (λ c. (c, number)) (λ k. k.0) (λ k. k.1 == number)
   table_line = record {
-    within = λ c. itself number;
+    within = λ c. eq-eqb number number refl;
     again = λ c. refl;
     back = λ k is. let same : k.1 ≡ number = eqb-true k.1 number is in (λ i. (k.0, sym same i));
     rising = λ c d less. less_first c d (nat_cmp number number) less;
@@ -77,14 +75,6 @@ module _ {K X : Type 0} (R : K → K → Ordering) where
   unfolding IsStrictlySortedBy
   sorted_keys [] t = tt
   sorted_keys (e ∷ es) t = (below e.0 es (left_part (sorted_entries.below_all R e.0 es) (sorted_entries.is_sorted R es) t), sorted_keys es (right_part (sorted_entries.below_all R e.0 es) (sorted_entries.is_sorted R es) t))
-
-  keys_of-filter : (p : K → Bool) (es : List (K × X)) → keys_of (filter (λ e. p e.0) es) ≡ filter p (keys_of es)
-  keys_of-filter p [] = refl
-  keys_of-filter p (e ∷ es) =
-      elim (p e.0) as (λ b. keys_of (cond b (e ∷ filter (λ e. p e.0) es) (filter (λ e. p e.0) es)) ≡ cond b (e.0 ∷ filter p (keys_of es)) (filter p (keys_of es))) [
-        | true ↦ ap (λ ks. e.0 ∷ ks) (keys_of-filter p es)
-        | false ↦ keys_of-filter p es
-      ]
 
 to_recursion : {X : Type 0} (P : X → Type 0) (xs : List X) → All P xs → AllByRecursion P xs
 to_recursion P [] all = tt
@@ -187,7 +177,7 @@ module _ (client number moment : ℕ) (kind : model.LeaseKind) where
         → first_ahead from_node ≡ option_map (λ row. row.0.0) (model.in_conflict (record { rows = table_of rows.entries; moment = moment }) client number kind)
     first_is_conflict ordered left is within =
         let range = subst (IsRangeOf by_node.compare (Included (number, 0)) Unbounded rows) is within in
-        let sorted = subst (IsStrictlySortedBy by_node.compare) (sym (keys_of-filter by_node.compare (range_contains by_node.compare (Included (number, 0)) Unbounded) rows.entries)) (IsStrictlySortedBy-filter by_node.compare (range_contains by_node.compare (Included (number, 0)) Unbounded) (keys_of rows.entries) ordered) in
+        let sorted = subst (IsStrictlySortedBy by_node.compare) (sym (keys_of-filter (range_contains by_node.compare (Included (number, 0)) Unbounded) rows.entries)) (IsStrictlySortedBy-filter by_node.compare (range_contains by_node.compare (Included (number, 0)) Unbounded) (keys_of rows.entries) ordered) in
         let from = to_recursion (λ (row : Row). number ≤ row.0.0) from_node (λ k d less. first_part number _ _ (range.0 k d less).0.0) in
         let t = table_of rows.entries in
         let ahead = first_is_least by_node (on_node number) (λ k. k.1) (λ k. k.0 == number) bars_row (node_line number) from_node sorted in

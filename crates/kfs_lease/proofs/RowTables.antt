@@ -1,5 +1,5 @@
 -- What the tables of rows show.
-use Rattle.std.proofs.Common.{◌≡◌, ℕ, ◌<◌, ◌≤◌, Bool, true, false, cond, not, ◌&&◌, ◌==◌, List, [], ◌∷◌, Option, Some, None, option_map, refl, sym, ap, subst, ◌∙◌, arith}
+use Rattle.std.proofs.Common.{◌≡◌, ℕ, ◌<◌, ◌≤◌, Bool, true, false, cond, not, ◌&&◌, ◌==◌, List, [], ◌∷◌, Option, Some, None, option_map, refl, sym, ap, subst, ◌∙◌, eq-eqb, arith}
 use Rattle.std.specs.declared.cmp.Ordering.{Ordering}
 use Rattle.std.specs.declared.cmp.Ordering.TheVariants.{Less, Equal, Greater}
 use Rattle.std.specs.Ordering.{nat_cmp, is_eq, eq_by_cmp, ordering_then}
@@ -111,9 +111,6 @@ tied k q is = (pairs numbers numbers).exact k q (as_equal ((pairs numbers number
     as_equal Equal t = refl
     as_equal Greater t = cc
 
-itself : (n : ℕ) → (n == n) ≡ true
-itself n = grind (arith, nat_tests)
-
 module _ (moment : ℕ) where
   -- a row that ended isn't live
   pub not_live : (row : Option Lease) (end : ℕ) → ends_at row end ≡ true → end ≤ moment → if_live moment (option_map lease_of row) ≡ None
@@ -126,7 +123,7 @@ module _ (moment : ℕ) where
   still_live : (row : Option Lease) → ((end : ℕ) → ends_at row end ≡ true → moment < end) → if_live moment (option_map lease_of row) ≡ option_map lease_of row
   still_live None later = refl
   still_live (Some lease) later =
-      let after : moment < lease.end = later lease.end (itself lease.end) in
+      let after : moment < lease.end = later lease.end (eq-eqb lease.end lease.end refl) in
       let live : model.is_live moment (lease_of lease) ≡ true = grind (arith, nat_tests) in
       ap (λ b. cond b (Some (lease_of lease)) None) live
 
@@ -162,7 +159,7 @@ module _ (number : ℕ) where
       at : (q : ℕ × ℕ) (b : Bool) → eq_by_cmp (pairs numbers numbers).compare (client, number) q ≡ b
           → cond (not (q.1 == number)) (cond (not b) (get t q) None) None ≡ cond (not (q.1 == number)) (get t q) None
       at q true is =
-          let on_it : (q.1 == number) ≡ true = ap (λ (k : ℕ × ℕ). k.1 == number) (sym (tied (client, number) q is)) ∙ itself number in
+          let on_it : (q.1 == number) ≡ true = ap (λ (k : ℕ × ℕ). k.1 == number) (sym (tied (client, number) q is)) ∙ eq-eqb number number refl in
           ap (λ b. cond (not b) None None) on_it ∙ sym (ap (λ b. cond (not b) (get t q) None) on_it)
       at q false other = refl
 

@@ -27,4 +27,5 @@ pub mod Spelling
 pub mod Judgement
 pub mod Machine
 pub mod Order
+pub mod Laws
 pub mod Example

@@ -10,20 +10,19 @@ ghost use Rattle.kfs_model.specs.PlanRow.{Plan};
 ghost use Rattle.kfs_model.specs.Plan.{IsRight, OldBytesStay};
 ghost use Rattle.kfs_model.specs.PlanCut.{SaySame, IsCutAnew};
 ghost use Rattle.kfs_model.specs.FirstWrong.{first_wrong_row};
-ghost use Rattle.kfs_model.specs.Judgement.{State};
-ghost use Rattle.kfs_model.specs.Machine.{OneByOne, Row, IsRead, next, after, opening};
+ghost use Rattle.kfs_model.specs.Machine.{OneByOne, Row, IsRead, next, after};
 ghost use Rattle.kfs_model.specs.Placement.{TierSizes};
-ghost use Rattle.kfs_model.specs.Table.{empty};
-ghost use Rattle.kfs_model.specs.Lease.{LeaseKind, KeepsCompatible, granted, dropped, ticked};
+ghost use Rattle.kfs_model.specs.Lease.{KeepsCompatible, dropped, ticked};
 ghost use Rattle.kfs_model.specs.Order.{IsInOrder};
 ghost use Rattle.std.specs.List.{AllByRecursion};
-ghost use Rattle.kfs_model.specs.Sight.{Sight, ClientSight};
+ghost use Rattle.kfs_model.specs.Sight.{ClientSight};
 ghost use Rattle.kfs_model.specs.Access.{Client, AreDistinct};
 ghost use Rattle.kfs_model.specs.Looked.{LooksAlike, GoesAlike, TreesEndAlike};
 ghost use Rattle.kfs_model.specs.Soundness.{IsSound};
 ghost use Rattle.kfs_model.specs.Fresh.{fresh_tree};
 ghost use Rattle.kfs_model.specs.Spelling.{IsName, is_name, IsBytes, SpellingFault, LogAnswer, PlanAnswer};
-ghost use Rattle.kfs_model.specs.CleanStep.{IsClient, IsClean, IsKept, Fits, IsSeenInCells};
+ghost use Rattle.kfs_model.specs.CleanStep.{IsClient, Fits, IsSeenInCells};
+ghost use Rattle.kfs_model.specs.Laws.{BothFit, EachGrant, EachRun, KeepsOrder, KeepsSound, opening_of_new};
 
 /// An entry of which no check fails is allowed to its client, by mode bits and leases, whichever of the seven it is.
 pub fn clean_is_allowed()
@@ -33,12 +32,12 @@ pub fn clean_is_allowed()
 /// The bytes that a run gives are the marks that it gives, looked up in the tree before and in the payloads; and both stop
 /// at the same entry for the same reason.
 pub fn marks_give_bytes()
-    ensures { (client : Client) (before : ClientSight) (tree : Tree ℕ) (entries : List Entry) → run_by_marks client before tree entries ≡ run over_bytes client before tree entries }
+    ensures { EachRun (λ client before tree entries. run_by_marks client before tree entries ≡ run over_bytes client before tree entries) }
 {}
 
 /// After a run a byte from before the log stands only where it stood: in the same file, at the same place.
 pub fn old_bytes_keep_their_place()
-    ensures { (client : Client) (before : ClientSight) (tree : Tree ℕ) (entries : List Entry) → IfOk (run over_marks client before (marked tree) entries) OldBytesStay }
+    ensures { EachRun (λ client before tree entries. IfOk (run over_marks client before (marked tree) entries) OldBytesStay) }
 {}
 
 /// A plan has no wrong row exactly where it is right.
@@ -56,7 +55,7 @@ pub fn right_plans_differ_in_their_cut()
 
 /// Where a run has no fault, its tree is what the entries give one by one, each of them allowed where it stands.
 pub fn accepted_entries_one_by_one()
-    ensures { (client : Client) (before : ClientSight) (tree : Tree ℕ) (entries : List Entry) → IfOk (run over_bytes client before tree entries) (OneByOne client before 0 [] tree entries) }
+    ensures { EachRun (λ client before tree entries. IfOk (run over_bytes client before tree entries) (OneByOne client before 0 [] tree entries)) }
 {}
 
 /// The tree of a new image is sound.
@@ -67,15 +66,15 @@ pub fn fresh_tree_is_sound()
 /// An entry in range of which no check fails, at a sound tree, leaves a sound tree, and what the cells show moves as the
 /// effect on cells says; of bytes and of marks.
 pub fn clean_entry_keeps_tree_sound()
-    ensures of_bytes { (context : EntryContext) (index : ℕ) (tree : Tree ℕ) (entry : Entry) → IsClean context tree entry → IsKept over_bytes context.client index tree entry }
-    ensures of_marks { (context : EntryContext) (index : ℕ) (tree : Tree Mark) (entry : Entry) → IsClean context tree entry → IsKept over_marks context.client index tree entry }
+    ensures of_bytes { KeepsSound over_bytes }
+    ensures of_marks { KeepsSound over_marks }
 {}
 
 /// From a sound tree, a run of entries in range shows at each of its ends what the run over the cells alone shows: the same
 /// first fault, or a tree with these cells, which is sound.
 pub fn run_is_seen_in_cells()
-    ensures seen { (client : Client) (before : ClientSight) (tree : Tree ℕ) (entries : List Entry) → Fits client tree entries → IsSeenInCells client before tree entries }
-    ensures sound { (client : Client) (before : ClientSight) (tree : Tree ℕ) (entries : List Entry) → Fits client tree entries → IfOk (run over_bytes client before tree entries) IsSound }
+    ensures seen { EachRun (λ client before tree entries. Fits client tree entries → IsSeenInCells client before tree entries) }
+    ensures sound { EachRun (λ client before tree entries. Fits client tree entries → IfOk (run over_bytes client before tree entries) IsSound) }
 {}
 
 /// Two states that answer alike, to one client, at the cells that a log looks at in the one, have the same first fault of
@@ -83,7 +82,7 @@ pub fn run_is_seen_in_cells()
 /// sound trees end alike too, whatever their bytes.
 pub fn looked_cells_decide()
     ensures decides { (client : Client) (one other : ClientSight) (entries : List Entry) → LooksAlike client one other entries → GoesAlike client one other entries }
-    ensures of_trees { (client : Client) (one other : Tree ℕ) (entries : List Entry) → Fits client one entries → Fits client other entries → TreesEndAlike client one other entries }
+    ensures of_trees { (client : Client) (one other : Tree ℕ) (entries : List Entry) → BothFit client one other entries → TreesEndAlike client one other entries }
 {}
 
 /// The test of bytes says whether they are a name.
@@ -94,7 +93,7 @@ pub fn name_test_is_exact()
 
 /// From leases of which no two live ones conflict, a grant, a drop and a tick lead to such leases.
 pub fn leases_stay_compatible()
-    ensures granted { (sight : Sight) (clients : List Client) (client : ℕ) (path : List ℕ) (kind : LeaseKind) (end : ℕ) → KeepsCompatible (λ leases. granted leases sight clients client path kind end) }
+    ensures granted { EachGrant KeepsCompatible }
     ensures dropped { (clients : List Client) (client number : ℕ) → KeepsCompatible (λ leases. dropped leases clients client number) }
     ensures ticked { (moment : ℕ) → KeepsCompatible (λ leases. ticked leases moment) }
 {}
@@ -102,13 +101,13 @@ pub fn leases_stay_compatible()
 /// Each step of the machine from a state in order, by a row whose submission is read rightly, leads to a state in order; and
 /// so does a docket of such rows.
 pub fn a_step_keeps_order()
-    ensures step { (s t : State) (row : Row) → IsInOrder s → IsRead row → next s row ≡ Some t → IsInOrder t }
-    ensures docket { (opened last : State) (docket : List Row) → IsInOrder opened → AllByRecursion IsRead docket → after opened docket ≡ Some last → IsInOrder last }
+    ensures step { (row : Row) → IsRead row → KeepsOrder (λ s. next s row) }
+    ensures docket { (docket : List Row) → AllByRecursion IsRead docket → KeepsOrder (λ opened. after opened docket) }
 {}
 
 /// A state that opens on a new image is in order, where no two clients have one number and each is in range.
 pub fn new_image_opens_in_order()
-    ensures { (clients : List Client) (sizes : TierSizes) → AreDistinct clients → AllByRecursion IsClient clients → IsInOrder (opening clients sizes (fresh_tree {B = ℕ}) empty) }
+    ensures { (clients : List Client) (sizes : TierSizes) → AreDistinct clients → AllByRecursion IsClient clients → IsInOrder (opening_of_new clients sizes) }
 {}
 
 /// All bytes have one reading as a log, and one as a plan: an answer of the decoder, and no other.

@@ -1,6 +1,6 @@
 //! The refusals by their names, with their numbers in brackets. The caller has made room for them.
-ghost use Rattle.std.specs.Prelude.{◌≡◌, ◌+◌, ◌≤◌, ◌++◌};
-ghost use Rattle.kfs_engine.specs.Text.{fault_text, spell_text, row_text, reason_text, lease_text, client_text, begin_text};
+ghost use Rattle.std.specs.Prelude.{◌≡◌, ◌+◌, ◌≤◌, ◌++◌, length};
+ghost use Rattle.kfs_engine.specs.Text.{fault_text, spell_text, row_text, reason_name, reason_text, lease_name, lease_text, client_text, begin_text};
 ghost use Rattle.kfs_value.specs.Room.{spare_of};
 
 use kfs_desk::answers::BeginFault;
@@ -78,47 +78,74 @@ fn row_fault<A: Allocator>(out: &mut Vec<u8, A>, fault: RowFault)
 }
 
 /// Appends why an entry of a log was refused.
+#[tactic(auto, using(crate::proofs::Texts::reason_without_number))]
 fn entry_reason<A: Allocator>(out: &mut Vec<u8, A>, reason: Reason)
     requires { 60 ≤ spare_of out.old }
     ensures spare { spare_of out.old ≤ spare_of out.new + 60 }
     ensures items { out.new.items ≡ out.old.items ++ reason_text reason }
 {
+    let name = reason_name(reason);
     match reason {
-        Reason::NoSuchNode => text(out, b"NoSuchNode"),
-        Reason::NotDirectory => text(out, b"NotDirectory"),
-        Reason::IsDirectory => text(out, b"IsDirectory"),
-        Reason::NoSuchName => text(out, b"NoSuchName"),
-        Reason::NameTaken => text(out, b"NameTaken"),
-        Reason::NumberTaken => text(out, b"NumberTaken"),
-        Reason::NumberNotGranted => text(out, b"NumberNotGranted"),
-        Reason::NotEmpty => text(out, b"NotEmpty"),
-        Reason::BelowItself => text(out, b"BelowItself"),
-        Reason::TooManyLinks => text(out, b"TooManyLinks"),
-        Reason::TooBig => text(out, b"TooBig"),
-        Reason::NoSearch => text(out, b"NoSearch"),
-        Reason::NoWrite => text(out, b"NoWrite"),
-        Reason::NotOwner => text(out, b"NotOwner"),
-        Reason::NoLease(node) => numbered(out, b"NoLease", u64::from(node)),
+        Reason::NoLease(node) => numbered(out, name, u64::from(node)),
+        _ => text(out, name),
+    }
+}
+
+fn reason_name(reason: Reason) -> &'static [u8]
+    ensures name { result.now ≡ reason_name reason }
+    ensures short { length result.now ≤ 16 }
+{
+    match reason {
+        Reason::NoSuchNode => b"NoSuchNode",
+        Reason::NotDirectory => b"NotDirectory",
+        Reason::IsDirectory => b"IsDirectory",
+        Reason::NoSuchName => b"NoSuchName",
+        Reason::NameTaken => b"NameTaken",
+        Reason::NumberTaken => b"NumberTaken",
+        Reason::NumberNotGranted => b"NumberNotGranted",
+        Reason::NotEmpty => b"NotEmpty",
+        Reason::BelowItself => b"BelowItself",
+        Reason::TooManyLinks => b"TooManyLinks",
+        Reason::TooBig => b"TooBig",
+        Reason::NoSearch => b"NoSearch",
+        Reason::NoWrite => b"NoWrite",
+        Reason::NotOwner => b"NotOwner",
+        Reason::NoLease(_) => b"NoLease",
     }
 }
 
 /// Appends why a lease was refused.
+#[tactic(auto, using(crate::proofs::Texts::lease_without_number))]
 pub fn lease_fault<A: Allocator>(out: &mut Vec<u8, A>, fault: LeaseFault)
     requires { 60 ≤ spare_of out.old }
     ensures spare { spare_of out.old ≤ spare_of out.new + 60 }
     ensures items { out.new.items ≡ out.old.items ++ lease_text fault }
 {
+    let name = lease_name(fault);
     match fault {
-        LeaseFault::UnknownClient => text(out, b"UnknownClient"),
-        LeaseFault::BadPath => text(out, b"BadPath"),
-        LeaseFault::NoSuchName(component) => numbered(out, b"NoSuchName", component as u64),
-        LeaseFault::NotDirectory(component) => numbered(out, b"NotDirectory", component as u64),
-        LeaseFault::NoSearch(component) => numbered(out, b"NoSearch", component as u64),
-        LeaseFault::Past => text(out, b"Past"),
-        LeaseFault::LeaseHeld(client) => numbered(out, b"LeaseHeld", u64::from(client)),
-        LeaseFault::NoLeaseHeld => text(out, b"NoLeaseHeld"),
-        LeaseFault::Backwards => text(out, b"Backwards"),
-        LeaseFault::OutOfMemory => text(out, b"OutOfMemory"),
+        LeaseFault::NoSuchName(component)
+        | LeaseFault::NotDirectory(component)
+        | LeaseFault::NoSearch(component) => numbered(out, name, component as u64),
+        LeaseFault::LeaseHeld(client) => numbered(out, name, u64::from(client)),
+        _ => text(out, name),
+    }
+}
+
+fn lease_name(fault: LeaseFault) -> &'static [u8]
+    ensures name { result.now ≡ lease_name fault }
+    ensures short { length result.now ≤ 13 }
+{
+    match fault {
+        LeaseFault::UnknownClient => b"UnknownClient",
+        LeaseFault::BadPath => b"BadPath",
+        LeaseFault::NoSuchName(_) => b"NoSuchName",
+        LeaseFault::NotDirectory(_) => b"NotDirectory",
+        LeaseFault::NoSearch(_) => b"NoSearch",
+        LeaseFault::Past => b"Past",
+        LeaseFault::LeaseHeld(_) => b"LeaseHeld",
+        LeaseFault::NoLeaseHeld => b"NoLeaseHeld",
+        LeaseFault::Backwards => b"Backwards",
+        LeaseFault::OutOfMemory => b"OutOfMemory",
     }
 }
 

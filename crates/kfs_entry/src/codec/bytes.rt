@@ -1,14 +1,13 @@
 //! Bytes at a place of the source.
-ghost use Rattle.std.specs.Prelude.{◌≡◌, ◌+◌, ◌<◌, ◌≤◌, length, take, drop, MatchOption, IfSome};
+ghost use Rattle.std.specs.Prelude.{◌≡◌, ◌+◌, ◌<◌, ◌≤◌, length, drop, IfNone, IfSome};
 ghost use Rattle.kfs_model.proofs.Reading.{bytes_read};
-ghost use Rattle.kfs_entry.specs.Reading.{seen};
+ghost use Rattle.kfs_entry.specs.Reading.{IsChunk, seen};
 
 /// The `N` bytes that stand at `at`, and the place after them.
 pub fn chunk<const N: usize>(source: &[u8], at: usize) -> Option<(&[u8; N], usize)>
     requires { at ≤ length source.now }
-    ensures { MatchOption result (length (drop at source.now) < N)
-        (λ x. (x.0.now ≡ take N (drop at source.now)) × (drop x.1 source.now ≡ drop N (drop at source.now)) × (x.1 ≤ length source.now)
-        × (N ≤ length (drop at source.now))) }
+    ensures none { IfNone result (length (drop at source.now) < N) }
+    ensures found { IfSome result (λ x. IsChunk source.now at N x.0.now x.1) }
 {
     let (front, _) = source[at..].split_first_chunk::<N>()?;
     Some((front, at + N))

@@ -1,9 +1,9 @@
 //! What stands before the rows of a log and of a plan.
-ghost use Rattle.std.specs.Prelude.{◌≡◌, ◌≤◌, ◌++◌, length, drop, None, Some, IfSome, IfNone, OnOk, MatchOption};
+ghost use Rattle.std.specs.Prelude.{◌≡◌, ◌≤◌, ◌++◌, length, drop, option_map, IfSome, IfNone, OnOk};
 ghost use Rattle.kfs_model.specs.Spelling.{BeginsWithNo, IsLogHeader, log_header, AreCounts, plan_header};
 ghost use Rattle.kfs_entry.specs.Headers.{log_header_of, counts_of};
 ghost use Rattle.kfs_model.proofs.Reading.{mark_read, count_read, log_header_read, plan_header_read};
-ghost use Rattle.kfs_entry.specs.Reading.{seen};
+ghost use Rattle.kfs_entry.specs.Reading.{StandsIn, seen};
 
 use crate::codec::{number16, number32};
 use std::alloc::{AllocError, Allocator};
@@ -41,8 +41,8 @@ pub struct PlanCounts {
 #[tactic(auto, unfolding(kfs_model::proofs::Reading::mark_read))]
 fn read_mark(source: &[u8], at: usize, mark: &[u8]) -> Option<usize>
     requires { at ≤ length source.now }
-    ensures { MatchOption result (mark_read mark.now (drop at source.now) ≡ None)
-        (λ next. (mark_read mark.now (drop at source.now) ≡ Some (tt, drop next source.now)) × (next ≤ length source.now)) }
+    ensures value { option_map (λ next. (tt, drop next source.now)) result ≡ mark_read mark.now (drop at source.now) }
+    ensures within { IfSome result (λ next. next ≤ length source.now) }
 {
     if !source[at..].starts_with(mark) {
         return None;
@@ -93,8 +93,7 @@ fn plan_counts(source: &[u8]) -> Option<(PlanCounts, usize)>
 
 /// The header that a log begins with, and the place after it.
 pub fn read_log(source: &[u8]) -> Option<(LogCounts, usize)>
-    ensures found { IfSome result (λ x. (x.1 ≤ length source.now) × IsLogHeader (log_header_of x.0)
-        × (source.now ≡ log_header (log_header_of x.0) ++ drop x.1 source.now)) }
+    ensures found { IfSome result (λ x. IsLogHeader (log_header_of x.0) × StandsIn source.now 0 x.1 (log_header (log_header_of x.0))) }
     ensures none { IfNone result (BeginsWithNo IsLogHeader log_header source.now) }
 {
     log_counts(source)
@@ -102,8 +101,7 @@ pub fn read_log(source: &[u8]) -> Option<(LogCounts, usize)>
 
 /// The header that a plan begins with, and the place after it.
 pub fn read_plan(source: &[u8]) -> Option<(PlanCounts, usize)>
-    ensures found { IfSome result (λ x. (x.1 ≤ length source.now) × AreCounts (counts_of x.0)
-        × (source.now ≡ plan_header (counts_of x.0) ++ drop x.1 source.now)) }
+    ensures found { IfSome result (λ x. AreCounts (counts_of x.0) × StandsIn source.now 0 x.1 (plan_header (counts_of x.0))) }
     ensures none { IfNone result (BeginsWithNo AreCounts plan_header source.now) }
 {
     plan_counts(source)

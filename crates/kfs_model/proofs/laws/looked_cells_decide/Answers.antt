@@ -6,4 +6,4 @@ pub returns-clause-decides : goal.returns-clause-decides
 returns-clause-decides c = goes_alike
 
 pub returns-clause-of_trees : goal.returns-clause-of_trees
-returns-clause-of_trees c = same_looked_trees
+returns-clause-of_trees c client one other entries fit = same_looked_trees client one other entries fit.first fit.second

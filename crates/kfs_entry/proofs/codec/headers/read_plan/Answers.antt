@@ -1,4 +1,4 @@
-use Rattle.std.proofs.Common.{◌≤◌, length, arith}
+use Rattle.std.proofs.Common.{arith}
 use Rattle.kfs_entry.specs.Headers.{counts_of}
 use Rattle.kfs_model.proofs.HeaderLaws.{plan_header_field}
 use Rattle.kfs_entry.proofs.Found.{is_found, is_none}
@@ -6,7 +6,7 @@ use Rattle.kfs_entry.proofs.codec.headers.read_plan.Goals as goal
 
 pub returns-clause-found : goal.returns-clause-found
 returns-clause-found c =
-    is_found counts_of (λ x. x.1 ≤ length c.args.source.now) plan_header_field c.args.source.now 0 c.plan_counts.result (λ i. omega (arith, c.type_inv.source i)) c.plan_counts.ensures.value c.plan_counts.ensures.within
+    is_found counts_of plan_header_field c.args.source.now 0 c.plan_counts.result (λ i. omega (arith, c.type_inv.source i)) c.plan_counts.ensures.value c.plan_counts.ensures.within
 
 pub returns-clause-none : goal.returns-clause-none
 returns-clause-none c =

@@ -1,4 +1,4 @@
-use Rattle.std.proofs.Common.{◌≤◌, length, drop, arith}
+use Rattle.std.proofs.Common.{drop, arith}
 use Rattle.kfs_value.specs.Views.{node_row_of}
 use Rattle.kfs_model.proofs.PlanLaws.{node_row_field}
 use Rattle.kfs_entry.proofs.Found.{is_found, is_none}
@@ -6,7 +6,7 @@ use Rattle.kfs_entry.proofs.codec.node_row.NodeRowRow.read.Goals as goal
 
 pub returns-clause-found : goal.returns-clause-found
 returns-clause-found c =
-    is_found node_row_of (λ x. x.1 ≤ length c.args.source.now) node_row_field c.args.source.now c.args.at c.read_row.result (λ i. omega (arith, c.type_inv.source i)) c.read_row.ensures.value c.read_row.ensures.within
+    is_found node_row_of node_row_field c.args.source.now c.args.at c.read_row.result (λ i. omega (arith, c.type_inv.source i)) c.read_row.ensures.value c.read_row.ensures.within
 
 pub returns-clause-none : goal.returns-clause-none
 returns-clause-none c = is_none node_row_of node_row_field c.args.source.now (drop c.args.at c.args.source.now) c.read_row.result c.read_row.ensures.value
