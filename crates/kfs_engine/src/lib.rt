@@ -1,10 +1,9 @@
 //! The engine: command lines in, and the replies of the desk out.
 #![tactic(auto)]
 
-ghost use Rattle.std.specs.Prelude.{◌≡◌, ◌<◌, [], length, IfErr, IfOk, OnOk};
+ghost use Rattle.std.specs.Prelude.{◌≡◌, ◌<◌, length, IfErr, IfOk, OnOk};
 ghost use Rattle.std.specs.Io.KnownBytes.{IsAtEnd};
 ghost use Rattle.kfs_engine.specs.Conversation.{IsSession};
-ghost use Rattle.kfs_engine.specs.Progress.{StandsAt};
 ghost use Rattle.kfs_text.specs.Streams.{Exchanges};
 
 mod command;
@@ -46,8 +45,7 @@ where
     ensures end { OnOk result (IsAtEnd (I.remaining reader.new)) }
 {
     let mut chunk = new_chunk(alloc)?;
-    let mut conversation = Conversation::new(alloc);
-    answer_all(&mut conversation, reader, &mut chunk, writer)
+    answer_all(alloc, reader, &mut chunk, writer)
 }
 
 fn new_chunk<A: Allocator>(alloc: A) -> Result<Vec<u8, A>, EngineFault>
@@ -57,10 +55,9 @@ fn new_chunk<A: Allocator>(alloc: A) -> Result<Vec<u8, A>, EngineFault>
     Ok(vec![in alloc; 0u8; CHUNK]?)
 }
 
-/// Reads all, a chunk at a time, and answers each line. The conversation is the caller's, so that no way out
-/// of the loop has to drop it.
+/// Reads all, a chunk at a time, and answers each line.
 fn answer_all<A, I, O>(
-    conversation: &mut Conversation<A>,
+    alloc: A,
     reader: &mut I,
     chunk: &mut [u8],
     writer: &mut O,
@@ -69,11 +66,11 @@ where
     A: Allocator + Copy,
     I: Read,
     O: Write,
-    requires chunk { 0 < length chunk.old }
-    requires fresh { StandsAt conversation.old [] [] [] }
+    requires { 0 < length chunk.old }
     ensures session { Exchanges (I.remaining reader.old) (I.remaining reader.new) (O.contents writer.old) (O.contents writer.new) (IsSession result) }
     ensures end { OnOk result (IsAtEnd (I.remaining reader.new)) }
 {
+    let mut conversation = Conversation::new(alloc);
     'reads: for _ in 0..MOST_READS {
         let Some(count) = read_some(reader, chunk)? else {
             continue;
