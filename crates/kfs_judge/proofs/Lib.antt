@@ -8,6 +8,7 @@ pub mod Overlays
 pub mod Failing
 pub mod Climbing
 pub mod Entering
+pub mod Entered
 pub mod Looking
 pub mod Groups
 pub mod CleanLooks

@@ -1,6 +1,7 @@
 -- What a log's judge has made of an entry, and of entries one after another.
-use Rattle.std.specs.Prelude.{◌≡◌, ◌==◌, ℕ, List, ◌∷◌, [], Contains, if◌then◌else◌, ◌++◌, map, Option, Some, None}
+use Rattle.std.specs.Prelude.{◌≡◌, ◌==◌, ℕ, List, ◌∷◌, [], ◌+◌, Contains, if◌then◌else◌, ◌++◌, map, Option, Some, None, Result, Ok, IfOk, OnOk}
 use Rattle.std.specs.Option.{option_map}
+use Rattle.std.specs.declared.alloc.AllocError.{AllocError}
 use Rattle.kfs_model.specs.Entry.{Entry}
 use Rattle.kfs_model.specs.Sight.{ClientSight, Cell, HeaderOf, NameIn}
 use Rattle.kfs_model.specs.Check.{EntryContext, first_fault, entry_cells}
@@ -14,9 +15,9 @@ use Rattle.kfs_judge.specs.declared.check.Reason.{Reason}
 use Rattle.kfs_judge.specs.declared.log_judge.LogJudge.{LogJudge}
 use Rattle.kfs_judge.specs.declared.walk.EntryFault.{EntryFault}
 use Rattle.kfs_judge.specs.Checks.{reason_of}
-use Rattle.kfs_judge.specs.Overlay.{over, entry_context_of, AreCreated, IsWritten}
+use Rattle.kfs_judge.specs.Overlay.{over, entry_context_of, AreCreated, IsWritten, ShiftsBy}
 use Rattle.kfs_judge.specs.Reads.{IsPart}
-use Rattle.kfs_judge.specs.Recorders.{Known, ReadsAt}
+use Rattle.kfs_judge.specs.Recorders.{GoesOn, Known, ReadsAt}
 use Rattle.kfs_judge.specs.Walks.{EndsAt}
 
 -- where the next entry is judged, by what the client saw before the log
@@ -51,6 +52,23 @@ module _ {A : Type 0} (old new : LogJudge A) (entry : Entry) where
 
   abbrev pub CreatesItsNumber : Type 0
   CreatesItsNumber = (numbers : List ℕ) → AreCreated old.draft numbers → AreCreated new.draft (created_by entry numbers)
+
+-- an entry, the judge before it and behind it, and what is answered
+module _ {A : Type 0} (old new : LogJudge A) (entry : Entry) where
+  -- the draft has the entry's change, all of it at cells that were looked at
+  pub record MakesItsChange : Type 0 where
+    pub shown : ShowsItsChange old new entry
+    pub written : WritesItsCells old new entry
+    pub created : CreatesItsNumber old new entry
+    pub shifts : (most : ℕ) → ShiftsBy most old.draft → ShiftsBy (most + 3) new.draft
+
+  -- the reason is the entry's first fault; where there is none, its change is made
+  pub record IsEntered (answer : Result (Option Reason) AllocError) : Type 0 where
+    pub goes : GoesOn old.recorder new.recorder
+    pub client : new.client.now ≡ old.client.now
+    pub known : IfOk answer (IsFirstFault old new entry)
+    pub among : OnOk answer (ReadsItsCells old new entry)
+    pub change : answer ≡ Ok None → MakesItsChange
 
 -- a name goes, which leads to this node
 module _ {A : Type 0} (old new : LogJudge A) (d : ℕ) (m : List ℕ) (there : Option ℕ) where

@@ -5,7 +5,7 @@ ghost use Rattle.kfs_value.specs.Views.{header_of};
 ghost use Rattle.kfs_model.specs.Check.{checks_of};
 ghost use Rattle.kfs_model.specs.Entry as entry;
 ghost use Rattle.kfs_model.specs.Header.{Header as HeaderShown};
-ghost use Rattle.kfs_judge.specs.Entered.{IsFirstFault, ReadsItsCells, ShowsItsChange, WritesItsCells};
+ghost use Rattle.kfs_judge.specs.Entered.{IsEntered};
 ghost use Rattle.kfs_judge.specs.Overlay.{has_created, ShiftsBy};
 ghost use Rattle.kfs_judge.specs.Recorders.{GoesOn};
 ghost use Rattle.kfs_judge.specs.Checks.{FindsFault, ReadsCellsOf};
@@ -39,14 +39,7 @@ fn chmod_fault<A: Allocator + Copy>(
 impl<A: Allocator + Copy> LogJudge<'_, A> {
     /// Sets the permission bits of the node `number`, or answers why not.
     pub(crate) fn chmod(&mut self, number: u32, mode: u16) -> Result<Option<Reason>, AllocError>
-        ensures goes { GoesOn self.old.recorder self.new.recorder }
-        ensures client { self.new.client.now ≡ self.old.client.now }
-        ensures known { IfOk result (IsFirstFault self.old self.new (entry.Chmod number mode)) }
-        ensures among { OnOk result (ReadsItsCells self.old self.new (entry.Chmod number mode)) }
-        ensures shown { result ≡ Ok None → ShowsItsChange self.old self.new (entry.Chmod number mode) }
-        ensures written { result ≡ Ok None → WritesItsCells self.old self.new (entry.Chmod number mode) }
-        ensures created { result ≡ Ok None → (n : ℕ) → has_created self.new.draft n ≡ has_created self.old.draft n }
-        ensures shifts { result ≡ Ok None → (most : ℕ) → ShiftsBy most self.old.draft → ShiftsBy (most + 3) self.new.draft }
+        ensures { IsEntered self.old self.new (entry.Chmod number mode) result }
     {
         let judge = EntryJudge {
             client: self.client,

@@ -7,7 +7,7 @@ ghost use Rattle.kfs_model.specs.Header.{Kind as KindShown};
 ghost use Rattle.kfs_model.specs.Entry as entry;
 ghost use Rattle.kfs_model.specs.SeenAfter.{seen_after};
 ghost use Rattle.kfs_model.specs.Sight.{Sight};
-ghost use Rattle.kfs_judge.specs.Entered.{IsFirstFault, ReadsItsCells, ShowsItsChange, WritesItsCells};
+ghost use Rattle.kfs_judge.specs.Entered.{IsEntered};
 ghost use Rattle.kfs_judge.specs.Overlay.{has_created, over, ShiftsBy, HasRoom};
 ghost use Rattle.kfs_judge.specs.Recorders.{GoesOn};
 ghost use Rattle.kfs_judge.specs.Checks.{FindsFault, ReadsCellsOf};
@@ -57,14 +57,7 @@ impl<'a, A: Allocator + Copy> LogJudge<'a, A> {
         mode: u16,
     ) -> Result<Option<Reason>, AllocError>
         requires { HasRoom 3 self.old.draft }
-        ensures goes { GoesOn self.old.recorder self.new.recorder }
-        ensures client { self.new.client.now ≡ self.old.client.now }
-        ensures known { IfOk result (IsFirstFault self.old self.new (entry.Create dir name number (kind_of kind) mode)) }
-        ensures among { OnOk result (ReadsItsCells self.old self.new (entry.Create dir name number (kind_of kind) mode)) }
-        ensures shown { result ≡ Ok None → ShowsItsChange self.old self.new (entry.Create dir name number (kind_of kind) mode) }
-        ensures written { result ≡ Ok None → WritesItsCells self.old self.new (entry.Create dir name number (kind_of kind) mode) }
-        ensures created { result ≡ Ok None → (n : ℕ) → has_created self.new.draft n ≡ ((number == n) || has_created self.old.draft n) }
-        ensures shifts { result ≡ Ok None → (most : ℕ) → ShiftsBy most self.old.draft → ShiftsBy (most + 3) self.new.draft }
+        ensures { IsEntered self.old self.new (entry.Create dir name number (kind_of kind) mode) result }
     {
         let key = (dir, name);
         let judge = EntryJudge {

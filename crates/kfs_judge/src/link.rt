@@ -3,7 +3,7 @@ ghost use Rattle.std.specs.Prelude.{◌≡◌, ℕ, ◌+◌, None, Ok, IfOk, OnO
 ghost use Rattle.kfs_model.specs.Check.{checks_of};
 ghost use Rattle.kfs_model.specs.Entry as entry;
 ghost use Rattle.kfs_judge.specs.Checks.{FindsFault, ReadsCellsOf};
-ghost use Rattle.kfs_judge.specs.Entered.{IsFirstFault, ReadsItsCells, ShowsItsChange, WritesItsCells};
+ghost use Rattle.kfs_judge.specs.Entered.{IsEntered};
 ghost use Rattle.kfs_judge.specs.Overlay.{has_created, HasRoom, ShiftsBy};
 ghost use Rattle.kfs_judge.specs.Recorders.{GoesOn};
 
@@ -52,14 +52,7 @@ impl<A: Allocator + Copy> LogJudge<'_, A> {
         name: Name,
     ) -> Result<Option<Reason>, AllocError>
         requires { HasRoom 3 self.old.draft }
-        ensures goes { GoesOn self.old.recorder self.new.recorder }
-        ensures client { self.new.client.now ≡ self.old.client.now }
-        ensures known { IfOk result (IsFirstFault self.old self.new (entry.Link number dir name)) }
-        ensures among { OnOk result (ReadsItsCells self.old self.new (entry.Link number dir name)) }
-        ensures shown { result ≡ Ok None → ShowsItsChange self.old self.new (entry.Link number dir name) }
-        ensures written { result ≡ Ok None → WritesItsCells self.old self.new (entry.Link number dir name) }
-        ensures created { result ≡ Ok None → (n : ℕ) → has_created self.new.draft n ≡ has_created self.old.draft n }
-        ensures shifts { result ≡ Ok None → (most : ℕ) → ShiftsBy most self.old.draft → ShiftsBy (most + 3) self.new.draft }
+        ensures { IsEntered self.old self.new (entry.Link number dir name) result }
     {
         let key = (dir, name);
         let judge = EntryJudge {

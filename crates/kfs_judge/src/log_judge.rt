@@ -3,7 +3,7 @@ ghost use Rattle.std.specs.Prelude.{◌≡◌, ℕ, ◌+◌, ◌==◌, List, Non
 ghost use Rattle.kfs_value.specs.Views.{entry_of};
 ghost use Rattle.kfs_model.specs.Sight.{Sight, Cell};
 ghost use Rattle.kfs_judge.specs.JudgedEntries.{IsJudged};
-ghost use Rattle.kfs_judge.specs.Entered.{IsFirstFault, ReadsItsCells, ShowsItsChange, WritesItsCells, CreatesItsNumber};
+ghost use Rattle.kfs_judge.specs.Entered.{IsEntered};
 ghost use Rattle.kfs_judge.specs.Overlay.{has_created, over, ShiftsBy, HasRoom, IsWritten};
 ghost use Rattle.kfs_judge.specs.Recorders.{GoesOn, seen_by, Known, ReadsAt};
 ghost use Rattle.kfs_judge.specs.Walks.{IsNetOf};
@@ -70,14 +70,7 @@ impl<'a, A: Allocator + Copy> LogJudge<'a, A> {
     pub(crate) fn enter(&mut self, entry: &Entry<Span>) -> Result<Option<Reason>, AllocError>
         requires judged { IsJudged entry.now }
         requires room { HasRoom 3 self.old.draft }
-        ensures goes { GoesOn self.old.recorder self.new.recorder }
-        ensures client { self.new.client.now ≡ self.old.client.now }
-        ensures known { (source : List ℕ) → IfOk result (IsFirstFault self.old self.new (entry_of source entry.now)) }
-        ensures among { (source : List ℕ) → OnOk result (ReadsItsCells self.old self.new (entry_of source entry.now)) }
-        ensures shown { (source : List ℕ) → result ≡ Ok None → ShowsItsChange self.old self.new (entry_of source entry.now) }
-        ensures written { (source : List ℕ) → result ≡ Ok None → WritesItsCells self.old self.new (entry_of source entry.now) }
-        ensures created { (source : List ℕ) → result ≡ Ok None → CreatesItsNumber self.old self.new (entry_of source entry.now) }
-        ensures shifts { result ≡ Ok None → (most : ℕ) → ShiftsBy most self.old.draft → ShiftsBy (most + 3) self.new.draft }
+        ensures { (source : List ℕ) → IsEntered self.old self.new (entry_of source entry.now) result }
     {
         entry_table!(enter_case(self, entry))
     }

@@ -3,7 +3,7 @@ ghost use Rattle.std.specs.Prelude.{◌≡◌, true, false, ℕ, ◌+◌, Some, 
 ghost use Rattle.kfs_model.specs.Check.{checks_of, arrival_checks, may_go, on_number, rename_checks};
 ghost use Rattle.kfs_model.specs.Entry as entry;
 ghost use Rattle.kfs_judge.specs.Checks.{FindsFault, FindsFirst, ReadsCellsOf, ReadsCellsOfAll};
-ghost use Rattle.kfs_judge.specs.Entered.{IsFirstFault, ReadsItsCells, ShowsItsChange, WritesItsCells, headers_renamed, ShowsRename, WritesRename};
+ghost use Rattle.kfs_judge.specs.Entered.{IsEntered, headers_renamed, ShowsRename, WritesRename};
 ghost use Rattle.kfs_judge.specs.Overlay.{has_created, HasRoom, ShiftsBy};
 ghost use Rattle.kfs_judge.specs.Recorders.{GoesOn, ReadsAt};
 ghost use Rattle.kfs_value.specs.Views.{kind_of};
@@ -154,14 +154,7 @@ impl<A: Allocator + Copy> LogJudge<'_, A> {
         new_name: Name,
     ) -> Result<Option<Reason>, AllocError>
         requires { HasRoom 3 self.old.draft }
-        ensures goes { GoesOn self.old.recorder self.new.recorder }
-        ensures client { self.new.client.now ≡ self.old.client.now }
-        ensures known { IfOk result (IsFirstFault self.old self.new (entry.Rename dir name new_dir new_name)) }
-        ensures among { OnOk result (ReadsItsCells self.old self.new (entry.Rename dir name new_dir new_name)) }
-        ensures shown { result ≡ Ok None → ShowsItsChange self.old self.new (entry.Rename dir name new_dir new_name) }
-        ensures written { result ≡ Ok None → WritesItsCells self.old self.new (entry.Rename dir name new_dir new_name) }
-        ensures created { result ≡ Ok None → (n : ℕ) → has_created self.new.draft n ≡ has_created self.old.draft n }
-        ensures shifts { result ≡ Ok None → (most : ℕ) → ShiftsBy most self.old.draft → ShiftsBy (most + 3) self.new.draft }
+        ensures { IsEntered self.old self.new (entry.Rename dir name new_dir new_name) result }
     {
         let (key, new_key) = ((dir, name), (new_dir, new_name));
         let judge = EntryJudge {

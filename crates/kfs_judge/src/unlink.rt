@@ -3,7 +3,7 @@ ghost use Rattle.std.specs.Prelude.{◌≡◌, ℕ, ◌+◌, None, Ok, IfOk, OnO
 ghost use Rattle.kfs_model.specs.Check.{checks_of, may_go};
 ghost use Rattle.kfs_model.specs.Entry as entry;
 ghost use Rattle.kfs_judge.specs.Checks.{FindsFault, FindsFirst, ReadsCellsOf, ReadsCellsOfAll};
-ghost use Rattle.kfs_judge.specs.Entered.{IsFirstFault, ReadsItsCells, ShowsItsChange, WritesItsCells, headers_unlinked, ShowsUnlink, WritesUnlink};
+ghost use Rattle.kfs_judge.specs.Entered.{IsEntered, headers_unlinked, ShowsUnlink, WritesUnlink};
 ghost use Rattle.kfs_judge.specs.Overlay.{has_created, HasRoom, ShiftsBy};
 ghost use Rattle.kfs_judge.specs.Recorders.{GoesOn, ReadsAt};
 ghost use Rattle.kfs_value.specs.Views.{kind_of};
@@ -74,14 +74,7 @@ impl<A: Allocator + Copy> LogJudge<'_, A> {
         kind: Kind,
     ) -> Result<Option<Reason>, AllocError>
         requires { HasRoom 3 self.old.draft }
-        ensures goes { GoesOn self.old.recorder self.new.recorder }
-        ensures client { self.new.client.now ≡ self.old.client.now }
-        ensures known { IfOk result (IsFirstFault self.old self.new (entry.Unlink dir name (kind_of kind))) }
-        ensures among { OnOk result (ReadsItsCells self.old self.new (entry.Unlink dir name (kind_of kind))) }
-        ensures shown { result ≡ Ok None → ShowsItsChange self.old self.new (entry.Unlink dir name (kind_of kind)) }
-        ensures written { result ≡ Ok None → WritesItsCells self.old self.new (entry.Unlink dir name (kind_of kind)) }
-        ensures created { result ≡ Ok None → (n : ℕ) → has_created self.new.draft n ≡ has_created self.old.draft n }
-        ensures shifts { result ≡ Ok None → (most : ℕ) → ShiftsBy most self.old.draft → ShiftsBy (most + 3) self.new.draft }
+        ensures { IsEntered self.old self.new (entry.Unlink dir name (kind_of kind)) result }
     {
         let key = (dir, name);
         let judge = EntryJudge {

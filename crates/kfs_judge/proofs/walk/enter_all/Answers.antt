@@ -1,5 +1,5 @@
 -- Each entry leaves the run of the ones behind it, and the first bad one is the answer.
-use Rattle.std.proofs.Common.{◌≡◌, ◌+◌, ◌*◌, ◌++◌, map, drop, length, ◌≤◌, Some, None, Ok, ap, subst, ◌∙◌, arith}
+use Rattle.std.proofs.Common.{◌≡◌, ◌+◌, ◌*◌, ◌++◌, [], map, drop, length, ◌≤◌, Some, None, Ok, ap, subst, ◌∙◌, arith}
 use Rattle.std.specs.Option.{option_map}
 use Rattle.kfs_model.specs.Check.{first_fault, looked, checks_of}
 use Rattle.kfs_model.specs.SeenAfter.{seen_after}
@@ -27,10 +27,16 @@ pub enter-requires-clause-room : goal.enter-requires-clause-room
 enter-requires-clause-room g c = shifts_wider c.loop-index.judge.draft (3 * c.loop-index.index) 2147483644 (omega (arith, c.loop-index-test.true, c.requires.count)) c.loop-index.invariant.shifts
 
 pub returns-in_err-reason-clause-goes : goal.returns-in_err-reason-clause-goes
-returns-in_err-reason-clause-goes g c = goes_then c.loop-index.invariant.goes c.in_err-reason.ensures.goes
+returns-in_err-reason-clause-goes g c = goes_then c.loop-index.invariant.goes (c.in_err-reason.ensures []).goes
 
 pub returns-in-Some-clause-goes : goal.returns-in-Some-clause-goes
-returns-in-Some-clause-goes g c = goes_then c.loop-index.invariant.goes c.in_ok-reason.ensures.goes
+returns-in-Some-clause-goes g c = goes_then c.loop-index.invariant.goes (c.in_ok-reason.ensures []).goes
+
+pub returns-in_err-reason-clause-client : goal.returns-in_err-reason-clause-client
+returns-in_err-reason-clause-client g c = (c.in_err-reason.ensures []).client ∙ c.loop-index.invariant.client
+
+pub returns-in-Some-clause-client : goal.returns-in-Some-clause-client
+returns-in-Some-clause-client g c = (c.in_ok-reason.ensures []).client ∙ c.loop-index.invariant.client
 
 pub returns-in-Some-clause-known : goal.returns-in-Some-clause-known
 returns-in-Some-clause-known g c state agrees source =
@@ -40,8 +46,8 @@ returns-in-Some-clause-known g c state agrees source =
     let on = subst (λ es. RunsOn client c.loop-index.judge.draft c.loop-index.judge.recorder.reads.entries (map (entry_of source) c.args.entries.now) es c.loop-index.index)
     (map-drop-cons (entry_of source) c.args.entries.now c.loop-index.index item c.loop-index-test.true c.index-entries-index.is) (c.loop-index.invariant.runs source) in
     runs_fails client c.loop-index.judge.draft c.loop-index.judge.recorder.reads.entries c.enter.new.self.recorder.reads.entries (map (entry_of source) c.args.entries.now) rest (entry_of source item) c.loop-index.index (reason_of c.in-Some.reason)
-    on c.in_ok-reason.ensures.goes.grows
-    (λ s a. subst (λ cl. first_fault (entry_context_of cl c.loop-index.judge.draft s) (entry_of source item) ≡ Some (reason_of c.in-Some.reason)) c.loop-index.invariant.client (c.in_ok-reason.ensures.known source s a ∙ ap (option_map reason_of) c.in-Some.is))
+    on (c.in_ok-reason.ensures source).goes.grows
+    (λ s a. subst (λ cl. first_fault (entry_context_of cl c.loop-index.judge.draft s) (entry_of source item) ≡ Some (reason_of c.in-Some.reason)) c.loop-index.invariant.client ((c.in_ok-reason.ensures source).known s a ∙ ap (option_map reason_of) c.in-Some.is))
     state agrees
 
 pub returns-in-Some-clause-among : goal.returns-in-Some-clause-among
@@ -52,15 +58,15 @@ returns-in-Some-clause-among g c state agrees source =
     let on = subst (λ es. LooksOn client c.loop-index.judge.draft c.args.judge.now.recorder.reads.entries c.loop-index.judge.recorder.reads.entries (map (entry_of source) c.args.entries.now) es)
     (map-drop-cons (entry_of source) c.args.entries.now c.loop-index.index item c.loop-index-test.true c.index-entries-index.is) (c.loop-index.invariant.looks source) in
     looks_fails client c.loop-index.judge.draft c.args.judge.now.recorder.reads.entries c.loop-index.judge.recorder.reads.entries c.enter.new.self.recorder.reads.entries (map (entry_of source) c.args.entries.now) rest (entry_of source item)
-    on c.in_ok-reason.ensures.goes.grows
-    (λ s a. subst (λ cl. Within c.loop-index.judge.recorder.reads.entries c.enter.new.self.recorder.reads.entries (looked (entry_context_of cl c.loop-index.judge.draft s) (checks_of (entry_context_of cl c.loop-index.judge.draft s) (entry_of source item)))) c.loop-index.invariant.client (c.in_ok-reason.ensures.among source s a))
+    on (c.in_ok-reason.ensures source).goes.grows
+    (λ s a. subst (λ cl. Within c.loop-index.judge.recorder.reads.entries c.enter.new.self.recorder.reads.entries (looked (entry_context_of cl c.loop-index.judge.draft s) (checks_of (entry_context_of cl c.loop-index.judge.draft s) (entry_of source item)))) c.loop-index.invariant.client ((c.in_ok-reason.ensures source).among s a))
     state agrees
 
 pub loop-index-preserved : goal.loop-index-preserved
 loop-index-preserved g c = record {
-  client = c.in_ok-reason.ensures.client ∙ c.loop-index.invariant.client;
-  goes = goes_then c.loop-index.invariant.goes c.in_ok-reason.ensures.goes;
-  shifts = shifts_wider c.enter.new.self.draft (3 * c.loop-index.index + 3) (3 * (c.loop-index.index + 1)) (omega arith) (c.in_ok-reason.ensures.shifts (ap Ok c.in_default.is) (3 * c.loop-index.index) c.loop-index.invariant.shifts);
+  client = (c.in_ok-reason.ensures []).client ∙ c.loop-index.invariant.client;
+  goes = goes_then c.loop-index.invariant.goes (c.in_ok-reason.ensures []).goes;
+  shifts = shifts_wider c.enter.new.self.draft (3 * c.loop-index.index + 3) (3 * (c.loop-index.index + 1)) (omega arith) (((c.in_ok-reason.ensures []).change (ap Ok c.in_default.is)).shifts (3 * c.loop-index.index) c.loop-index.invariant.shifts);
   runs = λ source.
       let client = c.args.judge.now.client.now in
       let item = c.index-entries-index.result in
@@ -68,10 +74,10 @@ loop-index-preserved g c = record {
       let on = subst (λ es. RunsOn client c.loop-index.judge.draft c.loop-index.judge.recorder.reads.entries (map (entry_of source) c.args.entries.now) es c.loop-index.index)
       (map-drop-cons (entry_of source) c.args.entries.now c.loop-index.index item c.loop-index-test.true c.index-entries-index.is) (c.loop-index.invariant.runs source) in
       runs_next client c.loop-index.judge.draft c.enter.new.self.draft c.loop-index.judge.recorder.reads.entries c.enter.new.self.recorder.reads.entries (map (entry_of source) c.args.entries.now) rest (entry_of source item) c.loop-index.index
-      on c.in_ok-reason.ensures.goes.grows
-      (λ s a. subst (λ cl. first_fault (entry_context_of cl c.loop-index.judge.draft s) (entry_of source item) ≡ None) c.loop-index.invariant.client (c.in_ok-reason.ensures.known source s a ∙ ap (option_map reason_of) c.in_default.is))
-      (λ s a. subst (λ cl. over c.enter.new.self.draft s.sight ≡ seen_after cl (over c.loop-index.judge.draft s.sight) (entry_of source item)) c.loop-index.invariant.client (c.in_ok-reason.ensures.shown source (ap Ok c.in_default.is) s a))
-      (c.in_ok-reason.ensures.created source (ap Ok c.in_default.is));
+      on (c.in_ok-reason.ensures source).goes.grows
+      (λ s a. subst (λ cl. first_fault (entry_context_of cl c.loop-index.judge.draft s) (entry_of source item) ≡ None) c.loop-index.invariant.client ((c.in_ok-reason.ensures source).known s a ∙ ap (option_map reason_of) c.in_default.is))
+      (λ s a. subst (λ cl. over c.enter.new.self.draft s.sight ≡ seen_after cl (over c.loop-index.judge.draft s.sight) (entry_of source item)) c.loop-index.invariant.client (((c.in_ok-reason.ensures source).change (ap Ok c.in_default.is)).shown s a))
+      (((c.in_ok-reason.ensures source).change (ap Ok c.in_default.is)).created);
   looks = λ source.
       let client = c.args.judge.now.client.now in
       let item = c.index-entries-index.result in
@@ -79,12 +85,12 @@ loop-index-preserved g c = record {
       let on = subst (λ es. LooksOn client c.loop-index.judge.draft c.args.judge.now.recorder.reads.entries c.loop-index.judge.recorder.reads.entries (map (entry_of source) c.args.entries.now) es)
       (map-drop-cons (entry_of source) c.args.entries.now c.loop-index.index item c.loop-index-test.true c.index-entries-index.is) (c.loop-index.invariant.looks source) in
       looks_next client c.loop-index.judge.draft c.enter.new.self.draft c.args.judge.now.recorder.reads.entries c.loop-index.judge.recorder.reads.entries c.enter.new.self.recorder.reads.entries (map (entry_of source) c.args.entries.now) rest (entry_of source item)
-      on c.in_ok-reason.ensures.goes.grows
-      (λ s a. subst (λ cl. first_fault (entry_context_of cl c.loop-index.judge.draft s) (entry_of source item) ≡ None) c.loop-index.invariant.client (c.in_ok-reason.ensures.known source s a ∙ ap (option_map reason_of) c.in_default.is))
-      (λ s a. subst (λ cl. Within c.loop-index.judge.recorder.reads.entries c.enter.new.self.recorder.reads.entries (looked (entry_context_of cl c.loop-index.judge.draft s) (checks_of (entry_context_of cl c.loop-index.judge.draft s) (entry_of source item)))) c.loop-index.invariant.client (c.in_ok-reason.ensures.among source s a))
-      (λ s a. subst (λ cl. over c.enter.new.self.draft s.sight ≡ seen_after cl (over c.loop-index.judge.draft s.sight) (entry_of source item)) c.loop-index.invariant.client (c.in_ok-reason.ensures.shown source (ap Ok c.in_default.is) s a))
-      (c.in_ok-reason.ensures.created source (ap Ok c.in_default.is))
-      (λ s a among written. subst (λ cl. IsWritten c.enter.new.self.draft (looked (entry_context_of cl c.loop-index.judge.draft s) (checks_of (entry_context_of cl c.loop-index.judge.draft s) (entry_of source item)) ++ among)) c.loop-index.invariant.client (c.in_ok-reason.ensures.written source (ap Ok c.in_default.is) s a among written));
+      on (c.in_ok-reason.ensures source).goes.grows
+      (λ s a. subst (λ cl. first_fault (entry_context_of cl c.loop-index.judge.draft s) (entry_of source item) ≡ None) c.loop-index.invariant.client ((c.in_ok-reason.ensures source).known s a ∙ ap (option_map reason_of) c.in_default.is))
+      (λ s a. subst (λ cl. Within c.loop-index.judge.recorder.reads.entries c.enter.new.self.recorder.reads.entries (looked (entry_context_of cl c.loop-index.judge.draft s) (checks_of (entry_context_of cl c.loop-index.judge.draft s) (entry_of source item)))) c.loop-index.invariant.client ((c.in_ok-reason.ensures source).among s a))
+      (λ s a. subst (λ cl. over c.enter.new.self.draft s.sight ≡ seen_after cl (over c.loop-index.judge.draft s.sight) (entry_of source item)) c.loop-index.invariant.client (((c.in_ok-reason.ensures source).change (ap Ok c.in_default.is)).shown s a))
+      (((c.in_ok-reason.ensures source).change (ap Ok c.in_default.is)).created)
+      (λ s a among written. subst (λ cl. IsWritten c.enter.new.self.draft (looked (entry_context_of cl c.loop-index.judge.draft s) (checks_of (entry_context_of cl c.loop-index.judge.draft s) (entry_of source item)) ++ among)) c.loop-index.invariant.client (((c.in_ok-reason.ensures source).change (ap Ok c.in_default.is)).written s a among written));
 }
 
 pub returns-clause-known : goal.returns-clause-known
