@@ -107,6 +107,7 @@ pub fn read_plan(source: &[u8]) -> Option<(PlanCounts, usize)>
     plan_counts(source)
 }
 
+/// Appends the spelling of a log's header.
 pub fn write_log<A: Allocator>(out: &mut Vec<u8, A>, header: LogCounts) -> Result<(), AllocError>
     ensures { OnOk result (out.new.items ≡ out.old.items ++ log_header (log_header_of header)) }
 {
@@ -115,6 +116,7 @@ pub fn write_log<A: Allocator>(out: &mut Vec<u8, A>, header: LogCounts) -> Resul
     number16::write(out, &[], &header.entries)
 }
 
+/// Appends the spelling of a plan's header.
 pub fn write_plan<A: Allocator>(out: &mut Vec<u8, A>, counts: PlanCounts) -> Result<(), AllocError>
     ensures { OnOk result (out.new.items ≡ out.old.items ++ plan_header (counts_of counts)) }
 {
