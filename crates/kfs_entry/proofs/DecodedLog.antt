@@ -12,7 +12,7 @@ use Rattle.kfs_value.specs.declared.entry.Span.{Span}
 use Rattle.kfs_entry.specs.declared.fault.SpellFault.{SpellFault}
 use Rattle.kfs_entry.specs.declared.fault.SpellFault.TheVariants as faults
 use Rattle.kfs_value.specs.Views.{entry_of, IsWithin}
-use Rattle.kfs_entry.specs.RowList.{EntryMissing}
+use Rattle.kfs_entry.specs.Missing.{EntryMissing}
 use Rattle.kfs_entry.specs.Answers.{OnRefusal}
 use Rattle.kfs_entry.proofs.RowLaws.{both_hold, AllByRecursion-weaker, stand_from, stop_from}
 

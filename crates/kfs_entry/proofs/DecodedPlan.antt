@@ -9,7 +9,8 @@ use Rattle.kfs_value.specs.declared.plan.Piece.{Piece}
 use Rattle.kfs_value.specs.Views.{name_row_of, node_row_of, piece_of}
 use Rattle.kfs_entry.specs.declared.fault.SpellFault.{SpellFault}
 use Rattle.kfs_entry.specs.declared.fault.SpellFault.TheVariants as faults
-use Rattle.kfs_entry.specs.RowList.{AreRead, PartRowMissing}
+use Rattle.kfs_codec.specs.RowList.{AreRead}
+use Rattle.kfs_entry.specs.Missing.{PartRowMissing}
 use Rattle.kfs_entry.specs.Answers.{OnRefusal}
 use Rattle.kfs_entry.proofs.RowLaws.{stand_from, stop_from}
 

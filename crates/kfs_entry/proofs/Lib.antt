@@ -1,6 +1,5 @@
 -- Lemmas on what was decoded and encoded.
 pub mod RowLaws
-pub mod Found
 pub mod Answered
 pub mod DecodedLog
 pub mod DecodedPlan

@@ -1,24 +1,9 @@
--- Rows one after another: one row more.
-use Rattle.std.proofs.Common.{◌≡◌, ℕ, List, [], ◌∷◌, ◌++◌, length, refl, sym, ap, ◌∙◌, append_assoc}
+-- Rows of the code as rows of the definitions.
+use Rattle.std.proofs.Common.{◌≡◌, ℕ, List, [], ◌∷◌, ◌++◌, length, refl, sym, ap, ◌∙◌}
 use Rattle.std.specs.List.{flat_map, AllByRecursion}
-use Rattle.std.proofs.lemmas.List.{flat_map_more, length-map}
+use Rattle.std.proofs.lemmas.List.{length-map}
 use Rattle.std.specs.Prelude.{map}
 use Rattle.kfs_model.specs.Spelling.{AreRows, Begins, Stand, Stop, Stops}
-
-pub AllByRecursion-push : {R : Type 0} (P : R → Type 0) (rows : List R) (row : R) → AllByRecursion P rows → P row → AllByRecursion P (rows ++ row ∷ [])
-AllByRecursion-push P [] row all here = (here, tt)
-AllByRecursion-push P (first ∷ rows) row all here = (all.0, AllByRecursion-push P rows row all.1 here)
-
-pub no_rows : {R : Type 0} (fits : R → Type 0) (spelling : R → List ℕ) (bytes : List ℕ) → AreRows fits spelling [] bytes bytes
-no_rows fits spelling bytes = record { fit = tt; spelled = refl }
-
-pub AreRows-push : {R : Type 0} (fits : R → Type 0) (spelling : R → List ℕ) (rows : List R) (row : R) (bytes middle rest : List ℕ)
-    → AreRows fits spelling rows bytes middle → fits row → middle ≡ spelling row ++ rest → AreRows fits spelling (rows ++ row ∷ []) bytes rest
-AreRows-push fits spelling rows row bytes middle rest before fit next = record {
-  fit = AllByRecursion-push fits rows row before.fit fit;
-  spelled = before.spelled ∙ ap (λ (l : List ℕ). flat_map spelling rows ++ l) next ∙ sym (append_assoc (flat_map spelling rows) (spelling row) rest)
-      ∙ ap (λ (l : List ℕ). l ++ rest) (flat_map_more spelling [] rows row);
-}
 
 -- what is spelled of the values that the rows stand for
 pub flat_map-map : {R V : Type 0} (view : R → V) (spelling : V → List ℕ) (rows : List R) → flat_map spelling (map view rows) ≡ flat_map (λ r. spelling (view r)) rows

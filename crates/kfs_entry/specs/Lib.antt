@@ -1,4 +1,2 @@
-pub mod Reading
-pub mod RowList
+pub mod Missing
 pub mod Answers
-pub mod Headers

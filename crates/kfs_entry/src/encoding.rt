@@ -3,9 +3,8 @@ ghost use Rattle.std.specs.Prelude.{◌≡◌, ◌<◌, ◌^◌, length, IfOk};
 ghost use Rattle.kfs_model.specs.Spelling.{IsLog, log_bytes, plan_bytes};
 ghost use Rattle.kfs_entry.specs.Answers.{log_of, plan_of, SpansAreWithin};
 
-use crate::codec::headers;
-use crate::codec::headers::{LogCounts, PlanCounts};
-use crate::row::{rows_len, write_rows};
+use kfs_codec::headers::{LogCounts, PlanCounts};
+use kfs_codec::{headers, rows_len, write_rows};
 use kfs_value::{Log, Plan};
 use std::alloc::{AllocError, Allocator};
 

@@ -1,17 +1,14 @@
 //! Update logs and digest plans, as values and as bytes.
 #![tactic(auto)]
 
-mod codec;
 mod decoding;
 mod encoding;
 mod fault;
-mod row;
-mod table;
 
 pub use decoding::{decode_log, decode_plan};
 pub use encoding::{encode_log, encode_plan};
 pub use fault::SpellFault;
+pub use kfs_codec::{Row, RowsFault, entry_table, read_rows, write_rows};
 pub use kfs_value::{
     Entry, Header, Kind, Log, Name, NameRow, NodeRow, Piece, Plan, Rows, Source, Span,
 };
-pub use row::{Row, RowsFault, read_rows, write_rows};

@@ -1,0 +1,3 @@
+-- Lemmas on what was read.
+pub mod RowPush
+pub mod Found
