@@ -9,8 +9,10 @@ use crate::{byte, entry_table, kind, mode, name, number32, number64, payload};
 use kfs_value::{Entry, Span};
 use std::alloc::{AllocError, Allocator};
 
-/// The tag of a Write, as the table has it. Only the speed depends on it.
+/// The tags of the entries without names, as the table has them. Only the speed depends on them.
 const WRITE: u8 = 2;
+const TRUNCATE: u8 = 3;
+const CHMOD: u8 = 7;
 
 macro_rules! read_case {
     ([$tag:ident, $source:ident, $at:ident] $($number:literal $variant:ident $call:ident { $($field:ident: $codec:ident),* })*) => {
@@ -63,7 +65,7 @@ fn read_fields_apart(tag: u8, source: &[u8], at: usize) -> Option<(Entry<Span>, 
     read_fields(tag, source, at)
 }
 
-// A frame is cleared at each call, and names are long, so a Write is read in a frame without any.
+// A frame is cleared at each call, and names are long, so an entry without any is read in a frame without.
 #[tactic(auto, unfolding(kfs_model::proofs::Reading::entry_read))]
 fn read_entry(source: &[u8], at: usize) -> Option<(Entry<Span>, usize)>
     requires { at ≤ length source.now }
@@ -71,10 +73,11 @@ fn read_entry(source: &[u8], at: usize) -> Option<(Entry<Span>, usize)>
     ensures within { IfSome result (λ x. IsWithin (length source.now) x.0 × (x.1 ≤ length source.now)) }
 {
     let (tag, at) = byte::read(source, at)?;
-    if tag == WRITE {
-        read_fields(WRITE, source, at)
-    } else {
-        read_fields_apart(tag, source, at)
+    match tag {
+        WRITE => read_fields(WRITE, source, at),
+        TRUNCATE => read_fields(TRUNCATE, source, at),
+        CHMOD => read_fields(CHMOD, source, at),
+        _ => read_fields_apart(tag, source, at),
     }
 }
 
