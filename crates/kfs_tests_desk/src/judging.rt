@@ -1,6 +1,6 @@
 //! A view from before a submission, and submissions one after another.
 
-use crate::desks::{create, opening, shows, submission, submit, yes};
+use crate::desks::{FILE, NO_FILE, create, opening, shows, submission, submit, yes};
 use kfs_desk::Desk;
 use kfs_desk::answers::Reply;
 use kfs_image::Name;
@@ -32,27 +32,39 @@ fn is_only_name(desk: &Desk<Global>, name: &Name) -> bool {
         && desk.image().next_name(1, Some(name)).is_none()
 }
 
-/// What the desk answers to the Create of `a`, where there is memory for it.
-fn created(alloc: Global, desk: &mut Desk<Global>) -> Option<Result<Reply, Why>> {
-    let create = create(alloc).ok()?;
-    Some(submit(desk, create))
+/// Whether the desk gives this answer to the Create of `a`.
+fn is_answer_to_create(alloc: Global, desk: &mut Desk<Global>, wanted: Result<Reply, Why>) -> bool {
+    match create(alloc) {
+        Ok(create) => submit(desk, create) == wanted,
+        Err(_) => false,
+    }
 }
 
 /// The Create is accepted, is then seen, and isn't accepted twice.
 fn expect_created(rt: &(impl Abort + AllocGlobal), desk: &mut Desk<Global>, name: &Name) {
-    assert!(rt; created(rt.alloc(), desk) == Some(Ok(yes(1))));
-    assert!(rt; shows(desk.image().shape(), Some(0o644)));
+    assert!(rt; is_answer_to_create(rt.alloc(), desk, Ok(yes(1))));
+    assert!(rt; shows(desk.image().shape(), &FILE));
     assert!(rt; is_only_name(desk, name));
-    assert!(rt; created(rt.alloc(), desk) == Some(Ok(taken(2))));
+    assert!(rt; is_answer_to_create(rt.alloc(), desk, Ok(taken(2))));
+}
+
+/// A view from before the Create shows no file then.
+fn expect_view(
+    rt: &(impl Abort + AllocGlobal),
+    desk: &mut Desk<Global>,
+    name: &Name,
+) -> Result<(), AllocError> {
+    let before = desk.image().shape().clone()?;
+    expect_created(rt, desk, name);
+    assert!(rt; shows(&before, &NO_FILE));
+    Ok(())
 }
 
 #[test]
 fn a_view_from_before_a_create(rt: HostRuntime) -> Result<(), Fail> {
     let name = Name::new(b"a").ok_or("a name")?;
     let mut desk = opening(rt.alloc(), 100).ok_or("an opening")?;
-    let before = desk.image().shape().clone()?;
-    expect_created(&rt, &mut desk, &name);
-    assert!(rt; shows(&before, None));
+    expect_view(&rt, &mut desk, &name)?;
     Ok(())
 }
 
