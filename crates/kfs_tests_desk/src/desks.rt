@@ -5,7 +5,7 @@ use kfs_desk::answers::{Act, ActReply, Done, Reply};
 use kfs_image::{Answer, Cell, Header, Image, Kind, Name, Shape, TierSizes, look};
 use kfs_lease::{LeaseFault, LeaseKind};
 use kfs_mode::{Client, ClientFault};
-use kfs_plan::{Submission, Why};
+use kfs_plan::{Back, Submission, Why};
 use kfs_tests::vectors::{CREATE_LOG, CREATE_PLAN};
 use std::alloc::{AllocError, Allocator};
 
@@ -95,7 +95,7 @@ pub fn opening<A: Allocator + Copy>(alloc: A, limit: u32) -> Option<Desk<A>> {
 pub fn grown<A: Allocator + Copy>(alloc: A, log: &[u8], plan: &[u8]) -> Option<Desk<A>> {
     let mut desk = opening(alloc, 100)?;
     let submission = submission(alloc, log, plan).ok()?;
-    if is_yes(submit(&mut desk, submission), 1) {
+    if is_accepted(&mut desk, submission, 1) {
         Some(desk)
     } else {
         None
@@ -120,14 +120,25 @@ pub fn create<A: Allocator + Copy>(alloc: A) -> Result<Submission<A>, AllocError
     submission(alloc, CREATE_LOG, CREATE_PLAN)
 }
 
-pub fn submit<A: Allocator + Copy>(
+/// Whether the submission was answered so, or came back for this reason.
+pub fn is_answer<A: Allocator>(
+    given: &Result<Reply, Back<A>>,
+    wanted: &Result<Reply, Why>,
+) -> bool {
+    match (given, wanted) {
+        (Ok(reply), Ok(wanted)) => reply == wanted,
+        (Err(back), Err(why)) => back.why == *why,
+        _ => false,
+    }
+}
+
+/// Hands the submission in. Answers whether it is answered so.
+pub fn is_answered<A: Allocator + Copy>(
     desk: &mut Desk<A>,
     submission: Submission<A>,
-) -> Result<Reply, Why> {
-    match desk.submit(submission) {
-        Ok(reply) => Ok(reply),
-        Err(back) => Err(back.why),
-    }
+    wanted: &Result<Reply, Why>,
+) -> bool {
+    is_answer(&desk.submit(submission), wanted)
 }
 
 pub fn yes(position: u32) -> Reply {
@@ -138,9 +149,13 @@ pub fn yes(position: u32) -> Reply {
     }
 }
 
-/// Whether the answer is the yes at this position.
-pub fn is_yes(answer: Result<Reply, Why>, position: u32) -> bool {
-    answer == Ok(yes(position))
+/// Hands the submission in. Answers whether this is accepted, at this position.
+pub fn is_accepted<A: Allocator + Copy>(
+    desk: &mut Desk<A>,
+    submission: Submission<A>,
+    position: u32,
+) -> bool {
+    is_answered(desk, submission, &Ok(yes(position)))
 }
 
 /// What an image shows at a place.

@@ -7,7 +7,7 @@ use kfs_image::Shape;
 use kfs_lease::LeaseKind::{Read, Write};
 use kfs_lease::{LeaseFault, LeaseKind, Leases};
 use kfs_tests::refusing::Refusing;
-use std::alloc::{AllocError, Allocator};
+use std::alloc::{AllocError, Allocator, Global};
 use std::process::Abort;
 use std::test::Fail;
 
@@ -428,15 +428,19 @@ fn make_with_one_refused<B: Allocator>(
     }
 }
 
-/// How many growths the grants make, and then the copy, each of which is refused in turn.
-fn growths(rt: &(impl Abort + AllocGlobal), grants: &[Granted<'_>]) -> Option<(u32, u32)> {
+/// The same on a heap of its own.
+fn make_on_a_heap(alloc: Global, grants: &[Granted<'_>], growth: u64) -> Option<(bool, bool)> {
+    let heap = Refusing::new(alloc, AMPLE);
+    make_with_one_refused(&heap, grants, growth)
+}
+
+/// How many growths the grants make, and then the copy, each of which is refused in turn; none where a call
+/// isn't answered as is due.
+fn growths(alloc: Global, grants: &[Granted<'_>]) -> Option<(u32, u32)> {
     let mut of_grants = 0u32;
     let mut of_copies = 0u32;
     for growth in 0..MANY {
-        let heap = Refusing::new(rt.alloc(), AMPLE);
-        let made = make_with_one_refused(&heap, grants, growth);
-        assert!(rt; made.is_some(), "{growth}");
-        match made? {
+        match make_on_a_heap(alloc, grants, growth)? {
             (true, _) => of_grants = of_grants.saturating_add(1),
             (false, true) => of_copies = of_copies.saturating_add(1),
             (false, false) => return Some((of_grants, of_copies)),
@@ -447,7 +451,9 @@ fn growths(rt: &(impl Abort + AllocGlobal), grants: &[Granted<'_>]) -> Option<(u
 
 #[test]
 fn each_growth_of_a_grant_or_a_copy_refused(rt: HostRuntime) -> Result<(), Fail> {
-    let (of_grants, of_copies) = growths(&rt, &GRANTS).ok_or("few growths")?;
+    let (of_grants, of_copies) = growths(rt.alloc(), &GRANTS).ok_or(
+        "a call is answered otherwise",
+    )?;
     assert!(rt; of_grants > 2 && of_copies > 2, "{of_grants}, {of_copies}");
     Ok(())
 }
@@ -457,25 +463,32 @@ fn is_tree<A: Allocator + Copy>(alloc: A) -> bool {
     tree(alloc).is_some()
 }
 
-/// Whether a tree is made with the growth of this index refused, and whether there was such a growth. After
-/// it a tree is made all the same.
-fn tree_with_one_refused(rt: &(impl Abort + AllocGlobal), growth: u64) -> (bool, bool) {
-    let heap = Refusing::new(rt.alloc(), growth);
+/// Whether a tree is made with the growth of this index refused, and whether there was such a growth. None
+/// where no tree is made after it.
+fn tree_with_one_refused(alloc: Global, growth: u64) -> Option<(bool, bool)> {
+    let heap = Refusing::new(alloc, growth);
     let is_made = is_tree(&heap);
     let has_refused = heap.has_refused();
     heap.refuse_after(AMPLE);
-    assert!(rt; is_tree(&heap), "after {growth}");
-    (is_made, has_refused)
+    if is_tree(&heap) {
+        Some((is_made, has_refused))
+    } else {
+        None
+    }
+}
+
+/// How many growths a tree makes, each of which is refused in turn.
+fn growths_of_a_tree(alloc: Global) -> Option<u64> {
+    for growth in 0..MANY {
+        let (is_made, has_refused) = tree_with_one_refused(alloc, growth)?;
+        if !has_refused {
+            return if is_made { Some(growth) } else { None };
+        }
+    }
+    None
 }
 
 #[test]
 fn each_growth_of_an_opening_and_a_tree_refused(rt: HostRuntime) {
-    for growth in 0..MANY {
-        let (is_made, has_refused) = tree_with_one_refused(&rt, growth);
-        if !has_refused {
-            assert!(rt; is_made && growth > 5, "{growth}");
-            return;
-        }
-    }
-    assert!(rt; false, "more growths than expected");
+    assert!(rt; growths_of_a_tree(rt.alloc()).is_some_and(|count| 5 < count));
 }

@@ -1,8 +1,7 @@
 //! Submissions with each growth refused in turn: the desk is as it was, and then answers yes.
 
 use crate::desks::{
-    AMPLE, Call, Called, FILE, NO_FILE, Shown, called, grown, is_yes, shows, submission, submit,
-    yes,
+    AMPLE, Call, Called, FILE, NO_FILE, Shown, called, grown, is_accepted, shows, submission, yes,
 };
 use kfs_desk::Desk;
 use kfs_desk::answers::Done;
@@ -11,8 +10,7 @@ use kfs_lease::LeaseFault;
 use kfs_plan::{Back, Submission, Why};
 use kfs_tests::refusing::Refusing;
 use kfs_tests::vectors::{CREATE_LOG, CREATE_PLAN, EMPTY_LOG, EMPTY_PLAN};
-use std::alloc::Allocator;
-use std::process::Abort;
+use std::alloc::{Allocator, Global};
 
 /// More growths than a submission makes.
 const MANY: u64 = 400;
@@ -187,7 +185,7 @@ fn handed_in_again<A: Allocator + Copy>(
 ) -> Option<u32> {
     let Back { submission, why } = back;
     let next = stands(desk, position, change.before)?;
-    if why == Why::OutOfMemory && is_yes(submit(desk, submission), next) {
+    if why == Why::OutOfMemory && is_accepted(desk, submission, next) {
         Some(next)
     } else {
         None
@@ -228,22 +226,28 @@ fn change_with_one_refused<B: Allocator>(
     Some((heap.has_refused(), is_wanted))
 }
 
-/// How many growths the change makes, each of which is refused in turn.
-fn growths(rt: &(impl Abort + AllocGlobal), change: &Change<'_>) -> u64 {
+/// The same on a heap of its own.
+fn change_on_a_heap(alloc: Global, change: &Change<'_>, growth: u64) -> Option<(bool, bool)> {
+    let heap = Refusing::new(alloc, AMPLE);
+    change_with_one_refused(&heap, change, growth)
+}
+
+/// How many growths the change makes, each of which is refused in turn; none where a call isn't answered as
+/// is due.
+fn growths(alloc: Global, change: &Change<'_>) -> Option<u64> {
     for growth in 0..MANY {
-        let heap = Refusing::new(rt.alloc(), AMPLE);
-        match change_with_one_refused(&heap, change, growth) {
-            Some((false, false)) => return growth,
-            made => assert!(rt; made.is_some_and(|made| made.0), "{} {growth}", change.name),
+        let (has_refused, is_wanted) = change_on_a_heap(alloc, change, growth)?;
+        if !has_refused {
+            return if is_wanted { None } else { Some(growth) };
         }
     }
-    MANY
+    None
 }
 
 #[test]
 fn each_growth_refused_in_turn(rt: HostRuntime) {
     for change in [&CREATE, &CHMOD, &UNLINK, &RENAME] {
-        let count = growths(&rt, change);
-        assert!(rt; 5 < count && count < MANY, "{} {count}", change.name);
+        let count = growths(rt.alloc(), change);
+        assert!(rt; count.is_some_and(|count| 5 < count), "{}", change.name);
     }
 }

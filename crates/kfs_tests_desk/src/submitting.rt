@@ -1,6 +1,6 @@
 //! Submissions of as many Creates as a log may have.
 
-use crate::desks::{Shown, is_yes, opening, shows, submission, submit};
+use crate::desks::{Shown, is_accepted, opening, shows, submission};
 use kfs_plan::Submission;
 use std::alloc::{AllocError, Global};
 
@@ -76,7 +76,7 @@ fn creates(alloc: Global, is_chain: bool) -> Result<Submission<Global>, AllocErr
 fn are_created(alloc: Global, is_chain: bool, shown: &[Shown<'_>]) -> Option<bool> {
     let mut desk = opening(alloc, 100)?;
     let submission = creates(alloc, is_chain).ok()?;
-    Some(is_yes(submit(&mut desk, submission), 1) && shows(desk.image().shape(), shown))
+    Some(is_accepted(&mut desk, submission, 1) && shows(desk.image().shape(), shown))
 }
 
 /// The last of the files of the first log, and the last directory of the second.
