@@ -410,6 +410,25 @@ fn copy_refused<A: Allocator + Clone, B: Allocator>(
 /// Makes the grants and a copy with the growth of this index refused, which leaves the leases as they
 /// were. Answers whether it was one of a grant, and whether it was one of the copy; none where a call isn't
 /// answered as is due.
+fn make_all<A: Allocator + Clone, B: Allocator>(
+    heap: &Refusing<B>,
+    leases: &mut Leases<A>,
+    shape: &Shape<A>,
+    grants: &[Granted<'_>],
+    growth: u64,
+) -> Option<(bool, bool)> {
+    heap.refuse_after(growth);
+    let of_a_grant = grants_refused(heap, leases, shape, grants)?;
+    let of_the_copy = copy_refused(heap, leases, of_a_grant)?;
+    heap.refuse_after(AMPLE);
+    if are_both_as_granted(leases, grants) {
+        Some((of_a_grant, of_the_copy))
+    } else {
+        None
+    }
+}
+
+/// The same on the tree of this module, from no leases on.
 fn make_with_one_refused<B: Allocator>(
     heap: &Refusing<B>,
     grants: &[Granted<'_>],
@@ -417,15 +436,7 @@ fn make_with_one_refused<B: Allocator>(
 ) -> Option<(bool, bool)> {
     let desk = tree(heap)?;
     let mut leases = Leases::new(heap);
-    heap.refuse_after(growth);
-    let of_a_grant = grants_refused(heap, &mut leases, desk.image().shape(), grants)?;
-    let of_the_copy = copy_refused(heap, &leases, of_a_grant)?;
-    heap.refuse_after(AMPLE);
-    if are_both_as_granted(&leases, grants) {
-        Some((of_a_grant, of_the_copy))
-    } else {
-        None
-    }
+    make_all(heap, &mut leases, desk.image().shape(), grants, growth)
 }
 
 /// The same on a heap of its own.
@@ -434,28 +445,29 @@ fn make_on_a_heap(alloc: Global, grants: &[Granted<'_>], growth: u64) -> Option<
     make_with_one_refused(&heap, grants, growth)
 }
 
-/// How many growths the grants make, and then the copy, each of which is refused in turn; none where a call
-/// isn't answered as is due.
-fn growths(alloc: Global, grants: &[Granted<'_>]) -> Option<(u32, u32)> {
+/// How many growths the grants make, and then the copy, each of which is refused in turn; or the index of
+/// one at which a call isn't answered as is due.
+fn growths(alloc: Global, grants: &[Granted<'_>]) -> Result<(u32, u32), u64> {
     let mut of_grants = 0u32;
     let mut of_copies = 0u32;
     for growth in 0..MANY {
-        match make_on_a_heap(alloc, grants, growth)? {
-            (true, _) => of_grants = of_grants.saturating_add(1),
-            (false, true) => of_copies = of_copies.saturating_add(1),
-            (false, false) => return Some((of_grants, of_copies)),
+        match make_on_a_heap(alloc, grants, growth) {
+            Some((true, _)) => of_grants = of_grants.saturating_add(1),
+            Some((false, true)) => of_copies = of_copies.saturating_add(1),
+            Some((false, false)) => return Ok((of_grants, of_copies)),
+            None => return Err(growth),
         }
     }
-    None
+    Err(MANY)
 }
 
 #[test]
-fn each_growth_of_a_grant_or_a_copy_refused(rt: HostRuntime) -> Result<(), Fail> {
-    let (of_grants, of_copies) = growths(rt.alloc(), &GRANTS).ok_or(
-        "a call is answered otherwise",
-    )?;
-    assert!(rt; of_grants > 2 && of_copies > 2, "{of_grants}, {of_copies}");
-    Ok(())
+fn each_growth_of_a_grant_or_a_copy_refused(rt: HostRuntime) {
+    let counts = growths(rt.alloc(), &GRANTS);
+    assert!(rt;
+        counts.is_ok_and(|(of_grants, of_copies)| 2 < of_grants && 2 < of_copies),
+        "{counts:?}"
+    );
 }
 
 /// Whether there is memory for a tree.
@@ -477,18 +489,21 @@ fn tree_with_one_refused(alloc: Global, growth: u64) -> Option<(bool, bool)> {
     }
 }
 
-/// How many growths a tree makes, each of which is refused in turn.
-fn growths_of_a_tree(alloc: Global) -> Option<u64> {
+/// How many growths a tree makes, each of which is refused in turn; or the index of one behind which no tree
+/// is made.
+fn growths_of_a_tree(alloc: Global) -> Result<u64, u64> {
     for growth in 0..MANY {
-        let (is_made, has_refused) = tree_with_one_refused(alloc, growth)?;
-        if !has_refused {
-            return if is_made { Some(growth) } else { None };
+        match tree_with_one_refused(alloc, growth) {
+            Some((_, true)) => {}
+            Some((true, false)) => return Ok(growth),
+            _ => return Err(growth),
         }
     }
-    None
+    Err(MANY)
 }
 
 #[test]
 fn each_growth_of_an_opening_and_a_tree_refused(rt: HostRuntime) {
-    assert!(rt; growths_of_a_tree(rt.alloc()).is_some_and(|count| 5 < count));
+    let count = growths_of_a_tree(rt.alloc());
+    assert!(rt; count.is_ok_and(|count| 5 < count), "{count:?}");
 }

@@ -11,13 +11,13 @@ use kfs_plan::{Back, Submission, Why};
 use kfs_tests::refusing::Refusing;
 use kfs_tests::vectors::{CREATE_LOG, CREATE_PLAN, EMPTY_LOG, EMPTY_PLAN};
 use std::alloc::{Allocator, Global};
+use std::process::Abort;
 
 /// More growths than a submission makes.
 const MANY: u64 = 400;
 
 /// A change that client 7 hands in, with what stands before and behind it.
 struct Change<'a> {
-    name: &'a str,
     /// A log that makes the nodes, and its plan.
     nodes: (&'a [u8], &'a [u8]),
     /// The leases that are then taken.
@@ -35,7 +35,6 @@ const ROOT_HELD: [Called<'static>; 1] = [(Call::Lease(8, b"/"), Err(LeaseFault::
 
 /// The file `a` in the root.
 const CREATE: Change<'static> = Change {
-    name: "create",
     nodes: (EMPTY_LOG, EMPTY_PLAN),
     leases: &[],
     log: CREATE_LOG,
@@ -51,7 +50,6 @@ const FILE_HELD: [Called<'static>; 1] = [(Call::Lease(8, b"/a"), Err(LeaseFault:
 
 /// The file is closed to all others: mode 0o600.
 const CHMOD: Change<'static> = Change {
-    name: "chmod",
     nodes: (CREATE_LOG, CREATE_PLAN),
     leases: &FILE_LEASED,
     log: b"KLOG\x01\0\0\0\x07\0\x01\x07\0\0\0\x05\x01\x80",
@@ -63,7 +61,6 @@ const CHMOD: Change<'static> = Change {
 
 /// The file's only name goes, and with it the file and the lease on it.
 const UNLINK: Change<'static> = Change {
-    name: "unlink",
     nodes: (CREATE_LOG, CREATE_PLAN),
     leases: &FILE_LEASED,
     log: b"KLOG\x01\0\0\0\x07\0\x01\x05\0\0\0\x01\x01a\0",
@@ -100,7 +97,6 @@ const DIRECTORIES_PLAN: &[u8] =
 
 /// `/p/x`, with all below it, comes to `/q/y`, in the place of the directory there, whose lease ends.
 const RENAME: Change<'static> = Change {
-    name: "rename",
     nodes: (DIRECTORIES_LOG, DIRECTORIES_PLAN),
     leases: &[
         (Call::Lease(7, b"/p"), Ok(Done::Leased(20))),
@@ -211,19 +207,31 @@ fn handed_in<A: Allocator + Copy>(
     }
 }
 
-/// Makes the change with the growth of this index refused. Answers whether there was such a growth, and
-/// whether memory was wanted; none where a call isn't answered as is due.
+/// Makes the change on the desk before it, with the growth of this index refused. Answers whether there was
+/// such a growth, and whether memory was wanted; none where a call isn't answered as is due.
+fn change_from<A: Allocator + Copy, B: Allocator>(
+    alloc: A,
+    heap: &Refusing<B>,
+    desk: &mut Desk<A>,
+    position: u32,
+    change: &Change<'_>,
+    growth: u64,
+) -> Option<(bool, bool)> {
+    let submission = submission(alloc, change.log, change.plan).ok()?;
+    heap.refuse_after(growth);
+    let (position, is_wanted) = handed_in(desk, position, change, submission)?;
+    stands(desk, position.saturating_add(1), change.after)?;
+    Some((heap.has_refused(), is_wanted))
+}
+
+/// The same from the first call on.
 fn change_with_one_refused<B: Allocator>(
     heap: &Refusing<B>,
     change: &Change<'_>,
     growth: u64,
 ) -> Option<(bool, bool)> {
     let (mut desk, position) = desk_before(heap, change)?;
-    let submission = submission(heap, change.log, change.plan).ok()?;
-    heap.refuse_after(growth);
-    let (position, is_wanted) = handed_in(&mut desk, position, change, submission)?;
-    stands(&mut desk, position.saturating_add(1), change.after)?;
-    Some((heap.has_refused(), is_wanted))
+    change_from(heap, heap, &mut desk, position, change, growth)
 }
 
 /// The same on a heap of its own.
@@ -232,22 +240,29 @@ fn change_on_a_heap(alloc: Global, change: &Change<'_>, growth: u64) -> Option<(
     change_with_one_refused(&heap, change, growth)
 }
 
-/// How many growths the change makes, each of which is refused in turn; none where a call isn't answered as
-/// is due.
-fn growths(alloc: Global, change: &Change<'_>) -> Option<u64> {
+/// How many growths the change makes, each of which is refused in turn; or the index of one at which a call
+/// isn't answered as is due.
+fn growths(alloc: Global, change: &Change<'_>) -> Result<u64, u64> {
     for growth in 0..MANY {
-        let (has_refused, is_wanted) = change_on_a_heap(alloc, change, growth)?;
-        if !has_refused {
-            return if is_wanted { None } else { Some(growth) };
+        match change_on_a_heap(alloc, change, growth) {
+            Some((true, _)) => {}
+            Some((false, false)) => return Ok(growth),
+            _ => return Err(growth),
         }
     }
-    None
+    Err(MANY)
+}
+
+/// The change makes growths, and each is refused in turn.
+fn expect_growths(rt: &(impl Abort + AllocGlobal), change: &Change<'_>) {
+    let count = growths(rt.alloc(), change);
+    assert!(rt; count.is_ok_and(|count| 5 < count), "{count:?}");
 }
 
 #[test]
 fn each_growth_refused_in_turn(rt: HostRuntime) {
-    for change in [&CREATE, &CHMOD, &UNLINK, &RENAME] {
-        let count = growths(rt.alloc(), change);
-        assert!(rt; count.is_some_and(|count| 5 < count), "{}", change.name);
-    }
+    expect_growths(&rt, &CREATE);
+    expect_growths(&rt, &CHMOD);
+    expect_growths(&rt, &UNLINK);
+    expect_growths(&rt, &RENAME);
 }
