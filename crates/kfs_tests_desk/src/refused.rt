@@ -261,8 +261,7 @@ fn expect_growths(rt: &(impl Abort + AllocGlobal), change: &Change<'_>) {
 
 #[test]
 fn each_growth_refused_in_turn(rt: HostRuntime) {
-    expect_growths(&rt, &CREATE);
-    expect_growths(&rt, &CHMOD);
-    expect_growths(&rt, &UNLINK);
-    expect_growths(&rt, &RENAME);
+    for change in [&CREATE, &CHMOD, &UNLINK, &RENAME] {
+        expect_growths(&rt, change);
+    }
 }
