@@ -1,37 +1,101 @@
 //! The calls of the desk and of the image, each in a function without clauses.
 
 use kfs_desk::Desk;
-use kfs_desk::answers::{Done, Reply};
+use kfs_desk::answers::{Act, ActReply, Done, Reply};
 use kfs_image::{Answer, Cell, Header, Image, Kind, Name, Shape, TierSizes, look};
-use kfs_lease::LeaseKind;
-use kfs_mode::Client;
-use kfs_plan::{Submission, Why};
+use kfs_lease::{LeaseFault, LeaseKind};
+use kfs_mode::{Client, ClientFault};
+use kfs_plan::{Back, Submission, Why};
 use kfs_tests::vectors::{CREATE_LOG, CREATE_PLAN};
 use std::alloc::{AllocError, Allocator};
 
 /// As many growths as nothing here makes.
 pub const AMPLE: u64 = 1 << 40;
 
-/// The desk of a fresh image and of client 7, of uid and gid 1000, which has the numbers from 2 on.
-fn begun<A: Allocator + Copy>(alloc: A, limit: u32) -> Option<Desk<A>> {
-    let image = Image::fresh(alloc, TierSizes::new(8, 8, 8)?).ok()?;
-    let client = Client::new(7, 1000, 1000, &[], false, 2, 65_536).ok()?;
-    Desk::begin(alloc, image, vec![in alloc; client].ok()?, limit).ok()
+/// A client of uid and gid 1000, which has the numbers from 2 to `last`.
+pub fn client(number: u32, last: u32) -> Result<Client, ClientFault> {
+    Client::new(number, 1000, 1000, &[], false, 2, last)
 }
 
-/// Whether client 7 is given a write lease on the node of this number at the path, until 100.
-pub fn is_leased<A: Allocator + Copy>(desk: &mut Desk<A>, path: &[u8], number: u32) -> bool {
-    match desk.lease(7, path, LeaseKind::Write, 100) {
-        Ok(reply) => reply.answer == Ok(Done::Leased(number)),
+/// The desk of a fresh image and of the clients 7, which has the numbers from 2 on, and 8, which has none.
+fn begun<A: Allocator + Copy>(alloc: A, limit: u32) -> Option<Desk<A>> {
+    let image = Image::fresh(alloc, TierSizes::new(8, 8, 8)?).ok()?;
+    let first = client(7, 65_536).ok()?;
+    let second = client(8, 1).ok()?;
+    Desk::begin(alloc, image, vec![in alloc; first, second].ok()?, limit).ok()
+}
+
+/// A call of the desk for its leases.
+#[derive(Clone, Copy)]
+pub enum Call<'a> {
+    /// A client asks for a write lease on the node of a path, until 100.
+    Lease(u32, &'a [u8]),
+    /// A client gives up its lease on a node.
+    Drop(u32, u32),
+}
+
+/// Such a call, and what it is answered.
+pub type Called<'a> = (Call<'a>, Result<Done, LeaseFault>);
+
+/// The call in the desk's own words.
+fn act_of(call: Call<'_>) -> Act<'_> {
+    match call {
+        Call::Lease(client, path) => Act::Lease {
+            client,
+            path,
+            kind: LeaseKind::Write,
+            end: 100,
+        },
+        Call::Drop(client, number) => Act::Drop { client, number },
+    }
+}
+
+/// Whether both are one.
+fn is_reply(reply: &ActReply, wanted: &ActReply) -> bool {
+    reply == wanted
+}
+
+/// Whether the desk answers the call so, at this position.
+fn is_called<A: Allocator + Copy>(desk: &mut Desk<A>, position: u32, called: &Called<'_>) -> bool {
+    let (call, answer) = *called;
+    match desk.act(act_of(call)) {
+        Ok(reply) => is_reply(&reply, &ActReply { position, answer }),
         Err(_) => false,
     }
+}
+
+/// Makes these calls from this position on. Answers the next position, where each is answered so.
+pub fn called<A: Allocator + Copy>(
+    desk: &mut Desk<A>,
+    position: u32,
+    calls: &[Called<'_>],
+) -> Option<u32> {
+    let mut next = position;
+    for call in calls {
+        if !is_called(desk, next, call) {
+            return None;
+        }
+        next = next.saturating_add(1);
+    }
+    Some(next)
 }
 
 /// Such a desk whose docket takes `limit` rows, and of which client 7 holds a write lease on the root.
 /// The lease is row 0.
 pub fn opening<A: Allocator + Copy>(alloc: A, limit: u32) -> Option<Desk<A>> {
     let mut desk = begun(alloc, limit)?;
-    if is_leased(&mut desk, b"/", 1) {
+    if is_called(&mut desk, 0, &(Call::Lease(7, b"/"), Ok(Done::Leased(1)))) {
+        Some(desk)
+    } else {
+        None
+    }
+}
+
+/// Such a desk of 100 rows, which has answered yes to this log and this plan. That is row 1.
+pub fn grown<A: Allocator + Copy>(alloc: A, log: &[u8], plan: &[u8]) -> Option<Desk<A>> {
+    let mut desk = opening(alloc, 100)?;
+    let submission = submission(alloc, log, plan).ok()?;
+    if is_accepted(&mut desk, submission, 1) {
         Some(desk)
     } else {
         None
@@ -56,14 +120,25 @@ pub fn create<A: Allocator + Copy>(alloc: A) -> Result<Submission<A>, AllocError
     submission(alloc, CREATE_LOG, CREATE_PLAN)
 }
 
-pub fn submit<A: Allocator + Copy>(
+/// Whether the submission was answered so, or came back for this reason.
+pub fn is_answer<A: Allocator>(
+    given: &Result<Reply, Back<A>>,
+    wanted: &Result<Reply, Why>,
+) -> bool {
+    match (given, wanted) {
+        (Ok(reply), Ok(wanted)) => reply == wanted,
+        (Err(back), Err(why)) => back.why == *why,
+        _ => false,
+    }
+}
+
+/// Hands the submission in. Answers whether it is answered so.
+pub fn is_answered<A: Allocator + Copy>(
     desk: &mut Desk<A>,
     submission: Submission<A>,
-) -> Result<Reply, Why> {
-    match desk.submit(submission) {
-        Ok(reply) => Ok(reply),
-        Err(back) => Err(back.why),
-    }
+    wanted: &Result<Reply, Why>,
+) -> bool {
+    is_answer(&desk.submit(submission), wanted)
 }
 
 pub fn yes(position: u32) -> Reply {
@@ -74,33 +149,78 @@ pub fn yes(position: u32) -> Reply {
     }
 }
 
-/// Whether the image shows the file 5 of client 7 with this mode as the only name of the root, `a`, or,
-/// where there is no mode, neither file nor name.
-pub fn shows<A: Allocator>(shape: &Shape<A>, mode: Option<u16>) -> bool {
-    let Some(name) = Name::new(b"a") else {
-        return false;
-    };
-    let header = look(shape, &Cell::Header(5));
-    let number = look(shape, &Cell::Name(1, name));
-    let count = look(shape, &Cell::Count(1));
-    match mode {
-        Some(mode) => {
-            let file = Header {
-                kind: Kind::File,
+/// Hands the submission in. Answers whether this is accepted, at this position.
+pub fn is_accepted<A: Allocator + Copy>(
+    desk: &mut Desk<A>,
+    submission: Submission<A>,
+    position: u32,
+) -> bool {
+    is_answered(desk, submission, &Ok(yes(position)))
+}
+
+/// What an image shows at a place.
+#[derive(Clone, Copy)]
+pub enum Shown<'a> {
+    /// The node is of uid and gid 1000, of this kind and this mode, and has one name and no byte.
+    Node(u32, Kind, u16),
+    /// No node has this number.
+    NoNode(u32),
+    /// The name of a directory leads to this number, or to none.
+    Name(u32, &'a [u8], Option<u32>),
+    /// A directory has so many names.
+    Count(u32, u64),
+    /// The directory that a directory stands in.
+    Parent(u32, Option<u32>),
+}
+
+/// The cell, and what it shows.
+fn cell_of(shown: Shown<'_>) -> Option<(Cell, Answer)> {
+    Some(match shown {
+        Shown::Node(number, kind, mode) => {
+            let header = Header {
+                kind,
                 mode,
                 uid: 1000,
                 gid: 1000,
                 links: 1,
                 size: 0,
             };
-            header == Answer::Header(Some(file))
-                && number == Answer::Name(Some(5))
-                && count == Answer::Count(1)
+            (Cell::Header(number), Answer::Header(Some(header)))
         }
-        None => {
-            header == Answer::Header(None)
-                && number == Answer::Name(None)
-                && count == Answer::Count(0)
-        }
+        Shown::NoNode(number) => (Cell::Header(number), Answer::Header(None)),
+        Shown::Name(dir, name, number) => (Cell::Name(dir, Name::new(name)?), Answer::Name(number)),
+        Shown::Count(number, count) => (Cell::Count(number), Answer::Count(count)),
+        Shown::Parent(number, parent) => (Cell::Parent(number), Answer::Parent(parent)),
+    })
+}
+
+fn is_shown<A: Allocator>(shape: &Shape<A>, shown: Shown<'_>) -> bool {
+    match cell_of(shown) {
+        Some((cell, answer)) => look(shape, &cell) == answer,
+        None => false,
     }
 }
+
+/// Whether the image shows all this.
+pub fn shows<A: Allocator>(shape: &Shape<A>, all: &[Shown<'_>]) -> bool {
+    for shown in all {
+        if !is_shown(shape, *shown) {
+            return false;
+        }
+    }
+    true
+}
+
+/// No file 5, and no name in the root.
+pub const NO_FILE: [Shown<'static>; 3] = [
+    Shown::NoNode(5),
+    Shown::Name(1, b"a", None),
+    Shown::Count(1, 0),
+];
+
+/// The file 5 of the first Create, the only name of the root.
+pub const FILE: [Shown<'static>; 3] = [
+    Shown::Node(5, Kind::File, 0o644),
+    Shown::Name(1, b"a", Some(5)),
+    Shown::Count(1, 1),
+];

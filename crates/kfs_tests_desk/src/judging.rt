@@ -1,11 +1,13 @@
 //! A view from before a submission, and submissions one after another.
 
-use crate::desks::{create, opening, shows, submission, submit, yes};
+use crate::desks::{
+    FILE, NO_FILE, create, is_answer, is_answered, opening, shows, submission, yes,
+};
 use kfs_desk::Desk;
 use kfs_desk::answers::Reply;
 use kfs_image::Name;
 use kfs_judge::{EntryFault, Reason};
-use kfs_plan::{Back, Fault, Submission, Why};
+use kfs_plan::{Fault, Submission, Why};
 use kfs_tests::vectors::{CREATE_LOG, CREATE_PLAN};
 use std::alloc::{AllocError, Global};
 use std::process::Abort;
@@ -32,37 +34,44 @@ fn is_only_name(desk: &Desk<Global>, name: &Name) -> bool {
         && desk.image().next_name(1, Some(name)).is_none()
 }
 
-/// What the desk answers to the Create of `a`, where there is memory for it.
-fn created(alloc: Global, desk: &mut Desk<Global>) -> Option<Result<Reply, Why>> {
-    let create = create(alloc).ok()?;
-    Some(submit(desk, create))
+/// Whether the desk gives this answer to the Create of `a`.
+fn is_answer_to_create(
+    alloc: Global,
+    desk: &mut Desk<Global>,
+    wanted: &Result<Reply, Why>,
+) -> bool {
+    match create(alloc) {
+        Ok(create) => is_answered(desk, create, wanted),
+        Err(_) => false,
+    }
 }
 
 /// The Create is accepted, is then seen, and isn't accepted twice.
 fn expect_created(rt: &(impl Abort + AllocGlobal), desk: &mut Desk<Global>, name: &Name) {
-    assert!(rt; created(rt.alloc(), desk) == Some(Ok(yes(1))));
-    assert!(rt; shows(desk.image().shape(), Some(0o644)));
+    assert!(rt; is_answer_to_create(rt.alloc(), desk, &Ok(yes(1))));
+    assert!(rt; shows(desk.image().shape(), &FILE));
     assert!(rt; is_only_name(desk, name));
-    assert!(rt; created(rt.alloc(), desk) == Some(Ok(taken(2))));
+    assert!(rt; is_answer_to_create(rt.alloc(), desk, &Ok(taken(2))));
+}
+
+/// A view from before the Create shows no file then.
+fn expect_view(
+    rt: &(impl Abort + AllocGlobal),
+    desk: &mut Desk<Global>,
+    name: &Name,
+) -> Result<(), AllocError> {
+    let before = desk.image().shape().clone()?;
+    expect_created(rt, desk, name);
+    assert!(rt; shows(&before, &NO_FILE));
+    Ok(())
 }
 
 #[test]
 fn a_view_from_before_a_create(rt: HostRuntime) -> Result<(), Fail> {
     let name = Name::new(b"a").ok_or("a name")?;
     let mut desk = opening(rt.alloc(), 100).ok_or("an opening")?;
-    let before = desk.image().shape().clone()?;
-    expect_created(&rt, &mut desk, &name);
-    assert!(rt; shows(&before, None));
+    expect_view(&rt, &mut desk, &name)?;
     Ok(())
-}
-
-/// Whether the submission was answered so, or came back for this reason.
-fn is_answer(given: &Result<Reply, Back<Global>>, wanted: &Result<Reply, Why>) -> bool {
-    match (given, wanted) {
-        (Ok(reply), Ok(wanted)) => reply == wanted,
-        (Err(back), Err(why)) => back.why == *why,
-        _ => false,
-    }
 }
 
 /// Whether the desk gives these answers to the submissions, one after another.

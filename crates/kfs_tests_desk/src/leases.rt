@@ -1,15 +1,13 @@
 //! Leases by calls: paths that no line can say, a node that goes, copies, and refused growths. All clients
 //! here have uid and gid 1000, as all nodes below the root.
 
-use crate::desks::{AMPLE, opening, submission, submit, yes};
+use crate::desks::{AMPLE, client, grown};
 use kfs_desk::Desk;
 use kfs_image::Shape;
 use kfs_lease::LeaseKind::{Read, Write};
 use kfs_lease::{LeaseFault, LeaseKind, Leases};
-use kfs_mode::Client;
-use kfs_plan::Submission;
 use kfs_tests::refusing::Refusing;
-use std::alloc::{AllocError, Allocator};
+use std::alloc::{AllocError, Allocator, Global};
 use std::process::Abort;
 use std::test::Fail;
 
@@ -36,24 +34,9 @@ const TREE_PLAN: &[u8] =
       \x03\xe8\0\x01\0\0\0\0\0\0\0\0\0\0\0z\x01\0\0\0\0\x03\xe8\0\0\x03\xe8\0\x01\0\0\
       \0\0\0\0\0\0";
 
-/// What makes these nodes.
-fn nodes<A: Allocator + Copy>(alloc: A) -> Result<Submission<A>, AllocError> {
-    submission(alloc, TREE_LOG, TREE_PLAN)
-}
-
 /// A desk with these nodes, where there is memory.
 fn tree<A: Allocator + Copy>(alloc: A) -> Option<Desk<A>> {
-    let mut desk = opening(alloc, 100)?;
-    if submit(&mut desk, nodes(alloc).ok()?) == Ok(yes(1)) {
-        Some(desk)
-    } else {
-        None
-    }
-}
-
-/// A client of uid and gid 1000 without numbers.
-fn client(number: u32) -> Option<Client> {
-    Client::new(number, 1000, 1000, &[], false, 2, 1).ok()
+    grown(alloc, TREE_LOG, TREE_PLAN)
 }
 
 /// Asks for a lease, of a client that is known.
@@ -65,7 +48,7 @@ fn grant<A: Allocator + Clone>(
     kind: LeaseKind,
     end: u64,
 ) -> Result<u32, LeaseFault> {
-    let Some(client) = client(number) else {
+    let Ok(client) = client(number, 1) else {
         return Err(LeaseFault::UnknownClient);
     };
     leases.grant(shape, &[client], number, path.as_bytes(), kind, end)
@@ -77,7 +60,7 @@ fn drop_lease<A: Allocator>(
     number: u32,
     node: u32,
 ) -> Result<(), LeaseFault> {
-    let Some(client) = client(number) else {
+    let Ok(client) = client(number, 1) else {
         return Err(LeaseFault::UnknownClient);
     };
     leases.drop_lease(&[client], number, node)
@@ -200,16 +183,25 @@ const ON_THE_COPY_THEN: [Call<'static>; 3] = [
     Call::Grant(7, "/m", Write, 20, Ok(30)),
 ];
 
+/// Makes these calls on the table and on a copy of it, one table after the other.
+fn expect_apart<A: Allocator + Clone>(
+    rt: &impl Abort,
+    leases: &mut Leases<A>,
+    shape: &Shape<A>,
+) -> Result<(), AllocError> {
+    make_calls(rt, leases, shape, &BEFORE_THE_COPY);
+    let mut copied = leases.copy()?;
+    make_calls(rt, &mut copied, shape, &ON_THE_COPY);
+    make_calls(rt, leases, shape, &ON_THE_TABLE);
+    make_calls(rt, &mut copied, shape, &ON_THE_COPY_THEN);
+    Ok(())
+}
+
 #[test]
 fn a_copy_and_the_table_go_on_apart(rt: HostRuntime) -> Result<(), Fail> {
     let desk = tree(rt.alloc()).ok_or("a tree")?;
-    let shape = desk.image().shape();
     let mut leases = Leases::new(rt.alloc());
-    make_calls(&rt, &mut leases, shape, &BEFORE_THE_COPY);
-    let mut copied = leases.copy()?;
-    make_calls(&rt, &mut copied, shape, &ON_THE_COPY);
-    make_calls(&rt, &mut leases, shape, &ON_THE_TABLE);
-    make_calls(&rt, &mut copied, shape, &ON_THE_COPY_THEN);
+    expect_apart(&rt, &mut leases, desk.image().shape())?;
     Ok(())
 }
 
@@ -331,42 +323,42 @@ fn is_made<A: Allocator + Clone>(
 }
 
 /// Makes the grant behind the first `count`. Where it finds no memory, the leases are as they were, and it
-/// is made once more. Answers how often that was.
+/// is made once more. Answers how often that was, or none where a call isn't answered as is due.
 fn make_grant<A: Allocator + Clone>(
-    rt: &impl Abort,
     leases: &mut Leases<A>,
     shape: &Shape<A>,
     grants: &[Granted<'_>],
     count: u32,
     granted: Granted<'_>,
-) -> u32 {
-    if let Some(is_right) = is_made(leases, shape, granted) {
-        assert!(rt; is_right, "grant {count}");
-        return 0;
+) -> Option<u32> {
+    match is_made(leases, shape, granted) {
+        Some(true) => Some(0),
+        Some(false) => None,
+        None => {
+            let is_as_before = are_as_granted(leases, grants, count);
+            if is_as_before && is_made(leases, shape, granted) == Some(true) {
+                Some(1)
+            } else {
+                None
+            }
+        }
     }
-    assert!(rt; are_as_granted(leases, grants, count), "before {count}");
-    assert!(rt;
-        is_made(leases, shape, granted) == Some(true),
-        "again {count}"
-    );
-    1
 }
 
 /// Makes these grants one after another. Answers how often one found no memory.
 fn make_grants<A: Allocator + Clone>(
-    rt: &impl Abort,
     leases: &mut Leases<A>,
     shape: &Shape<A>,
     grants: &[Granted<'_>],
-) -> u32 {
+) -> Option<u32> {
     let mut refusals = 0u32;
     let mut count = 0u32;
     for granted in grants {
-        let refused = make_grant(rt, leases, shape, grants, count, *granted);
+        let refused = make_grant(leases, shape, grants, count, *granted)?;
         refusals = refusals.saturating_add(refused);
         count = count.saturating_add(1);
     }
-    refusals
+    Some(refusals)
 }
 
 /// Whether a copy is made.
@@ -384,73 +376,134 @@ fn are_both_as_granted<A: Allocator + Clone>(leases: &Leases<A>, grants: &[Grant
     }
 }
 
+/// Makes the grants. Answers whether the growth that is refused was one of theirs: then one grant found no
+/// memory, and else none did.
+fn grants_refused<A: Allocator + Clone, B: Allocator>(
+    heap: &Refusing<B>,
+    leases: &mut Leases<A>,
+    shape: &Shape<A>,
+    grants: &[Granted<'_>],
+) -> Option<bool> {
+    let refusals = make_grants(leases, shape, grants)?;
+    let has_refused = heap.has_refused();
+    if refusals == u32::from(has_refused) {
+        Some(has_refused)
+    } else {
+        None
+    }
+}
+
+/// Makes a copy. Answers whether the growth that is refused was one of its own, and not one before it.
+fn copy_refused<A: Allocator + Clone, B: Allocator>(
+    heap: &Refusing<B>,
+    leases: &Leases<A>,
+    before: bool,
+) -> Option<bool> {
+    let is_refused = !is_copied(leases);
+    if is_refused == (!before && heap.has_refused()) {
+        Some(is_refused)
+    } else {
+        None
+    }
+}
+
 /// Makes the grants and a copy with the growth of this index refused, which leaves the leases as they
-/// were. Answers whether it was one of a grant, and whether it was one of the copy.
-fn make_with_one_refused(
-    rt: &(impl Abort + AllocGlobal),
+/// were. Answers whether it was one of a grant, and whether it was one of the copy; none where a call isn't
+/// answered as is due.
+fn make_all<A: Allocator + Clone, B: Allocator>(
+    heap: &Refusing<B>,
+    leases: &mut Leases<A>,
+    shape: &Shape<A>,
     grants: &[Granted<'_>],
     growth: u64,
 ) -> Option<(bool, bool)> {
-    let heap = Refusing::new(rt.alloc(), AMPLE);
-    let desk = tree(&heap)?;
-    let mut leases = Leases::new(&heap);
     heap.refuse_after(growth);
-    let refusals = make_grants(rt, &mut leases, desk.image().shape(), grants);
-    let of_a_grant = heap.has_refused();
-    assert!(rt; refusals == u32::from(of_a_grant), "{growth}");
-    let of_the_copy = !is_copied(&leases);
-    assert!(rt;
-        of_the_copy == (!of_a_grant && heap.has_refused()),
-        "{growth}"
-    );
+    let of_a_grant = grants_refused(heap, leases, shape, grants)?;
+    let of_the_copy = copy_refused(heap, leases, of_a_grant)?;
     heap.refuse_after(AMPLE);
-    assert!(rt; are_both_as_granted(&leases, grants), "{growth}");
-    Some((of_a_grant, of_the_copy))
+    if are_both_as_granted(leases, grants) {
+        Some((of_a_grant, of_the_copy))
+    } else {
+        None
+    }
 }
 
-/// How many growths the grants make, and then the copy, each of which is refused in turn.
-fn growths(rt: &(impl Abort + AllocGlobal), grants: &[Granted<'_>]) -> Option<(u32, u32)> {
+/// The same on the tree of this module, from no leases on.
+fn make_with_one_refused<B: Allocator>(
+    heap: &Refusing<B>,
+    grants: &[Granted<'_>],
+    growth: u64,
+) -> Option<(bool, bool)> {
+    let desk = tree(heap)?;
+    let mut leases = Leases::new(heap);
+    make_all(heap, &mut leases, desk.image().shape(), grants, growth)
+}
+
+/// The same on a heap of its own.
+fn make_on_a_heap(alloc: Global, grants: &[Granted<'_>], growth: u64) -> Option<(bool, bool)> {
+    let heap = Refusing::new(alloc, AMPLE);
+    make_with_one_refused(&heap, grants, growth)
+}
+
+/// How many growths the grants make, and then the copy, each of which is refused in turn; or the index of
+/// one at which a call isn't answered as is due.
+fn growths(alloc: Global, grants: &[Granted<'_>]) -> Result<(u32, u32), u64> {
     let mut of_grants = 0u32;
     let mut of_copies = 0u32;
     for growth in 0..MANY {
-        let (of_a_grant, of_the_copy) = make_with_one_refused(rt, grants, growth)?;
-        if of_a_grant {
-            of_grants = of_grants.saturating_add(1);
-        } else if of_the_copy {
-            of_copies = of_copies.saturating_add(1);
-        } else {
-            return Some((of_grants, of_copies));
+        match make_on_a_heap(alloc, grants, growth) {
+            Some((true, _)) => of_grants = of_grants.saturating_add(1),
+            Some((false, true)) => of_copies = of_copies.saturating_add(1),
+            Some((false, false)) => return Ok((of_grants, of_copies)),
+            None => return Err(growth),
         }
     }
-    None
+    Err(MANY)
 }
 
 #[test]
-fn each_growth_of_a_grant_or_a_copy_refused(rt: HostRuntime) -> Result<(), Fail> {
-    let (of_grants, of_copies) = growths(&rt, &GRANTS).ok_or("few growths")?;
-    assert!(rt; of_grants > 2 && of_copies > 2, "{of_grants}, {of_copies}");
-    Ok(())
+fn each_growth_of_a_grant_or_a_copy_refused(rt: HostRuntime) {
+    let counts = growths(rt.alloc(), &GRANTS);
+    assert!(rt;
+        counts.is_ok_and(|(of_grants, of_copies)| 2 < of_grants && 2 < of_copies),
+        "{counts:?}"
+    );
 }
 
-/// Whether a tree is made with the growth of this index refused, and whether there was such a growth. After
-/// it a tree is made all the same.
-fn tree_with_one_refused(rt: &(impl Abort + AllocGlobal), growth: u64) -> (bool, bool) {
-    let heap = Refusing::new(rt.alloc(), growth);
-    let is_made = tree(&heap).is_some();
+/// Whether there is memory for a tree.
+fn is_tree<A: Allocator + Copy>(alloc: A) -> bool {
+    tree(alloc).is_some()
+}
+
+/// Whether a tree is made with the growth of this index refused, and whether there was such a growth. None
+/// where no tree is made after it.
+fn tree_with_one_refused(alloc: Global, growth: u64) -> Option<(bool, bool)> {
+    let heap = Refusing::new(alloc, growth);
+    let is_made = is_tree(&heap);
     let has_refused = heap.has_refused();
     heap.refuse_after(AMPLE);
-    assert!(rt; tree(&heap).is_some(), "after {growth}");
-    (is_made, has_refused)
+    if is_tree(&heap) {
+        Some((is_made, has_refused))
+    } else {
+        None
+    }
+}
+
+/// How many growths a tree makes, each of which is refused in turn; or the index of one behind which no tree
+/// is made.
+fn growths_of_a_tree(alloc: Global) -> Result<u64, u64> {
+    for growth in 0..MANY {
+        match tree_with_one_refused(alloc, growth) {
+            Some((_, true)) => {}
+            Some((true, false)) => return Ok(growth),
+            _ => return Err(growth),
+        }
+    }
+    Err(MANY)
 }
 
 #[test]
 fn each_growth_of_an_opening_and_a_tree_refused(rt: HostRuntime) {
-    for growth in 0..MANY {
-        let (is_made, has_refused) = tree_with_one_refused(&rt, growth);
-        if !has_refused {
-            assert!(rt; is_made && growth > 5, "{growth}");
-            return;
-        }
-    }
-    assert!(rt; false, "more growths than expected");
+    let count = growths_of_a_tree(rt.alloc());
+    assert!(rt; count.is_ok_and(|count| 5 < count), "{count:?}");
 }

@@ -13,4 +13,6 @@ mod judging;
 #[cfg(test)]
 mod leases;
 #[cfg(test)]
+mod refused;
+#[cfg(test)]
 mod submitting;

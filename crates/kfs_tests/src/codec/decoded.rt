@@ -6,21 +6,25 @@ use crate::vectors::{
     MOVE_PLAN, OTHERS_LOG,
 };
 use kfs_entry::{
-    Entry, Header, Kind, Name, NameRow, NodeRow, Piece, Source, Span, SpellFault, decode_log,
+    Entry, Header, Kind, Name, NameRow, NodeRow, Piece, Plan, Source, Span, SpellFault, decode_log,
     decode_plan,
 };
 use std::alloc::{AllocError, Global};
 use std::process::Abort;
 
 /// Whether the bytes are a log of this client with these entries.
-fn is_log(
-    alloc: Global,
-    bytes: &[u8],
-    client: u32,
-    entries: &[Entry<Span>],
-) -> Result<bool, SpellFault> {
-    let log = decode_log(alloc, bytes)?;
-    Ok(log.client == client && log.entries.as_slice() == entries)
+fn is_log(alloc: Global, bytes: &[u8], client: u32, entries: &[Entry<Span>]) -> bool {
+    match decode_log(alloc, bytes) {
+        Ok(log) => log.client == client && log.entries.as_slice() == entries,
+        Err(_) => false,
+    }
+}
+
+/// Whether the plan has these rows.
+fn has_rows(plan: &Plan<Global>, names: &[NameRow], nodes: &[NodeRow], pieces: &[Piece]) -> bool {
+    plan.names.as_slice() == names
+        && plan.nodes.as_slice() == nodes
+        && plan.pieces.as_slice() == pieces
 }
 
 /// Whether the bytes are a plan with these rows.
@@ -30,13 +34,11 @@ fn is_plan(
     names: &[NameRow],
     nodes: &[NodeRow],
     pieces: &[Piece],
-) -> Result<bool, SpellFault> {
-    let plan = decode_plan(alloc, bytes)?;
-    Ok(
-        plan.names.as_slice() == names
-            && plan.nodes.as_slice() == nodes
-            && plan.pieces.as_slice() == pieces,
-    )
+) -> bool {
+    match decode_plan(alloc, bytes) {
+        Ok(plan) => has_rows(&plan, names, nodes, pieces),
+        Err(_) => false,
+    }
 }
 
 /// Each of these is the same after it is decoded and encoded.
@@ -63,10 +65,10 @@ fn is_the_create(alloc: Global) -> Option<bool> {
         kind: Kind::File,
         mode: 0o644,
     };
-    is_log(alloc, CREATE_LOG, 7, &[create]).ok()
+    Some(is_log(alloc, CREATE_LOG, 7, &[create]))
 }
 
-fn are_the_edits(alloc: Global) -> Option<bool> {
+fn are_the_edits(alloc: Global) -> bool {
     let edits = [
         write(2, 28, 30),
         write(3, 47, 50),
@@ -74,7 +76,7 @@ fn are_the_edits(alloc: Global) -> Option<bool> {
         Entry::Truncate { number: 5, size: 8 },
         write(12, 93, 94),
     ];
-    is_log(alloc, EDITS_LOG, 7, &edits).ok()
+    is_log(alloc, EDITS_LOG, 7, &edits)
 }
 
 fn is_the_move(alloc: Global) -> Option<bool> {
@@ -84,7 +86,7 @@ fn is_the_move(alloc: Global) -> Option<bool> {
         new_dir: 12,
         new_name: Name::new(b"x")?,
     };
-    is_log(alloc, MOVE_LOG, 7, &[rename]).ok()
+    Some(is_log(alloc, MOVE_LOG, 7, &[rename]))
 }
 
 fn are_the_others(alloc: Global) -> Option<bool> {
@@ -104,16 +106,16 @@ fn are_the_others(alloc: Global) -> Option<bool> {
             mode: 0o777,
         },
     ];
-    is_log(alloc, OTHERS_LOG, 9, &others).ok()
+    Some(is_log(alloc, OTHERS_LOG, 9, &others))
 }
 
 #[test]
 fn logs(rt: HostRuntime) {
     assert!(rt; is_the_create(rt.alloc()) == Some(true));
-    assert!(rt; are_the_edits(rt.alloc()) == Some(true));
+    assert!(rt; are_the_edits(rt.alloc()));
     assert!(rt; is_the_move(rt.alloc()) == Some(true));
     assert!(rt; are_the_others(rt.alloc()) == Some(true));
-    assert!(rt; is_log(rt.alloc(), EMPTY_LOG, 7, &[]) == Ok(true));
+    assert!(rt; is_log(rt.alloc(), EMPTY_LOG, 7, &[]));
     expect_same_again(
         &rt,
         &[CREATE_LOG, EDITS_LOG, MOVE_LOG, OTHERS_LOG, EMPTY_LOG],
@@ -155,39 +157,39 @@ fn piece(start: u64, len: u64, source: Source) -> Piece {
 
 fn is_of_the_create(alloc: Global) -> Option<bool> {
     let names = [name_row(1, b"a", 5)?];
-    is_plan(alloc, CREATE_PLAN, &names, &[file_row(0)], &[]).ok()
+    Some(is_plan(alloc, CREATE_PLAN, &names, &[file_row(0)], &[]))
 }
 
-fn is_of_the_edits(alloc: Global) -> Option<bool> {
+fn is_of_the_edits(alloc: Global) -> bool {
     let pieces = [
         piece(2, 1, Source::Payload { entry: 0, place: 0 }),
         piece(3, 1, Source::Payload { entry: 1, place: 0 }),
         piece(4, 8, Source::Zero),
         piece(12, 1, Source::Payload { entry: 4, place: 0 }),
     ];
-    is_plan(alloc, EDITS_PLAN, &[], &[file_row(13)], &pieces).ok()
+    is_plan(alloc, EDITS_PLAN, &[], &[file_row(13)], &pieces)
 }
 
 fn is_of_the_move(alloc: Global) -> Option<bool> {
     let names = [name_row(12, b"x", 10)?, name_row(20, b"x", 0)?];
-    is_plan(alloc, MOVE_PLAN, &names, &[], &[]).ok()
+    Some(is_plan(alloc, MOVE_PLAN, &names, &[], &[]))
 }
 
-fn is_of_a_node_that_is_gone(alloc: Global) -> Option<bool> {
+fn is_of_a_node_that_is_gone(alloc: Global) -> bool {
     let gone = NodeRow {
         number: 20,
         now: None,
     };
-    is_plan(alloc, GONE_PLAN, &[], &[gone], &[]).ok()
+    is_plan(alloc, GONE_PLAN, &[], &[gone], &[])
 }
 
 #[test]
 fn plans(rt: HostRuntime) {
     assert!(rt; is_of_the_create(rt.alloc()) == Some(true));
-    assert!(rt; is_of_the_edits(rt.alloc()) == Some(true));
+    assert!(rt; is_of_the_edits(rt.alloc()));
     assert!(rt; is_of_the_move(rt.alloc()) == Some(true));
-    assert!(rt; is_of_a_node_that_is_gone(rt.alloc()) == Some(true));
-    assert!(rt; is_plan(rt.alloc(), EMPTY_PLAN, &[], &[], &[]) == Ok(true));
+    assert!(rt; is_of_a_node_that_is_gone(rt.alloc()));
+    assert!(rt; is_plan(rt.alloc(), EMPTY_PLAN, &[], &[], &[]));
     expect_same_again(
         &rt,
         &[CREATE_PLAN, EDITS_PLAN, MOVE_PLAN, GONE_PLAN, EMPTY_PLAN],

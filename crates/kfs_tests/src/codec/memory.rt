@@ -40,13 +40,13 @@ fn long_plan(alloc: Global) -> Result<Vec<u8>, AllocError> {
 /// What the log that the bytes are encodes to.
 fn log_again<A: Allocator + Copy>(alloc: A, bytes: &[u8]) -> Result<Vec<u8, A>, SpellFault> {
     let log = decode_log(alloc, bytes)?;
-    encode_log(alloc, &log, bytes).map_err(|_| SpellFault::OutOfMemory)
+    Ok(encode_log(alloc, &log, bytes)?)
 }
 
 /// What the plan that the bytes are encodes to.
 fn plan_again<A: Allocator + Copy>(alloc: A, bytes: &[u8]) -> Result<Vec<u8, A>, SpellFault> {
     let plan = decode_plan(alloc, bytes)?;
-    encode_plan(alloc, &plan).map_err(|_| SpellFault::OutOfMemory)
+    Ok(encode_plan(alloc, &plan)?)
 }
 
 /// Whether the bytes, decoded and encoded again, are the same.
