@@ -11,7 +11,9 @@ use std::alloc::{AllocError, Allocator};
 
 /// The tags of the entries without names, as the table has them. Only the speed depends on them.
 const WRITE: u8 = 2;
+
 const TRUNCATE: u8 = 3;
+
 const CHMOD: u8 = 7;
 
 macro_rules! read_case {
