@@ -1,5 +1,5 @@
 //! A node's header after a name more or fewer leads to the node.
-ghost use Rattle.std.specs.Prelude.{◌≡◌, ◌+◌, ◌<◌, option_and_then};
+ghost use Rattle.std.specs.Prelude.{◌≡◌, ◌+◌, ◌<◌, None, option_and_then};
 ghost use Rattle.std.specs.Option.{option_map};
 ghost use Rattle.kfs_value.specs.Views.{header_of};
 ghost use Rattle.kfs_model.specs.SeenAfter as seen;
@@ -31,7 +31,8 @@ fn without_link(header: Header) -> Option<Header>
 
 /// With one link more.
 pub(crate) fn linked(header: Option<Header>) -> Option<Header>
-    ensures { IsLinked (option_map header_of header) (option_map header_of result) }
+    ensures linked { IsLinked (option_map header_of header) (option_map header_of result) }
+    ensures none { header ≡ None → result ≡ None }
 {
     match header {
         Some(header) => Some(with_link(header)),

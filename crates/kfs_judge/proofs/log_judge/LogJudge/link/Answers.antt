@@ -47,7 +47,7 @@ returns g c = record {
         let change : Header → Header = λ h. record h { links = h.links + 1 } in
         let known = c.in_ok-header.ensures.known state agrees in
         let room = link_has_room p c.args.number c.args.dir c.args.name (c.in_ok-fault.ensures.known state (c.in_ok-header.ensures.goes.grows state agrees) ∙ ap (option_map reason_of) c.in_default.is) in
-        let same = c.linked.ensures (ap (λ o. is_some_and o (λ h. nat_lt h.links link_limit)) (sym known) ∙ room) ∙ ap (option_map change) (sym known) in
+        let same = c.linked.ensures.linked (ap (λ o. is_some_and o (λ h. nat_lt h.links link_limit)) (sym known) ∙ room) ∙ ap (option_map change) (sym known) in
         c.in_ok-add_name.ensures.shown state.sight ∙ λ i. with_name c.args.dir c.args.name c.args.number (same i) old;
     written = λ state agrees among written.
         let p = entry_context_of c.args.self.now.client.now c.args.self.now.draft state in
