@@ -1,10 +1,10 @@
 -- An entry that memory cut short, and one with a fault: neither makes a change.
-use Rattle.std.specs.Prelude.{◌≡◌, Option, Some, None, Result, Ok, Err, IfOk, OnOk, IsErr}
+use Rattle.std.specs.Prelude.{◌≡◌, Option, Some, Result, Ok, Err, IsErr}
 use Rattle.std.specs.declared.alloc.AllocError.{AllocError}
 use Rattle.kfs_model.specs.Entry.{Entry}
 use Rattle.kfs_judge.specs.declared.check.Reason.{Reason}
 use Rattle.kfs_judge.specs.declared.log_judge.LogJudge.{LogJudge}
-use Rattle.kfs_judge.specs.Entered.{IsEntered, IsFirstFault, MakesItsChange, ReadsItsCells}
+use Rattle.kfs_judge.specs.Entered.{IsEntered, IsFirstFault, ReadsItsCells}
 use Rattle.kfs_judge.specs.Recorders.{GoesOn}
 
 module _ {A : Type 0} (old new : LogJudge A) (entry : Entry) (goes : GoesOn old.recorder new.recorder) (client : new.client.now ≡ old.client.now) where

@@ -1,7 +1,6 @@
 //! Judges a client's log against a view of the image, the leases and the clients.
 #![tactic(auto)]
 
-mod bytes;
 mod check;
 mod chmod;
 mod create;

@@ -31,10 +31,23 @@ macro_rules! taken {
     };
 }
 
+/// Calls an entry's own function. No log with a Write or a Truncate gets here.
+macro_rules! entered {
+    ($judge:ident write $($rest:tt)*) => {
+        unreachable!()
+    };
+    ($judge:ident truncate $($rest:tt)*) => {
+        unreachable!()
+    };
+    ($judge:ident $call:ident { $($field:ident: $codec:ident),* }) => {
+        $judge.$call($(taken!($codec $field)),*)
+    };
+}
+
 macro_rules! enter_case {
     ([$judge:ident, $entry:ident] $($number:literal $variant:ident $call:ident { $($field:ident: $codec:ident),* })*) => {
         match $entry {
-            $(Entry::$variant { $($field),* } => $judge.$call($(taken!($codec $field)),*),)*
+            $(Entry::$variant { $($field),* } => entered!($judge $call { $($field: $codec),* }),)*
         }
     };
 }
