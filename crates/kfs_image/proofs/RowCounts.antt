@@ -8,7 +8,7 @@ use Rattle.std.specs.List.{count_by}
 use Rattle.kfs_model.specs.Table.{Order, numbers, pairs, get}
 use Rattle.kfs_model.specs.Tree.{NameTable, name_order}
 use Rattle.kfs_image.specs.declared.rows.Rows.{Rows}
-use Rattle.kfs_image.specs.Slots.{shown_at, tallied, changed, table_of}
+use Rattle.kfs_image.specs.Slots.{ArePositive, tallied, changed, table_of}
 use Rattle.kfs_image.specs.Rows.{IsIndexed, names_in, count_step, uplink_step}
 use Rattle.kfs_model.specs.Spelling.{IsName}
 use Rattle.kfs_image.proofs.SlotTables.{get-changed}
@@ -79,7 +79,7 @@ module _ {A : Type 0} where
       → ((q : ℕ) → tallied nat_cmp new.counts q + count_step d (get (names_in old) (d, m)) q ≡ tallied nat_cmp old.counts q + count_step d w q)
       → ((q : ℕ × ℕ) → tallied (pairs numbers numbers).compare new.uplinks q + uplink_step d (get (names_in old) (d, m)) q ≡ tallied (pairs numbers numbers).compare old.uplinks q + uplink_step d w q)
       → IsName m
-      → ((q : ℕ × ℕ) (n : ℕ) → shown_at (pairs numbers numbers).compare new.uplinks q ≡ Some n → 0 < n)
+      → ArePositive (pairs numbers numbers).compare new.uplinks
       → IsIndexed new
   indexed_after old new indexed d m w named counts uplinks name positive =
       let before = get (names_in old) (d, m) in

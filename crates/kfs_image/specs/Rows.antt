@@ -1,5 +1,5 @@
 -- The tables that the rows of a shape show, and what the indexes beside them count.
-use Rattle.std.specs.Prelude.{◌≡◌, ℕ, ◌<◌, ◌==◌, ◌&&◌, List, Option, Some, None, IsSome, count_by, if◌then◌else◌}
+use Rattle.std.specs.Prelude.{◌≡◌, ℕ, ◌==◌, ◌&&◌, List, Option, Some, None, IsSome, count_by, if◌then◌else◌}
 use Rattle.std.specs.Ordering.{nat_cmp, eq_by_cmp}
 use Rattle.std.specs.BTreeMap as slots_of
 use Rattle.std.specs.BTreeMap.{BTreeMap}
@@ -9,7 +9,7 @@ use Rattle.kfs_model.specs.Table.{Order, Table, numbers, pairs, get}
 use Rattle.kfs_model.specs.Spelling.{IsName}
 use Rattle.kfs_model.specs.Tree.{NameTable, name_order, entry_count}
 use Rattle.kfs_image.specs.declared.rows.Rows.{Rows}
-use Rattle.kfs_image.specs.Slots.{table_of, shown_at, tallied}
+use Rattle.kfs_image.specs.Slots.{table_of, shown_at, tallied, ArePositive}
 use Rattle.kfs_value.specs.Views.{header_of}
 
 -- how many names of a directory lead to a node
@@ -55,7 +55,7 @@ module _ {A : Type 0} where
 
   -- each way that is shown was counted
   abbrev pub AreCounted : Rows A → Type 0
-  AreCounted rows = (way : ℕ × ℕ) (count : ℕ) → shown_at by_node.compare rows.uplinks way ≡ Some count → 0 < count
+  AreCounted rows = ArePositive by_node.compare rows.uplinks
 
   -- each name is one, and the counts are those of the names
   pub record IsIndexed (rows : Rows A) : Type 0 where

@@ -1,5 +1,5 @@
 -- Maps whose slots may be without a value, and the tables that they show.
-use Rattle.std.specs.Prelude.{ℕ, List, [], ◌∷◌, Option, Some, None, unwrap_or, option_map}
+use Rattle.std.specs.Prelude.{◌≡◌, ℕ, ◌<◌, List, [], ◌∷◌, Option, Some, None, unwrap_or, option_map}
 use Rattle.std.specs.declared.cmp.Ordering.{Ordering}
 use Rattle.std.specs.BTreeMap.{BTreeMap, get}
 use Rattle.std.specs.BTreeMap.Range.{IsInRange}
@@ -21,6 +21,10 @@ module _ {K X : Type 0} where
 -- how often the key was counted
 abbrev pub tallied : {K : Type 0} → (K → K → Ordering) → BTreeMap K (Option ℕ) → K → ℕ
 tallied cmp tally key = unwrap_or (shown_at cmp tally key) 0
+
+-- each count that shows is at least 1
+abbrev pub ArePositive : {K : Type 0} → (K → K → Ordering) → BTreeMap K (Option ℕ) → Type 0
+ArePositive {K} cmp tally = (key : K) (count : ℕ) → shown_at cmp tally key ≡ Some count → 0 < count
 
 module _ {K X : Type 0} {R : Order K} where
   -- the table with this at the key

@@ -165,11 +165,10 @@ impl<A: Allocator> Rows<A> {
         ensures headers { self.new.headers ≡ self.old.headers }
         ensures names { names_in self.new ≡ changed (names_in self.old) key.now to }
     {
-        let from = self.target(key);
         prove!(self.names.len() < usize::MAX);
+        let from = slots::set(&mut self.names, key, to);
         self.leave(key.0, from);
         self.enter(key.0, to);
-        slots::set(&mut self.names, key, to);
     }
 }
 
@@ -248,27 +247,46 @@ impl<A: Allocator> Rows<A> {
         }
     }
 
-    /// Takes out the slots of rows, and of the ways that were given up, where they have no value.
-    fn release(&mut self, names: &[NameRow], nodes: &[NodeRow], vacated: &[(u32, u32)])
+    /// Takes out the slots of rows, and of the ways that were given up, where they have no value. Where
+    /// the changes were made, only a row that takes something away has such a slot.
+    fn release(
+        &mut self,
+        names: &[NameRow],
+        nodes: &[NodeRow],
+        vacated: &[(u32, u32)],
+        were_made: bool,
+    )
         ensures { ShowsSame self.old self.new }
     {
         for row in nodes {
-            slots::release(&mut self.headers, &row.number);
+            self.release_header(row, were_made);
         }
         for row in names {
-            self.release_name(&name_key(row.dir, &row.name), row.number);
+            self.release_name(row, were_made);
         }
         for uplink in vacated {
             slots::release(&mut self.uplinks, uplink);
         }
     }
 
-    fn release_name(&mut self, key: &(u32, Name), number: u32)
+    fn release_header(&mut self, row: &NodeRow, was_made: bool)
         ensures { ShowsSame self.old self.new }
     {
-        slots::release(&mut self.names, key);
-        slots::release(&mut self.counts, &key.0);
-        slots::release(&mut self.uplinks, &(number, key.0));
+        if was_made && row.now.is_some() {
+            return;
+        }
+        slots::release(&mut self.headers, &row.number);
+    }
+
+    fn release_name(&mut self, row: &NameRow, was_made: bool)
+        ensures { ShowsSame self.old self.new }
+    {
+        if was_made && row.number != 0 {
+            return;
+        }
+        slots::release(&mut self.names, &name_key(row.dir, &row.name));
+        slots::release(&mut self.counts, &row.dir);
+        slots::release(&mut self.uplinks, &(row.number, row.dir));
     }
 }
 
@@ -312,12 +330,12 @@ impl<A: Allocator + Clone> Rows<A> {
         ensures err { OnErr result (ShowsSame self.old self.new) }
     {
         if let Err(error) = self.reserve(names, nodes, vacated) {
-            self.release(names, nodes, vacated.as_slice());
+            self.release(names, nodes, vacated.as_slice(), false);
             return Err(error);
         }
         set_headers(&mut self.headers, nodes);
         self.set_names(names);
-        self.release(names, nodes, vacated.as_slice());
+        self.release(names, nodes, vacated.as_slice(), true);
         Ok(())
     }
 }

@@ -7,6 +7,7 @@ ghost use Rattle.kfs_image.specs.Slots.{shown_at, IsFrom};
 
 use std::alloc::{AllocError, Allocator};
 use std::collections::BTreeMap;
+use std::mem::replace;
 use std::ops::Bound;
 
 /// What the map shows at the key.
@@ -35,18 +36,20 @@ pub(crate) fn reserve<K: Ord + Drop, V: Drop, A: Allocator + Clone>(
     Ok(())
 }
 
-/// Sets what the map shows at a key that has a slot. Takes no memory.
+/// Sets what the map shows at a key that has a slot, and answers what it showed. Takes no memory.
 pub(crate) fn set<K: Ord, V: Drop, A: Allocator>(
     slots: &mut BTreeMap<K, Option<V>, A>,
     key: &K,
     value: Option<V>,
-)
+) -> Option<V>
     requires { IsSome (get K.cmp slots.old key.now) }
+    ensures old { result ≡ shown_at K.cmp slots.old key.now }
     ensures kept { (q : K) → IsSome (get K.cmp slots.old q) → IsSome (get K.cmp slots.new q) }
     ensures shown { (q : K) → shown_at K.cmp slots.new q ≡ (if eq_by_cmp K.cmp q key.now then value else shown_at K.cmp slots.old q) }
 {
-    if let Some(slot) = slots.get_mut(key) {
-        *slot = value;
+    match slots.get_mut(key) {
+        Some(slot) => replace(slot, value),
+        None => None,
     }
 }
 

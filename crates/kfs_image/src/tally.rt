@@ -2,7 +2,7 @@
 ghost use Rattle.std.specs.Prelude.{◌≡◌, ℕ, Some, ◌+◌, ◌-◌, ◌<◌, ◌^◌, IsSome, if◌then◌else◌};
 ghost use Rattle.std.specs.Ordering.{eq_by_cmp};
 ghost use Rattle.std.specs.BTreeMap.{get};
-ghost use Rattle.kfs_image.specs.Slots.{shown_at, tallied};
+ghost use Rattle.kfs_image.specs.Slots.{tallied, ArePositive};
 
 use crate::slots;
 use std::alloc::Allocator;
@@ -20,21 +20,23 @@ pub(crate) fn add<K: Ord, A: Allocator>(tally: &mut BTreeMap<K, Option<u64>, A>,
     requires slot { IsSome (get K.cmp tally.old key.now) }
     requires fits { tallied K.cmp tally.old key.now + 1 < 2 ^ 64 }
     ensures kept { (q : K) → IsSome (get K.cmp tally.old q) → IsSome (get K.cmp tally.new q) }
-    ensures positive { ((q : K) (n : ℕ) → shown_at K.cmp tally.old q ≡ Some n → 0 < n) → (q : K) (n : ℕ) → shown_at K.cmp tally.new q ≡ Some n → 0 < n }
+    ensures positive { ArePositive K.cmp tally.old → ArePositive K.cmp tally.new }
     ensures counted { (q : K) → tallied K.cmp tally.new q ≡ tallied K.cmp tally.old q + (if eq_by_cmp K.cmp q key.now then 1 else 0) }
 {
-    let more = count(tally, key) + 1;
-    slots::set(tally, key, Some(more));
+    if let Some(slot) = tally.get_mut(key) {
+        *slot = Some(slot.unwrap_or(0) + 1);
+    }
 }
 
 /// Counts the key once less. It was counted.
 pub(crate) fn take<K: Ord, A: Allocator>(tally: &mut BTreeMap<K, Option<u64>, A>, key: &K)
     requires { 0 < tallied K.cmp tally.old key.now }
     ensures kept { (q : K) → IsSome (get K.cmp tally.old q) → IsSome (get K.cmp tally.new q) }
-    ensures positive { ((q : K) (n : ℕ) → shown_at K.cmp tally.old q ≡ Some n → 0 < n) → (q : K) (n : ℕ) → shown_at K.cmp tally.new q ≡ Some n → 0 < n }
+    ensures positive { ArePositive K.cmp tally.old → ArePositive K.cmp tally.new }
     ensures counted { (q : K) → tallied K.cmp tally.new q + (if eq_by_cmp K.cmp q key.now then 1 else 0) ≡ tallied K.cmp tally.old q }
 {
-    let fewer = count(tally, key) - 1;
-    let left = if fewer == 0 { None } else { Some(fewer) };
-    slots::set(tally, key, left);
+    if let Some(slot) = tally.get_mut(key) {
+        let fewer = slot.unwrap_or(0) - 1;
+        *slot = if fewer == 0 { None } else { Some(fewer) };
+    }
 }

@@ -1,15 +1,10 @@
 //! The rows of a plan against what its log comes to.
-ghost use Rattle.std.specs.Prelude.{◌≡◌, ℕ, Bool, List, map, position, zip, not, All, IsOk};
-ghost use Rattle.kfs_value.specs.Views.{entry_of};
+ghost use Rattle.std.specs.Prelude.{◌≡◌, position, zip, not, All, IsOk};
 ghost use Rattle.kfs_model.specs.Access.{Client as ClientRow};
-ghost use Rattle.kfs_model.specs.CleanStep.{Fits};
 ghost use Rattle.kfs_model.specs.FirstWrong.{first_difference};
-ghost use Rattle.kfs_model.specs.Sight.{client_sight};
-ghost use Rattle.kfs_model.specs.Tree.{Tree};
 ghost use Rattle.kfs_judge.specs.JudgedEntries.{IsJudged};
-ghost use Rattle.kfs_judge.specs.Reads.{Agrees};
 ghost use Rattle.kfs_judge.specs.Walks.{IsWalkOf};
-ghost use Rattle.kfs_plan.specs.PlanCheck.{first_unlike, IsChecked, TellsRow};
+ghost use Rattle.kfs_plan.specs.PlanCheck.{first_unlike, TellsOfEachTree, TellsRow};
 ghost use Rattle.kfs_plan.specs.declared.rows.RowFault.TheVariants.{OutOfMemory};
 
 use kfs_entry::{Log, Plan};
@@ -49,9 +44,7 @@ pub fn check_plan<A: Allocator + Copy>(
 ) -> Result<u64, RowFault>
     requires walked { IsOk walk.now.outcome }
     // At every sound tree and all leases that agree with the walk's reads, the first wrong row of the definitions is named.
-    ensures { (client : ClientRow) → IsWalkOf client _log.now walk.now → All IsJudged _log.now.entries
-        → (source : List ℕ) (tree : Tree ℕ) (held : ℕ → Bool) → Fits client tree (map (entry_of source) _log.now.entries) → Agrees walk.now.reads.entries (client_sight tree held)
-        → IsChecked client (client_sight tree held) tree (map (entry_of source) _log.now.entries) plan.now result }
+    ensures { (client : ClientRow) → IsWalkOf client _log.now walk.now → All IsJudged _log.now.entries → TellsOfEachTree client _log.now walk.now plan.now result }
 {
     let net = walk.outcome.as_ref().unwrap();
     check_rows(net, plan)
