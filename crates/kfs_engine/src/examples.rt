@@ -1,7 +1,7 @@
 //! Lines beside what they ask for, and a session line by line, by computation.
 
 ghost use Rattle.std.specs.Prelude.{◌≡◌, [], ◌∷◌, ◌++◌, codes, None, Some, Ok, Err};
-ghost use Rattle.kfs_model.specs.Example.{client_7, client_8};
+ghost use Rattle.kfs_examples.specs.Example.{client_7, client_8};
 ghost use Rattle.kfs_model.specs.Lease.{ReadLease, WriteLease};
 ghost use Rattle.kfs_mode.specs.declared.client.ClientFault.TheVariants.{BadGrant, TooManyGroups};
 ghost use Rattle.kfs_plan.specs.Judging.{submission_with};

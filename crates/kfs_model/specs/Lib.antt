@@ -28,4 +28,3 @@ pub mod Judgement
 pub mod Machine
 pub mod Order
 pub mod Laws
-pub mod Example

@@ -3,7 +3,7 @@ use Rattle.std.proofs.Common.{ℕ, List, [], Ok, inl, inr, refl}
 use Rattle.std.specs.Prelude.{codes}
 use Rattle.std.specs.Fmt.{digits}
 use native.Mathlib.Decide.{ℕ_discrete}
-use Rattle.kfs_model.specs.Example.{computing}
+use Rattle.kfs_examples.specs.Example.{computing}
 use Rattle.kfs_image.specs.Slots.{changed}
 use Rattle.kfs_value.specs.declared.header.Kind.TheVariants.{Directory}
 use Rattle.kfs_desk.specs.declared.answers.Done.TheVariants.{Leased}
