@@ -13,7 +13,7 @@ use Rattle.kfs_model.specs.Machine.{Call, Submit, Lease, Drop, Tick, CallAnswer,
 use Rattle.kfs_model.specs.Machine as machine
 use Rattle.kfs_model.specs.Order.{IsInOrder}
 use Rattle.kfs_lease.specs.Faults.{fault_of}
-use Rattle.kfs_lease.specs.Rows.{kind_of}
+use Rattle.kfs_lease_rows.specs.Rows.{kind_of}
 use Rattle.kfs_lease.specs.declared.leases.LeaseFault.{LeaseFault}
 use Rattle.kfs_image.specs.Contents.{ImageShown}
 use Rattle.kfs_image.specs.ShownTree.{tree_of}

@@ -8,7 +8,7 @@ ghost use Rattle.kfs_model.specs.Machine.{opening};
 ghost use Rattle.kfs_model.specs.Table.{empty};
 ghost use Rattle.kfs_mode.specs.Clients.{AreDistinct};
 ghost use Rattle.kfs_lease.specs.Faults as refusals;
-ghost use Rattle.kfs_lease.specs.Rows.{kind_of};
+ghost use Rattle.kfs_lease_rows.specs.Rows.{kind_of};
 ghost use Rattle.kfs_image.specs.Contents.{sight_of};
 ghost use Rattle.kfs_image.specs.ShownTree.{IsLawful, tree_of};
 ghost use Rattle.kfs_judge.specs.View.{clients_of, contents_of, leases_of};

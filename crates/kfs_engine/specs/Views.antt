@@ -1,6 +1,6 @@
 -- What the parts of a session are in the definitions.
 use Rattle.std.specs.Prelude.{◌≡◌, ℕ, List, codes, Option, None, Some}
-use Rattle.kfs_lease.specs.Rows.{kind_of}
+use Rattle.kfs_lease_rows.specs.Rows.{kind_of}
 use Rattle.kfs_plan.specs.Judging.{submission_of}
 use Rattle.kfs_desk.specs.Machine.{Desk}
 use Rattle.kfs_desk.specs.declared.answers.Act.{Act}

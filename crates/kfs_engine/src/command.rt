@@ -1,6 +1,6 @@
 //! The command lines that a session answers.
 ghost use Rattle.std.specs.Prelude.{◌≡◌, ℕ, List, true, false, IfOk, IfErr, IsErrOf, Some};
-ghost use Rattle.kfs_lease.specs.Rows.{kind_of};
+ghost use Rattle.kfs_lease_rows.specs.Rows.{kind_of};
 ghost use Rattle.kfs_plan.specs.Judging.{HasOtherEntry, submission_of};
 ghost use Rattle.kfs_engine.specs.Command.{Listing as ListingLine, Node as NodeLine, Request, Setup, Submit as SubmitLine, IsBadLine, asked_by, client_of, drop_of, kind_named, lease_of, new_of, submit_of};
 ghost use Rattle.kfs_engine.specs.Reading.{IsAsked, begin_of, command_named, listing_of, named_by, node_of, tick_of};

@@ -16,6 +16,7 @@ use Rattle.std.proofs.lemmas.Map.{lookup-none}
 use Rattle.std.proofs.lemmas.Map.Entries.{none_below_head, none_past_head, lookup-filter-keys}
 use Rattle.std.proofs.lemmas.Map.Keys.{IsDistinct-from_sorted}
 use Rattle.std.proofs.lemmas.List.Kept.{IsStrictlySortedBy-filter}
+use Rattle.kfs_model.proofs.Tables.{keys_of-filter}
 use Rattle.kfs_image.specs.Slots.{opened, shown_at, IsFrom}
 
 not_above : (r : Ordering) → is_gt r ≡ false → is_le r ≡ true
@@ -32,16 +33,6 @@ as_less : (o : Ordering) → is_lt o ≡ true → o ≡ Less
 as_less Less t = refl
 as_less Equal t = cc
 as_less Greater t = cc
-
-module _ {K X : Type 0} where
-  -- the keys of entries that are kept by their keys
-  pub keys_of-filter : (p : K → Bool) (es : List (K × X)) → keys_of (filter (λ e. p e.0) es) ≡ filter p (keys_of es)
-  keys_of-filter p [] = refl
-  keys_of-filter p (e ∷ es) =
-      elim (p e.0) as (λ b. keys_of (cond b (e ∷ filter (λ e. p e.0) es) (filter (λ e. p e.0) es)) ≡ cond b (e.0 ∷ filter p (keys_of es)) (filter p (keys_of es))) [
-        | true ↦ ap (λ ks. e.0 ∷ ks) (keys_of-filter p es)
-        | false ↦ keys_of-filter p es
-      ]
 
 module _ {K X : Type 0} (R : K → K → Ordering) where
   -- the slots that are left, in order, show what the map shows from the start on

@@ -1,9 +1,3 @@
-pub mod Conflicts
 pub mod Grants
-pub mod KeyOrder
-pub mod Least
-pub mod NodeRows
 pub mod PathParts
 pub mod PathSteps
-pub mod RowSteps
-pub mod RowTables

@@ -1,3 +1,2 @@
 pub mod Faults
 pub mod Paths
-pub mod Rows

@@ -4,12 +4,12 @@ ghost use Rattle.kfs_model.specs.Lease.{no_leases, holds, granted, dropped, tick
 ghost use Rattle.kfs_mode.specs.Clients.{AreDistinct};
 ghost use Rattle.kfs_image.specs.Contents.{sight_of};
 ghost use Rattle.kfs_lease.specs.Faults.{fault_of, Refuses};
-ghost use Rattle.kfs_lease.specs.Rows.{kind_of};
+ghost use Rattle.kfs_lease_rows.specs.Rows.{kind_of};
 ghost use Rattle.kfs_lease.specs.declared.leases.LeaseFault.TheVariants.{OutOfMemory};
 
 use crate::path::{names_of, walk};
-use crate::rows::{Lease, LeaseKind, Rows};
 use kfs_image::Shape;
+use kfs_lease_rows::{Lease, LeaseKind, Rows};
 use kfs_mode::{Client, find_client};
 use std::alloc::{AllocError, AllocFailed, Allocator};
 use std::marker::Model;
@@ -23,7 +23,7 @@ pub struct Leases<A: Allocator> {
 
 impl<A: Allocator> Model for Leases<A> {
     ghost use Rattle.kfs_model.specs.Lease.{Leases as LeaseTable};
-    ghost use Rattle.kfs_lease.specs.Rows.{table_in, IsIndexed};
+    ghost use Rattle.kfs_lease_rows.specs.Rows.{table_in, IsIndexed};
 
     ghost Value = { LeaseTable };
 

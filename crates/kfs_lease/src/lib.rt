@@ -3,7 +3,6 @@
 
 mod leases;
 mod path;
-mod rows;
 
 pub use leases::{LeaseFault, Leases};
-pub use rows::LeaseKind;
+pub use kfs_lease_rows::LeaseKind;

@@ -4,7 +4,8 @@ use Rattle.std.specs.declared.cmp.Ordering.{Ordering}
 use Rattle.std.specs.declared.cmp.Ordering.TheVariants.{Less, Equal, Greater}
 use Rattle.std.specs.Ordering.{is_eq, is_lt}
 use Rattle.std.specs.Cmp.{tied_itself}
-use Rattle.std.specs.List.{list_any}
+use Rattle.std.specs.List.{filter, list_any}
+use Rattle.std.specs.Map.{keys_of}
 use Rattle.std.specs.FinMap.Entries.{find, is_sorted, below_all}
 use Rattle.std.proofs.lemmas.Bool.{or_cases, or_left, or_right}
 use Rattle.kfs_model.specs.Table.{Order}
@@ -16,6 +17,16 @@ left_part false b t = t
 pub right_part : (a b : Bool) → T (a && b) → T b
 right_part true b t = t
 right_part false b t = absurd t
+
+module _ {K X : Type 0} where
+  -- the keys of entries that are kept by their keys
+  pub keys_of-filter : (p : K → Bool) (es : List (K × X)) → keys_of (filter (λ e. p e.0) es) ≡ filter p (keys_of es)
+  keys_of-filter p [] = refl
+  keys_of-filter p (e ∷ es) =
+      elim (p e.0) as (λ b. keys_of (cond b (e ∷ filter (λ e. p e.0) es) (filter (λ e. p e.0) es)) ≡ cond b (e.0 ∷ filter p (keys_of es)) (filter p (keys_of es))) [
+        | true ↦ ap (λ ks. e.0 ∷ ks) (keys_of-filter p es)
+        | false ↦ keys_of-filter p es
+      ]
 
 less_is_no_tie : (o : Ordering) → T (is_lt o) → is_eq o ≡ false
 less_is_no_tie Less t = refl

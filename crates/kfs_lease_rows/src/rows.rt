@@ -1,0 +1,219 @@
+//! The rows of leases by node and client, and their ends in order.
+ghost use Rattle.std.specs.Prelude.{◌≡◌, ℕ, ◌<◌, ◌≤◌, ◌==◌, ◌&&◌, ◌||◌, not, IsTrue, IsSome, IfSome, IfNone, IfOk, OnOk, OnErr, option_map, is_some, None, false, if◌then◌else◌};
+ghost use Rattle.std.specs.Ordering.{eq_by_cmp};
+ghost use Rattle.std.specs.BTreeMap as slots_of;
+ghost use Rattle.std.specs.BTreeSet as set;
+ghost use Rattle.kfs_model.specs.Table.{empty, get, insert, remove};
+ghost use Rattle.kfs_model.specs.Lease as model;
+ghost use Rattle.kfs_lease_rows.specs.Rows.{kind_of, lease_of, by_node, by_end, table_in, ends_at, has_end, row_count, IsIndexed};
+
+use std::alloc::{AllocError, Allocator};
+use std::collections::{BTreeMap, BTreeSet};
+use std::ops::Bound;
+
+/// What a lease allows its client.
+#[derive(Clone, Copy, Debug, PartialEq, Eq)]
+pub enum LeaseKind {
+    Read,
+    Write,
+}
+
+#[derive(Clone, Copy, Debug, PartialEq, Eq)]
+pub struct Lease {
+    pub kind: LeaseKind,
+    /// The lease is live as long as the moment is before this one.
+    pub end: u64,
+}
+
+impl LeaseKind {
+    fn is_write(self) -> bool
+        ensures { result ≡ model.is_write (kind_of self) }
+    {
+        match self {
+            LeaseKind::Read => false,
+            LeaseKind::Write => true,
+        }
+    }
+}
+
+impl Lease {
+    /// Whether the lease is live and excludes another client's lease of this kind.
+    fn excludes(&self, kind: LeaseKind, moment: u64) -> bool
+        ensures { result ≡ model.is_live moment (lease_of self.now) && (model.is_write (kind_of kind) || model.is_write (kind_of self.now.kind)) }
+    {
+        moment < self.end && (kind.is_write() || self.kind.is_write())
+    }
+}
+
+/// A lease of each client on each node at most.
+#[derive(Drop)]
+pub struct Rows<A: Allocator> {
+    /// By the node's number and then the client's.
+    pub leases: BTreeMap<(u32, u32), Lease, A>,
+    /// The end of each row, and its key.
+    pub ends: BTreeSet<(u64, (u32, u32)), A>,
+}
+
+impl<A: Allocator + Copy> Rows<A> {
+    /// No row. Takes no memory.
+    #[tactic(auto, unfolding(crate::specs::Rows::table_of))]
+    pub fn empty(alloc: A) -> Rows<A>
+        ensures table { table_in result ≡ empty }
+        ensures indexed { IsIndexed result }
+    {
+        Rows {
+            leases: BTreeMap::new(alloc),
+            ends: BTreeSet::new(alloc),
+        }
+    }
+}
+
+impl<A: Allocator> Rows<A> {
+    /// The client's lease on the node.
+    #[tactic(auto, using(crate::proofs::RowTables::tables))]
+    pub fn lease(&self, client: u32, number: u32) -> Option<Lease>
+        ensures { option_map lease_of result ≡ get (table_in self.now) (client, number) }
+    {
+        self.leases.get(&(number, client)).copied()
+    }
+
+    /// The least other client with a live lease on the node that excludes one of this kind.
+    pub fn least_conflict(
+        &self,
+        client: u32,
+        number: u32,
+        kind: LeaseKind,
+        moment: u64,
+    ) -> Option<u32>
+        ensures { result ≡ option_map (λ row. row.0.0) (model.in_conflict (record { rows = table_in self.now; moment = moment }) client number (kind_of kind)) }
+    {
+        let first = Bound::Included((number, 0));
+        for (key, lease) in self.leases.range((first, Bound::Unbounded)) {
+            if key.0 != number {
+                return None;
+            }
+            if key.1 != client && lease.excludes(kind, moment) {
+                return Some(key.1);
+            }
+        }
+        None
+    }
+
+    /// Takes the client's lease on the node out, and answers whether there was one.
+    pub fn take(&mut self, client: u32, number: u32) -> bool
+        requires { IsIndexed self.old }
+        ensures indexed { IsIndexed self.new }
+        ensures found { result ≡ is_some (get (table_in self.old) (client, number)) }
+        ensures table { table_in self.new ≡ remove (table_in self.old) (client, number) }
+        ensures kept { result ≡ false → table_in self.new ≡ table_in self.old }
+        ensures fewer { IsSome (slots_of.get by_node.compare self.old.leases (number, client)) → row_count self.new < row_count self.old }
+    {
+        let key = (number, client);
+        match self.leases.remove(&key) {
+            Some(lease) => {
+                let _ = self.ends.remove(&(lease.end, key));
+                true
+            }
+            None => false,
+        }
+    }
+
+    /// Takes out the leases that end at the moment or before.
+    pub fn end_until(&mut self, moment: u64)
+        requires { IsIndexed self.old }
+        ensures indexed { IsIndexed self.new }
+        ensures table { table_in self.new ≡ model.live_at moment (table_in self.old) }
+    {
+        while let Some((_, key)) = take_ended(&mut self.ends, moment) {
+            let _ = self.leases.remove(&key);
+        }
+    }
+
+    /// Takes out the leases on the node.
+    pub fn remove_node(&mut self, number: u32)
+        requires { IsIndexed self.old }
+        ensures indexed { IsIndexed self.new }
+        ensures table { table_in self.new ≡ model.on_those (λ node. not (node == number)) (table_in self.old) }
+    {
+        while let Some(client) = first_client(&self.leases, number) {
+            let _ = self.take(client, number);
+        }
+    }
+}
+
+/// Takes out the least end where it is at most the moment, with the key of its row.
+fn take_ended<A: Allocator>(
+    ends: &mut BTreeSet<(u64, (u32, u32)), A>,
+    moment: u64,
+) -> Option<(u64, (u32, u32))>
+    ensures fewer { IfSome result (λ _. set.btree_set_len ends.new < set.btree_set_len ends.old) }
+    ensures ended { IfSome result (λ end. end.0 ≤ moment) }
+    ensures member { IfSome result (λ end. IsTrue (set.contains by_end.compare ends.old end)) }
+    ensures taken { IfSome result (λ end. set.Updates by_end.compare ends.old ends.new end false) }
+    ensures kept { IfNone result (set.IsUnchanged ends.old ends.new) }
+    ensures live { IfNone result ((end : ℕ) (key : ℕ × ℕ) → IsTrue (set.contains by_end.compare ends.old (end, key)) → moment < end) }
+{
+    let least = *ends.first()?;
+    if least.0 > moment {
+        return None;
+    }
+    ends.pop_first()
+}
+
+/// The least client with a lease on the node.
+fn first_client<A: Allocator>(leases: &BTreeMap<(u32, u32), Lease, A>, number: u32) -> Option<u32>
+    ensures found { IfSome result (λ client. IsSome (slots_of.get by_node.compare leases.now (number, client))) }
+    ensures none { IfNone result ((client : ℕ) → slots_of.get by_node.compare leases.now (number, client) ≡ None) }
+{
+    let (key, _) = leases
+        .range((Bound::Included((number, 0)), Bound::Unbounded))
+        .next()?;
+    if key.0 == number { Some(key.1) } else { None }
+}
+
+impl<A: Allocator + Clone> Rows<A> {
+    /// Rows that show the same.
+    pub fn copy(&self) -> Result<Rows<A>, AllocError>
+        ensures leases { IfOk result (λ copy. copy.leases.entries ≡ self.now.leases.entries) }
+        ensures ends { IfOk result (λ copy. copy.ends.keys ≡ self.now.ends.keys) }
+    {
+        Ok(Rows {
+            leases: self.leases.clone()?,
+            ends: self.ends.clone()?,
+        })
+    }
+
+    /// Puts a lease in place of the one of the same client and node.
+    pub fn put(&mut self, client: u32, number: u32, lease: Lease) -> Result<(), AllocError>
+        requires { IsIndexed self.old }
+        ensures indexed { IsIndexed self.new }
+        ensures table { OnOk result (table_in self.new ≡ insert (table_in self.old) (client, number) (lease_of lease)) }
+        ensures err { OnErr result (table_in self.new ≡ table_in self.old) }
+    {
+        let key = (number, client);
+        self.ends.insert((lease.end, key))?;
+        let Ok(old) = self.leases.insert(key, lease) else {
+            let _ = self.ends.remove(&(lease.end, key));
+            return Err(AllocError);
+        };
+        leave_end(&mut self.ends, key, old, lease.end);
+        Ok(())
+    }
+}
+
+/// Takes the old end of a row out where it is another than the new one.
+fn leave_end<A: Allocator>(
+    ends: &mut BTreeSet<(u64, (u32, u32)), A>,
+    key: (u32, u32),
+    old: Option<Lease>,
+    end: u64,
+)
+    requires { (e : ℕ) → has_end ends.old e key ≡ (end == e) || ends_at old e }
+    ensures { (e : ℕ) (q : ℕ × ℕ) → has_end ends.new e q ≡ (if eq_by_cmp by_node.compare key q then end == e else has_end ends.old e q) }
+{
+    if let Some(lease) = old {
+        if lease.end != end {
+            let _ = ends.remove(&(lease.end, key));
+        }
+    }
+}

@@ -1,0 +1,143 @@
+//! A script, the words and the status that go with it, and the replies that are expected.
+
+use crate::fault::Fault;
+use crate::script::Script;
+use std::alloc::Global;
+use std::collections::BTreeSet;
+use std::io::ErrorKind;
+use std::rt::Files;
+use std::{fs, io};
+
+/// The exit status where no other one is expected.
+const DONE: u8 = 0;
+
+/// A script and what is expected of it.
+#[derive(Drop)]
+pub struct Case {
+    script: Vec<u8>,
+    words: Option<Vec<u8>>,
+    replies: Vec<u8>,
+    status: u8,
+    is_broken: bool,
+}
+
+/// The names, without their endings, of the scripts and of the expected replies in a folder.
+pub fn script_names<R: Files + AllocGlobal + Clone + Drop>(
+    rt: &R,
+    folder: &str,
+) -> io::Result<BTreeSet<String>> {
+    let mut names = BTreeSet::new(rt.alloc());
+    for entry in fs::read_dir(rt, folder)? {
+        let entry = entry?;
+        let file = entry.file_name();
+        if let Some(name) = file.strip_suffix(".kfs").or(file.strip_suffix(".out")) {
+            names.insert(String::from_str(rt.alloc(), name)?)?;
+        }
+    }
+    Ok(names)
+}
+
+impl Case {
+    /// Reads the files of a name: `.kfs`, the script; `.out`, the replies; and where they are there
+    /// `.words`, the words behind the program's name, one a line, `run` without it; `.status`, the exit
+    /// status, 0 without it; and `.broken`, with which reading fails behind the script's last byte.
+    pub fn read<R: Files + AllocGlobal>(rt: &R, name: &str) -> Result<Case, Fault> {
+        let script = needed_file(rt, name, ".kfs")?;
+        let replies = needed_file(rt, name, ".out")?;
+        let words = optional_file(rt, name, ".words")?;
+        let status = optional_file(rt, name, ".status")?;
+        let status = status_of(status.as_ref())?;
+        let is_broken = optional_file(rt, name, ".broken")?.is_some();
+        Ok(Case {
+            script,
+            words,
+            replies,
+            status,
+            is_broken,
+        })
+    }
+
+    /// The program's name and its words.
+    pub fn words(&self, alloc: Global) -> Result<Vec<&str>, Fault> {
+        let mut words = vec![in alloc; "kfs"]?;
+        let Some(text) = &self.words else {
+            words.push("run")?;
+            return Ok(words);
+        };
+        let Ok(text) = str::from_utf8(text) else {
+            return Err(Fault::Unreadable(".words"));
+        };
+        for word in text.lines() {
+            words.push(word)?;
+        }
+        Ok(words)
+    }
+
+    /// The script, as the program reads it.
+    pub fn script(&self) -> Script<'_> {
+        Script {
+            bytes: self.script.as_slice(),
+            is_broken: self.is_broken,
+        }
+    }
+
+    /// Compares what was written, and then the exit status, with what is expected.
+    pub fn compare(&self, ended: u8, written: &[u8]) -> Result<(), Fault> {
+        compare_replies(written, &self.replies)?;
+        if ended == self.status {
+            Ok(())
+        } else {
+            Err(Fault::Status {
+                ended,
+                status: self.status,
+            })
+        }
+    }
+}
+
+/// The bytes of a file that each script has.
+fn needed_file<R: Files + AllocGlobal>(
+    rt: &R,
+    name: &str,
+    ending: &'static str,
+) -> Result<Vec<u8>, Fault> {
+    optional_file(rt, name, ending)?.ok_or(Fault::Missing(ending))
+}
+
+/// The bytes of a file that a script may have.
+fn optional_file<R: Files + AllocGlobal>(
+    rt: &R,
+    name: &str,
+    ending: &'static str,
+) -> Result<Option<Vec<u8>>, Fault> {
+    let path = format!(in rt.alloc(); "{name}{ending}")?;
+    match fs::read(rt, path.as_str()) {
+        Ok(bytes) => Ok(Some(bytes)),
+        Err(error) if error.kind() == ErrorKind::NotFound => Ok(None),
+        Err(_) => Err(Fault::Unreadable(ending)),
+    }
+}
+
+/// The exit status that the file has.
+fn status_of(text: Option<&Vec<u8>>) -> Result<u8, Fault> {
+    let Some(text) = text else {
+        return Ok(DONE);
+    };
+    let status = str::from_utf8(text).ok();
+    let status = status.and_then(|text| text.trim_ascii_end().parse::<u8>().ok());
+    status.ok_or(Fault::Unreadable(".status"))
+}
+
+/// Finds the first byte in which what was written differs from what is expected.
+fn compare_replies(written: &[u8], expected: &[u8]) -> Result<(), Fault> {
+    if written == expected {
+        return Ok(());
+    }
+    let pairs = written.iter().zip(expected.iter());
+    let same = pairs.take_while(|(left, right)| left == right).count();
+    let ends = expected.iter().take(same).filter(|byte| **byte == b'\n');
+    Err(Fault::Differs {
+        line: ends.count().saturating_add(1),
+        byte: same.saturating_add(1),
+    })
+}
