@@ -37,9 +37,6 @@ root_leased = record {
 
 -- ---- values of single lines
 
-abbrev pub client_twice_in_group_4 : Client
-client_twice_in_group_4 = record { number = 7; uid = 1000; gid = 100; groups = 4 ∷ 4 ∷ []; privileged = false; first = 2; last = 99 }
-
 -- two names in the root, and one in directory 5
 abbrev pub names_of_two_directories : NameTable
 names_of_two_directories = record { entries = ((1, codes "a"), 5) ∷ ((1, codes "b"), 9) ∷ ((5, codes "z"), 7) ∷ []; sorted = tt }

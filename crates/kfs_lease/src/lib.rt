@@ -1,9 +1,11 @@
 //! Leases of clients on nodes, and the paths by which they are asked for.
 #![tactic(auto)]
 
+mod act;
 mod leases;
 mod path;
 mod rows;
 
+pub use act::Act;
 pub use leases::{LeaseFault, Leases};
 pub use rows::LeaseKind;
