@@ -1,5 +1,5 @@
 -- The desk of the worked sessions: a new image of three tiers of eight blocks, and client 7.
-use Rattle.std.specs.Prelude.{ℕ, List, [], ◌∷◌, codes, false, Some}
+use Rattle.std.specs.Prelude.{ℕ, List, [], ◌∷◌, codes, Some}
 use Rattle.kfs_model.specs.Access.{Client}
 use Rattle.kfs_model.specs.Example.{client_7}
 use Rattle.kfs_model.specs.Lease.{WriteLease}

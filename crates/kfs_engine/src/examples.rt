@@ -1,13 +1,11 @@
-//! Lines beside what they ask for, and a session line by line, by computation.
+//! The lines of an input, and a session line by line, by computation.
 
-ghost use Rattle.std.specs.Prelude.{◌≡◌, [], ◌∷◌, ◌++◌, codes, None, Some, Ok, Err};
+ghost use Rattle.std.specs.Prelude.{◌≡◌, [], ◌∷◌, codes, None, Err};
 ghost use Rattle.kfs_model.specs.Example.{client_7, client_8};
-ghost use Rattle.kfs_model.specs.Lease.{ReadLease, WriteLease};
-ghost use Rattle.kfs_mode.specs.declared.client.ClientFault.TheVariants.{BadGrant, TooManyGroups};
-ghost use Rattle.kfs_plan.specs.Judging.{submission_with};
-ghost use Rattle.kfs_command.specs.Command.{Begin, Drop, Lease, Listing, New, Node, Request, Row, Setup, Submit, Tick, asked_by, client_row};
+ghost use Rattle.kfs_mode.specs.declared.client.ClientFault.TheVariants.{TooManyGroups};
+ghost use Rattle.kfs_command.specs.Command.{Begin, New, Row};
 ghost use Rattle.kfs_engine.specs.Conversation.{BreaksOff};
-ghost use Rattle.kfs_engine.specs.Example.{client_twice_in_group_4, desk_of_7, desk_with, eight_blocks_each, names_of_two_directories, opening_with, root_leased};
+ghost use Rattle.kfs_engine.specs.Example.{desk_of_7, desk_with, eight_blocks_each, names_of_two_directories, opening_with, root_leased};
 ghost use Rattle.kfs_engine.specs.Listing.{list_text};
 ghost use Rattle.kfs_engine.specs.Session.{After, Before, Runs, fresh, opened};
 ghost use Rattle.kfs_text.specs.Cut.{lines_of};
