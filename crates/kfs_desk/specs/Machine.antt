@@ -22,9 +22,9 @@ use Rattle.kfs_plan.specs.declared.submission.Back.{Back}
 use Rattle.kfs_plan.specs.declared.submission.Submission.{Submission as CodeSubmission}
 use Rattle.kfs_plan.specs.declared.submission.Why.{Why}
 use Rattle.kfs_plan.specs.declared.submission.Why.TheVariants as whys
-use Rattle.kfs_desk.specs.declared.answers.Act.{Act}
+use Rattle.kfs_lease.specs.declared.act.Act.{Act}
 use Rattle.kfs_desk.specs.declared.answers.ActReply.{ActReply}
-use Rattle.kfs_desk.specs.declared.answers.Act.TheVariants as acts
+use Rattle.kfs_lease.specs.declared.act.Act.TheVariants as acts
 use Rattle.kfs_desk.specs.declared.answers.Done.{Done}
 use Rattle.kfs_desk.specs.declared.answers.Done.TheVariants as dones
 use Rattle.kfs_desk.specs.declared.answers.Reply.{Reply as CodeReply}

@@ -1,7 +1,8 @@
 //! What the desk is asked for and what it answers.
 
 use kfs_image::Image;
-use kfs_lease::{LeaseFault, LeaseKind};
+pub use kfs_lease::Act;
+use kfs_lease::LeaseFault;
 use kfs_mode::Client;
 use kfs_plan::{Fault, Submission};
 use std::alloc::{AllocError, Allocator};
@@ -20,27 +21,6 @@ pub enum Reply {
         position: u32,
         rejudged: bool,
         fault: Fault,
-    },
-}
-
-/// A call of the desk for its leases.
-#[derive(Clone, Copy)]
-pub enum Act<'a> {
-    /// The client asks for a lease on the node of the path, until the moment `end`.
-    Lease {
-        client: u32,
-        path: &'a [u8],
-        kind: LeaseKind,
-        end: u64,
-    },
-    /// The client gives up its lease on the node.
-    Drop {
-        client: u32,
-        number: u32,
-    },
-    /// The moment goes on to this one.
-    Tick {
-        moment: u64,
     },
 }
 

@@ -1,8 +1,4 @@
--- Lemmas on commands and sessions.
-pub mod Asked
+-- Lemmas on sessions and replies.
 pub mod Conversations
 pub mod Listed
-pub mod Readings
-pub mod Rows
-pub mod Submitted
 pub mod Texts

@@ -1,5 +1,5 @@
 -- The desk of the worked sessions: a new image of three tiers of eight blocks, and client 7.
-use Rattle.std.specs.Prelude.{ℕ, List, [], ◌∷◌, codes, false, Some}
+use Rattle.std.specs.Prelude.{ℕ, List, [], ◌∷◌, codes, Some}
 use Rattle.kfs_model.specs.Access.{Client}
 use Rattle.kfs_examples.specs.Example.{client_7}
 use Rattle.kfs_model.specs.Lease.{WriteLease}
@@ -36,9 +36,6 @@ root_leased = record {
 }
 
 -- ---- values of single lines
-
-abbrev pub client_twice_in_group_4 : Client
-client_twice_in_group_4 = record { number = 7; uid = 1000; gid = 100; groups = 4 ∷ 4 ∷ []; privileged = false; first = 2; last = 99 }
 
 -- two names in the root, and one in directory 5
 abbrev pub names_of_two_directories : NameTable

@@ -1,9 +1,7 @@
-pub mod Command
 pub mod Conversation
 pub mod Example
 pub mod Listing
 pub mod Progress
-pub mod Reading
 pub mod Session
 pub mod Text
 pub mod Views

@@ -21,7 +21,7 @@ use Rattle.kfs_desk.specs.declared.answers.BeginFault.{BeginFault}
 use Rattle.kfs_desk.specs.declared.answers.Done.{Done}
 use Rattle.kfs_desk.specs.declared.answers.Done.TheVariants.{Leased, Dropped, Ticked}
 use Rattle.kfs_desk.specs.declared.answers.Reply.{Reply}
-use Rattle.kfs_engine.specs.Command.{Command, Setup, Request, OpeningCommand, New, Row, Begin, DeskCommand, Lease, Drop, Tick, Submit, Node, Listing, IsBadLine, asked_by}
+use Rattle.kfs_command.specs.Command.{Command, Setup, Request, OpeningCommand, New, Row, Begin, DeskCommand, Lease, Drop, Tick, Submit, Node, Listing, IsBadLine, asked_by}
 use Rattle.kfs_engine.specs.Listing.{list_text}
 use Rattle.kfs_engine.specs.Text.{act_text, begin_text, client_text, node_text, reply_text}
 use Rattle.kfs_text.specs.Parts.{line_of}

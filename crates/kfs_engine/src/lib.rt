@@ -6,7 +6,6 @@ ghost use Rattle.std.specs.Io.KnownBytes.{IsAtEnd};
 ghost use Rattle.kfs_engine.specs.Conversation.{IsSession};
 ghost use Rattle.kfs_text.specs.Streams.{Exchanges};
 
-mod command;
 mod conversation;
 pub mod examples;
 mod fault;

@@ -1,12 +1,13 @@
 //! What a desk is begun with: the image and the clients.
 ghost use Rattle.std.specs.Prelude.{◌≡◌, ◌≤◌, IfErr, IfOk, IsErrOf, None, OnOk};
-ghost use Rattle.kfs_engine.specs.Command as commands;
+ghost use Rattle.kfs_command.specs.Command as commands;
 ghost use Rattle.kfs_engine.specs.Session.{Before, fresh};
-ghost use Rattle.kfs_engine.specs.Views.{IsOpened, IsWithoutImage, opening_of, start_of};
+ghost use Rattle.kfs_command.specs.Views.{opening_of};
+ghost use Rattle.kfs_engine.specs.Views.{IsOpened, IsWithoutImage, start_of};
 ghost use Rattle.kfs_value.specs.Room.{spare_of};
 
-use crate::command::OpeningCommand;
 use crate::report::{begin_line, client_line};
+use kfs_command::OpeningCommand;
 use kfs_desk::Desk;
 use kfs_desk::answers::BeginFault;
 use kfs_image::{Image, TierSizes};

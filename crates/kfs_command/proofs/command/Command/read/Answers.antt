@@ -1,13 +1,13 @@
 -- A line asks for the command that its first word names, of the words behind it.
 use Rattle.std.proofs.Common.{◌≡◌, sym, subst, arith}
-use Rattle.kfs_engine.specs.Command.{IsBadLine, asked_by}
-use Rattle.kfs_engine.specs.Reading.{IsAsked}
+use Rattle.kfs_command.specs.Command.{IsBadLine, asked_by}
+use Rattle.kfs_command.specs.Reading.{IsAsked}
 use Rattle.kfs_text.specs.Reading.{words_left}
 use Rattle.kfs_text.specs.declared.words.Refusal.TheVariants.{BadLine}
-use Rattle.kfs_engine.proofs.Readings.{asked_named, command_by_name, nothing_asked}
-use Rattle.kfs_engine.proofs.Asked.{asked_bad, asked_good, asked_ok}
-use Rattle.kfs_engine.proofs.Submitted.{none_is_bad}
-use Rattle.kfs_engine.proofs.command.Command.read.Goals as goal
+use Rattle.kfs_command.proofs.Readings.{asked_named, command_by_name, nothing_asked}
+use Rattle.kfs_command.proofs.Asked.{asked_bad, asked_good, asked_ok}
+use Rattle.kfs_command.proofs.Submitted.{none_is_bad}
+use Rattle.kfs_command.proofs.command.Command.read.Goals as goal
 
 pub returns-in_err-word-clause-bad : goal.returns-in_err-word-clause-bad
 returns-in_err-word-clause-bad g c =

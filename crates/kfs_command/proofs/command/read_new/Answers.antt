@@ -3,10 +3,10 @@ use Rattle.std.proofs.Common.{◌≡◌, ◌∙◌, Option, Some, None, Ok, opti
 use Rattle.std.specs.Option.{ok_or}
 use Rattle.kfs_model.specs.Placement.{TierSizes}
 use Rattle.kfs_text.specs.declared.words.Refusal.TheVariants.{BadLine}
-use Rattle.kfs_engine.specs.Command.{New, Setup}
-use Rattle.kfs_engine.proofs.Readings.{new_steps}
-use Rattle.kfs_engine.proofs.Rows.{sizes_are}
-use Rattle.kfs_engine.proofs.command.read_new.Goals as goal
+use Rattle.kfs_command.specs.Command.{New, Setup}
+use Rattle.kfs_command.proofs.Readings.{new_steps}
+use Rattle.kfs_command.proofs.Rows.{sizes_are}
+use Rattle.kfs_command.proofs.command.read_new.Goals as goal
 
 made : (o : Option TierSizes) (sizes : TierSizes) → ok_or o BadLine ≡ Ok sizes → option_map (λ s. Setup (New s)) o ≡ Some (Setup (New sizes))
 made None sizes is = cc

@@ -1,10 +1,10 @@
 -- What is read is the command that a line asks for.
 use Rattle.std.specs.Prelude.{◌≡◌, ℕ, List, codes, bytes_eq, Option, Some, None, Result, MatchResult, if◌then◌else◌}
-use Rattle.kfs_engine.specs.Command.{Command, Setup, Begin, Request, Tick, Node, Listing, IsBadLine, client_of, drop_of, lease_of, new_of, submit_of, with_number}
-use Rattle.kfs_engine.specs.Views.{asked_of}
-use Rattle.kfs_engine.specs.declared.command.Command.{Command as CodeCommand}
-use Rattle.kfs_engine.specs.declared.command.Name.{Name}
-use Rattle.kfs_engine.specs.declared.command.Name.TheVariants as names
+use Rattle.kfs_command.specs.Command.{Command, Setup, Begin, Request, Tick, Node, Listing, IsBadLine, client_of, drop_of, lease_of, new_of, submit_of, with_number}
+use Rattle.kfs_command.specs.Views.{asked_of}
+use Rattle.kfs_command.specs.declared.command.Command.{Command as CodeCommand}
+use Rattle.kfs_command.specs.declared.command.Name.{Name}
+use Rattle.kfs_command.specs.declared.command.Name.TheVariants as names
 use Rattle.kfs_text.specs.Decimals.{decimal32, decimal64}
 use Rattle.kfs_text.specs.declared.words.Refusal.{Refusal}
 use Rattle.kfs_text.specs.declared.words.Refusal.TheVariants.{BadLine}

@@ -5,8 +5,8 @@ use Rattle.std.proofs.lemmas.Bool.{both_ways}
 use Rattle.kfs_entry.specs.Answers.{log_of}
 use Rattle.kfs_judge.specs.JudgedEntries.{IsJudged}
 use Rattle.kfs_judge.proofs.JudgedEntries.{not_all_judged}
-use Rattle.kfs_engine.proofs.Submitted.{all_are_judged, no_log_has_other}
-use Rattle.kfs_engine.proofs.command.has_other_entry.Goals as goal
+use Rattle.kfs_command.proofs.Submitted.{all_are_judged, no_log_has_other}
+use Rattle.kfs_command.proofs.command.has_other_entry.Goals as goal
 
 is_false : (b : Bool) → not b ≡ true → b ≡ false
 is_false true is = cc

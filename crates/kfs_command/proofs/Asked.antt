@@ -1,10 +1,10 @@
 -- What was read is what a line asks for.
 use Rattle.std.proofs.Common.{◌≡◌, Option, Some, Result, Ok, Err}
 use Rattle.std.specs.Prelude.{IfOk, IsErrOf}
-use Rattle.kfs_engine.specs.Command.{Command, IsBadLine}
-use Rattle.kfs_engine.specs.Reading.{IsAsked}
-use Rattle.kfs_engine.specs.Views.{asked_of}
-use Rattle.kfs_engine.specs.declared.command.Command.{Command as CodeCommand}
+use Rattle.kfs_command.specs.Command.{Command, IsBadLine}
+use Rattle.kfs_command.specs.Reading.{IsAsked}
+use Rattle.kfs_command.specs.Views.{asked_of}
+use Rattle.kfs_command.specs.declared.command.Command.{Command as CodeCommand}
 use Rattle.kfs_text.specs.declared.words.Refusal.{Refusal}
 use Rattle.kfs_text.specs.declared.words.Refusal.TheVariants.{BadLine}
 

@@ -2,16 +2,15 @@
 ghost use Rattle.std.specs.Prelude.{◌≡◌, ℕ, List, true, false, IfOk, IfErr, IsErrOf, Some};
 ghost use Rattle.kfs_lease_rows.specs.Rows.{kind_of};
 ghost use Rattle.kfs_plan.specs.Judging.{HasOtherEntry, submission_of};
-ghost use Rattle.kfs_engine.specs.Command.{Listing as ListingLine, Node as NodeLine, Request, Setup, Submit as SubmitLine, IsBadLine, asked_by, client_of, drop_of, kind_named, lease_of, new_of, submit_of};
-ghost use Rattle.kfs_engine.specs.Reading.{IsAsked, begin_of, command_named, listing_of, named_by, node_of, tick_of};
-ghost use Rattle.kfs_engine.specs.Views.{act_of, asked_of, opening_of};
+ghost use Rattle.kfs_command.specs.Command.{Listing as ListingLine, Node as NodeLine, Request, Setup, Submit as SubmitLine, IsBadLine, asked_by, client_of, drop_of, kind_named, lease_of, new_of, submit_of};
+ghost use Rattle.kfs_command.specs.Reading.{IsAsked, begin_of, command_named, listing_of, named_by, node_of, tick_of};
+ghost use Rattle.kfs_command.specs.Views.{act_of, asked_of, opening_of};
 ghost use Rattle.kfs_text.specs.Reading.{ReadsAs, checked, first_by, words_left};
 
-use kfs_desk::answers::Act;
 use kfs_entry::{SpellFault, decode_log};
 use kfs_image::TierSizes;
 use kfs_judge::are_judged;
-use kfs_lease::LeaseKind;
+use kfs_lease::{Act, LeaseKind};
 use kfs_mode::{Client, ClientFault};
 use kfs_plan::Submission;
 use kfs_text::{Refusal, Words};

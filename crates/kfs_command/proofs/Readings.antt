@@ -2,16 +2,16 @@
 use Rattle.std.proofs.Common.{◌≡◌, ℕ, nat_lt, ◌==◌, ◌&&◌, List, [], ◌∷◌, length, take, Option, Some, None, option_map, refl, sym, ap, ◌∙◌, Bool, true, false, if◌then◌else◌}
 use Rattle.kfs_plan.specs.Judging.{submission_with}
 use Rattle.kfs_model.specs.Steps.{◌>>=◌}
-use Rattle.kfs_engine.specs.Command.{Command, Setup, Request, Row, Begin, Lease, Drop, Tick, Submit, Node, Listing, asked_by, asked_in, client_of, client_row, command_of, drop_of, kind_named, lease_of, new_of, submit_of, with_number}
-use Rattle.kfs_engine.specs.Reading.{begin_of, command_named, listing_of, named_by, node_of, tick_of}
+use Rattle.kfs_command.specs.Command.{Command, Setup, Request, Row, Begin, Lease, Drop, Tick, Submit, Node, Listing, asked_by, asked_in, client_of, client_row, command_of, drop_of, kind_named, lease_of, new_of, submit_of, with_number}
+use Rattle.kfs_command.specs.Reading.{begin_of, command_named, listing_of, named_by, node_of, tick_of}
 use Rattle.kfs_text.specs.Cut.{cut, space}
 use Rattle.kfs_text.specs.Decimals.{decimal32, decimal64, decimal_within, decimals32, hexadecimal}
 use Rattle.kfs_text.specs.Reading.{are_words, checked, ended, first_by, only}
-use Rattle.kfs_engine.specs.declared.command.Name.{Name}
-use Rattle.kfs_engine.specs.declared.command.Name.TheVariants as names
+use Rattle.kfs_command.specs.declared.command.Name.{Name}
+use Rattle.kfs_command.specs.declared.command.Name.TheVariants as names
 use Rattle.std.specs.Prelude.{bytes_eq, codes}
 use Rattle.kfs_text.proofs.WordByWord.{bind_all, bind_none, checked_decimals, checked_nothing, checked_same, checked_then, decimals_then, first_if, if_none, map_bind, nothing_if, nothing_then, word_then}
-use Rattle.kfs_engine.proofs.Rows.{sizes_by, new_by_sizes, kept_groups}
+use Rattle.kfs_command.proofs.Rows.{sizes_by, new_by_sizes, kept_groups}
 
 -- ---- one number
 

@@ -10,7 +10,7 @@ use Rattle.kfs_model.specs.Access.{Client}
 use Rattle.kfs_mode.specs.declared.client.ClientFault.{ClientFault}
 use Rattle.kfs_mode.specs.declared.client.ClientFault.TheVariants.{TooManyGroups, BadGrant}
 use Rattle.kfs_model.specs.Steps.{◌>>=◌}
-use Rattle.kfs_engine.specs.Command.{Command, Setup, New, Row, client_row, new_of}
+use Rattle.kfs_command.specs.Command.{Command, Setup, New, Row, client_row, new_of}
 use Rattle.kfs_text.specs.Decimals.{decimal32, decimal_within, is_digit}
 
 -- ---- the sizes of an image

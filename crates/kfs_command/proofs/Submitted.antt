@@ -12,7 +12,7 @@ use Rattle.kfs_entry.specs.declared.fault.SpellFault.{SpellFault}
 use Rattle.kfs_entry.specs.declared.fault.SpellFault.TheVariants as faults
 use Rattle.kfs_judge.specs.JudgedEntries.{IsJudged, is_judged}
 use Rattle.kfs_plan.specs.Judging.{HasOtherEntry}
-use Rattle.kfs_engine.specs.Command.{Command, Request, Submit, IsBadLine}
+use Rattle.kfs_command.specs.Command.{Command, Request, Submit, IsBadLine}
 use Rattle.kfs_judge.proofs.JudgedEntries.{all_judged}
 
 pub all_are_judged : {A : Type 0} (bytes : List ℕ) (log : CodeLog A) → ((answer : Result Log SpellingFault) → LogAnswer bytes answer → Ok (log_of bytes log) ≡ answer) → All IsJudged log.entries → HasOtherEntry bytes → ⊥

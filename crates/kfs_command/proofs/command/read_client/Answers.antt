@@ -1,9 +1,9 @@
 -- The row of a client is the definition's, of the groups that are kept.
 use Rattle.std.proofs.Common.{◌≡◌, ◌==◌, refl}
-use Rattle.kfs_engine.specs.Command.{client_row}
-use Rattle.kfs_engine.proofs.Readings.{client_steps}
-use Rattle.kfs_engine.proofs.Rows.{row_is}
-use Rattle.kfs_engine.proofs.command.read_client.Goals as goal
+use Rattle.kfs_command.specs.Command.{client_row}
+use Rattle.kfs_command.proofs.Readings.{client_steps}
+use Rattle.kfs_command.proofs.Rows.{row_is}
+use Rattle.kfs_command.proofs.command.read_client.Goals as goal
 
 pub returns : goal.returns
 returns c =

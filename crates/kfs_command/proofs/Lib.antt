@@ -1,0 +1,5 @@
+-- Lemmas on the reading of commands.
+pub mod Asked
+pub mod Readings
+pub mod Rows
+pub mod Submitted

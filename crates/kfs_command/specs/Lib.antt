@@ -1,0 +1,4 @@
+pub mod Command
+pub mod Example
+pub mod Reading
+pub mod Views
