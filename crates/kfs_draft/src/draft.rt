@@ -15,7 +15,8 @@ use kfs_value::{Header, Kind, Name};
 use std::alloc::{AllocError, Allocator};
 use std::collections::{BTreeMap, BTreeSet};
 
-/// The cells that the entries so far have written, each with what it shows now.
+/// The cells that the entries so far have written, each with what it shows now. Nodes and directories
+/// go by their numbers, names by directory and name. Looking takes no memory.
 #[derive(Drop)]
 pub struct Draft<A: Allocator> {
     heads: BTreeMap<u32, Option<Header>, A>,
@@ -28,7 +29,7 @@ pub struct Draft<A: Allocator> {
 }
 
 impl<A: Allocator + Copy> Draft<A> {
-    /// Nothing changed yet.
+    /// Nothing changed yet. Takes no memory.
     pub fn new(alloc: A) -> Draft<A>
         ensures shown { (s : Sight) → over result s ≡ s }
         ensures written { IsWritten result [] }
@@ -44,7 +45,8 @@ impl<A: Allocator + Copy> Draft<A> {
         }
     }
 
-    /// A new node and its name.
+    /// A new node and its name. The key is the directory's number with the name. Where a growth is
+    /// refused, part of the change may be made; so it is in each call that changes the draft.
     pub fn add_node(
         &mut self,
         key: (u32, Name),

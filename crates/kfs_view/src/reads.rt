@@ -34,7 +34,8 @@ pub enum ReadAnswer {
 /// The recorded reads with their answers.
 pub type Reads<A> = IndexMap<Read, ReadAnswer, BuildHasherDefault<FoldHasher>, A>;
 
-/// Reads a view for one client, and keeps what it read.
+/// Reads a view for one client, by numbers of nodes, and keeps what it read. Only a growth of what is
+/// kept, or of a name's copy, can fail, and then the read isn't kept.
 #[derive(Drop)]
 pub struct Recorder<'a, A: Allocator> {
     view: &'a View<A>,
@@ -43,7 +44,7 @@ pub struct Recorder<'a, A: Allocator> {
 }
 
 impl<'a, A: Allocator + Copy> Recorder<'a, A> {
-    /// Nothing read yet.
+    /// Nothing read yet, for the client of this number. Takes no memory.
     pub fn new(alloc: A, view: &'a View<A>, client: u32) -> Recorder<'a, A>
         ensures none { result.reads.entries ≡ [] }
         ensures seen { seen_by result ≡ client_sight_in view.now client }
@@ -130,7 +131,7 @@ impl<'a, A: Allocator + Copy> Recorder<'a, A> {
         Ok(held_in(answer))
     }
 
-    /// The recorded reads.
+    /// The recorded reads. Takes no memory.
     pub fn into_reads(self) -> IndexMap<Read, ReadAnswer, BuildHasherDefault<FoldHasher>, A>
         ensures { result.entries ≡ self.entry.reads.entries }
     {
