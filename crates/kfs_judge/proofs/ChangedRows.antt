@@ -17,8 +17,8 @@ use Rattle.kfs_model.proofs.Exact.{IsExact, options-exact, numbers-exact, header
 use Rattle.kfs_model.proofs.Tables.{left_part, right_part, find_tie, find_below}
 use Rattle.kfs_judge.specs.Rows.{keyed_name_row, keyed_node_row}
 use Rattle.kfs_judge.specs.Walks.{AreNamesOf, AreNodesOf}
-use Rattle.kfs_judge.specs.Overlay.{over}
-use Rattle.kfs_judge.specs.declared.draft.Draft.{Draft}
+use Rattle.kfs_draft.specs.Overlay.{over}
+use Rattle.kfs_draft.specs.declared.draft.Draft.{Draft}
 use Rattle.kfs_value.specs.Views.{header_of}
 use Rattle.kfs_value.specs.declared.header.Header.{Header as CodeHeader}
 use Rattle.kfs_value.specs.declared.plan.NameRow.{NameRow as CodeNameRow}

@@ -1,10 +1,6 @@
 -- Lemmas on what a judgement reads and changes.
 pub mod JudgedEntries
-pub mod ReadsAgree
-pub mod Recording
-pub mod ViewShows
 pub mod Lists
-pub mod Overlays
 pub mod Failing
 pub mod Climbing
 pub mod Entering

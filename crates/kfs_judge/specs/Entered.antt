@@ -15,9 +15,9 @@ use Rattle.kfs_judge.specs.declared.check.Reason.{Reason}
 use Rattle.kfs_judge.specs.declared.log_judge.LogJudge.{LogJudge}
 use Rattle.kfs_judge.specs.declared.walk.EntryFault.{EntryFault}
 use Rattle.kfs_judge.specs.Checks.{reason_of}
-use Rattle.kfs_judge.specs.Overlay.{over, entry_context_of, AreCreated, IsWritten, ShiftsBy}
-use Rattle.kfs_judge.specs.Reads.{IsPart}
-use Rattle.kfs_judge.specs.Recorders.{GoesOn, Known, ReadsAt}
+use Rattle.kfs_draft.specs.Overlay.{over, entry_context_of, AreCreated, IsWritten, ShiftsBy}
+use Rattle.kfs_view.specs.Reads.{IsPart}
+use Rattle.kfs_view.specs.Recorders.{GoesOn, Known, ReadsAt}
 use Rattle.kfs_judge.specs.Walks.{EndsAt}
 
 -- where the next entry is judged, by what the client saw before the log

@@ -1,8 +1,4 @@
 pub mod JudgedEntries
-pub mod View
-pub mod Reads
-pub mod Recorders
-pub mod Overlay
 pub mod Checks
 pub mod Walks
 pub mod Entered

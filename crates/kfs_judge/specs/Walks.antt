@@ -1,7 +1,7 @@
 -- What a walk over a log's entries has found, in a state.
 use Rattle.std.specs.Prelude.{◌≡◌, ℕ, List, [], map, Option, None, Some, Result, Ok, Err, Bool}
-use Rattle.kfs_judge.specs.Reads.{Agrees, Always, AreAmong}
-use Rattle.kfs_judge.specs.View.{clients_of, client_sight_in}
+use Rattle.kfs_view.specs.Reads.{Agrees, Always, AreAmong}
+use Rattle.kfs_view.specs.View.{clients_of, client_sight_in}
 use Rattle.kfs_model.specs.Looked.{seen_run, looked_cells}
 use Rattle.kfs_model.specs.Access.{Client}
 use Rattle.kfs_model.specs.Lease.{row_of}
@@ -21,12 +21,12 @@ use Rattle.kfs_value.specs.declared.plan.NodeRow.{NodeRow as CodeNodeRow}
 use Rattle.kfs_image.specs.declared.shape.Net.{Net}
 use Rattle.kfs_judge.specs.declared.walk.EntryFault.{EntryFault as CodeEntryFault}
 use Rattle.kfs_judge.specs.Checks.{reason_of}
-use Rattle.kfs_judge.specs.declared.draft.Draft.{Draft}
+use Rattle.kfs_draft.specs.declared.draft.Draft.{Draft}
 use Rattle.kfs_judge.specs.declared.walk.Walk.{Walk}
-use Rattle.kfs_judge.specs.declared.view.View.{View}
+use Rattle.kfs_view.specs.declared.view.View.{View}
 use Rattle.kfs_value.specs.Views.{entry_of}
 use Rattle.kfs_value.specs.declared.entry.Log.{Log as CodeLog}
-use Rattle.kfs_judge.specs.Overlay.{over}
+use Rattle.kfs_draft.specs.Overlay.{over}
 
 abbrev pub fault_of : CodeEntryFault → EntryFault
 fault_of fault = record { entry = fault.index; reason = reason_of fault.reason }

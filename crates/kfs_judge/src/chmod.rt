@@ -6,15 +6,15 @@ ghost use Rattle.kfs_model.specs.Check.{checks_of};
 ghost use Rattle.kfs_model.specs.Entry as entry;
 ghost use Rattle.kfs_model.specs.Header.{Header as HeaderShown};
 ghost use Rattle.kfs_judge.specs.Entered.{IsEntered};
-ghost use Rattle.kfs_judge.specs.Overlay.{has_created, ShiftsBy};
-ghost use Rattle.kfs_judge.specs.Recorders.{GoesOn};
+ghost use Rattle.kfs_draft.specs.Overlay.{has_created, ShiftsBy};
+ghost use Rattle.kfs_view.specs.Recorders.{GoesOn};
 ghost use Rattle.kfs_judge.specs.Checks.{FindsFault, ReadsCellsOf};
 
 use crate::check::{Reason, check};
 use crate::entry_judge::EntryJudge;
 use crate::log_judge::LogJudge;
-use crate::reads::Recorder;
 use kfs_image::Header;
+use kfs_view::Recorder;
 use std::alloc::{AllocError, Allocator};
 
 /// Why the mode of the node `number` can't be changed, if so.

@@ -8,15 +8,15 @@ ghost use Rattle.kfs_model.specs.Entry as entry;
 ghost use Rattle.kfs_model.specs.SeenAfter.{seen_after};
 ghost use Rattle.kfs_model.specs.Sight.{Sight};
 ghost use Rattle.kfs_judge.specs.Entered.{IsEntered};
-ghost use Rattle.kfs_judge.specs.Overlay.{has_created, over, ShiftsBy, HasRoom};
-ghost use Rattle.kfs_judge.specs.Recorders.{GoesOn};
+ghost use Rattle.kfs_draft.specs.Overlay.{has_created, over, ShiftsBy, HasRoom};
+ghost use Rattle.kfs_view.specs.Recorders.{GoesOn};
 ghost use Rattle.kfs_judge.specs.Checks.{FindsFault, ReadsCellsOf};
 
 use crate::check::{Reason, check};
 use crate::entry_judge::EntryJudge;
 use crate::log_judge::LogJudge;
-use crate::reads::Recorder;
 use kfs_image::{Header, Kind, Name};
+use kfs_view::Recorder;
 use std::alloc::{AllocError, Allocator};
 
 /// Why a node `number` can't be made under the name `key`, if so.

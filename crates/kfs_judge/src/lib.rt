@@ -4,21 +4,16 @@
 mod check;
 mod chmod;
 mod create;
-mod draft;
 mod entry_judge;
-mod header;
 mod judged;
 mod link;
 mod log_judge;
 mod net;
-mod reads;
 mod rename;
 mod unlink;
-mod view;
 mod walk;
 
 pub use check::Reason;
 pub use judged::are_judged;
-pub use reads::{Read, ReadAnswer};
-pub use view::View;
+pub use kfs_view::{Read, ReadAnswer, View};
 pub use walk::{EntryFault, Walk, judge_entries};

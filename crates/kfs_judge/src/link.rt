@@ -4,15 +4,15 @@ ghost use Rattle.kfs_model.specs.Check.{checks_of};
 ghost use Rattle.kfs_model.specs.Entry as entry;
 ghost use Rattle.kfs_judge.specs.Checks.{FindsFault, ReadsCellsOf};
 ghost use Rattle.kfs_judge.specs.Entered.{IsEntered};
-ghost use Rattle.kfs_judge.specs.Overlay.{has_created, HasRoom, ShiftsBy};
-ghost use Rattle.kfs_judge.specs.Recorders.{GoesOn};
+ghost use Rattle.kfs_draft.specs.Overlay.{has_created, HasRoom, ShiftsBy};
+ghost use Rattle.kfs_view.specs.Recorders.{GoesOn};
 
 use crate::check::{Reason, check};
 use crate::entry_judge::EntryJudge;
-use crate::header::linked;
 use crate::log_judge::LogJudge;
-use crate::reads::Recorder;
+use kfs_draft::linked;
 use kfs_image::Name;
+use kfs_view::Recorder;
 use std::alloc::{AllocError, Allocator};
 
 /// Why the node `number` can't have the name `key` too, if so.

@@ -4,20 +4,19 @@ ghost use Rattle.kfs_value.specs.Views.{entry_of};
 ghost use Rattle.kfs_model.specs.Sight.{Sight, Cell};
 ghost use Rattle.kfs_judge.specs.JudgedEntries.{IsJudged};
 ghost use Rattle.kfs_judge.specs.Entered.{IsEntered};
-ghost use Rattle.kfs_judge.specs.Overlay.{has_created, over, ShiftsBy, HasRoom, IsWritten};
-ghost use Rattle.kfs_judge.specs.Recorders.{GoesOn, seen_by, Known, ReadsAt};
+ghost use Rattle.kfs_draft.specs.Overlay.{has_created, over, ShiftsBy, HasRoom, IsWritten};
+ghost use Rattle.kfs_view.specs.Recorders.{GoesOn, seen_by, Known, ReadsAt};
 ghost use Rattle.kfs_judge.specs.Walks.{IsNetOf};
-ghost use Rattle.kfs_judge.specs.View.{client_sight_in};
+ghost use Rattle.kfs_view.specs.View.{client_sight_in};
 
 use crate::check::Reason;
-use crate::draft::Draft;
 use crate::net::{name_rows, node_rows};
-use crate::reads::{Read, ReadAnswer, Recorder};
-use crate::view::View;
 use indexmap::IndexMap;
+use kfs_draft::Draft;
 use kfs_entry::{Entry, Span, entry_table};
 use kfs_image::shape::Net;
 use kfs_mode::Client;
+use kfs_view::{Read, ReadAnswer, Recorder, View};
 use std::alloc::{AllocError, Allocator};
 use std::hash::{BuildHasherDefault, FoldHasher};
 

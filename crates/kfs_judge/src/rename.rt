@@ -4,16 +4,16 @@ ghost use Rattle.kfs_model.specs.Check.{checks_of, arrival_checks, may_go, on_nu
 ghost use Rattle.kfs_model.specs.Entry as entry;
 ghost use Rattle.kfs_judge.specs.Checks.{FindsFault, FindsFirst, ReadsCellsOf, ReadsCellsOfAll};
 ghost use Rattle.kfs_judge.specs.Entered.{IsEntered, headers_renamed, ShowsRename, WritesRename};
-ghost use Rattle.kfs_judge.specs.Overlay.{has_created, HasRoom, ShiftsBy};
-ghost use Rattle.kfs_judge.specs.Recorders.{GoesOn, ReadsAt};
+ghost use Rattle.kfs_draft.specs.Overlay.{has_created, HasRoom, ShiftsBy};
+ghost use Rattle.kfs_view.specs.Recorders.{GoesOn, ReadsAt};
 ghost use Rattle.kfs_value.specs.Views.{kind_of};
 
 use crate::check::{Reason, check};
 use crate::entry_judge::EntryJudge;
 use crate::log_judge::LogJudge;
-use crate::reads::Recorder;
 use crate::unlink::going_fault;
 use kfs_image::{Kind, Name};
+use kfs_view::Recorder;
 use std::alloc::{AllocError, Allocator};
 
 /// Why the name `key` can't become `new_key`, if so.

@@ -4,16 +4,16 @@ ghost use Rattle.kfs_model.specs.Check.{checks_of, may_go};
 ghost use Rattle.kfs_model.specs.Entry as entry;
 ghost use Rattle.kfs_judge.specs.Checks.{FindsFault, FindsFirst, ReadsCellsOf, ReadsCellsOfAll};
 ghost use Rattle.kfs_judge.specs.Entered.{IsEntered, headers_unlinked, ShowsUnlink, WritesUnlink};
-ghost use Rattle.kfs_judge.specs.Overlay.{has_created, HasRoom, ShiftsBy};
-ghost use Rattle.kfs_judge.specs.Recorders.{GoesOn, ReadsAt};
+ghost use Rattle.kfs_draft.specs.Overlay.{has_created, HasRoom, ShiftsBy};
+ghost use Rattle.kfs_view.specs.Recorders.{GoesOn, ReadsAt};
 ghost use Rattle.kfs_value.specs.Views.{kind_of};
 
 use crate::check::{Reason, check};
 use crate::entry_judge::EntryJudge;
-use crate::header::unlinked;
 use crate::log_judge::LogJudge;
-use crate::reads::Recorder;
+use kfs_draft::unlinked;
 use kfs_image::{Kind, Name};
+use kfs_view::Recorder;
 use std::alloc::{AllocError, Allocator};
 
 /// Why the name `key` of a node of this kind can't go, if so.

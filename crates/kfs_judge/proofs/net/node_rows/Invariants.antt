@@ -3,9 +3,9 @@ use Rattle.std.proofs.Common.{◌≡◌, ◌++◌, List, map}
 use Rattle.kfs_model.specs.FirstWrong.{same_header}
 use Rattle.kfs_model.specs.Plan.{header_now}
 use Rattle.kfs_model.specs.Sight.{Cell}
-use Rattle.kfs_judge.specs.Overlay.{IsWritten}
-use Rattle.kfs_judge.specs.Reads.{Always, Within}
-use Rattle.kfs_judge.specs.Recorders.{GoesOn}
+use Rattle.kfs_draft.specs.Overlay.{IsWritten}
+use Rattle.kfs_view.specs.Reads.{Always, Within}
+use Rattle.kfs_view.specs.Recorders.{GoesOn}
 use Rattle.kfs_judge.specs.Rows.{keyed_node_row}
 use Rattle.kfs_judge.proofs.ChangedRows.{changed_rows, shown_heads}
 use Rattle.kfs_judge.proofs.net.node_rows.Given as goal

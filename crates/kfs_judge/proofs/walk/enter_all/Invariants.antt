@@ -1,8 +1,8 @@
 -- What the entries so far have come to, in every state that agrees.
 use Rattle.std.proofs.Common.{◌≡◌, ℕ, ◌*◌, List, map, drop}
 use Rattle.kfs_value.specs.Views.{entry_of}
-use Rattle.kfs_judge.specs.Overlay.{ShiftsBy}
-use Rattle.kfs_judge.specs.Recorders.{GoesOn}
+use Rattle.kfs_draft.specs.Overlay.{ShiftsBy}
+use Rattle.kfs_view.specs.Recorders.{GoesOn}
 use Rattle.kfs_judge.proofs.Entering.{RunsOn}
 use Rattle.kfs_judge.proofs.Looking.{LooksOn}
 use Rattle.kfs_judge.proofs.walk.enter_all.Given as goal

@@ -7,12 +7,12 @@ use Rattle.kfs_model.specs.Check.{checks_of, looked}
 use Rattle.kfs_model.specs.Entry.{Chmod}
 use Rattle.kfs_model.specs.Sight.{HeaderOf}
 use Rattle.kfs_model.specs.SeenAfter.{put_at, seen_after}
-use Rattle.kfs_judge.specs.Overlay.{over, entry_context_of}
+use Rattle.kfs_draft.specs.Overlay.{over, entry_context_of}
 use Rattle.kfs_judge.specs.Checks.{reason_of}
 use Rattle.kfs_judge.proofs.CleanLooks.{chmod_looks}
 use Rattle.kfs_judge.proofs.Looking.{written_wider}
-use Rattle.kfs_judge.proofs.Overlays.{shifts_wider}
-use Rattle.kfs_judge.proofs.Recording.{goes_then, within_then, within_wider, first_is_in, left_is_part, right_is_part}
+use Rattle.kfs_draft.proofs.Overlays.{shifts_wider}
+use Rattle.kfs_view.proofs.Recording.{goes_then, within_then, within_wider, first_is_in, left_is_part, right_is_part}
 use Rattle.kfs_judge.proofs.Entered.{is_cut_short, has_fault}
 use Rattle.kfs_judge.proofs.log_judge.LogJudge.chmod.Goals as goal
 

@@ -8,12 +8,12 @@ use Rattle.kfs_model.specs.Entry.{Create}
 use Rattle.kfs_model.specs.Sight.{NameIn, HeaderOf}
 use Rattle.kfs_value.specs.Views.{kind_of}
 use Rattle.kfs_model.specs.SeenAfter.{seen_after}
-use Rattle.kfs_judge.specs.Overlay.{over, entry_context_of, with_node}
+use Rattle.kfs_draft.specs.Overlay.{over, entry_context_of, with_node}
 use Rattle.kfs_judge.specs.Checks.{reason_of}
 use Rattle.kfs_judge.proofs.CleanLooks.{create_looks}
 use Rattle.kfs_judge.proofs.Looking.{written_wider}
-use Rattle.kfs_judge.proofs.Overlays.{shifts_wider}
-use Rattle.kfs_judge.proofs.Recording.{left_is_part, right_is_part}
+use Rattle.kfs_draft.proofs.Overlays.{shifts_wider}
+use Rattle.kfs_view.proofs.Recording.{left_is_part, right_is_part}
 use Rattle.kfs_judge.proofs.Entered.{is_cut_short, has_fault}
 use Rattle.kfs_judge.proofs.log_judge.LogJudge.create.Goals as goal
 

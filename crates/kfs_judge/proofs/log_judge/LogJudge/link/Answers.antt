@@ -8,12 +8,12 @@ use Rattle.kfs_model.specs.Check.{checks_of, looked, is_some_and}
 use Rattle.kfs_model.specs.Entry.{Link}
 use Rattle.kfs_model.specs.Sight.{NameIn, HeaderOf}
 use Rattle.kfs_model.specs.SeenAfter.{seen_after}
-use Rattle.kfs_judge.specs.Overlay.{over, entry_context_of, with_name}
+use Rattle.kfs_draft.specs.Overlay.{over, entry_context_of, with_name}
 use Rattle.kfs_judge.specs.Checks.{reason_of}
 use Rattle.kfs_judge.proofs.CleanLooks.{link_looks, link_has_room}
 use Rattle.kfs_judge.proofs.Looking.{written_wider}
-use Rattle.kfs_judge.proofs.Overlays.{shifts_wider}
-use Rattle.kfs_judge.proofs.Recording.{goes_then, within_then, within_wider, first_is_in, left_is_part, right_is_part}
+use Rattle.kfs_draft.proofs.Overlays.{shifts_wider}
+use Rattle.kfs_view.proofs.Recording.{goes_then, within_then, within_wider, first_is_in, left_is_part, right_is_part}
 use Rattle.kfs_judge.proofs.Entered.{is_cut_short, has_fault}
 use Rattle.kfs_judge.proofs.log_judge.LogJudge.link.Goals as goal
 

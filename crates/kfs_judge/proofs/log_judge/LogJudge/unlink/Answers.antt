@@ -8,13 +8,13 @@ use Rattle.kfs_model.specs.Sight.{NameIn}
 use Rattle.kfs_model.specs.SeenAfter.{seen_after, seen_unlinked}
 use Rattle.kfs_value.specs.Views.{kind_of}
 use Rattle.kfs_judge.specs.Entered.{headers_unlinked}
-use Rattle.kfs_judge.specs.Overlay.{over, entry_context_of}
+use Rattle.kfs_draft.specs.Overlay.{over, entry_context_of}
 use Rattle.kfs_judge.specs.Checks.{reason_of}
-use Rattle.kfs_judge.specs.Reads.{IsPart}
+use Rattle.kfs_view.specs.Reads.{IsPart}
 use Rattle.kfs_judge.proofs.CleanLooks.{unlink_looks_at_name, unlink_looks_at_header}
 use Rattle.kfs_judge.proofs.Looking.{written_wider}
-use Rattle.kfs_judge.proofs.Overlays.{shifts_wider}
-use Rattle.kfs_judge.proofs.Recording.{goes_then, within_then, within_wider, first_is_in, left_is_part, right_is_part}
+use Rattle.kfs_draft.proofs.Overlays.{shifts_wider}
+use Rattle.kfs_view.proofs.Recording.{goes_then, within_then, within_wider, first_is_in, left_is_part, right_is_part}
 use Rattle.kfs_judge.proofs.Entered.{is_cut_short, has_fault}
 use Rattle.kfs_judge.proofs.log_judge.LogJudge.unlink.Goals as goal
 

@@ -1,0 +1,2 @@
+-- Lemmas on what a draft shows.
+pub mod Overlays
