@@ -1,4 +1,6 @@
 //! A script, the words and the status that go with it, and the replies that are expected.
+ghost use Rattle.std.specs.Prelude.{◌≡◌, ◌≤◌, length, OnOk};
+ghost use Rattle.kfs_scripts.specs.Differences.{line_behind};
 
 use crate::fault::Fault;
 use crate::script::Script;
@@ -82,7 +84,10 @@ impl Case {
     }
 
     /// Compares what was written, and then the exit status, with what is expected.
-    pub fn compare(&self, ended: u8, written: &[u8]) -> Result<(), Fault> {
+    pub fn compare(&self, ended: u8, written: &[u8]) -> Result<(), Fault>
+        ensures replies { OnOk result (written.now ≡ self.now.replies.items) }
+        ensures status { OnOk result (ended ≡ self.now.status) }
+    {
         compare_replies(written, &self.replies)?;
         if ended == self.status {
             Ok(())
@@ -129,15 +134,30 @@ fn status_of(text: Option<&Vec<u8>>) -> Result<u8, Fault> {
 }
 
 /// Finds the first byte in which what was written differs from what is expected.
-fn compare_replies(written: &[u8], expected: &[u8]) -> Result<(), Fault> {
+fn compare_replies(written: &[u8], expected: &[u8]) -> Result<(), Fault>
+    ensures { OnOk result (written.now ≡ expected.now) }
+{
     if written == expected {
         return Ok(());
     }
-    let pairs = written.iter().zip(expected.iter());
-    let same = pairs.take_while(|(left, right)| left == right).count();
-    let ends = expected.iter().take(same).filter(|byte| **byte == b'\n');
+    let same = alike(written, expected);
     Err(Fault::Differs {
-        line: ends.count().saturating_add(1),
+        line: line_behind(expected, same),
         byte: same.saturating_add(1),
     })
+}
+
+/// How many bytes are alike before the first that differs.
+fn alike(written: &[u8], expected: &[u8]) -> usize {
+    let pairs = written.iter().zip(expected.iter());
+    pairs.take_while(|(left, right)| left == right).count()
+}
+
+/// The line, from 1, in which the byte behind the first ones stands.
+fn line_behind(expected: &[u8], same: usize) -> usize
+    ensures { same ≤ length expected.now → result ≡ line_behind expected.now same }
+{
+    let before = expected.get(..same).unwrap_or(expected);
+    let ends = before.iter().filter(|byte| **byte == b'\n').count();
+    ends.saturating_add(1)
 }
