@@ -1,6 +1,6 @@
 //! What a desk is asked for its leases.
 
-use crate::rows::LeaseKind;
+use kfs_lease_rows::LeaseKind;
 
 /// A call of the desk for its leases.
 #[derive(Clone, Copy)]
