@@ -19,7 +19,7 @@ ghost use Rattle.kfs_desk.specs.Machine.{IsActed, IsAnswered, IsBackFor, IsChang
 ghost use Rattle.kfs_desk.specs.Opening.{begin_fault, do_overlap, fault_behind};
 ghost use Rattle.kfs_value.specs.Room.{spare_of};
 
-use crate::answers::{
+use kfs_answers::{
     Act, ActReply, BeginBack, BeginFault, Done, Reply, SubmissionsBack, Unanswered,
 };
 use kfs_entry::NodeRow;

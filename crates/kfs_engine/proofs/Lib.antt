@@ -1,4 +1,3 @@
--- Lemmas on sessions and replies.
+-- Lemmas on sessions.
 pub mod Conversations
 pub mod Listed
-pub mod Texts

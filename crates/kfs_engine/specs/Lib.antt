@@ -3,5 +3,4 @@ pub mod Example
 pub mod Listing
 pub mod Progress
 pub mod Session
-pub mod Text
 pub mod Views

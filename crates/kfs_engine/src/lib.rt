@@ -11,7 +11,6 @@ pub mod examples;
 mod fault;
 mod listing;
 mod opening;
-mod report;
 mod session;
 
 use conversation::Conversation;

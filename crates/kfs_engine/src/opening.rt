@@ -6,10 +6,10 @@ ghost use Rattle.kfs_command.specs.Views.{opening_of};
 ghost use Rattle.kfs_engine.specs.Views.{IsOpened, IsWithoutImage, start_of};
 ghost use Rattle.kfs_value.specs.Room.{spare_of};
 
-use crate::report::{begin_line, client_line};
+use kfs_report::{begin_line, client_line};
 use kfs_command::OpeningCommand;
 use kfs_desk::Desk;
-use kfs_desk::answers::BeginFault;
+use kfs_answers::BeginFault;
 use kfs_image::{Image, TierSizes};
 use kfs_mode::{Client, ClientFault};
 use kfs_text::Refusal;

@@ -1,9 +1,9 @@
 //! The refusals by their names, with their numbers in brackets. The caller has made room for them.
 ghost use Rattle.std.specs.Prelude.{◌≡◌, ◌+◌, ◌≤◌, ◌++◌, length};
-ghost use Rattle.kfs_engine.specs.Text.{fault_text, spell_text, row_text, reason_name, reason_text, lease_name, lease_text, client_text, begin_text};
+ghost use Rattle.kfs_report.specs.Text.{fault_text, spell_text, row_text, reason_name, reason_text, lease_name, lease_text, client_text, begin_text};
 ghost use Rattle.kfs_value.specs.Room.{spare_of};
 
-use kfs_desk::answers::BeginFault;
+use kfs_answers::BeginFault;
 use kfs_entry::SpellFault;
 use kfs_judge::Reason;
 use kfs_lease::LeaseFault;

@@ -4,7 +4,7 @@ use Rattle.kfs_judge.specs.declared.check.Reason.{Reason}
 use Rattle.kfs_judge.specs.declared.check.Reason.TheVariants as reason
 use Rattle.kfs_lease.specs.declared.leases.LeaseFault.{LeaseFault}
 use Rattle.kfs_lease.specs.declared.leases.LeaseFault.TheVariants as lease
-use Rattle.kfs_engine.specs.Text.{reason_name, reason_text, lease_name, lease_text}
+use Rattle.kfs_report.specs.Text.{reason_name, reason_text, lease_name, lease_text}
 
 pub reason_without_number : (r : Reason) → ((node : ℕ) → r ≢ reason.NoLease node) → reason_text r ≡ reason_name r
 reason_without_number (reason.NoLease node) other = absurd (other node refl)

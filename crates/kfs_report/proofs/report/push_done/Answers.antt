@@ -1,5 +1,5 @@
 use Rattle.std.proofs.Common.{append_assoc}
-use Rattle.kfs_engine.proofs.report.push_done.Goals as goal
+use Rattle.kfs_report.proofs.report.push_done.Goals as goal
 
 pub returns-in-Leased-clause-items : goal.returns-in-Leased-clause-items
 returns-in-Leased-clause-items g c = rw (c.in-Leased.is, c.number.ensures.items, c.from.ensures, c.text.ensures.items) (simp append_assoc)

@@ -2,13 +2,13 @@
 //! `out` as it is. It is never refused where `out` has 128 bytes to spare, which the longest of these
 //! lines doesn't take.
 ghost use Rattle.std.specs.Prelude.{◌≡◌, ◌+◌, ◌≤◌, ◌++◌, length, codes, IsOk, OnOk, OnErr};
-ghost use Rattle.kfs_engine.specs.Text.{reply_text, head_text, act_text, done_text, node_text, header_text, kind_text, counts_text, client_text, begin_text};
+ghost use Rattle.kfs_report.specs.Text.{reply_text, head_text, act_text, done_text, node_text, header_text, kind_text, counts_text, client_text, begin_text};
 ghost use Rattle.kfs_text.specs.Parts.{line_of};
 ghost use Rattle.kfs_value.specs.Room.{spare_of};
 
 mod names;
 
-use kfs_desk::answers::{ActReply, BeginFault, Done, Reply};
+use kfs_answers::{ActReply, BeginFault, Done, Reply};
 use kfs_image::{Header, Kind};
 use kfs_mode::ClientFault;
 use kfs_text::parts::{field, flag, number, octal, text};

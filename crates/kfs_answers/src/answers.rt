@@ -53,7 +53,7 @@ pub enum Unanswered {
 
 impl From<AllocError> for Unanswered {
     ghost use Rattle.std.specs.Prelude.{◌≡◌};
-    ghost use Rattle.kfs_desk.specs.declared.answers.Unanswered.TheVariants.{OutOfMemory};
+    ghost use Rattle.kfs_answers.specs.declared.answers.Unanswered.TheVariants.{OutOfMemory};
 
     ghost from_gives = { λ _ why. why ≡ OutOfMemory };
 

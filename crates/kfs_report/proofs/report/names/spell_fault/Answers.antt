@@ -1,5 +1,5 @@
 use Rattle.std.proofs.Common.{append_assoc}
-use Rattle.kfs_engine.proofs.report.names.spell_fault.Goals as goal
+use Rattle.kfs_report.proofs.report.names.spell_fault.Goals as goal
 
 pub returns-in-BadRow-clause-items : goal.returns-in-BadRow-clause-items
 returns-in-BadRow-clause-items g c =

@@ -1,0 +1,2 @@
+-- Lemmas on the texts of replies.
+pub mod Texts
