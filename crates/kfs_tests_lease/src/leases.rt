@@ -1,12 +1,12 @@
 //! Leases by calls: paths that no line can say, a node that goes, copies, and refused growths. All clients
 //! here have uid and gid 1000, as all nodes below the root.
 
-use crate::desks::{AMPLE, client, grown};
 use kfs_desk::Desk;
 use kfs_image::Shape;
 use kfs_lease::LeaseKind::{Read, Write};
 use kfs_lease::{LeaseFault, LeaseKind, Leases};
 use kfs_tests::refusing::Refusing;
+use kfs_tests_desk::desks::{AMPLE, client, grown};
 use std::alloc::{AllocError, Allocator, Global};
 use std::process::Abort;
 use std::test::Fail;
