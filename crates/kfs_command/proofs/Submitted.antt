@@ -10,7 +10,7 @@ use Rattle.kfs_value.specs.Views.{entry_of}
 use Rattle.kfs_value.specs.declared.entry.Log.{Log as CodeLog}
 use Rattle.kfs_entry.specs.declared.fault.SpellFault.{SpellFault}
 use Rattle.kfs_entry.specs.declared.fault.SpellFault.TheVariants as faults
-use Rattle.kfs_judge.specs.JudgedEntries.{IsJudged, is_judged}
+use Rattle.kfs_step.specs.JudgedEntries.{IsJudged, is_judged}
 use Rattle.kfs_plan.specs.Judging.{HasOtherEntry}
 use Rattle.kfs_command.specs.Command.{Command, Request, Submit, IsBadLine}
 use Rattle.kfs_judge.proofs.JudgedEntries.{all_judged}

@@ -33,8 +33,8 @@ use Rattle.kfs_image.specs.ShownTree.{tree_of, IsLawful}
 use Rattle.kfs_image.proofs.BlankTrees.{IsBlank, blank_is_shown, blank_is_lawful, shown_zero}
 use Rattle.kfs_image.specs.Contents.{contents_in}
 use Rattle.kfs_image.proofs.NetTables.{net_makes}
-use Rattle.kfs_judge.specs.JudgedEntries.{is_judged}
-use Rattle.kfs_judge.specs.Rows.{keyed_node_row}
+use Rattle.kfs_step.specs.JudgedEntries.{is_judged}
+use Rattle.kfs_step.specs.Rows.{keyed_node_row}
 use Rattle.kfs_plan.specs.Judging.{IsVerdict, Tells, TellsYes}
 use Rattle.kfs_plan.specs.declared.submission.Outcome.{Outcome}
 use Rattle.kfs_plan.specs.declared.submission.Outcome.TheVariants as outcomes

@@ -7,7 +7,7 @@ use Rattle.kfs_value.specs.Views.{entry_of}
 use Rattle.kfs_value.specs.declared.entry.Entry.{Entry as CodeEntry}
 use Rattle.kfs_value.specs.declared.entry.Entry.TheVariants as entries
 use Rattle.kfs_value.specs.declared.entry.Span.{Span}
-use Rattle.kfs_judge.specs.JudgedEntries.{IsJudged, is_judged}
+use Rattle.kfs_step.specs.JudgedEntries.{IsJudged, is_judged}
 
 judged_shown : (source : List ℕ) (entry : CodeEntry Span) → IsJudged entry → is_judged (entry_of source entry) ≡ true
 judged_shown source (entries.Create d m n k mode) is = refl

@@ -12,7 +12,8 @@ use Rattle.kfs_model.proofs.OneByOne.{run_is_one_by_one}
 use Rattle.kfs_model.proofs.SeenRun.{run_is_seen, run_keeps_sound, bytes_faithful}
 use Rattle.kfs_image.specs.declared.shape.Net.{Net}
 use Rattle.kfs_judge.specs.declared.walk.EntryFault.{EntryFault as CodeEntryFault}
-use Rattle.kfs_judge.specs.Walks.{ComesTo, ComesToTree, IsNetOf, fault_of}
+use Rattle.kfs_judge.specs.Walks.{ComesTo, ComesToTree, fault_of}
+use Rattle.kfs_step.specs.Nets.{IsNetOf}
 
 stopped : (fault : EntryFault) (ran : Result (Tree ℕ) EntryFault) → shown_run ran ≡ Err fault → ran ≡ Err fault
 stopped fault (Ok after) is = cc

@@ -1,5 +1,2 @@
-pub mod JudgedEntries
-pub mod Checks
 pub mod Walks
-pub mod Entered
-pub mod Rows
+pub mod EntriesEntered

@@ -5,8 +5,7 @@ use Rattle.kfs_view.specs.View.{clients_of, client_sight_in}
 use Rattle.kfs_model.specs.Looked.{seen_run, looked_cells}
 use Rattle.kfs_model.specs.Access.{Client}
 use Rattle.kfs_model.specs.Lease.{row_of}
-use Rattle.kfs_model.specs.Table.{numbers}
-use Rattle.kfs_model.specs.Tree.{Tree, name_order}
+use Rattle.kfs_model.specs.Tree.{Tree}
 use Rattle.std.specs.Prelude.{Bool}
 use Rattle.kfs_model.specs.Sight.{Sight, ClientSight, sight, client_sight}
 use Rattle.kfs_model.specs.Soundness.{IsSound}
@@ -14,13 +13,10 @@ use Rattle.kfs_model.specs.CleanStep.{Fits}
 use Rattle.kfs_model.specs.Machine.{OneByOne}
 use Rattle.kfs_model.specs.Entry.{Entry}
 use Rattle.kfs_model.specs.Run.{EntryFault, run, over_bytes}
-use Rattle.kfs_model.specs.Plan.{AreDifferences, number_now, header_now}
-use Rattle.kfs_judge.specs.Rows.{keyed_name_row, keyed_node_row}
-use Rattle.kfs_value.specs.declared.plan.NameRow.{NameRow as CodeNameRow}
-use Rattle.kfs_value.specs.declared.plan.NodeRow.{NodeRow as CodeNodeRow}
 use Rattle.kfs_image.specs.declared.shape.Net.{Net}
 use Rattle.kfs_judge.specs.declared.walk.EntryFault.{EntryFault as CodeEntryFault}
-use Rattle.kfs_judge.specs.Checks.{reason_of}
+use Rattle.kfs_step.specs.Nets.{IsNetOf}
+use Rattle.kfs_check.specs.Checks.{reason_of}
 use Rattle.kfs_draft.specs.declared.draft.Draft.{Draft}
 use Rattle.kfs_judge.specs.declared.walk.Walk.{Walk}
 use Rattle.kfs_view.specs.declared.view.View.{View}
@@ -31,22 +27,11 @@ use Rattle.kfs_draft.specs.Overlay.{over}
 abbrev pub fault_of : CodeEntryFault → EntryFault
 fault_of fault = record { entry = fault.index; reason = reason_of fault.reason }
 
--- the rows are exactly the names that differ, and the headers
-abbrev pub AreNamesOf : Sight → Sight → List CodeNameRow → Type 0
-AreNamesOf before after rows = AreDifferences name_order number_now (λ key. before.name key.0 key.1) (λ key. after.name key.0 key.1) (map keyed_name_row rows)
-
-abbrev pub AreNodesOf : Sight → Sight → List CodeNodeRow → Type 0
-AreNodesOf before after rows = AreDifferences numbers header_now before.head after.head (map keyed_node_row rows)
-
 module _ {A : Type 0} where
   -- the run over the cells stops at this fault, or ends at what the draft shows
   abbrev pub EndsAt : Client → Draft A → ClientSight → List Entry → Option CodeEntryFault → Type 0
   EndsAt client draft before entries None = seen_run client before entries ≡ Ok (over draft before.sight)
   EndsAt client draft before entries (Some fault) = seen_run client before entries ≡ Err (fault_of fault)
-
-  pub record IsNetOf (before after : Sight) (net : Net A) : Type 0 where
-    pub names : AreNamesOf before after net.names.items
-    pub nodes : AreNodesOf before after net.nodes.items
 
   -- the run over the cells stops at this fault, or shows what differs
   abbrev pub ComesTo : Client → ClientSight → List Entry → Result (Net A) CodeEntryFault → Type 0

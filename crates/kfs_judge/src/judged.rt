@@ -1,6 +1,6 @@
 //! The kinds of entries that are judged.
 ghost use Rattle.std.specs.Prelude.{◌↔◌, All, IsTrue};
-ghost use Rattle.kfs_judge.specs.JudgedEntries.{IsJudged};
+ghost use Rattle.kfs_step.specs.JudgedEntries.{IsJudged};
 
 use kfs_entry::{Entry, Span};
 

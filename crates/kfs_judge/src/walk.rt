@@ -3,19 +3,19 @@ ghost use Rattle.std.specs.Prelude.{◌≡◌, ℕ, ◌≤◌, false, length, Al
 ghost use Rattle.kfs_model.specs.Access.{Client as ClientRow};
 ghost use Rattle.kfs_model.specs.Lease.{row_of};
 ghost use Rattle.kfs_model.specs.Sight.{Sight};
-ghost use Rattle.kfs_judge.specs.JudgedEntries.{IsJudged};
-ghost use Rattle.kfs_judge.specs.Entered.{StopsAt, ReadsTheirCells, WritesTheirCells};
+ghost use Rattle.kfs_step.specs.JudgedEntries.{IsJudged};
+ghost use Rattle.kfs_judge.specs.EntriesEntered.{StopsAt, ReadsTheirCells, WritesTheirCells};
 ghost use Rattle.kfs_draft.specs.Overlay.{has_created, over, ShiftsBy, IsWritten};
 ghost use Rattle.kfs_view.specs.Reads.{Agrees, AreOnce};
 ghost use Rattle.kfs_view.specs.Recorders.{GoesOn};
 ghost use Rattle.kfs_view.specs.View.{clients_of, client_sight_in};
 ghost use Rattle.kfs_judge.specs.Walks.{IsRowOf, IsWalkOf, IsCellWalkOf, ReadsLookedCells};
 
-use crate::check::Reason;
-use crate::log_judge::LogJudge;
 use indexmap::IndexMap;
+use kfs_check::Reason;
 use kfs_entry::{Entry, Log, Span};
 use kfs_image::shape::Net;
+use kfs_step::LogJudge;
 use kfs_view::{Read, ReadAnswer, View};
 use std::alloc::{AllocError, Allocator};
 use std::hash::{BuildHasherDefault, FoldHasher};

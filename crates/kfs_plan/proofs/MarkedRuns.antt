@@ -16,7 +16,7 @@ use Rattle.kfs_model.specs.Run.{Mark, Base, EntryFault, run, run_from, over_byte
 use Rattle.kfs_model.specs.Plan.{is_base}
 use Rattle.kfs_model.proofs.Cells.{recut, headers-recut}
 use Rattle.kfs_model.proofs.Marks.{marks_give_bytes}
-use Rattle.kfs_judge.specs.JudgedEntries.{is_judged}
+use Rattle.kfs_step.specs.JudgedEntries.{is_judged}
 
 -- each byte of each file is as it was before the log
 pub record IsUntouched (t : Tree Mark) : Type 0 where

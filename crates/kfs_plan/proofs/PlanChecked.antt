@@ -18,10 +18,11 @@ use Rattle.kfs_value.specs.declared.plan.Plan.{Plan as CodePlan}
 use Rattle.kfs_image.specs.declared.shape.Net.{Net}
 use Rattle.kfs_plan.specs.declared.rows.RowFault.{RowFault as CodeRowFault}
 use Rattle.kfs_judge.specs.declared.walk.EntryFault.{EntryFault as CodeEntryFault}
-use Rattle.kfs_judge.specs.JudgedEntries.{is_judged}
+use Rattle.kfs_step.specs.JudgedEntries.{is_judged}
 use Rattle.kfs_plan.specs.PlanCheck.{first_unlike, TellsRow, IsChecked}
-use Rattle.kfs_judge.specs.Rows.{keyed_name_row, keyed_node_row}
-use Rattle.kfs_judge.specs.Walks.{IsNetOf, ComesToTree}
+use Rattle.kfs_step.specs.Rows.{keyed_name_row, keyed_node_row}
+use Rattle.kfs_judge.specs.Walks.{ComesToTree}
+use Rattle.kfs_step.specs.Nets.{IsNetOf}
 use Rattle.kfs_plan.proofs.MarkedRuns.{EndsBeside, ends_beside}
 use Rattle.kfs_plan.proofs.Untouched.{first_of_pieces-wrong, need-untouched}
 

@@ -21,7 +21,7 @@ use Rattle.kfs_value.specs.contracts.header.HeaderPartialEq.TheImpl as heads
 use Rattle.kfs_value.specs.contracts.header.KindPartialEq.TheImpl as kind_tests
 use Rattle.kfs_image.specs.declared.shape.Net.{Net}
 use Rattle.kfs_plan.specs.PlanCheck.{first_unlike, first_of_pieces}
-use Rattle.kfs_judge.specs.Rows.{keyed_name_row, keyed_node_row}
+use Rattle.kfs_step.specs.Rows.{keyed_name_row, keyed_node_row}
 
 -- ---- the first difference, by a search for a pair that differs
 

@@ -39,7 +39,7 @@ use Rattle.kfs_view.specs.Reads.{Agrees}
 use Rattle.kfs_view.specs.View.{client_sight_in}
 use Rattle.kfs_judge.specs.Walks.{ComesToTree, fault_of, IsWalkOf}
 use Rattle.kfs_model.proofs.AnswersExist.{log_has_answer, plan_has_answer}
-use Rattle.kfs_judge.proofs.Lists.{row_has_number}
+use Rattle.kfs_check.proofs.Lists.{row_has_number}
 use Rattle.kfs_plan.proofs.MarkedRuns.{EndsBeside, ends_beside}
 use Rattle.kfs_plan.proofs.PlanChecked.{first_wrong-unlike}
 use Rattle.kfs_judge.proofs.JudgedEntries.{all_judged}

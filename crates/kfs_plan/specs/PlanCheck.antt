@@ -18,7 +18,7 @@ use Rattle.kfs_plan.specs.declared.rows.RowFault.{RowFault as CodeRowFault}
 use Rattle.kfs_plan.specs.declared.rows.RowFault.TheVariants as faults
 use Rattle.kfs_view.specs.Reads.{Agrees}
 use Rattle.kfs_judge.specs.declared.walk.Walk.{Walk}
-use Rattle.kfs_judge.specs.Rows.{keyed_name_row, keyed_node_row}
+use Rattle.kfs_step.specs.Rows.{keyed_name_row, keyed_node_row}
 
 -- The first wrong row is named, or there is none and so many blocks are written. A refused growth tells nothing.
 abbrev pub TellsRow : Option RowFault → (need : ℕ) → Result ℕ CodeRowFault → Type 0

@@ -2,7 +2,7 @@
 ghost use Rattle.std.specs.Prelude.{◌≡◌, position, zip, not, All, IsOk};
 ghost use Rattle.kfs_model.specs.Access.{Client as ClientRow};
 ghost use Rattle.kfs_model.specs.FirstWrong.{first_difference};
-ghost use Rattle.kfs_judge.specs.JudgedEntries.{IsJudged};
+ghost use Rattle.kfs_step.specs.JudgedEntries.{IsJudged};
 ghost use Rattle.kfs_judge.specs.Walks.{IsWalkOf};
 ghost use Rattle.kfs_plan.specs.PlanCheck.{first_unlike, TellsOfEachTree, TellsRow};
 ghost use Rattle.kfs_plan.specs.declared.rows.RowFault.TheVariants.{OutOfMemory};

@@ -5,8 +5,8 @@ use Rattle.kfs_entry.specs.declared.fault.SpellFault.TheVariants as spell
 use Rattle.kfs_value.specs.declared.header.Header.{Header}
 use Rattle.kfs_value.specs.declared.header.Kind.{Kind}
 use Rattle.kfs_value.specs.declared.header.Kind.TheVariants.{File, Directory}
-use Rattle.kfs_judge.specs.declared.check.Reason.{Reason}
-use Rattle.kfs_judge.specs.declared.check.Reason.TheVariants as reason
+use Rattle.kfs_check.specs.declared.check.Reason.{Reason}
+use Rattle.kfs_check.specs.declared.check.Reason.TheVariants as reason
 use Rattle.kfs_lease.specs.declared.leases.LeaseFault.{LeaseFault}
 use Rattle.kfs_lease.specs.declared.leases.LeaseFault.TheVariants as lease
 use Rattle.kfs_mode.specs.declared.client.ClientFault.{ClientFault}

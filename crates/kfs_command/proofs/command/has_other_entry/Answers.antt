@@ -3,7 +3,7 @@ use Rattle.std.proofs.Common.{◌≡◌, Bool, true, false, not, refl, sym, subs
 use Rattle.std.specs.Prelude.{All}
 use Rattle.std.proofs.lemmas.Bool.{both_ways}
 use Rattle.kfs_entry.specs.Answers.{log_of}
-use Rattle.kfs_judge.specs.JudgedEntries.{IsJudged}
+use Rattle.kfs_step.specs.JudgedEntries.{IsJudged}
 use Rattle.kfs_judge.proofs.JudgedEntries.{not_all_judged}
 use Rattle.kfs_command.proofs.Submitted.{all_are_judged, no_log_has_other}
 use Rattle.kfs_command.proofs.command.has_other_entry.Goals as goal

@@ -7,7 +7,7 @@ use Rattle.kfs_draft.specs.Overlay.{over}
 use Rattle.kfs_view.specs.Reads.{Agrees, AreAmong, AreOnce}
 use Rattle.kfs_view.specs.View.{clients_of, client_sight_in}
 use Rattle.kfs_judge.specs.Walks.{EndsAt}
-use Rattle.kfs_judge.proofs.Lists.{row_has_number, one_row}
+use Rattle.kfs_check.proofs.Lists.{row_has_number, one_row}
 use Rattle.kfs_view.proofs.Recording.{agrees_from_none, among_from_none, once_from_none, goes_then, within_then}
 use Rattle.kfs_judge.proofs.walk.walk_entries.Goals as goal
 

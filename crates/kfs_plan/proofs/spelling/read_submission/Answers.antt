@@ -5,7 +5,7 @@ use Rattle.std.proofs.lemmas.Bool.{both_ways}
 use Rattle.kfs_entry.specs.Answers.{log_of}
 use Rattle.kfs_entry.specs.declared.fault.SpellFault.TheVariants as spelling
 use Rattle.kfs_model.specs.Spelling.{IsBytes}
-use Rattle.kfs_judge.specs.JudgedEntries.{IsJudged}
+use Rattle.kfs_step.specs.JudgedEntries.{IsJudged}
 use Rattle.kfs_plan.specs.Judging.{submission_with, IsVerdict}
 use Rattle.kfs_plan.specs.declared.submission.Outcome.TheVariants as outcomes
 use Rattle.kfs_plan.specs.declared.submission.Fault.TheVariants as faults

@@ -1,0 +1,99 @@
+-- The code's checks, reasons and entry contexts as those of the definitions.
+use Rattle.std.specs.Prelude.{◌≡◌, ℕ, List, map, Option}
+use Rattle.std.specs.Option.{option_map}
+use Rattle.kfs_view.specs.Recorders.{Known, ReadsAt}
+use Rattle.kfs_model.specs.Check.{checks_of, first_failing, looked}
+use Rattle.kfs_model.specs.Entry.{Entry}
+use Rattle.kfs_model.specs.Check as checks
+use Rattle.kfs_model.specs.Sight.{ClientSight, Cell, ParentOf, climbed}
+use Rattle.kfs_check.specs.declared.check.Reason.{Reason}
+use Rattle.kfs_check.specs.declared.check.Reason.TheVariants as reasons
+use Rattle.kfs_check.specs.declared.check.Check.{Check}
+use Rattle.kfs_check.specs.declared.check.Check.TheVariants as variants
+use Rattle.kfs_view.specs.declared.reads.Recorder.{Recorder}
+use Rattle.kfs_check.specs.declared.entry_judge.EntryJudge.{EntryJudge}
+use Rattle.kfs_draft.specs.Overlay.{entry_context_of}
+
+abbrev pub reason_of : Reason → checks.Reason
+reason_of reasons.NoSuchNode = checks.NoSuchNode
+reason_of reasons.NotDirectory = checks.NotDirectory
+reason_of reasons.IsDirectory = checks.IsDirectory
+reason_of reasons.NoSuchName = checks.NoSuchName
+reason_of reasons.NameTaken = checks.NameTaken
+reason_of reasons.NumberTaken = checks.NumberTaken
+reason_of reasons.NumberNotGranted = checks.NumberNotGranted
+reason_of reasons.NotEmpty = checks.NotEmpty
+reason_of reasons.BelowItself = checks.BelowItself
+reason_of reasons.TooManyLinks = checks.TooManyLinks
+reason_of reasons.TooBig = checks.TooBig
+reason_of reasons.NoSearch = checks.NoSearch
+reason_of reasons.NoWrite = checks.NoWrite
+reason_of reasons.NotOwner = checks.NotOwner
+reason_of (reasons.NoLease n) = checks.NoLease n
+
+abbrev pub check_of : Check → checks.Check
+check_of (variants.Exists n) = checks.Exists n
+check_of (variants.IsADirectory n) = checks.IsADirectory n
+check_of (variants.IsAFile n) = checks.IsAFile n
+check_of (variants.MaySearch n) = checks.MaySearch n
+check_of (variants.MayWrite n) = checks.MayWrite n
+check_of (variants.MayChangeMode n) = checks.MayChangeMode n
+check_of (variants.IsLeased n) = checks.IsLeased n
+check_of (variants.HasNoNames n) = checks.HasNoNames n
+check_of (variants.HasRoomForLink n) = checks.HasRoomForLink n
+check_of (variants.NameIsFree key) = checks.NameIsFree key.now.0 key.now.1
+check_of (variants.NumberIsGranted n) = checks.NumberIsGranted n
+check_of (variants.NumberIsFree n) = checks.NumberIsFree n
+check_of (variants.IsNotAbove n d) = checks.IsNotAbove n d
+
+-- the cells of the nodes that a climb passes
+abbrev pub climbed_cells : (ℕ → Option ℕ) → (fuel from : ℕ) → List Cell
+climbed_cells parent fuel from = map ParentOf (climbed parent fuel from)
+
+-- the check asks what the client may do, by a header
+abbrev pub IsOfRight : Check → Type 0
+IsOfRight (variants.MaySearch n) = Unit {0}
+IsOfRight (variants.MayWrite n) = Unit {0}
+IsOfRight (variants.MayChangeMode n) = Unit {0}
+IsOfRight _ = ⊥
+
+-- the check asks what a header says, whoever the client is
+abbrev pub IsOfHeader : Check → Type 0
+IsOfHeader (variants.Exists n) = Unit {0}
+IsOfHeader (variants.IsADirectory n) = Unit {0}
+IsOfHeader (variants.IsAFile n) = Unit {0}
+IsOfHeader (variants.HasRoomForLink n) = Unit {0}
+IsOfHeader _ = ⊥
+
+-- where the entry is judged, by what the client saw before the log
+abbrev pub entry_context_in : {A : Type 0} → EntryJudge A → ClientSight → checks.EntryContext
+entry_context_in judge before = entry_context_of judge.client.now judge.draft.now before
+
+module _ {A : Type 0} (judge : EntryJudge A) where
+  -- the directory in which a directory stands now
+  abbrev pub parent_in : ClientSight → ℕ → Option ℕ
+  parent_in before = (entry_context_in judge before).now.parent
+
+  -- a check's fault, as what was read tells it
+  abbrev pub FindsWrong : Recorder A → Check → Option Reason → Type 0
+  FindsWrong recorder check reason = Known recorder (λ before. checks.fault (entry_context_in judge before) (check_of check) ≡ option_map reason_of reason)
+
+  -- the further reads are at the check's cells
+  abbrev pub ReadsCellsOfCheck : (old new : Recorder A) → Check → Type 0
+  ReadsCellsOfCheck old new check = Known new (λ before. ReadsAt old new (checks.cells (entry_context_in judge before) (check_of check)))
+
+  -- the first of the listed checks that fails, as what was read tells it
+  abbrev pub FindsFirst : Recorder A → (checks.EntryContext → List checks.Check) → Option Reason → Type 0
+  FindsFirst recorder listed reason = Known recorder (λ before. first_failing (entry_context_in judge before) (listed (entry_context_in judge before)) ≡ option_map reason_of reason)
+
+  -- the further reads are at the cells of the listed checks, up to the first that fails
+  abbrev pub ReadsCellsOfAll : (old new : Recorder A) → (checks.EntryContext → List checks.Check) → Type 0
+  ReadsCellsOfAll old new listed = Known new (λ before. ReadsAt old new (looked (entry_context_in judge before) (listed (entry_context_in judge before))))
+
+-- the entry's first fault, as what was read tells it
+abbrev pub FindsFault : {A : Type 0} → EntryJudge A → Recorder A → Entry → Option Reason → Type 0
+FindsFault judge recorder entry reason = FindsFirst judge recorder (λ p. checks_of p entry) reason
+
+-- the further reads are at the cells of the entry's checks
+abbrev pub ReadsCellsOf : {A : Type 0} → EntryJudge A → (old new : Recorder A) → Entry → Type 0
+ReadsCellsOf judge old new entry = ReadsCellsOfAll judge old new (λ p. checks_of p entry)

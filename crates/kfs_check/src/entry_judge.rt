@@ -1,0 +1,373 @@
+//! What judges one entry: the first of its checks that fails where it stands.
+ghost use Rattle.std.specs.Prelude.{◌≡◌, ◌+ℤ◌, pos, nat_lt, IfOk, is_none, not, ◌&&◌, ◌||◌, map, OnOk, [], ◌∷◌};
+ghost use Rattle.std.specs.Option.{option_map};
+ghost use Rattle.std.specs.Ordering.{int_eq};
+ghost use Rattle.kfs_model.specs.Limits.{link_limit};
+ghost use Rattle.kfs_value.specs.Views.{header_of, kind_of};
+ghost use Rattle.kfs_model.specs.Access.{may_header, owns};
+ghost use Rattle.kfs_model.specs.Check as checks;
+ghost use Rattle.kfs_model.specs.Sight as sight;
+ghost use Rattle.kfs_model.specs.Sight.{CountOf, HeaderOf, LeaseOn, NameIn, ParentOf, climb_limit, climb_meets};
+ghost use Rattle.kfs_mode.specs.Mode.{want_shown};
+ghost use Rattle.kfs_view.specs.Recorders.{GoesOn, Known, ReadsAt};
+ghost use Rattle.kfs_check.specs.Checks.{check_of, reason_of, entry_context_in, FindsFirst, FindsWrong, IsOfHeader, IsOfRight, ReadsCellsOfAll, ReadsCellsOfCheck, climbed_cells, parent_in};
+
+use crate::check::{Check, Reason};
+use kfs_draft::Draft;
+use kfs_image::{Header, Kind, Name};
+use kfs_mode::{Client, Want, may};
+use kfs_view::Recorder;
+use std::alloc::{AllocError, Allocator};
+
+/// The most names of a file.
+const LINK_LIMIT: u16 = 1024;
+
+/// The most steps of a climb.
+const CLIMB_LIMIT: u32 = 65_536;
+
+/// What judges the next entry: the log's client, and the draft of the entries so far.
+#[derive(Clone, Copy)]
+pub struct EntryJudge<'a, A: Allocator> {
+    pub client: &'a Client,
+    pub draft: &'a Draft<A>,
+}
+
+impl<A: Allocator + Copy> EntryJudge<'_, A> {
+    /// The header of the node now.
+    pub fn header(
+        &self,
+        recorder: &mut Recorder<'_, A>,
+        number: u32,
+    ) -> Result<Option<Header>, AllocError>
+        ensures goes { GoesOn recorder.old recorder.new }
+        ensures known { IfOk result (λ header. Known recorder.new (λ before. (entry_context_in self.now before).now.head number ≡ option_map header_of header)) }
+        ensures among { OnOk result (ReadsAt recorder.old recorder.new (HeaderOf number ∷ [])) }
+    {
+        match self.draft.header(number) {
+            Some(header) => Ok(header),
+            None => recorder.header(number),
+        }
+    }
+
+    /// The kind of the node now, and a file's where there is no node.
+    pub fn kind(&self, recorder: &mut Recorder<'_, A>, number: u32) -> Result<Kind, AllocError>
+        ensures goes { GoesOn recorder.old recorder.new }
+        ensures known { IfOk result (λ kind. Known recorder.new (λ before. sight.kind_shown ((entry_context_in self.now before).now.head number) ≡ kind_of kind)) }
+        ensures among { OnOk result (ReadsAt recorder.old recorder.new (HeaderOf number ∷ [])) }
+    {
+        let header = self.header(recorder, number)?;
+        Ok(kind_in(header))
+    }
+
+    /// The number that the name leads to now.
+    pub fn target(
+        &self,
+        recorder: &mut Recorder<'_, A>,
+        key: &(u32, Name),
+    ) -> Result<Option<u32>, AllocError>
+        ensures goes { GoesOn recorder.old recorder.new }
+        ensures known { IfOk result (λ number. Known recorder.new (λ before. (entry_context_in self.now before).now.name key.now.0 key.now.1 ≡ number)) }
+        ensures among { OnOk result (ReadsAt recorder.old recorder.new (NameIn key.now.0 key.now.1 ∷ [])) }
+    {
+        match self.draft.target(key) {
+            Some(number) => Ok(number),
+            None => recorder.target(key),
+        }
+    }
+
+    fn is_permitted(
+        &self,
+        recorder: &mut Recorder<'_, A>,
+        number: u32,
+        want: Want,
+    ) -> Result<bool, AllocError>
+        ensures goes { GoesOn recorder.old recorder.new }
+        ensures known { IfOk result (λ granted. Known recorder.new (λ before. checks.is_permitted (entry_context_in self.now before) (want_shown want) number ≡ granted)) }
+        ensures among { OnOk result (ReadsAt recorder.old recorder.new (HeaderOf number ∷ [])) }
+    {
+        let header = self.header(recorder, number)?;
+        Ok(may_want(self.client, header, want))
+    }
+
+    /// The reason of the first check that fails.
+    pub fn first_fault(
+        &self,
+        recorder: &mut Recorder<'_, A>,
+        checks: &[Check<'_>],
+    ) -> Result<Option<Reason>, AllocError>
+        ensures goes { GoesOn recorder.old recorder.new }
+        ensures known { IfOk result (FindsFirst self.now recorder.new (λ _. map check_of checks.now)) }
+        ensures among { OnOk result (ReadsCellsOfAll self.now recorder.old recorder.new (λ _. map check_of checks.now)) }
+    {
+        for check in checks {
+            if let Some(reason) = self.fault(recorder, check)? {
+                return Ok(Some(reason));
+            }
+        }
+        Ok(None)
+    }
+
+    #[tactic(auto, unfolding(kfs_model::specs::Check::fault, kfs_model::specs::Check::cells))]
+    fn fault(
+        &self,
+        recorder: &mut Recorder<'_, A>,
+        check: &Check<'_>,
+    ) -> Result<Option<Reason>, AllocError>
+        ensures goes { GoesOn recorder.old recorder.new }
+        ensures known { IfOk result (FindsWrong self.now recorder.new check.now) }
+        ensures among { OnOk result (ReadsCellsOfCheck self.now recorder.old recorder.new check.now) }
+    {
+        match check {
+            Check::NameIsFree(key) => {
+                let number = self.target(recorder, key)?;
+                Ok(unless(number.is_none(), Reason::NameTaken))
+            }
+            Check::IsLeased(number) => {
+                let leased = self.is_leased(recorder, *number)?;
+                Ok(unless(leased, Reason::NoLease(*number)))
+            }
+            Check::HasNoNames(number) => {
+                let empty = self.has_no_names(recorder, *number)?;
+                Ok(unless(empty, Reason::NotEmpty))
+            }
+            Check::NumberIsGranted(number) => {
+                let granted = self.client.is_granted(*number);
+                Ok(unless(granted, Reason::NumberNotGranted))
+            }
+            Check::NumberIsFree(number) => {
+                let free = self.is_number_free(recorder, *number)?;
+                Ok(unless(free, Reason::NumberTaken))
+            }
+            Check::IsNotAbove { node, dir } => {
+                let meets = self.climb_meets(recorder, *node, *dir)?;
+                Ok(unless(!meets, Reason::BelowItself))
+            }
+            Check::MaySearch(_) | Check::MayWrite(_) | Check::MayChangeMode(_) => {
+                self.right_fault(recorder, check)
+            }
+            _ => self.header_fault(recorder, check),
+        }
+    }
+
+    /// What a check of what the client may do finds wrong.
+    #[tactic(auto, unfolding(kfs_model::specs::Check::fault, kfs_model::specs::Check::cells))]
+    fn right_fault(
+        &self,
+        recorder: &mut Recorder<'_, A>,
+        check: &Check<'_>,
+    ) -> Result<Option<Reason>, AllocError>
+        requires { IsOfRight check.now }
+        ensures goes { GoesOn recorder.old recorder.new }
+        ensures known { IfOk result (FindsWrong self.now recorder.new check.now) }
+        ensures among { OnOk result (ReadsCellsOfCheck self.now recorder.old recorder.new check.now) }
+    {
+        match check {
+            Check::MaySearch(number) => {
+                let granted = self.is_permitted(recorder, *number, Want::Search)?;
+                Ok(unless(granted, Reason::NoSearch))
+            }
+            Check::MayWrite(number) => {
+                let granted = self.may_write(recorder, *number)?;
+                Ok(unless(granted, Reason::NoWrite))
+            }
+            Check::MayChangeMode(number) => {
+                let header = self.header(recorder, *number)?;
+                Ok(unless(owns(self.client, header), Reason::NotOwner))
+            }
+            _ => unreachable!(),
+        }
+    }
+
+    /// What a check of a header finds wrong.
+    #[tactic(auto, unfolding(kfs_model::specs::Check::fault, kfs_model::specs::Check::cells))]
+    fn header_fault(
+        &self,
+        recorder: &mut Recorder<'_, A>,
+        check: &Check<'_>,
+    ) -> Result<Option<Reason>, AllocError>
+        requires { IsOfHeader check.now }
+        ensures goes { GoesOn recorder.old recorder.new }
+        ensures known { IfOk result (FindsWrong self.now recorder.new check.now) }
+        ensures among { OnOk result (ReadsCellsOfCheck self.now recorder.old recorder.new check.now) }
+    {
+        match check {
+            Check::Exists(number) => {
+                let header = self.header(recorder, *number)?;
+                Ok(unless(header.is_some(), Reason::NoSuchNode))
+            }
+            Check::IsADirectory(number) => {
+                let header = self.header(recorder, *number)?;
+                Ok(unless(is_directory(header), Reason::NotDirectory))
+            }
+            Check::IsAFile(number) => {
+                let header = self.header(recorder, *number)?;
+                Ok(unless(!is_directory(header), Reason::IsDirectory))
+            }
+            Check::HasRoomForLink(number) => {
+                let header = self.header(recorder, *number)?;
+                Ok(unless(has_room_for_link(header), Reason::TooManyLinks))
+            }
+            _ => unreachable!(),
+        }
+    }
+
+    fn may_write(&self, recorder: &mut Recorder<'_, A>, number: u32) -> Result<bool, AllocError>
+        ensures goes { GoesOn recorder.old recorder.new }
+        ensures known { IfOk result (λ granted. Known recorder.new (λ before. checks.may_write (entry_context_in self.now before) number ≡ granted)) }
+        ensures among { OnOk result (ReadsAt recorder.old recorder.new (HeaderOf number ∷ [])) }
+    {
+        let header = self.header(recorder, number)?;
+        let own_file = self.draft.has_created(number) && is_file(header);
+        Ok(own_file || may_want(self.client, header, Want::Write))
+    }
+
+    fn is_leased(&self, recorder: &mut Recorder<'_, A>, number: u32) -> Result<bool, AllocError>
+        ensures goes { GoesOn recorder.old recorder.new }
+        ensures known { IfOk result (λ leased. Known recorder.new (λ before. checks.is_leased (entry_context_in self.now before) number ≡ leased)) }
+        ensures among { OnOk result (ReadsAt recorder.old recorder.new (LeaseOn number ∷ [])) }
+    {
+        if self.draft.has_created(number) {
+            return Ok(true);
+        }
+        recorder.is_held(number)
+    }
+
+    fn has_no_names(&self, recorder: &mut Recorder<'_, A>, dir: u32) -> Result<bool, AllocError>
+        ensures goes { GoesOn recorder.old recorder.new }
+        ensures known { IfOk result (λ empty. Known recorder.new (λ before. int_eq ((entry_context_in self.now before).now.count dir) (pos 0) ≡ empty)) }
+        ensures among { OnOk result (ReadsAt recorder.old recorder.new (CountOf dir ∷ [])) }
+    {
+        let count = recorder.count(dir)?;
+        let shift = self.draft.shift(dir);
+        Ok(is_zero(count, shift))
+    }
+
+    /// The directory that the directory stands in now.
+    fn parent(&self, recorder: &mut Recorder<'_, A>, number: u32) -> Result<Option<u32>, AllocError>
+        ensures goes { GoesOn recorder.old recorder.new }
+        ensures known { IfOk result (λ parent. Known recorder.new (λ before. parent_in self.now before number ≡ parent)) }
+        ensures among { OnOk result (ReadsAt recorder.old recorder.new (ParentOf number ∷ [])) }
+    {
+        match self.draft.parent(number) {
+            Some(parent) => Ok(parent),
+            None => recorder.parent(number),
+        }
+    }
+
+    /// Whether the climb along the parents from the directory on meets the node. It takes as many
+    /// steps as the directory lies deep.
+    fn climb_meets(
+        &self,
+        recorder: &mut Recorder<'_, A>,
+        node: u32,
+        dir: u32,
+    ) -> Result<bool, AllocError>
+        ensures goes { GoesOn recorder.old recorder.new }
+        ensures known { IfOk result (λ meets. Known recorder.new (λ before. climb_meets (parent_in self.now before) climb_limit node dir ≡ meets)) }
+        ensures among { OnOk result (Known recorder.new (λ before. ReadsAt recorder.old recorder.new (climbed_cells (parent_in self.now before) climb_limit dir))) }
+    {
+        let mut current = dir;
+        let mut left = CLIMB_LIMIT;
+        while left > 0 {
+            if current == node {
+                return Ok(true);
+            }
+            let Some(up) = self.parent(recorder, current)? else {
+                return Ok(false);
+            };
+            current = up;
+            left -= 1;
+        }
+        Ok(current == node)
+    }
+
+    fn is_number_free(
+        &self,
+        recorder: &mut Recorder<'_, A>,
+        number: u32,
+    ) -> Result<bool, AllocError>
+        ensures goes { GoesOn recorder.old recorder.new }
+        ensures known { IfOk result (λ free. Known recorder.new (λ before. checks.is_number_free (entry_context_in self.now before) number ≡ free)) }
+        ensures among { OnOk result (ReadsAt recorder.old recorder.new (HeaderOf number ∷ [])) }
+    {
+        let before = recorder.header(number)?;
+        let now = self.header(recorder, number)?;
+        let created = self.draft.has_created(number);
+        Ok(is_free(before, now, created))
+    }
+}
+
+fn may_want(client: &Client, header: Option<Header>, want: Want) -> bool
+    ensures { result ≡ checks.is_some_and (option_map header_of header) (λ h. may_header client.now h (want_shown want)) }
+{
+    match header {
+        Some(header) => may(client, header.uid, header.gid, header.mode, want),
+        None => false,
+    }
+}
+
+/// Whether the client may change the node's mode: its owner may, and a privileged client.
+fn owns(client: &Client, header: Option<Header>) -> bool
+    ensures { result ≡ checks.is_some_and (option_map header_of header) (λ h. owns client.now h.uid) }
+{
+    match header {
+        Some(header) => client.uid() == header.uid || client.is_privileged(),
+        None => false,
+    }
+}
+
+/// Whether a file with this header may have one name more.
+fn has_room_for_link(header: Option<Header>) -> bool
+    ensures { result ≡ checks.is_some_and (option_map header_of header) (λ h. nat_lt h.links link_limit) }
+{
+    match header {
+        Some(header) => header.links < LINK_LIMIT,
+        None => false,
+    }
+}
+
+/// Whether a count with its change comes to zero.
+fn is_zero(count: u64, shift: i32) -> bool
+    ensures { result ≡ int_eq (pos count +ℤ shift) (pos 0) }
+{
+    i128::from(count) + i128::from(shift) == 0
+}
+
+fn is_free(before: Option<Header>, now: Option<Header>, created: bool) -> bool
+    ensures { result ≡ (is_none (option_map header_of before) && is_none (option_map header_of now) && not created) }
+{
+    before.is_none() && now.is_none() && !created
+}
+
+fn unless(holds: bool, reason: Reason) -> Option<Reason>
+    ensures { option_map reason_of result ≡ checks.unless holds (reason_of reason) }
+{
+    if holds { None } else { Some(reason) }
+}
+
+fn is_directory(header: Option<Header>) -> bool
+    ensures { result ≡ sight.is_directory (option_map header_of header) }
+{
+    match header {
+        Some(header) => header.kind == Kind::Directory,
+        None => false,
+    }
+}
+
+fn kind_in(header: Option<Header>) -> Kind
+    ensures { kind_of result ≡ sight.kind_shown (option_map header_of header) }
+{
+    match header {
+        Some(header) => header.kind,
+        None => Kind::File,
+    }
+}
+
+fn is_file(header: Option<Header>) -> bool
+    ensures { result ≡ sight.is_file (option_map header_of header) }
+{
+    match header {
+        Some(header) => header.kind == Kind::File,
+        None => false,
+    }
+}

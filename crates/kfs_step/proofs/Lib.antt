@@ -1,0 +1,4 @@
+-- Lemmas on what an entry reads and changes.
+pub mod Entered
+pub mod CleanLooks
+pub mod ChangedRows

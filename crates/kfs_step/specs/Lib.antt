@@ -1,0 +1,4 @@
+pub mod JudgedEntries
+pub mod Entered
+pub mod Rows
+pub mod Nets

@@ -1,0 +1,21 @@
+-- The net of what entries have changed.
+use Rattle.std.specs.Prelude.{List, map}
+use Rattle.kfs_model.specs.Table.{numbers}
+use Rattle.kfs_model.specs.Tree.{name_order}
+use Rattle.kfs_model.specs.Sight.{Sight}
+use Rattle.kfs_model.specs.Plan.{AreDifferences, number_now, header_now}
+use Rattle.kfs_step.specs.Rows.{keyed_name_row, keyed_node_row}
+use Rattle.kfs_value.specs.declared.plan.NameRow.{NameRow as CodeNameRow}
+use Rattle.kfs_value.specs.declared.plan.NodeRow.{NodeRow as CodeNodeRow}
+use Rattle.kfs_image.specs.declared.shape.Net.{Net}
+
+-- the rows are exactly the names that differ, and the headers
+abbrev pub AreNamesOf : Sight → Sight → List CodeNameRow → Type 0
+AreNamesOf before after rows = AreDifferences name_order number_now (λ key. before.name key.0 key.1) (λ key. after.name key.0 key.1) (map keyed_name_row rows)
+
+abbrev pub AreNodesOf : Sight → Sight → List CodeNodeRow → Type 0
+AreNodesOf before after rows = AreDifferences numbers header_now before.head after.head (map keyed_node_row rows)
+
+pub record IsNetOf {A : Type 0} (before after : Sight) (net : Net A) : Type 0 where
+  pub names : AreNamesOf before after net.names.items
+  pub nodes : AreNodesOf before after net.nodes.items

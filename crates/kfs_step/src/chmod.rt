@@ -1,0 +1,63 @@
+//! The entry Chmod.
+ghost use Rattle.std.specs.Prelude.{◌≡◌, ℕ, ◌+◌, None, Ok, IfOk, OnOk, ◌++◌};
+ghost use Rattle.std.specs.Option.{option_map};
+ghost use Rattle.kfs_value.specs.Views.{header_of};
+ghost use Rattle.kfs_model.specs.Check.{checks_of};
+ghost use Rattle.kfs_model.specs.Entry as entry;
+ghost use Rattle.kfs_model.specs.Header.{Header as HeaderShown};
+ghost use Rattle.kfs_step.specs.Entered.{IsEntered};
+ghost use Rattle.kfs_draft.specs.Overlay.{has_created, ShiftsBy};
+ghost use Rattle.kfs_view.specs.Recorders.{GoesOn};
+ghost use Rattle.kfs_check.specs.Checks.{FindsFault, ReadsCellsOf};
+
+use crate::check::check;
+use crate::log_judge::LogJudge;
+use kfs_check::{EntryJudge, Reason};
+use kfs_image::Header;
+use kfs_view::Recorder;
+use std::alloc::{AllocError, Allocator};
+
+/// Why the mode of the node `number` can't be changed, if so.
+#[tactic(auto, unfolding(kfs_model::specs::Check::checks_of))]
+fn chmod_fault<A: Allocator + Copy>(
+    judge: &EntryJudge<'_, A>,
+    recorder: &mut Recorder<'_, A>,
+    number: u32,
+) -> Result<Option<Reason>, AllocError>
+    ensures goes { GoesOn recorder.old recorder.new }
+    ensures known { IfOk result (λ reason. (mode : ℕ) → FindsFault judge.now recorder.new (entry.Chmod number mode) reason) }
+    ensures among { OnOk result ((mode : ℕ) → ReadsCellsOf judge.now recorder.old recorder.new (entry.Chmod number mode)) }
+{
+    check!(judge, recorder;
+        Exists(number),
+        MayChangeMode(number),
+        IsLeased(number),
+    );
+    Ok(None)
+}
+
+impl<A: Allocator + Copy> LogJudge<'_, A> {
+    /// Sets the permission bits of the node `number`, or answers why not.
+    pub fn chmod(&mut self, number: u32, mode: u16) -> Result<Option<Reason>, AllocError>
+        ensures { IsEntered self.old self.new (entry.Chmod number mode) result }
+    {
+        let judge = EntryJudge {
+            client: self.client,
+            draft: &self.draft,
+        };
+        let fault = chmod_fault(&judge, &mut self.recorder, number)?;
+        if let Some(reason) = fault {
+            return Ok(Some(reason));
+        }
+        let header = judge.header(&mut self.recorder, number)?;
+        self.draft.set_header(number, with_mode(header, mode))?;
+        Ok(None)
+    }
+}
+
+/// The header with this mode.
+fn with_mode(header: Option<Header>, mode: u16) -> Option<Header>
+    ensures { option_map header_of result ≡ option_map (λ (h : HeaderShown). record h { mode = mode }) (option_map header_of header) }
+{
+    header.map(|header| Header { mode, ..header })
+}

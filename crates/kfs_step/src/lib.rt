@@ -1,0 +1,13 @@
+//! One entry of a log after another: its checks in their order, and its change.
+#![tactic(auto)]
+
+mod check;
+mod chmod;
+mod create;
+mod link;
+mod log_judge;
+mod net;
+mod rename;
+mod unlink;
+
+pub use log_judge::LogJudge;

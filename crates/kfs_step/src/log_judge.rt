@@ -1,0 +1,107 @@
+//! Where an entry stands: its client, what the entries before it changed, and the state under that.
+ghost use Rattle.std.specs.Prelude.{◌≡◌, ℕ, ◌+◌, ◌==◌, List, None, Ok, IfOk, false, [], OnOk, ◌++◌};
+ghost use Rattle.kfs_value.specs.Views.{entry_of};
+ghost use Rattle.kfs_model.specs.Sight.{Sight, Cell};
+ghost use Rattle.kfs_step.specs.JudgedEntries.{IsJudged};
+ghost use Rattle.kfs_step.specs.Entered.{IsEntered};
+ghost use Rattle.kfs_draft.specs.Overlay.{has_created, over, ShiftsBy, HasRoom, IsWritten};
+ghost use Rattle.kfs_view.specs.Recorders.{GoesOn, seen_by, Known, ReadsAt};
+ghost use Rattle.kfs_step.specs.Nets.{IsNetOf};
+ghost use Rattle.kfs_view.specs.View.{client_sight_in};
+
+use crate::net::{name_rows, node_rows};
+use indexmap::IndexMap;
+use kfs_check::Reason;
+use kfs_draft::Draft;
+use kfs_entry::{Entry, Span, entry_table};
+use kfs_image::shape::Net;
+use kfs_mode::Client;
+use kfs_view::{Read, ReadAnswer, Recorder, View};
+use std::alloc::{AllocError, Allocator};
+use std::hash::{BuildHasherDefault, FoldHasher};
+
+/// A field of an entry as the call takes it.
+macro_rules! taken {
+    (name $field:ident) => {
+        $field.clone()?
+    };
+    ($codec:ident $field:ident) => {
+        *$field
+    };
+}
+
+/// Calls an entry's own function. No log with a Write or a Truncate gets here.
+macro_rules! entered {
+    ($judge:ident write $($rest:tt)*) => {
+        unreachable!()
+    };
+    ($judge:ident truncate $($rest:tt)*) => {
+        unreachable!()
+    };
+    ($judge:ident $call:ident { $($field:ident: $codec:ident),* }) => {
+        $judge.$call($(taken!($codec $field)),*)
+    };
+}
+
+macro_rules! enter_case {
+    ([$judge:ident, $entry:ident] $($number:literal $variant:ident $call:ident { $($field:ident: $codec:ident),* })*) => {
+        match $entry {
+            $(Entry::$variant { $($field),* } => entered!($judge $call { $($field: $codec),* }),)*
+        }
+    };
+}
+
+/// What judges the entries of a log one after another: the log's client, the draft of its entries so
+/// far, and the recorded view.
+#[derive(Drop)]
+pub struct LogJudge<'a, A: Allocator> {
+    pub client: &'a Client,
+    pub draft: Draft<A>,
+    pub recorder: Recorder<'a, A>,
+}
+
+impl<'a, A: Allocator + Copy> LogJudge<'a, A> {
+    /// Before the first entry of a log of this client.
+    pub fn new(alloc: A, view: &'a View<A>, client: &'a Client) -> LogJudge<'a, A>
+        ensures client { result.client.now ≡ client.now }
+        ensures none { result.recorder.reads.entries ≡ [] }
+        ensures seen { seen_by result.recorder ≡ client_sight_in view.now client.now.number }
+        ensures shown { (s : Sight) → over result.draft s ≡ s }
+        ensures written { IsWritten result.draft [] }
+        ensures created { (n : ℕ) → has_created result.draft n ≡ false }
+        ensures shifts { ShiftsBy 0 result.draft }
+    {
+        LogJudge {
+            client,
+            draft: Draft::new(alloc),
+            recorder: Recorder::new(alloc, view, client.number()),
+        }
+    }
+
+    /// Makes the change of an entry, or answers why not. The entry is one of those that are judged.
+    pub fn enter(&mut self, entry: &Entry<Span>) -> Result<Option<Reason>, AllocError>
+        requires judged { IsJudged entry.now }
+        requires room { HasRoom 3 self.old.draft }
+        ensures { (source : List ℕ) → IsEntered self.old self.new (entry_of source entry.now) result }
+    {
+        entry_table!(enter_case(self, entry))
+    }
+
+    /// What differs after the entries so far.
+    pub fn net(&mut self, alloc: A) -> Result<Net<A>, AllocError>
+        ensures goes { GoesOn self.old.recorder self.new.recorder }
+        ensures known { IfOk result (λ net. Known self.new.recorder (λ before. IsNetOf before.sight (over self.old.draft before.sight) net)) }
+        ensures among { OnOk result ((among : List Cell) → IsWritten self.old.draft among → ReadsAt self.old.recorder self.new.recorder among) }
+    {
+        let names = name_rows(alloc, &self.draft, &mut self.recorder)?;
+        let nodes = node_rows(alloc, &self.draft, &mut self.recorder)?;
+        Ok(Net { names, nodes })
+    }
+
+    /// The recorded reads.
+    pub fn into_reads(self) -> IndexMap<Read, ReadAnswer, BuildHasherDefault<FoldHasher>, A>
+        ensures { result.entries ≡ self.entry.recorder.reads.entries }
+    {
+        self.recorder.into_reads()
+    }
+}

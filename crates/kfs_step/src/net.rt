@@ -1,0 +1,93 @@
+//! What differs after a log.
+ghost use Rattle.std.specs.Prelude.{IfOk, List, [], ◌∷◌, OnOk};
+ghost use Rattle.std.specs.Option.{option_map};
+ghost use Rattle.kfs_value.specs.Views.{header_of};
+ghost use Rattle.kfs_model.specs.Plan.{header_now, number_now};
+ghost use Rattle.kfs_view.specs.Recorders.{GoesOn, Known, ReadsAt};
+ghost use Rattle.kfs_draft.specs.Overlay.{over, IsWritten};
+ghost use Rattle.kfs_step.specs.Rows.{IsRow, keyed_name_row, keyed_node_row};
+ghost use Rattle.kfs_step.specs.Nets.{AreNamesOf, AreNodesOf};
+ghost use Rattle.kfs_model.specs.Sight.{Cell, HeaderOf, NameIn};
+
+use kfs_draft::Draft;
+use kfs_entry::{NameRow, NodeRow};
+use kfs_image::{Header, Name};
+use kfs_view::Recorder;
+use std::alloc::{AllocError, Allocator};
+
+/// The names whose numbers differ, ascending.
+pub fn name_rows<A: Allocator + Copy>(
+    alloc: A,
+    draft: &Draft<A>,
+    recorder: &mut Recorder<'_, A>,
+) -> Result<Vec<NameRow, A>, AllocError>
+    ensures goes { GoesOn recorder.old recorder.new }
+    ensures known { IfOk result (λ rows. Known recorder.new (λ before. AreNamesOf before.sight (over draft.now before.sight) rows.items)) }
+    ensures among { OnOk result ((among : List Cell) → IsWritten draft.now among → ReadsAt recorder.old recorder.new among) }
+{
+    let mut rows = Vec::new(alloc);
+    for (key, now) in draft.targets().iter() {
+        if let Some(row) = name_row(recorder, key, *now)? {
+            rows.push(row)?;
+        }
+    }
+    Ok(rows)
+}
+
+/// The row of a name that leads to `now`, where it led elsewhere before.
+fn name_row<A: Allocator + Copy>(
+    recorder: &mut Recorder<'_, A>,
+    key: &(u32, Name),
+    now: Option<u32>,
+) -> Result<Option<NameRow>, AllocError>
+    ensures goes { GoesOn recorder.old recorder.new }
+    ensures known { IfOk result (λ row. Known recorder.new (λ before. IsRow number_now keyed_name_row key.now (before.sight.name key.now.0 key.now.1) now row)) }
+    ensures among { OnOk result (ReadsAt recorder.old recorder.new (NameIn key.now.0 key.now.1 ∷ [])) }
+{
+    let before = recorder.target(key)?;
+    if before == now {
+        return Ok(None);
+    }
+    let row = NameRow {
+        dir: key.0,
+        name: key.1.clone()?,
+        number: now.unwrap_or(0),
+    };
+    Ok(Some(row))
+}
+
+/// The numbers whose headers differ, ascending.
+pub fn node_rows<A: Allocator + Copy>(
+    alloc: A,
+    draft: &Draft<A>,
+    recorder: &mut Recorder<'_, A>,
+) -> Result<Vec<NodeRow, A>, AllocError>
+    ensures goes { GoesOn recorder.old recorder.new }
+    ensures known { IfOk result (λ rows. Known recorder.new (λ before. AreNodesOf before.sight (over draft.now before.sight) rows.items)) }
+    ensures among { OnOk result ((among : List Cell) → IsWritten draft.now among → ReadsAt recorder.old recorder.new among) }
+{
+    let mut rows = Vec::new(alloc);
+    for (number, now) in draft.headers().iter() {
+        if let Some(row) = node_row(recorder, *number, *now)? {
+            rows.push(row)?;
+        }
+    }
+    Ok(rows)
+}
+
+/// The row of a number whose header is `now`, where it was another one before.
+fn node_row<A: Allocator + Copy>(
+    recorder: &mut Recorder<'_, A>,
+    number: u32,
+    now: Option<Header>,
+) -> Result<Option<NodeRow>, AllocError>
+    ensures goes { GoesOn recorder.old recorder.new }
+    ensures known { IfOk result (λ row. Known recorder.new (λ before. IsRow header_now keyed_node_row number (before.sight.head number) (option_map header_of now) row)) }
+    ensures among { OnOk result (ReadsAt recorder.old recorder.new (HeaderOf number ∷ [])) }
+{
+    let before = recorder.header(number)?;
+    if before == now {
+        return Ok(None);
+    }
+    Ok(Some(NodeRow { number, now }))
+}
