@@ -1,0 +1,7 @@
+pub mod Device
+pub mod ShownTree
+pub mod FreeRuns
+pub mod RawImage
+pub mod Rules
+pub mod Finding
+pub mod Example

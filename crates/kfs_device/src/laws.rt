@@ -1,0 +1,1 @@
+//! Laws of the definitions: each is the contract of a function without a body.
