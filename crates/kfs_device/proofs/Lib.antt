@@ -1,1 +1,2 @@
 -- Lemmas on the definitions.
+pub mod LeastFinding
