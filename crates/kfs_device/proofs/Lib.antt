@@ -2,3 +2,6 @@
 pub mod LeastFinding
 pub mod Among
 pub mod RowTables
+pub mod RulesHold
+pub mod ShownHeads
+pub mod SoundImage
