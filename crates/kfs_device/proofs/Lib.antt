@@ -5,3 +5,7 @@ pub mod RowTables
 pub mod RulesHold
 pub mod ShownHeads
 pub mod SoundImage
+pub mod OnlyOne
+pub mod Truth
+pub mod LaidOut
+pub mod Runs

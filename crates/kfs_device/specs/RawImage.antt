@@ -1,9 +1,9 @@
 -- An image as its format lists it: rows of nodes, of names and of extents, of which nothing is known yet.
-use Rattle.std.specs.Prelude.{ℕ, ◌+◌, ◌*◌, ◌<◌, ◌^◌, List, [], ◌∷◌, map, take, drop}
+use Rattle.std.specs.Prelude.{◌≡◌, ℕ, ◌+◌, ◌*◌, ◌<◌, ◌^◌, ◌==◌, ◌&&◌, nat_le, nat_lt, Bool, List, [], ◌∷◌, map, take, drop, Some}
 use Rattle.std.specs.List.{flat_map, AllByRecursion}
 use Rattle.kfs_model.specs.Header.{Header}
 use Rattle.kfs_model.specs.Limits.{block_size}
-use Rattle.kfs_model.specs.Table.{Order, Table, numbers, pairs, empty, insert}
+use Rattle.kfs_model.specs.Table.{Order, Table, numbers, pairs, empty, insert, get}
 use Rattle.kfs_model.specs.Tree.{NameTable, name_order}
 use Rattle.kfs_model.specs.PlanRow.{NameRow}
 use Rattle.kfs_model.specs.Spelling.{IsName}
@@ -75,3 +75,14 @@ devices_of raw = table_of (pairs numbers numbers) (flat_map blocks_in raw.extent
 
 abbrev pub image_of : RawImage → Image
 image_of raw = record { sizes = raw.sizes; heads = heads_of raw; names = names_of raw; placement = placement_of raw; devices = devices_of raw }
+
+-- ---- extents and their places
+
+-- whether the place is one of the extent's
+abbrev pub has_place : Place → ExtentRow → Bool
+has_place place row = (row.tier == place.tier) && nat_le row.place place.place && nat_lt place.place (row.place + row.count)
+
+-- each of the extent's blocks lies where the extent says, and its bytes stand there
+pub record IsLaidOut (raw : RawImage) (row : ExtentRow) : Type 0 where
+  pub mapped : (index : ℕ) → index < row.count → get (placement_of raw) (place_in row index).0 ≡ Some (place_in row index).1
+  pub written : (index : ℕ) → index < row.count → get (devices_of raw) (bytes_in row index).0 ≡ Some (bytes_in row index).1
