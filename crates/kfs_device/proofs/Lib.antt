@@ -9,3 +9,4 @@ pub mod OnlyOne
 pub mod Truth
 pub mod LaidOut
 pub mod Runs
+pub mod ClimbTest

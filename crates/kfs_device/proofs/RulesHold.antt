@@ -10,7 +10,7 @@ use Rattle.kfs_model.specs.PlanRow.{NameRow}
 use Rattle.kfs_model.specs.Placement.{tier_size}
 use Rattle.kfs_model.proofs.CleanIsAllowed.{left, right}
 use Rattle.kfs_device.specs.RawImage.{NodeRow, ExtentRow, RawImage, node_entry, name_entry, heads_of, names_of}
-use Rattle.kfs_device.specs.Rules.{Test, rules, with_previous, is_above, number_test, rule_1, rule_2, kind_fits, header_test, rule_3, directory_test, rule_4, target_test, rule_5, names_fit, names_test, rule_6, climb_test, rule_7, share_block, share_place, ends_in_file, is_extent, extent_test, rule_8, tier_test, rule_9, place_test, rule_10}
+use Rattle.kfs_device.specs.Rules.{Test, rules, with_previous, is_above, number_test, rule_1, rule_2, kind_fits, header_test, rule_3, directory_test, rule_4, target_test, rule_5, names_fit, names_test, rule_6, reaches_root, climb_test, rule_7, share_block, share_place, ends_in_file, is_extent, extent_test, rule_8, tier_test, rule_9, place_test, rule_10}
 use Rattle.kfs_device.specs.Finding.{fails_at, IsWellFormed}
 use Rattle.kfs_device.proofs.LeastFinding.{none_is_broken}
 use Rattle.kfs_device.proofs.RowTables.{AreAbove}
@@ -107,11 +107,8 @@ module _ (raw : RawImage) (well_formed : IsWellFormed raw) where
   pub named_rightly : AllByRecursion (λ row. names_fit row.header.kind row.number row.header.links (name_count (names_of raw) row.number) ≡ true) raw.nodes
   named_rightly = each_tested (λ row. names_fit row.header.kind row.number row.header.links (name_count (names_of raw) row.number) ≡ true) (names_test (names_of raw)) (λ row holds. holds) raw.nodes holds_6
 
-  abbrev pub parent : ℕ → Option ℕ
-  parent = parent_in (get (heads_of raw)) (names_of raw)
-
-  pub climbing : AllByRecursion (λ row. (is_file (Some row.header) || climb_meets parent (length raw.nodes) 1 row.number) ≡ true) raw.nodes
-  climbing = each_tested (λ row. (is_file (Some row.header) || climb_meets parent (length raw.nodes) 1 row.number) ≡ true) (climb_test parent (length raw.nodes)) (λ row holds. holds) raw.nodes holds_7
+  pub climbing : AllByRecursion (λ row. (is_file (Some row.header) || reaches_root raw row.number) ≡ true) raw.nodes
+  climbing = each_tested (λ row. (is_file (Some row.header) || reaches_root raw row.number) ≡ true) (climb_test raw) (λ row holds. holds) raw.nodes holds_7
 
   -- ---- names
 

@@ -1,5 +1,5 @@
 -- Headers that fit their kinds and names are those of the tree that is shown, whatever stands on the devices.
-use Rattle.std.proofs.Common.{◌≡◌, ℕ, zero, suc, ◌+◌, ◌==◌, ◌&&◌, Bool, true, List, [], ◌∷◌, length, map, Option, Some, None, option_map, refl, sym, ap, ◌∙◌, arith, eqb-true}
+use Rattle.std.proofs.Common.{◌≡◌, ℕ, zero, suc, ◌+◌, ◌<◌, ◌==◌, ◌&&◌, slice_get, Bool, true, List, [], ◌∷◌, length, map, Option, Some, None, option_map, refl, sym, ap, ◌∙◌, arith, eqb-true}
 use Rattle.std.proofs.lemmas.List.{length-map}
 use Rattle.kfs_model.specs.Header.{Kind, File, Directory, Header}
 use Rattle.kfs_model.specs.Table.{Table, numbers, get, mapped, get-mapped, same_table}
@@ -10,6 +10,7 @@ use Rattle.kfs_model.proofs.Heads.{get-headers}
 use Rattle.kfs_device.specs.Device.{Devices}
 use Rattle.kfs_device.specs.ShownTree.{Image, file_byte, file_bytes, body_shown, node_shown, shown_tree}
 use Rattle.kfs_device.specs.Rules.{kind_fits, names_fit}
+use Rattle.kfs_device.specs.Laws.{AreBytesOf}
 
 length-numbers_from : (first count : ℕ) → length (numbers_from first count) ≡ count
 length-numbers_from first zero = refl
@@ -53,3 +54,21 @@ heads_shown image fit = same_table _ _ each
         get-headers (shown_tree image) k
         ∙ ap (option_map (header_of image.names k)) (get-mapped (node_shown image.placement image.devices) image.heads k)
         ∙ at k (get image.heads k) refl
+
+-- ---- bytes
+
+number_there : (first count position : ℕ) → position < count → slice_get (numbers_from first count) position ≡ Some (first + position)
+number_there first zero position less = absurd (omega arith)
+number_there first (suc count) zero less = ap Some (omega arith)
+number_there first (suc count) (suc position) less = number_there (first + 1) count position (omega arith) ∙ ap Some (omega arith)
+
+slice_get-map : {X Y : Type 0} (f : X → Y) (xs : List X) (place : ℕ) (x : X) → slice_get xs place ≡ Some x → slice_get (map f xs) place ≡ Some (f x)
+slice_get-map f [] place x is = cc
+slice_get-map f (y ∷ ys) zero x is = let same : y ≡ x = cc in ap (λ z. Some (f z)) same
+slice_get-map f (y ∷ ys) (suc place) x is = slice_get-map f ys place x is
+
+pub bytes_shown : (placement : Placement) (devices : Devices) (number size : ℕ) → AreBytesOf placement devices number size
+bytes_shown placement devices number size = record {
+  many = length-file_bytes placement devices number size;
+  each = λ position less. slice_get-map (file_byte placement devices number) (below size) position position (number_there 0 size position less ∙ ap Some (omega arith));
+}

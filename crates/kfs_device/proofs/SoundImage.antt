@@ -20,7 +20,7 @@ use Rattle.kfs_device.proofs.RulesHold.{nodes_ascend, numbers_in_range, root_the
 use Rattle.kfs_device.proofs.ShownHeads.{HeaderFits, heads_shown}
 
 -- a climb that meets a node leads there
-climb_from_test : (parent : ℕ → Option ℕ) (fuel to from : ℕ) → climb_meets parent fuel to from ≡ true → (steps : ℕ) × Climbs parent steps from to
+pub climb_from_test : (parent : ℕ → Option ℕ) (fuel to from : ℕ) → climb_meets parent fuel to from ≡ true → (steps : ℕ) × Climbs parent steps from to
 unfolding climb_meets
 climb_from_test parent zero to from meets = (0, eqb-true from to meets)
 climb_from_test parent (suc fuel) to from meets = at (from == to) (parent from) refl refl (λ up rest. climb_from_test parent fuel to up rest) meets
@@ -32,7 +32,7 @@ climb_from_test parent (suc fuel) to from meets = at (from == to) (parent from) 
     at false (Some up) here is rest meets = let (steps, climb) = rest up meets in (suc steps, (up, is, climb))
 
 -- a node that shows a kind is there
-some_directory : (o : Option Header) → IsTrue (is_directory o) → (h : Header) × (o ≡ Some h) × (h.kind ≡ Directory)
+pub some_directory : (o : Option Header) → IsTrue (is_directory o) → (h : Header) × (o ≡ Some h) × (h.kind ≡ Directory)
 some_directory None directory = cc
 some_directory (Some h) directory = (h, refl, at h.kind directory)
   where

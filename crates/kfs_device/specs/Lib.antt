@@ -4,4 +4,5 @@ pub mod FreeRuns
 pub mod RawImage
 pub mod Rules
 pub mod Finding
+pub mod Laws
 pub mod Example

@@ -84,13 +84,20 @@ names_test names row = test (names_fit row.header.kind row.number row.header.lin
 abbrev pub rule_6 : RawImage → List Test
 rule_6 raw = map (names_test (names_of raw)) raw.nodes
 
--- a climb that reaches the root takes fewer steps than there are node rows
-abbrev pub climb_test : (parent : ℕ → Option ℕ) → (steps : ℕ) → NodeRow → Test
-climb_test parent steps row = test (is_file (Some row.header) || climb_meets parent steps root_number row.number) row.number
+-- the directory of a directory's name
+abbrev pub parent_of : RawImage → ℕ → Option ℕ
+parent_of raw = parent_in (get (heads_of raw)) (names_of raw)
+
+-- no climb to the root takes more steps than there are node rows
+abbrev pub reaches_root : RawImage → ℕ → Bool
+reaches_root raw number = climb_meets (parent_of raw) (length raw.nodes) root_number number
+
+abbrev pub climb_test : RawImage → NodeRow → Test
+climb_test raw row = test (is_file (Some row.header) || reaches_root raw row.number) row.number
 
 -- from each directory the parents lead to number 1
 abbrev pub rule_7 : RawImage → List Test
-rule_7 raw = map (climb_test (parent_in (get (heads_of raw)) (names_of raw)) (length raw.nodes)) raw.nodes
+rule_7 raw = map (climb_test raw) raw.nodes
 
 -- ---- extents
 
