@@ -1,12 +1,13 @@
 -- An image over device blocks, and the tree that it shows.
-use Rattle.std.specs.Prelude.{ℕ, ◌/◌, ◌%◌, pos, List, map, Option, Some, None}
+use Rattle.std.specs.Prelude.{◌≡◌, ℕ, ◌/◌, ◌%◌, pos, List, map, Option, Some, None}
 use Rattle.kfs_model.specs.Header.{Kind, File, Directory, Header}
 use Rattle.kfs_model.specs.Limits.{block_size}
 use Rattle.kfs_model.specs.Table.{Table, numbers, get, mapped}
-use Rattle.kfs_model.specs.Tree.{Tree, Node, NameTable, Body, FileBody, DirectoryBody, target, entry_count}
+use Rattle.kfs_model.specs.Tree.{Tree, Node, NameTable, Body, FileBody, DirectoryBody, headers, target, entry_count}
 use Rattle.kfs_model.specs.Sight.{Sight, parent_in}
-use Rattle.kfs_model.specs.Placement.{TierSizes, Placement, below}
-use Rattle.kfs_device.specs.Device.{Devices, byte_on}
+use Rattle.kfs_model.specs.Soundness.{IsSound}
+use Rattle.kfs_model.specs.Placement.{TierSizes, Placement, IsPlacement, below}
+use Rattle.kfs_device.specs.Device.{Devices, AreBlocks, byte_on}
 
 -- nodes, names, where the blocks of files lie, and what stands there
 pub record Image : Type 0 where
@@ -49,3 +50,10 @@ sight_in heads names = record {
   count = λ directory. pos (entry_count names directory);
   parent = parent_in (get heads) names;
 }
+
+-- the tree is sound and has these headers, links and sizes with them; blocks lie in places of their own, whole and in tiers
+pub record IsLawful (image : Image) : Type 0 where
+  pub sound : IsSound (shown_tree image)
+  pub counted : headers (shown_tree image) ≡ image.heads
+  pub placed : IsPlacement image.sizes (get image.heads) image.placement
+  pub blocks : AreBlocks image.sizes image.devices
