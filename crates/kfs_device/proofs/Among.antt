@@ -1,5 +1,5 @@
 -- The elements of a list, and of lists that are made of others.
-use Rattle.std.proofs.Common.{◌≡◌, List, [], ◌∷◌, ◌++◌, map, ◌⊎◌, inl, inr, ⊎_elim, refl, sym, ap, subst, ◌∙◌}
+use Rattle.std.proofs.Common.{◌≡◌, List, [], ◌∷◌, ◌++◌, map, ◌⊎◌, inl, inr, ⊎_elim, refl, sym, ap, subst}
 use Rattle.std.specs.List.{flat_map, AllByRecursion}
 
 -- x is an element

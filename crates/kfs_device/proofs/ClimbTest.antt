@@ -1,5 +1,5 @@
 -- A climb that reaches the root takes no more steps than there are node rows, so the test of a climb finds each.
-use Rattle.std.proofs.Common.{◌≡◌, ℕ, zero, suc, ◌≤◌, ◌==◌, eqb, Bool, true, false, List, [], ◌∷◌, length, map, Option, Some, None, refl, sym, ap, subst, ◌∙◌, arith, eqb-true, eq-eqb}
+use Rattle.std.proofs.Common.{◌≡◌, ℕ, zero, suc, ◌≤◌, ◌==◌, eqb, Bool, true, false, List, ◌∷◌, length, map, Option, Some, None, refl, subst, ◌∙◌, arith, eq-eqb}
 use Rattle.std.specs.Cmp.{nat_eq_equiv}
 use Rattle.std.specs.List.{list_any}
 use Rattle.std.proofs.lemmas.Bool.{or_left, or_right}
@@ -7,13 +7,13 @@ use Rattle.std.proofs.lemmas.List.{length-map}
 use Rattle.std.proofs.lemmas.Map.Made.{length-le_from_is_member}
 use Rattle.kfs_model.specs.Header.{Header}
 use Rattle.kfs_model.specs.Table.{numbers, get}
-use Rattle.kfs_model.specs.Sight.{is_directory, parent_in, climb_meets}
+use Rattle.kfs_model.specs.Sight.{climb_meets}
 use Rattle.kfs_model.specs.Soundness.{Climbs}
 use Rattle.kfs_model.proofs.Heads.{root_has_none, has_parent}
 use Rattle.kfs_model.proofs.Climb.{passed, passed_long, climb_from, passed_once}
-use Rattle.kfs_device.specs.RawImage.{NodeRow, RawImage, node_entry, heads_of, names_of}
+use Rattle.kfs_device.specs.RawImage.{RawImage, node_entry, heads_of, names_of}
 use Rattle.kfs_device.specs.Rules.{parent_of, reaches_root}
-use Rattle.kfs_device.proofs.Among.{Among, among_map}
+use Rattle.kfs_device.proofs.Among.{among_map}
 use Rattle.kfs_device.proofs.OnlyOne.{any_among}
 use Rattle.kfs_device.proofs.RowTables.{get_among}
 use Rattle.kfs_device.proofs.SoundImage.{climb_from_test, some_directory}

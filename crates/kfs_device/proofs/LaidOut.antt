@@ -1,18 +1,15 @@
 -- The extents of a well formed image: each of their blocks lies where its extent says, and nothing else lies anywhere.
-use Rattle.std.proofs.Common.{◌≡◌, ℕ, ◌+◌, ◌-◌, ◌*◌, ◌<◌, ◌≤◌, ◌==◌, ◌&&◌, not, min, Bool, true, false, List, [], ◌∷◌, length, map, take, drop, inl, inr, Option, Some, None, refl, sym, ap, subst, ◌∙◌, arith, eq-eqb, eqb-true, lt-ltb, ltb-true, le-leb, leb-true}
-use Rattle.std.specs.Prelude.{nat_lt, nat_le}
+use Rattle.std.proofs.Common.{◌≡◌, ℕ, ◌+◌, ◌-◌, ◌*◌, ◌<◌, ◌≤◌, ◌==◌, ◌&&◌, not, Bool, true, List, [], ◌∷◌, length, map, take, drop, inl, inr, Some, refl, sym, ap, subst, ◌∙◌, arith, eq-eqb, eqb-true, lt-ltb, ltb-true, le-leb, leb-true}
 use Rattle.std.specs.List.{list_any, flat_map, AllByRecursion}
 use Rattle.std.proofs.lemmas.Bool.{and_from}
 use Rattle.std.proofs.lemmas.List.{length-take-le, length-drop}
-use Rattle.kfs_model.specs.Header.{Header}
 use Rattle.kfs_model.specs.Table.{numbers, pairs, get}
-use Rattle.kfs_model.specs.Sight.{is_file}
-use Rattle.kfs_model.specs.Placement.{TierSizes, Place, Placement, IsBlock, IsPlacement, tier_size, is_free, below}
+use Rattle.kfs_model.specs.Placement.{Place, IsBlock, IsPlacement, tier_size, is_free, below}
 use Rattle.kfs_model.proofs.CleanIsAllowed.{found, left, right}
 use Rattle.kfs_model.proofs.Tables.{found_from_any, any_from_found}
 use Rattle.kfs_device.specs.Device.{AreBlocks}
 use Rattle.kfs_device.specs.RawImage.{ExtentRow, RawImage, heads_of, place_in, bytes_in, places_in, blocks_in, placement_of, devices_of, IsLaidOut, has_place}
-use Rattle.kfs_device.specs.Rules.{overlap, share_block, share_place, ends_in_file}
+use Rattle.kfs_device.specs.Rules.{overlap, share_block, share_place}
 use Rattle.kfs_device.specs.Finding.{IsWellFormed}
 use Rattle.kfs_device.proofs.Among.{Among, among_all, among_map, from_map, among_flat_map, from_flat_map}
 use Rattle.kfs_device.proofs.OnlyOne.{any_among, among_any, only_one, below_among, among_below}

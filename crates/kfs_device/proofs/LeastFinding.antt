@@ -3,12 +3,12 @@ use Rattle.std.proofs.Common.{◌≡◌, ℕ, ◌<◌, ◌≤◌, ◌==◌, ◌&
 use Rattle.std.specs.declared.cmp.Ordering.{Ordering}
 use Rattle.std.specs.declared.cmp.Ordering.TheVariants.{Less, Equal, Greater}
 use Rattle.std.specs.List.{list_any}
-use Rattle.std.specs.Ordering.{is_eq, is_lt, eq_by_cmp, nat_cmp}
+use Rattle.std.specs.Ordering.{is_eq, is_lt, nat_cmp}
 use Rattle.std.specs.FinMap.Entries.{find, is_sorted, below_all}
-use Rattle.std.proofs.lemmas.Bool.{or_cases, or_left, or_right, or_parts, false_from_ne_true, leb-true, cases_lt}
+use Rattle.std.proofs.lemmas.Bool.{or_cases, or_left, or_right, false_from_ne_true, cases_lt}
 use Rattle.std.proofs.lemmas.Cmp.{ranked}
 use Rattle.kfs_model.specs.Table.{numbers, get}
-use Rattle.kfs_model.proofs.Tables.{left_part, right_part, find_tie, find_head, find_behind, find_below}
+use Rattle.kfs_model.proofs.Tables.{left_part, right_part, find_head, find_behind}
 use Rattle.kfs_device.specs.RawImage.{RawImage}
 use Rattle.kfs_device.specs.Rules.{Test, rules}
 use Rattle.kfs_device.specs.Finding.{Finding, fails_at, is_broken_at, IsLeastBroken, least_of, least_failed, finding_from, finding_of, IsWellFormed}

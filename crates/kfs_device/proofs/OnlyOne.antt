@@ -1,5 +1,5 @@
 -- Where a test is counted once, one element alone passes it; and the numbers below a count.
-use Rattle.std.proofs.Common.{◌≡◌, ℕ, zero, suc, ◌+◌, ◌<◌, ◌≤◌, Bool, true, false, cond, List, [], ◌∷◌, ◌⊎◌, inl, inr, ⊎_elim, count_by, refl, sym, ap, subst, ◌∙◌, arith, ltb-true}
+use Rattle.std.proofs.Common.{◌≡◌, ℕ, zero, suc, ◌+◌, ◌<◌, ◌≤◌, Bool, true, false, cond, List, [], ◌∷◌, inl, inr, ⊎_elim, count_by, refl, sym, ap, ◌∙◌, arith, ltb-true}
 use Rattle.std.specs.List.{list_any}
 use Rattle.std.proofs.lemmas.Bool.{or_cases, or_left, or_right, cases_eq}
 use Rattle.kfs_model.specs.Placement.{numbers_from, below}
@@ -44,9 +44,15 @@ module _ {X : Type 0} (test : X → Bool) where
       both_behind true is rest none = absurd (none (one_more (tally test zs) (test z) is one))
       both_behind false is rest none = rest (none_more (tally test zs) (test z) is one)
 
-  -- of those that pass there is one
-  pub only_one : (xs : List X) → count_by test xs ≡ 1 → (x y : X) → Among x xs → test x ≡ true → Among y xs → test y ≡ true → x ≡ y
-  only_one xs one = tally_one xs (sym (is_tally test xs) ∙ one)
+  some_pass : (xs : List X) (x : X) → Among x xs → test x ≡ true → 1 ≤ tally test xs
+  some_pass xs x among passes = ltb-true 0 _ (sym (any_tally test xs) ∙ any_among xs x among passes)
+
+  -- of those that pass there is one at the most
+  pub only_one : (xs : List X) → count_by test xs ≤ 1 → (x y : X) → Among x xs → test x ≡ true → Among y xs → test y ≡ true → x ≡ y
+  only_one xs few x y among passes =
+      let some = some_pass xs x among passes in
+      let one : tally test xs ≡ 1 = omega (arith, is_tally test xs) in
+      tally_one xs one x y among passes
 
 -- ---- numbers
 

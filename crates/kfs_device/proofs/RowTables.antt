@@ -1,13 +1,13 @@
 -- Tables that are made of rows: what they show is a row, and ascending rows are their entries.
-use Rattle.std.proofs.Common.{◌≡◌, Bool, true, false, cond, ◌&&◌, T, List, [], ◌∷◌, map, ◌⊎◌, inl, inr, ⊎_elim, Option, Some, None, refl, sym, ap, subst, ◌∙◌}
+use Rattle.std.proofs.Common.{◌≡◌, Bool, true, false, cond, ◌&&◌, T, List, [], ◌∷◌, map, inl, inr, ⊎_elim, Option, Some, None, refl, sym, ap, subst, ◌∙◌}
 use Rattle.std.specs.declared.cmp.Ordering.{Ordering}
 use Rattle.std.specs.declared.cmp.Ordering.TheVariants.{Less, Equal, Greater}
 use Rattle.std.specs.Bool.{passes}
-use Rattle.std.specs.Ordering.{is_eq, is_lt, eq_by_cmp}
+use Rattle.std.specs.Ordering.{is_eq, is_lt}
 use Rattle.std.specs.Cmp.{tied_itself}
 use Rattle.std.specs.List.{AllByRecursion}
 use Rattle.std.specs.FinMap.Entries.{put, is_sorted, below_all, by_order}
-use Rattle.kfs_model.specs.Table.{Order, Table, get, insert, get-insert}
+use Rattle.kfs_model.specs.Table.{Order, get, insert, get-insert}
 use Rattle.kfs_model.proofs.Tables.{left_part, right_part}
 use Rattle.kfs_device.specs.RawImage.{table_of}
 use Rattle.kfs_device.specs.Rules.{with_previous, is_above}

@@ -1,16 +1,14 @@
 -- What the rules say of the rows of a well formed image.
-use Rattle.std.proofs.Common.{◌≡◌, ℕ, ◌+◌, ◌-◌, ◌*◌, ◌<◌, ◌≤◌, ◌==◌, ◌&&◌, ◌||◌, not, Bool, true, false, List, [], ◌∷◌, length, map, count_by, Option, Some, None, is_some, IsTrue, refl, sym, ap, subst, ◌∙◌, eq-eqb, eqb-true, leb-true, ltb-true}
+use Rattle.std.proofs.Common.{◌≡◌, ℕ, ◌+◌, ◌*◌, ◌≤◌, ◌==◌, ◌&&◌, ◌||◌, not, Bool, true, false, List, [], ◌∷◌, length, map, count_by, Option, Some, None, is_some, IsTrue, refl, eq-eqb, eqb-true, leb-true}
 use Rattle.std.specs.List.{list_any, AllByRecursion}
-use Rattle.std.proofs.lemmas.Bool.{or_parts, not-false}
-use Rattle.kfs_model.specs.Header.{Header}
+use Rattle.std.proofs.lemmas.Bool.{or_parts}
 use Rattle.kfs_model.specs.Table.{numbers, pairs, get}
 use Rattle.kfs_model.specs.Tree.{name_order, name_count}
-use Rattle.kfs_model.specs.Sight.{is_directory, is_file, parent_in, climb_meets}
-use Rattle.kfs_model.specs.PlanRow.{NameRow}
+use Rattle.kfs_model.specs.Sight.{is_directory, is_file}
 use Rattle.kfs_model.specs.Placement.{tier_size}
 use Rattle.kfs_model.proofs.CleanIsAllowed.{left, right}
-use Rattle.kfs_device.specs.RawImage.{NodeRow, ExtentRow, RawImage, node_entry, name_entry, heads_of, names_of}
-use Rattle.kfs_device.specs.Rules.{Test, rules, with_previous, is_above, number_test, rule_1, rule_2, kind_fits, header_test, rule_3, directory_test, rule_4, target_test, rule_5, names_fit, names_test, rule_6, reaches_root, climb_test, rule_7, share_block, share_place, ends_in_file, is_extent, extent_test, rule_8, tier_test, rule_9, place_test, rule_10}
+use Rattle.kfs_device.specs.RawImage.{ExtentRow, RawImage, node_entry, name_entry, heads_of, names_of}
+use Rattle.kfs_device.specs.Rules.{Test, with_previous, is_above, number_test, rule_1, rule_2, kind_fits, header_test, rule_3, directory_test, rule_4, target_test, rule_5, names_fit, names_test, rule_6, reaches_root, climb_test, rule_7, share_block, share_place, ends_in_file, is_extent, extent_test, rule_8, tier_test, rule_9, place_test, rule_10}
 use Rattle.kfs_device.specs.Finding.{fails_at, IsWellFormed}
 use Rattle.kfs_device.proofs.LeastFinding.{none_is_broken}
 use Rattle.kfs_device.proofs.RowTables.{AreAbove}
@@ -134,10 +132,10 @@ module _ (raw : RawImage) (well_formed : IsWellFormed raw) where
     pub in_file : ends_in_file (get (heads_of raw) row.number) row ≡ true
     pub some : 1 ≤ row.count
     pub full : length row.bytes ≡ row.count * 4096
-    pub own_blocks : count_by (share_block row) raw.extents ≡ 1
+    pub own_blocks : count_by (share_block row) raw.extents ≤ 1
     pub within : row.tier ≤ 2
     pub in_tier : row.place + row.count ≤ tier_size raw.sizes row.tier
-    pub own_places : count_by (share_place row) raw.extents ≡ 1
+    pub own_places : count_by (share_place row) raw.extents ≤ 1
 
   pub in_files : AllByRecursion (λ row. (ends_in_file (get (heads_of raw) row.number) row ≡ true) × (is_extent raw.extents row ≡ true)) raw.extents
   in_files =
@@ -149,21 +147,21 @@ module _ (raw : RawImage) (well_formed : IsWellFormed raw) where
       each_tested (λ row. (row.tier ≤ 2) × (row.place + row.count ≤ tier_size raw.sizes row.tier)) (tier_test raw.sizes)
       (λ row holds. (leb-true row.tier 2 (left _ _ holds), leb-true _ _ (right _ _ holds))) raw.extents holds_9
 
-  pub apart_places : AllByRecursion (λ row. count_by (share_place row) raw.extents ≡ 1) raw.extents
-  apart_places = each_tested (λ row. count_by (share_place row) raw.extents ≡ 1) (place_test raw.extents) (λ row holds. eqb-true (count_by (share_place row) raw.extents) 1 holds) raw.extents holds_10
+  pub apart_places : AllByRecursion (λ row. count_by (share_place row) raw.extents ≤ 1) raw.extents
+  apart_places = each_tested (λ row. count_by (share_place row) raw.extents ≤ 1) (place_test raw.extents) (λ row holds. leb-true (count_by (share_place row) raw.extents) 1 holds) raw.extents holds_10
 
   pub all_laid : AllByRecursion IsLaid raw.extents
   all_laid = together raw.extents in_files in_tiers apart_places
     where
       together : (rows : List ExtentRow) → AllByRecursion (λ row. (ends_in_file (get (heads_of raw) row.number) row ≡ true) × (is_extent raw.extents row ≡ true)) rows
-          → AllByRecursion (λ row. (row.tier ≤ 2) × (row.place + row.count ≤ tier_size raw.sizes row.tier)) rows → AllByRecursion (λ row. count_by (share_place row) raw.extents ≡ 1) rows → AllByRecursion IsLaid rows
+          → AllByRecursion (λ row. (row.tier ≤ 2) × (row.place + row.count ≤ tier_size raw.sizes row.tier)) rows → AllByRecursion (λ row. count_by (share_place row) raw.extents ≤ 1) rows → AllByRecursion IsLaid rows
       together [] file tier place = tt
       together (row ∷ rows) file tier place = (
         record {
           in_file = file.0.0;
           some = leb-true 1 row.count (left _ _ (left _ _ file.0.1));
           full = eqb-true _ _ (right _ _ (left _ _ file.0.1));
-          own_blocks = eqb-true _ _ (right _ _ file.0.1);
+          own_blocks = leb-true _ _ (right _ _ file.0.1);
           within = tier.0.0;
           in_tier = tier.0.1;
           own_places = place.0;

@@ -1,8 +1,8 @@
 -- Ascending places as runs: a place is in one of them exactly where it is one of the places, and they stand apart.
-use Rattle.std.proofs.Common.{◌≡◌, ℕ, zero, suc, ◌+◌, ◌<◌, ◌≤◌, ◌==◌, ◌&&◌, ◌||◌, Bool, true, false, cond, List, [], ◌∷◌, filter, ◌⊎◌, inl, inr, ⊎_elim, refl, sym, ap, subst, ◌∙◌, arith, eq-eqb, eqb-true, lt-ltb, ltb-true, le-leb, leb-true}
-use Rattle.std.specs.Prelude.{nat_lt, nat_le}
+use Rattle.std.proofs.Common.{◌≡◌, ℕ, zero, suc, ◌+◌, ◌<◌, ◌≤◌, ◌==◌, ◌&&◌, Bool, true, false, cond, List, [], ◌∷◌, filter, ◌⊎◌, inl, inr, ⊎_elim, refl, ap, ◌∙◌, arith, eqb-true, lt-ltb, ltb-true, le-leb, leb-true}
+use Rattle.std.specs.Prelude.{nat_lt}
 use Rattle.std.proofs.lemmas.Bool.{and_from, or_cases, or_left, or_right, eqb-false}
-use Rattle.kfs_model.specs.Placement.{TierSizes, Place, Placement, tier_size, is_free, numbers_from, below}
+use Rattle.kfs_model.specs.Placement.{TierSizes, Placement, tier_size, is_free, numbers_from, below}
 use Rattle.kfs_model.proofs.CleanIsAllowed.{left, right}
 use Rattle.kfs_device.specs.FreeRuns.{Run, is_in, is_in_one, joined, runs_of, free_runs, AreApart}
 use Rattle.kfs_device.proofs.Among.{Among}

@@ -1,10 +1,10 @@
 -- Headers that fit their kinds and names are those of the tree that is shown, whatever stands on the devices.
-use Rattle.std.proofs.Common.{◌≡◌, ℕ, zero, suc, ◌+◌, ◌<◌, ◌==◌, ◌&&◌, slice_get, Bool, true, List, [], ◌∷◌, length, map, Option, Some, None, option_map, refl, sym, ap, ◌∙◌, arith, eqb-true}
+use Rattle.std.proofs.Common.{◌≡◌, ℕ, zero, suc, ◌+◌, ◌<◌, slice_get, true, List, [], ◌∷◌, length, map, Option, Some, None, option_map, refl, sym, ap, ◌∙◌, arith, eqb-true}
 use Rattle.std.proofs.lemmas.List.{length-map}
 use Rattle.kfs_model.specs.Header.{Kind, File, Directory, Header}
-use Rattle.kfs_model.specs.Table.{Table, numbers, get, mapped, get-mapped, same_table}
-use Rattle.kfs_model.specs.Tree.{Tree, Node, NameTable, headers, header_of, name_count}
-use Rattle.kfs_model.specs.Placement.{TierSizes, Placement, numbers_from, below}
+use Rattle.kfs_model.specs.Table.{get, get-mapped, same_table}
+use Rattle.kfs_model.specs.Tree.{Node, NameTable, headers, header_of, name_count}
+use Rattle.kfs_model.specs.Placement.{Placement, numbers_from, below}
 use Rattle.kfs_model.proofs.CleanIsAllowed.{left, right}
 use Rattle.kfs_model.proofs.Heads.{get-headers}
 use Rattle.kfs_device.specs.Device.{Devices}

@@ -1,20 +1,19 @@
 -- A well formed image shows a sound tree, and its rows are that tree's headers and names.
-use Rattle.std.proofs.Common.{◌≡◌, ◌≢◌, ℕ, zero, suc, ◌<◌, ◌≤◌, ◌^◌, ◌==◌, ◌&&◌, ◌||◌, not, Bool, true, false, List, [], ◌∷◌, length, map, Option, Some, None, is_some, IsTrue, refl, sym, ap, subst, ◌∙◌, ⊎_elim, arith, eqb-true, eq-eqb, leb-true}
+use Rattle.std.proofs.Common.{◌≡◌, ◌≢◌, ℕ, zero, suc, ◌<◌, ◌≤◌, ◌^◌, ◌==◌, ◌||◌, not, Bool, true, false, List, length, map, Option, Some, None, is_some, IsTrue, refl, sym, ap, subst, ◌∙◌, ⊎_elim, eqb-true, eq-eqb, leb-true}
 use Rattle.std.specs.List.{AllByRecursion}
 use Rattle.std.proofs.lemmas.Bool.{or_cases, not-true}
 use Rattle.kfs_model.specs.Header.{Kind, File, Directory, Header}
-use Rattle.kfs_model.specs.Table.{Table, numbers, get, same_entries_table}
-use Rattle.kfs_model.specs.Tree.{Tree, NameTable, headers, name_order, target, name_count}
+use Rattle.kfs_model.specs.Table.{Table, numbers, get}
+use Rattle.kfs_model.specs.Tree.{NameTable, headers, name_order, target, name_count}
 use Rattle.kfs_model.specs.Sight.{sight, is_directory, is_file, parent_in, climb_meets}
-use Rattle.kfs_model.specs.PlanRow.{NameRow}
 use Rattle.kfs_model.specs.Spelling.{IsName}
 use Rattle.kfs_model.specs.Soundness.{Climbs, InRange, NameIsSound, AreSound, IsSound}
 use Rattle.kfs_model.proofs.CleanIsAllowed.{left, right}
-use Rattle.kfs_device.specs.ShownTree.{Image, shown_tree, sight_in}
-use Rattle.kfs_device.specs.RawImage.{NodeRow, RawImage, IsSpelled, node_entry, name_entry, heads_of, names_of, image_of}
+use Rattle.kfs_device.specs.ShownTree.{shown_tree, sight_in}
+use Rattle.kfs_device.specs.RawImage.{RawImage, IsSpelled, node_entry, name_entry, heads_of, names_of, image_of}
 use Rattle.kfs_device.specs.Rules.{kind_fits, names_fit}
 use Rattle.kfs_device.specs.Finding.{IsWellFormed}
-use Rattle.kfs_device.proofs.Among.{Among, among_all, from_map}
+use Rattle.kfs_device.proofs.Among.{among_all, from_map}
 use Rattle.kfs_device.proofs.RowTables.{get_among, sorted_entries, sorted_rows}
 use Rattle.kfs_device.proofs.RulesHold.{nodes_ascend, numbers_in_range, root_there, headers_fit, named_rightly, climbing, names_ascend, in_directories, lead_to_nodes}
 use Rattle.kfs_device.proofs.ShownHeads.{HeaderFits, heads_shown}

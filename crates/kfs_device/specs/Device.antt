@@ -1,5 +1,5 @@
 -- The devices of three tiers, each a row of blocks of 4,096 bytes.
-use Rattle.std.specs.Prelude.{◌≡◌, ℕ, ◌<◌, List, length, get_or, Option, Some, None}
+use Rattle.std.specs.Prelude.{◌≡◌, ℕ, ◌<◌, List, length, get_or, Some, None}
 use Rattle.kfs_model.specs.Limits.{block_size}
 use Rattle.kfs_model.specs.Table.{Table, numbers, pairs, get}
 use Rattle.kfs_model.specs.Placement.{TierSizes, Place, tier_size}

@@ -1,6 +1,6 @@
 -- The ten rules of an image: each is a list of tests, each with the number at which the rule is broken where it fails.
 -- A rule that follows is of interest only where those before it hold: so equal keys don't matter from rule 5 on.
-use Rattle.std.specs.Prelude.{ℕ, ◌+◌, ◌-◌, ◌*◌, ◌==◌, ◌&&◌, ◌||◌, not, nat_lt, nat_le, Bool, true, false, List, [], ◌∷◌, length, map, count_by, Option, Some, None, is_some}
+use Rattle.std.specs.Prelude.{ℕ, ◌+◌, ◌-◌, ◌*◌, ◌==◌, ◌&&◌, ◌||◌, not, nat_lt, nat_le, Bool, true, List, [], ◌∷◌, length, map, count_by, Option, Some, None, is_some}
 use Rattle.std.specs.Ordering.{is_lt}
 use Rattle.kfs_model.specs.Header.{Kind, File, Directory, Header}
 use Rattle.kfs_model.specs.Limits.{greatest_number, root_number, greatest_mode, size_limit, link_limit, block_size}
@@ -117,9 +117,9 @@ share_place row other = (row.tier == other.tier) && overlap row.place row.count 
 abbrev pub ends_in_file : Option Header → ExtentRow → Bool
 ends_in_file head row = is_some_and head (λ h. is_file (Some h) && nat_lt ((row.block + row.count - 1) * block_size) h.size)
 
--- it has blocks, all their bytes, and shares a block with itself alone
+-- it has blocks, all their bytes, and shares a block with none but itself
 abbrev pub is_extent : List ExtentRow → ExtentRow → Bool
-is_extent rows row = nat_le 1 row.count && (length row.bytes == row.count * block_size) && (count_by (share_block row) rows == 1)
+is_extent rows row = nat_le 1 row.count && (length row.bytes == row.count * block_size) && nat_le (count_by (share_block row) rows) 1
 
 abbrev pub extent_test : Table numbers Header → List ExtentRow → Option ExtentRow × ExtentRow → Test
 extent_test heads rows e =
@@ -137,9 +137,9 @@ abbrev pub rule_9 : RawImage → List Test
 rule_9 raw = map (tier_test raw.sizes) raw.extents
 
 abbrev pub place_test : List ExtentRow → ExtentRow → Test
-place_test rows row = test (count_by (share_place row) rows == 1) row.number
+place_test rows row = test (nat_le (count_by (share_place row) rows) 1) row.number
 
--- no device block is in two extents: each shares one with itself alone
+-- no device block is in two extents: each shares one with none but itself
 abbrev pub rule_10 : RawImage → List Test
 rule_10 raw = map (place_test raw.extents) raw.extents
 
