@@ -97,6 +97,10 @@ root_alone mode = raw (root_with mode ∷ []) [] []
 abbrev pub with_hole : RawImage
 with_hole = one_file 4098 (block_at 5 1 2 ∷ [])
 
+-- file 5 has a byte more than a block, in two blocks at the end of tier 2; the second one begins with 121
+abbrev pub two_blocks : RawImage
+two_blocks = one_file 4097 (extent 5 0 2 6 2 (letters 1 ++ 121 ∷ replicate 4095 120) ∷ [])
+
 -- file 5 at "/a", of client 1000, with mode 0o644 and this content
 abbrev pub shown_file : List ℕ → Tree ℕ
 shown_file content = known.with_file content
