@@ -118,7 +118,7 @@ module _ (raw : RawImage) where
             let indexes : index ≡ two.index = omega arith in
             ap (λ (e : (ℕ × ℕ) × Place). e.1) two.is ∙ sym (λ i. (place_in (rows i) (indexes i)).1)
 
-    written_there : (row : ExtentRow) (index : ℕ) → Among row raw.extents → index < row.count → get (devices_of raw) (bytes_in row index).0 ≡ Some (bytes_in row index).1
+    pub written_there : (row : ExtentRow) (index : ℕ) → Among row raw.extents → index < row.count → get (devices_of raw) (bytes_in row index).0 ≡ Some (bytes_in row index).1
     written_there row index among within =
         among_get (pairs numbers numbers) (flat_map blocks_in raw.extents) (bytes_in row index).0 (bytes_in row index).1 (goes_to bytes_in row index among within) one
       where

@@ -10,3 +10,6 @@ pub mod Truth
 pub mod LaidOut
 pub mod Runs
 pub mod ClimbTest
+pub mod Entries
+pub mod ListedTables
+pub mod ListedRules

@@ -4,5 +4,6 @@ pub mod FreeRuns
 pub mod RawImage
 pub mod Rules
 pub mod Finding
+pub mod Listed
 pub mod Laws
 pub mod Example
