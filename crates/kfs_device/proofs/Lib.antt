@@ -13,3 +13,4 @@ pub mod ClimbTest
 pub mod Entries
 pub mod ListedTables
 pub mod ListedRules
+pub mod ListedTree

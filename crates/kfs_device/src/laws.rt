@@ -7,11 +7,12 @@ ghost use Rattle.kfs_model.specs.Sight.{sight};
 ghost use Rattle.kfs_model.specs.Soundness.{Climbs};
 ghost use Rattle.kfs_model.specs.Placement.{TierSizes, Place, Placement, is_free};
 ghost use Rattle.kfs_device.specs.Device.{Devices};
-ghost use Rattle.kfs_device.specs.ShownTree.{IsLawful, shown_tree, sight_in};
+ghost use Rattle.kfs_device.specs.ShownTree.{Image, IsLawful, shown_tree, sight_in};
 ghost use Rattle.kfs_device.specs.FreeRuns.{AreApart, free_runs};
 ghost use Rattle.kfs_device.specs.RawImage.{RawImage, IsSpelled, node_entry, name_entry, heads_of, names_of, placement_of, image_of, has_place, IsLaidOut};
 ghost use Rattle.kfs_device.specs.Rules.{parent_of, reaches_root};
 ghost use Rattle.kfs_device.specs.Finding.{Finding, finding_of, is_broken_at, IsLeastBroken, IsWellFormed};
+ghost use Rattle.kfs_device.specs.Listed.{rows_of, AreRowsOf};
 ghost use Rattle.kfs_device.specs.Laws.{IsFreeInRuns, AreBytesOf};
 
 /// A file has as many bytes as its size; each is the byte of its block at the block's place, or 0 where the block isn't
@@ -24,6 +25,12 @@ pub fn bytes_are_those_of_blocks()
 /// of whole blocks.
 pub fn well_formed_image_is_lawful()
     ensures { (raw : RawImage) → IsSpelled raw → IsWellFormed raw → IsLawful (image_of raw) }
+{}
+
+/// A lawful image has rows that are well formed, with an extent for each block: they make its tables again, and show its
+/// tree. So the ten rules refuse no lawful image.
+pub fn lawful_image_has_rows()
+    ensures { (image : Image) → IsLawful image → AreRowsOf image (rows_of image) }
 {}
 
 /// The node rows of a well formed image are the headers of its tree, its name rows the names; so its cells show what the
