@@ -1,25 +1,24 @@
 -- The rows of a lawful image meet the ten rules.
-use Rattle.std.proofs.Common.{◌≡◌, ◌≢◌, ℕ, zero, suc, ◌+◌, ◌-◌, ◌*◌, ◌<◌, ◌≤◌, ◌^◌, ◌==◌, ◌&&◌, ◌||◌, not, Bool, true, false, List, [], ◌∷◌, length, map, count_by, Option, Some, None, option_map, is_some, IsTrue, refl, sym, ap, subst, ◌∙◌, ⊎_elim, arith, eq-eqb, ne_eqb, eqb-true, le-leb, lt-ltb, leb-true, ltb-true}
+use Rattle.std.proofs.Common.{◌≡◌, ℕ, ◌+◌, ◌-◌, ◌*◌, ◌<◌, ◌≤◌, ◌^◌, ◌==◌, ◌&&◌, ◌||◌, true, List, [], ◌∷◌, length, count_by, Option, Some, None, option_map, is_some, IsTrue, refl, sym, ap, subst, ◌∙◌, ⊎_elim, arith, eq-eqb, ne_eqb, eqb-true, le-leb, lt-ltb, ltb-true}
 use Rattle.std.specs.List.{AllByRecursion}
 use Rattle.std.proofs.lemmas.Bool.{and_from, or_left, or_right, cases_eq, cases_lt, cond-true, cond-false, not_from_false}
 use Rattle.kfs_model.specs.Header.{Kind, File, Directory, Header}
-use Rattle.kfs_model.specs.Limits.{block_size}
 use Rattle.kfs_model.specs.Table.{Table, numbers, pairs, get, get-mapped}
-use Rattle.kfs_model.specs.Tree.{Tree, NameTable, headers, header_of, links_of, size_of, name_order, target, name_count}
+use Rattle.kfs_model.specs.Tree.{NameTable, headers, header_of, links_of, size_of, name_order, name_count}
 use Rattle.kfs_model.specs.Sight.{is_directory, is_file, parent_in}
 use Rattle.kfs_model.specs.Soundness.{Climbs, AreSound}
 use Rattle.kfs_model.specs.Spelling.{IsName}
-use Rattle.kfs_model.specs.Placement.{TierSizes, Place, IsBlock, tier_size, below}
+use Rattle.kfs_model.specs.Placement.{TierSizes, Place, tier_size}
 use Rattle.kfs_model.proofs.CleanIsAllowed.{left, right}
 use Rattle.kfs_model.proofs.Heads.{get-headers}
-use Rattle.kfs_device.specs.Device.{Devices, byte_on}
-use Rattle.kfs_device.specs.ShownTree.{Image, body_shown, node_shown, shown_tree, IsLawful}
-use Rattle.kfs_device.specs.RawImage.{NodeRow, ExtentRow, RawImage, IsSpelled, heads_of, names_of}
+use Rattle.kfs_device.specs.Device.{Devices}
+use Rattle.kfs_device.specs.ShownTree.{DeviceImage, body_shown, node_shown, shown_tree, IsLawful}
+use Rattle.kfs_device.specs.RawImage.{RawImage, IsSpelled, heads_of, names_of}
 use Rattle.kfs_device.specs.Rules.{Test, rules, number_test, rule_1, rule_2, kind_fits, header_test, rule_3, directory_test, rule_4, target_test, rule_5, names_fit, names_test, rule_6, parent_of, reaches_root, climb_test, rule_7, overlap, share_block, share_place, ends_in_file, is_extent, extent_test, rule_8, tier_test, rule_9, place_test, rule_10}
 use Rattle.kfs_device.specs.Finding.{Finding, least_of, least_failed, finding_from, finding_of, IsWellFormed}
 use Rattle.kfs_device.specs.Listed.{block_bytes, node_row, name_row, extent_row, rows_of}
 use Rattle.kfs_device.proofs.RulesHold.{AllHold}
-use Rattle.kfs_device.proofs.ShownHeads.{HeaderFits, length-file_bytes}
+use Rattle.kfs_device.proofs.ShownHeads.{HeaderFits}
 use Rattle.kfs_device.proofs.ClimbTest.{reach_is_found}
 use Rattle.kfs_device.proofs.Entries.{each_entry, hold_each, each_row, hold_rising, few_rows}
 use Rattle.kfs_device.proofs.ListedTables.{heads_back, names_back}
@@ -59,7 +58,7 @@ tier_there sizes tier place less = ⊎_elim (λ past. absurd (none past)) (λ th
     none : 2 < tier → ⊥
     none past = let nothing = empty past in omega arith
 
-module _ (image : Image) (lawful : IsLawful image) where
+module _ (image : DeviceImage) (lawful : IsLawful image) where
   abbrev raw : RawImage
   raw = rows_of image
 
@@ -80,7 +79,7 @@ module _ (image : Image) (lawful : IsLawful image) where
   own_header : (number : ℕ) (h : Header) → head number ≡ Some h → header_of image.names number (node_shown image.placement image.devices number h) ≡ h
   own_header number h is =
       let shown : get (headers (shown_tree image)) number ≡ Some (header_of image.names number (node_shown image.placement image.devices number h)) =
-          get-headers (shown_tree image) number ∙ ap (option_map (header_of image.names number)) (get-mapped (node_shown image.placement image.devices) image.heads number ∙ ap (option_map (node_shown image.placement image.devices number)) is) in
+      get-headers (shown_tree image) number ∙ ap (option_map (header_of image.names number)) (get-mapped (node_shown image.placement image.devices) image.heads number ∙ ap (option_map (node_shown image.placement image.devices number)) is) in
       let counted : get (headers (shown_tree image)) number ≡ Some h = ap (λ (heads : Table numbers Header). get heads number) lawful.counted ∙ is in
       cc
 

@@ -1,14 +1,11 @@
 -- The rows of an image make its tables again.
-use Rattle.std.proofs.Common.{◌≡◌, ℕ, zero, suc, ◌+◌, ◌*◌, ◌<◌, ◌%◌, ◌/◌, List, [], ◌∷◌, map, get_or, Option, Some, None, refl, sym, ap, subst, ◌∙◌, arith}
+use Rattle.std.proofs.Common.{◌≡◌, ℕ, ◌+◌, List, [], ◌∷◌, map, refl, ap, ◌∙◌, arith}
 use Rattle.std.specs.List.{flat_map}
-use Rattle.std.proofs.lemmas.List.{get_or-map}
-use Rattle.kfs_model.specs.Header.{Header}
-use Rattle.kfs_model.specs.Table.{Order, Table, numbers, pairs, get, mapped, same_entries_table}
-use Rattle.kfs_model.specs.Tree.{Tree, Node, NameTable, name_order}
-use Rattle.kfs_model.specs.Placement.{Place, Placement, below}
-use Rattle.kfs_device.specs.Device.{Devices, byte_on}
-use Rattle.kfs_device.specs.ShownTree.{Image, file_byte, node_shown, shown_tree}
-use Rattle.kfs_device.specs.RawImage.{RawImage, table_of, node_entry, name_entry, place_in, places_in, heads_of, names_of, placement_of, devices_of, image_of}
+use Rattle.kfs_model.specs.Table.{Order, Table, numbers, pairs, same_entries_table}
+use Rattle.kfs_model.specs.Tree.{name_order}
+use Rattle.kfs_model.specs.Placement.{Place}
+use Rattle.kfs_device.specs.ShownTree.{DeviceImage}
+use Rattle.kfs_device.specs.RawImage.{table_of, node_entry, name_entry, places_in, heads_of, names_of, placement_of}
 use Rattle.kfs_device.specs.Listed.{node_row, name_row, extent_row, rows_of}
 use Rattle.kfs_device.proofs.RowTables.{sorted_entries}
 
@@ -23,7 +20,7 @@ table_back R t es same = ap (table_of R) same ∙ same_entries_table _ t (sorted
 add_none : (n : ℕ) → n + 0 ≡ n
 add_none n = omega arith
 
-module _ (image : Image) where
+module _ (image : DeviceImage) where
   pub heads_back : heads_of (rows_of image) ≡ image.heads
   heads_back = table_back numbers image.heads _ (entries_back node_entry node_row (λ e. refl) image.heads.entries)
 

@@ -1,5 +1,5 @@
 -- The rows of a lawful image show its tree again.
-use Rattle.std.proofs.Common.{◌≡◌, ℕ, zero, suc, ◌+◌, ◌*◌, ◌<◌, ◌/◌, ◌%◌, Bool, cond, List, [], ◌∷◌, length, map, take, drop, get_or, inl, inr, Option, Some, None, option_map, refl, sym, ap, subst, ◌∙◌, arith}
+use Rattle.std.proofs.Common.{◌≡◌, ℕ, zero, suc, ◌+◌, ◌*◌, ◌<◌, ◌/◌, ◌%◌, cond, List, [], ◌∷◌, map, take, drop, get_or, inl, inr, Option, Some, None, option_map, refl, sym, ap, subst, ◌∙◌, arith}
 use Rattle.std.specs.declared.cmp.Ordering.{Ordering}
 use Rattle.std.specs.declared.cmp.Ordering.TheVariants.{Less, Equal, Greater}
 use Rattle.std.specs.Ordering.{is_eq}
@@ -7,11 +7,11 @@ use Rattle.std.specs.FinMap.Entries.{find}
 use Rattle.std.proofs.lemmas.List.{get_or-take, get_or-drop}
 use Rattle.kfs_model.specs.Header.{Kind, File, Directory, Header}
 use Rattle.kfs_model.specs.Table.{Order, Table, numbers, pairs, get, get-mapped, same_table}
-use Rattle.kfs_model.specs.Tree.{Tree, Node, FileBody}
-use Rattle.kfs_model.specs.Placement.{Place, Placement, numbers_from, below}
+use Rattle.kfs_model.specs.Tree.{FileBody}
+use Rattle.kfs_model.specs.Placement.{Place, numbers_from, below}
 use Rattle.kfs_device.specs.Device.{Devices, byte_on}
-use Rattle.kfs_device.specs.ShownTree.{Image, file_byte, file_bytes, body_shown, node_shown, shown_tree, IsLawful}
-use Rattle.kfs_device.specs.RawImage.{ExtentRow, RawImage, bytes_in, devices_of, placement_of, image_of}
+use Rattle.kfs_device.specs.ShownTree.{DeviceImage, file_byte, file_bytes, body_shown, node_shown, shown_tree, IsLawful}
+use Rattle.kfs_device.specs.RawImage.{devices_of, placement_of, image_of}
 use Rattle.kfs_device.specs.Listed.{block_bytes, extent_row, rows_of, AreRowsOf}
 use Rattle.kfs_device.proofs.Among.{Among, among_map}
 use Rattle.kfs_device.proofs.LaidOut.{written_there}
@@ -48,7 +48,7 @@ byte_of_cut bytes offset less = get_or-take 4096 (drop (0 * 4096) bytes) offset 
 within_block : (position : ℕ) → position % 4096 < 4096
 within_block position = omega arith
 
-module _ (image : Image) (lawful : IsLawful image) where
+module _ (image : DeviceImage) (lawful : IsLawful image) where
   -- what stands at the place of a mapped block
   block_back : (key : ℕ × ℕ) (place : Place) → get image.placement key ≡ Some place → get (devices_of (rows_of image)) (place.tier, place.place) ≡ Some (take 4096 (drop (0 * 4096) (block_bytes image.devices place)))
   unfolding get

@@ -8,7 +8,7 @@ use Rattle.kfs_model.specs.Placement.{Placement, numbers_from, below}
 use Rattle.kfs_model.proofs.CleanIsAllowed.{left, right}
 use Rattle.kfs_model.proofs.Heads.{get-headers}
 use Rattle.kfs_device.specs.Device.{Devices}
-use Rattle.kfs_device.specs.ShownTree.{Image, file_byte, file_bytes, body_shown, node_shown, shown_tree}
+use Rattle.kfs_device.specs.ShownTree.{DeviceImage, file_byte, file_bytes, body_shown, node_shown, shown_tree}
 use Rattle.kfs_device.specs.Rules.{kind_fits, names_fit}
 use Rattle.kfs_device.specs.Laws.{AreBytesOf}
 
@@ -42,7 +42,7 @@ module _ (placement : Placement) (devices : Devices) (names : NameTable) (number
   pub header_back : HeaderFits names number h → header_of names number (node_shown placement devices number h) ≡ h
   header_back fits = own_header h.kind refl fits.as_kind fits.as_named
 
-pub heads_shown : (image : Image) → ((number : ℕ) (h : Header) → get image.heads number ≡ Some h → HeaderFits image.names number h) → headers (shown_tree image) ≡ image.heads
+pub heads_shown : (image : DeviceImage) → ((number : ℕ) (h : Header) → get image.heads number ≡ Some h → HeaderFits image.names number h) → headers (shown_tree image) ≡ image.heads
 heads_shown image fit = same_table _ _ each
   where
     at : (k : ℕ) (o : Option Header) → get image.heads k ≡ o → option_map (header_of image.names k) (option_map (node_shown image.placement image.devices k) o) ≡ o

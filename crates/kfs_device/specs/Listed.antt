@@ -5,7 +5,7 @@ use Rattle.kfs_model.specs.Limits.{block_size}
 use Rattle.kfs_model.specs.PlanRow.{NameRow}
 use Rattle.kfs_model.specs.Placement.{Place, below}
 use Rattle.kfs_device.specs.Device.{Devices, byte_on}
-use Rattle.kfs_device.specs.ShownTree.{Image, shown_tree}
+use Rattle.kfs_device.specs.ShownTree.{DeviceImage, shown_tree}
 use Rattle.kfs_device.specs.RawImage.{NodeRow, ExtentRow, RawImage, IsSpelled, heads_of, names_of, placement_of, image_of}
 use Rattle.kfs_device.specs.Finding.{IsWellFormed}
 
@@ -23,7 +23,7 @@ block_bytes devices place = map (byte_on devices place) (below block_size)
 abbrev pub extent_row : Devices → (ℕ × ℕ) × Place → ExtentRow
 extent_row devices e = record { number = e.0.0; block = e.0.1; tier = e.1.tier; place = e.1.place; count = 1; bytes = block_bytes devices e.1 }
 
-abbrev pub rows_of : Image → RawImage
+abbrev pub rows_of : DeviceImage → RawImage
 rows_of image = record {
   sizes = image.sizes;
   nodes = map node_row image.heads.entries;
@@ -32,7 +32,7 @@ rows_of image = record {
 }
 
 -- the rows are spelled and well formed, and make the image again, but for blocks on which no file's block lies
-pub record AreRowsOf (image : Image) (raw : RawImage) : Type 0 where
+pub record AreRowsOf (image : DeviceImage) (raw : RawImage) : Type 0 where
   pub spelled : IsSpelled raw
   pub well_formed : IsWellFormed raw
   pub heads : heads_of raw ≡ image.heads

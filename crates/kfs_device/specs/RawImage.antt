@@ -9,7 +9,7 @@ use Rattle.kfs_model.specs.PlanRow.{NameRow}
 use Rattle.kfs_model.specs.Spelling.{IsName}
 use Rattle.kfs_model.specs.Placement.{TierSizes, Place, Placement, below}
 use Rattle.kfs_device.specs.Device.{Devices}
-use Rattle.kfs_device.specs.ShownTree.{Image}
+use Rattle.kfs_device.specs.ShownTree.{DeviceImage}
 
 pub record NodeRow : Type 0 where
   pub number : ℕ
@@ -73,7 +73,7 @@ placement_of raw = table_of (pairs numbers numbers) (flat_map places_in raw.exte
 abbrev pub devices_of : RawImage → Devices
 devices_of raw = table_of (pairs numbers numbers) (flat_map blocks_in raw.extents)
 
-abbrev pub image_of : RawImage → Image
+abbrev pub image_of : RawImage → DeviceImage
 image_of raw = record { sizes = raw.sizes; heads = heads_of raw; names = names_of raw; placement = placement_of raw; devices = devices_of raw }
 
 -- ---- extents and their places

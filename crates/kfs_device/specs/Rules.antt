@@ -52,7 +52,7 @@ kind_fits Directory links size = (links == 1) && (size == 0)
 abbrev pub header_test : NodeRow → Test
 header_test row = test (nat_le row.header.mode greatest_mode && nat_le row.header.size size_limit && kind_fits row.header.kind row.header.links row.header.size) row.number
 
--- modes and sizes are in range
+-- modes and sizes are in range, and a directory has one link and no size
 abbrev pub rule_3 : RawImage → List Test
 rule_3 raw = map header_test raw.nodes
 

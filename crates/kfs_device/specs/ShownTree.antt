@@ -10,7 +10,7 @@ use Rattle.kfs_model.specs.Placement.{TierSizes, Placement, IsPlacement, below}
 use Rattle.kfs_device.specs.Device.{Devices, AreBlocks, byte_on}
 
 -- nodes, names, where the blocks of files lie, and what stands there
-pub record Image : Type 0 where
+pub record DeviceImage : Type 0 where
   pub sizes : TierSizes
   pub heads : Table numbers Header
   pub names : NameTable
@@ -39,7 +39,7 @@ node_shown placement devices number h = record {
 }
 
 -- the image's nodes with the bytes of their blocks, and its names
-abbrev pub shown_tree : Image → Tree ℕ
+abbrev pub shown_tree : DeviceImage → Tree ℕ
 shown_tree image = record { nodes = mapped (node_shown image.placement image.devices) image.heads; names = image.names }
 
 -- what the cells of these headers and names show
@@ -52,7 +52,7 @@ sight_in heads names = record {
 }
 
 -- the tree is sound and has these headers, links and sizes with them; blocks lie in places of their own, whole and in tiers
-pub record IsLawful (image : Image) : Type 0 where
+pub record IsLawful (image : DeviceImage) : Type 0 where
   pub sound : IsSound (shown_tree image)
   pub counted : headers (shown_tree image) ≡ image.heads
   pub placed : IsPlacement image.sizes (get image.heads) image.placement

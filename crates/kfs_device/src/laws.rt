@@ -7,7 +7,7 @@ ghost use Rattle.kfs_model.specs.Sight.{sight};
 ghost use Rattle.kfs_model.specs.Soundness.{Climbs};
 ghost use Rattle.kfs_model.specs.Placement.{TierSizes, Place, Placement, is_free};
 ghost use Rattle.kfs_device.specs.Device.{Devices};
-ghost use Rattle.kfs_device.specs.ShownTree.{Image, IsLawful, shown_tree, sight_in};
+ghost use Rattle.kfs_device.specs.ShownTree.{DeviceImage, IsLawful, shown_tree, sight_in};
 ghost use Rattle.kfs_device.specs.FreeRuns.{AreApart, free_runs};
 ghost use Rattle.kfs_device.specs.RawImage.{RawImage, IsSpelled, node_entry, name_entry, heads_of, names_of, placement_of, image_of, has_place, IsLaidOut};
 ghost use Rattle.kfs_device.specs.Rules.{parent_of, reaches_root};
@@ -30,7 +30,7 @@ pub fn well_formed_image_is_lawful()
 /// A lawful image has rows that are well formed, with an extent for each block: they make its tables again, and show its
 /// tree. So the ten rules refuse no lawful image.
 pub fn lawful_image_has_rows()
-    ensures { (image : Image) → IsLawful image → AreRowsOf image (rows_of image) }
+    ensures { (image : DeviceImage) → IsLawful image → AreRowsOf image (rows_of image) }
 {}
 
 /// The node rows of a well formed image are the headers of its tree, its name rows the names; so its cells show what the
