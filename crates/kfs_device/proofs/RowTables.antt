@@ -9,6 +9,7 @@ use Rattle.std.specs.List.{AllByRecursion}
 use Rattle.std.specs.FinMap.Entries.{put, is_sorted, below_all, by_order}
 use Rattle.kfs_model.specs.Table.{Order, get, insert, get-insert}
 use Rattle.kfs_model.proofs.Tables.{left_part, right_part}
+use Rattle.kfs_model.proofs.Counts.{is_less}
 use Rattle.kfs_device.specs.RawImage.{table_of}
 use Rattle.kfs_device.specs.Rules.{with_previous, is_above}
 use Rattle.kfs_device.proofs.Among.{Among}
@@ -16,11 +17,6 @@ use Rattle.kfs_device.proofs.Among.{Among}
 both_parts : (a b : Bool) → T a → T b → T (a && b)
 both_parts true b p q = q
 both_parts false b p q = p
-
-less_is : (o : Ordering) → T (is_lt o) → o ≡ Less
-less_is Less t = refl
-less_is Equal t = absurd t
-less_is Greater t = absurd t
 
 module _ {K X : Type 0} (R : Order K) where
   -- ---- what a table of entries shows
@@ -57,7 +53,7 @@ module _ {K X : Type 0} (R : Order K) where
 
   put_front : (key : K) (value : X) (es : List (K × X)) → T (below_all R.compare key es) → put R.compare key value es ≡ (key, value) ∷ es
   put_front key value [] below = refl
-  put_front key value (e ∷ es) below = ap (λ o. by_order o ((key, value) ∷ e ∷ es) ((e.0, value) ∷ es) (e ∷ put R.compare key value es)) (less_is _ (left_part _ _ below))
+  put_front key value (e ∷ es) below = ap (λ o. by_order o ((key, value) ∷ e ∷ es) ((e.0, value) ∷ es) (e ∷ put R.compare key value es)) (is_less _ (left_part _ _ below))
 
   pub sorted_entries : (es : List (K × X)) → T (is_sorted R.compare es) → (table_of R es).entries ≡ es
   unfolding insert
@@ -67,7 +63,7 @@ module _ {K X : Type 0} (R : Order K) where
   below_lower : (key other : K) (es : List (K × X)) → R.compare key other ≡ Less → T (below_all R.compare other es) → T (below_all R.compare key es)
   below_lower key other [] less below = tt
   below_lower key other (e ∷ es) less below =
-      let head : R.compare key e.0 ≡ Less = R.total.trans key other e.0 less (less_is _ (left_part _ _ below)) in
+      let head : R.compare key e.0 ≡ Less = R.total.trans key other e.0 less (is_less _ (left_part _ _ below)) in
       subst (λ o. T (is_lt o && below_all R.compare key es)) (sym head) (below_lower key other es less (right_part _ _ below))
 
   module _ {Z : Type 0} (entry : Z → K × X) where
@@ -80,7 +76,7 @@ module _ {K X : Type 0} (R : Order K) where
     sorted_behind previous (row ∷ rows) above =
         let (below, sorted) = sorted_behind row rows above.1 in
         let less : T (is_lt (R.compare (entry previous).0 (entry row).0)) = passes _ above.0 in
-        (both_parts _ _ less (below_lower (entry previous).0 (entry row).0 (map entry rows) (less_is _ less) below), both_parts _ _ below sorted)
+        (both_parts _ _ less (below_lower (entry previous).0 (entry row).0 (map entry rows) (is_less _ less) below), both_parts _ _ below sorted)
 
     -- rows each of which is above the one before it
     pub sorted_rows : (rows : List Z) → AreAbove (with_previous None rows) → T (is_sorted R.compare (map entry rows))
