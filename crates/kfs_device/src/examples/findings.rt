@@ -58,11 +58,12 @@ pub fn rule_5()
     ensures the_root { Breaks (raw (root ∷ []) (name_row 1 name_a 1 ∷ []) []) (at 5 1) [] }
 {}
 
-/// A file without a name, one with another count of links, and a directory with two names. A directory without a name is
+/// A file without a name, also where it says so, one with another count of links, and a directory with two names. A directory without a name is
 /// reached from nowhere too. A file may have 1,024 names and no more.
 #[tactic(auto, unfolding(crate::specs::Example::computing))]
 pub fn rule_6()
     ensures no_name { Breaks (raw (root ∷ file 5 0 ∷ []) [] []) (at 6 5) [] }
+    ensures no_link { Breaks (raw (root ∷ node 5 File 420 1000 0 0 ∷ []) [] []) (at 6 5) [] }
     ensures other_count { Breaks (raw (root ∷ node 5 File 420 1000 2 0 ∷ []) (name_row 1 name_a 5 ∷ []) []) (at 6 5) [] }
     ensures two_names { Breaks (raw (root ∷ directory 3 ∷ []) (name_row 1 name_a 3 ∷ name_row 1 name_b 3 ∷ []) []) (at 6 3) [] }
     ensures no_directory_name { Breaks (raw (root ∷ directory 3 ∷ []) [] []) (at 6 3) (at 7 3 ∷ []) }
