@@ -20,17 +20,17 @@ module _ (parent : ℕ → Option ℕ) (root_end : parent 1 ≡ None) where
       ap suc (as_long steps others climb.0 climb.2 (subst (λ up. Climbs parent others up 1) (sym same) other.2))
 
   -- the nodes that a climb passes
-  passed : (steps from : ℕ) → Climbs parent steps from 1 → List ℕ
+  pub passed : (steps from : ℕ) → Climbs parent steps from 1 → List ℕ
   passed zero from climb = from ∷ []
   passed (suc steps) from climb = from ∷ passed steps climb.0 climb.2
 
-  passed_long : (steps from : ℕ) (climb : Climbs parent steps from 1) → length (passed steps from climb) ≡ suc steps
+  pub passed_long : (steps from : ℕ) (climb : Climbs parent steps from 1) → length (passed steps from climb) ≡ suc steps
   unfolding passed
   passed_long zero from climb = refl
   passed_long (suc steps) from climb = ap suc (passed_long steps climb.0 climb.2)
 
   -- from a node that is passed the climb goes on, and is no longer
-  climb_from : (steps from : ℕ) (climb : Climbs parent steps from 1) (k : ℕ) → list_any (eqb k) (passed steps from climb) ≡ true → (fewer : ℕ) × (fewer ≤ steps) × Climbs parent fewer k 1
+  pub climb_from : (steps from : ℕ) (climb : Climbs parent steps from 1) (k : ℕ) → list_any (eqb k) (passed steps from climb) ≡ true → (fewer : ℕ) × (fewer ≤ steps) × Climbs parent fewer k 1
   unfolding passed
   climb_from zero from climb k any = (0, omega arith, ⊎_elim (λ same. eqb-true k from same ∙ climb) (λ (none : false ≡ true). cc) (or_cases (k == from) false any))
   climb_from (suc steps) from climb k any =
@@ -43,7 +43,7 @@ module _ (parent : ℕ → Option ℕ) (root_end : parent 1 ≡ None) where
   all_other k (x ∷ xs) none = let parts = or_parts (k == x) (list_any (eqb k) xs) none in (parts.0, all_other k xs parts.1)
 
   -- no node is passed twice
-  passed_once : (steps from : ℕ) (climb : Climbs parent steps from 1) → IsDistinct eqb (passed steps from climb)
+  pub passed_once : (steps from : ℕ) (climb : Climbs parent steps from 1) → IsDistinct eqb (passed steps from climb)
   unfolding passed IsDistinct
   passed_once zero from climb = (tt, tt)
   passed_once (suc steps) from climb = (

@@ -31,7 +31,7 @@ module _ {X : Type 0} (test : X → Bool) where
   pub any_counts : (xs : List X) → list_any test xs ≡ ltb 0 (count_by test xs)
   any_counts xs = any_tally xs ∙ ap (ltb 0) (sym (is_tally xs))
 
-is_less : (o : Ordering) → T (is_lt o) → o ≡ Less
+pub is_less : (o : Ordering) → T (is_lt o) → o ≡ Less
 is_less Less t = refl
 is_less Equal t = absurd t
 is_less Greater t = absurd t

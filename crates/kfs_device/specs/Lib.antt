@@ -1,0 +1,9 @@
+pub mod Device
+pub mod ShownTree
+pub mod FreeRuns
+pub mod RawImage
+pub mod Rules
+pub mod Finding
+pub mod Listed
+pub mod Laws
+pub mod Example

@@ -1,0 +1,59 @@
+-- An image over device blocks, and the tree that it shows.
+use Rattle.std.specs.Prelude.{◌≡◌, ℕ, ◌/◌, ◌%◌, pos, List, map, Some, None}
+use Rattle.kfs_model.specs.Header.{Kind, File, Directory, Header}
+use Rattle.kfs_model.specs.Limits.{block_size}
+use Rattle.kfs_model.specs.Table.{Table, numbers, get, mapped}
+use Rattle.kfs_model.specs.Tree.{Tree, Node, NameTable, Body, FileBody, DirectoryBody, headers, target, entry_count}
+use Rattle.kfs_model.specs.Sight.{Sight, parent_in}
+use Rattle.kfs_model.specs.Soundness.{IsSound}
+use Rattle.kfs_model.specs.Placement.{TierSizes, Placement, IsPlacement, below}
+use Rattle.kfs_device.specs.Device.{Devices, AreBlocks, byte_on}
+
+-- nodes, names, where the blocks of files lie, and what stands there
+pub record DeviceImage : Type 0 where
+  pub sizes : TierSizes
+  pub heads : Table numbers Header
+  pub names : NameTable
+  pub placement : Placement
+  pub devices : Devices
+
+-- a byte of a file: that of its block's place, or 0 where the block isn't mapped
+abbrev pub file_byte : Placement → Devices → (number position : ℕ) → ℕ
+file_byte placement devices number position =
+    elim (get placement (number, position / block_size)) [ None ↦ 0 | Some place ↦ byte_on devices place (position % block_size) ]
+
+-- the first bytes of a file, as many as its size
+abbrev pub file_bytes : Placement → Devices → (number size : ℕ) → List ℕ
+file_bytes placement devices number size = map (file_byte placement devices number) (below size)
+
+abbrev pub body_shown : Placement → Devices → (number : ℕ) → Kind → (size : ℕ) → Body ℕ
+body_shown placement devices number File size = FileBody (file_bytes placement devices number size)
+body_shown placement devices number Directory size = DirectoryBody
+
+abbrev pub node_shown : Placement → Devices → (number : ℕ) → Header → Node ℕ
+node_shown placement devices number h = record {
+  mode = h.mode;
+  uid = h.uid;
+  gid = h.gid;
+  body = body_shown placement devices number h.kind h.size;
+}
+
+-- the image's nodes with the bytes of their blocks, and its names
+abbrev pub shown_tree : DeviceImage → Tree ℕ
+shown_tree image = record { nodes = mapped (node_shown image.placement image.devices) image.heads; names = image.names }
+
+-- what the cells of these headers and names show
+abbrev pub sight_in : Table numbers Header → NameTable → Sight
+sight_in heads names = record {
+  head = get heads;
+  name = target names;
+  count = λ directory. pos (entry_count names directory);
+  parent = parent_in (get heads) names;
+}
+
+-- the tree is sound and has these headers, links and sizes with them; blocks lie in places of their own, whole and in tiers
+pub record IsLawful (image : DeviceImage) : Type 0 where
+  pub sound : IsSound (shown_tree image)
+  pub counted : headers (shown_tree image) ≡ image.heads
+  pub placed : IsPlacement image.sizes (get image.heads) image.placement
+  pub blocks : AreBlocks image.sizes image.devices
