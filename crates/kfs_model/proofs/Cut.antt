@@ -14,7 +14,7 @@ use Rattle.kfs_model.proofs.Differences.{differences_only}
 use Rattle.kfs_model.proofs.Pieces.{none_before}
 
 -- a byte's mark where the log changed it
-abbrev changed_mark : Option Mark → Option Mark
+abbrev pub changed_mark : Option Mark → Option Mark
 changed_mark None = None
 changed_mark (Some (Mark.Base number place)) = None
 changed_mark (Some Mark.Zero) = Some Mark.Zero

@@ -56,3 +56,4 @@ pub mod OneLogAnswer
 pub mod OnePlanAnswer
 pub mod AnswersExist
 pub mod ReadingIs
+pub mod LastCover

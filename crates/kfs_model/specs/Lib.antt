@@ -15,6 +15,7 @@ pub mod Fresh
 pub mod Allowed
 pub mod PlanRow
 pub mod Plan
+pub mod LastCover
 pub mod PlanCut
 pub mod FirstAnswer
 pub mod FirstWrong

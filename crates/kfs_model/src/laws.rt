@@ -15,7 +15,8 @@ ghost use Rattle.kfs_model.specs.Placement.{TierSizes};
 ghost use Rattle.kfs_model.specs.Lease.{KeepsCompatible, dropped, ticked};
 ghost use Rattle.kfs_model.specs.Order.{IsInOrder};
 ghost use Rattle.std.specs.List.{AllByRecursion};
-ghost use Rattle.kfs_model.specs.Sight.{ClientSight};
+ghost use Rattle.kfs_model.specs.Sight.{ClientSight, sight};
+ghost use Rattle.kfs_model.specs.LastCover.{LastEntryDecides};
 ghost use Rattle.kfs_model.specs.Access.{Client, AreDistinct};
 ghost use Rattle.kfs_model.specs.Looked.{LooksAlike, GoesAlike, TreesEndAlike};
 ghost use Rattle.kfs_model.specs.Soundness.{IsSound};
@@ -38,6 +39,12 @@ pub fn marks_give_bytes()
 /// After a run a byte from before the log stands only where it stood: in the same file, at the same place.
 pub fn old_bytes_keep_their_place()
     ensures { EachRun (λ client before tree entries. IfOk (run over_marks client before (marked tree) entries) OldBytesStay) }
+{}
+
+/// After a log without a fault a byte of a file has the mark of the last entry that covers it, and where none does the mark
+/// that it had before: a byte of the file, or zero behind the file's old end.
+pub fn last_entry_decides()
+    ensures { EachRun (λ client before tree entries. before.sight ≡ sight tree → IfOk (run over_marks client before (marked tree) entries) (LastEntryDecides tree entries)) }
 {}
 
 /// A plan has no wrong row exactly where it is right.
