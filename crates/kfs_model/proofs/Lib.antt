@@ -57,3 +57,5 @@ pub mod OnePlanAnswer
 pub mod AnswersExist
 pub mod ReadingIs
 pub mod LastCover
+pub mod Follow
+pub mod Compare

@@ -19,6 +19,7 @@ pub mod LastCover
 pub mod PlanCut
 pub mod FirstAnswer
 pub mod FirstWrong
+pub mod Compare
 pub mod SeenAfter
 pub mod CleanStep
 pub mod Limits

@@ -6,10 +6,11 @@ ghost use Rattle.kfs_model.specs.Entry.{Entry, Log};
 ghost use Rattle.kfs_model.specs.Check.{EntryContext, first_fault};
 ghost use Rattle.kfs_model.specs.Allowed.{IsAllowed};
 ghost use Rattle.kfs_model.specs.Run.{Mark, run, over_bytes, over_marks, marked, run_by_marks};
-ghost use Rattle.kfs_model.specs.PlanRow.{Plan};
-ghost use Rattle.kfs_model.specs.Plan.{IsRight, OldBytesStay};
+ghost use Rattle.kfs_model.specs.PlanRow.{Piece, Plan};
+ghost use Rattle.kfs_model.specs.Plan.{ArePieces, IsRight, OldBytesStay};
+ghost use Rattle.kfs_model.specs.Compare.{first_apart};
 ghost use Rattle.kfs_model.specs.PlanCut.{SaySame, IsCutAnew};
-ghost use Rattle.kfs_model.specs.FirstWrong.{first_wrong_row};
+ghost use Rattle.kfs_model.specs.FirstWrong.{first_wrong_piece, first_wrong_row};
 ghost use Rattle.kfs_model.specs.Machine.{OneByOne, Row, IsRead, next, after};
 ghost use Rattle.kfs_model.specs.Placement.{TierSizes};
 ghost use Rattle.kfs_model.specs.Lease.{KeepsCompatible, dropped, ticked};
@@ -58,6 +59,12 @@ pub fn right_plan_has_no_wrong_row()
 pub fn right_plans_differ_in_their_cut()
     ensures same { (before : Tree ℕ) (after : Tree Mark) (plan other : Plan) → IsRight before after plan → IsRight before after other → SaySame plan other }
     ensures cut_anew { (before : Tree ℕ) (after : Tree Mark) (plan other : Plan) → IsRight before after plan → IsCutAnew plan other → IsRight before after other }
+{}
+
+/// The first wrong piece of a plan is the first one that isn't what is left of right pieces begins with, however the right
+/// ones are cut.
+pub fn pieces_are_followed()
+    ensures { (after : Tree Mark) (right pieces : List Piece) → ArePieces after right → first_wrong_piece after pieces ≡ first_apart 0 pieces right }
 {}
 
 /// Where a run has no fault, its tree is what the entries give one by one, each of them allowed where it stands.
