@@ -13,8 +13,7 @@ use Rattle.kfs_model.specs.Entry.{Entry, Create, Write, Truncate, Link, Unlink, 
 use Rattle.kfs_model.specs.Check.{Reason, first_fault, checks_of, fault}
 use Rattle.kfs_model.specs.Effect.{effect, change_of, swept, changed_node, new_body, on_cells, overwritten, resized}
 use Rattle.kfs_model.specs.Run.{Mark, Base, Zero, Payload, places_from, over_marks, marked, base_marks, mapped_body, EntryFault, entry_context, created_by, run_from, run}
-use Rattle.kfs_model.specs.Plan.{mark_at}
-use Rattle.kfs_model.specs.LastCover.{extent, covered_by, last_cover, start_mark, LastEntryDecides}
+use Rattle.kfs_model.specs.LastCover.{covered_by, last_cover, start_mark, LastEntryDecides}
 use Rattle.kfs_model.proofs.CleanIsAllowed.{all_pass, passed, left, right}
 use Rattle.kfs_model.proofs.CleanFacts.{none_is}
 use Rattle.kfs_model.proofs.CellSteps.{node_there}

@@ -59,3 +59,6 @@ pub mod ReadingIs
 pub mod LastCover
 pub mod Follow
 pub mod Compare
+pub mod Blocks
+pub mod Touches
+pub mod Need

@@ -25,7 +25,7 @@ all_flat P f [] all = tt
 all_flat P f (x ∷ xs) all = all_append P (f x) (flat_map f xs) all.0 (all_flat P f xs all.1)
 
 -- each entry of a table is found at its key
-all_found : {K X : Type 0} (R : Order K) (es : List (K × X)) → T (is_sorted R.compare es) → AllByRecursion (λ e. find R.compare e.0 es ≡ Some e.1) es
+pub all_found : {K X : Type 0} (R : Order K) (es : List (K × X)) → T (is_sorted R.compare es) → AllByRecursion (λ e. find R.compare e.0 es ≡ Some e.1) es
 all_found R [] sorted = tt
 all_found {K} {X} R (e ∷ es) sorted = (
   find_head R e es,

@@ -25,6 +25,7 @@ pub mod CleanStep
 pub mod Limits
 pub mod Looked
 pub mod Placement
+pub mod Blocks
 pub mod Spelling
 pub mod Judgement
 pub mod Machine

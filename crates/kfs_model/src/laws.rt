@@ -12,7 +12,8 @@ ghost use Rattle.kfs_model.specs.Compare.{first_apart};
 ghost use Rattle.kfs_model.specs.PlanCut.{SaySame, IsCutAnew};
 ghost use Rattle.kfs_model.specs.FirstWrong.{first_wrong_piece, first_wrong_row};
 ghost use Rattle.kfs_model.specs.Machine.{OneByOne, Row, IsRead, next, after};
-ghost use Rattle.kfs_model.specs.Placement.{TierSizes};
+ghost use Rattle.kfs_model.specs.Placement.{TierSizes, need};
+ghost use Rattle.kfs_model.specs.Blocks.{counted_files};
 ghost use Rattle.kfs_model.specs.Lease.{KeepsCompatible, dropped, ticked};
 ghost use Rattle.kfs_model.specs.Order.{IsInOrder};
 ghost use Rattle.std.specs.List.{AllByRecursion};
@@ -65,6 +66,11 @@ pub fn right_plans_differ_in_their_cut()
 /// ones are cut.
 pub fn pieces_are_followed()
     ensures { (after : Tree Mark) (right pieces : List Piece) → ArePieces after right → first_wrong_piece after pieces ≡ first_apart 0 pieces right }
+{}
+
+/// The room that a landing takes is counted over right pieces, file by file, however they are cut: no byte is looked at.
+pub fn need_is_counted_over_pieces()
+    ensures { (after : Tree Mark) (right : List Piece) → ArePieces after right → need after ≡ counted_files right after.nodes.entries }
 {}
 
 /// Where a run has no fault, its tree is what the entries give one by one, each of them allowed where it stands.
