@@ -1,6 +1,7 @@
 -- A block is written where it has a byte of a payload, or a zero byte beside another one; and how many blocks ranges have.
 use Rattle.std.proofs.Common.{◌≡◌, ℕ, zero, suc, ◌+◌, ◌-◌, ◌*◌, ◌<◌, ◌≤◌, ◌⊎◌, inl, inr, ⊎_elim, max, Bool, true, false, cond, not, ◌&&◌, ◌||◌, leb, List, [], ◌∷◌, length, get_or, min, take, drop, drop-drop, length-drop, filter, map, refl, sym, ap, ◌∙◌, arith}
 use Rattle.std.specs.List.{list_any, AllByRecursion}
+use Rattle.std.proofs.Math.Bool.{and-true}
 use Rattle.std.proofs.lemmas.Bool.{or_cases, or_left, or_right}
 use Rattle.std.proofs.lemmas.List.{get_or-take, get_or-drop, length-take}
 use Rattle.std.proofs.lemmas.Bool.Decides.{nat_tests}
@@ -59,13 +60,9 @@ turn_behind_base (Base n p ∷ xs) none = turn_behind_base xs none
 turn_behind_base (Zero ∷ xs) none = refl
 turn_behind_base (Payload e p ∷ xs) none = cc
 
-and_true : (b : Bool) → (b && true) ≡ b
-and_true true = refl
-and_true false = refl
-
 turn_without_payload : (xs : List Mark) → list_any is_payload xs ≡ false → has_turn xs ≡ both_sides xs
 turn_without_payload [] none = refl
-turn_without_payload (Base n p ∷ xs) none = turn_behind_base xs none ∙ sym (and_true (list_any is_zero xs))
+turn_without_payload (Base n p ∷ xs) none = turn_behind_base xs none ∙ sym (and-true (list_any is_zero xs))
 turn_without_payload (Zero ∷ xs) none = turn_behind_zero xs none
 turn_without_payload (Payload e p ∷ xs) none = cc
 

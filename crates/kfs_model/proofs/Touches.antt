@@ -1,7 +1,8 @@
 -- The blocks that a file's pieces touch are those that are written.
 use Rattle.std.proofs.Common.{◌≡◌, ℕ, ◌+◌, ◌-◌, ◌*◌, ◌/◌, ◌%◌, ◌<◌, ◌≤◌, ◌⊎◌, inl, inr, ⊎_elim, max, Bool, true, false, cond, not, ◌==◌, ◌&&◌, ◌||◌, ltb, leb, eqb, List, [], ◌∷◌, ◌++◌, length, map, filter, get_or, Option, Some, None, refl, sym, ap, subst, ◌∙◌, arith}
 use Rattle.std.specs.List.{list_any, AllByRecursion}
-use Rattle.std.proofs.lemmas.Bool.{or_cases, or_left, or_right, both_ways}
+use Rattle.std.proofs.lemmas.Bool.{eq-eqb, ne_eqb, not-true, or_cases, or_left, or_right, both_ways}
+use Rattle.std.proofs.Math.Bool.{or-false}
 use Rattle.std.proofs.lemmas.Bool.Decides.{nat_tests}
 use Rattle.std.proofs.lemmas.List.Folds.{list_any-append}
 use Rattle.kfs_model.specs.Run.{Mark, Zero}
@@ -63,12 +64,6 @@ at_or_behind f s h i = grind arith
 before_or_same : (e s : ℕ) → e ≤ s → (e < s) ⊎ (s ≡ e)
 before_or_same e s h = grind arith
 
-not_same : (a b : ℕ) → (a ≡ b → ⊥) → eqb a b ≡ false
-not_same a b h = grind (arith, nat_tests)
-
-is_same : (a b : ℕ) → a ≡ b → eqb a b ≡ true
-is_same a b h = grind (arith, nat_tests)
-
 other_source : (a b : Bool) → (a && b) ≡ false → b ≡ true → a ≡ false
 other_source true b h i = sym i ∙ h
 other_source false b h i = refl
@@ -83,12 +78,8 @@ not_le a b h = grind (arith, nat_tests)
 le_same : (n : ℕ) → n ≤ n
 le_same n = omega arith
 
-or_none : (b : Bool) → (b || false) ≡ true → b ≡ true
-or_none true h = refl
-or_none false h = h
-
 neither : (a b c d : ℕ) → (eqb a b || eqb c d) ≡ false → (a ≡ b → ⊥) × (c ≡ d → ⊥)
-neither a b c d h = ((λ e. both_ways (eqb a b || eqb c d) h (or_left (eqb a b) (eqb c d) (is_same a b e))), (λ e. both_ways (eqb a b || eqb c d) h (or_right (eqb a b) (eqb c d) (is_same c d e))))
+neither a b c d h = ((λ e. both_ways (eqb a b || eqb c d) h (or_left (eqb a b) (eqb c d) (eq-eqb a b e))), (λ e. both_ways (eqb a b || eqb c d) h (or_right (eqb a b) (eqb c d) (eq-eqb c d e))))
 
 none_of : (a b c d : ℕ) (t : Bool) → (eqb a b || leb c d || t) ≡ false → (a ≡ b → ⊥) × (d < c) × (t ≡ false)
 none_of a b c d true h = grind (arith, nat_tests)
@@ -121,7 +112,7 @@ module _ (marks : List Mark) (k : ℕ) where
 
   one_of : (c : Bool) (x : Blocks) → list_any (has_block k) (cond c [] (x ∷ [])) ≡ true → (c ≡ false) × (has_block k x ≡ true)
   one_of true x h = cc
-  one_of false x h = (refl, or_none (has_block k x) h)
+  one_of false x h = (refl, sym (or-false (has_block k x)) ∙ h)
 
   later_touched : (f e until : ℕ) → f < e → TouchedFrom e until → (other : ℕ) → TouchedFrom f other
   later_touched f e until h touched other = ⊎_elim
@@ -180,7 +171,7 @@ module _ (marks : List Mark) (k : ℕ) where
         (λ (h : r.start ≡ f).
         let back : r.start - 1 ≡ f - 1 = omega arith in
         let least : 1 ≤ f = omega arith in
-        ap (λ q. is_zero (get_or marks q Zero)) back ∙ is.before least ∙ not_same until f (λ u. apart (h ∙ sym u)))
+        ap (λ q. is_zero (get_or marks q Zero)) back ∙ is.before least ∙ ne_eqb until f (λ u. apart (h ∙ sym u)))
         (at_or_behind f r.start low some)
 
     -- where zero bytes end and don't go on, the next byte isn't zero
@@ -198,7 +189,7 @@ module _ (marks : List Mark) (k : ℕ) where
             ap is_zero_part (part_before (length marks) t.start (end_of r) (t ∷ ts) h (s, parts.1, parts.2)))
             (λ (h : t.start ≡ end_of r).
             let fill = parts.1 in
-            ap is_zero_part (part_in t ts (end_of r) (omega arith) (omega arith)) ∙ other_source (is_zero_source t.source) (t.start == end_of r) stops (is_same t.start (end_of r) h))
+            ap is_zero_part (part_in t ts (end_of r) (omega arith) (omega arith)) ∙ other_source (is_zero_source t.source) (t.start == end_of r) stops (eq-eqb t.start (end_of r) h))
             (before_or_same (end_of r) t.start parts.0)
 
     -- and where the next byte isn't zero they don't go on
@@ -211,7 +202,7 @@ module _ (marks : List Mark) (k : ℕ) where
         stopped : (ss : List Piece) → AreParts (length marks) (end_of r) ss → is_zero_part (part_at ss (end_of r)) ≡ false → goes_on (end_of r) ss ≡ false
         stopped [] parts none = refl
         stopped (t ∷ ts) parts none = ⊎_elim
-            (λ (h : end_of r < t.start). and_false (is_zero_source t.source) (t.start == end_of r) (not_same t.start (end_of r) (λ s. let b : ⊥ = omega arith in b)))
+            (λ (h : end_of r < t.start). and_false (is_zero_source t.source) (t.start == end_of r) (ne_eqb t.start (end_of r) (λ s. let b : ⊥ = omega arith in b)))
             (λ (h : t.start ≡ end_of r).
             let fill = parts.1 in
             let source : is_zero_source t.source ≡ false = sym (ap is_zero_part (part_in t ts (end_of r) (omega arith) (omega arith))) ∙ none in
@@ -282,7 +273,7 @@ module _ (marks : List Mark) (k : ℕ) where
 
     here_touched : is_zero_source r.source ≡ false → list_any (has_block k) here_list ≡ true → TouchedFrom f until
     here_touched payload h =
-        let within = has_from (r.start / 4096) ((end_of r - 1) / 4096) (or_none (has_block k (record { first = r.start / 4096; last = (end_of r - 1) / 4096 })) h) in
+        let within = has_from (r.start / 4096) ((end_of r - 1) / 4096) (sym (or-false (has_block k (record { first = r.start / 4096; last = (end_of r - 1) / 4096 }))) ∙ h) in
         let first = within.0 in
         let last = within.1 in
         let l = low in
@@ -303,7 +294,7 @@ module _ (marks : List Mark) (k : ℕ) where
       (λ after same either h. later_touched f (end_of r) after (let l = is.parts.0 in let fill = is.parts.1 in omega arith) (touched_from rs (end_of r) after (next f until r rs is after same either) h) until)
     where
       end_same : (e : ℕ) → eqb e e ≡ true
-      end_same e = is_same e e refl
+      end_same e = eq-eqb e e refl
 
       at : (b : Bool) → is_zero_source r.source ≡ b
           → ((after : ℕ) → eqb after (end_of r) ≡ is_zero_source r.source → (after ≡ 0) ⊎ (after ≡ end_of r) → list_any (has_block k) (touches (length marks) after rs) ≡ true → TouchedFrom f until) → TouchedFrom f until
@@ -316,7 +307,7 @@ module _ (marks : List Mark) (k : ℕ) where
           (or_cases _ _ (sym (list_any-append (has_block k) (start_list f until r rs is) (end_list f until r rs is ++ touches (length marks) (end_of r) rs)) ∙ ap (list_any (has_block k)) (sym (touches_is f until r rs is true zeros)) ∙ h))
       at false payload more = ⊎_elim
           (here_touched f until r rs is payload)
-          (more 0 (not_same 0 (end_of r) (λ e. let l = is.parts.0 in let fill = is.parts.1 in let b : ⊥ = omega arith in b) ∙ sym payload) (inl refl))
+          (more 0 (ne_eqb 0 (end_of r) (λ e. let l = is.parts.0 in let fill = is.parts.1 in let b : ⊥ = omega arith in b) ∙ sym payload) (inl refl))
           (or_cases _ _ (sym (list_any-append (has_block k) (here_list f until r rs is) (touches (length marks) 0 rs)) ∙ ap (list_any (has_block k)) (sym (touches_is f until r rs is false payload)) ∙ h))
 
   -- ---- a byte that makes a block written puts it in the list
@@ -350,7 +341,7 @@ module _ (marks : List Mark) (k : ℕ) where
         let odd : r.start % 4096 ≡ 0 → ⊥ = λ h. let b : ⊥ = omega arith in b in
         let first : r.start / 4096 ≤ k = omega arith in
         let last : k ≤ r.start / 4096 = omega arith in
-        (λ i. list_any (has_block k) (cond (not_same (r.start % 4096) 0 odd i || not_same r.start until apart i) [] (block_of r.start ∷ [])))
+        (λ i. list_any (has_block k) (cond (ne_eqb (r.start % 4096) 0 odd i || ne_eqb r.start until apart i) [] (block_of r.start ∷ [])))
         ∙ or_left (has_block k (block_of r.start)) false (has_to (r.start / 4096) (r.start / 4096) first last)
 
     in_end : is_zero_source r.source ≡ true → Turn (end_of r) → list_any (has_block k) (end_list f until r rs is) ≡ true
@@ -364,7 +355,7 @@ module _ (marks : List Mark) (k : ℕ) where
         let last : k ≤ end_of r / 4096 = omega arith in
         let left = zero_in f until r rs is (end_of r - 1) (omega arith) (omega arith) ∙ zeros in
         let stops = stops_right f until r rs is under (other_side (end_of r) left turn.3) in
-        (λ i. list_any (has_block k) (cond (not_same (end_of r % 4096) 0 odd i || not_le (length marks) (end_of r) under i || stops i) [] (block_of (end_of r) ∷ [])))
+        (λ i. list_any (has_block k) (cond (ne_eqb (end_of r % 4096) 0 odd i || not_le (length marks) (end_of r) under i || stops i) [] (block_of (end_of r) ∷ [])))
         ∙ or_left (has_block k (block_of (end_of r))) false (has_to (end_of r / 4096) (end_of r / 4096) first last)
 
     in_here : (q : ℕ) → r.start ≤ q → q < end_of r → Pay q → list_any (has_block k) (here_list f until r rs is) ≡ true
@@ -382,15 +373,11 @@ module _ (marks : List Mark) (k : ℕ) where
       InHere : is_zero_source r.source ≡ false → list_any (has_block k) (here_list f until r rs is) ≡ true → Found
       InLater : TouchedFrom (end_of r) (cond (is_zero_source r.source) (end_of r) 0) → Found
 
-    not_true : (b : Bool) → not b ≡ true → b ≡ false
-    not_true true h = cc
-    not_true false h = refl
-
     pay_found : (q : ℕ) → f ≤ q → Pay q → Found
     pay_found q from pay = ⊎_elim
         (λ (h : q < r.start). absurd (clash (get_or marks q Zero) is_payload pay.3 (payload_before f until r rs is q from h)))
         (λ (h : r.start ≤ q). ⊎_elim
-        (λ (i : q < end_of r). InHere (not_true (is_zero_source r.source) (sym (payload_in f until r rs is q h i) ∙ pay.3)) (in_here q h i pay))
+        (λ (i : q < end_of r). InHere (not-true (is_zero_source r.source) (sym (payload_in f until r rs is q h i) ∙ pay.3)) (in_here q h i pay))
         (λ (i : end_of r ≤ q). InLater (inl (q, i, pay)))
         (below_or_not q (end_of r)))
         (below_or_not q r.start)
@@ -407,7 +394,7 @@ module _ (marks : List Mark) (k : ℕ) where
             (λ (i : q ≡ f).
             let back : q - 1 ≡ f - 1 = omega arith in
             let some : 1 ≤ f = (let l = least in omega arith) in
-            absurd (same_sides q false (ap (λ q. is_zero (get_or marks q Zero)) back ∙ is.before some ∙ not_same until f (new i)) (zero_before f until r rs is q from h) turn.3))
+            absurd (same_sides q false (ap (λ q. is_zero (get_or marks q Zero)) back ∙ is.before some ∙ ne_eqb until f (new i)) (zero_before f until r rs is q from h) turn.3))
             (at_or_behind f q from least)
 
         -- zero bytes didn't end where the piece begins, if the turn is there
@@ -456,7 +443,7 @@ module _ (marks : List Mark) (k : ℕ) where
       (λ (i : f ≤ q - 1). is.zero (q - 1) i (omega arith))
       (λ (i : q ≡ f).
       let back : q - 1 ≡ f - 1 = omega arith in
-      ap (λ q. is_zero (get_or marks q Zero)) back ∙ is.before (omega arith) ∙ not_same until f (new i))
+      ap (λ q. is_zero (get_or marks q Zero)) back ∙ is.before (omega arith) ∙ ne_eqb until f (new i))
       (at_or_behind f q from (omega arith))) (is.zero q from under) turn.3)
       touched
 
@@ -467,8 +454,8 @@ module _ (marks : List Mark) (k : ℕ) where
       (λ later. touched_to rs (end_of r) (cond (is_zero_source r.source) (end_of r) 0) (next f until r rs is (cond (is_zero_source r.source) (end_of r) 0) (after_same (is_zero_source r.source)) (after_either (is_zero_source r.source))) later)
     where
       after_same : (b : Bool) → eqb (cond b (end_of r) 0) (end_of r) ≡ b
-      after_same true = is_same (end_of r) (end_of r) refl
-      after_same false = not_same 0 (end_of r) (λ e. let l = is.parts.0 in let fill = is.parts.1 in let b : ⊥ = omega arith in b)
+      after_same true = eq-eqb (end_of r) (end_of r) refl
+      after_same false = ne_eqb 0 (end_of r) (λ e. let l = is.parts.0 in let fill = is.parts.1 in let b : ⊥ = omega arith in b)
 
       after_either : (b : Bool) → (cond b (end_of r) 0 ≡ 0) ⊎ (cond b (end_of r) 0 ≡ end_of r)
       after_either true = inr refl
