@@ -1,0 +1,9 @@
+pub mod Merging
+pub mod Steps
+pub mod Rests
+pub mod LastOrigin
+pub mod Following
+pub mod ChangedMarks
+pub mod Made
+pub mod Fits
+pub mod Counting
