@@ -1,13 +1,12 @@
 -- Ranges of blocks counted one after another.
-use Rattle.std.proofs.Common.{◌≡◌, ℕ, ◌+◌, ◌-◌, ◌<◌, ◌≤◌, max, List, [], ◌∷◌, ◌++◌, zero, suc, map, drop, length, get_or, refl, sym, ap, ◌∙◌, arith, append_assoc}
-use Rattle.std.specs.List.{AllByRecursion}
+use Rattle.std.proofs.Common.{◌≡◌, ℕ, ◌+◌, ◌-◌, ◌<◌, ◌≤◌, max, List, ◌∷◌, ◌++◌, map, drop, length, get_or, refl, sym, ap, ◌∙◌, arith, append_assoc}
 use Rattle.kfs_value.specs.declared.plan.Piece.{Piece as CodePiece}
 use Rattle.kfs_value.specs.Views.{piece_of}
 use Rattle.kfs_model.specs.PlanRow.{Piece, Source}
 use Rattle.kfs_model.specs.Plan.{end_of}
 use Rattle.kfs_sweep.specs.PieceBlocks.{piece_blocks, zeros_until}
 use Rattle.std.proofs.lemmas.List.{drop_all}
-use Rattle.kfs_sweep.proofs.Following.{drop_next}
+use Rattle.kfs_sweep.proofs.Lists.{drop_next}
 use Rattle.kfs_model.specs.Blocks.{Blocks, counted, goes_on, touches}
 
 counted_next : (next : ℕ) (r : Blocks) (rs : List Blocks) → counted next (r ∷ rs) ≡ (r.last + 1 - max r.first next) + counted (max next (r.last + 1)) rs
@@ -41,11 +40,6 @@ pub touches_row : (size until : ℕ) (pieces : List CodePiece) (i : ℕ) (d : Co
     → touches size until (map piece_of (drop i pieces)) ≡ piece_blocks size until (goes_on (end_of (piece_of (get_or pieces i d))) (map piece_of (drop (i + 1) pieces))) (piece_of (get_or pieces i d)) ++ touches size (zeros_until (piece_of (get_or pieces i d))) (map piece_of (drop (i + 1) pieces))
 touches_row size until pieces i d h =
     ap (λ xs. touches size until (map piece_of xs)) (drop_next pieces i d h) ∙ touches_next size until (piece_of (get_or pieces i d)) (map piece_of (drop (i + 1) pieces))
-
-pub all_at : {X : Type 0} (P : X → Type 0) (xs : List X) (i : ℕ) (d : X) → i < length xs → AllByRecursion P xs → P (get_or xs i d)
-all_at P [] i d h all = absurd (omega arith)
-all_at P (x ∷ xs) zero d h all = all.0
-all_at P (x ∷ xs) (suc i) d h all = all_at P xs i d (omega arith) all.1
 
 pub counted_rows : (size until next total : ℕ) (pieces : List CodePiece) (i : ℕ) → length pieces ≤ i → total + counted next (touches size until (map piece_of (drop i pieces))) ≡ total
 unfolding counted touches

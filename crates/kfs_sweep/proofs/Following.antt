@@ -1,7 +1,8 @@
 -- One right piece at a time: what is left of right pieces behind a piece, and where a plan's pieces are first apart from them.
-use Rattle.std.proofs.Common.{◌≡◌, ℕ, ◌+◌, ◌<◌, ◌≤◌, Bool, true, false, ◌==◌, ltb, eqb, List, [], ◌∷◌, map, drop, length, get_or, Option, Some, None, is_some, refl, ap, ◌∙◌, arith, drop-cons, add-one}
-use Rattle.std.proofs.lemmas.Bool.Decides.{nat_tests}
+use Rattle.std.proofs.Common.{◌≡◌, ℕ, ◌+◌, ◌<◌, ◌≤◌, Bool, true, false, ◌==◌, ltb, List, [], ◌∷◌, map, drop, length, get_or, Option, Some, None, is_some, refl, ap, ◌∙◌, arith}
+use Rattle.std.proofs.lemmas.Bool.{eq-eqb, ne_eqb, lt-ltb, le-ltb}
 use Rattle.std.proofs.lemmas.List.{drop_all}
+use Rattle.kfs_sweep.proofs.Lists.{drop_next}
 use Rattle.kfs_model.specs.PlanRow.{Piece}
 use Rattle.kfs_model.specs.Compare.{begins_alike, behind_piece, first_apart, without_front}
 use Rattle.kfs_value.specs.declared.plan.Piece.{Piece as CodePiece}
@@ -14,18 +15,6 @@ left_some list left r is = ap (λ o. left_of list (record left { front = o })) i
 
 pub left_none : (list : List CodePiece) (left : Left) → left.front ≡ None → left_of list left ≡ []
 left_none list left is = ap (λ o. left_of list (record left { front = o })) is
-
-is_less : (a b : ℕ) → a < b → ltb a b ≡ true
-is_less a b h = grind (arith, nat_tests)
-
-not_less : (a b : ℕ) → b ≤ a → ltb a b ≡ false
-not_less a b h = grind (arith, nat_tests)
-
-is_same : (a b : ℕ) → a ≡ b → eqb a b ≡ true
-is_same a b h = grind (arith, nat_tests)
-
-not_same : (a b : ℕ) → (a ≡ b → ⊥) → eqb a b ≡ false
-not_same a b h = grind (arith, nat_tests)
 
 module _ (p r : Piece) (rs : List Piece) where
   abbrev answer : Bool → Bool → Bool → Option (List Piece)
@@ -42,22 +31,19 @@ module _ (p r : Piece) (rs : List Piece) where
   behind_other e = answer_at false (ltb p.length r.length) (p.length == r.length) e refl refl
 
   pub behind_shorter : begins_alike p r ≡ true → p.length < r.length → behind_piece p (r ∷ rs) ≡ Some (without_front p.length r ∷ rs)
-  behind_shorter e h = answer_at true true (p.length == r.length) e (is_less p.length r.length h) refl
+  behind_shorter e h = answer_at true true (p.length == r.length) e (lt-ltb p.length r.length h) refl
 
   pub behind_equal : begins_alike p r ≡ true → p.length ≡ r.length → behind_piece p (r ∷ rs) ≡ Some rs
-  behind_equal e h = answer_at true false true e (not_less p.length r.length (omega arith)) (is_same p.length r.length h)
+  behind_equal e h = answer_at true false true e (le-ltb p.length r.length (omega arith)) (eq-eqb p.length r.length h)
 
   pub behind_longer : begins_alike p r ≡ true → r.length ≤ p.length → (p.length ≡ r.length → ⊥) → behind_piece p (r ∷ rs) ≡ behind_piece (without_front r.length p) rs
-  behind_longer e h other = answer_at true false false e (not_less p.length r.length h) (not_same p.length r.length other)
+  behind_longer e h other = answer_at true false false e (le-ltb p.length r.length h) (ne_eqb p.length r.length other)
 
 pub behind_nothing : (p : Piece) → behind_piece p [] ≡ None
 unfolding behind_piece
 behind_nothing p = refl
 
 -- ---- a plan's pieces
-
-pub drop_next : (xs : List CodePiece) (i : ℕ) (d : CodePiece) → i < length xs → drop i xs ≡ get_or xs i d ∷ drop (i + 1) xs
-drop_next xs i d h = rw (add-one, drop-cons xs i d)
 
 module _ (index : ℕ) (p : Piece) (ps right : List Piece) where
   abbrev found : Bool → Option (List Piece) → Option ℕ
@@ -68,13 +54,13 @@ module _ (index : ℕ) (p : Piece) (ps right : List Piece) where
   found_is = refl
 
   pub apart_empty : p.length ≡ 0 → first_apart index (p ∷ ps) right ≡ Some index
-  apart_empty h = found_is ∙ ap (λ b. found b (behind_piece p right)) (is_same p.length 0 h)
+  apart_empty h = found_is ∙ ap (λ b. found b (behind_piece p right)) (eq-eqb p.length 0 h)
 
   pub apart_other : (p.length ≡ 0 → ⊥) → behind_piece p right ≡ None → first_apart index (p ∷ ps) right ≡ Some index
-  apart_other some none = found_is ∙ (λ i. found (not_same p.length 0 some i) (none i))
+  apart_other some none = found_is ∙ (λ i. found (ne_eqb p.length 0 some i) (none i))
 
   pub apart_later : (p.length ≡ 0 → ⊥) → (rest : List Piece) → behind_piece p right ≡ Some rest → first_apart index (p ∷ ps) right ≡ first_apart (index + 1) ps rest
-  apart_later some rest is = found_is ∙ (λ i. found (not_same p.length 0 some i) (is i))
+  apart_later some rest is = found_is ∙ (λ i. found (ne_eqb p.length 0 some i) (is i))
 
 pub apart_ends : (index : ℕ) → first_apart index [] [] ≡ None
 unfolding first_apart

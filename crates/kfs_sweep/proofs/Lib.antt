@@ -1,3 +1,4 @@
+pub mod Lists
 pub mod Merging
 pub mod Steps
 pub mod Rests

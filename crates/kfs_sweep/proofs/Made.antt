@@ -2,6 +2,7 @@
 use Rattle.std.proofs.Common.{◌≡◌, ℕ, ◌+◌, ◌-◌, ◌<◌, ◌≤◌, ◌⊎◌, min, Bool, true, false, cond, not, ◌==◌, ◌&&◌, ◌||◌, ltb, leb, eqb, List, [], ◌∷◌, ◌++◌, length, Option, Some, None, option_map, Ok, refl, sym, ap, subst, ◌∙◌, arith, eqb-true, eq-eqb}
 use Rattle.std.specs.List.{list_any, AllByRecursion}
 use Rattle.std.proofs.lemmas.Bool.Decides.{nat_tests}
+use Rattle.std.proofs.Math.Bool.{and_assoc, and-false}
 use Rattle.kfs_model.specs.Table.{option_or}
 use Rattle.kfs_model.specs.Tree.{Tree}
 use Rattle.kfs_model.specs.Sight.{ClientSight, sight}
@@ -19,7 +20,7 @@ use Rattle.kfs_sweep.specs.declared.stretch.Origin.TheVariants.{Zero, Payload}
 use Rattle.kfs_sweep.specs.declared.stretch.Stretch.{Stretch}
 use Rattle.kfs_sweep.specs.Stretches.{holds, origin_at, last_origin, AreFrom}
 use Rattle.kfs_sweep.specs.Made.{mark_of, source_at, pieces_made, IsPlaced, IsFit, made, grown}
-use Rattle.kfs_sweep.proofs.LastOrigin.{last_origin-append}
+use Rattle.kfs_sweep.proofs.LastOrigin.{last_origin-append, option_or_none}
 
 -- ---- the mark of a byte
 
@@ -65,10 +66,6 @@ module _ (ends : ℕ → ℕ) (n p : ℕ) where
       at true is = ap (λ j. leb s p && ltb p (ends j)) (sym (eqb-true n k is))
       at false is = refl
 
-  or_none : (a : Option Mark) → option_or a None ≡ a
-  or_none None = refl
-  or_none (Some x) = refl
-
   -- one entry more
   made_more : (b c : Bool) (o : Origin) (x : Mark) (rest : Option Origin) (a : Option Mark) → mark_of o p ≡ x → b ≡ (c && ltb p (ends n)) → option_map (λ o. mark_of o p) rest ≡ cond (ltb p (ends n)) a None
       → option_map (λ o. mark_of o p) (option_or rest (cond b (Some o) None)) ≡ cond (ltb p (ends n)) (option_or a (cond c (Some x) None)) None
@@ -78,7 +75,7 @@ module _ (ends : ℕ → ℕ) (n p : ℕ) where
       ∙ cond_or (ltb p (ends n)) c a x
 
   made_same : (rest : Option Origin) (a : Option Mark) → option_map (λ o. mark_of o p) rest ≡ cond (ltb p (ends n)) a None → option_map (λ o. mark_of o p) rest ≡ cond (ltb p (ends n)) (option_or a None) None
-  made_same rest a more = more ∙ ap (λ o. cond (ltb p (ends n)) o None) (sym (or_none a))
+  made_same rest a more = more ∙ ap (λ o. cond (ltb p (ends n)) o None) (sym (option_or_none a))
 
   pub made_marks : (index : ℕ) (entries : List Entry) → option_map (λ o. mark_of o p) (last_origin (made ends index entries) n p) ≡ cond (ltb p (ends n)) (last_cover index entries n p) None
   unfolding made last_cover covered_by
@@ -125,15 +122,11 @@ module _ (before ends : ℕ → ℕ) (n p : ℕ) where
   same_at : (k : ℕ) → eqb n k ≡ true → (before k ≡ before n) × (ends k ≡ ends n)
   same_at k e = (ap before (sym (eqb-true n k e)), ap ends (sym (eqb-true n k e)))
 
-  three : (a b c : Bool) → (a && b && c) ≡ (a && (b && c))
-  three true b c = refl
-  three false b c = refl
-
   grown_says : (numbers : List ℕ) → last_origin (grown before ends numbers) n p ≡ cond (list_any (λ k. n == k) numbers && (leb (before n) p && ltb p (ends n))) (Some Zero) None
   unfolding grown
   grown_says [] = refl
   grown_says (k ∷ ks) =
-      (λ i. option_or (grown_says ks i) (cond ((grown_test k (before k) (ends k) (same_at k) ∙ three (n == k) (leb (before n) p) (ltb p (ends n))) i) (Some Zero) None))
+      (λ i. option_or (grown_says ks i) (cond ((grown_test k (before k) (ends k) (same_at k) ∙ and_assoc (n == k) (leb (before n) p) (ltb p (ends n))) i) (Some Zero) None))
       ∙ either_cond (list_any (λ k. n == k) ks) (n == k) (leb (before n) p && ltb p (ends n))
 
   at_least : (b : ℕ) → leb b p ≡ not (ltb p b)
@@ -150,19 +143,13 @@ module _ (before ends : ℕ → ℕ) (n p : ℕ) where
       grew : ltb p (ends n) ≡ true → ltb p (before n) ≡ false → before n < ends n
       grew e f = grind (arith, nat_tests)
 
-      and_false : (a b : Bool) → (a && (b && false)) ≡ false
-      and_false true true = refl
-      and_false true false = refl
-      and_false false b = refl
-
-      and_false_left : (a b : Bool) → (a && (false && b)) ≡ false
-      and_false_left true b = refl
-      and_false_left false b = refl
+      none_right : (a b : Bool) → (a && (b && false)) ≡ false
+      none_right a b = ap (λ c. a && c) (and-false b) ∙ and-false a
 
       at : (e : Bool) → ltb p (ends n) ≡ e → (b : Bool) → ltb p (before n) ≡ b
           → cond (list_any (λ k. n == k) numbers && (leb (before n) p && ltb p (ends n))) (Some Mark.Zero) None ≡ cond e (cond b None (Some Mark.Zero)) None
-      at false is b was = ap (λ t. cond t (Some Mark.Zero) None) (ap (λ e. list_any (λ k. n == k) numbers && (leb (before n) p && e)) is ∙ and_false (list_any (λ k. n == k) numbers) (leb (before n) p))
-      at true is true was = ap (λ t. cond t (Some Mark.Zero) None) (ap (λ l. list_any (λ k. n == k) numbers && (l && ltb p (ends n))) (at_least (before n) ∙ ap not was) ∙ and_false_left (list_any (λ k. n == k) numbers) (ltb p (ends n)))
+      at false is b was = ap (λ t. cond t (Some Mark.Zero) None) (ap (λ e. list_any (λ k. n == k) numbers && (leb (before n) p && e)) is ∙ none_right (list_any (λ k. n == k) numbers) (leb (before n) p))
+      at true is true was = ap (λ t. cond t (Some Mark.Zero) None) (ap (λ l. list_any (λ k. n == k) numbers && (l && ltb p (ends n))) (at_least (before n) ∙ ap not was) ∙ and-false (list_any (λ k. n == k) numbers))
       at true is false was = λ i. cond (all (grew is was) i && ((at_least (before n) ∙ ap not was) i && is i)) (Some Mark.Zero) None
 
 -- ---- the whole log

@@ -5,6 +5,7 @@ use Rattle.kfs_value.specs.Views.{piece_of}
 use Rattle.kfs_value.specs.declared.plan.Piece.{Piece as CodePiece}
 use Rattle.kfs_sweep.specs.declared.compare.Left.{Left}
 
+-- the first piece, perhaps without its front, and those behind it
 abbrev pub left_of : List CodePiece → Left → List CodePiece
 left_of right left = elim left.front [ None ↦ [] | Some front ↦ front ∷ drop left.next right ]
 
@@ -20,3 +21,6 @@ pub record IsShort (p : Piece) (distance : ℕ) : Type 0 where
 -- all of the piece ends in range
 abbrev pub IsWhole : CodePiece → Type 0
 IsWhole p = IsShort (piece_of p) p.len
+
+abbrev pub IsFilled : CodePiece → Type 0
+IsFilled p = 0 < p.len

@@ -3,17 +3,17 @@ ghost use Rattle.std.specs.Prelude.{◌≡◌, ◌+◌, ◌%◌, ◌/◌, ◌<�
 ghost use Rattle.std.specs.List.{AllByRecursion};
 ghost use Rattle.kfs_value.specs.Views.{piece_of};
 ghost use Rattle.kfs_model.specs.Blocks.{Blocks, block_of, counted, goes_on, touches};
-ghost use Rattle.kfs_sweep.specs.Lefts.{IsWhole};
-ghost use Rattle.kfs_sweep.specs.PieceBlocks.{IsFilled, piece_blocks, zeros_until};
+ghost use Rattle.kfs_sweep.specs.Lefts.{IsFilled, IsWhole};
+ghost use Rattle.kfs_sweep.specs.PieceBlocks.{piece_blocks, zeros_until};
 
 use kfs_value::{Piece, Source};
 
-/// The bytes of a block.
-const BLOCK: u64 = 4096;
+/// Bytes in a block of a file.
+const BLOCK_SIZE: u64 = 4096;
 
 /// How many blocks are counted so far, and the first block behind them.
-#[derive(Clone, Copy, Debug)]
-pub struct Count {
+#[derive(Clone, Copy)]
+pub(crate) struct Count {
     pub next: u64,
     pub total: u64,
 }
@@ -46,7 +46,7 @@ fn with_place(count: Count, place: u64, is_left_out: bool) -> Count
     if is_left_out {
         count
     } else {
-        with_blocks(count, place / BLOCK, place / BLOCK)
+        with_blocks(count, place / BLOCK_SIZE, place / BLOCK_SIZE)
     }
 }
 
@@ -61,13 +61,13 @@ fn with_piece(count: Count, until: u64, piece: &Piece, goes_on: bool, size: u64)
     let end = piece.start + piece.len;
     match piece.source {
         Source::Zero => {
-            let starts_out = piece.start % BLOCK == 0 || piece.start == until;
-            let ends_out = end % BLOCK == 0 || size <= end || goes_on;
+            let starts_out = piece.start % BLOCK_SIZE == 0 || piece.start == until;
+            let ends_out = end % BLOCK_SIZE == 0 || size <= end || goes_on;
             let begun = with_place(count, piece.start, starts_out);
             with_place(begun, end, ends_out)
         }
         Source::Payload { entry: _, place: _ } => {
-            with_blocks(count, piece.start / BLOCK, (end - 1) / BLOCK)
+            with_blocks(count, piece.start / BLOCK_SIZE, (end - 1) / BLOCK_SIZE)
         }
     }
 }

@@ -9,8 +9,8 @@ ghost use Rattle.kfs_sweep.specs.Lefts.{IsShort, IsWhole, left_of};
 use kfs_value::{Piece, Source};
 
 /// What is left of right pieces: a first one, perhaps without its front, and those from `next` on.
-#[derive(Clone, Copy, Debug)]
-pub struct Left {
+#[derive(Clone, Copy)]
+pub(crate) struct Left {
     pub front: Option<Piece>,
     pub next: usize,
 }

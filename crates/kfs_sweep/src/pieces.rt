@@ -1,8 +1,8 @@
-//! The pieces that stretches are.
+//! Right pieces of a log, made of stretches.
 ghost use Rattle.std.specs.Prelude.{◌≡◌, ◌<◌, ℕ, IfOk, map};
 ghost use Rattle.std.specs.List.{AllByRecursion};
 ghost use Rattle.kfs_value.specs.Views.{piece_of};
-ghost use Rattle.kfs_sweep.specs.Lefts.{IsWhole};
+ghost use Rattle.kfs_sweep.specs.Lefts.{IsFilled, IsWhole};
 ghost use Rattle.kfs_sweep.specs.Made.{AreRightOf, IsFit, piece_made, pieces_made};
 ghost use Rattle.kfs_sweep.specs.Stretches.{AreFrom};
 
@@ -17,6 +17,7 @@ fn piece_from(stretch: &Stretch) -> Piece
     requires filled { stretch.now.start < stretch.now.end }
     ensures made { piece_of result ≡ piece_made stretch.now }
     ensures whole { IsWhole result }
+    ensures filled { IsFilled result }
 {
     let source = match stretch.origin {
         Origin::Zero => Source::Zero,
@@ -34,14 +35,12 @@ fn piece_from(stretch: &Stretch) -> Piece
 }
 
 /// The stretches as rows of a plan.
-pub fn pieces_from<A: Allocator>(
-    alloc: A,
-    stretches: &[Stretch],
-) -> Result<Vec<Piece, A>, AllocError>
+fn pieces_from<A: Allocator>(alloc: A, stretches: &[Stretch]) -> Result<Vec<Piece, A>, AllocError>
     requires fit { AllByRecursion IsFit stretches.now }
     requires order { AreFrom 0 0 stretches.now }
     ensures made { IfOk result (λ out. map piece_of out.items ≡ pieces_made stretches.now) }
     ensures whole { IfOk result (λ out. AllByRecursion IsWhole out.items) }
+    ensures filled { IfOk result (λ out. AllByRecursion IsFilled out.items) }
 {
     let mut out = Vec::new(alloc);
     for stretch in stretches {
@@ -58,6 +57,7 @@ pub fn right_pieces<A: Allocator + Copy>(
     requires fit { AllByRecursion IsFit stretches.now }
     ensures right { IfOk result (λ out. AreRightOf stretches.now (map piece_of out.items)) }
     ensures whole { IfOk result (λ out. AllByRecursion IsWhole out.items) }
+    ensures filled { IfOk result (λ out. AllByRecursion IsFilled out.items) }
 {
     let laid = last_of_all(alloc, stretches)?;
     let out = pieces_from(alloc, laid.as_slice())?;
