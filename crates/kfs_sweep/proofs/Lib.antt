@@ -1,4 +1,6 @@
 pub mod Lists
+pub mod SizeOrder
+pub mod LogMade
 pub mod Merging
 pub mod Steps
 pub mod Rests
