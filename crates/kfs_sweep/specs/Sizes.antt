@@ -1,5 +1,5 @@
 -- The sizes of files before and after a log, and the stretches that its entries make below the sizes after.
-use Rattle.std.specs.Prelude.{◌≡◌, ℕ, ◌+◌, ◌-◌, ◌<◌, ◌≤◌, ◌==◌, min, Bool, false, List, [], ◌∷◌, map, Option, Some, None, IfOk, IsTrue, if◌then◌else◌}
+use Rattle.std.specs.Prelude.{◌≡◌, ℕ, ◌+◌, ◌-◌, ◌<◌, ◌≤◌, ◌==◌, min, Bool, false, List, [], ◌∷◌, length, map, Option, Some, None, IfOk, IsTrue, if◌then◌else◌}
 use Rattle.std.specs.List.{list_any, AllByRecursion}
 use Rattle.kfs_model.specs.Access.{Client}
 use Rattle.kfs_model.specs.Entry.{Entry, Create, Write, Truncate, Link, Unlink, Rename, Chmod}
@@ -10,6 +10,7 @@ use Rattle.kfs_model.specs.PlanRow.{Piece}
 use Rattle.kfs_model.specs.Run.{Mark, run, over_marks, marked}
 use Rattle.kfs_model.specs.Sight.{ClientSight, sight}
 use Rattle.kfs_model.specs.Tree.{Tree}
+use Rattle.kfs_value.specs.Views.{entry_of, IsWithin}
 use Rattle.kfs_value.specs.declared.entry.Span.{Span}
 use Rattle.kfs_value.specs.declared.entry.Entry.{Entry as CodeEntry}
 use Rattle.kfs_value.specs.declared.entry.Entry.TheVariants as entries
@@ -88,3 +89,7 @@ pub record AreSizes (tree : Tree ℕ) (entries : List Entry) (after : Tree Mark)
 abbrev pub AreRightFor : List FileSize → List Entry → List Piece → Type 0
 AreRightFor sizes entries pieces = (client : Client) (before : ClientSight) (tree : Tree ℕ) → before.sight ≡ sight tree
     → IfOk (run over_marks client before (marked tree) entries) (λ after. AreSizes tree entries after sizes → ArePieces after pieces)
+
+-- whatever bytes the payloads' spans are of, the pieces are right ones for the entries
+abbrev pub AreRightFrom : List FileSize → List (CodeEntry Span) → List Piece → Type 0
+AreRightFrom sizes entries pieces = (source : List ℕ) → AllByRecursion (IsWithin (length source)) entries → AreRightFor sizes (map (entry_of source) entries) pieces

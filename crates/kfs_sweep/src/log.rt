@@ -1,10 +1,10 @@
 //! What the entries of a log make of the bytes of files.
-ghost use Rattle.std.specs.Prelude.{◌≡◌, ◌≤◌, ◌<◌, ◌^◌, ◌++◌, ℕ, List, IfOk, IfSome, All, length, map};
+ghost use Rattle.std.specs.Prelude.{◌≡◌, ◌≤◌, ◌++◌, IfOk, IfSome, length, map};
 ghost use Rattle.std.specs.List.{AllByRecursion};
-ghost use Rattle.kfs_value.specs.Views.{entry_of, piece_of, IsWithin};
+ghost use Rattle.kfs_value.specs.Views.{piece_of};
 ghost use Rattle.kfs_sweep.specs.Lefts.{IsFilled, IsWhole};
 ghost use Rattle.kfs_sweep.specs.Made.{IsFit};
-ghost use Rattle.kfs_sweep.specs.Sizes.{AreRightFor, Ascend, IsSize, IsSpanned, growth_of, growths, reach_of, reaches};
+ghost use Rattle.kfs_sweep.specs.Sizes.{AreRightFrom, Ascend, IsSize, IsSpanned, growth_of, growths, reach_of, reaches};
 
 use crate::pieces::right_pieces;
 use crate::sizes::{FileSize, size_after};
@@ -99,8 +99,7 @@ pub fn sweep<A: Allocator + Copy>(
     requires sizes { AllByRecursion IsSize sizes.now }
     requires spans { AllByRecursion IsSpanned entries.now }
     requires count { length entries.now ≤ 4096 }
-    ensures right { IfOk result (λ out. (source : List ℕ) → AllByRecursion (IsWithin (length source)) entries.now
-        → AreRightFor sizes.now (map (entry_of source) entries.now) (map piece_of out.items)) }
+    ensures right { IfOk result (λ out. AreRightFrom sizes.now entries.now (map piece_of out.items)) }
     ensures whole { IfOk result (λ out. AllByRecursion IsWhole out.items) }
     ensures filled { IfOk result (λ out. AllByRecursion IsFilled out.items) }
 {
