@@ -10,3 +10,4 @@ pub mod ChangedMarks
 pub mod Made
 pub mod Fits
 pub mod Counting
+pub mod FileParts

@@ -1,5 +1,5 @@
 -- The last stretch that has a byte gives it the mark of the last entry that covers it.
-use Rattle.std.proofs.Common.{◌≡◌, ℕ, ◌+◌, ◌-◌, ◌<◌, ◌≤◌, ◌⊎◌, min, Bool, true, false, cond, not, ◌==◌, ◌&&◌, ◌||◌, ltb, leb, eqb, List, [], ◌∷◌, ◌++◌, length, Option, Some, None, option_map, Ok, refl, sym, ap, subst, ◌∙◌, arith, eqb-true, eq-eqb}
+use Rattle.std.proofs.Common.{◌≡◌, ℕ, ◌+◌, ◌-◌, ◌<◌, ◌≤◌, ◌⊎◌, min, Bool, true, false, cond, not, ◌==◌, ◌&&◌, ◌||◌, ltb, leb, eqb, List, [], ◌∷◌, ◌++◌, length, map, Option, Some, None, option_map, Ok, refl, sym, ap, subst, ◌∙◌, arith, eqb-true, eq-eqb}
 use Rattle.std.specs.List.{list_any, AllByRecursion}
 use Rattle.std.proofs.lemmas.Bool.Decides.{nat_tests}
 use Rattle.std.proofs.Math.Bool.{and_assoc, and-false}
@@ -18,8 +18,11 @@ use Rattle.kfs_sweep.proofs.ChangedMarks.{growth_mark, changed_mark_is}
 use Rattle.kfs_sweep.specs.declared.stretch.Origin.{Origin}
 use Rattle.kfs_sweep.specs.declared.stretch.Origin.TheVariants.{Zero, Payload}
 use Rattle.kfs_sweep.specs.declared.stretch.Stretch.{Stretch}
+use Rattle.kfs_value.specs.Views.{piece_of}
+use Rattle.kfs_value.specs.declared.plan.Piece.{Piece as CodePiece}
+use Rattle.kfs_sweep.specs.Parts.{AreByNumber}
 use Rattle.kfs_sweep.specs.Stretches.{holds, origin_at, last_origin, AreFrom}
-use Rattle.kfs_sweep.specs.Made.{mark_of, source_at, pieces_made, IsPlaced, IsFit, made, grown}
+use Rattle.kfs_sweep.specs.Made.{mark_of, source_at, piece_made, pieces_made, IsPlaced, IsFit, made, grown}
 use Rattle.kfs_sweep.proofs.LastOrigin.{last_origin-append, option_or_none}
 
 -- ---- the mark of a byte
@@ -218,3 +221,17 @@ module _ (client : Client) (seen : ClientSight) (before : Tree ℕ) (entries : L
       → ((n p : ℕ) → origin_at ss n p ≡ last_origin (grown (extent before) (extent after) numbers ++ made (extent after) 0 entries) n p) → ArePieces after (pieces_made ss)
   laid_pieces_are_right ss from fit says = pieces_from_said after (pieces_made ss) (pieces_in_order ss from) (λ n p.
       pieces_say ss 0 0 from fit n p ∙ ap (option_map (λ o. mark_of o p)) (says n p) ∙ stretches_say client seen before entries after opens ran numbers all n p)
+
+-- pieces of stretches in order stand in the order of their files' numbers
+pub made_by_number : (ss : List Stretch) (xs : List CodePiece) (n p : ℕ) → map piece_of xs ≡ pieces_made ss → AreFrom n p ss → AreByNumber n xs
+made_by_number ss [] n p is from = tt
+made_by_number [] (x ∷ xs) n p is from = cc
+made_by_number (s ∷ ss) (x ∷ xs) n p is from =
+    let first : piece_of x ≡ piece_made s = cc is in
+    let number = ap (λ (q : Piece). q.number) first in
+    let rest : map piece_of xs ≡ pieces_made ss = cc is in
+    let more = made_by_number ss xs s.number s.end rest from.2 in
+    (subst (λ m. n ≤ m) (sym number) (comes from.0), subst (λ m. AreByNumber m xs) (sym number) more)
+  where
+    comes : (n < s.number) ⊎ ((n ≡ s.number) × (p ≤ s.start)) → n ≤ s.number
+    comes h = grind arith

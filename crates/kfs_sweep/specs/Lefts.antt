@@ -1,5 +1,6 @@
 -- What is left of right pieces.
-use Rattle.std.specs.Prelude.{ℕ, ◌+◌, ◌<◌, ◌^◌, List, [], ◌∷◌, drop, Some, None}
+use Rattle.std.specs.Prelude.{ℕ, ◌+◌, ◌<◌, ◌≤◌, ◌^◌, List, [], ◌∷◌, drop, Some, None}
+use Rattle.kfs_model.specs.Limits.{size_limit}
 use Rattle.kfs_model.specs.PlanRow.{Piece, Source, Zero, Payload}
 use Rattle.kfs_value.specs.Views.{piece_of}
 use Rattle.kfs_value.specs.declared.plan.Piece.{Piece as CodePiece}
@@ -15,7 +16,7 @@ IsPlaceShort (Payload entry place) distance = place + distance < 2 ^ 32
 
 -- so many bytes of the piece end in range, in the file and in the payload
 pub record IsShort (p : Piece) (distance : ℕ) : Type 0 where
-  pub start : p.start + distance < 2 ^ 63
+  pub start : p.start + distance ≤ size_limit
   pub place : IsPlaceShort p.source distance
 
 -- all of the piece ends in range

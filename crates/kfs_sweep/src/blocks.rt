@@ -3,6 +3,7 @@ ghost use Rattle.std.specs.Prelude.{◌≡◌, ◌+◌, ◌%◌, ◌/◌, ◌<�
 ghost use Rattle.std.specs.List.{AllByRecursion};
 ghost use Rattle.kfs_value.specs.Views.{piece_of};
 ghost use Rattle.kfs_model.specs.Blocks.{Blocks, block_of, counted, goes_on, touches};
+ghost use Rattle.kfs_model.specs.Limits.{size_limit};
 ghost use Rattle.kfs_sweep.specs.Lefts.{IsFilled, IsWhole};
 ghost use Rattle.kfs_sweep.specs.PieceBlocks.{piece_blocks, zeros_until};
 
@@ -21,10 +22,12 @@ pub(crate) struct Count {
 /// Counts the blocks from the first to the last, those that are counted already left out.
 fn with_blocks(count: Count, first: u64, last: u64) -> Count
     requires order { first ≤ last }
-    requires small { last < 2 ^ 52 }
+    requires small { last ≤ 2 ^ 20 }
+    requires near { count.next ≤ 2 ^ 20 + 1 }
     requires low { count.total ≤ count.next }
     ensures counts { (rest : List Blocks) → result.total + counted result.next rest ≡ count.total + counted count.next (record { first = first; last = last } ∷ rest) }
     ensures low { result.total ≤ result.next }
+    ensures near { result.next ≤ 2 ^ 20 + 1 }
 {
     let from = count.next.max(first);
     if from > last {
@@ -38,10 +41,12 @@ fn with_blocks(count: Count, first: u64, last: u64) -> Count
 
 /// Counts the block of a place, unless it is told not to.
 fn with_place(count: Count, place: u64, is_left_out: bool) -> Count
-    requires small { place < 2 ^ 64 }
+    requires small { place ≤ size_limit }
+    requires near { count.next ≤ 2 ^ 20 + 1 }
     requires low { count.total ≤ count.next }
     ensures counts { (rest : List Blocks) → result.total + counted result.next rest ≡ count.total + counted count.next ((if is_left_out then [] else block_of place ∷ []) ++ rest) }
     ensures low { result.total ≤ result.next }
+    ensures near { result.next ≤ 2 ^ 20 + 1 }
 {
     if is_left_out {
         count
@@ -55,8 +60,10 @@ fn with_piece(count: Count, until: u64, piece: &Piece, goes_on: bool, size: u64)
     requires whole { IsWhole piece.now }
     requires filled { 0 < piece.now.len }
     requires low { count.total ≤ count.next }
+    requires near { count.next ≤ 2 ^ 20 + 1 }
     ensures counts { (rest : List Blocks) → result.total + counted result.next rest ≡ count.total + counted count.next (piece_blocks size until goes_on (piece_of piece.now) ++ rest) }
     ensures low { result.total ≤ result.next }
+    ensures near { result.next ≤ 2 ^ 20 + 1 }
 {
     let end = piece.start + piece.len;
     match piece.source {
@@ -97,7 +104,8 @@ fn zeros_end(piece: &Piece) -> u64
 pub fn blocks_written(pieces: &[Piece], size: u64) -> u64
     requires whole { AllByRecursion IsWhole pieces.now }
     requires filled { AllByRecursion IsFilled pieces.now }
-    ensures { result ≡ counted 0 (touches size 0 (map piece_of pieces.now)) }
+    ensures counts { result ≡ counted 0 (touches size 0 (map piece_of pieces.now)) }
+    ensures few { result ≤ 2 ^ 21 }
 {
     let mut count = Count { next: 0, total: 0 };
     let mut until = 0;

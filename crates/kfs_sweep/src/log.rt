@@ -4,6 +4,7 @@ ghost use Rattle.std.specs.List.{AllByRecursion};
 ghost use Rattle.kfs_value.specs.Views.{piece_of};
 ghost use Rattle.kfs_sweep.specs.Lefts.{IsFilled, IsWhole};
 ghost use Rattle.kfs_sweep.specs.Made.{IsFit};
+ghost use Rattle.kfs_sweep.specs.Parts.{AreByNumber};
 ghost use Rattle.kfs_sweep.specs.Sizes.{AreRightFrom, Ascend, IsSize, IsSpanned, growth_of, growths, reach_of, reaches};
 
 use crate::pieces::right_pieces;
@@ -102,6 +103,7 @@ pub fn sweep<A: Allocator + Copy>(
     ensures right { IfOk result (λ out. AreRightFrom sizes.now entries.now (map piece_of out.items)) }
     ensures whole { IfOk result (λ out. AllByRecursion IsWhole out.items) }
     ensures filled { IfOk result (λ out. AllByRecursion IsFilled out.items) }
+    ensures order { IfOk result (λ out. AreByNumber 0 out.items) }
 {
     let stretches = stretches_of(alloc, sizes, entries)?;
     let out = right_pieces(alloc, stretches.as_slice())?;

@@ -4,6 +4,7 @@ ghost use Rattle.std.specs.List.{AllByRecursion};
 ghost use Rattle.kfs_value.specs.Views.{piece_of};
 ghost use Rattle.kfs_sweep.specs.Lefts.{IsFilled, IsWhole};
 ghost use Rattle.kfs_sweep.specs.Made.{AreRightOf, IsFit, piece_made, pieces_made};
+ghost use Rattle.kfs_sweep.specs.Parts.{AreByNumber};
 ghost use Rattle.kfs_sweep.specs.Stretches.{AreFrom};
 
 use crate::merge::last_of_all;
@@ -41,6 +42,7 @@ fn pieces_from<A: Allocator>(alloc: A, stretches: &[Stretch]) -> Result<Vec<Piec
     ensures made { IfOk result (λ out. map piece_of out.items ≡ pieces_made stretches.now) }
     ensures whole { IfOk result (λ out. AllByRecursion IsWhole out.items) }
     ensures filled { IfOk result (λ out. AllByRecursion IsFilled out.items) }
+    ensures order { IfOk result (λ out. AreByNumber 0 out.items) }
 {
     let mut out = Vec::new(alloc);
     for stretch in stretches {
@@ -58,6 +60,7 @@ pub fn right_pieces<A: Allocator + Copy>(
     ensures right { IfOk result (λ out. AreRightOf stretches.now (map piece_of out.items)) }
     ensures whole { IfOk result (λ out. AllByRecursion IsWhole out.items) }
     ensures filled { IfOk result (λ out. AllByRecursion IsFilled out.items) }
+    ensures order { IfOk result (λ out. AreByNumber 0 out.items) }
 {
     let laid = last_of_all(alloc, stretches)?;
     let out = pieces_from(alloc, laid.as_slice())?;

@@ -19,7 +19,8 @@ loop-index-preserved c = record {
       ∙ sym (ap (λ bs. c.loop-index.count.total + counted c.loop-index.count.next bs) (touches_row c.args.size c.loop-index.until c.args.pieces.now c.loop-index.index none c.loop-index-test.true))
       ∙ c.loop-index.invariant.counts;
   low = c.with_piece-count.ensures.low;
+  near = c.with_piece-count.ensures.near;
 }
 
-pub returns : goal.returns
-returns c = sym (counted_rows c.args.size c.loop-index.until c.loop-index.count.next c.loop-index.count.total c.args.pieces.now c.loop-index.index c.loop-index-test.false) ∙ c.loop-index.invariant.counts
+pub returns-clause-counts : goal.returns-clause-counts
+returns-clause-counts c = sym (counted_rows c.args.size c.loop-index.until c.loop-index.count.next c.loop-index.count.total c.args.pieces.now c.loop-index.index c.loop-index-test.false) ∙ c.loop-index.invariant.counts
