@@ -11,3 +11,4 @@ pub mod Made
 pub mod Fits
 pub mod Counting
 pub mod FileParts
+pub mod Listed

@@ -1,5 +1,5 @@
 -- The stretches of a log's entries are what the log made, where the sizes are those of its run.
-use Rattle.std.proofs.Common.{◌≡◌, ℕ, ◌+◌, ◌-◌, ◌++◌, min, true, List, [], ◌∷◌, length, drop, length-drop, arith, map, Result, Ok, Err, refl, sym, ◌∙◌}
+use Rattle.std.proofs.Common.{◌≡◌, ℕ, ◌+◌, ◌-◌, ◌++◌, min, true, List, [], ◌∷◌, length, drop, length-drop, arith, map, Result, Ok, refl, sym, subst, ◌∙◌}
 use Rattle.std.specs.Prelude.{IfOk}
 use Rattle.std.specs.List.{AllByRecursion, list_any}
 use Rattle.std.proofs.lemmas.List.{length-take-le}
@@ -61,7 +61,6 @@ log_made source sizes es tree after stretches within all is = record {
   are = is ∙ (λ i. growths_are (extent tree) (extent after) sizes all.own i ++ reaches_are source sizes (extent after) 0 es within all.reached i);
 }
 
--- what follows from the one follows from the other
-pub from_made : {X E : Type 0} (P Q R : X → Type 0) (end : Result X E) → ((x : X) → P x → Q x) → IfOk end (λ x. Q x → R x) → IfOk end (λ x. P x → R x)
-from_made P Q R (Ok x) more right = λ p. right (more x p)
-from_made P Q R (Err e) more right = tt
+-- what is said of a result's value
+pub of_value : {X E : Type 0} (P : X → Type 0) (end : Result X E) (x : X) → end ≡ Ok x → IfOk end P → P x
+of_value P end x is all = subst (λ r. IfOk r P) is all

@@ -85,10 +85,15 @@ pub record AreSizes (tree : Tree ℕ) (entries : List Entry) (after : Tree Mark)
   pub grew : (n : ℕ) → extent tree n < extent after n → IsTrue (list_any (λ k. n == k) (map (λ (s : FileSize). s.number) sizes))
   pub reached : (n : ℕ) → IsTrue (list_any (reaches_file n) entries) → length_after sizes n ≡ extent after n
 
+-- right pieces, of files whose sizes are listed
+pub record AreSwept (sizes : List FileSize) (after : Tree Mark) (pieces : List Piece) : Type 0 where
+  pub right : ArePieces after pieces
+  pub listed : AllByRecursion (λ (p : Piece). length_after sizes p.number ≡ extent after p.number) pieces
+
 -- whichever run of the entries has these sizes, the pieces are right ones of it
 abbrev pub AreRightFor : List FileSize → List Entry → List Piece → Type 0
 AreRightFor sizes entries pieces = (client : Client) (before : ClientSight) (tree : Tree ℕ) → before.sight ≡ sight tree
-    → IfOk (run over_marks client before (marked tree) entries) (λ after. AreSizes tree entries after sizes → ArePieces after pieces)
+    → IfOk (run over_marks client before (marked tree) entries) (λ after. AreSizes tree entries after sizes → AreSwept sizes after pieces)
 
 -- whatever bytes the payloads' spans are of, the pieces are right ones for the entries
 abbrev pub AreRightFrom : List FileSize → List (CodeEntry Span) → List Piece → Type 0

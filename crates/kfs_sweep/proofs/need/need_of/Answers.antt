@@ -52,9 +52,9 @@ loop-first-preserved c =
     }
 
 pub returns : goal.returns
-returns c =
+returns c after swept =
     let none : ltb 0 (length c.loop-first.rest.now) ≡ false = sym c.first.ensures.item.0 ∙ ap is_some c.in_default.is in
-    counts_last c.args.sizes.now c.args.pieces.now c.loop-first.total c.loop-first.rest.now (empty c.loop-first.rest.now (ltb-false _ _ none)) c.loop-first.invariant.counts
+    counts_last c.args.sizes.now c.args.pieces.now c.loop-first.total c.loop-first.rest.now (empty c.loop-first.rest.now (ltb-false _ _ none)) c.loop-first.invariant.counts after swept.right swept.listed
   where
     empty : (ps : List Piece) → length ps ≤ 0 → ps ≡ []
     empty [] short = refl
