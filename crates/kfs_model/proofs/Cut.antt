@@ -14,13 +14,13 @@ use Rattle.kfs_model.proofs.Differences.{differences_only}
 use Rattle.kfs_model.proofs.Pieces.{none_before}
 
 -- a byte's mark where the log changed it
-abbrev changed_mark : Option Mark → Option Mark
+abbrev pub changed_mark : Option Mark → Option Mark
 changed_mark None = None
 changed_mark (Some (Mark.Base number place)) = None
 changed_mark (Some Mark.Zero) = Some Mark.Zero
 changed_mark (Some (Mark.Payload entry place)) = Some (Mark.Payload entry place)
 
-changed_mark-said : (source : Source) (distance : ℕ) → changed_mark (Some (said_by source distance)) ≡ Some (said_by source distance)
+pub changed_mark-said : (source : Source) (distance : ℕ) → changed_mark (Some (said_by source distance)) ≡ Some (said_by source distance)
 changed_mark-said Source.Zero distance = refl
 changed_mark-said (Source.Payload entry place) distance = refl
 
@@ -107,26 +107,28 @@ module _ (after : Tree Mark) where
   all_true (p ∷ ps) ascending filled only =
       (head_is_true p ps only filled.0, all_true ps (ascend_tail p ps ascending) filled.1 (tail_says_true p ps ascending only))
 
-  is_changed : (o : Option Mark) (mark : Mark) → changed_mark o ≡ Some mark → o ≡ Some mark
+  pub is_changed : (o : Option Mark) (mark : Mark) → changed_mark o ≡ Some mark → o ≡ Some mark
   is_changed None mark e = cc
   is_changed (Some (Mark.Base number place)) mark e = cc
   is_changed (Some Mark.Zero) mark e = e
   is_changed (Some (Mark.Payload entry place)) mark e = e
 
-  stays_changed : (mark : Mark) → is_base mark ≡ false → changed_mark (Some mark) ≡ Some mark
+  pub stays_changed : (mark : Mark) → is_base mark ≡ false → changed_mark (Some mark) ≡ Some mark
   stays_changed (Mark.Base number place) e = cc
   stays_changed Mark.Zero e = refl
   stays_changed (Mark.Payload entry place) e = refl
 
-  pub pieces_cut_anew : (ps others : List Piece) → ArePieces after ps → ((n i : ℕ) → said_at ps n i ≡ said_at others n i) → AreInOrder others → ArePieces after others
+  -- pieces in order that say the mark of each changed byte, and of no other one, are right
+  pub pieces_from_said : (others : List Piece) → AreInOrder others → ((n i : ℕ) → said_at others n i ≡ changed_mark (mark_at after n i)) → ArePieces after others
   unfolding SaysOnlyTrue
-  pieces_cut_anew ps others right same order =
-      let marks : ((n i : ℕ) → said_at others n i ≡ changed_mark (mark_at after n i)) = λ n i. sym (same n i) ∙ said_of_pieces ps right n i in
-      record {
-        ascending = order.ascending;
-        said = all_true others order.ascending order.filled (λ n i mark said. is_changed _ mark (sym (marks n i) ∙ said));
-        covered = λ n i mark stands changed. said_inside n i others mark (marks n i ∙ ap changed_mark stands ∙ stays_changed mark changed);
-      }
+  pieces_from_said others order marks = record {
+    ascending = order.ascending;
+    said = all_true others order.ascending order.filled (λ n i mark said. is_changed _ mark (sym (marks n i) ∙ said));
+    covered = λ n i mark stands changed. said_inside n i others mark (marks n i ∙ ap changed_mark stands ∙ stays_changed mark changed);
+  }
+
+  pub pieces_cut_anew : (ps others : List Piece) → ArePieces after ps → ((n i : ℕ) → said_at ps n i ≡ said_at others n i) → AreInOrder others → ArePieces after others
+  pieces_cut_anew ps others right same order = pieces_from_said others order (λ n i. sym (same n i) ∙ said_of_pieces ps right n i)
 
 -- ---- the rows of a list, by their keys
 

@@ -56,3 +56,9 @@ pub mod OneLogAnswer
 pub mod OnePlanAnswer
 pub mod AnswersExist
 pub mod ReadingIs
+pub mod LastCover
+pub mod Follow
+pub mod Compare
+pub mod Blocks
+pub mod Touches
+pub mod Need

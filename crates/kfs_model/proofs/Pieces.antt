@@ -22,14 +22,14 @@ here_or_later a d h = grind arith
 -- ---- one piece
 
 module _ (t : Tree Mark) (p : Piece) where
-  HasMark : ℕ → Type 0
+  unfoldable pub HasMark : ℕ → Type 0
   HasMark distance = mark_at t p.number (p.start + distance) ≡ Some (said_by p.source distance)
 
   mark_decides : (distance : ℕ) → Decides (same_option same_mark (mark_at t p.number (p.start + distance)) (Some (said_by p.source distance))) (HasMark distance)
   unfolding HasMark
   mark_decides distance = (options-exact same_mark marks-exact).decides _ _
 
-  all_along : (count distance : ℕ) → holds_along t p distance count ≡ true → (d : ℕ) → distance ≤ d → d < distance + count → HasMark d
+  pub all_along : (count distance : ℕ) → holds_along t p distance count ≡ true → (d : ℕ) → distance ≤ d → d < distance + count → HasMark d
   all_along zero distance holds d low high = absurd (omega arith)
   all_along (suc count) distance holds d low high = at (same_option same_mark (mark_at t p.number (p.start + distance)) (Some (said_by p.source distance))) (mark_decides distance).0 (all_along count (distance + 1)) holds
     where
@@ -38,7 +38,7 @@ module _ (t : Tree Mark) (p : Piece) where
       at true here rest holds = ⊎_elim (λ e. subst HasMark e (here refl)) (λ (l : distance + 1 ≤ d). rest holds d l (omega arith)) (here_or_later distance d low)
       at false here rest holds = cc
 
-  along_all : (count distance : ℕ) → ((d : ℕ) → distance ≤ d → d < distance + count → HasMark d) → holds_along t p distance count ≡ true
+  pub along_all : (count distance : ℕ) → ((d : ℕ) → distance ≤ d → d < distance + count → HasMark d) → holds_along t p distance count ≡ true
   along_all zero distance each = refl
   along_all (suc count) distance each = at (same_option same_mark (mark_at t p.number (p.start + distance)) (Some (said_by p.source distance))) ((mark_decides distance).1 (each distance (omega arith) (omega arith))) (along_all count (distance + 1) (λ d low high. each d (omega arith) (omega arith)))
     where
@@ -48,13 +48,13 @@ module _ (t : Tree Mark) (p : Piece) where
 
 -- ---- one piece behind another
 
-early_parts : (a b s e : ℕ) → (ltb b a || (eqb b a && ltb s e)) ≡ false → (a < b) ⊎ ((a ≡ b) × (e ≤ s))
+pub early_parts : (a b s e : ℕ) → (ltb b a || (eqb b a && ltb s e)) ≡ false → (a < b) ⊎ ((a ≡ b) × (e ≤ s))
 early_parts a b s e h = grind (arith, nat_tests)
 
-early_from : (a b s e : ℕ) → (a < b) ⊎ ((a ≡ b) × (e ≤ s)) → (ltb b a || (eqb b a && ltb s e)) ≡ false
+pub early_from : (a b s e : ℕ) → (a < b) ⊎ ((a ≡ b) × (e ≤ s)) → (ltb b a || (eqb b a && ltb s e)) ≡ false
 early_from a b s e h = grind (arith, nat_tests)
 
-before_parts : (n i m s : ℕ) → (ltb n m || (eqb n m && ltb i s)) ≡ true → (n < m) ⊎ ((n ≡ m) × (i < s))
+pub before_parts : (n i m s : ℕ) → (ltb n m || (eqb n m && ltb i s)) ≡ true → (n < m) ⊎ ((n ≡ m) × (i < s))
 before_parts n i m s h = grind (arith, nat_tests)
 
 covers_apart : (n i m s e : ℕ) → (n < m) ⊎ ((n ≡ m) × (i < s)) → (eqb m n && leb s i && ltb i e) ≡ false
@@ -86,13 +86,13 @@ begins_behind [] p ps ascending = refl
 begins_behind (q ∷ []) p ps ascending = early_from q.number p.number p.start (end_of q) ascending.0
 begins_behind (q ∷ r ∷ above) p ps ascending = begins_behind (r ∷ above) p ps ascending.1
 
-last_is : (o : Option Piece) (above : List Piece) (p : Piece) → last_or o (above ++ p ∷ []) ≡ Some p
+pub last_is : (o : Option Piece) (above : List Piece) (p : Piece) → last_or o (above ++ p ∷ []) ≡ Some p
 last_is o [] p = refl
 last_is o (q ∷ above) p = last_is (Some q) above p
 
 -- ---- all pieces
 
-list_any-filter : {X : Type 0} (test f : X → Bool) (xs : List X) → list_any test (filter f xs) ≡ list_any (λ x. f x && test x) xs
+pub list_any-filter : {X : Type 0} (test f : X → Bool) (xs : List X) → list_any test (filter f xs) ≡ list_any (λ x. f x && test x) xs
 list_any-filter test f [] = refl
 list_any-filter test f (x ∷ xs) = at (f x) (list_any-filter test f xs)
   where
@@ -104,7 +104,7 @@ none_to_false : (b : Bool) (index : ℕ) → ◌≡◌ {A = Option ℕ} (elim b 
 none_to_false true index none = cc
 none_to_false false index none = refl
 
-none_from_false : (b : Bool) (index : ℕ) → b ≡ false → ◌≡◌ {A = Option ℕ} (elim b [ true ↦ Some index | false ↦ None ]) None
+pub none_from_false : (b : Bool) (index : ℕ) → b ≡ false → ◌≡◌ {A = Option ℕ} (elim b [ true ↦ Some index | false ↦ None ]) None
 none_from_false b index is = ap (λ (c : Bool). elim c as (λ _. Option ℕ) [ true ↦ Some index | false ↦ None ]) is
 
 none_parts : (found rest : Option ℕ) → ◌≡◌ {A = Option ℕ} (elim found [ Some index ↦ Some index | None ↦ rest ]) None → (found ≡ None) × (rest ≡ None)
@@ -116,17 +116,17 @@ module _ (t : Tree Mark) where
   covered_from_none : (pieces : List Piece) → is_missed pieces (changed_bytes t) ≡ false → (n i : ℕ) → IsChanged t n i → list_any (covers n i) pieces ≡ true
   covered_from_none pieces none n i is = not-false _ (none_changed t (λ byte. not (list_any (covers byte.0 byte.1) pieces)) none n i is)
 
-  none_from_covered : (pieces : List Piece) → ((n i : ℕ) → IsChanged t n i → list_any (covers n i) pieces ≡ true) → is_missed pieces (changed_bytes t) ≡ false
+  pub none_from_covered : (pieces : List Piece) → ((n i : ℕ) → IsChanged t n i → list_any (covers n i) pieces ≡ true) → is_missed pieces (changed_bytes t) ≡ false
   none_from_covered pieces covered = none_from_changed t (λ byte. not (list_any (covers byte.0 byte.1) pieces)) (λ n i is. not_from_true _ (covered n i is))
 
   -- what `is_wrong` says of a piece
-  record IsWell (above : List Piece) (p : Piece) : Type 0 where
-    filled : (p.length == 0) ≡ false
-    begins : begins_early above p ≡ false
-    holds : holds_along t p 0 p.length ≡ true
-    missed : is_missed above (filter (λ byte. lies_before byte p.number p.start) (changed_bytes t)) ≡ false
+  pub record IsWell (above : List Piece) (p : Piece) : Type 0 where
+    pub filled : (p.length == 0) ≡ false
+    pub begins : begins_early above p ≡ false
+    pub holds : holds_along t p 0 p.length ≡ true
+    pub missed : is_missed above (filter (λ byte. lies_before byte p.number p.start) (changed_bytes t)) ≡ false
 
-  well_parts : (above : List Piece) (p : Piece) → wrong_below t above p ≡ None → IsWell above p
+  pub well_parts : (above : List Piece) (p : Piece) → wrong_below t above p ≡ None → IsWell above p
   unfolding is_wrong
   well_parts above p h =
       let last = or_parts _ _ (none_to_false (is_wrong t above p) (length above) h) in
@@ -134,7 +134,7 @@ module _ (t : Tree Mark) where
       let second = or_parts _ _ third.0 in
       record { filled = second.0; begins = second.1; holds = not-false _ third.1; missed = last.1 }
 
-  well_from : (above : List Piece) (p : Piece) → IsWell above p → wrong_below t above p ≡ None
+  pub well_from : (above : List Piece) (p : Piece) → IsWell above p → wrong_below t above p ≡ None
   unfolding is_wrong
   well_from above p h = none_from_false (is_wrong t above p) (length above) (or_from _ _ (or_from _ _ (or_from _ _ h.filled h.begins) (not_from_true _ h.holds)) h.missed)
 

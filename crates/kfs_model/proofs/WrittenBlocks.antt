@@ -16,7 +16,7 @@ pub all_more : {X : Type 0} (P Q : X → Type 0) → ((x : X) → P x → Q x) �
 all_more P Q more [] all = tt
 all_more P Q more (x ∷ xs) all = (more x all.0, all_more P Q more xs all.1)
 
-all_append : {X : Type 0} (P : X → Type 0) (xs ys : List X) → AllByRecursion P xs → AllByRecursion P ys → AllByRecursion P (xs ++ ys)
+pub all_append : {X : Type 0} (P : X → Type 0) (xs ys : List X) → AllByRecursion P xs → AllByRecursion P ys → AllByRecursion P (xs ++ ys)
 all_append P [] ys all rest = rest
 all_append P (x ∷ xs) ys all rest = (all.0, all_append P xs ys all.1 rest)
 
@@ -25,7 +25,7 @@ all_flat P f [] all = tt
 all_flat P f (x ∷ xs) all = all_append P (f x) (flat_map f xs) all.0 (all_flat P f xs all.1)
 
 -- each entry of a table is found at its key
-all_found : {K X : Type 0} (R : Order K) (es : List (K × X)) → T (is_sorted R.compare es) → AllByRecursion (λ e. find R.compare e.0 es ≡ Some e.1) es
+pub all_found : {K X : Type 0} (R : Order K) (es : List (K × X)) → T (is_sorted R.compare es) → AllByRecursion (λ e. find R.compare e.0 es ≡ Some e.1) es
 all_found R [] sorted = tt
 all_found {K} {X} R (e ∷ es) sorted = (
   find_head R e es,

@@ -15,14 +15,17 @@ pub mod Fresh
 pub mod Allowed
 pub mod PlanRow
 pub mod Plan
+pub mod LastCover
 pub mod PlanCut
 pub mod FirstAnswer
 pub mod FirstWrong
+pub mod Compare
 pub mod SeenAfter
 pub mod CleanStep
 pub mod Limits
 pub mod Looked
 pub mod Placement
+pub mod Blocks
 pub mod Spelling
 pub mod Judgement
 pub mod Machine

@@ -6,16 +6,19 @@ ghost use Rattle.kfs_model.specs.Entry.{Entry, Log};
 ghost use Rattle.kfs_model.specs.Check.{EntryContext, first_fault};
 ghost use Rattle.kfs_model.specs.Allowed.{IsAllowed};
 ghost use Rattle.kfs_model.specs.Run.{Mark, run, over_bytes, over_marks, marked, run_by_marks};
-ghost use Rattle.kfs_model.specs.PlanRow.{Plan};
-ghost use Rattle.kfs_model.specs.Plan.{IsRight, OldBytesStay};
+ghost use Rattle.kfs_model.specs.PlanRow.{Piece, Plan};
+ghost use Rattle.kfs_model.specs.Plan.{ArePieces, IsRight, OldBytesStay};
+ghost use Rattle.kfs_model.specs.Compare.{first_apart};
 ghost use Rattle.kfs_model.specs.PlanCut.{SaySame, IsCutAnew};
-ghost use Rattle.kfs_model.specs.FirstWrong.{first_wrong_row};
+ghost use Rattle.kfs_model.specs.FirstWrong.{first_wrong_piece, first_wrong_row};
 ghost use Rattle.kfs_model.specs.Machine.{OneByOne, Row, IsRead, next, after};
-ghost use Rattle.kfs_model.specs.Placement.{TierSizes};
+ghost use Rattle.kfs_model.specs.Placement.{TierSizes, need};
+ghost use Rattle.kfs_model.specs.Blocks.{counted_files};
 ghost use Rattle.kfs_model.specs.Lease.{KeepsCompatible, dropped, ticked};
 ghost use Rattle.kfs_model.specs.Order.{IsInOrder};
 ghost use Rattle.std.specs.List.{AllByRecursion};
-ghost use Rattle.kfs_model.specs.Sight.{ClientSight};
+ghost use Rattle.kfs_model.specs.Sight.{ClientSight, sight};
+ghost use Rattle.kfs_model.specs.LastCover.{LastEntryDecides};
 ghost use Rattle.kfs_model.specs.Access.{Client, AreDistinct};
 ghost use Rattle.kfs_model.specs.Looked.{LooksAlike, GoesAlike, TreesEndAlike};
 ghost use Rattle.kfs_model.specs.Soundness.{IsSound};
@@ -40,6 +43,12 @@ pub fn old_bytes_keep_their_place()
     ensures { EachRun (λ client before tree entries. IfOk (run over_marks client before (marked tree) entries) OldBytesStay) }
 {}
 
+/// After a log without a fault a byte of a file has the mark of the last entry that covers it, and where none does the mark
+/// that it had before: a byte of the file, or zero behind the file's old end.
+pub fn last_entry_decides()
+    ensures { EachRun (λ client before tree entries. before.sight ≡ sight tree → IfOk (run over_marks client before (marked tree) entries) (LastEntryDecides tree entries)) }
+{}
+
 /// A plan has no wrong row exactly where it is right.
 pub fn right_plan_has_no_wrong_row()
     ensures only { (before : Tree ℕ) (after : Tree Mark) (plan : Plan) → first_wrong_row before after plan ≡ None → IsRight before after plan }
@@ -51,6 +60,17 @@ pub fn right_plan_has_no_wrong_row()
 pub fn right_plans_differ_in_their_cut()
     ensures same { (before : Tree ℕ) (after : Tree Mark) (plan other : Plan) → IsRight before after plan → IsRight before after other → SaySame plan other }
     ensures cut_anew { (before : Tree ℕ) (after : Tree Mark) (plan other : Plan) → IsRight before after plan → IsCutAnew plan other → IsRight before after other }
+{}
+
+/// The first wrong piece of a plan is the first one that isn't what is left of right pieces begins with, however the right
+/// ones are cut.
+pub fn pieces_are_followed()
+    ensures { (after : Tree Mark) (right pieces : List Piece) → ArePieces after right → first_wrong_piece after pieces ≡ first_apart 0 pieces right }
+{}
+
+/// The room that a landing takes is counted over right pieces, file by file, however they are cut: no byte is looked at.
+pub fn need_is_counted_over_pieces()
+    ensures { (after : Tree Mark) (right : List Piece) → ArePieces after right → need after ≡ counted_files right after.nodes.entries }
 {}
 
 /// Where a run has no fault, its tree is what the entries give one by one, each of them allowed where it stands.

@@ -1,0 +1,38 @@
+-- Which entry of a log a byte of a file comes from: the last one that covers it.
+-- A file goes on behind its end in bytes that are zero, so a gap and a file's growth change no byte, and a Truncate makes
+-- all bytes zero from its size on.
+use Rattle.std.specs.Prelude.{◌≡◌, ℕ, ◌+◌, ◌-◌, ◌==◌, ◌&&◌, nat_le, nat_lt, List, [], ◌∷◌, length, Option, Some, None, unwrap_or, if◌then◌else◌}
+use Rattle.kfs_model.specs.Table.{get, option_or}
+use Rattle.kfs_model.specs.Tree.{Tree, cells_of}
+use Rattle.kfs_model.specs.Entry.{Entry, Create, Write, Truncate, Link, Unlink, Rename, Chmod}
+use Rattle.kfs_model.specs.Run.{Mark, Base, Zero, Payload}
+use Rattle.kfs_model.specs.Plan.{mark_at}
+
+-- how many bytes a file has, none where there is no file
+abbrev pub extent : {B : Type 0} → Tree B → (number : ℕ) → ℕ
+extent t number = length (cells_of (get t.nodes number))
+
+-- the mark that the entry with this index in its log gives a byte, none where it doesn't reach the byte
+unfoldable pub covered_by : (index : ℕ) → Entry → (number place : ℕ) → Option Mark
+covered_by index (Create d m n kind mode) number place = None
+covered_by index (Write n offset payload) number place =
+    if (number == n) && nat_le offset place && nat_lt place (offset + length payload) then Some (Payload index (place - offset)) else None
+covered_by index (Truncate n size) number place = if (number == n) && nat_le size place then Some Zero else None
+covered_by index (Link n d m) number place = None
+covered_by index (Unlink d m kind) number place = None
+covered_by index (Rename d m e k) number place = None
+covered_by index (Chmod n mode) number place = None
+
+-- the mark that the last of the entries which reaches the byte gives it; the first of them has this index
+unfoldable pub last_cover : (index : ℕ) → List Entry → (number place : ℕ) → Option Mark
+last_cover index [] number place = None
+last_cover index (entry ∷ entries) number place = option_or (last_cover (index + 1) entries number place) (covered_by index entry number place)
+
+-- the mark of a byte before the log, zero behind the end
+abbrev pub start_mark : {B : Type 0} → Tree B → (number place : ℕ) → Mark
+start_mark before number place = if nat_lt place (extent before number) then Base number place else Zero
+
+-- each byte below its file's end has the mark of the last entry that covers it, and else the one that it had before
+abbrev pub LastEntryDecides : {B : Type 0} → (before : Tree B) → List Entry → (after : Tree Mark) → Type 0
+LastEntryDecides before entries after =
+    (number place : ℕ) → mark_at after number place ≡ (if nat_lt place (extent after number) then Some (unwrap_or (last_cover 0 entries number place) (start_mark before number place)) else None)

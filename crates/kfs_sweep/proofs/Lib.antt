@@ -1,0 +1,14 @@
+pub mod Lists
+pub mod SizeOrder
+pub mod LogMade
+pub mod Merging
+pub mod Steps
+pub mod Rests
+pub mod LastOrigin
+pub mod Following
+pub mod ChangedMarks
+pub mod Made
+pub mod Fits
+pub mod Counting
+pub mod FileParts
+pub mod Listed

@@ -1,0 +1,23 @@
+-- The blocks that one piece writes.
+use Rattle.std.specs.Prelude.{ℕ, ◌-◌, ◌/◌, ◌%◌, ◌==◌, ◌||◌, ◌++◌, nat_le, Bool, List, [], ◌∷◌, if◌then◌else◌}
+use Rattle.kfs_model.specs.Limits.{block_size}
+use Rattle.kfs_model.specs.PlanRow.{Piece, Source}
+use Rattle.kfs_model.specs.Plan.{end_of}
+use Rattle.kfs_model.specs.Blocks.{Blocks, block_of}
+
+-- The blocks that one piece of a file of this size writes, where zero bytes ended last at `until` and go on behind the piece or not.
+module _ (size until : ℕ) (goes_on : Bool) (p : Piece) where
+  abbrev pub of_source : Source → List Blocks
+  of_source Source.Zero = (if (p.start % block_size == 0) || (p.start == until) then [] else block_of p.start ∷ []) ++ (if (end_of p % block_size == 0) || nat_le size (end_of p) || goes_on then [] else block_of (end_of p) ∷ [])
+  of_source (Source.Payload entry place) = record { first = p.start / block_size; last = (end_of p - 1) / block_size } ∷ []
+
+  abbrev pub piece_blocks : List Blocks
+  piece_blocks = of_source p.source
+
+-- where the zero bytes of the piece end, 0 for a payload's
+abbrev pub zeros_until : Piece → ℕ
+zeros_until p = of_kind p.source
+  where
+    of_kind : Source → ℕ
+    of_kind Source.Zero = end_of p
+    of_kind (Source.Payload entry place) = 0
