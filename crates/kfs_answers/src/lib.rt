@@ -3,6 +3,4 @@
 
 mod answers;
 
-pub use answers::{
-    Act, ActReply, BeginBack, BeginFault, Done, Reply, SubmissionsBack, Unanswered,
-};
+pub use answers::{Act, ActReply, BeginBack, BeginFault, Done, Reply, SubmissionsBack, Unanswered};

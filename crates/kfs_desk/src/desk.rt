@@ -19,9 +19,7 @@ ghost use Rattle.kfs_desk.specs.Machine.{IsActed, IsAnswered, IsBackFor, IsChang
 ghost use Rattle.kfs_desk.specs.Opening.{begin_fault, do_overlap, fault_behind};
 ghost use Rattle.kfs_value.specs.Room.{spare_of};
 
-use kfs_answers::{
-    Act, ActReply, BeginBack, BeginFault, Done, Reply, SubmissionsBack, Unanswered,
-};
+use kfs_answers::{Act, ActReply, BeginBack, BeginFault, Done, Reply, SubmissionsBack, Unanswered};
 use kfs_entry::NodeRow;
 use kfs_image::shape::{Fill, Net, net_apply};
 use kfs_image::{Image, Shape};

@@ -6,8 +6,8 @@ ghost use Rattle.kfs_engine.specs.Views.{stage_of};
 ghost use Rattle.kfs_text.specs.Streams.{Writes};
 
 use crate::fault::EngineFault;
-use kfs_report::LONGEST_LINE;
 use crate::session::Session;
+use kfs_report::LONGEST_LINE;
 use kfs_text::{Refusal, first_line, flush, write_whole};
 use std::alloc::Allocator;
 use std::io::Write;

@@ -4,8 +4,8 @@ ghost use Rattle.hex.specs.Hex.{encode_lower};
 ghost use Rattle.kfs_engine.specs.Listing.{list_text, names_in, names_text};
 ghost use Rattle.kfs_text.specs.Parts.{line_of};
 
-use kfs_report::LONGEST_LINE;
 use kfs_image::{Image, Name};
+use kfs_report::LONGEST_LINE;
 use kfs_text::parts::{field, number, text};
 use std::alloc::{AllocError, Allocator};
 

@@ -6,5 +6,5 @@ mod leases;
 mod path;
 
 pub use act::Act;
-pub use leases::{LeaseFault, Leases};
 pub use kfs_lease_rows::LeaseKind;
+pub use leases::{LeaseFault, Leases};
