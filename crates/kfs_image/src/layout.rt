@@ -47,7 +47,7 @@ pub fn look<A: Allocator>(shape: &Shape<A>, cell: &Cell) -> Answer
 {
     match cell {
         Cell::Header(number) => Answer::Header(shape.header(*number)),
-        Cell::Name(dir, name) => Answer::Name(shape.target(*dir, name)),
+        Cell::Name(dir, name) => Answer::Name(shape.target(&name_key(*dir, name))),
         Cell::Count(dir) => Answer::Count(shape.count(*dir)),
         Cell::Parent(number) => Answer::Parent(shape.parent(*number)),
     }
@@ -60,10 +60,11 @@ impl<A: Allocator> Shape<A> {
         self.rows.header(number)
     }
 
-    fn target(&self, dir: u32, name: &Name) -> Option<u32>
-        ensures { result ≡ get self.now.names (dir, name.now) }
+    /// Where a name of a directory leads: what `look` answers of it, without a copy of the name.
+    pub fn target(&self, key: &(u32, Name)) -> Option<u32>
+        ensures { result ≡ target self.now.names key.now.0 key.now.1 }
     {
-        self.rows.target(&name_key(dir, name))
+        self.rows.target(key)
     }
 
     fn count(&self, dir: u32) -> u64

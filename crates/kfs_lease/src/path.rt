@@ -85,7 +85,7 @@ fn are_names(parts: Parts<'_>) -> bool
 fn is_name(bytes: &[u8]) -> bool
     ensures { result ≡ spelling.is_name bytes.now }
 {
-    Name::new(bytes).is_some()
+    Name::is_name(bytes)
 }
 
 /// The number of the node that the names lead to from the root. The component of the least index that
@@ -151,8 +151,5 @@ fn target_of<A: Allocator>(shape: &Shape<A>, dir: u32, name: &[u8]) -> Option<u3
     requires { IsTrue (spelling.is_name name.now) }
     ensures { result ≡ target shape.now.names dir name.now }
 {
-    match look(shape, &Cell::Name(dir, Name::new(name)?)) {
-        Answer::Name(number) => number,
-        _ => None,
-    }
+    shape.target(&(dir, Name::new(name)?))
 }

@@ -1,15 +1,17 @@
-//! Tests of what only calls of the desk can say: submissions, views from before, and what each does where a growth
-//! fails; and its calls without clauses, also for the tests of leases. What command lines can say stands in the scripts
-//! of kfs_rows. The expected values come from docs/FORMATS.md and from the worked examples of kfs_examples, never from
-//! the program's own output.
+//! Tests of what only calls of the desk can say: leases, submissions, views from before, and what each does where a
+//! growth fails. What command lines can say stands in the scripts of kfs_rows. The expected values come from
+//! docs/FORMATS.md and from the worked examples of kfs_examples, never from the program's own output.
 //!
 //! A test is proved, too, and carries the clauses of all calls that it makes. So each call stands in a
 //! small function without clauses, which a test then makes over a table.
 #![tactic(auto)]
 
-pub mod desks;
+#[cfg(test)]
+mod desks;
 #[cfg(test)]
 mod judging;
+#[cfg(test)]
+mod leases;
 #[cfg(test)]
 mod refused;
 #[cfg(test)]

@@ -1,5 +1,5 @@
 //! The names of files and directories.
-ghost use Rattle.std.specs.Prelude.{◌≡◌, ◌↔◌, IsSome, IfSome};
+ghost use Rattle.std.specs.Prelude.{◌≡◌, ◌↔◌, IsSome, IsTrue, IfSome};
 
 use arrayvec::ArrayVec;
 use std::marker::Model;
@@ -34,14 +34,21 @@ impl Name {
         ensures valid { IsSome result ↔ IsName bytes.now }
         ensures value { IfSome result (λ name. name ≡ bytes.now) }
     {
-        if matches!(bytes, [] | b"." | b"..") {
-            return None;
-        }
-        if bytes.iter().any(|byte| *byte == 0 || *byte == b'/') {
+        if !Name::is_name(bytes) {
             return None;
         }
         let bytes = ArrayVec::try_from(bytes).ok()?;
         Some(Name { bytes })
+    }
+
+    /// Whether the bytes are a name.
+    pub fn is_name(bytes: &[u8]) -> bool
+        ensures { IsTrue result ↔ IsName bytes.now }
+    {
+        if bytes.len() > 255 || matches!(bytes, [] | b"." | b"..") {
+            return false;
+        }
+        !bytes.iter().any(|byte| *byte == 0 || *byte == b'/')
     }
 
     /// The bytes of the name.
