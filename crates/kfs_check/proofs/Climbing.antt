@@ -4,8 +4,8 @@ use Rattle.std.proofs.Common.{ap, sym, subst, ◌∙◌}
 use Rattle.std.proofs.lemmas.Bool.{eq-eqb, ne_eqb}
 use Rattle.kfs_model.specs.Sight.{Cell, ParentOf, climb_meets, climbed}
 use Rattle.kfs_check.specs.Checks.{climbed_cells}
-use Rattle.kfs_view.specs.Reads.{IsPart}
-use Rattle.kfs_view.proofs.Recording.{first_is_in, one_is_part, right_is_part}
+use Rattle.kfs_check.specs.Reads.{IsPart}
+use Rattle.kfs_check.proofs.Recording.{first_is_in, one_is_part, right_is_part}
 
 module _ (parent : ℕ → Option ℕ) where
   by_step : (fuel node from : ℕ) (same : Bool) (up : Option ℕ) → (from == node) ≡ same → parent from ≡ up

@@ -9,10 +9,10 @@ use Rattle.kfs_model.specs.Check.{Reason, first_fault}
 use Rattle.kfs_model.specs.Run.{EntryFault, created_by, entry_context}
 use Rattle.kfs_model.specs.SeenAfter.{seen_after, seen_run_from}
 use Rattle.kfs_draft.specs.declared.draft.Draft.{Draft}
-use Rattle.kfs_view.specs.declared.reads.Read.{Read}
-use Rattle.kfs_view.specs.declared.reads.ReadAnswer.{ReadAnswer}
+use Rattle.kfs_check.specs.declared.reads.Read.{Read}
+use Rattle.kfs_check.specs.declared.reads.ReadAnswer.{ReadAnswer}
 use Rattle.kfs_draft.specs.Overlay.{over, has_created, entry_context_of, AreCreated}
-use Rattle.kfs_view.specs.Reads.{Always, Grows}
+use Rattle.kfs_check.specs.Reads.{Always, Grows}
 
 module _ {A : Type 0} (client : Client) (draft : Draft A) (state : ClientSight) (numbers : List ℕ) (created : AreCreated draft numbers) where
   pub same_context : entry_context_of client draft state ≡ entry_context client state (over draft state.sight) numbers

@@ -8,12 +8,12 @@ use Rattle.kfs_model.specs.Sight.{Cell, NameIn}
 use Rattle.kfs_check.specs.declared.check.Reason.{Reason}
 use Rattle.kfs_check.specs.declared.check.Reason.TheVariants.{NoSuchName}
 use Rattle.kfs_check.specs.declared.entry_judge.EntryJudge.{EntryJudge}
-use Rattle.kfs_view.specs.declared.reads.Recorder.{Recorder}
+use Rattle.kfs_check.specs.declared.reads.Recorder.{Recorder}
 use Rattle.kfs_check.specs.Checks.{reason_of, entry_context_in, FindsFirst, ReadsCellsOfAll}
-use Rattle.kfs_view.specs.Recorders.{GoesOn, Known, ReadsAt}
+use Rattle.kfs_check.specs.Recorders.{GoesOn, Known, ReadsAt}
 use Rattle.kfs_check.proofs.Failing.{failing-in_front, failing-in_back, failing-passes, failing-fails, failing-none}
 use Rattle.kfs_check.proofs.Looking.{front_is_looked, back_is_looked, looks_here}
-use Rattle.kfs_view.proofs.Recording.{within_then, within_wider}
+use Rattle.kfs_check.proofs.Recording.{within_then, within_wider}
 
 module _ {A : Type 0} (judge : EntryJudge A) where
   -- ---- two groups

@@ -1,4 +1,7 @@
--- Lemmas on what checks read and find.
+-- Lemmas on what a judgement reads, and on what checks read and find.
+pub mod ReadsAgree
+pub mod Recording
+pub mod ViewShows
 pub mod Climbing
 pub mod Failing
 pub mod Lists

@@ -10,13 +10,13 @@ use Rattle.kfs_model.specs.SeenAfter.{seen_after}
 use Rattle.kfs_model.specs.Looked.{looked_from, looked_cells}
 use Rattle.kfs_model.proofs.CleanIsAllowed.{AllPass}
 use Rattle.kfs_draft.specs.declared.draft.Draft.{Draft}
-use Rattle.kfs_view.specs.declared.reads.Read.{Read}
-use Rattle.kfs_view.specs.declared.reads.ReadAnswer.{ReadAnswer}
+use Rattle.kfs_check.specs.declared.reads.Read.{Read}
+use Rattle.kfs_check.specs.declared.reads.ReadAnswer.{ReadAnswer}
 use Rattle.kfs_draft.specs.Overlay.{over, has_created, entry_context_of, IsWritten, AreCreated}
-use Rattle.kfs_view.specs.Reads.{Always, Grows, IsPart, Within}
+use Rattle.kfs_check.specs.Reads.{Always, Grows, IsPart, Within}
 use Rattle.kfs_check.proofs.Entering.{same_context}
 use Rattle.kfs_check.proofs.Failing.{failing-passes, failing-fails}
-use Rattle.kfs_view.proofs.Recording.{within_same, within_then, within_wider, part_of_itself, left_is_part, right_is_part, both_are_part, none_is_part}
+use Rattle.kfs_check.proofs.Recording.{within_same, within_then, within_wider, part_of_itself, left_is_part, right_is_part, both_are_part, none_is_part}
 
 -- ---- checks
 

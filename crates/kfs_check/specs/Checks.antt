@@ -1,7 +1,7 @@
 -- The code's checks, reasons and entry contexts as those of the definitions.
 use Rattle.std.specs.Prelude.{◌≡◌, ℕ, List, map, Option}
 use Rattle.std.specs.Option.{option_map}
-use Rattle.kfs_view.specs.Recorders.{Known, ReadsAt}
+use Rattle.kfs_check.specs.Recorders.{Known, ReadsAt}
 use Rattle.kfs_model.specs.Check.{checks_of, first_failing, looked}
 use Rattle.kfs_model.specs.Entry.{Entry}
 use Rattle.kfs_model.specs.Check as checks
@@ -10,7 +10,7 @@ use Rattle.kfs_check.specs.declared.check.Reason.{Reason}
 use Rattle.kfs_check.specs.declared.check.Reason.TheVariants as reasons
 use Rattle.kfs_check.specs.declared.check.Check.{Check}
 use Rattle.kfs_check.specs.declared.check.Check.TheVariants as variants
-use Rattle.kfs_view.specs.declared.reads.Recorder.{Recorder}
+use Rattle.kfs_check.specs.declared.reads.Recorder.{Recorder}
 use Rattle.kfs_check.specs.declared.entry_judge.EntryJudge.{EntryJudge}
 use Rattle.kfs_draft.specs.Overlay.{entry_context_of}
 

@@ -1,1 +1,4 @@
+pub mod View
+pub mod Reads
+pub mod Recorders
 pub mod Checks

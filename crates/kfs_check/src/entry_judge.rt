@@ -9,14 +9,14 @@ ghost use Rattle.kfs_model.specs.Check as checks;
 ghost use Rattle.kfs_model.specs.Sight as sight;
 ghost use Rattle.kfs_model.specs.Sight.{CountOf, HeaderOf, LeaseOn, NameIn, ParentOf, climb_limit, climb_meets};
 ghost use Rattle.kfs_mode.specs.Mode.{want_shown};
-ghost use Rattle.kfs_view.specs.Recorders.{GoesOn, Known, ReadsAt};
+ghost use Rattle.kfs_check.specs.Recorders.{GoesOn, Known, ReadsAt};
 ghost use Rattle.kfs_check.specs.Checks.{check_of, reason_of, entry_context_in, FindsFirst, FindsWrong, IsOfHeader, IsOfRight, ReadsCellsOfAll, ReadsCellsOfCheck, climbed_cells, parent_in};
 
 use crate::check::{Check, Reason};
 use kfs_draft::Draft;
 use kfs_image::{Header, Kind, Name};
 use kfs_mode::{Client, Want, may};
-use kfs_view::Recorder;
+use crate::reads::Recorder;
 use std::alloc::{AllocError, Allocator};
 
 /// The most names of a file.

@@ -78,7 +78,11 @@ fn read_entry(source: &[u8], at: usize) -> Option<(Entry<Span>, usize)>
     match tag {
         WRITE => read_fields(WRITE, source, at),
         TRUNCATE => read_fields(TRUNCATE, source, at),
-        CHMOD => read_fields(CHMOD, source, at),
+        CHMOD => {
+            let (number, at) = number32::read(source, at)?;
+            let (mode, at) = mode::read(source, at)?;
+            Some((Entry::Chmod { number, mode }, at))
+        }
         _ => read_fields_apart(tag, source, at),
     }
 }

@@ -87,7 +87,9 @@ pub fn read_rows<R: Row, A: Allocator>(
         let Some((row, after)) = R::read(source, end) else {
             return Err(RowsFault::BadRow(k));
         };
-        rows.push(row)?;
+        if rows.push(row).is_err() {
+            return Err(RowsFault::OutOfMemory);
+        }
         end = after;
     }
     Ok((rows, end))

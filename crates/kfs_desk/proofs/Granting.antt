@@ -13,7 +13,7 @@ use Rattle.kfs_image.specs.ShownTree.{tree_of, IsLawful}
 use Rattle.kfs_image.proofs.ShownTrees.{sight_shown}
 use Rattle.kfs_lease.specs.declared.act.Act.{Act}
 use Rattle.kfs_lease.specs.declared.act.Act.TheVariants as acts
-use Rattle.kfs_answers.specs.declared.answers.Done.{Done}
+use Rattle.kfs_plan.specs.declared.answers.Done.{Done}
 use Rattle.kfs_desk.specs.Machine.{Parts, IsDesk, IsChange, IsLeaseStep, call_of, done_by, outcome_at, row_answer, state_of}
 
 abbrev pub with_leases : State → Leases → State

@@ -42,8 +42,8 @@ use Rattle.kfs_plan.proofs.MarkedRuns.{IsUntouched, ends_beside}
 use Rattle.kfs_plan.proofs.Untouched.{need-untouched}
 use Rattle.kfs_judge.proofs.JudgedEntries.{all_judged}
 use Rattle.kfs_plan.specs.declared.submission.Fault.{Fault}
-use Rattle.kfs_answers.specs.declared.answers.Reply.{Reply}
-use Rattle.kfs_answers.specs.declared.answers.Reply.TheVariants as replies
+use Rattle.kfs_plan.specs.declared.answers.Reply.{Reply}
+use Rattle.kfs_plan.specs.declared.answers.Reply.TheVariants as replies
 use Rattle.kfs_desk.specs.Docket.{is_rejudged, position_of}
 use Rattle.kfs_desk.specs.Landing.{CanLand, answer_at, ended_by, ended_with, image_after, leases_left}
 use Rattle.kfs_desk.specs.Machine.{Parts, IsDesk, IsAnswered, IsStep, IsDone, Means, shown, state_of}

@@ -2,8 +2,8 @@
 use Rattle.std.proofs.Common.{◌≡◌, ◌==◌, Bool, true, false, cond, List, length, Option, Some, None, is_some, refl}
 use Rattle.std.specs.List.{list_any}
 use Rattle.kfs_model.specs.Access.{Client}
-use Rattle.kfs_answers.specs.declared.answers.BeginFault.{BeginFault}
-use Rattle.kfs_answers.specs.declared.answers.BeginFault.TheVariants.{ClientTwice, GrantOverlap}
+use Rattle.kfs_plan.specs.declared.answers.BeginFault.{BeginFault}
+use Rattle.kfs_plan.specs.declared.answers.BeginFault.TheVariants.{ClientTwice, GrantOverlap}
 use Rattle.kfs_desk.specs.Opening.{do_overlap, fault_behind}
 
 pub no_fault : (fault : Option BeginFault) → is_some fault ≡ false → fault ≡ None

@@ -8,8 +8,8 @@ use Rattle.kfs_image.specs.Change.{after_net}
 use Rattle.kfs_image.specs.ShownTree.{IsLawful}
 use Rattle.kfs_plan.specs.declared.submission.Outcome.{Outcome}
 use Rattle.kfs_plan.specs.declared.submission.Outcome.TheVariants as outcomes
-use Rattle.kfs_answers.specs.declared.answers.Reply.{Reply}
-use Rattle.kfs_answers.specs.declared.answers.Reply.TheVariants as replies
+use Rattle.kfs_plan.specs.declared.answers.Reply.{Reply}
+use Rattle.kfs_plan.specs.declared.answers.Reply.TheVariants as replies
 
 -- the leases after a row of a net: those on its node end where it is gone
 abbrev pub ended_with : Leases → (number : ℕ) → Option Header → Leases

@@ -23,12 +23,12 @@ use Rattle.kfs_plan.specs.declared.submission.Submission.{Submission as CodeSubm
 use Rattle.kfs_plan.specs.declared.submission.Why.{Why}
 use Rattle.kfs_plan.specs.declared.submission.Why.TheVariants as whys
 use Rattle.kfs_lease.specs.declared.act.Act.{Act}
-use Rattle.kfs_answers.specs.declared.answers.ActReply.{ActReply}
+use Rattle.kfs_plan.specs.declared.answers.ActReply.{ActReply}
 use Rattle.kfs_lease.specs.declared.act.Act.TheVariants as acts
-use Rattle.kfs_answers.specs.declared.answers.Done.{Done}
-use Rattle.kfs_answers.specs.declared.answers.Done.TheVariants as dones
-use Rattle.kfs_answers.specs.declared.answers.Reply.{Reply as CodeReply}
-use Rattle.kfs_answers.specs.declared.answers.Reply.TheVariants as replies
+use Rattle.kfs_plan.specs.declared.answers.Done.{Done}
+use Rattle.kfs_plan.specs.declared.answers.Done.TheVariants as dones
+use Rattle.kfs_plan.specs.declared.answers.Reply.{Reply as CodeReply}
+use Rattle.kfs_plan.specs.declared.answers.Reply.TheVariants as replies
 use Rattle.kfs_desk.specs.Docket.{position_of, is_rejudged}
 
 -- what contracts see of a desk: the machine's state, and how many rows the docket has and may have

@@ -11,7 +11,7 @@ ghost use Rattle.kfs_lease.specs.Faults as refusals;
 ghost use Rattle.kfs_lease_rows.specs.Rows.{kind_of};
 ghost use Rattle.kfs_image.specs.Contents.{sight_of};
 ghost use Rattle.kfs_image.specs.ShownTree.{IsLawful, tree_of};
-ghost use Rattle.kfs_view.specs.View.{clients_of, contents_of, leases_of};
+ghost use Rattle.kfs_check.specs.View.{clients_of, contents_of, leases_of};
 ghost use Rattle.kfs_plan.specs.Judging.{HasOtherEntry, IsVerdict, submission_of};
 ghost use Rattle.kfs_image.specs.Change.{after_net};
 ghost use Rattle.kfs_desk.specs.Landing.{CanLand, answer_at, ended_by, ended_with, image_after, leases_left};
@@ -19,7 +19,7 @@ ghost use Rattle.kfs_desk.specs.Machine.{IsActed, IsAnswered, IsBackFor, IsChang
 ghost use Rattle.kfs_desk.specs.Opening.{begin_fault, do_overlap, fault_behind};
 ghost use Rattle.kfs_value.specs.Room.{spare_of};
 
-use kfs_answers::{Act, ActReply, BeginBack, BeginFault, Done, Reply, SubmissionsBack, Unanswered};
+use kfs_plan::answers::{Act, ActReply, BeginBack, BeginFault, Done, Reply, SubmissionsBack, Unanswered};
 use kfs_entry::NodeRow;
 use kfs_image::shape::{Fill, Net, net_apply};
 use kfs_image::{Image, Shape};

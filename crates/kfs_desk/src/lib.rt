@@ -4,4 +4,4 @@
 mod desk;
 
 pub use desk::Desk;
-pub use kfs_answers as answers;
+pub use kfs_plan::answers;

@@ -16,11 +16,11 @@ use Rattle.kfs_plan.specs.Judging.{HasOtherEntry}
 use Rattle.kfs_image.specs.ShownTree.{tree_of}
 use Rattle.kfs_desk.specs.Machine.{Desk, IsActed, IsAnswered}
 use Rattle.kfs_desk.specs.Opening.{begin_fault}
-use Rattle.kfs_answers.specs.declared.answers.ActReply.{ActReply}
-use Rattle.kfs_answers.specs.declared.answers.BeginFault.{BeginFault}
-use Rattle.kfs_answers.specs.declared.answers.Done.{Done}
-use Rattle.kfs_answers.specs.declared.answers.Done.TheVariants.{Leased, Dropped, Ticked}
-use Rattle.kfs_answers.specs.declared.answers.Reply.{Reply}
+use Rattle.kfs_plan.specs.declared.answers.ActReply.{ActReply}
+use Rattle.kfs_plan.specs.declared.answers.BeginFault.{BeginFault}
+use Rattle.kfs_plan.specs.declared.answers.Done.{Done}
+use Rattle.kfs_plan.specs.declared.answers.Done.TheVariants.{Leased, Dropped, Ticked}
+use Rattle.kfs_plan.specs.declared.answers.Reply.{Reply}
 use Rattle.kfs_command.specs.Command.{Command, Setup, Request, OpeningCommand, New, Row, Begin, DeskCommand, Lease, Drop, Tick, Submit, Node, Listing, IsBadLine, asked_by}
 use Rattle.kfs_engine.specs.Listing.{list_text}
 use Rattle.kfs_report.specs.Text.{act_text, begin_text, client_text, node_text, reply_text}

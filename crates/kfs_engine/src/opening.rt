@@ -6,7 +6,7 @@ ghost use Rattle.kfs_command.specs.Views.{opening_of};
 ghost use Rattle.kfs_engine.specs.Views.{IsOpened, IsWithoutImage, start_of};
 ghost use Rattle.kfs_value.specs.Room.{spare_of};
 
-use kfs_answers::BeginFault;
+use kfs_plan::answers::BeginFault;
 use kfs_command::OpeningCommand;
 use kfs_desk::Desk;
 use kfs_image::{Image, TierSizes};

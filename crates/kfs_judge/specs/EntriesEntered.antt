@@ -7,7 +7,7 @@ use Rattle.kfs_value.specs.declared.entry.Span.{Span}
 use Rattle.kfs_step.specs.declared.log_judge.LogJudge.{LogJudge}
 use Rattle.kfs_judge.specs.declared.walk.EntryFault.{EntryFault}
 use Rattle.kfs_draft.specs.Overlay.{IsWritten}
-use Rattle.kfs_view.specs.Recorders.{Known, ReadsAt}
+use Rattle.kfs_check.specs.Recorders.{Known, ReadsAt}
 use Rattle.kfs_judge.specs.Walks.{EndsAt}
 
 -- entries, from a judge that has entered none

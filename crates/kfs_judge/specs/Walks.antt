@@ -1,7 +1,7 @@
 -- What a walk over a log's entries has found, in a state.
 use Rattle.std.specs.Prelude.{◌≡◌, ℕ, List, [], map, Option, None, Some, Result, Ok, Err, Bool}
-use Rattle.kfs_view.specs.Reads.{Agrees, Always, AreAmong}
-use Rattle.kfs_view.specs.View.{clients_of, client_sight_in}
+use Rattle.kfs_check.specs.Reads.{Agrees, Always, AreAmong}
+use Rattle.kfs_check.specs.View.{clients_of, client_sight_in}
 use Rattle.kfs_model.specs.Looked.{seen_run, looked_cells}
 use Rattle.kfs_model.specs.Access.{Client}
 use Rattle.kfs_model.specs.Lease.{row_of}
@@ -19,7 +19,7 @@ use Rattle.kfs_step.specs.Nets.{IsNetOf}
 use Rattle.kfs_check.specs.Checks.{reason_of}
 use Rattle.kfs_draft.specs.declared.draft.Draft.{Draft}
 use Rattle.kfs_judge.specs.declared.walk.Walk.{Walk}
-use Rattle.kfs_view.specs.declared.view.View.{View}
+use Rattle.kfs_check.specs.declared.view.View.{View}
 use Rattle.kfs_value.specs.Views.{entry_of}
 use Rattle.kfs_value.specs.declared.entry.Log.{Log as CodeLog}
 use Rattle.kfs_draft.specs.Overlay.{over}

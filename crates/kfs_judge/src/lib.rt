@@ -5,6 +5,5 @@ mod judged;
 mod walk;
 
 pub use judged::are_judged;
-pub use kfs_check::Reason;
-pub use kfs_view::{Read, ReadAnswer, View};
+pub use kfs_check::{Read, ReadAnswer, Reason, View};
 pub use walk::{EntryFault, Walk, judge_entries};

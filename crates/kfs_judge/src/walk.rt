@@ -6,17 +6,16 @@ ghost use Rattle.kfs_model.specs.Sight.{Sight};
 ghost use Rattle.kfs_step.specs.JudgedEntries.{IsJudged};
 ghost use Rattle.kfs_judge.specs.EntriesEntered.{StopsAt, ReadsTheirCells, WritesTheirCells};
 ghost use Rattle.kfs_draft.specs.Overlay.{has_created, over, ShiftsBy, IsWritten};
-ghost use Rattle.kfs_view.specs.Reads.{Agrees, AreOnce};
-ghost use Rattle.kfs_view.specs.Recorders.{GoesOn};
-ghost use Rattle.kfs_view.specs.View.{clients_of, client_sight_in};
+ghost use Rattle.kfs_check.specs.Reads.{Agrees, AreOnce};
+ghost use Rattle.kfs_check.specs.Recorders.{GoesOn};
+ghost use Rattle.kfs_check.specs.View.{clients_of, client_sight_in};
 ghost use Rattle.kfs_judge.specs.Walks.{IsRowOf, IsWalkOf, IsCellWalkOf, ReadsLookedCells};
 
 use indexmap::IndexMap;
-use kfs_check::Reason;
+use kfs_check::{Read, ReadAnswer, Reason, View};
 use kfs_entry::{Entry, Log, Span};
 use kfs_image::shape::Net;
 use kfs_step::LogJudge;
-use kfs_view::{Read, ReadAnswer, View};
 use std::alloc::{AllocError, Allocator};
 use std::hash::{BuildHasherDefault, FoldHasher};
 

@@ -31,12 +31,12 @@ use Rattle.kfs_plan.specs.declared.submission.Outcome.TheVariants as outcomes
 use Rattle.kfs_judge.specs.declared.walk.EntryFault.{EntryFault as CodeEntryFault}
 use Rattle.kfs_plan.specs.Judging.{row_fault_of, refusal_of, is_before_entries, stops_before, AreOfLog, AreLooked, AreSpelled, IsAlike, IsVerdict, IsSettled}
 use Rattle.kfs_judge.specs.declared.walk.Walk.{Walk}
-use Rattle.kfs_view.specs.declared.reads.Read.{Read}
-use Rattle.kfs_view.specs.declared.reads.ReadAnswer.{ReadAnswer}
+use Rattle.kfs_check.specs.declared.reads.Read.{Read}
+use Rattle.kfs_check.specs.declared.reads.ReadAnswer.{ReadAnswer}
 use Rattle.kfs_plan.specs.PlanCheck.{first_unlike}
-use Rattle.kfs_view.specs.declared.view.View.{View}
-use Rattle.kfs_view.specs.Reads.{Agrees}
-use Rattle.kfs_view.specs.View.{client_sight_in}
+use Rattle.kfs_check.specs.declared.view.View.{View}
+use Rattle.kfs_check.specs.Reads.{Agrees}
+use Rattle.kfs_check.specs.View.{client_sight_in}
 use Rattle.kfs_judge.specs.Walks.{ComesToTree, fault_of, IsWalkOf}
 use Rattle.kfs_model.proofs.AnswersExist.{log_has_answer, plan_has_answer}
 use Rattle.kfs_check.proofs.Lists.{row_has_number}

@@ -31,14 +31,14 @@ use Rattle.kfs_plan.specs.declared.submission.Outcome.{Outcome}
 use Rattle.kfs_plan.specs.declared.submission.Outcome.TheVariants as outcomes
 use Rattle.kfs_plan.specs.declared.spelling.Spelled.{Spelled}
 use Rattle.kfs_plan.specs.declared.spelling.Spelled.TheVariants as readings
-use Rattle.kfs_view.specs.declared.view.View.{View}
+use Rattle.kfs_check.specs.declared.view.View.{View}
 use Rattle.kfs_judge.specs.declared.walk.EntryFault.{EntryFault as CodeEntryFault}
-use Rattle.kfs_view.specs.declared.reads.Read.{Read}
-use Rattle.kfs_view.specs.declared.reads.ReadAnswer.{ReadAnswer}
+use Rattle.kfs_check.specs.declared.reads.Read.{Read}
+use Rattle.kfs_check.specs.declared.reads.ReadAnswer.{ReadAnswer}
 use Rattle.kfs_step.specs.JudgedEntries.{IsJudged, is_judged}
 use Rattle.kfs_plan.specs.PlanCheck.{first_unlike}
-use Rattle.kfs_view.specs.Reads.{Agrees, AreAmong}
-use Rattle.kfs_view.specs.View.{clients_of, client_sight_in}
+use Rattle.kfs_check.specs.Reads.{Agrees, AreAmong}
+use Rattle.kfs_check.specs.View.{clients_of, client_sight_in}
 use Rattle.kfs_judge.specs.Walks.{fault_of}
 use Rattle.kfs_step.specs.Nets.{IsNetOf}
 

@@ -16,7 +16,7 @@ use Rattle.kfs_value.specs.declared.plan.Plan.{Plan as CodePlan}
 use Rattle.kfs_image.specs.declared.shape.Net.{Net}
 use Rattle.kfs_plan.specs.declared.rows.RowFault.{RowFault as CodeRowFault}
 use Rattle.kfs_plan.specs.declared.rows.RowFault.TheVariants as faults
-use Rattle.kfs_view.specs.Reads.{Agrees}
+use Rattle.kfs_check.specs.Reads.{Agrees}
 use Rattle.kfs_judge.specs.declared.walk.Walk.{Walk}
 use Rattle.kfs_step.specs.Rows.{keyed_name_row, keyed_node_row}
 

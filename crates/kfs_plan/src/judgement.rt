@@ -2,8 +2,8 @@
 ghost use Rattle.std.specs.Prelude.{◌≡◌, ◌≢◌, [], IfOk, IfErr};
 ghost use Rattle.kfs_model.specs.Judgement.{State};
 ghost use Rattle.kfs_model.specs.Lease.{row_of};
-ghost use Rattle.kfs_view.specs.Reads.{Agrees};
-ghost use Rattle.kfs_view.specs.View.{clients_of, client_sight_in};
+ghost use Rattle.kfs_check.specs.Reads.{Agrees};
+ghost use Rattle.kfs_check.specs.View.{clients_of, client_sight_in};
 ghost use Rattle.kfs_plan.specs.Judging.{AreLooked, HasOtherEntry, IsAlike, IsSettled, IsVerdict, submission_of, submission_with};
 
 use crate::rows::{RowFault, check_rows};

@@ -2,6 +2,7 @@
 //! against what the log comes to.
 #![tactic(auto)]
 
+pub mod answers;
 mod judgement;
 mod rows;
 mod spelling;

@@ -15,13 +15,13 @@ use Rattle.kfs_plan.specs.declared.submission.Fault.{Fault}
 use Rattle.kfs_plan.specs.declared.submission.Fault.TheVariants.{UnknownClient, BadLog, WrongClient, BadPlan, Entry, Row}
 use Rattle.kfs_plan.specs.declared.rows.RowFault.{RowFault}
 use Rattle.kfs_plan.specs.declared.rows.RowFault.TheVariants as row
-use Rattle.kfs_answers.specs.declared.answers.ActReply.{ActReply}
-use Rattle.kfs_answers.specs.declared.answers.BeginFault.{BeginFault}
-use Rattle.kfs_answers.specs.declared.answers.BeginFault.TheVariants as begin
-use Rattle.kfs_answers.specs.declared.answers.Done.{Done}
-use Rattle.kfs_answers.specs.declared.answers.Done.TheVariants as done
-use Rattle.kfs_answers.specs.declared.answers.Reply.{Reply}
-use Rattle.kfs_answers.specs.declared.answers.Reply.TheVariants.{Yes, No}
+use Rattle.kfs_plan.specs.declared.answers.ActReply.{ActReply}
+use Rattle.kfs_plan.specs.declared.answers.BeginFault.{BeginFault}
+use Rattle.kfs_plan.specs.declared.answers.BeginFault.TheVariants as begin
+use Rattle.kfs_plan.specs.declared.answers.Done.{Done}
+use Rattle.kfs_plan.specs.declared.answers.Done.TheVariants as done
+use Rattle.kfs_plan.specs.declared.answers.Reply.{Reply}
+use Rattle.kfs_plan.specs.declared.answers.Reply.TheVariants.{Yes, No}
 use Rattle.kfs_text.specs.Parts.{field_text, flag_text, numbered_text, octal_text}
 
 -- ---- refusals by name

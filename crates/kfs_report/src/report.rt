@@ -8,7 +8,7 @@ ghost use Rattle.kfs_value.specs.Room.{spare_of};
 
 mod names;
 
-use kfs_answers::{ActReply, BeginFault, Done, Reply};
+use kfs_plan::answers::{ActReply, BeginFault, Done, Reply};
 use kfs_image::{Header, Kind};
 use kfs_mode::ClientFault;
 use kfs_text::parts::{field, flag, number, octal, text};

@@ -7,8 +7,8 @@ use Rattle.kfs_model.specs.Sight.{HeaderOf, NameIn, kind_shown}
 use Rattle.kfs_model.specs.Check.{EntryContext, Check, cells, checks_of, first_fault, looked, is_some_and, fault, may_go, on_number, arrival_checks, move_checks, rename_checks}
 use Rattle.kfs_model.proofs.CleanIsAllowed.{AllPass, all_pass, passed}
 use Rattle.kfs_check.proofs.Looking.{looks_here, looks_at}
-use Rattle.kfs_view.specs.Reads.{IsPart}
-use Rattle.kfs_view.proofs.Recording.{first_is_in, both_are_part, none_is_part}
+use Rattle.kfs_check.specs.Reads.{IsPart}
+use Rattle.kfs_check.proofs.Recording.{first_is_in, both_are_part, none_is_part}
 use Rattle.kfs_step.specs.Entered.{headers_renamed, headers_unlinked}
 
 module _ (p : EntryContext) where

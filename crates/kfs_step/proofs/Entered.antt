@@ -5,7 +5,7 @@ use Rattle.kfs_model.specs.Entry.{Entry}
 use Rattle.kfs_check.specs.declared.check.Reason.{Reason}
 use Rattle.kfs_step.specs.declared.log_judge.LogJudge.{LogJudge}
 use Rattle.kfs_step.specs.Entered.{IsEntered, IsFirstFault, ReadsItsCells}
-use Rattle.kfs_view.specs.Recorders.{GoesOn}
+use Rattle.kfs_check.specs.Recorders.{GoesOn}
 
 module _ {A : Type 0} (old new : LogJudge A) (entry : Entry) (goes : GoesOn old.recorder new.recorder) (client : new.client.now ≡ old.client.now) where
   pub is_cut_short : (answer : Result (Option Reason) AllocError) → IsErr answer → IsEntered old new entry answer

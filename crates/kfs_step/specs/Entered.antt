@@ -11,8 +11,8 @@ use Rattle.kfs_check.specs.declared.check.Reason.{Reason}
 use Rattle.kfs_step.specs.declared.log_judge.LogJudge.{LogJudge}
 use Rattle.kfs_check.specs.Checks.{reason_of}
 use Rattle.kfs_draft.specs.Overlay.{over, entry_context_of, AreCreated, IsWritten, ShiftsBy}
-use Rattle.kfs_view.specs.Reads.{IsPart}
-use Rattle.kfs_view.specs.Recorders.{GoesOn, Known, ReadsAt}
+use Rattle.kfs_check.specs.Reads.{IsPart}
+use Rattle.kfs_check.specs.Recorders.{GoesOn, Known, ReadsAt}
 
 -- where the next entry is judged, by what the client saw before the log
 abbrev pub next_context : {A : Type 0} → LogJudge A → ClientSight → EntryContext

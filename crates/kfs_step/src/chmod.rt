@@ -7,14 +7,13 @@ ghost use Rattle.kfs_model.specs.Entry as entry;
 ghost use Rattle.kfs_model.specs.Header.{Header as HeaderShown};
 ghost use Rattle.kfs_step.specs.Entered.{IsEntered};
 ghost use Rattle.kfs_draft.specs.Overlay.{has_created, ShiftsBy};
-ghost use Rattle.kfs_view.specs.Recorders.{GoesOn};
+ghost use Rattle.kfs_check.specs.Recorders.{GoesOn};
 ghost use Rattle.kfs_check.specs.Checks.{FindsFault, ReadsCellsOf};
 
 use crate::check::check;
 use crate::log_judge::LogJudge;
-use kfs_check::{EntryJudge, Reason};
+use kfs_check::{EntryJudge, Reason, Recorder};
 use kfs_image::Header;
-use kfs_view::Recorder;
 use std::alloc::{AllocError, Allocator};
 
 /// Why the mode of the node `number` can't be changed, if so.

@@ -9,14 +9,13 @@ ghost use Rattle.kfs_model.specs.SeenAfter.{seen_after};
 ghost use Rattle.kfs_model.specs.Sight.{Sight};
 ghost use Rattle.kfs_step.specs.Entered.{IsEntered};
 ghost use Rattle.kfs_draft.specs.Overlay.{has_created, over, ShiftsBy, HasRoom};
-ghost use Rattle.kfs_view.specs.Recorders.{GoesOn};
+ghost use Rattle.kfs_check.specs.Recorders.{GoesOn};
 ghost use Rattle.kfs_check.specs.Checks.{FindsFault, ReadsCellsOf};
 
 use crate::check::check;
 use crate::log_judge::LogJudge;
-use kfs_check::{EntryJudge, Reason};
+use kfs_check::{EntryJudge, Reason, Recorder};
 use kfs_image::{Header, Kind, Name};
-use kfs_view::Recorder;
 use std::alloc::{AllocError, Allocator};
 
 /// Why a node `number` can't be made under the name `key`, if so.

@@ -5,14 +5,13 @@ ghost use Rattle.kfs_model.specs.Entry as entry;
 ghost use Rattle.kfs_check.specs.Checks.{FindsFault, ReadsCellsOf};
 ghost use Rattle.kfs_step.specs.Entered.{IsEntered};
 ghost use Rattle.kfs_draft.specs.Overlay.{has_created, HasRoom, ShiftsBy};
-ghost use Rattle.kfs_view.specs.Recorders.{GoesOn};
+ghost use Rattle.kfs_check.specs.Recorders.{GoesOn};
 
 use crate::check::check;
 use crate::log_judge::LogJudge;
-use kfs_check::{EntryJudge, Reason};
+use kfs_check::{EntryJudge, Reason, Recorder};
 use kfs_draft::linked;
 use kfs_image::Name;
-use kfs_view::Recorder;
 use std::alloc::{AllocError, Allocator};
 
 /// Why the node `number` can't have the name `key` too, if so.

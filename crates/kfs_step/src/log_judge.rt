@@ -5,18 +5,17 @@ ghost use Rattle.kfs_model.specs.Sight.{Sight, Cell};
 ghost use Rattle.kfs_step.specs.JudgedEntries.{IsJudged};
 ghost use Rattle.kfs_step.specs.Entered.{IsEntered};
 ghost use Rattle.kfs_draft.specs.Overlay.{has_created, over, ShiftsBy, HasRoom, IsWritten};
-ghost use Rattle.kfs_view.specs.Recorders.{GoesOn, seen_by, Known, ReadsAt};
+ghost use Rattle.kfs_check.specs.Recorders.{GoesOn, seen_by, Known, ReadsAt};
 ghost use Rattle.kfs_step.specs.Nets.{IsNetOf};
-ghost use Rattle.kfs_view.specs.View.{client_sight_in};
+ghost use Rattle.kfs_check.specs.View.{client_sight_in};
 
 use crate::net::{name_rows, node_rows};
 use indexmap::IndexMap;
-use kfs_check::Reason;
+use kfs_check::{Read, ReadAnswer, Reason, Recorder, View};
 use kfs_draft::Draft;
 use kfs_entry::{Entry, Span, entry_table};
 use kfs_image::shape::Net;
 use kfs_mode::Client;
-use kfs_view::{Read, ReadAnswer, Recorder, View};
 use std::alloc::{AllocError, Allocator};
 use std::hash::{BuildHasherDefault, FoldHasher};
 

@@ -3,7 +3,7 @@ ghost use Rattle.std.specs.Prelude.{IfOk, List, [], ◌∷◌, OnOk};
 ghost use Rattle.std.specs.Option.{option_map};
 ghost use Rattle.kfs_value.specs.Views.{header_of};
 ghost use Rattle.kfs_model.specs.Plan.{header_now, number_now};
-ghost use Rattle.kfs_view.specs.Recorders.{GoesOn, Known, ReadsAt};
+ghost use Rattle.kfs_check.specs.Recorders.{GoesOn, Known, ReadsAt};
 ghost use Rattle.kfs_draft.specs.Overlay.{over, IsWritten};
 ghost use Rattle.kfs_step.specs.Rows.{IsRow, keyed_name_row, keyed_node_row};
 ghost use Rattle.kfs_step.specs.Nets.{AreNamesOf, AreNodesOf};
@@ -12,7 +12,7 @@ ghost use Rattle.kfs_model.specs.Sight.{Cell, HeaderOf, NameIn};
 use kfs_draft::Draft;
 use kfs_entry::{NameRow, NodeRow};
 use kfs_image::{Header, Name};
-use kfs_view::Recorder;
+use kfs_check::Recorder;
 use std::alloc::{AllocError, Allocator};
 
 /// The names whose numbers differ, ascending.

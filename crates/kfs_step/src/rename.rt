@@ -5,15 +5,14 @@ ghost use Rattle.kfs_model.specs.Entry as entry;
 ghost use Rattle.kfs_check.specs.Checks.{FindsFault, FindsFirst, ReadsCellsOf, ReadsCellsOfAll};
 ghost use Rattle.kfs_step.specs.Entered.{IsEntered, headers_renamed, ShowsRename, WritesRename};
 ghost use Rattle.kfs_draft.specs.Overlay.{has_created, HasRoom, ShiftsBy};
-ghost use Rattle.kfs_view.specs.Recorders.{GoesOn, ReadsAt};
+ghost use Rattle.kfs_check.specs.Recorders.{GoesOn, ReadsAt};
 ghost use Rattle.kfs_value.specs.Views.{kind_of};
 
 use crate::check::check;
 use crate::log_judge::LogJudge;
 use crate::unlink::going_fault;
-use kfs_check::{EntryJudge, Reason};
+use kfs_check::{EntryJudge, Reason, Recorder};
 use kfs_image::{Kind, Name};
-use kfs_view::Recorder;
 use std::alloc::{AllocError, Allocator};
 
 /// Why the name `key` can't become `new_key`, if so.

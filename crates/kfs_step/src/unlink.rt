@@ -5,15 +5,14 @@ ghost use Rattle.kfs_model.specs.Entry as entry;
 ghost use Rattle.kfs_check.specs.Checks.{FindsFault, FindsFirst, ReadsCellsOf, ReadsCellsOfAll};
 ghost use Rattle.kfs_step.specs.Entered.{IsEntered, headers_unlinked, ShowsUnlink, WritesUnlink};
 ghost use Rattle.kfs_draft.specs.Overlay.{has_created, HasRoom, ShiftsBy};
-ghost use Rattle.kfs_view.specs.Recorders.{GoesOn, ReadsAt};
+ghost use Rattle.kfs_check.specs.Recorders.{GoesOn, ReadsAt};
 ghost use Rattle.kfs_value.specs.Views.{kind_of};
 
 use crate::check::check;
 use crate::log_judge::LogJudge;
-use kfs_check::{EntryJudge, Reason};
+use kfs_check::{EntryJudge, Reason, Recorder};
 use kfs_draft::unlinked;
 use kfs_image::{Kind, Name};
-use kfs_view::Recorder;
 use std::alloc::{AllocError, Allocator};
 
 /// Why the name `key` of a node of this kind can't go, if so.

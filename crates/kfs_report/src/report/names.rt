@@ -3,7 +3,7 @@ ghost use Rattle.std.specs.Prelude.{◌≡◌, ◌+◌, ◌≤◌, ◌++◌, len
 ghost use Rattle.kfs_report.specs.Text.{fault_text, spell_text, row_text, reason_name, reason_text, lease_name, lease_text, client_text, begin_text};
 ghost use Rattle.kfs_value.specs.Room.{spare_of};
 
-use kfs_answers::BeginFault;
+use kfs_plan::answers::BeginFault;
 use kfs_entry::SpellFault;
 use kfs_judge::Reason;
 use kfs_lease::LeaseFault;

@@ -6,7 +6,7 @@ use native.Mathlib.Decide.{ℕ_discrete}
 use Rattle.kfs_examples.specs.Example.{computing}
 use Rattle.kfs_image.specs.Slots.{changed}
 use Rattle.kfs_value.specs.declared.header.Kind.TheVariants.{Directory}
-use Rattle.kfs_answers.specs.declared.answers.Done.TheVariants.{Leased}
+use Rattle.kfs_plan.specs.declared.answers.Done.TheVariants.{Leased}
 use Rattle.kfs_text.specs.Cut.{cut}
 use Rattle.kfs_text.specs.Decimals.{decimals32}
 use Rattle.kfs_engine.specs.Example.{root_leased}

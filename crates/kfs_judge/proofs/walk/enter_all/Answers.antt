@@ -5,11 +5,11 @@ use Rattle.kfs_model.specs.Check.{first_fault, looked, checks_of}
 use Rattle.kfs_model.specs.SeenAfter.{seen_after}
 use Rattle.kfs_value.specs.Views.{entry_of}
 use Rattle.kfs_draft.specs.Overlay.{over, entry_context_of, IsWritten}
-use Rattle.kfs_view.specs.Reads.{Within}
+use Rattle.kfs_check.specs.Reads.{Within}
 use Rattle.kfs_check.specs.Checks.{reason_of}
 use Rattle.kfs_check.proofs.Entering.{RunsOn, runs_first, runs_next, runs_fails, runs_out}
 use Rattle.kfs_check.proofs.Looking.{LooksOn, looks_first, looks_next, looks_fails}
-use Rattle.kfs_view.proofs.Recording.{goes_nowhere, goes_then}
+use Rattle.kfs_check.proofs.Recording.{goes_nowhere, goes_then}
 use Rattle.kfs_draft.proofs.Overlays.{shifts_wider}
 use Rattle.kfs_check.proofs.Lists.{map-drop-cons, map-drop-past}
 use Rattle.kfs_judge.proofs.walk.enter_all.Goals as goal

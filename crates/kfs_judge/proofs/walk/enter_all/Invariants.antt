@@ -2,7 +2,7 @@
 use Rattle.std.proofs.Common.{◌≡◌, ℕ, ◌*◌, List, map, drop}
 use Rattle.kfs_value.specs.Views.{entry_of}
 use Rattle.kfs_draft.specs.Overlay.{ShiftsBy}
-use Rattle.kfs_view.specs.Recorders.{GoesOn}
+use Rattle.kfs_check.specs.Recorders.{GoesOn}
 use Rattle.kfs_check.proofs.Entering.{RunsOn}
 use Rattle.kfs_check.proofs.Looking.{LooksOn}
 use Rattle.kfs_judge.proofs.walk.enter_all.Given as goal

@@ -11,8 +11,8 @@ use Rattle.kfs_value.specs.Views.{entry_of}
 use Rattle.kfs_plan.specs.declared.submission.Fault.TheVariants as faults
 use Rattle.kfs_plan.specs.declared.spelling.Spelled.TheVariants as readings
 use Rattle.kfs_plan.specs.Judging.{submission_with, AreSpelled, IsEarly, IsVerdict, IsReading}
-use Rattle.kfs_view.specs.Reads.{Agrees, AreAmong}
-use Rattle.kfs_view.specs.View.{clients_of, client_sight_in}
+use Rattle.kfs_check.specs.Reads.{Agrees, AreAmong}
+use Rattle.kfs_check.specs.View.{clients_of, client_sight_in}
 use Rattle.kfs_check.proofs.Lists.{row_has_number}
 use Rattle.kfs_plan.proofs.Verdicts.{unknown_client, walked_verdict, nothing_read, unread_looked, settled_looked}
 use Rattle.kfs_plan.proofs.judgement.find.Goals as goal

@@ -9,7 +9,7 @@ use Rattle.kfs_model.specs.Tree.{name_order}
 use Rattle.kfs_model.specs.Plan.{number_now}
 use Rattle.kfs_model.proofs.Exact.{numbers-exact}
 use Rattle.kfs_step.specs.Rows.{IsRow, keyed_name_row}
-use Rattle.kfs_view.proofs.Recording.{goes_then, within_then, within_wider, one_is_part}
+use Rattle.kfs_check.proofs.Recording.{goes_then, within_then, within_wider, one_is_part}
 use Rattle.kfs_step.proofs.ChangedRows.{rows_same, rows_more, rows_all, names-differ}
 use Rattle.kfs_step.proofs.net.name_rows.Goals as goal
 

@@ -3,8 +3,8 @@ use Rattle.std.proofs.Common.{◌≡◌, ◌++◌, List, nat_eq, map}
 use Rattle.kfs_model.specs.Plan.{number_now}
 use Rattle.kfs_model.specs.Sight.{Cell}
 use Rattle.kfs_draft.specs.Overlay.{IsWritten}
-use Rattle.kfs_view.specs.Reads.{Always, Within}
-use Rattle.kfs_view.specs.Recorders.{GoesOn}
+use Rattle.kfs_check.specs.Reads.{Always, Within}
+use Rattle.kfs_check.specs.Recorders.{GoesOn}
 use Rattle.kfs_step.specs.Rows.{keyed_name_row}
 use Rattle.kfs_step.proofs.ChangedRows.{changed_rows}
 use Rattle.kfs_step.proofs.net.name_rows.Given as goal

@@ -12,7 +12,7 @@ use Rattle.std.specs.Option.{option_map}
 use Rattle.kfs_value.specs.Views.{header_of}
 use Rattle.kfs_model.proofs.Exact.{headers-exact}
 use Rattle.kfs_step.specs.Rows.{IsRow, keyed_node_row}
-use Rattle.kfs_view.proofs.Recording.{goes_then, within_then, within_wider, one_is_part}
+use Rattle.kfs_check.proofs.Recording.{goes_then, within_then, within_wider, one_is_part}
 use Rattle.kfs_step.proofs.ChangedRows.{shown_heads, rows_same, rows_more, rows_all, heads-differ}
 use Rattle.kfs_step.proofs.net.node_rows.Goals as goal
 

@@ -4,8 +4,8 @@ use Rattle.kfs_model.specs.FirstWrong.{same_header}
 use Rattle.kfs_model.specs.Plan.{header_now}
 use Rattle.kfs_model.specs.Sight.{Cell}
 use Rattle.kfs_draft.specs.Overlay.{IsWritten}
-use Rattle.kfs_view.specs.Reads.{Always, Within}
-use Rattle.kfs_view.specs.Recorders.{GoesOn}
+use Rattle.kfs_check.specs.Reads.{Always, Within}
+use Rattle.kfs_check.specs.Recorders.{GoesOn}
 use Rattle.kfs_step.specs.Rows.{keyed_node_row}
 use Rattle.kfs_step.proofs.ChangedRows.{changed_rows, shown_heads}
 use Rattle.kfs_step.proofs.net.node_rows.Given as goal

@@ -4,7 +4,7 @@ use Rattle.kfs_model.specs.Check.{EntryContext, Check, arrival_checks, may_go, o
 use Rattle.kfs_model.specs.Header.{Kind, File, Directory}
 use Rattle.kfs_value.specs.Views.{kind_of}
 use Rattle.kfs_check.proofs.Groups.{found_in_front, found_in_back, read_in_front, read_in_both, found_is, found_as_said, read_as_said}
-use Rattle.kfs_view.proofs.Recording.{goes_then}
+use Rattle.kfs_check.proofs.Recording.{goes_then}
 use Rattle.kfs_step.proofs.rename.arrival_fault.Goals as goal
 
 abbrev by_place : Kind → (s e : ℕ) → EntryContext → List Check

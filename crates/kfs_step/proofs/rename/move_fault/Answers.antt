@@ -8,7 +8,7 @@ use Rattle.kfs_value.specs.Views.{kind_of}
 use Rattle.kfs_check.specs.Checks.{entry_context_in}
 use Rattle.kfs_check.proofs.Failing.{failing-none}
 use Rattle.kfs_check.proofs.Groups.{found_in_front, found_in_back, read_in_front, read_in_both, found_is, found_as_said, read_as_said, found_behind_cell, read_behind_cell}
-use Rattle.kfs_view.proofs.Recording.{goes_then}
+use Rattle.kfs_check.proofs.Recording.{goes_then}
 use Rattle.kfs_step.proofs.rename.move_fault.Goals as goal
 
 abbrev by_directories : (d e s : ℕ) → EntryContext → List Check

@@ -6,7 +6,7 @@ use Rattle.kfs_model.specs.Header.{Kind}
 use Rattle.kfs_value.specs.Views.{kind_of}
 use Rattle.kfs_check.specs.declared.check.Reason.TheVariants.{NoSuchName}
 use Rattle.kfs_check.proofs.Groups.{found_in_front, found_in_back, read_in_front, read_in_both, found_is, found_no_name, read_no_name, found_behind_name, read_behind_name}
-use Rattle.kfs_view.proofs.Recording.{goes_then}
+use Rattle.kfs_check.proofs.Recording.{goes_then}
 use Rattle.kfs_step.proofs.unlink.unlink_fault.Goals as goal
 
 abbrev by_directory : ℕ → EntryContext → List Check

@@ -3,7 +3,7 @@ use Rattle.std.proofs.Common.{◌≡◌, ◌-◌, suc, arith, ◌∙◌}
 use Rattle.kfs_model.specs.Sight.{climb_limit}
 use Rattle.kfs_check.specs.Checks.{climbed_cells, parent_in}
 use Rattle.kfs_check.proofs.Climbing.{climb-meets_here, climb-ends, climb-at_top, climb-goes_on, climbed_here, climbed_behind}
-use Rattle.kfs_view.proofs.Recording.{goes_then, within_then, within_wider}
+use Rattle.kfs_check.proofs.Recording.{goes_then, within_then, within_wider}
 use Rattle.kfs_check.proofs.entry_judge.EntryJudge.climb_meets.Goals as goal
 
 pub returns-then-current-node-clause-known : goal.returns-then-current-node-clause-known

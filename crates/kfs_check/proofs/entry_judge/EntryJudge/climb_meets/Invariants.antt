@@ -1,8 +1,8 @@
 -- So far the climb has not met the node, in any state that agrees, and the reads are of what it has passed.
 use Rattle.std.proofs.Common.{◌≡◌}
 use Rattle.kfs_model.specs.Sight.{climb_limit, climb_meets}
-use Rattle.kfs_view.specs.Reads.{Always, IsPart, Within}
-use Rattle.kfs_view.specs.Recorders.{GoesOn}
+use Rattle.kfs_check.specs.Reads.{Always, IsPart, Within}
+use Rattle.kfs_check.specs.Recorders.{GoesOn}
 use Rattle.kfs_check.specs.Checks.{climbed_cells, parent_in}
 use Rattle.kfs_check.proofs.entry_judge.EntryJudge.climb_meets.Given as goal
 

@@ -7,8 +7,8 @@ use Rattle.kfs_check.specs.Checks.{check_of, reason_of, entry_context_in}
 use Rattle.kfs_check.proofs.Failing.{failing-passes, failing-fails, failing-none}
 use Rattle.kfs_check.proofs.Lists.{map-drop-cons, map-drop-past}
 use Rattle.kfs_check.proofs.Looking.{looks_here, looks_behind}
-use Rattle.kfs_view.specs.Reads.{IsPart}
-use Rattle.kfs_view.proofs.Recording.{goes_nowhere, goes_then, within_same, within_then, within_wider, part_of_itself}
+use Rattle.kfs_check.specs.Reads.{IsPart}
+use Rattle.kfs_check.proofs.Recording.{goes_nowhere, goes_then, within_same, within_then, within_wider, part_of_itself}
 use Rattle.kfs_check.proofs.entry_judge.EntryJudge.first_fault.Goals as goal
 
 -- the checks that are left begin with this one

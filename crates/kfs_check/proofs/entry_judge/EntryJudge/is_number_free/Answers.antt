@@ -1,5 +1,5 @@
 -- What the first look tells still holds after the second.
-use Rattle.kfs_view.proofs.Recording.{goes_then, within_then}
+use Rattle.kfs_check.proofs.Recording.{goes_then, within_then}
 use Rattle.kfs_check.proofs.entry_judge.EntryJudge.is_number_free.Goals as goal
 
 pub returns-in_err-now-clause-goes : goal.returns-in_err-now-clause-goes

@@ -1,7 +1,7 @@
 -- Whatever the rest comes to, the whole comes to that behind the answers so far.
 use Rattle.std.proofs.Common.{◌≡◌, ◌≤◌, ◌++◌, List, length, Result}
 use Rattle.std.specs.Vec.Iter.{into_iter_items, into_iter_len}
-use Rattle.kfs_answers.specs.declared.answers.Reply.{Reply}
+use Rattle.kfs_plan.specs.declared.answers.Reply.{Reply}
 use Rattle.kfs_plan.specs.declared.submission.Back.{Back}
 use Rattle.kfs_desk.specs.Machine.{Desk, RunsThrough}
 use Rattle.kfs_value.specs.Room.{spare_of}

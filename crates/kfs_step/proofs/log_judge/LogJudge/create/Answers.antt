@@ -13,7 +13,7 @@ use Rattle.kfs_check.specs.Checks.{reason_of}
 use Rattle.kfs_step.proofs.CleanLooks.{create_looks}
 use Rattle.kfs_check.proofs.Looking.{written_wider}
 use Rattle.kfs_draft.proofs.Overlays.{shifts_wider}
-use Rattle.kfs_view.proofs.Recording.{left_is_part, right_is_part}
+use Rattle.kfs_check.proofs.Recording.{left_is_part, right_is_part}
 use Rattle.kfs_step.proofs.Entered.{is_cut_short, has_fault}
 use Rattle.kfs_step.proofs.log_judge.LogJudge.create.Goals as goal
 

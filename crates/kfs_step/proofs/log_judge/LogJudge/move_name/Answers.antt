@@ -6,9 +6,9 @@ use Rattle.kfs_model.specs.Sight.{Sight, Cell, HeaderOf, NameIn, kind_shown}
 use Rattle.kfs_model.specs.SeenAfter.{seen_moved, seen_renamed, seen_unlinked, unlinked}
 use Rattle.kfs_step.specs.Entered.{headers_renamed, headers_unlinked}
 use Rattle.kfs_draft.specs.Overlay.{over, with_name_moved}
-use Rattle.kfs_view.specs.Reads.{IsPart, Within}
+use Rattle.kfs_check.specs.Reads.{IsPart, Within}
 use Rattle.kfs_draft.proofs.Overlays.{shifts_wider}
-use Rattle.kfs_view.proofs.Recording.{goes_then, within_then, within_wider, left_is_part, right_is_part}
+use Rattle.kfs_check.proofs.Recording.{goes_then, within_then, within_wider, left_is_part, right_is_part}
 use Rattle.kfs_step.proofs.log_judge.LogJudge.move_name.Goals as goal
 
 -- ---- where the second name leads to another node, or to none

@@ -1,5 +1,5 @@
 -- What the first rows tell still holds after the second.
-use Rattle.kfs_view.proofs.Recording.{goes_then, within_then}
+use Rattle.kfs_check.proofs.Recording.{goes_then, within_then}
 use Rattle.kfs_step.proofs.log_judge.LogJudge.net.Goals as goal
 
 pub returns-in_err-nodes-clause-goes : goal.returns-in_err-nodes-clause-goes

@@ -5,8 +5,8 @@ use Rattle.kfs_model.specs.Sight.{HeaderOf}
 use Rattle.kfs_model.specs.SeenAfter.{unlinked, seen_unlinked}
 use Rattle.kfs_step.specs.Entered.{headers_unlinked}
 use Rattle.kfs_draft.specs.Overlay.{over, without_name}
-use Rattle.kfs_view.specs.Reads.{Within}
-use Rattle.kfs_view.proofs.Recording.{first_is_in}
+use Rattle.kfs_check.specs.Reads.{Within}
+use Rattle.kfs_check.proofs.Recording.{first_is_in}
 use Rattle.kfs_step.proofs.log_judge.LogJudge.remove_name.Goals as goal
 
 pub returns-clause-among : goal.returns-clause-among

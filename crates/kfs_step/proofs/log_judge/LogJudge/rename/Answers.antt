@@ -9,10 +9,10 @@ use Rattle.kfs_model.specs.SeenAfter.{seen_after, seen_renamed}
 use Rattle.kfs_step.specs.Entered.{headers_renamed}
 use Rattle.kfs_draft.specs.Overlay.{over, entry_context_of}
 use Rattle.kfs_check.specs.Checks.{reason_of}
-use Rattle.kfs_view.specs.Reads.{IsPart}
+use Rattle.kfs_check.specs.Reads.{IsPart}
 use Rattle.kfs_step.proofs.CleanLooks.{rename_looks_at_names, rename_looks_at_headers}
 use Rattle.kfs_check.proofs.Looking.{written_wider}
-use Rattle.kfs_view.proofs.Recording.{goes_then, within_then, within_wider, first_is_in, left_is_part, right_is_part}
+use Rattle.kfs_check.proofs.Recording.{goes_then, within_then, within_wider, first_is_in, left_is_part, right_is_part}
 use Rattle.kfs_step.proofs.Entered.{is_cut_short, has_fault}
 use Rattle.kfs_step.proofs.log_judge.LogJudge.rename.Goals as goal
 

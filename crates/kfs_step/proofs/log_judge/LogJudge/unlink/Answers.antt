@@ -10,11 +10,11 @@ use Rattle.kfs_value.specs.Views.{kind_of}
 use Rattle.kfs_step.specs.Entered.{headers_unlinked}
 use Rattle.kfs_draft.specs.Overlay.{over, entry_context_of}
 use Rattle.kfs_check.specs.Checks.{reason_of}
-use Rattle.kfs_view.specs.Reads.{IsPart}
+use Rattle.kfs_check.specs.Reads.{IsPart}
 use Rattle.kfs_step.proofs.CleanLooks.{unlink_looks_at_name, unlink_looks_at_header}
 use Rattle.kfs_check.proofs.Looking.{written_wider}
 use Rattle.kfs_draft.proofs.Overlays.{shifts_wider}
-use Rattle.kfs_view.proofs.Recording.{goes_then, within_then, within_wider, first_is_in, left_is_part, right_is_part}
+use Rattle.kfs_check.proofs.Recording.{goes_then, within_then, within_wider, first_is_in, left_is_part, right_is_part}
 use Rattle.kfs_step.proofs.Entered.{is_cut_short, has_fault}
 use Rattle.kfs_step.proofs.log_judge.LogJudge.unlink.Goals as goal
 

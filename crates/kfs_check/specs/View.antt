@@ -4,7 +4,7 @@ use Rattle.kfs_model.specs.Access.{Client}
 use Rattle.kfs_model.specs.Lease.{Leases, holds}
 use Rattle.kfs_model.specs.Sight.{ClientSight}
 use Rattle.kfs_image.specs.Contents.{Contents, sight_of}
-use Rattle.kfs_view.specs.declared.view.View.{View}
+use Rattle.kfs_check.specs.declared.view.View.{View}
 
 module _ {A : Type 0} where
   -- the nodes and names

@@ -1,10 +1,10 @@
 -- An answer that is recorded is that of its cell, and a new one goes last.
 use Rattle.std.proofs.Common.{◌∷◌, [], ◌∙◌, sym, refl}
 use Rattle.indexmap.proofs.CallerLemmas.{insert_entry-new}
-use Rattle.kfs_view.proofs.ReadsAgree.{same_read, known_by_key, grows_by_one, known_at_end, agrees_by_one, once_by_one}
-use Rattle.kfs_view.proofs.Recording.{goes_nowhere, within_same, within_one}
-use Rattle.kfs_view.specs.Reads.{cell_of}
-use Rattle.kfs_view.proofs.reads.Recorder.read.Goals as goal
+use Rattle.kfs_check.proofs.ReadsAgree.{same_read, known_by_key, grows_by_one, known_at_end, agrees_by_one, once_by_one}
+use Rattle.kfs_check.proofs.Recording.{goes_nowhere, within_same, within_one}
+use Rattle.kfs_check.specs.Reads.{cell_of}
+use Rattle.kfs_check.proofs.reads.Recorder.read.Goals as goal
 
 pub returns-in-Some-clause-goes : goal.returns-in-Some-clause-goes
 returns-in-Some-clause-goes g c = goes_nowhere c.args.self.now

@@ -5,9 +5,9 @@ ghost use Rattle.std.specs.Option.{option_map};
 ghost use Rattle.kfs_value.specs.Views.{header_of};
 ghost use Rattle.kfs_model.specs.Header.{Header as HeaderShown};
 ghost use Rattle.kfs_model.specs.Sight.{answer, Head, Number, Count, Held, HeaderOf, NameIn, CountOf, ParentOf, LeaseOn};
-ghost use Rattle.kfs_view.specs.Reads.{cell_of, answer_of};
-ghost use Rattle.kfs_view.specs.Recorders.{GoesOn, seen_by, Known, ReadsAt};
-ghost use Rattle.kfs_view.specs.View.{client_sight_in};
+ghost use Rattle.kfs_check.specs.Reads.{cell_of, answer_of};
+ghost use Rattle.kfs_check.specs.Recorders.{GoesOn, seen_by, Known, ReadsAt};
+ghost use Rattle.kfs_check.specs.View.{client_sight_in};
 
 use crate::view::View;
 use indexmap::IndexMap;

@@ -8,7 +8,7 @@ use Rattle.kfs_image.specs.declared.cell.Answer.TheVariants as answers
 use Rattle.kfs_image.specs.Contents.{Contents, sight_of}
 use Rattle.kfs_image.specs.Look.{IsAnswer}
 use Rattle.kfs_model.specs.Sight.{answer, Head, Number, Count}
-use Rattle.kfs_view.specs.Reads.{look_of, look_answer_of}
+use Rattle.kfs_check.specs.Reads.{look_of, look_answer_of}
 
 pub look_shows : (contents : Contents) (held : ℕ → Bool) (cell : CodeCell) (found : CodeAnswer) → IsAnswer contents cell found → answer (record { sight = sight_of contents; held = held }) (look_of cell) ≡ look_answer_of found
 look_shows contents held (cells.Header n) (answers.Header h) is = ap Head (sym is)

@@ -5,8 +5,8 @@ use mathlib.Core.Bool.{true≢false}
 use Rattle.std.specs.Cmp.{first_so, second_so}
 use Rattle.std.specs.Cmp.Lexicographic.{same_text, pointwise, bytes_decides}
 use Rattle.std.specs.Map.{lookup}
-use Rattle.kfs_view.specs.declared.reads.ReadAnswer.{ReadAnswer}
-use Rattle.kfs_view.specs.Reads.{cell_of, answer_of, Agrees, AgreesAlong, Always, AreOnce, Grows}
+use Rattle.kfs_check.specs.declared.reads.ReadAnswer.{ReadAnswer}
+use Rattle.kfs_check.specs.Reads.{cell_of, answer_of, Agrees, AgreesAlong, Always, AreOnce, Grows}
 use Rattle.kfs_model.specs.Sight.{ClientSight, answer}
 use Rattle.std.proofs.lemmas.Bool.{eqb-true, eq-eqb}
 use Rattle.std.proofs.lemmas.List.Elements.{All-from_recursion}
@@ -14,9 +14,9 @@ use Rattle.std.proofs.lemmas.List.Quantifiers.{all_pairs_push}
 use Rattle.std.specs.List.{AllByRecursion}
 use Rattle.kfs_image.specs.declared.cell.Cell.{Cell as CodeCell}
 use Rattle.kfs_image.specs.declared.cell.Cell.TheVariants as cells
-use Rattle.kfs_view.specs.declared.reads.Read.{Read}
-use Rattle.kfs_view.specs.declared.reads.Read.TheVariants as reads
-use Rattle.kfs_view.specs.contracts.reads.ReadPartialEq.TheImpl as impl
+use Rattle.kfs_check.specs.declared.reads.Read.{Read}
+use Rattle.kfs_check.specs.declared.reads.Read.TheVariants as reads
+use Rattle.kfs_check.specs.contracts.reads.ReadPartialEq.TheImpl as impl
 
 -- the keys' own test
 abbrev pub same_read : Read → Read → Bool

@@ -6,10 +6,10 @@ use Rattle.kfs_image.specs.declared.cell.Cell.{Cell as CodeCell}
 use Rattle.kfs_image.specs.declared.cell.Cell.TheVariants as cells
 use Rattle.kfs_image.specs.declared.cell.Answer.{Answer as CodeAnswer}
 use Rattle.kfs_image.specs.declared.cell.Answer.TheVariants as answers
-use Rattle.kfs_view.specs.declared.reads.Read.{Read}
-use Rattle.kfs_view.specs.declared.reads.Read.TheVariants as reads
-use Rattle.kfs_view.specs.declared.reads.ReadAnswer.{ReadAnswer}
-use Rattle.kfs_view.specs.declared.reads.ReadAnswer.TheVariants as read_answers
+use Rattle.kfs_check.specs.declared.reads.Read.{Read}
+use Rattle.kfs_check.specs.declared.reads.Read.TheVariants as reads
+use Rattle.kfs_check.specs.declared.reads.ReadAnswer.{ReadAnswer}
+use Rattle.kfs_check.specs.declared.reads.ReadAnswer.TheVariants as read_answers
 use Rattle.kfs_value.specs.Views.{header_of}
 use Rattle.kfs_model.specs.Sight.{Cell, HeaderOf, NameIn, CountOf, ParentOf, LeaseOn, Answer, Head, Number, Count, Held, ClientSight, answer}
 

@@ -1,10 +1,10 @@
 //! What the desk is asked for and what it answers.
 
+use crate::submission::{Fault, Submission};
 use kfs_image::Image;
 pub use kfs_lease::Act;
 use kfs_lease::LeaseFault;
 use kfs_mode::Client;
-use kfs_plan::{Fault, Submission};
 use std::alloc::{AllocError, Allocator};
 
 /// The answer to a submission, with its place in the docket.
@@ -53,7 +53,7 @@ pub enum Unanswered {
 
 impl From<AllocError> for Unanswered {
     ghost use Rattle.std.specs.Prelude.{◌≡◌};
-    ghost use Rattle.kfs_answers.specs.declared.answers.Unanswered.TheVariants.{OutOfMemory};
+    ghost use Rattle.kfs_plan.specs.declared.answers.Unanswered.TheVariants.{OutOfMemory};
 
     ghost from_gives = { λ _ why. why ≡ OutOfMemory };
 

@@ -3,11 +3,11 @@ use Rattle.std.specs.Prelude.{◌≡◌, ◌⊎◌, List, [], ◌∷◌, ◌++�
 use Rattle.std.proofs.Common.{inl, inr, ⊎_elim, subst, sym, ◌∙◌, arith}
 use Rattle.std.proofs.lemmas.List.Elements.{Contains-get_or, Contains-push_cases, Contains-append_left, Contains-append_right, Contains-append_cases}
 use Rattle.kfs_model.specs.Sight.{Cell, ClientSight}
-use Rattle.kfs_view.specs.declared.reads.Read.{Read}
-use Rattle.kfs_view.specs.declared.reads.ReadAnswer.{ReadAnswer}
-use Rattle.kfs_view.specs.declared.reads.Recorder.{Recorder}
-use Rattle.kfs_view.specs.Reads.{cell_of, Agrees, AreAmong, AreOnce, IsPart, Within}
-use Rattle.kfs_view.specs.Recorders.{GoesOn, seen_by}
+use Rattle.kfs_check.specs.declared.reads.Read.{Read}
+use Rattle.kfs_check.specs.declared.reads.ReadAnswer.{ReadAnswer}
+use Rattle.kfs_check.specs.declared.reads.Recorder.{Recorder}
+use Rattle.kfs_check.specs.Reads.{cell_of, Agrees, AreAmong, AreOnce, IsPart, Within}
+use Rattle.kfs_check.specs.Recorders.{GoesOn, seen_by}
 
 -- ---- the reads that agree with the view
 

@@ -4,7 +4,7 @@ ghost use Rattle.std.specs.Option.{option_map};
 ghost use Rattle.kfs_image.specs.Look.{IsAnswer};
 ghost use Rattle.kfs_model.specs.Lease.{holds, row_of};
 ghost use Rattle.kfs_mode.specs.Clients.{AreDistinct};
-ghost use Rattle.kfs_view.specs.View.{contents_of, leases_of, clients_of};
+ghost use Rattle.kfs_check.specs.View.{contents_of, leases_of, clients_of};
 
 use crate::view::View;
 use kfs_image::{Answer, Cell, Shape, look};

@@ -1,9 +1,9 @@
 -- A recorder before and after a call.
 use Rattle.std.specs.Prelude.{◌≡◌, List}
 use Rattle.kfs_model.specs.Sight.{ClientSight, Cell}
-use Rattle.kfs_view.specs.declared.reads.Recorder.{Recorder}
-use Rattle.kfs_view.specs.Reads.{Agrees, AreOnce, Grows, Always, Within}
-use Rattle.kfs_view.specs.View.{client_sight_in}
+use Rattle.kfs_check.specs.declared.reads.Recorder.{Recorder}
+use Rattle.kfs_check.specs.Reads.{Agrees, AreOnce, Grows, Always, Within}
+use Rattle.kfs_check.specs.View.{client_sight_in}
 
 module _ {A : Type 0} where
   -- what the recorder's view shows to its client

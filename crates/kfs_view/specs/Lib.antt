@@ -1,3 +1,0 @@
-pub mod View
-pub mod Reads
-pub mod Recorders
