@@ -220,16 +220,37 @@ impl<A: Allocator + Clone> Rows<A> {
         slots::reserve(&mut self.headers, number)
     }
 
-    /// Makes the slots for a name that comes to lead to the number.
-    fn reserve_name(&mut self, key: (u32, Name), number: u32) -> Result<(), AllocError>
+    /// Makes the slots for a name row, and lists the way that it gives up.
+    fn reserve_name(
+        &mut self,
+        row: &NameRow,
+        vacated: &mut Vec<(u32, u32), A>,
+    ) -> Result<(), AllocError>
         ensures shown { ShowsSame self.old self.new }
         ensures kept { KeepsSlots self.old self.new }
-        ensures slots { OnOk result (HasSlots self.new key.0 key.1 number) }
+        ensures slots { OnOk result (HasSlots self.new row.now.dir row.now.name row.now.number) }
+    {
+        self.reserve_key(name_key(row.dir, &row.name), vacated)?;
+        slots::reserve(&mut self.counts, row.dir)?;
+        slots::reserve(&mut self.uplinks, (row.number, row.dir))
+    }
+
+    /// Makes the slot of a name, where it leads nowhere, and else lists the way that it gives up.
+    fn reserve_key(
+        &mut self,
+        key: (u32, Name),
+        vacated: &mut Vec<(u32, u32), A>,
+    ) -> Result<(), AllocError>
+        ensures shown { ShowsSame self.old self.new }
+        ensures kept { KeepsSlots self.old self.new }
+        ensures slot { OnOk result (IsSome (slots_of.get name_order.compare self.new.names key)) }
     {
         let dir = key.0;
-        slots::reserve(&mut self.names, key)?;
-        slots::reserve(&mut self.counts, dir)?;
-        slots::reserve(&mut self.uplinks, (number, dir))
+        if let Some(number) = slots::shown(&self.names, &key).copied() {
+            vacated.push((number, dir))?;
+            return Ok(());
+        }
+        slots::reserve_new(&mut self.names, key)
     }
 }
 
@@ -306,11 +327,7 @@ impl<A: Allocator + Clone> Rows<A> {
             self.reserve_header(row.number)?;
         }
         for row in names {
-            let key = name_key(row.dir, &row.name);
-            if let Some(number) = self.target(&key) {
-                vacated.push((number, row.dir))?;
-            }
-            self.reserve_name(key, row.number)?;
+            self.reserve_name(row, vacated)?;
         }
         Ok(())
     }

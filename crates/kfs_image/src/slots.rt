@@ -36,6 +36,20 @@ pub(crate) fn reserve<K: Ord + Drop, V: Drop, A: Allocator + Clone>(
     Ok(())
 }
 
+/// Makes a slot for a key at which the map shows nothing. What it shows stays as it is.
+pub(crate) fn reserve_new<K: Ord + Drop, V: Drop, A: Allocator + Clone>(
+    slots: &mut BTreeMap<K, Option<V>, A>,
+    key: K,
+) -> Result<(), AllocError>
+    requires { shown_at K.cmp slots.old key ≡ None }
+    ensures room { OnOk result (IsSome (get K.cmp slots.new key)) }
+    ensures kept { (q : K) → IsSome (get K.cmp slots.old q) → IsSome (get K.cmp slots.new q) }
+    ensures shown { (q : K) → shown_at K.cmp slots.new q ≡ shown_at K.cmp slots.old q }
+{
+    slots.insert(key, None)?;
+    Ok(())
+}
+
 /// Sets what the map shows at a key that has a slot, and answers what it showed. Takes no memory.
 pub(crate) fn set<K: Ord, V: Drop, A: Allocator>(
     slots: &mut BTreeMap<K, Option<V>, A>,

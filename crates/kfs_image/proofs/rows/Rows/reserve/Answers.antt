@@ -1,4 +1,4 @@
-use Rattle.std.proofs.Common.{ℕ, List, slice_index_or, subst, ◌∙◌}
+use Rattle.std.proofs.Common.{slice_index_or, subst, ◌∙◌}
 use Rattle.std.proofs.lemmas.List.{get_or_default}
 use Rattle.kfs_value.specs.declared.plan.NameRow.{NameRow}
 use Rattle.kfs_value.specs.declared.plan.NodeRow.{NodeRow}
@@ -30,5 +30,5 @@ loop-row-2-preserved g c = record {
   nodes = λ k d below. c.reserve_name.ensures.kept.headers _ (c.loop-row-2.invariant.nodes k d below);
   names = λ k d below.
       below_more (λ k. HasSlots {A = g.row.A.Denot} c.reserve_name.new.self (slice_index_or c.args.names.now k d).dir (slice_index_or c.args.names.now k d).name (slice_index_or c.args.names.now k d).number) c.loop-row-2.row-index
-      (λ k below. slots_stay _ _ c.reserve_name.ensures.kept _ _ _ (c.loop-row-2.invariant.names k d below)) (subst (λ (row : NameRow). HasSlots {A = g.row.A.Denot} c.reserve_name.new.self row.dir row.name row.number) (c.row-item.is ∙ get_or_default c.args.names.now c.loop-row-2.row-index _ d c.loop-row-2-test.true) (subst (λ (key : ℕ × List ℕ). HasSlots {A = g.row.A.Denot} c.reserve_name.new.self key.0 key.1 c.row-item.result.number) c.name_key-key.ensures.key c.in_ok-reserve_name.ensures.slots)) k below;
+      (λ k below. slots_stay _ _ c.reserve_name.ensures.kept _ _ _ (c.loop-row-2.invariant.names k d below)) (subst (λ (row : NameRow). HasSlots {A = g.row.A.Denot} c.reserve_name.new.self row.dir row.name row.number) (c.row-item.is ∙ get_or_default c.args.names.now c.loop-row-2.row-index _ d c.loop-row-2-test.true) c.in_ok-reserve_name.ensures.slots) k below;
 }
