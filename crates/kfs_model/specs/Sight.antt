@@ -2,7 +2,7 @@
 use Rattle.std.specs.Prelude.{ℕ, zero, suc, ◌==◌, ◌&&◌, not, ℤ, pos, List, [], ◌∷◌, find, Option, Some, None, option_map, if◌then◌else◌, Bool, true, false}
 use Rattle.kfs_model.specs.Header.{Kind, Header}
 use Rattle.kfs_model.specs.Header.Kind.{File, Directory}
-use Rattle.kfs_model.specs.Limits.{greatest_number}
+use Rattle.kfs_model.specs.Limits.{greatest_number, root_number}
 use Rattle.kfs_model.specs.Table.{get}
 use Rattle.kfs_model.specs.Tree.{Tree, NameTable, headers, target, entry_count}
 
@@ -51,7 +51,7 @@ abbrev pub holder : NameTable → ℕ → Option ℕ
 holder names number = option_map (λ e. e.0.0) (find (λ e. e.1 == number) names.entries)
 
 abbrev pub parent_in : (ℕ → Option Header) → NameTable → ℕ → Option ℕ
-parent_in head names number = if is_directory (head number) && not (number == 1) then holder names number else None
+parent_in head names number = if is_directory (head number) && not (number == root_number) then holder names number else None
 
 module _ {B : Type 0} where
   abbrev pub sight : Tree B → Sight
