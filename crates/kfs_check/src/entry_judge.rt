@@ -16,14 +16,9 @@ use crate::check::{Check, Reason};
 use kfs_draft::Draft;
 use kfs_image::{Header, Kind, Name};
 use kfs_mode::{Client, Want, may};
+use kfs_value::{CLIMB_LIMIT, LINK_LIMIT};
 use kfs_view::Recorder;
 use std::alloc::{AllocError, Allocator};
-
-/// The most names of a file.
-const LINK_LIMIT: u16 = 1024;
-
-/// The most steps of a climb.
-const CLIMB_LIMIT: u32 = 65_536;
 
 /// What judges the next entry: the log's client, and the draft of the entries so far.
 #[derive(Clone, Copy)]
