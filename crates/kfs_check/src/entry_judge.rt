@@ -13,17 +13,12 @@ ghost use Rattle.kfs_check.specs.Recorders.{GoesOn, Known, ReadsAt};
 ghost use Rattle.kfs_check.specs.Checks.{check_of, reason_of, entry_context_in, FindsFirst, FindsWrong, IsOfHeader, IsOfRight, ReadsCellsOfAll, ReadsCellsOfCheck, climbed_cells, parent_in};
 
 use crate::check::{Check, Reason};
+use crate::reads::Recorder;
 use kfs_draft::Draft;
 use kfs_image::{Header, Kind, Name};
 use kfs_mode::{Client, Want, may};
-use crate::reads::Recorder;
+use kfs_value::{CLIMB_LIMIT, LINK_LIMIT};
 use std::alloc::{AllocError, Allocator};
-
-/// The most names of a file.
-const LINK_LIMIT: u16 = 1024;
-
-/// The most steps of a climb.
-const CLIMB_LIMIT: u32 = 65_536;
 
 /// What judges the next entry: the log's client, and the draft of the entries so far.
 #[derive(Clone, Copy)]

@@ -6,6 +6,7 @@ ghost use Rattle.kfs_model.proofs.Reading.{mark_read, count_read, log_header_rea
 ghost use Rattle.kfs_codec.specs.Reading.{StandsIn, seen};
 
 use crate::{number16, number32};
+use kfs_value::ENTRY_LIMIT;
 use std::alloc::{AllocError, Allocator};
 
 /// The magic of a log, and version 1.
@@ -19,9 +20,6 @@ pub const LOG_LEN: usize = 11;
 
 /// The length of a plan's header in bytes.
 pub const PLAN_LEN: usize = 13;
-
-/// The most entries that a log may have.
-const ENTRY_LIMIT: u16 = 4_096;
 
 /// A log's client and how many entries follow.
 #[derive(Clone, Copy)]

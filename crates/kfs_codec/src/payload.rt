@@ -6,10 +6,8 @@ ghost use Rattle.kfs_model.proofs.Reading.{payload_read};
 ghost use Rattle.kfs_codec.specs.Reading.{seen};
 
 use crate::{bytes, number32};
-use kfs_value::Span;
+use kfs_value::{PAYLOAD_LIMIT, Span};
 use std::alloc::{AllocError, Allocator};
-
-const LIMIT: u32 = 65_536;
 
 /// The field that stands at `at`, and the place after it.
 #[tactic(auto, unfolding(kfs_model::proofs::Reading::payload_read))]
@@ -19,7 +17,7 @@ pub fn read(source: &[u8], at: usize) -> Option<(Span, usize)>
     ensures within { IfSome result (λ x. (x.0.start ≤ x.0.end) × (x.0.end ≤ x.1) × (x.1 ≤ length source.now)) }
 {
     let (len, start) = number32::read(source, at)?;
-    if len > LIMIT {
+    if len > PAYLOAD_LIMIT {
         return None;
     }
     let (_, end) = bytes::run(source, start, len as usize)?;

@@ -1,12 +1,12 @@
 -- The sizes of an image and the row of a client, by the numbers that are read for them.
-use Rattle.std.proofs.Common.{◌≡◌, ℕ, ◌<◌, ◌≤◌, ◌==◌, nat_lt, nat_le, suc, zero, Bool, true, false, ◌&&◌, ◌||◌, List, [], ◌∷◌, length, take, Option, Some, None, Result, Ok, Err, option_map, refl, sym, ap, ◌∙◌, ◌⊎◌, arith, if◌then◌else◌}
-use Rattle.std.specs.Prelude.{◌↔◌, IfOk, IfSome, IsSome}
+use Rattle.std.proofs.Common.{◌≡◌, ℕ, ◌<◌, ◌≤◌, nat_lt, nat_le, suc, zero, Bool, true, false, ◌&&◌, List, [], ◌∷◌, length, take, Option, Some, None, Result, Ok, Err, option_map, refl, sym, ap, ◌∙◌, arith, if◌then◌else◌}
+use Rattle.std.specs.Prelude.{◌↔◌, IfOk, IfSome, IsFalse, IsSome}
 use Rattle.kfs_model.specs.Placement.{TierSizes}
 use Rattle.std.specs.List.{list_all}
 use Rattle.std.specs.Str.Parse.{digits_value}
 use Rattle.std.proofs.lemmas.List.{length-take}
 use Rattle.std.proofs.lemmas.Bool.Decides.{nat_tests}
-use Rattle.kfs_model.specs.Access.{Client}
+use Rattle.kfs_model.specs.Access.{Client, is_grant}
 use Rattle.kfs_mode.specs.declared.client.ClientFault.{ClientFault}
 use Rattle.kfs_mode.specs.declared.client.ClientFault.TheVariants.{TooManyGroups, BadGrant}
 use Rattle.kfs_model.specs.Steps.{◌>>=◌}
@@ -127,23 +127,25 @@ few_is n few = grind (arith, nat_tests)
 at_most : (n : ℕ) → (16 < n → ⊥) → n ≤ 16
 at_most n few = omega arith
 
-bad_is : (first last : ℕ) → (first ≡ 0) ⊎ (65536 < last) → (first == 0) || nat_lt 65536 last ≡ true
-bad_is first last bad = grind (arith, nat_tests)
+bad_is : (grant : Bool) → IsFalse grant → grant ≡ false
+bad_is true bad = absurd bad
+bad_is false bad = refl
 
-good_is : (first last : ℕ) → ((first ≡ 0) ⊎ (65536 < last) → ⊥) → (first == 0) || nat_lt 65536 last ≡ false
-good_is first last good = grind (arith, nat_tests)
+good_is : (grant : Bool) → (IsFalse grant → ⊥) → grant ≡ true
+good_is true good = refl
+good_is false good = absurd (good tt)
 
 -- a client's row is this answer where its refusals come exactly where they are due
 pub row_is : (number uid gid : ℕ) (groups : List ℕ) (privileged : Bool) (first last : ℕ) (r : Result Client ClientFault)
     → ((r ≡ Err TooManyGroups) → (16 < length groups)) → ((16 < length groups) → (r ≡ Err TooManyGroups))
-    → ((r ≡ Err BadGrant) → (length groups ≤ 16) × ((first ≡ 0) ⊎ (65536 < last))) → ((length groups ≤ 16) × ((first ≡ 0) ⊎ (65536 < last)) → (r ≡ Err BadGrant))
+    → ((r ≡ Err BadGrant) → (length groups ≤ 16) × IsFalse (is_grant first last)) → ((length groups ≤ 16) × IsFalse (is_grant first last) → (r ≡ Err BadGrant))
     → IfOk r (λ c. c ≡ record { number = number; uid = uid; gid = gid; groups = groups; privileged = privileged; first = first; last = last })
     → client_row number uid gid groups privileged first last ≡ r
 row_is number uid gid groups privileged first last (Err TooManyGroups) many many_back bad bad_back ok = rw (many_is (length groups) (many refl)) refl
 row_is number uid gid groups privileged first last (Err BadGrant) many many_back bad bad_back ok =
     let few : 16 < length groups → ⊥ = λ more. omega (arith, (bad refl).0) in
-    rw (few_is (length groups) few, bad_is first last (bad refl).1) refl
+    rw (few_is (length groups) few, bad_is (is_grant first last) (bad refl).1) refl
 row_is number uid gid groups privileged first last (Ok client) many many_back bad bad_back ok =
     let few : 16 < length groups → ⊥ = λ more. let e : Ok client ≡ Err TooManyGroups = many_back more in cc in
-    let good : (first ≡ 0) ⊎ (65536 < last) → ⊥ = λ wrong. let e : Ok client ≡ Err BadGrant = bad_back (at_most (length groups) few, wrong) in cc in
-    rw (few_is (length groups) few, good_is first last good) (ap (λ c. Ok c) (sym ok))
+    let good : IsFalse (is_grant first last) → ⊥ = λ wrong. let e : Ok client ≡ Err BadGrant = bad_back (at_most (length groups) few, wrong) in cc in
+    rw (few_is (length groups) few, good_is (is_grant first last) good) (ap (λ c. Ok c) (sym ok))

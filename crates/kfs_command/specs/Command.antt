@@ -1,7 +1,7 @@
 -- The commands: what the words of a line ask for.
-use Rattle.std.specs.Prelude.{ℕ, ◌||◌, ◌==◌, nat_lt, Bool, List, [], ◌∷◌, length, codes, bytes_eq, Option, Some, None, option_map, Result, Ok, Err, if◌then◌else◌}
-use Rattle.kfs_model.specs.Limits.{greatest_number, tier_limit}
-use Rattle.kfs_model.specs.Access.{Client}
+use Rattle.std.specs.Prelude.{ℕ, ◌==◌, nat_lt, Bool, List, [], ◌∷◌, length, codes, bytes_eq, Option, Some, None, option_map, Result, Ok, Err, if◌then◌else◌}
+use Rattle.kfs_model.specs.Limits.{group_limit, tier_limit}
+use Rattle.kfs_model.specs.Access.{Client, is_grant}
 use Rattle.kfs_model.specs.Steps.{◌>>=◌}
 use Rattle.kfs_model.specs.Lease.{LeaseKind, ReadLease, WriteLease}
 use Rattle.kfs_model.specs.Judgement.{Submission}
@@ -42,9 +42,9 @@ kind_named word = if bytes_eq word (codes "r") then Some ReadLease else if bytes
 -- the row of a client: too many groups before a grant out of range
 abbrev pub client_row : (number uid gid : ℕ) (groups : List ℕ) (privileged : Bool) (first last : ℕ) → Result Client ClientFault
 client_row number uid gid groups privileged first last =
-    if nat_lt 16 (length groups) then Err TooManyGroups
-    else if (first == 0) || nat_lt greatest_number last then Err BadGrant
-    else Ok (record { number = number; uid = uid; gid = gid; groups = groups; privileged = privileged; first = first; last = last })
+    if nat_lt group_limit (length groups) then Err TooManyGroups
+    else if is_grant first last then Ok (record { number = number; uid = uid; gid = gid; groups = groups; privileged = privileged; first = first; last = last })
+    else Err BadGrant
 
 abbrev pub new_of : List (List ℕ) → Option Command
 new_of (a ∷ b ∷ c ∷ []) = do

@@ -5,11 +5,11 @@ use Rattle.std.proofs.lemmas.Bool.{or_cases, not-true}
 use Rattle.kfs_model.specs.Header.{Kind, File, Directory, Header}
 use Rattle.kfs_model.specs.Table.{Table, numbers, get}
 use Rattle.kfs_model.specs.Tree.{NameTable, headers, name_order, target, name_count}
-use Rattle.kfs_model.specs.Sight.{sight, is_directory, is_file, parent_in, climb_meets}
+use Rattle.kfs_model.specs.Sight.{sight, sight_over, is_directory, is_file, parent_in, climb_meets}
 use Rattle.kfs_model.specs.Spelling.{IsName}
 use Rattle.kfs_model.specs.Soundness.{Climbs, InRange, NameIsSound, AreSound, IsSound}
 use Rattle.kfs_model.proofs.CleanIsAllowed.{left, right}
-use Rattle.kfs_device.specs.ShownTree.{shown_tree, sight_in}
+use Rattle.kfs_device.specs.ShownTree.{shown_tree}
 use Rattle.kfs_device.specs.RawImage.{RawImage, IsSpelled, node_entry, name_entry, heads_of, names_of, image_of}
 use Rattle.kfs_device.specs.Rules.{kind_fits, names_fit}
 use Rattle.kfs_device.specs.Finding.{IsWellFormed}
@@ -75,8 +75,8 @@ module _ (raw : RawImage) where
     pub heads_counted : headers (shown_tree (image_of raw)) ≡ heads_of raw
     heads_counted = heads_shown (image_of raw) fit
 
-    pub cells_shown : sight (shown_tree (image_of raw)) ≡ sight_in (heads_of raw) (names_of raw)
-    cells_shown = ap (λ heads. sight_in heads (names_of raw)) heads_counted
+    pub cells_shown : sight (shown_tree (image_of raw)) ≡ sight_over (heads_of raw) (names_of raw)
+    cells_shown = ap (λ heads. sight_over heads (names_of raw)) heads_counted
 
     pub node_rows : (headers (shown_tree (image_of raw))).entries ≡ map node_entry raw.nodes
     node_rows = ap (λ (heads : Table numbers Header). heads.entries) heads_counted ∙ sorted_entries numbers (map node_entry raw.nodes) (sorted_rows numbers node_entry raw.nodes (nodes_ascend raw well_formed))

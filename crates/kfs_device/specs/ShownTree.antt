@@ -1,10 +1,9 @@
 -- An image over device blocks, and the tree that it shows.
-use Rattle.std.specs.Prelude.{◌≡◌, ℕ, ◌/◌, ◌%◌, pos, List, map, Some, None}
+use Rattle.std.specs.Prelude.{◌≡◌, ℕ, ◌/◌, ◌%◌, List, map, Some, None}
 use Rattle.kfs_model.specs.Header.{Kind, File, Directory, Header}
 use Rattle.kfs_model.specs.Limits.{block_size}
 use Rattle.kfs_model.specs.Table.{Table, numbers, get, mapped}
-use Rattle.kfs_model.specs.Tree.{Tree, Node, NameTable, Body, FileBody, DirectoryBody, headers, target, entry_count}
-use Rattle.kfs_model.specs.Sight.{Sight, parent_in}
+use Rattle.kfs_model.specs.Tree.{Tree, Node, NameTable, Body, FileBody, DirectoryBody, headers}
 use Rattle.kfs_model.specs.Soundness.{IsSound}
 use Rattle.kfs_model.specs.Placement.{TierSizes, Placement, IsPlacement, below}
 use Rattle.kfs_device.specs.Device.{Devices, AreBlocks, byte_on}
@@ -41,15 +40,6 @@ node_shown placement devices number h = record {
 -- the image's nodes with the bytes of their blocks, and its names
 abbrev pub shown_tree : DeviceImage → Tree ℕ
 shown_tree image = record { nodes = mapped (node_shown image.placement image.devices) image.heads; names = image.names }
-
--- what the cells of these headers and names show
-abbrev pub sight_in : Table numbers Header → NameTable → Sight
-sight_in heads names = record {
-  head = get heads;
-  name = target names;
-  count = λ directory. pos (entry_count names directory);
-  parent = parent_in (get heads) names;
-}
 
 -- the tree is sound and has these headers, links and sizes with them; blocks lie in places of their own, whole and in tiers
 pub record IsLawful (image : DeviceImage) : Type 0 where

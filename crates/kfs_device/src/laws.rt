@@ -3,11 +3,11 @@
 ghost use Rattle.std.specs.Prelude.{◌≡◌, ℕ, not, true, false, List, map, Some};
 ghost use Rattle.std.specs.List.{list_any, AllByRecursion};
 ghost use Rattle.kfs_model.specs.Tree.{headers};
-ghost use Rattle.kfs_model.specs.Sight.{sight};
+ghost use Rattle.kfs_model.specs.Sight.{sight, sight_over};
 ghost use Rattle.kfs_model.specs.Soundness.{Climbs};
 ghost use Rattle.kfs_model.specs.Placement.{TierSizes, Place, Placement, is_free};
 ghost use Rattle.kfs_device.specs.Device.{Devices};
-ghost use Rattle.kfs_device.specs.ShownTree.{DeviceImage, IsLawful, shown_tree, sight_in};
+ghost use Rattle.kfs_device.specs.ShownTree.{DeviceImage, IsLawful, shown_tree};
 ghost use Rattle.kfs_device.specs.FreeRuns.{AreApart, free_runs};
 ghost use Rattle.kfs_device.specs.RawImage.{RawImage, IsSpelled, node_entry, name_entry, heads_of, names_of, placement_of, image_of, has_place, IsLaidOut};
 ghost use Rattle.kfs_device.specs.Rules.{parent_of, reaches_root};
@@ -38,7 +38,7 @@ pub fn lawful_image_has_rows()
 pub fn rows_are_headers_and_names()
     ensures nodes { (raw : RawImage) → IsWellFormed raw → (headers (shown_tree (image_of raw))).entries ≡ map node_entry raw.nodes }
     ensures names { (raw : RawImage) → IsWellFormed raw → (shown_tree (image_of raw)).names.entries ≡ map name_entry raw.names }
-    ensures cells { (raw : RawImage) → IsWellFormed raw → sight (shown_tree (image_of raw)) ≡ sight_in (heads_of raw) (names_of raw) }
+    ensures cells { (raw : RawImage) → IsWellFormed raw → sight (shown_tree (image_of raw)) ≡ sight_over (heads_of raw) (names_of raw) }
 {}
 
 /// Each block of each extent of a well formed image lies where the extent says, and its bytes stand there.

@@ -14,6 +14,7 @@ use Rattle.kfs_model.specs.Sight.{Sight}
 use Rattle.kfs_model.specs.FirstWrong.{same_place}
 use Rattle.kfs_model.specs.SeenAfter.{put_at, put_name, shifted}
 use Rattle.kfs_model.proofs.NameTable.{place_tie_turned}
+use Rattle.kfs_model.proofs.Overlay as laid
 use Rattle.kfs_value.specs.Views.{header_of}
 use Rattle.kfs_value.specs.declared.header.Header.{Header as CodeHeader}
 use Rattle.kfs_draft.specs.declared.draft.Draft.{Draft}
@@ -32,6 +33,19 @@ put_read read found there tie test value is same = ap read (is ∙ ap (λ b. con
 
 counted : (count shift by : ℤ) → count +ℤ (shift +ℤ by) ≡ count +ℤ shift +ℤ by
 counted count shift by = omega (arith, ints)
+
+-- what the draft has put into cells
+abbrev pub overlay_of : {A : Type 0} → Draft A → laid.Overlay
+overlay_of draft = record {
+  heads = λ n. option_map (option_map header_of) (get nat_cmp draft.heads n);
+  names = λ d m. get name_order.compare draft.names (d, m);
+  shift = shift_of draft;
+  parents = get nat_cmp draft.parents;
+}
+
+-- what a draft shows is its overlay, laid over the state
+pub over_is_laid : {A : Type 0} (draft : Draft A) (s : Sight) → over draft s ≡ laid.over (overlay_of draft) s
+over_is_laid draft s = refl
 
 -- ---- the draft with another map
 

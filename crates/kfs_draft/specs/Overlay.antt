@@ -1,5 +1,5 @@
 -- What a draft shows over a state: the cells that entries have written, and the state's own where they have not.
-use Rattle.std.specs.Prelude.{◌≡◌, ℕ, ◌-◌, Bool, cond, ℤ, pos, negsuc, neg_ℤ, ◌≤ℤ◌, List, Contains, Option, Some, None, unwrap_or, ◌==◌, ◌+◌, true, nat_lt}
+use Rattle.std.specs.Prelude.{◌≡◌, ℕ, ◌-◌, Bool, cond, ℤ, pos, negsuc, neg_ℤ, ◌+ℤ◌, ◌≤ℤ◌, List, Contains, Option, Some, None, unwrap_or, ◌==◌, ◌+◌, true, nat_lt}
 use Rattle.std.specs.Option.{option_map}
 use Rattle.std.specs.declared.cmp.Ordering.{Ordering}
 use Rattle.std.specs.Ordering.{nat_cmp, eq_by_cmp}
@@ -8,7 +8,6 @@ use Rattle.std.specs.BTreeSet.{contains}
 use Rattle.std.specs.List.{list_any}
 use Rattle.kfs_model.specs.Header.{Header, Kind}
 use Rattle.kfs_model.specs.Access.{Client}
-use Rattle.kfs_model.proofs.Overlay as laid
 use Rattle.kfs_model.specs.SeenAfter.{put_at, put_name, shifted, put_parent}
 use Rattle.kfs_model.specs.Tree.{name_order}
 use Rattle.kfs_model.specs.Sight.{Sight, ClientSight, Cell, NameIn, HeaderOf}
@@ -23,17 +22,14 @@ module _ {A : Type 0} where
   abbrev pub shift_of : Draft A → ℕ → ℤ
   shift_of draft d = unwrap_or (get nat_cmp draft.shifts d) (pos 0)
 
-  -- what the draft has put into cells
-  abbrev pub overlay_of : Draft A → laid.Overlay
-  overlay_of draft = record {
-    heads = λ n. option_map (option_map header_of) (get nat_cmp draft.heads n);
-    names = λ d m. get name_order.compare draft.names (d, m);
-    shift = shift_of draft;
-    parents = get nat_cmp draft.parents;
-  }
-
+  -- what shows over a state: what the draft has put into a cell, and else what the state has there
   abbrev pub over : Draft A → Sight → Sight
-  over draft s = laid.over (overlay_of draft) s
+  over draft s = record {
+    head = λ n. unwrap_or (option_map (option_map header_of) (get nat_cmp draft.heads n)) (s.head n);
+    name = λ d m. unwrap_or (get name_order.compare draft.names (d, m)) (s.name d m);
+    count = λ d. s.count d +ℤ shift_of draft d;
+    parent = λ n. unwrap_or (get nat_cmp draft.parents n) (s.parent n);
+  }
 
   abbrev pub has_created : Draft A → ℕ → Bool
   has_created draft n = contains nat_cmp draft.created n

@@ -1,10 +1,10 @@
 -- What contracts see of a shape and of an image.
-use Rattle.std.specs.Prelude.{ℕ, pos}
+use Rattle.std.specs.Prelude.{ℕ}
 use Rattle.kfs_model.specs.Header.{Header}
-use Rattle.kfs_model.specs.Table.{Table, numbers, get}
-use Rattle.kfs_model.specs.Tree.{Tree, NameTable, headers, target, entry_count}
+use Rattle.kfs_model.specs.Table.{Table, numbers}
+use Rattle.kfs_model.specs.Tree.{Tree, NameTable, headers}
 use Rattle.kfs_model.specs.Fresh.{fresh_tree}
-use Rattle.kfs_model.specs.Sight.{Sight, parent_in}
+use Rattle.kfs_model.specs.Sight.{Sight, sight_over}
 use Rattle.kfs_model.specs.Placement.{TierSizes}
 
 -- the nodes and names of a tree, without its bytes
@@ -14,12 +14,7 @@ pub record Contents : Type 0 where
 
 -- what the cells show
 abbrev pub sight_of : Contents → Sight
-sight_of c = record {
-  head = get c.heads;
-  name = target c.names;
-  count = λ directory. pos (entry_count c.names directory);
-  parent = parent_in (get c.heads) c.names;
-}
+sight_of c = sight_over c.heads c.names
 
 -- the headers and names of a tree
 abbrev pub contents_in : {B : Type 0} → Tree B → Contents

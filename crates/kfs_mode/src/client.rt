@@ -1,9 +1,10 @@
 //! Clients: who they are, and the numbers that they may give to new nodes.
-ghost use Rattle.std.specs.Prelude.{◌≡◌, ◌<◌, ◌≤◌, ◌↔◌, ◌⊎◌, ◌==◌, ◌||◌, length, IfOk, IsErrOf};
+ghost use Rattle.std.specs.Prelude.{◌≡◌, ◌<◌, ◌≤◌, ◌↔◌, ◌==◌, ◌||◌, length, IfOk, IsErrOf, IsFalse};
 ghost use Rattle.std.specs.List.{list_any};
 ghost use Rattle.std.specs.Option.{option_map};
-ghost use Rattle.kfs_model.specs.Limits.{greatest_number, group_limit};
+ghost use Rattle.kfs_model.specs.Limits.{group_limit};
 ghost use Rattle.kfs_model.specs.Access as access;
+ghost use Rattle.kfs_model.specs.Access.{is_grant};
 ghost use Rattle.kfs_model.specs.CleanStep.{IsClient};
 ghost use Rattle.kfs_model.specs.Lease.{row_of};
 ghost use Rattle.kfs_mode.specs.Clients.{AreDistinct};
@@ -23,22 +24,21 @@ pub struct Client {
     number: u32,
     uid: u32,
     gid: u32,
-    groups: ArrayVec<u32, 16>,
+    groups: ArrayVec<u32, GROUP_LIMIT>,
     privileged: bool,
     first: u32,
     last: u32,
 }
 
 impl Model for Client {
-    ghost use Rattle.std.specs.Prelude.{◌^◌, ◌<◌, ◌≤◌};
-    ghost use Rattle.kfs_model.specs.Limits.{greatest_number};
     ghost use Rattle.kfs_model.specs.Access.{Client as ClientRow};
+    ghost use Rattle.kfs_model.specs.CleanStep.{IsClient};
 
     ghost Value = { ClientRow };
 
     ghost view = { λ c. record { number = c.number; uid = c.uid; gid = c.gid; groups = c.groups.items; privileged = c.privileged; first = c.first; last = c.last } };
 
-    ghost invariant = { λ c. (c.uid < 2 ^ 32) × (c.gid < 2 ^ 32) × (0 < c.first) × (c.last ≤ greatest_number) };
+    ghost invariant = { λ c. IsClient (record { number = c.number; uid = c.uid; gid = c.gid; groups = c.groups.items; privileged = c.privileged; first = c.first; last = c.last }) };
 
     ghost inverse = { λ v. record { number = v.number; uid = v.uid; gid = v.gid; groups = record { items = v.groups }; privileged = v.privileged; first = v.first; last = v.last } };
 }
@@ -65,7 +65,7 @@ impl Client {
         last: u32,
     ) -> Result<Client, ClientFault>
         ensures groups { IsErrOf result ClientFault.TooManyGroups ↔ (group_limit < length groups.now) }
-        ensures grant { IsErrOf result ClientFault.BadGrant ↔ ((length groups.now ≤ group_limit) × ((first ≡ 0) ⊎ (greatest_number < last))) }
+        ensures grant { IsErrOf result ClientFault.BadGrant ↔ ((length groups.now ≤ group_limit) × IsFalse (is_grant first last)) }
         ensures row { IfOk result (λ c. c ≡ record { number = number; uid = uid; gid = gid; groups = groups.now; privileged = privileged; first = first; last = last }) }
     {
         let Ok(groups) = ArrayVec::try_from(groups) else {

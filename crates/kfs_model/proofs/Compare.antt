@@ -8,7 +8,7 @@ use Rattle.std.proofs.lemmas.List.Folds.{list_any-append}
 use Rattle.kfs_model.specs.Tree.{Tree}
 use Rattle.kfs_model.specs.Run.{Mark}
 use Rattle.kfs_model.specs.PlanRow.{Piece}
-use Rattle.kfs_model.specs.Plan.{mark_at, said_by, is_base, end_of, covers, Ascend, IsTrueOf, ArePieces}
+use Rattle.kfs_model.specs.Plan.{mark_at, said_by, is_base, end_of, covers, ComesBy, Ascend, IsTrueOf, ArePieces}
 use Rattle.kfs_model.specs.PlanCut.{said_at}
 use Rattle.kfs_model.specs.FirstWrong.{begins_early, is_missed, is_wrong, lies_before, changed_bytes, missed_by, wrong_below, first_wrong_piece}
 use Rattle.kfs_model.specs.Compare.{behind_piece, first_apart}
@@ -18,7 +18,7 @@ use Rattle.kfs_model.specs.Check.{is_some_and}
 use Rattle.kfs_model.specs.FirstAnswer.{first_answer}
 use Rattle.kfs_model.proofs.FirstAnswer.{first_is, none_more}
 use Rattle.kfs_model.proofs.Pieces.{HasMark, IsWell, well_parts, well_from, all_along, along_all, list_any-filter, early_parts, early_from, before_parts, last_is, none_from_false, none_from_covered}
-use Rattle.kfs_model.proofs.Follow.{ComesBy, IsBefore, AreFrom, Follows, either_side, none_said, first_said, follows, differs}
+use Rattle.kfs_model.proofs.Follow.{IsBefore, AreFrom, Follows, either_side, none_said, first_said, follows, differs}
 
 -- ---- over plain numbers
 

@@ -1,8 +1,9 @@
 -- A clean Create keeps a sound tree sound and moves what the cells show as said.
 use Rattle.std.proofs.Common.{◌≡◌, ℕ, suc, ◌+◌, ◌≤◌, Bool, true, false, cond, ◌==◌, List, Option, Some, None, option_map, IsTrue, refl, sym, ap, subst, ◌∙◌, arith, eqb-true, eq-eqb, ne_eqb}
 use Rattle.std.proofs.lemmas.Bool.{false≢true}
+use Rattle.std.proofs.lemmas.Bool.Decides.{nat_tests}
 use Rattle.kfs_model.specs.Header.{Kind, File, Directory, Header}
-use Rattle.kfs_model.specs.Access.{Client}
+use Rattle.kfs_model.specs.Access.{Client, is_grant}
 use Rattle.kfs_model.specs.Table.{get, insert}
 use Rattle.kfs_model.specs.Tree.{Tree, Node, NameTable, headers, header_of, target, name_count}
 use Rattle.kfs_model.specs.Entry.{Entry, Create}
@@ -17,6 +18,9 @@ use Rattle.kfs_model.proofs.CleanFacts.{at_tree, clean_at, CreateFacts, create_f
 use Rattle.kfs_model.proofs.NameTable.{at_number-insert, target-insert}
 use Rattle.kfs_model.proofs.NameAdded.{new_target, kept_target, new_or_old, others_count, own_count, count_shifted}
 use Rattle.kfs_model.proofs.Heads.{stays, named_stays, unnamed, root_is_node, get-swept_headers, kept_head, parent_kept, parent_is, parent_of_none, has_parent, climbs_with, put_parent_elsewhere, put_parent_here}
+
+grant_ends : (first last : ℕ) → IsTrue (is_grant first last) → (1 ≤ first) × (last ≤ 65536)
+grant_ends first last fits = grind (arith, nat_tests)
 
 -- ---- what shows after it
 
@@ -144,8 +148,8 @@ module _ {B : Type 0} (maker : CellMaker B) (client : Client) (index : ℕ) (t :
 
   new_in_range : IsClient client → IsEntry entry → InRange n (new_header client kind mode)
   new_in_range fits entry_fits = record {
-    least = let least = facts.least in let first = fits.first in omega arith;
-    greatest = let greatest = facts.greatest in let last = fits.last in omega arith;
+    least = let least = facts.least in let first = (grant_ends client.first client.last fits.grant).0 in omega arith;
+    greatest = let greatest = facts.greatest in let last = (grant_ends client.first client.last fits.grant).1 in omega arith;
     mode = entry_fits.3;
     uid = fits.uid;
     gid = fits.gid;

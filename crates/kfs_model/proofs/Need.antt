@@ -6,13 +6,13 @@ use Rattle.kfs_model.specs.Table.{numbers, get}
 use Rattle.kfs_model.specs.Tree.{Tree, Node, cells_of}
 use Rattle.kfs_model.specs.Run.{Mark}
 use Rattle.kfs_model.specs.PlanRow.{Piece, Source}
-use Rattle.kfs_model.specs.Plan.{mark_at, said_by, end_of, IsTrueOf, ArePieces}
+use Rattle.kfs_model.specs.Plan.{mark_at, said_by, end_of, ComesBy, IsTrueOf, ArePieces}
 use Rattle.kfs_model.specs.PlanCut.{said_at}
 use Rattle.kfs_model.specs.Placement.{is_zero, is_payload, is_written, blocks_that, written_blocks, need}
 use Rattle.kfs_model.specs.Blocks.{is_zero_source, of_file, counted_files}
 use Rattle.kfs_model.proofs.WrittenBlocks.{all_found}
 use Rattle.kfs_model.proofs.Cut.{changed_mark, said_of_pieces}
-use Rattle.kfs_model.proofs.Follow.{ComesBy, AreFrom, comes_then}
+use Rattle.kfs_model.proofs.Follow.{AreFrom, comes_then}
 use Rattle.kfs_model.proofs.Compare.{all_from}
 use Rattle.kfs_model.proofs.Touches.{part_at, is_zero_part, is_payload_part, AreParts, Classes, file_count}
 

@@ -2,6 +2,7 @@
 use Rattle.std.specs.Prelude.{ℕ, ◌*◌, ◌/◌, ◌%◌, Bool, ◌==◌, ◌&&◌, ◌||◌, nat_le, if◌then◌else◌, List, map, IsTrue}
 use Rattle.std.specs.List.{list_any}
 use Rattle.kfs_model.specs.Header.{Header}
+use Rattle.kfs_model.specs.Limits.{greatest_number}
 use Rattle.kfs_model.specs.Distinct.{are_distinct}
 
 -- a client's row: who it is, and the numbers that it may give to new nodes
@@ -55,6 +56,10 @@ may_header client h want = may client h.uid h.gid h.mode want
 -- the node's owner, or a privileged client
 abbrev pub owns : Client → (uid : ℕ) → Bool
 owns client uid = (client.uid == uid) || client.privileged
+
+-- whether a client may have these as its first and its last number: nodes have those from 1 to the greatest
+abbrev pub is_grant : (first last : ℕ) → Bool
+is_grant first last = nat_le 1 first && nat_le last greatest_number
 
 -- whether the client may give the number to a new node
 abbrev pub is_granted : Client → ℕ → Bool

@@ -1,9 +1,8 @@
 -- What a clean entry keeps: a sound tree stays sound, and what the cells show moves cell by cell; and so a log of clean
 -- entries.
-use Rattle.std.specs.Prelude.{◌≡◌, ℕ, ◌<◌, ◌≤◌, ◌^◌, List, [], None}
+use Rattle.std.specs.Prelude.{◌≡◌, ℕ, ◌<◌, ◌^◌, List, [], None, IsTrue}
 use Rattle.std.specs.List.{AllByRecursion}
-use Rattle.kfs_model.specs.Limits.{greatest_number}
-use Rattle.kfs_model.specs.Access.{Client}
+use Rattle.kfs_model.specs.Access.{Client, is_grant}
 use Rattle.kfs_model.specs.Tree.{Tree}
 use Rattle.kfs_model.specs.Sight.{ClientSight, sight}
 use Rattle.kfs_model.specs.Entry.{Entry}
@@ -18,8 +17,7 @@ use Rattle.kfs_model.specs.SeenAfter.{seen_after, seen_run_from, shown_run}
 pub record IsClient (client : Client) : Type 0 where
   pub uid : client.uid < 2 ^ 32
   pub gid : client.gid < 2 ^ 32
-  pub first : 1 ≤ client.first
-  pub last : client.last ≤ greatest_number
+  pub grant : IsTrue (is_grant client.first client.last)
 
 -- a sound tree, a client and an entry in their ranges; no check fails where the tree is what shows now
 pub record IsClean {B : Type 0} (context : EntryContext) (t : Tree B) (entry : Entry) : Type 0 where

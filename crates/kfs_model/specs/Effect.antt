@@ -1,6 +1,7 @@
 -- What a clean entry does to the tree (POSIX.1-2017: open, write, ftruncate, link, unlink and rmdir, rename, chmod).
 use Rattle.std.specs.Prelude.{ℕ, ◌+◌, ◌-◌, ◌==◌, ◌||◌, true, false, List, [], ◌∷◌, ◌++◌, length, take, drop, replicate, Option, Some, None}
 use Rattle.kfs_model.specs.Header.{Kind, File, Directory}
+use Rattle.kfs_model.specs.Limits.{root_number}
 use Rattle.kfs_model.specs.Access.{Client}
 use Rattle.kfs_model.specs.Table.{get, insert, remove, retain}
 use Rattle.kfs_model.specs.Tree.{Tree, Node, Body, FileBody, DirectoryBody, NameTable, target, is_named}
@@ -43,7 +44,7 @@ module _ {B : Type 0} where
 
   -- a node that no name leads to goes, the root stays
   unfoldable pub swept : Tree B → Tree B
-  swept t = record { nodes = retain (λ n. (n == 1) || is_named t.names n) t.nodes; names = t.names }
+  swept t = record { nodes = retain (λ n. (n == root_number) || is_named t.names n) t.nodes; names = t.names }
 
 -- the old name is gone and the new one leads to the node; nothing changes where both lead to one node
 abbrev pub moved_name : NameTable → (d : ℕ) → (m : List ℕ) → (e : ℕ) → (k : List ℕ) → NameTable

@@ -1,6 +1,7 @@
 -- Leases on nodes: who holds what until when (Strata, leases: read shared, write exclusive).
 use Rattle.std.specs.Prelude.{◌≡◌, ◌≢◌, ℕ, ◌+◌, ◌==◌, ◌&&◌, ◌||◌, not, nat_lt, nat_le, Bool, true, false, List, [], ◌∷◌, find, Option, Some, None, is_none, IsTrue, Result, Ok, Err, if◌then◌else◌}
 use Rattle.std.specs.List.{list_all}
+use Rattle.kfs_model.specs.Limits.{root_number}
 use Rattle.kfs_model.specs.Access.{Client, Search, may_header}
 use Rattle.kfs_model.specs.Table.{Table, numbers, pairs, get, insert, remove, retain, empty}
 use Rattle.kfs_model.specs.Sight.{Sight, is_directory}
@@ -123,7 +124,7 @@ module _ (leases : Leases) where
 
   abbrev pub granted_on : Sight → Option (List (List ℕ)) → Client → LeaseKind → (end : ℕ) → LeaseOutcome
   granted_on sight None client kind end = refused BadPath leases
-  granted_on sight (Some names) client kind end = granted_by_walk (walked sight client 1 0 names) client kind end
+  granted_on sight (Some names) client kind end = granted_by_walk (walked sight client root_number 0 names) client kind end
 
   -- a lease for the client on the node that the path leads to
   unfoldable pub granted : Sight → List Client → (client : ℕ) → (path : List ℕ) → LeaseKind → (end : ℕ) → LeaseOutcome

@@ -60,9 +60,13 @@ end_of p = p.start + p.length
 abbrev pub covers : (number place : ℕ) → Piece → Bool
 covers number place p = (p.number == number) && nat_le p.start place && nat_lt place (end_of p)
 
+-- a place in a file is the other one, or before it: places go by the number of the file, and then by the place
+abbrev pub ComesBy : (number place other_number other_place : ℕ) → Type 0
+ComesBy n p m q = (n < m) ⊎ ((n ≡ m) × (p ≤ q))
+
 -- q begins where p ends, or behind it
 abbrev pub IsBehind : Piece → Piece → Type 0
-IsBehind p q = (p.number < q.number) ⊎ ((p.number ≡ q.number) × (end_of p ≤ q.start))
+IsBehind p q = ComesBy p.number (end_of p) q.number q.start
 
 abbrev pub Ascend : List Piece → Type 0
 Ascend [] = Unit {0}

@@ -2,8 +2,8 @@
 use Rattle.std.specs.Prelude.{ℕ, zero, suc, ◌==◌, ◌&&◌, not, ℤ, pos, List, [], ◌∷◌, find, Option, Some, None, option_map, if◌then◌else◌, Bool, true, false}
 use Rattle.kfs_model.specs.Header.{Kind, Header}
 use Rattle.kfs_model.specs.Header.Kind.{File, Directory}
-use Rattle.kfs_model.specs.Limits.{greatest_number}
-use Rattle.kfs_model.specs.Table.{get}
+use Rattle.kfs_model.specs.Limits.{greatest_number, root_number}
+use Rattle.kfs_model.specs.Table.{Table, numbers, get}
 use Rattle.kfs_model.specs.Tree.{Tree, NameTable, headers, target, entry_count}
 
 -- A cell of a state, for one client.
@@ -51,16 +51,19 @@ abbrev pub holder : NameTable → ℕ → Option ℕ
 holder names number = option_map (λ e. e.0.0) (find (λ e. e.1 == number) names.entries)
 
 abbrev pub parent_in : (ℕ → Option Header) → NameTable → ℕ → Option ℕ
-parent_in head names number = if is_directory (head number) && not (number == 1) then holder names number else None
+parent_in head names number = if is_directory (head number) && not (number == root_number) then holder names number else None
 
-module _ {B : Type 0} where
-  abbrev pub sight : Tree B → Sight
-  sight t = record {
-    head = get (headers t);
-    name = target t.names;
-    count = λ directory. pos (entry_count t.names directory);
-    parent = parent_in (get (headers t)) t.names;
-  }
+-- what the cells of these headers and names show
+abbrev pub sight_over : (heads : Table numbers Header) → (names : NameTable) → Sight
+sight_over heads names = record {
+  head = get heads;
+  name = target names;
+  count = λ directory. pos (entry_count names directory);
+  parent = parent_in (get heads) names;
+}
+
+abbrev pub sight : {B : Type 0} → Tree B → Sight
+sight t = sight_over (headers t) t.names
 
 -- what a cell answers
 pub data Answer : Type 0 where

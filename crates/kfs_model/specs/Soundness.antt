@@ -2,7 +2,7 @@
 -- the names, so that it is the same whatever a file is made of.
 use Rattle.std.specs.Prelude.{◌≡◌, ◌≢◌, ℕ, zero, suc, ◌<◌, ◌≤◌, ◌^◌, List, Option, Some, IsTrue}
 use Rattle.kfs_model.specs.Header.{Header}
-use Rattle.kfs_model.specs.Limits.{greatest_mode, greatest_number, link_limit, size_limit}
+use Rattle.kfs_model.specs.Limits.{greatest_mode, greatest_number, link_limit, root_number, size_limit}
 use Rattle.kfs_model.specs.Table.{get}
 use Rattle.kfs_model.specs.Tree.{Tree, NameTable, headers, target, name_count}
 use Rattle.kfs_model.specs.Sight.{parent_in, is_directory, is_file}
@@ -26,14 +26,14 @@ module _ (head : ℕ → Option Header) (names : NameTable) where
     pub spelled : IsName name
     pub holder : IsTrue (is_directory (head directory))
     pub node : (h : Header) × (head number ≡ Some h)
-    pub not_root : number ≢ 1
+    pub not_root : number ≢ root_number
 
   pub record AreSound : Type 0 where
-    pub root : IsTrue (is_directory (head 1))
+    pub root : IsTrue (is_directory (head root_number))
     pub names_sound : (directory : ℕ) (name : List ℕ) (number : ℕ) → target names directory name ≡ Some number → NameIsSound directory name number
-    pub directories : (number : ℕ) → IsTrue (is_directory (head number)) → number ≢ 1 → name_count names number ≡ 1
+    pub directories : (number : ℕ) → IsTrue (is_directory (head number)) → number ≢ root_number → name_count names number ≡ 1
     pub files : (number : ℕ) → IsTrue (is_file (head number)) → (1 ≤ name_count names number) × (name_count names number ≤ link_limit)
-    pub reaches : (number : ℕ) → IsTrue (is_directory (head number)) → (steps : ℕ) × Climbs (parent_in head names) steps number 1
+    pub reaches : (number : ℕ) → IsTrue (is_directory (head number)) → (steps : ℕ) × Climbs (parent_in head names) steps number root_number
     pub ranges : (number : ℕ) (h : Header) → head number ≡ Some h → InRange number h
 
 abbrev pub IsSound : {B : Type 0} → Tree B → Type 0

@@ -2,7 +2,8 @@
 use Rattle.std.proofs.Common.{◌≡◌, ℕ, ◌<◌, ◌≤◌, ◌⊎◌, inr, ⊎_elim, Bool, true, false, cond, ◌&&◌, ◌||◌, ltb, leb, eqb, List, [], ◌∷◌, ◌++◌, Some, None, refl, sym, ap, subst, ◌∙◌, arith}
 use Rattle.std.proofs.lemmas.Bool.Decides.{nat_tests}
 use Rattle.kfs_model.specs.Table.{option_or}
-use Rattle.kfs_model.proofs.Follow.{ComesBy, comes_then, before_then, either_side, not_yet, no_more}
+use Rattle.kfs_model.specs.Plan.{ComesBy}
+use Rattle.kfs_model.proofs.Follow.{comes_then, before_then, either_side, not_yet, no_more}
 use Rattle.kfs_sweep.specs.declared.stretch.Stretch.{Stretch}
 use Rattle.kfs_sweep.specs.Stretches.{holds, origin_at, AreFrom, ends_by, begins_before, cut_below, cut_from, merged}
 

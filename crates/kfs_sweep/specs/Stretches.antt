@@ -1,7 +1,7 @@
 -- Stretches of files in order, and one list of them laid over another.
 use Rattle.std.specs.Prelude.{ℕ, ◌<◌, ◌==◌, ◌&&◌, ◌||◌, nat_le, nat_lt, Bool, List, [], ◌∷◌, ◌++◌, Option, Some, None, if◌then◌else◌}
 use Rattle.kfs_model.specs.Table.{option_or}
-use Rattle.kfs_model.proofs.Follow.{ComesBy}
+use Rattle.kfs_model.specs.Plan.{ComesBy}
 use Rattle.kfs_sweep.specs.declared.stretch.Origin.{Origin}
 use Rattle.kfs_sweep.specs.declared.stretch.Stretch.{Stretch}
 

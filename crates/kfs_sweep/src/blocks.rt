@@ -7,10 +7,7 @@ ghost use Rattle.kfs_model.specs.Limits.{size_limit};
 ghost use Rattle.kfs_sweep.specs.Lefts.{IsFilled, IsWhole};
 ghost use Rattle.kfs_sweep.specs.PieceBlocks.{piece_blocks, zeros_until};
 
-use kfs_value::{Piece, Source};
-
-/// Bytes in a block of a file.
-const BLOCK_SIZE: u64 = 4096;
+use kfs_value::{BLOCK_SIZE, Piece, Source};
 
 /// How many blocks are counted so far, and the first block behind them.
 #[derive(Clone, Copy)]

@@ -1,6 +1,7 @@
 //! What the entries of a log make of the bytes of files.
 ghost use Rattle.std.specs.Prelude.{◌≡◌, ◌≤◌, ◌++◌, IfOk, IfSome, length, map};
 ghost use Rattle.std.specs.List.{AllByRecursion};
+ghost use Rattle.kfs_model.specs.Limits.{entry_limit};
 ghost use Rattle.kfs_value.specs.Views.{piece_of};
 ghost use Rattle.kfs_sweep.specs.Lefts.{IsFilled, IsWhole};
 ghost use Rattle.kfs_sweep.specs.Made.{IsFit};
@@ -72,7 +73,7 @@ fn stretches_of<A: Allocator>(
     requires ascending { Ascend 0 sizes.now }
     requires sizes { AllByRecursion IsSize sizes.now }
     requires spans { AllByRecursion IsSpanned entries.now }
-    requires count { length entries.now ≤ 4096 }
+    requires count { length entries.now ≤ entry_limit }
     ensures made { IfOk result (λ out. out.items ≡ growths sizes.now ++ reaches sizes.now 0 entries.now) }
     ensures fit { IfOk result (λ out. AllByRecursion IsFit out.items) }
 {
@@ -99,7 +100,7 @@ pub fn sweep<A: Allocator + Copy>(
     requires ascending { Ascend 0 sizes.now }
     requires sizes { AllByRecursion IsSize sizes.now }
     requires spans { AllByRecursion IsSpanned entries.now }
-    requires count { length entries.now ≤ 4096 }
+    requires count { length entries.now ≤ entry_limit }
     ensures right { IfOk result (λ out. AreRightFrom sizes.now entries.now (map piece_of out.items)) }
     ensures whole { IfOk result (λ out. AllByRecursion IsWhole out.items) }
     ensures filled { IfOk result (λ out. AllByRecursion IsFilled out.items) }

@@ -10,7 +10,9 @@ mod rows;
 
 pub use entry::{Entry, Log, Span};
 pub use header::{Header, Kind};
-pub use limits::{GREATEST_MODE, ROOT};
+pub use limits::{
+    BLOCK_SIZE, CLIMB_LIMIT, ENTRY_LIMIT, GREATEST_MODE, LINK_LIMIT, PAYLOAD_LIMIT, ROOT,
+};
 pub use name::Name;
 pub use plan::{NameRow, NodeRow, Piece, Plan, Source};
 pub use rows::Rows;

@@ -1,7 +1,25 @@
-//! Numbers and modes that the rules name.
+//! Numbers, modes and limits that the rules name.
 
 /// The number of the root directory.
 pub const ROOT: u32 = 1;
 
 /// The greatest mode: all nine permission bits (POSIX `<sys/stat.h>`).
 pub const GREATEST_MODE: u16 = 0o777;
+
+/// The most bytes of a name.
+pub const NAME_LIMIT: usize = 255;
+
+/// The most names of a file.
+pub const LINK_LIMIT: u16 = 1_024;
+
+/// The most steps from a directory up to the root.
+pub const CLIMB_LIMIT: u32 = 65_536;
+
+/// Bytes in a block of a file.
+pub const BLOCK_SIZE: u64 = 4_096;
+
+/// The most entries of a log.
+pub const ENTRY_LIMIT: u16 = 4_096;
+
+/// The most bytes of a payload.
+pub const PAYLOAD_LIMIT: u32 = 65_536;

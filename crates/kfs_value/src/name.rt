@@ -1,6 +1,7 @@
 //! The names of files and directories.
 ghost use Rattle.std.specs.Prelude.{◌≡◌, ◌↔◌, IsSome, IsTrue, IfSome};
 
+use crate::limits::NAME_LIMIT;
 use arrayvec::ArrayVec;
 use std::marker::Model;
 
@@ -10,7 +11,7 @@ use std::marker::Model;
 /// The bytes lie in the value itself, so a name takes no memory of its own.
 #[derive(Clone, Debug, PartialEq, Eq, PartialOrd, Ord, Hash, Drop)]
 pub struct Name {
-    bytes: ArrayVec<u8, 255>,
+    bytes: ArrayVec<u8, NAME_LIMIT>,
 }
 
 impl Model for Name {
@@ -45,7 +46,7 @@ impl Name {
     pub fn is_name(bytes: &[u8]) -> bool
         ensures { IsTrue result ↔ IsName bytes.now }
     {
-        if bytes.len() > 255 || matches!(bytes, [] | b"." | b"..") {
+        if bytes.len() > NAME_LIMIT || matches!(bytes, [] | b"." | b"..") {
             return false;
         }
         !bytes.iter().any(|byte| *byte == 0 || *byte == b'/')
