@@ -20,7 +20,6 @@ use std::ops::Bound;
 
 /// Nodes by number and names by directory and name. A slot without a value shows nothing; there are
 /// such slots only while a change is being made.
-#[derive(Drop)]
 pub(crate) struct Rows<A: Allocator> {
     pub(crate) headers: BTreeMap<u32, Option<Header>, A>,
     /// The number that a name leads to.
@@ -29,6 +28,22 @@ pub(crate) struct Rows<A: Allocator> {
     pub(crate) counts: BTreeMap<u32, Option<u64>, A>,
     /// How many names of a directory lead to a node, by the node's number and then the directory's.
     pub(crate) uplinks: BTreeMap<(u32, u32), Option<u64>, A>,
+}
+
+// Written out, so that the drop of the maps is proved once and not in each crate that drops a shape.
+impl<A: Allocator> Drop for Rows<A> {
+    fn drop(self) {
+        let Rows {
+            headers,
+            names,
+            counts,
+            uplinks,
+        } = self;
+        drop(headers);
+        drop(names);
+        drop(counts);
+        drop(uplinks);
+    }
 }
 
 impl<A: Allocator> Rows<A> {

@@ -46,12 +46,20 @@ impl Lease {
 }
 
 /// A lease of each client on each node at most.
-#[derive(Drop)]
 pub struct Rows<A: Allocator> {
     /// By the node's number and then the client's.
     pub leases: BTreeMap<(u32, u32), Lease, A>,
     /// The end of each row, and its key.
     pub ends: BTreeSet<(u64, (u32, u32)), A>,
+}
+
+// Written out, so that the drop of the two is proved once and not in each crate that drops leases.
+impl<A: Allocator> Drop for Rows<A> {
+    fn drop(self) {
+        let Rows { leases, ends } = self;
+        drop(leases);
+        drop(ends);
+    }
 }
 
 impl<A: Allocator + Copy> Rows<A> {
