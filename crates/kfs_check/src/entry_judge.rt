@@ -22,6 +22,9 @@ use std::alloc::{AllocError, Allocator};
 /// The most names of a file.
 const LINK_LIMIT: u16 = 1024;
 
+/// The most bytes of a file.
+const SIZE_LIMIT: u128 = 1 << 32;
+
 /// The most steps of a climb.
 const CLIMB_LIMIT: u32 = 65_536;
 
@@ -138,6 +141,7 @@ impl<A: Allocator + Copy> EntryJudge<'_, A> {
                 let free = self.is_number_free(recorder, *number)?;
                 Ok(unless(free, Reason::NumberTaken))
             }
+            Check::EndIsInRange(end) => Ok(unless(*end <= SIZE_LIMIT, Reason::TooBig)),
             Check::IsNotAbove { node, dir } => {
                 let meets = self.climb_meets(recorder, *node, *dir)?;
                 Ok(unless(!meets, Reason::BelowItself))

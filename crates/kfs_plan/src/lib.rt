@@ -3,10 +3,12 @@
 #![tactic(auto)]
 
 mod judgement;
+mod kept;
 mod rows;
 mod spelling;
 mod submission;
 
 pub use judgement::judge;
+pub use kept::keep_bytes;
 pub use rows::{RowFault, check_plan};
 pub use submission::{Back, Fault, Judged, Outcome, Submission, Why};
