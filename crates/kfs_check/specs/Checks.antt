@@ -44,6 +44,7 @@ check_of (variants.HasRoomForLink n) = checks.HasRoomForLink n
 check_of (variants.NameIsFree key) = checks.NameIsFree key.now.0 key.now.1
 check_of (variants.NumberIsGranted n) = checks.NumberIsGranted n
 check_of (variants.NumberIsFree n) = checks.NumberIsFree n
+check_of (variants.EndIsInRange end) = checks.EndIsInRange end
 check_of (variants.IsNotAbove n d) = checks.IsNotAbove n d
 
 -- the cells of the nodes that a climb passes

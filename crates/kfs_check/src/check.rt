@@ -64,6 +64,8 @@ pub enum Check<'a> {
     NumberIsGranted(u32),
     /// The number is no node's, was none's before the log, and the log didn't create it.
     NumberIsFree(u32),
+    /// A file may end at this place. It may be the sum of two numbers of 64 bits.
+    EndIsInRange(u128),
     /// The node isn't the directory and doesn't lie above it.
     IsNotAbove { node: u32, dir: u32 },
 }

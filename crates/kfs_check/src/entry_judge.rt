@@ -17,7 +17,7 @@ use crate::reads::Recorder;
 use kfs_draft::Draft;
 use kfs_image::{Header, Kind, Name};
 use kfs_mode::{Client, Want, may};
-use kfs_value::{CLIMB_LIMIT, LINK_LIMIT};
+use kfs_value::{CLIMB_LIMIT, LINK_LIMIT, SIZE_LIMIT};
 use std::alloc::{AllocError, Allocator};
 
 /// What judges the next entry: the log's client, and the draft of the entries so far.
@@ -133,6 +133,7 @@ impl<A: Allocator + Copy> EntryJudge<'_, A> {
                 let free = self.is_number_free(recorder, *number)?;
                 Ok(unless(free, Reason::NumberTaken))
             }
+            Check::EndIsInRange(end) => Ok(unless(*end <= SIZE_LIMIT, Reason::TooBig)),
             Check::IsNotAbove { node, dir } => {
                 let meets = self.climb_meets(recorder, *node, *dir)?;
                 Ok(unless(!meets, Reason::BelowItself))

@@ -1,4 +1,4 @@
--- A log with an entry that isn't judged yet, by what its bytes were decoded to.
+-- A log with a Write or a Truncate, by what its bytes were decoded to.
 use Rattle.std.proofs.Common.{◌≡◌, ◌≢◌, true, false, List, ℕ, Option, Some, None, Result, Ok, map, refl, sym, ap, subst, ◌∙◌}
 use Rattle.std.specs.Prelude.{All}
 use Rattle.std.specs.List.{list_all}
@@ -10,17 +10,17 @@ use Rattle.kfs_value.specs.Views.{entry_of}
 use Rattle.kfs_value.specs.declared.entry.Log.{Log as CodeLog}
 use Rattle.kfs_entry.specs.declared.fault.SpellFault.{SpellFault}
 use Rattle.kfs_entry.specs.declared.fault.SpellFault.TheVariants as faults
-use Rattle.kfs_step.specs.JudgedEntries.{IsJudged, is_judged}
+use Rattle.kfs_plan.specs.KeptBytes.{KeepsBytes, keeps_bytes}
 use Rattle.kfs_plan.specs.Judging.{HasOtherEntry}
 use Rattle.kfs_command.specs.Command.{Command, Request, Submit, IsBadLine}
-use Rattle.kfs_judge.proofs.JudgedEntries.{all_judged}
+use Rattle.kfs_plan.proofs.KeptBytes.{all_kept}
 
-pub all_are_judged : {A : Type 0} (bytes : List ℕ) (log : CodeLog A) → ((answer : Result Log SpellingFault) → LogAnswer bytes answer → Ok (log_of bytes log) ≡ answer) → All IsJudged log.entries → HasOtherEntry bytes → ⊥
-all_are_judged bytes log only all has =
+pub all_are_kept : {A : Type 0} (bytes : List ℕ) (log : CodeLog A) → ((answer : Result Log SpellingFault) → LogAnswer bytes answer → Ok (log_of bytes log) ≡ answer) → All KeepsBytes log.entries → HasOtherEntry bytes → ⊥
+all_are_kept bytes log only all has =
     let same : Ok (log_of bytes log) ≡ Ok has.log = only (Ok has.log) has.spelled in
-    let judged : list_all is_judged (map (entry_of bytes) log.entries) ≡ true = all_judged bytes log.entries all in
+    let kept : list_all keeps_bytes (map (entry_of bytes) log.entries) ≡ true = all_kept bytes log.entries all in
     let log_is : log_of bytes log ≡ has.log = cc in
-    let e : true ≡ false = sym judged ∙ ap (λ l. list_all is_judged l.entries) log_is ∙ has.other in
+    let e : true ≡ false = sym kept ∙ ap (λ l. list_all keeps_bytes l.entries) log_is ∙ has.other in
     cc
 
 no_log : (fault : SpellFault) (log : Log) → fault ≢ faults.OutOfMemory → OnRefusal (λ given. given ≡ Ok log) fault → ⊥

@@ -117,7 +117,7 @@ asked_in (name ∷ words) = if are_words (name ∷ words) then command_of name w
 abbrev pub asked_by : (line : List ℕ) → Option Command
 asked_by line = asked_in (cut space line)
 
--- the line is no command, or hands in a log with an entry that isn't judged yet
+-- the line is no command, or hands in a log with a Write or a Truncate
 abbrev pub IsBadLine : Option Command → Type 0
 IsBadLine None = Unit {0}
 IsBadLine (Some (Setup command)) = ⊥

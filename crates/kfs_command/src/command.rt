@@ -9,10 +9,9 @@ ghost use Rattle.kfs_text.specs.Reading.{ReadsAs, checked, first_by, words_left}
 
 use kfs_entry::{SpellFault, decode_log};
 use kfs_image::TierSizes;
-use kfs_judge::are_judged;
 use kfs_lease::{Act, LeaseKind};
 use kfs_mode::{Client, ClientFault};
-use kfs_plan::Submission;
+use kfs_plan::{Submission, keep_bytes};
 use kfs_text::{Refusal, Words};
 use std::alloc::Allocator;
 
@@ -215,7 +214,7 @@ fn read_list(words: &mut Words<'_>) -> Result<u32, Refusal>
     words.only_number32()
 }
 
-/// A log with an entry that isn't judged yet is a bad line.
+/// A log with a Write or a Truncate is a bad line yet.
 #[tactic(auto, using(crate::proofs::Submitted::none_is_bad, crate::proofs::Submitted::other_is_bad))]
 fn read_submit<A: Allocator + Copy>(
     alloc: A,
@@ -246,14 +245,14 @@ fn read_submission<A: Allocator + Copy>(
     Ok(Submission { client, log, plan })
 }
 
-/// Whether the bytes are a log with an entry that isn't judged yet.
+/// Whether the bytes are a log with a Write or a Truncate.
 fn has_other_entry<A: Allocator>(alloc: A, log: &[u8]) -> Result<bool, Refusal>
     ensures yes { IfOk result (λ has. has ≡ true → HasOtherEntry log.now) }
     ensures no { IfOk result (λ has. has ≡ false → HasOtherEntry log.now → ⊥) }
     ensures memory { IfErr result (λ refusal. refusal ≡ Refusal.OutOfMemory) }
 {
     match decode_log(alloc, log) {
-        Ok(log) => Ok(!are_judged(log.entries.as_slice())),
+        Ok(log) => Ok(!keep_bytes(log.entries.as_slice())),
         Err(fault) => match fault {
             SpellFault::OutOfMemory => Err(Refusal::OutOfMemory),
             _ => Ok(false),

@@ -33,14 +33,14 @@ use Rattle.kfs_image.specs.ShownTree.{tree_of, IsLawful}
 use Rattle.kfs_image.proofs.BlankTrees.{IsBlank, blank_is_shown, blank_is_lawful, shown_zero}
 use Rattle.kfs_image.specs.Contents.{contents_in}
 use Rattle.kfs_image.proofs.NetTables.{net_makes}
-use Rattle.kfs_step.specs.JudgedEntries.{is_judged}
+use Rattle.kfs_plan.specs.KeptBytes.{keeps_bytes}
 use Rattle.kfs_step.specs.Rows.{keyed_node_row}
 use Rattle.kfs_plan.specs.Judging.{IsVerdict, Tells, TellsYes}
 use Rattle.kfs_plan.specs.declared.submission.Outcome.{Outcome}
 use Rattle.kfs_plan.specs.declared.submission.Outcome.TheVariants as outcomes
 use Rattle.kfs_plan.proofs.MarkedRuns.{IsUntouched, ends_beside}
 use Rattle.kfs_plan.proofs.Untouched.{need-untouched}
-use Rattle.kfs_judge.proofs.JudgedEntries.{all_judged}
+use Rattle.kfs_plan.proofs.KeptBytes.{all_kept}
 use Rattle.kfs_plan.specs.declared.submission.Fault.{Fault}
 use Rattle.kfs_plan.specs.declared.answers.Reply.{Reply}
 use Rattle.kfs_plan.specs.declared.answers.Reply.TheVariants as replies
@@ -127,12 +127,12 @@ module _ (desk : Parts) (is_desk : IsDesk desk) (lawful : IsLawful desk.image.co
     abbrev sight_before : ClientSight
     sight_before = client_sight_of s yes.client.number
 
-    are_judged : list_all is_judged entries ≡ true
-    are_judged = all_judged submission.log log.entries yes.spelled.judged
+    are_kept : list_all keeps_bytes entries ≡ true
+    are_kept = all_kept submission.log log.entries yes.spelled.kept
 
     untouched : IsUntouched marked_after
     untouched =
-        let beside = ends_beside yes.client sight_before s.tree entries are_judged after yes.comes.ran in
+        let beside = ends_beside yes.client sight_before s.tree entries are_kept after yes.comes.ran in
         let same : beside.marked_after ≡ marked_after = cc (beside.ran, yes.comes.ran_marked) in
         subst IsUntouched same beside.untouched
 

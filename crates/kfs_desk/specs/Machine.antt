@@ -104,7 +104,7 @@ pub record IsAnswered (old : Desk) (submission : Submission) (answer : CodeReply
   pub rows : new.rows ≡ old.rows + 1
   pub limit : new.limit ≡ old.limit
 
--- why there is no answer: a full docket, that exactly, or else an entry that isn't judged yet, or want of memory
+-- why there is no answer: a full docket, that exactly, or else a Write or a Truncate, or want of memory
 abbrev pub IsWhy : Desk → (log : List ℕ) → Why → Type 0
 IsWhy desk log whys.DocketFull = desk.rows ≡ desk.limit
 IsWhy desk log whys.OtherEntry = (desk.rows ≢ desk.limit) × HasOtherEntry log

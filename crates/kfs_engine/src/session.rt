@@ -104,7 +104,7 @@ impl<A: Allocator + Copy> Session<A> {
     }
 }
 
-/// Answers a command to the desk, whose log, where it has one, has no entry that isn't judged yet.
+/// Answers a command to the desk, whose log, where it has one, has no Write and no Truncate.
 fn answer_by_desk<A: Allocator + Copy>(
     alloc: A,
     desk: &mut Desk<A>,

@@ -1,7 +1,8 @@
 -- What a log's judge has made of entries one after another.
-use Rattle.std.specs.Prelude.{ℕ, List, map, Option}
+use Rattle.std.specs.Prelude.{ℕ, List, map, length, Option}
+use Rattle.std.specs.List.{AllByRecursion}
 use Rattle.kfs_model.specs.Looked.{looked_cells}
-use Rattle.kfs_value.specs.Views.{entry_of}
+use Rattle.kfs_value.specs.Views.{entry_of, IsWithin}
 use Rattle.kfs_value.specs.declared.entry.Entry.{Entry as CodeEntry}
 use Rattle.kfs_value.specs.declared.entry.Span.{Span}
 use Rattle.kfs_step.specs.declared.log_judge.LogJudge.{LogJudge}
@@ -10,14 +11,18 @@ use Rattle.kfs_draft.specs.Overlay.{IsWritten}
 use Rattle.kfs_check.specs.Recorders.{Known, ReadsAt}
 use Rattle.kfs_judge.specs.Walks.{EndsAt}
 
+-- the payloads' spans lie in the source
+abbrev pub AreWithin : List ℕ → List (CodeEntry Span) → Type 0
+AreWithin source entries = AllByRecursion (IsWithin (length source)) entries
+
 -- entries, from a judge that has entered none
 module _ {A : Type 0} (old new : LogJudge A) (entries : List (CodeEntry Span)) where
   -- the run over the cells stops at this fault, or ends at what the draft shows
   abbrev pub StopsAt : Option EntryFault → Type 0
-  StopsAt fault = Known new.recorder (λ before. (source : List ℕ) → EndsAt old.client.now new.draft before (map (entry_of source) entries) fault)
+  StopsAt fault = Known new.recorder (λ before. (source : List ℕ) → AreWithin source entries → EndsAt old.client.now new.draft before (map (entry_of source) entries) fault)
 
   abbrev pub ReadsTheirCells : Type 0
-  ReadsTheirCells = Known new.recorder (λ before. (source : List ℕ) → ReadsAt old.recorder new.recorder (looked_cells old.client.now before (map (entry_of source) entries)))
+  ReadsTheirCells = Known new.recorder (λ before. (source : List ℕ) → AreWithin source entries → ReadsAt old.recorder new.recorder (looked_cells old.client.now before (map (entry_of source) entries)))
 
   abbrev pub WritesTheirCells : Type 0
-  WritesTheirCells = Known new.recorder (λ before. (source : List ℕ) → IsWritten new.draft (looked_cells old.client.now before (map (entry_of source) entries)))
+  WritesTheirCells = Known new.recorder (λ before. (source : List ℕ) → AreWithin source entries → IsWritten new.draft (looked_cells old.client.now before (map (entry_of source) entries)))

@@ -1,12 +1,11 @@
 -- What a walk over a log's entries has found, in a state.
-use Rattle.std.specs.Prelude.{◌≡◌, ℕ, List, [], map, Option, None, Some, Result, Ok, Err, Bool}
+use Rattle.std.specs.Prelude.{◌≡◌, ℕ, List, [], map, length, Option, None, Some, Result, Ok, Err, Bool}
 use Rattle.kfs_check.specs.Reads.{Agrees, Always, AreAmong}
 use Rattle.kfs_check.specs.View.{clients_of, client_sight_in}
 use Rattle.kfs_model.specs.Looked.{seen_run, looked_cells}
 use Rattle.kfs_model.specs.Access.{Client}
 use Rattle.kfs_model.specs.Lease.{row_of}
 use Rattle.kfs_model.specs.Tree.{Tree}
-use Rattle.std.specs.Prelude.{Bool}
 use Rattle.kfs_model.specs.Sight.{Sight, ClientSight, sight, client_sight}
 use Rattle.kfs_model.specs.Soundness.{IsSound}
 use Rattle.kfs_model.specs.CleanStep.{Fits}
@@ -20,6 +19,7 @@ use Rattle.kfs_check.specs.Checks.{reason_of}
 use Rattle.kfs_draft.specs.declared.draft.Draft.{Draft}
 use Rattle.kfs_judge.specs.declared.walk.Walk.{Walk}
 use Rattle.kfs_check.specs.declared.view.View.{View}
+use Rattle.kfs_entry.specs.Answers.{SpansAreWithin}
 use Rattle.kfs_value.specs.Views.{entry_of}
 use Rattle.kfs_value.specs.declared.entry.Log.{Log as CodeLog}
 use Rattle.kfs_draft.specs.Overlay.{over}
@@ -47,18 +47,19 @@ module _ {A : Type 0} where
 abbrev pub IsRowOf : List Client → ℕ → Client → Type 0
 IsRowOf rows wanted client = row_of rows wanted ≡ Some client
 
--- the client's walk over the log: at every fitting tree and all leases that agree with its reads, the entries come to its outcome
+-- the client's walk over the log: whatever bytes the payloads' spans are of, at every fitting tree and all leases that agree
+-- with its reads, the entries come to its outcome
 abbrev pub IsWalkOf : {A : Type 0} → Client → CodeLog A → Walk A → Type 0
 IsWalkOf client log walk =
-    (source : List ℕ) (tree : Tree ℕ) (held : ℕ → Bool) → Fits client tree (map (entry_of source) log.entries) → Agrees walk.reads.entries (client_sight tree held)
+    (source : List ℕ) → SpansAreWithin (length source) log → (tree : Tree ℕ) (held : ℕ → Bool) → Fits client tree (map (entry_of source) log.entries) → Agrees walk.reads.entries (client_sight tree held)
     → ComesToTree client held tree (map (entry_of source) log.entries) walk.outcome
 
 -- the same over cells: in every state that agrees with the reads, the run over its cells comes to the outcome
 abbrev pub IsCellWalkOf : {A : Type 0} → Client → CodeLog A → Walk A → Type 0
-IsCellWalkOf client log walk = Always walk.reads.entries (λ before. (source : List ℕ) → ComesTo client before (map (entry_of source) log.entries) walk.outcome)
+IsCellWalkOf client log walk = Always walk.reads.entries (λ before. (source : List ℕ) → SpansAreWithin (length source) log → ComesTo client before (map (entry_of source) log.entries) walk.outcome)
 
 -- each read is at a cell that the log looks at in the view
 abbrev pub ReadsLookedCells : {A : Type 0} → View A → CodeLog A → Walk A → Type 0
 ReadsLookedCells view log walk =
-    (client : Client) → IsRowOf (clients_of view) log.client client → (source : List ℕ)
+    (client : Client) → IsRowOf (clients_of view) log.client client → (source : List ℕ) → SpansAreWithin (length source) log
     → AreAmong walk.reads.entries (looked_cells client (client_sight_in view log.client) (map (entry_of source) log.entries))

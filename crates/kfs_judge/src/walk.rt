@@ -1,9 +1,8 @@
 //! The entries of a log against a view.
-ghost use Rattle.std.specs.Prelude.{◌≡◌, ℕ, ◌≤◌, false, length, All, IsSome, IfOk, [], None, Ok, OnOk};
+ghost use Rattle.std.specs.Prelude.{◌≡◌, ℕ, ◌≤◌, false, length, IsSome, IfOk, [], None, Ok, OnOk};
 ghost use Rattle.kfs_model.specs.Access.{Client as ClientRow};
 ghost use Rattle.kfs_model.specs.Lease.{row_of};
 ghost use Rattle.kfs_model.specs.Sight.{Sight};
-ghost use Rattle.kfs_step.specs.JudgedEntries.{IsJudged};
 ghost use Rattle.kfs_judge.specs.EntriesEntered.{StopsAt, ReadsTheirCells, WritesTheirCells};
 ghost use Rattle.kfs_draft.specs.Overlay.{has_created, over, ShiftsBy, IsWritten};
 ghost use Rattle.kfs_check.specs.Reads.{Agrees, AreOnce};
@@ -35,16 +34,16 @@ pub struct Walk<A: Allocator> {
 }
 
 /// Goes through the entries of a log against a view. The log's client has a row there, and the entries
-/// are at most 4,096, without a Write and a Truncate. Where memory is refused nothing is kept.
+/// are at most 4,096. Where memory is refused nothing is kept.
 pub fn judge_entries<A: Allocator + Copy>(
     alloc: A,
     view: &View<A>,
     log: &Log<A>,
 ) -> Result<Walk<A>, AllocError>
     requires client { IsSome (row_of (clients_of view.now) log.now.client) }
-    requires judged { All IsJudged log.now.entries }
     requires count { length log.now.entries ≤ 4096 }
-    // At every sound tree and all leases that agree with the reads, the entries come to this outcome one by one.
+    // At every sound tree and all leases that agree with the reads, the entries come to this outcome one by one,
+    // whatever bytes the payloads' spans are of.
     ensures known { IfOk result (λ walk. (client : ClientRow) × IsRowOf (clients_of view.now) log.now.client client × IsWalkOf client log.now walk) }
     ensures view_agrees { IfOk result (λ walk. Agrees walk.reads.entries (client_sight_in view.now log.now.client)) }
     ensures once { IfOk result (λ walk. AreOnce walk.reads.entries) }
@@ -60,7 +59,6 @@ fn walk_entries<A: Allocator + Copy>(
     log: &Log<A>,
 ) -> Result<Walk<A>, AllocError>
     requires client { IsSome (row_of (clients_of view.now) log.now.client) }
-    requires judged { All IsJudged log.now.entries }
     requires count { length log.now.entries ≤ 4096 }
     // In every state that agrees with the reads, the run over its cells comes to this outcome.
     ensures known { IfOk result (λ walk. (client : ClientRow) × IsRowOf (clients_of view.now) log.now.client client × IsCellWalkOf client log.now walk) }
@@ -89,7 +87,6 @@ fn enter_all<A: Allocator + Copy>(
     judge: &mut LogJudge<'_, A>,
     entries: &[Entry<Span>],
 ) -> Result<Option<EntryFault>, AllocError>
-    requires judged { All IsJudged entries.now }
     requires count { length entries.now ≤ 4096 }
     requires shown { (s : Sight) → over judge.old.draft s ≡ s }
     requires created { (n : ℕ) → has_created judge.old.draft n ≡ false }

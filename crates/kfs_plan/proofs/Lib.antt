@@ -1,4 +1,5 @@
 -- Lemmas on the comparison of a plan, and on verdicts.
+pub mod KeptBytes
 pub mod MarkedRuns
 pub mod Untouched
 pub mod RowsCompared

@@ -1,4 +1,4 @@
--- The judged entries, run over marks: the run ends where the run over bytes does, and each byte stays as it was.
+-- Entries that keep every byte, run over marks: the run ends where the run over bytes does, and each byte stays as it was.
 use Rattle.std.specs.Prelude.{◌≡◌, ℕ, ◌+◌, ◌==◌, ◌||◌, Bool, true, false, cond, List, [], ◌∷◌, Option, Some, None, option_map, Result, Ok, Err, refl}
 use Rattle.std.specs.List.{list_all}
 use Rattle.std.specs.Ordering.{eq_by_cmp}
@@ -16,7 +16,7 @@ use Rattle.kfs_model.specs.Run.{Mark, Base, EntryFault, run, run_from, over_byte
 use Rattle.kfs_model.specs.Plan.{is_base}
 use Rattle.kfs_model.proofs.Cells.{recut, headers-recut}
 use Rattle.kfs_model.proofs.Marks.{marks_give_bytes}
-use Rattle.kfs_step.specs.JudgedEntries.{is_judged}
+use Rattle.kfs_plan.specs.KeptBytes.{keeps_bytes}
 
 -- each byte of each file is as it was before the log
 pub record IsUntouched (t : Tree Mark) : Type 0 where
@@ -99,7 +99,7 @@ module _ (client : Client) (index n mode : ℕ) (t : Tree Mark) (untouched : IsU
 names-untouched : (t : Tree Mark) (names : NameTable) → IsUntouched t → IsUntouched (swept (with_names names t))
 names-untouched t names untouched = swept-untouched (with_names names t) (record { cells = untouched.cells })
 
-entry-untouched : (client : Client) (index : ℕ) (entry : Entry) (t : Tree Mark) → is_judged entry ≡ true → IsUntouched t → IsUntouched (effect over_marks client index entry t)
+entry-untouched : (client : Client) (index : ℕ) (entry : Entry) (t : Tree Mark) → keeps_bytes entry ≡ true → IsUntouched t → IsUntouched (effect over_marks client index entry t)
 unfolding change_of
 entry-untouched client index (Create d m n kind mode) t is untouched = create-untouched client index d m n kind mode t untouched
 entry-untouched client index (Write n offset payload) t is untouched = cc
@@ -111,7 +111,7 @@ entry-untouched client index (Chmod n mode) t is untouched = chmod-untouched cli
 
 -- ---- a run
 
-run-untouched : (client : Client) (before : ClientSight) (index : ℕ) (created : List ℕ) (t : Tree Mark) (entries : List Entry) → list_all is_judged entries ≡ true → IsUntouched t → (after : Tree Mark) → run_from over_marks client before index created t entries ≡ Ok after → IsUntouched after
+run-untouched : (client : Client) (before : ClientSight) (index : ℕ) (created : List ℕ) (t : Tree Mark) (entries : List Entry) → list_all keeps_bytes entries ≡ true → IsUntouched t → (after : Tree Mark) → run_from over_marks client before index created t entries ≡ Ok after → IsUntouched after
 unfolding run_from
 run-untouched client before index created t [] are untouched after ran = let same : t ≡ after = cc in subst IsUntouched same untouched
 run-untouched client before index created t (entry ∷ entries) are untouched after ran =
@@ -136,7 +136,7 @@ ended : (byte : Mark → ℕ) (after : Tree ℕ) (ran : Result (Tree Mark) Entry
 ended byte after (Ok end) is = (end, refl, cc)
 ended byte after (Err fault) is = cc
 
-pub ends_beside : (client : Client) (before : ClientSight) (tree : Tree ℕ) (entries : List Entry) → list_all is_judged entries ≡ true → (after : Tree ℕ) → run over_bytes client before tree entries ≡ Ok after → EndsBeside client before tree entries after
+pub ends_beside : (client : Client) (before : ClientSight) (tree : Tree ℕ) (entries : List Entry) → list_all keeps_bytes entries ≡ true → (after : Tree ℕ) → run over_bytes client before tree entries ≡ Ok after → EndsBeside client before tree entries after
 ends_beside client before tree entries are after ran =
     let byte = byte_of tree entries in
     let (end, is, same) = ended byte after (run over_marks client before (marked tree) entries) (marks_give_bytes client before tree entries ∙ ran) in

@@ -18,7 +18,7 @@ use Rattle.kfs_value.specs.declared.plan.Plan.{Plan as CodePlan}
 use Rattle.kfs_image.specs.declared.shape.Net.{Net}
 use Rattle.kfs_plan.specs.declared.rows.RowFault.{RowFault as CodeRowFault}
 use Rattle.kfs_judge.specs.declared.walk.EntryFault.{EntryFault as CodeEntryFault}
-use Rattle.kfs_step.specs.JudgedEntries.{is_judged}
+use Rattle.kfs_plan.specs.KeptBytes.{keeps_bytes}
 use Rattle.kfs_plan.specs.PlanCheck.{first_unlike, TellsRow, IsChecked}
 use Rattle.kfs_step.specs.Rows.{keyed_name_row, keyed_node_row}
 use Rattle.kfs_judge.specs.Walks.{ComesToTree}
@@ -55,7 +55,7 @@ module _ {A : Type 0} (client : Client) (before : ClientSight) (tree : Tree ℕ)
 
 -- a walk that ends, and what is told of its net
 pub walk_is_checked : {A : Type 0} (client : Client) (held : ℕ → Bool) (tree : Tree ℕ) (entries : List Entry) (outcome : Result (Net A) CodeEntryFault) (net : Net A) (plan : CodePlan A) (result : Result ℕ CodeRowFault)
-    → list_all is_judged entries ≡ true → outcome ≡ Ok net → ComesToTree client held tree entries outcome → TellsRow (first_unlike net plan) 0 result → IsChecked client (client_sight tree held) tree entries plan result
+    → list_all keeps_bytes entries ≡ true → outcome ≡ Ok net → ComesToTree client held tree entries outcome → TellsRow (first_unlike net plan) 0 result → IsChecked client (client_sight tree held) tree entries plan result
 walk_is_checked client held tree entries outcome net plan result are is comes told =
     let end = subst (ComesToTree client held tree entries) is comes in
     let before = client_sight tree held in

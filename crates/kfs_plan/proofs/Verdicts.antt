@@ -1,5 +1,5 @@
 -- The verdict on a submission, case by case of the judgement's order.
-use Rattle.std.specs.Prelude.{◌≡◌, ◌≢◌, ℕ, true, false, cond, List, [], Option, Some, None, Result, Ok, Err, refl}
+use Rattle.std.specs.Prelude.{◌≡◌, ◌≢◌, ℕ, true, false, cond, List, [], length, Option, Some, None, Result, Ok, Err, refl}
 use Rattle.std.specs.Option.{option_map}
 use Rattle.std.proofs.Common.{ap, sym, subst, ◌∙◌}
 use Rattle.std.proofs.lemmas.Bool.{eq-eqb, ne_eqb}
@@ -42,7 +42,7 @@ use Rattle.kfs_model.proofs.AnswersExist.{log_has_answer, plan_has_answer}
 use Rattle.kfs_check.proofs.Lists.{row_has_number}
 use Rattle.kfs_plan.proofs.MarkedRuns.{EndsBeside, ends_beside}
 use Rattle.kfs_plan.proofs.PlanChecked.{first_wrong-unlike}
-use Rattle.kfs_judge.proofs.JudgedEntries.{all_judged}
+use Rattle.kfs_plan.proofs.KeptBytes.{all_kept, kept_are_within}
 use Rattle.kfs_plan.proofs.Untouched.{need-untouched}
 
 module _ (s : State) (number : ℕ) where
@@ -153,7 +153,7 @@ module _ (A : Type 0) (s : State) (submission : Submission) where
 
       module _ (net : Net A) (comes : ComesToTree client (holds s.leases submission.client) s.tree the_log.entries (Ok net)) where
         ends : EndsBeside client (client_sight_of s client.number) s.tree the_log.entries comes.0
-        ends = ends_beside client (client_sight_of s client.number) s.tree the_log.entries (all_judged submission.log log.entries spelled.judged) comes.0 (ap (λ before. run over_bytes client before s.tree the_log.entries) (sym sights) ∙ comes.1)
+        ends = ends_beside client (client_sight_of s client.number) s.tree the_log.entries (all_kept submission.log log.entries spelled.kept) comes.0 (ap (λ before. run over_bytes client before s.tree the_log.entries) (sym sights) ∙ comes.1)
 
         first : first_wrong_row s.tree ends.marked_after (plan_of plan) ≡ first_unlike net plan
         first = first_wrong-unlike client (client_sight_of s client.number) s.tree the_log.entries comes.0 net plan ends comes.4
@@ -211,7 +211,7 @@ pub walked_verdict : (A : Type 0) (s : State) (submission : Submission) (client 
 walked_verdict A s submission client found log plan walk reads outcome spelled in_range is same_reads walks is_settled alike =
     let agrees = subst (λ es. Agrees es (client_sight_of s submission.client)) same_reads alike.agrees in
     let fits : Fits client s.tree (log_of submission.log log).entries = record { in_range = in_range; sound = alike.sound; fitting = spelled.log_read.0.1 } in
-    settled A s submission client (alike.row ∙ is) log plan spelled walk.outcome outcome (walks submission.log s.tree (holds s.leases submission.client) fits agrees) is_settled
+    settled A s submission client (alike.row ∙ is) log plan spelled walk.outcome outcome (walks submission.log (kept_are_within (length submission.log) log.entries spelled.kept) s.tree (holds s.leases submission.client) fits agrees) is_settled
 
 -- any state agrees with no reads
 pub nothing_read : {A : Type 0} (view : View A) (number : ℕ) (reads : List (Read × ReadAnswer)) → reads ≡ [] → Agrees reads (client_sight_in view number)

@@ -35,7 +35,7 @@ use Rattle.kfs_check.specs.declared.view.View.{View}
 use Rattle.kfs_judge.specs.declared.walk.EntryFault.{EntryFault as CodeEntryFault}
 use Rattle.kfs_check.specs.declared.reads.Read.{Read}
 use Rattle.kfs_check.specs.declared.reads.ReadAnswer.{ReadAnswer}
-use Rattle.kfs_step.specs.JudgedEntries.{IsJudged, is_judged}
+use Rattle.kfs_plan.specs.KeptBytes.{KeepsBytes, keeps_bytes}
 use Rattle.kfs_plan.specs.PlanCheck.{first_unlike}
 use Rattle.kfs_check.specs.Reads.{Agrees, AreAmong}
 use Rattle.kfs_check.specs.View.{clients_of, client_sight_in}
@@ -73,18 +73,18 @@ submission_with client log plan = record { client = client; log = log; plan = pl
 abbrev pub submission_of : {A : Type 0} → CodeSubmission A → Submission
 submission_of submission = submission_with submission.client submission.log.items submission.plan.items
 
--- the bytes spell a log that has an entry other than those that are judged
+-- the bytes spell a log with an entry that may change bytes
 pub record HasOtherEntry (bytes : List ℕ) : Type 0 where
   pub log : Log
   pub spelled : LogAnswer bytes (Ok log)
-  pub other : list_all is_judged log.entries ≡ false
+  pub other : list_all keeps_bytes log.entries ≡ false
 
--- the bytes of the submission are this log of the client and this plan, and the entries are judged
+-- the bytes of the submission are this log of the client and this plan, and the entries keep every byte
 pub record AreSpelled {A : Type 0} (submission : Submission) (log : CodeLog A) (plan : CodePlan A) : Type 0 where
   pub owner : log.client ≡ submission.client
   pub log_read : LogAnswer submission.log (Ok (log_of submission.log log))
   pub plan_read : PlanAnswer submission.plan (Ok (plan_of plan))
-  pub judged : All IsJudged log.entries
+  pub kept : All KeepsBytes log.entries
 
 -- ---- verdicts
 

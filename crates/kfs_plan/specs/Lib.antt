@@ -1,2 +1,3 @@
+pub mod KeptBytes
 pub mod PlanCheck
 pub mod Judging

@@ -2,7 +2,7 @@
 ghost use Rattle.std.specs.Prelude.{◌≡◌, position, zip, not, All, IsOk};
 ghost use Rattle.kfs_model.specs.Access.{Client as ClientRow};
 ghost use Rattle.kfs_model.specs.FirstWrong.{first_difference};
-ghost use Rattle.kfs_step.specs.JudgedEntries.{IsJudged};
+ghost use Rattle.kfs_plan.specs.KeptBytes.{KeepsBytes};
 ghost use Rattle.kfs_judge.specs.Walks.{IsWalkOf};
 ghost use Rattle.kfs_plan.specs.PlanCheck.{first_unlike, TellsOfEachTree, TellsRow};
 ghost use Rattle.kfs_plan.specs.declared.rows.RowFault.TheVariants.{OutOfMemory};
@@ -44,7 +44,7 @@ pub fn check_plan<A: Allocator + Copy>(
 ) -> Result<u64, RowFault>
     requires walked { IsOk walk.now.outcome }
     // At every sound tree and all leases that agree with the walk's reads, the first wrong row of the definitions is named.
-    ensures { (client : ClientRow) → IsWalkOf client _log.now walk.now → All IsJudged _log.now.entries → TellsOfEachTree client _log.now walk.now plan.now result }
+    ensures { (client : ClientRow) → IsWalkOf client _log.now walk.now → All KeepsBytes _log.now.entries → TellsOfEachTree client _log.now walk.now plan.now result }
 {
     let net = walk.outcome.as_ref().unwrap();
     check_rows(net, plan)

@@ -2,9 +2,9 @@
 ghost use Rattle.std.specs.Prelude.{◌≡◌, ◌≢◌, IfOk, IfErr};
 ghost use Rattle.kfs_plan.specs.Judging.{HasOtherEntry, IsEarly, IsReading, submission_with};
 
+use crate::kept::keep_bytes;
 use crate::submission::{Fault, Why};
 use kfs_entry::{Log, Plan, SpellFault, decode_log, decode_plan};
-use kfs_judge::are_judged;
 use std::alloc::Allocator;
 
 /// What the bytes of a submission say.
@@ -36,7 +36,7 @@ pub fn read_submission<A: Allocator + Copy>(
         Ok(plan) => plan,
         Err(fault) => return Ok(Spelled::No(Fault::BadPlan(unless_refused(fault)?))),
     };
-    if !are_judged(log.entries.as_slice()) {
+    if !keep_bytes(log.entries.as_slice()) {
         return Err(Why::OtherEntry);
     }
     Ok(Spelled::Yes(log, plan))

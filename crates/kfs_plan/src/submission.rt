@@ -67,7 +67,7 @@ pub enum Why {
     OutOfMemory,
     /// 2: the docket has as many rows as its limit allows. Only a desk answers so.
     DocketFull,
-    /// 3: the log has an entry that isn't judged yet, a Write or a Truncate.
+    /// 3: the log has a Write or a Truncate, for which no plan is checked yet.
     OtherEntry,
 }
 

@@ -1,8 +1,10 @@
 -- What a clean entry has looked at: the cells that it writes are among it.
-use Rattle.std.specs.Prelude.{◌≡◌, ℕ, List, [], ◌∷◌, ◌++◌, ◌==◌, Bool, true, false, Contains, Option, Some, None, nat_lt, if◌then◌else◌}
-use Rattle.kfs_model.specs.Entry.{Create, Link, Unlink, Rename, Chmod}
+use Rattle.std.specs.Prelude.{◌≡◌, ℕ, List, [], ◌∷◌, ◌++◌, ◌+◌, ◌^◌, ◌<◌, ◌==◌, length, Bool, true, false, Contains, Option, Some, None, nat_lt, if◌then◌else◌}
+use Rattle.std.proofs.Common.{arith}
+use Rattle.std.proofs.lemmas.Bool.{leb-true}
+use Rattle.kfs_model.specs.Entry.{Create, Write, Truncate, Link, Unlink, Rename, Chmod}
 use Rattle.kfs_model.specs.Header.{Kind, File, Directory}
-use Rattle.kfs_model.specs.Limits.{link_limit}
+use Rattle.kfs_model.specs.Limits.{link_limit, size_limit}
 use Rattle.kfs_model.specs.Sight.{HeaderOf, NameIn, kind_shown}
 use Rattle.kfs_model.specs.Check.{EntryContext, Check, cells, checks_of, first_fault, looked, is_some_and, fault, may_go, on_number, arrival_checks, move_checks, rename_checks}
 use Rattle.kfs_model.proofs.CleanIsAllowed.{AllPass, all_pass, passed}
@@ -26,6 +28,23 @@ module _ (p : EntryContext) where
   pub chmod_looks : (n mode : ℕ) → IsPart (HeaderOf n ∷ []) (looked p (checks_of p (Chmod n mode)))
   unfolding checks_of cells
   chmod_looks n mode = looks_here p (Check.Exists n) (Check.MayChangeMode n ∷ Check.IsLeased n ∷ [])
+
+  -- a Write and a Truncate, whatever their checks find
+  pub write_looks : (n offset : ℕ) (payload : List ℕ) → IsPart (HeaderOf n ∷ []) (looked p (checks_of p (Write n offset payload)))
+  unfolding checks_of cells
+  write_looks n offset payload = looks_here p (Check.Exists n) _
+
+  pub truncate_looks : (n size : ℕ) → IsPart (HeaderOf n ∷ []) (looked p (checks_of p (Truncate n size)))
+  unfolding checks_of cells
+  truncate_looks n size = looks_here p (Check.Exists n) _
+
+  -- the place behind what a clean Write puts fits into 64 bits, also where it puts nothing
+  pub write_fits : (n offset : ℕ) (payload : List ℕ) → offset < 2 ^ 64 → first_fault p (Write n offset payload) ≡ None → offset + length payload < 2 ^ 64
+  unfolding checks_of fault
+  write_fits n offset [] below clean = omega (arith, below)
+  write_fits n offset (b ∷ bs) below clean =
+      let last = leb-true (offset + length (b ∷ bs)) size_limit (passed _ _ ((all_pass p _ clean).1.1.1.1.0)) in
+      omega (arith, last)
 
   pub link_looks : (n d : ℕ) (m : List ℕ) → first_fault p (Link n d m) ≡ None → IsPart (NameIn d m ∷ HeaderOf n ∷ []) (looked p (checks_of p (Link n d m)))
   unfolding checks_of cells

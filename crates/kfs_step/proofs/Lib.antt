@@ -2,3 +2,4 @@
 pub mod Entered
 pub mod CleanLooks
 pub mod ChangedRows
+pub mod Payloads

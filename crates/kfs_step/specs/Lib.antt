@@ -1,4 +1,4 @@
-pub mod JudgedEntries
 pub mod Entered
+pub mod Written
 pub mod Rows
 pub mod Nets

@@ -8,6 +8,8 @@ mod link;
 mod log_judge;
 mod net;
 mod rename;
+mod truncate;
 mod unlink;
+mod write;
 
 pub use log_judge::LogJudge;

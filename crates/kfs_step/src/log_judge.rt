@@ -1,8 +1,7 @@
 //! Where an entry stands: its client, what the entries before it changed, and the state under that.
-ghost use Rattle.std.specs.Prelude.{◌≡◌, ℕ, ◌+◌, ◌==◌, List, None, Ok, IfOk, false, [], OnOk, ◌++◌};
-ghost use Rattle.kfs_value.specs.Views.{entry_of};
+ghost use Rattle.std.specs.Prelude.{◌≡◌, ℕ, ◌+◌, ◌==◌, List, length, None, Ok, IfOk, false, [], OnOk, ◌++◌};
+ghost use Rattle.kfs_value.specs.Views.{entry_of, IsWithin};
 ghost use Rattle.kfs_model.specs.Sight.{Sight, Cell};
-ghost use Rattle.kfs_step.specs.JudgedEntries.{IsJudged};
 ghost use Rattle.kfs_step.specs.Entered.{IsEntered};
 ghost use Rattle.kfs_draft.specs.Overlay.{has_created, over, ShiftsBy, HasRoom, IsWritten};
 ghost use Rattle.kfs_check.specs.Recorders.{GoesOn, seen_by, Known, ReadsAt};
@@ -14,40 +13,38 @@ use indexmap::IndexMap;
 use kfs_check::{Read, ReadAnswer, Reason, Recorder, View};
 use kfs_draft::Draft;
 use kfs_entry::{Entry, Span, entry_table};
+use kfs_image::Name;
 use kfs_image::shape::Net;
 use kfs_mode::Client;
 use std::alloc::{AllocError, Allocator};
 use std::hash::{BuildHasherDefault, FoldHasher};
 
-/// A field of an entry as the call takes it.
+/// A field of an entry as the call takes it; of a payload, how many bytes it has.
 macro_rules! taken {
     (name $field:ident) => {
-        $field.clone()?
+        copied($field)?
+    };
+    (payload $field:ident) => {
+        $field.end.saturating_sub($field.start)
     };
     ($codec:ident $field:ident) => {
         *$field
     };
 }
 
-/// Calls an entry's own function. No log with a Write or a Truncate gets here.
-macro_rules! entered {
-    ($judge:ident write $($rest:tt)*) => {
-        unreachable!()
-    };
-    ($judge:ident truncate $($rest:tt)*) => {
-        unreachable!()
-    };
-    ($judge:ident $call:ident { $($field:ident: $codec:ident),* }) => {
-        $judge.$call($(taken!($codec $field)),*)
-    };
-}
-
+/// Calls the entry's own function.
 macro_rules! enter_case {
     ([$judge:ident, $entry:ident] $($number:literal $variant:ident $call:ident { $($field:ident: $codec:ident),* })*) => {
         match $entry {
-            $(Entry::$variant { $($field),* } => entered!($judge $call { $($field: $codec),* }),)*
+            $(Entry::$variant { $($field),* } => $judge.$call($(taken!($codec $field)),*),)*
         }
     };
+}
+
+fn copied(name: &Name) -> Result<Name, AllocError>
+    ensures { IfOk result (λ copy. copy ≡ name.now) }
+{
+    name.clone()
 }
 
 /// What judges the entries of a log one after another: the log's client, the draft of its entries so
@@ -77,11 +74,14 @@ impl<'a, A: Allocator + Copy> LogJudge<'a, A> {
         }
     }
 
-    /// Makes the change of an entry, or answers why not. The entry is one of those that are judged.
+    /// Makes the change of an entry, or answers why not.
     pub fn enter(&mut self, entry: &Entry<Span>) -> Result<Option<Reason>, AllocError>
-        requires judged { IsJudged entry.now }
-        requires room { HasRoom 3 self.old.draft }
-        ensures { (source : List ℕ) → IsEntered self.old self.new (entry_of source entry.now) result }
+        requires { HasRoom 3 self.old.draft }
+        ensures goes { GoesOn self.old.recorder self.new.recorder }
+        ensures client { self.new.client.now ≡ self.old.client.now }
+        ensures shifts { result ≡ Ok None → (most : ℕ) → ShiftsBy most self.old.draft → ShiftsBy (most + 3) self.new.draft }
+        // Whatever bytes the payload's span is of.
+        ensures entered { (source : List ℕ) → IsWithin (length source) entry.now → IsEntered self.old self.new (entry_of source entry.now) result }
     {
         entry_table!(enter_case(self, entry))
     }

@@ -12,6 +12,7 @@ pub use entry::{Entry, Log, Span};
 pub use header::{Header, Kind};
 pub use limits::{
     BLOCK_SIZE, CLIMB_LIMIT, ENTRY_LIMIT, GREATEST_MODE, LINK_LIMIT, PAYLOAD_LIMIT, ROOT,
+    SIZE_LIMIT,
 };
 pub use name::Name;
 pub use plan::{NameRow, NodeRow, Piece, Plan, Source};

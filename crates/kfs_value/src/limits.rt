@@ -12,6 +12,9 @@ pub const NAME_LIMIT: usize = 255;
 /// The most names of a file.
 pub const LINK_LIMIT: u16 = 1_024;
 
+/// The most bytes of a file. As wide as the sum of any offset and length.
+pub const SIZE_LIMIT: u128 = 1 << 32;
+
 /// The most steps from a directory up to the root.
 pub const CLIMB_LIMIT: u32 = 65_536;
 

@@ -6,6 +6,7 @@ use Rattle.kfs_model.specs.Looked.{looked_cells}
 use Rattle.kfs_draft.specs.Overlay.{over}
 use Rattle.kfs_check.specs.Reads.{Agrees, AreAmong, AreOnce}
 use Rattle.kfs_check.specs.View.{clients_of, client_sight_in}
+use Rattle.kfs_judge.specs.EntriesEntered.{AreWithin}
 use Rattle.kfs_judge.specs.Walks.{EndsAt}
 use Rattle.kfs_check.proofs.Lists.{row_has_number, one_row}
 use Rattle.kfs_check.proofs.Recording.{agrees_from_none, among_from_none, once_from_none, goes_then, within_then}
@@ -15,11 +16,11 @@ pub returns-in-Some-clause-known : goal.returns-in-Some-clause-known
 returns-in-Some-clause-known g c = (
   c.unwrap-client.result.now,
   sym c.client.ensures ∙ ap (option_map (λ r. r.now)) c.unwrap-client.ensures,
-  λ state agrees source.
+  λ state agrees source within.
       subst (λ cl. EndsAt cl c.enter_all.new.judge.draft state (map (entry_of source) c.args.log.now.entries) (Some c.in-Some.fault)) c.new-judge.ensures.client
       (subst (λ es. EndsAt c.new-judge.result.client.now c.enter_all.new.judge.draft state (map (entry_of source) es) (Some c.in-Some.fault)) c.as_slice.ensures
       (subst (λ f. EndsAt c.new-judge.result.client.now c.enter_all.new.judge.draft state (map (entry_of source) c.as_slice.result.now) f) c.in-Some.is
-      (c.in_ok-fault.ensures.known state (subst (λ es. Agrees es state) c.into_reads.ensures agrees) source))),
+      (c.in_ok-fault.ensures.known state (subst (λ es. Agrees es state) c.into_reads.ensures agrees) source (subst (AreWithin source) (sym c.as_slice.ensures) within)))),
 )
 
 pub returns-in-Some-clause-view_agrees : goal.returns-in-Some-clause-view_agrees
@@ -33,7 +34,7 @@ pub returns-in-Some-clause-once : goal.returns-in-Some-clause-once
 returns-in-Some-clause-once g c = subst AreOnce (sym c.into_reads.ensures) (once_from_none (client_sight_in c.args.view.now c.args.log.now.client) c.new-judge.result.recorder c.enter_all.new.judge.recorder c.new-judge.ensures.none c.in_ok-fault.ensures.goes)
 
 pub returns-in-Some-clause-among : goal.returns-in-Some-clause-among
-returns-in-Some-clause-among g c client is source =
+returns-in-Some-clause-among g c client is source within =
     let row = sym c.client.ensures ∙ ap (option_map (λ r. r.now)) c.unwrap-client.ensures in
     let shown = client_sight_in c.args.view.now c.args.log.now.client in
     let seen = c.new-judge.ensures.seen ∙ ap (client_sight_in c.args.view.now) (row_has_number (clients_of c.args.view.now) c.args.log.now.client c.unwrap-client.result.now row) in
@@ -42,19 +43,19 @@ returns-in-Some-clause-among g c client is source =
     subst (λ reads. AreAmong reads (looked_cells client shown (map (entry_of source) c.args.log.now.entries))) (sym c.into_reads.ensures)
     (subst (λ cl. AreAmong c.enter_all.new.judge.recorder.reads.entries (looked_cells cl shown (map (entry_of source) c.args.log.now.entries))) same
     (subst (λ es. AreAmong c.enter_all.new.judge.recorder.reads.entries (looked_cells c.new-judge.result.client.now shown (map (entry_of source) es))) c.as_slice.ensures
-    (among_from_none shown c.new-judge.result.recorder c.enter_all.new.judge.recorder c.new-judge.ensures.none _ (c.in_ok-fault.ensures.among shown agrees source))))
+    (among_from_none shown c.new-judge.result.recorder c.enter_all.new.judge.recorder c.new-judge.ensures.none _ (c.in_ok-fault.ensures.among shown agrees source (subst (AreWithin source) (sym c.as_slice.ensures) within)))))
 
 pub returns-clause-known : goal.returns-clause-known
 returns-clause-known g c = (
   c.unwrap-client.result.now,
   sym c.client.ensures ∙ ap (option_map (λ r. r.now)) c.unwrap-client.ensures,
-  λ state agrees source.
+  λ state agrees source within.
       let agreed = subst (λ es. Agrees es state) c.into_reads-2.ensures agrees in (
         over c.enter_all.new.judge.draft state.sight,
         subst (λ cl. EndsAt cl c.enter_all.new.judge.draft state (map (entry_of source) c.args.log.now.entries) None) c.new-judge.ensures.client
             (subst (λ es. EndsAt c.new-judge.result.client.now c.enter_all.new.judge.draft state (map (entry_of source) es) None) c.as_slice.ensures
             (subst (λ f. EndsAt c.new-judge.result.client.now c.enter_all.new.judge.draft state (map (entry_of source) c.as_slice.result.now) f) c.in_default.is
-            (c.in_ok-fault.ensures.known state (c.in_ok-net.ensures.goes.grows state agreed) source))),
+            (c.in_ok-fault.ensures.known state (c.in_ok-net.ensures.goes.grows state agreed) source (subst (AreWithin source) (sym c.as_slice.ensures) within)))),
         c.in_ok-net.ensures.known state agreed,
       ),
 )
@@ -70,14 +71,15 @@ pub returns-clause-once : goal.returns-clause-once
 returns-clause-once g c = subst AreOnce (sym c.into_reads-2.ensures) (once_from_none (client_sight_in c.args.view.now c.args.log.now.client) c.new-judge.result.recorder c.net.new.self.recorder c.new-judge.ensures.none (goes_then c.in_ok-fault.ensures.goes c.in_ok-net.ensures.goes))
 
 pub returns-clause-among : goal.returns-clause-among
-returns-clause-among g c client is source =
+returns-clause-among g c client is source within =
     let row = sym c.client.ensures ∙ ap (option_map (λ r. r.now)) c.unwrap-client.ensures in
     let shown = client_sight_in c.args.view.now c.args.log.now.client in
     let seen = c.new-judge.ensures.seen ∙ ap (client_sight_in c.args.view.now) (row_has_number (clients_of c.args.view.now) c.args.log.now.client c.unwrap-client.result.now row) in
     let agrees = agrees_from_none shown c.new-judge.result.recorder c.enter_all.new.judge.recorder c.new-judge.ensures.none seen c.in_ok-fault.ensures.goes in
     let cells = looked_cells c.new-judge.result.client.now shown (map (entry_of source) c.as_slice.result.now) in
-    let front = c.in_ok-fault.ensures.among shown agrees source in
-    let back = c.in_ok-net.ensures.among cells (c.in_ok-fault.ensures.written (ap Ok c.in_default.is) shown agrees source) in
+    let inside = subst (AreWithin source) (sym c.as_slice.ensures) within in
+    let front = c.in_ok-fault.ensures.among shown agrees source inside in
+    let back = c.in_ok-net.ensures.among cells (c.in_ok-fault.ensures.written (ap Ok c.in_default.is) shown agrees source inside) in
     let same = c.new-judge.ensures.client ∙ one_row (clients_of c.args.view.now) c.args.log.now.client c.unwrap-client.result.now client row is in
     subst (λ reads. AreAmong reads (looked_cells client shown (map (entry_of source) c.args.log.now.entries))) (sym c.into_reads-2.ensures)
     (subst (λ cl. AreAmong c.net.new.self.recorder.reads.entries (looked_cells cl shown (map (entry_of source) c.args.log.now.entries))) same

@@ -1,5 +1,5 @@
 -- The row that the view has, and the verdict at each place where the judgement ends.
-use Rattle.std.proofs.Common.{Some, map, refl, subst, sym, ap, ◌∙◌, arith}
+use Rattle.std.proofs.Common.{Some, map, length, refl, subst, sym, ap, ◌∙◌, arith}
 use Rattle.std.specs.Option.{option_map, is_some}
 use Rattle.kfs_model.specs.Spelling.{IsBytes}
 use Rattle.kfs_model.proofs.Fields.{some_is}
@@ -14,6 +14,7 @@ use Rattle.kfs_plan.specs.Judging.{submission_with, AreSpelled, IsEarly, IsVerdi
 use Rattle.kfs_check.specs.Reads.{Agrees, AreAmong}
 use Rattle.kfs_check.specs.View.{clients_of, client_sight_in}
 use Rattle.kfs_check.proofs.Lists.{row_has_number}
+use Rattle.kfs_plan.proofs.KeptBytes.{kept_are_within}
 use Rattle.kfs_plan.proofs.Verdicts.{unknown_client, walked_verdict, nothing_read, unread_looked, settled_looked}
 use Rattle.kfs_plan.proofs.judgement.find.Goals as goal
 
@@ -93,5 +94,5 @@ returns-in_ok-finding-in-Yes-clause-among g c =
       owner = own;
       among = subst (λ n. AreAmong c.in_ok-finding-in-Yes.finding.reads.entries (looked_cells c.in-Some.client.now (client_sight_in view n) entries)) own
           (subst (λ r. AreAmong r.entries (looked_cells c.in-Some.client.now (client_sight_in view c.in-Yes.log.client) entries)) (sym c.in_ok-finding-in-Yes.ensures.reads)
-          (c.in_ok-walk-in-Yes.ensures.among c.in-Some.client.now (ap (row_of (clients_of view)) own ∙ row) c.args.log.now));
+          (c.in_ok-walk-in-Yes.ensures.among c.in-Some.client.now (ap (row_of (clients_of view)) own ∙ row) c.args.log.now (kept_are_within (length c.args.log.now) c.in-Yes.log.entries read.kept)));
     })
