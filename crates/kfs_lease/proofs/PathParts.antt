@@ -1,6 +1,6 @@
 -- The parts of a path, and the test of its names.
-use Rattle.std.proofs.Common.{◌≡◌, ℕ, suc, ◌+◌, ◌-◌, ◌<◌, ◌≤◌, Bool, true, false, cond, not, ◌==◌, List, [], ◌∷◌, length, take, drop, take_all, length-drop, Option, Some, None, refl, sym, ap, subst, ◌∙◌, arith}
-use Rattle.std.specs.Prelude.{nat_lt, is_some, if◌then◌else◌, IsSome, ◌↔◌}
+use Rattle.std.proofs.Common.{◌≡◌, ℕ, suc, ◌+◌, ◌-◌, ◌<◌, ◌≤◌, Bool, true, false, cond, not, ◌==◌, List, [], ◌∷◌, length, take, drop, take_all, length-drop, Some, None, refl, sym, ap, subst, ◌∙◌, arith}
+use Rattle.std.specs.Prelude.{nat_lt, if◌then◌else◌, IsTrue, ◌↔◌}
 use Rattle.std.specs.List.{position, position_or_len}
 use Rattle.std.specs.Cmp.{both_ways}
 use Rattle.std.proofs.lemmas.Bool.{ltb-true, ltb-false}
@@ -8,9 +8,9 @@ use Rattle.kfs_model.specs.Lease.{parts_of, prepended}
 use Rattle.kfs_model.specs.Spelling.{IsName, is_name, slash}
 use Rattle.kfs_model.proofs.NameTest.{is_name_sound, is_name_true}
 
--- what answers whether there is a name answers as the test of its bytes does
-pub same_test : {X : Type 0} (o : Option X) (bytes : List ℕ) → (IsSome o ↔ IsName bytes) → is_some o ≡ is_name bytes
-same_test o bytes valid = both_ways (is_some o) (is_name bytes) (λ some. is_name_true bytes (valid.0 some)) (λ passes. valid.1 (is_name_sound bytes passes))
+-- what answers whether bytes are a name answers as their test does
+pub same_test : (answer : Bool) (bytes : List ℕ) → (IsTrue answer ↔ IsName bytes) → answer ≡ is_name bytes
+same_test answer bytes valid = both_ways answer (is_name bytes) (λ holds. is_name_true bytes (valid.0 holds)) (λ passes. valid.1 (is_name_sound bytes passes))
 
 abbrev is_slash : ℕ → Bool
 is_slash byte = byte == slash
