@@ -127,13 +127,9 @@ few_is n few = grind (arith, nat_tests)
 at_most : (n : ℕ) → (16 < n → ⊥) → n ≤ 16
 at_most n few = omega arith
 
-bad_is : (grant : Bool) → IsFalse grant → grant ≡ false
-bad_is true bad = absurd bad
-bad_is false bad = refl
-
 good_is : (grant : Bool) → (IsFalse grant → ⊥) → grant ≡ true
 good_is true good = refl
-good_is false good = absurd (good tt)
+good_is false good = absurd (good refl)
 
 -- a client's row is this answer where its refusals come exactly where they are due
 pub row_is : (number uid gid : ℕ) (groups : List ℕ) (privileged : Bool) (first last : ℕ) (r : Result Client ClientFault)
@@ -144,7 +140,8 @@ pub row_is : (number uid gid : ℕ) (groups : List ℕ) (privileged : Bool) (fir
 row_is number uid gid groups privileged first last (Err TooManyGroups) many many_back bad bad_back ok = rw (many_is (length groups) (many refl)) refl
 row_is number uid gid groups privileged first last (Err BadGrant) many many_back bad bad_back ok =
     let few : 16 < length groups → ⊥ = λ more. omega (arith, (bad refl).0) in
-    rw (few_is (length groups) few, bad_is (is_grant first last) (bad refl).1) refl
+    let none : is_grant first last ≡ false = (bad refl).1 in
+    rw (few_is (length groups) few, none) refl
 row_is number uid gid groups privileged first last (Ok client) many many_back bad bad_back ok =
     let few : 16 < length groups → ⊥ = λ more. let e : Ok client ≡ Err TooManyGroups = many_back more in cc in
     let good : IsFalse (is_grant first last) → ⊥ = λ wrong. let e : Ok client ≡ Err BadGrant = bad_back (at_most (length groups) few, wrong) in cc in
