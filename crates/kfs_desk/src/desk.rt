@@ -19,13 +19,15 @@ ghost use Rattle.kfs_desk.specs.Machine.{IsActed, IsAnswered, IsBackFor, IsChang
 ghost use Rattle.kfs_desk.specs.Opening.{begin_fault, do_overlap, fault_behind};
 ghost use Rattle.kfs_value.specs.Room.{spare_of};
 
-use kfs_plan::answers::{Act, ActReply, BeginBack, BeginFault, Done, Reply, SubmissionsBack, Unanswered};
 use kfs_entry::NodeRow;
 use kfs_image::shape::{Fill, Net, net_apply};
 use kfs_image::{Image, Shape};
 use kfs_judge::View;
 use kfs_lease::{LeaseFault, LeaseKind, Leases};
 use kfs_mode::Client;
+use kfs_plan::answers::{
+    Act, ActReply, BeginBack, BeginFault, Done, Reply, SubmissionsBack, Unanswered,
+};
 use kfs_plan::{Back, Judged, Outcome, Submission, Why, judge};
 use std::alloc::{AllocError, Allocator};
 use std::marker::Model;

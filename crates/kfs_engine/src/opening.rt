@@ -6,11 +6,11 @@ ghost use Rattle.kfs_command.specs.Views.{opening_of};
 ghost use Rattle.kfs_engine.specs.Views.{IsOpened, IsWithoutImage, start_of};
 ghost use Rattle.kfs_value.specs.Room.{spare_of};
 
-use kfs_plan::answers::BeginFault;
 use kfs_command::OpeningCommand;
 use kfs_desk::Desk;
 use kfs_image::{Image, TierSizes};
 use kfs_mode::{Client, ClientFault};
+use kfs_plan::answers::BeginFault;
 use kfs_report::{begin_line, client_line};
 use kfs_text::Refusal;
 use kfs_text::parts::text;

@@ -8,9 +8,9 @@ ghost use Rattle.kfs_value.specs.Room.{spare_of};
 
 mod names;
 
-use kfs_plan::answers::{ActReply, BeginFault, Done, Reply};
 use kfs_image::{Header, Kind};
 use kfs_mode::ClientFault;
+use kfs_plan::answers::{ActReply, BeginFault, Done, Reply};
 use kfs_text::parts::{field, flag, number, octal, text};
 use names::{begin_fault, client_fault, judgement_fault, lease_fault};
 use std::alloc::{AllocError, Allocator};

@@ -9,10 +9,10 @@ ghost use Rattle.kfs_step.specs.Rows.{IsRow, keyed_name_row, keyed_node_row};
 ghost use Rattle.kfs_step.specs.Nets.{AreNamesOf, AreNodesOf};
 ghost use Rattle.kfs_model.specs.Sight.{Cell, HeaderOf, NameIn};
 
+use kfs_check::Recorder;
 use kfs_draft::Draft;
 use kfs_entry::{NameRow, NodeRow};
 use kfs_image::{Header, Name};
-use kfs_check::Recorder;
 use std::alloc::{AllocError, Allocator};
 
 /// The names whose numbers differ, ascending.

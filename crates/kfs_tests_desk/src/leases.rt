@@ -1,11 +1,11 @@
 //! Leases by calls: paths that no line can say, a node that goes, copies, and refused growths. All clients
 //! here have uid and gid 1000, as all nodes below the root.
 
+use crate::desks::{AMPLE, client, grown};
 use kfs_desk::Desk;
 use kfs_image::Shape;
 use kfs_lease::LeaseKind::{Read, Write};
 use kfs_lease::{LeaseFault, LeaseKind, Leases};
-use crate::desks::{AMPLE, client, grown};
 use kfs_tests::refusing::Refusing;
 use std::alloc::{AllocError, Allocator, Global};
 use std::process::Abort;

@@ -3,11 +3,11 @@ ghost use Rattle.std.specs.Prelude.{◌≡◌, ◌+◌, ◌≤◌, ◌++◌, len
 ghost use Rattle.kfs_report.specs.Text.{fault_text, spell_text, row_text, reason_name, reason_text, lease_name, lease_text, client_text, begin_text};
 ghost use Rattle.kfs_value.specs.Room.{spare_of};
 
-use kfs_plan::answers::BeginFault;
 use kfs_entry::SpellFault;
 use kfs_judge::Reason;
 use kfs_lease::LeaseFault;
 use kfs_mode::ClientFault;
+use kfs_plan::answers::BeginFault;
 use kfs_plan::{Fault, RowFault};
 use kfs_text::parts::{number, numbered, text};
 use std::alloc::Allocator;
