@@ -4,7 +4,8 @@ use Rattle.std.specs.Prelude.{nat_lt, zip, is_none}
 use Rattle.std.specs.List.{list_all, list_any}
 use Rattle.std.proofs.lemmas.Bool.{and_parts, and_from, both_ways, false_from_ne_true, eq-eqb, le-ltb}
 use Rattle.kfs_model.specs.Header.{Header}
-use Rattle.kfs_model.specs.Table.{get, empty, retain, numbers, same_table, same_entries_table, get-mapped, get-retain}
+use Rattle.kfs_model.specs.Table.{get, empty, retain, numbers}
+use Rattle.kfs_model.proofs.TableLaws.{same_table, same_entries_table, get-mapped, get-retain}
 use Rattle.kfs_model.specs.Tree.{Tree, Node, Body, FileBody, DirectoryBody, headers, header_of, cells_of}
 use Rattle.kfs_model.specs.Sight.{ClientSight}
 use Rattle.kfs_model.specs.Soundness.{IsSound}

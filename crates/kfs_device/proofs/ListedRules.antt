@@ -3,7 +3,8 @@ use Rattle.std.proofs.Common.{◌≡◌, ℕ, ◌+◌, ◌-◌, ◌*◌, ◌<◌
 use Rattle.std.specs.List.{AllByRecursion}
 use Rattle.std.proofs.lemmas.Bool.{and_from, or_left, or_right, cases_eq, cases_lt, cond-true, cond-false, not_from_false}
 use Rattle.kfs_model.specs.Header.{Kind, File, Directory, Header}
-use Rattle.kfs_model.specs.Table.{Table, numbers, pairs, get, get-mapped}
+use Rattle.kfs_model.specs.Table.{Table, numbers, pairs, get}
+use Rattle.kfs_model.proofs.TableLaws.{get-mapped}
 use Rattle.kfs_model.specs.Tree.{NameTable, headers, header_of, links_of, size_of, name_order, name_count}
 use Rattle.kfs_model.specs.Sight.{is_directory, is_file, parent_in}
 use Rattle.kfs_model.specs.Soundness.{Climbs, AreSound}

@@ -1,7 +1,8 @@
 -- The rows of an image make its tables again.
 use Rattle.std.proofs.Common.{◌≡◌, ℕ, ◌+◌, List, [], ◌∷◌, map, refl, ap, ◌∙◌, arith}
 use Rattle.std.specs.List.{flat_map}
-use Rattle.kfs_model.specs.Table.{Order, Table, numbers, pairs, same_entries_table}
+use Rattle.kfs_model.specs.Table.{Order, Table, numbers, pairs}
+use Rattle.kfs_model.proofs.TableLaws.{same_entries_table}
 use Rattle.kfs_model.specs.Tree.{name_order}
 use Rattle.kfs_model.specs.Placement.{Place}
 use Rattle.kfs_device.specs.ShownTree.{DeviceImage}

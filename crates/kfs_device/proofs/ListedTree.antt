@@ -6,7 +6,8 @@ use Rattle.std.specs.Ordering.{is_eq}
 use Rattle.std.specs.FinMap.Entries.{find}
 use Rattle.std.proofs.lemmas.List.{get_or-take, get_or-drop}
 use Rattle.kfs_model.specs.Header.{Kind, File, Directory, Header}
-use Rattle.kfs_model.specs.Table.{Order, Table, numbers, pairs, get, get-mapped, same_table}
+use Rattle.kfs_model.specs.Table.{Order, Table, numbers, pairs, get}
+use Rattle.kfs_model.proofs.TableLaws.{get-mapped, same_table}
 use Rattle.kfs_model.specs.Tree.{FileBody}
 use Rattle.kfs_model.specs.Placement.{Place, numbers_from, below}
 use Rattle.kfs_device.specs.Device.{Devices, byte_on}

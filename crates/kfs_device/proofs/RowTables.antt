@@ -7,7 +7,8 @@ use Rattle.std.specs.Ordering.{is_eq, is_lt}
 use Rattle.std.specs.Cmp.{tied_itself}
 use Rattle.std.specs.List.{AllByRecursion}
 use Rattle.std.specs.FinMap.Entries.{put, is_sorted, below_all, by_order}
-use Rattle.kfs_model.specs.Table.{Order, get, insert, get-insert}
+use Rattle.kfs_model.specs.Table.{Order, get, insert}
+use Rattle.kfs_model.proofs.TableLaws.{get-insert}
 use Rattle.kfs_model.proofs.Tables.{left_part, right_part}
 use Rattle.kfs_model.proofs.Counts.{is_less}
 use Rattle.kfs_device.specs.RawImage.{table_of}

@@ -2,7 +2,8 @@
 use Rattle.std.proofs.Common.{◌≡◌, ℕ, zero, suc, ◌+◌, ◌<◌, slice_get, true, List, [], ◌∷◌, length, map, Option, Some, None, option_map, refl, sym, ap, ◌∙◌, arith, eqb-true}
 use Rattle.std.proofs.lemmas.List.{length-map}
 use Rattle.kfs_model.specs.Header.{Kind, File, Directory, Header}
-use Rattle.kfs_model.specs.Table.{get, get-mapped, same_table}
+use Rattle.kfs_model.specs.Table.{get}
+use Rattle.kfs_model.proofs.TableLaws.{get-mapped, same_table}
 use Rattle.kfs_model.specs.Tree.{Node, NameTable, headers, header_of, name_count}
 use Rattle.kfs_model.specs.Placement.{Placement, numbers_from, below}
 use Rattle.kfs_model.proofs.CleanIsAllowed.{left, right}

@@ -1,7 +1,8 @@
 -- A tree all of whose bytes are zero is the one that its headers and names show.
 use Rattle.std.proofs.Common.{◌≡◌, ℕ, zero, suc, Bool, true, false, cond, length, replicate, Option, Some, None, option_map, refl, sym, ap, subst, ◌∙◌}
 use Rattle.kfs_model.specs.Header.{Kind, File, Directory, Header}
-use Rattle.kfs_model.specs.Table.{numbers, empty, get, insert, mapped, same_table, same_entries_table, get-mapped}
+use Rattle.kfs_model.specs.Table.{numbers, empty, get, insert, mapped}
+use Rattle.kfs_model.proofs.TableLaws.{same_table, same_entries_table, get-mapped}
 use Rattle.kfs_model.specs.Tree.{Tree, Node, Body, FileBody, DirectoryBody, headers, header_of, kind_of, size_of, cells_of}
 use Rattle.kfs_model.specs.Soundness.{IsSound}
 use Rattle.kfs_model.specs.Run.{byte_at}

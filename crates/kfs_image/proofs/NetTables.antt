@@ -6,7 +6,8 @@ use Rattle.std.specs.Ordering.{is_eq}
 use Rattle.std.specs.Bool.{Decides, passes}
 use Rattle.std.specs.FinMap.Entries.{find, is_sorted}
 use Rattle.kfs_model.specs.Header.{Header}
-use Rattle.kfs_model.specs.Table.{Order, Table, numbers, get, same_table}
+use Rattle.kfs_model.specs.Table.{Order, Table, numbers, get}
+use Rattle.kfs_model.proofs.TableLaws.{same_table}
 use Rattle.kfs_model.specs.Tree.{Tree, NameTable, headers, name_order}
 use Rattle.kfs_model.specs.Soundness.{IsSound}
 use Rattle.kfs_model.specs.FirstWrong.{same_option, same_header}

@@ -3,7 +3,8 @@ use Rattle.std.proofs.Common.{◌≡◌, ℕ, Bool, true, false, cond, List, Opt
 use Rattle.std.specs.Prelude.{unwrap_or}
 use Rattle.std.specs.Ordering.{nat_cmp, eq_by_cmp}
 use Rattle.std.specs.BTreeMap.{BTreeMap}
-use Rattle.kfs_model.specs.Table.{numbers, get, same_table}
+use Rattle.kfs_model.specs.Table.{numbers, get}
+use Rattle.kfs_model.proofs.TableLaws.{same_table}
 use Rattle.kfs_model.specs.Tree.{name_order}
 use Rattle.kfs_value.specs.declared.header.Header.{Header as CodeHeader}
 use Rattle.kfs_image.specs.declared.rows.Rows.{Rows}

@@ -4,7 +4,8 @@ use Rattle.std.specs.Ordering.{eq_by_cmp}
 use Rattle.std.specs.Cmp.{eq_by_cmp_equiv}
 use Rattle.std.specs.Map.{lookup}
 use Rattle.std.specs.BTreeMap.{is_at}
-use Rattle.kfs_model.specs.Table.{Order, Table, get, get-insert, get-remove}
+use Rattle.kfs_model.specs.Table.{Order, Table, get}
+use Rattle.kfs_model.proofs.TableLaws.{get-insert, get-remove}
 use Rattle.kfs_image.specs.Slots.{opened, changed, table_of}
 
 module _ {K X : Type 0} {R : Order K} where

@@ -9,7 +9,8 @@ use Rattle.std.specs.BTreeMap as slots_of
 use Rattle.std.specs.BTreeMap.{BTreeMap, is_at}
 use Rattle.std.proofs.lemmas.Bool.Decides.{nat_tests}
 use borrow.Author.Tests.{eqb-true}
-use Rattle.kfs_model.specs.Table.{numbers, pairs, get, insert, remove, get-insert, get-retain, get-remove, same_table}
+use Rattle.kfs_model.specs.Table.{numbers, pairs, get, insert, remove}
+use Rattle.kfs_model.proofs.TableLaws.{get-insert, get-retain, get-remove, same_table}
 use Rattle.kfs_model.specs.Check.{is_some_and}
 use Rattle.kfs_model.specs.Lease as model
 use Rattle.kfs_model.specs.Lease.{LeaseTable, live_at, on_those}

@@ -8,7 +8,8 @@ use Rattle.std.specs.declared.cmp.Ordering.{Ordering}
 use Rattle.std.specs.declared.cmp.Ordering.TheVariants.{Less, Equal, Greater}
 use Rattle.kfs_model.specs.Header.{Kind, File, Directory}
 use Rattle.kfs_model.specs.Access.{Client}
-use Rattle.kfs_model.specs.Table.{Order, Table, get, insert, retain, mapped, changed_entries, same_table, same_entries_table, get-insert, get-retain, get-mapped}
+use Rattle.kfs_model.specs.Table.{Order, Table, get, insert, retain, mapped, changed_entries}
+use Rattle.kfs_model.proofs.TableLaws.{same_table, same_entries_table, get-insert, get-retain, get-mapped}
 use Rattle.kfs_model.specs.Tree.{Tree, Node, Body, FileBody, DirectoryBody, NameTable, headers, header_of, name_count, entry_count, target, is_named}
 use Rattle.kfs_model.specs.Sight.{sight, parent_in, ClientSight}
 use Rattle.kfs_model.specs.Entry.{Entry, Create, Write, Truncate, Link, Unlink, Rename, Chmod}

@@ -2,7 +2,8 @@
 use Rattle.std.proofs.Common.{◌≡◌, ◌≢◌, ℕ, ◌+◌, Bool, true, false, cond, not, T, List, [], ◌∷◌, Option, Some, None, option_map, refl, sym, ap, subst, ◌∙◌}
 use Rattle.std.specs.Bool.{Decides, passes}
 use Rattle.std.specs.FinMap.Entries.{same_entries}
-use Rattle.kfs_model.specs.Table.{Order, Table, get, retain, united, option_or, get-retain, get-mapped, get-united}
+use Rattle.kfs_model.specs.Table.{Order, Table, get, retain, united, option_or}
+use Rattle.kfs_model.proofs.TableLaws.{get-retain, get-mapped, get-united}
 use Rattle.kfs_model.specs.Plan.{AreDifferences}
 use Rattle.kfs_model.specs.FirstWrong.{same_option, first_difference, differences}
 use Rattle.kfs_model.proofs.Exact.{IsExact, options-exact}

@@ -2,7 +2,8 @@
 use Rattle.std.proofs.Common.{◌≡◌, ◌≢◌, ℕ, zero, suc, ◌≤◌, Bool, true, false, cond, not, ◌&&◌, ◌||◌, ◌==◌, ltb, List, Option, Some, None, option_map, IsTrue, refl, sym, ap, subst, ◌∙◌, arith, lt-ltb, eqb-true, eq-eqb, ne_eqb}
 use Rattle.std.proofs.lemmas.Bool.{or_left, or_right, eqb-false, false≢true}
 use Rattle.kfs_model.specs.Header.{Kind, File, Directory, Header}
-use Rattle.kfs_model.specs.Table.{get, same_table, get-mapped, get-retain}
+use Rattle.kfs_model.specs.Table.{get}
+use Rattle.kfs_model.proofs.TableLaws.{same_table, get-mapped, get-retain}
 use Rattle.kfs_model.specs.Tree.{Tree, Node, Body, FileBody, DirectoryBody, NameTable, headers, header_of, links_of, kind_of, size_of, target, name_count, is_named}
 use Rattle.kfs_model.specs.Sight.{is_directory, is_file, holder, parent_in}
 use Rattle.kfs_model.specs.Effect.{swept}

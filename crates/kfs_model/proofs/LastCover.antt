@@ -5,7 +5,8 @@ use Rattle.std.proofs.lemmas.Option.{slice_get-get_or, slice_get_past}
 use Rattle.std.proofs.lemmas.Bool.{not-true}
 use Rattle.std.proofs.lemmas.Bool.Decides.{nat_tests}
 use Rattle.kfs_model.specs.Header.{Kind, File, Directory}
-use Rattle.kfs_model.specs.Table.{get, insert, get-mapped, get-retain, option_or}
+use Rattle.kfs_model.specs.Table.{get, insert, option_or}
+use Rattle.kfs_model.proofs.TableLaws.{get-mapped, get-retain}
 use Rattle.kfs_model.specs.Tree.{Tree, Node, Body, FileBody, DirectoryBody, headers, header_of, cells_of, is_named}
 use Rattle.kfs_model.specs.Sight.{Sight, ClientSight, sight, is_directory}
 use Rattle.kfs_model.specs.Access.{Client}

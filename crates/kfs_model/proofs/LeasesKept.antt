@@ -8,7 +8,8 @@ use Rattle.std.specs.Ordering.{is_eq, eq_by_cmp}
 use Rattle.std.proofs.lemmas.Bool.{both_ways, eq-eqb, false_from_ne_true, lt-ltb, ltb-false, ltb-true, ne_eqb, or_parts}
 use Rattle.kfs_model.specs.Access.{Client}
 use Rattle.kfs_model.specs.Check.{is_some_and}
-use Rattle.kfs_model.specs.Table.{numbers, pairs, get, insert, remove, retain, get-insert, get-retain}
+use Rattle.kfs_model.specs.Table.{numbers, pairs, get, insert, remove, retain}
+use Rattle.kfs_model.proofs.TableLaws.{get-insert, get-retain}
 use Rattle.kfs_model.specs.Tree.{Tree, Node, headers, header_of}
 use Rattle.kfs_model.specs.Sight.{Sight}
 use Rattle.kfs_model.specs.Lease.{Lease, LeaseKind, ReadLease, WriteLease, LeaseFault, LeaseTable, Leases, LeaseOutcome, live_at, on_those, row_of, names_of, walked, conflicts, in_conflict, is_live, is_write, refused, granted, granted_on, granted_by_walk, dropped, ticked, without_gone, HasLive, AreCompatible, KeepsCompatible, Past, LeaseHeld, UnknownClient, NoLeaseHeld, Backwards}

@@ -1,6 +1,7 @@
 -- Lemmas on the definitions.
 pub mod Exact
 pub mod Differences
+pub mod TableLaws
 pub mod Tables
 pub mod ChangedBytes
 pub mod FirstAnswer

@@ -3,7 +3,8 @@ use Rattle.std.specs.Prelude.{◌≡◌, ℕ, suc, ◌+◌, List, [], ◌∷◌,
 use Rattle.std.proofs.Common.{ap, ◌∙◌, arith}
 use Rattle.kfs_model.specs.Access.{Client}
 use Rattle.kfs_model.specs.Sight.{ClientSight}
-use Rattle.kfs_model.specs.Table.{get, same_table, get-mapped}
+use Rattle.kfs_model.specs.Table.{get}
+use Rattle.kfs_model.proofs.TableLaws.{same_table, get-mapped}
 use Rattle.kfs_model.specs.Tree.{Tree, Node, Body, FileBody, DirectoryBody, cells_of}
 use Rattle.kfs_model.specs.Entry.{Entry}
 use Rattle.kfs_model.specs.Run.{Mark, Base, Payload, EntryFault, run, over_bytes, over_marks, marked, byte_at, byte_of, payload_of, places_from, base_marks, mapped_body, looked_up}

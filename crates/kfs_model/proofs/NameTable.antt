@@ -9,7 +9,8 @@ use Rattle.std.specs.List.{list_any}
 use Rattle.std.specs.FinMap.Entries as Entries
 use Rattle.std.proofs.lemmas.Bool.{eqb-false}
 use Rattle.std.proofs.lemmas.Bool.Decides.{Decides-eqb}
-use Rattle.kfs_model.specs.Table.{Order, Table, numbers, get, insert, remove, get-insert, get-remove}
+use Rattle.kfs_model.specs.Table.{Order, Table, numbers, get, insert, remove}
+use Rattle.kfs_model.proofs.TableLaws.{get-insert, get-remove}
 use Rattle.kfs_model.specs.Tree.{NameTable, name_order, target, name_count, entry_count, is_named}
 use Rattle.kfs_model.specs.Sight.{holder}
 use Rattle.kfs_model.specs.FirstWrong.{same_place}

@@ -3,7 +3,8 @@ use Rattle.std.proofs.Common.{◌≡◌, ℕ, ◌+◌, Bool, true, false, cond, 
 use Rattle.std.specs.Prelude.{◌-◌, suc, zero}
 use Rattle.std.proofs.lemmas.Option.{get_or_from_slice_get}
 use Rattle.kfs_model.specs.Header.{Kind, File, Directory}
-use Rattle.kfs_model.specs.Table.{get, insert, get-mapped, get-retain}
+use Rattle.kfs_model.specs.Table.{get, insert}
+use Rattle.kfs_model.proofs.TableLaws.{get-mapped, get-retain}
 use Rattle.kfs_model.specs.Tree.{Tree, Node, Body, FileBody, DirectoryBody, cells_of, is_named}
 use Rattle.kfs_model.specs.Sight.{sight, ClientSight}
 use Rattle.kfs_model.specs.Access.{Client}

@@ -6,7 +6,8 @@ use Rattle.std.specs.declared.cmp.Ordering.{Ordering}
 use Rattle.std.specs.declared.cmp.Ordering.TheVariants.{Less, Equal, Greater}
 use Rattle.std.specs.Ordering.{is_eq}
 use Rattle.std.proofs.lemmas.Bool.{or_cases, or_left, or_right, not-true}
-use Rattle.kfs_model.specs.Table.{numbers, pairs, get, retain, get-insert, get-retain}
+use Rattle.kfs_model.specs.Table.{numbers, pairs, get, retain}
+use Rattle.kfs_model.proofs.TableLaws.{get-insert, get-retain}
 use Rattle.kfs_model.specs.Tree.{Tree, headers}
 use Rattle.kfs_model.specs.Run.{Mark}
 use Rattle.kfs_model.specs.Placement.{Place, Placement, IsBlock, IsPlacement, tier_size, in_first_tier, is_free, below, numbers_from, written_blocks}

@@ -2,7 +2,8 @@
 -- name away first, and then moves the other.
 use Rattle.std.proofs.Common.{◌≡◌, ◌≢◌, ℕ, zero, suc, Bool, true, false, cond, ◌||◌, ◌==◌, ltb, pos, List, Option, Some, None, option_and_then, IsTrue, refl, sym, ap, ap₂, subst, ◌∙◌, ◌⊎◌, inl, inr, eq-eqb, ne_eqb}
 use Rattle.kfs_model.specs.Header.{Kind}
-use Rattle.kfs_model.specs.Table.{get, insert, remove, same_table, get-retain}
+use Rattle.kfs_model.specs.Table.{get, insert, remove}
+use Rattle.kfs_model.proofs.TableLaws.{same_table, get-retain}
 use Rattle.kfs_model.specs.Tree.{Tree, Node, NameTable, headers, target, entry_count, is_named}
 use Rattle.kfs_model.specs.Entry.{Unlink, Rename}
 use Rattle.kfs_model.specs.Sight.{Sight, sight, is_directory, climb_limit, climb_meets}

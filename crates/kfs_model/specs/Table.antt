@@ -2,18 +2,15 @@
 --     get t k, insert t k v, remove t k      what stands at a key, a table with one entry put or taken away
 --     retain p t, mapped f t      the entries whose keys pass a test; each value changed by a function of its key
 --     united old new      the entries of both, those of new where both have one
---     get-.., same_table      what `get` answers of each, and that tables which answer alike are equal
-use Rattle.std.specs.Prelude.{◌≡◌, ℕ, Bool, true, false, cond, not, ◌&&◌, T, List, [], ◌∷◌, refl, Option, Some, None, option_map}
+use Rattle.std.specs.Prelude.{◌≡◌, ℕ, Bool, not, ◌&&◌, T, List, [], ◌∷◌, refl, Option, Some, None}
 use Rattle.std.specs.declared.cmp.Ordering.{Ordering}
 use Rattle.std.specs.declared.cmp.Ordering.TheVariants.{Less, Equal, Greater}
 use Rattle.std.specs.Ordering.{is_eq, nat_cmp, on, then_cmp, ordering_then, is_lt, eq_by_cmp}
 use Rattle.std.specs.Cmp.{IsTotalOrder, nat_cmp_total, on_total, then_total}
 use Rattle.std.specs.Cmp.Lexicographic.{slice_cmp, nat_list_cmp_total}
 use Rattle.std.specs.FinMap.{IsAntisymmetric, nat_cmp-IsAntisymmetric, slice_cmp-IsAntisymmetric}
-use Rattle.std.specs.FinMap.Entries.{find, put, where_key, is_sorted, below_all, is_sorted-put, is_sorted-where_key, find-put, find-where_key, same_entries}
-use mathlib.Core.Path.{sym, ap, subst, ◌∙◌}
-use mathlib.Core.HLevel.{Σ_prop_path}
-use lib.Dec.{T_prop}
+use Rattle.std.specs.FinMap.Entries.{find, put, where_key, is_sorted, below_all, is_sorted-put, is_sorted-where_key}
+use mathlib.Core.Path.{sym, ap, subst}
 
 -- the first, or else the second
 abbrev pub option_or : {X : Type 0} → Option X → Option X → Option X
@@ -77,27 +74,6 @@ module _ {K X : Type 0} {R : Order K} where
   unfoldable pub remove : Table R X → K → Table R X
   remove t k = retain (λ j. not (eq_by_cmp R.compare k j)) t
 
-  pub same_entries_table : (s t : Table R X) → s.entries ≡ t.entries → s ≡ t
-  same_entries_table s t e =
-      let both : ◌≡◌ {A = (es : List (K × X)) × T (is_sorted R.compare es)} (s.entries, s.sorted) (t.entries, t.sorted) = Σ_prop_path (λ es. T_prop _) e in
-      λ i. record { entries = (both i).0; sorted = (both i).1 }
-
-  pub same_table : (s t : Table R X) → ((k : K) → get s k ≡ get t k) → s ≡ t
-  unfolding get
-  same_table s t alike = same_entries_table s t (same_entries R.compare R.total R.exact s.entries t.entries s.sorted t.sorted alike)
-
-  pub get-insert : (t : Table R X) (k : K) (v : X) (q : K) → get (insert t k v) q ≡ cond (eq_by_cmp R.compare q k) (Some v) (get t q)
-  unfolding get insert
-  get-insert t k v q = find-put R.compare R.total q k v t.entries
-
-  pub get-retain : (p : K → Bool) (t : Table R X) (q : K) → get (retain p t) q ≡ cond (p q) (get t q) None
-  unfolding get retain
-  get-retain p t q = find-where_key R.compare p q (λ x e. ap p (sym (R.exact q x e))) t.entries
-
-  pub get-remove : (t : Table R X) (k q : K) → get (remove t k) q ≡ cond (not (eq_by_cmp R.compare k q)) (get t q) None
-  unfolding remove
-  get-remove t k q = get-retain (λ j. not (eq_by_cmp R.compare k j)) t q
-
 module _ {K X Y : Type 0} where
   -- each value changed by a function of its key
   abbrev pub changed_entries : (K → X → Y) → List (K × X) → List (K × Y)
@@ -113,22 +89,9 @@ module _ {K X Y : Type 0} (R : Order K) where
   is_sorted-changed f [] = refl
   is_sorted-changed f (e ∷ es) = λ i. below_all-changed f e.0 es i && is_sorted-changed f es i
 
-  find-changed : (f : K → X → Y) (q : K) (es : List (K × X)) → find R.compare q (changed_entries f es) ≡ option_map (f q) (find R.compare q es)
-  find-changed f q [] = refl
-  find-changed f q (e ∷ es) = at_first (find-changed f q es) (R.compare q e.0) refl
-    where
-      at_first : find R.compare q (changed_entries f es) ≡ option_map (f q) (find R.compare q es) → (o : Ordering) → R.compare q e.0 ≡ o → cond (is_eq o) (Some (f e.0 e.1)) (find R.compare q (changed_entries f es)) ≡ option_map (f q) (cond (is_eq o) (Some e.1) (find R.compare q es))
-      at_first rest Less p = rest
-      at_first rest Equal p = ap (λ k. Some (f k e.1)) (sym (R.exact q e.0 p))
-      at_first rest Greater p = rest
-
 module _ {K X Y : Type 0} {R : Order K} where
   unfoldable pub mapped : (K → X → Y) → Table R X → Table R Y
   mapped f t = record { entries = changed_entries f t.entries; sorted = subst T (sym (is_sorted-changed R f t.entries)) t.sorted }
-
-  pub get-mapped : (f : K → X → Y) (t : Table R X) (q : K) → get (mapped f t) q ≡ option_map (f q) (get t q)
-  unfolding get mapped
-  get-mapped f t q = find-changed R f q t.entries
 
 module _ {K X : Type 0} (R : Order K) where
   -- the entries of both lists, those of the second where both have one
@@ -140,20 +103,7 @@ module _ {K X : Type 0} (R : Order K) where
   is_sorted-united old [] h = h
   is_sorted-united old (e ∷ es) h = is_sorted-put R.compare R.total e.0 e.1 (united_entries old es) (is_sorted-united old es h)
 
-  find-united : (old new : List (K × X)) (q : K) → find R.compare q (united_entries old new) ≡ option_or (find R.compare q new) (find R.compare q old)
-  find-united old [] q = refl
-  find-united old (e ∷ es) q =
-      find-put R.compare R.total q e.0 e.1 (united_entries old es)
-      ∙ elim (eq_by_cmp R.compare q e.0) as (λ b. cond b (Some e.1) (find R.compare q (united_entries old es)) ≡ option_or (cond b (Some e.1) (find R.compare q es)) (find R.compare q old)) [
-        | true ↦ refl
-        | false ↦ find-united old es q
-      ]
-
 module _ {K X : Type 0} {R : Order K} where
   -- the entries of both tables, those of the second where both have one
   unfoldable pub united : Table R X → Table R X → Table R X
   united old new = record { entries = united_entries R old.entries new.entries; sorted = is_sorted-united R old.entries new.entries old.sorted }
-
-  pub get-united : (old new : Table R X) (q : K) → get (united old new) q ≡ option_or (get new q) (get old q)
-  unfolding get united
-  get-united old new q = find-united R old.entries new.entries q
