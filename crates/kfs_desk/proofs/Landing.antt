@@ -6,7 +6,7 @@ use Rattle.std.proofs.lemmas.Bool.{and_parts, and_from, both_ways, false_from_ne
 use Rattle.kfs_model.specs.Header.{Header}
 use Rattle.kfs_model.specs.Table.{get, empty, retain, numbers}
 use Rattle.kfs_model.proofs.TableLaws.{same_table, same_entries_table, get-mapped, get-retain}
-use Rattle.kfs_model.specs.Tree.{Tree, Node, Body, FileBody, DirectoryBody, headers, header_of, cells_of}
+use Rattle.kfs_model.specs.Tree.{Tree, Node, Body, FileBody, DirectoryBody, headers, header_of, content_of}
 use Rattle.kfs_model.specs.Sight.{ClientSight}
 use Rattle.kfs_model.specs.Soundness.{IsSound}
 use Rattle.kfs_model.specs.Entry.{Entry}
@@ -153,12 +153,12 @@ module _ (desk : Parts) (is_desk : IsDesk desk) (lawful : IsLawful desk.image.co
     zero_bytes (Mark.Zero ∷ cells) all = cc
     zero_bytes (Mark.Payload entry place ∷ cells) all = cc
 
-    zero_body : (number mode uid gid : ℕ) (body : Body Mark) → list_all is_base (cells_of (Some (record { mode = mode; uid = uid; gid = gid; body = body }))) ≡ true
-        → cells_of (Some (on_node byte number (record { mode = mode; uid = uid; gid = gid; body = body }))) ≡ replicate (length (cells_of (Some (on_node byte number (record { mode = mode; uid = uid; gid = gid; body = body }))))) 0
+    zero_body : (number mode uid gid : ℕ) (body : Body Mark) → list_all is_base (content_of (Some (record { mode = mode; uid = uid; gid = gid; body = body }))) ≡ true
+        → content_of (Some (on_node byte number (record { mode = mode; uid = uid; gid = gid; body = body }))) ≡ replicate (length (content_of (Some (on_node byte number (record { mode = mode; uid = uid; gid = gid; body = body }))))) 0
     zero_body number mode uid gid (FileBody cells) all = zero_bytes cells all
     zero_body number mode uid gid DirectoryBody all = refl
 
-    zero_cells : (number : ℕ) (found : Option (Node Mark)) → list_all is_base (cells_of found) ≡ true → cells_of (option_map (on_node byte number) found) ≡ replicate (length (cells_of (option_map (on_node byte number) found))) 0
+    zero_cells : (number : ℕ) (found : Option (Node Mark)) → list_all is_base (content_of found) ≡ true → content_of (option_map (on_node byte number) found) ≡ replicate (length (content_of (option_map (on_node byte number) found))) 0
     zero_cells number None all = refl
     zero_cells number (Some node) all = zero_body number node.mode node.uid node.gid node.body all
 
@@ -168,7 +168,7 @@ module _ (desk : Parts) (is_desk : IsDesk desk) (lawful : IsLawful desk.image.co
         let same : recut byte marked_after ≡ after = cc in
         subst IsBlank same (record {
           cells = λ number.
-              subst (λ (found : Option (Node ℕ)). cells_of found ≡ replicate (length (cells_of found)) 0) (sym (get-mapped (on_node byte) marked_after.nodes number))
+              subst (λ (found : Option (Node ℕ)). content_of found ≡ replicate (length (content_of found)) 0) (sym (get-mapped (on_node byte) marked_after.nodes number))
               (zero_cells number (get marked_after.nodes number) (untouched.cells number));
         })
 

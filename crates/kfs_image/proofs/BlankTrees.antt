@@ -3,7 +3,7 @@ use Rattle.std.proofs.Common.{◌≡◌, ℕ, zero, suc, Bool, true, false, cond
 use Rattle.kfs_model.specs.Header.{Kind, File, Directory, Header}
 use Rattle.kfs_model.specs.Table.{numbers, empty, get, insert, mapped}
 use Rattle.kfs_model.proofs.TableLaws.{same_table, same_entries_table, get-mapped}
-use Rattle.kfs_model.specs.Tree.{Tree, Node, Body, FileBody, DirectoryBody, headers, header_of, kind_of, size_of, cells_of}
+use Rattle.kfs_model.specs.Tree.{Tree, Node, Body, FileBody, DirectoryBody, headers, header_of, kind_of, size_of, content_of}
 use Rattle.kfs_model.specs.Soundness.{IsSound}
 use Rattle.kfs_model.specs.Run.{byte_at}
 use Rattle.kfs_model.specs.Fresh.{fresh_tree}
@@ -16,13 +16,13 @@ use Rattle.kfs_image.specs.ShownTree.{body_shown, node_shown, tree_of, IsLawful}
 
 -- all bytes of all files are zero
 pub record IsBlank (t : Tree ℕ) : Type 0 where
-  pub cells : (number : ℕ) → cells_of (get t.nodes number) ≡ replicate (length (cells_of (get t.nodes number))) 0
+  pub cells : (number : ℕ) → content_of (get t.nodes number) ≡ replicate (length (content_of (get t.nodes number))) 0
 
 module _ (t : Tree ℕ) (blank : IsBlank t) where
   blank_body : (number : ℕ) (node : Node ℕ) → get t.nodes number ≡ Some node → body_shown (kind_of node.body) (size_of node.body) ≡ node.body
-  blank_body number node is = by node.body (subst (λ o. cells_of o ≡ replicate (length (cells_of o)) 0) is (blank.cells number))
+  blank_body number node is = by node.body (subst (λ o. content_of o ≡ replicate (length (content_of o)) 0) is (blank.cells number))
     where
-      by : (body : Body ℕ) → cells_of (Some (record node { body = body })) ≡ replicate (length (cells_of (Some (record node { body = body })))) 0 → body_shown (kind_of body) (size_of body) ≡ body
+      by : (body : Body ℕ) → content_of (Some (record node { body = body })) ≡ replicate (length (content_of (Some (record node { body = body })))) 0 → body_shown (kind_of body) (size_of body) ≡ body
       by (FileBody cells) zeros = ap FileBody (sym zeros)
       by DirectoryBody zeros = refl
 
@@ -48,16 +48,16 @@ zero_at zero place = refl
 zero_at (suc size) zero = refl
 zero_at (suc size) (suc place) = zero_at size place
 
-zero_of : (number : ℕ) (place : ℕ) (found : Option Header) → byte_at (cells_of (option_map (node_shown number) found)) place ≡ 0
+zero_of : (number : ℕ) (place : ℕ) (found : Option Header) → byte_at (content_of (option_map (node_shown number) found)) place ≡ 0
 zero_of number place None = refl
 zero_of number place (Some h) = by h.kind
   where
-    by : (kind : Kind) → byte_at (cells_of (Some (node_shown number (record h { kind = kind })))) place ≡ 0
+    by : (kind : Kind) → byte_at (content_of (Some (node_shown number (record h { kind = kind })))) place ≡ 0
     by File = zero_at h.size place
     by Directory = refl
 
-pub shown_zero : (c : Contents) (number place : ℕ) → byte_at (cells_of (get (tree_of c).nodes number)) place ≡ 0
-shown_zero c number place = ap (λ o. byte_at (cells_of o) place) (get-mapped node_shown c.heads number) ∙ zero_of number place (get c.heads number)
+pub shown_zero : (c : Contents) (number place : ℕ) → byte_at (content_of (get (tree_of c).nodes number)) place ≡ 0
+shown_zero c number place = ap (λ o. byte_at (content_of o) place) (get-mapped node_shown c.heads number) ∙ zero_of number place (get c.heads number)
 
 -- ---- the tree of a new image
 
@@ -65,7 +65,7 @@ fresh_is_blank : IsBlank (fresh_tree {B = ℕ})
 unfolding get
 fresh_is_blank = record { cells = λ number. by (eq_by_cmp numbers.compare number 1) }
   where
-    by : (root : Bool) → let found : Option (Node ℕ) = cond root (Some (record { mode = greatest_mode; uid = 0; gid = 0; body = DirectoryBody })) None in cells_of found ≡ replicate (length (cells_of found)) 0
+    by : (root : Bool) → let found : Option (Node ℕ) = cond root (Some (record { mode = greatest_mode; uid = 0; gid = 0; body = DirectoryBody })) None in content_of found ≡ replicate (length (content_of found)) 0
     by true = refl
     by false = refl
 

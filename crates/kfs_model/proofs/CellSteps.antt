@@ -9,7 +9,7 @@ use Rattle.kfs_model.specs.Entry.{Write, Truncate, Chmod}
 use Rattle.kfs_model.specs.Sight.{is_directory}
 use Rattle.kfs_model.specs.Limits.{size_limit}
 use Rattle.kfs_model.specs.Check.{EntryContext, fault, checks_of, payload_fits}
-use Rattle.kfs_model.specs.Effect.{CellMaker, change_of, overwritten, resized, lengthened, on_cells}
+use Rattle.kfs_model.specs.Effect.{Filling, change_of, overwritten, resized, lengthened, on_content}
 use Rattle.kfs_model.specs.SeenAfter.{written_size, seen_after}
 use Rattle.kfs_model.specs.CleanStep.{IsClean, IsKept}
 use Rattle.kfs_model.proofs.CleanIsAllowed.{AllPass, all_pass, passed}
@@ -28,45 +28,45 @@ module _ {B : Type 0} (t : Tree B) (n : ℕ) where
 
 -- ---- how long a file is after it
 
-module _ {B : Type 0} (maker : CellMaker B) where
-  lengthened_long : (size : ℕ) (cells : List B) → length (lengthened maker size cells) ≡ length cells + (size - length cells)
-  lengthened_long size cells = length-append cells (replicate (size - length cells) maker.gap) ∙ ap (λ n. length cells + n) (length-replicate (size - length cells) maker.gap)
+module _ {B : Type 0} (filling : Filling B) where
+  lengthened_long : (size : ℕ) (cells : List B) → length (lengthened filling size cells) ≡ length cells + (size - length cells)
+  lengthened_long size cells = length-append cells (replicate (size - length cells) filling.gap) ∙ ap (λ n. length cells + n) (length-replicate (size - length cells) filling.gap)
 
-  resized_long : (size : ℕ) (cells : List B) → length (resized maker size cells) ≡ size
+  resized_long : (size : ℕ) (cells : List B) → length (resized filling size cells) ≡ size
   unfolding resized
-  resized_long size cells = length-take-le size (lengthened maker size cells) (omega (arith, lengthened_long size cells))
+  resized_long size cells = length-take-le size (lengthened filling size cells) (omega (arith, lengthened_long size cells))
 
-  overwritten_long : (offset : ℕ) (p : List B) (payload : List ℕ) (cells : List B) → length p ≡ length payload → length (overwritten maker offset p cells) ≡ written_size offset payload (length cells)
+  overwritten_long : (offset : ℕ) (p : List B) (payload : List ℕ) (cells : List B) → length p ≡ length payload → length (overwritten filling offset p cells) ≡ written_size offset payload (length cells)
   unfolding overwritten
   overwritten_long offset [] [] cells same = refl
   overwritten_long offset [] (b ∷ bs) cells same = absurd (omega arith)
   overwritten_long offset (c ∷ cs) [] cells same = absurd (omega arith)
   overwritten_long offset (c ∷ cs) (b ∷ bs) cells same =
-      let start = take offset (lengthened maker offset cells) in
+      let start = take offset (lengthened filling offset cells) in
       let rest = drop (offset + length (c ∷ cs)) cells in
-      let all : length (overwritten maker offset (c ∷ cs) cells) ≡ length (start ++ (c ∷ cs)) + length rest = length-append (start ++ (c ∷ cs)) rest in
+      let all : length (overwritten filling offset (c ∷ cs) cells) ≡ length (start ++ (c ∷ cs)) + length rest = length-append (start ++ (c ∷ cs)) rest in
       let front : length (start ++ (c ∷ cs)) ≡ length start + length (c ∷ cs) = length-append start (c ∷ cs) in
-      let begun : length start ≡ offset = length-take-le offset (lengthened maker offset cells) (omega (arith, lengthened_long offset cells)) in
+      let begun : length start ≡ offset = length-take-le offset (lengthened filling offset cells) (omega (arith, lengthened_long offset cells)) in
       let back : length rest ≡ length cells - (offset + length (c ∷ cs)) = length-drop (offset + length (c ∷ cs)) cells in
       omega arith
 
 -- a file whose cells change and its size alone
-file_shown : {B : Type 0} (maker : CellMaker B) (names : NameTable) (n : ℕ) (node : Node B) (change : List B → List B) (size : ℕ → ℕ)
+file_shown : {B : Type 0} (filling : Filling B) (names : NameTable) (n : ℕ) (node : Node B) (change : List B → List B) (size : ℕ → ℕ)
     → is_directory (Some (header_of names n node)) ≡ false → ((cells : List B) → length (change cells) ≡ size (length cells))
-    → header_of names n (record node { body = on_cells maker change node.body }) ≡ record (header_of names n node) { size = size (size_of node.body) }
-file_shown {B} maker names n node change size file long = at node.body file
+    → header_of names n (record node { body = on_content filling change node.body }) ≡ record (header_of names n node) { size = size (size_of node.body) }
+file_shown {B} filling names n node change size file long = at node.body file
   where
     at : (body : Body B) → is_directory (Some (header_of names n (record node { body = body }))) ≡ false
-        → header_of names n (record node { body = on_cells maker change body }) ≡ record (header_of names n (record node { body = body })) { size = size (size_of body) }
+        → header_of names n (record node { body = on_content filling change body }) ≡ record (header_of names n (record node { body = body })) { size = size (size_of body) }
     at (FileBody cells) file = λ i. record { kind = File; mode = node.mode; uid = node.uid; gid = node.gid; links = name_count names n; size = long cells i }
     at DirectoryBody file = cc
 
 -- a payload has a cell for each byte
-pub record IsFaithful {B : Type 0} (maker : CellMaker B) : Type 0 where
-  pub long : (index : ℕ) (payload : List ℕ) → length (maker.payload index payload) ≡ length payload
+pub record IsFaithful {B : Type 0} (filling : Filling B) : Type 0 where
+  pub long : (index : ℕ) (payload : List ℕ) → length (filling.payload index payload) ≡ length payload
 
-module _ {B : Type 0} (maker : CellMaker B) (context : EntryContext) (index : ℕ) (t : Tree B) where
-  pub chmod_kept : (n mode : ℕ) → IsClean context t (Chmod n mode) → IsKept maker context.client index t (Chmod n mode)
+module _ {B : Type 0} (filling : Filling B) (context : EntryContext) (index : ℕ) (t : Tree B) where
+  pub chmod_kept : (n mode : ℕ) → IsClean context t (Chmod n mode) → IsKept filling context.client index t (Chmod n mode)
   unfolding checks_of fault change_of seen_after
   chmod_kept n mode h =
       let pass = all_pass (at_tree context t) _ (clean_at context t h) in
@@ -80,18 +80,18 @@ module _ {B : Type 0} (maker : CellMaker B) (context : EntryContext) (index : �
   shown_as_file : (n : ℕ) (node : Node B) → get t.nodes n ≡ Some node → is_directory (get (headers t) n) ≡ false → is_directory (Some (header_of t.names n node)) ≡ false
   shown_as_file n node there file = sym (ap is_directory (get-headers t n ∙ ap (option_map (header_of t.names n)) there)) ∙ file
 
-  pub truncate_kept : (n size : ℕ) → IsClean context t (Truncate n size) → IsKept maker context.client index t (Truncate n size)
+  pub truncate_kept : (n size : ℕ) → IsClean context t (Truncate n size) → IsKept filling context.client index t (Truncate n size)
   unfolding checks_of fault change_of seen_after
   truncate_kept n size h =
       let pass = all_pass (at_tree context t) _ (clean_at context t h) in
       let (node, there) = node_there t n (passed _ _ pass.0) in
       let file = shown_as_file n node there (not-true _ (passed _ _ pass.1.0)) in
       let fits = leb-true size size_limit (passed _ _ pass.1.1.1.1.0) in
-      let shown = file_shown maker t.names n node (resized maker size) (λ _. size) file (resized_long maker size) in
+      let shown = file_shown filling t.names n node (resized filling size) (λ _. size) file (resized_long filling size) in
       record {
-        sound = node_sound t h.sound n node there (λ node. record node { body = on_cells maker (resized maker size) node.body }) (λ h. record h { size = size }) (λ h. refl) shown
+        sound = node_sound t h.sound n node there (λ node. record node { body = on_content filling (resized filling size) node.body }) (λ h. record h { size = size }) (λ h. refl) shown
             (λ g is. let old = h.sound.ranges n g is in record { least = old.least; greatest = old.greatest; mode = old.mode; uid = old.uid; gid = old.gid; size = fits });
-        seen = node_seen t h.sound n node there (λ node. record node { body = on_cells maker (resized maker size) node.body }) (λ h. record h { size = size }) (λ h. refl) shown;
+        seen = node_seen t h.sound n node there (λ node. record node { body = on_content filling (resized filling size) node.body }) (λ h. record h { size = size }) (λ h. refl) shown;
       }
 
   written_fits : (p : EntryContext) (offset : ℕ) (payload : List ℕ) (size : ℕ) → AllPass p (payload_fits offset payload) → size ≤ 4294967296 → written_size offset payload size ≤ 4294967296
@@ -99,15 +99,15 @@ module _ {B : Type 0} (maker : CellMaker B) (context : EntryContext) (index : �
   written_fits p offset [] size pass fits = fits
   written_fits p offset (b ∷ bs) size pass fits = let ends = leb-true (offset + length (b ∷ bs)) size_limit (passed _ _ pass.0) in omega arith
 
-  pub write_kept : IsFaithful maker → (n offset : ℕ) (payload : List ℕ) → IsClean context t (Write n offset payload) → IsKept maker context.client index t (Write n offset payload)
+  pub write_kept : IsFaithful filling → (n offset : ℕ) (payload : List ℕ) → IsClean context t (Write n offset payload) → IsKept filling context.client index t (Write n offset payload)
   unfolding checks_of fault change_of seen_after
   write_kept faithful n offset payload h =
       let pass = all_pass (at_tree context t) _ (clean_at context t h) in
       let (node, there) = node_there t n (passed _ _ pass.0) in
       let file = shown_as_file n node there (not-true _ (passed _ _ pass.1.0)) in
-      let shown = file_shown maker t.names n node (overwritten maker offset (maker.payload index payload)) (written_size offset payload) file (λ cells. overwritten_long maker offset (maker.payload index payload) payload cells (faithful.long index payload)) in
+      let shown = file_shown filling t.names n node (overwritten filling offset (filling.payload index payload)) (written_size offset payload) file (λ cells. overwritten_long filling offset (filling.payload index payload) payload cells (faithful.long index payload)) in
       record {
-        sound = node_sound t h.sound n node there (λ node. record node { body = on_cells maker (overwritten maker offset (maker.payload index payload)) node.body }) (λ h. record h { size = written_size offset payload h.size }) (λ h. refl) shown
+        sound = node_sound t h.sound n node there (λ node. record node { body = on_content filling (overwritten filling offset (filling.payload index payload)) node.body }) (λ h. record h { size = written_size offset payload h.size }) (λ h. refl) shown
             (λ g is. let old = h.sound.ranges n g is in record { least = old.least; greatest = old.greatest; mode = old.mode; uid = old.uid; gid = old.gid; size = written_fits (at_tree context t) offset payload g.size pass.1.1.1.1 old.size });
-        seen = node_seen t h.sound n node there (λ node. record node { body = on_cells maker (overwritten maker offset (maker.payload index payload)) node.body }) (λ h. record h { size = written_size offset payload h.size }) (λ h. refl) shown;
+        seen = node_seen t h.sound n node there (λ node. record node { body = on_content filling (overwritten filling offset (filling.payload index payload)) node.body }) (λ h. record h { size = written_size offset payload h.size }) (λ h. refl) shown;
       }

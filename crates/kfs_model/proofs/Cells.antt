@@ -13,7 +13,7 @@ use Rattle.kfs_model.proofs.TableLaws.{same_table, same_entries_table, get-inser
 use Rattle.kfs_model.specs.Tree.{Tree, Node, Body, FileBody, DirectoryBody, NameTable, headers, header_of, name_count, entry_count, target, is_named}
 use Rattle.kfs_model.specs.Sight.{sight, parent_in, ClientSight}
 use Rattle.kfs_model.specs.Entry.{Entry, Create, Write, Truncate, Link, Unlink, Rename, Chmod}
-use Rattle.kfs_model.specs.Effect.{CellMaker, lengthened, overwritten, resized, change_of, effect, swept, new_body, on_cells, changed_node}
+use Rattle.kfs_model.specs.Effect.{Filling, lengthened, overwritten, resized, change_of, effect, swept, new_body, on_content, changed_node}
 use Rattle.kfs_model.specs.Run.{EntryFault, mapped_tree, mapped_body, payload_of, run_from, created_by, entry_context}
 use Rattle.kfs_model.specs.Check.{Reason, first_fault}
 
@@ -94,7 +94,7 @@ module _ {B C : Type 0} (f : B → C) where
 
 -- ---- steps and runs
 
-module _ {B C : Type 0} (f : B → C) (from : CellMaker B) (to : CellMaker C) (gap : f from.gap ≡ to.gap) where
+module _ {B C : Type 0} (f : B → C) (from : Filling B) (to : Filling C) (gap : f from.gap ≡ to.gap) where
   lengthened-map : (size : ℕ) (cells : List B) → map f (lengthened from size cells) ≡ lengthened to size (map f cells)
   lengthened-map size cells =
       let same_length = sym (length-map cells f) in
@@ -118,11 +118,11 @@ module _ {B C : Type 0} (f : B → C) (from : CellMaker B) (to : CellMaker C) (g
   new_body-map File = refl
   new_body-map Directory = refl
 
-  on_cells-map : (change : List B → List B) (change' : List C → List C) → ((cells : List B) → map f (change cells) ≡ change' (map f cells)) → (body : Body B) → mapped_body (map f) (on_cells from change body) ≡ on_cells to change' (mapped_body (map f) body)
+  on_cells-map : (change : List B → List B) (change' : List C → List C) → ((cells : List B) → map f (change cells) ≡ change' (map f cells)) → (body : Body B) → mapped_body (map f) (on_content from change body) ≡ on_content to change' (mapped_body (map f) body)
   on_cells-map change change' alike (FileBody cells) = ap FileBody (alike cells)
   on_cells-map change change' alike DirectoryBody = refl
 
-  on_node-cells : (change : List B → List B) (change' : List C → List C) → ((cells : List B) → map f (change cells) ≡ change' (map f cells)) → (n : ℕ) (node : Node B) → on_node f n (record node { body = on_cells from change node.body }) ≡ record (on_node f n node) { body = on_cells to change' (mapped_body (map f) node.body) }
+  on_node-cells : (change : List B → List B) (change' : List C → List C) → ((cells : List B) → map f (change cells) ≡ change' (map f cells)) → (n : ℕ) (node : Node B) → on_node f n (record node { body = on_content from change node.body }) ≡ record (on_node f n node) { body = on_content to change' (mapped_body (map f) node.body) }
   on_node-cells change change' alike n node = λ i. record { mode = node.mode; uid = node.uid; gid = node.gid; body = on_cells-map change change' alike node.body i }
 
   -- the payload of an entry is the same on both sides

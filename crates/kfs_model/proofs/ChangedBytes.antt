@@ -4,7 +4,7 @@ use Rattle.std.specs.List.{list_any}
 use Rattle.std.proofs.lemmas.Bool.{or_cases, or_left, or_right, not-true, not_from_false, false_from_ne_true, both_ways}
 use Rattle.std.proofs.lemmas.List.Folds.{list_any-append}
 use Rattle.kfs_model.specs.Table.{numbers, get}
-use Rattle.kfs_model.specs.Tree.{Tree, Node, cells_of}
+use Rattle.kfs_model.specs.Tree.{Tree, Node, content_of}
 use Rattle.kfs_model.specs.Run.{Mark}
 use Rattle.kfs_model.specs.Plan.{mark_at, is_base}
 use Rattle.kfs_model.specs.FirstWrong.{places_where, changed_places, changed_bytes}
@@ -85,9 +85,9 @@ module _ (t : Tree Mark) (test : ℕ × ℕ → Bool) where
   unfolding changed_bytes in_entry
   any-changed_bytes = list_any-flat_map test changed_places t.nodes.entries
 
-  any-in_entry : (number : ℕ) (node : Node Mark) → in_entry (number, node) ≡ list_any (λ place. test (number, place)) (places_where (λ mark. not (is_base mark)) 0 (cells_of (Some node)))
+  any-in_entry : (number : ℕ) (node : Node Mark) → in_entry (number, node) ≡ list_any (λ place. test (number, place)) (places_where (λ mark. not (is_base mark)) 0 (content_of (Some node)))
   unfolding in_entry
-  any-in_entry number node = list_any-map test (λ place. (number, place)) (places_where (λ mark. not (is_base mark)) 0 (cells_of (Some node)))
+  any-in_entry number node = list_any-map test (λ place. (number, place)) (places_where (λ mark. not (is_base mark)) 0 (content_of (Some node)))
 
   record ChangedFound : Type 0 where
     number : ℕ
@@ -97,11 +97,11 @@ module _ (t : Tree Mark) (test : ℕ × ℕ → Bool) where
 
   from_node : (number : ℕ) (node : Node Mark) → get t.nodes number ≡ Some node → in_entry (number, node) ≡ true → ChangedFound
   from_node number node found passes =
-      let place = place_from_any (λ mark. not (is_base mark)) (λ place. test (number, place)) 0 (cells_of (Some node)) (sym (any-in_entry number node) ∙ passes) in
+      let place = place_from_any (λ mark. not (is_base mark)) (λ place. test (number, place)) 0 (content_of (Some node)) (sym (any-in_entry number node) ∙ passes) in
       record {
         number = number;
         place = place.place;
-        is = record { mark = place.cell; stands = ap (λ n. slice_get (cells_of n) place.place) found ∙ place.stands; changed = not-true _ place.cell_passes };
+        is = record { mark = place.cell; stands = ap (λ n. slice_get (content_of n) place.place) found ∙ place.stands; changed = not-true _ place.cell_passes };
         passes = ap (λ p. test (number, p)) (sym (zero-add place.place)) ∙ place.place_passes;
       }
 
@@ -111,11 +111,11 @@ module _ (t : Tree Mark) (test : ℕ × ℕ → Bool) where
       let (number, node, found, passes) = found_from_any numbers in_entry t.nodes.entries t.nodes.sorted (sym any-changed_bytes ∙ any) in
       from_node number node found passes
 
-  in_node : (number place : ℕ) (node : Option (Node Mark)) → get t.nodes number ≡ node → (mark : Mark) → slice_get (cells_of node) place ≡ Some mark → is_base mark ≡ false → test (number, place) ≡ true → list_any test (changed_bytes t) ≡ true
+  in_node : (number place : ℕ) (node : Option (Node Mark)) → get t.nodes number ≡ node → (mark : Mark) → slice_get (content_of node) place ≡ Some mark → is_base mark ≡ false → test (number, place) ≡ true → list_any test (changed_bytes t) ≡ true
   unfolding get
   in_node number place None found mark stands changed passes = cc
   in_node number place (Some node) found mark stands changed passes =
-      let here = any_from_place (λ mark. not (is_base mark)) (λ place. test (number, place)) 0 (cells_of (Some node)) place mark stands (not_from_false _ changed) (ap (λ p. test (number, p)) (zero-add place) ∙ passes) in
+      let here = any_from_place (λ mark. not (is_base mark)) (λ place. test (number, place)) 0 (content_of (Some node)) place mark stands (not_from_false _ changed) (ap (λ p. test (number, p)) (zero-add place) ∙ passes) in
       any-changed_bytes ∙ any_from_found numbers in_entry t.nodes.entries number node found (any-in_entry number node ∙ here)
 
   any_from_changed : (number place : ℕ) → IsChanged t number place → test (number, place) ≡ true → list_any test (changed_bytes t) ≡ true

@@ -8,7 +8,7 @@ use Rattle.kfs_model.specs.Table.{get, insert}
 use Rattle.kfs_model.specs.Tree.{Tree, Node, NameTable, headers, header_of, target, name_count}
 use Rattle.kfs_model.specs.Entry.{Entry, Create}
 use Rattle.kfs_model.specs.Sight.{sight, is_directory, is_file, parent_in}
-use Rattle.kfs_model.specs.Effect.{CellMaker, change_of, effect, swept, new_body}
+use Rattle.kfs_model.specs.Effect.{Filling, change_of, effect, swept, new_body}
 use Rattle.kfs_model.specs.Check.{EntryContext}
 use Rattle.kfs_model.specs.Soundness.{Climbs, InRange, NameIsSound, AreSound, IsSound}
 use Rattle.kfs_model.specs.Spelling.{IsEntry, IsName}
@@ -24,7 +24,7 @@ grant_ends first last fits = grind (arith, nat_tests)
 
 -- ---- what shows after it
 
-module _ {B : Type 0} (maker : CellMaker B) (client : Client) (index : ℕ) (t : Tree B) (d : ℕ) (m : List ℕ) (n : ℕ) (kind : Kind) (mode : ℕ) (sound : IsSound t) (facts : CreateFacts client (sight t) d m n) where
+module _ {B : Type 0} (filling : Filling B) (client : Client) (index : ℕ) (t : Tree B) (d : ℕ) (m : List ℕ) (n : ℕ) (kind : Kind) (mode : ℕ) (sound : IsSound t) (facts : CreateFacts client (sight t) d m n) where
   abbrev entry : Entry
   entry = Create d m n kind mode
 
@@ -38,7 +38,7 @@ module _ {B : Type 0} (maker : CellMaker B) (client : Client) (index : ℕ) (t :
   after = insert t.names (d, m) n
 
   abbrev node : Node B
-  node = record { mode = mode; uid = client.uid; gid = client.gid; body = new_body maker kind }
+  node = record { mode = mode; uid = client.uid; gid = client.gid; body = new_body filling kind }
 
   new_is_named_once : name_count after n ≡ 1
   new_is_named_once = own_count t.names d m n facts.free_name ∙ ap (λ c. c + 1) (unnamed head t.names sound n facts.free_number)
@@ -46,7 +46,7 @@ module _ {B : Type 0} (maker : CellMaker B) (client : Client) (index : ℕ) (t :
   new_shown : header_of after n node ≡ new_header client kind mode
   new_shown = at kind
     where
-      at : (kind : Kind) → header_of after n (record { mode = mode; uid = client.uid; gid = client.gid; body = new_body maker kind }) ≡ new_header client kind mode
+      at : (kind : Kind) → header_of after n (record { mode = mode; uid = client.uid; gid = client.gid; body = new_body filling kind }) ≡ new_header client kind mode
       at File = λ i. record { kind = File; mode = mode; uid = client.uid; gid = client.gid; links = new_is_named_once i; size = 0 }
       at Directory = refl
 
@@ -59,10 +59,10 @@ module _ {B : Type 0} (maker : CellMaker B) (client : Client) (index : ℕ) (t :
       (ap (λ b. option_map (header_of after n) (cond b (Some node) None)) new_stays ∙ ap Some new_shown)
   shown_at k false other = kept_head t sound after k (others_count t.names d m n facts.free_name k other)
 
-  head_after : (k : ℕ) → get (headers (effect maker client index entry t)) k ≡ heads k
+  head_after : (k : ℕ) → get (headers (effect filling client index entry t)) k ≡ heads k
   unfolding change_of
   head_after k =
-      get-swept_headers (change_of maker client index entry t) k
+      get-swept_headers (change_of filling client index entry t) k
       ∙ ap (λ o. option_map (header_of after k) (cond (stays after k) o None)) (at_number-insert t.nodes n node k)
       ∙ shown_at k (k == n) refl
 
@@ -88,7 +88,7 @@ module _ {B : Type 0} (maker : CellMaker B) (client : Client) (index : ℕ) (t :
       at true same = subst (λ k. parent_in heads after k ≡ put_parent kind n d (parent_in head t.names) k) (sym (eqb-true k n same)) (parent_new kind (head_new n refl))
       at false other = parent_other k other ∙ sym (put_parent_elsewhere kind n d (parent_in head t.names) k other)
 
-  pub create_seen : sight (effect maker client index entry t) ≡ seen_after client (sight t) entry
+  pub create_seen : sight (effect filling client index entry t) ≡ seen_after client (sight t) entry
   unfolding change_of swept seen_after
   create_seen = λ i. record {
     head = λ k. head_after k i;
@@ -178,14 +178,14 @@ module _ {B : Type 0} (maker : CellMaker B) (client : Client) (index : ℕ) (t :
           subst (λ k. InRange k h) (sym (eqb-true k n same)) (subst (InRange n) header_is (new_in_range fits entry_fits))
       range_at k h false other shown = sound.ranges k h (sym (head_other k other) ∙ shown)
 
-  pub create_sound : IsClient client → IsEntry entry → IsSound (effect maker client index entry t)
+  pub create_sound : IsClient client → IsEntry entry → IsSound (effect filling client index entry t)
   unfolding change_of swept
   create_sound fits entry_fits = subst (λ heads. AreSound heads after) (λ i k. sym (head_after k) i) (heads_sound fits entry_fits)
 
-pub create_kept : {B : Type 0} (maker : CellMaker B) (context : EntryContext) (index : ℕ) (t : Tree B) (d : ℕ) (m : List ℕ) (n : ℕ) (kind : Kind) (mode : ℕ) → IsClean context t (Create d m n kind mode) → IsKept maker context.client index t (Create d m n kind mode)
-create_kept maker context index t d m n kind mode h =
+pub create_kept : {B : Type 0} (filling : Filling B) (context : EntryContext) (index : ℕ) (t : Tree B) (d : ℕ) (m : List ℕ) (n : ℕ) (kind : Kind) (mode : ℕ) → IsClean context t (Create d m n kind mode) → IsKept filling context.client index t (Create d m n kind mode)
+create_kept filling context index t d m n kind mode h =
     let facts = create_facts (at_tree context t) d m n kind mode (clean_at context t h) in
     record {
-      sound = create_sound maker context.client index t d m n kind mode h.sound facts h.client h.entry_fits;
-      seen = create_seen maker context.client index t d m n kind mode h.sound facts;
+      sound = create_sound filling context.client index t d m n kind mode h.sound facts h.client h.entry_fits;
+      seen = create_seen filling context.client index t d m n kind mode h.sound facts;
     }

@@ -7,12 +7,12 @@ use Rattle.std.proofs.lemmas.Bool.Decides.{nat_tests}
 use Rattle.kfs_model.specs.Header.{Kind, File, Directory}
 use Rattle.kfs_model.specs.Table.{get, insert, option_or}
 use Rattle.kfs_model.proofs.TableLaws.{get-mapped, get-retain}
-use Rattle.kfs_model.specs.Tree.{Tree, Node, Body, FileBody, DirectoryBody, headers, header_of, cells_of, is_named}
+use Rattle.kfs_model.specs.Tree.{Tree, Node, Body, FileBody, DirectoryBody, headers, header_of, content_of, is_named}
 use Rattle.kfs_model.specs.Sight.{Sight, ClientSight, sight, is_directory}
 use Rattle.kfs_model.specs.Access.{Client}
 use Rattle.kfs_model.specs.Entry.{Entry, Create, Write, Truncate, Link, Unlink, Rename, Chmod}
 use Rattle.kfs_model.specs.Check.{Reason, first_fault, checks_of, fault}
-use Rattle.kfs_model.specs.Effect.{effect, change_of, swept, changed_node, new_body, on_cells, overwritten, resized}
+use Rattle.kfs_model.specs.Effect.{effect, change_of, swept, changed_node, new_body, on_content, overwritten, resized}
 use Rattle.kfs_model.specs.Run.{Mark, Base, Zero, Payload, places_from, over_marks, marked, base_marks, mapped_body, EntryFault, entry_context, created_by, run_from, run}
 use Rattle.kfs_model.specs.LastCover.{covered_by, last_cover, start_mark, LastEntryDecides}
 use Rattle.kfs_model.proofs.CleanIsAllowed.{all_pass, passed, left, right}
@@ -30,7 +30,7 @@ cond_same false x = refl
 
 -- what an entry makes of the node with this number, before nodes without a name go
 abbrev rewritten : (List Mark → List Mark) → Node Mark → Node Mark
-rewritten change node = record node { body = on_cells over_marks change node.body }
+rewritten change node = record node { body = on_content over_marks change node.body }
 
 abbrev with_mode : ℕ → Node Mark → Node Mark
 with_mode mode node = record node { mode = mode }
@@ -92,7 +92,7 @@ module _ (client : Client) (index : ℕ) (t : Tree Mark) (k : ℕ) where
 
 -- the mark of a byte of a node, zero behind the end
 abbrev reads : Option (Node Mark) → (place : ℕ) → Mark
-reads o place = get_or (cells_of o) place Zero
+reads o place = get_or (content_of o) place Zero
 
 unwrap_cond : (b : Bool) (x y : Mark) → cond b x y ≡ unwrap_or (cond b (Some x) None) y
 unwrap_cond true x y = refl
@@ -366,14 +366,14 @@ not_below i n h = grind (arith, nat_tests)
 start_reads : (before : Tree ℕ) (k place : ℕ) → reads (get (marked before).nodes k) place ≡ start_mark before k place
 start_reads before k place = ap (λ o. reads o place) (get-mapped _ before.nodes k) ∙ at (get before.nodes k)
   where
-    at_body : (mode uid gid : ℕ) (body : Body ℕ) → reads (Some (record { mode = mode; uid = uid; gid = gid; body = mapped_body (base_marks k 0) body })) place ≡ cond (ltb place (length (cells_of (Some (record { mode = mode; uid = uid; gid = gid; body = body }))))) (Base k place) Zero
+    at_body : (mode uid gid : ℕ) (body : Body ℕ) → reads (Some (record { mode = mode; uid = uid; gid = gid; body = mapped_body (base_marks k 0) body })) place ≡ cond (ltb place (length (content_of (Some (record { mode = mode; uid = uid; gid = gid; body = body }))))) (Base k place) Zero
     at_body mode uid gid (FileBody cells) = ⊎_elim
         (λ (h : place < length cells). get_or-places (Base k) 0 cells place h ∙ ap (Base k) (let e : 0 + place ≡ place = omega arith in e) ∙ ap (λ b. cond b (Base k place) Zero) (sym (below place (length cells) h)))
         (λ (h : length cells ≤ place). get_or-past (places_from (Base k) 0 cells) place Zero (omega (arith, places_long (Base k) 0 cells)) ∙ ap (λ b. cond b (Base k place) Zero) (sym (not_below place (length cells) h)))
         (below_or_not place (length cells))
     at_body mode uid gid DirectoryBody = ap (λ b. cond b (Base k place) Zero) (sym (not_below place 0 (omega arith)))
 
-    at : (o : Option (Node ℕ)) → reads (option_map (λ (node : Node ℕ). record { mode = node.mode; uid = node.uid; gid = node.gid; body = mapped_body (base_marks k 0) node.body }) o) place ≡ cond (ltb place (length (cells_of o))) (Base k place) Zero
+    at : (o : Option (Node ℕ)) → reads (option_map (λ (node : Node ℕ). record { mode = node.mode; uid = node.uid; gid = node.gid; body = mapped_body (base_marks k 0) node.body }) o) place ≡ cond (ltb place (length (content_of o))) (Base k place) Zero
     at None = ap (λ b. cond b (Base k place) Zero) (sym (not_below place 0 (omega arith)))
     at (Some node) = at_body node.mode node.uid node.gid node.body
 
@@ -395,14 +395,14 @@ module _ (client : Client) (seen : ClientSight) (before : Tree ℕ) (entries : L
   pub mark_is : LastEntryDecides before entries after
   mark_is k place = at (get after.nodes k) refl
     where
-      at : (o : Option (Node Mark)) → get after.nodes k ≡ o → slice_get (cells_of o) place ≡ cond (ltb place (length (cells_of o))) (Some (unwrap_or (last_cover 0 entries k place) (start_mark before k place))) None
+      at : (o : Option (Node Mark)) → get after.nodes k ≡ o → slice_get (content_of o) place ≡ cond (ltb place (length (content_of o))) (Some (unwrap_or (last_cover 0 entries k place) (start_mark before k place))) None
       at None is = ap (λ b. cond b (Some (unwrap_or (last_cover 0 entries k place) (start_mark before k place))) None) (sym (not_below place 0 (omega arith)))
       at (Some node) is = ⊎_elim
-          (λ (h : place < length (cells_of (Some node))).
-          slice_get-get_or (cells_of (Some node)) place Zero h
+          (λ (h : place < length (content_of (Some node))).
+          slice_get-get_or (content_of (Some node)) place Zero h
           ∙ ap Some (ap (λ o. reads o place) (sym is) ∙ node_reads k place node is)
-          ∙ ap (λ b. cond b (Some (unwrap_or (last_cover 0 entries k place) (start_mark before k place))) None) (sym (below place (length (cells_of (Some node))) h)))
-          (λ (h : length (cells_of (Some node)) ≤ place).
-          slice_get_past (cells_of (Some node)) place h
-          ∙ ap (λ b. cond b (Some (unwrap_or (last_cover 0 entries k place) (start_mark before k place))) None) (sym (not_below place (length (cells_of (Some node))) h)))
-          (below_or_not place (length (cells_of (Some node))))
+          ∙ ap (λ b. cond b (Some (unwrap_or (last_cover 0 entries k place) (start_mark before k place))) None) (sym (below place (length (content_of (Some node))) h)))
+          (λ (h : length (content_of (Some node)) ≤ place).
+          slice_get_past (content_of (Some node)) place h
+          ∙ ap (λ b. cond b (Some (unwrap_or (last_cover 0 entries k place) (start_mark before k place))) None) (sym (not_below place (length (content_of (Some node))) h)))
+          (below_or_not place (length (content_of (Some node))))

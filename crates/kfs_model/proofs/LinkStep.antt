@@ -6,7 +6,7 @@ use Rattle.kfs_model.specs.Table.{get, insert}
 use Rattle.kfs_model.specs.Tree.{Tree, Node, Body, FileBody, DirectoryBody, NameTable, headers, header_of, target, name_count}
 use Rattle.kfs_model.specs.Entry.{Link}
 use Rattle.kfs_model.specs.Sight.{sight, is_directory, is_file, parent_in}
-use Rattle.kfs_model.specs.Effect.{CellMaker, change_of, swept, with_names}
+use Rattle.kfs_model.specs.Effect.{Filling, change_of, swept, with_names}
 use Rattle.kfs_model.specs.Check.{EntryContext}
 use Rattle.kfs_model.specs.Soundness.{IsSound}
 use Rattle.kfs_model.specs.Spelling.{IsName}
@@ -147,8 +147,8 @@ module _ {B : Type 0} (t : Tree B) (sound : IsSound t) (n d : ℕ) (m : List ℕ
   pub link_sound : IsName m → IsSound (swept (with_names after t))
   link_sound spelled = names_kept_sound t after sound (names_kept spelled)
 
-module _ {B : Type 0} (maker : CellMaker B) (context : EntryContext) (index : ℕ) (t : Tree B) where
-  pub link_kept : (n d : ℕ) (m : List ℕ) → IsClean context t (Link n d m) → IsKept maker context.client index t (Link n d m)
+module _ {B : Type 0} (filling : Filling B) (context : EntryContext) (index : ℕ) (t : Tree B) where
+  pub link_kept : (n d : ℕ) (m : List ℕ) → IsClean context t (Link n d m) → IsKept filling context.client index t (Link n d m)
   unfolding change_of seen_after
   link_kept n d m h =
       let facts = link_facts (at_tree context t) n d m (clean_at context t h) in

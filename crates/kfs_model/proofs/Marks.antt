@@ -5,7 +5,7 @@ use Rattle.kfs_model.specs.Access.{Client}
 use Rattle.kfs_model.specs.Sight.{ClientSight}
 use Rattle.kfs_model.specs.Table.{get}
 use Rattle.kfs_model.proofs.TableLaws.{same_table, get-mapped}
-use Rattle.kfs_model.specs.Tree.{Tree, Node, Body, FileBody, DirectoryBody, cells_of}
+use Rattle.kfs_model.specs.Tree.{Tree, Node, Body, FileBody, DirectoryBody, content_of}
 use Rattle.kfs_model.specs.Entry.{Entry}
 use Rattle.kfs_model.specs.Run.{Mark, Base, Payload, EntryFault, run, over_bytes, over_marks, marked, byte_at, byte_of, payload_of, places_from, base_marks, mapped_body, looked_up}
 use Rattle.kfs_model.proofs.Cells.{recut, on_node, recut_outcome, SamePayloads, run_from-recut}
@@ -24,7 +24,7 @@ module _ (before : Tree ℕ) (entries : List Entry) where
   marked_nodes n = get-mapped _ _ n ∙ ap (option_map (on_node (byte_of before entries) n)) (get-mapped _ before.nodes n) ∙ by_node (get before.nodes n) refl
     where
       body_of : (mode uid gid : ℕ) (body : Body ℕ) → get before.nodes n ≡ Some (record { mode = mode; uid = uid; gid = gid; body = body }) → mapped_body (map (byte_of before entries)) (mapped_body (base_marks n 0) body) ≡ body
-      body_of mode uid gid (FileBody cells) is = ap FileBody (map-places_from (byte_of before entries) (Base n) 0 cells (λ j. let zero_more : 0 + j ≡ j = omega arith in (λ i. byte_at (cells_of (is i)) (zero_more i))))
+      body_of mode uid gid (FileBody cells) is = ap FileBody (map-places_from (byte_of before entries) (Base n) 0 cells (λ j. let zero_more : 0 + j ≡ j = omega arith in (λ i. byte_at (content_of (is i)) (zero_more i))))
       body_of mode uid gid DirectoryBody is = refl
 
       by_node : (found : Option (Node ℕ)) → get before.nodes n ≡ found → option_map (on_node (byte_of before entries) n) (option_map (λ (node : Node ℕ). record { mode = node.mode; uid = node.uid; gid = node.gid; body = mapped_body (base_marks n 0) node.body }) found) ≡ found

@@ -3,7 +3,7 @@ use Rattle.std.proofs.Common.{◌≡◌, ℕ, ◌+◌, ◌-◌, ◌<◌, ◌≤�
 use Rattle.std.specs.List.{AllByRecursion}
 use Rattle.std.proofs.lemmas.Option.{slice_get-get_or, slice_get_within}
 use Rattle.kfs_model.specs.Table.{numbers, get}
-use Rattle.kfs_model.specs.Tree.{Tree, Node, cells_of}
+use Rattle.kfs_model.specs.Tree.{Tree, Node, content_of}
 use Rattle.kfs_model.specs.Run.{Mark}
 use Rattle.kfs_model.specs.PlanRow.{Piece, Source}
 use Rattle.kfs_model.specs.Plan.{mark_at, said_by, end_of, ComesBy, IsTrueOf, ArePieces}
@@ -81,7 +81,7 @@ module _ (n : ℕ) where
 
   module _ (after : Tree Mark) where
     abbrev marks : List Mark
-    marks = cells_of (get after.nodes n)
+    marks = content_of (get after.nodes n)
 
     end_below : (r : Piece) → IsTrueOf after r → r.number ≡ n → end_of r ≤ length marks
     end_below r true_of same =
@@ -130,9 +130,9 @@ module _ (after : Tree Mark) (right : List Piece) (are : ArePieces after right) 
   sums [] found = refl
   sums (e ∷ es) found =
       let cells = classes e.0 after right are in
-      let here = subst (λ o. Classes (cells_of o) 0 0 (of_file e.0 right)) found.0 cells in
+      let here = subst (λ o. Classes (content_of o) 0 0 (of_file e.0 right)) found.0 cells in
       length-append (blocks_that is_written e) (flat_map (blocks_that is_written) es)
-      ∙ (λ i. file_count e.0 (cells_of (Some e.1)) (of_file e.0 right) here i + sums es found.1 i)
+      ∙ (λ i. file_count e.0 (content_of (Some e.1)) (of_file e.0 right) here i + sums es found.1 i)
 
   -- the room that a landing takes is counted over right pieces, however they are cut
   pub need_is_counted : need after ≡ counted_files right after.nodes.entries

@@ -5,12 +5,12 @@ use Rattle.std.proofs.lemmas.Option.{get_or_from_slice_get}
 use Rattle.kfs_model.specs.Header.{Kind, File, Directory}
 use Rattle.kfs_model.specs.Table.{get, insert}
 use Rattle.kfs_model.proofs.TableLaws.{get-mapped, get-retain}
-use Rattle.kfs_model.specs.Tree.{Tree, Node, Body, FileBody, DirectoryBody, cells_of, is_named}
+use Rattle.kfs_model.specs.Tree.{Tree, Node, Body, FileBody, DirectoryBody, content_of, is_named}
 use Rattle.kfs_model.specs.Sight.{sight, ClientSight}
 use Rattle.kfs_model.specs.Access.{Client}
 use Rattle.kfs_model.specs.Entry.{Entry, Create, Write, Truncate, Link, Unlink, Rename, Chmod}
 use Rattle.kfs_model.specs.Check.{Reason, first_fault}
-use Rattle.kfs_model.specs.Effect.{effect, change_of, swept, changed_node, new_body, on_cells, overwritten, resized}
+use Rattle.kfs_model.specs.Effect.{effect, change_of, swept, changed_node, new_body, on_content, overwritten, resized}
 use Rattle.kfs_model.specs.Run.{Mark, Base, Zero, Payload, over_marks, marked, base_marks, mapped_body, EntryFault, entry_context, created_by, run_from, run}
 use Rattle.kfs_model.specs.Plan.{OldBytesStay}
 use Rattle.kfs_model.proofs.Heads.{stays}
@@ -52,7 +52,7 @@ overwritten_own number index offset payload cells own =
 -- ---- of a node, and of a tree
 
 abbrev NodeOwn : ℕ → Option (Node Mark) → Type 0
-NodeOwn number found = AreOwn number (cells_of found)
+NodeOwn number found = AreOwn number (content_of found)
 
 record TreeOwn (t : Tree Mark) : Type 0 where
   each : (number : ℕ) → NodeOwn number (get t.nodes number)
@@ -91,10 +91,10 @@ changed_own t n change keeps own = at (get t.nodes n) (own.each n)
     at None here = own
     at (Some node) here = record { each = λ k. inserted_own t n (change node) k own (keeps node here) }
 
-cells_own : (n : ℕ) (change : List Mark → List Mark) → ((cells : List Mark) → AreOwn n cells → AreOwn n (change cells)) → (node : Node Mark) → NodeOwn n (Some node) → NodeOwn n (Some (record node { body = on_cells over_marks change node.body }))
+cells_own : (n : ℕ) (change : List Mark → List Mark) → ((cells : List Mark) → AreOwn n cells → AreOwn n (change cells)) → (node : Node Mark) → NodeOwn n (Some node) → NodeOwn n (Some (record node { body = on_content over_marks change node.body }))
 cells_own n change keeps node own = at node.mode node.uid node.gid node.body own
   where
-    at : (mode uid gid : ℕ) (body : Body Mark) → NodeOwn n (Some (record { mode = mode; uid = uid; gid = gid; body = body })) → NodeOwn n (Some (record { mode = mode; uid = uid; gid = gid; body = on_cells over_marks change body }))
+    at : (mode uid gid : ℕ) (body : Body Mark) → NodeOwn n (Some (record { mode = mode; uid = uid; gid = gid; body = body })) → NodeOwn n (Some (record { mode = mode; uid = uid; gid = gid; body = on_content over_marks change body }))
     at mode uid gid (FileBody cells) own = keeps cells own
     at mode uid gid DirectoryBody own = own
 
@@ -106,9 +106,9 @@ change_own client index (Create d m n kind mode) t own = record { each = λ k. i
     empty File = none_own n
     empty Directory = none_own n
 change_own client index (Write n offset payload) t own =
-    changed_own t n (λ node. record node { body = on_cells over_marks (overwritten over_marks offset (over_marks.payload index payload)) node.body })
+    changed_own t n (λ node. record node { body = on_content over_marks (overwritten over_marks offset (over_marks.payload index payload)) node.body })
     (cells_own n (overwritten over_marks offset (over_marks.payload index payload)) (overwritten_own n index offset payload)) own
-change_own client index (Truncate n size) t own = changed_own t n (λ node. record node { body = on_cells over_marks (resized over_marks size) node.body }) (cells_own n (resized over_marks size) (resized_own n size)) own
+change_own client index (Truncate n size) t own = changed_own t n (λ node. record node { body = on_content over_marks (resized over_marks size) node.body }) (cells_own n (resized over_marks size) (resized_own n size)) own
 change_own client index (Link n d m) t own = record { each = own.each }
 change_own client index (Unlink d m kind) t own = record { each = own.each }
 change_own client index (Rename d m e k) t own = record { each = own.each }
@@ -133,4 +133,4 @@ pub old_bytes_stand : (client : Client) (before : ClientSight) (tree : Tree ℕ)
     → OldBytesStay after
 old_bytes_stand client before tree entries after is number place n p there =
     let own = run_own client before 0 [] (marked tree) entries after (marked_own tree) is in
-    (own.each number).stand place n p (get_or_from_slice_get (cells_of (get after.nodes number)) place (Base n p) Zero there)
+    (own.each number).stand place n p (get_or_from_slice_get (content_of (get after.nodes number)) place (Base n p) Zero there)

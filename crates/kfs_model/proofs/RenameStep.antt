@@ -7,7 +7,7 @@ use Rattle.kfs_model.proofs.TableLaws.{same_table, get-retain}
 use Rattle.kfs_model.specs.Tree.{Tree, Node, NameTable, headers, target, entry_count, is_named}
 use Rattle.kfs_model.specs.Entry.{Unlink, Rename}
 use Rattle.kfs_model.specs.Sight.{Sight, sight, is_directory, climb_limit, climb_meets}
-use Rattle.kfs_model.specs.Effect.{CellMaker, change_of, effect, swept, with_names, moved_name}
+use Rattle.kfs_model.specs.Effect.{Filling, change_of, effect, swept, with_names, moved_name}
 use Rattle.kfs_model.specs.Check.{EntryContext}
 use Rattle.kfs_model.specs.Soundness.{IsSound}
 use Rattle.kfs_model.specs.Spelling.{IsName}
@@ -147,8 +147,8 @@ module _ (names : NameTable) (d : ℕ) (m : List ℕ) (e : ℕ) (k : List ℕ) (
   moved_nowhere : target names e k ≡ Some n → moved_name names d m e k ≡ names
   moved_nowhere also = let same : (n == n) ≡ true = eq-eqb n n refl in rw (there, moved_name) (rw (also, moved_name) (ap unless same))
 
-module _ {B : Type 0} (maker : CellMaker B) (context : EntryContext) (index : ℕ) (t : Tree B) where
-  pub unlink_kept : (d : ℕ) (m : List ℕ) (kind : Kind) → IsClean context t (Unlink d m kind) → IsKept maker context.client index t (Unlink d m kind)
+module _ {B : Type 0} (filling : Filling B) (context : EntryContext) (index : ℕ) (t : Tree B) where
+  pub unlink_kept : (d : ℕ) (m : List ℕ) (kind : Kind) → IsClean context t (Unlink d m kind) → IsKept filling context.client index t (Unlink d m kind)
   unfolding change_of seen_after
   unlink_kept d m kind h =
       let facts = unlink_facts (at_tree context t) d m kind (clean_at context t h) in
@@ -159,19 +159,19 @@ module _ {B : Type 0} (maker : CellMaker B) (context : EntryContext) (index : �
       }
 
   -- the entry's change, where the names are left so
-  with_names_left : (d : ℕ) (m : List ℕ) (e : ℕ) (k : List ℕ) (left : NameTable) → moved_name t.names d m e k ≡ left → effect maker context.client index (Rename d m e k) t ≡ swept (with_names left t)
+  with_names_left : (d : ℕ) (m : List ℕ) (e : ℕ) (k : List ℕ) (left : NameTable) → moved_name t.names d m e k ≡ left → effect filling context.client index (Rename d m e k) t ≡ swept (with_names left t)
   unfolding change_of
   with_names_left d m e k left is = ap (λ names. swept (with_names names t)) is
 
   renamed_as : (d : ℕ) (m : List ℕ) (e : ℕ) (k : List ℕ) (left : NameTable) (there also : Option ℕ) → moved_name t.names d m e k ≡ left → target t.names d m ≡ there → target t.names e k ≡ also
-      → IsSound (swept (with_names left t)) → sight (swept (with_names left t)) ≡ seen_renamed d m e k there also (sight t) → IsKept maker context.client index t (Rename d m e k)
+      → IsSound (swept (with_names left t)) → sight (swept (with_names left t)) ≡ seen_renamed d m e k there also (sight t) → IsKept filling context.client index t (Rename d m e k)
   unfolding seen_after
   renamed_as d m e k left there also is there_is also_is sound seen = record {
     sound = subst IsSound (sym (with_names_left d m e k left is)) sound;
     seen = ap sight (with_names_left d m e k left is) ∙ seen ∙ ap₂ (λ there also. seen_renamed d m e k there also (sight t)) (sym there_is) (sym also_is);
   }
 
-  pub rename_kept : (d : ℕ) (m : List ℕ) (e : ℕ) (k : List ℕ) → IsClean context t (Rename d m e k) → IsKept maker context.client index t (Rename d m e k)
+  pub rename_kept : (d : ℕ) (m : List ℕ) (e : ℕ) (k : List ℕ) → IsClean context t (Rename d m e k) → IsKept filling context.client index t (Rename d m e k)
   rename_kept d m e k h = by_way facts.way
     where
       facts : RenameFacts (sight t) d m e k
@@ -180,7 +180,7 @@ module _ {B : Type 0} (maker : CellMaker B) (context : EntryContext) (index : �
       n : ℕ
       n = facts.number
 
-      by_way : RenameCase (sight t) d m e k n → IsKept maker context.client index t (Rename d m e k)
+      by_way : RenameCase (sight t) d m e k n → IsKept filling context.client index t (Rename d m e k)
       by_way (Same over also same) =
           let also_n = also ∙ ap Some same in
           renamed_as d m e k t.names (Some n) (Some n) (moved_nowhere t.names d m e k n facts.there also_n) facts.there also_n

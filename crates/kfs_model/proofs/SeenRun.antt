@@ -5,7 +5,7 @@ use Rattle.kfs_model.specs.Tree.{Tree}
 use Rattle.kfs_model.specs.Entry.{Entry, Create, Write, Truncate, Link, Unlink, Rename, Chmod}
 use Rattle.kfs_model.specs.Sight.{ClientSight, client_sight, sight}
 use Rattle.kfs_model.specs.Check.{EntryContext, Reason, first_fault}
-use Rattle.kfs_model.specs.Effect.{CellMaker, effect}
+use Rattle.kfs_model.specs.Effect.{Filling, effect}
 use Rattle.kfs_model.specs.Run.{EntryFault, Mark, entry_context, created_by, run_from, run, over_bytes, over_marks, places_from}
 use Rattle.kfs_model.specs.Soundness.{IsSound}
 use Rattle.kfs_model.specs.Spelling.{IsEntry}
@@ -29,48 +29,48 @@ places_long at place (b ∷ bs) = ap suc (places_long at (place + 1) bs)
 pub marks_faithful : IsFaithful over_marks
 marks_faithful = record { long = λ index payload. places_long (Mark.Payload index) 0 payload }
 
-module _ {B : Type 0} (maker : CellMaker B) (faithful : IsFaithful maker) where
+module _ {B : Type 0} (filling : Filling B) (faithful : IsFaithful filling) where
   -- a clean entry keeps a sound tree sound, and moves what its cells show
-  pub clean_step : (context : EntryContext) (index : ℕ) (t : Tree B) (entry : Entry) → IsClean context t entry → IsKept maker context.client index t entry
-  clean_step context index t (Create d m n kind mode) h = create_kept maker context index t d m n kind mode h
-  clean_step context index t (Write n offset payload) h = write_kept maker context index t faithful n offset payload h
-  clean_step context index t (Truncate n size) h = truncate_kept maker context index t n size h
-  clean_step context index t (Link n d m) h = link_kept maker context index t n d m h
-  clean_step context index t (Unlink d m kind) h = unlink_kept maker context index t d m kind h
-  clean_step context index t (Rename d m e k) h = rename_kept maker context index t d m e k h
-  clean_step context index t (Chmod n mode) h = chmod_kept maker context index t n mode h
+  pub clean_step : (context : EntryContext) (index : ℕ) (t : Tree B) (entry : Entry) → IsClean context t entry → IsKept filling context.client index t entry
+  clean_step context index t (Create d m n kind mode) h = create_kept filling context index t d m n kind mode h
+  clean_step context index t (Write n offset payload) h = write_kept filling context index t faithful n offset payload h
+  clean_step context index t (Truncate n size) h = truncate_kept filling context index t n size h
+  clean_step context index t (Link n d m) h = link_kept filling context index t n d m h
+  clean_step context index t (Unlink d m kind) h = unlink_kept filling context index t d m kind h
+  clean_step context index t (Rename d m e k) h = rename_kept filling context index t d m e k h
+  clean_step context index t (Chmod n mode) h = chmod_kept filling context index t n mode h
 
-module _ {B : Type 0} (maker : CellMaker B) (faithful : IsFaithful maker) (client : Client) (before : ClientSight) where
+module _ {B : Type 0} (filling : Filling B) (faithful : IsFaithful filling) (client : Client) (before : ClientSight) where
   pub run_is_seen : IsClient client → (index : ℕ) (created : List ℕ) (t : Tree B) (entries : List Entry) → IsSound t → AllByRecursion IsEntry entries
-      → shown_run (run_from maker client before index created t entries) ≡ seen_run_from client before index created (sight t) entries
+      → shown_run (run_from filling client before index created t entries) ≡ seen_run_from client before index created (sight t) entries
   unfolding run_from seen_run_from
   run_is_seen in_range index created t [] sound fit = refl
   run_is_seen in_range index created t (entry ∷ entries) sound fit =
       at (first_fault (entry_context client before (sight t) created) entry) (λ clean.
-      let kept = clean_step maker faithful (entry_context client before (sight t) created) index t entry (record { sound = sound; client = in_range; entry_fits = fit.0; shown = refl; clean = clean }) in
-      run_is_seen in_range (index + 1) (created_by entry created) (effect maker client index entry t) entries kept.sound fit.1
+      let kept = clean_step filling faithful (entry_context client before (sight t) created) index t entry (record { sound = sound; client = in_range; entry_fits = fit.0; shown = refl; clean = clean }) in
+      run_is_seen in_range (index + 1) (created_by entry created) (effect filling client index entry t) entries kept.sound fit.1
       ∙ ap (λ now. seen_run_from client before (index + 1) (created_by entry created) now entries) kept.seen) refl
     where
       at : (o : Option Reason)
-          → (first_fault (entry_context client before (sight t) created) entry ≡ None → shown_run (run_from maker client before (index + 1) (created_by entry created) (effect maker client index entry t) entries) ≡ seen_run_from client before (index + 1) (created_by entry created) (seen_after client (sight t) entry) entries)
+          → (first_fault (entry_context client before (sight t) created) entry ≡ None → shown_run (run_from filling client before (index + 1) (created_by entry created) (effect filling client index entry t) entries) ≡ seen_run_from client before (index + 1) (created_by entry created) (seen_after client (sight t) entry) entries)
           → first_fault (entry_context client before (sight t) created) entry ≡ o
-          → shown_run (elim o [ None ↦ run_from maker client before (index + 1) (created_by entry created) (effect maker client index entry t) entries | Some reason ↦ Err (record { entry = index; reason = reason }) ])
+          → shown_run (elim o [ None ↦ run_from filling client before (index + 1) (created_by entry created) (effect filling client index entry t) entries | Some reason ↦ Err (record { entry = index; reason = reason }) ])
           ≡ elim o [ None ↦ seen_run_from client before (index + 1) (created_by entry created) (seen_after client (sight t) entry) entries | Some reason ↦ Err (record { entry = index; reason = reason }) ]
       at None rest is = rest is
       at (Some reason) rest is = refl
 
-  pub run_keeps_sound : IsClient client → (index : ℕ) (created : List ℕ) (t : Tree B) (entries : List Entry) → IsSound t → AllByRecursion IsEntry entries → (after : Tree B) → run_from maker client before index created t entries ≡ Ok after → IsSound after
+  pub run_keeps_sound : IsClient client → (index : ℕ) (created : List ℕ) (t : Tree B) (entries : List Entry) → IsSound t → AllByRecursion IsEntry entries → (after : Tree B) → run_from filling client before index created t entries ≡ Ok after → IsSound after
   unfolding run_from
   run_keeps_sound in_range index created t [] sound fit after is = let same : t ≡ after = cc in subst IsSound same sound
   run_keeps_sound in_range index created t (entry ∷ entries) sound fit after is =
       at (first_fault (entry_context client before (sight t) created) entry) (λ clean.
-      let kept = clean_step maker faithful (entry_context client before (sight t) created) index t entry (record { sound = sound; client = in_range; entry_fits = fit.0; shown = refl; clean = clean }) in
-      run_keeps_sound in_range (index + 1) (created_by entry created) (effect maker client index entry t) entries kept.sound fit.1 after) refl is
+      let kept = clean_step filling faithful (entry_context client before (sight t) created) index t entry (record { sound = sound; client = in_range; entry_fits = fit.0; shown = refl; clean = clean }) in
+      run_keeps_sound in_range (index + 1) (created_by entry created) (effect filling client index entry t) entries kept.sound fit.1 after) refl is
     where
       at : (o : Option Reason)
-          → (first_fault (entry_context client before (sight t) created) entry ≡ None → run_from maker client before (index + 1) (created_by entry created) (effect maker client index entry t) entries ≡ Ok after → IsSound after)
+          → (first_fault (entry_context client before (sight t) created) entry ≡ None → run_from filling client before (index + 1) (created_by entry created) (effect filling client index entry t) entries ≡ Ok after → IsSound after)
           → first_fault (entry_context client before (sight t) created) entry ≡ o
-          → ◌≡◌ {A = Result (Tree B) EntryFault} (elim o [ None ↦ run_from maker client before (index + 1) (created_by entry created) (effect maker client index entry t) entries | Some reason ↦ Err (record { entry = index; reason = reason }) ]) (Ok after)
+          → ◌≡◌ {A = Result (Tree B) EntryFault} (elim o [ None ↦ run_from filling client before (index + 1) (created_by entry created) (effect filling client index entry t) entries | Some reason ↦ Err (record { entry = index; reason = reason }) ]) (Ok after)
           → IsSound after
       at None rest clean is = rest clean is
       at (Some reason) rest clean is = cc

@@ -1,7 +1,7 @@
 -- Which blocks a log writes, by the pieces of its files: no byte is looked at.
 use Rattle.std.specs.Prelude.{ℕ, ◌+◌, ◌-◌, ◌/◌, ◌%◌, ◌==◌, ◌++◌, ◌&&◌, ◌||◌, nat_le, max, Bool, true, false, List, [], ◌∷◌, length, filter, Some, if◌then◌else◌}
 use Rattle.kfs_model.specs.Limits.{block_size}
-use Rattle.kfs_model.specs.Tree.{Node, cells_of}
+use Rattle.kfs_model.specs.Tree.{Node, content_of}
 use Rattle.kfs_model.specs.Run.{Mark}
 use Rattle.kfs_model.specs.PlanRow.{Piece, Source}
 use Rattle.kfs_model.specs.Plan.{end_of}
@@ -45,7 +45,7 @@ of_file number pieces = filter (λ r. r.number == number) pieces
 
 -- how many blocks the pieces of this node write: `touches` begins at block 0, with no zero bytes before
 abbrev pub node_blocks : List Piece → ℕ × Node Mark → ℕ
-node_blocks pieces entry = counted 0 (touches (length (cells_of (Some entry.1))) 0 (of_file entry.0 pieces))
+node_blocks pieces entry = counted 0 (touches (length (content_of (Some entry.1))) 0 (of_file entry.0 pieces))
 
 -- and those of all nodes
 unfoldable pub counted_files : List Piece → List (ℕ × Node Mark) → ℕ

@@ -7,7 +7,7 @@ use Rattle.kfs_model.specs.Tree.{Tree}
 use Rattle.kfs_model.specs.Sight.{ClientSight, sight}
 use Rattle.kfs_model.specs.Entry.{Entry}
 use Rattle.kfs_model.specs.Check.{EntryContext, first_fault}
-use Rattle.kfs_model.specs.Effect.{CellMaker, effect}
+use Rattle.kfs_model.specs.Effect.{Filling, effect}
 use Rattle.kfs_model.specs.Run.{run, over_bytes}
 use Rattle.kfs_model.specs.Soundness.{IsSound}
 use Rattle.kfs_model.specs.Spelling.{IsEntry}
@@ -28,9 +28,9 @@ pub record IsClean {B : Type 0} (context : EntryContext) (t : Tree B) (entry : E
   pub clean : first_fault context entry ≡ None
 
 -- the entry with this number in its log leaves the tree sound
-pub record IsKept {B : Type 0} (maker : CellMaker B) (client : Client) (index : ℕ) (t : Tree B) (entry : Entry) : Type 0 where
-  pub sound : IsSound (effect maker client index entry t)
-  pub seen : sight (effect maker client index entry t) ≡ seen_after client (sight t) entry
+pub record IsKept {B : Type 0} (filling : Filling B) (client : Client) (index : ℕ) (t : Tree B) (entry : Entry) : Type 0 where
+  pub sound : IsSound (effect filling client index entry t)
+  pub seen : sight (effect filling client index entry t) ≡ seen_after client (sight t) entry
 
 -- ---- a log
 

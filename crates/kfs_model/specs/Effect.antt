@@ -7,32 +7,32 @@ use Rattle.kfs_model.specs.Table.{get, insert, remove, retain}
 use Rattle.kfs_model.specs.Tree.{Tree, Node, Body, FileBody, DirectoryBody, NameTable, target, is_named}
 use Rattle.kfs_model.specs.Entry.{Entry, Create, Write, Truncate, Link, Unlink, Rename, Chmod}
 
--- what new cells are: the cell of a gap, and those of the payload of the entry with this number
-pub record CellMaker (B : Type 0) : Type 0 where
+-- what a file is filled with: a gap, and the payload of the entry with this number
+pub record Filling (B : Type 0) : Type 0 where
   pub gap : B
   pub payload : (entry : ℕ) → List ℕ → List B
 
-module _ {B : Type 0} (maker : CellMaker B) where
-  -- with cells of a gap at its end up to this size, where it is shorter
+module _ {B : Type 0} (filling : Filling B) where
+  -- with a gap at its end up to this size, where it is shorter
   abbrev pub lengthened : ℕ → List B → List B
-  lengthened size cells = cells ++ replicate (size - length cells) maker.gap
+  lengthened size content = content ++ replicate (size - length content) filling.gap
 
   -- the payload stands at the offset, behind a gap where the file ends before it
-  unfoldable pub overwritten : (offset : ℕ) → (payload cells : List B) → List B
-  overwritten offset [] cells = cells
-  overwritten offset (b ∷ bs) cells = take offset (lengthened offset cells) ++ (b ∷ bs) ++ drop (offset + length (b ∷ bs)) cells
+  unfoldable pub overwritten : (offset : ℕ) → (payload content : List B) → List B
+  overwritten offset [] content = content
+  overwritten offset (b ∷ bs) content = take offset (lengthened offset content) ++ (b ∷ bs) ++ drop (offset + length (b ∷ bs)) content
 
-  -- the first cells, and a gap behind them where there are fewer
+  -- the first part of this size, or all with a gap behind it
   unfoldable pub resized : ℕ → List B → List B
-  resized size cells = take size (lengthened size cells)
+  resized size content = take size (lengthened size content)
 
   abbrev pub new_body : Kind → Body B
   new_body File = FileBody []
   new_body Directory = DirectoryBody
 
-  abbrev pub on_cells : (List B → List B) → Body B → Body B
-  on_cells change (FileBody cells) = FileBody (change cells)
-  on_cells change DirectoryBody = DirectoryBody
+  abbrev pub on_content : (List B → List B) → Body B → Body B
+  on_content change (FileBody content) = FileBody (change content)
+  on_content change DirectoryBody = DirectoryBody
 
 module _ {B : Type 0} where
   -- the node changed, where there is one
@@ -57,15 +57,15 @@ moved_name names d m e k = elim (target names d m) [ None ↦ names | Some s ↦
     to_new s None = move s
     to_new s (Some t) = elim (s == t) [ true ↦ names | false ↦ move s ]
 
-module _ {B : Type 0} (maker : CellMaker B) (client : Client) where
+module _ {B : Type 0} (filling : Filling B) (client : Client) where
   -- the change of the entry with this number in its log, before nodes without a name go
   unfoldable pub change_of : (index : ℕ) → Entry → Tree B → Tree B
   change_of index (Create d m n kind mode) t = record {
-    nodes = insert t.nodes n (record { mode = mode; uid = client.uid; gid = client.gid; body = new_body maker kind });
+    nodes = insert t.nodes n (record { mode = mode; uid = client.uid; gid = client.gid; body = new_body filling kind });
     names = insert t.names (d, m) n;
   }
-  change_of index (Write n offset payload) t = changed_node (λ node. record node { body = on_cells maker (overwritten maker offset (maker.payload index payload)) node.body }) n t
-  change_of index (Truncate n size) t = changed_node (λ node. record node { body = on_cells maker (resized maker size) node.body }) n t
+  change_of index (Write n offset payload) t = changed_node (λ node. record node { body = on_content filling (overwritten filling offset (filling.payload index payload)) node.body }) n t
+  change_of index (Truncate n size) t = changed_node (λ node. record node { body = on_content filling (resized filling size) node.body }) n t
   change_of index (Link n d m) t = with_names (insert t.names (d, m) n) t
   change_of index (Unlink d m kind) t = with_names (remove t.names (d, m)) t
   change_of index (Rename d m e k) t = with_names (moved_name t.names d m e k) t

@@ -5,7 +5,7 @@ use Rattle.std.specs.Cmp.Lexicographic.{pointwise}
 use Rattle.std.specs.Prelude.{nat_eq}
 use Rattle.kfs_model.specs.Header.{Header, Kind, File, Directory}
 use Rattle.kfs_model.specs.Table.{Order, Table, numbers, get, retain, mapped, united}
-use Rattle.kfs_model.specs.Tree.{Tree, Node, NameTable, headers, cells_of}
+use Rattle.kfs_model.specs.Tree.{Tree, Node, NameTable, headers, content_of}
 use Rattle.kfs_model.specs.Check.{is_some_and}
 use Rattle.kfs_model.specs.Run.{Mark}
 use Rattle.kfs_model.specs.FirstAnswer.{first_answer}
@@ -75,13 +75,13 @@ first_wrong_node before after rows = first_difference (same_pair nat_eq same_hea
 
 -- ---- pieces
 
--- the places that the list's cells have from a place on, where they pass the test
+-- the places that the list's elements have from a place on, where they pass the test
 abbrev pub places_where : {X : Type 0} → (X → Bool) → ℕ → List X → List ℕ
 places_where test place [] = []
 places_where test place (x ∷ xs) = elim (test x) [ true ↦ place ∷ places_where test (place + 1) xs | false ↦ places_where test (place + 1) xs ]
 
 abbrev pub changed_places : ℕ × Node Mark → List (ℕ × ℕ)
-changed_places entry = map (λ place. (entry.0, place)) (places_where (λ mark. not (is_base mark)) 0 (cells_of (Some entry.1)))
+changed_places entry = map (λ place. (entry.0, place)) (places_where (λ mark. not (is_base mark)) 0 (content_of (Some entry.1)))
 
 -- the bytes that the log wrote or made zero, in the order of number and place
 unfoldable pub changed_bytes : Tree Mark → List (ℕ × ℕ)
@@ -94,7 +94,7 @@ lies_before byte number place = nat_lt byte.0 number || ((byte.0 == number) && n
 abbrev pub is_missed : List Piece → List (ℕ × ℕ) → Bool
 is_missed pieces bytes = list_any (λ byte. not (list_any (covers byte.0 byte.1) pieces)) bytes
 
--- whether the cells have the marks that the source says, from this distance on
+-- whether these are the marks that the source says, from this distance on
 abbrev pub holds_along : Tree Mark → Piece → (distance count : ℕ) → Bool
 holds_along t p distance zero = true
 holds_along t p distance (suc count) =

@@ -3,14 +3,14 @@
 -- all bytes zero from its size on.
 use Rattle.std.specs.Prelude.{◌≡◌, ℕ, ◌+◌, ◌-◌, ◌==◌, ◌&&◌, nat_le, nat_lt, List, [], ◌∷◌, length, Option, Some, None, unwrap_or, if◌then◌else◌}
 use Rattle.kfs_model.specs.Table.{get, option_or}
-use Rattle.kfs_model.specs.Tree.{Tree, cells_of}
+use Rattle.kfs_model.specs.Tree.{Tree, content_of}
 use Rattle.kfs_model.specs.Entry.{Entry, Create, Write, Truncate, Link, Unlink, Rename, Chmod}
 use Rattle.kfs_model.specs.Run.{Mark, Base, Zero, Payload}
 use Rattle.kfs_model.specs.Plan.{mark_at}
 
 -- how many bytes a file has, none where there is no file
 abbrev pub extent : {B : Type 0} → Tree B → (number : ℕ) → ℕ
-extent t number = length (cells_of (get t.nodes number))
+extent t number = length (content_of (get t.nodes number))
 
 -- the mark that the entry with this index in its log gives a byte, none where it doesn't reach the byte
 unfoldable pub covered_by : (index : ℕ) → Entry → (number place : ℕ) → Option Mark

@@ -3,7 +3,7 @@ use Rattle.std.specs.Prelude.{◌≡◌, ℕ, List, Option, Some}
 use Rattle.kfs_model.specs.Access.{Client}
 use Rattle.kfs_model.specs.Check.{EntryContext}
 use Rattle.kfs_model.specs.CleanStep.{Fits, IsClean, IsKept}
-use Rattle.kfs_model.specs.Effect.{CellMaker}
+use Rattle.kfs_model.specs.Effect.{Filling}
 use Rattle.kfs_model.specs.Entry.{Entry}
 use Rattle.kfs_model.specs.Fresh.{fresh_tree}
 use Rattle.kfs_model.specs.Judgement.{State}
@@ -19,9 +19,9 @@ use Rattle.kfs_model.specs.Tree.{Tree}
 abbrev pub EachRun : (Client → ClientSight → Tree ℕ → List Entry → Type 0) → Type 0
 EachRun P = (client : Client) (before : ClientSight) (tree : Tree ℕ) (entries : List Entry) → P client before tree entries
 
--- clean entries keep trees of such cells sound
-abbrev pub KeepsSound : {B : Type 0} → CellMaker B → Type 0
-KeepsSound {B} maker = (context : EntryContext) (index : ℕ) (tree : Tree B) (entry : Entry) → IsClean context tree entry → IsKept maker context.client index tree entry
+-- clean entries keep trees of files so filled sound
+abbrev pub KeepsSound : {B : Type 0} → Filling B → Type 0
+KeepsSound {B} filling = (context : EntryContext) (index : ℕ) (tree : Tree B) (entry : Entry) → IsClean context tree entry → IsKept filling context.client index tree entry
 
 -- two sound trees, each with the client and the entries in their ranges
 pub record BothFit (client : Client) (one other : Tree ℕ) (entries : List Entry) : Type 0 where

@@ -4,7 +4,7 @@ use Rattle.std.specs.List.{list_any, list_all}
 use Rattle.kfs_model.specs.Header.{Header}
 use Rattle.kfs_model.specs.Limits.{block_size}
 use Rattle.kfs_model.specs.Table.{Table, numbers, pairs, get}
-use Rattle.kfs_model.specs.Tree.{Tree, Node, cells_of}
+use Rattle.kfs_model.specs.Tree.{Tree, Node, content_of}
 use Rattle.kfs_model.specs.Sight.{is_file}
 use Rattle.kfs_model.specs.Run.{Mark}
 use Rattle.kfs_model.specs.Plan.{is_base}
@@ -88,7 +88,7 @@ abbrev pub blocks_of : List Mark → List (ℕ × List Mark)
 blocks_of marks = blocks_from (block_count (length marks)) 0 marks
 
 abbrev pub blocks_that : (List Mark → Bool) → ℕ × Node Mark → List (ℕ × ℕ)
-blocks_that test entry = map (λ block. (entry.0, block.0)) (filter (λ block. test block.1) (blocks_of (cells_of (Some entry.1))))
+blocks_that test entry = map (λ block. (entry.0, block.0)) (filter (λ block. test block.1) (blocks_of (content_of (Some entry.1))))
 
 -- the blocks of files that the log writes, ascending
 unfoldable pub written_blocks : Tree Mark → List (ℕ × ℕ)

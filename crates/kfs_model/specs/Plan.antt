@@ -4,7 +4,7 @@ use Rattle.std.specs.List.{list_any, AllByRecursion}
 use Rattle.std.specs.FinMap.Entries.{find, is_sorted}
 use Rattle.kfs_model.specs.Header.{Header}
 use Rattle.kfs_model.specs.Table.{Order, Table, numbers, get}
-use Rattle.kfs_model.specs.Tree.{Tree, NameTable, headers, name_order, cells_of}
+use Rattle.kfs_model.specs.Tree.{Tree, NameTable, headers, name_order, content_of}
 use Rattle.kfs_model.specs.Run.{Mark}
 use Rattle.kfs_model.specs.PlanRow.{NameRow, NodeRow, Piece, Source, Zero, Payload, Plan}
 
@@ -37,7 +37,7 @@ AreNodeRows before after rows = AreDifferences numbers header_now (get before) (
 
 -- the mark of a byte of a file, none where there is no such byte
 abbrev pub mark_at : Tree Mark → (number place : ℕ) → Option Mark
-mark_at t number place = slice_get (cells_of (get t.nodes number)) place
+mark_at t number place = slice_get (content_of (get t.nodes number)) place
 
 -- each byte from before the log stands in the file and at the place where it stood
 abbrev pub OldBytesStay : Tree Mark → Type 0

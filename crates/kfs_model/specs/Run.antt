@@ -3,13 +3,13 @@ use Rattle.std.specs.Prelude.{◌≡◌, ℕ, ◌+◌, ◌==◌, List, [], ◌�
 use Rattle.std.specs.List.{list_any}
 use Rattle.kfs_model.specs.Access.{Client}
 use Rattle.kfs_model.specs.Table.{mapped, numbers, get}
-use Rattle.kfs_model.specs.Tree.{Tree, Node, Body, FileBody, DirectoryBody, cells_of}
+use Rattle.kfs_model.specs.Tree.{Tree, Node, Body, FileBody, DirectoryBody, content_of}
 use Rattle.kfs_model.specs.Sight.{Sight, ClientSight, sight}
 use Rattle.kfs_model.specs.Check.{Reason, Reason-discrete, EntryContext, first_fault}
 use mathlib.Core.Path.{ap}
 use native.Mathlib.Decide.{ℕ_discrete}
 use Rattle.kfs_model.specs.Entry.{Entry, Create, Write, Truncate, Link, Unlink, Rename, Chmod}
-use Rattle.kfs_model.specs.Effect.{CellMaker, effect}
+use Rattle.kfs_model.specs.Effect.{Filling, effect}
 
 -- the numbers that the log has created so far, the latest first
 abbrev pub created_by : Entry → List ℕ → List ℕ
@@ -43,12 +43,12 @@ EntryFault-equality f g = both (ℕ_discrete f.entry g.entry) (Reason-discrete �
     both (yes e) (no differ) = no (λ p. differ (ap (λ (fault : EntryFault). fault.reason) p))
     both (no differ) r = no (λ p. differ (ap (λ (fault : EntryFault). fault.entry) p))
 
-module _ {B : Type 0} (maker : CellMaker B) (client : Client) (before : ClientSight) where
+module _ {B : Type 0} (filling : Filling B) (client : Client) (before : ClientSight) where
   -- the entries from the one with this number on, from this tree
   unfoldable pub run_from : (index : ℕ) → (created : List ℕ) → Tree B → List Entry → Result (Tree B) EntryFault
   run_from index created t [] = Ok t
   run_from index created t (entry ∷ entries) = elim (first_fault (entry_context client before (sight t) created) entry) [
-    | None ↦ run_from (index + 1) (created_by entry created) (effect maker client index entry t) entries
+    | None ↦ run_from (index + 1) (created_by entry created) (effect filling client index entry t) entries
     | Some reason ↦ Err (record { entry = index; reason = reason })
   ]
 
@@ -57,7 +57,7 @@ module _ {B : Type 0} (maker : CellMaker B) (client : Client) (before : ClientSi
 
 -- ---- what a file is made of
 
-abbrev pub over_bytes : CellMaker ℕ
+abbrev pub over_bytes : Filling ℕ
 over_bytes = record { gap = 0; payload = λ index payload. payload }
 
 -- where a byte comes from: the file that had it before the log, a gap, or a place in an entry's payload
@@ -70,15 +70,15 @@ abbrev pub places_from : {X : Type 0} → (ℕ → X) → ℕ → List ℕ → L
 places_from at place [] = []
 places_from at place (b ∷ bs) = at place ∷ places_from at (place + 1) bs
 
-abbrev pub over_marks : CellMaker Mark
+abbrev pub over_marks : Filling Mark
 over_marks = record { gap = Zero; payload = λ index payload. places_from (Payload index) 0 payload }
 
 module _ {B C : Type 0} where
   abbrev pub mapped_body : (List B → List C) → Body B → Body C
-  mapped_body f (FileBody cells) = FileBody (f cells)
+  mapped_body f (FileBody content) = FileBody (f content)
   mapped_body f DirectoryBody = DirectoryBody
 
-  -- the same tree, each file's cells changed by a function of the file's number
+  -- the same tree, each file's content changed by a function of the file's number
   abbrev pub mapped_tree : (ℕ → List B → List C) → Tree B → Tree C
   mapped_tree f t = record {
     nodes = mapped (λ n (node : Node B). record { mode = node.mode; uid = node.uid; gid = node.gid; body = mapped_body (f n) node.body }) t.nodes;
@@ -86,11 +86,11 @@ module _ {B C : Type 0} where
   }
 
 abbrev pub base_marks : ℕ → ℕ → List ℕ → List Mark
-base_marks number place cells = places_from (Base number) place cells
+base_marks number place content = places_from (Base number) place content
 
 -- each byte marked as what it is before the log
 abbrev pub marked : Tree ℕ → Tree Mark
-marked t = mapped_tree (λ n cells. base_marks n 0 cells) t
+marked t = mapped_tree (λ n content. base_marks n 0 content) t
 
 -- ---- what marks stand for
 
@@ -103,13 +103,13 @@ byte_at bytes place = unwrap_or (slice_get bytes place) 0
 
 -- a byte of the tree before, a zero byte, or a byte of an entry's payload
 abbrev pub byte_of : Tree ℕ → List Entry → Mark → ℕ
-byte_of before entries (Base number place) = byte_at (cells_of (get before.nodes number)) place
+byte_of before entries (Base number place) = byte_at (content_of (get before.nodes number)) place
 byte_of before entries Zero = 0
 byte_of before entries (Payload entry place) = byte_at (payload_of (slice_get entries entry)) place
 
 -- the outcome of a marked run with each mark looked up
 abbrev pub looked_up : (Mark → ℕ) → Result (Tree Mark) EntryFault → Result (Tree ℕ) EntryFault
-looked_up byte (Ok t) = Ok (mapped_tree (λ n cells. map byte cells) t)
+looked_up byte (Ok t) = Ok (mapped_tree (λ n content. map byte content) t)
 looked_up byte (Err fault) = Err fault
 
 -- a log's run over marks, looked up in the tree and in the payloads

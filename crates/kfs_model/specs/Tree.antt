@@ -5,7 +5,7 @@ use Rattle.kfs_model.specs.Header.{Kind, Header}
 use Rattle.kfs_model.specs.Header.Kind.{File, Directory}
 use Rattle.kfs_model.specs.Table.{Table, numbers, byte_order, pairs, get, mapped, Order}
 
--- what stands in a node: a file's cells in their order, or a directory, whose names stand in the tree
+-- what stands in a node: a file's content, its bytes in their order or marks for them, or a directory, whose names stand in the tree
 pub data Body (B : Type 0) : Type 0 where
   FileBody : List B → Body B
   DirectoryBody : Body B
@@ -26,12 +26,12 @@ pub record Tree (B : Type 0) : Type 0 where
 
 module _ {B : Type 0} where
   abbrev pub kind_of : Body B → Kind
-  kind_of (FileBody cells) = File
+  kind_of (FileBody content) = File
   kind_of DirectoryBody = Directory
 
   -- a file's length, and 0 for a directory
   abbrev pub size_of : Body B → ℕ
-  size_of (FileBody cells) = length cells
+  size_of (FileBody content) = length content
   size_of DirectoryBody = 0
 
 -- The tables of names alone say these, whatever a file is made of.
@@ -56,7 +56,7 @@ is_named names number = list_any (λ e. e.1 == number) names.entries
 module _ {B : Type 0} where
   -- a directory counts one link, a file its names
   abbrev pub links_of : NameTable → ℕ → Body B → ℕ
-  links_of names number (FileBody cells) = name_count names number
+  links_of names number (FileBody content) = name_count names number
   links_of names number DirectoryBody = 1
 
   abbrev pub header_of : NameTable → ℕ → Node B → Header
@@ -72,11 +72,11 @@ module _ {B : Type 0} where
   abbrev pub headers : Tree B → Table numbers Header
   headers t = mapped (header_of t.names) t.nodes
 
-  -- the cells of a file, none for a directory and for what is no node
-  abbrev pub cells_of : Option (Node B) → List B
-  cells_of None = []
-  cells_of (Some node) = body_cells node.body
+  -- the content of a file, none for a directory and for what is no node
+  abbrev pub content_of : Option (Node B) → List B
+  content_of None = []
+  content_of (Some node) = body_content node.body
     where
-      body_cells : Body B → List B
-      body_cells (FileBody cells) = cells
-      body_cells DirectoryBody = []
+      body_content : Body B → List B
+      body_content (FileBody content) = content
+      body_content DirectoryBody = []

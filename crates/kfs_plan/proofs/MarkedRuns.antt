@@ -9,7 +9,7 @@ use Rattle.kfs_model.specs.Access.{Client}
 use Rattle.kfs_model.specs.Entry.{Entry, Create, Write, Truncate, Link, Unlink, Rename, Chmod}
 use Rattle.kfs_model.specs.Table.{numbers, get, insert, remove}
 use Rattle.kfs_model.proofs.TableLaws.{get-insert, get-retain, get-mapped}
-use Rattle.kfs_model.specs.Tree.{Tree, Node, Body, FileBody, DirectoryBody, NameTable, headers, cells_of, is_named}
+use Rattle.kfs_model.specs.Tree.{Tree, Node, Body, FileBody, DirectoryBody, NameTable, headers, content_of, is_named}
 use Rattle.kfs_model.specs.Sight.{sight, ClientSight}
 use Rattle.kfs_model.specs.Check.{Reason, first_fault}
 use Rattle.kfs_model.specs.Effect.{effect, change_of, swept, new_body, with_names, moved_name}
@@ -21,7 +21,7 @@ use Rattle.kfs_plan.specs.KeptBytes.{keeps_bytes}
 
 -- each byte of each file is as it was before the log
 pub record IsUntouched (t : Tree Mark) : Type 0 where
-  pub cells : (number : ℕ) → list_all is_base (cells_of (get t.nodes number)) ≡ true
+  pub cells : (number : ℕ) → list_all is_base (content_of (get t.nodes number)) ≡ true
 
 -- ---- a tree that was just marked
 
@@ -32,16 +32,16 @@ base_places n place (b ∷ bs) = base_places n (place + 1) bs
 abbrev marked_node : ℕ → Node ℕ → Node Mark
 marked_node n node = record { mode = node.mode; uid = node.uid; gid = node.gid; body = mapped_body (base_marks n 0) node.body }
 
-base_body : (n mode uid gid : ℕ) (body : Body ℕ) → list_all is_base (cells_of (Some (marked_node n (record { mode = mode; uid = uid; gid = gid; body = body })))) ≡ true
+base_body : (n mode uid gid : ℕ) (body : Body ℕ) → list_all is_base (content_of (Some (marked_node n (record { mode = mode; uid = uid; gid = gid; body = body })))) ≡ true
 base_body n mode uid gid (FileBody cells) = base_places n 0 cells
 base_body n mode uid gid DirectoryBody = refl
 
-base_node : (n : ℕ) (found : Option (Node ℕ)) → list_all is_base (cells_of (option_map (marked_node n) found)) ≡ true
+base_node : (n : ℕ) (found : Option (Node ℕ)) → list_all is_base (content_of (option_map (marked_node n) found)) ≡ true
 base_node n None = refl
 base_node n (Some node) = base_body n node.mode node.uid node.gid node.body
 
 pub marked-untouched : (t : Tree ℕ) → IsUntouched (marked t)
-marked-untouched t = record { cells = λ n. ap (λ o. list_all is_base (cells_of o)) (get-mapped marked_node t.nodes n) ∙ base_node n (get t.nodes n) }
+marked-untouched t = record { cells = λ n. ap (λ o. list_all is_base (content_of o)) (get-mapped marked_node t.nodes n) ∙ base_node n (get t.nodes n) }
 
 -- ---- one entry
 
@@ -49,46 +49,46 @@ swept-untouched : (t : Tree Mark) → IsUntouched t → IsUntouched (swept t)
 unfolding swept
 swept-untouched t untouched =
     let kept : ℕ → Bool = λ q. (q == 1) || is_named t.names q in
-    record { cells = λ q. ap (λ o. list_all is_base (cells_of o)) (get-retain kept t.nodes q) ∙ by q (kept q) }
+    record { cells = λ q. ap (λ o. list_all is_base (content_of o)) (get-retain kept t.nodes q) ∙ by q (kept q) }
   where
-    by : (q : ℕ) (stays : Bool) → list_all is_base (cells_of (cond stays (get t.nodes q) None)) ≡ true
+    by : (q : ℕ) (stays : Bool) → list_all is_base (content_of (cond stays (get t.nodes q) None)) ≡ true
     by q true = untouched.cells q
     by q false = refl
 
 abbrev new_node : Client → Kind → (mode : ℕ) → Node Mark
 new_node client kind mode = record { mode = mode; uid = client.uid; gid = client.gid; body = new_body over_marks kind }
 
-base_new : (client : Client) (kind : Kind) (mode : ℕ) → list_all is_base (cells_of (Some (new_node client kind mode))) ≡ true
+base_new : (client : Client) (kind : Kind) (mode : ℕ) → list_all is_base (content_of (Some (new_node client kind mode))) ≡ true
 base_new client File mode = refl
 base_new client Directory mode = refl
 
 module _ (client : Client) (index d : ℕ) (m : List ℕ) (n : ℕ) (kind : Kind) (mode : ℕ) (t : Tree Mark) (untouched : IsUntouched t) where
-  base_after : (q : ℕ) (tie : Bool) → list_all is_base (cells_of (cond tie (Some (new_node client kind mode)) (get t.nodes q))) ≡ true
+  base_after : (q : ℕ) (tie : Bool) → list_all is_base (content_of (cond tie (Some (new_node client kind mode)) (get t.nodes q))) ≡ true
   base_after q true = base_new client kind mode
   base_after q false = untouched.cells q
 
   create-untouched : IsUntouched (effect over_marks client index (Create d m n kind mode) t)
   unfolding change_of
   create-untouched = swept-untouched _ (record {
-    cells = λ q. ap (λ o. list_all is_base (cells_of o)) (get-insert t.nodes n (new_node client kind mode) q) ∙ base_after q (eq_by_cmp numbers.compare q n);
+    cells = λ q. ap (λ o. list_all is_base (content_of o)) (get-insert t.nodes n (new_node client kind mode) q) ∙ base_after q (eq_by_cmp numbers.compare q n);
   })
 
 module _ (client : Client) (index n mode : ℕ) (t : Tree Mark) (untouched : IsUntouched t) where
   -- a node of another mode has the bytes that it had
-  base_same : (node : Node Mark) → list_all is_base (cells_of (Some node)) ≡ true → list_all is_base (cells_of (Some (record node { mode = mode }))) ≡ true
+  base_same : (node : Node Mark) → list_all is_base (content_of (Some node)) ≡ true → list_all is_base (content_of (Some (record node { mode = mode }))) ≡ true
   base_same node all = by node.body all
     where
-      by : (body : Body Mark) → list_all is_base (cells_of (Some (record node { body = body }))) ≡ true → list_all is_base (cells_of (Some (record node { mode = mode; body = body }))) ≡ true
+      by : (body : Body Mark) → list_all is_base (content_of (Some (record node { body = body }))) ≡ true → list_all is_base (content_of (Some (record node { mode = mode; body = body }))) ≡ true
       by (FileBody cells) all' = all'
       by DirectoryBody all' = refl
 
   changed-untouched : (found : Option (Node Mark)) → get t.nodes n ≡ found → IsUntouched (elim found as (λ _. Tree Mark) [ None ↦ t | Some node ↦ record { nodes = insert t.nodes n (record node { mode = mode }); names = t.names } ])
   changed-untouched None is = untouched
   changed-untouched (Some node) is =
-      let here = base_same node (subst (λ o. list_all is_base (cells_of o) ≡ true) is (untouched.cells n)) in
-      record { cells = λ q. ap (λ o. list_all is_base (cells_of o)) (get-insert t.nodes n (record node { mode = mode }) q) ∙ by q (eq_by_cmp numbers.compare q n) here }
+      let here = base_same node (subst (λ o. list_all is_base (content_of o) ≡ true) is (untouched.cells n)) in
+      record { cells = λ q. ap (λ o. list_all is_base (content_of o)) (get-insert t.nodes n (record node { mode = mode }) q) ∙ by q (eq_by_cmp numbers.compare q n) here }
     where
-      by : (q : ℕ) (tie : Bool) → list_all is_base (cells_of (Some (record node { mode = mode }))) ≡ true → list_all is_base (cells_of (cond tie (Some (record node { mode = mode })) (get t.nodes q))) ≡ true
+      by : (q : ℕ) (tie : Bool) → list_all is_base (content_of (Some (record node { mode = mode }))) ≡ true → list_all is_base (content_of (cond tie (Some (record node { mode = mode })) (get t.nodes q))) ≡ true
       by q true here = here
       by q false here = untouched.cells q
 

@@ -4,7 +4,7 @@ use Rattle.std.specs.List.{list_all, list_any}
 use Rattle.std.proofs.Common.{ap, subst, ◌∙◌}
 use Rattle.std.proofs.lemmas.Bool.{and_parts, and_from, both_ways, false_from_ne_true, ne_eqb}
 use Rattle.kfs_model.specs.Table.{numbers, get}
-use Rattle.kfs_model.specs.Tree.{Tree, Node, cells_of}
+use Rattle.kfs_model.specs.Tree.{Tree, Node, content_of}
 use Rattle.kfs_model.specs.Run.{Mark}
 use Rattle.kfs_model.specs.PlanRow.{Piece, Source, Zero, Payload}
 use Rattle.kfs_model.specs.Plan.{mark_at, is_base, said_by, covers}
@@ -116,8 +116,8 @@ none_in_all f (x ∷ xs) none = by (f x) none (none_in_all f xs)
 module _ (t : Tree Mark) (untouched : IsUntouched t) where
   none_in_node : (number : ℕ) (node : Node Mark) → get t.nodes number ≡ Some node → blocks_that is_written (number, node) ≡ []
   none_in_node number node found =
-      let cells = cells_of (Some node) in
-      let all : list_all is_base cells ≡ true = subst (λ o. list_all is_base (cells_of o) ≡ true) found (untouched.cells number) in
+      let cells = content_of (Some node) in
+      let all : list_all is_base cells ≡ true = subst (λ o. list_all is_base (content_of o) ≡ true) found (untouched.cells number) in
       ap (map (λ block. (number, block.0))) (none_written (block_count (length cells)) 0 cells all)
 
   no_blocks : written_blocks t ≡ []

@@ -14,7 +14,7 @@ use Rattle.kfs_model.specs.Plan.{said_by, ArePieces, IsTrueOf}
 use Rattle.kfs_model.specs.PlanRow.{Piece}
 use Rattle.kfs_model.specs.Run.{Mark}
 use Rattle.kfs_model.specs.Table.{numbers, get}
-use Rattle.kfs_model.specs.Tree.{Tree, Node, cells_of}
+use Rattle.kfs_model.specs.Tree.{Tree, Node, content_of}
 use Rattle.kfs_model.proofs.NameTable.{ties_decide}
 use Rattle.kfs_model.proofs.Need.{need_is_counted}
 use Rattle.kfs_model.proofs.Tables.{find_below, left_part, right_part}
@@ -101,17 +101,17 @@ module _ (n : ℕ) (part behind : List CodePiece) (are : AreOf n part) (order : 
       at true is none more = cc
       at false is none more =
           let apart : n ≡ e.0 → ⊥ = λ same. both_ways _ is ((ties_decide numbers n e.0).1 same) in
-          λ i. counted 0 (touches (length (cells_of (Some e.1))) 0 (other_file e.0 apart i)) + more none i
+          λ i. counted 0 (touches (length (content_of (Some e.1))) 0 (other_file e.0 apart i)) + more none i
 
   -- the file of the part is a node, and its blocks are the part's
   one_part : (es : List (ℕ × Node Mark)) → T (is_sorted numbers.compare es) → (node : Node Mark) → find numbers.compare n es ≡ Some node
-      → counted_files both es ≡ counted 0 (touches (length (cells_of (Some node))) 0 (map piece_of part)) + counted_files (map piece_of behind) es
+      → counted_files both es ≡ counted 0 (touches (length (content_of (Some node))) 0 (map piece_of part)) + counted_files (map piece_of behind) es
   unfolding counted_files counted touches
   one_part [] sorted node found = cc
   one_part (e ∷ es) sorted node found = at (eq_by_cmp numbers.compare n e.0) refl found (one_part es (right_part _ _ sorted) node)
     where
       own : ℕ
-      own = counted 0 (touches (length (cells_of (Some node))) 0 (map piece_of part))
+      own = counted 0 (touches (length (content_of (Some node))) 0 (map piece_of part))
 
       later : ℕ
       later = counted_files (map piece_of behind) es
@@ -123,27 +123,27 @@ module _ (n : ℕ) (part behind : List CodePiece) (are : AreOf n part) (order : 
           let value : e.1 ≡ node = cc in
           let none : find numbers.compare n es ≡ None = subst (λ k. find numbers.compare k es ≡ None) (sym same) (find_below numbers e.0 es (left_part _ _ sorted)) in
           let nothing : of_file e.0 (map piece_of behind) ≡ [] = ap (λ k. of_file k (map piece_of behind)) (sym same) ∙ not_of n (n + 1) behind (let below : n < n + 1 = omega arith in below) order in
-          let zero_here : node_blocks (map piece_of behind) e ≡ 0 = ap (λ rs. counted 0 (touches (length (cells_of (Some e.1))) 0 rs)) nothing in
+          let zero_here : node_blocks (map piece_of behind) e ≡ 0 = ap (λ rs. counted 0 (touches (length (content_of (Some e.1))) 0 rs)) nothing in
           let plus : own + later ≡ own + (0 + later) = omega arith in
-          (λ i. counted 0 (touches (length (cells_of (Some (value i)))) 0 ((ap (λ k. of_file k both) (sym same) ∙ own_file) i)) + others es none i)
+          (λ i. counted 0 (touches (length (content_of (Some (value i)))) 0 ((ap (λ k. of_file k both) (sym same) ∙ own_file) i)) + others es none i)
           ∙ plus ∙ ap (λ z. own + (z + later)) (sym zero_here)
       at false is found more =
           let apart : n ≡ e.0 → ⊥ = λ same. both_ways _ is ((ties_decide numbers n e.0).1 same) in
           let here = node_blocks (map piece_of behind) e in
           let turned : here + (own + later) ≡ own + (here + later) = omega arith in
-          (λ i. counted 0 (touches (length (cells_of (Some e.1))) 0 (other_file e.0 apart i)) + more found i) ∙ turned
+          (λ i. counted 0 (touches (length (content_of (Some e.1))) 0 (other_file e.0 apart i)) + more found i) ∙ turned
 
 -- ---- a piece's file is there, and its size is listed
 
 module _ (after : Tree Mark) (sizes : List FileSize) where
   abbrev pub IsListed : CodePiece → Type 0
-  IsListed p = (node : Node Mark) × (get after.nodes p.number ≡ Some node) × (length_after sizes p.number ≡ length (cells_of (Some node)))
+  IsListed p = (node : Node Mark) × (get after.nodes p.number ≡ Some node) × (length_after sizes p.number ≡ length (content_of (Some node)))
 
   pieces_listed : (ps : List CodePiece) → AllByRecursion (IsTrueOf after) (map piece_of ps) → AllByRecursion (λ (p : Piece). length_after sizes p.number ≡ extent after p.number) (map piece_of ps) → AllByRecursion IsListed ps
   pieces_listed [] true_of long = tt
   pieces_listed (p ∷ ps) true_of long = (at (get after.nodes p.number) refl (true_of.0.said 0 true_of.0.filled) long.0, pieces_listed ps true_of.1 long.1)
     where
-      at : (o : Option (Node Mark)) → get after.nodes p.number ≡ o → slice_get (cells_of o) (p.start + 0) ≡ Some (said_by (piece_of p).source 0) → length_after sizes p.number ≡ length (cells_of o) → IsListed p
+      at : (o : Option (Node Mark)) → get after.nodes p.number ≡ o → slice_get (content_of o) (p.start + 0) ≡ Some (said_by (piece_of p).source 0) → length_after sizes p.number ≡ length (content_of o) → IsListed p
       at None is stands size = cc
       at (Some node) is stands size = (node, is, size)
 
@@ -218,7 +218,7 @@ module _ (rest : List CodePiece) (d : CodePiece) (some : 0 < length rest) (is : 
       let es = after.nodes.entries in
       let split : map piece_of rest ≡ map piece_of part ++ map piece_of behind = ap (map piece_of) (sym (take-append-drop (front_len n rest) rest)) ∙ map-append piece_of part behind in
       let one = one_part n part behind (front_is_of n rest) (behind_front n rest first.1) es after.nodes.sorted node there in
-      let is_part : blocks ≡ counted 0 (touches (length (cells_of (Some node))) 0 (map piece_of part)) = count ∙ ap (λ s. counted 0 (touches s 0 (map piece_of part))) size in
+      let is_part : blocks ≡ counted 0 (touches (length (content_of (Some node))) 0 (map piece_of part)) = count ∙ ap (λ s. counted 0 (touches s 0 (map piece_of part))) size in
       let plus : total + blocks + counted_files (map piece_of behind) es ≡ total + (blocks + counted_files (map piece_of behind) es) = omega arith in (
         plus ∙ ap (λ b. total + (b + counted_files (map piece_of behind) es)) is_part ∙ ap (λ c. total + c) (sym one) ∙ ap (λ rs. total + counted_files rs es) (sym split) ∙ now.0,
         all_drop (IsListed after sizes) (front_len n rest) rest now.1,
