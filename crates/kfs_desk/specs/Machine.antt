@@ -1,5 +1,5 @@
 -- The desk as a state of the machine, and its calls as rows that fit.
-use Rattle.std.specs.Prelude.{◌≡◌, ◌≢◌, ℕ, ◌+◌, ◌≤◌, false, List, [], ◌∷◌, Option, Some, option_map, Result, Ok, Err}
+use Rattle.std.specs.Prelude.{◌≡◌, ◌≢◌, ◌↔◌, ℕ, ◌+◌, ◌≤◌, false, List, [], ◌∷◌, Option, Some, option_map, Result, Ok, Err, IfOk, IsErrOf, OnErr}
 use Rattle.kfs_model.specs.Access.{Client}
 use Rattle.kfs_model.specs.Table.{empty}
 use Rattle.kfs_model.specs.Entry.{Log}
@@ -24,6 +24,8 @@ use Rattle.kfs_plan.specs.declared.submission.Why.{Why}
 use Rattle.kfs_plan.specs.declared.submission.Why.TheVariants as whys
 use Rattle.kfs_lease.specs.declared.act.Act.{Act}
 use Rattle.kfs_plan.specs.declared.answers.ActReply.{ActReply}
+use Rattle.kfs_plan.specs.declared.answers.Unanswered.{Unanswered}
+use Rattle.kfs_plan.specs.declared.answers.Unanswered.TheVariants as unanswered
 use Rattle.kfs_lease.specs.declared.act.Act.TheVariants as acts
 use Rattle.kfs_plan.specs.declared.answers.Done.{Done}
 use Rattle.kfs_plan.specs.declared.answers.Done.TheVariants as dones
@@ -179,3 +181,9 @@ pub record IsActed (old : Desk) (call : Call) (words : ℕ → Done) (reply : Ac
   pub position : reply.position ≡ old.rows
   pub rows : new.rows ≡ old.rows + 1
   pub limit : new.limit ≡ old.limit
+
+-- the call is answered as such a step, or the desk stays as it is: for want of a row in the docket exactly where it is full
+pub record IsCallOf (old : Desk) (call : Call) (words : ℕ → Done) (result : Result ActReply Unanswered) (new : Desk) : Type 0 where
+  pub full : IsErrOf result unanswered.DocketFull ↔ (old.rows ≡ old.limit)
+  pub done : IfOk result (λ reply. IsActed old call words reply new)
+  pub err : OnErr result (new ≡ old)

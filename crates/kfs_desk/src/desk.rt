@@ -15,9 +15,9 @@ ghost use Rattle.kfs_check.specs.View.{clients_of, contents_of, leases_of};
 ghost use Rattle.kfs_plan.specs.Judging.{HasOtherEntry, IsVerdict, submission_of};
 ghost use Rattle.kfs_image.specs.Change.{after_net};
 ghost use Rattle.kfs_desk.specs.Landing.{CanLand, answer_at, ended_by, ended_with, image_after, leases_left};
-ghost use Rattle.kfs_desk.specs.Machine.{IsActed, IsAnswered, IsBackFor, IsChange, IsImageOf, RunsThrough, call_of, done_by, number_of, outcome_at, state_at};
+ghost use Rattle.kfs_desk.specs.Machine.{IsAnswered, IsBackFor, IsCallOf, IsChange, IsImageOf, RunsThrough, call_of, done_by, number_of, outcome_at, state_at};
 ghost use Rattle.kfs_desk.specs.Opening.{begin_fault, do_overlap, fault_behind};
-ghost use Rattle.kfs_value.specs.Room.{spare_of};
+ghost use Rattle.kfs_value.specs.Room.{Appends, spare_of};
 
 use kfs_entry::NodeRow;
 use kfs_image::shape::{Fill, Net, net_apply};
@@ -46,9 +46,9 @@ pub struct Desk<A: Allocator> {
 }
 
 impl<A: Allocator> Model for Desk<A> {
-    ghost use Rattle.kfs_desk.specs.Machine.{Desk as Shown, IsDesk, shown};
+    ghost use Rattle.kfs_desk.specs.Machine.{Desk as DeskShown, IsDesk, shown};
 
-    ghost Value = { Shown };
+    ghost Value = { DeskShown };
 
     ghost view = { λ d. shown (record { image = d.image; clients = d.clients.value.items; leases = d.leases.value; rows = d.rows; limit = d.limit }) };
 
@@ -120,9 +120,7 @@ impl<A: Allocator + Copy> Desk<A> {
         kind: LeaseKind,
         end: u64,
     ) -> Result<ActReply, Unanswered>
-        ensures full { IsErrOf result Unanswered.DocketFull ↔ (self.old.rows ≡ self.old.limit) }
-        ensures done { IfOk result (λ reply. IsActed self.old (machine.Lease client path.now (kind_of kind) end) Done.Leased reply self.new) }
-        ensures err { OnErr result (self.new ≡ self.old) }
+        ensures { IsCallOf self.old (machine.Lease client path.now (kind_of kind) end) Done.Leased result self.new }
     {
         self.act(Act::Lease {
             client,
@@ -134,27 +132,21 @@ impl<A: Allocator + Copy> Desk<A> {
 
     /// Ends the client's lease on the node.
     pub fn drop_lease(&mut self, client: u32, number: u32) -> Result<ActReply, Unanswered>
-        ensures full { IsErrOf result Unanswered.DocketFull ↔ (self.old.rows ≡ self.old.limit) }
-        ensures done { IfOk result (λ reply. IsActed self.old (machine.Drop client number) Done.Dropped reply self.new) }
-        ensures err { OnErr result (self.new ≡ self.old) }
+        ensures { IsCallOf self.old (machine.Drop client number) Done.Dropped result self.new }
     {
         self.act(Act::Drop { client, number })
     }
 
     /// Goes to a moment, and ends the leases that are no longer live.
     pub fn tick(&mut self, moment: u64) -> Result<ActReply, Unanswered>
-        ensures full { IsErrOf result Unanswered.DocketFull ↔ (self.old.rows ≡ self.old.limit) }
-        ensures done { IfOk result (λ reply. IsActed self.old (machine.Tick moment) Done.Ticked reply self.new) }
-        ensures err { OnErr result (self.new ≡ self.old) }
+        ensures { IsCallOf self.old (machine.Tick moment) Done.Ticked result self.new }
     {
         self.act(Act::Tick { moment })
     }
 
     /// Makes a call for the leases. Its answer takes the docket's next row.
     pub fn act(&mut self, act: Act<'_>) -> Result<ActReply, Unanswered>
-        ensures full { IsErrOf result Unanswered.DocketFull ↔ (self.old.rows ≡ self.old.limit) }
-        ensures done { IfOk result (λ reply. IsActed self.old (call_of act.entry) (done_by act.entry) reply self.new) }
-        ensures err { OnErr result (self.new ≡ self.old) }
+        ensures { IsCallOf self.old (call_of act.entry) (done_by act.entry) result self.new }
     {
         let position = self.next_row()?;
         let shape = self.image.shape();
@@ -327,8 +319,7 @@ fn made<A: Allocator + Clone>(
 /// Appends an element, for which there is room.
 fn push_within<T: Drop, A: Allocator>(out: &mut Vec<T, A>, value: T)
     requires { 1 ≤ spare_of out.old }
-    ensures spare { spare_of out.old ≤ spare_of out.new + 1 }
-    ensures items { out.new.items ≡ out.old.items ++ value ∷ [] }
+    ensures { Appends out.old out.new 1 (value ∷ []) }
 {
     out.push(value).unwrap();
 }

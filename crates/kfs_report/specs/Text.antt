@@ -1,5 +1,6 @@
 -- The text of each answer.
-use Rattle.std.specs.Prelude.{ℕ, List, ◌++◌, Bool, codes, decimal, Result, Ok, Err}
+use Rattle.std.specs.Prelude.{◌≡◌, ℕ, ◌≤◌, List, Vec, ◌++◌, Bool, codes, decimal, Result, Ok, Err, IsOk, OnOk, OnErr}
+use Rattle.std.specs.declared.alloc.AllocError.{AllocError}
 use Rattle.kfs_entry.specs.declared.fault.SpellFault.{SpellFault}
 use Rattle.kfs_entry.specs.declared.fault.SpellFault.TheVariants as spell
 use Rattle.kfs_value.specs.declared.header.Header.{Header}
@@ -22,7 +23,8 @@ use Rattle.kfs_plan.specs.declared.answers.Done.{Done}
 use Rattle.kfs_plan.specs.declared.answers.Done.TheVariants as done
 use Rattle.kfs_plan.specs.declared.answers.Reply.{Reply}
 use Rattle.kfs_plan.specs.declared.answers.Reply.TheVariants.{Yes, No}
-use Rattle.kfs_text.specs.Parts.{field_text, flag_text, numbered_text, octal_text}
+use Rattle.kfs_text.specs.Parts.{field_text, flag_text, line_of, numbered_text, octal_text}
+use Rattle.kfs_value.specs.Room.{spare_of}
 
 -- ---- refusals by name
 
@@ -131,3 +133,11 @@ header_text header = kind_text header.kind ++ (octal_text header.mode ++ counts_
 
 abbrev pub node_text : ℕ → Header → List ℕ
 node_text node header = codes "node " ++ (decimal node ++ header_text header)
+
+-- ---- lines
+
+-- the line of a text stands behind what was there, and a refused growth leaves that; none is refused where 128 bytes fit
+pub record AddsLine {Z : Type 0} (old new : Vec ℕ Z) (line : List ℕ) (result : Result Unit AllocError) : Type 0 where
+  pub room : 128 ≤ spare_of old → IsOk result
+  pub ok : OnOk result (new.items ≡ old.items ++ line_of line)
+  pub err : OnErr result (new.items ≡ old.items)

@@ -1,10 +1,9 @@
 //! The line of each answer. A function appends its line to `out`; where memory is refused it leaves
 //! `out` as it is. It is never refused where `out` has 128 bytes to spare, which the longest of these
 //! lines doesn't take.
-ghost use Rattle.std.specs.Prelude.{◌≡◌, ◌+◌, ◌≤◌, ◌++◌, length, codes, IsOk, OnOk, OnErr};
-ghost use Rattle.kfs_report.specs.Text.{reply_text, head_text, act_text, done_text, node_text, header_text, kind_text, counts_text, client_text, begin_text};
-ghost use Rattle.kfs_text.specs.Parts.{line_of};
-ghost use Rattle.kfs_value.specs.Room.{spare_of};
+ghost use Rattle.std.specs.Prelude.{◌≡◌, ◌+◌, ◌≤◌, ◌++◌, length, codes};
+ghost use Rattle.kfs_report.specs.Text.{AddsLine, reply_text, head_text, act_text, done_text, node_text, header_text, kind_text, counts_text, client_text, begin_text};
+ghost use Rattle.kfs_value.specs.Room.{Appends, spare_of};
 
 mod names;
 
@@ -20,9 +19,7 @@ pub const LONGEST_LINE: usize = 128;
 
 /// The line of a submission that landed: `P yes rejudged=R need=N` or `P no rejudged=R FAULT`.
 pub fn reply_line<A: Allocator>(out: &mut Vec<u8, A>, reply: &Reply) -> Result<(), AllocError>
-    ensures room { 128 ≤ spare_of out.old → IsOk result }
-    ensures ok { OnOk result (out.new.items ≡ out.old.items ++ line_of (reply_text reply.now)) }
-    ensures err { OnErr result (out.new.items ≡ out.old.items) }
+    ensures { AddsLine out.old out.new (reply_text reply.now) result }
 {
     out.try_reserve(LONGEST_LINE)?;
     push_reply(out, reply);
@@ -32,8 +29,7 @@ pub fn reply_line<A: Allocator>(out: &mut Vec<u8, A>, reply: &Reply) -> Result<(
 
 fn push_reply<A: Allocator>(out: &mut Vec<u8, A>, reply: &Reply)
     requires { 127 ≤ spare_of out.old }
-    ensures spare { spare_of out.old ≤ spare_of out.new + 127 }
-    ensures items { out.new.items ≡ out.old.items ++ reply_text reply.now }
+    ensures { Appends out.old out.new 127 (reply_text reply.now) }
 {
     match reply {
         Reply::Yes {
@@ -59,8 +55,7 @@ fn push_reply<A: Allocator>(out: &mut Vec<u8, A>, reply: &Reply)
 
 fn push_head<A: Allocator>(out: &mut Vec<u8, A>, position: u32, word: &[u8], rejudged: bool)
     requires { length word.now + 21 ≤ spare_of out.old }
-    ensures spare { spare_of out.old ≤ spare_of out.new + (length word.now + 21) }
-    ensures items { out.new.items ≡ out.old.items ++ head_text position word.now rejudged }
+    ensures { Appends out.old out.new (length word.now + 21) (head_text position word.now rejudged) }
 {
     number(out, u64::from(position));
     text(out, word);
@@ -69,9 +64,7 @@ fn push_head<A: Allocator>(out: &mut Vec<u8, A>, position: u32, word: &[u8], rej
 
 /// The line of a call for the leases: `P leased N`, `P dropped N`, `P ticked M` or `P refused NAME`.
 pub fn act_line<A: Allocator>(out: &mut Vec<u8, A>, reply: &ActReply) -> Result<(), AllocError>
-    ensures room { 128 ≤ spare_of out.old → IsOk result }
-    ensures ok { OnOk result (out.new.items ≡ out.old.items ++ line_of (act_text reply.now)) }
-    ensures err { OnErr result (out.new.items ≡ out.old.items) }
+    ensures { AddsLine out.old out.new (act_text reply.now) result }
 {
     out.try_reserve(LONGEST_LINE)?;
     number(out, u64::from(reply.position));
@@ -88,8 +81,7 @@ pub fn act_line<A: Allocator>(out: &mut Vec<u8, A>, reply: &ActReply) -> Result<
 
 fn push_done<A: Allocator>(out: &mut Vec<u8, A>, done: Done)
     requires { 29 ≤ spare_of out.old }
-    ensures spare { spare_of out.old ≤ spare_of out.new + 29 }
-    ensures items { out.new.items ≡ out.old.items ++ done_text done }
+    ensures { Appends out.old out.new 29 (done_text done) }
 {
     match done {
         Done::Leased(node) => {
@@ -113,9 +105,7 @@ pub fn node_line<A: Allocator>(
     node: u32,
     header: &Header,
 ) -> Result<(), AllocError>
-    ensures room { 128 ≤ spare_of out.old → IsOk result }
-    ensures ok { OnOk result (out.new.items ≡ out.old.items ++ line_of (node_text node header.now)) }
-    ensures err { OnErr result (out.new.items ≡ out.old.items) }
+    ensures { AddsLine out.old out.new (node_text node header.now) result }
 {
     out.try_reserve(LONGEST_LINE)?;
     text(out, b"node ");
@@ -127,8 +117,7 @@ pub fn node_line<A: Allocator>(
 
 fn push_header<A: Allocator>(out: &mut Vec<u8, A>, header: &Header)
     requires { 94 ≤ spare_of out.old }
-    ensures spare { spare_of out.old ≤ spare_of out.new + 94 }
-    ensures items { out.new.items ≡ out.old.items ++ header_text header.now }
+    ensures { Appends out.old out.new 94 (header_text header.now) }
 {
     text(out, kind_word(header.kind));
     octal(out, header.mode);
@@ -147,8 +136,7 @@ fn kind_word(kind: Kind) -> &'static [u8]
 
 fn push_counts<A: Allocator>(out: &mut Vec<u8, A>, header: &Header)
     requires { 84 ≤ spare_of out.old }
-    ensures spare { spare_of out.old ≤ spare_of out.new + 84 }
-    ensures items { out.new.items ≡ out.old.items ++ counts_text header.now }
+    ensures { Appends out.old out.new 84 (counts_text header.now) }
 {
     field(out, u64::from(header.uid));
     field(out, u64::from(header.gid));
@@ -158,9 +146,7 @@ fn push_counts<A: Allocator>(out: &mut Vec<u8, A>, header: &Header)
 
 /// The line of a client that was refused: `client NAME`.
 pub fn client_line<A: Allocator>(out: &mut Vec<u8, A>, fault: ClientFault) -> Result<(), AllocError>
-    ensures room { 128 ≤ spare_of out.old → IsOk result }
-    ensures ok { OnOk result (out.new.items ≡ out.old.items ++ line_of (codes "client " ++ client_text fault)) }
-    ensures err { OnErr result (out.new.items ≡ out.old.items) }
+    ensures { AddsLine out.old out.new (codes "client " ++ client_text fault) result }
 {
     out.try_reserve(LONGEST_LINE)?;
     text(out, b"client ");
@@ -171,9 +157,7 @@ pub fn client_line<A: Allocator>(out: &mut Vec<u8, A>, fault: ClientFault) -> Re
 
 /// The line of a begin that was refused: `begin NAME`.
 pub fn begin_line<A: Allocator>(out: &mut Vec<u8, A>, fault: BeginFault) -> Result<(), AllocError>
-    ensures room { 128 ≤ spare_of out.old → IsOk result }
-    ensures ok { OnOk result (out.new.items ≡ out.old.items ++ line_of (codes "begin " ++ begin_text fault)) }
-    ensures err { OnErr result (out.new.items ≡ out.old.items) }
+    ensures { AddsLine out.old out.new (codes "begin " ++ begin_text fault) result }
 {
     out.try_reserve(LONGEST_LINE)?;
     text(out, b"begin ");

@@ -1,6 +1,6 @@
 //! The parts that a line is made of. The caller has made room for them.
 ghost use Rattle.std.specs.Prelude.{◌≡◌, ◌+◌, ◌≤◌, ◌++◌, length, decimal};
-ghost use Rattle.kfs_value.specs.Room.{spare_of};
+ghost use Rattle.kfs_value.specs.Room.{Appends, spare_of};
 ghost use Rattle.kfs_text.specs.Parts.{field_text, flag_text, numbered_text, octal_text};
 
 use itoa::Buffer;
@@ -9,8 +9,7 @@ use std::alloc::Allocator;
 /// Appends the bytes as they are.
 pub fn text<A: Allocator>(out: &mut Vec<u8, A>, bytes: &[u8])
     requires { length bytes.now ≤ spare_of out.old }
-    ensures spare { spare_of out.old ≤ spare_of out.new + length bytes.now }
-    ensures items { out.new.items ≡ out.old.items ++ bytes.now }
+    ensures { Appends out.old out.new (length bytes.now) bytes.now }
 {
     out.extend_from_slice(bytes).unwrap();
 }
@@ -18,8 +17,7 @@ pub fn text<A: Allocator>(out: &mut Vec<u8, A>, bytes: &[u8])
 /// Appends the number in decimal digits without leading zeros.
 pub fn number<A: Allocator>(out: &mut Vec<u8, A>, value: u64)
     requires { 20 ≤ spare_of out.old }
-    ensures spare { spare_of out.old ≤ spare_of out.new + 20 }
-    ensures items { out.new.items ≡ out.old.items ++ decimal value }
+    ensures { Appends out.old out.new 20 (decimal value) }
 {
     let mut digits = Buffer::new();
     text(out, digits.format(value).as_bytes());
@@ -28,8 +26,7 @@ pub fn number<A: Allocator>(out: &mut Vec<u8, A>, value: u64)
 /// Appends the permission bits in four octal digits.
 pub fn octal<A: Allocator>(out: &mut Vec<u8, A>, mode: u16)
     requires { 4 ≤ spare_of out.old }
-    ensures spare { spare_of out.old ≤ spare_of out.new + 4 }
-    ensures items { out.new.items ≡ out.old.items ++ octal_text mode }
+    ensures { Appends out.old out.new 4 (octal_text mode) }
 {
     let digit = |shift: u16| b'0' + (mode >> shift & 7) as u8;
     text(out, &[digit(9), digit(6), digit(3), digit(0)]);
@@ -38,8 +35,7 @@ pub fn octal<A: Allocator>(out: &mut Vec<u8, A>, mode: u16)
 /// Appends a space and the number.
 pub fn field<A: Allocator>(out: &mut Vec<u8, A>, value: u64)
     requires { 21 ≤ spare_of out.old }
-    ensures spare { spare_of out.old ≤ spare_of out.new + 21 }
-    ensures items { out.new.items ≡ out.old.items ++ field_text value }
+    ensures { Appends out.old out.new 21 (field_text value) }
 {
     text(out, b" ");
     number(out, value);
@@ -48,8 +44,7 @@ pub fn field<A: Allocator>(out: &mut Vec<u8, A>, value: u64)
 /// Appends 1 for true and 0 for false.
 pub fn flag<A: Allocator>(out: &mut Vec<u8, A>, value: bool)
     requires { 1 ≤ spare_of out.old }
-    ensures spare { spare_of out.old ≤ spare_of out.new + 1 }
-    ensures items { out.new.items ≡ out.old.items ++ flag_text value }
+    ensures { Appends out.old out.new 1 (flag_text value) }
 {
     text(out, if value { b"1" } else { b"0" });
 }
@@ -57,8 +52,7 @@ pub fn flag<A: Allocator>(out: &mut Vec<u8, A>, value: bool)
 /// Appends a name, and the number in brackets.
 pub fn numbered<A: Allocator>(out: &mut Vec<u8, A>, name: &[u8], value: u64)
     requires { length name.now + 22 ≤ spare_of out.old }
-    ensures spare { spare_of out.old ≤ spare_of out.new + (length name.now + 22) }
-    ensures items { out.new.items ≡ out.old.items ++ numbered_text name.now value }
+    ensures { Appends out.old out.new (length name.now + 22) (numbered_text name.now value) }
 {
     text(out, name);
     text(out, b"(");

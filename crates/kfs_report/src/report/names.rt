@@ -1,7 +1,7 @@
 //! The refusals by their names, with their numbers in brackets. The caller has made room for them.
 ghost use Rattle.std.specs.Prelude.{◌≡◌, ◌+◌, ◌≤◌, ◌++◌, length};
 ghost use Rattle.kfs_report.specs.Text.{fault_text, spell_text, row_text, reason_name, reason_text, lease_name, lease_text, client_text, begin_text};
-ghost use Rattle.kfs_value.specs.Room.{spare_of};
+ghost use Rattle.kfs_value.specs.Room.{Appends, spare_of};
 
 use kfs_entry::SpellFault;
 use kfs_judge::Reason;
@@ -15,8 +15,7 @@ use std::alloc::Allocator;
 /// Appends why a submission was refused.
 pub fn judgement_fault<A: Allocator>(out: &mut Vec<u8, A>, fault: Fault)
     requires { 90 ≤ spare_of out.old }
-    ensures spare { spare_of out.old ≤ spare_of out.new + 90 }
-    ensures items { out.new.items ≡ out.old.items ++ fault_text fault }
+    ensures { Appends out.old out.new 90 (fault_text fault) }
 {
     match fault {
         Fault::UnknownClient => text(out, b"client unknown"),
@@ -45,8 +44,7 @@ pub fn judgement_fault<A: Allocator>(out: &mut Vec<u8, A>, fault: Fault)
 /// Appends why bytes are no log or no plan.
 fn spell_fault<A: Allocator>(out: &mut Vec<u8, A>, fault: SpellFault)
     requires { 60 ≤ spare_of out.old }
-    ensures spare { spare_of out.old ≤ spare_of out.new + 60 }
-    ensures items { out.new.items ≡ out.old.items ++ spell_text fault }
+    ensures { Appends out.old out.new 60 (spell_text fault) }
 {
     match fault {
         SpellFault::BadHeader => text(out, b"BadHeader"),
@@ -66,8 +64,7 @@ fn spell_fault<A: Allocator>(out: &mut Vec<u8, A>, fault: SpellFault)
 /// Appends which row of a plan is wrong.
 fn row_fault<A: Allocator>(out: &mut Vec<u8, A>, fault: RowFault)
     requires { 60 ≤ spare_of out.old }
-    ensures spare { spare_of out.old ≤ spare_of out.new + 60 }
-    ensures items { out.new.items ≡ out.old.items ++ row_text fault }
+    ensures { Appends out.old out.new 60 (row_text fault) }
 {
     match fault {
         RowFault::Names(row) => numbered(out, b"Names", row as u64),
@@ -81,8 +78,7 @@ fn row_fault<A: Allocator>(out: &mut Vec<u8, A>, fault: RowFault)
 #[tactic(auto, using(crate::proofs::Texts::reason_without_number))]
 fn entry_reason<A: Allocator>(out: &mut Vec<u8, A>, reason: Reason)
     requires { 60 ≤ spare_of out.old }
-    ensures spare { spare_of out.old ≤ spare_of out.new + 60 }
-    ensures items { out.new.items ≡ out.old.items ++ reason_text reason }
+    ensures { Appends out.old out.new 60 (reason_text reason) }
 {
     let name = reason_name(reason);
     match reason {
@@ -118,8 +114,7 @@ fn reason_name(reason: Reason) -> &'static [u8]
 #[tactic(auto, using(crate::proofs::Texts::lease_without_number))]
 pub fn lease_fault<A: Allocator>(out: &mut Vec<u8, A>, fault: LeaseFault)
     requires { 60 ≤ spare_of out.old }
-    ensures spare { spare_of out.old ≤ spare_of out.new + 60 }
-    ensures items { out.new.items ≡ out.old.items ++ lease_text fault }
+    ensures { Appends out.old out.new 60 (lease_text fault) }
 {
     let name = lease_name(fault);
     match fault {
@@ -152,8 +147,7 @@ fn lease_name(fault: LeaseFault) -> &'static [u8]
 /// Appends why a client was refused.
 pub fn client_fault<A: Allocator>(out: &mut Vec<u8, A>, fault: ClientFault)
     requires { 60 ≤ spare_of out.old }
-    ensures spare { spare_of out.old ≤ spare_of out.new + 60 }
-    ensures items { out.new.items ≡ out.old.items ++ client_text fault }
+    ensures { Appends out.old out.new 60 (client_text fault) }
 {
     match fault {
         ClientFault::TooManyGroups => text(out, b"TooManyGroups"),
@@ -164,8 +158,7 @@ pub fn client_fault<A: Allocator>(out: &mut Vec<u8, A>, fault: ClientFault)
 /// Appends why the desk was not begun.
 pub fn begin_fault<A: Allocator>(out: &mut Vec<u8, A>, fault: BeginFault)
     requires { 60 ≤ spare_of out.old }
-    ensures spare { spare_of out.old ≤ spare_of out.new + 60 }
-    ensures items { out.new.items ≡ out.old.items ++ begin_text fault }
+    ensures { Appends out.old out.new 60 (begin_text fault) }
 {
     match fault {
         BeginFault::ClientTwice(client) => numbered(out, b"ClientTwice", client as u64),

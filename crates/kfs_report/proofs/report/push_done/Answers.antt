@@ -1,11 +1,20 @@
-use Rattle.std.proofs.Common.{append_assoc}
+use Rattle.std.proofs.Common.{append_assoc, arith}
 use Rattle.kfs_report.proofs.report.push_done.Goals as goal
 
-pub returns-in-Leased-clause-items : goal.returns-in-Leased-clause-items
-returns-in-Leased-clause-items g c = rw (c.in-Leased.is, c.number.ensures.items, c.from.ensures, c.text.ensures.items) (simp append_assoc)
+pub returns-in-Leased : goal.returns-in-Leased
+returns-in-Leased g c = record {
+  spare = omega (arith, c.text.ensures.spare, c.number.ensures.spare);
+  items = rw (c.in-Leased.is, c.number.ensures.items, c.from.ensures, c.text.ensures.items) (simp append_assoc);
+}
 
-pub returns-in-Dropped-clause-items : goal.returns-in-Dropped-clause-items
-returns-in-Dropped-clause-items g c = rw (c.in-Dropped.is, c.number-in-Dropped.ensures.items, c.from-in-Dropped.ensures, c.text-in-Dropped.ensures.items) (simp append_assoc)
+pub returns-in-Dropped : goal.returns-in-Dropped
+returns-in-Dropped g c = record {
+  spare = omega (arith, c.text-in-Dropped.ensures.spare, c.number-in-Dropped.ensures.spare);
+  items = rw (c.in-Dropped.is, c.number-in-Dropped.ensures.items, c.from-in-Dropped.ensures, c.text-in-Dropped.ensures.items) (simp append_assoc);
+}
 
-pub returns-in-Ticked-clause-items : goal.returns-in-Ticked-clause-items
-returns-in-Ticked-clause-items g c = rw (c.in-Ticked.is, c.number-in-Ticked.ensures.items, c.text-in-Ticked.ensures.items) (simp append_assoc)
+pub returns-in-Ticked : goal.returns-in-Ticked
+returns-in-Ticked g c = record {
+  spare = omega (arith, c.text-in-Ticked.ensures.spare, c.number-in-Ticked.ensures.spare);
+  items = rw (c.in-Ticked.is, c.number-in-Ticked.ensures.items, c.text-in-Ticked.ensures.items) (simp append_assoc);
+}

@@ -1,5 +1,8 @@
-use Rattle.std.proofs.Common.{append_assoc}
+use Rattle.std.proofs.Common.{append_assoc, arith}
 use Rattle.kfs_report.proofs.report.push_head.Goals as goal
 
-pub returns-clause-items : goal.returns-clause-items
-returns-clause-items g c = rw (c.flag.ensures.items, c.text.ensures.items, c.number.ensures.items, c.from.ensures) (simp append_assoc)
+pub returns : goal.returns
+returns g c = record {
+  spare = omega (arith, c.number.ensures.spare, c.text.ensures.spare, c.flag.ensures.spare);
+  items = rw (c.flag.ensures.items, c.text.ensures.items, c.number.ensures.items, c.from.ensures) (simp append_assoc);
+}

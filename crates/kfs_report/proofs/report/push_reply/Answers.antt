@@ -1,5 +1,8 @@
-use Rattle.std.proofs.Common.{append_assoc}
+use Rattle.std.proofs.Common.{append_assoc, arith}
 use Rattle.kfs_report.proofs.report.push_reply.Goals as goal
 
-pub returns-in-Yes-clause-items : goal.returns-in-Yes-clause-items
-returns-in-Yes-clause-items g c = rw (c.in-Yes.is, c.number.ensures.items, c.text.ensures.items, c.push_head.ensures.items) (simp append_assoc)
+pub returns-in-Yes : goal.returns-in-Yes
+returns-in-Yes g c = record {
+  spare = omega (arith, c.push_head.ensures.spare, c.text.ensures.spare, c.number.ensures.spare);
+  items = rw (c.in-Yes.is, c.number.ensures.items, c.text.ensures.items, c.push_head.ensures.items) (simp append_assoc);
+}

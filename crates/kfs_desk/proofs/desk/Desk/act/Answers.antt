@@ -22,8 +22,8 @@ invariant_of-self-2 g c =
     let within : c.in_ok-position.position + 1 ≤ inside.limit = omega arith in
     step_in_order c.args.act c.in_ok-answer.answer c.change.new.leases.value desk c.self.invariant step (c.in_ok-position.position + 1) within
 
-pub returns-clause-done : goal.returns-clause-done
-returns-clause-done g c =
+pub returns : goal.returns
+returns g c =
     let inside = c.self.inside in
     let desk : Parts = record { image = inside.image; clients = inside.clients.value.items; leases = inside.leases.value; rows = inside.rows; limit = inside.limit } in
     let act = c.args.act in
@@ -32,8 +32,12 @@ returns-clause-done g c =
     let step = act_is_step act c.in_ok-answer.answer c.change.new.leases.value desk c.shape-shape.ensures.lawful c.deref.result.now c.deref-3.result.now contents clients c.in_ok-answer.ensures.ok in
     let position = c.in_ok-position.ensures.row.0 in
     record {
-      step = subst (λ (d : Desk). IsLeaseStep d.state (call_of act) (done_by act) c.in_ok-answer.answer (state_of (record desk { leases = c.change.new.leases.value; rows = c.in_ok-position.position + 1 }))) c.self.view_is step;
-      position = position;
-      rows = ap (λ n. n + 1) position;
-      limit = ap (λ (d : Desk). d.limit) c.self.view_is;
+      full = (λ refused. cc, λ at_limit. let never : ⊥ = omega (arith, at_limit, position, c.in_ok-position.ensures.row.1) in absurd never);
+      done = record {
+        step = subst (λ (d : Desk). IsLeaseStep d.state (call_of act) (done_by act) c.in_ok-answer.answer (state_of (record desk { leases = c.change.new.leases.value; rows = c.in_ok-position.position + 1 }))) c.self.view_is step;
+        position = position;
+        rows = ap (λ n. n + 1) position;
+        limit = ap (λ (d : Desk). d.limit) c.self.view_is;
+      };
+      err = tt;
     }
