@@ -16,6 +16,7 @@ use Rattle.kfs_entry.specs.Answers.{plan_of}
 use Rattle.kfs_value.specs.Views.{name_row_of, node_row_of}
 use Rattle.kfs_value.specs.declared.plan.Plan.{Plan as CodePlan}
 use Rattle.kfs_image.specs.declared.shape.Net.{Net}
+use Rattle.kfs_sweep.specs.declared.sizes.FileSize.{FileSize}
 use Rattle.kfs_plan.specs.declared.rows.RowFault.{RowFault as CodeRowFault}
 use Rattle.kfs_judge.specs.declared.walk.EntryFault.{EntryFault as CodeEntryFault}
 use Rattle.kfs_plan.specs.KeptBytes.{keeps_bytes}
@@ -54,9 +55,9 @@ module _ {A : Type 0} (client : Client) (before : ClientSight) (tree : Tree ℕ)
   is_checked result told = record { after = beside.marked_after; ran = beside.ran; told = tells_wrong result told }
 
 -- a walk that ends, and what is told of its net
-pub walk_is_checked : {A : Type 0} (client : Client) (held : ℕ → Bool) (tree : Tree ℕ) (entries : List Entry) (outcome : Result (Net A) CodeEntryFault) (net : Net A) (plan : CodePlan A) (result : Result ℕ CodeRowFault)
-    → list_all keeps_bytes entries ≡ true → outcome ≡ Ok net → ComesToTree client held tree entries outcome → TellsRow (first_unlike net plan) 0 result → IsChecked client (client_sight tree held) tree entries plan result
-walk_is_checked client held tree entries outcome net plan result are is comes told =
-    let end = subst (ComesToTree client held tree entries) is comes in
+pub walk_is_checked : {A : Type 0} (client : Client) (held : ℕ → Bool) (tree : Tree ℕ) (entries : List Entry) (outcome : Result (Net A) CodeEntryFault) (sizes : List FileSize) (net : Net A) (plan : CodePlan A) (result : Result ℕ CodeRowFault)
+    → list_all keeps_bytes entries ≡ true → outcome ≡ Ok net → ComesToTree client held tree entries outcome sizes → TellsRow (first_unlike net plan) 0 result → IsChecked client (client_sight tree held) tree entries plan result
+walk_is_checked client held tree entries outcome sizes net plan result are is comes told =
+    let end = subst (λ o. ComesToTree client held tree entries o sizes) is comes in
     let before = client_sight tree held in
     is_checked client before tree entries end.0 net plan (ends_beside client before tree entries are end.0 end.1) end.4 result told

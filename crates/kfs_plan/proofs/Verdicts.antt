@@ -23,6 +23,7 @@ use Rattle.kfs_value.specs.declared.plan.Plan.{Plan as CodePlan}
 use Rattle.kfs_entry.specs.declared.fault.SpellFault.{SpellFault}
 use Rattle.kfs_entry.specs.declared.fault.SpellFault.TheVariants as spelling
 use Rattle.kfs_image.specs.declared.shape.Net.{Net}
+use Rattle.kfs_sweep.specs.declared.sizes.FileSize.{FileSize}
 use Rattle.kfs_plan.specs.declared.rows.RowFault.{RowFault as CodeRowFault}
 use Rattle.kfs_plan.specs.declared.submission.Fault.{Fault as CodeFault}
 use Rattle.kfs_plan.specs.declared.submission.Fault.TheVariants as faults
@@ -146,12 +147,12 @@ module _ (A : Type 0) (s : State) (submission : Submission) where
       abbrev the_log : Log
       the_log = log_of submission.log log
 
-      bad_entry : (fault : CodeEntryFault) → ComesToTree {A = A} client (holds s.leases submission.client) s.tree the_log.entries (Err fault) → IsVerdict {A = A} s submission (outcomes.No (faults.Entry fault))
-      bad_entry fault comes =
+      bad_entry : (fault : CodeEntryFault) (sizes : List FileSize) → ComesToTree {A = A} client (holds s.leases submission.client) s.tree the_log.entries (Err fault) sizes → IsVerdict {A = A} s submission (outcomes.No (faults.Entry fault))
+      bad_entry fault sizes comes =
           refused (faults.Entry fault) (AtEntry (fault_of fault)) (Ok the_log) (Ok (plan_of plan)) spelled.log_read spelled.plan_read
           (judged-entry s submission.client client row the_log (plan_of plan) spelled.owner (fault_of fault) (ap (λ before. run over_bytes client before s.tree the_log.entries) (sym sights) ∙ comes)) refl
 
-      module _ (net : Net A) (comes : ComesToTree client (holds s.leases submission.client) s.tree the_log.entries (Ok net)) where
+      module _ (net : Net A) (sizes : List FileSize) (comes : ComesToTree client (holds s.leases submission.client) s.tree the_log.entries (Ok net) sizes) where
         ends : EndsBeside client (client_sight_of s client.number) s.tree the_log.entries comes.0
         ends = ends_beside client (client_sight_of s client.number) s.tree the_log.entries (all_kept submission.log log.entries spelled.kept) comes.0 (ap (λ before. run over_bytes client before s.tree the_log.entries) (sym sights) ∙ comes.1)
 
@@ -191,18 +192,18 @@ module _ (A : Type 0) (s : State) (submission : Submission) where
           };
         }
 
-      pub settled : (walked : Result (Net A) CodeEntryFault) (outcome : Outcome A) → ComesToTree client (holds s.leases submission.client) s.tree the_log.entries walked → IsSettled log plan walked outcome → IsVerdict s submission outcome
-      settled (Err fault) (outcomes.No refusal) comes is = subst (λ (f : CodeFault). IsVerdict {A = A} s submission (outcomes.No f)) (sym is) (bad_entry fault comes)
-      settled (Err fault) (outcomes.Yes l p n told) comes is = absurd is
-      settled (Ok net) (outcomes.No (faults.Row fault)) comes is = bad_row net comes fault is.0 is.1 is.2
-      settled (Ok net) (outcomes.No faults.UnknownClient) comes is = absurd is
-      settled (Ok net) (outcomes.No (faults.BadLog fault)) comes is = absurd is
-      settled (Ok net) (outcomes.No faults.WrongClient) comes is = absurd is
-      settled (Ok net) (outcomes.No (faults.BadPlan fault)) comes is = absurd is
-      settled (Ok net) (outcomes.No (faults.Entry fault)) comes is = absurd is
-      settled (Ok net) (outcomes.Yes l p n told) comes is =
+      pub settled : (walked : Result (Net A) CodeEntryFault) (sizes : List FileSize) (outcome : Outcome A) → ComesToTree client (holds s.leases submission.client) s.tree the_log.entries walked sizes → IsSettled log plan walked outcome → IsVerdict s submission outcome
+      settled (Err fault) sizes (outcomes.No refusal) comes is = subst (λ (f : CodeFault). IsVerdict {A = A} s submission (outcomes.No f)) (sym is) (bad_entry fault sizes comes)
+      settled (Err fault) sizes (outcomes.Yes l p n told) comes is = absurd is
+      settled (Ok net) sizes (outcomes.No (faults.Row fault)) comes is = bad_row net sizes comes fault is.0 is.1 is.2
+      settled (Ok net) sizes (outcomes.No faults.UnknownClient) comes is = absurd is
+      settled (Ok net) sizes (outcomes.No (faults.BadLog fault)) comes is = absurd is
+      settled (Ok net) sizes (outcomes.No faults.WrongClient) comes is = absurd is
+      settled (Ok net) sizes (outcomes.No (faults.BadPlan fault)) comes is = absurd is
+      settled (Ok net) sizes (outcomes.No (faults.Entry fault)) comes is = absurd is
+      settled (Ok net) sizes (outcomes.Yes l p n told) comes is =
           let same : outcomes.Yes log plan net told ≡ outcomes.Yes l p n told = λ i. outcomes.Yes (sym is.0 i) (sym is.1 i) (sym is.2 i) told in
-          subst (λ (o : Outcome A). IsVerdict s submission o) same (right net comes told is.3 is.4)
+          subst (λ (o : Outcome A). IsVerdict s submission o) same (right net sizes comes told is.3 is.4)
 
 -- a finding on a log that was walked
 pub walked_verdict : (A : Type 0) (s : State) (submission : Submission) (client : Client) (found : Option Client) (log : CodeLog A) (plan : CodePlan A) (walk : Walk A) (reads : List (Read × ReadAnswer)) (outcome : Outcome A)
@@ -211,7 +212,7 @@ pub walked_verdict : (A : Type 0) (s : State) (submission : Submission) (client 
 walked_verdict A s submission client found log plan walk reads outcome spelled in_range is same_reads walks is_settled alike =
     let agrees = subst (λ es. Agrees es (client_sight_of s submission.client)) same_reads alike.agrees in
     let fits : Fits client s.tree (log_of submission.log log).entries = record { in_range = in_range; sound = alike.sound; fitting = spelled.log_read.0.1 } in
-    settled A s submission client (alike.row ∙ is) log plan spelled walk.outcome outcome (walks submission.log (kept_are_within (length submission.log) log.entries spelled.kept) s.tree (holds s.leases submission.client) fits agrees) is_settled
+    settled A s submission client (alike.row ∙ is) log plan spelled walk.outcome walk.sizes.items outcome (walks submission.log (kept_are_within (length submission.log) log.entries spelled.kept) s.tree (holds s.leases submission.client) fits agrees) is_settled
 
 -- any state agrees with no reads
 pub nothing_read : {A : Type 0} (view : View A) (number : ℕ) (reads : List (Read × ReadAnswer)) → reads ≡ [] → Agrees reads (client_sight_in view number)

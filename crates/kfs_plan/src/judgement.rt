@@ -115,7 +115,7 @@ fn settle<A: Allocator + Copy>(
     ensures outcome { IfOk result (λ f. IsSettled log plan walk.outcome f.outcome) }
     ensures memory { IfErr result (λ why. why ≡ Why.OutOfMemory) }
 {
-    let Walk { reads, outcome } = walk;
+    let Walk { reads, outcome, .. } = walk;
     let outcome = match outcome {
         Err(fault) => Outcome::No(Fault::Entry(fault)),
         Ok(net) => match check_rows(&net, &plan) {
