@@ -1,6 +1,5 @@
 -- The headers of a draft, number by number, are sizes of all files that entries changed or reached.
 use Rattle.std.specs.Prelude.{◌≡◌, ℕ, ◌+◌, ◌<◌, ◌≤◌, ◌==◌, nat_lt, min, Bool, true, false, cond, List, [], ◌∷◌, ◌++◌, map, Option, Some, None, IsTrue, unwrap_or, refl}
-use Rattle.std.specs.declared.cmp.Ordering.{Ordering}
 use Rattle.std.specs.declared.cmp.Ordering.TheVariants.{Less, Equal, Greater}
 use Rattle.std.specs.BTreeMap.{get, is_at}
 use Rattle.std.specs.Cmp.{unsigned_tied}
@@ -68,6 +67,11 @@ numbers_more sizes pushed size e left rest all is_pushed is own so_far =
 pub numbers_all : (sizes : List FileSize) (left : List (ℕ × Option CodeHeader)) (all : List ℕ) → left ≡ [] → map (λ (s : FileSize). s.number) sizes ++ keys_left left ≡ all → map (λ (s : FileSize). s.number) sizes ≡ all
 numbers_all sizes left all none so_far = sym (append-nil (map (λ (s : FileSize). s.number) sizes)) ∙ ap (λ es. map (λ (s : FileSize). s.number) sizes ++ keys_left es) (sym none) ∙ so_far
 
+-- ---- sizes
+
+abbrev size_said : Option Header → ℕ
+size_said header = elim header [ None ↦ 0 | Some h ↦ h.size ]
+
 module _ {A : Type 0} (draft : Draft A) (s : Sight) where
   -- the sizes that a number had and has
   abbrev pub IsOwnSize : FileSize → Type 0
@@ -89,7 +93,7 @@ module _ {A : Type 0} (draft : Draft A) (s : Sight) where
       at : (there : Option (Option CodeHeader)) → get nat_cmp draft.heads n ≡ there → is_some (get nat_cmp draft.heads n) ≡ true
       at (Some now) is = ap is_some is
       at None is =
-          let same : size_in (over draft s) n ≡ size_in s n = ap (λ h. elim (unwrap_or (option_map (option_map header_of) h) (s.head n)) [ None ↦ 0 | Some (header : Header) ↦ header.size ]) is in
+          let same : size_in (over draft s) n ≡ size_in s n = ap (λ h. size_said (unwrap_or (option_map (option_map header_of) h) (s.head n))) is in
           absurd (omega (arith, same, grew))
 
   pub sizes_are_over : (sizes : List FileSize) → map (λ (s : FileSize). s.number) sizes ≡ keys_left draft.heads.entries → AllByRecursion IsOwnSize sizes → AreSizesOver draft s sizes

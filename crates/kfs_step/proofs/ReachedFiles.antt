@@ -1,7 +1,6 @@
 -- Entries one after another: the draft has the file of each that was entered.
 use Rattle.std.specs.Prelude.{◌≡◌, ℕ, ◌||◌, Bool, true, false, List, [], ◌∷◌, IsTrue, refl}
 use Rattle.std.specs.List.{list_any}
-use Rattle.std.proofs.Common.{ap, sym, ◌∙◌}
 use Rattle.std.proofs.lemmas.Bool.{or_left, or_right}
 use Rattle.kfs_model.specs.Entry.{Entry}
 use Rattle.kfs_draft.specs.declared.draft.Draft.{Draft}
