@@ -9,6 +9,7 @@ use Rattle.kfs_step.specs.declared.log_judge.LogJudge.{LogJudge}
 use Rattle.kfs_judge.specs.declared.walk.EntryFault.{EntryFault}
 use Rattle.kfs_draft.specs.Overlay.{IsWritten}
 use Rattle.kfs_check.specs.Recorders.{Known, ReadsAt}
+use Rattle.kfs_step.specs.FileSizes.{HasFilesOf}
 use Rattle.kfs_judge.specs.Walks.{EndsAt}
 
 -- the payloads' spans lie in the source
@@ -20,6 +21,10 @@ module _ {A : Type 0} (old new : LogJudge A) (entries : List (CodeEntry Span)) w
   -- the run over the cells stops at this fault, or ends at what the draft shows
   abbrev pub StopsAt : Option EntryFault → Type 0
   StopsAt fault = Known new.recorder (λ before. (source : List ℕ) → AreWithin source entries → EndsAt old.client.now new.draft before (map (entry_of source) entries) fault)
+
+  -- the draft has the file of each entry that reaches one
+  abbrev pub HasTheirFiles : Type 0
+  HasTheirFiles = (source : List ℕ) → AreWithin source entries → HasFilesOf new.draft (map (entry_of source) entries)
 
   abbrev pub ReadsTheirCells : Type 0
   ReadsTheirCells = Known new.recorder (λ before. (source : List ℕ) → AreWithin source entries → ReadsAt old.recorder new.recorder (looked_cells old.client.now before (map (entry_of source) entries)))
