@@ -1,8 +1,7 @@
 -- The entries of a log that was read are in the ranges of the log format.
-use Rattle.std.proofs.Common.{◌≡◌, ℕ, ◌+◌, ◌-◌, ◌≤◌, List, [], ◌∷◌, length, map, drop, length-drop, sym, subst, arith}
+use Rattle.std.proofs.Common.{◌≡◌, ℕ, ◌+◌, ◌-◌, ◌≤◌, List, [], ◌∷◌, length, map, drop, length-drop, subst, arith}
 use Rattle.std.specs.List.{AllByRecursion}
 use Rattle.std.proofs.lemmas.List.{length-map, length-take-le}
-use Rattle.kfs_model.specs.Entry.{Log}
 use Rattle.kfs_model.specs.Limits.{entry_limit, payload_limit}
 use Rattle.kfs_model.specs.Spelling.{IsEntry, IsLog}
 use Rattle.kfs_entry.specs.Answers.{SpansAreWithin, log_of}

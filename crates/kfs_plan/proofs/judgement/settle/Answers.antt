@@ -2,7 +2,6 @@
 use Rattle.std.proofs.Common.{rules, Ok, Err, refl, sym, subst}
 use Rattle.kfs_plan.specs.Judging.{IsSettled}
 use Rattle.kfs_plan.specs.PlanCheck.{TellsOfEachRun}
-use Rattle.kfs_plan.specs.declared.rows.RowFault.TheVariants as rows
 use Rattle.kfs_plan.proofs.judgement.settle.Goals.{in-Err, in-Ok+in-Ok-check_rows, in-Ok+in-Err-check_rows}
 use Rattle.kfs_plan.proofs.judgement.settle.Goals as goal
 
