@@ -16,15 +16,15 @@ use Rattle.kfs_judge.specs.Walks.{EndsAt}
 abbrev pub AreWithin : List ℕ → List (CodeEntry Span) → Type 0
 AreWithin source entries = AllByRecursion (IsWithin (length source)) entries
 
+-- the judge's draft has each file that the entries reach
+abbrev pub HasTheirFiles : {A : Type 0} → LogJudge A → List (CodeEntry Span) → Type 0
+HasTheirFiles judge entries = (source : List ℕ) → AreWithin source entries → HasFilesOf judge.draft (map (entry_of source) entries)
+
 -- entries, from a judge that has entered none
 module _ {A : Type 0} (old new : LogJudge A) (entries : List (CodeEntry Span)) where
   -- the run over the cells stops at this fault, or ends at what the draft shows
   abbrev pub StopsAt : Option EntryFault → Type 0
   StopsAt fault = Known new.recorder (λ before. (source : List ℕ) → AreWithin source entries → EndsAt old.client.now new.draft before (map (entry_of source) entries) fault)
-
-  -- the draft has the file of each entry that reaches one
-  abbrev pub HasTheirFiles : Type 0
-  HasTheirFiles = (source : List ℕ) → AreWithin source entries → HasFilesOf new.draft (map (entry_of source) entries)
 
   abbrev pub ReadsTheirCells : Type 0
   ReadsTheirCells = Known new.recorder (λ before. (source : List ℕ) → AreWithin source entries → ReadsAt old.recorder new.recorder (looked_cells old.client.now before (map (entry_of source) entries)))

@@ -106,7 +106,7 @@ fn enter_all<A: Allocator + Copy>(
     ensures known { IfOk result (StopsAt judge.old judge.new entries.now) }
     ensures among { OnOk result (ReadsTheirCells judge.old judge.new entries.now) }
     ensures written { result ≡ Ok None → WritesTheirCells judge.old judge.new entries.now }
-    ensures reached { result ≡ Ok None → HasTheirFiles judge.old judge.new entries.now }
+    ensures reached { result ≡ Ok None → HasTheirFiles judge.new entries.now }
 {
     for (index, entry) in entries.iter().enumerate() {
         if let Some(reason) = judge.enter(entry)? {

@@ -12,7 +12,8 @@ use Rattle.kfs_draft.specs.Overlay.{has_header, IsWritten, KeepsHeaders, ShiftsB
 use Rattle.kfs_draft.specs.declared.draft.Draft.{Draft}
 use Rattle.kfs_draft.proofs.Overlays.{shifts_wider}
 use Rattle.kfs_step.specs.declared.log_judge.LogJudge.{LogJudge}
-use Rattle.kfs_step.specs.Entered.{CreatesItsNumber, HasItsFile, IsEntered, IsFirstFault, ReadsItsCells, ShowsItsChange, next_context}
+use Rattle.kfs_step.specs.Entered.{CreatesItsNumber, IsEntered, IsFirstFault, ReadsItsCells, ShowsItsChange, next_context}
+use Rattle.kfs_step.specs.FileSizes.{HasFileOf}
 use Rattle.kfs_check.specs.declared.reads.Recorder.{Recorder}
 use Rattle.kfs_check.specs.Reads.{IsPart}
 use Rattle.kfs_check.specs.Recorders.{GoesOn, Known, ReadsAt}
@@ -40,7 +41,7 @@ module _ {A : Type 0} (old new : LogJudge A) (then : Recorder A) (entry : Entry)
       → ((among : List Cell) → IsWritten old.draft among → Contains among (HeaderOf n) → IsWritten new.draft among)
       → CreatesItsNumber old new entry
       → KeepsHeaders old.draft new.draft
-      → HasItsFile old new entry
+      → HasFileOf new.draft entry
       → ((most : ℕ) → ShiftsBy most old.draft → ShiftsBy most new.draft)
       → IsEntered old new entry (Ok None)
   header_is_set clean read read_header part shown writes created kept reached shifts = record {

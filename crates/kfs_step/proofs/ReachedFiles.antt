@@ -5,7 +5,7 @@ use Rattle.std.proofs.lemmas.Bool.{or_left, or_right}
 use Rattle.kfs_model.specs.Entry.{Entry}
 use Rattle.kfs_draft.specs.declared.draft.Draft.{Draft}
 use Rattle.kfs_draft.specs.Overlay.{has_header, KeepsHeaders}
-use Rattle.kfs_step.specs.FileSizes.{HasFilesOf}
+use Rattle.kfs_step.specs.FileSizes.{HasFileOf, HasFilesOf}
 use Rattle.kfs_sweep.specs.Sizes.{reaches_file}
 
 module _ {A : Type 0} where
@@ -16,7 +16,7 @@ module _ {A : Type 0} where
   pub reaches_first : (draft : Draft A) (entries : List Entry) → ReachesOn draft entries entries
   reaches_first draft entries n is = or_right (has_header draft n) (list_any (reaches_file n) entries) is
 
-  pub reaches_next : (old new : Draft A) (entry : Entry) (entries rest : List Entry) → ReachesOn old entries (entry ∷ rest) → KeepsHeaders old new → ((n : ℕ) → IsTrue (reaches_file n entry) → IsTrue (has_header new n)) → ReachesOn new entries rest
+  pub reaches_next : (old new : Draft A) (entry : Entry) (entries rest : List Entry) → ReachesOn old entries (entry ∷ rest) → KeepsHeaders old new → HasFileOf new entry → ReachesOn new entries rest
   reaches_next old new entry entries rest on kept reached n is = at (has_header old n) refl (reaches_file n entry) refl (on n is)
     where
       at : (had : Bool) → has_header old n ≡ had → (own : Bool) → reaches_file n entry ≡ own → IsTrue (had || (own || list_any (reaches_file n) rest)) → IsTrue (has_header new n || list_any (reaches_file n) rest)

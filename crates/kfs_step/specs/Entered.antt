@@ -1,5 +1,5 @@
 -- What a log's judge has made of an entry, and of entries one after another.
-use Rattle.std.specs.Prelude.{◌≡◌, ◌==◌, ℕ, List, ◌∷◌, [], ◌+◌, Contains, if◌then◌else◌, ◌++◌, Option, Some, None, Result, Ok, IfOk, OnOk, IsTrue}
+use Rattle.std.specs.Prelude.{◌≡◌, ◌==◌, ℕ, List, ◌∷◌, [], ◌+◌, Contains, if◌then◌else◌, ◌++◌, Option, Some, None, Result, Ok, IfOk, OnOk}
 use Rattle.std.specs.Option.{option_map}
 use Rattle.std.specs.declared.alloc.AllocError.{AllocError}
 use Rattle.kfs_model.specs.Entry.{Entry}
@@ -9,9 +9,9 @@ use Rattle.kfs_model.specs.Run.{created_by}
 use Rattle.kfs_model.specs.SeenAfter.{seen_after, seen_renamed, seen_unlinked}
 use Rattle.kfs_check.specs.declared.check.Reason.{Reason}
 use Rattle.kfs_step.specs.declared.log_judge.LogJudge.{LogJudge}
-use Rattle.kfs_sweep.specs.Sizes.{reaches_file}
+use Rattle.kfs_step.specs.FileSizes.{HasFileOf}
 use Rattle.kfs_check.specs.Checks.{reason_of}
-use Rattle.kfs_draft.specs.Overlay.{over, entry_context_of, has_header, AreCreated, IsWritten, KeepsHeaders, ShiftsBy}
+use Rattle.kfs_draft.specs.Overlay.{over, entry_context_of, AreCreated, IsWritten, KeepsHeaders, ShiftsBy}
 use Rattle.kfs_check.specs.Reads.{IsPart}
 use Rattle.kfs_check.specs.Recorders.{GoesOn, Known, ReadsAt}
 
@@ -45,22 +45,18 @@ module _ {A : Type 0} (old new : LogJudge A) (entry : Entry) where
   abbrev pub WritesItsCells : Type 0
   WritesItsCells = Known new.recorder (λ before. (among : List Cell) → IsWritten old.draft among → IsWritten new.draft (entry_cells (next_context old before) entry ++ among))
 
-  -- the draft has the header of the file that the entry reaches
-  abbrev pub HasItsFile : Type 0
-  HasItsFile = (n : ℕ) → IsTrue (reaches_file n entry) → IsTrue (has_header new.draft n)
-
   abbrev pub CreatesItsNumber : Type 0
   CreatesItsNumber = (numbers : List ℕ) → AreCreated old.draft numbers → AreCreated new.draft (created_by entry numbers)
 
 -- an entry, the judge before it and behind it, and what is answered
 module _ {A : Type 0} (old new : LogJudge A) (entry : Entry) where
-  -- the draft has the entry's change, all of it at cells that were looked at
+  -- the draft has the entry's change, all of it at cells that were looked at, and the file that the entry reaches
   pub record MakesItsChange : Type 0 where
     pub shown : ShowsItsChange old new entry
     pub written : WritesItsCells old new entry
     pub created : CreatesItsNumber old new entry
     pub kept : KeepsHeaders old.draft new.draft
-    pub reached : HasItsFile old new entry
+    pub reached : HasFileOf new.draft entry
     pub shifts : (most : ℕ) → ShiftsBy most old.draft → ShiftsBy (most + 3) new.draft
 
   -- the reason is the entry's first fault; where there is none, its change is made

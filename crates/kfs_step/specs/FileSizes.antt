@@ -9,7 +9,11 @@ use Rattle.kfs_sweep.specs.declared.sizes.FileSize.{FileSize}
 use Rattle.kfs_sweep.specs.Sizes.{AreSizesBetween, reaches_file}
 
 module _ {A : Type 0} (draft : Draft A) where
-  -- the draft has the header of each file that an entry reaches
+  -- the draft has the header of the file that the entry reaches
+  abbrev pub HasFileOf : Entry → Type 0
+  HasFileOf entry = (n : ℕ) → IsTrue (reaches_file n entry) → IsTrue (has_header draft n)
+
+  -- and of each file that one of the entries reaches
   abbrev pub HasFilesOf : List Entry → Type 0
   HasFilesOf entries = (n : ℕ) → IsTrue (list_any (reaches_file n) entries) → IsTrue (has_header draft n)
 
