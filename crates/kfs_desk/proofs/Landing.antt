@@ -1,6 +1,6 @@
 -- What a verdict comes to at the desk is the machine's step.
 use Rattle.std.proofs.Common.{◌≡◌, ◌≢◌, ℕ, ◌+◌, ◌≤◌, ◌==◌, ◌&&◌, ◌||◌, not, Bool, true, false, cond, T, List, [], ◌∷◌, map, length, replicate, Option, Some, None, option_map, is_some, Result, Ok, refl, sym, ap, subst, ◌∙◌, arith, eqb-true}
-use Rattle.std.specs.Prelude.{nat_lt, zip, is_none}
+use Rattle.std.specs.Prelude.{All, nat_lt, zip, is_none}
 use Rattle.std.specs.List.{list_all, list_any}
 use Rattle.std.proofs.lemmas.Bool.{and_parts, and_from, both_ways, false_from_ne_true, eq-eqb, le-ltb}
 use Rattle.kfs_model.specs.Header.{Header}
@@ -34,19 +34,19 @@ use Rattle.kfs_image.specs.ShownTree.{tree_of, IsLawful}
 use Rattle.kfs_image.proofs.BlankTrees.{IsBlank, blank_is_shown, blank_is_lawful, shown_zero}
 use Rattle.kfs_image.specs.Contents.{contents_in}
 use Rattle.kfs_image.proofs.NetTables.{net_makes}
-use Rattle.kfs_plan.specs.KeptBytes.{keeps_bytes}
+use Rattle.kfs_plan.specs.KeptBytes.{KeepsBytes, keeps_bytes}
 use Rattle.kfs_step.specs.Rows.{keyed_node_row}
-use Rattle.kfs_plan.specs.Judging.{IsVerdict, Tells, TellsYes}
+use Rattle.kfs_plan.specs.Judging.{HasOtherEntry, IsVerdict, Tells, TellsYes}
 use Rattle.kfs_plan.specs.declared.submission.Outcome.{Outcome}
 use Rattle.kfs_plan.specs.declared.submission.Outcome.TheVariants as outcomes
-use Rattle.kfs_plan.proofs.MarkedRuns.{IsUntouched, ends_beside}
-use Rattle.kfs_plan.proofs.Untouched.{need-untouched}
-use Rattle.kfs_plan.proofs.KeptBytes.{all_kept}
+use Rattle.kfs_plan.proofs.KeptBytes.{all_kept, not_all_kept}
 use Rattle.kfs_plan.specs.declared.submission.Fault.{Fault}
 use Rattle.kfs_plan.specs.declared.answers.Reply.{Reply}
 use Rattle.kfs_plan.specs.declared.answers.Reply.TheVariants as replies
 use Rattle.kfs_desk.specs.Docket.{is_rejudged, position_of}
-use Rattle.kfs_desk.specs.Landing.{CanLand, answer_at, ended_by, ended_with, image_after, leases_left}
+use Rattle.kfs_desk.proofs.Untouched.{IsUntouched, all-untouched}
+use Rattle.kfs_desk.proofs.UntouchedBlocks.{need-untouched}
+use Rattle.kfs_desk.specs.Landing.{CanLand, KeepsAll, answer_at, ended_by, ended_with, image_after, leases_left}
 use Rattle.kfs_desk.specs.Machine.{Parts, IsDesk, IsAnswered, IsStep, IsDone, Means, shown, state_of}
 
 -- ---- leases on nodes that go
@@ -121,7 +121,7 @@ module _ (desk : Parts) (is_desk : IsDesk desk) (lawful : IsLawful desk.image.co
   abbrev s : State
   s = state_of desk
 
-  module _ {A : Type 0} (log : CodeLog A) (plan : CodePlan A) (net : Net A) (told : ℕ) (after : Tree ℕ) (marked_after : Tree Mark) (yes : TellsYes s submission log plan net told after marked_after) where
+  module _ {A : Type 0} (log : CodeLog A) (plan : CodePlan A) (net : Net A) (told : ℕ) (after : Tree ℕ) (marked_after : Tree Mark) (yes : TellsYes s submission log plan net told after marked_after) (kept : All KeepsBytes log.entries) where
     abbrev entries : List Entry
     entries = map (entry_of submission.log) log.entries
 
@@ -129,13 +129,10 @@ module _ (desk : Parts) (is_desk : IsDesk desk) (lawful : IsLawful desk.image.co
     sight_before = client_sight_of s yes.client.number
 
     are_kept : list_all keeps_bytes entries ≡ true
-    are_kept = all_kept submission.log log.entries yes.spelled.kept
+    are_kept = all_kept submission.log log.entries kept
 
     untouched : IsUntouched marked_after
-    untouched =
-        let beside = ends_beside yes.client sight_before s.tree entries are_kept after yes.comes.ran in
-        let same : beside.marked_after ≡ marked_after = cc (beside.ran, yes.comes.ran_marked) in
-        subst IsUntouched same beside.untouched
+    untouched = all-untouched yes.client sight_before s.tree entries are_kept marked_after yes.comes.ran_marked
 
     no_need : need marked_after ≡ 0
     no_need = need-untouched marked_after untouched
@@ -273,21 +270,21 @@ module _ (desk : Parts) (is_desk : IsDesk desk) (lawful : IsLawful desk.image.co
   -- ---- any verdict
 
   module _ {A : Type 0} where
-    pub can_land : (outcome : Outcome A) → IsVerdict s submission outcome → CanLand desk.image outcome
-    can_land (outcomes.No fault) is = tt
-    can_land (outcomes.Yes log plan net told) is = by is.verdict is.told
+    pub can_land : (outcome : Outcome A) → IsVerdict s submission outcome → KeepsAll outcome → CanLand desk.image outcome
+    can_land (outcomes.No fault) is kept = tt
+    can_land (outcomes.Yes log plan net told) is kept = by is.verdict is.told
       where
         by : (verdict : Verdict) → Tells s submission (outcomes.Yes log plan net told) verdict → CanLand desk.image (outcomes.Yes log plan net told)
-        by (Yes after marked_after) told_so = lawful_after log plan net told after marked_after told_so
+        by (Yes after marked_after) told_so = lawful_after log plan net told after marked_after told_so kept
         by (No refusal) told_so = absurd told_so
 
     -- the desk where the outcome has landed
     abbrev pub desk_after : Outcome A → (rows : ℕ) → Parts
     desk_after outcome rows = record desk { image = image_after desk.image outcome; leases = leases_left desk.leases outcome; rows = rows }
 
-    lands_as_step : (outcome : Outcome A) → IsVerdict s submission outcome → (position rows : ℕ) → IsStep s submission (answer_at position outcome) (state_of (desk_after outcome rows))
+    lands_as_step : (outcome : Outcome A) → IsVerdict s submission outcome → KeepsAll outcome → (position rows : ℕ) → IsStep s submission (answer_at position outcome) (state_of (desk_after outcome rows))
     unfolding outcome_of reply_to
-    lands_as_step (outcomes.No fault) is position rows = by is.verdict is.judgement is.told
+    lands_as_step (outcomes.No fault) is kept position rows = by is.verdict is.judgement is.told
       where
         by : (verdict : Verdict) → IsJudgement s submission verdict → Tells {A = A} s submission (outcomes.No fault) verdict → IsStep s submission (answer_at {A = A} position (outcomes.No fault)) (state_of (desk_after (outcomes.No fault) rows))
         by (Yes after marked_after) judgement told = absurd told
@@ -299,7 +296,7 @@ module _ (desk : Parts) (is_desk : IsDesk desk) (lawful : IsLawful desk.image.co
           places = [];
           fits = row_fits s s _ (ap (λ verdict. replied s [] verdict (reply_to s verdict)) (sym judgement.judgement));
         }
-    lands_as_step (outcomes.Yes log plan net need_told) is position rows = by is.verdict is.judgement is.told
+    lands_as_step (outcomes.Yes log plan net need_told) is kept position rows = by is.verdict is.judgement is.told
       where
         by : (verdict : Verdict) → IsJudgement s submission verdict → Tells s submission (outcomes.Yes log plan net need_told) verdict → IsStep s submission (answer_at {A = A} position (outcomes.Yes log plan net need_told)) (state_of (desk_after (outcomes.Yes log plan net need_told) rows))
         by (Yes after marked_after) judgement told_so = record {
@@ -310,25 +307,25 @@ module _ (desk : Parts) (is_desk : IsDesk desk) (lawful : IsLawful desk.image.co
           places = [];
           fits = row_fits s (state_of (desk_after (outcomes.Yes log plan net need_told) rows)) _ (
               ap (λ verdict. replied s [] verdict (reply_to s verdict)) (sym judgement.judgement)
-              ∙ yes_fits log plan net need_told after marked_after told_so rows
+              ∙ yes_fits log plan net need_told after marked_after told_so kept rows
               );
         }
         by (No refusal) judgement told_so = absurd told_so
 
-    lands_as_meant : (outcome : Outcome A) → IsVerdict s submission outcome → (position rows : ℕ) → Means s submission (answer_at position outcome) (state_of (desk_after outcome rows))
-    lands_as_meant (outcomes.No fault) is position rows = (refl, refl)
-    lands_as_meant (outcomes.Yes log plan net need_told) is position rows = by is.verdict is.told
+    lands_as_meant : (outcome : Outcome A) → IsVerdict s submission outcome → KeepsAll outcome → (position rows : ℕ) → Means s submission (answer_at position outcome) (state_of (desk_after outcome rows))
+    lands_as_meant (outcomes.No fault) is kept position rows = (refl, refl)
+    lands_as_meant (outcomes.Yes log plan net need_told) is kept position rows = by is.verdict is.told
       where
         by : (verdict : Verdict) → Tells s submission (outcomes.Yes log plan net need_told) verdict → IsDone s submission (state_of (desk_after (outcomes.Yes log plan net need_told) rows))
-        by (Yes after marked_after) told_so = yes_done log plan net need_told after marked_after told_so rows
+        by (Yes after marked_after) told_so = yes_done log plan net need_told after marked_after told_so kept rows
         by (No refusal) told_so = absurd told_so
 
     -- the answer in the docket's next row
-    pub lands_as_said : (outcome : Outcome A) → IsVerdict s submission outcome → IsAnswered (shown desk) submission (answer_at desk.rows outcome) (shown (desk_after outcome (desk.rows + 1)))
-    lands_as_said outcome is = record {
-      step = lands_as_step outcome is desk.rows (desk.rows + 1);
+    pub lands_as_said : (outcome : Outcome A) → IsVerdict s submission outcome → KeepsAll outcome → IsAnswered (shown desk) submission (answer_at desk.rows outcome) (shown (desk_after outcome (desk.rows + 1)))
+    lands_as_said outcome is kept = record {
+      step = lands_as_step outcome is kept desk.rows (desk.rows + 1);
       once = by_case outcome (λ answer. is_rejudged answer ≡ false) (λ fault. refl) (λ told. refl);
-      meaning = lands_as_meant outcome is desk.rows (desk.rows + 1);
+      meaning = lands_as_meant outcome is kept desk.rows (desk.rows + 1);
       position = by_case outcome (λ answer. position_of answer ≡ desk.rows) (λ fault. refl) (λ told. refl);
       rows = refl;
       limit = refl;
@@ -339,10 +336,21 @@ module _ (desk : Parts) (is_desk : IsDesk desk) (lawful : IsLawful desk.image.co
         by_case (outcomes.Yes log plan net told) P refused accepted = accepted told
 
     -- a landing is a step, which keeps the state in order
-    pub lands_in_order : (outcome : Outcome A) → IsVerdict s submission outcome → (rows : ℕ) → rows ≤ desk.limit → IsDesk (desk_after outcome rows)
-    lands_in_order outcome is rows within =
-        let step = lands_as_step outcome is desk.rows rows in
+    pub lands_in_order : (outcome : Outcome A) → IsVerdict s submission outcome → KeepsAll outcome → (rows : ℕ) → rows ≤ desk.limit → IsDesk (desk_after outcome rows)
+    lands_in_order outcome is kept rows within =
+        let step = lands_as_step outcome is kept desk.rows rows in
         record {
           within_limit = within;
           in_order = step_keeps_order s (state_of (desk_after outcome rows)) (record { call = Submit submission step.reading; answer = Replied step.reply; places = step.places }) is_desk.in_order step.read step.fits;
         }
+
+-- ---- handed back
+
+-- a Yes of entries that may change bytes is of bytes that spell one
+pub has_other : {A : Type 0} (s : State) (submission : Submission) (outcome : Outcome A) → IsVerdict s submission outcome → (KeepsAll outcome → ⊥) → HasOtherEntry submission.log
+has_other s submission (outcomes.No fault) is other = absurd (other tt)
+has_other s submission (outcomes.Yes log plan net told) is other = by is.verdict is.told
+  where
+    by : (verdict : Verdict) → Tells s submission (outcomes.Yes log plan net told) verdict → HasOtherEntry submission.log
+    by (Yes after marked_after) told_so = record { log = log_of submission.log log; spelled = told_so.spelled.log_read; other = not_all_kept submission.log log.entries other }
+    by (No refusal) told_so = absurd told_so

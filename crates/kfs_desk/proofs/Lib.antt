@@ -3,3 +3,5 @@ pub mod Granting
 pub mod Histories
 pub mod Landing
 pub mod Openings
+pub mod Untouched
+pub mod UntouchedBlocks

@@ -1,11 +1,12 @@
 -- What a verdict's outcome makes of an image and of the leases, and the answer to it.
-use Rattle.std.specs.Prelude.{ℕ, ◌==◌, not, false, List, [], ◌∷◌, Option, None, Some}
+use Rattle.std.specs.Prelude.{ℕ, ◌==◌, not, false, List, [], ◌∷◌, All, Option, None, Some}
 use Rattle.kfs_model.specs.Lease.{Leases, without_gone}
 use Rattle.kfs_value.specs.declared.header.Header.{Header}
 use Rattle.kfs_value.specs.declared.plan.NodeRow.{NodeRow}
 use Rattle.kfs_image.specs.Contents.{ImageShown}
 use Rattle.kfs_image.specs.Change.{after_net}
 use Rattle.kfs_image.specs.ShownTree.{IsLawful}
+use Rattle.kfs_plan.specs.KeptBytes.{KeepsBytes}
 use Rattle.kfs_plan.specs.declared.submission.Outcome.{Outcome}
 use Rattle.kfs_plan.specs.declared.submission.Outcome.TheVariants as outcomes
 use Rattle.kfs_plan.specs.declared.answers.Reply.{Reply}
@@ -34,6 +35,11 @@ module _ {A : Type 0} where
   abbrev pub CanLand : ImageShown → Outcome A → Type 0
   CanLand image (outcomes.No fault) = Unit {0}
   CanLand image (outcomes.Yes log plan net need) = IsLawful (after_net image net.names.items net.nodes.items).contents
+
+  -- a Yes is of entries that keep every byte
+  abbrev pub KeepsAll : Outcome A → Type 0
+  KeepsAll (outcomes.No fault) = Unit {0}
+  KeepsAll (outcomes.Yes log plan net need) = All KeepsBytes log.entries
 
   -- the answer with this place in the docket
   abbrev pub answer_at : (position : ℕ) → Outcome A → Reply

@@ -14,7 +14,7 @@ ghost use Rattle.kfs_image.specs.ShownTree.{IsLawful, tree_of};
 ghost use Rattle.kfs_check.specs.View.{clients_of, contents_of, leases_of};
 ghost use Rattle.kfs_plan.specs.Judging.{HasOtherEntry, IsVerdict, submission_of};
 ghost use Rattle.kfs_image.specs.Change.{after_net};
-ghost use Rattle.kfs_desk.specs.Landing.{CanLand, answer_at, ended_by, ended_with, image_after, leases_left};
+ghost use Rattle.kfs_desk.specs.Landing.{CanLand, KeepsAll, answer_at, ended_by, ended_with, image_after, leases_left};
 ghost use Rattle.kfs_desk.specs.Machine.{IsAnswered, IsBackFor, IsCallOf, IsChange, IsImageOf, RunsThrough, call_of, done_by, number_of, outcome_at, state_at};
 ghost use Rattle.kfs_desk.specs.Opening.{begin_fault, do_overlap, fault_behind};
 ghost use Rattle.kfs_value.specs.Room.{Appends, spare_of};
@@ -28,7 +28,7 @@ use kfs_mode::Client;
 use kfs_plan::answers::{
     Act, ActReply, BeginBack, BeginFault, Done, Reply, SubmissionsBack, Unanswered,
 };
-use kfs_plan::{Back, Judged, Outcome, Submission, Why, judge};
+use kfs_plan::{Back, Judged, Outcome, Submission, Why, judge, keep_bytes};
 use std::alloc::{AllocError, Allocator};
 use std::marker::Model;
 use std::sync::Arc;
@@ -157,7 +157,8 @@ impl<A: Allocator + Copy> Desk<A> {
     }
 
     /// Judges the submission against the state of now, and lands it: where it is judged right, the
-    /// tree changes as its log says. A submission that isn't answered comes back.
+    /// tree changes as its log says. A submission that isn't answered comes back; so does one that is
+    /// judged right and has a Write or a Truncate, which nothing lands yet.
     pub fn submit(&mut self, submission: Submission<A>) -> Result<Reply, Back<A>>
         ensures full { IsBackFor result Why.DocketFull ↔ (self.old.rows ≡ self.old.limit) }
         ensures answered { IfOk result (λ reply. IsAnswered self.old (submission_of submission) reply self.new) }
@@ -176,6 +177,12 @@ impl<A: Allocator + Copy> Desk<A> {
             &self.clients,
             submission,
         )?;
+        if may_change_bytes(&judged.outcome) {
+            return Err(Back {
+                submission: judged.submission,
+                why: Why::OtherEntry,
+            });
+        }
         let reply = land(&mut self.image, &mut self.leases, position, judged)?;
         self.rows = position + 1;
         Ok(reply)
@@ -235,8 +242,7 @@ fn judged<A: Allocator + Copy>(
     ensures verdict { IfOk result (λ judged. IsVerdict (state_at image.now clients.now.value.items leases.now.value) (submission_of submission) judged.outcome) }
     ensures submission { IfOk result (λ judged. judged.submission ≡ submission) }
     ensures back { IfErr result (λ back. back.submission ≡ submission) }
-    ensures other { IsBackFor result Why.OtherEntry → HasOtherEntry submission.log.items }
-    ensures not_full { IsBackFor result Why.DocketFull → ⊥ }
+    ensures memory { IfErr result (λ back. back.why ≡ Why.OutOfMemory) }
     ensures lawful { IsLawful image.now.contents }
 {
     let Ok(view) = view_of(image, leases, clients) else {
@@ -244,6 +250,16 @@ fn judged<A: Allocator + Copy>(
         return Err(Back { submission, why });
     };
     judge(alloc, &view, submission)
+}
+
+/// Whether it is a Yes of a log with a Write or a Truncate.
+fn may_change_bytes<A: Allocator>(outcome: &Outcome<A>) -> bool
+    ensures { IsFalse result ↔ KeepsAll outcome.now }
+{
+    match outcome {
+        Outcome::Yes { log, .. } => !keep_bytes(log.entries.as_slice()),
+        Outcome::No(_) => false,
+    }
 }
 
 /// The shape, the leases and the clients of now.

@@ -1,11 +1,11 @@
 -- What a draft shows over a state after a change of its maps.
-use Rattle.std.specs.Prelude.{◌≡◌, ℕ, ◌+◌, ◌≤◌, ◌==◌, Bool, true, false, cond, ℤ, pos, negsuc, neg_ℤ, ◌+ℤ◌, ◌≤ℤ◌, List, Option, Some, unwrap_or, if◌then◌else◌, refl}
-use Rattle.std.specs.Option.{option_map}
+use Rattle.std.specs.Prelude.{◌≡◌, ℕ, ◌+◌, ◌≤◌, ◌==◌, Bool, true, false, cond, ℤ, pos, negsuc, neg_ℤ, ◌+ℤ◌, ◌≤ℤ◌, List, Option, Some, IsTrue, unwrap_or, if◌then◌else◌, refl}
+use Rattle.std.specs.Option.{option_map, is_some}
 use Rattle.std.specs.Ordering.{nat_cmp, eq_by_cmp}
 use Rattle.std.specs.Cmp.{unsigned_tied, nat_eq_equiv}
 use Rattle.std.specs.BTreeMap.{BTreeMap, get}
 use Rattle.std.proofs.Common.{ap, sym, subst, ◌∙◌, arith}
-use Rattle.std.proofs.lemmas.Bool.{eqb-true}
+use Rattle.std.proofs.lemmas.Bool.{eq-eqb, eqb-true}
 use Rattle.std.proofs.lemmas.Int.{ints}
 use Rattle.std.proofs.lemmas.Map.Views.{tells_apart}
 use Rattle.kfs_model.specs.Table.{Order}
@@ -18,7 +18,7 @@ use Rattle.kfs_model.proofs.Overlay as laid
 use Rattle.kfs_value.specs.Views.{header_of}
 use Rattle.kfs_value.specs.declared.header.Header.{Header as CodeHeader}
 use Rattle.kfs_draft.specs.declared.draft.Draft.{Draft}
-use Rattle.kfs_draft.specs.Overlay.{over, shift_of, with_header, with_target, with_more_names, with_parent, PutsAt, ShiftsBy}
+use Rattle.kfs_draft.specs.Overlay.{over, has_header, KeepsHeaders, shift_of, with_header, with_target, with_more_names, with_parent, PutsAt, ShiftsBy}
 
 number_tie : (a b : ℕ) → eq_by_cmp nat_cmp a b ≡ (b == a)
 number_tie a b = unsigned_tied a b ∙ nat_eq_equiv.symm a b
@@ -73,6 +73,18 @@ module _ {A : Type 0} (old : Draft A) where
     where
       head_at : (k : ℕ) → (over (with_heads old heads) s).head k ≡ put_at n (option_map header_of header) (over old s).head k
       head_at k = put_read (λ h. unwrap_or (option_map (option_map header_of) h) (s.head k)) _ _ _ (k == n) header (puts k) (number_tie n k)
+
+  -- what is put is there
+  pub header_put : (heads : BTreeMap ℕ (Option CodeHeader)) (n : ℕ) (header : Option CodeHeader) → PutsAt nat_cmp old.heads heads n header → IsTrue (has_header (with_heads old heads) n)
+  header_put heads n header puts = put_read is_some _ _ _ true header (puts n) (number_tie n n ∙ eq-eqb n n refl)
+
+  -- and so is what was there
+  pub headers_kept : (heads : BTreeMap ℕ (Option CodeHeader)) (n : ℕ) (header : Option CodeHeader) → PutsAt nat_cmp old.heads heads n header → KeepsHeaders old (with_heads old heads)
+  headers_kept heads n header puts k is = put_read is_some _ _ _ (k == n) header (puts k) (number_tie n k) ∙ at (k == n)
+    where
+      at : (b : Bool) → (if b then true else has_header old k) ≡ true
+      at true = refl
+      at false = is
 
   pub target_shown : (names : BTreeMap (ℕ × List ℕ) (Option ℕ)) (d : ℕ) (m : List ℕ) (target : Option ℕ) → PutsAt name_order.compare old.names names (d, m) target
       → (s : Sight) → over (with_names old names) s ≡ with_target d m target (over old s)

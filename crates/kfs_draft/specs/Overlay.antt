@@ -1,6 +1,6 @@
 -- What a draft shows over a state: the cells that entries have written, and the state's own where they have not.
-use Rattle.std.specs.Prelude.{◌≡◌, ℕ, ◌-◌, Bool, cond, ℤ, pos, negsuc, neg_ℤ, ◌+ℤ◌, ◌≤ℤ◌, List, Contains, Option, Some, None, unwrap_or, ◌==◌, ◌+◌, true, nat_lt}
-use Rattle.std.specs.Option.{option_map}
+use Rattle.std.specs.Prelude.{◌≡◌, ℕ, ◌-◌, Bool, cond, ℤ, pos, negsuc, neg_ℤ, ◌+ℤ◌, ◌≤ℤ◌, List, Contains, Option, Some, None, IsTrue, unwrap_or, ◌==◌, ◌+◌, true, nat_lt}
+use Rattle.std.specs.Option.{option_map, is_some}
 use Rattle.std.specs.declared.cmp.Ordering.{Ordering}
 use Rattle.std.specs.Ordering.{nat_cmp, eq_by_cmp}
 use Rattle.std.specs.BTreeMap.{BTreeMap, get}
@@ -33,6 +33,14 @@ module _ {A : Type 0} where
 
   abbrev pub has_created : Draft A → ℕ → Bool
   has_created draft n = contains nat_cmp draft.created n
+
+  -- an entry has written the number's header, or that it has none
+  abbrev pub has_header : Draft A → ℕ → Bool
+  has_header draft n = is_some (get nat_cmp draft.heads n)
+
+  -- no header that was written is forgotten
+  abbrev pub KeepsHeaders : (old new : Draft A) → Type 0
+  KeepsHeaders old new = (n : ℕ) → IsTrue (has_header old n) → IsTrue (has_header new n)
 
   -- the log has created exactly these
   abbrev pub AreCreated : Draft A → List ℕ → Type 0

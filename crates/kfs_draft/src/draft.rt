@@ -1,6 +1,6 @@
 //! What the entries of a log have changed so far, over the state that the log came to.
 
-ghost use Rattle.std.specs.Prelude.{◌≡◌, ℕ, ◌+◌, ◌==◌, ◌||◌, pos, negsuc, ◌+ℤ◌, ◌≤ℤ◌, FitsSigned, unwrap_or, OnOk, false, List, [], Contains};
+ghost use Rattle.std.specs.Prelude.{◌≡◌, ℕ, ◌+◌, ◌==◌, ◌||◌, pos, negsuc, ◌+ℤ◌, ◌≤ℤ◌, FitsSigned, unwrap_or, OnOk, IsTrue, false, List, [], Contains};
 ghost use Rattle.std.specs.Option.{option_map};
 ghost use Rattle.std.specs.Int.{w32};
 ghost use Rattle.kfs_value.specs.Views.{header_of, kind_of};
@@ -8,7 +8,7 @@ ghost use Rattle.kfs_model.specs.Sight.{Sight, Cell, HeaderOf, NameIn};
 ghost use Rattle.std.specs.Ordering.{nat_cmp};
 ghost use Rattle.std.specs.BTreeMap.{get};
 ghost use Rattle.kfs_model.specs.Tree.{name_order};
-ghost use Rattle.kfs_draft.specs.Overlay.{has_created, over, ShiftsBy, HasRoom, PutsAt, IsWritten, WritesNameAndHeader, WritesTwoNames, shift_of};
+ghost use Rattle.kfs_draft.specs.Overlay.{has_created, has_header, over, KeepsHeaders, ShiftsBy, HasRoom, PutsAt, IsWritten, WritesNameAndHeader, WritesTwoNames, shift_of};
 ghost use Rattle.kfs_draft.specs.Overlay.{with_header, with_target, with_more_names, with_parent, with_directory_in, with_node, with_name, without_name, with_name_moved, shift_of};
 
 use kfs_value::{Header, Kind, Name};
@@ -57,6 +57,7 @@ impl<A: Allocator + Copy> Draft<A> {
         ensures shown { OnOk result ((s : Sight) → over self.new s ≡ with_node key.0 key.1 number (header_of header) (over self.old s)) }
         ensures written { OnOk result (WritesNameAndHeader self.old self.new key.0 key.1 number) }
         ensures created { OnOk result ((n : ℕ) → has_created self.new n ≡ ((number == n) || has_created self.old n)) }
+        ensures kept { OnOk result (KeepsHeaders self.old self.new) }
         ensures shifts { OnOk result ((most : ℕ) → ShiftsBy most self.old → ShiftsBy (most + 1) self.new) }
     {
         let dir = key.0;
@@ -77,6 +78,7 @@ impl<A: Allocator + Copy> Draft<A> {
         ensures shown { OnOk result ((s : Sight) → over self.new s ≡ with_name key.0 key.1 number (option_map header_of header) (over self.old s)) }
         ensures written { OnOk result (WritesNameAndHeader self.old self.new key.0 key.1 number) }
         ensures created { OnOk result ((n : ℕ) → has_created self.new n ≡ has_created self.old n) }
+        ensures kept { OnOk result (KeepsHeaders self.old self.new) }
         ensures shifts { OnOk result ((most : ℕ) → ShiftsBy most self.old → ShiftsBy (most + 1) self.new) }
     {
         self.shift_count(key.0, 1)?;
@@ -96,6 +98,7 @@ impl<A: Allocator + Copy> Draft<A> {
         ensures shown { OnOk result ((s : Sight) → over self.new s ≡ without_name key.0 key.1 number (option_map header_of header) (over self.old s)) }
         ensures written { OnOk result (WritesNameAndHeader self.old self.new key.0 key.1 number) }
         ensures created { OnOk result ((n : ℕ) → has_created self.new n ≡ has_created self.old n) }
+        ensures kept { OnOk result (KeepsHeaders self.old self.new) }
         ensures shifts { OnOk result ((most : ℕ) → ShiftsBy most self.old → ShiftsBy (most + 1) self.new) }
     {
         self.shift_count(key.0, -1)?;
@@ -117,6 +120,7 @@ impl<A: Allocator + Copy> Draft<A> {
         ensures shown { OnOk result ((s : Sight) → over self.new s ≡ with_name_moved key.0 key.1 new_key.0 new_key.1 number (kind_of kind) (over self.old s)) }
         ensures written { OnOk result (WritesTwoNames self.old self.new key.0 key.1 new_key.0 new_key.1) }
         ensures created { OnOk result ((n : ℕ) → has_created self.new n ≡ has_created self.old n) }
+        ensures kept { OnOk result (KeepsHeaders self.old self.new) }
         ensures shifts { OnOk result ((most : ℕ) → ShiftsBy most self.old → ShiftsBy (most + 2) self.new) }
     {
         let new_dir = new_key.0;
@@ -133,6 +137,8 @@ impl<A: Allocator + Copy> Draft<A> {
         ensures shown { OnOk result ((s : Sight) → over self.new s ≡ with_header number (option_map header_of header) (over self.old s)) }
         ensures written { OnOk result ((among : List Cell) → IsWritten self.old among → Contains among (HeaderOf number) → IsWritten self.new among) }
         ensures created { OnOk result ((n : ℕ) → has_created self.new n ≡ has_created self.old n) }
+        ensures put { OnOk result (IsTrue (has_header self.new number)) }
+        ensures kept { OnOk result (KeepsHeaders self.old self.new) }
         ensures shifts { OnOk result ((most : ℕ) → ShiftsBy most self.old → ShiftsBy most self.new) }
     {
         put(&mut self.heads, number, header)?;
@@ -144,6 +150,7 @@ impl<A: Allocator + Copy> Draft<A> {
         ensures shown { OnOk result ((s : Sight) → over self.new s ≡ with_target key.0 key.1 target (over self.old s)) }
         ensures written { OnOk result ((among : List Cell) → IsWritten self.old among → Contains among (NameIn key.0 key.1) → IsWritten self.new among) }
         ensures created { OnOk result ((n : ℕ) → has_created self.new n ≡ has_created self.old n) }
+        ensures kept { OnOk result (KeepsHeaders self.old self.new) }
         ensures shifts { OnOk result ((most : ℕ) → ShiftsBy most self.old → ShiftsBy most self.new) }
     {
         put(&mut self.names, key, target)?;
@@ -155,6 +162,7 @@ impl<A: Allocator + Copy> Draft<A> {
         ensures shown { OnOk result ((s : Sight) → over self.new s ≡ with_parent number parent (over self.old s)) }
         ensures written { OnOk result ((among : List Cell) → IsWritten self.old among → IsWritten self.new among) }
         ensures created { OnOk result ((n : ℕ) → has_created self.new n ≡ has_created self.old n) }
+        ensures kept { OnOk result (KeepsHeaders self.old self.new) }
         ensures shifts { OnOk result ((most : ℕ) → ShiftsBy most self.old → ShiftsBy most self.new) }
     {
         put(&mut self.parents, number, parent)?;
@@ -166,6 +174,7 @@ impl<A: Allocator + Copy> Draft<A> {
         ensures shown { OnOk result ((s : Sight) → over self.new s ≡ with_directory_in (kind_of kind) number dir (over self.old s)) }
         ensures written { OnOk result ((among : List Cell) → IsWritten self.old among → IsWritten self.new among) }
         ensures created { OnOk result ((n : ℕ) → has_created self.new n ≡ has_created self.old n) }
+        ensures kept { OnOk result (KeepsHeaders self.old self.new) }
         ensures shifts { OnOk result ((most : ℕ) → ShiftsBy most self.old → ShiftsBy most self.new) }
     {
         match kind {
@@ -185,6 +194,7 @@ impl<A: Allocator + Copy> Draft<A> {
         ensures shown { OnOk result ((s : Sight) → over self.new s ≡ with_more_names dir by (over self.old s)) }
         ensures written { OnOk result ((among : List Cell) → IsWritten self.old among → IsWritten self.new among) }
         ensures created { OnOk result ((n : ℕ) → has_created self.new n ≡ has_created self.old n) }
+        ensures kept { OnOk result (KeepsHeaders self.old self.new) }
         ensures shifts { OnOk result ((most : ℕ) → ShiftsBy most self.old → ShiftsBy (most + 1) self.new) }
     {
         count_names(&mut self.shifts, dir, by)?;

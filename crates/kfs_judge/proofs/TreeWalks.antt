@@ -14,6 +14,8 @@ use Rattle.kfs_image.specs.declared.shape.Net.{Net}
 use Rattle.kfs_judge.specs.declared.walk.EntryFault.{EntryFault as CodeEntryFault}
 use Rattle.kfs_judge.specs.Walks.{ComesTo, ComesToTree, fault_of}
 use Rattle.kfs_step.specs.Nets.{IsNetOf}
+use Rattle.kfs_sweep.specs.declared.sizes.FileSize.{FileSize}
+use Rattle.kfs_sweep.specs.Sizes.{AreSizesBetween}
 
 stopped : (fault : EntryFault) (ran : Result (Tree ℕ) EntryFault) → shown_run ran ≡ Err fault → ran ≡ Err fault
 stopped fault (Ok after) is = cc
@@ -27,13 +29,14 @@ module _ (client : Client) (held : ℕ → Bool) (t : Tree ℕ) (entries : List 
   seen : shown_run (run over_bytes client (client_sight t held) t entries) ≡ seen_run_from client (client_sight t held) 0 [] (sight t) entries
   seen = run_is_seen over_bytes bytes_faithful client (client_sight t held) fits.in_range 0 [] t entries fits.sound fits.fitting
 
-  pub comes_to_tree : {A : Type 0} (outcome : Result (Net A) CodeEntryFault) → ComesTo client (client_sight t held) entries outcome → ComesToTree client held t entries outcome
-  comes_to_tree (Err fault) comes = stopped (fault_of fault) _ (seen ∙ comes)
-  comes_to_tree (Ok net) comes =
+  pub comes_to_tree : {A : Type 0} (outcome : Result (Net A) CodeEntryFault) (sizes : List FileSize) → ComesTo client (client_sight t held) entries outcome sizes → ComesToTree client held t entries outcome sizes
+  comes_to_tree (Err fault) sizes comes = stopped (fault_of fault) _ (seen ∙ comes)
+  comes_to_tree (Ok net) sizes comes =
       let (after, is, shown) = ended comes.0 _ (seen ∙ comes.1) in (
         after,
         is,
         run_keeps_sound over_bytes bytes_faithful client (client_sight t held) fits.in_range 0 [] t entries fits.sound fits.fitting after is,
         run_is_one_by_one client (client_sight t held) 0 [] t entries after is,
         subst (λ s. IsNetOf (sight t) s net) (sym shown) comes.2,
+        subst (λ s. AreSizesBetween (sight t) s entries sizes) (sym shown) comes.3,
       )

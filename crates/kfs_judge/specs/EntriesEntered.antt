@@ -9,11 +9,16 @@ use Rattle.kfs_step.specs.declared.log_judge.LogJudge.{LogJudge}
 use Rattle.kfs_judge.specs.declared.walk.EntryFault.{EntryFault}
 use Rattle.kfs_draft.specs.Overlay.{IsWritten}
 use Rattle.kfs_check.specs.Recorders.{Known, ReadsAt}
+use Rattle.kfs_step.specs.FileSizes.{HasFilesOf}
 use Rattle.kfs_judge.specs.Walks.{EndsAt}
 
 -- the payloads' spans lie in the source
 abbrev pub AreWithin : List ℕ → List (CodeEntry Span) → Type 0
 AreWithin source entries = AllByRecursion (IsWithin (length source)) entries
+
+-- the judge's draft has each file that the entries reach
+abbrev pub HasTheirFiles : {A : Type 0} → LogJudge A → List (CodeEntry Span) → Type 0
+HasTheirFiles judge entries = (source : List ℕ) → AreWithin source entries → HasFilesOf judge.draft (map (entry_of source) entries)
 
 -- entries, from a judge that has entered none
 module _ {A : Type 0} (old new : LogJudge A) (entries : List (CodeEntry Span)) where

@@ -1,5 +1,6 @@
 -- What a walk over a log's entries has found, in a state.
-use Rattle.std.specs.Prelude.{◌≡◌, ℕ, List, [], map, length, Option, None, Some, Result, Ok, Err, Bool}
+use Rattle.std.specs.Prelude.{◌≡◌, ℕ, List, [], map, length, Option, None, Some, Result, Ok, Err, IsErr, Bool}
+use Rattle.std.specs.List.{AllByRecursion}
 use Rattle.kfs_check.specs.Reads.{Agrees, Always, AreAmong}
 use Rattle.kfs_check.specs.View.{clients_of, client_sight_in}
 use Rattle.kfs_model.specs.Looked.{seen_run, looked_cells}
@@ -15,6 +16,8 @@ use Rattle.kfs_model.specs.Run.{EntryFault, run, over_bytes}
 use Rattle.kfs_image.specs.declared.shape.Net.{Net}
 use Rattle.kfs_judge.specs.declared.walk.EntryFault.{EntryFault as CodeEntryFault}
 use Rattle.kfs_step.specs.Nets.{IsNetOf}
+use Rattle.kfs_sweep.specs.declared.sizes.FileSize.{FileSize}
+use Rattle.kfs_sweep.specs.Sizes.{AreSizesBetween, Ascend, IsSize}
 use Rattle.kfs_check.specs.Checks.{reason_of}
 use Rattle.kfs_draft.specs.declared.draft.Draft.{Draft}
 use Rattle.kfs_judge.specs.declared.walk.Walk.{Walk}
@@ -33,15 +36,16 @@ module _ {A : Type 0} where
   EndsAt client draft before entries None = seen_run client before entries ≡ Ok (over draft before.sight)
   EndsAt client draft before entries (Some fault) = seen_run client before entries ≡ Err (fault_of fault)
 
-  -- the run over the cells stops at this fault, or shows what differs
-  abbrev pub ComesTo : Client → ClientSight → List Entry → Result (Net A) CodeEntryFault → Type 0
-  ComesTo client before entries (Err fault) = seen_run client before entries ≡ Err (fault_of fault)
-  ComesTo client before entries (Ok net) = (after : Sight) × (seen_run client before entries ≡ Ok after) × IsNetOf before.sight after net
+  -- the run over the cells stops at this fault, or shows what differs, and sizes of the files that are changed or reached
+  abbrev pub ComesTo : Client → ClientSight → List Entry → Result (Net A) CodeEntryFault → List FileSize → Type 0
+  ComesTo client before entries (Err fault) sizes = seen_run client before entries ≡ Err (fault_of fault)
+  ComesTo client before entries (Ok net) sizes = (after : Sight) × (seen_run client before entries ≡ Ok after) × IsNetOf before.sight after net × AreSizesBetween before.sight after entries sizes
 
-  -- the entries one by one stop at this fault, or leave a sound tree of which this is the net, each of them allowed
-  abbrev pub ComesToTree : Client → (ℕ → Bool) → Tree ℕ → List Entry → Result (Net A) CodeEntryFault → Type 0
-  ComesToTree client held t entries (Err fault) = run over_bytes client (client_sight t held) t entries ≡ Err (fault_of fault)
-  ComesToTree client held t entries (Ok net) = (after : Tree ℕ) × (run over_bytes client (client_sight t held) t entries ≡ Ok after) × IsSound after × OneByOne client (client_sight t held) 0 [] t entries after × IsNetOf (sight t) (sight after) net
+  -- the entries one by one stop at this fault, or leave a sound tree of which this is the net, each of them allowed; the sizes
+  -- are those of the files that they change or reach
+  abbrev pub ComesToTree : Client → (ℕ → Bool) → Tree ℕ → List Entry → Result (Net A) CodeEntryFault → List FileSize → Type 0
+  ComesToTree client held t entries (Err fault) sizes = run over_bytes client (client_sight t held) t entries ≡ Err (fault_of fault)
+  ComesToTree client held t entries (Ok net) sizes = (after : Tree ℕ) × (run over_bytes client (client_sight t held) t entries ≡ Ok after) × IsSound after × OneByOne client (client_sight t held) 0 [] t entries after × IsNetOf (sight t) (sight after) net × AreSizesBetween (sight t) (sight after) entries sizes
 
 -- the client is the one of the rows that has the number
 abbrev pub IsRowOf : List Client → ℕ → Client → Type 0
@@ -52,11 +56,17 @@ IsRowOf rows wanted client = row_of rows wanted ≡ Some client
 abbrev pub IsWalkOf : {A : Type 0} → Client → CodeLog A → Walk A → Type 0
 IsWalkOf client log walk =
     (source : List ℕ) → SpansAreWithin (length source) log → (tree : Tree ℕ) (held : ℕ → Bool) → Fits client tree (map (entry_of source) log.entries) → Agrees walk.reads.entries (client_sight tree held)
-    → ComesToTree client held tree (map (entry_of source) log.entries) walk.outcome
+    → ComesToTree client held tree (map (entry_of source) log.entries) walk.outcome walk.sizes.items
 
 -- the same over cells: in every state that agrees with the reads, the run over its cells comes to the outcome
 abbrev pub IsCellWalkOf : {A : Type 0} → Client → CodeLog A → Walk A → Type 0
-IsCellWalkOf client log walk = Always walk.reads.entries (λ before. (source : List ℕ) → SpansAreWithin (length source) log → ComesTo client before (map (entry_of source) log.entries) walk.outcome)
+IsCellWalkOf client log walk = Always walk.reads.entries (λ before. (source : List ℕ) → SpansAreWithin (length source) log → ComesTo client before (map (entry_of source) log.entries) walk.outcome walk.sizes.items)
+
+-- the walk's sizes ascend by number, and none is over the greatest of a file; where an entry is bad there are none
+pub record HasOrderedSizes {A : Type 0} (walk : Walk A) : Type 0 where
+  pub ascending : Ascend 0 walk.sizes.items
+  pub short : AllByRecursion IsSize walk.sizes.items
+  pub none : IsErr walk.outcome → walk.sizes.items ≡ []
 
 -- each read is at a cell that the log looks at in the view
 abbrev pub ReadsLookedCells : {A : Type 0} → View A → CodeLog A → Walk A → Type 0

@@ -2,19 +2,21 @@
 ghost use Rattle.std.specs.Prelude.{◌≡◌, ℕ, ◌≤◌, false, length, IsSome, IfOk, [], None, Ok, OnOk};
 ghost use Rattle.kfs_model.specs.Access.{Client as ClientRow};
 ghost use Rattle.kfs_model.specs.Lease.{row_of};
+ghost use Rattle.kfs_model.specs.Limits.{entry_limit};
 ghost use Rattle.kfs_model.specs.Sight.{Sight};
-ghost use Rattle.kfs_judge.specs.EntriesEntered.{StopsAt, ReadsTheirCells, WritesTheirCells};
+ghost use Rattle.kfs_judge.specs.EntriesEntered.{HasTheirFiles, StopsAt, ReadsTheirCells, WritesTheirCells};
 ghost use Rattle.kfs_draft.specs.Overlay.{has_created, over, ShiftsBy, IsWritten};
 ghost use Rattle.kfs_check.specs.Reads.{Agrees, AreOnce};
 ghost use Rattle.kfs_check.specs.Recorders.{GoesOn};
 ghost use Rattle.kfs_check.specs.View.{clients_of, client_sight_in};
-ghost use Rattle.kfs_judge.specs.Walks.{IsRowOf, IsWalkOf, IsCellWalkOf, ReadsLookedCells};
+ghost use Rattle.kfs_judge.specs.Walks.{HasOrderedSizes, IsRowOf, IsWalkOf, IsCellWalkOf, ReadsLookedCells};
 
 use indexmap::IndexMap;
 use kfs_check::{Read, ReadAnswer, Reason, View};
 use kfs_entry::{Entry, Log, Span};
 use kfs_image::shape::Net;
 use kfs_step::LogJudge;
+use kfs_sweep::FileSize;
 use std::alloc::{AllocError, Allocator};
 use std::hash::{BuildHasherDefault, FoldHasher};
 
@@ -26,11 +28,13 @@ pub struct EntryFault {
 }
 
 /// What the entries of a log come to: the reads that this rests on, in the order of the first look,
-/// and the first bad entry, or else what differs after the log.
+/// and the first bad entry, or else what differs after the log, and how long the files are that it
+/// changes or reaches, by number. With a bad entry there are no sizes.
 #[derive(Drop)]
 pub struct Walk<A: Allocator> {
     pub reads: IndexMap<Read, ReadAnswer, BuildHasherDefault<FoldHasher>, A>,
     pub outcome: Result<Net<A>, EntryFault>,
+    pub sizes: Vec<FileSize, A>,
 }
 
 /// Goes through the entries of a log against a view. The log's client has a row there, and the entries
@@ -41,13 +45,14 @@ pub fn judge_entries<A: Allocator + Copy>(
     log: &Log<A>,
 ) -> Result<Walk<A>, AllocError>
     requires client { IsSome (row_of (clients_of view.now) log.now.client) }
-    requires count { length log.now.entries ≤ 4096 }
+    requires count { length log.now.entries ≤ entry_limit }
     // At every sound tree and all leases that agree with the reads, the entries come to this outcome one by one,
     // whatever bytes the payloads' spans are of.
     ensures known { IfOk result (λ walk. (client : ClientRow) × IsRowOf (clients_of view.now) log.now.client client × IsWalkOf client log.now walk) }
     ensures view_agrees { IfOk result (λ walk. Agrees walk.reads.entries (client_sight_in view.now log.now.client)) }
     ensures once { IfOk result (λ walk. AreOnce walk.reads.entries) }
     ensures among { IfOk result (ReadsLookedCells view.now log.now) }
+    ensures sizes { IfOk result HasOrderedSizes }
 {
     let walk = walk_entries(alloc, view, log)?;
     Ok(walk)
@@ -59,12 +64,13 @@ fn walk_entries<A: Allocator + Copy>(
     log: &Log<A>,
 ) -> Result<Walk<A>, AllocError>
     requires client { IsSome (row_of (clients_of view.now) log.now.client) }
-    requires count { length log.now.entries ≤ 4096 }
+    requires count { length log.now.entries ≤ entry_limit }
     // In every state that agrees with the reads, the run over its cells comes to this outcome.
     ensures known { IfOk result (λ walk. (client : ClientRow) × IsRowOf (clients_of view.now) log.now.client client × IsCellWalkOf client log.now walk) }
     ensures view_agrees { IfOk result (λ walk. Agrees walk.reads.entries (client_sight_in view.now log.now.client)) }
     ensures once { IfOk result (λ walk. AreOnce walk.reads.entries) }
     ensures among { IfOk result (ReadsLookedCells view.now log.now) }
+    ensures sizes { IfOk result HasOrderedSizes }
 {
     let client = view.client(log.client).unwrap();
     let mut judge = LogJudge::new(alloc, view, client);
@@ -73,12 +79,15 @@ fn walk_entries<A: Allocator + Copy>(
         return Ok(Walk {
             reads: judge.into_reads(),
             outcome: Err(fault),
+            sizes: Vec::new(alloc),
         });
     }
     let net = judge.net(alloc)?;
+    let sizes = judge.sizes(alloc)?;
     Ok(Walk {
         reads: judge.into_reads(),
         outcome: Ok(net),
+        sizes,
     })
 }
 
@@ -87,7 +96,7 @@ fn enter_all<A: Allocator + Copy>(
     judge: &mut LogJudge<'_, A>,
     entries: &[Entry<Span>],
 ) -> Result<Option<EntryFault>, AllocError>
-    requires count { length entries.now ≤ 4096 }
+    requires count { length entries.now ≤ entry_limit }
     requires shown { (s : Sight) → over judge.old.draft s ≡ s }
     requires created { (n : ℕ) → has_created judge.old.draft n ≡ false }
     requires written { IsWritten judge.old.draft [] }
@@ -97,6 +106,7 @@ fn enter_all<A: Allocator + Copy>(
     ensures known { IfOk result (StopsAt judge.old judge.new entries.now) }
     ensures among { OnOk result (ReadsTheirCells judge.old judge.new entries.now) }
     ensures written { result ≡ Ok None → WritesTheirCells judge.old judge.new entries.now }
+    ensures reached { result ≡ Ok None → HasTheirFiles judge.new entries.now }
 {
     for (index, entry) in entries.iter().enumerate() {
         if let Some(reason) = judge.enter(entry)? {

@@ -1,9 +1,9 @@
--- Entries that keep every byte, of the code and of the definitions. No payload of theirs leaves a source.
+-- Entries that keep every byte, of the code and of the definitions.
 use Rattle.std.specs.Prelude.{◌≡◌, ℕ, true, false, List, [], ◌∷◌, map, All, refl}
-use Rattle.std.specs.List.{AllByRecursion, list_all}
+use Rattle.std.specs.List.{list_all}
 use Rattle.std.proofs.lemmas.List.Elements.{All-head, All-tail, All-nil, All-cons}
 use Rattle.std.proofs.lemmas.Bool.{and_parts, false_from_ne_true}
-use Rattle.kfs_value.specs.Views.{entry_of, IsWithin}
+use Rattle.kfs_value.specs.Views.{entry_of}
 use Rattle.kfs_value.specs.declared.entry.Entry.{Entry as CodeEntry}
 use Rattle.kfs_value.specs.declared.entry.Entry.TheVariants as entries
 use Rattle.kfs_value.specs.declared.entry.Span.{Span}
@@ -39,16 +39,3 @@ all_kept_back source (e ∷ es) are =
 
 pub not_all_kept : (source : List ℕ) (entries : List (CodeEntry Span)) → (All KeepsBytes entries → ⊥) → list_all keeps_bytes (map (entry_of source) entries) ≡ false
 not_all_kept source entries other = false_from_ne_true _ (λ are. other (all_kept_back source entries are))
-
-within_any : (len : ℕ) (entry : CodeEntry Span) → KeepsBytes entry → IsWithin len entry
-within_any len (entries.Create d m n k mode) is = tt
-within_any len (entries.Write n offset p) is = absurd is
-within_any len (entries.Truncate n size) is = tt
-within_any len (entries.Link n d m) is = tt
-within_any len (entries.Unlink d m k) is = tt
-within_any len (entries.Rename d m e k) is = tt
-within_any len (entries.Chmod n mode) is = tt
-
-pub kept_are_within : (len : ℕ) (entries : List (CodeEntry Span)) → All KeepsBytes entries → AllByRecursion (IsWithin len) entries
-kept_are_within len [] are = tt
-kept_are_within len (e ∷ es) are = (within_any len e (All-head KeepsBytes e es are), kept_are_within len es (All-tail KeepsBytes e es are))

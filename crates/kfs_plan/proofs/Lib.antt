@@ -1,7 +1,7 @@
 -- Lemmas on the comparison of a plan, and on verdicts.
 pub mod KeptBytes
 pub mod MarkedRuns
-pub mod Untouched
+pub mod Ranges
 pub mod RowsCompared
 pub mod PlanChecked
 pub mod Verdicts

@@ -1,30 +1,32 @@
--- The first row of a plan that isn't the net's is the first wrong row.
-use Rattle.std.specs.Prelude.{◌≡◌, ℕ, Bool, true, nat_eq, List, map, None, Result, Ok}
-use Rattle.std.specs.List.{list_all}
+-- The first row of a plan that isn't the net's is the first wrong row, and what is told of a walk's end.
+use Rattle.std.specs.Prelude.{◌≡◌, ℕ, Bool, nat_eq, List, map, None, Result, Ok, IfOk}
 use Rattle.std.proofs.Common.{ap, sym, subst, ◌∙◌}
 use mathlib.Core.List.{map-map}
 use Rattle.kfs_model.specs.Access.{Client}
 use Rattle.kfs_model.specs.Entry.{Entry}
 use Rattle.kfs_model.specs.Tree.{Tree, headers}
 use Rattle.kfs_model.specs.Sight.{sight, client_sight, ClientSight}
-use Rattle.kfs_model.specs.Plan.{number_now, header_now, keyed_name, keyed_node}
+use Rattle.kfs_model.specs.Run.{Mark, run, over_marks, marked}
+use Rattle.kfs_model.specs.Plan.{ArePieces, number_now, header_now, keyed_name, keyed_node}
+use Rattle.kfs_model.specs.PlanRow.{Piece}
 use Rattle.kfs_model.specs.Placement.{need}
-use Rattle.kfs_model.specs.FirstWrong.{Names, Nodes, Pieces, same_header, same_headers, same_place, same_pair, first_difference, first_wrong_name, first_wrong_node, first_wrong_row, or_else}
+use Rattle.kfs_model.specs.FirstWrong.{Names, Nodes, Pieces, same_header, same_headers, same_place, same_pair, first_difference, first_wrong_name, first_wrong_node, first_wrong_piece, first_wrong_row, or_else}
 use Rattle.kfs_model.proofs.Exact.{numbers-exact, headers-exact}
 use Rattle.kfs_model.proofs.Differences.{differences_only}
 use Rattle.kfs_entry.specs.Answers.{plan_of}
-use Rattle.kfs_value.specs.Views.{name_row_of, node_row_of}
+use Rattle.kfs_value.specs.Views.{name_row_of, node_row_of, piece_of}
 use Rattle.kfs_value.specs.declared.plan.Plan.{Plan as CodePlan}
+use Rattle.kfs_sweep.specs.declared.sizes.FileSize.{FileSize}
+use Rattle.kfs_sweep.specs.Sizes.{AreSizes, AreSwept}
+use Rattle.kfs_sweep.proofs.LogMade.{of_value}
+use Rattle.kfs_sweep.proofs.SizesBetween.{sizes_between}
 use Rattle.kfs_image.specs.declared.shape.Net.{Net}
 use Rattle.kfs_plan.specs.declared.rows.RowFault.{RowFault as CodeRowFault}
-use Rattle.kfs_judge.specs.declared.walk.EntryFault.{EntryFault as CodeEntryFault}
-use Rattle.kfs_plan.specs.KeptBytes.{keeps_bytes}
-use Rattle.kfs_plan.specs.PlanCheck.{first_unlike, TellsRow, IsChecked}
+use Rattle.kfs_plan.specs.PlanCheck.{first_unlike, TellsRow}
 use Rattle.kfs_step.specs.Rows.{keyed_name_row, keyed_node_row}
 use Rattle.kfs_judge.specs.Walks.{ComesToTree}
 use Rattle.kfs_step.specs.Nets.{IsNetOf}
 use Rattle.kfs_plan.proofs.MarkedRuns.{EndsBeside, ends_beside}
-use Rattle.kfs_plan.proofs.Untouched.{first_of_pieces-wrong, need-untouched}
 
 module _ {A : Type 0} (client : Client) (before : ClientSight) (tree : Tree ℕ) (entries : List Entry) (after : Tree ℕ) (net : Net A) (plan : CodePlan A) (beside : EndsBeside client before tree entries after) (differs : IsNetOf (sight tree) (sight after) net) where
   wrong_name : first_wrong_name tree.names beside.marked_after.names (plan_of plan).names ≡ first_difference (same_pair same_place nat_eq) (map keyed_name_row plan.names) (map keyed_name_row net.names.items)
@@ -41,22 +43,32 @@ module _ {A : Type 0} (client : Client) (before : ClientSight) (tree : Tree ℕ)
       ap (λ heads. first_wrong_node (headers tree) heads (plan_of plan).nodes) (sym beside.heads)
       ∙ λ i. first_difference (same_pair nat_eq same_headers) (shown i) (sym rows i)
 
-  pub first_wrong-unlike : first_wrong_row tree beside.marked_after (plan_of plan) ≡ first_unlike net plan
+  pub first_wrong-unlike : first_wrong_row tree beside.marked_after (plan_of plan) ≡ first_unlike net beside.marked_after plan
   unfolding first_wrong_row
-  first_wrong-unlike = λ i. or_else Names (wrong_name i) (or_else Nodes (wrong_node i) (or_else Pieces (first_of_pieces-wrong beside.marked_after beside.untouched plan.pieces i) None))
+  first_wrong-unlike = λ i. or_else Names (wrong_name i) (or_else Nodes (wrong_node i) (or_else Pieces (first_wrong_piece beside.marked_after (map piece_of plan.pieces)) None))
 
-  tells_wrong : (result : Result ℕ CodeRowFault) → TellsRow (first_unlike net plan) 0 result → TellsRow (first_wrong_row tree beside.marked_after (plan_of plan)) (need beside.marked_after) result
-  tells_wrong result told =
-      subst (λ first. TellsRow first (need beside.marked_after) result) (sym first_wrong-unlike)
-      (subst (λ n. TellsRow (first_unlike net plan) n result) (sym (need-untouched beside.marked_after beside.untouched)) told)
+-- ---- at the end of a walk without a fault
 
-  is_checked : (result : Result ℕ CodeRowFault) → TellsRow (first_unlike net plan) 0 result → IsChecked client before tree entries plan result
-  is_checked result told = record { after = beside.marked_after; ran = beside.ran; told = tells_wrong result told }
+module _ {A : Type 0} (client : Client) (held : ℕ → Bool) (tree : Tree ℕ) (entries : List Entry) (sizes : List FileSize) (net : Net A) (comes : ComesToTree client held tree entries (Ok net) sizes) where
+  abbrev before : ClientSight
+  before = client_sight tree held
 
--- a walk that ends, and what is told of its net
-pub walk_is_checked : {A : Type 0} (client : Client) (held : ℕ → Bool) (tree : Tree ℕ) (entries : List Entry) (outcome : Result (Net A) CodeEntryFault) (net : Net A) (plan : CodePlan A) (result : Result ℕ CodeRowFault)
-    → list_all keeps_bytes entries ≡ true → outcome ≡ Ok net → ComesToTree client held tree entries outcome → TellsRow (first_unlike net plan) 0 result → IsChecked client (client_sight tree held) tree entries plan result
-walk_is_checked client held tree entries outcome net plan result are is comes told =
-    let end = subst (ComesToTree client held tree entries) is comes in
-    let before = client_sight tree held in
-    is_checked client before tree entries end.0 net plan (ends_beside client before tree entries are end.0 end.1) end.4 result told
+  end : EndsBeside client before tree entries comes.0
+  end = ends_beside client before tree entries comes.0 comes.1
+
+  -- what is said of the run's end where the sizes are those of the run
+  at_end : (P : Tree Mark → Type 0) → IfOk (run over_marks client before (marked tree) entries) (λ after. AreSizes tree entries after sizes → P after) → P end.marked_after
+  at_end P all =
+      let are = sizes_between tree comes.0 end.marked_after comes.2 end.heads entries sizes comes.5 in
+      of_value (λ after. AreSizes tree entries after sizes → P after) (run over_marks client before (marked tree) entries) end.marked_after end.ran all are
+
+  pub told_at_end : (plan : CodePlan A) (result : Result ℕ CodeRowFault) → IfOk (run over_marks client before (marked tree) entries) (λ after. AreSizes tree entries after sizes → TellsRow (first_unlike net after plan) (need after) result)
+      → (after : Tree Mark) × (run over_marks client before (marked tree) entries ≡ Ok after) × TellsRow (first_wrong_row tree after (plan_of plan)) (need after) result
+  told_at_end plan result all =
+      let first = first_wrong-unlike client before tree entries comes.0 net plan end comes.4 in
+      let told = at_end (λ after. TellsRow (first_unlike net after plan) (need after) result) all in
+      (end.marked_after, end.ran, subst (λ row. TellsRow row (need end.marked_after) result) (sym first) told)
+
+  pub pieces_at_end : (pieces : List Piece) → IfOk (run over_marks client before (marked tree) entries) (λ after. AreSizes tree entries after sizes → AreSwept sizes after pieces)
+      → (after : Tree Mark) × (run over_marks client before (marked tree) entries ≡ Ok after) × ArePieces after pieces
+  pieces_at_end pieces all = (end.marked_after, end.ran, (at_end (λ after. AreSwept sizes after pieces) all).right)

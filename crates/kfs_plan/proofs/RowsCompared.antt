@@ -6,8 +6,13 @@ use Rattle.std.specs.Cmp.Lexicographic.{pointwise}
 use Rattle.std.proofs.Common.{ap, sym, ◌∙◌, arith, inl, inr}
 use Rattle.std.proofs.lemmas.Bool.{eq-eqb, ne_eqb, cases_eq}
 use Rattle.std.proofs.lemmas.Iterator.Adapters.{position_from-zero}
-use Rattle.kfs_model.specs.FirstWrong.{Names, Nodes, Pieces, same_kind, same_header, same_headers, same_place, same_pair, first_difference, or_else}
-use Rattle.kfs_value.specs.Views.{header_of, kind_of}
+use Rattle.kfs_model.specs.FirstWrong.{Names, Nodes, Pieces, same_kind, same_header, same_headers, same_place, same_pair, first_difference, first_wrong_piece, or_else}
+use Rattle.kfs_model.specs.Compare.{first_apart}
+use Rattle.kfs_model.specs.Plan.{ArePieces}
+use Rattle.kfs_model.specs.Run.{Mark}
+use Rattle.kfs_model.specs.Tree.{Tree}
+use Rattle.kfs_model.proofs.Compare.{first_wrong_is_apart}
+use Rattle.kfs_value.specs.Views.{header_of, kind_of, piece_of}
 use Rattle.kfs_value.specs.declared.header.Kind.{Kind as CodeKind}
 use Rattle.kfs_value.specs.declared.header.Kind.TheVariants as kinds
 use Rattle.kfs_value.specs.declared.header.Header.{Header as CodeHeader}
@@ -20,7 +25,7 @@ use Rattle.kfs_value.specs.contracts.plan.NodeRowPartialEq.TheImpl as nodes
 use Rattle.kfs_value.specs.contracts.header.HeaderPartialEq.TheImpl as heads
 use Rattle.kfs_value.specs.contracts.header.KindPartialEq.TheImpl as kind_tests
 use Rattle.kfs_image.specs.declared.shape.Net.{Net}
-use Rattle.kfs_plan.specs.PlanCheck.{first_unlike, first_of_pieces}
+use Rattle.kfs_plan.specs.PlanCheck.{first_unlike}
 use Rattle.kfs_step.specs.Rows.{keyed_name_row, keyed_node_row}
 
 -- ---- the first difference, by a search for a pair that differs
@@ -151,19 +156,20 @@ module _ {A : Type 0} (net : Net A) (plan : CodePlan A) where
       sym (first_difference-map nodes.eq-value.it (same_pair nat_eq same_headers) keyed_node_row node_rows-alike plan.nodes net.nodes.items)
       ∙ (λ i. first_difference nodes.eq-value.it (sym rows_are i) (sym right_are i)) ∙ sym is ∙ here
 
-  pub unlike-name : (index : ℕ) → in_names ≡ Some index → first_unlike net plan ≡ Some (Names index)
-  unlike-name index here = ap (λ o. or_else Names o (or_else Nodes in_nodes (or_else Pieces (first_of_pieces plan.pieces) None))) here
+  module _ (after : Tree Mark) where
+    abbrev in_pieces : Option ℕ
+    in_pieces = first_wrong_piece after (map piece_of plan.pieces)
 
-  pub unlike-node : (index : ℕ) → in_names ≡ None → in_nodes ≡ Some index → first_unlike net plan ≡ Some (Nodes index)
-  unlike-node index no_name here = λ i. or_else Names (no_name i) (or_else Nodes (here i) (or_else Pieces (first_of_pieces plan.pieces) None))
+    pub unlike-name : (index : ℕ) → in_names ≡ Some index → first_unlike net after plan ≡ Some (Names index)
+    unlike-name index here = ap (λ o. or_else Names o (or_else Nodes in_nodes (or_else Pieces in_pieces None))) here
 
-  pub unlike-piece : (found : Option ℕ) → in_names ≡ None → in_nodes ≡ None → first_of_pieces plan.pieces ≡ found → first_unlike net plan ≡ or_else Pieces found None
-  unlike-piece found no_name no_node here = λ i. or_else Names (no_name i) (or_else Nodes (no_node i) (or_else Pieces (here i) None))
+    pub unlike-node : (index : ℕ) → in_names ≡ None → in_nodes ≡ Some index → first_unlike net after plan ≡ Some (Nodes index)
+    unlike-node index no_name here = λ i. or_else Names (no_name i) (or_else Nodes (here i) (or_else Pieces in_pieces None))
 
-pub no_piece : (pieces shown : List CodePiece) → shown ≡ pieces → length shown ≡ 0 → first_of_pieces pieces ≡ None
-no_piece [] shown same none = refl
-no_piece (p ∷ ps) shown same none = let some : length shown ≡ suc (length ps) = ap length same in absurd (let never : ⊥ = omega arith in never)
+    pub unlike-piece : (found : Option ℕ) → in_names ≡ None → in_nodes ≡ None → in_pieces ≡ found → first_unlike net after plan ≡ or_else Pieces found None
+    unlike-piece found no_name no_node here = λ i. or_else Names (no_name i) (or_else Nodes (no_node i) (or_else Pieces (here i) None))
 
-pub a_piece : (pieces shown : List CodePiece) → shown ≡ pieces → (length shown ≡ 0 → ⊥) → first_of_pieces pieces ≡ Some 0
-a_piece [] shown same some = absurd (some (ap length same))
-a_piece (p ∷ ps) shown same some = refl
+    -- the first piece that is apart from right ones, whichever these are
+    pub piece_found : (rows right : List CodePiece) (found shown : Option ℕ) → rows ≡ plan.pieces → ArePieces after (map piece_of right) → found ≡ first_apart 0 (map piece_of rows) (map piece_of right) → found ≡ shown → in_pieces ≡ shown
+    piece_found rows right found shown rows_are are is here =
+        ap (λ ps. first_wrong_piece after (map piece_of ps)) (sym rows_are) ∙ first_wrong_is_apart after (map piece_of right) (map piece_of rows) are ∙ sym is ∙ here

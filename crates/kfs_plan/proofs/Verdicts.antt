@@ -1,5 +1,5 @@
 -- The verdict on a submission, case by case of the judgement's order.
-use Rattle.std.specs.Prelude.{◌≡◌, ◌≢◌, ℕ, true, false, cond, List, [], length, Option, Some, None, Result, Ok, Err, refl}
+use Rattle.std.specs.Prelude.{◌≡◌, ◌≢◌, ℕ, true, false, cond, List, [], Option, Some, None, Result, Ok, Err, refl}
 use Rattle.std.specs.Option.{option_map}
 use Rattle.std.proofs.Common.{ap, sym, subst, ◌∙◌}
 use Rattle.std.proofs.lemmas.Bool.{eq-eqb, ne_eqb}
@@ -9,7 +9,8 @@ use Rattle.kfs_model.specs.PlanRow.{Plan}
 use Rattle.kfs_model.specs.Tree.{Tree}
 use Rattle.kfs_model.specs.Lease.{holds, row_of}
 use Rattle.kfs_model.specs.Run.{Mark, EntryFault, run, over_bytes, over_marks, marked}
-use Rattle.kfs_model.specs.FirstWrong.{RowFault, first_wrong_row}
+use Rattle.kfs_model.specs.FirstWrong.{RowFault, Names, Nodes, Pieces, first_wrong_row}
+use Rattle.kfs_model.specs.Placement.{need}
 use Rattle.kfs_model.specs.Spelling.{IsBytes, SpellingFault, BadHeader, BadEntry, Trailing, BadRow, LogAnswer, PlanAnswer}
 use Rattle.kfs_model.specs.Judgement.{State, Submission, Fault, Verdict, client_sight_of, judged, judged_log, judged_plan, judged_run, judged_rows}
 use Rattle.kfs_model.specs.Judgement.Fault.{ClientUnknown, ClientWrong, BadLog, BadPlan, AtEntry, AtRow}
@@ -22,8 +23,10 @@ use Rattle.kfs_value.specs.declared.entry.Log.{Log as CodeLog}
 use Rattle.kfs_value.specs.declared.plan.Plan.{Plan as CodePlan}
 use Rattle.kfs_entry.specs.declared.fault.SpellFault.{SpellFault}
 use Rattle.kfs_entry.specs.declared.fault.SpellFault.TheVariants as spelling
+use Rattle.kfs_sweep.specs.declared.sizes.FileSize.{FileSize}
 use Rattle.kfs_image.specs.declared.shape.Net.{Net}
 use Rattle.kfs_plan.specs.declared.rows.RowFault.{RowFault as CodeRowFault}
+use Rattle.kfs_plan.specs.declared.rows.RowFault.TheVariants as rows
 use Rattle.kfs_plan.specs.declared.submission.Fault.{Fault as CodeFault}
 use Rattle.kfs_plan.specs.declared.submission.Fault.TheVariants as faults
 use Rattle.kfs_plan.specs.declared.submission.Outcome.{Outcome}
@@ -33,17 +36,14 @@ use Rattle.kfs_plan.specs.Judging.{row_fault_of, refusal_of, is_before_entries, 
 use Rattle.kfs_judge.specs.declared.walk.Walk.{Walk}
 use Rattle.kfs_check.specs.declared.reads.Read.{Read}
 use Rattle.kfs_check.specs.declared.reads.ReadAnswer.{ReadAnswer}
-use Rattle.kfs_plan.specs.PlanCheck.{first_unlike}
+use Rattle.kfs_plan.specs.PlanCheck.{TellsOfEachRun, TellsRow}
 use Rattle.kfs_check.specs.declared.view.View.{View}
 use Rattle.kfs_check.specs.Reads.{Agrees}
 use Rattle.kfs_check.specs.View.{client_sight_in}
 use Rattle.kfs_judge.specs.Walks.{ComesToTree, fault_of, IsWalkOf}
 use Rattle.kfs_model.proofs.AnswersExist.{log_has_answer, plan_has_answer}
 use Rattle.kfs_check.proofs.Lists.{row_has_number}
-use Rattle.kfs_plan.proofs.MarkedRuns.{EndsBeside, ends_beside}
-use Rattle.kfs_plan.proofs.PlanChecked.{first_wrong-unlike}
-use Rattle.kfs_plan.proofs.KeptBytes.{all_kept, kept_are_within}
-use Rattle.kfs_plan.proofs.Untouched.{need-untouched}
+use Rattle.kfs_plan.proofs.PlanChecked.{told_at_end}
 
 module _ (s : State) (number : ℕ) where
   judged-unknown : (log : Result Log SpellingFault) (plan : Result Plan SpellingFault) → row_of s.clients number ≡ None → judged s number log plan ≡ No ClientUnknown
@@ -146,72 +146,86 @@ module _ (A : Type 0) (s : State) (submission : Submission) where
       abbrev the_log : Log
       the_log = log_of submission.log log
 
-      bad_entry : (fault : CodeEntryFault) → ComesToTree {A = A} client (holds s.leases submission.client) s.tree the_log.entries (Err fault) → IsVerdict {A = A} s submission (outcomes.No (faults.Entry fault))
-      bad_entry fault comes =
+      bad_entry : (sizes : List FileSize) (fault : CodeEntryFault) → ComesToTree {A = A} client (holds s.leases submission.client) s.tree the_log.entries (Err fault) sizes → IsVerdict {A = A} s submission (outcomes.No (faults.Entry fault))
+      bad_entry sizes fault comes =
           refused (faults.Entry fault) (AtEntry (fault_of fault)) (Ok the_log) (Ok (plan_of plan)) spelled.log_read spelled.plan_read
           (judged-entry s submission.client client row the_log (plan_of plan) spelled.owner (fault_of fault) (ap (λ before. run over_bytes client before s.tree the_log.entries) (sym sights) ∙ comes)) refl
 
-      module _ (net : Net A) (comes : ComesToTree client (holds s.leases submission.client) s.tree the_log.entries (Ok net)) where
-        ends : EndsBeside client (client_sight_of s client.number) s.tree the_log.entries comes.0
-        ends = ends_beside client (client_sight_of s client.number) s.tree the_log.entries (all_kept submission.log log.entries spelled.kept) comes.0 (ap (λ before. run over_bytes client before s.tree the_log.entries) (sym sights) ∙ comes.1)
-
-        first : first_wrong_row s.tree ends.marked_after (plan_of plan) ≡ first_unlike net plan
-        first = first_wrong-unlike client (client_sight_of s client.number) s.tree the_log.entries comes.0 net plan ends comes.4
-
+      module _ (sizes : List FileSize) (net : Net A) (comes : ComesToTree client (holds s.leases submission.client) s.tree the_log.entries (Ok net) sizes) where
         ran : run over_bytes client (client_sight_of s client.number) s.tree the_log.entries ≡ Ok comes.0
         ran = ap (λ before. run over_bytes client before s.tree the_log.entries) (sym sights) ∙ comes.1
 
-        bad_row : (fault : CodeRowFault) (wrong : RowFault) → row_fault_of fault ≡ Some wrong → first_unlike net plan ≡ Some wrong → IsVerdict {A = A} s submission (outcomes.No (faults.Row fault))
-        bad_row fault wrong shown is =
+        -- the marks at the end of the run, and what is told of them
+        abbrev Told : Result ℕ CodeRowFault → Type 0
+        Told result = (after : Tree Mark) × (run over_marks client (client_sight_of s submission.client) (marked s.tree) the_log.entries ≡ Ok after) × TellsRow (first_wrong_row s.tree after (plan_of plan)) (need after) result
+
+        told_of : (result : Result ℕ CodeRowFault) → TellsOfEachRun sizes log net plan result → Told result
+        told_of result all =
+            told_at_end client (holds s.leases submission.client) s.tree the_log.entries sizes net comes plan result (all submission.log spelled.within client (client_sight_of s submission.client) s.tree refl)
+
+        ran_marked : (after : Tree Mark) → run over_marks client (client_sight_of s submission.client) (marked s.tree) the_log.entries ≡ Ok after → run over_marks client (client_sight_of s client.number) (marked s.tree) the_log.entries ≡ Ok after
+        ran_marked after is = ap (λ before. run over_marks client before (marked s.tree) the_log.entries) (sym sights) ∙ is
+
+        named_row : (fault : CodeRowFault) (wrong : RowFault) → row_fault_of fault ≡ Some wrong → (after : Tree Mark) → run over_marks client (client_sight_of s client.number) (marked s.tree) the_log.entries ≡ Ok after
+            → first_wrong_row s.tree after (plan_of plan) ≡ Some wrong → IsVerdict {A = A} s submission (outcomes.No (faults.Row fault))
+        named_row fault wrong shown after marks is =
             refused (faults.Row fault) (AtRow wrong) (Ok the_log) (Ok (plan_of plan)) spelled.log_read spelled.plan_read
-            (judged-row s submission.client client row the_log (plan_of plan) spelled.owner comes.0 ends.marked_after (Some wrong) ran ends.ran (first ∙ is))
+            (judged-row s submission.client client row the_log (plan_of plan) spelled.owner comes.0 after (Some wrong) ran marks is)
             (ap (option_map AtRow) shown)
 
-        right : (told : ℕ) → told ≡ 0 → first_unlike net plan ≡ None → IsVerdict s submission (outcomes.Yes log plan net told)
-        right told zero is = record {
-          verdict = Yes comes.0 ends.marked_after;
-          judgement = record {
-            reading = record { log = Ok the_log; plan = Ok (plan_of plan) };
-            read = record { log = spelled.log_read; plan = spelled.plan_read };
-            judgement = sym (judged-row s submission.client client row the_log (plan_of plan) spelled.owner comes.0 ends.marked_after None ran ends.ran (first ∙ is));
-          };
-          told = record {
-            spelled = spelled;
-            client = client;
-            row = row;
-            comes = record {
-              ran = ran;
-              sound = comes.2;
-              allowed = subst (λ before. OneByOne client before 0 [] s.tree the_log.entries comes.0) sights comes.3;
-              differs = comes.4;
-              ran_marked = ends.ran;
-            };
-            right = right_from_none s.tree ends.marked_after (plan_of plan) (first ∙ is);
-            need_told = zero ∙ sym (need-untouched ends.marked_after ends.untouched);
-          };
-        }
+        bad_row : (fault : CodeRowFault) → fault ≢ rows.OutOfMemory → Told (Err fault) → IsVerdict {A = A} s submission (outcomes.No (faults.Row fault))
+        bad_row (rows.Names index) memory told = named_row (rows.Names index) (Names index) refl told.0 (ran_marked told.0 told.1) told.2
+        bad_row (rows.Nodes index) memory told = named_row (rows.Nodes index) (Nodes index) refl told.0 (ran_marked told.0 told.1) told.2
+        bad_row (rows.Pieces index) memory told = named_row (rows.Pieces index) (Pieces index) refl told.0 (ran_marked told.0 told.1) told.2
+        bad_row rows.OutOfMemory memory told = absurd (memory refl)
 
-      pub settled : (walked : Result (Net A) CodeEntryFault) (outcome : Outcome A) → ComesToTree client (holds s.leases submission.client) s.tree the_log.entries walked → IsSettled log plan walked outcome → IsVerdict s submission outcome
-      settled (Err fault) (outcomes.No refusal) comes is = subst (λ (f : CodeFault). IsVerdict {A = A} s submission (outcomes.No f)) (sym is) (bad_entry fault comes)
-      settled (Err fault) (outcomes.Yes l p n told) comes is = absurd is
-      settled (Ok net) (outcomes.No (faults.Row fault)) comes is = bad_row net comes fault is.0 is.1 is.2
-      settled (Ok net) (outcomes.No faults.UnknownClient) comes is = absurd is
-      settled (Ok net) (outcomes.No (faults.BadLog fault)) comes is = absurd is
-      settled (Ok net) (outcomes.No faults.WrongClient) comes is = absurd is
-      settled (Ok net) (outcomes.No (faults.BadPlan fault)) comes is = absurd is
-      settled (Ok net) (outcomes.No (faults.Entry fault)) comes is = absurd is
-      settled (Ok net) (outcomes.Yes l p n told) comes is =
+        right : (need_told : ℕ) → Told (Ok need_told) → IsVerdict s submission (outcomes.Yes log plan net need_told)
+        right need_told told =
+            let marks = ran_marked told.0 told.1 in
+            record {
+              verdict = Yes comes.0 told.0;
+              judgement = record {
+                reading = record { log = Ok the_log; plan = Ok (plan_of plan) };
+                read = record { log = spelled.log_read; plan = spelled.plan_read };
+                judgement = sym (judged-row s submission.client client row the_log (plan_of plan) spelled.owner comes.0 told.0 None ran marks told.2.0);
+              };
+              told = record {
+                spelled = spelled;
+                client = client;
+                row = row;
+                comes = record {
+                  ran = ran;
+                  sound = comes.2;
+                  allowed = subst (λ before. OneByOne client before 0 [] s.tree the_log.entries comes.0) sights comes.3;
+                  differs = comes.4;
+                  ran_marked = marks;
+                };
+                right = right_from_none s.tree told.0 (plan_of plan) told.2.0;
+                need_told = told.2.1;
+              };
+            }
+
+      pub settled : (sizes : List FileSize) (walked : Result (Net A) CodeEntryFault) (outcome : Outcome A) → ComesToTree client (holds s.leases submission.client) s.tree the_log.entries walked sizes → IsSettled log plan sizes walked outcome → IsVerdict s submission outcome
+      settled sizes (Err fault) (outcomes.No refusal) comes is = subst (λ (f : CodeFault). IsVerdict {A = A} s submission (outcomes.No f)) (sym is) (bad_entry sizes fault comes)
+      settled sizes (Err fault) (outcomes.Yes l p n told) comes is = absurd is
+      settled sizes (Ok net) (outcomes.No (faults.Row fault)) comes is = bad_row sizes net comes fault is.0 (told_of sizes net comes (Err fault) is.1)
+      settled sizes (Ok net) (outcomes.No faults.UnknownClient) comes is = absurd is
+      settled sizes (Ok net) (outcomes.No (faults.BadLog fault)) comes is = absurd is
+      settled sizes (Ok net) (outcomes.No faults.WrongClient) comes is = absurd is
+      settled sizes (Ok net) (outcomes.No (faults.BadPlan fault)) comes is = absurd is
+      settled sizes (Ok net) (outcomes.No (faults.Entry fault)) comes is = absurd is
+      settled sizes (Ok net) (outcomes.Yes l p n told) comes is =
           let same : outcomes.Yes log plan net told ≡ outcomes.Yes l p n told = λ i. outcomes.Yes (sym is.0 i) (sym is.1 i) (sym is.2 i) told in
-          subst (λ (o : Outcome A). IsVerdict s submission o) same (right net comes told is.3 is.4)
+          subst (λ (o : Outcome A). IsVerdict s submission o) same (right sizes net comes told (told_of sizes net comes (Ok told) is.3))
 
 -- a finding on a log that was walked
 pub walked_verdict : (A : Type 0) (s : State) (submission : Submission) (client : Client) (found : Option Client) (log : CodeLog A) (plan : CodePlan A) (walk : Walk A) (reads : List (Read × ReadAnswer)) (outcome : Outcome A)
-    → AreSpelled submission log plan → IsClient client → found ≡ Some client → reads ≡ walk.reads.entries → IsWalkOf client log walk → IsSettled log plan walk.outcome outcome
+    → AreSpelled submission log plan → IsClient client → found ≡ Some client → reads ≡ walk.reads.entries → IsWalkOf client log walk → IsSettled log plan walk.sizes.items walk.outcome outcome
     → IsAlike s submission.client found reads → IsVerdict s submission outcome
 walked_verdict A s submission client found log plan walk reads outcome spelled in_range is same_reads walks is_settled alike =
     let agrees = subst (λ es. Agrees es (client_sight_of s submission.client)) same_reads alike.agrees in
     let fits : Fits client s.tree (log_of submission.log log).entries = record { in_range = in_range; sound = alike.sound; fitting = spelled.log_read.0.1 } in
-    settled A s submission client (alike.row ∙ is) log plan spelled walk.outcome outcome (walks submission.log (kept_are_within (length submission.log) log.entries spelled.kept) s.tree (holds s.leases submission.client) fits agrees) is_settled
+    settled A s submission client (alike.row ∙ is) log plan spelled walk.sizes.items walk.outcome outcome (walks submission.log spelled.within s.tree (holds s.leases submission.client) fits agrees) is_settled
 
 -- any state agrees with no reads
 pub nothing_read : {A : Type 0} (view : View A) (number : ℕ) (reads : List (Read × ReadAnswer)) → reads ≡ [] → Agrees reads (client_sight_in view number)
@@ -232,13 +246,13 @@ module _ {A : Type 0} (view : View A) (submission : Submission) where
     looked = λ _. of;
   }
 
-  pub settled_looked : (log : CodeLog A) (plan : CodePlan A) (walked : Result (Net A) CodeEntryFault) (outcome : Outcome A) (reads : List (Read × ReadAnswer)) → IsSettled log plan walked outcome → AreOfLog view submission reads → AreLooked view submission outcome reads
-  settled_looked log plan (Err fault) (outcomes.No refusal) reads is of = of_log (outcomes.No refusal) reads (ap is_before_entries is) of
-  settled_looked log plan (Err fault) (outcomes.Yes l p n told) reads is of = absurd is
-  settled_looked log plan (Ok net) (outcomes.No (faults.Row fault)) reads is of = of_log (outcomes.No (faults.Row fault)) reads refl of
-  settled_looked log plan (Ok net) (outcomes.No faults.UnknownClient) reads is of = absurd is
-  settled_looked log plan (Ok net) (outcomes.No (faults.BadLog fault)) reads is of = absurd is
-  settled_looked log plan (Ok net) (outcomes.No faults.WrongClient) reads is of = absurd is
-  settled_looked log plan (Ok net) (outcomes.No (faults.BadPlan fault)) reads is of = absurd is
-  settled_looked log plan (Ok net) (outcomes.No (faults.Entry fault)) reads is of = absurd is
-  settled_looked log plan (Ok net) (outcomes.Yes l p n told) reads is of = of_log (outcomes.Yes l p n told) reads refl of
+  pub settled_looked : (log : CodeLog A) (plan : CodePlan A) (sizes : List FileSize) (walked : Result (Net A) CodeEntryFault) (outcome : Outcome A) (reads : List (Read × ReadAnswer)) → IsSettled log plan sizes walked outcome → AreOfLog view submission reads → AreLooked view submission outcome reads
+  settled_looked log plan sizes (Err fault) (outcomes.No refusal) reads is of = of_log (outcomes.No refusal) reads (ap is_before_entries is) of
+  settled_looked log plan sizes (Err fault) (outcomes.Yes l p n told) reads is of = absurd is
+  settled_looked log plan sizes (Ok net) (outcomes.No (faults.Row fault)) reads is of = of_log (outcomes.No (faults.Row fault)) reads refl of
+  settled_looked log plan sizes (Ok net) (outcomes.No faults.UnknownClient) reads is of = absurd is
+  settled_looked log plan sizes (Ok net) (outcomes.No (faults.BadLog fault)) reads is of = absurd is
+  settled_looked log plan sizes (Ok net) (outcomes.No faults.WrongClient) reads is of = absurd is
+  settled_looked log plan sizes (Ok net) (outcomes.No (faults.BadPlan fault)) reads is of = absurd is
+  settled_looked log plan sizes (Ok net) (outcomes.No (faults.Entry fault)) reads is of = absurd is
+  settled_looked log plan sizes (Ok net) (outcomes.Yes l p n told) reads is of = of_log (outcomes.Yes l p n told) reads refl of

@@ -1,5 +1,5 @@
 -- What a judgement answered, as the definitions say it.
-use Rattle.std.specs.Prelude.{◌≡◌, ℕ, Bool, true, false, List, [], All, Option, None, Some, Result, Ok, Err}
+use Rattle.std.specs.Prelude.{◌≡◌, ◌≢◌, ℕ, Bool, true, false, List, [], length, Option, None, Some, Result, Ok, Err}
 use Rattle.std.specs.Option.{option_map}
 use Rattle.std.specs.List.{list_all}
 use Rattle.kfs_model.specs.Access.{Client}
@@ -16,7 +16,7 @@ use Rattle.kfs_model.specs.Soundness.{IsSound}
 use Rattle.kfs_model.specs.Machine.{OneByOne}
 use Rattle.kfs_model.specs.Spelling.{SpellingFault, BadHeader, BadEntry, Trailing, BadRow, LogAnswer, PlanAnswer}
 use Rattle.kfs_model.specs.Judgement.{State, Submission, Fault, ClientUnknown, ClientWrong, BadLog, BadPlan, AtEntry, AtRow, Verdict, Yes, No, IsJudgement, client_sight_of}
-use Rattle.kfs_entry.specs.Answers.{log_of, plan_of}
+use Rattle.kfs_entry.specs.Answers.{SpansAreWithin, log_of, plan_of}
 use Rattle.kfs_value.specs.declared.entry.Log.{Log as CodeLog}
 use Rattle.kfs_value.specs.declared.plan.Plan.{Plan as CodePlan}
 use Rattle.kfs_entry.specs.declared.fault.SpellFault.{SpellFault}
@@ -35,8 +35,9 @@ use Rattle.kfs_check.specs.declared.view.View.{View}
 use Rattle.kfs_judge.specs.declared.walk.EntryFault.{EntryFault as CodeEntryFault}
 use Rattle.kfs_check.specs.declared.reads.Read.{Read}
 use Rattle.kfs_check.specs.declared.reads.ReadAnswer.{ReadAnswer}
-use Rattle.kfs_plan.specs.KeptBytes.{KeepsBytes, keeps_bytes}
-use Rattle.kfs_plan.specs.PlanCheck.{first_unlike}
+use Rattle.kfs_plan.specs.KeptBytes.{keeps_bytes}
+use Rattle.kfs_sweep.specs.declared.sizes.FileSize.{FileSize}
+use Rattle.kfs_plan.specs.PlanCheck.{TellsOfEachRun}
 use Rattle.kfs_check.specs.Reads.{Agrees, AreAmong}
 use Rattle.kfs_check.specs.View.{clients_of, client_sight_in}
 use Rattle.kfs_judge.specs.Walks.{fault_of}
@@ -79,12 +80,12 @@ pub record HasOtherEntry (bytes : List ℕ) : Type 0 where
   pub spelled : LogAnswer bytes (Ok log)
   pub other : list_all keeps_bytes log.entries ≡ false
 
--- the bytes of the submission are this log of the client and this plan, and the entries keep every byte
+-- the bytes of the submission are this log of the client and this plan, and the payloads' spans lie in the log's bytes
 pub record AreSpelled {A : Type 0} (submission : Submission) (log : CodeLog A) (plan : CodePlan A) : Type 0 where
   pub owner : log.client ≡ submission.client
   pub log_read : LogAnswer submission.log (Ok (log_of submission.log log))
   pub plan_read : PlanAnswer submission.plan (Ok (plan_of plan))
-  pub kept : All KeepsBytes log.entries
+  pub within : SpansAreWithin (length submission.log) log
 
 -- ---- verdicts
 
@@ -160,14 +161,14 @@ abbrev pub IsEarly : {A : Type 0} → Spelled A → Type 0
 IsEarly (readings.Yes log plan) = Unit {0}
 IsEarly (readings.No fault) = is_before_entries fault ≡ true
 
--- a bad entry is the outcome, or else the first row that isn't the net's, or else a Yes
-abbrev pub IsSettled : {A : Type 0} → CodeLog A → CodePlan A → Result (Net A) CodeEntryFault → Outcome A → Type 0
-IsSettled log plan (Err fault) (outcomes.No refusal) = refusal ≡ faults.Entry fault
-IsSettled log plan (Err fault) (outcomes.Yes l p n told) = ⊥
-IsSettled log plan (Ok net) (outcomes.No (faults.Row fault)) = (wrong : RowFault) × (row_fault_of fault ≡ Some wrong) × (first_unlike net plan ≡ Some wrong)
-IsSettled log plan (Ok net) (outcomes.Yes l p n told) = (l ≡ log) × (p ≡ plan) × (n ≡ net) × (told ≡ 0) × (first_unlike net plan ≡ None)
-IsSettled log plan (Ok net) (outcomes.No faults.UnknownClient) = ⊥
-IsSettled log plan (Ok net) (outcomes.No (faults.BadLog fault)) = ⊥
-IsSettled log plan (Ok net) (outcomes.No faults.WrongClient) = ⊥
-IsSettled log plan (Ok net) (outcomes.No (faults.BadPlan fault)) = ⊥
-IsSettled log plan (Ok net) (outcomes.No (faults.Entry fault)) = ⊥
+-- a bad entry is the outcome, or else what is told of the net and of the marks of each run with these sizes
+abbrev pub IsSettled : {A : Type 0} → CodeLog A → CodePlan A → List FileSize → Result (Net A) CodeEntryFault → Outcome A → Type 0
+IsSettled log plan sizes (Err fault) (outcomes.No refusal) = refusal ≡ faults.Entry fault
+IsSettled log plan sizes (Err fault) (outcomes.Yes l p n told) = ⊥
+IsSettled log plan sizes (Ok net) (outcomes.No (faults.Row fault)) = (fault ≢ rows.OutOfMemory) × TellsOfEachRun sizes log net plan (Err fault)
+IsSettled log plan sizes (Ok net) (outcomes.Yes l p n told) = (l ≡ log) × (p ≡ plan) × (n ≡ net) × TellsOfEachRun sizes log net plan (Ok told)
+IsSettled log plan sizes (Ok net) (outcomes.No faults.UnknownClient) = ⊥
+IsSettled log plan sizes (Ok net) (outcomes.No (faults.BadLog fault)) = ⊥
+IsSettled log plan sizes (Ok net) (outcomes.No faults.WrongClient) = ⊥
+IsSettled log plan sizes (Ok net) (outcomes.No (faults.BadPlan fault)) = ⊥
+IsSettled log plan sizes (Ok net) (outcomes.No (faults.Entry fault)) = ⊥

@@ -1,4 +1,4 @@
--- The entries after which every byte of a file is as it was. A plan is checked today for logs of these alone.
+-- The entries after which every byte of a file is as it was. A desk lands logs of these alone today.
 use Rattle.std.specs.Prelude.{Bool, true, false}
 use Rattle.kfs_value.specs.declared.entry.Entry.{Entry as CodeEntry}
 use Rattle.kfs_value.specs.declared.entry.Entry.TheVariants as entries

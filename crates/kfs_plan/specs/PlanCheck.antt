@@ -1,18 +1,20 @@
--- What a check of a plan tells, as the definitions say it.
-use Rattle.std.specs.Prelude.{◌≡◌, ℕ, Bool, List, [], ◌∷◌, map, nat_eq, Option, None, Some, Result, Ok, Err}
-use Rattle.kfs_model.specs.Sight.{ClientSight, client_sight}
+-- What a check of a plan tells, and right pieces of a log, as the definitions say it.
+use Rattle.std.specs.Prelude.{◌≡◌, ℕ, Bool, List, length, map, nat_eq, Option, None, Some, Result, Ok, Err, IfOk}
+use Rattle.kfs_model.specs.Sight.{ClientSight, sight, client_sight}
 use Rattle.kfs_model.specs.Access.{Client}
-use Rattle.kfs_model.specs.Entry.{Entry}
 use Rattle.kfs_model.specs.Tree.{Tree}
 use Rattle.kfs_model.specs.Run.{Mark, run, over_marks, marked}
-use Rattle.kfs_model.specs.FirstWrong.{RowFault, Names, Nodes, Pieces, same_pair, same_place, same_headers, first_difference, or_else, first_wrong_row}
+use Rattle.kfs_model.specs.Plan.{ArePieces}
+use Rattle.kfs_model.specs.PlanRow.{Piece}
+use Rattle.kfs_model.specs.FirstWrong.{RowFault, Names, Nodes, Pieces, same_pair, same_place, same_headers, first_difference, or_else, first_wrong_piece, first_wrong_row}
 use Rattle.kfs_model.specs.Placement.{need}
 use Rattle.kfs_model.specs.CleanStep.{Fits}
-use Rattle.kfs_entry.specs.Answers.{plan_of}
-use Rattle.kfs_value.specs.Views.{entry_of}
+use Rattle.kfs_entry.specs.Answers.{SpansAreWithin, plan_of}
+use Rattle.kfs_value.specs.Views.{entry_of, piece_of}
 use Rattle.kfs_value.specs.declared.entry.Log.{Log as CodeLog}
-use Rattle.kfs_value.specs.declared.plan.Piece.{Piece as CodePiece}
 use Rattle.kfs_value.specs.declared.plan.Plan.{Plan as CodePlan}
+use Rattle.kfs_sweep.specs.declared.sizes.FileSize.{FileSize}
+use Rattle.kfs_sweep.specs.Sizes.{AreSizes}
 use Rattle.kfs_image.specs.declared.shape.Net.{Net}
 use Rattle.kfs_plan.specs.declared.rows.RowFault.{RowFault as CodeRowFault}
 use Rattle.kfs_plan.specs.declared.rows.RowFault.TheVariants as faults
@@ -28,26 +30,33 @@ TellsRow first need (Err (faults.Nodes index)) = first ≡ Some (Nodes index)
 TellsRow first need (Err (faults.Pieces index)) = first ≡ Some (Pieces index)
 TellsRow first need (Err faults.OutOfMemory) = Unit {0}
 
--- where a log writes no byte, any piece is wrong
-abbrev pub first_of_pieces : List CodePiece → Option ℕ
-first_of_pieces [] = None
-first_of_pieces (p ∷ ps) = Some 0
+-- P of each tree before the log and of its marks after the entries' run, which ends without a fault: at every fitting tree and
+-- all leases that agree with the walk's reads, whatever bytes the payloads' spans are of
+abbrev pub AtEachEnd : {A : Type 0} → Client → CodeLog A → Walk A → (Tree ℕ → Tree Mark → Type 0) → Type 0
+AtEachEnd client log walk P =
+    (source : List ℕ) → SpansAreWithin (length source) log → (tree : Tree ℕ) (held : ℕ → Bool) → Fits client tree (map (entry_of source) log.entries) → Agrees walk.reads.entries (client_sight tree held)
+    → (after : Tree Mark) × (run over_marks client (client_sight tree held) (marked tree) (map (entry_of source) log.entries) ≡ Ok after) × P tree after
 
--- the first row of the plan that isn't the net's
-abbrev pub first_unlike : {A : Type 0} → Net A → CodePlan A → Option RowFault
-first_unlike net plan =
+-- right pieces of the client's log
+abbrev pub ArePiecesOf : {A : Type 0} → Client → CodeLog A → Walk A → List Piece → Type 0
+ArePiecesOf client log walk pieces = AtEachEnd client log walk (λ tree after. ArePieces after pieces)
+
+-- the first wrong row of the plan for the client's log is told, or how many blocks the log writes
+abbrev pub TellsOfEachTree : {A : Type 0} → Client → CodeLog A → Walk A → CodePlan A → Result ℕ CodeRowFault → Type 0
+TellsOfEachTree client log walk plan result = AtEachEnd client log walk (λ tree after. TellsRow (first_wrong_row tree after (plan_of plan)) (need after) result)
+
+-- ---- over a net
+
+-- the first row of the plan that isn't the net's, or else the first piece that is wrong of these marks
+abbrev pub first_unlike : {A : Type 0} → Net A → (after : Tree Mark) → CodePlan A → Option RowFault
+first_unlike net after plan =
     or_else Names (first_difference (same_pair same_place nat_eq) (map keyed_name_row plan.names) (map keyed_name_row net.names.items))
     (or_else Nodes (first_difference (same_pair nat_eq same_headers) (map keyed_node_row plan.nodes) (map keyed_node_row net.nodes.items))
-    (or_else Pieces (first_of_pieces plan.pieces) None))
+    (or_else Pieces (first_wrong_piece after (map piece_of plan.pieces)) None))
 
--- the entries' run over marks ends, and this is told of its end
-pub record IsChecked {A : Type 0} (client : Client) (before : ClientSight) (tree : Tree ℕ) (entries : List Entry) (plan : CodePlan A) (result : Result ℕ CodeRowFault) : Type 0 where
-  pub after : Tree Mark
-  pub ran : run over_marks client before (marked tree) entries ≡ Ok after
-  pub told : TellsRow (first_wrong_row tree after (plan_of plan)) (need after) result
-
--- so at every fitting tree and all leases that agree with the walk's reads
-abbrev pub TellsOfEachTree : {A : Type 0} → Client → CodeLog A → Walk A → CodePlan A → Result ℕ CodeRowFault → Type 0
-TellsOfEachTree client log walk plan result =
-    (source : List ℕ) (tree : Tree ℕ) (held : ℕ → Bool) → Fits client tree (map (entry_of source) log.entries) → Agrees walk.reads.entries (client_sight tree held)
-    → IsChecked client (client_sight tree held) tree (map (entry_of source) log.entries) plan result
+-- whichever run of the entries has these sizes, this is told of the net and of the marks at its end, whatever bytes the payloads'
+-- spans are of
+abbrev pub TellsOfEachRun : {A : Type 0} → List FileSize → CodeLog A → Net A → CodePlan A → Result ℕ CodeRowFault → Type 0
+TellsOfEachRun sizes log net plan result =
+    (source : List ℕ) → SpansAreWithin (length source) log → (client : Client) (before : ClientSight) (tree : Tree ℕ) → before.sight ≡ sight tree
+    → IfOk (run over_marks client before (marked tree) (map (entry_of source) log.entries)) (λ after. AreSizes tree (map (entry_of source) log.entries) after sizes → TellsRow (first_unlike net after plan) (need after) result)

@@ -1,10 +1,14 @@
 //! The judgement of a submission: its log and its plan against a view.
-ghost use Rattle.std.specs.Prelude.{◌≡◌, ◌≢◌, [], IfOk, IfErr};
+ghost use Rattle.std.specs.Prelude.{◌≡◌, ◌≤◌, [], length, IfOk, IfErr};
+ghost use Rattle.std.specs.List.{AllByRecursion};
 ghost use Rattle.kfs_model.specs.Judgement.{State};
 ghost use Rattle.kfs_model.specs.Lease.{row_of};
+ghost use Rattle.kfs_model.specs.Limits.{entry_limit};
+ghost use Rattle.kfs_sweep.specs.Sizes.{IsSpanned};
 ghost use Rattle.kfs_check.specs.Reads.{Agrees};
+ghost use Rattle.kfs_judge.specs.Walks.{HasOrderedSizes};
 ghost use Rattle.kfs_check.specs.View.{clients_of, client_sight_in};
-ghost use Rattle.kfs_plan.specs.Judging.{AreLooked, HasOtherEntry, IsAlike, IsSettled, IsVerdict, submission_of, submission_with};
+ghost use Rattle.kfs_plan.specs.Judging.{AreLooked, IsAlike, IsSettled, IsVerdict, submission_of, submission_with};
 
 use crate::rows::{RowFault, check_rows};
 use crate::spelling::{Spelled, read_submission};
@@ -17,7 +21,8 @@ use std::alloc::{AllocError, Allocator};
 use std::hash::{BuildHasherDefault, FoldHasher};
 
 /// Judges a submission against a view: the client's row, the log's spelling, whose log it is, the
-/// plan's spelling, the entries, the plan's rows. It touches nothing but the view.
+/// plan's spelling, the entries, the plan's rows. It touches nothing but the view. A submission comes
+/// back for want of memory alone.
 pub fn judge<A: Allocator + Copy>(
     alloc: A,
     view: &View<A>,
@@ -31,8 +36,7 @@ pub fn judge<A: Allocator + Copy>(
     ensures known { IfOk result (λ j. (s : State) → IsAlike s submission.client j.client j.reads.entries → IsVerdict s (submission_of submission) j.outcome) }
     ensures view_agrees { IfOk result (λ j. Agrees j.reads.entries (client_sight_in view.now submission.client)) }
     ensures among { IfOk result (λ j. AreLooked view.now (submission_of submission) j.outcome j.reads.entries) }
-    ensures other { IfErr result (λ b. b.why ≡ Why.OtherEntry → HasOtherEntry submission.log.items) }
-    ensures not_full { IfErr result (λ b. b.why ≢ Why.DocketFull) }
+    ensures memory { IfErr result (λ b. b.why ≡ Why.OutOfMemory) }
 {
     let (log, plan) = (submission.log.as_slice(), submission.plan.as_slice());
     match find(alloc, view, submission.client, log, plan) {
@@ -80,8 +84,7 @@ fn find<A: Allocator + Copy>(
     ensures known { IfOk result (λ f. (s : State) → IsAlike s number f.client f.reads.entries → IsVerdict s (submission_with number log.now plan.now) f.outcome) }
     ensures view_agrees { IfOk result (λ f. Agrees f.reads.entries (client_sight_in view.now number)) }
     ensures among { IfOk result (λ f. AreLooked view.now (submission_with number log.now plan.now) f.outcome f.reads.entries) }
-    ensures other { IfErr result (λ why. why ≡ Why.OtherEntry → HasOtherEntry log.now) }
-    ensures not_full { IfErr result (λ why. why ≢ Why.DocketFull) }
+    ensures memory { IfErr result (λ why. why ≡ Why.OutOfMemory) }
 {
     let Some(client) = view.client(number) else {
         return Ok(Finding::unread(alloc, None, Fault::UnknownClient));
@@ -91,7 +94,7 @@ fn find<A: Allocator + Copy>(
         Spelled::No(fault) => Ok(Finding::unread(alloc, row, fault)),
         Spelled::Yes(log, plan) => {
             let walk = judge_entries(alloc, view, &log)?;
-            let finding = settle(row, log, plan, walk)?;
+            let finding = settle(alloc, row, log, plan, walk)?;
             Ok(finding)
         }
     }
@@ -105,20 +108,28 @@ fn copied(client: &Client) -> Result<Client, AllocError>
 
 /// The finding of a log that was walked: its first bad entry, or else what its plan comes to.
 fn settle<A: Allocator + Copy>(
+    alloc: A,
     client: Option<Client>,
     log: Log<A>,
     plan: Plan<A>,
     walk: Walk<A>,
 ) -> Result<Finding<A>, Why>
+    requires sizes { HasOrderedSizes walk }
+    requires spans { AllByRecursion IsSpanned log.entries }
+    requires count { length log.entries ≤ entry_limit }
     ensures client { IfOk result (λ f. f.client ≡ client) }
     ensures reads { IfOk result (λ f. f.reads ≡ walk.reads) }
-    ensures outcome { IfOk result (λ f. IsSettled log plan walk.outcome f.outcome) }
+    ensures outcome { IfOk result (λ f. IsSettled log plan walk.sizes.items walk.outcome f.outcome) }
     ensures memory { IfErr result (λ why. why ≡ Why.OutOfMemory) }
 {
-    let Walk { reads, outcome } = walk;
+    let Walk {
+        reads,
+        sizes,
+        outcome,
+    } = walk;
     let outcome = match outcome {
         Err(fault) => Outcome::No(Fault::Entry(fault)),
-        Ok(net) => match check_rows(&net, &plan) {
+        Ok(net) => match check_rows(alloc, &log, sizes.as_slice(), &net, &plan) {
             Ok(need) => Outcome::Yes {
                 log,
                 plan,

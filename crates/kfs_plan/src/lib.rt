@@ -1,15 +1,17 @@
-//! Judges a client's submission: the spelling of its log and plan, the entries, and the plan's rows
-//! against what the log comes to.
+//! Judges a client's submission: the spelling of its log and plan, the entries, and the plan's rows and
+//! pieces against what the log comes to.
 #![tactic(auto)]
 
 pub mod answers;
 mod judgement;
 mod kept;
+mod pieces;
 mod rows;
 mod spelling;
 mod submission;
 
 pub use judgement::judge;
 pub use kept::keep_bytes;
+pub use pieces::sweep;
 pub use rows::{RowFault, check_plan};
 pub use submission::{Back, Fault, Judged, Outcome, Submission, Why};

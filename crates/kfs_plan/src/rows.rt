@@ -1,15 +1,18 @@
 //! The rows of a plan against what its log comes to.
-ghost use Rattle.std.specs.Prelude.{◌≡◌, position, zip, not, All, IsOk};
+ghost use Rattle.std.specs.Prelude.{◌≡◌, ◌≤◌, length, position, zip, not, IsOk};
+ghost use Rattle.std.specs.List.{AllByRecursion};
 ghost use Rattle.kfs_model.specs.Access.{Client as ClientRow};
 ghost use Rattle.kfs_model.specs.FirstWrong.{first_difference};
-ghost use Rattle.kfs_plan.specs.KeptBytes.{KeepsBytes};
-ghost use Rattle.kfs_judge.specs.Walks.{IsWalkOf};
-ghost use Rattle.kfs_plan.specs.PlanCheck.{first_unlike, TellsOfEachTree, TellsRow};
+ghost use Rattle.kfs_model.specs.Limits.{entry_limit};
+ghost use Rattle.kfs_sweep.specs.Sizes.{Ascend, IsSize, IsSpanned};
+ghost use Rattle.kfs_judge.specs.Walks.{HasOrderedSizes, IsWalkOf};
+ghost use Rattle.kfs_plan.specs.PlanCheck.{TellsOfEachRun, TellsOfEachTree};
 ghost use Rattle.kfs_plan.specs.declared.rows.RowFault.TheVariants.{OutOfMemory};
 
 use kfs_entry::{Log, Plan};
 use kfs_image::shape::Net;
 use kfs_judge::Walk;
+use kfs_sweep::{FileSize, first_piece_apart, need_of, sweep};
 use std::alloc::{AllocError, Allocator};
 
 /// Why a plan isn't the right one for its log.
@@ -35,24 +38,40 @@ impl From<AllocError> for RowFault {
 }
 
 /// Compares a plan with what the log comes to: names before nodes before pieces, each from the first
-/// row on. Answers how many blocks the landing writes. The walk is the log's own and has no bad entry.
+/// row on. Answers how many blocks the landing writes. The walk is the log's own, as `judge_entries`
+/// gives it, and has no bad entry; the log is in the ranges that `decode_log` keeps: at most 4,096
+/// entries, with payloads of at most 65,536 bytes.
 pub fn check_plan<A: Allocator + Copy>(
-    _alloc: A,
-    _log: &Log<A>,
+    alloc: A,
+    log: &Log<A>,
     walk: &Walk<A>,
     plan: &Plan<A>,
 ) -> Result<u64, RowFault>
     requires walked { IsOk walk.now.outcome }
-    // At every sound tree and all leases that agree with the walk's reads, the first wrong row of the definitions is named.
-    ensures { (client : ClientRow) → IsWalkOf client _log.now walk.now → All KeepsBytes _log.now.entries → TellsOfEachTree client _log.now walk.now plan.now result }
+    requires sizes { HasOrderedSizes walk.now }
+    requires spans { AllByRecursion IsSpanned log.now.entries }
+    requires count { length log.now.entries ≤ entry_limit }
+    // At every sound tree and all leases that agree with the walk's reads, the first wrong row of the definitions is named, or
+    // the need is told.
+    ensures { (client : ClientRow) → IsWalkOf client log.now walk.now → TellsOfEachTree client log.now walk.now plan.now result }
 {
     let net = walk.outcome.as_ref().unwrap();
-    check_rows(net, plan)
+    check_rows(alloc, log, walk.sizes.as_slice(), net, plan)
 }
 
-/// Compares a plan with a net.
-pub fn check_rows<A: Allocator>(net: &Net<A>, plan: &Plan<A>) -> Result<u64, RowFault>
-    ensures { TellsRow (first_unlike net.now plan.now) 0 result }
+/// Compares a plan with a net, and with the pieces of the log by the sizes of its files.
+pub fn check_rows<A: Allocator + Copy>(
+    alloc: A,
+    log: &Log<A>,
+    sizes: &[FileSize],
+    net: &Net<A>,
+    plan: &Plan<A>,
+) -> Result<u64, RowFault>
+    requires ascending { Ascend 0 sizes.now }
+    requires sizes { AllByRecursion IsSize sizes.now }
+    requires spans { AllByRecursion IsSpanned log.now.entries }
+    requires count { length log.now.entries ≤ entry_limit }
+    ensures { TellsOfEachRun sizes.now log.now net.now plan.now result }
 {
     if let Some(row) = first_difference(plan.names.as_slice(), net.names.as_slice()) {
         return Err(RowFault::Names(row));
@@ -60,10 +79,11 @@ pub fn check_rows<A: Allocator>(net: &Net<A>, plan: &Plan<A>) -> Result<u64, Row
     if let Some(row) = first_difference(plan.nodes.as_slice(), net.nodes.as_slice()) {
         return Err(RowFault::Nodes(row));
     }
-    if !plan.pieces.as_slice().is_empty() {
-        return Err(RowFault::Pieces(0));
+    let right = sweep(alloc, sizes, log.entries.as_slice())?;
+    if let Some(row) = first_piece_apart(plan.pieces.as_slice(), right.as_slice()) {
+        return Err(RowFault::Pieces(row));
     }
-    Ok(0)
+    Ok(need_of(right.as_slice(), sizes))
 }
 
 /// The least index at which the lists differ, the end of a shorter list included.

@@ -1,8 +1,7 @@
 //! What the bytes of a submission say.
 ghost use Rattle.std.specs.Prelude.{◌≡◌, ◌≢◌, IfOk, IfErr};
-ghost use Rattle.kfs_plan.specs.Judging.{HasOtherEntry, IsEarly, IsReading, submission_with};
+ghost use Rattle.kfs_plan.specs.Judging.{IsEarly, IsReading, submission_with};
 
-use crate::kept::keep_bytes;
 use crate::submission::{Fault, Why};
 use kfs_entry::{Log, Plan, SpellFault, decode_log, decode_plan};
 use std::alloc::Allocator;
@@ -22,8 +21,7 @@ pub fn read_submission<A: Allocator + Copy>(
 ) -> Result<Spelled<A>, Why>
     ensures read { IfOk result (IsReading (submission_with number log.now plan.now)) }
     ensures early { IfOk result IsEarly }
-    ensures other { IfErr result (λ why. why ≡ Why.OtherEntry → HasOtherEntry log.now) }
-    ensures not_full { IfErr result (λ why. why ≢ Why.DocketFull) }
+    ensures memory { IfErr result (λ why. why ≡ Why.OutOfMemory) }
 {
     let log = match decode_log(alloc, log) {
         Ok(log) => log,
@@ -36,9 +34,6 @@ pub fn read_submission<A: Allocator + Copy>(
         Ok(plan) => plan,
         Err(fault) => return Ok(Spelled::No(Fault::BadPlan(unless_refused(fault)?))),
     };
-    if !keep_bytes(log.entries.as_slice()) {
-        return Err(Why::OtherEntry);
-    }
     Ok(Spelled::Yes(log, plan))
 }
 

@@ -67,7 +67,8 @@ pub enum Why {
     OutOfMemory,
     /// 2: the docket has as many rows as its limit allows. Only a desk answers so.
     DocketFull,
-    /// 3: the log has a Write or a Truncate, for which no plan is checked yet.
+    /// 3: what is judged right has a Write or a Truncate, which nothing lands yet. Only a desk answers
+    /// so.
     OtherEntry,
 }
 

@@ -3,3 +3,5 @@ pub mod Entered
 pub mod CleanLooks
 pub mod ChangedRows
 pub mod Payloads
+pub mod FileSizes
+pub mod ReachedFiles

@@ -9,8 +9,9 @@ use Rattle.kfs_model.specs.Run.{created_by}
 use Rattle.kfs_model.specs.SeenAfter.{seen_after, seen_renamed, seen_unlinked}
 use Rattle.kfs_check.specs.declared.check.Reason.{Reason}
 use Rattle.kfs_step.specs.declared.log_judge.LogJudge.{LogJudge}
+use Rattle.kfs_step.specs.FileSizes.{HasFileOf}
 use Rattle.kfs_check.specs.Checks.{reason_of}
-use Rattle.kfs_draft.specs.Overlay.{over, entry_context_of, AreCreated, IsWritten, ShiftsBy}
+use Rattle.kfs_draft.specs.Overlay.{over, entry_context_of, AreCreated, IsWritten, KeepsHeaders, ShiftsBy}
 use Rattle.kfs_check.specs.Reads.{IsPart}
 use Rattle.kfs_check.specs.Recorders.{GoesOn, Known, ReadsAt}
 
@@ -49,11 +50,13 @@ module _ {A : Type 0} (old new : LogJudge A) (entry : Entry) where
 
 -- an entry, the judge before it and behind it, and what is answered
 module _ {A : Type 0} (old new : LogJudge A) (entry : Entry) where
-  -- the draft has the entry's change, all of it at cells that were looked at
+  -- the draft has the entry's change, all of it at cells that were looked at, and the file that the entry reaches
   pub record MakesItsChange : Type 0 where
     pub shown : ShowsItsChange old new entry
     pub written : WritesItsCells old new entry
     pub created : CreatesItsNumber old new entry
+    pub kept : KeepsHeaders old.draft new.draft
+    pub reached : HasFileOf new.draft entry
     pub shifts : (most : ℕ) → ShiftsBy most old.draft → ShiftsBy (most + 3) new.draft
 
   -- the reason is the entry's first fault; where there is none, its change is made

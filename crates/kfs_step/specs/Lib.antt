@@ -2,3 +2,4 @@ pub mod Entered
 pub mod Written
 pub mod Rows
 pub mod Nets
+pub mod FileSizes

@@ -8,6 +8,7 @@ mod link;
 mod log_judge;
 mod net;
 mod rename;
+mod sizes;
 mod truncate;
 mod unlink;
 mod write;

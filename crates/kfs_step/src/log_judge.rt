@@ -6,9 +6,13 @@ ghost use Rattle.kfs_step.specs.Entered.{IsEntered};
 ghost use Rattle.kfs_draft.specs.Overlay.{has_created, over, ShiftsBy, HasRoom, IsWritten};
 ghost use Rattle.kfs_check.specs.Recorders.{GoesOn, seen_by, Known, ReadsAt};
 ghost use Rattle.kfs_step.specs.Nets.{IsNetOf};
+ghost use Rattle.kfs_step.specs.FileSizes.{AreSizesOver};
+ghost use Rattle.kfs_sweep.specs.Sizes.{Ascend, IsSize};
+ghost use Rattle.std.specs.List.{AllByRecursion};
 ghost use Rattle.kfs_check.specs.View.{client_sight_in};
 
 use crate::net::{name_rows, node_rows};
+use crate::sizes::file_sizes;
 use indexmap::IndexMap;
 use kfs_check::{Read, ReadAnswer, Reason, Recorder, View};
 use kfs_draft::Draft;
@@ -16,6 +20,7 @@ use kfs_entry::{Entry, Span, entry_table};
 use kfs_image::Name;
 use kfs_image::shape::Net;
 use kfs_mode::Client;
+use kfs_sweep::FileSize;
 use std::alloc::{AllocError, Allocator};
 use std::hash::{BuildHasherDefault, FoldHasher};
 
@@ -89,12 +94,26 @@ impl<'a, A: Allocator + Copy> LogJudge<'a, A> {
     /// What differs after the entries so far.
     pub fn net(&mut self, alloc: A) -> Result<Net<A>, AllocError>
         ensures goes { GoesOn self.old.recorder self.new.recorder }
+        ensures draft { self.new.draft ≡ self.old.draft }
         ensures known { IfOk result (λ net. Known self.new.recorder (λ before. IsNetOf before.sight (over self.old.draft before.sight) net)) }
         ensures among { OnOk result ((among : List Cell) → IsWritten self.old.draft among → ReadsAt self.old.recorder self.new.recorder among) }
     {
         let names = name_rows(alloc, &self.draft, &mut self.recorder)?;
         let nodes = node_rows(alloc, &self.draft, &mut self.recorder)?;
         Ok(Net { names, nodes })
+    }
+
+    /// How long the files are that the entries so far changed or reached, by number: before the log and
+    /// now. A directory's size is 0.
+    pub fn sizes(&mut self, alloc: A) -> Result<Vec<FileSize, A>, AllocError>
+        ensures goes { GoesOn self.old.recorder self.new.recorder }
+        ensures draft { self.new.draft ≡ self.old.draft }
+        ensures known { IfOk result (λ sizes. Known self.new.recorder (λ before. AreSizesOver self.old.draft before.sight sizes.items)) }
+        ensures among { OnOk result ((among : List Cell) → IsWritten self.old.draft among → ReadsAt self.old.recorder self.new.recorder among) }
+        ensures ascending { IfOk result (λ sizes. Ascend 0 sizes.items) }
+        ensures short { IfOk result (λ sizes. AllByRecursion IsSize sizes.items) }
+    {
+        file_sizes(alloc, &self.draft, &mut self.recorder)
     }
 
     /// The recorded reads.

@@ -4,7 +4,7 @@ ghost use Rattle.kfs_model.specs.Check.{checks_of, arrival_checks, may_go, on_nu
 ghost use Rattle.kfs_model.specs.Entry as entry;
 ghost use Rattle.kfs_check.specs.Checks.{FindsFault, FindsFirst, ReadsCellsOf, ReadsCellsOfAll};
 ghost use Rattle.kfs_step.specs.Entered.{IsEntered, headers_renamed, ShowsRename, WritesRename};
-ghost use Rattle.kfs_draft.specs.Overlay.{has_created, HasRoom, ShiftsBy};
+ghost use Rattle.kfs_draft.specs.Overlay.{has_created, HasRoom, KeepsHeaders, ShiftsBy};
 ghost use Rattle.kfs_check.specs.Recorders.{GoesOn, ReadsAt};
 ghost use Rattle.kfs_value.specs.Views.{kind_of};
 
@@ -186,6 +186,7 @@ impl<A: Allocator + Copy> LogJudge<'_, A> {
         ensures shown { OnOk result (ShowsRename self.old self.new key.0 key.1 new_key.0 new_key.1 from to) }
         ensures written { OnOk result (WritesRename self.old self.new key.0 key.1 new_key.0 new_key.1 from to) }
         ensures created { OnOk result ((n : ℕ) → has_created self.new.draft n ≡ has_created self.old.draft n) }
+        ensures kept { OnOk result (KeepsHeaders self.old.draft self.new.draft) }
         ensures shifts { OnOk result ((most : ℕ) → ShiftsBy most self.old.draft → ShiftsBy (most + 3) self.new.draft) }
     {
         let Some(moved) = from else {

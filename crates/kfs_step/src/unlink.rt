@@ -4,7 +4,7 @@ ghost use Rattle.kfs_model.specs.Check.{checks_of, may_go};
 ghost use Rattle.kfs_model.specs.Entry as entry;
 ghost use Rattle.kfs_check.specs.Checks.{FindsFault, FindsFirst, ReadsCellsOf, ReadsCellsOfAll};
 ghost use Rattle.kfs_step.specs.Entered.{IsEntered, headers_unlinked, ShowsUnlink, WritesUnlink};
-ghost use Rattle.kfs_draft.specs.Overlay.{has_created, HasRoom, ShiftsBy};
+ghost use Rattle.kfs_draft.specs.Overlay.{has_created, HasRoom, KeepsHeaders, ShiftsBy};
 ghost use Rattle.kfs_check.specs.Recorders.{GoesOn, ReadsAt};
 ghost use Rattle.kfs_value.specs.Views.{kind_of};
 
@@ -93,6 +93,7 @@ impl<A: Allocator + Copy> LogJudge<'_, A> {
         ensures shown { OnOk result (ShowsUnlink self.old self.new key.0 key.1 there) }
         ensures written { OnOk result (WritesUnlink self.old self.new key.0 key.1 there) }
         ensures created { OnOk result ((n : ℕ) → has_created self.new.draft n ≡ has_created self.old.draft n) }
+        ensures kept { OnOk result (KeepsHeaders self.old.draft self.new.draft) }
         ensures shifts { OnOk result ((most : ℕ) → ShiftsBy most self.old.draft → ShiftsBy (most + 1) self.new.draft) }
     {
         let Some(number) = there else {

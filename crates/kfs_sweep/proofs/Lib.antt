@@ -12,3 +12,4 @@ pub mod Fits
 pub mod Counting
 pub mod FileParts
 pub mod Listed
+pub mod SizesBetween

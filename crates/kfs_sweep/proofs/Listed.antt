@@ -48,7 +48,7 @@ last_reaches index (entry ∷ entries) n p mark is = at (last_cover (index + 1) 
 
 -- ---- a listed file
 
-own_size : (before ends : ℕ → ℕ) (n : ℕ) (sizes : List FileSize) → AllByRecursion (λ (s : FileSize). (s.before ≡ before s.number) × (s.after ≡ ends s.number)) sizes
+pub own_size : (before ends : ℕ → ℕ) (n : ℕ) (sizes : List FileSize) → AllByRecursion (λ (s : FileSize). (s.before ≡ before s.number) × (s.after ≡ ends s.number)) sizes
     → list_any (λ k. n == k) (map (λ (s : FileSize). s.number) sizes) ≡ true → length_after sizes n ≡ ends n
 own_size before ends n [] own listed = cc
 own_size before ends n (s ∷ ss) own listed = at (s.number == n) refl (own_size before ends n ss own.1)

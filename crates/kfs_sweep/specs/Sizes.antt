@@ -8,7 +8,7 @@ use Rattle.kfs_model.specs.Limits.{payload_limit, size_limit}
 use Rattle.kfs_model.specs.Plan.{ArePieces}
 use Rattle.kfs_model.specs.PlanRow.{Piece}
 use Rattle.kfs_model.specs.Run.{Mark, run, over_marks, marked}
-use Rattle.kfs_model.specs.Sight.{ClientSight, sight}
+use Rattle.kfs_model.specs.Sight.{Sight, ClientSight, sight}
 use Rattle.kfs_model.specs.Tree.{Tree}
 use Rattle.kfs_value.specs.Views.{entry_of, IsWithin}
 use Rattle.kfs_value.specs.declared.entry.Span.{Span}
@@ -84,6 +84,16 @@ pub record AreSizes (tree : Tree ℕ) (entries : List Entry) (after : Tree Mark)
   pub own : AllByRecursion (λ (s : FileSize). (s.before ≡ extent tree s.number) × (s.after ≡ extent after s.number)) sizes
   pub grew : (n : ℕ) → extent tree n < extent after n → IsTrue (list_any (λ k. n == k) (map (λ (s : FileSize). s.number) sizes))
   pub reached : (n : ℕ) → IsTrue (list_any (reaches_file n) entries) → length_after sizes n ≡ extent after n
+
+-- the size that the header says, 0 of none
+abbrev pub size_in : Sight → ℕ → ℕ
+size_in sight n = elim (sight.head n) [ None ↦ 0 | Some header ↦ header.size ]
+
+-- the sizes are those of two sights; each number whose size grew is listed, and each that an entry reaches
+pub record AreSizesBetween (before after : Sight) (entries : List Entry) (sizes : List FileSize) : Type 0 where
+  pub own : AllByRecursion (λ (s : FileSize). (s.before ≡ size_in before s.number) × (s.after ≡ min (size_in after s.number) size_limit)) sizes
+  pub grew : (n : ℕ) → size_in before n < size_in after n → IsTrue (list_any (λ k. n == k) (map (λ (s : FileSize). s.number) sizes))
+  pub reached : (n : ℕ) → IsTrue (list_any (reaches_file n) entries) → IsTrue (list_any (λ k. n == k) (map (λ (s : FileSize). s.number) sizes))
 
 -- right pieces, of files whose sizes are listed
 pub record AreSwept (sizes : List FileSize) (after : Tree Mark) (pieces : List Piece) : Type 0 where

@@ -13,8 +13,9 @@ use std::alloc::{AllocError, Global};
 use std::process::Abort;
 use std::test::Fail;
 
-/// A log of client 7 that truncates node 5 to no byte.
-const TRUNCATE_LOG: &[u8] = b"KLOG\x01\0\0\0\x07\0\x01\x03\0\0\0\x05\0\0\0\0\0\0\0\0";
+/// The Create of client 7, and then a Truncate of the file to no byte. The Create's plan is right for it.
+const TRUNCATE_LOG: &[u8] = b"KLOG\x01\0\0\0\x07\0\x02\x01\0\0\0\x01\x01a\0\0\0\x05\0\x01\xa4\
+      \x03\0\0\0\x05\0\0\0\0\0\0\0\0";
 
 /// The answer that the name of the first Create is taken.
 fn taken(position: u32) -> Reply {

@@ -15,6 +15,7 @@ use Rattle.kfs_check.proofs.Looking.{LooksOn, looks_first, looks_next, looks_fai
 use Rattle.kfs_check.proofs.Recording.{goes_nowhere, goes_then}
 use Rattle.kfs_draft.proofs.Overlays.{shifts_wider}
 use Rattle.kfs_check.proofs.Lists.{map-drop-cons, map-drop-past}
+use Rattle.kfs_step.proofs.ReachedFiles.{ReachesOn, reaches_first, reaches_next, reaches_out}
 use Rattle.kfs_judge.specs.EntriesEntered.{AreWithin}
 use Rattle.kfs_judge.proofs.walk.enter_all.Goals as goal
 
@@ -29,6 +30,7 @@ loop-index-init g c = record {
   goes = goes_nowhere c.args.judge.now.recorder;
   shifts = c.requires.shifts;
   runs = λ source within. runs_first c.args.judge.now.client.now c.args.judge.now.draft c.args.judge.now.recorder.reads.entries (map (entry_of source) c.args.entries.now) c.requires.shown c.requires.created;
+  reached = λ source within. reaches_first c.args.judge.now.draft (map (entry_of source) c.args.entries.now);
   looks = λ source within. looks_first c.args.judge.now.client.now c.args.judge.now.draft c.args.judge.now.recorder.reads.entries (map (entry_of source) c.args.entries.now) c.requires.shown c.requires.created c.requires.written;
 }
 
@@ -90,6 +92,12 @@ loop-index-preserved g c = record {
       (λ s a. subst (λ cl. first_fault (entry_context_of cl c.loop-index.judge.draft s) (entry_of source item) ≡ None) c.loop-index.invariant.client (here.known s a ∙ ap (option_map reason_of) c.in_default.is))
       (λ s a. subst (λ cl. over c.enter.new.self.draft s.sight ≡ seen_after cl (over c.loop-index.judge.draft s.sight) (entry_of source item)) c.loop-index.invariant.client ((here.change (ap Ok c.in_default.is)).shown s a))
       ((here.change (ap Ok c.in_default.is)).created);
+  reached = λ source within.
+      let item = c.index-entries-index.result in
+      let here = (c.in_ok-reason.ensures.entered source (span_within source c.args.entries.now c.loop-index.index item c.loop-index-test.true c.index-entries-index.is within)).change (ap Ok c.in_default.is) in
+      let on = subst (λ es. ReachesOn c.loop-index.judge.draft (map (entry_of source) c.args.entries.now) es)
+      (map-drop-cons (entry_of source) c.args.entries.now c.loop-index.index item c.loop-index-test.true c.index-entries-index.is) (c.loop-index.invariant.reached source within) in
+      reaches_next c.loop-index.judge.draft c.enter.new.self.draft (entry_of source item) (map (entry_of source) c.args.entries.now) (map (entry_of source) (drop (c.loop-index.index + 1) c.args.entries.now)) on here.kept here.reached;
   looks = λ source within.
       let client = c.args.judge.now.client.now in
       let item = c.index-entries-index.result in
@@ -119,3 +127,9 @@ returns-clause-among g c state agrees source within = ((c.loop-index.invariant.l
 
 pub returns-clause-written : goal.returns-clause-written
 returns-clause-written g c _ state agrees source within = ((c.loop-index.invariant.looks source within).looks state agrees).written_among
+
+pub returns-clause-reached : goal.returns-clause-reached
+returns-clause-reached g c _ source within =
+    let past : length c.args.entries.now ≤ c.loop-index.index = omega arith in
+    reaches_out c.loop-index.judge.draft (map (entry_of source) c.args.entries.now)
+    (subst (λ es. ReachesOn c.loop-index.judge.draft (map (entry_of source) c.args.entries.now) es) (map-drop-past (entry_of source) c.args.entries.now c.loop-index.index past) (c.loop-index.invariant.reached source within))

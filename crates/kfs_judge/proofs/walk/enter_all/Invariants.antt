@@ -5,6 +5,7 @@ use Rattle.kfs_draft.specs.Overlay.{ShiftsBy}
 use Rattle.kfs_check.specs.Recorders.{GoesOn}
 use Rattle.kfs_check.proofs.Entering.{RunsOn}
 use Rattle.kfs_check.proofs.Looking.{LooksOn}
+use Rattle.kfs_step.proofs.ReachedFiles.{ReachesOn}
 use Rattle.kfs_judge.specs.EntriesEntered.{AreWithin}
 use Rattle.kfs_judge.proofs.walk.enter_all.Given as goal
 
@@ -14,5 +15,6 @@ invariant-loop-index g l = record {
   goes : GoesOn l.initial.judge.recorder l.judge.recorder;
   shifts : ShiftsBy (3 * l.index) l.judge.draft;
   runs : (source : List ℕ) → AreWithin source l.entries → RunsOn l.initial.judge.client.now l.judge.draft l.judge.recorder.reads.entries (map (entry_of source) l.entries) (map (entry_of source) (drop l.index l.entries)) l.index;
+  reached : (source : List ℕ) → AreWithin source l.entries → ReachesOn l.judge.draft (map (entry_of source) l.entries) (map (entry_of source) (drop l.index l.entries));
   looks : (source : List ℕ) → AreWithin source l.entries → LooksOn l.initial.judge.client.now l.judge.draft l.initial.judge.recorder.reads.entries l.judge.recorder.reads.entries (map (entry_of source) l.entries) (map (entry_of source) (drop l.index l.entries));
 }

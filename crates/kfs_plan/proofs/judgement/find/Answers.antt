@@ -1,5 +1,5 @@
 -- The row that the view has, and the verdict at each place where the judgement ends.
-use Rattle.std.proofs.Common.{Some, map, length, refl, subst, sym, ap, ◌∙◌, arith}
+use Rattle.std.proofs.Common.{Some, map, refl, subst, sym, ap, ◌∙◌, arith}
 use Rattle.std.specs.Option.{option_map, is_some}
 use Rattle.kfs_model.specs.Spelling.{IsBytes}
 use Rattle.kfs_model.proofs.Fields.{some_is}
@@ -14,7 +14,7 @@ use Rattle.kfs_plan.specs.Judging.{submission_with, AreSpelled, IsEarly, IsVerdi
 use Rattle.kfs_check.specs.Reads.{Agrees, AreAmong}
 use Rattle.kfs_check.specs.View.{clients_of, client_sight_in}
 use Rattle.kfs_check.proofs.Lists.{row_has_number}
-use Rattle.kfs_plan.proofs.KeptBytes.{kept_are_within}
+use Rattle.kfs_plan.proofs.Ranges.{spans_fit, entries_fit}
 use Rattle.kfs_plan.proofs.Verdicts.{unknown_client, walked_verdict, nothing_read, unread_looked, settled_looked}
 use Rattle.kfs_plan.proofs.judgement.find.Goals as goal
 
@@ -43,6 +43,16 @@ judge_entries-requires-clause-client g c =
     let same = c.number.ensures.number ∙ row_has_number (clients_of c.args.view.now) c.args.number c.in-Some.client.now row in
     let read = subst (λ r. IsReading {A = g.row.A.Denot} (submission_with c.number.result c.args.log.now c.args.plan.now) r) c.in-Yes.is c.in_ok-fault.ensures.read in
     ap is_some (ap (row_of (clients_of c.args.view.now)) (read.owner ∙ same) ∙ row)
+
+pub settle-requires-clause-spans : goal.settle-requires-clause-spans
+settle-requires-clause-spans g c =
+    let read = subst (λ r. IsReading {A = g.row.A.Denot} (submission_with c.number.result c.args.log.now c.args.plan.now) r) c.in-Yes.is c.in_ok-fault.ensures.read in
+    spans_fit c.args.log.now c.in-Yes.log read.log_read.0 read.within
+
+pub settle-requires-clause-count : goal.settle-requires-clause-count
+settle-requires-clause-count g c =
+    let read = subst (λ r. IsReading {A = g.row.A.Denot} (submission_with c.number.result c.args.log.now c.args.plan.now) r) c.in-Yes.is c.in_ok-fault.ensures.read in
+    entries_fit c.args.log.now c.in-Yes.log read.log_read.0
 
 pub returns-in_ok-finding-in-Yes-clause-known : goal.returns-in_ok-finding-in-Yes-clause-known
 returns-in_ok-finding-in-Yes-clause-known g c s alike =
@@ -86,7 +96,7 @@ returns-in_ok-finding-in-Yes-clause-among g c =
     let read = subst (λ r. IsReading {A = g.row.A.Denot} (submission_with c.number.result c.args.log.now c.args.plan.now) r) c.in-Yes.is c.in_ok-fault.ensures.read in
     let own = read.owner ∙ same in
     let entries = map (entry_of c.args.log.now) c.in-Yes.log.entries in
-    settled_looked view (submission_with c.args.number c.args.log.now c.args.plan.now) c.in-Yes.log c.in-Yes.plan c.in_ok-walk-in-Yes.walk.outcome c.in_ok-finding-in-Yes.finding.outcome c.in_ok-finding-in-Yes.finding.reads.entries c.in_ok-finding-in-Yes.ensures.outcome (record {
+    settled_looked view (submission_with c.args.number c.args.log.now c.args.plan.now) c.in-Yes.log c.in-Yes.plan c.in_ok-walk-in-Yes.walk.sizes.items c.in_ok-walk-in-Yes.walk.outcome c.in_ok-finding-in-Yes.finding.outcome c.in_ok-finding-in-Yes.finding.reads.entries c.in_ok-finding-in-Yes.ensures.outcome (record {
       client = c.in-Some.client.now;
       row = row;
       log = log_of c.args.log.now c.in-Yes.log;
@@ -94,5 +104,5 @@ returns-in_ok-finding-in-Yes-clause-among g c =
       owner = own;
       among = subst (λ n. AreAmong c.in_ok-finding-in-Yes.finding.reads.entries (looked_cells c.in-Some.client.now (client_sight_in view n) entries)) own
           (subst (λ r. AreAmong r.entries (looked_cells c.in-Some.client.now (client_sight_in view c.in-Yes.log.client) entries)) (sym c.in_ok-finding-in-Yes.ensures.reads)
-          (c.in_ok-walk-in-Yes.ensures.among c.in-Some.client.now (ap (row_of (clients_of view)) own ∙ row) c.args.log.now (kept_are_within (length c.args.log.now) c.in-Yes.log.entries read.kept)));
+          (c.in_ok-walk-in-Yes.ensures.among c.in-Some.client.now (ap (row_of (clients_of view)) own ∙ row) c.args.log.now read.within));
     })

@@ -1,13 +1,19 @@
--- What the entries come to over bytes and over marks, and the first row that isn't the net's.
-use Rattle.std.proofs.Common.{◌≡◌, map, length, Ok, sym, ap, ◌∙◌}
+-- What is told of each run is so of the log's own, whose sizes the walk tells.
+use Rattle.std.proofs.Common.{◌≡◌, map, Ok, refl, sym, subst, ap, ◌∙◌}
 use Rattle.std.specs.Result.{result_copied}
+use Rattle.kfs_model.specs.Sight.{client_sight}
 use Rattle.kfs_value.specs.Views.{entry_of}
-use Rattle.kfs_plan.proofs.PlanChecked.{walk_is_checked}
-use Rattle.kfs_plan.proofs.KeptBytes.{all_kept, kept_are_within}
+use Rattle.kfs_judge.specs.Walks.{ComesToTree}
+use Rattle.kfs_plan.specs.PlanCheck.{TellsOfEachRun}
+use Rattle.kfs_plan.proofs.PlanChecked.{told_at_end}
 use Rattle.kfs_plan.proofs.rows.check_plan.Goals as goal
 
 pub returns : goal.returns
-returns g c client walk are source tree held fits agrees =
-    let is : c.args.walk.now.outcome ≡ Ok c.unwrap-net.result.now = sym c.as_ref.ensures.value ∙ ap result_copied c.unwrap-net.ensures in
-    walk_is_checked client held tree (map (entry_of source) c.args._log.now.entries) c.args.walk.now.outcome c.unwrap-net.result.now c.args.plan.now c.check_rows.result
-    (all_kept source c.args._log.now.entries are) is (walk source (kept_are_within (length source) c.args._log.now.entries are) tree held fits agrees) c.check_rows.ensures
+returns g c client walk source within tree held fits agrees =
+    let entries = map (entry_of source) c.args.log.now.entries in
+    let sizes = c.args.walk.now.sizes.items in
+    let net = c.unwrap-net.result.now in
+    let is : c.args.walk.now.outcome ≡ Ok net = sym c.as_ref.ensures.value ∙ ap result_copied c.unwrap-net.ensures in
+    let comes = subst (λ outcome. ComesToTree client held tree entries outcome sizes) is (walk source within tree held fits agrees) in
+    let told = subst (λ all. TellsOfEachRun all c.args.log.now net c.args.plan.now c.check_rows.result) c.as_slice.ensures.value c.check_rows.ensures in
+    told_at_end client held tree entries sizes net comes c.args.plan.now c.check_rows.result (told source within client (client_sight tree held) tree refl)

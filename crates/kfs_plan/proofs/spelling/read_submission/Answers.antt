@@ -1,16 +1,11 @@
 -- What the decoders found, as the verdict that it is or as what the entries are judged by.
 use Rattle.std.proofs.Common.{◌≢◌, subst, sym, arith}
-use Rattle.std.specs.Prelude.{All}
-use Rattle.std.proofs.lemmas.Bool.{both_ways}
-use Rattle.kfs_entry.specs.Answers.{log_of}
 use Rattle.kfs_entry.specs.declared.fault.SpellFault.TheVariants as spelling
 use Rattle.kfs_model.specs.Spelling.{IsBytes}
-use Rattle.kfs_plan.specs.KeptBytes.{KeepsBytes}
 use Rattle.kfs_plan.specs.Judging.{submission_with, IsVerdict}
 use Rattle.kfs_plan.specs.declared.submission.Outcome.TheVariants as outcomes
 use Rattle.kfs_plan.specs.declared.submission.Fault.TheVariants as faults
 use Rattle.kfs_plan.proofs.Verdicts.{bad_log, wrong_client, bad_plan}
-use Rattle.kfs_plan.proofs.KeptBytes.{not_all_kept}
 use Rattle.kfs_plan.proofs.spelling.read_submission.Goals as goal
 
 pub returns-in-Err-clause-read : goal.returns-in-Err-clause-read
@@ -31,17 +26,10 @@ returns-in-Err-decode_plan-clause-read g c s client row =
     subst (λ f. IsVerdict {A = g.row.A.Denot} s (submission_with c.args.number c.args.log.now c.args.plan.now) (outcomes.No (faults.BadPlan f))) (sym told.0)
     (bad_plan g.row.A.Denot s (submission_with c.args.number c.args.log.now c.args.plan.now) client row c.in-Ok.log c.in-Ok.ensures.found c.if-log-number.false c.in-Err-decode_plan.fault (subst (λ f. f ≢ spelling.OutOfMemory) told.0 told.1) c.in-Err-decode_plan.ensures.found)
 
-pub returns-then-not-keep_bytes-clause-other : goal.returns-then-not-keep_bytes-clause-other
-returns-then-not-keep_bytes-clause-other g c why = record {
-  log = log_of c.args.log.now c.in-Ok.log;
-  spelled = c.in-Ok.ensures.found;
-  other = not_all_kept c.args.log.now c.in-Ok.log.entries (λ all. both_ways _ c.if-not-keep_bytes.true (c.keep_bytes.ensures.1 (subst (All KeepsBytes) (sym c.as_slice.ensures) all)));
-}
-
 pub returns-clause-read : goal.returns-clause-read
 returns-clause-read g c = record {
   owner = c.if-log-number.false;
   log_read = c.in-Ok.ensures.found;
   plan_read = c.in-Ok-decode_plan.ensures.found;
-  kept = subst (All KeepsBytes) c.as_slice.ensures (c.keep_bytes.ensures.0 c.if-not-keep_bytes.false);
+  within = c.in-Ok.ensures.spans;
 }

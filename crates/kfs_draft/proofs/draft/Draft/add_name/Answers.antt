@@ -19,3 +19,6 @@ returns-clause-created g c n = c.in_ok-set_header.ensures.created n ∙ c.in_ok-
 
 pub returns-clause-shifts : goal.returns-clause-shifts
 returns-clause-shifts g c most bound = c.in_ok-set_header.ensures.shifts (most + 1) (c.in_ok-set_target.ensures.shifts (most + 1) (c.in_ok-shift_count.ensures.shifts most bound))
+
+pub returns-clause-kept : goal.returns-clause-kept
+returns-clause-kept g c n is = c.in_ok-set_header.ensures.kept n (c.in_ok-set_target.ensures.kept n (c.in_ok-shift_count.ensures.kept n is))

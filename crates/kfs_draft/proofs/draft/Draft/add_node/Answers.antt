@@ -16,3 +16,6 @@ pub returns-clause-shifts : goal.returns-clause-shifts
 returns-clause-shifts g c most bound =
     let placed = c.in_ok-set_directory_in.ensures.shifts (most + 1) (c.in_ok-add_name.ensures.shifts most bound) in
     record { above = placed.above; below = placed.below }
+
+pub returns-clause-kept : goal.returns-clause-kept
+returns-clause-kept g c n is = c.in_ok-set_directory_in.ensures.kept n (c.in_ok-add_name.ensures.kept n is)

@@ -33,3 +33,8 @@ returns-clause-shifts g c most bound =
     let counted = c.in_ok-shift_count-2.ensures.shifts (most + 1) (c.in_ok-shift_count.ensures.shifts most bound) in
     let named = c.in_ok-set_target-2.ensures.shifts (most + 1 + 1) (c.in_ok-set_target.ensures.shifts (most + 1 + 1) counted) in
     shifts_wider c.set_directory_in.new.self (most + 1 + 1) (most + 2) (omega arith) (c.in_ok-set_directory_in.ensures.shifts (most + 1 + 1) named)
+
+pub returns-clause-kept : goal.returns-clause-kept
+returns-clause-kept g c n is =
+    let counted = c.in_ok-shift_count-2.ensures.kept n (c.in_ok-shift_count.ensures.kept n is) in
+    c.in_ok-set_directory_in.ensures.kept n (c.in_ok-set_target-2.ensures.kept n (c.in_ok-set_target.ensures.kept n counted))

@@ -24,3 +24,8 @@ pub returns-clause-shifts : goal.returns-clause-shifts
 returns-clause-shifts g c most bound =
     let unnamed = c.in_ok-set_target.ensures.shifts (most + 1) (c.in_ok-shift_count.ensures.shifts most bound) in
     c.in_ok-set_header.ensures.shifts (most + 1) (c.in_ok-set_parent.ensures.shifts (most + 1) unnamed)
+
+pub returns-clause-kept : goal.returns-clause-kept
+returns-clause-kept g c n is =
+    let unnamed = c.in_ok-set_target.ensures.kept n (c.in_ok-shift_count.ensures.kept n is) in
+    c.in_ok-set_header.ensures.kept n (c.in_ok-set_parent.ensures.kept n unnamed)

@@ -37,4 +37,4 @@ returns g c =
     let old = over c.args.self.now.draft state.sight in
     let same = c.with_mode.ensures ∙ ap (option_map change) (sym (c.in_ok-header.ensures.known state agrees)) in
     c.in_ok-set_header.ensures.shown state.sight ∙ λ i. record { head = put_at n (same i) old.head; name = old.name; count = old.count; parent = old.parent })
-    c.in_ok-set_header.ensures.written (λ numbers are k. c.in_ok-set_header.ensures.created k ∙ are k) c.in_ok-set_header.ensures.shifts
+    c.in_ok-set_header.ensures.written (λ numbers are k. c.in_ok-set_header.ensures.created k ∙ are k) c.in_ok-set_header.ensures.kept (λ k never. cc) c.in_ok-set_header.ensures.shifts

@@ -44,6 +44,8 @@ returns g c = record {
         let looks = create_looks p c.args.dir c.args.name c.args.number (kind_of c.args.kind) c.args.mode clean in
         c.in_ok-add_node.ensures.written (front ++ among) (written_wider c.args.self.now.draft among (front ++ among) (right_is_part front among) written) (left_is_part front among (NameIn c.args.dir c.args.name) looks.0) (left_is_part front among (HeaderOf c.args.number) looks.1);
     created = λ numbers are n. c.in_ok-add_node.ensures.created n ∙ ap (λ was. (c.args.number == n) || was) (are n);
+    kept = c.in_ok-add_node.ensures.kept;
+    reached = λ n never. cc;
     shifts = λ most bound. shifts_wider c.add_node.new.self (most + 1) (most + 3) (omega arith) (c.in_ok-add_node.ensures.shifts most bound);
   };
 }

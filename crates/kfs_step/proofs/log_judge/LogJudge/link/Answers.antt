@@ -59,6 +59,8 @@ returns g c = record {
         (left_is_part front among name (looks name (first_is_in name (header ∷ []))))
         (left_is_part front among header (looks header (right_is_part (name ∷ []) (header ∷ []) header (first_is_in header []))));
     created = λ numbers are n. c.in_ok-add_name.ensures.created n ∙ are n;
+    kept = c.in_ok-add_name.ensures.kept;
+    reached = λ n never. cc;
     shifts = λ most bound. shifts_wider c.add_name.new.self (most + 1) (most + 3) (omega arith) (c.in_ok-add_name.ensures.shifts most bound);
   };
 }

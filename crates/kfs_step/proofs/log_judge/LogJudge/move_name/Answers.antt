@@ -77,3 +77,6 @@ returns-clause-written g c among written name new_name headers =
     let both = subst (λ cells. IsPart cells among) same headers in
     let removed = c.in_ok-remove_name.ensures.written among written (subst (λ key. Contains among (NameIn key.0 key.1)) (sym c.in_ok-replaced_key.ensures) new_name) (λ cell there. both cell (right_is_part (HeaderOf s ∷ []) (headers_unlinked to) cell there)) in
     c.in_ok-move_name.ensures.written among removed name new_name
+
+pub returns-clause-kept : goal.returns-clause-kept
+returns-clause-kept g c n is = c.in_ok-move_name.ensures.kept n (c.in_ok-remove_name.ensures.kept n is)

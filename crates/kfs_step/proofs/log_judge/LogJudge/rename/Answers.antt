@@ -76,6 +76,8 @@ returns g c = record {
         (left_is_part front among (NameIn e k) (names (NameIn e k) (right_is_part (NameIn d m ∷ []) (NameIn e k ∷ []) (NameIn e k) (first_is_in (NameIn e k) []))))
         (λ cell there. left_is_part front among cell (headers cell there));
     created = λ numbers are n. c.in_ok-move_name.ensures.created n ∙ are n;
+    kept = c.in_ok-move_name.ensures.kept;
+    reached = λ n never. cc;
     shifts = c.in_ok-move_name.ensures.shifts;
   };
 }

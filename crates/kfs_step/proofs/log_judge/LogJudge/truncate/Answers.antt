@@ -9,7 +9,7 @@ use Rattle.kfs_draft.specs.Overlay.{over}
 use Rattle.kfs_check.specs.Checks.{reason_of}
 use Rattle.kfs_step.proofs.CleanLooks.{truncate_looks}
 use Rattle.kfs_check.proofs.Recording.{goes_then}
-use Rattle.kfs_step.proofs.Entered.{is_cut_short, has_fault, header_is_set}
+use Rattle.kfs_step.proofs.Entered.{is_cut_short, has_fault, header_is_set, own_file}
 use Rattle.kfs_step.proofs.log_judge.LogJudge.truncate.Goals as goal
 
 pub returns-in_err-fault : goal.returns-in_err-fault
@@ -37,4 +37,4 @@ returns g c =
     let old = over c.args.self.now.draft state.sight in
     let same = c.with_size.ensures ∙ ap (option_map change) (sym (c.in_ok-header.ensures.known state agrees)) in
     c.in_ok-set_header.ensures.shown state.sight ∙ λ i. record { head = put_at n (same i) old.head; name = old.name; count = old.count; parent = old.parent })
-    c.in_ok-set_header.ensures.written (λ numbers are k. c.in_ok-set_header.ensures.created k ∙ are k) c.in_ok-set_header.ensures.shifts
+    c.in_ok-set_header.ensures.written (λ numbers are k. c.in_ok-set_header.ensures.created k ∙ are k) c.in_ok-set_header.ensures.kept (own_file c.set_header.new.self n c.in_ok-set_header.ensures.put) c.in_ok-set_header.ensures.shifts

@@ -67,6 +67,8 @@ returns g c = record {
         (left_is_part front among (NameIn d m) (unlink_looks_at_name p d m kind clean (NameIn d m) (first_is_in (NameIn d m) [])))
         (λ cell there. left_is_part front among cell (headers cell there));
     created = λ numbers are n. c.in_ok-remove_name.ensures.created n ∙ are n;
+    kept = c.in_ok-remove_name.ensures.kept;
+    reached = λ n never. cc;
     shifts = λ most bound. shifts_wider c.remove_name.new.self.draft (most + 1) (most + 3) (omega arith) (c.in_ok-remove_name.ensures.shifts most bound);
   };
 }

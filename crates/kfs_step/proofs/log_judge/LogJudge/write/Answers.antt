@@ -12,7 +12,7 @@ use Rattle.kfs_step.specs.Entered.{next_context}
 use Rattle.kfs_step.proofs.CleanLooks.{write_fits, write_looks}
 use Rattle.kfs_check.specs.Recorders.{Known}
 use Rattle.kfs_check.proofs.Recording.{goes_then}
-use Rattle.kfs_step.proofs.Entered.{is_cut_short, has_fault, header_is_set}
+use Rattle.kfs_step.proofs.Entered.{is_cut_short, has_fault, header_is_set, own_file}
 use Rattle.kfs_step.proofs.log_judge.LogJudge.write.Goals as goal
 
 pub returns-in_err-fault : goal.returns-in_err-fault
@@ -42,4 +42,4 @@ returns g c payload long =
     let fits = write_fits (next_context c.args.self.now state) n offset payload (omega (arith, c.ranges.offset.fits)) (clean state (c.in_ok-header.ensures.goes.grows state agrees)) in
     let same = c.written.ensures payload long fits ∙ ap (option_map change) (sym (c.in_ok-header.ensures.known state agrees)) in
     c.in_ok-set_header.ensures.shown state.sight ∙ λ i. record { head = put_at n (same i) old.head; name = old.name; count = old.count; parent = old.parent })
-    c.in_ok-set_header.ensures.written (λ numbers are k. c.in_ok-set_header.ensures.created k ∙ are k) c.in_ok-set_header.ensures.shifts
+    c.in_ok-set_header.ensures.written (λ numbers are k. c.in_ok-set_header.ensures.created k ∙ are k) c.in_ok-set_header.ensures.kept (own_file c.set_header.new.self n c.in_ok-set_header.ensures.put) c.in_ok-set_header.ensures.shifts

@@ -1,0 +1,32 @@
+//! Right pieces of a log that was walked.
+ghost use Rattle.std.specs.Prelude.{◌≤◌, IfOk, IsOk, length, map};
+ghost use Rattle.std.specs.List.{AllByRecursion};
+ghost use Rattle.kfs_model.specs.Access.{Client as ClientRow};
+ghost use Rattle.kfs_model.specs.Limits.{entry_limit};
+ghost use Rattle.kfs_value.specs.Views.{piece_of};
+ghost use Rattle.kfs_sweep.specs.Sizes.{IsSpanned};
+ghost use Rattle.kfs_judge.specs.Walks.{HasOrderedSizes, IsWalkOf};
+ghost use Rattle.kfs_plan.specs.PlanCheck.{ArePiecesOf};
+
+use kfs_entry::{Log, Piece};
+use kfs_judge::Walk;
+use std::alloc::{AllocError, Allocator};
+
+/// Right pieces of a log: the bytes that it wrote or made zero, each from the entry that reached it last. The walk is the log's
+/// own, as `judge_entries` gives it, and has no bad entry; the log has at most 4,096 entries, with payloads of at most 65,536
+/// bytes, as `decode_log` reads them. A refused growth is the only error.
+pub fn sweep<A: Allocator + Copy>(
+    alloc: A,
+    log: &Log<A>,
+    walk: &Walk<A>,
+) -> Result<Vec<Piece, A>, AllocError>
+    requires walked { IsOk walk.now.outcome }
+    requires sizes { HasOrderedSizes walk.now }
+    requires spans { AllByRecursion IsSpanned log.now.entries }
+    requires count { length log.now.entries ≤ entry_limit }
+    // At every sound tree and all leases that agree with the walk's reads, these are right pieces of the log.
+    ensures right { IfOk result (λ out. (client : ClientRow) → IsWalkOf client log.now walk.now → ArePiecesOf client log.now walk.now (map piece_of out.items)) }
+{
+    let out = kfs_sweep::sweep(alloc, walk.sizes.as_slice(), log.entries.as_slice())?;
+    Ok(out)
+}
