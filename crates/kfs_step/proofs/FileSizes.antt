@@ -11,7 +11,6 @@ use Rattle.std.proofs.Common.{ap, sym, subst, ◌∙◌, arith, append_assoc, ap
 use Rattle.std.proofs.lemmas.Bool.{ltb-true}
 use Rattle.std.proofs.lemmas.List.{map-append}
 use Rattle.std.proofs.lemmas.Map.Made.{is_some-lookup}
-use Rattle.kfs_model.specs.Header.{Header}
 use Rattle.kfs_model.specs.Limits.{size_limit}
 use Rattle.kfs_model.specs.Sight.{Sight}
 use Rattle.kfs_value.specs.Views.{header_of}
@@ -67,10 +66,7 @@ numbers_more sizes pushed size e left rest all is_pushed is own so_far =
 pub numbers_all : (sizes : List FileSize) (left : List (ℕ × Option CodeHeader)) (all : List ℕ) → left ≡ [] → map (λ (s : FileSize). s.number) sizes ++ keys_left left ≡ all → map (λ (s : FileSize). s.number) sizes ≡ all
 numbers_all sizes left all none so_far = sym (append-nil (map (λ (s : FileSize). s.number) sizes)) ∙ ap (λ es. map (λ (s : FileSize). s.number) sizes ++ keys_left es) (sym none) ∙ so_far
 
--- ---- sizes
-
-abbrev size_said : Option Header → ℕ
-size_said header = elim header [ None ↦ 0 | Some h ↦ h.size ]
+-- ---- what the draft has
 
 module _ {A : Type 0} (draft : Draft A) (s : Sight) where
   -- the sizes that a number had and has
@@ -93,7 +89,7 @@ module _ {A : Type 0} (draft : Draft A) (s : Sight) where
       at : (there : Option (Option CodeHeader)) → get nat_cmp draft.heads n ≡ there → is_some (get nat_cmp draft.heads n) ≡ true
       at (Some now) is = ap is_some is
       at None is =
-          let same : size_in (over draft s) n ≡ size_in s n = ap (λ h. size_said (unwrap_or (option_map (option_map header_of) h) (s.head n))) is in
+          let same : size_in (over draft s) n ≡ size_in s n = ap (λ h. size_in (record s { head = λ k. unwrap_or (option_map (option_map header_of) h) (s.head n) }) n) is in
           absurd (omega (arith, same, grew))
 
   pub sizes_are_over : (sizes : List FileSize) → map (λ (s : FileSize). s.number) sizes ≡ keys_left draft.heads.entries → AllByRecursion IsOwnSize sizes → AreSizesOver draft s sizes

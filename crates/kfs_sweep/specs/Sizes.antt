@@ -89,7 +89,7 @@ pub record AreSizes (tree : Tree ℕ) (entries : List Entry) (after : Tree Mark)
 abbrev pub size_in : Sight → ℕ → ℕ
 size_in sight n = elim (sight.head n) [ None ↦ 0 | Some header ↦ header.size ]
 
--- the sizes are those of two sights; each number whose size grew is listed, and each that an entry reaches
+-- the sizes are those of two sights, the later one cut off at the greatest of a file; each number whose size grew is listed, and each that an entry reaches
 pub record AreSizesBetween (before after : Sight) (entries : List Entry) (sizes : List FileSize) : Type 0 where
   pub own : AllByRecursion (λ (s : FileSize). (s.before ≡ size_in before s.number) × (s.after ≡ min (size_in after s.number) size_limit)) sizes
   pub grew : (n : ℕ) → size_in before n < size_in after n → IsTrue (list_any (λ k. n == k) (map (λ (s : FileSize). s.number) sizes))
