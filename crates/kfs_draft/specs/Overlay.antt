@@ -42,6 +42,10 @@ module _ {A : Type 0} where
   abbrev pub KeepsHeaders : (old new : Draft A) → Type 0
   KeepsHeaders old new = (n : ℕ) → IsTrue (has_header old n) → IsTrue (has_header new n)
 
+  -- the log has created the same numbers
+  abbrev pub KeepsCreated : (old new : Draft A) → Type 0
+  KeepsCreated old new = (n : ℕ) → has_created new n ≡ has_created old n
+
   -- the log has created exactly these
   abbrev pub AreCreated : Draft A → List ℕ → Type 0
   AreCreated draft numbers = (n : ℕ) → has_created draft n ≡ list_any (λ c. c == n) numbers
@@ -129,6 +133,14 @@ module _ {A : Type 0} where
   -- after so many further changes of one name each, every difference still fits into 32 bits
   abbrev pub HasRoom : (changes : ℕ) → Draft A → Type 0
   HasRoom changes draft = ShiftsBy (2147483647 - changes) draft
+
+  -- no count differs by more than before
+  abbrev pub KeepsShifts : (old new : Draft A) → Type 0
+  KeepsShifts old new = (most : ℕ) → ShiftsBy most old → ShiftsBy most new
+
+  -- none differs by so many names more than before
+  abbrev pub ShiftsFurther : (names : ℕ) → (old new : Draft A) → Type 0
+  ShiftsFurther names old new = (most : ℕ) → ShiftsBy most old → ShiftsBy (most + names) new
 
   -- the names and headers that the draft has are among these cells
   pub record IsWritten (draft : Draft A) (among : List Cell) : Type 0 where

@@ -8,7 +8,7 @@ ghost use Rattle.kfs_model.specs.Sight.{Sight, Cell, HeaderOf, NameIn};
 ghost use Rattle.std.specs.Ordering.{nat_cmp};
 ghost use Rattle.std.specs.BTreeMap.{get};
 ghost use Rattle.kfs_model.specs.Tree.{name_order};
-ghost use Rattle.kfs_draft.specs.Overlay.{has_created, has_header, over, KeepsHeaders, ShiftsBy, HasRoom, PutsAt, IsWritten, WritesNameAndHeader, WritesTwoNames, shift_of};
+ghost use Rattle.kfs_draft.specs.Overlay.{has_created, has_header, over, KeepsCreated, KeepsHeaders, KeepsShifts, ShiftsBy, ShiftsFurther, HasRoom, PutsAt, IsWritten, WritesNameAndHeader, WritesTwoNames, shift_of};
 ghost use Rattle.kfs_draft.specs.Overlay.{with_header, with_target, with_more_names, with_parent, with_directory_in, with_node, with_name, without_name, with_name_moved, shift_of};
 
 use kfs_value::{Header, Kind, Name};
@@ -58,7 +58,7 @@ impl<A: Allocator + Copy> Draft<A> {
         ensures written { OnOk result (WritesNameAndHeader self.old self.new key.0 key.1 number) }
         ensures created { OnOk result ((n : ℕ) → has_created self.new n ≡ ((number == n) || has_created self.old n)) }
         ensures kept { OnOk result (KeepsHeaders self.old self.new) }
-        ensures shifts { OnOk result ((most : ℕ) → ShiftsBy most self.old → ShiftsBy (most + 1) self.new) }
+        ensures shifts { OnOk result (ShiftsFurther 1 self.old self.new) }
     {
         let dir = key.0;
         self.add_name(key, number, Some(header))?;
@@ -77,9 +77,9 @@ impl<A: Allocator + Copy> Draft<A> {
         requires { HasRoom 1 self.old }
         ensures shown { OnOk result ((s : Sight) → over self.new s ≡ with_name key.0 key.1 number (option_map header_of header) (over self.old s)) }
         ensures written { OnOk result (WritesNameAndHeader self.old self.new key.0 key.1 number) }
-        ensures created { OnOk result ((n : ℕ) → has_created self.new n ≡ has_created self.old n) }
+        ensures created { OnOk result (KeepsCreated self.old self.new) }
         ensures kept { OnOk result (KeepsHeaders self.old self.new) }
-        ensures shifts { OnOk result ((most : ℕ) → ShiftsBy most self.old → ShiftsBy (most + 1) self.new) }
+        ensures shifts { OnOk result (ShiftsFurther 1 self.old self.new) }
     {
         self.shift_count(key.0, 1)?;
         self.set_target(key, Some(number))?;
@@ -97,9 +97,9 @@ impl<A: Allocator + Copy> Draft<A> {
         requires { HasRoom 1 self.old }
         ensures shown { OnOk result ((s : Sight) → over self.new s ≡ without_name key.0 key.1 number (option_map header_of header) (over self.old s)) }
         ensures written { OnOk result (WritesNameAndHeader self.old self.new key.0 key.1 number) }
-        ensures created { OnOk result ((n : ℕ) → has_created self.new n ≡ has_created self.old n) }
+        ensures created { OnOk result (KeepsCreated self.old self.new) }
         ensures kept { OnOk result (KeepsHeaders self.old self.new) }
-        ensures shifts { OnOk result ((most : ℕ) → ShiftsBy most self.old → ShiftsBy (most + 1) self.new) }
+        ensures shifts { OnOk result (ShiftsFurther 1 self.old self.new) }
     {
         self.shift_count(key.0, -1)?;
         self.set_target(key, None)?;
@@ -119,9 +119,9 @@ impl<A: Allocator + Copy> Draft<A> {
         requires { HasRoom 2 self.old }
         ensures shown { OnOk result ((s : Sight) → over self.new s ≡ with_name_moved key.0 key.1 new_key.0 new_key.1 number (kind_of kind) (over self.old s)) }
         ensures written { OnOk result (WritesTwoNames self.old self.new key.0 key.1 new_key.0 new_key.1) }
-        ensures created { OnOk result ((n : ℕ) → has_created self.new n ≡ has_created self.old n) }
+        ensures created { OnOk result (KeepsCreated self.old self.new) }
         ensures kept { OnOk result (KeepsHeaders self.old self.new) }
-        ensures shifts { OnOk result ((most : ℕ) → ShiftsBy most self.old → ShiftsBy (most + 2) self.new) }
+        ensures shifts { OnOk result (ShiftsFurther 2 self.old self.new) }
     {
         let new_dir = new_key.0;
         self.shift_count(key.0, -1)?;
@@ -136,10 +136,10 @@ impl<A: Allocator + Copy> Draft<A> {
     pub fn set_header(&mut self, number: u32, header: Option<Header>) -> Result<(), AllocError>
         ensures shown { OnOk result ((s : Sight) → over self.new s ≡ with_header number (option_map header_of header) (over self.old s)) }
         ensures written { OnOk result ((among : List Cell) → IsWritten self.old among → Contains among (HeaderOf number) → IsWritten self.new among) }
-        ensures created { OnOk result ((n : ℕ) → has_created self.new n ≡ has_created self.old n) }
+        ensures created { OnOk result (KeepsCreated self.old self.new) }
         ensures put { OnOk result (IsTrue (has_header self.new number)) }
         ensures kept { OnOk result (KeepsHeaders self.old self.new) }
-        ensures shifts { OnOk result ((most : ℕ) → ShiftsBy most self.old → ShiftsBy most self.new) }
+        ensures shifts { OnOk result (KeepsShifts self.old self.new) }
     {
         put(&mut self.heads, number, header)?;
         Ok(())
@@ -149,9 +149,9 @@ impl<A: Allocator + Copy> Draft<A> {
     fn set_target(&mut self, key: (u32, Name), target: Option<u32>) -> Result<(), AllocError>
         ensures shown { OnOk result ((s : Sight) → over self.new s ≡ with_target key.0 key.1 target (over self.old s)) }
         ensures written { OnOk result ((among : List Cell) → IsWritten self.old among → Contains among (NameIn key.0 key.1) → IsWritten self.new among) }
-        ensures created { OnOk result ((n : ℕ) → has_created self.new n ≡ has_created self.old n) }
+        ensures created { OnOk result (KeepsCreated self.old self.new) }
         ensures kept { OnOk result (KeepsHeaders self.old self.new) }
-        ensures shifts { OnOk result ((most : ℕ) → ShiftsBy most self.old → ShiftsBy most self.new) }
+        ensures shifts { OnOk result (KeepsShifts self.old self.new) }
     {
         put(&mut self.names, key, target)?;
         Ok(())
@@ -161,9 +161,9 @@ impl<A: Allocator + Copy> Draft<A> {
     fn set_parent(&mut self, number: u32, parent: Option<u32>) -> Result<(), AllocError>
         ensures shown { OnOk result ((s : Sight) → over self.new s ≡ with_parent number parent (over self.old s)) }
         ensures written { OnOk result ((among : List Cell) → IsWritten self.old among → IsWritten self.new among) }
-        ensures created { OnOk result ((n : ℕ) → has_created self.new n ≡ has_created self.old n) }
+        ensures created { OnOk result (KeepsCreated self.old self.new) }
         ensures kept { OnOk result (KeepsHeaders self.old self.new) }
-        ensures shifts { OnOk result ((most : ℕ) → ShiftsBy most self.old → ShiftsBy most self.new) }
+        ensures shifts { OnOk result (KeepsShifts self.old self.new) }
     {
         put(&mut self.parents, number, parent)?;
         Ok(())
@@ -173,9 +173,9 @@ impl<A: Allocator + Copy> Draft<A> {
     fn set_directory_in(&mut self, kind: Kind, number: u32, dir: u32) -> Result<(), AllocError>
         ensures shown { OnOk result ((s : Sight) → over self.new s ≡ with_directory_in (kind_of kind) number dir (over self.old s)) }
         ensures written { OnOk result ((among : List Cell) → IsWritten self.old among → IsWritten self.new among) }
-        ensures created { OnOk result ((n : ℕ) → has_created self.new n ≡ has_created self.old n) }
+        ensures created { OnOk result (KeepsCreated self.old self.new) }
         ensures kept { OnOk result (KeepsHeaders self.old self.new) }
-        ensures shifts { OnOk result ((most : ℕ) → ShiftsBy most self.old → ShiftsBy most self.new) }
+        ensures shifts { OnOk result (KeepsShifts self.old self.new) }
     {
         match kind {
             Kind::File => Ok(()),
@@ -193,9 +193,9 @@ impl<A: Allocator + Copy> Draft<A> {
         requires room { HasRoom 1 self.old }
         ensures shown { OnOk result ((s : Sight) → over self.new s ≡ with_more_names dir by (over self.old s)) }
         ensures written { OnOk result ((among : List Cell) → IsWritten self.old among → IsWritten self.new among) }
-        ensures created { OnOk result ((n : ℕ) → has_created self.new n ≡ has_created self.old n) }
+        ensures created { OnOk result (KeepsCreated self.old self.new) }
         ensures kept { OnOk result (KeepsHeaders self.old self.new) }
-        ensures shifts { OnOk result ((most : ℕ) → ShiftsBy most self.old → ShiftsBy (most + 1) self.new) }
+        ensures shifts { OnOk result (ShiftsFurther 1 self.old self.new) }
     {
         count_names(&mut self.shifts, dir, by)?;
         Ok(())

@@ -1,5 +1,5 @@
 -- What a log's judge has made of an entry, and of entries one after another.
-use Rattle.std.specs.Prelude.{◌≡◌, ◌==◌, ℕ, List, ◌∷◌, [], ◌+◌, Contains, if◌then◌else◌, ◌++◌, Option, Some, None, Result, Ok, IfOk, OnOk}
+use Rattle.std.specs.Prelude.{◌≡◌, ◌==◌, ℕ, List, ◌∷◌, [], Contains, if◌then◌else◌, ◌++◌, Option, Some, None, Result, Ok, IfOk, OnOk}
 use Rattle.std.specs.Option.{option_map}
 use Rattle.std.specs.declared.alloc.AllocError.{AllocError}
 use Rattle.kfs_model.specs.Entry.{Entry}
@@ -11,7 +11,7 @@ use Rattle.kfs_check.specs.declared.check.Reason.{Reason}
 use Rattle.kfs_step.specs.declared.log_judge.LogJudge.{LogJudge}
 use Rattle.kfs_step.specs.FileSizes.{HasFileOf}
 use Rattle.kfs_check.specs.Checks.{reason_of}
-use Rattle.kfs_draft.specs.Overlay.{over, entry_context_of, AreCreated, IsWritten, KeepsHeaders, ShiftsBy}
+use Rattle.kfs_draft.specs.Overlay.{over, entry_context_of, AreCreated, IsWritten, KeepsHeaders, ShiftsFurther}
 use Rattle.kfs_check.specs.Reads.{IsPart}
 use Rattle.kfs_check.specs.Recorders.{GoesOn, Known, ReadsAt}
 
@@ -57,7 +57,7 @@ module _ {A : Type 0} (old new : LogJudge A) (entry : Entry) where
     pub created : CreatesItsNumber old new entry
     pub kept : KeepsHeaders old.draft new.draft
     pub reached : HasFileOf new.draft entry
-    pub shifts : (most : ℕ) → ShiftsBy most old.draft → ShiftsBy (most + 3) new.draft
+    pub shifts : ShiftsFurther 3 old.draft new.draft
 
   -- the reason is the entry's first fault; where there is none, its change is made
   pub record IsEntered (answer : Result (Option Reason) AllocError) : Type 0 where

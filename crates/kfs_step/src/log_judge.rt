@@ -3,7 +3,7 @@ ghost use Rattle.std.specs.Prelude.{◌≡◌, ℕ, ◌+◌, ◌==◌, List, len
 ghost use Rattle.kfs_value.specs.Views.{entry_of, IsWithin};
 ghost use Rattle.kfs_model.specs.Sight.{Sight, Cell};
 ghost use Rattle.kfs_step.specs.Entered.{IsEntered};
-ghost use Rattle.kfs_draft.specs.Overlay.{has_created, over, ShiftsBy, HasRoom, IsWritten};
+ghost use Rattle.kfs_draft.specs.Overlay.{has_created, over, ShiftsBy, ShiftsFurther, HasRoom, IsWritten};
 ghost use Rattle.kfs_check.specs.Recorders.{GoesOn, seen_by, Known, ReadsAt};
 ghost use Rattle.kfs_step.specs.Nets.{IsNetOf};
 ghost use Rattle.kfs_step.specs.FileSizes.{AreSizesOver};
@@ -84,7 +84,7 @@ impl<'a, A: Allocator + Copy> LogJudge<'a, A> {
         requires { HasRoom 3 self.old.draft }
         ensures goes { GoesOn self.old.recorder self.new.recorder }
         ensures client { self.new.client.now ≡ self.old.client.now }
-        ensures shifts { result ≡ Ok None → (most : ℕ) → ShiftsBy most self.old.draft → ShiftsBy (most + 3) self.new.draft }
+        ensures shifts { result ≡ Ok None → ShiftsFurther 3 self.old.draft self.new.draft }
         // Whatever bytes the payload's span is of.
         ensures entered { (source : List ℕ) → IsWithin (length source) entry.now → IsEntered self.old self.new (entry_of source entry.now) result }
     {

@@ -4,7 +4,7 @@ ghost use Rattle.kfs_model.specs.Check.{checks_of, arrival_checks, may_go, on_nu
 ghost use Rattle.kfs_model.specs.Entry as entry;
 ghost use Rattle.kfs_check.specs.Checks.{FindsFault, FindsFirst, ReadsCellsOf, ReadsCellsOfAll};
 ghost use Rattle.kfs_step.specs.Entered.{IsEntered, headers_renamed, ShowsRename, WritesRename};
-ghost use Rattle.kfs_draft.specs.Overlay.{has_created, HasRoom, KeepsHeaders, ShiftsBy};
+ghost use Rattle.kfs_draft.specs.Overlay.{HasRoom, KeepsCreated, KeepsHeaders, ShiftsFurther};
 ghost use Rattle.kfs_check.specs.Recorders.{GoesOn, ReadsAt};
 ghost use Rattle.kfs_value.specs.Views.{kind_of};
 
@@ -185,9 +185,9 @@ impl<A: Allocator + Copy> LogJudge<'_, A> {
         ensures among { OnOk result (ReadsAt self.old.recorder self.new.recorder (headers_renamed from to)) }
         ensures shown { OnOk result (ShowsRename self.old self.new key.0 key.1 new_key.0 new_key.1 from to) }
         ensures written { OnOk result (WritesRename self.old self.new key.0 key.1 new_key.0 new_key.1 from to) }
-        ensures created { OnOk result ((n : ℕ) → has_created self.new.draft n ≡ has_created self.old.draft n) }
+        ensures created { OnOk result (KeepsCreated self.old.draft self.new.draft) }
         ensures kept { OnOk result (KeepsHeaders self.old.draft self.new.draft) }
-        ensures shifts { OnOk result ((most : ℕ) → ShiftsBy most self.old.draft → ShiftsBy (most + 3) self.new.draft) }
+        ensures shifts { OnOk result (ShiftsFurther 3 self.old.draft self.new.draft) }
     {
         let Some(moved) = from else {
             return Ok(());

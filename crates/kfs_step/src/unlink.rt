@@ -4,7 +4,7 @@ ghost use Rattle.kfs_model.specs.Check.{checks_of, may_go};
 ghost use Rattle.kfs_model.specs.Entry as entry;
 ghost use Rattle.kfs_check.specs.Checks.{FindsFault, FindsFirst, ReadsCellsOf, ReadsCellsOfAll};
 ghost use Rattle.kfs_step.specs.Entered.{IsEntered, headers_unlinked, ShowsUnlink, WritesUnlink};
-ghost use Rattle.kfs_draft.specs.Overlay.{has_created, HasRoom, KeepsHeaders, ShiftsBy};
+ghost use Rattle.kfs_draft.specs.Overlay.{HasRoom, KeepsCreated, KeepsHeaders, ShiftsFurther};
 ghost use Rattle.kfs_check.specs.Recorders.{GoesOn, ReadsAt};
 ghost use Rattle.kfs_value.specs.Views.{kind_of};
 
@@ -92,9 +92,9 @@ impl<A: Allocator + Copy> LogJudge<'_, A> {
         ensures among { OnOk result (ReadsAt self.old.recorder self.new.recorder (headers_unlinked there)) }
         ensures shown { OnOk result (ShowsUnlink self.old self.new key.0 key.1 there) }
         ensures written { OnOk result (WritesUnlink self.old self.new key.0 key.1 there) }
-        ensures created { OnOk result ((n : ℕ) → has_created self.new.draft n ≡ has_created self.old.draft n) }
+        ensures created { OnOk result (KeepsCreated self.old.draft self.new.draft) }
         ensures kept { OnOk result (KeepsHeaders self.old.draft self.new.draft) }
-        ensures shifts { OnOk result ((most : ℕ) → ShiftsBy most self.old.draft → ShiftsBy (most + 1) self.new.draft) }
+        ensures shifts { OnOk result (ShiftsFurther 1 self.old.draft self.new.draft) }
     {
         let Some(number) = there else {
             return Ok(());
