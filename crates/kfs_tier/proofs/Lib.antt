@@ -1,0 +1,3 @@
+pub mod MarkedBits
+pub mod PlaceLists
+pub mod BlockTables

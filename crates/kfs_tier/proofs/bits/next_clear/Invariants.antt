@@ -1,0 +1,5 @@
+use Rattle.kfs_tier.proofs.MarkedBits.{HasPassed}
+use Rattle.kfs_tier.proofs.bits.next_clear.Given as goal
+
+abbrev pub invariant-loop-index : goal.invariant-loop-index
+invariant-loop-index l = HasPassed l.words l.from l.index l.passed
