@@ -1,14 +1,15 @@
 -- What the table of a map's entries shows, and the table once one entry has changed.
-use Rattle.std.proofs.Common.{◌≡◌, ℕ, ◌==◌, Bool, true, false, cond, not, List, [], ◌∷◌, length, Option, Some, None, unwrap_or, Result, Ok, Err, refl, sym, ap, subst, ◌∙◌}
-use Rattle.std.specs.Prelude.{OnOk, OnErr}
+use Rattle.std.proofs.Common.{◌≡◌, ℕ, Bool, true, false, cond, not, List, [], ◌∷◌, length, Option, Some, None, unwrap_or, Result, Ok, Err, refl, sym, ap, subst, ◌∙◌, inl, inr, arith}
+use Rattle.std.specs.Prelude.{IfSome, OnOk, OnErr}
 use Rattle.std.specs.Ordering.{nat_cmp, eq_by_cmp}
-use Rattle.std.specs.Cmp.{eq_by_cmp_equiv, nat_cmp_total}
 use Rattle.std.specs.Map.{lookup}
 use Rattle.std.specs.BTreeMap as map_of
-use Rattle.std.specs.BTreeMap.{BTreeMap, is_at, Updates}
+use Rattle.std.specs.BTreeMap.{BTreeMap, is_at}
+use Rattle.std.proofs.lemmas.Bool.{cases_eq}
+use Rattle.std.proofs.lemmas.Bool.Decides.{nat_tests}
 use Rattle.kfs_model.specs.Limits.{block_size}
-use Rattle.kfs_model.specs.Table.{numbers, empty, get, insert, remove, get-insert, get-remove, same_table}
-use Rattle.kfs_tier.specs.Blocks.{BlockTable, block_at, AreWhole, with_room, blocks_of}
+use Rattle.kfs_model.specs.Table.{empty, get, insert, remove, get-insert, get-remove, same_table}
+use Rattle.kfs_tier.specs.Blocks.{BlockTable, block_at, with_room, without_room, KeepsBlocks, AreWhole, blocks_of}
 
 pub get-blocks_of : (entries : List (ℕ × Option (List ℕ))) (q : ℕ) → get (blocks_of entries) q ≡ lookup (is_at (nat_cmp q)) entries
 unfolding blocks_of get
@@ -20,40 +21,91 @@ pub blocks_of-none : (entries : List (ℕ × Option (List ℕ))) → entries ≡
 unfolding blocks_of
 blocks_of-none entries none = ap blocks_of none
 
-same_test : (k q : ℕ) → eq_by_cmp nat_cmp k q ≡ eq_by_cmp nat_cmp q k
-same_test k q = (eq_by_cmp_equiv nat_cmp_total).symm k q
+pub ruleset shown = (get-blocks_of)
 
 module _ (old new : BTreeMap ℕ (Option (List ℕ))) (place : ℕ) where
+  -- what the place's slot shows
+  shown_there : block_at (blocks_of old.entries) place ≡ unwrap_or (map_of.get nat_cmp old place) None
+  shown_there = ap (λ slot. unwrap_or slot None) (get-blocks_of old.entries place)
+
   pub blocks_of-insert : (slot : Option (List ℕ)) → ((q : ℕ) → map_of.get nat_cmp new q ≡ cond (eq_by_cmp nat_cmp q place) (Some slot) (map_of.get nat_cmp old q))
       → blocks_of new.entries ≡ insert (blocks_of old.entries) place slot
   blocks_of-insert slot changed =
       same_table (blocks_of new.entries) (insert (blocks_of old.entries) place slot)
       (λ q.
-          get-blocks_of new.entries q ∙ changed q ∙ ap (λ rest. cond (eq_by_cmp nat_cmp q place) (Some slot) rest) (sym (get-blocks_of old.entries q))
-          ∙ sym (get-insert (blocks_of old.entries) place slot q))
+      get-blocks_of new.entries q ∙ changed q ∙ ap (λ rest. cond (eq_by_cmp nat_cmp q place) (Some slot) rest) (sym (get-blocks_of old.entries q))
+      ∙ sym (get-insert (blocks_of old.entries) place slot q))
 
-  -- a slot was made where there was none
   pub blocks_of-with_room : ((q : ℕ) → map_of.get nat_cmp new q ≡ cond (eq_by_cmp nat_cmp q place) (Some (unwrap_or (map_of.get nat_cmp old place) None)) (map_of.get nat_cmp old q))
       → blocks_of new.entries ≡ with_room (blocks_of old.entries) place
-  blocks_of-with_room changed =
-      blocks_of-insert (unwrap_or (map_of.get nat_cmp old place) None) changed
-      ∙ ap (λ slot. insert (blocks_of old.entries) place (unwrap_or slot None)) (sym (get-blocks_of old.entries place))
+  blocks_of-with_room changed = blocks_of-insert (unwrap_or (map_of.get nat_cmp old place) None) changed ∙ ap (insert (blocks_of old.entries) place) (sym shown_there)
 
-  turned : (a b : Bool) (rest : Option (Option (List ℕ))) → a ≡ b → cond a None rest ≡ cond (not b) rest None
-  turned a true rest e = ap (λ x. cond x None rest) e
-  turned a false rest e = ap (λ x. cond x None rest) e
+  turned : (b : Bool) (rest : Option (Option (List ℕ))) → cond b None rest ≡ cond (not b) rest None
+  turned true rest = refl
+  turned false rest = refl
 
   pub blocks_of-remove : ((q : ℕ) → map_of.get nat_cmp new q ≡ cond (eq_by_cmp nat_cmp place q) None (map_of.get nat_cmp old q)) → blocks_of new.entries ≡ remove (blocks_of old.entries) place
   blocks_of-remove changed =
       same_table (blocks_of new.entries) (remove (blocks_of old.entries) place)
       (λ q.
-          get-blocks_of new.entries q ∙ changed q ∙ ap (λ rest. cond (eq_by_cmp nat_cmp place q) None rest) (sym (get-blocks_of old.entries q))
-          ∙ turned (eq_by_cmp nat_cmp place q) (eq_by_cmp nat_cmp place q) (get (blocks_of old.entries) q) refl
-          ∙ sym (get-remove (blocks_of old.entries) place q))
+      get-blocks_of new.entries q ∙ changed q ∙ ap (λ rest. cond (eq_by_cmp nat_cmp place q) None rest) (sym (get-blocks_of old.entries q))
+      ∙ turned (eq_by_cmp nat_cmp place q) (get (blocks_of old.entries) q)
+      ∙ sym (get-remove (blocks_of old.entries) place q))
+
+  pub blocks_of-without_room : (unwrap_or (map_of.get nat_cmp old place) None ≡ None → (q : ℕ) → map_of.get nat_cmp new q ≡ cond (eq_by_cmp nat_cmp place q) None (map_of.get nat_cmp old q))
+      → IfSome (unwrap_or (map_of.get nat_cmp old place) None) (λ _. new.entries ≡ old.entries) → blocks_of new.entries ≡ without_room (blocks_of old.entries) place
+  blocks_of-without_room unwritten written =
+      by_slot (block_at (blocks_of old.entries) place) (λ none. blocks_of-remove (unwritten (sym shown_there ∙ none)))
+      (subst (λ slot. IfSome slot (λ _. new.entries ≡ old.entries)) (sym shown_there) written)
+    where
+      by_slot : (slot : Option (List ℕ)) → (slot ≡ None → blocks_of new.entries ≡ remove (blocks_of old.entries) place) → IfSome slot (λ _. new.entries ≡ old.entries)
+          → blocks_of new.entries ≡ elim slot as (λ _. BlockTable) [ None ↦ remove (blocks_of old.entries) place | Some bytes ↦ blocks_of old.entries ]
+      by_slot None gone same = gone refl
+      by_slot (Some bytes) gone same = ap blocks_of same
+
+eq_by_cmp-same : (k q : ℕ) → k ≡ q → eq_by_cmp nat_cmp k q ≡ true
+eq_by_cmp-same k q same = grind (arith, nat_tests)
+
+pub eq_by_cmp-other : (k q : ℕ) → (k ≡ q → ⊥) → eq_by_cmp nat_cmp k q ≡ false
+eq_by_cmp-other k q other = grind (arith, nat_tests)
+
+module _ (blocks : BlockTable) (place : ℕ) where
+  pub KeepsBlocks-with_room : KeepsBlocks blocks (with_room blocks place)
+  KeepsBlocks-with_room q =
+      ap (λ slot. unwrap_or slot None) (get-insert blocks place (block_at blocks place) q)
+      ∙ elim (cases_eq q place) [
+        | inl same ↦ ap (λ b. unwrap_or (cond b (Some (block_at blocks place)) (get blocks q)) None) (eq_by_cmp-same q place same) ∙ ap (block_at blocks) (sym same)
+        | inr other ↦ ap (λ b. unwrap_or (cond b (Some (block_at blocks place)) (get blocks q)) None) (eq_by_cmp-other q place other)
+      ]
+
+  KeepsBlocks-remove : block_at blocks place ≡ None → KeepsBlocks blocks (remove blocks place)
+  KeepsBlocks-remove unwritten q =
+      ap (λ slot. unwrap_or slot None) (get-remove blocks place q)
+      ∙ elim (cases_eq place q) [
+        | inl same ↦ ap (λ b. unwrap_or (cond (not b) (get blocks q) None) None) (eq_by_cmp-same place q same) ∙ sym (ap (block_at blocks) (sym same) ∙ unwritten)
+        | inr other ↦ ap (λ b. unwrap_or (cond (not b) (get blocks q) None) None) (eq_by_cmp-other place q other)
+      ]
+
+  pub KeepsBlocks-without_room : KeepsBlocks blocks (without_room blocks place)
+  KeepsBlocks-without_room = by_slot (block_at blocks place) refl
+    where
+      by_slot : (slot : Option (List ℕ)) → block_at blocks place ≡ slot → KeepsBlocks blocks (elim slot as (λ _. BlockTable) [ None ↦ remove blocks place | Some bytes ↦ blocks ])
+      by_slot None unwritten = KeepsBlocks-remove unwritten
+      by_slot (Some bytes) written = λ q. refl
+
+-- a slot was made, or there was no memory for it
+pub KeepsBlocks-after : {E : Type 0} (result : Result (Unit {0}) E) (old new : BTreeMap ℕ (Option (List ℕ))) (place : ℕ)
+    → OnOk result ((q : ℕ) → map_of.get nat_cmp new q ≡ cond (eq_by_cmp nat_cmp q place) (Some (unwrap_or (map_of.get nat_cmp old place) None)) (map_of.get nat_cmp old q))
+    → OnErr result (new.entries ≡ old.entries) → KeepsBlocks (blocks_of old.entries) (blocks_of new.entries)
+KeepsBlocks-after (Ok done) old new place made kept = subst (KeepsBlocks (blocks_of old.entries)) (sym (blocks_of-with_room old new place made)) (KeepsBlocks-with_room (blocks_of old.entries) place)
+KeepsBlocks-after (Err error) old new place made kept = λ q. ap (λ entries. block_at (blocks_of entries) q) kept
 
 pub AreWhole-empty : AreWhole empty
 unfolding get
 AreWhole-empty = record { whole = λ place bytes none. cc }
+
+pub AreWhole-kept : (old new : BlockTable) → KeepsBlocks old new → AreWhole old → AreWhole new
+AreWhole-kept old new keeps are = record { whole = λ place bytes there. are.whole place bytes (sym (keeps place) ∙ there) }
 
 module _ (blocks : BlockTable) (place : ℕ) (are : AreWhole blocks) where
   pub AreWhole-insert : (slot : Option (List ℕ)) → ((bytes : List ℕ) → slot ≡ Some bytes → length bytes ≡ block_size) → AreWhole (insert blocks place slot)
@@ -73,16 +125,3 @@ module _ (blocks : BlockTable) (place : ℕ) (are : AreWhole blocks) where
       at : (q : ℕ) (bytes : List ℕ) (b : Bool) → unwrap_or (cond b (get blocks q) None) None ≡ Some bytes → length bytes ≡ block_size
       at q bytes true there = are.whole q bytes there
       at q bytes false there = cc
-
-  pub AreWhole-with_room : AreWhole (with_room blocks place)
-  AreWhole-with_room = AreWhole-insert (block_at blocks place) (λ bytes there. are.whole place bytes there)
-
--- a slot was made, or there was no memory for it
-pub AreWhole-after : {E : Type 0} (result : Result (Unit {0}) E) (old new : BTreeMap ℕ (Option (List ℕ))) (place : ℕ)
-    → OnOk result ((q : ℕ) → map_of.get nat_cmp new q ≡ cond (eq_by_cmp nat_cmp q place) (Some (unwrap_or (map_of.get nat_cmp old place) None)) (map_of.get nat_cmp old q))
-    → OnErr result (new.entries ≡ old.entries) → AreWhole (blocks_of old.entries) → AreWhole (blocks_of new.entries)
-AreWhole-after (Ok done) old new place made kept whole =
-    subst AreWhole (sym (blocks_of-with_room old new place made)) (AreWhole-with_room (blocks_of old.entries) place whole)
-AreWhole-after (Err error) old new place made kept whole = subst (λ entries. AreWhole (blocks_of entries)) (sym kept) whole
-
-pub ruleset shown = (get-blocks_of)

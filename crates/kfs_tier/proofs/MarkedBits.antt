@@ -1,5 +1,5 @@
 -- What the bits of places are once a word is written, and where the next clear one is.
-use Rattle.std.proofs.Common.{◌≡◌, ◌≢◌, ℕ, ◌+◌, ◌-◌, ◌*◌, ◌/◌, ◌%◌, ◌^◌, ◌<◌, ◌≤◌, ◌==◌, Bool, true, false, cond, max, List, length, get_or, set, refl, sym, ap, subst, ◌∙◌, arith, inl, inr}
+use Rattle.std.proofs.Common.{◌≡◌, ◌≢◌, ℕ, ◌+◌, ◌-◌, ◌*◌, ◌/◌, ◌%◌, ◌^◌, ◌<◌, ◌≤◌, ◌==◌, Bool, true, false, cond, List, length, get_or, set, sym, ap, subst, ◌∙◌, arith, inl, inr}
 use Rattle.std.specs.Int.{w64, bit_at, bit_not, trailing_ones}
 use Rattle.std.specs.Prelude.{bit_and, bit_or}
 use Rattle.std.proofs.lemmas.Bool.{cases_eq, cases_lt, eq-eqb, ne_eqb, cond-true, cond-false}
@@ -18,19 +18,19 @@ pub is_marked-set : (words : List ℕ) (place word : ℕ) (used : Bool) → plac
 is_marked-set words place word used within at others q =
     elim (cases_eq q place) [
       | inl same ↦
-        subst (λ p. is_marked (set words (place / 64) word) p ≡ used) (sym same)
+          subst (λ p. is_marked (set words (place / 64) word) p ≡ used) (sym same)
           (ap (λ w. bit_at w (place % 64) == 1) (get_or-set_same words (place / 64) word 0 (omega arith)) ∙ at)
-        ∙ sym (cond-true (q == place) used (is_marked words q) (eq-eqb q place same))
+          ∙ sym (cond-true (q == place) used (is_marked words q) (eq-eqb q place same))
       | inr other ↦
-        elim (cases_eq (q / 64) (place / 64)) [
-          | inl same_word ↦
-            ap (λ i. bit_at (get_or (set words (place / 64) word) i 0) (q % 64) == 1) same_word
-            ∙ ap (λ w. bit_at w (q % 64) == 1) (get_or-set_same words (place / 64) word 0 (omega arith))
-            ∙ ap (λ b. b == 1) (others (q % 64) (omega arith) (λ same_bit. other (same_spot q place same_word same_bit)))
-            ∙ ap (λ i. bit_at (get_or words i 0) (q % 64) == 1) (sym same_word)
-          | inr other_word ↦ ap (λ w. bit_at w (q % 64) == 1) (get_or-set_other words (place / 64) (q / 64) word 0 other_word)
-        ]
-        ∙ sym (cond-false (q == place) used (is_marked words q) (ne_eqb q place other))
+          elim (cases_eq (q / 64) (place / 64)) [
+            | inl same_word ↦
+                ap (λ i. bit_at (get_or (set words (place / 64) word) i 0) (q % 64) == 1) same_word
+                ∙ ap (λ w. bit_at w (q % 64) == 1) (get_or-set_same words (place / 64) word 0 (omega arith))
+                ∙ ap (λ b. b == 1) (others (q % 64) (omega arith) (λ same_bit. other (same_spot q place same_word same_bit)))
+                ∙ ap (λ i. bit_at (get_or words i 0) (q % 64) == 1) (sym same_word)
+            | inr other_word ↦ ap (λ w. bit_at w (q % 64) == 1) (get_or-set_other words (place / 64) (q / 64) word 0 other_word)
+          ]
+          ∙ sym (cond-false (q == place) used (is_marked words q) (ne_eqb q place other))
     ]
 
 pub is_marked-mark : (words : List ℕ) (place : ℕ) → place < 64 * length words

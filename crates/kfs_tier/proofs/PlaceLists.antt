@@ -1,6 +1,5 @@
 -- What words of bits list as free places, and how many they are.
 use Rattle.std.proofs.Common.{◌≡◌, ℕ, ◌+◌, ◌*◌, ◌/◌, ◌%◌, ◌<◌, ◌≤◌, ◌==◌, Bool, true, false, cond, not, ◌&&◌, ltb, List, length, get_or, set, replicate, min, ◌-◌, refl, sym, ap, subst, ◌∙◌, arith, inl, inr}
-use Rattle.std.specs.Prelude.{IsTrue}
 use Rattle.std.specs.Int.{bit_at}
 use Rattle.std.proofs.lemmas.Bool.{cases_eq, cases_lt, eq-eqb, ne_eqb, cond-true, cond-false, lt-ltb, le-ltb, ltb-true, and_parts, both_ways}
 use Rattle.std.proofs.lemmas.List.{ext_get_or, length-set, length-replicate, get_or-set_same, get_or-set_other, get_or-replicate, get_or_past}
@@ -32,17 +31,17 @@ places_of-change words new size place used within changed =
     ext_get_or false (places_of new size) (set (places_of words size) place (not used))
     (length-places_of new size ∙ sym (length-set (places_of words size) place (not used) ∙ length-places_of words size))
     (λ q inside.
-        let below : q < size = omega (arith, length-places_of new size) in
-        at_place new size q below
-        ∙ ap not (changed q)
-        ∙ elim (cases_eq q place) [
-          | inl same ↦
-            ap not (cond-true (q == place) used (is_marked words q) (eq-eqb q place same))
-            ∙ sym (ap (λ p. get_or (set (places_of words size) place (not used)) p false) same ∙ get_or-set_same (places_of words size) place (not used) false (omega (arith, length-places_of words size)))
-          | inr other ↦
-            ap not (cond-false (q == place) used (is_marked words q) (ne_eqb q place other))
-            ∙ sym (get_or-set_other (places_of words size) place q (not used) false other ∙ at_place words size q below)
-        ])
+    let below : q < size = omega (arith, length-places_of new size) in
+    at_place new size q below
+    ∙ ap not (changed q)
+    ∙ elim (cases_eq q place) [
+      | inl same ↦
+          ap not (cond-true (q == place) used (is_marked words q) (eq-eqb q place same))
+          ∙ sym (ap (λ p. get_or (set (places_of words size) place (not used)) p false) same ∙ get_or-set_same (places_of words size) place (not used) false (omega (arith, length-places_of words size)))
+      | inr other ↦
+          ap not (cond-false (q == place) used (is_marked words q) (ne_eqb q place other))
+          ∙ sym (get_or-set_other (places_of words size) place q (not used) false other ∙ at_place words size q below)
+    ])
 
 pub free_count-take : (places : List Bool) (place : ℕ) → place < length places → is_free_in places place ≡ true → free_count (set places place false) + 1 ≡ free_count places
 free_count-take places place within free = omega (arith, sum_by-set (λ b. cond b 1 0) places place false false within, ap {B = ℕ} (λ b. cond b 1 0) free)
@@ -64,11 +63,11 @@ places_of-clear n size =
     ext_get_or false (places_of (replicate n 0) size) (replicate size true)
     (length-places_of (replicate n 0) size ∙ sym (length-replicate size true))
     (λ q inside.
-        let below : q < size = omega (arith, length-places_of (replicate n 0) size) in
-        at_place (replicate n 0) size q below
-        ∙ ap (λ w. not (bit_at w (q % 64) == 1)) (clear_words n (q / 64))
-        ∙ ap (λ b. not (b == 1)) (bit_at-zero (q % 64))
-        ∙ sym (get_or-replicate size q true false below))
+    let below : q < size = omega (arith, length-places_of (replicate n 0) size) in
+    at_place (replicate n 0) size q below
+    ∙ ap (λ w. not (bit_at w (q % 64) == 1)) (clear_words n (q / 64))
+    ∙ ap (λ b. not (b == 1)) (bit_at-zero (q % 64))
+    ∙ sym (get_or-replicate size q true false below))
 
 pub free_count-all : (size : ℕ) → free_count (replicate size true) ≡ size
 free_count-all size = omega (arith, sum_by-replicate (λ b. cond b 1 0) size true)

@@ -1,7 +1,7 @@
 -- The blocks of a tier by their places: those that were written, with their bytes, and those that only have room.
-use Rattle.std.specs.Prelude.{◌≡◌, ℕ, ◌+◌, List, [], ◌∷◌, length, slice_index, slice_index_or, Option, Some, None, IsSome, unwrap_or}
+use Rattle.std.specs.Prelude.{◌≡◌, ℕ, List, [], ◌∷◌, length, slice_index, Option, Some, None, IsSome, unwrap_or}
 use Rattle.kfs_model.specs.Limits.{block_size}
-use Rattle.kfs_model.specs.Table.{Table, numbers, empty, get, insert}
+use Rattle.kfs_model.specs.Table.{Table, numbers, empty, get, insert, remove}
 
 -- the bytes of a block at each place that has room, or none where the block was never written
 abbrev pub BlockTable : Type 0
@@ -22,6 +22,14 @@ HasRoom blocks place = IsSome (get blocks place)
 -- the same blocks, and room at the place
 abbrev pub with_room : BlockTable → (place : ℕ) → BlockTable
 with_room blocks place = insert blocks place (block_at blocks place)
+
+-- the same blocks, and no room at the place where its block was never written
+abbrev pub without_room : BlockTable → (place : ℕ) → BlockTable
+without_room blocks place = elim (block_at blocks place) [ None ↦ remove blocks place | Some bytes ↦ blocks ]
+
+-- what was written is the same
+abbrev pub KeepsBlocks : (old new : BlockTable) → Type 0
+KeepsBlocks old new = (place : ℕ) → block_at new place ≡ block_at old place
 
 -- each block that was written has as many bytes as a block
 pub record AreWhole (blocks : BlockTable) : Type 0 where

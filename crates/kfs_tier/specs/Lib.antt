@@ -1,2 +1,3 @@
 pub mod Blocks
 pub mod Places
+pub mod Tier

@@ -5,7 +5,7 @@ ghost use Rattle.std.specs.BTreeMap.{get};
 ghost use Rattle.std.specs.Option.{option_copied};
 ghost use Rattle.kfs_model.specs.Limits.{block_size};
 ghost use Rattle.kfs_model.specs.Table.{empty, insert, remove};
-ghost use Rattle.kfs_tier.specs.Blocks.{block_at, byte_at, HasRoom, with_room};
+ghost use Rattle.kfs_tier.specs.Blocks.{block_at, byte_at, HasRoom, KeepsBlocks, with_room, without_room};
 
 use kfs_value::Rows;
 use std::alloc::{AllocError, Allocator};
@@ -66,8 +66,18 @@ impl<A: Allocator> Blocks<A> {
         A: Clone,
         ensures ok { OnOk result (self.new ≡ with_room self.old place) }
         ensures err { OnErr result (self.new ≡ self.old) }
+        ensures blocks { KeepsBlocks self.old self.new }
     {
         make_slot(&mut self.slots, place)
+    }
+
+    /// Gives up the room of a block that was never written. The blocks stay as they are. Takes no
+    /// memory.
+    pub fn release(&mut self, place: u32)
+        ensures table { self.new ≡ without_room self.old place }
+        ensures blocks { KeepsBlocks self.old self.new }
+    {
+        remove_empty(&mut self.slots, place);
     }
 
     /// Writes a block that has room. Takes no memory.
@@ -110,6 +120,16 @@ fn make_slot<A: Allocator + Clone>(
     }
     slots.insert(place, None)?;
     Ok(())
+}
+
+/// Takes the place's slot out where it has no bytes.
+fn remove_empty<A: Allocator>(slots: &mut BTreeMap<u32, Option<Rows<u8, A>>, A>, place: u32)
+    ensures empty { unwrap_or (get nat_cmp slots.old place) None ≡ None → (q : ℕ) → get nat_cmp slots.new q ≡ (if eq_by_cmp nat_cmp place q then None else get nat_cmp slots.old q) }
+    ensures full { IfSome (unwrap_or (get nat_cmp slots.old place) None) (λ _. slots.new.entries ≡ slots.old.entries) }
+{
+    if let Some(None) = slots.get(&place) {
+        let _ = slots.remove(&place);
+    }
 }
 
 /// Sets the bytes in the place's slot. There is one.

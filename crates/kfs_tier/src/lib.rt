@@ -4,6 +4,8 @@
 mod bits;
 mod blocks;
 mod places;
+mod tier;
 
 pub use blocks::Blocks;
 pub use places::Places;
+pub use tier::Tier;

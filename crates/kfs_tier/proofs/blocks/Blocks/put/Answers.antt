@@ -1,4 +1,4 @@
-use Rattle.std.proofs.Common.{◌≡◌, List, length, Some, IsSome, sym, ap, subst, ◌∙◌, arith}
+use Rattle.std.proofs.Common.{◌≡◌, length, Some, IsSome, sym, ap, subst, ◌∙◌, arith}
 use Rattle.kfs_model.specs.Table.{get, insert}
 use Rattle.kfs_tier.specs.Blocks.{blocks_of, AreWhole}
 use Rattle.kfs_tier.proofs.BlockTables.{get-blocks_of, blocks_of-insert, AreWhole-insert}
@@ -11,7 +11,7 @@ pub invariant_of-self : goal.invariant_of-self
 invariant_of-self g c =
     subst AreWhole (sym (blocks_of-insert c.self.inside.slots c.set_slot.new.slots c.args.place (Some c.from_vec.result) c.set_slot.ensures))
     (AreWhole-insert (blocks_of c.self.inside.slots.entries) c.args.place c.self.invariant (Some c.from_vec.result)
-      (λ bytes there. let same : bytes ≡ c.args.bytes.items = cc in omega (arith, ap length same, c.args.bytes.ok.0, c.requires.whole)))
+    (λ bytes there. let same : bytes ≡ c.args.bytes.items = cc in omega (arith, ap length same, c.args.bytes.ok.0, c.requires.whole)))
 
 pub returns : goal.returns
 returns g c =

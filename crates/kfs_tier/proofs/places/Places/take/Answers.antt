@@ -1,6 +1,6 @@
-use Rattle.std.proofs.Common.{◌≡◌, ◌<◌, true, false, set, ap, ◌∙◌, arith}
+use Rattle.std.proofs.Common.{true, false, set, ap, ◌∙◌, arith}
 use Rattle.std.proofs.lemmas.List.{with_items_is}
-use Rattle.kfs_tier.specs.Places.{is_free_in, places_of}
+use Rattle.kfs_tier.specs.Places.{is_free_in}
 use Rattle.kfs_tier.proofs.PlaceLists.{free_is_below, places_of-held, counted-take}
 use Rattle.kfs_tier.proofs.places.Places.take.Goals as goal
 
