@@ -1,9 +1,11 @@
 -- What the bits of places are once a word is written, and where the next clear one is.
-use Rattle.std.proofs.Common.{◌≡◌, ◌≢◌, ℕ, ◌+◌, ◌-◌, ◌*◌, ◌/◌, ◌%◌, ◌^◌, ◌<◌, ◌≤◌, ◌==◌, Bool, true, false, cond, List, length, get_or, set, sym, ap, subst, ◌∙◌, arith, inl, inr}
+use Rattle.std.proofs.Common.{◌≡◌, ◌≢◌, ℕ, ◌+◌, ◌-◌, ◌*◌, ◌/◌, ◌%◌, ◌^◌, ◌<◌, ◌≤◌, ◌==◌, Bool, true, false, cond, List, length, get_or, set, drop, sym, ap, subst, ◌∙◌, arith, inl, inr}
+use Rattle.std.specs.List.{enumerate_from}
 use Rattle.std.specs.Int.{w64, bit_at, bit_not, trailing_ones}
 use Rattle.std.specs.Prelude.{bit_and, bit_or}
 use Rattle.std.proofs.lemmas.Bool.{cases_eq, cases_lt, eq-eqb, ne_eqb, cond-true, cond-false}
-use Rattle.std.proofs.lemmas.List.{get_or-set_same, get_or-set_other}
+use Rattle.std.proofs.lemmas.List.{get_or-set_same, get_or-set_other, get_or-drop, get_or_default, length-drop}
+use Rattle.std.proofs.lemmas.List.FromFn.{length-enumerate_from, get_or-enumerate_from}
 use Rattle.std.proofs.lemmas.Nat.{one_shl}
 use Rattle.std.proofs.lemmas.Nat.Bits.{bit_at-zero, bit_at_or, bit_at_ones, bit_at_ones_above, bit_at_set_same, bit_at_set_other, bit_at_clear_same, bit_at_clear_other, bit_at-trailing_ones}
 use Rattle.kfs_tier.specs.Places.{is_marked, IsNextClear}
@@ -55,7 +57,7 @@ pub record HasPassed (words : List ℕ) (from index passed : ℕ) : Type 0 where
   pub before : (i : ℕ) → i < 64 → 64 * index + i < from → bit_at passed i ≡ 1
   pub after : (i : ℕ) → i < 64 → from ≤ 64 * index + i → bit_at passed i ≡ 0
 
-pub passed_first : (words : List ℕ) (from : ℕ) → HasPassed words from (from / 64) (1 * 2 ^ (from % 64) % 2 ^ 64 - 1)
+pub passed_first : (words : List ℕ) (from : ℕ) → HasPassed words from (from / 64 + 0) (1 * 2 ^ (from % 64) % 2 ^ 64 - 1)
 passed_first words from =
     let low : 1 * 2 ^ (from % 64) % 2 ^ 64 ≡ 2 ^ (from % 64) = one_shl (from % 64) 64 (omega arith) in
     record {
@@ -64,38 +66,46 @@ passed_first words from =
       after = λ i below late. ap (λ n. bit_at (n - 1) i) low ∙ bit_at_ones_above (from % 64) i (omega arith);
     }
 
+-- an item of the words with their indexes, from one on
+pub item_at : (words : List ℕ) (first count : ℕ) (item : ℕ × ℕ) → (count < length (drop first (enumerate_from 0 words))) × (item ≡ get_or (drop first (enumerate_from 0 words)) count item)
+    → (item.0 ≡ first + count) × (item.1 ≡ get_or words (first + count) 0) × (first + count < length words)
+item_at words first count item there =
+    let inside : first + count < length words = omega (arith, there.0, length-drop first (enumerate_from 0 words), length-enumerate_from 0 words) in
+    let same = there.1 ∙ get_or-drop first (enumerate_from 0 words) count item ∙ get_or-enumerate_from 0 words (first + count) item inside in
+    (ap (λ p. p.0) same ∙ omega arith, ap (λ p. p.1) same ∙ get_or_default words (first + count) item.1 0 inside, inside)
+
 -- the place of a bit
 spot_of : (index i : ℕ) → i < 64 → ((64 * index + i) / 64 ≡ index) × ((64 * index + i) % 64 ≡ i)
 spot_of index i below = (omega arith, omega arith)
 
-module _ (words : List ℕ) (from index passed : ℕ) (has : HasPassed words from index passed) where
-  -- a bit that is set in the word, and not passed over
-  set_bit : (q : ℕ) → from ≤ q → q / 64 ≡ index → bit_at (bit_or (get_or words index 0) passed) (q % 64) ≡ 1 → is_marked words q ≡ true
-  set_bit q reached here one =
+-- the word of this index, as the words have it
+module _ (words : List ℕ) (from index passed word : ℕ) (has : HasPassed words from index passed) (own : word ≡ get_or words index 0) where
+  -- a bit that is set and not passed over is the place's own
+  marked_here : (q : ℕ) → from ≤ q → q / 64 ≡ index → bit_at (bit_or word passed) (q % 64) ≡ 1 → is_marked words q ≡ true
+  marked_here q reached here set =
       let none : bit_at passed (q % 64) ≡ 0 = has.after (q % 64) (omega arith) (omega arith) in
-      let both = sym (bit_at_or (get_or words index 0) passed (q % 64)) ∙ one in
-      let own : bit_at (get_or words index 0) (q % 64) ≡ 1 = omega arith in
-      ap (λ i. bit_at (get_or words i 0) (q % 64) == 1) here ∙ ap (λ b. b == 1) own
+      let both = sym (bit_at_or word passed (q % 64)) ∙ set in
+      let bit : bit_at word (q % 64) ≡ 1 = omega arith in
+      ap (λ i. bit_at (get_or words i 0) (q % 64) == 1) here ∙ ap (λ w. bit_at w (q % 64) == 1) (sym own) ∙ ap (λ b. b == 1) bit
 
-  pub passed_next : from / 64 ≤ index → bit_or (get_or words index 0) passed ≡ 2 ^ 64 - 1 → HasPassed words from (index + 1) 0
+  pub passed_next : from / 64 ≤ index → bit_or word passed ≡ 2 ^ 64 - 1 → HasPassed words from (index + 1) 0
   passed_next begun full = record {
     behind = λ q reached before.
         elim (cases_lt q (64 * index)) [
           | inl earlier ↦ has.behind q reached earlier
-          | inr here ↦ set_bit q reached (omega arith) (ap (λ w. bit_at w (q % 64)) full ∙ bit_at_ones 64 (q % 64) (omega arith))
+          | inr here ↦ marked_here q reached (omega arith) (ap (λ w. bit_at w (q % 64)) full ∙ bit_at_ones 64 (q % 64) (omega arith))
         ];
     before = λ i below early. absurd (omega arith);
     after = λ i below late. bit_at-zero i;
   }
 
-  pub found_clear : index < length words → bit_or (get_or words index 0) passed + 1 < 2 ^ 64 → IsNextClear words from (64 * index + trailing_ones w64 (bit_or (get_or words index 0) passed))
+  pub found_clear : index < length words → bit_or word passed + 1 < 2 ^ 64 → IsNextClear words from (64 * index + trailing_ones w64 (bit_or word passed))
   found_clear inside short =
-      let word = bit_or (get_or words index 0) passed in
-      let bit = trailing_ones w64 word in
-      let lowest = bit_at-trailing_ones w64 word short in
+      let bit = trailing_ones w64 (bit_or word passed) in
+      let lowest = bit_at-trailing_ones w64 (bit_or word passed) short in
       let spot = spot_of index bit lowest.0 in
-      let both = sym (bit_at_or (get_or words index 0) passed bit) ∙ lowest.1 in
-      let own : bit_at (get_or words index 0) bit ≡ 0 = omega arith in
+      let both = sym (bit_at_or word passed bit) ∙ lowest.1 in
+      let clear : bit_at word bit ≡ 0 = omega arith in
       let not_passed : bit_at passed bit ≡ 0 = omega arith in
       record {
         reached = elim (cases_lt (64 * index + bit) from) [
@@ -106,10 +116,11 @@ module _ (words : List ℕ) (from index passed : ℕ) (has : HasPassed words fro
         clear =
             ap (λ k. bit_at (get_or words k 0) ((64 * index + bit) % 64) == 1) spot.0
             ∙ ap (λ k. bit_at (get_or words index 0) k == 1) spot.1
-            ∙ ap (λ b. b == 1) own;
+            ∙ ap (λ w. bit_at w bit == 1) (sym own)
+            ∙ ap (λ b. b == 1) clear;
         least = λ other reached earlier.
             elim (cases_lt other (64 * index)) [
               | inl behind ↦ has.behind other reached behind
-              | inr here ↦ set_bit other reached (omega arith) (lowest.2 (other % 64) (omega arith))
+              | inr here ↦ marked_here other reached (omega arith) (lowest.2 (other % 64) (omega arith))
             ];
       }

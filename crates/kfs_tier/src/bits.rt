@@ -34,8 +34,8 @@ pub(crate) fn next_clear(words: &[u64], from: u32) -> Option<usize>
 {
     // The bits below the place in its word count as set.
     let mut passed = (1 << (from % 64)) - 1;
-    for index in from as usize / 64..words.len() {
-        let word = words[index] | passed;
+    for (index, word) in words.iter().enumerate().skip(from as usize / 64) {
+        let word = word | passed;
         if word != u64::MAX {
             return Some(64 * index + word.trailing_ones() as usize);
         }
