@@ -7,7 +7,7 @@ use Rattle.std.proofs.lemmas.List.FromFn.{length-map-range_with_len, get_or-map-
 use Rattle.std.proofs.lemmas.List.Folds.{sum_by-replicate}
 use Rattle.std.proofs.lemmas.List.Sums.{sum_by-set, count_by-le-length}
 use Rattle.std.proofs.lemmas.Nat.Bits.{bit_at-zero}
-use Rattle.kfs_tier.specs.Places.{is_free_in, free_count, is_marked, places_of, AreCounted, IsNextFree, IsNextClear, AllUsedFrom}
+use Rattle.kfs_tier.specs.Places.{is_free_in, free_count, is_marked, places_of, AreCounted, IsNextFree, IsNextClear, AreUsedFrom}
 
 pub length-places_of : (words : List ℕ) (size : ℕ) → length (places_of words size) ≡ size
 unfolding places_of
@@ -94,14 +94,14 @@ module _ (words : List ℕ) (size from : ℕ) where
         ];
   }
 
-  pub next_free_past : (place : ℕ) → IsNextClear words from place → size ≤ place → AllUsedFrom (places_of words size) from
+  pub next_free_past : (place : ℕ) → IsNextClear words from place → size ≤ place → AreUsedFrom (places_of words size) from
   next_free_past place next past = λ q reached.
       elim (cases_lt q place) [
         | inl earlier ↦ marked_is_used q (next.least q reached earlier)
         | inr later ↦ past_is_used q (omega arith)
       ]
 
-  pub next_free_none : size ≤ 64 * length words → ((q : ℕ) → from ≤ q → q < 64 * length words → is_marked words q ≡ true) → AllUsedFrom (places_of words size) from
+  pub next_free_none : size ≤ 64 * length words → ((q : ℕ) → from ≤ q → q < 64 * length words → is_marked words q ≡ true) → AreUsedFrom (places_of words size) from
   next_free_none covered marked = λ q reached.
       elim (cases_lt q (64 * length words)) [
         | inl inside ↦ marked_is_used q (marked q reached inside)

@@ -18,8 +18,8 @@ pub record IsNextFree (places : List Bool) (from place : ℕ) : Type 0 where
   pub least : (other : ℕ) → from ≤ other → IsTrue (is_free_in places other) → place ≤ other
 
 -- no place from here on is free
-abbrev pub AllUsedFrom : List Bool → (from : ℕ) → Type 0
-AllUsedFrom places from = (place : ℕ) → from ≤ place → is_free_in places place ≡ false
+abbrev pub AreUsedFrom : List Bool → (from : ℕ) → Type 0
+AreUsedFrom places from = (place : ℕ) → from ≤ place → is_free_in places place ≡ false
 
 -- the bit of the place is set; a word has the bits of 64 places, the least place in its lowest bit
 abbrev pub is_marked : List ℕ → (place : ℕ) → Bool

@@ -1,6 +1,6 @@
 //! Which places of a tier are used and which are free.
 ghost use Rattle.std.specs.Prelude.{◌≡◌, ◌<◌, true, false, IsTrue, IfSome, IfNone, IfOk, length, replicate, slice_set};
-ghost use Rattle.kfs_tier.specs.Places.{is_free_in, free_count, IsNextFree, AllUsedFrom};
+ghost use Rattle.kfs_tier.specs.Places.{is_free_in, free_count, IsNextFree, AreUsedFrom};
 
 use crate::bits;
 use std::alloc::{AllocError, Allocator};
@@ -65,7 +65,7 @@ impl<A: Allocator> Places<A> {
     /// The least free place that isn't below `from`. Takes no memory.
     pub fn next_free(&self, from: u32) -> Option<u32>
         ensures found { IfSome result (λ place. IsNextFree self.now from place) }
-        ensures none { IfNone result (AllUsedFrom self.now from) }
+        ensures none { IfNone result (AreUsedFrom self.now from) }
     {
         let size = self.size as usize;
         let place = bits::next_clear(self.used.as_slice(), from)?;
