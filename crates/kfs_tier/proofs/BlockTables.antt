@@ -3,13 +3,14 @@ use Rattle.std.proofs.Common.{◌≡◌, ℕ, Bool, true, false, cond, not, List
 use Rattle.std.specs.Prelude.{IfSome, OnOk, OnErr}
 use Rattle.std.specs.Ordering.{nat_cmp, eq_by_cmp}
 use Rattle.std.specs.Map.{lookup}
-use Rattle.std.specs.BTreeMap as map_of
-use Rattle.std.specs.BTreeMap.{BTreeMap, is_at}
+use Rattle.std.specs.BTreeMap.{is_at}
+use Rattle.std.specs.Cmp.{eq_by_cmp_equiv, nat_cmp_total}
 use Rattle.std.proofs.lemmas.Bool.{cases_eq}
 use Rattle.std.proofs.lemmas.Bool.Decides.{nat_tests}
 use Rattle.kfs_model.specs.Limits.{block_size}
 use Rattle.kfs_model.specs.Table.{empty, get, insert, remove, get-insert, get-remove, same_table}
-use Rattle.kfs_tier.specs.Blocks.{BlockTable, block_at, with_room, without_room, KeepsBlocks, AreWhole, blocks_of}
+use Rattle.kfs_tier.specs.Blocks.{BlockTable, block_at, with_room, without_room, KeepsBlocks, AreWhole}
+use Rattle.kfs_tier.specs.Slots.{Slots, held_at, SetsSlot, blocks_of}
 
 pub get-blocks_of : (entries : List (ℕ × Option (List ℕ))) (q : ℕ) → get (blocks_of entries) q ≡ lookup (is_at (nat_cmp q)) entries
 unfolding blocks_of get
@@ -23,40 +24,38 @@ blocks_of-none entries none = ap blocks_of none
 
 pub ruleset shown = (get-blocks_of)
 
-module _ (old new : BTreeMap ℕ (Option (List ℕ))) (place : ℕ) where
-  -- what the place's slot shows
-  shown_there : block_at (blocks_of old.entries) place ≡ unwrap_or (map_of.get nat_cmp old place) None
-  shown_there = ap (λ slot. unwrap_or slot None) (get-blocks_of old.entries place)
+-- what the place's slot shows
+shown_there : (slots : Slots) (place : ℕ) → block_at (blocks_of slots.entries) place ≡ held_at slots place
+shown_there slots place = ap (λ slot. unwrap_or slot None) (get-blocks_of slots.entries place)
 
-  pub blocks_of-insert : (slot : Option (List ℕ)) → ((q : ℕ) → map_of.get nat_cmp new q ≡ cond (eq_by_cmp nat_cmp q place) (Some slot) (map_of.get nat_cmp old q))
-      → blocks_of new.entries ≡ insert (blocks_of old.entries) place slot
+module _ (old new : Slots) (place : ℕ) where
+  pub blocks_of-insert : (slot : Option (List ℕ)) → SetsSlot old new place (Some slot) → blocks_of new.entries ≡ insert (blocks_of old.entries) place slot
   blocks_of-insert slot changed =
       same_table (blocks_of new.entries) (insert (blocks_of old.entries) place slot)
       (λ q.
       get-blocks_of new.entries q ∙ changed q ∙ ap (λ rest. cond (eq_by_cmp nat_cmp q place) (Some slot) rest) (sym (get-blocks_of old.entries q))
       ∙ sym (get-insert (blocks_of old.entries) place slot q))
 
-  pub blocks_of-with_room : ((q : ℕ) → map_of.get nat_cmp new q ≡ cond (eq_by_cmp nat_cmp q place) (Some (unwrap_or (map_of.get nat_cmp old place) None)) (map_of.get nat_cmp old q))
-      → blocks_of new.entries ≡ with_room (blocks_of old.entries) place
-  blocks_of-with_room changed = blocks_of-insert (unwrap_or (map_of.get nat_cmp old place) None) changed ∙ ap (insert (blocks_of old.entries) place) (sym shown_there)
+  pub blocks_of-with_room : SetsSlot old new place (Some (held_at old place)) → blocks_of new.entries ≡ with_room (blocks_of old.entries) place
+  blocks_of-with_room changed = blocks_of-insert (held_at old place) changed ∙ ap (insert (blocks_of old.entries) place) (sym (shown_there old place))
 
-  turned : (b : Bool) (rest : Option (Option (List ℕ))) → cond b None rest ≡ cond (not b) rest None
-  turned true rest = refl
-  turned false rest = refl
+  turned : (a b : Bool) (rest : Option (Option (List ℕ))) → a ≡ b → cond a None rest ≡ cond (not b) rest None
+  turned a true rest same = ap (λ b. cond b None rest) same
+  turned a false rest same = ap (λ b. cond b None rest) same
 
-  pub blocks_of-remove : ((q : ℕ) → map_of.get nat_cmp new q ≡ cond (eq_by_cmp nat_cmp place q) None (map_of.get nat_cmp old q)) → blocks_of new.entries ≡ remove (blocks_of old.entries) place
+  pub blocks_of-remove : SetsSlot old new place None → blocks_of new.entries ≡ remove (blocks_of old.entries) place
   blocks_of-remove changed =
       same_table (blocks_of new.entries) (remove (blocks_of old.entries) place)
       (λ q.
-      get-blocks_of new.entries q ∙ changed q ∙ ap (λ rest. cond (eq_by_cmp nat_cmp place q) None rest) (sym (get-blocks_of old.entries q))
-      ∙ turned (eq_by_cmp nat_cmp place q) (get (blocks_of old.entries) q)
+      get-blocks_of new.entries q ∙ changed q ∙ ap (λ rest. cond (eq_by_cmp nat_cmp q place) None rest) (sym (get-blocks_of old.entries q))
+      ∙ turned (eq_by_cmp nat_cmp q place) (eq_by_cmp nat_cmp place q) (get (blocks_of old.entries) q) ((eq_by_cmp_equiv nat_cmp_total).symm q place)
       ∙ sym (get-remove (blocks_of old.entries) place q))
 
-  pub blocks_of-without_room : (unwrap_or (map_of.get nat_cmp old place) None ≡ None → (q : ℕ) → map_of.get nat_cmp new q ≡ cond (eq_by_cmp nat_cmp place q) None (map_of.get nat_cmp old q))
-      → IfSome (unwrap_or (map_of.get nat_cmp old place) None) (λ _. new.entries ≡ old.entries) → blocks_of new.entries ≡ without_room (blocks_of old.entries) place
+  pub blocks_of-without_room : (held_at old place ≡ None → SetsSlot old new place None) → IfSome (held_at old place) (λ _. new.entries ≡ old.entries)
+      → blocks_of new.entries ≡ without_room (blocks_of old.entries) place
   blocks_of-without_room unwritten written =
-      by_slot (block_at (blocks_of old.entries) place) (λ none. blocks_of-remove (unwritten (sym shown_there ∙ none)))
-      (subst (λ slot. IfSome slot (λ _. new.entries ≡ old.entries)) (sym shown_there) written)
+      by_slot (block_at (blocks_of old.entries) place) (λ none. blocks_of-remove (unwritten (sym (shown_there old place) ∙ none)))
+      (subst (λ slot. IfSome slot (λ _. new.entries ≡ old.entries)) (sym (shown_there old place)) written)
     where
       by_slot : (slot : Option (List ℕ)) → (slot ≡ None → blocks_of new.entries ≡ remove (blocks_of old.entries) place) → IfSome slot (λ _. new.entries ≡ old.entries)
           → blocks_of new.entries ≡ elim slot as (λ _. BlockTable) [ None ↦ remove (blocks_of old.entries) place | Some bytes ↦ blocks_of old.entries ]
@@ -70,7 +69,7 @@ pub eq_by_cmp-other : (k q : ℕ) → (k ≡ q → ⊥) → eq_by_cmp nat_cmp k 
 eq_by_cmp-other k q other = grind (arith, nat_tests)
 
 module _ (blocks : BlockTable) (place : ℕ) where
-  pub KeepsBlocks-with_room : KeepsBlocks blocks (with_room blocks place)
+  KeepsBlocks-with_room : KeepsBlocks blocks (with_room blocks place)
   KeepsBlocks-with_room q =
       ap (λ slot. unwrap_or slot None) (get-insert blocks place (block_at blocks place) q)
       ∙ elim (cases_eq q place) [
@@ -94,8 +93,7 @@ module _ (blocks : BlockTable) (place : ℕ) where
       by_slot (Some bytes) written = λ q. refl
 
 -- a slot was made, or there was no memory for it
-pub KeepsBlocks-after : {E : Type 0} (result : Result (Unit {0}) E) (old new : BTreeMap ℕ (Option (List ℕ))) (place : ℕ)
-    → OnOk result ((q : ℕ) → map_of.get nat_cmp new q ≡ cond (eq_by_cmp nat_cmp q place) (Some (unwrap_or (map_of.get nat_cmp old place) None)) (map_of.get nat_cmp old q))
+pub KeepsBlocks-after : {E : Type 0} (result : Result (Unit {0}) E) (old new : Slots) (place : ℕ) → OnOk result (SetsSlot old new place (Some (held_at old place)))
     → OnErr result (new.entries ≡ old.entries) → KeepsBlocks (blocks_of old.entries) (blocks_of new.entries)
 KeepsBlocks-after (Ok done) old new place made kept = subst (KeepsBlocks (blocks_of old.entries)) (sym (blocks_of-with_room old new place made)) (KeepsBlocks-with_room (blocks_of old.entries) place)
 KeepsBlocks-after (Err error) old new place made kept = λ q. ap (λ entries. block_at (blocks_of entries) q) kept

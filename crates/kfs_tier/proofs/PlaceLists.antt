@@ -7,7 +7,8 @@ use Rattle.std.proofs.lemmas.List.FromFn.{length-map-range_with_len, get_or-map-
 use Rattle.std.proofs.lemmas.List.Folds.{sum_by-replicate}
 use Rattle.std.proofs.lemmas.List.Sums.{sum_by-set, count_by-le-length}
 use Rattle.std.proofs.lemmas.Nat.Bits.{bit_at-zero}
-use Rattle.kfs_tier.specs.Places.{is_free_in, free_count, is_marked, places_of, AreCounted, IsNextFree, IsNextClear, AreUsedFrom}
+use Rattle.kfs_tier.specs.Places.{is_free_in, free_count, IsNextFree, AreUsedFrom}
+use Rattle.kfs_tier.specs.Words.{is_marked, places_of, AreCounted, IsNextClear}
 
 pub length-places_of : (words : List ℕ) (size : ℕ) → length (places_of words size) ≡ size
 unfolding places_of
@@ -25,7 +26,7 @@ is_free_in-places_of words size place =
     ]
 
 -- where one bit changes, one place does
-pub places_of-change : (words new : List ℕ) (size place : ℕ) (used : Bool) → place < size → ((q : ℕ) → is_marked new q ≡ cond (q == place) used (is_marked words q))
+places_of-change : (words new : List ℕ) (size place : ℕ) (used : Bool) → place < size → ((q : ℕ) → is_marked new q ≡ cond (q == place) used (is_marked words q))
     → places_of new size ≡ set (places_of words size) place (not used)
 places_of-change words new size place used within changed =
     ext_get_or false (places_of new size) (set (places_of words size) place (not used))
@@ -43,13 +44,13 @@ places_of-change words new size place used within changed =
           ∙ sym (get_or-set_other (places_of words size) place q (not used) false other ∙ at_place words size q below)
     ])
 
-pub free_count-take : (places : List Bool) (place : ℕ) → place < length places → is_free_in places place ≡ true → free_count (set places place false) + 1 ≡ free_count places
+free_count-take : (places : List Bool) (place : ℕ) → place < length places → is_free_in places place ≡ true → free_count (set places place false) + 1 ≡ free_count places
 free_count-take places place within free = omega (arith, sum_by-set (λ b. cond b 1 0) places place false false within, ap {B = ℕ} (λ b. cond b 1 0) free)
 
-pub free_count-give_back : (places : List Bool) (place : ℕ) → place < length places → is_free_in places place ≡ false → free_count (set places place true) ≡ free_count places + 1
+free_count-give_back : (places : List Bool) (place : ℕ) → place < length places → is_free_in places place ≡ false → free_count (set places place true) ≡ free_count places + 1
 free_count-give_back places place within used = omega (arith, sum_by-set (λ b. cond b 1 0) places place true false within, ap {B = ℕ} (λ b. cond b 1 0) used)
 
-pub free_count-le-length : (places : List Bool) → free_count places ≤ length places
+free_count-le-length : (places : List Bool) → free_count places ≤ length places
 free_count-le-length places = count_by-le-length (λ free. free) places
 
 clear_words : (n i : ℕ) → get_or {A = ℕ} (replicate n 0) i 0 ≡ 0
@@ -69,7 +70,7 @@ places_of-clear n size =
     ∙ ap (λ b. not (b == 1)) (bit_at-zero (q % 64))
     ∙ sym (get_or-replicate size q true false below))
 
-pub free_count-all : (size : ℕ) → free_count (replicate size true) ≡ size
+free_count-all : (size : ℕ) → free_count (replicate size true) ≡ size
 free_count-all size = omega (arith, sum_by-replicate (λ b. cond b 1 0) size true)
 
 module _ (words : List ℕ) (size from : ℕ) where

@@ -1,7 +1,7 @@
 -- The blocks of a tier by their places: those that were written, with their bytes, and those that only have room.
-use Rattle.std.specs.Prelude.{◌≡◌, ℕ, List, [], ◌∷◌, length, slice_index, Option, Some, None, IsSome, unwrap_or}
+use Rattle.std.specs.Prelude.{◌≡◌, ℕ, List, [], length, slice_index, Option, Some, None, IsSome, unwrap_or}
 use Rattle.kfs_model.specs.Limits.{block_size}
-use Rattle.kfs_model.specs.Table.{Table, numbers, empty, get, insert, remove}
+use Rattle.kfs_model.specs.Table.{Table, numbers, get, insert, remove}
 
 -- the bytes of a block at each place that has room, or none where the block was never written
 abbrev pub BlockTable : Type 0
@@ -34,8 +34,3 @@ KeepsBlocks old new = (place : ℕ) → block_at new place ≡ block_at old plac
 -- each block that was written has as many bytes as a block
 pub record AreWhole (blocks : BlockTable) : Type 0 where
   pub whole : (place : ℕ) (bytes : List ℕ) → block_at blocks place ≡ Some bytes → length bytes ≡ block_size
-
--- the table of a map's entries
-unfoldable pub blocks_of : List (ℕ × Option (List ℕ)) → BlockTable
-blocks_of [] = empty
-blocks_of (entry ∷ entries) = insert (blocks_of entries) entry.0 entry.1

@@ -1,6 +1,6 @@
 //! A bit for each place, in words of 64 places each.
 ghost use Rattle.std.specs.Prelude.{◌≡◌, ℕ, ◌+◌, ◌*◌, ◌<◌, ◌≤◌, ◌^◌, ◌==◌, true, false, length, IfSome, IfNone, if◌then◌else◌};
-ghost use Rattle.kfs_tier.specs.Places.{is_marked, IsNextClear};
+ghost use Rattle.kfs_tier.specs.Words.{is_marked, IsNextClear};
 
 /// Whether the place's bit is set.
 pub(crate) fn is_marked(words: &[u64], place: u32) -> bool

@@ -1,11 +1,12 @@
 //! The bytes of the blocks of a tier. A block that was never written takes no memory.
-ghost use Rattle.std.specs.Prelude.{◌≡◌, ℕ, ◌+◌, ◌≤◌, length, slice_index, vec_len, Some, None, IsSome, IfSome, OnOk, OnErr, EachIndex, unwrap_or, if◌then◌else◌};
-ghost use Rattle.std.specs.Ordering.{nat_cmp, eq_by_cmp};
+ghost use Rattle.std.specs.Prelude.{◌≡◌, ◌+◌, ◌≤◌, length, slice_index, vec_len, Some, None, IsSome, IfSome, OnOk, OnErr, EachIndex};
+ghost use Rattle.std.specs.Ordering.{nat_cmp};
 ghost use Rattle.std.specs.BTreeMap.{get};
 ghost use Rattle.std.specs.Option.{option_copied};
 ghost use Rattle.kfs_model.specs.Limits.{block_size};
 ghost use Rattle.kfs_model.specs.Table.{empty, insert, remove};
 ghost use Rattle.kfs_tier.specs.Blocks.{block_at, byte_at, HasRoom, KeepsBlocks, with_room, without_room};
+ghost use Rattle.kfs_tier.specs.Slots.{held_at, SetsSlot};
 
 use kfs_value::Rows;
 use std::alloc::{AllocError, Allocator};
@@ -20,7 +21,8 @@ pub struct Blocks<A: Allocator> {
 }
 
 impl<A: Allocator> Model for Blocks<A> {
-    ghost use Rattle.kfs_tier.specs.Blocks.{BlockTable, blocks_of, AreWhole};
+    ghost use Rattle.kfs_tier.specs.Blocks.{BlockTable, AreWhole};
+    ghost use Rattle.kfs_tier.specs.Slots.{blocks_of};
 
     ghost Value = { BlockTable };
 
@@ -49,7 +51,7 @@ impl<A: Allocator> Blocks<A> {
     }
 
     /// Fills the buffer with the bytes of a block from the offset on, which are zero where the block
-    /// was never written. Takes no memory.
+    /// was never written. The buffer ends within the block. Takes no memory.
     pub fn read(&self, place: u32, offset: usize, buffer: &mut [u8])
         requires { offset + length buffer.old ≤ block_size }
         ensures { EachIndex buffer.new (λ k. slice_index buffer.new k ≡ byte_at self.now place (offset + k)) }
@@ -60,7 +62,8 @@ impl<A: Allocator> Blocks<A> {
         }
     }
 
-    /// Makes room for the bytes of a block where there is none. The blocks stay as they are.
+    /// Makes room for the bytes of a block where there is none. The blocks stay as they are. `Err`
+    /// where memory is refused leaves all as it is.
     pub fn reserve(&mut self, place: u32) -> Result<(), AllocError>
     where
         A: Clone,
@@ -80,7 +83,7 @@ impl<A: Allocator> Blocks<A> {
         remove_empty(&mut self.slots, place);
     }
 
-    /// Writes a block that has room. Takes no memory.
+    /// Writes a block that has room: 4,096 bytes in place of what was there. Takes no memory.
     pub fn put(&mut self, place: u32, bytes: Vec<u8, A>)
         requires room { HasRoom self.old place }
         requires whole { vec_len bytes ≡ block_size }
@@ -93,7 +96,7 @@ impl<A: Allocator> Blocks<A> {
     pub fn forget(&mut self, place: u32)
         ensures { self.new ≡ remove self.old place }
     {
-        let _ = self.slots.remove(&place);
+        remove_slot(&mut self.slots, place);
     }
 }
 
@@ -102,7 +105,7 @@ fn written<A: Allocator>(
     slots: &BTreeMap<u32, Option<Rows<u8, A>>, A>,
     place: u32,
 ) -> Option<&Rows<u8, A>>
-    ensures { option_copied result ≡ unwrap_or (get nat_cmp slots.now place) None }
+    ensures { option_copied result ≡ held_at slots.now place }
 {
     slots.get(&place)?.as_ref()
 }
@@ -112,7 +115,7 @@ fn make_slot<A: Allocator + Clone>(
     slots: &mut BTreeMap<u32, Option<Rows<u8, A>>, A>,
     place: u32,
 ) -> Result<(), AllocError>
-    ensures ok { OnOk result ((q : ℕ) → get nat_cmp slots.new q ≡ (if eq_by_cmp nat_cmp q place then Some (unwrap_or (get nat_cmp slots.old place) None) else get nat_cmp slots.old q)) }
+    ensures ok { OnOk result (SetsSlot slots.old slots.new place (Some (held_at slots.old place))) }
     ensures err { OnErr result (slots.new.entries ≡ slots.old.entries) }
 {
     if slots.contains_key(&place) {
@@ -124,12 +127,19 @@ fn make_slot<A: Allocator + Clone>(
 
 /// Takes the place's slot out where it has no bytes.
 fn remove_empty<A: Allocator>(slots: &mut BTreeMap<u32, Option<Rows<u8, A>>, A>, place: u32)
-    ensures empty { unwrap_or (get nat_cmp slots.old place) None ≡ None → (q : ℕ) → get nat_cmp slots.new q ≡ (if eq_by_cmp nat_cmp place q then None else get nat_cmp slots.old q) }
-    ensures full { IfSome (unwrap_or (get nat_cmp slots.old place) None) (λ _. slots.new.entries ≡ slots.old.entries) }
+    ensures empty { held_at slots.old place ≡ None → SetsSlot slots.old slots.new place None }
+    ensures full { IfSome (held_at slots.old place) (λ _. slots.new.entries ≡ slots.old.entries) }
 {
     if let Some(None) = slots.get(&place) {
-        let _ = slots.remove(&place);
+        remove_slot(slots, place);
     }
+}
+
+/// Takes the place's slot out.
+fn remove_slot<A: Allocator>(slots: &mut BTreeMap<u32, Option<Rows<u8, A>>, A>, place: u32)
+    ensures { SetsSlot slots.old slots.new place None }
+{
+    let _ = slots.remove(&place);
 }
 
 /// Sets the bytes in the place's slot. There is one.
@@ -139,7 +149,7 @@ fn set_slot<A: Allocator>(
     bytes: Rows<u8, A>,
 )
     requires { IsSome (get nat_cmp slots.old place) }
-    ensures { (q : ℕ) → get nat_cmp slots.new q ≡ (if eq_by_cmp nat_cmp q place then Some (Some bytes) else get nat_cmp slots.old q) }
+    ensures { SetsSlot slots.old slots.new place (Some (Some bytes)) }
 {
     if let Some(slot) = slots.get_mut(&place) {
         *slot = Some(bytes);

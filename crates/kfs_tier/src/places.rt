@@ -17,7 +17,7 @@ pub struct Places<A: Allocator> {
 
 impl<A: Allocator> Model for Places<A> {
     ghost use Rattle.std.specs.Prelude.{Bool, List};
-    ghost use Rattle.kfs_tier.specs.Places.{places_of, AreCounted};
+    ghost use Rattle.kfs_tier.specs.Words.{places_of, AreCounted};
 
     ghost Value = { List Bool };
 
@@ -27,7 +27,7 @@ impl<A: Allocator> Model for Places<A> {
 }
 
 impl<A: Allocator> Places<A> {
-    /// So many places, all free. Takes a bit of memory for each.
+    /// So many places, all free. Takes a bit of memory for each; `Err` where it is refused.
     pub fn new(alloc: A, size: u32) -> Result<Places<A>, AllocError>
         ensures { IfOk result (λ places. places ≡ replicate size true) }
     {

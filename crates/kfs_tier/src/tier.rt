@@ -30,7 +30,7 @@ impl<A: Allocator> Model for Tier<A> {
 }
 
 impl<A: Allocator> Tier<A> {
-    /// A tier of so many blocks, all free and none of them written.
+    /// A tier of so many places, all free and no block written. `Err` where memory is refused.
     pub fn new(alloc: A, size: u32) -> Result<Tier<A>, AllocError>
     where
         A: Clone,
@@ -75,7 +75,8 @@ impl<A: Allocator> Tier<A> {
         self.places.give_back(place);
     }
 
-    /// Makes room for the bytes of a block where there is none. The blocks stay as they are.
+    /// Makes room for the bytes of a block where there is none. The blocks stay as they are. `Err`
+    /// where memory is refused leaves all as it is.
     pub fn reserve(&mut self, place: u32) -> Result<(), AllocError>
     where
         A: Clone,
@@ -96,7 +97,7 @@ impl<A: Allocator> Tier<A> {
         self.blocks.release(place);
     }
 
-    /// Writes a block that has room. Takes no memory.
+    /// Writes a block that has room: 4,096 bytes in place of what was there. Takes no memory.
     pub fn write(&mut self, place: u32, bytes: Vec<u8, A>)
         requires room { HasRoom self.old.blocks place }
         requires whole { vec_len bytes ≡ block_size }

@@ -1,6 +1,7 @@
 use Rattle.std.proofs.Common.{◌≡◌, length, Some, IsSome, sym, ap, subst, ◌∙◌, arith}
 use Rattle.kfs_model.specs.Table.{get, insert}
-use Rattle.kfs_tier.specs.Blocks.{blocks_of, AreWhole}
+use Rattle.kfs_tier.specs.Blocks.{AreWhole}
+use Rattle.kfs_tier.specs.Slots.{blocks_of}
 use Rattle.kfs_tier.proofs.BlockTables.{get-blocks_of, blocks_of-insert, AreWhole-insert}
 use Rattle.kfs_tier.proofs.blocks.Blocks.put.Goals as goal
 

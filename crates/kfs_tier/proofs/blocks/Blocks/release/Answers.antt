@@ -1,5 +1,6 @@
 use Rattle.std.proofs.Common.{sym, ap, subst, ◌∙◌}
-use Rattle.kfs_tier.specs.Blocks.{blocks_of, without_room, KeepsBlocks, AreWhole}
+use Rattle.kfs_tier.specs.Blocks.{without_room, KeepsBlocks, AreWhole}
+use Rattle.kfs_tier.specs.Slots.{blocks_of}
 use Rattle.kfs_tier.proofs.BlockTables.{blocks_of-without_room, KeepsBlocks-without_room, AreWhole-kept}
 use Rattle.kfs_tier.proofs.blocks.Blocks.release.Goals as goal
 

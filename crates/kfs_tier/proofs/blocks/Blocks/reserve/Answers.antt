@@ -1,6 +1,7 @@
 use Rattle.std.proofs.Common.{ap, subst, ◌∙◌}
 use Rattle.std.proofs.lemmas.Result.{on_ok_weaker}
-use Rattle.kfs_tier.specs.Blocks.{blocks_of, with_room, KeepsBlocks}
+use Rattle.kfs_tier.specs.Blocks.{with_room, KeepsBlocks}
+use Rattle.kfs_tier.specs.Slots.{blocks_of}
 use Rattle.kfs_tier.proofs.BlockTables.{blocks_of-with_room, KeepsBlocks-after, AreWhole-kept}
 use Rattle.kfs_tier.proofs.blocks.Blocks.reserve.Goals as goal
 

@@ -1,5 +1,5 @@
 use Rattle.std.proofs.Common.{ap, ◌∙◌}
-use Rattle.kfs_tier.specs.Places.{places_of}
+use Rattle.kfs_tier.specs.Words.{places_of}
 use Rattle.kfs_tier.proofs.PlaceLists.{places_of-clear, counted-all}
 use Rattle.kfs_tier.proofs.places.Places.new.Goals as goal
 

@@ -1,5 +1,6 @@
 use Rattle.std.proofs.Common.{length, ap, subst, ◌∙◌, arith}
-use Rattle.kfs_tier.specs.Places.{IsNextFree, AreUsedFrom, places_of}
+use Rattle.kfs_tier.specs.Places.{IsNextFree, AreUsedFrom}
+use Rattle.kfs_tier.specs.Words.{places_of}
 use Rattle.kfs_tier.proofs.PlaceLists.{next_free_found, next_free_past, next_free_none}
 use Rattle.kfs_tier.proofs.places.Places.next_free.Goals as goal
 
