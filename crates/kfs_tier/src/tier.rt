@@ -13,7 +13,6 @@ use std::marker::Model;
 
 /// A tier of blocks of 4,096 bytes. Its places are used or free whether or not their blocks were
 /// written.
-#[derive(Drop)]
 pub struct Tier<A: Allocator> {
     places: Places<A>,
     blocks: Blocks<A>,
@@ -27,6 +26,15 @@ impl<A: Allocator> Model for Tier<A> {
     ghost view = { λ t. record { places = t.places; blocks = t.blocks } };
 
     ghost invariant = { λ t. AreInTier (record { places = t.places; blocks = t.blocks }) };
+}
+
+// Written out, so that the drop of both is proved once and not in each crate that drops a tier.
+impl<A: Allocator> Drop for Tier<A> {
+    fn drop(self) {
+        let Tier { places, blocks } = self;
+        drop(places);
+        drop(blocks);
+    }
 }
 
 impl<A: Allocator> Tier<A> {
