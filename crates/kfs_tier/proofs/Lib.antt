@@ -1,0 +1,4 @@
+pub mod BlockTables
+pub mod MarkedBits
+pub mod PlaceLists
+pub mod TierRooms
