@@ -7,7 +7,7 @@ use kfs_desk::Desk;
 use kfs_desk::answers::Reply;
 use kfs_image::Name;
 use kfs_judge::{EntryFault, Reason};
-use kfs_plan::{Fault, Submission, Why};
+use kfs_plan::{Fault, RowFault, Submission, Why};
 use kfs_tests::vectors::{CREATE_LOG, CREATE_PLAN};
 use std::alloc::{AllocError, Global};
 use std::process::Abort;
@@ -16,6 +16,22 @@ use std::test::Fail;
 /// The Create of client 7, and then a Truncate of the file to no byte. The Create's plan is right for it.
 const TRUNCATE_LOG: &[u8] = b"KLOG\x01\0\0\0\x07\0\x02\x01\0\0\0\x01\x01a\0\0\0\x05\0\x01\xa4\
       \x03\0\0\0\x05\0\0\0\0\0\0\0\0";
+
+/// The Create of client 7, and then a Write of "xy" at 2.
+const WRITE_LOG: &[u8] = b"KLOG\x01\0\0\0\x07\0\x02\x01\0\0\0\x01\x01a\0\0\0\x05\0\x01\xa4\
+      \x02\0\0\0\x05\0\0\0\0\0\0\0\x02\0\0\0\x02xy";
+
+/// Its right plan: two zero bytes, and then two of the payload.
+const WRITE_PLAN: &[u8] = b"KPLN\x01\0\x01\0\x01\0\0\0\x02\0\0\0\x01\x01a\0\0\0\x05\0\0\0\x05\
+      \x01\x01\xa4\0\0\x03\xe8\0\0\x03\xe8\0\x01\0\0\0\0\0\0\0\x04\
+      \0\0\0\x05\0\0\0\0\0\0\0\0\0\0\0\0\0\0\0\x02\0\
+      \0\0\0\x05\0\0\0\0\0\0\0\x02\0\0\0\0\0\0\0\x02\x01\0\x01\0\0\0\0";
+
+/// The same with one zero byte alone.
+const GAP_PLAN: &[u8] = b"KPLN\x01\0\x01\0\x01\0\0\0\x02\0\0\0\x01\x01a\0\0\0\x05\0\0\0\x05\
+      \x01\x01\xa4\0\0\x03\xe8\0\0\x03\xe8\0\x01\0\0\0\0\0\0\0\x04\
+      \0\0\0\x05\0\0\0\0\0\0\0\0\0\0\0\0\0\0\0\x01\0\
+      \0\0\0\x05\0\0\0\0\0\0\0\x02\0\0\0\0\0\0\0\x02\x01\0\x01\0\0\0\0";
 
 /// The answer that the name of the first Create is taken.
 fn taken(position: u32) -> Reply {
@@ -26,6 +42,15 @@ fn taken(position: u32) -> Reply {
             index: 0,
             reason: Reason::NameTaken,
         }),
+    }
+}
+
+/// The answer that the second piece of a plan is wrong.
+fn wrong_piece(position: u32) -> Reply {
+    Reply::No {
+        position,
+        rejudged: false,
+        fault: Fault::Row(RowFault::Pieces(1)),
     }
 }
 
@@ -90,29 +115,38 @@ fn are_answered(
     }
 }
 
-/// Submissions of client 7 of these logs, each with the plan of the first Create.
+/// Submissions of client 7 of these logs and plans.
 fn submissions(
     alloc: Global,
-    logs: [&[u8]; 4],
+    pairs: &[(&[u8], &[u8])],
 ) -> Result<Vec<Submission<Global>, Global>, AllocError> {
     let mut all = Vec::new(alloc);
-    for log in logs {
-        all.push(submission(alloc, log, CREATE_PLAN)?)?;
+    for (log, plan) in pairs {
+        all.push(submission(alloc, log, plan)?)?;
     }
     Ok(all)
 }
 
 #[test]
 fn submissions_one_after_another(rt: HostRuntime) -> Result<(), Fail> {
-    let logs = [TRUNCATE_LOG, CREATE_LOG, CREATE_LOG, CREATE_LOG];
-    let submissions = submissions(rt.alloc(), logs)?;
+    let pairs = [
+        (TRUNCATE_LOG, CREATE_PLAN),
+        (WRITE_LOG, WRITE_PLAN),
+        (WRITE_LOG, GAP_PLAN),
+        (CREATE_LOG, CREATE_PLAN),
+        (CREATE_LOG, CREATE_PLAN),
+        (CREATE_LOG, CREATE_PLAN),
+    ];
+    let submissions = submissions(rt.alloc(), &pairs)?;
     let answers = [
         Err(Why::OtherEntry),
-        Ok(yes(1)),
-        Ok(taken(2)),
+        Err(Why::OtherEntry),
+        Ok(wrong_piece(1)),
+        Ok(yes(2)),
+        Ok(taken(3)),
         Err(Why::DocketFull),
     ];
-    let mut desk = opening(rt.alloc(), 3).ok_or("an opening")?;
+    let mut desk = opening(rt.alloc(), 4).ok_or("an opening")?;
     assert!(rt; are_answered(&mut desk, submissions, &answers));
     Ok(())
 }
