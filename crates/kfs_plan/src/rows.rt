@@ -23,7 +23,8 @@ pub enum RowFault {
     Names(usize),
     /// 2: the same of the node rows.
     Nodes(usize),
-    /// 3: the same of the pieces.
+    /// 3: the piece of this index is empty, or isn't what comes next of the bytes that the log made;
+    /// or some of these are left behind the last piece.
     Pieces(usize),
     /// A growth was refused.
     OutOfMemory,
