@@ -24,6 +24,9 @@ pub trait Change {
         requires { can_make self.old }
         ensures made { OnOk result (made self.old self.new) }
         ensures kept { OnErr result (kept self.old self.new) };
+
+    /// A change that wasn't tried counts as refused.
+    ghost not_tried: { (x : Self) → kept x x };
 }
 
 /// Makes a page without a value where there is none.
@@ -64,7 +67,7 @@ pub(crate) fn change_pages<V: Copy, A: Allocator + Clone, T: Change>(
     ensures ok { OnOk result ((n : ℕ) → shown first pages.new n ≡ edited edits.now n (shown first pages.old n)) }
     ensures err { OnErr result ((n : ℕ) → shown first pages.new n ≡ shown first pages.old n) }
     ensures made { OnOk result (T.made then.old then.new) }
-    ensures kept { OnErr result ((then.new ≡ then.old) ⊎ T.kept then.old then.new) }
+    ensures kept { OnErr result (T.kept then.old then.new) }
 {
     let Some(edit) = edits.first() else {
         return then.make();
@@ -103,7 +106,7 @@ fn change_from<V: Copy, A: Allocator + Clone, T: Change>(
     ensures page_err { OnErr result ((n : ℕ) → slot_shows slot.new n ≡ slot_shows slot.old n) }
     ensures rest_err { OnErr result ((n : ℕ) → shown (index + 1) rest.new n ≡ shown (index + 1) rest.old n) }
     ensures made { OnOk result (T.made then.old then.new) }
-    ensures kept { OnErr result ((then.new ≡ then.old) ⊎ T.kept then.old then.new) }
+    ensures kept { OnErr result (T.kept then.old then.new) }
 {
     found(alloc, slot, index)?;
     let Some(page) = slot else {

@@ -108,7 +108,7 @@ impl<V: Copy, A: Allocator + Clone> Pages<V, A> {
         ensures ok { OnOk result (self.new ≡ rewritten self.old edits.now) }
         ensures err { OnErr result (self.new ≡ self.old) }
         ensures made { OnOk result (T.made then.old then.new) }
-        ensures kept { OnErr result ((then.new ≡ then.old) ⊎ T.kept then.old then.new) }
+        ensures kept { OnErr result (T.kept then.old then.new) }
     {
         let alloc = self.pages.allocator().clone()?;
         change_pages(&alloc, self.pages.as_mut_slice(), 0, edits, then)
