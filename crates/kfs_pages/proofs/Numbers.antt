@@ -72,7 +72,7 @@ module _ {V : Type 0} where
   numbered-at first (value ∷ values) (suc k) q at =
       get-changed_other (numbered (first + 1) values) first value q (λ same. omega (arith, at, same)) ∙ numbered-at (first + 1) values k q (omega (arith, at))
 
-  get_or-behind : (values : List (Option V)) (k : ℕ) → length values ≤ k → get_or values k None ≡ None
+  pub get_or-behind : (values : List (Option V)) (k : ℕ) → length values ≤ k → get_or values k None ≡ None
   get_or-behind [] k behind = refl
   get_or-behind (value ∷ values) zero behind = absurd (omega (arith, behind))
   get_or-behind (value ∷ values) (suc k) behind = get_or-behind values k (omega (arith, behind))

@@ -1,17 +1,19 @@
 -- What pages show at a number, and the one table that they make.
-use Rattle.std.proofs.Common.{◌≡◌, ◌==◌, ◌<◌, ◌≤◌, ◌*◌, ℕ, zero, suc, ◌+◌, Bool, true, false, cond, All, List, [], ◌∷◌, ◌++◌, length, get_or, Option, Some, None, refl, sym, ap, subst, ◌∙◌, arith}
-use Rattle.std.proofs.lemmas.Bool.{eqb-false, eqb-true}
+use Rattle.std.proofs.Common.{◌≡◌, ◌==◌, ◌<◌, ◌≤◌, ◌*◌, ℕ, zero, suc, ◌+◌, Bool, true, false, cond, All, List, [], ◌∷◌, ◌++◌, length, get_or, replicate, Option, Some, None, refl, sym, ap, subst, ◌∙◌, arith}
+use Rattle.std.proofs.lemmas.Bool.{eqb-false, eqb-true, eq-eqb}
 use Rattle.std.proofs.lemmas.List.Elements.{All-tail}
 use Rattle.std.specs.Ordering.{nat_cmp, eq_by_cmp}
 use Rattle.std.specs.Cmp.{unsigned_tied}
 use Rattle.std.specs.declared.sync.Arc.{Arc}
+use Rattle.std.specs.List.{AllZip}
+use Rattle.std.specs.Option.{is_some}
 use Rattle.kfs_model.specs.Table.{Table, numbers, get, empty, option_or}
 use Rattle.kfs_model.proofs.TableLaws.{get-united, get-retain, same_table}
 use Rattle.kfs_pages.specs.declared.edit.Edit.{Edit}
-use Rattle.kfs_pages.specs.Values.{Sheet, changed}
+use Rattle.kfs_pages.specs.Values.{Sheet, changed, IsNext}
 use Rattle.kfs_pages.specs.Edits.{page_of, rewritten, edited}
 use Rattle.kfs_pages.specs.Shown.{part, slot_shows, shown, Stands, IsPlaced, page_table, table_from}
-use Rattle.kfs_pages.proofs.Numbers.{get-changed}
+use Rattle.kfs_pages.proofs.Numbers.{by_less, get-changed}
 
 or_none : {Y : Type 0} (o rest : Option Y) → rest ≡ None → option_or o rest ≡ o
 or_none None rest none = none
@@ -108,11 +110,11 @@ module _ {V A : Type 0} where
       at_test : (b : Bool) → (page_of q == first) ≡ b → cond b (slot_shows page q) (shown (first + 1) pages q) ≡ slot_shows page q
       at_test true same = refl
       at_test false same = absurd (eqb-false (page_of q) first same (omega (arith, at)))
-  shown-at first (page ∷ pages) (suc k) q at = at_test (page_of q == first) refl
+  shown-at first (page ∷ pages) (suc k) q at = at_test (shown-at (first + 1) pages k q (omega (arith, at))) (page_of q == first) refl
     where
-      at_test : (b : Bool) → (page_of q == first) ≡ b → cond b (slot_shows page q) (shown (first + 1) pages q) ≡ slot_shows (get_or pages k None) q
-      at_test true same = absurd (omega (arith, at, eqb-true (page_of q) first same))
-      at_test false same = shown-at (first + 1) pages k q (omega (arith, at))
+      at_test : shown (first + 1) pages q ≡ slot_shows (get_or pages k None) q → (b : Bool) → (page_of q == first) ≡ b → cond b (slot_shows page q) (shown (first + 1) pages q) ≡ slot_shows (get_or pages k None) q
+      at_test rest true same = absurd (omega (arith, at, eqb-true (page_of q) first same))
+      at_test rest false same = rest
 
   pub get-table_from : (first : ℕ) (pages : List (Option (Arc (Sheet V) A))) (q : ℕ) → get (table_from first pages) q ≡ shown first pages q
   unfolding table_from get
@@ -144,3 +146,91 @@ module _ {V A : Type 0} where
       at : (n : ℕ) (b : Bool) → (page_of n == index) ≡ b → get t n ≡ cond b (get (table_from 0 pages) n) None
       at n true e = sym (get-at pages n ∙ ap (λ k. slot_shows (get_or pages k None) n) (eqb-true (page_of n) index e) ∙ same n)
       at n false e = own n (eqb-false (page_of n) index e)
+
+  -- where there is no page, the map has nothing at its numbers
+  pub part-none : (pages : List (Option (Arc (Sheet V) A))) (index : ℕ) → get_or pages index None ≡ None → part index (table_from 0 pages) ≡ empty
+  unfolding get
+  part-none pages index none = sym (part-at pages index empty (λ n other. refl) (λ n. ap (λ (slot : Option (Arc (Sheet V) A)). slot_shows slot n) none))
+
+module _ {V : Type 0} where
+  pub get-part : (index : ℕ) (t : Table numbers V) (n : ℕ) → page_of n ≡ index → get (part index t) n ≡ get t n
+  get-part index t n own = get-retain (λ m. page_of m == index) t n ∙ ap (λ b. cond b (get t n) None) (eq-eqb (page_of n) index own)
+
+module _ {V A : Type 0} where
+  -- a page without a value shows what no page shows
+  pub blank_shows : (slot : Option (Arc (Sheet V) A)) (sheet : Sheet V) (index : ℕ) → is_some slot ≡ false → sheet ≡ record { index = index; values = empty } → (n : ℕ) → get sheet.values n ≡ slot_shows slot n
+  unfolding get
+  blank_shows None sheet index none blank n = ap (λ (s : Sheet V). get s.values n) blank
+  blank_shows (Some page) sheet index none blank n = cc
+
+-- pages whose values are those of others, place by place
+module _ {V A : Type 0} (P : Option (Arc (Sheet V) A) → Option (Arc (Sheet V) A) → Type 0) (both : (a b : Arc (Sheet V) A) → P (Some a) (Some b) → b.value ≡ a.value) (left : (a : Arc (Sheet V) A) → P (Some a) None → ⊥) (right : (b : Arc (Sheet V) A) → P None (Some b) → ⊥) where
+  pub copied_length : (xs ys : List (Option (Arc (Sheet V) A))) → AllZip P xs ys → length ys ≡ length xs
+  copied_length [] [] same = refl
+  copied_length [] (y ∷ ys) same = absurd same
+  copied_length (x ∷ xs) [] same = absurd same
+  copied_length (x ∷ xs) (y ∷ ys) same = omega (arith, copied_length xs ys same.1)
+
+  stands_copied : (index : ℕ) (x y : Option (Arc (Sheet V) A)) → P x y → Stands index x → Stands index y
+  stands_copied index None None same stands = tt
+  stands_copied index None (Some b) same stands = absurd (right b same)
+  stands_copied index (Some a) None same stands = absurd (left a same)
+  stands_copied index (Some a) (Some b) same stands = ap (λ (s : Sheet V). s.index) (both a b same) ∙ stands
+
+  pub copied_placed : (first : ℕ) (xs ys : List (Option (Arc (Sheet V) A))) → AllZip P xs ys → IsPlaced first xs → IsPlaced first ys
+  copied_placed first [] [] same placed = tt
+  copied_placed first [] (y ∷ ys) same placed = absurd same
+  copied_placed first (x ∷ xs) [] same placed = absurd same
+  copied_placed first (x ∷ xs) (y ∷ ys) same placed = (stands_copied first x y same.0 placed.0, copied_placed (first + 1) xs ys same.1 placed.1)
+
+  shows_copied : (x y : Option (Arc (Sheet V) A)) → P x y → (n : ℕ) → slot_shows y n ≡ slot_shows x n
+  shows_copied None None same n = refl
+  shows_copied None (Some b) same n = absurd (right b same)
+  shows_copied (Some a) None same n = absurd (left a same)
+  shows_copied (Some a) (Some b) same n = ap (λ (s : Sheet V). get s.values n) (both a b same)
+
+  pub copied_shown : (first : ℕ) (xs ys : List (Option (Arc (Sheet V) A))) → AllZip P xs ys → (n : ℕ) → shown first ys n ≡ shown first xs n
+  copied_shown first [] [] same n = refl
+  copied_shown first [] (y ∷ ys) same n = absurd same
+  copied_shown first (x ∷ xs) [] same n = absurd same
+  copied_shown first (x ∷ xs) (y ∷ ys) same n =
+      let here = shows_copied x y same.0 n in
+      let rest = copied_shown (first + 1) xs ys same.1 n in
+      λ i. cond (page_of n == first) (here i) (rest i)
+
+pub placed_none : (V A : Type 0) (first count : ℕ) → IsPlaced {V = V} {A = A} first (replicate count None)
+placed_none V A first zero = tt
+placed_none V A first (suc count) = (tt, placed_none V A (first + 1) count)
+
+shown_none : (V A : Type 0) (first count n : ℕ) → shown {V = V} {A = A} first (replicate count None) n ≡ None
+shown_none V A first zero n = refl
+shown_none V A first (suc count) n = at (page_of n == first) (shown_none V A (first + 1) count n)
+  where
+    at : (b : Bool) → shown {V = V} {A = A} (first + 1) (replicate count None) n ≡ None → cond b None (shown {V = V} {A = A} (first + 1) (replicate count None) n) ≡ None
+    at true rest = refl
+    at false rest = rest
+
+module _ {V A : Type 0} where
+  pub table_none : (pages : List (Option (Arc (Sheet V) A))) (count : ℕ) → pages ≡ replicate count None → table_from 0 pages ≡ empty
+  unfolding get
+  table_none pages count none = same_table _ _ (λ n. get-table_from 0 pages n ∙ ap (λ all. shown 0 all n) none ∙ shown_none V A 0 count n)
+
+module _ {V : Type 0} where
+  part-some : (index : ℕ) (t : Table numbers V) (n : ℕ) (v : V) → get (part index t) n ≡ Some v → (page_of n ≡ index) × (get t n ≡ Some v)
+  part-some index t n v some = at (page_of n == index) refl (sym (get-retain (λ m. page_of m == index) t n) ∙ some)
+    where
+      at : (b : Bool) → (page_of n == index) ≡ b → cond b (get t n) None ≡ Some v → (page_of n ≡ index) × (get t n ≡ Some v)
+      at true e here = (eqb-true (page_of n) index e, here)
+      at false e here = cc
+
+  -- the next number of a page is the next of all, where no page before has one
+  pub next_whole : (index : ℕ) (t : Table numbers V) (after number : ℕ) (value : V) → ((m : ℕ) → after < m → page_of m < index → get t m ≡ None) → IsNext (part index t) after number value → IsNext t after number value
+  unfolding page_of
+  next_whole index t after number value before next =
+      let here = part-some index t number value next.here in
+      record {
+        above = next.above;
+        here = here.1;
+        least = λ m above below.
+            by_less (page_of m) index (before m above) (λ from. sym (get-part index t m (omega (arith, below, from, here.0))) ∙ next.least m above below);
+      }

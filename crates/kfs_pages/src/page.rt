@@ -3,7 +3,7 @@ ghost use Rattle.std.specs.Prelude.{◌≡◌, ℕ, ◌+◌, ◌*◌, ◌<◌, A
 ghost use Rattle.std.specs.Option.{option_copied};
 ghost use Rattle.kfs_model.specs.Table.{empty, get};
 ghost use Rattle.kfs_pages.specs.Values.{changed, IsNext};
-ghost use Rattle.kfs_pages.specs.Edits.{page_of, rewritten, IsOfPage};
+ghost use Rattle.kfs_pages.specs.Edits.{page_of, edited, rewritten, IsOfPage};
 
 use crate::edit::Edit;
 use std::alloc::{AllocError, Allocator};
@@ -103,7 +103,8 @@ impl<V: Copy, A: Allocator> Page<V, A> {
     /// Makes the edits, each of a number of the page. Takes no memory.
     pub(crate) fn write(&mut self, edits: &[Edit<V>])
         requires { All (IsOfPage self.old.index) edits.now }
-        ensures { self.new ≡ record { index = self.old.index; values = rewritten self.old.values edits.now } }
+        ensures sheet { self.new ≡ record { index = self.old.index; values = rewritten self.old.values edits.now } }
+        ensures shown { (n : ℕ) → get self.new.values n ≡ edited edits.now n (get self.old.values n) }
     {
         for edit in edits {
             self.set(edit.number, edit.value);

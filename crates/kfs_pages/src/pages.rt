@@ -84,14 +84,21 @@ impl<V: Copy, A: Allocator> Pages<V, A> {
         ensures found { IfSome result (λ p. IsNext self.now after p.0 p.1.now) }
         ensures none { IfNone result ((m : ℕ) → after < m → get self.now m ≡ None) }
     {
-        for index in after / 64..PAGES {
-            if let Some(page) = self.page(index) {
-                if let Some(found) = page.next(after) {
-                    return Some(found);
-                }
+        for index in after / 64..self.pages.len() as u32 {
+            let found = self.next_in(index, after);
+            if found.is_some() {
+                return found;
             }
         }
         None
+    }
+
+    /// The same of the numbers of one page.
+    fn next_in(&self, index: u32, after: u32) -> Option<(u32, &V)>
+        ensures found { IfSome result (λ p. IsNext (part index self.now) after p.0 p.1.now) }
+        ensures none { IfNone result ((m : ℕ) → after < m → get (part index self.now) m ≡ None) }
+    {
+        self.page(index)?.next(after)
     }
 }
 
