@@ -1,12 +1,10 @@
-use Rattle.std.proofs.Common.{rules, ◌≡◌, ◌∙◌, ℕ, ◌+◌, ◌++◌, ◌∷◌, ◌≤◌, ◌<◌, [], All, length, slice_index_or, arith, ap, sym, subst, take, drop, length-take, length-drop, Ok, Err}
+use Rattle.std.proofs.Common.{rules, ◌≡◌, ◌∙◌, ℕ, ◌+◌, ◌++◌, ◌∷◌, [], All, length, arith, ap, sym, subst, take, drop, length-take, length-drop, Ok, Err}
 use Rattle.std.proofs.lemmas.List.{take-append-drop, get_or-take, get_or-drop, length-append}
 use Rattle.std.specs.Prelude.{OnOk, OnErr}
-use Rattle.kfs_model.specs.Table.{get}
 use Rattle.kfs_pages.specs.declared.edit.Edit.{Edit}
-use Rattle.kfs_pages.specs.Values.{Sheet}
 use Rattle.kfs_pages.specs.Edits.{page_of, edited, Ascends, IsWithin, IsOfPage}
 use Rattle.kfs_pages.specs.Shown.{shown, slot_shows, IsPlaced}
-use Rattle.kfs_pages.proofs.Tables.{edited_pages, get-rewritten, placed_front, placed_again}
+use Rattle.kfs_pages.proofs.Tables.{edited_pages, placed_front, placed_again}
 use Rattle.kfs_pages.proofs.change.+change_pages.Goals as goal
 
 pub change_pages-run_of-requires-clause-from : goal.change_pages-run_of-requires-clause-from
@@ -32,9 +30,28 @@ change_pages-change_from-requires g t c =
     let all = c.requires.within (r + k) d (omega (arith, below, length-drop r es)) in
     let same = get_or-drop r es k d in
     (omega (arith, ap (λ (e : Edit _). e.number) same, all.0), c.run_of.ensures.rest k d below, omega (arith, ap (λ (e : Edit _). page_of e.number) same, all.2, here, ap length whole, length-append front (page ∷ rest)))) in
-    λ κs lives.
-    (omega (arith, ap length whole, length-append front (page ∷ rest)), search rules, search rules, search rules, mine, subst Ascends (sym c.split_at.ensures.back) c.run_of.ensures.ascends, later,
-    omega (arith, c.requires.end, here, ap length whole, length-append front (page ∷ rest)), placed.0, placed.1, c.requires.then)
+    λ κs lives. (
+      omega (arith, ap length whole, length-append front (page ∷ rest)),
+      (
+        search rules,
+        (
+          search rules,
+          (
+            search rules,
+            (
+              mine,
+              (
+                subst Ascends (sym c.split_at.ensures.back) c.run_of.ensures.ascends,
+                (
+                  later,
+                  (omega (arith, c.requires.end, here, ap length whole, length-append front (page ∷ rest)), (placed.0, (placed.1, c.requires.then))),
+                ),
+              ),
+            ),
+          ),
+        ),
+      ),
+    )
 
 pub change_pages-returns-clause-placed : goal.change_pages-returns-clause-placed
 change_pages-returns-clause-placed g t c =

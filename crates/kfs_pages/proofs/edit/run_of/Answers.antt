@@ -1,4 +1,4 @@
-use Rattle.std.proofs.Common.{◌≡◌, ◌∙◌, ℕ, ◌+◌, ◌<◌, ◌≤◌, slice_index_or, length, List, drop, subst, sym, ap, arith, length-drop}
+use Rattle.std.proofs.Common.{◌≡◌, ◌∙◌, ℕ, ◌+◌, slice_index_or, List, drop, sym, ap, arith, length-drop}
 use Rattle.std.proofs.lemmas.List.{get_or-drop, get_or_default}
 use Rattle.kfs_pages.specs.declared.edit.Edit.{Edit}
 use Rattle.kfs_pages.specs.Edits.{page_of}

@@ -1,4 +1,4 @@
-use Rattle.std.proofs.Common.{◌≡◌, ◌∙◌, ◌+◌, ◌*◌, ap, sym, arith, get_or, None}
+use Rattle.std.proofs.Common.{◌∙◌, ◌+◌, ◌*◌, ap, sym, arith, get_or, None}
 use Rattle.std.specs.Option.{option_copied}
 use Rattle.kfs_model.specs.Table.{get}
 use Rattle.kfs_pages.specs.Values.{Sheet}

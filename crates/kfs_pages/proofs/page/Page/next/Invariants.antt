@@ -1,4 +1,4 @@
-use Rattle.std.proofs.Common.{◌≡◌, ◌<◌, ◌≤◌, ◌*◌, ◌-◌, None, length, get_or, ℕ}
+use Rattle.std.proofs.Common.{◌≡◌, ◌<◌, ◌≤◌, ◌*◌, ◌-◌, None, get_or, ℕ}
 use Rattle.kfs_pages.proofs.page.Page.next.Given as goal
 
 abbrev pub invariant-loop-place : goal.invariant-loop-place

@@ -1,4 +1,4 @@
-use Rattle.std.proofs.Common.{◌≡◌, ◌∙◌, ◌-◌, ◌+◌, ◌*◌, ap, arith, length}
+use Rattle.std.proofs.Common.{◌∙◌, ◌-◌, ◌+◌, ◌*◌, ap, arith}
 use Rattle.kfs_pages.specs.Edits.{page_of}
 use Rattle.kfs_pages.specs.Values.{Sheet, changed}
 use Rattle.kfs_pages.proofs.Numbers.{numbered-set}
@@ -18,5 +18,5 @@ returns g c =
     let index = ap (λ (s : Sheet _). s.index) c.self.view_is in
     let place = c.args.number - (c.self.inside.index * 64 + 1) in
     let set = numbered-set (64 * c.self.inside.index + 1) c.self.inside.values.items place c.args.value c.args.number (omega (arith, c.requires.page, c.requires.number, index))
-        (omega (arith, c.requires.page, c.requires.number, index, c.self.invariant.1)) ∙ ap (λ (s : Sheet _). changed s.values c.args.number c.args.value) c.self.view_is in
+    (omega (arith, c.requires.page, c.requires.number, index, c.self.invariant.1)) ∙ ap (λ (s : Sheet _). changed s.values c.args.number c.args.value) c.self.view_is in
     λ i. record { index = index i; values = set i }

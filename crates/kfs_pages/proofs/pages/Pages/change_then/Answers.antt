@@ -1,9 +1,8 @@
-use Rattle.std.proofs.Common.{◌≡◌, ◌∙◌, ◌≤◌, ◌<◌, ℕ, ap, arith, length, slice_index_or, Ok, Err}
+use Rattle.std.proofs.Common.{◌≡◌, ◌∙◌, ℕ, ap, arith, length, slice_index_or, Ok, Err}
 use Rattle.std.proofs.lemmas.List.{with_items_is}
 use Rattle.std.specs.Vec.{with_items}
 use Rattle.std.specs.Prelude.{OnOk, OnErr}
-use Rattle.kfs_pages.specs.declared.edit.Edit.{Edit}
-use Rattle.kfs_pages.specs.Edits.{page_of, edited, rewritten, AreEdits, Ascends}
+use Rattle.kfs_pages.specs.Edits.{page_of, edited, rewritten}
 use Rattle.kfs_pages.specs.Shown.{shown, table_from}
 use Rattle.kfs_pages.proofs.Numbers.{by_less}
 use Rattle.kfs_pages.proofs.Tables.{table_edited, table_kept}

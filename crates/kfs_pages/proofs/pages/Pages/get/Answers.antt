@@ -1,9 +1,8 @@
-use Rattle.std.proofs.Common.{◌≡◌, ◌∙◌, ap, sym, arith, get_or, Option, None}
+use Rattle.std.proofs.Common.{◌∙◌, ap, sym, arith, get_or, Option, None}
 use Rattle.std.specs.Option.{option_copied}
 use Rattle.std.specs.declared.sync.Arc.{Arc}
 use Rattle.kfs_model.specs.Table.{get}
 use Rattle.kfs_pages.specs.Values.{Sheet}
-use Rattle.kfs_pages.specs.Edits.{page_of}
 use Rattle.kfs_pages.specs.Shown.{slot_shows}
 use Rattle.kfs_pages.proofs.Tables.{get-at}
 use Rattle.kfs_pages.proofs.pages.Pages.get.Goals as goal

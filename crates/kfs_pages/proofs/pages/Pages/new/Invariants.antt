@@ -1,4 +1,4 @@
-use Rattle.std.proofs.Common.{◌≡◌, None, length, replicate}
+use Rattle.std.proofs.Common.{◌≡◌, None, replicate}
 use Rattle.kfs_pages.proofs.pages.Pages.new.Given as goal
 
 abbrev pub invariant-loop : goal.invariant-loop

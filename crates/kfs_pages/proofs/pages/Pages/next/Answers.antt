@@ -1,4 +1,4 @@
-use Rattle.std.proofs.Common.{◌≡◌, ◌∙◌, ◌≤◌, ◌<◌, ◌/◌, ◌+◌, ℕ, Bor, false, ap, sym, arith, length, get_or, Option, Some, None}
+use Rattle.std.proofs.Common.{◌≡◌, ◌∙◌, ℕ, Bor, false, ap, sym, arith, Option, Some, None}
 use Rattle.std.specs.Prelude.{IfSome, IfNone}
 use Rattle.std.specs.Option.{is_some}
 use Rattle.kfs_model.specs.Table.{get}
@@ -19,17 +19,17 @@ loop-index-init g c m above below = absurd (omega (arith, above, below))
 
 pub returns-then-is_some-clause-found : goal.returns-then-is_some-clause-found
 returns-then-is_some-clause-found g c =
-    elim c.next_in.result as (λ (r : Option (ℕ × Bor _)). IfSome r (λ p. IsNext (part c.loop-index.index c.args.self.now) c.args.after p.0 p.1.now) → IfSome r (λ p. IsNext c.args.self.now c.args.after p.0 p.1.now)) [
+    elim c.next_in-found.result as (λ (r : Option (ℕ × Bor _)). IfSome r (λ p. IsNext (part c.loop-index.index c.args.self.now) c.args.after p.0 p.1.now) → IfSome r (λ p. IsNext c.args.self.now c.args.after p.0 p.1.now)) [
       | None ↦ λ next. next
       | Some p ↦ λ next. next_whole c.loop-index.index c.args.self.now c.args.after p.0 p.1.now c.loop-index.invariant next
-    ] c.next_in.ensures.found
+    ] c.next_in-found.ensures.found
 
 pub loop-index-preserved : goal.loop-index-preserved
 loop-index-preserved g c m above below =
     by_less (page_of m) c.loop-index.index (λ less. c.loop-index.invariant m above less)
     (λ from.
     sym (get-part c.loop-index.index c.args.self.now m (omega (arith, below, from)))
-    ∙ none_holds c.next_in.result c.next_in.ensures.none (sym c.is_some.ensures ∙ c.if-is_some.false) m above)
+    ∙ none_holds c.next_in-found.result c.next_in-found.ensures.none (sym c.is_some.ensures ∙ c.if-is_some.false) m above)
 
 pub returns-clause-none : goal.returns-clause-none
 returns-clause-none g c m above =

@@ -1,7 +1,6 @@
-use Rattle.std.proofs.Common.{◌≡◌, ◌∙◌, ◌<◌, ℕ, ap, Option, Some, None}
+use Rattle.std.proofs.Common.{ap, Option, Some, None}
 use Rattle.std.specs.Prelude.{IfNone}
 use Rattle.kfs_model.specs.Table.{get}
-use Rattle.kfs_pages.specs.Shown.{part}
 use Rattle.kfs_pages.proofs.pages.Pages.next_in.Goals as goal
 
 if_none : {X P : Type 0} (o : Option X) → P → IfNone o P

@@ -1,7 +1,7 @@
 use Rattle.std.proofs.Common.{◌≡◌, ◌∙◌, ℕ, ap, sym, subst, arith, get_or, Option, Some, None, List}
 use Rattle.std.specs.Prelude.{IfNone}
 use Rattle.std.specs.declared.sync.Arc.{Arc}
-use Rattle.kfs_model.specs.Table.{Table, numbers, get, empty}
+use Rattle.kfs_model.specs.Table.{get}
 use Rattle.kfs_pages.specs.Values.{Sheet}
 use Rattle.kfs_pages.specs.Edits.{page_of}
 use Rattle.kfs_pages.specs.Shown.{slot_shows, part, table_from, IsPlaced}
