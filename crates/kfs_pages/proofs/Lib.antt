@@ -1,0 +1,2 @@
+mod Numbers
+mod Tables
