@@ -9,8 +9,14 @@
 #[cfg(test)]
 mod marks;
 #[cfg(test)]
+mod plans;
+#[cfg(test)]
+mod refused;
+#[cfg(test)]
 mod rows;
 #[cfg(test)]
 mod scenes;
 #[cfg(test)]
 mod spelling;
+#[cfg(test)]
+mod wide;

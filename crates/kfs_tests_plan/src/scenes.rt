@@ -11,7 +11,7 @@ use kfs_image::{Image, TierSizes};
 use kfs_judge::View;
 use kfs_lease::{LeaseKind, Leases};
 use kfs_mode::Client;
-use kfs_plan::{Fault, Outcome, Submission, judge};
+use kfs_plan::{Fault, Judged, Outcome, Submission, judge};
 use std::alloc::{AllocError, Allocator};
 use std::sync::Arc;
 
@@ -75,8 +75,8 @@ fn right_net<A: Allocator + Copy>(
     ensures lawful { IfSome result (λ net. IsLawful (after_net image.now net.names.items net.nodes.items).contents) }
 {
     let _shape = image.shape();
-    let judged = judge(alloc, view, submission).ok()?;
-    match judged.outcome {
+    let Judged { outcome, .. } = judge(alloc, view, submission).ok()?;
+    match outcome {
         Outcome::Yes { net, .. } => Some(net),
         Outcome::No(_) => None,
     }
