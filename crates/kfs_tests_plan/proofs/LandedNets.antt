@@ -19,7 +19,7 @@ use Rattle.kfs_plan.specs.declared.submission.Outcome.TheVariants as outcomes
 use Rattle.kfs_value.specs.declared.entry.Log.{Log as CodeLog}
 use Rattle.kfs_value.specs.declared.plan.Plan.{Plan as CodePlan}
 
-length_zeros : (size : ℕ) → length (replicate size 0) ≡ size
+length_zeros : (size : ℕ) → length {A = ℕ} (replicate size 0) ≡ size
 length_zeros zero = refl
 length_zeros (suc size) = ap suc (length_zeros size)
 
@@ -55,11 +55,11 @@ module _ {A : Type 0} (c : Contents) (lawful : IsLawful c) (s : State) (shown : 
   net_is_lawful is = by is.verdict is.told
     where
       by : (verdict : Verdict) → Tells s submission (outcomes.Yes log plan net told) verdict → IsLawful (after_rows c net.names.items net.nodes.items)
-      by (No refusal) ()
-      by (Yes after marked_after) yes =
+      by (No refusal) told = absurd told
+      by (Yes after marked_after) tells =
           let heads : headers s.tree ≡ c.heads = ap (λ (t : Tree ℕ). headers t) shown ∙ lawful.counted in
           let names : s.tree.names ≡ c.names = ap (λ (t : Tree ℕ). t.names) shown in
-          let made = net_makes c after net.names.items net.nodes.items yes.comes.sound
-              (subst (λ (table : NameTable). AreDifferences name_order number_now (get table) (get after.names) (map keyed_name_row net.names.items)) names yes.comes.differs.names)
-              (subst (λ table. AreDifferences numbers header_now (get table) (get (headers after)) (map keyed_node_row net.nodes.items)) heads yes.comes.differs.nodes) in
-          subst IsLawful (sym made) (sound_is_lawful after yes.comes.sound)
+          let made = net_makes c after net.names.items net.nodes.items tells.comes.sound
+          (subst (λ (table : NameTable). AreDifferences name_order number_now (get table) (get after.names) (map keyed_name_row net.names.items)) names tells.comes.differs.names)
+          (subst (λ table. AreDifferences numbers header_now (get table) (get (headers after)) (map keyed_node_row net.nodes.items)) heads tells.comes.differs.nodes) in
+          subst IsLawful (sym made) (sound_is_lawful after tells.comes.sound)

@@ -135,7 +135,10 @@ fn joined_with(piece: PieceLine, next: PieceLine) -> Option<PieceLine> {
             let goes_on = number == next_number && start.saturating_add(len) == next_start;
             goes_on.then_some(Zero(number, start, len.saturating_add(next_len)))
         }
-        (Put(number, start, len, entry, place), Put(next_number, next_start, next_len, next_entry, next_place)) => {
+        (
+            Put(number, start, len, entry, place),
+            Put(next_number, next_start, next_len, next_entry, next_place),
+        ) => {
             let goes_on = number == next_number
                 && start.saturating_add(len) == next_start
                 && entry == next_entry

@@ -330,7 +330,10 @@ fn is_small_accepted(alloc: Global, small: &Small<'_>) -> Option<bool> {
 #[test]
 fn right_plans_cut_anew(rt: HostRuntime) {
     for (index, small) in OVERLAPPING.iter().chain(&CUT).chain(&GAPS).enumerate() {
-        assert!(rt; is_small_accepted(rt.alloc(), small) == Some(true), "{index}");
+        assert!(rt;
+            is_small_accepted(rt.alloc(), small) == Some(true),
+            "{index}"
+        );
     }
 }
 
@@ -379,7 +382,11 @@ fn shorter(piece: PieceLine, at: usize) -> (PieceLine, usize) {
             Put(number, start, len.saturating_sub(1), entry, place)
         }
     };
-    let due = if len_of(piece) == 1 { at } else { at.saturating_add(1) };
+    let due = if len_of(piece) == 1 {
+        at
+    } else {
+        at.saturating_add(1)
+    };
     (shorter, due)
 }
 
@@ -409,7 +416,8 @@ fn are_piece_edits_refused(alloc: Global, judge: &Judge, right: &Right, at: usiz
         is_refused = is_refused && is_piece_refused(alloc, judge, right, at, Edit::Swapped, at)?;
     }
     for new in moved(piece).into_iter().chain(of_others(piece)) {
-        is_refused = is_refused && is_piece_refused(alloc, judge, right, at, Edit::Replaced(new), at)?;
+        is_refused = is_refused
+            && is_piece_refused(alloc, judge, right, at, Edit::Replaced(new), at)?;
     }
     Some(is_refused)
 }
@@ -448,7 +456,8 @@ fn are_node_edits_refused(alloc: Global, judge: &Judge, right: &Right, at: usize
         FileLine(number, mode, uid, 0, size),
         FileLine(1, mode, uid, gid, size),
     ] {
-        is_refused = is_refused && is_node_refused(alloc, judge, right, at, Edit::Replaced(new), at)?;
+        is_refused = is_refused
+            && is_node_refused(alloc, judge, right, at, Edit::Replaced(new), at)?;
     }
     Some(is_refused)
 }
@@ -472,7 +481,10 @@ fn are_edits_refused(alloc: Global, steps: &[Step<'_>]) -> Option<bool> {
 #[test]
 fn plans_with_one_row_wrong(rt: HostRuntime) {
     for (index, (steps, _)) in OVERLAPPING.iter().chain(&CUT).chain(&GAPS).enumerate() {
-        assert!(rt; are_edits_refused(rt.alloc(), steps) == Some(true), "{index}");
+        assert!(rt;
+            are_edits_refused(rt.alloc(), steps) == Some(true),
+            "{index}"
+        );
     }
 }
 
@@ -483,7 +495,7 @@ const NEW_FILES: [Step<'static>; 3] = [
     Step::Create(b"e", 10, 0o644),
 ];
 
-const NEW_NAMES: [NameLine<'static>; 3] = [(b"c", 11), (b"d", 12), (b"e", 10)];
+const NEW_NAMES: [NameLine; 3] = [(b"c", 11), (b"d", 12), (b"e", 10)];
 
 const NEW_ROWS: Rows<'static> = Rows {
     names: &NEW_NAMES,
@@ -499,7 +511,7 @@ fn is_name_refused(
     alloc: Global,
     judge: &Judge,
     at: usize,
-    edit: Edit<NameLine<'_>>,
+    edit: Edit<NameLine>,
     due: usize,
 ) -> Option<bool> {
     let names = edited(alloc, &NEW_NAMES, at, edit)?;
@@ -519,7 +531,11 @@ fn are_name_edits_refused(alloc: Global, judge: &Judge, at: usize) -> Option<boo
     if behind < NEW_NAMES.len() {
         is_refused = is_refused && is_name_refused(alloc, judge, at, Edit::Swapped, at)?;
     }
-    for new in [(name, 0), (name, number.saturating_add(1)), (&b"f"[..], number)] {
+    for new in [
+        (name, 0),
+        (name, number.saturating_add(1)),
+        (&b"f"[..], number),
+    ] {
         is_refused = is_refused && is_name_refused(alloc, judge, at, Edit::Replaced(new), at)?;
     }
     Some(is_refused)

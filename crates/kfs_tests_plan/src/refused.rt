@@ -55,7 +55,10 @@ fn spelled<A: Allocator>(alloc: A, bytes: &[u8]) -> Option<Log<A>>
     ensures spans { IfSome result (λ log. AllByRecursion IsSpanned log.entries) }
     ensures count { IfSome result (λ log. length log.entries ≤ entry_limit) }
 {
-    decode_log(alloc, bytes).ok()
+    match decode_log(alloc, bytes) {
+        Ok(log) => Some(log),
+        Err(_) => None,
+    }
 }
 
 /// The log walked with the growth of this index refused; none where an answer isn't due. Answers whether there was such
@@ -117,7 +120,10 @@ fn is_walk_refused<A: Allocator + Copy, B: Allocator>(
     growth: u64,
 ) -> Option<bool> {
     let parts = parts_of(alloc)?;
-    let (log, plan) = (spelled(alloc, &parts.log)?, decode_plan(alloc, &parts.plan).ok()?);
+    let (log, plan) = (
+        spelled(alloc, &parts.log)?,
+        decode_plan(alloc, &parts.plan).ok()?,
+    );
     let (walk, has_refused) = walked(alloc, heap, &parts.view, &log, growth)?;
     is_walk(&walk, &plan).then_some(has_refused)
 }
@@ -129,7 +135,10 @@ fn is_sweep_refused<A: Allocator + Copy, B: Allocator>(
     growth: u64,
 ) -> Option<bool> {
     let parts = parts_of(alloc)?;
-    let (log, plan) = (spelled(alloc, &parts.log)?, decode_plan(alloc, &parts.plan).ok()?);
+    let (log, plan) = (
+        spelled(alloc, &parts.log)?,
+        decode_plan(alloc, &parts.plan).ok()?,
+    );
     let (walk, _) = walked(alloc, heap, &parts.view, &log, AMPLE)?;
     if walk.outcome.is_err() {
         return None;
@@ -153,7 +162,10 @@ fn is_check_refused<A: Allocator + Copy, B: Allocator>(
     growth: u64,
 ) -> Option<bool> {
     let parts = parts_of(alloc)?;
-    let (log, plan) = (spelled(alloc, &parts.log)?, decode_plan(alloc, &parts.plan).ok()?);
+    let (log, plan) = (
+        spelled(alloc, &parts.log)?,
+        decode_plan(alloc, &parts.plan).ok()?,
+    );
     let (walk, _) = walked(alloc, heap, &parts.view, &log, AMPLE)?;
     if walk.outcome.is_err() {
         return None;

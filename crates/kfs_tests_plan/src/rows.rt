@@ -11,7 +11,7 @@ use std::alloc::Global;
 use std::process::Abort;
 
 /// The name `a` leads to the file 5.
-const NAME_A: [NameLine<'static>; 1] = [(b"a", 5)];
+const NAME_A: [NameLine; 1] = [(b"a", 5)];
 
 /// The root alone.
 const ROOT: Scene<'static> = Scene {
@@ -50,8 +50,10 @@ pub const TEN_BYTES: Scene<'static> = Scene {
 };
 
 /// A new file 6 at `/r`, which no one may write, and two bytes that the log that makes it puts there.
-const READ_ONLY_STEPS: [Step<'static>; 2] =
-    [Step::Create(b"r", 6, 0o444), Step::Write(6, 0, b"hi")];
+const READ_ONLY_STEPS: [Step<'static>; 2] = [
+    Step::Create(b"r", 6, 0o444),
+    Step::Write(6, 0, b"hi"),
+];
 
 const READ_ONLY_ROWS: Rows<'static> = Rows {
     names: &[(b"r", 6)],
@@ -158,10 +160,7 @@ pub const WHOLE_FILE: [Step<'static>; 2] = [
 pub const WHOLE_FILE_ROWS: Rows<'static> = Rows {
     names: &[],
     nodes: &[FileLine(5, 0o644, 1000, 1000, SIZE_LIMIT)],
-    pieces: &[
-        Zero(5, 0, SIZE_LIMIT - 1),
-        Put(5, SIZE_LIMIT - 1, 1, 1, 0),
-    ],
+    pieces: &[Zero(5, 0, SIZE_LIMIT - 1), Put(5, SIZE_LIMIT - 1, 1, 1, 0)],
 };
 
 const EDITED: [Row<'static>; 6] = [
@@ -171,11 +170,7 @@ const EDITED: [Row<'static>; 6] = [
         &TEN_BYTES,
         &EDITS,
         Rows {
-            pieces: &[
-                Put(5, 2, 1, 0, 0),
-                Put(5, 3, 1, 1, 0),
-                Zero(5, 4, 8),
-            ],
+            pieces: &[Put(5, 2, 1, 0, 0), Put(5, 3, 1, 1, 0), Zero(5, 4, 8)],
             ..EDITS_ROWS
         },
         Err(Fault::Row(RowFault::Pieces(3))),
@@ -240,27 +235,12 @@ const MADE: [Row<'static>; 4] = [
         Ok(0),
     ),
     (&ROOT, &READ_ONLY_STEPS, READ_ONLY_ROWS, Ok(1)),
-    (
-        &READ_ONLY,
-        &[Step::Write(6, 0, b"x")],
-        NO_ROWS,
-        NO_WRITE,
-    ),
+    (&READ_ONLY, &[Step::Write(6, 0, b"x")], NO_ROWS, NO_WRITE),
 ];
 
 const PERMITTED: [Row<'static>; 4] = [
-    (
-        &CLOSED,
-        &[Step::Write(5, 0, b"x")],
-        NO_ROWS,
-        NO_WRITE,
-    ),
-    (
-        &OF_THE_GROUP,
-        &[Step::Write(5, 0, b"x")],
-        NO_ROWS,
-        NO_WRITE,
-    ),
+    (&CLOSED, &[Step::Write(5, 0, b"x")], NO_ROWS, NO_WRITE),
+    (&OF_THE_GROUP, &[Step::Write(5, 0, b"x")], NO_ROWS, NO_WRITE),
     (
         &OF_OTHERS,
         &[Step::Write(5, 0, b"x")],
@@ -296,12 +276,7 @@ const GREATEST: [Row<'static>; 3] = [
 ];
 
 /// What is judged of a log and a plan of client 7.
-fn judged(
-    alloc: Global,
-    scene: &Scene<'_>,
-    steps: &[Step<'_>],
-    rows: Rows<'_>,
-) -> Option<Verdict> {
+fn judged(alloc: Global, scene: &Scene<'_>, steps: &[Step<'_>], rows: Rows<'_>) -> Option<Verdict> {
     let view = view(alloc, scene)?;
     let (log, plan) = (log(alloc, steps)?, plan(alloc, rows)?);
     verdict(alloc, &view, 7, &log, &plan)

@@ -29,11 +29,7 @@ pub struct Scene<'a> {
 }
 
 /// Client 7, with the numbers from 2 to 99, and client 8, with those from 100 to 199.
-fn clients<A: Allocator>(
-    alloc: A,
-    ids: (u32, u32),
-    groups: &[u32],
-) -> Option<Vec<Client, A>>
+fn clients<A: Allocator>(alloc: A, ids: (u32, u32), groups: &[u32]) -> Option<Vec<Client, A>>
     ensures { IfSome result (λ clients. AreDistinct clients.items) }
 {
     let (uid, gid) = ids;
@@ -55,7 +51,14 @@ fn view_of<A: Allocator + Copy>(
     let mut leases = Leases::new(alloc);
     for path in held {
         leases
-            .grant(image.shape(), clients.as_slice(), 7, path, LeaseKind::Write, 100)
+            .grant(
+                image.shape(),
+                clients.as_slice(),
+                7,
+                path,
+                LeaseKind::Write,
+                100,
+            )
             .ok()?;
     }
     let shape = image.shape().clone().ok()?;
@@ -75,7 +78,10 @@ fn right_net<A: Allocator + Copy>(
     ensures lawful { IfSome result (λ net. IsLawful (after_net image.now net.names.items net.nodes.items).contents) }
 {
     let _shape = image.shape();
-    let Judged { outcome, .. } = judge(alloc, view, submission).ok()?;
+    let Ok(judged) = judge(alloc, view, submission) else {
+        return None;
+    };
+    let Judged { outcome, .. } = judged;
     match outcome {
         Outcome::Yes { net, .. } => Some(net),
         Outcome::No(_) => None,
@@ -113,7 +119,12 @@ fn image_of<A: Allocator + Copy>(alloc: A, scene: &Scene<'_>) -> Option<Image<A>
 /// The view of the scene.
 pub fn view<A: Allocator + Copy>(alloc: A, scene: &Scene<'_>) -> Option<View<A>> {
     let image = image_of(alloc, scene)?;
-    view_of(alloc, &image, clients(alloc, (1000, 1000), scene.groups)?, scene.held)
+    view_of(
+        alloc,
+        &image,
+        clients(alloc, (1000, 1000), scene.groups)?,
+        scene.held,
+    )
 }
 
 /// What is judged of a submission: the need, or the fault.

@@ -17,7 +17,7 @@ pub enum Step<'a> {
 }
 
 /// A name of the root, and the number that it leads to, or 0.
-pub type NameLine<'a> = (&'a [u8], u32);
+pub type NameLine = (&'static [u8], u32);
 
 /// The number, mode, uid, gid and size of a file with one name.
 #[derive(Clone, Copy)]
@@ -35,7 +35,7 @@ pub enum PieceLine {
 /// The rows of a plan.
 #[derive(Clone, Copy)]
 pub struct Rows<'a> {
-    pub names: &'a [NameLine<'a>],
+    pub names: &'a [NameLine],
     pub nodes: &'a [FileLine],
     pub pieces: &'a [PieceLine],
 }
@@ -62,7 +62,12 @@ fn put_name<A: Allocator>(out: &mut Vec<u8, A>, tag: &[u8], name: &[u8]) -> Opti
     put(out, &[tag, &ROOT, &[len], name]).ok()
 }
 
-fn put_write<A: Allocator>(out: &mut Vec<u8, A>, number: u32, offset: u64, payload: &[u8]) -> Option<()> {
+fn put_write<A: Allocator>(
+    out: &mut Vec<u8, A>,
+    number: u32,
+    offset: u64,
+    payload: &[u8],
+) -> Option<()> {
     let len = u32::try_from(payload.len()).ok()?.to_be_bytes();
     let (number, offset) = (number.to_be_bytes(), offset.to_be_bytes());
     put(out, &[&[2], &number, &offset, &len, payload]).ok()

@@ -50,7 +50,10 @@ fn judged(alloc: Global, is_backward: bool, is_whole: bool) -> Option<Verdict> {
         nodes: &[FileLine(5, 0o644, 1000, 1000, 8_191)],
         pieces: &pieces,
     };
-    let (log, plan) = (log(alloc, &writes(alloc, is_backward).ok()?)?, plan(alloc, rows)?);
+    let (log, plan) = (
+        log(alloc, &writes(alloc, is_backward).ok()?)?,
+        plan(alloc, rows)?,
+    );
     verdict(alloc, &view(alloc, &EMPTY_FILE)?, 7, &log, &plan)
 }
 
