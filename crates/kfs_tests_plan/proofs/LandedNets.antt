@@ -1,5 +1,5 @@
 -- The net of what is judged right makes lawful contents of those that were judged.
-use Rattle.std.proofs.Common.{◌≡◌, ℕ, zero, suc, List, map, length, replicate, Option, Some, None, option_map, refl, sym, ap, subst, ◌∙◌}
+use Rattle.std.proofs.Common.{◌≡◌, ℕ, zero, suc, map, length, replicate, Option, Some, None, option_map, refl, sym, ap, subst, ◌∙◌}
 use Rattle.kfs_model.specs.Header.{Header}
 use Rattle.kfs_model.specs.Table.{Table, numbers, get}
 use Rattle.kfs_model.proofs.TableLaws.{same_table, get-mapped}
@@ -14,7 +14,6 @@ use Rattle.kfs_image.proofs.NetTables.{net_makes}
 use Rattle.kfs_image.specs.declared.shape.Net.{Net}
 use Rattle.kfs_step.specs.Rows.{keyed_name_row, keyed_node_row}
 use Rattle.kfs_plan.specs.Judging.{IsVerdict, Tells}
-use Rattle.kfs_plan.specs.declared.submission.Outcome.{Outcome}
 use Rattle.kfs_plan.specs.declared.submission.Outcome.TheVariants as outcomes
 use Rattle.kfs_value.specs.declared.entry.Log.{Log as CodeLog}
 use Rattle.kfs_value.specs.declared.plan.Plan.{Plan as CodePlan}

@@ -3,7 +3,7 @@
 use crate::marks::{joined, need, push_bytes, size_after};
 use crate::scenes::{Scene, Verdict, verdict, view};
 use crate::spelling::PieceLine::{Put, Zero};
-use crate::spelling::{FileLine, NO_ROWS, NameLine, PieceLine, Rows, Step, log, plan};
+use crate::spelling::{FileLine, NameLine, PieceLine, Rows, Step, log, plan};
 use kfs_judge::View;
 use kfs_plan::{Fault, RowFault};
 use std::alloc::Global;
@@ -497,15 +497,20 @@ const NEW_FILES: [Step<'static>; 3] = [
 
 const NEW_NAMES: [NameLine; 3] = [(b"c", 11), (b"d", 12), (b"e", 10)];
 
-const NEW_ROWS: Rows<'static> = Rows {
-    names: &NEW_NAMES,
-    nodes: &[
-        FileLine(10, 0o644, 1000, 1000, 0),
-        FileLine(11, 0o644, 1000, 1000, 0),
-        FileLine(12, 0o644, 1000, 1000, 0),
-    ],
-    ..NO_ROWS
-};
+const NEW_NODES: [FileLine; 3] = [
+    FileLine(10, 0o644, 1000, 1000, 0),
+    FileLine(11, 0o644, 1000, 1000, 0),
+    FileLine(12, 0o644, 1000, 1000, 0),
+];
+
+/// The rows of the new files with these names.
+fn with_names(names: &[NameLine]) -> Rows<'_> {
+    Rows {
+        names,
+        nodes: &NEW_NODES,
+        pieces: &[],
+    }
+}
 
 fn is_name_refused(
     alloc: Global,
@@ -515,11 +520,8 @@ fn is_name_refused(
     due: usize,
 ) -> Option<bool> {
     let names = edited(alloc, &NEW_NAMES, at, edit)?;
-    let rows = Rows {
-        names: &names,
-        ..NEW_ROWS
-    };
-    is_judged(alloc, judge, rows, Err(Fault::Row(RowFault::Names(due))))
+    let wanted = Err(Fault::Row(RowFault::Names(due)));
+    is_judged(alloc, judge, with_names(&names), wanted)
 }
 
 /// Whether each change of the name row of this index is refused at the row that is due.
@@ -543,7 +545,7 @@ fn are_name_edits_refused(alloc: Global, judge: &Judge, at: usize) -> Option<boo
 
 fn are_names_refused(alloc: Global) -> Option<bool> {
     let judge = judge_of(alloc, &NEW_FILES)?;
-    let mut is_right = is_judged(alloc, &judge, NEW_ROWS, Ok(0))?;
+    let mut is_right = is_judged(alloc, &judge, with_names(&NEW_NAMES), Ok(0))?;
     for at in 0..NEW_NAMES.len() {
         is_right = is_right && are_name_edits_refused(alloc, &judge, at)?;
     }

@@ -26,25 +26,26 @@ fn writes(alloc: Global, is_backward: bool) -> Result<Vec<Step<'static>, Global>
     Ok(steps)
 }
 
-/// The bytes that they write, and the zero bytes between them.
-fn pieces(alloc: Global, is_backward: bool) -> Result<Vec<PieceLine, Global>, AllocError> {
+/// The bytes that they write, and the zero bytes between them: all, or without the piece of index 1.
+fn pieces(
+    alloc: Global,
+    is_backward: bool,
+    is_whole: bool,
+) -> Result<Vec<PieceLine, Global>, AllocError> {
     let mut pieces = Vec::new(alloc);
     for place in 0..4_096u16 {
         let start = u64::from(place) * 2;
         pieces.push(Put(5, start, 1, entry_at(is_backward, place), 0))?;
-        if place < 4_095 {
+        if place < 4_095 && (is_whole || place > 0) {
             pieces.push(Zero(5, start + 1, 1))?;
         }
     }
     Ok(pieces)
 }
 
-/// What is judged of them, with all pieces or without the one of index 1.
+/// What is judged of them with these pieces.
 fn judged(alloc: Global, is_backward: bool, is_whole: bool) -> Option<Verdict> {
-    let mut pieces = pieces(alloc, is_backward).ok()?;
-    if !is_whole {
-        pieces.remove(1);
-    }
+    let pieces = pieces(alloc, is_backward, is_whole).ok()?;
     let rows = Rows {
         names: &[],
         nodes: &[FileLine(5, 0o644, 1000, 1000, 8_191)],
