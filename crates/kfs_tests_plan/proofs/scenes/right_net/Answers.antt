@@ -1,0 +1,28 @@
+-- The image's own state agrees with the reads, so the verdict is its own, and its net keeps the contents lawful.
+use Rattle.std.proofs.Common.{◌≡◌, refl, sym, ap, subst, ◌∙◌}
+use Rattle.kfs_model.specs.Table.{empty}
+use Rattle.kfs_model.specs.Lease.{holds}
+use Rattle.kfs_model.specs.Sight.{client_sight}
+use Rattle.kfs_model.specs.Judgement.{State}
+use Rattle.kfs_image.specs.Contents.{sight_of}
+use Rattle.kfs_image.specs.ShownTree.{tree_of}
+use Rattle.kfs_image.proofs.ShownTrees.{sight_shown}
+use Rattle.kfs_check.specs.Reads.{Agrees}
+use Rattle.kfs_check.specs.View.{client_sight_in, clients_of, leases_of}
+use Rattle.kfs_plan.specs.Judging.{IsVerdict, submission_of}
+use Rattle.kfs_tests_plan.proofs.LandedNets.{net_is_lawful}
+use Rattle.kfs_tests_plan.proofs.scenes.right_net.Goals as goal
+
+pub returns-in-Yes : goal.returns-in-Yes
+returns-in-Yes g c =
+    let image = c.args.image.now in
+    let lawful = c.shape-shape.ensures.lawful in
+    let leases = leases_of c.args.view.now in
+    let number = c.args.submission.client in
+    let s : State = record { clients = clients_of c.args.view.now; sizes = image.sizes; tree = tree_of image.contents; leases = leases; placement = empty } in
+    let sights = ap sight_of c.requires.contents ∙ sight_shown image.contents lawful in
+    let seen : client_sight_in c.args.view.now number ≡ client_sight (tree_of image.contents) (holds leases number) = λ i. record { sight = sights i; held = holds leases number } in
+    let agrees = subst (Agrees c.in-Ok.judged.reads.entries) seen c.in-Ok.ensures.view_agrees in
+    let verdict = c.in-Ok.ensures.known s (record { sound = lawful.sound; row = sym c.in-Ok.ensures.client; agrees = agrees }) in
+    let told = subst (λ o. IsVerdict s (submission_of c.args.submission) o) c.in-Yes.is verdict in
+    record { lawful = net_is_lawful image.contents lawful s refl (submission_of c.args.submission) _ _ c.in-Yes.net _ told }

@@ -1,0 +1,146 @@
+//! Trees with files, of which client 7 holds leases, and what is judged against them.
+ghost use Rattle.std.specs.Prelude.{◌≡◌, IfSome};
+ghost use Rattle.kfs_mode.specs.Clients.{AreDistinct};
+ghost use Rattle.kfs_image.specs.Change.{after_net};
+ghost use Rattle.kfs_image.specs.ShownTree.{IsLawful};
+ghost use Rattle.kfs_check.specs.View.{contents_of};
+
+use crate::spelling::{Rows, Step, log, plan};
+use kfs_image::shape::{Fill, Net, net_apply};
+use kfs_image::{Image, TierSizes};
+use kfs_judge::View;
+use kfs_lease::{LeaseKind, Leases};
+use kfs_mode::Client;
+use kfs_plan::{Fault, Judged, Outcome, Submission, judge};
+use std::alloc::{AllocError, Allocator};
+use std::sync::Arc;
+
+/// How a tree is made from a new image, and what is then held.
+#[derive(Clone, Copy)]
+pub struct Scene<'a> {
+    /// The log and the plan by which client 7 makes the tree.
+    pub made: (&'a [Step<'a>], Rows<'a>),
+    /// Its uid and its gid then.
+    pub maker: (u32, u32),
+    /// The supplementary groups that client 7 has afterwards, with uid and gid 1000.
+    pub groups: &'a [u32],
+    /// The paths of the nodes on which it then holds a write lease.
+    pub held: &'a [&'a [u8]],
+}
+
+/// Client 7, with the numbers from 2 to 99, and client 8, with those from 100 to 199.
+fn clients<A: Allocator>(alloc: A, ids: (u32, u32), groups: &[u32]) -> Option<Vec<Client, A>>
+    ensures { IfSome result (λ clients. AreDistinct clients.items) }
+{
+    let (uid, gid) = ids;
+    let first = Client::new(7, uid, gid, groups, false, 2, 99).ok()?;
+    let second = Client::new(8, 1001, 1001, &[], false, 100, 199).ok()?;
+    vec![in alloc; first, second].ok()
+}
+
+/// The view of the image of now, with write leases of client 7 on the nodes at these paths.
+fn view_of<A: Allocator + Copy>(
+    alloc: A,
+    image: &Image<A>,
+    clients: Vec<Client, A>,
+    held: &[&[u8]],
+) -> Option<View<A>>
+    requires distinct { AreDistinct clients.items }
+    ensures contents { IfSome result (λ view. contents_of view ≡ image.now.contents) }
+{
+    let mut leases = Leases::new(alloc);
+    for path in held {
+        leases
+            .grant(
+                image.shape(),
+                clients.as_slice(),
+                7,
+                path,
+                LeaseKind::Write,
+                100,
+            )
+            .ok()?;
+    }
+    let shape = image.shape().clone().ok()?;
+    let leases = Arc::new(alloc, leases).ok()?;
+    let clients = Arc::new(alloc, clients).ok()?;
+    Some(View::of(shape, leases, clients))
+}
+
+/// The net of what is judged right. A view of an image shows its tree, so the net keeps that sound.
+fn right_net<A: Allocator + Copy>(
+    alloc: A,
+    image: &Image<A>,
+    view: &View<A>,
+    submission: Submission<A>,
+) -> Option<Net<A>>
+    requires contents { contents_of view.now ≡ image.now.contents }
+    ensures lawful { IfSome result (λ net. IsLawful (after_net image.now net.names.items net.nodes.items).contents) }
+{
+    let _shape = image.shape();
+    let Ok(judged) = judge(alloc, view, submission) else {
+        return None;
+    };
+    let Judged { outcome, .. } = judged;
+    match outcome {
+        Outcome::Yes { net, .. } => Some(net),
+        Outcome::No(_) => None,
+    }
+}
+
+/// What client `number` hands in.
+pub fn submission<A: Allocator + Copy>(
+    alloc: A,
+    client: u32,
+    log: &[u8],
+    plan: &[u8],
+) -> Result<Submission<A>, AllocError> {
+    Ok(Submission {
+        client,
+        log: Vec::from_slice(alloc, log)?,
+        plan: Vec::from_slice(alloc, plan)?,
+    })
+}
+
+/// A new image with the tree of the scene.
+fn image_of<A: Allocator + Copy>(alloc: A, scene: &Scene<'_>) -> Option<Image<A>> {
+    let mut image = Image::fresh(alloc, TierSizes::new(8, 8, 8)?).ok()?;
+    let view = view_of(alloc, &image, clients(alloc, scene.maker, &[])?, &[b"/"])?;
+    let submission = Submission {
+        client: 7,
+        log: log(alloc, scene.made.0)?,
+        plan: plan(alloc, scene.made.1)?,
+    };
+    let net = right_net(alloc, &image, &view, submission)?;
+    net_apply(&mut image, &net, &Fill::empty()).ok()?;
+    Some(image)
+}
+
+/// The view of the scene.
+pub fn view<A: Allocator + Copy>(alloc: A, scene: &Scene<'_>) -> Option<View<A>> {
+    let image = image_of(alloc, scene)?;
+    view_of(
+        alloc,
+        &image,
+        clients(alloc, (1000, 1000), scene.groups)?,
+        scene.held,
+    )
+}
+
+/// What is judged of a submission: the need, or the fault.
+pub type Verdict = Result<u64, Fault>;
+
+/// What is judged of a log and a plan that this client hands in; none where memory was refused.
+pub fn verdict<A: Allocator + Copy>(
+    alloc: A,
+    view: &View<A>,
+    client: u32,
+    log: &[u8],
+    plan: &[u8],
+) -> Option<Verdict> {
+    let submission = submission(alloc, client, log, plan).ok()?;
+    match judge(alloc, view, submission).ok()?.outcome {
+        Outcome::Yes { need, .. } => Some(Ok(need)),
+        Outcome::No(fault) => Some(Err(fault)),
+    }
+}
