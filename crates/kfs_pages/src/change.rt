@@ -76,7 +76,7 @@ pub(crate) fn change_pages<V: Copy, A: Allocator + Clone, T: Change>(
     let (mine, later) = edits.split_at(run_of(edits, index));
     let (_, rest) = pages.split_at_mut((index - first) as usize);
     let Some((page, rest)) = rest.split_first_mut() else {
-        return Err(AllocError);
+        unreachable!();
     };
     change_from(alloc, page, rest, index, mine, later, then)
 }
@@ -110,7 +110,7 @@ fn change_from<V: Copy, A: Allocator + Clone, T: Change>(
 {
     found(alloc, slot, index)?;
     let Some(page) = slot else {
-        return Err(AllocError);
+        unreachable!();
     };
     let page = Arc::make_mut(page)?;
     let done = change_pages(alloc, rest, index + 1, later, then);
