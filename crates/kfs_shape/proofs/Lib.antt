@@ -1,0 +1,2 @@
+pub mod Tests
+pub mod HeadTables
