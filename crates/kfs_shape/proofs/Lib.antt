@@ -1,2 +1,4 @@
 pub mod Tests
 pub mod HeadTables
+pub mod Neighbours
+pub mod NameCounts

@@ -21,6 +21,9 @@ module _ {X Y : Type 0} (view : X → Y) where
   pub rest_step : (tested : Y → Test) (rows : List X) (index : ℕ) (d : X) → index < length rows → rest_failed tested rows index ≡ from_test (tested (view (get_or rows index d))) (rest_failed tested rows (index + 1))
   rest_step tested rows index d within = ap (λ xs. least_failed (map tested (map view xs))) (drop_more rows index d within)
 
+  pub rest_at : (tested : Y → Test) (rows : List X) (index : ℕ) (row : X) → index < length rows → row ≡ get_or rows index row → rest_failed tested rows index ≡ from_test (tested (view row)) (rest_failed tested rows (index + 1))
+  rest_at tested rows index row within is = rest_step tested rows index row within ∙ ap (λ r. from_test (tested (view r)) (rest_failed tested rows (index + 1))) (sym is)
+
   pub rest_end : (tested : Y → Test) (rows : List X) (index : ℕ) → length rows ≤ index → rest_failed tested rows index ≡ None
   rest_end tested rows index past = ap (λ xs. least_failed (map tested (map view xs))) (drop_all index rows past)
 
@@ -42,6 +45,12 @@ module _ {X Y : Type 0} (view : X → Y) where
   ordered_step tested rows index d within =
       ap (λ xs. least_failed (map tested (with_previous (option_map view (before rows index)) (map view xs)))) (drop_more rows index d within)
       ∙ ap (λ o. from_test (tested (option_map view (before rows index), view (get_or rows index d))) (least_failed (map tested (with_previous (option_map view o) (map view (drop (index + 1) rows)))))) (sym (before_next rows index d within))
+
+  pub ordered_at : (tested : Option Y × Y → Test) (rows : List X) (index : ℕ) (row : X) → index < length rows → row ≡ get_or rows index row
+      → rest_ordered tested rows index ≡ from_test (tested (option_map view (before rows index), view row)) (rest_ordered tested rows (index + 1))
+  ordered_at tested rows index row within is =
+      ordered_step tested rows index row within
+      ∙ ap (λ r. from_test (tested (option_map view (before rows index), view r)) (rest_ordered tested rows (index + 1))) (sym is)
 
   pub ordered_end : (tested : Option Y × Y → Test) (rows : List X) (index : ℕ) → length rows ≤ index → rest_ordered tested rows index ≡ None
   ordered_end tested rows index past = ap (λ xs. least_failed (map tested (with_previous (option_map view (before rows index)) (map view xs)))) (drop_all index rows past)

@@ -1,6 +1,5 @@
-use Rattle.std.proofs.Common.{◌+◌, ◌&&◌, [], get_or, ap, ◌∙◌}
+use Rattle.std.proofs.Common.{◌+◌, ◌&&◌, ap, ◌∙◌}
 use Rattle.std.specs.Option.{option_map}
-use Rattle.kfs_value.specs.declared.plan.NameRow.{NameRow}
 use Rattle.kfs_value.specs.Views.{name_row_of}
 use Rattle.kfs_model.specs.Sight.{is_directory}
 use Rattle.kfs_model.specs.Tree.{name_order}
@@ -9,21 +8,18 @@ use Rattle.kfs_device.specs.Rules.{directory_test, is_above}
 use Rattle.kfs_shape.specs.Heads.{head_at}
 use Rattle.kfs_shape.specs.Least.{before}
 use Rattle.kfs_shape.specs.Views.{raw_of}
-use Rattle.kfs_shape.proofs.Tests.{ordered_step, taken_in, rest_ordered}
+use Rattle.kfs_shape.proofs.Tests.{ordered_at, taken_in, rest_ordered}
 use Rattle.kfs_shape.proofs.names.least_out_of_order.Goals as goal
-
-abbrev none : NameRow
-none = record { dir = 0; name = []; number = 0 }
 
 pub loop-index-preserved : goal.loop-index-preserved
 loop-index-preserved g c =
     let rows = c.as_slice-rows.result.now in
     let heads = heads_of (raw_of c.args.raw.now) in
-    let row : NameRow = get_or rows c.loop-index.index none in
+    let row = c.index-rows-index.result in
     let holds =
         c.is_in_place-holds.ensures
         ∙ ap (λ o. is_above name_order (λ r. (r.directory, r.name)) (option_map name_row_of o, name_row_of row) && is_directory (head_at c.args.headers.now row.dir)) c.previous.ensures
         ∙ ap (λ h. is_above name_order (λ r. (r.directory, r.name)) (option_map name_row_of (before rows c.loop-index.index), name_row_of row) && is_directory h) (c.requires row.dir)
     in
     taken_in _ _ c.loop-index.least c.noted-least.result _ (rest_ordered name_row_of (directory_test heads) rows (c.loop-index.index + 1)) _ c.noted-least.ensures holds
-    (ordered_step name_row_of (directory_test heads) rows c.loop-index.index none c.loop-index-test.true) c.loop-index.invariant
+    (ordered_at name_row_of (directory_test heads) rows c.loop-index.index row c.loop-index-test.true c.index-rows-index.is) c.loop-index.invariant
