@@ -1,6 +1,5 @@
 -- Names counted by the number that they lead to.
-use Rattle.std.proofs.Common.{◌≡◌, ℕ, ◌+◌, ◌<◌, ◌≤◌, ◌==◌, Bool, true, false, cond, T, List, [], ◌∷◌, length, map, drop, get_or, count_by, Option, Some, None, unwrap_or, refl, sym, ap, ◌∙◌, arith}
-use Rattle.std.specs.List.{AllByRecursion}
+use Rattle.std.proofs.Common.{◌≡◌, ℕ, ◌+◌, ◌<◌, ◌≤◌, ◌==◌, Bool, true, false, cond, List, [], ◌∷◌, length, map, drop, get_or, count_by, Option, Some, None, unwrap_or, refl, sym, ap, ◌∙◌, arith}
 use Rattle.std.specs.Ordering.{eq_by_cmp, nat_cmp}
 use Rattle.std.specs.BTreeMap.{BTreeMap, IsEmpty, is_at}
 use Rattle.std.specs.Map.{lookup}
@@ -15,7 +14,7 @@ use Rattle.kfs_model.specs.Tree.{name_order, name_count}
 use Rattle.kfs_model.proofs.CleanIsAllowed.{left}
 use Rattle.kfs_model.proofs.Counts.{tally, is_tally}
 use Rattle.kfs_device.specs.RawImage.{RawImage, name_entry, heads_of, names_of}
-use Rattle.kfs_device.specs.Rules.{Test, with_previous, is_above, directory_test, rule_4}
+use Rattle.kfs_device.specs.Rules.{Test, with_previous, directory_test, rule_4}
 use Rattle.kfs_device.specs.Finding.{least_of, least_failed}
 use Rattle.kfs_device.proofs.RowTables.{AreAbove, sorted_entries, sorted_rows}
 use Rattle.kfs_device.proofs.RulesHold.{AllHold}

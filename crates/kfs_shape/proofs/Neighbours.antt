@@ -1,77 +1,20 @@
 -- An extent and the one before it tell as much of shared blocks as all pairs of extents do.
-use Rattle.std.proofs.Common.{◌≡◌, ℕ, ◌+◌, ◌*◌, ◌<◌, ◌≤◌, ◌==◌, ◌&&◌, ◌||◌, not, nat_lt, nat_le, Bool, true, false, cond, List, [], ◌∷◌, length, map, count_by, ◌⊎◌, inl, inr, ⊎_elim, Option, Some, None, min, refl, sym, ap, subst, ◌∙◌, arith, eq-eqb, eqb-true, leb-true, le-leb, ltb-true, lt-ltb, zero-add}
+use Rattle.std.proofs.Common.{◌≡◌, ℕ, ◌+◌, ◌<◌, ◌≤◌, ◌==◌, ◌&&◌, ◌||◌, not, nat_le, Bool, true, false, cond, List, [], ◌∷◌, map, count_by, ◌⊎◌, inl, inr, ⊎_elim, Option, Some, None, refl, sym, ap, subst, ◌∙◌, arith, eq-eqb, eqb-true, leb-true, le-leb, ltb-true, lt-ltb, zero-add}
 use Rattle.std.specs.declared.cmp.Ordering.{Ordering}
 use Rattle.std.specs.declared.cmp.Ordering.TheVariants.{Less, Equal, Greater}
-use Rattle.std.specs.List.{AllByRecursion}
 use Rattle.std.specs.Ordering.{is_lt, nat_cmp, ordering_then}
-use Rattle.std.proofs.lemmas.Bool.{or_cases, or_right, ne_eqb, false_from_ne_true, cases_lt, cases_eq}
+use Rattle.std.proofs.lemmas.Bool.{or_right, ne_eqb, false_from_ne_true, cases_lt}
 use Rattle.std.proofs.lemmas.Cmp.{ranked}
 use Rattle.kfs_model.specs.Header.{Header}
-use Rattle.kfs_model.specs.Limits.{block_size}
 use Rattle.kfs_model.specs.Table.{Table, numbers, pairs, get}
 use Rattle.kfs_model.proofs.CleanIsAllowed.{left, right}
 use Rattle.kfs_model.proofs.Counts.{tally, is_tally}
 use Rattle.kfs_device.specs.RawImage.{ExtentRow}
-use Rattle.kfs_device.specs.Rules.{Test, test, with_previous, is_above, share_block, ends_in_file, is_extent, extent_test}
-use Rattle.kfs_device.specs.Finding.{least_of, least_failed}
+use Rattle.kfs_device.specs.Rules.{test, with_previous, is_above, share_block, ends_in_file, is_extent, extent_test}
+use Rattle.kfs_device.specs.Finding.{least_failed}
 use Rattle.kfs_device.proofs.Among.{Among}
+use Rattle.kfs_shape.proofs.OneLeast.{Clean, same_least}
 use Rattle.kfs_shape.specs.Extents.{is_behind, is_full, is_in_place}
-
--- ---- two lists of tests with one least number
-
--- no number up to this one
-abbrev Past : ℕ → Option ℕ → Type 0
-Past n None = Unit {0}
-Past n (Some m) = n < m
-
-same_past : (a b : Option ℕ) → ((n : ℕ) → Past n a → Past n b) → ((n : ℕ) → Past n b → Past n a) → a ≡ b
-same_past None None there back = refl
-same_past None (Some m) there back = let past : m < m = there m tt in absurd (omega arith)
-same_past (Some m) None there back = let past : m < m = back m tt in absurd (omega arith)
-same_past (Some m) (Some k) there back =
-    ⊎_elim
-    (λ below. let past : m < m = back m below in absurd (omega arith))
-    (λ above. ⊎_elim (λ over. let past : k < k = there k over in absurd (omega arith)) (λ under. let same : m ≡ k = omega arith in ap Some same) (cases_lt k m))
-    (cases_lt m k)
-
-past_least : (n m : ℕ) (o : Option ℕ) → n < m → Past n o → Past n (Some (least_of m o))
-past_least n m None below past = below
-past_least n m (Some k) below past = grind (arith, below, past)
-
-least_past : (n m : ℕ) (o : Option ℕ) → Past n (Some (least_of m o)) → (n < m) × Past n o
-least_past n m None past = (past, tt)
-least_past n m (Some k) past = (grind (arith, past), grind (arith, past))
-
-module _ {X : Type 0} (number : X → ℕ) where
-  abbrev tests : (X → Bool) → List X → List Test
-  tests holds es = map (λ e. test (holds e) (number e)) es
-
-  -- the tests with numbers up to this one hold
-  abbrev Clean : (X → Bool) → ℕ → List X → Type 0
-  Clean holds n es = AllByRecursion (λ e. number e ≤ n → holds e ≡ true) es
-
-  clean_past : (holds : X → Bool) (n : ℕ) (es : List X) → Clean holds n es → Past n (least_failed (tests holds es))
-  clean_past holds n [] clean = tt
-  clean_past holds n (e ∷ es) clean = at (holds e) refl (clean_past holds n es clean.1)
-    where
-      at : (b : Bool) → holds e ≡ b → Past n (least_failed (tests holds es)) → Past n (cond b (least_failed (tests holds es)) (Some (least_of (number e) (least_failed (tests holds es)))))
-      at true is rest = rest
-      at false is rest =
-          ⊎_elim (λ above. past_least n (number e) _ above rest) (λ below. let good = clean.0 below in cc) (cases_lt n (number e))
-
-  past_clean : (holds : X → Bool) (n : ℕ) (es : List X) → Past n (least_failed (tests holds es)) → Clean holds n es
-  past_clean holds n [] past = tt
-  past_clean holds n (e ∷ es) past = at (holds e) refl (past_clean holds n es) past
-    where
-      at : (b : Bool) → holds e ≡ b → (Past n (least_failed (tests holds es)) → Clean holds n es) → Past n (cond b (least_failed (tests holds es)) (Some (least_of (number e) (least_failed (tests holds es))))) → Clean holds n (e ∷ es)
-      at true is behind rest = (λ below. is, behind rest)
-      at false is behind rest = let (above, later) = least_past n (number e) _ rest in (λ below. absurd (omega arith), behind later)
-
-  same_least : (one two : X → Bool) (es : List X) → ((n : ℕ) → Clean one n es → Clean two n es) → ((n : ℕ) → Clean two n es → Clean one n es) → least_failed (tests one es) ≡ least_failed (tests two es)
-  same_least one two es there back =
-      same_past _ _
-      (λ n past. clean_past two n es (there n (past_clean one n es past)))
-      (λ n past. clean_past one n es (back n (past_clean two n es past)))
 
 -- ---- an extent behind another
 
@@ -130,27 +73,27 @@ step_beyond r p x first second =
     ⊎_elim
     (λ less. let below : r.number < x.number = ⊎_elim (λ later. omega arith) (λ same. let is = same.0 in omega arith) second in (inl below, inl below))
     (λ tied.
-      let is = tied.0 in
-      let ends = tied.1 in
-      ⊎_elim
-      (λ later. let below : r.number < x.number = omega arith in (inl below, inl below))
-      (λ same. let too = same.0 in let begins = same.1 in (inr (omega arith, omega arith), inr (omega arith, omega arith)))
-      second)
+    let is = tied.0 in
+    let ends = tied.1 in
+    ⊎_elim
+    (λ later. let below : r.number < x.number = omega arith in (inl below, inl below))
+    (λ same. let too = same.0 in let begins = same.1 in (inr (omega arith, omega arith), inr (omega arith, omega arith)))
+    second)
     first
 
 not_before : (r x : ExtentRow) → Behind r x → share_block r x ≡ false
 not_before r x behind =
     false_from_ne_true _ (λ shared.
-      let same = eqb-true r.number x.number (left _ _ shared) in
-      let below = ltb-true x.block (r.block + r.count) (right _ _ (right _ _ shared)) in
-      ⊎_elim (λ later. omega arith) (λ tied. let ends = tied.1 in omega arith) behind)
+    let same = eqb-true r.number x.number (left _ _ shared) in
+    let below = ltb-true x.block (r.block + r.count) (right _ _ (right _ _ shared)) in
+    ⊎_elim (λ later. omega arith) (λ tied. let ends = tied.1 in omega arith) behind)
 
 not_behind : (r x : ExtentRow) → Behind x r → share_block r x ≡ false
 not_behind r x behind =
     false_from_ne_true _ (λ shared.
-      let same = eqb-true r.number x.number (left _ _ shared) in
-      let below = ltb-true r.block (x.block + x.count) (left _ _ (right _ _ shared)) in
-      ⊎_elim (λ later. omega arith) (λ tied. let ends = tied.1 in omega arith) behind)
+    let same = eqb-true r.number x.number (left _ _ shared) in
+    let below = ltb-true r.block (x.block + x.count) (left _ _ (right _ _ shared)) in
+    ⊎_elim (λ later. omega arith) (λ tied. let ends = tied.1 in omega arith) behind)
 
 -- ---- one extent after another
 
@@ -178,7 +121,7 @@ module _ (heads : Table numbers Header) where
   none_later n r p [] low beyond clean = refl
   none_later n r p (x ∷ rows) low beyond clean =
       let (next, behind) : Beyond r x × Behind r x =
-          ⊎_elim (λ above. let less : r.number < x.number = omega arith in (inl less, inl less)) (λ below. step_beyond r p x beyond (beside_behind p x (clean.0 below))) (cases_lt n x.number)
+      ⊎_elim (λ above. let less : r.number < x.number = omega arith in (inl less, inl less)) (λ below. step_beyond r p x beyond (beside_behind p x (clean.0 below))) (cases_lt n x.number)
       in
       let apart : share_block r x ≡ false = not_before r x behind in
       ap (λ b. cond b 1 0 + tally (share_block r) rows) apart ∙ zero-add (tally (share_block r) rows) ∙ none_later n r x rows low next clean.1
@@ -190,9 +133,9 @@ module _ (heads : Table numbers Header) where
       ⊎_elim
       (λ here. subst (Behind x) (sym here) (beside_behind x y (clean.0 (subst (λ row. row.number ≤ n) here low))))
       (λ later.
-        let then : Behind y r = behind_all n y r rows low later clean.1 in
-        let below : y.number ≤ n = ⊎_elim (λ less. omega arith) (λ same. let is = same.0 in omega arith) then in
-        step_behind x y r (beside_behind x y (clean.0 below)) then)
+      let then : Behind y r = behind_all n y r rows low later clean.1 in
+      let below : y.number ≤ n = ⊎_elim (λ less. omega arith) (λ same. let is = same.0 in omega arith) then in
+      step_behind x y r (beside_behind x y (clean.0 below)) then)
       among
 
   beyond_itself : (r : ExtentRow) → Beyond r r
@@ -209,8 +152,8 @@ module _ (heads : Table numbers Header) where
       ⊎_elim
       (λ here. one_at_most (share_block r x) _ (none_later n r x rows low (subst (Beyond r) here (beyond_itself r)) clean.1))
       (λ later.
-        let apart : share_block r x ≡ false = not_behind r x (behind_all n x r rows low later clean.1) in
-        subst (λ b. cond b 1 0 + tally (share_block r) rows ≤ 1) (sym apart) (let rest = shared_once n (Some x) r rows low later clean.1 in omega arith))
+      let apart : share_block r x ≡ false = not_behind r x (behind_all n x r rows low later clean.1) in
+      subst (λ b. cond b 1 0 + tally (share_block r) rows ≤ 1) (sym apart) (let rest = shared_once n (Some x) r rows low later clean.1 in omega arith))
       among
 
   in_place_from : (rows : List ExtentRow) (previous : Option ExtentRow) (x : ExtentRow) → beside (previous, x) ≡ true → count_by (share_block x) rows ≤ 1 → by_pairs rows (previous, x) ≡ true
@@ -251,7 +194,7 @@ module _ (heads : Table numbers Header) where
   unfolding tally
   counted_twice p x rows whole part first second few =
       let all : 1 + (1 + tally (share_block x) rows) ≤ tally (share_block x) whole = subst (λ b. cond b 1 0 + (1 + tally (share_block x) rows) ≤ tally (share_block x) whole) first
-          (subst (λ b. cond (share_block x p) 1 0 + (cond b 1 0 + tally (share_block x) rows) ≤ tally (share_block x) whole) second (part (share_block x))) in
+      (subst (λ b. cond (share_block x p) 1 0 + (cond b 1 0 + tally (share_block x) rows) ≤ tally (share_block x) whole) second (part (share_block x))) in
       let counted = is_tally (share_block x) whole in
       omega arith
 
@@ -263,12 +206,12 @@ module _ (heads : Table numbers Header) where
       ⊎_elim
       (λ later. let other : (p.number == x.number) ≡ false = ne_eqb p.number x.number (λ same. omega arith) in ap (λ b. not b || nat_le (p.block + p.count) x.block) other)
       (λ tied.
-        let same = tied.0 in
-        let below = tied.1 in
-        ⊎_elim
-        (λ over. let shared : share_block x p ≡ true = both _ _ (eq-eqb x.number p.number (sym same)) (both _ _ (lt-ltb _ _ over) (lt-ltb _ _ (omega arith))) in absurd (counted_twice p x rows whole part shared (itself_shared x some) few))
-        (λ under. or_right _ _ (le-leb _ _ under))
-        (cases_lt x.block (p.block + p.count)))
+      let same = tied.0 in
+      let below = tied.1 in
+      ⊎_elim
+      (λ over. let shared : share_block x p ≡ true = both _ _ (eq-eqb x.number p.number (sym same)) (both _ _ (lt-ltb _ _ over) (lt-ltb _ _ (omega arith))) in absurd (counted_twice p x rows whole part shared (itself_shared x some) few))
+      (λ under. or_right _ _ (le-leb _ _ under))
+      (cases_lt x.block (p.block + p.count)))
       (key_below p.number x.number p.block x.block (left _ _ (left _ _ holds)))
 
   neighbours_clean : (n : ℕ) (whole : List ExtentRow) (previous : Option ExtentRow) (rows : List ExtentRow) → IsPart (from_before previous rows) whole → Clean number_of (by_pairs whole) n (with_previous previous rows) → AreClean n previous rows

@@ -1,5 +1,5 @@
 -- Raw images of the code as the values of the definitions.
-use Rattle.std.specs.Prelude.{ℕ, List, map}
+use Rattle.std.specs.Prelude.{map}
 use Rattle.kfs_shape.specs.declared.raw.NodeRow.{NodeRow as CodeNodeRow}
 use Rattle.kfs_shape.specs.declared.raw.ExtentRow.{ExtentRow as CodeExtentRow}
 use Rattle.kfs_shape.specs.declared.raw.TierSizes.{TierSizes as CodeTierSizes}

@@ -9,7 +9,7 @@ ghost use Rattle.kfs_value.specs.Views.{header_of};
 ghost use Rattle.kfs_device.specs.Rules.{rule_2};
 ghost use Rattle.kfs_device.specs.Finding.{least_failed};
 ghost use Rattle.kfs_shape.specs.Views.{raw_of};
-ghost use Rattle.kfs_shape.specs.Heads.{head_at, ShowsHeads};
+ghost use Rattle.kfs_shape.specs.Heads.{head_at, ShowsHeads, TakesFirst};
 
 use crate::least::noted;
 use crate::raw::RawImage;
@@ -39,7 +39,7 @@ fn insert_first<A: Allocator + Clone>(
     number: u32,
     header: Header,
 ) -> Result<(), AllocError>
-    ensures { IfOk result (λ done. (q : ℕ) → shown.get nat_cmp headers.new q ≡ option_or (shown.get nat_cmp headers.old q) (if eq_by_cmp nat_cmp q number then Some header else None)) }
+    ensures { IfOk result (λ done. TakesFirst headers.old headers.new number header) }
 {
     if !headers.contains_key(&number) {
         headers.insert(number, header)?;

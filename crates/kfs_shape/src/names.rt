@@ -1,12 +1,12 @@
 //! The rules of the name rows.
-ghost use Rattle.std.specs.Prelude.{◌≡◌, ◌&&◌, ◌+◌, ◌<◌, ◌^◌, ℕ, IfOk, None, count_by, if◌then◌else◌};
+ghost use Rattle.std.specs.Prelude.{◌≡◌, ◌+◌, ◌<◌, ◌^◌, ℕ, IfOk, None, count_by, if◌then◌else◌};
 ghost use Rattle.std.specs.Option.{option_copied, option_map};
-ghost use Rattle.kfs_model.specs.Sight.{is_directory};
 ghost use Rattle.kfs_model.specs.Tree.{name_order};
 ghost use Rattle.std.specs.Ordering.{eq_by_cmp, nat_cmp};
 ghost use Rattle.kfs_value.specs.Views.{kind_of, name_row_of};
 ghost use Rattle.kfs_device.specs.Rules.{is_above, names_fit, rule_4, rule_5, rule_6};
 ghost use Rattle.kfs_device.specs.Finding.{least_failed};
+ghost use Rattle.kfs_shape.specs.Names.{is_in_place};
 ghost use Rattle.kfs_shape.specs.Views.{raw_of};
 ghost use Rattle.kfs_shape.specs.Counts.{count_at, leads_to};
 ghost use Rattle.kfs_shape.specs.Heads.{head_at, ShowsHeads};
@@ -24,11 +24,10 @@ fn is_in_order(before: Option<&NameRow>, row: &NameRow) -> bool
 {
     match before {
         None => true,
-        Some(other) => other
-            .dir
-            .cmp(&row.dir)
-            .then(other.name.cmp(&row.name))
-            .is_lt(),
+        Some(other) => {
+            let by_directory = other.dir.cmp(&row.dir);
+            by_directory.then(other.name.cmp(&row.name)).is_lt()
+        }
     }
 }
 
@@ -38,7 +37,7 @@ fn is_in_place<A: Allocator>(
     before: Option<&NameRow>,
     row: &NameRow,
 ) -> bool
-    ensures { result ≡ is_above name_order (λ r. (r.directory, r.name)) (option_map name_row_of (option_copied before.entry), name_row_of row.now) && is_directory (head_at headers.now row.now.dir) }
+    ensures { result ≡ is_in_place (head_at headers.now row.now.dir) (option_map name_row_of (option_copied before.entry), name_row_of row.now) }
 {
     is_in_order(before, row) && has_directory(headers, row.dir)
 }

@@ -23,9 +23,9 @@ loop-index-preserved g c =
     let heads = heads_of (raw_of c.args.raw.now) in
     let row = c.index-rows-index.result in
     let holds =
-        c.is_in_place-holds.ensures
-        ∙ ap (λ o. is_in_place (head_at c.args.headers.now row.number) (option_map extent_row_of o, extent_row_of row)) c.previous.ensures
-        ∙ ap (λ h. is_in_place h (option_map extent_row_of (before rows c.loop-index.index), extent_row_of row)) (c.requires row.number)
+    c.is_in_place-holds.ensures
+    ∙ ap (λ o. is_in_place (head_at c.args.headers.now row.number) (option_map extent_row_of o, extent_row_of row)) c.previous.ensures
+    ∙ ap (λ h. is_in_place h (option_map extent_row_of (before rows c.loop-index.index), extent_row_of row)) (c.requires row.number)
     in
     taken_in _ _ c.loop-index.least c.noted-least.result _ (rest_ordered extent_row_of (λ e. test (beside heads e) e.1.number) rows (c.loop-index.index + 1)) _ c.noted-least.ensures holds
     (ordered_at extent_row_of (λ e. test (beside heads e) e.1.number) rows c.loop-index.index row c.loop-index-test.true c.index-rows-index.is) c.loop-index.invariant
