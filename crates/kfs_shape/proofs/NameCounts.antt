@@ -1,0 +1,75 @@
+-- Names counted by the number that they lead to.
+use Rattle.std.proofs.Common.{◌≡◌, ℕ, ◌+◌, ◌<◌, ◌≤◌, ◌==◌, Bool, true, false, cond, List, [], ◌∷◌, length, map, drop, get_or, count_by, Option, Some, None, unwrap_or, refl, sym, ap, ◌∙◌, arith}
+use Rattle.std.specs.Ordering.{eq_by_cmp, nat_cmp}
+use Rattle.std.specs.BTreeMap.{BTreeMap, IsEmpty, is_at}
+use Rattle.std.specs.Map.{lookup}
+use Rattle.std.proofs.lemmas.List.{drop_more, drop_all}
+use Rattle.std.specs.Cmp.{unsigned_tied, nat_eq_equiv}
+use Rattle.kfs_value.specs.declared.plan.NameRow.{NameRow as CodeNameRow}
+use Rattle.kfs_value.specs.Views.{name_row_of}
+use Rattle.kfs_model.specs.Header.{Header}
+use Rattle.kfs_model.specs.PlanRow.{NameRow}
+use Rattle.kfs_model.specs.Table.{Table, numbers}
+use Rattle.kfs_model.specs.Tree.{name_order, name_count}
+use Rattle.kfs_model.proofs.CleanIsAllowed.{left}
+use Rattle.kfs_model.proofs.Counts.{tally, is_tally}
+use Rattle.kfs_device.specs.RawImage.{RawImage, name_entry, heads_of, names_of}
+use Rattle.kfs_device.specs.Rules.{Test, with_previous, directory_test, rule_4}
+use Rattle.kfs_device.specs.Finding.{least_of, least_failed}
+use Rattle.kfs_device.proofs.RowTables.{AreAbove, sorted_entries, sorted_rows}
+use Rattle.kfs_device.proofs.RulesHold.{AllHold}
+use Rattle.kfs_shape.specs.Counts.{count_at, leads_to}
+
+-- ---- one row after another
+
+tie : (a b : ℕ) → eq_by_cmp nat_cmp a b ≡ (b == a)
+tie a b = unsigned_tied a b ∙ nat_eq_equiv.symm a b
+
+pub counted_next : (rows : List CodeNameRow) (index number : ℕ) (row : CodeNameRow) → index < length rows → row ≡ get_or rows index row
+    → tally (leads_to number) (drop index rows) ≡ cond (eq_by_cmp nat_cmp number row.number) 1 0 + tally (leads_to number) (drop (index + 1) rows)
+unfolding tally
+counted_next rows index number row within is =
+    ap (tally (leads_to number)) (drop_more rows index row within)
+    ∙ ap (λ r. cond (leads_to number r) 1 0 + tally (leads_to number) (drop (index + 1) rows)) (sym is)
+    ∙ ap (λ b. cond b 1 0 + tally (leads_to number) (drop (index + 1) rows)) (sym (tie number row.number))
+
+pub counted_end : (rows : List CodeNameRow) (index number : ℕ) → length rows ≤ index → tally (leads_to number) (drop index rows) ≡ 0
+unfolding tally
+counted_end rows index number past = ap (tally (leads_to number)) (drop_all index rows past)
+
+pub none_counted : (counts : BTreeMap ℕ ℕ) → IsEmpty counts → (number : ℕ) → count_at counts number ≡ 0
+none_counted counts empty number = ap (λ es. unwrap_or (lookup (is_at (nat_cmp number)) es) 0) empty
+
+pub at_most : (b : Bool) → cond b 1 0 ≤ 1
+at_most true = omega arith
+at_most false = omega arith
+
+-- ---- the names of rows that ascend
+
+all_hold : (tests : List Test) → least_failed tests ≡ None → AllHold tests
+all_hold [] none = tt
+all_hold (t ∷ ts) none = at t.holds refl (all_hold ts) none
+  where
+    at : (b : Bool) → t.holds ≡ b → (least_failed ts ≡ None → AllHold ts) → cond b (least_failed ts) (Some (least_of t.number (least_failed ts))) ≡ None → AllHold (t ∷ ts)
+    at true is rest none = (is, rest none)
+    at false is rest none = cc
+
+names_above : (heads : Table numbers Header) (es : List (Option NameRow × NameRow)) → AllHold (map (directory_test heads) es) → AreAbove name_order name_entry es
+names_above heads [] hold = tt
+names_above heads (e ∷ es) hold = (left _ _ hold.0, names_above heads es hold.1)
+
+tally_map : {X Y : Type 0} (test : Y → Bool) (f : X → Y) (xs : List X) → tally test (map f xs) ≡ tally (λ x. test (f x)) xs
+unfolding tally
+tally_map test f [] = refl
+tally_map test f (x ∷ xs) = ap (λ n. cond (test (f x)) 1 0 + n) (tally_map test f xs)
+
+-- a node has as many names as rows lead to it
+pub rows_counted : (raw : RawImage) (rows : List CodeNameRow) → raw.names ≡ map name_row_of rows → least_failed (rule_4 raw) ≡ None → (number : ℕ) → name_count (names_of raw) number ≡ count_by (leads_to number) rows
+rows_counted raw rows are ascend number =
+    let above = names_above (heads_of raw) (with_previous None raw.names) (all_hold (rule_4 raw) ascend) in
+    ap (count_by (λ e. e.1 == number)) (sorted_entries name_order (map name_entry raw.names) (sorted_rows name_order name_entry raw.names above))
+    ∙ is_tally (λ e. e.1 == number) (map name_entry raw.names)
+    ∙ tally_map (λ e. e.1 == number) name_entry raw.names
+    ∙ ap (tally (λ row. row.number == number)) are
+    ∙ tally_map (λ row. row.number == number) name_row_of rows
+    ∙ sym (is_tally (leads_to number) rows)

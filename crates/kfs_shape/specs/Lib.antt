@@ -1,0 +1,6 @@
+pub mod Views
+pub mod Least
+pub mod Heads
+pub mod Names
+pub mod Counts
+pub mod Extents

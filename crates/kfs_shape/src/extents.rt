@@ -1,0 +1,125 @@
+//! The rules of the extent rows.
+ghost use Rattle.std.specs.Prelude.{◌≡◌};
+ghost use Rattle.std.specs.Option.{option_copied, option_map};
+ghost use Rattle.kfs_model.specs.Table.{numbers, pairs};
+ghost use Rattle.kfs_model.specs.Placement.{tier_size};
+ghost use Rattle.kfs_device.specs.Rules.{is_above, ends_in_file, tier_test, rule_8, rule_9};
+ghost use Rattle.kfs_device.specs.Finding.{least_failed};
+ghost use Rattle.kfs_shape.specs.Heads.{head_at, ShowsHeads};
+ghost use Rattle.kfs_shape.specs.Extents.{is_behind, is_full, is_in_place};
+ghost use Rattle.kfs_shape.specs.Views.{sizes_of, extent_row_of, raw_of};
+
+use crate::least::{noted, previous};
+use crate::raw::{ExtentRow, RawImage, TierSizes};
+use kfs_value::{BLOCK_SIZE, Header, Kind};
+use std::alloc::Allocator;
+use std::collections::BTreeMap;
+
+/// Whether the extent's number and block are above those of the row before.
+fn is_in_order<A: Allocator>(before: Option<&ExtentRow<A>>, row: &ExtentRow<A>) -> bool
+    ensures { result ≡ is_above (pairs numbers numbers) (λ r. (r.number, r.block)) (option_map extent_row_of (option_copied before.entry), extent_row_of row.now) }
+{
+    match before {
+        None => true,
+        Some(other) => {
+            let by_number = other.number.cmp(&row.number);
+            by_number.then(other.block.cmp(&row.block)).is_lt()
+        }
+    }
+}
+
+/// Whether the extent begins where the one before ends, or later, or is of another file.
+fn is_behind<A: Allocator>(before: Option<&ExtentRow<A>>, row: &ExtentRow<A>) -> bool
+    ensures { result ≡ is_behind (option_map extent_row_of (option_copied before.entry)) (extent_row_of row.now) }
+{
+    match before {
+        None => true,
+        Some(other) => {
+            let end = u64::from(other.block) + u64::from(other.count);
+            other.number != row.number || end <= u64::from(row.block)
+        }
+    }
+}
+
+/// Whether the extent's number is a file's, and its last block begins below the file's size.
+fn ends_in_file<A: Allocator>(headers: &BTreeMap<u32, Header, A>, row: &ExtentRow<A>) -> bool
+    ensures { result ≡ ends_in_file (head_at headers.now row.now.number) (extent_row_of row.now) }
+{
+    let end = u64::from(row.block) + u64::from(row.count);
+    let last = end.saturating_sub(1) * BLOCK_SIZE;
+    match headers.get(&row.number) {
+        None => false,
+        Some(header) => header.kind == Kind::File && last < header.size,
+    }
+}
+
+/// Whether the extent has blocks, and all their bytes.
+fn is_full<A: Allocator>(row: &ExtentRow<A>) -> bool
+    ensures { result ≡ is_full (extent_row_of row.now) }
+{
+    row.count >= 1 && row.bytes.len() as u64 == u64::from(row.count) * BLOCK_SIZE
+}
+
+/// Whether the extent is one of blocks of a file, behind the row before.
+fn is_in_place<A: Allocator>(
+    headers: &BTreeMap<u32, Header, A>,
+    before: Option<&ExtentRow<A>>,
+    row: &ExtentRow<A>,
+) -> bool
+    ensures { result ≡ is_in_place (head_at headers.now row.now.number) (option_map extent_row_of (option_copied before.entry), extent_row_of row.now) }
+{
+    let is_above = is_in_order(before, row);
+    let ends_in_file = ends_in_file(headers, row);
+    is_above && ends_in_file && is_full(row) && is_behind(before, row)
+}
+
+/// How many blocks a tier has: none where it is over 2.
+fn tier_size(sizes: TierSizes, tier: u8) -> u32
+    ensures { result ≡ tier_size (sizes_of sizes) tier }
+{
+    match tier {
+        0 => sizes.first,
+        1 => sizes.second,
+        2 => sizes.third,
+        _ => 0,
+    }
+}
+
+/// The least number of an extent that isn't above the row before, isn't of blocks of a file that begin
+/// below its size, has no block or not 4,096 bytes for each, or shares a block of the file with another
+/// extent. Takes no memory.
+pub fn least_misplaced<A: Allocator>(
+    raw: &RawImage<A>,
+    headers: &BTreeMap<u32, Header, A>,
+) -> Option<u32>
+    requires { ShowsHeads headers.now raw.now }
+    ensures { result ≡ least_failed (rule_8 (raw_of raw.now)) }
+{
+    let rows = raw.extents.as_slice();
+    let mut least = None;
+    for (index, row) in rows.iter().enumerate() {
+        let holds = is_in_place(headers, previous(rows, index), row);
+        least = noted(least, holds, row.number);
+    }
+    least
+}
+
+/// Whether the extent's tier is from 0 to 2 and has its places.
+fn is_in_tier<A: Allocator>(sizes: TierSizes, row: &ExtentRow<A>) -> bool
+    ensures { result ≡ (tier_test (sizes_of sizes) (extent_row_of row.now)).holds }
+{
+    let end = u64::from(row.place) + u64::from(row.count);
+    row.tier <= 2 && end <= u64::from(tier_size(sizes, row.tier))
+}
+
+/// The least number of an extent that lies in no tier from 0 to 2, or past its end. Takes no memory.
+pub fn least_past_tier<A: Allocator>(raw: &RawImage<A>) -> Option<u32>
+    ensures { result ≡ least_failed (rule_9 (raw_of raw.now)) }
+{
+    let rows = raw.extents.as_slice();
+    let mut least = None;
+    for row in rows.iter() {
+        least = noted(least, is_in_tier(raw.sizes, row), row.number);
+    }
+    least
+}

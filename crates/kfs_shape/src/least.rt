@@ -1,0 +1,28 @@
+//! The least number at which a test of a rule fails.
+ghost use Rattle.std.specs.Prelude.{◌≡◌, ℕ, Some, Option, if◌then◌else◌};
+ghost use Rattle.std.specs.Option.{option_copied};
+ghost use Rattle.kfs_device.specs.Finding.{least_of};
+ghost use Rattle.kfs_shape.specs.Least.{merged, before};
+
+/// The least number so far with one more test, which holds or fails at its number.
+pub(crate) fn noted(least: Option<u32>, holds: bool, number: u32) -> Option<u32>
+    ensures { (later : Option ℕ) → merged result later ≡ merged least (if holds then later else Some (least_of number later)) }
+{
+    if holds {
+        return least;
+    }
+    match least {
+        None => Some(number),
+        Some(other) => Some(other.min(number)),
+    }
+}
+
+/// The row before the one of this index.
+pub(crate) fn previous<T>(rows: &[T], index: usize) -> Option<&T>
+    ensures { option_copied result ≡ before rows.now index }
+{
+    if index == 0 {
+        return None;
+    }
+    rows.get(index - 1)
+}

@@ -1,0 +1,144 @@
+//! The rules of the name rows.
+ghost use Rattle.std.specs.Prelude.{◌≡◌, ◌+◌, ◌<◌, ◌^◌, ℕ, IfOk, None, count_by, if◌then◌else◌};
+ghost use Rattle.std.specs.Option.{option_copied, option_map};
+ghost use Rattle.kfs_model.specs.Tree.{name_order};
+ghost use Rattle.std.specs.Ordering.{eq_by_cmp, nat_cmp};
+ghost use Rattle.kfs_value.specs.Views.{kind_of, name_row_of};
+ghost use Rattle.kfs_device.specs.Rules.{is_above, names_fit, rule_4, rule_5, rule_6};
+ghost use Rattle.kfs_device.specs.Finding.{least_failed};
+ghost use Rattle.kfs_shape.specs.Names.{is_in_place};
+ghost use Rattle.kfs_shape.specs.Views.{raw_of};
+ghost use Rattle.kfs_shape.specs.Counts.{count_at, leads_to};
+ghost use Rattle.kfs_shape.specs.Heads.{head_at, ShowsHeads};
+
+use crate::heads::{has_directory, has_node};
+use crate::least::{noted, previous};
+use crate::raw::{NodeRow, RawImage};
+use kfs_value::{Header, Kind, LINK_LIMIT, NameRow, ROOT};
+use std::alloc::{AllocError, Allocator};
+use std::collections::BTreeMap;
+
+/// Whether the directory and name are above those of the row before.
+fn is_in_order(before: Option<&NameRow>, row: &NameRow) -> bool
+    ensures { result ≡ is_above name_order (λ r. (r.directory, r.name)) (option_map name_row_of (option_copied before.entry), name_row_of row.now) }
+{
+    match before {
+        None => true,
+        Some(other) => {
+            let by_directory = other.dir.cmp(&row.dir);
+            by_directory.then(other.name.cmp(&row.name)).is_lt()
+        }
+    }
+}
+
+/// Whether the row is in its order behind the row before, and stands in a directory.
+fn is_in_place<A: Allocator>(
+    headers: &BTreeMap<u32, Header, A>,
+    before: Option<&NameRow>,
+    row: &NameRow,
+) -> bool
+    ensures { result ≡ is_in_place (head_at headers.now row.now.dir) (option_map name_row_of (option_copied before.entry), name_row_of row.now) }
+{
+    is_in_order(before, row) && has_directory(headers, row.dir)
+}
+
+/// The least directory of a name row that isn't above the row before, or stands in no directory. Takes
+/// no memory.
+pub fn least_out_of_order<A: Allocator>(
+    raw: &RawImage<A>,
+    headers: &BTreeMap<u32, Header, A>,
+) -> Option<u32>
+    requires { ShowsHeads headers.now raw.now }
+    ensures { result ≡ least_failed (rule_4 (raw_of raw.now)) }
+{
+    let rows = raw.names.as_slice();
+    let mut least = None;
+    for (index, row) in rows.iter().enumerate() {
+        let holds = is_in_place(headers, previous(rows, index), row);
+        least = noted(least, holds, row.dir);
+    }
+    least
+}
+
+/// The least number to which a name leads, but no node of it is there, or it is 1. Takes no memory.
+pub fn least_lost_target<A: Allocator>(
+    raw: &RawImage<A>,
+    headers: &BTreeMap<u32, Header, A>,
+) -> Option<u32>
+    requires { ShowsHeads headers.now raw.now }
+    ensures { result ≡ least_failed (rule_5 (raw_of raw.now)) }
+{
+    let rows = raw.names.as_slice();
+    let mut least = None;
+    for row in rows.iter() {
+        let holds = has_node(headers, row.number) && row.number != ROOT;
+        least = noted(least, holds, row.number);
+    }
+    least
+}
+
+/// How many name rows lead to each number. An error is for want of memory.
+fn name_counts<A: Allocator + Copy>(
+    alloc: A,
+    rows: &[NameRow],
+) -> Result<BTreeMap<u32, u64, A>, AllocError>
+    ensures { IfOk result (λ counts. (number : ℕ) → count_at counts number ≡ count_by (leads_to number) rows.now) }
+{
+    let mut counts = BTreeMap::new(alloc);
+    for row in rows.iter() {
+        count_more(&mut counts, row.number)?;
+    }
+    Ok(counts)
+}
+
+/// Counts the number once more.
+fn count_more<A: Allocator + Clone>(
+    counts: &mut BTreeMap<u32, u64, A>,
+    number: u32,
+) -> Result<(), AllocError>
+    requires { count_at counts.old number + 1 < 2 ^ 64 }
+    ensures { IfOk result (λ done. (n : ℕ) → count_at counts.new n ≡ count_at counts.old n + (if eq_by_cmp nat_cmp n number then 1 else 0)) }
+{
+    let more = count_of(counts, number) + 1;
+    counts.insert(number, more)?;
+    Ok(())
+}
+
+/// How often the number was counted.
+fn count_of<A: Allocator>(counts: &BTreeMap<u32, u64, A>, number: u32) -> u64
+    ensures { result ≡ count_at counts.now number }
+{
+    counts.get(&number).copied().unwrap_or(0)
+}
+
+/// Whether a node of this row may have so many names.
+fn may_have_names(row: &NodeRow, names: u64) -> bool
+    ensures { result ≡ names_fit (kind_of row.now.header.kind) row.now.number row.now.header.links names }
+{
+    let header = row.header;
+    match header.kind {
+        Kind::File => {
+            names >= 1 && names <= u64::from(LINK_LIMIT) && u64::from(header.links) == names
+        }
+        Kind::Directory => row.number == ROOT || names == 1,
+    }
+}
+
+/// The least number of a file that hasn't 1 to 1,024 names, or not as many as its links say, or of a
+/// directory other than 1 that hasn't one name. An error is for want of memory.
+pub fn least_miscounted<A: Allocator + Copy>(
+    alloc: A,
+    raw: &RawImage<A>,
+) -> Result<Option<u32>, AllocError>
+    requires ascend { least_failed (rule_4 (raw_of raw.now)) ≡ None }
+    ensures { IfOk result (λ least. least ≡ least_failed (rule_6 (raw_of raw.now))) }
+{
+    let counts = name_counts(alloc, &raw.names)?;
+    let rows = raw.nodes.as_slice();
+    let mut least = None;
+    for row in rows.iter() {
+        let holds = may_have_names(row, count_of(&counts, row.number));
+        least = noted(least, holds, row.number);
+    }
+    Ok(least)
+}

@@ -1,0 +1,64 @@
+//! The rules of the node rows by themselves.
+ghost use Rattle.std.specs.Prelude.{◌≡◌};
+ghost use Rattle.std.specs.Option.{option_copied, option_map};
+ghost use Rattle.kfs_device.specs.Rules.{number_test, header_test, rule_1, rule_3};
+ghost use Rattle.kfs_device.specs.Finding.{least_failed};
+ghost use Rattle.kfs_shape.specs.Views.{node_row_of, raw_of};
+
+use crate::least::{noted, previous};
+use crate::raw::{NodeRow, RawImage};
+use kfs_value::{GREATEST_MODE, Kind, SIZE_LIMIT};
+use std::alloc::Allocator;
+
+/// The greatest number of a node.
+const GREATEST_NUMBER: u32 = 65_536;
+
+/// Whether the number is in range and above that of the row before.
+fn is_in_order(before: Option<&NodeRow>, row: &NodeRow) -> bool
+    ensures { result ≡ (number_test (option_map node_row_of (option_copied before.entry), node_row_of row.now)).holds }
+{
+    let is_above = match before {
+        None => true,
+        Some(other) => other.number < row.number,
+    };
+    is_above && row.number >= 1 && row.number <= GREATEST_NUMBER
+}
+
+/// The least number of a node row that isn't above the row before, or is not from 1 to 65,536. Takes no
+/// memory.
+pub fn least_out_of_order<A: Allocator>(raw: &RawImage<A>) -> Option<u32>
+    ensures { result ≡ least_failed (rule_1 (raw_of raw.now)) }
+{
+    let rows = raw.nodes.as_slice();
+    let mut least = None;
+    for (index, row) in rows.iter().enumerate() {
+        let holds = is_in_order(previous(rows, index), row);
+        least = noted(least, holds, row.number);
+    }
+    least
+}
+
+/// Whether mode and size are in range, and a directory has one link and no size.
+fn is_header_in_range(row: &NodeRow) -> bool
+    ensures { result ≡ (header_test (node_row_of row.now)).holds }
+{
+    let header = row.header;
+    let fits = match header.kind {
+        Kind::File => true,
+        Kind::Directory => header.links == 1 && header.size == 0,
+    };
+    header.mode <= GREATEST_MODE && u128::from(header.size) <= SIZE_LIMIT && fits
+}
+
+/// The least number of a node whose mode is above 0o777 or whose size is above 2^32 bytes, or of a
+/// directory that hasn't one link or has a size. Takes no memory.
+pub fn least_bad_header<A: Allocator>(raw: &RawImage<A>) -> Option<u32>
+    ensures { result ≡ least_failed (rule_3 (raw_of raw.now)) }
+{
+    let rows = raw.nodes.as_slice();
+    let mut least = None;
+    for row in rows.iter() {
+        least = noted(least, is_header_in_range(row), row.number);
+    }
+    least
+}
