@@ -1,6 +1,7 @@
 //! Judges a client's log against a view of the image, the leases and the clients.
 #![tactic(auto)]
 
+pub mod laws;
 mod walk;
 
 pub use kfs_check::{Read, ReadAnswer, Reason, View};

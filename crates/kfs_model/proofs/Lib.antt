@@ -37,6 +37,7 @@ pub mod Overlay
 pub mod Overlays
 pub mod Unlooked
 pub mod SameNet
+pub mod SameMarks
 pub mod FreshTree
 pub mod NameTest
 pub mod RowFits

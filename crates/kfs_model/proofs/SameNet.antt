@@ -37,7 +37,7 @@ module _ (client : Client) (before : ClientSight) where
       at (Some reason) clean rest is = cc
 
 module _ (client : Client) (s u : ClientSight) (entries : List Entry) (alike : AnswerAlike s u (looked_cells client s entries)) where
-  alike_at : (cell : Cell) (cells : List Cell) → Among cell cells → AnswerAlike s u cells → answer s cell ≡ answer u cell
+  pub alike_at : (cell : Cell) (cells : List Cell) → Among cell cells → AnswerAlike s u cells → answer s cell ≡ answer u cell
   alike_at cell [] h alike = absurd h
   alike_at cell (c ∷ cells) h alike = ⊎_elim (λ same. subst (λ c. answer s c ≡ answer u c) (sym same) alike.0) (λ later. alike_at cell cells later alike.1) h
 

@@ -29,7 +29,7 @@ module _ (p : EntryContext) where
   among_rest check rest cell pass h =
       among_back cell (cells p check) (elim (fault p check) [ None ↦ looked p rest | Some reason ↦ [] ]) (subst (λ o. Among cell (elim o [ None ↦ looked p rest | Some reason ↦ [] ])) (sym pass) h)
 
-  among_at : (front : List Check) (check : Check) (back : List Check) (cell : Cell) → AllPass p (front ++ (check ∷ back)) → Among cell (cells p check) → Among cell (looked p (front ++ (check ∷ back)))
+  pub among_at : (front : List Check) (check : Check) (back : List Check) (cell : Cell) → AllPass p (front ++ (check ∷ back)) → Among cell (cells p check) → Among cell (looked p (front ++ (check ∷ back)))
   unfolding looked
   among_at [] check back cell pass h = among_front cell (cells p check) (elim (fault p check) [ None ↦ looked p back | Some reason ↦ [] ]) h
   among_at (first ∷ front) check back cell pass h = among_rest first (front ++ (check ∷ back)) cell pass.0 (among_at front check back cell pass.1 h)

@@ -2,10 +2,8 @@
 
 ghost use Rattle.std.specs.Prelude.{◌≡◌, ℕ, List, [], Some, None, Result, IfOk, true};
 ghost use Rattle.kfs_model.specs.Tree.{Tree};
-ghost use Rattle.kfs_model.specs.Entry.{Entry, Log};
-ghost use Rattle.kfs_model.specs.Check.{EntryContext, first_fault};
-ghost use Rattle.kfs_model.specs.Allowed.{IsAllowed};
-ghost use Rattle.kfs_model.specs.Run.{Mark, run, over_bytes, over_marks, marked, run_by_marks};
+ghost use Rattle.kfs_model.specs.Entry.{Log};
+ghost use Rattle.kfs_model.specs.Run.{Mark, run, over_bytes, over_marks, marked};
 ghost use Rattle.kfs_model.specs.PlanRow.{Piece, Plan};
 ghost use Rattle.kfs_model.specs.Plan.{ArePieces, IsRight, OldBytesStay};
 ghost use Rattle.kfs_model.specs.Compare.{first_apart};
@@ -17,25 +15,26 @@ ghost use Rattle.kfs_model.specs.Blocks.{counted_files};
 ghost use Rattle.kfs_model.specs.Lease.{KeepsCompatible, dropped, ticked};
 ghost use Rattle.kfs_model.specs.Order.{IsInOrder};
 ghost use Rattle.std.specs.List.{AllByRecursion};
-ghost use Rattle.kfs_model.specs.Sight.{ClientSight, sight};
+ghost use Rattle.kfs_model.specs.Sight.{sight};
 ghost use Rattle.kfs_model.specs.LastCover.{LastEntryDecides};
 ghost use Rattle.kfs_model.specs.Access.{Client, AreDistinct};
-ghost use Rattle.kfs_model.specs.Looked.{LooksAlike, GoesAlike, TreesEndAlike};
+ghost use Rattle.kfs_model.specs.Looked.{TreesEndAlike};
+ghost use Rattle.kfs_model.specs.Alike.{MarksAlike, MarksEnd};
 ghost use Rattle.kfs_model.specs.Soundness.{IsSound};
 ghost use Rattle.kfs_model.specs.Fresh.{fresh_tree};
 ghost use Rattle.kfs_model.specs.Spelling.{IsName, is_name, IsBytes, SpellingFault, LogAnswer, PlanAnswer};
 ghost use Rattle.kfs_model.specs.CleanStep.{IsClient, Fits, IsSeenInCells};
-ghost use Rattle.kfs_model.specs.Laws.{BothFit, EachGrant, EachRun, KeepsOrder, KeepsSound, opening_of_new};
+ghost use Rattle.kfs_model.specs.Laws.{CellsDecide, CleanIsAllowed, EachGrant, EachRun, EachTwoTrees, KeepsOrder, KeepsSound, MarksGiveBytes, opening_of_new};
 
 /// An entry of which no check fails is allowed to its client, by mode bits and leases, whichever of the seven it is.
 pub fn clean_is_allowed()
-    ensures { (context : EntryContext) (entry : Entry) → first_fault context entry ≡ None → IsAllowed context entry }
+    ensures { CleanIsAllowed }
 {}
 
 /// The bytes that a run gives are the marks that it gives, looked up in the tree before and in the payloads; and both stop
 /// at the same entry for the same reason.
 pub fn marks_give_bytes()
-    ensures { EachRun (λ client before tree entries. run_by_marks client before tree entries ≡ run over_bytes client before tree entries) }
+    ensures { MarksGiveBytes }
 {}
 
 /// After a run a byte from before the log stands only where it stood: in the same file, at the same place.
@@ -99,10 +98,11 @@ pub fn run_is_seen_in_cells()
 
 /// Two states that answer alike, to one client, at the cells that a log looks at in the one, have the same first fault of
 /// the log, or none and the same names and headers changed by it; and the log looks at the same cells in the other. Two
-/// sound trees end alike too, whatever their bytes.
+/// sound trees end alike too, whatever their bytes, and the log changes the same bytes of both.
 pub fn looked_cells_decide()
-    ensures decides { (client : Client) (one other : ClientSight) (entries : List Entry) → LooksAlike client one other entries → GoesAlike client one other entries }
-    ensures of_trees { (client : Client) (one other : Tree ℕ) (entries : List Entry) → BothFit client one other entries → TreesEndAlike client one other entries }
+    ensures decides { CellsDecide }
+    ensures of_trees { EachTwoTrees TreesEndAlike }
+    ensures marks { EachTwoTrees (MarksEnd MarksAlike) }
 {}
 
 /// The test of bytes says whether they are a name.
