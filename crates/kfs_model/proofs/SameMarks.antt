@@ -1,46 +1,28 @@
 -- Two sound trees that answer alike at the cells that a log looks at have the same bytes changed by it.
-use Rattle.std.proofs.Common.{◌≡◌, ℕ, ◌+◌, ◌-◌, ◌==◌, ◌&&◌, Bool, true, false, cond, ltb, leb, List, [], ◌∷◌, ◌++◌, length, Option, Some, None, option_map, unwrap_or, Result, Ok, Err, refl, sym, ap, subst, ◌∙◌, ◌⊎◌, inl, inr, ⊎_elim, eqb-true}
+use Rattle.std.proofs.Common.{◌≡◌, ℕ, ◌+◌, ◌-◌, ◌==◌, ◌&&◌, Bool, true, false, cond, ltb, leb, List, [], ◌∷◌, ◌++◌, length, Option, Some, None, unwrap_or, Result, Ok, Err, refl, sym, ap, subst, ◌∙◌, ◌⊎◌, inl, inr, ⊎_elim, eqb-true}
 use Rattle.kfs_model.specs.Access.{Client}
-use Rattle.kfs_model.specs.Alike.{ChangesStandIn, MarksAlike, BothEnd, MarksEnd}
+use Rattle.kfs_model.specs.Alike.{MarksAlike, BothEnd, MarksEnd}
 use Rattle.kfs_model.specs.Check.{EntryContext, Reason, Check, checks_of, cells, first_fault, looked}
 use Rattle.kfs_model.specs.CleanStep.{Fits}
 use Rattle.kfs_model.specs.Entry.{Entry, Create, Write, Truncate, Link, Unlink, Rename, Chmod}
-use Rattle.kfs_model.specs.Header.{Header}
 use Rattle.kfs_model.specs.LastCover.{extent, covered_by, last_cover, start_mark}
 use Rattle.kfs_model.specs.Laws.{BothFit}
 use Rattle.kfs_model.specs.Looked.{looked_from, looked_cells, seen_run, LooksAlike, EndAlike, NetAlike}
 use Rattle.kfs_model.specs.Plan.{mark_at, is_base}
 use Rattle.kfs_model.specs.Run.{Mark, Base, Zero, Payload, EntryFault, entry_context, created_by, run, over_bytes, over_marks, marked, byte_of, looked_up}
 use Rattle.kfs_model.specs.SeenAfter.{seen_after, seen_run_from, shown_run}
-use Rattle.kfs_model.specs.Sight.{Sight, Cell, HeaderOf, ClientSight, client_sight, sight, sight_over, answer}
+use Rattle.kfs_model.specs.Sight.{Sight, Cell, HeaderOf, ClientSight, client_sight, sight, sight_over}
 use Rattle.kfs_model.specs.Table.{get, option_or}
-use Rattle.kfs_model.specs.Tree.{Tree, Node, Body, FileBody, DirectoryBody, NameTable, headers, header_of, size_of, content_of}
-use Rattle.kfs_model.proofs.Cells.{recut, headers-recut}
+use Rattle.kfs_model.specs.Tree.{Tree, headers}
+use Rattle.kfs_model.proofs.Cells.{headers-recut}
 use Rattle.kfs_model.proofs.CleanIsAllowed.{all_pass}
-use Rattle.kfs_model.proofs.Heads.{get-headers}
+use Rattle.kfs_model.proofs.Heads.{size_said, size_is_extent}
 use Rattle.kfs_model.proofs.LastCover.{mark_is}
 use Rattle.kfs_model.proofs.Marks.{marks_give_bytes}
 use Rattle.kfs_model.proofs.SameLooked.{same_looked}
 use Rattle.kfs_model.proofs.SameNet.{alike_at, same_net}
 use Rattle.kfs_model.proofs.SeenRun.{run_is_seen, bytes_faithful}
 use Rattle.kfs_model.proofs.Unlooked.{Among, among_front, among_back, among_at}
-
--- ---- a file's length is the size in its header
-
-abbrev size_said : Option Header → ℕ
-size_said found = elim found [ None ↦ 0 | Some header ↦ header.size ]
-
-module _ {B : Type 0} where
-  size_of_node : (names : NameTable) (n : ℕ) (found : Option (Node B)) → size_said (option_map (header_of names n) found) ≡ length (content_of found)
-  size_of_node names n None = refl
-  size_of_node names n (Some node) = by node.body
-    where
-      by : (body : Body B) → size_of body ≡ length (content_of (Some (record node { body = body })))
-      by (FileBody cells) = refl
-      by DirectoryBody = refl
-
-  size_is_extent : (t : Tree B) (n : ℕ) → size_said (get (headers t) n) ≡ extent t n
-  size_is_extent t n = ap size_said (get-headers t n) ∙ size_of_node t.names n (get t.nodes n)
 
 extents_alike : {B C : Type 0} (t : Tree B) (v : Tree C) (n : ℕ) → get (headers t) n ≡ get (headers v) n → extent t n ≡ extent v n
 extents_alike t v n same = sym (size_is_extent t n) ∙ ap size_said same ∙ size_is_extent v n
