@@ -3,7 +3,7 @@ ghost use Rattle.std.specs.Prelude.{IfOk, List, [], ◌∷◌, OnOk};
 ghost use Rattle.std.specs.Option.{option_map};
 ghost use Rattle.kfs_value.specs.Views.{header_of};
 ghost use Rattle.kfs_model.specs.Plan.{header_now, number_now};
-ghost use Rattle.kfs_check.specs.Recorders.{GoesOn, Known, ReadsAt};
+ghost use Rattle.kfs_check.specs.Recorders.{GoesOn, Known, Looks, ReadsAt};
 ghost use Rattle.kfs_draft.specs.Overlay.{over, IsWritten};
 ghost use Rattle.kfs_step.specs.Rows.{IsRow, keyed_name_row, keyed_node_row};
 ghost use Rattle.kfs_step.specs.Nets.{AreNamesOf, AreNodesOf};
@@ -40,9 +40,7 @@ fn name_row<A: Allocator + Copy>(
     key: &(u32, Name),
     now: Option<u32>,
 ) -> Result<Option<NameRow>, AllocError>
-    ensures goes { GoesOn recorder.old recorder.new }
-    ensures known { IfOk result (λ row. Known recorder.new (λ before. IsRow number_now keyed_name_row key.now (before.sight.name key.now.0 key.now.1) now row)) }
-    ensures among { OnOk result (ReadsAt recorder.old recorder.new (NameIn key.now.0 key.now.1 ∷ [])) }
+    ensures { Looks recorder.old recorder.new result (NameIn key.now.0 key.now.1 ∷ []) (λ row before. IsRow number_now keyed_name_row key.now (before.sight.name key.now.0 key.now.1) now row) }
 {
     let before = recorder.target(key)?;
     if before == now {
@@ -81,9 +79,7 @@ fn node_row<A: Allocator + Copy>(
     number: u32,
     now: Option<Header>,
 ) -> Result<Option<NodeRow>, AllocError>
-    ensures goes { GoesOn recorder.old recorder.new }
-    ensures known { IfOk result (λ row. Known recorder.new (λ before. IsRow header_now keyed_node_row number (before.sight.head number) (option_map header_of now) row)) }
-    ensures among { OnOk result (ReadsAt recorder.old recorder.new (HeaderOf number ∷ [])) }
+    ensures { Looks recorder.old recorder.new result (HeaderOf number ∷ []) (λ row before. IsRow header_now keyed_node_row number (before.sight.head number) (option_map header_of now) row) }
 {
     let before = recorder.header(number)?;
     if before == now {
