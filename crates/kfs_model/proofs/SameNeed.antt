@@ -12,7 +12,7 @@ use Rattle.kfs_model.specs.Laws.{BothFit}
 use Rattle.kfs_model.specs.Placement.{is_payload, is_zero, is_written, blocks_of, blocks_that, written_blocks, need}
 use Rattle.kfs_model.specs.Plan.{is_base}
 use Rattle.kfs_model.specs.Run.{Mark}
-use Rattle.kfs_model.specs.Table.{Order, Table, changed_entries, get, mapped, retain}
+use Rattle.kfs_model.specs.Table.{Order, Table, changed_entries, empty, get, mapped, retain}
 use Rattle.kfs_model.specs.Tree.{Tree, Node, content_of}
 use Rattle.kfs_model.proofs.SameMarks.{IsOld, IsSameOrOld, runs_end}
 use Rattle.kfs_model.proofs.TableLaws.{same_table, get-mapped, get-retain}
@@ -107,14 +107,19 @@ none_written t n old =
     } in
     nil_from_length (written_in n cells) (file_count n cells [] none)
 
--- ---- of two trees
+-- ---- of trees
+
+made_of : (n : ℕ) (found : Option (Node Mark)) → made_at (blocks_that is_written) n found ≡ written_in n (content_of found)
+unfolding written_in
+made_of n None = refl
+made_of n (Some node) = refl
+
+-- a tree of old bytes needs nothing
+pub old_tree_needs_none : (t : Tree Mark) → ((n : ℕ) → IsOld t n) → need t ≡ 0
+unfolding written_blocks get
+old_tree_needs_none t old = ap length (flat_map-alike (blocks_that is_written) t.nodes empty (λ n. made_of n (get t.nodes n) ∙ none_written t n (old n)))
 
 module _ (one other : Tree Mark) (files : (n : ℕ) → IsSameOrOld one other n) where
-  made_of : (n : ℕ) (found : Option (Node Mark)) → made_at (blocks_that is_written) n found ≡ written_in n (content_of found)
-  unfolding written_in
-  made_of n None = refl
-  made_of n (Some node) = refl
-
   alike_at : (n : ℕ) → written_in n (content_of (get one.nodes n)) ≡ written_in n (content_of (get other.nodes n))
   alike_at n = ⊎_elim (λ same. ap (written_in n) same) (λ old. none_written one n old.0 ∙ sym (none_written other n old.1)) (files n)
 
