@@ -1,5 +1,5 @@
 -- Two sound trees that answer alike at the cells that a log looks at have the same bytes changed by it.
-use Rattle.std.proofs.Common.{◌≡◌, ℕ, ◌+◌, ◌-◌, ◌==◌, ◌&&◌, Bool, true, false, cond, ltb, leb, List, [], ◌∷◌, ◌++◌, length, Option, Some, None, option_map, unwrap_or, slice_get, Result, Ok, Err, refl, sym, ap, subst, ◌∙◌, ◌⊎◌, inl, inr, ⊎_elim, eqb-true}
+use Rattle.std.proofs.Common.{◌≡◌, ℕ, ◌+◌, ◌-◌, ◌==◌, ◌&&◌, Bool, true, false, cond, ltb, leb, List, [], ◌∷◌, ◌++◌, length, Option, Some, None, unwrap_or, slice_get, Result, Ok, Err, refl, sym, ap, subst, ◌∙◌, ◌⊎◌, inl, inr, ⊎_elim, eqb-true}
 use Rattle.std.proofs.lemmas.Bool.{both_ways}
 use Rattle.std.proofs.lemmas.List.{same_lists}
 use Rattle.std.proofs.lemmas.Option.{unwrap_or-slice_get}
@@ -16,7 +16,7 @@ use Rattle.kfs_model.specs.Run.{Mark, Base, Zero, Payload, EntryFault, entry_con
 use Rattle.kfs_model.specs.SeenAfter.{seen_after, seen_run_from, shown_run}
 use Rattle.kfs_model.specs.Sight.{Sight, Cell, HeaderOf, ClientSight, client_sight, sight, sight_over}
 use Rattle.kfs_model.specs.Table.{get, option_or}
-use Rattle.kfs_model.specs.Tree.{Tree, Node, Body, FileBody, DirectoryBody, NameTable, headers, header_of, size_of, content_of}
+use Rattle.kfs_model.specs.Tree.{Tree, headers, content_of}
 use Rattle.kfs_model.proofs.Cells.{headers-recut}
 use Rattle.kfs_model.proofs.CleanIsAllowed.{all_pass}
 use Rattle.kfs_model.proofs.Heads.{size_said, size_is_extent}
