@@ -1,13 +1,13 @@
 //! What differs after a log.
-ghost use Rattle.std.specs.Prelude.{IfOk, List, [], ◌∷◌, OnOk};
+ghost use Rattle.std.specs.Prelude.{[], ◌∷◌};
 ghost use Rattle.std.specs.Option.{option_map};
 ghost use Rattle.kfs_value.specs.Views.{header_of};
 ghost use Rattle.kfs_model.specs.Plan.{header_now, number_now};
-ghost use Rattle.kfs_check.specs.Recorders.{GoesOn, Known, Looks, ReadsAt};
-ghost use Rattle.kfs_draft.specs.Overlay.{over, IsWritten};
+ghost use Rattle.kfs_check.specs.Recorders.{Looks};
+ghost use Rattle.kfs_draft.specs.Overlay.{over};
 ghost use Rattle.kfs_step.specs.Rows.{IsRow, keyed_name_row, keyed_node_row};
-ghost use Rattle.kfs_step.specs.Nets.{AreNamesOf, AreNodesOf};
-ghost use Rattle.kfs_model.specs.Sight.{Cell, HeaderOf, NameIn};
+ghost use Rattle.kfs_step.specs.Nets.{AreNamesOf, AreNodesOf, LooksOver};
+ghost use Rattle.kfs_model.specs.Sight.{HeaderOf, NameIn};
 
 use kfs_check::Recorder;
 use kfs_draft::Draft;
@@ -21,9 +21,7 @@ pub fn name_rows<A: Allocator + Copy>(
     draft: &Draft<A>,
     recorder: &mut Recorder<'_, A>,
 ) -> Result<Vec<NameRow, A>, AllocError>
-    ensures goes { GoesOn recorder.old recorder.new }
-    ensures known { IfOk result (λ rows. Known recorder.new (λ before. AreNamesOf before.sight (over draft.now before.sight) rows.items)) }
-    ensures among { OnOk result ((among : List Cell) → IsWritten draft.now among → ReadsAt recorder.old recorder.new among) }
+    ensures { LooksOver draft.now recorder.old recorder.new result (λ rows before. AreNamesOf before.sight (over draft.now before.sight) rows.items) }
 {
     let mut rows = Vec::new(alloc);
     for (key, now) in draft.targets().iter() {
@@ -60,9 +58,7 @@ pub fn node_rows<A: Allocator + Copy>(
     draft: &Draft<A>,
     recorder: &mut Recorder<'_, A>,
 ) -> Result<Vec<NodeRow, A>, AllocError>
-    ensures goes { GoesOn recorder.old recorder.new }
-    ensures known { IfOk result (λ rows. Known recorder.new (λ before. AreNodesOf before.sight (over draft.now before.sight) rows.items)) }
-    ensures among { OnOk result ((among : List Cell) → IsWritten draft.now among → ReadsAt recorder.old recorder.new among) }
+    ensures { LooksOver draft.now recorder.old recorder.new result (λ rows before. AreNodesOf before.sight (over draft.now before.sight) rows.items) }
 {
     let mut rows = Vec::new(alloc);
     for (number, now) in draft.headers().iter() {
