@@ -1,115 +1,109 @@
 -- Checks that are made one group after another: what each group finds and reads, put together.
-use Rattle.std.specs.Prelude.{◌≡◌, ℕ, List, [], ◌∷◌, ◌++◌, Option, Some, None, is_some, refl}
+use Rattle.std.specs.Prelude.{◌≡◌, ℕ, List, [], ◌∷◌, ◌++◌, Option, Some, None, is_some, Ok, refl}
 use Rattle.std.specs.Option.{option_map}
+use Rattle.std.specs.declared.alloc.AllocError.{AllocError}
 use Rattle.std.proofs.Common.{ap, sym, subst, ◌∙◌}
 use Rattle.kfs_model.specs.Check as checks
 use Rattle.kfs_model.specs.Check.{EntryContext, Check, fault, first_failing, looked}
-use Rattle.kfs_model.specs.Sight.{Cell, NameIn}
+use Rattle.kfs_model.specs.Sight.{Cell, ClientSight, NameIn}
 use Rattle.kfs_check.specs.declared.check.Reason.{Reason}
 use Rattle.kfs_check.specs.declared.check.Reason.TheVariants.{NoSuchName}
 use Rattle.kfs_check.specs.declared.entry_judge.EntryJudge.{EntryJudge}
 use Rattle.kfs_check.specs.declared.reads.Recorder.{Recorder}
-use Rattle.kfs_check.specs.Checks.{reason_of, entry_context_in, FindsFirst, ReadsCellsOfAll}
-use Rattle.kfs_check.specs.Recorders.{GoesOn, Known, ReadsAt}
+use Rattle.kfs_check.specs.Checks.{reason_of, entry_context_in, JudgesAll}
+use Rattle.kfs_check.specs.Recorders.{Known, Looks, ReadsAt}
 use Rattle.kfs_check.proofs.Failing.{failing-in_front, failing-in_back, failing-passes, failing-fails, failing-none}
 use Rattle.kfs_check.proofs.Looking.{front_is_looked, back_is_looked, looks_here}
-use Rattle.kfs_check.proofs.Recording.{within_then, within_wider}
+use Rattle.kfs_check.proofs.Recording.{goes_then, within_then, within_wider}
 
 module _ {A : Type 0} (judge : EntryJudge A) where
+  -- the checks find this, in the reads from one recorder to another
+  abbrev Finds : (old new : Recorder A) → Option Reason → (EntryContext → List Check) → Type 0
+  Finds old new found listed = JudgesAll judge {E = AllocError} old new (Ok found) listed
+
+  pub found_is : {old new : Recorder A} (listed : EntryContext → List Check) (found told : Option Reason) → found ≡ told → Finds old new found listed → Finds old new told listed
+  found_is {old} {new} listed found told is finds = subst (λ r. Finds old new r listed) is finds
+
   -- ---- two groups
 
   module _ (front back : EntryContext → List Check) where
     -- a check of the first group fails
-
-    pub found_in_front : (recorder : Recorder A) (reason : Reason) → FindsFirst judge recorder front (Some reason) → FindsFirst judge recorder (λ p. front p ++ back p) (Some reason)
-    found_in_front recorder reason found state agrees = let p = entry_context_in judge state in failing-in_front p (front p) (back p) (reason_of reason) (found state agrees)
-
-    pub read_in_front : (old new : Recorder A) → ReadsCellsOfAll judge old new front → ReadsCellsOfAll judge old new (λ p. front p ++ back p)
-    read_in_front old new read state agrees = let p = entry_context_in judge state in within_wider (front_is_looked p (front p) (back p)) (read state agrees)
+    pub front_fails : {old new : Recorder A} (reason : Reason) → Finds old new (Some reason) front → Finds old new (Some reason) (λ p. front p ++ back p)
+    front_fails reason finds = record {
+      goes = finds.goes;
+      known = λ state agrees. let p = entry_context_in judge state in failing-in_front p (front p) (back p) (reason_of reason) (finds.known state agrees);
+      among = λ state agrees. let p = entry_context_in judge state in within_wider (front_is_looked p (front p) (back p)) (finds.among state agrees);
+    }
 
     -- none does
-
-    module _ (old then new : Recorder A) (pass : FindsFirst judge then front None) (goes : GoesOn then new) where
-      pub found_in_back : (reason : Option Reason) → FindsFirst judge new back reason → FindsFirst judge new (λ p. front p ++ back p) reason
-      found_in_back reason found state agrees = let p = entry_context_in judge state in failing-in_back p (front p) (back p) (pass state (goes.grows state agrees)) ∙ found state agrees
-
-      pub read_in_both : ReadsCellsOfAll judge old then front → ReadsCellsOfAll judge then new back → ReadsCellsOfAll judge old new (λ p. front p ++ back p)
-      read_in_both first last state agrees =
+    pub then_back : {old then new : Recorder A} (found : Option Reason) → Finds old then None front → Finds then new found back → Finds old new found (λ p. front p ++ back p)
+    then_back found first last = record {
+      goes = goes_then first.goes last.goes;
+      known = λ state agrees. let p = entry_context_in judge state in failing-in_back p (front p) (back p) (first.known state (last.goes.grows state agrees)) ∙ last.known state agrees;
+      among = λ state agrees.
           let p = entry_context_in judge state in
-          let before = goes.grows state agrees in
-          within_then (within_wider (front_is_looked p (front p) (back p)) (first state before)) (within_wider (back_is_looked p (front p) (back p) (pass state before)) (last state agrees))
+          let before = last.goes.grows state agrees in
+          within_then (within_wider (front_is_looked p (front p) (back p)) (first.among state before)) (within_wider (back_is_looked p (front p) (back p) (first.known state before)) (last.among state agrees));
+    }
 
-  -- ---- a group of one check
+  -- ---- the same checks said otherwise
 
-  module _ (old new : Recorder A) (check : Check) where
-    pub pass_alone : Known new (λ before. fault (entry_context_in judge before) check ≡ None) → FindsFirst judge new (λ _. check ∷ []) None
-    pass_alone pass state agrees = let p = entry_context_in judge state in failing-passes p check [] (pass state agrees) ∙ failing-none p
+  pub said_otherwise : {old new : Recorder A} (listed said : EntryContext → List Check) (found : Option Reason) → Known new (λ before. listed (entry_context_in judge before) ≡ said (entry_context_in judge before)) → Finds old new found listed → Finds old new found said
+  said_otherwise {old} {new} listed said found same finds = record {
+    goes = finds.goes;
+    known = λ state agrees. subst (λ cs. first_failing (entry_context_in judge state) cs ≡ option_map reason_of found) (same state agrees) (finds.known state agrees);
+    among = λ state agrees. subst (λ cs. ReadsAt old new (looked (entry_context_in judge state) cs)) (same state agrees) (finds.among state agrees);
+  }
 
-    pub fail_alone : (reason : Reason) → Known new (λ before. fault (entry_context_in judge before) check ≡ Some (reason_of reason)) → FindsFirst judge new (λ _. check ∷ []) (Some reason)
-    fail_alone reason fails state agrees = failing-fails (entry_context_in judge state) check [] (reason_of reason) (fails state agrees)
+  -- ---- a look at one cell, as a group of its own
 
-    pub read_alone : Known new (λ before. ReadsAt old new (checks.cells (entry_context_in judge before) check)) → ReadsCellsOfAll judge old new (λ _. check ∷ [])
-    read_alone read state agrees = within_wider (looks_here (entry_context_in judge state) check []) (read state agrees)
+  module _ {X : Type 0} {old new : Recorder A} (cell : Cell) (says : X → ClientSight → Type 0) (x : X) (look : Looks {E = AllocError} old new (Ok x) (cell ∷ []) says) (check : Check) (at_cell : (p : EntryContext) → checks.cells p check ≡ cell ∷ []) where
+    read_alone : Known new (λ before. ReadsAt old new (looked (entry_context_in judge before) (check ∷ [])))
+    read_alone state agrees =
+        let p = entry_context_in judge state in
+        within_wider (looks_here p check []) (subst (ReadsAt old new) (sym (at_cell p)) look.among)
 
-  -- ---- the same checks said otherwise, and the same answer
+    pub passes_alone : Known new (λ before. fault (entry_context_in judge before) check ≡ None) → Finds old new None (λ _. check ∷ [])
+    passes_alone pass = record {
+      goes = look.goes;
+      known = λ state agrees. let p = entry_context_in judge state in failing-passes p check [] (pass state agrees) ∙ failing-none p;
+      among = read_alone;
+    }
 
-  module _ (listed said : EntryContext → List Check) where
-    pub found_as_said : (recorder : Recorder A) (reason : Option Reason) → Known recorder (λ before. listed (entry_context_in judge before) ≡ said (entry_context_in judge before)) → FindsFirst judge recorder listed reason → FindsFirst judge recorder said reason
-    found_as_said recorder reason same found state agrees = subst (λ cs. first_failing (entry_context_in judge state) cs ≡ option_map reason_of reason) (same state agrees) (found state agrees)
-
-    pub read_as_said : (old new : Recorder A) → Known new (λ before. listed (entry_context_in judge before) ≡ said (entry_context_in judge before)) → ReadsCellsOfAll judge old new listed → ReadsCellsOfAll judge old new said
-    read_as_said old new same read state agrees = subst (λ cs. ReadsAt old new (looked (entry_context_in judge state) cs)) (same state agrees) (read state agrees)
-
-  pub found_is : (listed : EntryContext → List Check) (recorder : Recorder A) (found told : Option Reason) → found ≡ told → FindsFirst judge recorder listed found → FindsFirst judge recorder listed told
-  found_is listed recorder found told is finds state agrees = finds state agrees ∙ ap (option_map reason_of) is
+    pub fails_alone : (reason : Reason) → Known new (λ before. fault (entry_context_in judge before) check ≡ Some (reason_of reason)) → Finds old new (Some reason) (λ _. check ∷ [])
+    fails_alone reason fails = record {
+      goes = look.goes;
+      known = λ state agrees. failing-fails (entry_context_in judge state) check [] (reason_of reason) (fails state agrees);
+      among = read_alone;
+    }
 
   -- ---- a look at a cell, and the checks behind it
 
-  module _ (cell : Cell) (back : EntryContext → List Check) (old then new : Recorder A) (goes : GoesOn then new) where
-    passes : FindsFirst judge then (λ _. checks.Sees cell ∷ []) None
-    unfolding fault
-    passes = pass_alone old then (checks.Sees cell) (λ state agrees. refl)
-
-    pub found_behind_cell : (reason : Option Reason) → FindsFirst judge new back reason → FindsFirst judge new (λ p. checks.Sees cell ∷ back p) reason
-    found_behind_cell reason found = found_in_back (λ _. checks.Sees cell ∷ []) back old then new passes goes reason found
-
-    pub read_behind_cell : ReadsAt old then (cell ∷ []) → ReadsCellsOfAll judge then new back → ReadsCellsOfAll judge old new (λ p. checks.Sees cell ∷ back p)
-    unfolding checks.cells
-    read_behind_cell first last = read_in_both (λ _. checks.Sees cell ∷ []) back old then new passes goes (read_alone old then (checks.Sees cell) (λ state agrees. first)) last
+  module _ {X : Type 0} {old then new : Recorder A} (cell : Cell) (says : X → ClientSight → Type 0) (x : X) where
+    pub behind_cell : (back : EntryContext → List Check) (found : Option Reason) → Looks {E = AllocError} old then (Ok x) (cell ∷ []) says → Finds then new found back → Finds old new found (λ p. checks.Sees cell ∷ back p)
+    unfolding fault checks.cells
+    behind_cell back found look last = then_back (λ _. checks.Sees cell ∷ []) back found (passes_alone cell says x look (checks.Sees cell) (λ p. refl) (λ state agrees. refl)) last
 
   -- ---- a look at where a name leads, and the checks that depend on it
 
   module _ (d : ℕ) (m : List ℕ) (more : Option ℕ → EntryContext → List Check) where
+    -- what the name leads to now
+    abbrev leads : Option ℕ → ClientSight → Type 0
+    leads number before = (entry_context_in judge before).now.name d m ≡ number
+
     behind : EntryContext → List Check
     behind p = more (p.now.name d m) p
 
-    read_name : (old new : Recorder A) → ReadsAt old new (NameIn d m ∷ []) → ReadsCellsOfAll judge old new (λ _. checks.NameIsThere d m ∷ [])
-    unfolding checks.cells
-    read_name old new read = read_alone old new (checks.NameIsThere d m) (λ state agrees. read)
+    pub no_name : {old new : Recorder A} (number : Option ℕ) → number ≡ None → Looks {E = AllocError} old new (Ok number) (NameIn d m ∷ []) leads → Finds old new (Some NoSuchName) (λ p. checks.NameIsThere d m ∷ more (p.now.name d m) p)
+    unfolding fault checks.cells behind
+    no_name number is look =
+        front_fails (λ _. checks.NameIsThere d m ∷ []) behind NoSuchName
+        (fails_alone (NameIn d m) leads number look (checks.NameIsThere d m) (λ p. refl) NoSuchName (λ state agrees. ap (λ (o : Option ℕ). checks.unless (is_some o) checks.NoSuchName) (look.known state agrees ∙ is)))
 
-    module _ (old new : Recorder A) where
-      pub found_no_name : Known new (λ before. (entry_context_in judge before).now.name d m ≡ None) → FindsFirst judge new (λ p. checks.NameIsThere d m ∷ more (p.now.name d m) p) (Some NoSuchName)
-      unfolding fault behind
-      found_no_name leads =
-          let none = fail_alone old new (checks.NameIsThere d m) NoSuchName (λ state agrees. ap (λ (o : Option ℕ). checks.unless (is_some o) checks.NoSuchName) (leads state agrees)) in
-          found_in_front (λ _. checks.NameIsThere d m ∷ []) behind new NoSuchName none
-
-      pub read_no_name : ReadsAt old new (NameIn d m ∷ []) → ReadsCellsOfAll judge old new (λ p. checks.NameIsThere d m ∷ more (p.now.name d m) p)
-      unfolding behind
-      read_no_name read = read_in_front (λ _. checks.NameIsThere d m ∷ []) behind old new (read_name old new read)
-
-    module _ (old then new : Recorder A) (goes : GoesOn then new) (n : ℕ) (leads : Known then (λ before. (entry_context_in judge before).now.name d m ≡ Some n)) where
-      is_there : FindsFirst judge then (λ _. checks.NameIsThere d m ∷ []) None
-      unfolding fault
-      is_there = pass_alone old then (checks.NameIsThere d m) (λ state agrees. ap (λ (o : Option ℕ). checks.unless (is_some o) checks.NoSuchName) (leads state agrees))
-
-      leads_on : Known new (λ before. more (Some n) (entry_context_in judge before) ≡ more ((entry_context_in judge before).now.name d m) (entry_context_in judge before))
-      leads_on state agrees = ap (λ (o : Option ℕ). more o (entry_context_in judge state)) (sym (leads state (goes.grows state agrees)))
-
-      pub found_behind_name : (reason : Option Reason) → FindsFirst judge new (more (Some n)) reason → FindsFirst judge new (λ p. checks.NameIsThere d m ∷ more (p.now.name d m) p) reason
-      unfolding behind
-      found_behind_name reason found = found_in_back (λ _. checks.NameIsThere d m ∷ []) behind old then new is_there goes reason (found_as_said (more (Some n)) behind new reason leads_on found)
-
-      pub read_behind_name : ReadsAt old then (NameIn d m ∷ []) → ReadsCellsOfAll judge then new (more (Some n)) → ReadsCellsOfAll judge old new (λ p. checks.NameIsThere d m ∷ more (p.now.name d m) p)
-      unfolding behind
-      read_behind_name first last = read_in_both (λ _. checks.NameIsThere d m ∷ []) behind old then new is_there goes (read_name old then first) (read_as_said (more (Some n)) behind then new leads_on last)
+    pub behind_name : {old then new : Recorder A} (n : ℕ) (number : Option ℕ) (found : Option Reason) → number ≡ Some n → Looks {E = AllocError} old then (Ok number) (NameIn d m ∷ []) leads → Finds then new found (more (Some n))
+        → Finds old new found (λ p. checks.NameIsThere d m ∷ more (p.now.name d m) p)
+    unfolding fault checks.cells behind
+    behind_name n number found is look last =
+        then_back (λ _. checks.NameIsThere d m ∷ []) behind found
+        (passes_alone (NameIn d m) leads number look (checks.NameIsThere d m) (λ p. refl) (λ state agrees. ap (λ (o : Option ℕ). checks.unless (is_some o) checks.NoSuchName) (look.known state agrees ∙ is)))
+        (said_otherwise (more (Some n)) behind found (λ state agrees. ap (λ (o : Option ℕ). more o (entry_context_in judge state)) (sym (look.known state (last.goes.grows state agrees) ∙ is))) last)

@@ -1,5 +1,5 @@
 -- What calls of a recorder have in common: nothing is read, one more read, one call after another.
-use Rattle.std.specs.Prelude.{◌≡◌, ◌⊎◌, List, [], ◌∷◌, ◌++◌, Contains, slice_index_or, refl}
+use Rattle.std.specs.Prelude.{◌≡◌, ◌⊎◌, IsErr, Result, Ok, Err, List, [], ◌∷◌, ◌++◌, Contains, slice_index_or, refl}
 use Rattle.std.proofs.Common.{inl, inr, ⊎_elim, subst, sym, ◌∙◌, arith}
 use Rattle.std.proofs.lemmas.List.Elements.{Contains-get_or, Contains-push_cases, Contains-append_left, Contains-append_right, Contains-append_cases}
 use Rattle.kfs_model.specs.Sight.{Cell, ClientSight}
@@ -7,7 +7,7 @@ use Rattle.kfs_check.specs.declared.reads.Read.{Read}
 use Rattle.kfs_check.specs.declared.reads.ReadAnswer.{ReadAnswer}
 use Rattle.kfs_check.specs.declared.reads.Recorder.{Recorder}
 use Rattle.kfs_check.specs.Reads.{cell_of, Agrees, AreAmong, AreOnce, IsPart, Within}
-use Rattle.kfs_check.specs.Recorders.{GoesOn, seen_by}
+use Rattle.kfs_check.specs.Recorders.{GoesOn, Looks, LooksAlong, seen_by}
 
 -- ---- the reads that agree with the view
 
@@ -22,6 +22,16 @@ module _ {A : Type 0} where
     agrees = λ agrees. back.agrees (front.agrees agrees);
     once = λ once. back.once (front.once once);
   }
+
+  -- memory is refused
+  module _ {X E : Type 0} {old new : Recorder A} (goes : GoesOn old new) where
+    pub look_cut_short : (cells : List Cell) (says : X → ClientSight → Type 0) (result : Result X E) → IsErr result → Looks old new result cells says
+    look_cut_short cells says (Err error) is = record { goes = goes; known = tt; among = tt }
+    look_cut_short cells says (Ok found) is = cc
+
+    pub cut_short : (cells : ClientSight → List Cell) (says : X → ClientSight → Type 0) (result : Result X E) → IsErr result → LooksAlong old new result cells says
+    cut_short cells says (Err error) is = record { goes = goes; known = tt; among = tt }
+    cut_short cells says (Ok found) is = cc
 
 -- ---- the cells of what is read
 

@@ -1,7 +1,7 @@
 -- The code's checks, reasons and entry contexts as those of the definitions.
-use Rattle.std.specs.Prelude.{◌≡◌, ℕ, List, map, Option}
+use Rattle.std.specs.Prelude.{◌≡◌, ℕ, List, map, Option, Result}
 use Rattle.std.specs.Option.{option_map}
-use Rattle.kfs_check.specs.Recorders.{Known, ReadsAt}
+use Rattle.kfs_check.specs.Recorders.{LooksAlong}
 use Rattle.kfs_model.specs.Check.{checks_of, first_failing, looked}
 use Rattle.kfs_model.specs.Entry.{Entry}
 use Rattle.kfs_model.specs.Check as checks
@@ -75,26 +75,16 @@ module _ {A : Type 0} (judge : EntryJudge A) where
   abbrev pub parent_in : ClientSight → ℕ → Option ℕ
   parent_in before = (entry_context_in judge before).now.parent
 
-  -- a check's fault, as what was read tells it
-  abbrev pub FindsWrong : Recorder A → Check → Option Reason → Type 0
-  FindsWrong recorder check reason = Known recorder (λ before. checks.fault (entry_context_in judge before) (check_of check) ≡ option_map reason_of reason)
+  -- what the check finds wrong, looked at its cells
+  abbrev pub JudgesCheck : {E : Type 0} → (old new : Recorder A) → Result (Option Reason) E → Check → Type 0
+  JudgesCheck old new result check =
+      LooksAlong old new result (λ before. checks.cells (entry_context_in judge before) (check_of check)) (λ reason before. checks.fault (entry_context_in judge before) (check_of check) ≡ option_map reason_of reason)
 
-  -- the further reads are at the check's cells
-  abbrev pub ReadsCellsOfCheck : (old new : Recorder A) → Check → Type 0
-  ReadsCellsOfCheck old new check = Known new (λ before. ReadsAt old new (checks.cells (entry_context_in judge before) (check_of check)))
+  -- the first of the listed checks that fails, looked at the cells of the checks up to it
+  abbrev pub JudgesAll : {E : Type 0} → (old new : Recorder A) → Result (Option Reason) E → (checks.EntryContext → List checks.Check) → Type 0
+  JudgesAll old new result listed =
+      LooksAlong old new result (λ before. looked (entry_context_in judge before) (listed (entry_context_in judge before))) (λ reason before. first_failing (entry_context_in judge before) (listed (entry_context_in judge before)) ≡ option_map reason_of reason)
 
-  -- the first of the listed checks that fails, as what was read tells it
-  abbrev pub FindsFirst : Recorder A → (checks.EntryContext → List checks.Check) → Option Reason → Type 0
-  FindsFirst recorder listed reason = Known recorder (λ before. first_failing (entry_context_in judge before) (listed (entry_context_in judge before)) ≡ option_map reason_of reason)
-
-  -- the further reads are at the cells of the listed checks, up to the first that fails
-  abbrev pub ReadsCellsOfAll : (old new : Recorder A) → (checks.EntryContext → List checks.Check) → Type 0
-  ReadsCellsOfAll old new listed = Known new (λ before. ReadsAt old new (looked (entry_context_in judge before) (listed (entry_context_in judge before))))
-
--- the entry's first fault, as what was read tells it
-abbrev pub FindsFault : {A : Type 0} → EntryJudge A → Recorder A → Entry → Option Reason → Type 0
-FindsFault judge recorder entry reason = FindsFirst judge recorder (λ p. checks_of p entry) reason
-
--- the further reads are at the cells of the entry's checks
-abbrev pub ReadsCellsOf : {A : Type 0} → EntryJudge A → (old new : Recorder A) → Entry → Type 0
-ReadsCellsOf judge old new entry = ReadsCellsOfAll judge old new (λ p. checks_of p entry)
+-- the entry's first fault, looked at the cells of its checks
+abbrev pub Judges : {A E : Type 0} → EntryJudge A → (old new : Recorder A) → Result (Option Reason) E → Entry → Type 0
+Judges judge old new result entry = JudgesAll judge old new result (λ p. checks_of p entry)

@@ -1,5 +1,5 @@
 -- A recorder before and after a call.
-use Rattle.std.specs.Prelude.{◌≡◌, List}
+use Rattle.std.specs.Prelude.{◌≡◌, List, Result, IfOk, OnOk}
 use Rattle.kfs_model.specs.Sight.{ClientSight, Cell}
 use Rattle.kfs_check.specs.declared.reads.Recorder.{Recorder}
 use Rattle.kfs_check.specs.Reads.{Agrees, AreOnce, Grows, Always, Within}
@@ -24,3 +24,16 @@ module _ {A : Type 0} where
   -- the further reads are at these cells
   abbrev pub ReadsAt : (old new : Recorder A) → List Cell → Type 0
   ReadsAt old new cells = Within old.reads.entries new.reads.entries cells
+
+  -- a look that answers so, or memory is refused: the reads go on, the answer is true of each state that agrees with
+  -- what was read, and the further reads are at these cells
+  pub record Looks {X E : Type 0} (old new : Recorder A) (result : Result X E) (cells : List Cell) (says : X → ClientSight → Type 0) : Type 0 where
+    pub goes : GoesOn old new
+    pub known : IfOk result (λ x. Known new (says x))
+    pub among : OnOk result (ReadsAt old new cells)
+
+  -- the same, where the cells depend on what the state shows
+  pub record LooksAlong {X E : Type 0} (old new : Recorder A) (result : Result X E) (cells : ClientSight → List Cell) (says : X → ClientSight → Type 0) : Type 0 where
+    pub goes : GoesOn old new
+    pub known : IfOk result (λ x. Known new (says x))
+    pub among : OnOk result (Known new (λ before. ReadsAt old new (cells before)))

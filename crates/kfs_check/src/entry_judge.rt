@@ -1,5 +1,5 @@
 //! What judges one entry: the first of its checks that fails where it stands.
-ghost use Rattle.std.specs.Prelude.{◌≡◌, ◌+ℤ◌, pos, nat_lt, IfOk, is_none, not, ◌&&◌, ◌||◌, map, OnOk, [], ◌∷◌};
+ghost use Rattle.std.specs.Prelude.{◌≡◌, ◌+ℤ◌, pos, nat_lt, is_none, not, ◌&&◌, ◌||◌, map, [], ◌∷◌};
 ghost use Rattle.std.specs.Option.{option_map};
 ghost use Rattle.std.specs.Ordering.{int_eq};
 ghost use Rattle.kfs_model.specs.Limits.{link_limit};
@@ -9,8 +9,8 @@ ghost use Rattle.kfs_model.specs.Check as checks;
 ghost use Rattle.kfs_model.specs.Sight as sight;
 ghost use Rattle.kfs_model.specs.Sight.{CountOf, HeaderOf, LeaseOn, NameIn, ParentOf, climb_limit, climb_meets};
 ghost use Rattle.kfs_mode.specs.Mode.{want_shown};
-ghost use Rattle.kfs_check.specs.Recorders.{GoesOn, Known, ReadsAt};
-ghost use Rattle.kfs_check.specs.Checks.{check_of, reason_of, entry_context_in, FindsFirst, FindsWrong, IsOfHeader, IsOfRight, ReadsCellsOfAll, ReadsCellsOfCheck, climbed_cells, parent_in};
+ghost use Rattle.kfs_check.specs.Recorders.{Looks, LooksAlong};
+ghost use Rattle.kfs_check.specs.Checks.{check_of, reason_of, entry_context_in, JudgesAll, JudgesCheck, IsOfHeader, IsOfRight, climbed_cells, parent_in};
 
 use crate::check::{Check, Reason};
 use crate::reads::Recorder;
@@ -34,9 +34,7 @@ impl<A: Allocator + Copy> EntryJudge<'_, A> {
         recorder: &mut Recorder<'_, A>,
         number: u32,
     ) -> Result<Option<Header>, AllocError>
-        ensures goes { GoesOn recorder.old recorder.new }
-        ensures known { IfOk result (λ header. Known recorder.new (λ before. (entry_context_in self.now before).now.head number ≡ option_map header_of header)) }
-        ensures among { OnOk result (ReadsAt recorder.old recorder.new (HeaderOf number ∷ [])) }
+        ensures { Looks recorder.old recorder.new result (HeaderOf number ∷ []) (λ header before. (entry_context_in self.now before).now.head number ≡ option_map header_of header) }
     {
         match self.draft.header(number) {
             Some(header) => Ok(header),
@@ -46,9 +44,7 @@ impl<A: Allocator + Copy> EntryJudge<'_, A> {
 
     /// The kind of the node now, and a file's where there is no node.
     pub fn kind(&self, recorder: &mut Recorder<'_, A>, number: u32) -> Result<Kind, AllocError>
-        ensures goes { GoesOn recorder.old recorder.new }
-        ensures known { IfOk result (λ kind. Known recorder.new (λ before. sight.kind_shown ((entry_context_in self.now before).now.head number) ≡ kind_of kind)) }
-        ensures among { OnOk result (ReadsAt recorder.old recorder.new (HeaderOf number ∷ [])) }
+        ensures { Looks recorder.old recorder.new result (HeaderOf number ∷ []) (λ kind before. sight.kind_shown ((entry_context_in self.now before).now.head number) ≡ kind_of kind) }
     {
         let header = self.header(recorder, number)?;
         Ok(kind_in(header))
@@ -60,9 +56,7 @@ impl<A: Allocator + Copy> EntryJudge<'_, A> {
         recorder: &mut Recorder<'_, A>,
         key: &(u32, Name),
     ) -> Result<Option<u32>, AllocError>
-        ensures goes { GoesOn recorder.old recorder.new }
-        ensures known { IfOk result (λ number. Known recorder.new (λ before. (entry_context_in self.now before).now.name key.now.0 key.now.1 ≡ number)) }
-        ensures among { OnOk result (ReadsAt recorder.old recorder.new (NameIn key.now.0 key.now.1 ∷ [])) }
+        ensures { Looks recorder.old recorder.new result (NameIn key.now.0 key.now.1 ∷ []) (λ number before. (entry_context_in self.now before).now.name key.now.0 key.now.1 ≡ number) }
     {
         match self.draft.target(key) {
             Some(number) => Ok(number),
@@ -76,9 +70,7 @@ impl<A: Allocator + Copy> EntryJudge<'_, A> {
         number: u32,
         want: Want,
     ) -> Result<bool, AllocError>
-        ensures goes { GoesOn recorder.old recorder.new }
-        ensures known { IfOk result (λ granted. Known recorder.new (λ before. checks.is_permitted (entry_context_in self.now before) (want_shown want) number ≡ granted)) }
-        ensures among { OnOk result (ReadsAt recorder.old recorder.new (HeaderOf number ∷ [])) }
+        ensures { Looks recorder.old recorder.new result (HeaderOf number ∷ []) (λ granted before. checks.is_permitted (entry_context_in self.now before) (want_shown want) number ≡ granted) }
     {
         let header = self.header(recorder, number)?;
         Ok(may_want(self.client, header, want))
@@ -90,9 +82,7 @@ impl<A: Allocator + Copy> EntryJudge<'_, A> {
         recorder: &mut Recorder<'_, A>,
         checks: &[Check<'_>],
     ) -> Result<Option<Reason>, AllocError>
-        ensures goes { GoesOn recorder.old recorder.new }
-        ensures known { IfOk result (FindsFirst self.now recorder.new (λ _. map check_of checks.now)) }
-        ensures among { OnOk result (ReadsCellsOfAll self.now recorder.old recorder.new (λ _. map check_of checks.now)) }
+        ensures { JudgesAll self.now recorder.old recorder.new result (λ _. map check_of checks.now) }
     {
         for check in checks {
             if let Some(reason) = self.fault(recorder, check)? {
@@ -108,9 +98,7 @@ impl<A: Allocator + Copy> EntryJudge<'_, A> {
         recorder: &mut Recorder<'_, A>,
         check: &Check<'_>,
     ) -> Result<Option<Reason>, AllocError>
-        ensures goes { GoesOn recorder.old recorder.new }
-        ensures known { IfOk result (FindsWrong self.now recorder.new check.now) }
-        ensures among { OnOk result (ReadsCellsOfCheck self.now recorder.old recorder.new check.now) }
+        ensures { JudgesCheck self.now recorder.old recorder.new result check.now }
     {
         match check {
             Check::NameIsFree(key) => {
@@ -153,9 +141,7 @@ impl<A: Allocator + Copy> EntryJudge<'_, A> {
         check: &Check<'_>,
     ) -> Result<Option<Reason>, AllocError>
         requires { IsOfRight check.now }
-        ensures goes { GoesOn recorder.old recorder.new }
-        ensures known { IfOk result (FindsWrong self.now recorder.new check.now) }
-        ensures among { OnOk result (ReadsCellsOfCheck self.now recorder.old recorder.new check.now) }
+        ensures { JudgesCheck self.now recorder.old recorder.new result check.now }
     {
         match check {
             Check::MaySearch(number) => {
@@ -182,9 +168,7 @@ impl<A: Allocator + Copy> EntryJudge<'_, A> {
         check: &Check<'_>,
     ) -> Result<Option<Reason>, AllocError>
         requires { IsOfHeader check.now }
-        ensures goes { GoesOn recorder.old recorder.new }
-        ensures known { IfOk result (FindsWrong self.now recorder.new check.now) }
-        ensures among { OnOk result (ReadsCellsOfCheck self.now recorder.old recorder.new check.now) }
+        ensures { JudgesCheck self.now recorder.old recorder.new result check.now }
     {
         match check {
             Check::Exists(number) => {
@@ -208,9 +192,7 @@ impl<A: Allocator + Copy> EntryJudge<'_, A> {
     }
 
     fn may_write(&self, recorder: &mut Recorder<'_, A>, number: u32) -> Result<bool, AllocError>
-        ensures goes { GoesOn recorder.old recorder.new }
-        ensures known { IfOk result (λ granted. Known recorder.new (λ before. checks.may_write (entry_context_in self.now before) number ≡ granted)) }
-        ensures among { OnOk result (ReadsAt recorder.old recorder.new (HeaderOf number ∷ [])) }
+        ensures { Looks recorder.old recorder.new result (HeaderOf number ∷ []) (λ granted before. checks.may_write (entry_context_in self.now before) number ≡ granted) }
     {
         let header = self.header(recorder, number)?;
         let own_file = self.draft.has_created(number) && is_file(header);
@@ -218,9 +200,7 @@ impl<A: Allocator + Copy> EntryJudge<'_, A> {
     }
 
     fn is_leased(&self, recorder: &mut Recorder<'_, A>, number: u32) -> Result<bool, AllocError>
-        ensures goes { GoesOn recorder.old recorder.new }
-        ensures known { IfOk result (λ leased. Known recorder.new (λ before. checks.is_leased (entry_context_in self.now before) number ≡ leased)) }
-        ensures among { OnOk result (ReadsAt recorder.old recorder.new (LeaseOn number ∷ [])) }
+        ensures { Looks recorder.old recorder.new result (LeaseOn number ∷ []) (λ leased before. checks.is_leased (entry_context_in self.now before) number ≡ leased) }
     {
         if self.draft.has_created(number) {
             return Ok(true);
@@ -229,9 +209,7 @@ impl<A: Allocator + Copy> EntryJudge<'_, A> {
     }
 
     fn has_no_names(&self, recorder: &mut Recorder<'_, A>, dir: u32) -> Result<bool, AllocError>
-        ensures goes { GoesOn recorder.old recorder.new }
-        ensures known { IfOk result (λ empty. Known recorder.new (λ before. int_eq ((entry_context_in self.now before).now.count dir) (pos 0) ≡ empty)) }
-        ensures among { OnOk result (ReadsAt recorder.old recorder.new (CountOf dir ∷ [])) }
+        ensures { Looks recorder.old recorder.new result (CountOf dir ∷ []) (λ empty before. int_eq ((entry_context_in self.now before).now.count dir) (pos 0) ≡ empty) }
     {
         let count = recorder.count(dir)?;
         let shift = self.draft.shift(dir);
@@ -240,9 +218,7 @@ impl<A: Allocator + Copy> EntryJudge<'_, A> {
 
     /// The directory that the directory stands in now.
     fn parent(&self, recorder: &mut Recorder<'_, A>, number: u32) -> Result<Option<u32>, AllocError>
-        ensures goes { GoesOn recorder.old recorder.new }
-        ensures known { IfOk result (λ parent. Known recorder.new (λ before. parent_in self.now before number ≡ parent)) }
-        ensures among { OnOk result (ReadsAt recorder.old recorder.new (ParentOf number ∷ [])) }
+        ensures { Looks recorder.old recorder.new result (ParentOf number ∷ []) (λ parent before. parent_in self.now before number ≡ parent) }
     {
         match self.draft.parent(number) {
             Some(parent) => Ok(parent),
@@ -258,9 +234,7 @@ impl<A: Allocator + Copy> EntryJudge<'_, A> {
         node: u32,
         dir: u32,
     ) -> Result<bool, AllocError>
-        ensures goes { GoesOn recorder.old recorder.new }
-        ensures known { IfOk result (λ meets. Known recorder.new (λ before. climb_meets (parent_in self.now before) climb_limit node dir ≡ meets)) }
-        ensures among { OnOk result (Known recorder.new (λ before. ReadsAt recorder.old recorder.new (climbed_cells (parent_in self.now before) climb_limit dir))) }
+        ensures { LooksAlong recorder.old recorder.new result (λ before. climbed_cells (parent_in self.now before) climb_limit dir) (λ meets before. climb_meets (parent_in self.now before) climb_limit node dir ≡ meets) }
     {
         let mut current = dir;
         let mut left = CLIMB_LIMIT;
@@ -282,9 +256,7 @@ impl<A: Allocator + Copy> EntryJudge<'_, A> {
         recorder: &mut Recorder<'_, A>,
         number: u32,
     ) -> Result<bool, AllocError>
-        ensures goes { GoesOn recorder.old recorder.new }
-        ensures known { IfOk result (λ free. Known recorder.new (λ before. checks.is_number_free (entry_context_in self.now before) number ≡ free)) }
-        ensures among { OnOk result (ReadsAt recorder.old recorder.new (HeaderOf number ∷ [])) }
+        ensures { Looks recorder.old recorder.new result (HeaderOf number ∷ []) (λ free before. checks.is_number_free (entry_context_in self.now before) number ≡ free) }
     {
         let before = recorder.header(number)?;
         let now = self.header(recorder, number)?;

@@ -6,7 +6,7 @@ ghost use Rattle.kfs_value.specs.Views.{header_of};
 ghost use Rattle.kfs_model.specs.Header.{Header as HeaderShown};
 ghost use Rattle.kfs_model.specs.Sight.{answer, Head, Number, Count, Held, HeaderOf, NameIn, CountOf, ParentOf, LeaseOn};
 ghost use Rattle.kfs_check.specs.Reads.{cell_of, answer_of};
-ghost use Rattle.kfs_check.specs.Recorders.{GoesOn, seen_by, Known, ReadsAt};
+ghost use Rattle.kfs_check.specs.Recorders.{seen_by, Looks};
 ghost use Rattle.kfs_check.specs.View.{client_sight_in};
 
 use crate::view::View;
@@ -43,6 +43,13 @@ pub struct Recorder<'a, A: Allocator> {
     reads: IndexMap<Read, ReadAnswer, BuildHasherDefault<FoldHasher>, A>,
 }
 
+/// A copy of a name.
+fn copied(name: &Name) -> Result<Name, AllocError>
+    ensures { IfOk result (λ copy. copy ≡ name.now) }
+{
+    name.clone()
+}
+
 impl<'a, A: Allocator + Copy> Recorder<'a, A> {
     /// Nothing read yet, for the client of this number. Takes no memory.
     pub fn new(alloc: A, view: &'a View<A>, client: u32) -> Recorder<'a, A>
@@ -58,9 +65,7 @@ impl<'a, A: Allocator + Copy> Recorder<'a, A> {
 
     /// The answer at a cell: the recorded one, or else the view's, which is recorded then.
     fn read(&mut self, read: Read) -> Result<ReadAnswer, AllocError>
-        ensures goes { GoesOn self.old self.new }
-        ensures known { IfOk result (λ told. Known self.new (λ before. answer before (cell_of read) ≡ answer_of told)) }
-        ensures among { OnOk result (ReadsAt self.old self.new (cell_of read ∷ [])) }
+        ensures { Looks self.old self.new result (cell_of read ∷ []) (λ told before. answer before (cell_of read) ≡ answer_of told) }
     {
         if let Some(answer) = self.reads.get(&read) {
             return Ok(*answer);
@@ -82,9 +87,7 @@ impl<'a, A: Allocator + Copy> Recorder<'a, A> {
 
     /// The header of a node.
     pub fn header(&mut self, number: u32) -> Result<Option<Header>, AllocError>
-        ensures goes { GoesOn self.old self.new }
-        ensures known { IfOk result (λ header. Known self.new (λ before. before.sight.head number ≡ option_map header_of header)) }
-        ensures among { OnOk result (ReadsAt self.old self.new (HeaderOf number ∷ [])) }
+        ensures { Looks self.old self.new result (HeaderOf number ∷ []) (λ header before. before.sight.head number ≡ option_map header_of header) }
     {
         let answer = self.read(Read::Look(Cell::Header(number)))?;
         Ok(header_in(answer))
@@ -92,20 +95,16 @@ impl<'a, A: Allocator + Copy> Recorder<'a, A> {
 
     /// The number that a name leads to.
     pub fn target(&mut self, key: &(u32, Name)) -> Result<Option<u32>, AllocError>
-        ensures goes { GoesOn self.old self.new }
-        ensures known { IfOk result (λ number. Known self.new (λ before. before.sight.name key.now.0 key.now.1 ≡ number)) }
-        ensures among { OnOk result (ReadsAt self.old self.new (NameIn key.now.0 key.now.1 ∷ [])) }
+        ensures { Looks self.old self.new result (NameIn key.now.0 key.now.1 ∷ []) (λ number before. before.sight.name key.now.0 key.now.1 ≡ number) }
     {
-        let name = key.1.clone()?;
+        let name = copied(&key.1)?;
         let answer = self.read(Read::Look(Cell::Name(key.0, name)))?;
         Ok(number_in(answer))
     }
 
     /// How many names a directory has.
     pub fn count(&mut self, dir: u32) -> Result<u64, AllocError>
-        ensures goes { GoesOn self.old self.new }
-        ensures known { IfOk result (λ count. Known self.new (λ before. before.sight.count dir ≡ pos count)) }
-        ensures among { OnOk result (ReadsAt self.old self.new (CountOf dir ∷ [])) }
+        ensures { Looks self.old self.new result (CountOf dir ∷ []) (λ count before. before.sight.count dir ≡ pos count) }
     {
         let answer = self.read(Read::Look(Cell::Count(dir)))?;
         Ok(count_in(answer))
@@ -113,9 +112,7 @@ impl<'a, A: Allocator + Copy> Recorder<'a, A> {
 
     /// The directory that a directory stands in.
     pub fn parent(&mut self, number: u32) -> Result<Option<u32>, AllocError>
-        ensures goes { GoesOn self.old self.new }
-        ensures known { IfOk result (λ parent. Known self.new (λ before. before.sight.parent number ≡ parent)) }
-        ensures among { OnOk result (ReadsAt self.old self.new (ParentOf number ∷ [])) }
+        ensures { Looks self.old self.new result (ParentOf number ∷ []) (λ parent before. before.sight.parent number ≡ parent) }
     {
         let answer = self.read(Read::Look(Cell::Parent(number)))?;
         Ok(number_in(answer))
@@ -123,9 +120,7 @@ impl<'a, A: Allocator + Copy> Recorder<'a, A> {
 
     /// Whether the client holds a live write lease on the node.
     pub fn is_held(&mut self, number: u32) -> Result<bool, AllocError>
-        ensures goes { GoesOn self.old self.new }
-        ensures known { IfOk result (λ held. Known self.new (λ before. before.held number ≡ held)) }
-        ensures among { OnOk result (ReadsAt self.old self.new (LeaseOn number ∷ [])) }
+        ensures { Looks self.old self.new result (LeaseOn number ∷ []) (λ held before. before.held number ≡ held) }
     {
         let answer = self.read(Read::Lease(number))?;
         Ok(held_in(answer))

@@ -1,8 +1,10 @@
 //! What the judgement of a log rests on: laws of the definitions, each the contract of a function without a body.
 
+ghost use Rattle.std.specs.Prelude.{◌≡◌};
 ghost use Rattle.kfs_model.specs.Alike.{MarksAlike, MarksEnd};
 ghost use Rattle.kfs_model.specs.Laws.{CellsDecide, CleanIsAllowed, EachTwoTrees, MarksGiveBytes};
 ghost use Rattle.kfs_model.specs.Looked.{TreesEndAlike};
+ghost use Rattle.kfs_model.specs.Placement.{need};
 
 /// An entry of which no check fails is allowed to its client, by mode bits and leases, whichever of the seven it is.
 pub fn clean_is_allowed()
@@ -16,9 +18,11 @@ pub fn marks_give_bytes()
 {}
 
 /// Two states that answer alike at the cells that a log looks at have the same first fault of the log, or none and the same
-/// names and headers changed by it. Two sound trees end alike too, and the log changes the same bytes of both.
+/// names and headers changed by it. Two sound trees end alike too; the log changes the same bytes of both, and needs as much
+/// room.
 pub fn cells_decide()
     ensures decides { CellsDecide }
     ensures of_trees { EachTwoTrees TreesEndAlike }
     ensures marks { EachTwoTrees (MarksEnd MarksAlike) }
+    ensures need { EachTwoTrees (MarksEnd (λ after other_after. need after ≡ need other_after)) }
 {}

@@ -1,10 +1,11 @@
 -- What nodes show in a sound tree, and what stays when names change.
-use Rattle.std.proofs.Common.{◌≡◌, ◌≢◌, ℕ, zero, suc, ◌≤◌, Bool, true, false, cond, not, ◌&&◌, ◌||◌, ◌==◌, ltb, List, Option, Some, None, option_map, IsTrue, refl, sym, ap, subst, ◌∙◌, arith, lt-ltb, eqb-true, eq-eqb, ne_eqb}
+use Rattle.std.proofs.Common.{◌≡◌, ◌≢◌, ℕ, zero, suc, ◌≤◌, Bool, true, false, cond, not, ◌&&◌, ◌||◌, ◌==◌, ltb, List, length, Option, Some, None, option_map, IsTrue, refl, sym, ap, subst, ◌∙◌, arith, lt-ltb, eqb-true, eq-eqb, ne_eqb}
 use Rattle.std.proofs.lemmas.Bool.{or_left, or_right, eqb-false, false≢true}
 use Rattle.kfs_model.specs.Header.{Kind, File, Directory, Header}
+use Rattle.kfs_model.specs.LastCover.{extent}
 use Rattle.kfs_model.specs.Table.{get}
 use Rattle.kfs_model.proofs.TableLaws.{same_table, get-mapped, get-retain}
-use Rattle.kfs_model.specs.Tree.{Tree, Node, Body, FileBody, DirectoryBody, NameTable, headers, header_of, links_of, kind_of, size_of, target, name_count, is_named}
+use Rattle.kfs_model.specs.Tree.{Tree, Node, Body, FileBody, DirectoryBody, NameTable, headers, header_of, links_of, kind_of, size_of, content_of, target, name_count, is_named}
 use Rattle.kfs_model.specs.Sight.{is_directory, is_file, holder, parent_in}
 use Rattle.kfs_model.specs.Effect.{swept}
 use Rattle.kfs_model.specs.SeenAfter.{put_parent}
@@ -17,9 +18,25 @@ use Rattle.kfs_model.proofs.NameTable.{is_named_counts, named_has_target, holder
 abbrev pub stays : NameTable → ℕ → Bool
 stays names k = (k == 1) || is_named names k
 
+-- the size that a header says, 0 of none
+abbrev pub size_said : Option Header → ℕ
+size_said found = elim found [ None ↦ 0 | Some header ↦ header.size ]
+
 module _ {B : Type 0} where
   pub get-headers : (t : Tree B) (k : ℕ) → get (headers t) k ≡ option_map (header_of t.names k) (get t.nodes k)
   get-headers t k = get-mapped (header_of t.names) t.nodes k
+
+  size_of_node : (names : NameTable) (n : ℕ) (found : Option (Node B)) → size_said (option_map (header_of names n) found) ≡ length (content_of found)
+  size_of_node names n None = refl
+  size_of_node names n (Some node) = by node.body
+    where
+      by : (body : Body B) → size_of body ≡ length (content_of (Some (record node { body = body })))
+      by (FileBody cells) = refl
+      by DirectoryBody = refl
+
+  -- the size in a header is the length of the file's cells, 0 of a directory
+  pub size_is_extent : (t : Tree B) (n : ℕ) → size_said (get (headers t) n) ≡ extent t n
+  size_is_extent t n = ap size_said (get-headers t n) ∙ size_of_node t.names n (get t.nodes n)
 
   pub get-swept_headers : (t : Tree B) (k : ℕ) → get (headers (swept t)) k ≡ option_map (header_of t.names k) (cond (stays t.names k) (get t.nodes k) None)
   unfolding swept

@@ -63,4 +63,5 @@ pub mod Follow
 pub mod Compare
 pub mod Blocks
 pub mod Touches
+pub mod SameNeed
 pub mod Need

@@ -1,46 +1,31 @@
 -- Two sound trees that answer alike at the cells that a log looks at have the same bytes changed by it.
-use Rattle.std.proofs.Common.{◌≡◌, ℕ, ◌+◌, ◌-◌, ◌==◌, ◌&&◌, Bool, true, false, cond, ltb, leb, List, [], ◌∷◌, ◌++◌, length, Option, Some, None, option_map, unwrap_or, Result, Ok, Err, refl, sym, ap, subst, ◌∙◌, ◌⊎◌, inl, inr, ⊎_elim, eqb-true}
+use Rattle.std.proofs.Common.{◌≡◌, ℕ, ◌+◌, ◌-◌, ◌==◌, ◌&&◌, Bool, true, false, cond, ltb, leb, List, [], ◌∷◌, ◌++◌, length, Option, Some, None, unwrap_or, slice_get, Result, Ok, Err, refl, sym, ap, subst, ◌∙◌, ◌⊎◌, inl, inr, ⊎_elim, eqb-true}
+use Rattle.std.proofs.lemmas.Bool.{both_ways}
+use Rattle.std.proofs.lemmas.List.{same_lists}
+use Rattle.std.proofs.lemmas.Option.{unwrap_or-slice_get}
 use Rattle.kfs_model.specs.Access.{Client}
-use Rattle.kfs_model.specs.Alike.{ChangesStandIn, MarksAlike, BothEnd, MarksEnd}
+use Rattle.kfs_model.specs.Alike.{MarksAlike, BothEnd, MarksEnd}
 use Rattle.kfs_model.specs.Check.{EntryContext, Reason, Check, checks_of, cells, first_fault, looked}
 use Rattle.kfs_model.specs.CleanStep.{Fits}
 use Rattle.kfs_model.specs.Entry.{Entry, Create, Write, Truncate, Link, Unlink, Rename, Chmod}
-use Rattle.kfs_model.specs.Header.{Header}
 use Rattle.kfs_model.specs.LastCover.{extent, covered_by, last_cover, start_mark}
 use Rattle.kfs_model.specs.Laws.{BothFit}
 use Rattle.kfs_model.specs.Looked.{looked_from, looked_cells, seen_run, LooksAlike, EndAlike, NetAlike}
 use Rattle.kfs_model.specs.Plan.{mark_at, is_base}
 use Rattle.kfs_model.specs.Run.{Mark, Base, Zero, Payload, EntryFault, entry_context, created_by, run, over_bytes, over_marks, marked, byte_of, looked_up}
 use Rattle.kfs_model.specs.SeenAfter.{seen_after, seen_run_from, shown_run}
-use Rattle.kfs_model.specs.Sight.{Sight, Cell, HeaderOf, ClientSight, client_sight, sight, sight_over, answer}
+use Rattle.kfs_model.specs.Sight.{Sight, Cell, HeaderOf, ClientSight, client_sight, sight, sight_over}
 use Rattle.kfs_model.specs.Table.{get, option_or}
-use Rattle.kfs_model.specs.Tree.{Tree, Node, Body, FileBody, DirectoryBody, NameTable, headers, header_of, size_of, content_of}
-use Rattle.kfs_model.proofs.Cells.{recut, headers-recut}
+use Rattle.kfs_model.specs.Tree.{Tree, headers, content_of}
+use Rattle.kfs_model.proofs.Cells.{headers-recut}
 use Rattle.kfs_model.proofs.CleanIsAllowed.{all_pass}
-use Rattle.kfs_model.proofs.Heads.{get-headers}
+use Rattle.kfs_model.proofs.Heads.{size_said, size_is_extent}
 use Rattle.kfs_model.proofs.LastCover.{mark_is}
 use Rattle.kfs_model.proofs.Marks.{marks_give_bytes}
 use Rattle.kfs_model.proofs.SameLooked.{same_looked}
 use Rattle.kfs_model.proofs.SameNet.{alike_at, same_net}
 use Rattle.kfs_model.proofs.SeenRun.{run_is_seen, bytes_faithful}
 use Rattle.kfs_model.proofs.Unlooked.{Among, among_front, among_back, among_at}
-
--- ---- a file's length is the size in its header
-
-abbrev size_said : Option Header → ℕ
-size_said found = elim found [ None ↦ 0 | Some header ↦ header.size ]
-
-module _ {B : Type 0} where
-  size_of_node : (names : NameTable) (n : ℕ) (found : Option (Node B)) → size_said (option_map (header_of names n) found) ≡ length (content_of found)
-  size_of_node names n None = refl
-  size_of_node names n (Some node) = by node.body
-    where
-      by : (body : Body B) → size_of body ≡ length (content_of (Some (record node { body = body })))
-      by (FileBody cells) = refl
-      by DirectoryBody = refl
-
-  size_is_extent : (t : Tree B) (n : ℕ) → size_said (get (headers t) n) ≡ extent t n
-  size_is_extent t n = ap size_said (get-headers t n) ∙ size_of_node t.names n (get t.nodes n)
 
 extents_alike : {B C : Type 0} (t : Tree B) (v : Tree C) (n : ℕ) → get (headers t) n ≡ get (headers v) n → extent t n ≡ extent v n
 extents_alike t v n same = sym (size_is_extent t n) ∙ ap size_said same ∙ size_is_extent v n
@@ -107,21 +92,26 @@ marks_seen client tree entries held fits =
 
 -- ---- the marks of a byte after two runs
 
+-- each byte of the file is from before
+abbrev pub IsOld : Tree Mark → (n : ℕ) → Type 0
+IsOld t n = (place : ℕ) (mark : Mark) → mark_at t n place ≡ Some mark → is_base mark ≡ true
+
+-- the file has the same marks in both, or in both none but those from before
+abbrev pub IsSameOrOld : (one other : Tree Mark) → (n : ℕ) → Type 0
+IsSameOrOld one other n = (content_of (get one.nodes n) ≡ content_of (get other.nodes n)) ⊎ (IsOld one n × IsOld other n)
+
 module _ (client : Client) (tree : Tree ℕ) (entries : List Entry) (held : ℕ → Bool) (after : Tree Mark) (ran : run over_marks client (client_sight tree held) (marked tree) entries ≡ Ok after) (n place : ℕ) where
   -- a byte of a file that the log leaves alone is from before
-  untouched : last_cover 0 entries n place ≡ None → extent after n ≡ extent tree n → (mark : Mark) → is_base mark ≡ false → mark_at after n place ≡ Some mark → ⊥
-  untouched free long mark changed is =
+  untouched : last_cover 0 entries n place ≡ None → extent after n ≡ extent tree n → (mark : Mark) → mark_at after n place ≡ Some mark → is_base mark ≡ true
+  untouched free long mark is =
       at (ltb place (extent tree n))
       (sym (mark_is client (client_sight tree held) tree entries after refl ran n place
       ∙ ap (λ long. cond (ltb place long) (Some (unwrap_or (last_cover 0 entries n place) (start_mark tree n place))) None) long
       ∙ ap (λ o. cond (ltb place (extent tree n)) (Some (unwrap_or o (start_mark tree n place))) None) free)
       ∙ is)
     where
-      at : (b : Bool) → cond b (Some (cond b (Base n place) Zero)) None ≡ Some mark → ⊥
-      at true is =
-          let same : Base n place ≡ mark = cc in
-          let wrong : true ≡ false = ap is_base same ∙ changed in
-          cc
+      at : (b : Bool) → cond b (Some (cond b (Base n place) Zero)) None ≡ Some mark → is_base mark ≡ true
+      at true is = let same : Base n place ≡ mark = cc in ap is_base (sym same)
       at false is = cc
 
 module _ (client : Client) (one other : Tree ℕ) (entries : List Entry) (fits : BothFit client one other entries) (held other_held : ℕ → Bool) (alike : LooksAlike client (client_sight one held) (client_sight other other_held) entries) where
@@ -180,27 +170,47 @@ module _ (client : Client) (one other : Tree ℕ) (entries : List Entry) (fits :
         ∙ ap (λ end. cond (ltb place (extent other_after n)) (Some (unwrap_or (last_cover 0 entries n place) (cond (ltb place end) (Base n place) Zero))) None) long.before
         ∙ sym (mark_is client (client_sight other other_held) other entries other_after refl also n place)
 
-    there : (place : ℕ) (mark : Mark) → is_base mark ≡ false → mark_at after n place ≡ Some mark → mark_at other_after n place ≡ Some mark
-    there place mark changed is = ⊎_elim
-        (λ long. sym (same_mark long place) ∙ is)
-        (λ left. absurd (untouched client one entries held after ran n place (left.free place) left.here mark changed is))
+    same_cells : LongAlike → content_of (get after.nodes n) ≡ content_of (get other_after.nodes n)
+    same_cells long =
+        let cells = content_of (get after.nodes n) in
+        let others = content_of (get other_after.nodes n) in
+        same_lists cells others long.now (λ place d low. sym (unwrap_or-slice_get cells place d) ∙ ap (λ o. unwrap_or o d) (same_mark long place) ∙ unwrap_or-slice_get others place d)
+
+    same_or_old : IsSameOrOld after other_after n
+    same_or_old = ⊎_elim
+        (λ long. inl (same_cells long))
+        (λ left. inr (
+          λ place. untouched client one entries held after ran n place (left.free place) left.here,
+          λ place. untouched client other entries other_held other_after also n place (left.free place) left.there,
+        ))
         each_file
 
-    back : (place : ℕ) (mark : Mark) → is_base mark ≡ false → mark_at other_after n place ≡ Some mark → mark_at after n place ≡ Some mark
-    back place mark changed is = ⊎_elim
-        (λ long. same_mark long place ∙ is)
-        (λ left. absurd (untouched client other entries other_held other_after also n place (left.free place) left.there mark changed is))
-        each_file
-
-  marks_end : BothEnd MarksAlike (run over_marks client (client_sight one held) (marked one) entries) (run over_marks client (client_sight other other_held) (marked other) entries)
-  marks_end = at (run over_marks client (client_sight one held) (marked one) entries) (run over_marks client (client_sight other other_held) (marked other) entries) refl refl ends_alike
+  -- the two runs have one fault, or end at trees of which P, where P is of all trees whose files have the same marks or old ones
+  pub runs_end : (P : (after other_after : Tree Mark) → Type 0) → ((after other_after : Tree Mark) → ((n : ℕ) → IsSameOrOld after other_after n) → P after other_after)
+      → BothEnd P (run over_marks client (client_sight one held) (marked one) entries) (run over_marks client (client_sight other other_held) (marked other) entries)
+  runs_end P each = at (run over_marks client (client_sight one held) (marked one) entries) (run over_marks client (client_sight other other_held) (marked other) entries) refl refl ends_alike
     where
       at : (end last : Result (Tree Mark) EntryFault) → run over_marks client (client_sight one held) (marked one) entries ≡ end → run over_marks client (client_sight other other_held) (marked other) entries ≡ last
-          → EndAlike (client_sight one held) (client_sight other other_held) (shown_run end) (shown_run last) → BothEnd MarksAlike end last
-      at (Ok after) (Ok other_after) is also ends = record { there = λ n. there after other_after is also n; back = λ n. back after other_after is also n }
+          → EndAlike (client_sight one held) (client_sight other other_held) (shown_run end) (shown_run last) → BothEnd P end last
+      at (Ok after) (Ok other_after) is also ends = each after other_after (λ n. same_or_old after other_after is also n)
       at (Ok after) (Err fault) is also ends = ends
       at (Err fault) (Ok other_after) is also ends = ends
       at (Err fault) (Err last) is also ends = ends
 
+-- ---- the bytes that are changed
+
+marks_stand : (one other : Tree Mark) (n : ℕ) → IsSameOrOld one other n → (place : ℕ) (mark : Mark) → is_base mark ≡ false → mark_at one n place ≡ Some mark → mark_at other n place ≡ Some mark
+marks_stand one other n file place mark changed is = ⊎_elim
+    (λ same. ap (λ cells. slice_get cells place) (sym same) ∙ is)
+    (λ old. absurd (both_ways _ changed (old.0 place mark is)))
+    file
+
+turned_round : (one other : Tree Mark) (n : ℕ) → IsSameOrOld one other n → IsSameOrOld other one n
+turned_round one other n file = ⊎_elim (λ same. inl (sym same)) (λ old. inr (old.1, old.0)) file
+
 pub same_marks : (client : Client) (one other : Tree ℕ) (entries : List Entry) → BothFit client one other entries → MarksEnd MarksAlike client one other entries
-same_marks client one other entries fits held other_held alike = marks_end client one other entries fits held other_held alike
+same_marks client one other entries fits held other_held alike = runs_end client one other entries fits held other_held alike MarksAlike
+    (λ after other_after files. record {
+      there = λ n. marks_stand after other_after n (files n);
+      back = λ n. marks_stand other_after after n (turned_round after other_after n (files n));
+    })

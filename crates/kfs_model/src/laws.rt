@@ -98,11 +98,12 @@ pub fn run_is_seen_in_cells()
 
 /// Two states that answer alike, to one client, at the cells that a log looks at in the one, have the same first fault of
 /// the log, or none and the same names and headers changed by it; and the log looks at the same cells in the other. Two
-/// sound trees end alike too, whatever their bytes, and the log changes the same bytes of both.
+/// sound trees end alike too, whatever their bytes; the log changes the same bytes of both, and needs as much room.
 pub fn looked_cells_decide()
     ensures decides { CellsDecide }
     ensures of_trees { EachTwoTrees TreesEndAlike }
     ensures marks { EachTwoTrees (MarksEnd MarksAlike) }
+    ensures need { EachTwoTrees (MarksEnd (λ after other_after. need after ≡ need other_after)) }
 {}
 
 /// The test of bytes says whether they are a name.

@@ -5,7 +5,7 @@ use Rattle.std.proofs.Common.{arith, subst, sym}
 use Rattle.std.proofs.lemmas.Bool.{eqb-true}
 use Rattle.kfs_model.specs.Entry.{Entry}
 use Rattle.kfs_model.specs.Check.{EntryContext, entry_cells, first_fault}
-use Rattle.kfs_model.specs.Sight.{Cell, HeaderOf}
+use Rattle.kfs_model.specs.Sight.{Cell, ClientSight, HeaderOf}
 use Rattle.kfs_check.specs.declared.check.Reason.{Reason}
 use Rattle.kfs_check.proofs.Looking.{written_wider}
 use Rattle.kfs_draft.specs.Overlay.{has_header, IsWritten, KeepsHeaders, ShiftsBy}
@@ -14,6 +14,7 @@ use Rattle.kfs_draft.proofs.Overlays.{shifts_wider}
 use Rattle.kfs_step.specs.declared.log_judge.LogJudge.{LogJudge}
 use Rattle.kfs_step.specs.Entered.{CreatesItsNumber, IsEntered, IsFirstFault, ReadsItsCells, ShowsItsChange, next_context}
 use Rattle.kfs_step.specs.FileSizes.{HasFileOf}
+use Rattle.kfs_step.specs.Nets.{LooksOver}
 use Rattle.kfs_check.specs.declared.reads.Recorder.{Recorder}
 use Rattle.kfs_check.specs.Reads.{IsPart}
 use Rattle.kfs_check.specs.Recorders.{GoesOn, Known, ReadsAt}
@@ -26,6 +27,11 @@ module _ {A : Type 0} (old new : LogJudge A) (entry : Entry) (goes : GoesOn old.
 
   pub has_fault : (reason : Reason) → IsFirstFault old new entry (Some reason) → ReadsItsCells old new entry → IsEntered old new entry (Ok (Some reason))
   has_fault reason known among = record { goes = goes; client = client; known = known; among = among; change = λ clean. cc }
+
+-- memory cuts a look at all that was written short
+pub is_cut_off : {A X : Type 0} (draft : Draft A) {old new : Recorder A} (says : X → ClientSight → Type 0) → GoesOn old new → (answer : Result X AllocError) → IsErr answer → LooksOver draft old new answer says
+is_cut_off draft says goes (Err error) is = record { goes = goes; known = tt; among = tt }
+is_cut_off draft says goes (Ok found) is = cc
 
 -- the file whose header is put
 pub own_file : {A : Type 0} (draft : Draft A) (k : ℕ) → IsTrue (has_header draft k) → (n : ℕ) → IsTrue (n == k) → IsTrue (has_header draft n)

@@ -1,9 +1,13 @@
 -- The net of what entries have changed.
-use Rattle.std.specs.Prelude.{List, map}
+use Rattle.std.specs.Prelude.{List, map, Result, IfOk, OnOk}
 use Rattle.kfs_model.specs.Table.{numbers}
 use Rattle.kfs_model.specs.Tree.{name_order}
-use Rattle.kfs_model.specs.Sight.{Sight}
+use Rattle.kfs_model.specs.Sight.{Cell, ClientSight, Sight}
 use Rattle.kfs_model.specs.Plan.{AreDifferences, number_now, header_now}
+use Rattle.kfs_draft.specs.declared.draft.Draft.{Draft}
+use Rattle.kfs_draft.specs.Overlay.{IsWritten}
+use Rattle.kfs_check.specs.declared.reads.Recorder.{Recorder}
+use Rattle.kfs_check.specs.Recorders.{GoesOn, Known, ReadsAt}
 use Rattle.kfs_step.specs.Rows.{keyed_name_row, keyed_node_row}
 use Rattle.kfs_value.specs.declared.plan.NameRow.{NameRow as CodeNameRow}
 use Rattle.kfs_value.specs.declared.plan.NodeRow.{NodeRow as CodeNodeRow}
@@ -19,3 +23,10 @@ AreNodesOf before after rows = AreDifferences numbers header_now before.head aft
 pub record IsNetOf {A : Type 0} (before after : Sight) (net : Net A) : Type 0 where
   pub names : AreNamesOf before after net.names.items
   pub nodes : AreNodesOf before after net.nodes.items
+
+-- a look at all that a draft has written: the reads go on, the answer is true of each state that agrees with what was read,
+-- and the further reads are at cells that were written
+pub record LooksOver {A X E : Type 0} (draft : Draft A) (old new : Recorder A) (result : Result X E) (says : X → ClientSight → Type 0) : Type 0 where
+  pub goes : GoesOn old new
+  pub known : IfOk result (λ x. Known new (says x))
+  pub among : OnOk result ((among : List Cell) → IsWritten draft among → ReadsAt old new among)

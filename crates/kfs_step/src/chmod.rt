@@ -7,8 +7,7 @@ ghost use Rattle.kfs_model.specs.Entry as entry;
 ghost use Rattle.kfs_model.specs.Header.{Header as HeaderShown};
 ghost use Rattle.kfs_step.specs.Entered.{IsEntered};
 ghost use Rattle.kfs_draft.specs.Overlay.{has_created, ShiftsBy};
-ghost use Rattle.kfs_check.specs.Recorders.{GoesOn};
-ghost use Rattle.kfs_check.specs.Checks.{FindsFault, ReadsCellsOf};
+ghost use Rattle.kfs_check.specs.Checks.{Judges};
 
 use crate::check::check;
 use crate::log_judge::LogJudge;
@@ -23,9 +22,7 @@ fn chmod_fault<A: Allocator + Copy>(
     recorder: &mut Recorder<'_, A>,
     number: u32,
 ) -> Result<Option<Reason>, AllocError>
-    ensures goes { GoesOn recorder.old recorder.new }
-    ensures known { IfOk result (λ reason. (mode : ℕ) → FindsFault judge.now recorder.new (entry.Chmod number mode) reason) }
-    ensures among { OnOk result ((mode : ℕ) → ReadsCellsOf judge.now recorder.old recorder.new (entry.Chmod number mode)) }
+    ensures { (mode : ℕ) → Judges judge.now recorder.old recorder.new result (entry.Chmod number mode) }
 {
     check!(judge, recorder;
         Exists(number),

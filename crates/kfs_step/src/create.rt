@@ -9,8 +9,7 @@ ghost use Rattle.kfs_model.specs.SeenAfter.{seen_after};
 ghost use Rattle.kfs_model.specs.Sight.{Sight};
 ghost use Rattle.kfs_step.specs.Entered.{IsEntered};
 ghost use Rattle.kfs_draft.specs.Overlay.{has_created, over, ShiftsBy, HasRoom};
-ghost use Rattle.kfs_check.specs.Recorders.{GoesOn};
-ghost use Rattle.kfs_check.specs.Checks.{FindsFault, ReadsCellsOf};
+ghost use Rattle.kfs_check.specs.Checks.{Judges};
 
 use crate::check::check;
 use crate::log_judge::LogJudge;
@@ -26,9 +25,7 @@ fn create_fault<A: Allocator + Copy>(
     key: &(u32, Name),
     number: u32,
 ) -> Result<Option<Reason>, AllocError>
-    ensures goes { GoesOn recorder.old recorder.new }
-    ensures known { IfOk result (λ reason. (kind : KindShown) (mode : ℕ) → FindsFault judge.now recorder.new (entry.Create key.now.0 key.now.1 number kind mode) reason) }
-    ensures among { OnOk result ((kind : KindShown) (mode : ℕ) → ReadsCellsOf judge.now recorder.old recorder.new (entry.Create key.now.0 key.now.1 number kind mode)) }
+    ensures { (kind : KindShown) (mode : ℕ) → Judges judge.now recorder.old recorder.new result (entry.Create key.now.0 key.now.1 number kind mode) }
 {
     let dir = key.0;
     check!(judge, recorder;

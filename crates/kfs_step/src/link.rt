@@ -2,10 +2,9 @@
 ghost use Rattle.std.specs.Prelude.{◌≡◌, ℕ, ◌+◌, None, Ok, IfOk, OnOk};
 ghost use Rattle.kfs_model.specs.Check.{checks_of};
 ghost use Rattle.kfs_model.specs.Entry as entry;
-ghost use Rattle.kfs_check.specs.Checks.{FindsFault, ReadsCellsOf};
+ghost use Rattle.kfs_check.specs.Checks.{Judges};
 ghost use Rattle.kfs_step.specs.Entered.{IsEntered};
 ghost use Rattle.kfs_draft.specs.Overlay.{has_created, HasRoom, ShiftsBy};
-ghost use Rattle.kfs_check.specs.Recorders.{GoesOn};
 
 use crate::check::check;
 use crate::log_judge::LogJudge;
@@ -22,9 +21,7 @@ fn link_fault<A: Allocator + Copy>(
     number: u32,
     key: &(u32, Name),
 ) -> Result<Option<Reason>, AllocError>
-    ensures goes { GoesOn recorder.old recorder.new }
-    ensures known { IfOk result (FindsFault judge.now recorder.new (entry.Link number key.now.0 key.now.1)) }
-    ensures among { OnOk result (ReadsCellsOf judge.now recorder.old recorder.new (entry.Link number key.now.0 key.now.1)) }
+    ensures { Judges judge.now recorder.old recorder.new result (entry.Link number key.now.0 key.now.1) }
 {
     let dir = key.0;
     check!(judge, recorder;

@@ -1,11 +1,11 @@
 //! Where an entry stands: its client, what the entries before it changed, and the state under that.
-ghost use Rattle.std.specs.Prelude.{◌≡◌, ℕ, ◌+◌, ◌==◌, List, length, None, Ok, IfOk, false, [], OnOk, ◌++◌};
+ghost use Rattle.std.specs.Prelude.{◌≡◌, ℕ, ◌+◌, ◌==◌, List, length, None, Ok, IfOk, false, [], ◌++◌};
 ghost use Rattle.kfs_value.specs.Views.{entry_of, IsWithin};
-ghost use Rattle.kfs_model.specs.Sight.{Sight, Cell};
+ghost use Rattle.kfs_model.specs.Sight.{Sight};
 ghost use Rattle.kfs_step.specs.Entered.{IsEntered};
 ghost use Rattle.kfs_draft.specs.Overlay.{has_created, over, ShiftsBy, ShiftsFurther, HasRoom, IsWritten};
-ghost use Rattle.kfs_check.specs.Recorders.{GoesOn, seen_by, Known, ReadsAt};
-ghost use Rattle.kfs_step.specs.Nets.{IsNetOf};
+ghost use Rattle.kfs_check.specs.Recorders.{GoesOn, seen_by};
+ghost use Rattle.kfs_step.specs.Nets.{IsNetOf, LooksOver};
 ghost use Rattle.kfs_step.specs.FileSizes.{AreSizesOver};
 ghost use Rattle.kfs_sweep.specs.Sizes.{Ascend, IsSize};
 ghost use Rattle.std.specs.List.{AllByRecursion};
@@ -93,10 +93,8 @@ impl<'a, A: Allocator + Copy> LogJudge<'a, A> {
 
     /// What differs after the entries so far.
     pub fn net(&mut self, alloc: A) -> Result<Net<A>, AllocError>
-        ensures goes { GoesOn self.old.recorder self.new.recorder }
         ensures draft { self.new.draft ≡ self.old.draft }
-        ensures known { IfOk result (λ net. Known self.new.recorder (λ before. IsNetOf before.sight (over self.old.draft before.sight) net)) }
-        ensures among { OnOk result ((among : List Cell) → IsWritten self.old.draft among → ReadsAt self.old.recorder self.new.recorder among) }
+        ensures looks { LooksOver self.old.draft self.old.recorder self.new.recorder result (λ net before. IsNetOf before.sight (over self.old.draft before.sight) net) }
     {
         let names = name_rows(alloc, &self.draft, &mut self.recorder)?;
         let nodes = node_rows(alloc, &self.draft, &mut self.recorder)?;
@@ -106,10 +104,8 @@ impl<'a, A: Allocator + Copy> LogJudge<'a, A> {
     /// How long the files are that the entries so far changed or reached, by number: before the log and
     /// now. A directory's size is 0.
     pub fn sizes(&mut self, alloc: A) -> Result<Vec<FileSize, A>, AllocError>
-        ensures goes { GoesOn self.old.recorder self.new.recorder }
         ensures draft { self.new.draft ≡ self.old.draft }
-        ensures known { IfOk result (λ sizes. Known self.new.recorder (λ before. AreSizesOver self.old.draft before.sight sizes.items)) }
-        ensures among { OnOk result ((among : List Cell) → IsWritten self.old.draft among → ReadsAt self.old.recorder self.new.recorder among) }
+        ensures looks { LooksOver self.old.draft self.old.recorder self.new.recorder result (λ sizes before. AreSizesOver self.old.draft before.sight sizes.items) }
         ensures ascending { IfOk result (λ sizes. Ascend 0 sizes.items) }
         ensures short { IfOk result (λ sizes. AllByRecursion IsSize sizes.items) }
     {

@@ -1,13 +1,13 @@
 //! What differs after a log.
-ghost use Rattle.std.specs.Prelude.{IfOk, List, [], ◌∷◌, OnOk};
+ghost use Rattle.std.specs.Prelude.{[], ◌∷◌};
 ghost use Rattle.std.specs.Option.{option_map};
 ghost use Rattle.kfs_value.specs.Views.{header_of};
 ghost use Rattle.kfs_model.specs.Plan.{header_now, number_now};
-ghost use Rattle.kfs_check.specs.Recorders.{GoesOn, Known, ReadsAt};
-ghost use Rattle.kfs_draft.specs.Overlay.{over, IsWritten};
+ghost use Rattle.kfs_check.specs.Recorders.{Looks};
+ghost use Rattle.kfs_draft.specs.Overlay.{over};
 ghost use Rattle.kfs_step.specs.Rows.{IsRow, keyed_name_row, keyed_node_row};
-ghost use Rattle.kfs_step.specs.Nets.{AreNamesOf, AreNodesOf};
-ghost use Rattle.kfs_model.specs.Sight.{Cell, HeaderOf, NameIn};
+ghost use Rattle.kfs_step.specs.Nets.{AreNamesOf, AreNodesOf, LooksOver};
+ghost use Rattle.kfs_model.specs.Sight.{HeaderOf, NameIn};
 
 use kfs_check::Recorder;
 use kfs_draft::Draft;
@@ -21,9 +21,7 @@ pub fn name_rows<A: Allocator + Copy>(
     draft: &Draft<A>,
     recorder: &mut Recorder<'_, A>,
 ) -> Result<Vec<NameRow, A>, AllocError>
-    ensures goes { GoesOn recorder.old recorder.new }
-    ensures known { IfOk result (λ rows. Known recorder.new (λ before. AreNamesOf before.sight (over draft.now before.sight) rows.items)) }
-    ensures among { OnOk result ((among : List Cell) → IsWritten draft.now among → ReadsAt recorder.old recorder.new among) }
+    ensures { LooksOver draft.now recorder.old recorder.new result (λ rows before. AreNamesOf before.sight (over draft.now before.sight) rows.items) }
 {
     let mut rows = Vec::new(alloc);
     for (key, now) in draft.targets().iter() {
@@ -40,9 +38,7 @@ fn name_row<A: Allocator + Copy>(
     key: &(u32, Name),
     now: Option<u32>,
 ) -> Result<Option<NameRow>, AllocError>
-    ensures goes { GoesOn recorder.old recorder.new }
-    ensures known { IfOk result (λ row. Known recorder.new (λ before. IsRow number_now keyed_name_row key.now (before.sight.name key.now.0 key.now.1) now row)) }
-    ensures among { OnOk result (ReadsAt recorder.old recorder.new (NameIn key.now.0 key.now.1 ∷ [])) }
+    ensures { Looks recorder.old recorder.new result (NameIn key.now.0 key.now.1 ∷ []) (λ row before. IsRow number_now keyed_name_row key.now (before.sight.name key.now.0 key.now.1) now row) }
 {
     let before = recorder.target(key)?;
     if before == now {
@@ -62,9 +58,7 @@ pub fn node_rows<A: Allocator + Copy>(
     draft: &Draft<A>,
     recorder: &mut Recorder<'_, A>,
 ) -> Result<Vec<NodeRow, A>, AllocError>
-    ensures goes { GoesOn recorder.old recorder.new }
-    ensures known { IfOk result (λ rows. Known recorder.new (λ before. AreNodesOf before.sight (over draft.now before.sight) rows.items)) }
-    ensures among { OnOk result ((among : List Cell) → IsWritten draft.now among → ReadsAt recorder.old recorder.new among) }
+    ensures { LooksOver draft.now recorder.old recorder.new result (λ rows before. AreNodesOf before.sight (over draft.now before.sight) rows.items) }
 {
     let mut rows = Vec::new(alloc);
     for (number, now) in draft.headers().iter() {
@@ -81,9 +75,7 @@ fn node_row<A: Allocator + Copy>(
     number: u32,
     now: Option<Header>,
 ) -> Result<Option<NodeRow>, AllocError>
-    ensures goes { GoesOn recorder.old recorder.new }
-    ensures known { IfOk result (λ row. Known recorder.new (λ before. IsRow header_now keyed_node_row number (before.sight.head number) (option_map header_of now) row)) }
-    ensures among { OnOk result (ReadsAt recorder.old recorder.new (HeaderOf number ∷ [])) }
+    ensures { Looks recorder.old recorder.new result (HeaderOf number ∷ []) (λ row before. IsRow header_now keyed_node_row number (before.sight.head number) (option_map header_of now) row) }
 {
     let before = recorder.header(number)?;
     if before == now {

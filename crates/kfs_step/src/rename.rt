@@ -2,7 +2,7 @@
 ghost use Rattle.std.specs.Prelude.{◌≡◌, true, false, ℕ, ◌+◌, Some, None, Ok, IfOk, OnOk};
 ghost use Rattle.kfs_model.specs.Check.{checks_of, arrival_checks, may_go, on_number, rename_checks};
 ghost use Rattle.kfs_model.specs.Entry as entry;
-ghost use Rattle.kfs_check.specs.Checks.{FindsFault, FindsFirst, ReadsCellsOf, ReadsCellsOfAll};
+ghost use Rattle.kfs_check.specs.Checks.{Judges, JudgesAll};
 ghost use Rattle.kfs_step.specs.Entered.{IsEntered, headers_renamed, ShowsRename, WritesRename};
 ghost use Rattle.kfs_draft.specs.Overlay.{HasRoom, KeepsCreated, KeepsHeaders, ShiftsFurther};
 ghost use Rattle.kfs_check.specs.Recorders.{GoesOn, ReadsAt};
@@ -23,9 +23,7 @@ fn rename_fault<A: Allocator + Copy>(
     key: &(u32, Name),
     new_key: &(u32, Name),
 ) -> Result<Option<Reason>, AllocError>
-    ensures goes { GoesOn recorder.old recorder.new }
-    ensures known { IfOk result (FindsFault judge.now recorder.new (entry.Rename key.now.0 key.now.1 new_key.now.0 new_key.now.1)) }
-    ensures among { OnOk result (ReadsCellsOf judge.now recorder.old recorder.new (entry.Rename key.now.0 key.now.1 new_key.now.0 new_key.now.1)) }
+    ensures { Judges judge.now recorder.old recorder.new result (entry.Rename key.now.0 key.now.1 new_key.now.0 new_key.now.1) }
 {
     let (dir, new_dir) = (key.0, new_key.0);
     check!(judge, recorder;
@@ -53,9 +51,7 @@ fn move_fault<A: Allocator + Copy>(
     moved: u32,
     there: Option<u32>,
 ) -> Result<Option<Reason>, AllocError>
-    ensures goes { GoesOn recorder.old recorder.new }
-    ensures known { IfOk result (FindsFirst judge.now recorder.new (λ p. rename_checks p dir new_dir (Some moved) there)) }
-    ensures among { OnOk result (ReadsCellsOfAll judge.now recorder.old recorder.new (λ p. rename_checks p dir new_dir (Some moved) there)) }
+    ensures { JudgesAll judge.now recorder.old recorder.new result (λ p. rename_checks p dir new_dir (Some moved) there) }
 {
     if leads_to(there, moved) {
         return Ok(None);
@@ -88,9 +84,7 @@ fn arrival_fault<A: Allocator + Copy>(
     new_dir: u32,
     there: Option<u32>,
 ) -> Result<Option<Reason>, AllocError>
-    ensures goes { GoesOn recorder.old recorder.new }
-    ensures known { IfOk result (FindsFirst judge.now recorder.new (λ _. arrival_checks (kind_of kind) moved new_dir there)) }
-    ensures among { OnOk result (ReadsCellsOfAll judge.now recorder.old recorder.new (λ _. arrival_checks (kind_of kind) moved new_dir there)) }
+    ensures { JudgesAll judge.now recorder.old recorder.new result (λ _. arrival_checks (kind_of kind) moved new_dir there) }
 {
     if let Some(reason) = place_fault(judge, recorder, kind, moved, new_dir)? {
         return Ok(Some(reason));
@@ -109,9 +103,7 @@ fn place_fault<A: Allocator + Copy>(
     moved: u32,
     new_dir: u32,
 ) -> Result<Option<Reason>, AllocError>
-    ensures goes { GoesOn recorder.old recorder.new }
-    ensures known { IfOk result (FindsFirst judge.now recorder.new (λ _. arrival_checks (kind_of kind) moved new_dir None)) }
-    ensures among { OnOk result (ReadsCellsOfAll judge.now recorder.old recorder.new (λ _. arrival_checks (kind_of kind) moved new_dir None)) }
+    ensures { JudgesAll judge.now recorder.old recorder.new result (λ _. arrival_checks (kind_of kind) moved new_dir None) }
 {
     match kind {
         Kind::File => Ok(None),
@@ -130,9 +122,7 @@ fn replaced_fault<A: Allocator + Copy>(
     kind: Kind,
     there: Option<u32>,
 ) -> Result<Option<Reason>, AllocError>
-    ensures goes { GoesOn recorder.old recorder.new }
-    ensures known { IfOk result (FindsFirst judge.now recorder.new (λ _. on_number there (may_go (kind_of kind)))) }
-    ensures among { OnOk result (ReadsCellsOfAll judge.now recorder.old recorder.new (λ _. on_number there (may_go (kind_of kind)))) }
+    ensures { JudgesAll judge.now recorder.old recorder.new result (λ _. on_number there (may_go (kind_of kind))) }
 {
     match there {
         Some(replaced) => {

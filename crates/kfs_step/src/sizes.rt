@@ -1,12 +1,11 @@
 //! How long the files are that a log changes, before it and after it.
-ghost use Rattle.std.specs.Prelude.{◌≡◌, ℕ, IfOk, List, OnOk};
+ghost use Rattle.std.specs.Prelude.{◌≡◌, ℕ, IfOk};
 ghost use Rattle.std.specs.List.{AllByRecursion};
 ghost use Rattle.std.specs.Option.{option_map};
 ghost use Rattle.kfs_value.specs.Views.{header_of};
-ghost use Rattle.kfs_model.specs.Sight.{Sight, Cell};
-ghost use Rattle.kfs_check.specs.Recorders.{GoesOn, Known, ReadsAt};
-ghost use Rattle.kfs_draft.specs.Overlay.{IsWritten};
+ghost use Rattle.kfs_model.specs.Sight.{Sight};
 ghost use Rattle.kfs_step.specs.FileSizes.{AreSizesOver};
+ghost use Rattle.kfs_step.specs.Nets.{LooksOver};
 ghost use Rattle.kfs_sweep.specs.Sizes.{Ascend, IsSize, size_in};
 
 use kfs_check::Recorder;
@@ -23,9 +22,7 @@ pub fn file_sizes<A: Allocator + Copy>(
     draft: &Draft<A>,
     recorder: &mut Recorder<'_, A>,
 ) -> Result<Vec<FileSize, A>, AllocError>
-    ensures goes { GoesOn recorder.old recorder.new }
-    ensures known { IfOk result (λ sizes. Known recorder.new (λ before. AreSizesOver draft.now before.sight sizes.items)) }
-    ensures among { OnOk result ((among : List Cell) → IsWritten draft.now among → ReadsAt recorder.old recorder.new among) }
+    ensures looks { LooksOver draft.now recorder.old recorder.new result (λ sizes before. AreSizesOver draft.now before.sight sizes.items) }
     ensures ascending { IfOk result (λ sizes. Ascend 0 sizes.items) }
     ensures short { IfOk result (λ sizes. AllByRecursion IsSize sizes.items) }
 {

@@ -7,8 +7,7 @@ ghost use Rattle.kfs_model.specs.Entry as entry;
 ghost use Rattle.kfs_model.specs.Header.{Header as HeaderShown};
 ghost use Rattle.kfs_step.specs.Entered.{IsEntered};
 ghost use Rattle.kfs_draft.specs.Overlay.{has_created, ShiftsBy};
-ghost use Rattle.kfs_check.specs.Recorders.{GoesOn};
-ghost use Rattle.kfs_check.specs.Checks.{FindsFault, ReadsCellsOf};
+ghost use Rattle.kfs_check.specs.Checks.{Judges};
 
 use crate::check::check;
 use crate::log_judge::LogJudge;
@@ -24,9 +23,7 @@ fn truncate_fault<A: Allocator + Copy>(
     number: u32,
     size: u64,
 ) -> Result<Option<Reason>, AllocError>
-    ensures goes { GoesOn recorder.old recorder.new }
-    ensures known { IfOk result (FindsFault judge.now recorder.new (entry.Truncate number size)) }
-    ensures among { OnOk result (ReadsCellsOf judge.now recorder.old recorder.new (entry.Truncate number size)) }
+    ensures { Judges judge.now recorder.old recorder.new result (entry.Truncate number size) }
 {
     let end = u128::from(size);
     check!(judge, recorder;

@@ -2,7 +2,7 @@
 ghost use Rattle.std.specs.Prelude.{◌≡◌, ℕ, ◌+◌, None, Ok, IfOk, OnOk};
 ghost use Rattle.kfs_model.specs.Check.{checks_of, may_go};
 ghost use Rattle.kfs_model.specs.Entry as entry;
-ghost use Rattle.kfs_check.specs.Checks.{FindsFault, FindsFirst, ReadsCellsOf, ReadsCellsOfAll};
+ghost use Rattle.kfs_check.specs.Checks.{Judges, JudgesAll};
 ghost use Rattle.kfs_step.specs.Entered.{IsEntered, headers_unlinked, ShowsUnlink, WritesUnlink};
 ghost use Rattle.kfs_draft.specs.Overlay.{HasRoom, KeepsCreated, KeepsHeaders, ShiftsFurther};
 ghost use Rattle.kfs_check.specs.Recorders.{GoesOn, ReadsAt};
@@ -23,9 +23,7 @@ fn unlink_fault<A: Allocator + Copy>(
     key: &(u32, Name),
     kind: Kind,
 ) -> Result<Option<Reason>, AllocError>
-    ensures goes { GoesOn recorder.old recorder.new }
-    ensures known { IfOk result (FindsFault judge.now recorder.new (entry.Unlink key.now.0 key.now.1 (kind_of kind))) }
-    ensures among { OnOk result (ReadsCellsOf judge.now recorder.old recorder.new (entry.Unlink key.now.0 key.now.1 (kind_of kind))) }
+    ensures { Judges judge.now recorder.old recorder.new result (entry.Unlink key.now.0 key.now.1 (kind_of kind)) }
 {
     let dir = key.0;
     check!(judge, recorder;
@@ -49,9 +47,7 @@ pub fn going_fault<A: Allocator + Copy>(
     kind: Kind,
     number: u32,
 ) -> Result<Option<Reason>, AllocError>
-    ensures goes { GoesOn recorder.old recorder.new }
-    ensures known { IfOk result (FindsFirst judge.now recorder.new (λ _. may_go (kind_of kind) number)) }
-    ensures among { OnOk result (ReadsCellsOfAll judge.now recorder.old recorder.new (λ _. may_go (kind_of kind) number)) }
+    ensures { JudgesAll judge.now recorder.old recorder.new result (λ _. may_go (kind_of kind) number) }
 {
     match kind {
         Kind::File => {

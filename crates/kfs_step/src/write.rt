@@ -8,8 +8,7 @@ ghost use Rattle.kfs_model.specs.SeenAfter as seen;
 ghost use Rattle.kfs_step.specs.Entered.{IsEntered};
 ghost use Rattle.kfs_step.specs.Written.{IsWrittenAt};
 ghost use Rattle.kfs_draft.specs.Overlay.{has_created, ShiftsBy};
-ghost use Rattle.kfs_check.specs.Recorders.{GoesOn};
-ghost use Rattle.kfs_check.specs.Checks.{FindsFault, FindsFirst, ReadsCellsOf, ReadsCellsOfAll};
+ghost use Rattle.kfs_check.specs.Checks.{Judges, JudgesAll};
 
 use crate::check::check;
 use crate::log_judge::LogJudge;
@@ -26,9 +25,7 @@ fn write_fault<A: Allocator + Copy>(
     offset: u64,
     len: usize,
 ) -> Result<Option<Reason>, AllocError>
-    ensures goes { GoesOn recorder.old recorder.new }
-    ensures known { IfOk result (λ reason. (p : List ℕ) → length p ≡ len → FindsFault judge.now recorder.new (entry.Write number offset p) reason) }
-    ensures among { OnOk result ((p : List ℕ) → length p ≡ len → ReadsCellsOf judge.now recorder.old recorder.new (entry.Write number offset p)) }
+    ensures { (p : List ℕ) → length p ≡ len → Judges judge.now recorder.old recorder.new result (entry.Write number offset p) }
 {
     check!(judge, recorder;
         Exists(number),
@@ -47,9 +44,7 @@ fn end_fault<A: Allocator + Copy>(
     offset: u64,
     len: usize,
 ) -> Result<Option<Reason>, AllocError>
-    ensures goes { GoesOn recorder.old recorder.new }
-    ensures known { IfOk result (λ reason. (p : List ℕ) → length p ≡ len → FindsFirst judge.now recorder.new (λ _. payload_fits offset p) reason) }
-    ensures among { OnOk result ((p : List ℕ) → length p ≡ len → ReadsCellsOfAll judge.now recorder.old recorder.new (λ _. payload_fits offset p)) }
+    ensures { (p : List ℕ) → length p ≡ len → JudgesAll judge.now recorder.old recorder.new result (λ _. payload_fits offset p) }
 {
     if len == 0 {
         return Ok(None);

@@ -22,10 +22,15 @@ use Rattle.kfs_value.specs.Views.{piece_of}
 use Rattle.kfs_value.specs.declared.plan.Piece.{Piece as CodePiece}
 use Rattle.kfs_sweep.specs.Parts.{AreByNumber}
 use Rattle.kfs_sweep.specs.Stretches.{holds, origin_at, last_origin, AreFrom}
-use Rattle.kfs_sweep.specs.Made.{mark_of, source_at, piece_made, pieces_made, IsPlaced, IsFit, made, grown}
+use Rattle.kfs_sweep.specs.Made.{source_at, piece_made, pieces_made, IsPlaced, IsFit, made, grown}
 use Rattle.kfs_sweep.proofs.LastOrigin.{last_origin-append, option_or_none}
 
 -- ---- the mark of a byte
+
+-- the mark of a byte of this origin
+abbrev mark_of : Origin → (place : ℕ) → Mark
+mark_of Zero place = Mark.Zero
+mark_of (Payload entry offset) place = Mark.Payload entry (place - offset)
 
 marked_or : (p : ℕ) (a b : Option Origin) → option_map (λ o. mark_of o p) (option_or a b) ≡ option_or (option_map (λ o. mark_of o p) a) (option_map (λ o. mark_of o p) b)
 marked_or p None b = refl

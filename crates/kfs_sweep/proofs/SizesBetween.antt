@@ -1,5 +1,5 @@
 -- Sizes that the headers before and after a log show are those of its run over marks.
-use Rattle.std.proofs.Common.{◌≡◌, ℕ, ◌≤◌, min, List, [], ◌∷◌, length, Option, Some, None, option_map, refl, ap, ◌∙◌, arith}
+use Rattle.std.proofs.Common.{◌≡◌, ℕ, ◌≤◌, min, List, [], ◌∷◌, Option, Some, None, refl, ap, ◌∙◌, arith}
 use Rattle.std.specs.List.{AllByRecursion}
 use Rattle.kfs_model.specs.Entry.{Entry}
 use Rattle.kfs_model.specs.Header.{Header}
@@ -9,29 +9,13 @@ use Rattle.kfs_model.specs.Run.{Mark}
 use Rattle.kfs_model.specs.Sight.{sight}
 use Rattle.kfs_model.specs.Soundness.{IsSound}
 use Rattle.kfs_model.specs.Table.{get}
-use Rattle.kfs_model.specs.Tree.{Tree, Node, Body, FileBody, DirectoryBody, NameTable, headers, header_of, size_of, content_of}
-use Rattle.kfs_model.proofs.Heads.{get-headers}
+use Rattle.kfs_model.specs.Tree.{Tree, headers}
+use Rattle.kfs_model.proofs.Heads.{size_said, size_is_extent}
 use Rattle.kfs_sweep.specs.declared.sizes.FileSize.{FileSize}
 use Rattle.kfs_sweep.specs.Sizes.{AreSizes, AreSizesBetween, size_in}
 use Rattle.kfs_sweep.proofs.Listed.{own_size}
 
--- the size that a header says, 0 of none
-abbrev size_said : Option Header → ℕ
-size_said found = elim found [ None ↦ 0 | Some header ↦ header.size ]
-
 module _ {B : Type 0} where
-  size_of_node : (names : NameTable) (n : ℕ) (found : Option (Node B)) → size_said (option_map (header_of names n) found) ≡ length (content_of found)
-  size_of_node names n None = refl
-  size_of_node names n (Some node) = by node.body
-    where
-      by : (body : Body B) → size_of body ≡ length (content_of (Some (record node { body = body })))
-      by (FileBody cells) = refl
-      by DirectoryBody = refl
-
-  -- the size in a header is the length of the file's cells, 0 of a directory
-  pub size_is_extent : (t : Tree B) (n : ℕ) → size_in (sight t) n ≡ extent t n
-  size_is_extent t n = ap size_said (get-headers t n) ∙ size_of_node t.names n (get t.nodes n)
-
   sound_size : (t : Tree B) (n : ℕ) → IsSound t → size_in (sight t) n ≤ size_limit
   sound_size t n sound = by (get (headers t) n) refl
     where

@@ -14,11 +14,6 @@ use Rattle.kfs_sweep.specs.declared.stretch.Origin.{Origin}
 use Rattle.kfs_sweep.specs.declared.stretch.Origin.TheVariants.{Zero, Payload}
 use Rattle.kfs_sweep.specs.declared.stretch.Stretch.{Stretch}
 
--- the mark of a byte of this origin
-abbrev pub mark_of : Origin → (place : ℕ) → Mark
-mark_of Zero place = Mark.Zero
-mark_of (Payload entry offset) place = Mark.Payload entry (place - offset)
-
 -- what a piece that begins at this byte comes from
 abbrev pub source_at : Origin → (start : ℕ) → Source
 source_at Zero start = Source.Zero

@@ -1,6 +1,7 @@
 use Rattle.kfs_model.proofs.SameNet.{goes_alike}
 use Rattle.kfs_model.proofs.SeenRun.{same_looked_trees}
 use Rattle.kfs_model.proofs.SameMarks.{same_marks}
+use Rattle.kfs_model.proofs.SameNeed.{same_need}
 use Rattle.kfs_judge.proofs.laws.cells_decide.Goals as goal
 
 pub returns-clause-decides : goal.returns-clause-decides
@@ -11,3 +12,6 @@ returns-clause-of_trees c client one other entries fit = same_looked_trees clien
 
 pub returns-clause-marks : goal.returns-clause-marks
 returns-clause-marks c = same_marks
+
+pub returns-clause-need : goal.returns-clause-need
+returns-clause-need c = same_need

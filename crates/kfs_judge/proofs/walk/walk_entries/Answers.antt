@@ -52,16 +52,16 @@ returns-clause-known g c = (
   sym c.client.ensures ∙ ap (option_map (λ r. r.now)) c.unwrap-client.ensures,
   λ state agrees source within.
       let sized = subst (λ es. Agrees es state) c.into_reads-2.ensures agrees in
-      let agreed = c.in_ok-sizes.ensures.goes.grows state sized in
+      let agreed = c.in_ok-sizes.ensures.looks.goes.grows state sized in
       let inside = subst (AreWithin source) (sym c.as_slice.ensures) within in
       let files = subst (λ es. HasFilesOf c.enter_all.new.judge.draft (map (entry_of source) es)) c.as_slice.ensures (c.in_ok-fault.ensures.reached (ap Ok c.in_default.is) source inside) in
-      let sizes = subst (λ d. AreSizesOver d state.sight c.in_ok-sizes.sizes.items) c.in_ok-net.ensures.draft (c.in_ok-sizes.ensures.known state sized) in (
+      let sizes = subst (λ d. AreSizesOver d state.sight c.in_ok-sizes.sizes.items) c.in_ok-net.ensures.draft (c.in_ok-sizes.ensures.looks.known state sized) in (
         over c.enter_all.new.judge.draft state.sight,
         subst (λ cl. EndsAt cl c.enter_all.new.judge.draft state (map (entry_of source) c.args.log.now.entries) None) c.new-judge.ensures.client
             (subst (λ es. EndsAt c.new-judge.result.client.now c.enter_all.new.judge.draft state (map (entry_of source) es) None) c.as_slice.ensures
             (subst (λ f. EndsAt c.new-judge.result.client.now c.enter_all.new.judge.draft state (map (entry_of source) c.as_slice.result.now) f) c.in_default.is
-            (c.in_ok-fault.ensures.known state (c.in_ok-net.ensures.goes.grows state agreed) source inside))),
-        c.in_ok-net.ensures.known state agreed,
+            (c.in_ok-fault.ensures.known state (c.in_ok-net.ensures.looks.goes.grows state agreed) source inside))),
+        c.in_ok-net.ensures.looks.known state agreed,
         sizes (map (entry_of source) c.args.log.now.entries) files,
       ),
 )
@@ -71,10 +71,10 @@ returns-clause-view_agrees g c =
     let row = sym c.client.ensures ∙ ap (option_map (λ r. r.now)) c.unwrap-client.ensures in
     let shown = client_sight_in c.args.view.now c.args.log.now.client in
     let seen = c.new-judge.ensures.seen ∙ ap (client_sight_in c.args.view.now) (row_has_number (clients_of c.args.view.now) c.args.log.now.client c.unwrap-client.result.now row) in
-    subst (λ es. Agrees es shown) (sym c.into_reads-2.ensures) (agrees_from_none shown c.new-judge.result.recorder c.sizes.new.self.recorder c.new-judge.ensures.none seen (goes_then c.in_ok-fault.ensures.goes (goes_then c.in_ok-net.ensures.goes c.in_ok-sizes.ensures.goes)))
+    subst (λ es. Agrees es shown) (sym c.into_reads-2.ensures) (agrees_from_none shown c.new-judge.result.recorder c.sizes.new.self.recorder c.new-judge.ensures.none seen (goes_then c.in_ok-fault.ensures.goes (goes_then c.in_ok-net.ensures.looks.goes c.in_ok-sizes.ensures.looks.goes)))
 
 pub returns-clause-once : goal.returns-clause-once
-returns-clause-once g c = subst AreOnce (sym c.into_reads-2.ensures) (once_from_none (client_sight_in c.args.view.now c.args.log.now.client) c.new-judge.result.recorder c.sizes.new.self.recorder c.new-judge.ensures.none (goes_then c.in_ok-fault.ensures.goes (goes_then c.in_ok-net.ensures.goes c.in_ok-sizes.ensures.goes)))
+returns-clause-once g c = subst AreOnce (sym c.into_reads-2.ensures) (once_from_none (client_sight_in c.args.view.now c.args.log.now.client) c.new-judge.result.recorder c.sizes.new.self.recorder c.new-judge.ensures.none (goes_then c.in_ok-fault.ensures.goes (goes_then c.in_ok-net.ensures.looks.goes c.in_ok-sizes.ensures.looks.goes)))
 
 pub returns-clause-among : goal.returns-clause-among
 returns-clause-among g c client is source within =
@@ -86,7 +86,7 @@ returns-clause-among g c client is source within =
     let inside = subst (AreWithin source) (sym c.as_slice.ensures) within in
     let front = c.in_ok-fault.ensures.among shown agrees source inside in
     let written = c.in_ok-fault.ensures.written (ap Ok c.in_default.is) shown agrees source inside in
-    let back = within_then (c.in_ok-net.ensures.among cells written) (c.in_ok-sizes.ensures.among cells (subst (λ d. IsWritten d cells) (sym c.in_ok-net.ensures.draft) written)) in
+    let back = within_then (c.in_ok-net.ensures.looks.among cells written) (c.in_ok-sizes.ensures.looks.among cells (subst (λ d. IsWritten d cells) (sym c.in_ok-net.ensures.draft) written)) in
     let same = c.new-judge.ensures.client ∙ one_row (clients_of c.args.view.now) c.args.log.now.client c.unwrap-client.result.now client row is in
     subst (λ reads. AreAmong reads (looked_cells client shown (map (entry_of source) c.args.log.now.entries))) (sym c.into_reads-2.ensures)
     (subst (λ cl. AreAmong c.sizes.new.self.recorder.reads.entries (looked_cells cl shown (map (entry_of source) c.args.log.now.entries))) same

@@ -10,14 +10,15 @@ use Rattle.kfs_model.specs.Plan.{number_now}
 use Rattle.kfs_model.proofs.Exact.{numbers-exact}
 use Rattle.kfs_step.specs.Rows.{IsRow, keyed_name_row}
 use Rattle.kfs_check.proofs.Recording.{goes_then, within_then, within_wider, one_is_part}
+use Rattle.kfs_step.proofs.Entered.{is_cut_off}
 use Rattle.kfs_step.proofs.ChangedRows.{rows_same, rows_more, rows_all, names-differ}
 use Rattle.kfs_step.proofs.net.name_rows.Goals as goal
 
-pub returns-in_err-row-clause-goes : goal.returns-in_err-row-clause-goes
-returns-in_err-row-clause-goes g c = goes_then c.loop-key.invariant.goes c.in_err-row.ensures.goes
+pub returns-in_err-row : goal.returns-in_err-row
+returns-in_err-row g c = is_cut_off c.args.draft.now _ (goes_then c.loop-key.invariant.goes c.in_err-row.ensures.goes) _ c.from_residual.ensures.0
 
-pub returns-in_err-push-clause-goes : goal.returns-in_err-push-clause-goes
-returns-in_err-push-clause-goes g c = goes_then c.loop-key.invariant.goes c.in_ok-row.ensures.goes
+pub returns-in_err-push : goal.returns-in_err-push
+returns-in_err-push g c = is_cut_off c.args.draft.now _ (goes_then c.loop-key.invariant.goes c.in_ok-row.ensures.goes) _ c.from_residual-in_err-push.ensures.0
 
 pub loop-key-preserved-in-Continue-branch-3 : goal.loop-key-preserved-in-Continue-branch-3
 loop-key-preserved-in-Continue-branch-3 g c = record {
@@ -41,5 +42,9 @@ loop-key-preserved g c = record {
       (rest_more deref_pair _ _ _ (c.in-Some.key, c.in-Some.now) c.in-Some.is c.next.ensures.steps) (subst (λ r. IsRow number_now keyed_name_row c.in-Some.key.now (state.sight.name c.in-Some.key.now.0 c.in-Some.key.now.1) c.in-Some.now.now r) c.in_default.is (c.in_ok-row.ensures.known state agrees)) (c.loop-key.invariant.rows state (c.in_ok-row.ensures.goes.grows state agrees));
 }
 
-pub returns-clause-known : goal.returns-clause-known
-returns-clause-known g c state agrees = names-differ c.args.draft.now state.sight (subst (IsOrdered name_order.compare) c.targets.ensures c.iter-key-items.ensures.ordered) c.loop-key.rows.items (rows_all nat_eq numbers-exact number_now (λ key. state.sight.name key.0 key.1) keyed_name_row _ c.loop-key.key-iterator _ (rest_all deref_pair _ _ _ c.in-None.is c.next.ensures.steps) (c.loop-key.invariant.rows state agrees))
+pub returns : goal.returns
+returns g c = record {
+  goes = c.loop-key.invariant.goes;
+  known = λ state agrees. names-differ c.args.draft.now state.sight (subst (IsOrdered name_order.compare) c.targets.ensures c.iter-key-items.ensures.ordered) c.loop-key.rows.items (rows_all nat_eq numbers-exact number_now (λ key. state.sight.name key.0 key.1) keyed_name_row _ c.loop-key.key-iterator _ (rest_all deref_pair _ _ _ c.in-None.is c.next.ensures.steps) (c.loop-key.invariant.rows state agrees));
+  among = c.loop-key.invariant.among;
+}

@@ -13,14 +13,15 @@ use Rattle.kfs_value.specs.Views.{header_of}
 use Rattle.kfs_model.proofs.Exact.{headers-exact}
 use Rattle.kfs_step.specs.Rows.{IsRow, keyed_node_row}
 use Rattle.kfs_check.proofs.Recording.{goes_then, within_then, within_wider, one_is_part}
+use Rattle.kfs_step.proofs.Entered.{is_cut_off}
 use Rattle.kfs_step.proofs.ChangedRows.{shown_heads, rows_same, rows_more, rows_all, heads-differ}
 use Rattle.kfs_step.proofs.net.node_rows.Goals as goal
 
-pub returns-in_err-row-clause-goes : goal.returns-in_err-row-clause-goes
-returns-in_err-row-clause-goes g c = goes_then c.loop-number.invariant.goes c.in_err-row.ensures.goes
+pub returns-in_err-row : goal.returns-in_err-row
+returns-in_err-row g c = is_cut_off c.args.draft.now _ (goes_then c.loop-number.invariant.goes c.in_err-row.ensures.goes) _ c.from_residual.ensures.0
 
-pub returns-in_err-push-clause-goes : goal.returns-in_err-push-clause-goes
-returns-in_err-push-clause-goes g c = goes_then c.loop-number.invariant.goes c.in_ok-row.ensures.goes
+pub returns-in_err-push : goal.returns-in_err-push
+returns-in_err-push g c = is_cut_off c.args.draft.now _ (goes_then c.loop-number.invariant.goes c.in_ok-row.ensures.goes) _ c.from_residual-in_err-push.ensures.0
 
 pub loop-number-preserved-in-Continue-branch-3 : goal.loop-number-preserved-in-Continue-branch-3
 loop-number-preserved-in-Continue-branch-3 g c = record {
@@ -44,5 +45,9 @@ loop-number-preserved g c = record {
       (ap shown_heads (rest_more deref_pair _ _ _ (c.in-Some.number, c.in-Some.now) c.in-Some.is c.next.ensures.steps)) (subst (λ r. IsRow header_now keyed_node_row c.in-Some.number.now (state.sight.head c.in-Some.number.now) (option_map header_of c.in-Some.now.now) r) c.in_default.is (c.in_ok-row.ensures.known state agrees)) (c.loop-number.invariant.rows state (c.in_ok-row.ensures.goes.grows state agrees));
 }
 
-pub returns-clause-known : goal.returns-clause-known
-returns-clause-known g c state agrees = heads-differ c.args.draft.now state.sight (subst (IsOrdered numbers.compare) c.headers.ensures c.iter-number-items.ensures.ordered) c.loop-number.rows.items (rows_all same_header headers-exact header_now state.sight.head keyed_node_row _ (shown_heads c.loop-number.number-iterator) _ (ap shown_heads (rest_all deref_pair _ _ _ c.in-None.is c.next.ensures.steps)) (c.loop-number.invariant.rows state agrees))
+pub returns : goal.returns
+returns g c = record {
+  goes = c.loop-number.invariant.goes;
+  known = λ state agrees. heads-differ c.args.draft.now state.sight (subst (IsOrdered numbers.compare) c.headers.ensures c.iter-number-items.ensures.ordered) c.loop-number.rows.items (rows_all same_header headers-exact header_now state.sight.head keyed_node_row _ (shown_heads c.loop-number.number-iterator) _ (ap shown_heads (rest_all deref_pair _ _ _ c.in-None.is c.next.ensures.steps)) (c.loop-number.invariant.rows state agrees));
+  among = c.loop-number.invariant.among;
+}

@@ -11,16 +11,17 @@ use Rattle.kfs_model.specs.Table.{numbers}
 use Rattle.kfs_codec.proofs.RowPush.{AllByRecursion-push}
 use Rattle.kfs_check.proofs.Recording.{goes_then, within_then, within_wider, one_is_part}
 use Rattle.kfs_draft.specs.Overlay.{over}
+use Rattle.kfs_step.proofs.Entered.{is_cut_off}
 use Rattle.kfs_step.proofs.FileSizes.{IsOwnSize, numbers_all, numbers_more, shows_header, sizes_are_over, sorted-ascend}
 use Rattle.kfs_sweep.specs.declared.sizes.FileSize.{FileSize}
 use Rattle.kfs_sweep.specs.Sizes.{IsSize}
 use Rattle.kfs_step.proofs.sizes.file_sizes.Goals as goal
 
-pub returns-in_err-before-clause-goes : goal.returns-in_err-before-clause-goes
-returns-in_err-before-clause-goes g c = goes_then c.loop-number.invariant.goes c.in_err-before.ensures.goes
+pub returns-in_err-before-clause-looks : goal.returns-in_err-before-clause-looks
+returns-in_err-before-clause-looks g c = is_cut_off c.args.draft.now _ (goes_then c.loop-number.invariant.goes c.in_err-before.ensures.goes) _ c.from_residual.ensures.0
 
-pub returns-in_err-push-clause-goes : goal.returns-in_err-push-clause-goes
-returns-in_err-push-clause-goes g c = goes_then c.loop-number.invariant.goes c.in_ok-before.ensures.goes
+pub returns-in_err-push-clause-looks : goal.returns-in_err-push-clause-looks
+returns-in_err-push-clause-looks g c = is_cut_off c.args.draft.now _ (goes_then c.loop-number.invariant.goes c.in_ok-before.ensures.goes) _ c.from_residual-in_err-push.ensures.0
 
 pub loop-number-preserved : goal.loop-number-preserved
 loop-number-preserved g c =
@@ -44,9 +45,13 @@ loop-number-preserved g c =
       short = subst (AllByRecursion IsSize) (sym c.in_ok-push.ensures.items) (AllByRecursion-push IsSize c.loop-number.sizes.items size c.loop-number.invariant.short (omega (arith, c.min.ensures)));
     }
 
-pub returns-clause-known : goal.returns-clause-known
-returns-clause-known g c state agrees =
-    sizes_are_over c.args.draft.now state.sight c.loop-number.sizes.items (numbers_all c.loop-number.sizes.items c.loop-number.number-iterator _ (rest_all deref_pair _ _ _ c.in-None.is c.next.ensures.steps) c.loop-number.invariant.numbers) (c.loop-number.invariant.own state agrees)
+pub returns-clause-looks : goal.returns-clause-looks
+returns-clause-looks g c = record {
+  goes = c.loop-number.invariant.goes;
+  known = λ state agrees.
+      sizes_are_over c.args.draft.now state.sight c.loop-number.sizes.items (numbers_all c.loop-number.sizes.items c.loop-number.number-iterator _ (rest_all deref_pair _ _ _ c.in-None.is c.next.ensures.steps) c.loop-number.invariant.numbers) (c.loop-number.invariant.own state agrees);
+  among = c.loop-number.invariant.among;
+}
 
 pub returns-clause-ascending : goal.returns-clause-ascending
 returns-clause-ascending g c =

@@ -8,7 +8,7 @@ use Rattle.kfs_check.proofs.Failing.{failing-passes, failing-fails, failing-none
 use Rattle.kfs_check.proofs.Lists.{map-drop-cons, map-drop-past}
 use Rattle.kfs_check.proofs.Looking.{looks_here, looks_behind}
 use Rattle.kfs_check.specs.Reads.{IsPart}
-use Rattle.kfs_check.proofs.Recording.{goes_nowhere, goes_then, within_same, within_then, within_wider, part_of_itself}
+use Rattle.kfs_check.proofs.Recording.{cut_short, goes_nowhere, goes_then, within_same, within_then, within_wider, part_of_itself}
 use Rattle.kfs_check.proofs.entry_judge.EntryJudge.first_fault.Goals as goal
 
 -- the checks that are left begin with this one
@@ -24,25 +24,23 @@ loop-check-init g c = record {
   among = λ state agrees. within_same _ _;
 }
 
-pub returns-in_err-reason-clause-goes : goal.returns-in_err-reason-clause-goes
-returns-in_err-reason-clause-goes g c = goes_then c.loop-check.invariant.goes c.in_err-reason.ensures.goes
+pub returns-in_err-reason : goal.returns-in_err-reason
+returns-in_err-reason g c = cut_short (goes_then c.loop-check.invariant.goes c.in_err-reason.ensures.goes) _ _ _ c.from_residual.ensures.0
 
-pub returns-in-Some-clause-goes : goal.returns-in-Some-clause-goes
-returns-in-Some-clause-goes g c = goes_then c.loop-check.invariant.goes c.in_ok-reason.ensures.goes
-
-pub returns-in-Some-clause-known : goal.returns-in-Some-clause-known
-returns-in-Some-clause-known g c state agrees =
-    let p = entry_context_in c.args.self.now state in
-    c.loop-check.invariant.passed state (c.in_ok-reason.ensures.goes.grows state agrees)
-    ∙ ap (first_failing p) (map-drop-cons check_of c.args.checks.now c.loop-check.check-index c.check-item.result c.loop-check-test.true c.check-item.is)
-    ∙ failing-fails p _ _ _ (c.in_ok-reason.ensures.known state agrees ∙ ap (option_map reason_of) c.in-Some.is)
-
-pub returns-in-Some-clause-among : goal.returns-in-Some-clause-among
-returns-in-Some-clause-among g c state agrees =
-    let p = entry_context_in c.args.self.now state in
-    let before = c.in_ok-reason.ensures.goes.grows state agrees in
-    let left = left_begins p c.args.checks.now c.loop-check.check-index c.check-item.result c.loop-check-test.true c.check-item.is (c.loop-check.invariant.left state before) in
-    within_then (c.loop-check.invariant.among state before) (within_wider (λ cell there. left cell (looks_here p (check_of c.check-item.result) _ cell there)) (c.in_ok-reason.ensures.among state agrees))
+pub returns-in-Some : goal.returns-in-Some
+returns-in-Some g c = record {
+  goes = goes_then c.loop-check.invariant.goes c.in_ok-reason.ensures.goes;
+  known = λ state agrees.
+      let p = entry_context_in c.args.self.now state in
+      c.loop-check.invariant.passed state (c.in_ok-reason.ensures.goes.grows state agrees)
+      ∙ ap (first_failing p) (map-drop-cons check_of c.args.checks.now c.loop-check.check-index c.check-item.result c.loop-check-test.true c.check-item.is)
+      ∙ failing-fails p _ _ _ (c.in_ok-reason.ensures.known state agrees ∙ ap (option_map reason_of) c.in-Some.is);
+  among = λ state agrees.
+      let p = entry_context_in c.args.self.now state in
+      let before = c.in_ok-reason.ensures.goes.grows state agrees in
+      let left = left_begins p c.args.checks.now c.loop-check.check-index c.check-item.result c.loop-check-test.true c.check-item.is (c.loop-check.invariant.left state before) in
+      within_then (c.loop-check.invariant.among state before) (within_wider (λ cell there. left cell (looks_here p (check_of c.check-item.result) _ cell there)) (c.in_ok-reason.ensures.among state agrees));
+}
 
 pub loop-check-preserved : goal.loop-check-preserved
 loop-check-preserved g c = record {
@@ -63,8 +61,12 @@ loop-check-preserved g c = record {
       within_then (c.loop-check.invariant.among state before) (within_wider (λ cell there. left cell (looks_here p (check_of c.check-item.result) _ cell there)) (c.in_ok-reason.ensures.among state agrees));
 }
 
-pub returns-clause-known : goal.returns-clause-known
-returns-clause-known g c state agrees =
-    let p = entry_context_in c.args.self.now state in
-    let past : length c.args.checks.now ≤ c.loop-check.check-index = omega arith in
-    c.loop-check.invariant.passed state agrees ∙ ap (first_failing p) (map-drop-past check_of c.args.checks.now c.loop-check.check-index past) ∙ failing-none p
+pub returns : goal.returns
+returns g c = record {
+  goes = c.loop-check.invariant.goes;
+  known = λ state agrees.
+      let p = entry_context_in c.args.self.now state in
+      let past : length c.args.checks.now ≤ c.loop-check.check-index = omega arith in
+      c.loop-check.invariant.passed state agrees ∙ ap (first_failing p) (map-drop-past check_of c.args.checks.now c.loop-check.check-index past) ∙ failing-none p;
+  among = c.loop-check.invariant.among;
+}

@@ -13,16 +13,16 @@ use Rattle.kfs_step.proofs.Entered.{is_cut_short, has_fault, header_is_set}
 use Rattle.kfs_step.proofs.log_judge.LogJudge.chmod.Goals as goal
 
 pub returns-in_err-fault : goal.returns-in_err-fault
-returns-in_err-fault g c = is_cut_short c.args.self.now _ (Chmod c.args.number c.args.mode) c.in_err-fault.ensures.goes refl _ c.from_residual.ensures.0
+returns-in_err-fault g c = is_cut_short c.args.self.now _ (Chmod c.args.number c.args.mode) (c.in_err-fault.ensures c.args.mode).goes refl _ c.from_residual.ensures.0
 
 pub returns-in-Some : goal.returns-in-Some
-returns-in-Some g c = has_fault c.args.self.now _ (Chmod c.args.number c.args.mode) c.in_ok-fault.ensures.goes refl c.in-Some.reason (λ state agrees. c.in_ok-fault.ensures.known c.args.mode state agrees ∙ ap (option_map reason_of) c.in-Some.is) (c.in_ok-fault.ensures.among c.args.mode)
+returns-in-Some g c = has_fault c.args.self.now _ (Chmod c.args.number c.args.mode) (c.in_ok-fault.ensures c.args.mode).goes refl c.in-Some.reason (λ state agrees. (c.in_ok-fault.ensures c.args.mode).known state agrees ∙ ap (option_map reason_of) c.in-Some.is) (c.in_ok-fault.ensures c.args.mode).among
 
 pub returns-in_err-header : goal.returns-in_err-header
-returns-in_err-header g c = is_cut_short c.args.self.now _ (Chmod c.args.number c.args.mode) (goes_then c.in_ok-fault.ensures.goes c.in_err-header.ensures.goes) refl _ c.from_residual-in_err-header.ensures.0
+returns-in_err-header g c = is_cut_short c.args.self.now _ (Chmod c.args.number c.args.mode) (goes_then (c.in_ok-fault.ensures c.args.mode).goes c.in_err-header.ensures.goes) refl _ c.from_residual-in_err-header.ensures.0
 
 pub returns-in_err-set_header : goal.returns-in_err-set_header
-returns-in_err-set_header g c = is_cut_short c.args.self.now _ (Chmod c.args.number c.args.mode) (goes_then c.in_ok-fault.ensures.goes c.in_ok-header.ensures.goes) refl _ c.from_residual-in_err-set_header.ensures.0
+returns-in_err-set_header g c = is_cut_short c.args.self.now _ (Chmod c.args.number c.args.mode) (goes_then (c.in_ok-fault.ensures c.args.mode).goes c.in_ok-header.ensures.goes) refl _ c.from_residual-in_err-set_header.ensures.0
 
 pub returns : goal.returns
 unfolding seen_after
@@ -30,9 +30,9 @@ returns g c =
     let n = c.args.number in
     let mode = c.args.mode in
     let change : Header → Header = λ h. record h { mode = mode } in
-    header_is_set c.args.self.now _ c.chmod_fault.new.recorder (Chmod n mode) n c.in_ok-fault.ensures.goes c.in_ok-header.ensures.goes refl
-    (λ state agrees. c.in_ok-fault.ensures.known mode state agrees ∙ ap (option_map reason_of) c.in_default.is)
-    (c.in_ok-fault.ensures.among mode) c.in_ok-header.ensures.among (λ p. chmod_looks p n mode)
+    header_is_set c.args.self.now _ c.chmod_fault.new.recorder (Chmod n mode) n (c.in_ok-fault.ensures c.args.mode).goes c.in_ok-header.ensures.goes refl
+    (λ state agrees. (c.in_ok-fault.ensures mode).known state agrees ∙ ap (option_map reason_of) c.in_default.is)
+    (c.in_ok-fault.ensures mode).among c.in_ok-header.ensures.among (λ p. chmod_looks p n mode)
     (λ state agrees.
     let old = over c.args.self.now.draft state.sight in
     let same = c.with_mode.ensures ∙ ap (option_map change) (sym (c.in_ok-header.ensures.known state agrees)) in

@@ -16,17 +16,17 @@ use Rattle.kfs_step.proofs.Entered.{is_cut_short, has_fault, header_is_set, own_
 use Rattle.kfs_step.proofs.log_judge.LogJudge.write.Goals as goal
 
 pub returns-in_err-fault : goal.returns-in_err-fault
-returns-in_err-fault g c payload long = is_cut_short c.args.self.now _ (Write c.args.number c.args.offset payload) c.in_err-fault.ensures.goes refl _ c.from_residual.ensures.0
+returns-in_err-fault g c payload long = is_cut_short c.args.self.now _ (Write c.args.number c.args.offset payload) (c.in_err-fault.ensures payload long).goes refl _ c.from_residual.ensures.0
 
 pub returns-in-Some : goal.returns-in-Some
 returns-in-Some g c payload long =
-    has_fault c.args.self.now _ (Write c.args.number c.args.offset payload) c.in_ok-fault.ensures.goes refl c.in-Some.reason (λ state agrees. c.in_ok-fault.ensures.known payload long state agrees ∙ ap (option_map reason_of) c.in-Some.is) (c.in_ok-fault.ensures.among payload long)
+    has_fault c.args.self.now _ (Write c.args.number c.args.offset payload) (c.in_ok-fault.ensures payload long).goes refl c.in-Some.reason (λ state agrees. (c.in_ok-fault.ensures payload long).known state agrees ∙ ap (option_map reason_of) c.in-Some.is) (c.in_ok-fault.ensures payload long).among
 
 pub returns-in_err-header : goal.returns-in_err-header
-returns-in_err-header g c payload long = is_cut_short c.args.self.now _ (Write c.args.number c.args.offset payload) (goes_then c.in_ok-fault.ensures.goes c.in_err-header.ensures.goes) refl _ c.from_residual-in_err-header.ensures.0
+returns-in_err-header g c payload long = is_cut_short c.args.self.now _ (Write c.args.number c.args.offset payload) (goes_then (c.in_ok-fault.ensures payload long).goes c.in_err-header.ensures.goes) refl _ c.from_residual-in_err-header.ensures.0
 
 pub returns-in_err-set_header : goal.returns-in_err-set_header
-returns-in_err-set_header g c payload long = is_cut_short c.args.self.now _ (Write c.args.number c.args.offset payload) (goes_then c.in_ok-fault.ensures.goes c.in_ok-header.ensures.goes) refl _ c.from_residual-in_err-set_header.ensures.0
+returns-in_err-set_header g c payload long = is_cut_short c.args.self.now _ (Write c.args.number c.args.offset payload) (goes_then (c.in_ok-fault.ensures payload long).goes c.in_ok-header.ensures.goes) refl _ c.from_residual-in_err-set_header.ensures.0
 
 pub returns : goal.returns
 unfolding seen_after
@@ -34,9 +34,9 @@ returns g c payload long =
     let n = c.args.number in
     let offset = c.args.offset in
     let change : Header → Header = λ h. record h { size = written_size offset payload h.size } in
-    let clean : Known c.write_fault.new.recorder (λ before. first_fault (next_context c.args.self.now before) (Write n offset payload) ≡ None) = λ state agrees. c.in_ok-fault.ensures.known payload long state agrees ∙ ap (option_map reason_of) c.in_default.is in
-    header_is_set c.args.self.now _ c.write_fault.new.recorder (Write n offset payload) n c.in_ok-fault.ensures.goes c.in_ok-header.ensures.goes refl
-    clean (c.in_ok-fault.ensures.among payload long) c.in_ok-header.ensures.among (λ p. write_looks p n offset payload)
+    let clean : Known c.write_fault.new.recorder (λ before. first_fault (next_context c.args.self.now before) (Write n offset payload) ≡ None) = λ state agrees. (c.in_ok-fault.ensures payload long).known state agrees ∙ ap (option_map reason_of) c.in_default.is in
+    header_is_set c.args.self.now _ c.write_fault.new.recorder (Write n offset payload) n (c.in_ok-fault.ensures payload long).goes c.in_ok-header.ensures.goes refl
+    clean (c.in_ok-fault.ensures payload long).among c.in_ok-header.ensures.among (λ p. write_looks p n offset payload)
     (λ state agrees.
     let old = over c.args.self.now.draft state.sight in
     let fits = write_fits (next_context c.args.self.now state) n offset payload (omega (arith, c.ranges.offset.fits)) (clean state (c.in_ok-header.ensures.goes.grows state agrees)) in
