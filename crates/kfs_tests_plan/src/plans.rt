@@ -1,10 +1,9 @@
 //! Small logs over two files, with right plans, the same cut anew, and plans with one row that isn't right.
 
 use crate::marks::{joined, need, push_bytes, size_after};
-use crate::scenes::{Scene, Verdict, verdict, view};
+use crate::scenes::{Case, Scene, Verdict};
 use crate::spelling::PieceLine::{Put, Zero};
-use crate::spelling::{FileLine, NameLine, PieceLine, Rows, Step, log, plan};
-use kfs_judge::View;
+use crate::spelling::{FileLine, NameLine, PieceLine, Rows, Step};
 use kfs_plan::{Fault, RowFault};
 use std::alloc::Global;
 
@@ -185,24 +184,14 @@ fn right_of(alloc: Global, steps: &[Step<'_>]) -> Option<Right> {
     })
 }
 
-/// A view with a log as bytes.
-#[derive(Drop)]
-struct Judge {
-    view: View<Global>,
-    log: Vec<u8, Global>,
-}
-
-fn judge_of(alloc: Global, steps: &[Step<'_>]) -> Option<Judge> {
-    Some(Judge {
-        view: view(alloc, &TWO_FILES)?,
-        log: log(alloc, steps)?,
-    })
+/// The two files, and this log.
+fn case_of(alloc: Global, steps: &[Step<'_>]) -> Option<Case<Global>> {
+    Case::new(alloc, &TWO_FILES, steps)
 }
 
 /// Whether this is judged of the plan.
-fn is_judged(alloc: Global, judge: &Judge, rows: Rows<'_>, wanted: Verdict) -> Option<bool> {
-    let plan = plan(alloc, rows)?;
-    Some(verdict(alloc, &judge.view, 7, &judge.log, &plan)? == wanted)
+fn is_judged(alloc: Global, case: &Case<Global>, rows: Rows<'_>, wanted: Verdict) -> Option<bool> {
+    Some(case.verdict(alloc, rows)? == wanted)
 }
 
 /// A change of a list of rows, at an index.
@@ -293,12 +282,12 @@ fn with_pieces<'a>(right: &'a Right, pieces: &'a [PieceLine]) -> Rows<'a> {
 }
 
 /// Whether the plan with the piece of this index cut at each of its bytes in turn is accepted, with the same need.
-fn is_piece_cut(alloc: Global, judge: &Judge, right: &Right, at: usize) -> Option<bool> {
+fn is_piece_cut(alloc: Global, case: &Case<Global>, right: &Right, at: usize) -> Option<bool> {
     let piece = *right.pieces.get(at)?;
     for first in 1..len_of(piece) {
         let (front, back) = parts(piece, first)?;
         let pieces = edited(alloc, &right.pieces, at, Edit::Cut(front, back))?;
-        if !is_judged(alloc, judge, with_pieces(right, &pieces), Ok(right.need))? {
+        if !is_judged(alloc, case, with_pieces(right, &pieces), Ok(right.need))? {
             return Some(false);
         }
     }
@@ -306,14 +295,14 @@ fn is_piece_cut(alloc: Global, judge: &Judge, right: &Right, at: usize) -> Optio
 }
 
 /// Whether the right plan is accepted, whole, cut at each byte in turn, and cut at all of them.
-fn are_cuts_accepted(alloc: Global, judge: &Judge, right: &Right) -> Option<bool> {
+fn are_cuts_accepted(alloc: Global, case: &Case<Global>, right: &Right) -> Option<bool> {
     for pieces in [&right.pieces, &right.bytes] {
-        if !is_judged(alloc, judge, with_pieces(right, pieces), Ok(right.need))? {
+        if !is_judged(alloc, case, with_pieces(right, pieces), Ok(right.need))? {
             return Some(false);
         }
     }
     for at in 0..right.pieces.len() {
-        if !is_piece_cut(alloc, judge, right, at)? {
+        if !is_piece_cut(alloc, case, right, at)? {
             return Some(false);
         }
     }
@@ -323,8 +312,8 @@ fn are_cuts_accepted(alloc: Global, judge: &Judge, right: &Right) -> Option<bool
 /// Whether the log needs so many blocks, and its plan is accepted however it is cut.
 fn is_small_accepted(alloc: Global, small: &Small<'_>) -> Option<bool> {
     let (steps, need) = *small;
-    let (judge, right) = (judge_of(alloc, steps)?, right_of(alloc, steps)?);
-    Some(right.need == need && are_cuts_accepted(alloc, &judge, &right)?)
+    let (case, right) = (case_of(alloc, steps)?, right_of(alloc, steps)?);
+    Some(right.need == need && are_cuts_accepted(alloc, &case, &right)?)
 }
 
 #[test]
@@ -393,7 +382,7 @@ fn shorter(piece: PieceLine, at: usize) -> (PieceLine, usize) {
 /// Whether the right pieces with the change at this index are refused for the piece `due`.
 fn is_piece_refused(
     alloc: Global,
-    judge: &Judge,
+    case: &Case<Global>,
     right: &Right,
     at: usize,
     edit: Edit<PieceLine>,
@@ -401,23 +390,23 @@ fn is_piece_refused(
 ) -> Option<bool> {
     let pieces = edited(alloc, &right.pieces, at, edit)?;
     let wanted = Err(Fault::Row(RowFault::Pieces(due)));
-    is_judged(alloc, judge, with_pieces(right, &pieces), wanted)
+    is_judged(alloc, case, with_pieces(right, &pieces), wanted)
 }
 
 /// Whether each change of the piece of this index is refused at the row that is due.
-fn are_piece_edits_refused(alloc: Global, judge: &Judge, right: &Right, at: usize) -> Option<bool> {
+fn are_piece_edits_refused(alloc: Global, case: &Case<Global>, right: &Right, at: usize) -> Option<bool> {
     let piece = *right.pieces.get(at)?;
     let behind = at.checked_add(1)?;
     let (short, due) = shorter(piece, at);
-    let mut is_refused = is_piece_refused(alloc, judge, right, at, Edit::LeftOut, at)?
-        && is_piece_refused(alloc, judge, right, at, Edit::Doubled, behind)?
-        && is_piece_refused(alloc, judge, right, at, Edit::Replaced(short), due)?;
+    let mut is_refused = is_piece_refused(alloc, case, right, at, Edit::LeftOut, at)?
+        && is_piece_refused(alloc, case, right, at, Edit::Doubled, behind)?
+        && is_piece_refused(alloc, case, right, at, Edit::Replaced(short), due)?;
     if behind < right.pieces.len() {
-        is_refused = is_refused && is_piece_refused(alloc, judge, right, at, Edit::Swapped, at)?;
+        is_refused = is_refused && is_piece_refused(alloc, case, right, at, Edit::Swapped, at)?;
     }
     for new in moved(piece).into_iter().chain(of_others(piece)) {
         is_refused = is_refused
-            && is_piece_refused(alloc, judge, right, at, Edit::Replaced(new), at)?;
+            && is_piece_refused(alloc, case, right, at, Edit::Replaced(new), at)?;
     }
     Some(is_refused)
 }
@@ -425,7 +414,7 @@ fn are_piece_edits_refused(alloc: Global, judge: &Judge, right: &Right, at: usiz
 /// Whether the plan with this change of its node rows is refused for the row `due`.
 fn is_node_refused(
     alloc: Global,
-    judge: &Judge,
+    case: &Case<Global>,
     right: &Right,
     at: usize,
     edit: Edit<FileLine>,
@@ -437,17 +426,17 @@ fn is_node_refused(
         nodes: &nodes,
         pieces: &right.pieces,
     };
-    is_judged(alloc, judge, rows, Err(Fault::Row(RowFault::Nodes(due))))
+    is_judged(alloc, case, rows, Err(Fault::Row(RowFault::Nodes(due))))
 }
 
 /// Whether each change of the node row of this index is refused at the row that is due.
-fn are_node_edits_refused(alloc: Global, judge: &Judge, right: &Right, at: usize) -> Option<bool> {
+fn are_node_edits_refused(alloc: Global, case: &Case<Global>, right: &Right, at: usize) -> Option<bool> {
     let FileLine(number, mode, uid, gid, size) = *right.nodes.get(at)?;
     let behind = at.checked_add(1)?;
-    let mut is_refused = is_node_refused(alloc, judge, right, at, Edit::LeftOut, at)?
-        && is_node_refused(alloc, judge, right, at, Edit::Doubled, behind)?;
+    let mut is_refused = is_node_refused(alloc, case, right, at, Edit::LeftOut, at)?
+        && is_node_refused(alloc, case, right, at, Edit::Doubled, behind)?;
     if behind < right.nodes.len() {
-        is_refused = is_refused && is_node_refused(alloc, judge, right, at, Edit::Swapped, at)?;
+        is_refused = is_refused && is_node_refused(alloc, case, right, at, Edit::Swapped, at)?;
     }
     for new in [
         FileLine(number, mode, uid, gid, size.saturating_add(1)),
@@ -457,21 +446,21 @@ fn are_node_edits_refused(alloc: Global, judge: &Judge, right: &Right, at: usize
         FileLine(1, mode, uid, gid, size),
     ] {
         is_refused = is_refused
-            && is_node_refused(alloc, judge, right, at, Edit::Replaced(new), at)?;
+            && is_node_refused(alloc, case, right, at, Edit::Replaced(new), at)?;
     }
     Some(is_refused)
 }
 
 /// Whether each change of one row of the log's right plan is refused at the row that is due.
 fn are_edits_refused(alloc: Global, steps: &[Step<'_>]) -> Option<bool> {
-    let (judge, right) = (judge_of(alloc, steps)?, right_of(alloc, steps)?);
+    let (case, right) = (case_of(alloc, steps)?, right_of(alloc, steps)?);
     for at in 0..right.nodes.len() {
-        if !are_node_edits_refused(alloc, &judge, &right, at)? {
+        if !are_node_edits_refused(alloc, &case, &right, at)? {
             return Some(false);
         }
     }
     for at in 0..right.pieces.len() {
-        if !are_piece_edits_refused(alloc, &judge, &right, at)? {
+        if !are_piece_edits_refused(alloc, &case, &right, at)? {
             return Some(false);
         }
     }
@@ -514,40 +503,40 @@ fn with_names(names: &[NameLine]) -> Rows<'_> {
 
 fn is_name_refused(
     alloc: Global,
-    judge: &Judge,
+    case: &Case<Global>,
     at: usize,
     edit: Edit<NameLine>,
     due: usize,
 ) -> Option<bool> {
     let names = edited(alloc, &NEW_NAMES, at, edit)?;
     let wanted = Err(Fault::Row(RowFault::Names(due)));
-    is_judged(alloc, judge, with_names(&names), wanted)
+    is_judged(alloc, case, with_names(&names), wanted)
 }
 
 /// Whether each change of the name row of this index is refused at the row that is due.
-fn are_name_edits_refused(alloc: Global, judge: &Judge, at: usize) -> Option<bool> {
+fn are_name_edits_refused(alloc: Global, case: &Case<Global>, at: usize) -> Option<bool> {
     let (name, number) = *NEW_NAMES.get(at)?;
     let behind = at.checked_add(1)?;
-    let mut is_refused = is_name_refused(alloc, judge, at, Edit::LeftOut, at)?
-        && is_name_refused(alloc, judge, at, Edit::Doubled, behind)?;
+    let mut is_refused = is_name_refused(alloc, case, at, Edit::LeftOut, at)?
+        && is_name_refused(alloc, case, at, Edit::Doubled, behind)?;
     if behind < NEW_NAMES.len() {
-        is_refused = is_refused && is_name_refused(alloc, judge, at, Edit::Swapped, at)?;
+        is_refused = is_refused && is_name_refused(alloc, case, at, Edit::Swapped, at)?;
     }
     for new in [
         (name, 0),
         (name, number.saturating_add(1)),
         (&b"f"[..], number),
     ] {
-        is_refused = is_refused && is_name_refused(alloc, judge, at, Edit::Replaced(new), at)?;
+        is_refused = is_refused && is_name_refused(alloc, case, at, Edit::Replaced(new), at)?;
     }
     Some(is_refused)
 }
 
 fn are_names_refused(alloc: Global) -> Option<bool> {
-    let judge = judge_of(alloc, &NEW_FILES)?;
-    let mut is_right = is_judged(alloc, &judge, with_names(&NEW_NAMES), Ok(0))?;
+    let case = case_of(alloc, &NEW_FILES)?;
+    let mut is_right = is_judged(alloc, &case, with_names(&NEW_NAMES), Ok(0))?;
     for at in 0..NEW_NAMES.len() {
-        is_right = is_right && are_name_edits_refused(alloc, &judge, at)?;
+        is_right = is_right && are_name_edits_refused(alloc, &case, at)?;
     }
     Some(is_right)
 }

@@ -1,6 +1,6 @@
 //! Worked submissions, each with the need or the fault that is due.
 
-use crate::scenes::{Scene, Verdict, verdict, view};
+use crate::scenes::{Case, Scene, Verdict, verdict, view};
 use crate::spelling::PieceLine::{Put, Zero};
 use crate::spelling::{FileLine, NO_ROWS, NameLine, PieceLine, Rows, Step, log, plan};
 use kfs_entry::SpellFault;
@@ -277,9 +277,7 @@ const GREATEST: [Row<'static>; 3] = [
 
 /// What is judged of a log and a plan of client 7.
 fn judged(alloc: Global, scene: &Scene<'_>, steps: &[Step<'_>], rows: Rows<'_>) -> Option<Verdict> {
-    let view = view(alloc, scene)?;
-    let (log, plan) = (log(alloc, steps)?, plan(alloc, rows)?);
-    verdict(alloc, &view, 7, &log, &plan)
+    Case::new(alloc, scene, steps)?.verdict(alloc, rows)
 }
 
 fn expect_rows(rt: &(impl Abort + AllocGlobal), rows: &[Row<'_>]) {
