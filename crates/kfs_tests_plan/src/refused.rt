@@ -1,4 +1,5 @@
-//! Each growth of the calls refused in turn: the answer is that there is no memory, and then what it is with memory.
+//! Each growth of the calls refused in turn: the answer is that there is no memory, and then what it is with memory. And
+//! a file of the greatest size, judged in little memory.
 ghost use Rattle.std.specs.Prelude.{◌≤◌, length, IfSome, IsOk};
 ghost use Rattle.std.specs.List.{AllByRecursion};
 ghost use Rattle.kfs_model.specs.Limits.{entry_limit};
@@ -6,7 +7,8 @@ ghost use Rattle.kfs_sweep.specs.Sizes.{IsSpanned};
 ghost use Rattle.kfs_judge.specs.Walks.{HasOrderedSizes};
 
 use crate::plans::TWO_FILES;
-use crate::scenes::{Case, judged, submission};
+use crate::rows::{EMPTY_FILE, WHOLE_FILE, WHOLE_FILE_ROWS};
+use crate::scenes::{Case, Verdict, judged, submission};
 use crate::spelling::PieceLine::{Put, Zero};
 use crate::spelling::{FileLine, Rows, Step, plan};
 use kfs_entry::{Log, Plan, decode_log, decode_plan};
@@ -237,5 +239,29 @@ fn each_growth_refused_in_turn(rt: HostRuntime) {
     ] {
         let count = growths(rt.alloc(), call);
         assert!(rt; count.is_ok_and(|count| 3 < count), "{call:?}: {count:?}");
+    }
+}
+
+/// Whether this is judged of a file of the greatest size, or the submission comes back for this reason, where at most so
+/// many bytes are held at one time beside the view and the submission.
+fn is_greatest_judged(alloc: Global, bytes: u64, wanted: Result<Verdict, Why>) -> Option<bool> {
+    let heap = Refusing::new(alloc, AMPLE);
+    let case = Case::new(&heap, &EMPTY_FILE, &WHOLE_FILE)?;
+    let plan = plan(&heap, WHOLE_FILE_ROWS)?;
+    let submission = submission(&heap, 7, &case.log, &plan).ok()?;
+    heap.leave(bytes);
+    match judged(&heap, &case.view, submission) {
+        Ok(verdict) => Some(wanted == Ok(verdict)),
+        Err(back) => Some(wanted == Err(back.why)),
+    }
+}
+
+#[test]
+fn a_file_of_the_greatest_size_in_little_memory(rt: HostRuntime) {
+    for (bytes, wanted) in [(16 << 20, Ok(Ok(1))), (1 << 10, Err(Why::OutOfMemory))] {
+        assert!(rt;
+            is_greatest_judged(rt.alloc(), bytes, wanted) == Some(true),
+            "{bytes}"
+        );
     }
 }
