@@ -6,6 +6,7 @@ use crate::spelling::PieceLine::{Put, Zero};
 use crate::spelling::{FileLine, NameLine, PieceLine, Rows, Step};
 use kfs_plan::{Fault, RowFault};
 use std::alloc::Global;
+use std::process::Abort;
 
 /// The numbers of the two files, and how many bytes they have before each log.
 const FILES: [(u32, u64); 2] = [(5, 5_000), (6, 4_096)];
@@ -246,6 +247,27 @@ fn edited<T: Copy + Drop>(
     Some(out)
 }
 
+/// The changes of the right row of this index that are wrong in each list, and the index of the row that is wrong then:
+/// the row left out, doubled, in the other order with the one behind it, and replaced by each of these.
+fn wrong_edits<T: Copy + Drop>(
+    alloc: Global,
+    rows: &[T],
+    at: usize,
+    others: &[T],
+) -> Option<Vec<(Edit<T>, usize), Global>> {
+    let behind = at.checked_add(1)?;
+    let mut edits = Vec::new(alloc);
+    edits.push((Edit::LeftOut, at)).ok()?;
+    edits.push((Edit::Doubled, behind)).ok()?;
+    if behind < rows.len() {
+        edits.push((Edit::Swapped, at)).ok()?;
+    }
+    for other in others {
+        edits.push((Edit::Replaced(*other), at)).ok()?;
+    }
+    Some(edits)
+}
+
 /// The two parts of a piece, the first of which has so many bytes.
 fn parts(piece: PieceLine, first: u64) -> Option<(PieceLine, PieceLine)> {
     Some(match piece {
@@ -316,44 +338,24 @@ fn is_small_accepted(alloc: Global, small: &Small<'_>) -> Option<bool> {
     Some(right.need == need && are_cuts_accepted(alloc, &case, &right)?)
 }
 
-#[test]
-fn right_plans_cut_anew(rt: HostRuntime) {
-    for (index, small) in OVERLAPPING.iter().chain(&CUT).chain(&GAPS).enumerate() {
-        assert!(rt;
-            is_small_accepted(rt.alloc(), small) == Some(true),
-            "{index}"
-        );
-    }
-}
-
-/// A piece in another file, begun later, one byte longer, and past the greatest number.
-fn moved(piece: PieceLine) -> [PieceLine; 4] {
+/// A piece in another file, begun later, one byte longer, past the greatest number, without a byte, and from other sources.
+fn others(piece: PieceLine) -> [PieceLine; 8] {
     match piece {
         Zero(number, start, len) => [
             Zero(number.saturating_add(90), start, len),
             Zero(number, start.saturating_add(1), len),
             Zero(number, start, len.saturating_add(1)),
             Zero(number, u64::MAX, u64::MAX),
-        ],
-        Put(number, start, len, entry, place) => [
-            Put(number.saturating_add(90), start, len, entry, place),
-            Put(number, start.saturating_add(1), len, entry, place),
-            Put(number, start, len.saturating_add(1), entry, place),
-            Put(number, u64::MAX, u64::MAX, entry, place),
-        ],
-    }
-}
-
-/// The piece without a byte, and from other sources.
-fn of_others(piece: PieceLine) -> [PieceLine; 4] {
-    match piece {
-        Zero(number, start, len) => [
             Zero(number, start, 0),
             Put(number, start, len, 0, 0),
             Put(number, start, len, 1, 0),
             Put(number, start, len, u16::MAX, u32::MAX),
         ],
         Put(number, start, len, entry, place) => [
+            Put(number.saturating_add(90), start, len, entry, place),
+            Put(number, start.saturating_add(1), len, entry, place),
+            Put(number, start, len.saturating_add(1), entry, place),
+            Put(number, u64::MAX, u64::MAX, entry, place),
             Put(number, start, 0, entry, place),
             Zero(number, start, len),
             Put(number, start, len, entry.saturating_add(1), place),
@@ -394,21 +396,22 @@ fn is_piece_refused(
 }
 
 /// Whether each change of the piece of this index is refused at the row that is due.
-fn are_piece_edits_refused(alloc: Global, case: &Case<Global>, right: &Right, at: usize) -> Option<bool> {
+fn are_piece_edits_refused(
+    alloc: Global,
+    case: &Case<Global>,
+    right: &Right,
+    at: usize,
+) -> Option<bool> {
     let piece = *right.pieces.get(at)?;
-    let behind = at.checked_add(1)?;
     let (short, due) = shorter(piece, at);
-    let mut is_refused = is_piece_refused(alloc, case, right, at, Edit::LeftOut, at)?
-        && is_piece_refused(alloc, case, right, at, Edit::Doubled, behind)?
-        && is_piece_refused(alloc, case, right, at, Edit::Replaced(short), due)?;
-    if behind < right.pieces.len() {
-        is_refused = is_refused && is_piece_refused(alloc, case, right, at, Edit::Swapped, at)?;
+    let mut edits = wrong_edits(alloc, &right.pieces, at, &others(piece))?;
+    edits.push((Edit::Replaced(short), due)).ok()?;
+    for (edit, due) in &edits {
+        if !is_piece_refused(alloc, case, right, at, *edit, *due)? {
+            return Some(false);
+        }
     }
-    for new in moved(piece).into_iter().chain(of_others(piece)) {
-        is_refused = is_refused
-            && is_piece_refused(alloc, case, right, at, Edit::Replaced(new), at)?;
-    }
-    Some(is_refused)
+    Some(true)
 }
 
 /// Whether the plan with this change of its node rows is refused for the row `due`.
@@ -429,26 +432,32 @@ fn is_node_refused(
     is_judged(alloc, case, rows, Err(Fault::Row(RowFault::Nodes(due))))
 }
 
-/// Whether each change of the node row of this index is refused at the row that is due.
-fn are_node_edits_refused(alloc: Global, case: &Case<Global>, right: &Right, at: usize) -> Option<bool> {
-    let FileLine(number, mode, uid, gid, size) = *right.nodes.get(at)?;
-    let behind = at.checked_add(1)?;
-    let mut is_refused = is_node_refused(alloc, case, right, at, Edit::LeftOut, at)?
-        && is_node_refused(alloc, case, right, at, Edit::Doubled, behind)?;
-    if behind < right.nodes.len() {
-        is_refused = is_refused && is_node_refused(alloc, case, right, at, Edit::Swapped, at)?;
-    }
-    for new in [
+/// What else a node row could say.
+fn other_nodes(row: FileLine) -> [FileLine; 5] {
+    let FileLine(number, mode, uid, gid, size) = row;
+    [
         FileLine(number, mode, uid, gid, size.saturating_add(1)),
         FileLine(number, 0o600, uid, gid, size),
         FileLine(number, mode, 0, gid, size),
         FileLine(number, mode, uid, 0, size),
         FileLine(1, mode, uid, gid, size),
-    ] {
-        is_refused = is_refused
-            && is_node_refused(alloc, case, right, at, Edit::Replaced(new), at)?;
+    ]
+}
+
+/// Whether each change of the node row of this index is refused at the row that is due.
+fn are_node_edits_refused(
+    alloc: Global,
+    case: &Case<Global>,
+    right: &Right,
+    at: usize,
+) -> Option<bool> {
+    let edits = wrong_edits(alloc, &right.nodes, at, &other_nodes(*right.nodes.get(at)?))?;
+    for (edit, due) in &edits {
+        if !is_node_refused(alloc, case, right, at, *edit, *due)? {
+            return Some(false);
+        }
     }
-    Some(is_refused)
+    Some(true)
 }
 
 /// Whether each change of one row of the log's right plan is refused at the row that is due.
@@ -467,14 +476,33 @@ fn are_edits_refused(alloc: Global, steps: &[Step<'_>]) -> Option<bool> {
     Some(true)
 }
 
-#[test]
-fn plans_with_one_row_wrong(rt: HostRuntime) {
-    for (index, (steps, _)) in OVERLAPPING.iter().chain(&CUT).chain(&GAPS).enumerate() {
+/// For each of the logs, the right plans are accepted, cut anew, too, and those with one row wrong are refused.
+fn expect_plans(rt: &(impl Abort + AllocGlobal), smalls: &[Small<'_>]) {
+    for (index, small) in smalls.iter().enumerate() {
         assert!(rt;
-            are_edits_refused(rt.alloc(), steps) == Some(true),
+            is_small_accepted(rt.alloc(), small) == Some(true),
+            "{index}"
+        );
+        assert!(rt;
+            are_edits_refused(rt.alloc(), small.0) == Some(true),
             "{index}"
         );
     }
+}
+
+#[test]
+fn plans_of_overlapping_writes(rt: HostRuntime) {
+    expect_plans(&rt, &OVERLAPPING);
+}
+
+#[test]
+fn plans_of_cuts(rt: HostRuntime) {
+    expect_plans(&rt, &CUT);
+}
+
+#[test]
+fn plans_of_gaps(rt: HostRuntime) {
+    expect_plans(&rt, &GAPS);
 }
 
 /// Three new empty files, and the right plan.
@@ -516,20 +544,18 @@ fn is_name_refused(
 /// Whether each change of the name row of this index is refused at the row that is due.
 fn are_name_edits_refused(alloc: Global, case: &Case<Global>, at: usize) -> Option<bool> {
     let (name, number) = *NEW_NAMES.get(at)?;
-    let behind = at.checked_add(1)?;
-    let mut is_refused = is_name_refused(alloc, case, at, Edit::LeftOut, at)?
-        && is_name_refused(alloc, case, at, Edit::Doubled, behind)?;
-    if behind < NEW_NAMES.len() {
-        is_refused = is_refused && is_name_refused(alloc, case, at, Edit::Swapped, at)?;
-    }
-    for new in [
+    let others = [
         (name, 0),
         (name, number.saturating_add(1)),
         (&b"f"[..], number),
-    ] {
-        is_refused = is_refused && is_name_refused(alloc, case, at, Edit::Replaced(new), at)?;
+    ];
+    let edits = wrong_edits(alloc, &NEW_NAMES, at, &others)?;
+    for (edit, due) in &edits {
+        if !is_name_refused(alloc, case, at, *edit, *due)? {
+            return Some(false);
+        }
     }
-    Some(is_refused)
+    Some(true)
 }
 
 fn are_names_refused(alloc: Global) -> Option<bool> {

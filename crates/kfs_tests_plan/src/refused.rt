@@ -68,13 +68,18 @@ fn right_plan<A: Allocator + Copy>(alloc: A) -> Option<Plan<A>> {
     decode_plan(alloc, &plan(alloc, ROWS)?).ok()
 }
 
-/// The walk of the log; none without memory.
+/// The walk of the log, where no entry is bad; none without memory.
 fn walked<A: Allocator + Copy>(alloc: A, view: &View<A>, log: &Log<A>) -> Option<Walk<A>>
     requires count { length log.now.entries ≤ entry_limit }
+    ensures walked { IfSome result (λ walk. IsOk walk.outcome) }
     ensures sizes { IfSome result HasOrderedSizes }
 {
     view.client(log.client)?;
-    judge_entries(alloc, view, log).ok()
+    let walk = judge_entries(alloc, view, log).ok()?;
+    if walk.outcome.is_err() {
+        return None;
+    }
+    Some(walk)
 }
 
 /// Whether the walk comes to the rows of the plan, and to the sizes of the three files.
@@ -132,7 +137,51 @@ enum Part {
     Check,
 }
 
-/// Whether the call answers rightly, with the growth of this index of it refused and no other; none without memory.
+/// Whether the call behind the walk answers rightly; none without memory.
+fn is_rest_right<A: Allocator + Copy>(
+    alloc: A,
+    log: &Log<A>,
+    walk: &Walk<A>,
+    plan: &Plan<A>,
+    part: Part,
+) -> Option<bool>
+    requires walked { IsOk walk.now.outcome }
+    requires sizes { HasOrderedSizes walk.now }
+    requires spans { AllByRecursion IsSpanned log.now.entries }
+    requires count { length log.now.entries ≤ entry_limit }
+{
+    match part {
+        Part::Walk => Some(is_walk(walk, plan)),
+        Part::Sweep => is_swept(alloc, log, walk, plan),
+        Part::Check => is_checked(alloc, log, walk, plan),
+    }
+}
+
+/// Whether the call answers rightly of this log, with the growth of this index of it refused and no other; none without
+/// memory.
+fn is_right_of<A: Allocator + Copy>(
+    alloc: A,
+    heap: &Refusing<Global>,
+    view: &View<A>,
+    log: &Log<A>,
+    plan: &Plan<A>,
+    call: (Part, u64),
+) -> Option<bool>
+    requires spans { AllByRecursion IsSpanned log.now.entries }
+    requires count { length log.now.entries ≤ entry_limit }
+{
+    let (part, growth) = call;
+    if part == Part::Walk {
+        heap.refuse_after(growth);
+    }
+    let walk = walked(alloc, view, log)?;
+    if part != Part::Walk {
+        heap.refuse_after(growth);
+    }
+    is_rest_right(alloc, log, &walk, plan, part)
+}
+
+/// The same of the log and the plan that are spelled anew.
 fn is_part_right<A: Allocator + Copy>(
     alloc: A,
     heap: &Refusing<Global>,
@@ -141,20 +190,9 @@ fn is_part_right<A: Allocator + Copy>(
     growth: u64,
 ) -> Option<bool> {
     heap.refuse_after(AMPLE);
-    let log = spelled(alloc, &case.log)?;
     let plan = right_plan(alloc)?;
-    if part == Part::Walk {
-        heap.refuse_after(growth);
-    }
-    let walk = walked(alloc, &case.view, &log)?;
-    if part == Part::Walk || walk.outcome.is_err() {
-        return Some(is_walk(&walk, &plan));
-    }
-    heap.refuse_after(growth);
-    match part {
-        Part::Check => is_checked(alloc, &log, &walk, &plan),
-        _ => is_swept(alloc, &log, &walk, &plan),
-    }
+    let log = spelled(alloc, &case.log)?;
+    is_right_of(alloc, heap, &case.view, &log, &plan, (part, growth))
 }
 
 /// Whether there was a growth of this index in the call; none where an answer isn't due.
@@ -174,9 +212,7 @@ fn is_part_refused<A: Allocator + Copy>(
 
 /// Whether client 7 has handed in the case's log and this plan.
 fn is_same<A: Allocator>(submission: &Submission<A>, log: &[u8], plan: &[u8]) -> bool {
-    submission.client == 7
-        && submission.log.as_slice() == log
-        && submission.plan.as_slice() == plan
+    submission.client == 7 && submission.log.as_slice() == log && submission.plan.as_slice() == plan
 }
 
 /// The same of the judgement, from which the submission comes back.
