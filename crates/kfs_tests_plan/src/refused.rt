@@ -16,6 +16,7 @@ use kfs_judge::{View, Walk, judge_entries};
 use kfs_plan::{Back, RowFault, Submission, Why, check_plan, sweep};
 use kfs_tests::refusing::Refusing;
 use std::alloc::{Allocator, Global};
+use std::process::Abort;
 
 /// As many growths as nothing here makes.
 const AMPLE: u64 = 1 << 40;
@@ -130,7 +131,7 @@ fn is_checked<A: Allocator + Copy>(
 }
 
 /// The calls of which a judgement consists.
-#[derive(Clone, Copy, Debug, PartialEq, Eq)]
+#[derive(Clone, Copy)]
 enum Part {
     Walk,
     Sweep,
@@ -171,11 +172,12 @@ fn is_right_of<A: Allocator + Copy>(
     requires count { length log.now.entries ≤ entry_limit }
 {
     let (part, growth) = call;
-    if part == Part::Walk {
+    let is_walk = matches!(part, Part::Walk);
+    if is_walk {
         heap.refuse_after(growth);
     }
     let walk = walked(alloc, view, log)?;
-    if part != Part::Walk {
+    if !is_walk {
         heap.refuse_after(growth);
     }
     is_rest_right(alloc, log, &walk, plan, part)
@@ -238,7 +240,7 @@ fn is_judge_refused<A: Allocator + Copy>(
 }
 
 /// The calls whose growths are refused.
-#[derive(Clone, Copy, Debug)]
+#[derive(Clone, Copy)]
 enum Call {
     Part(Part),
     Judge,
@@ -265,17 +267,34 @@ fn growths(alloc: Global, call: Call) -> Result<u64, u64> {
     Err(MANY)
 }
 
+/// The call makes growths, and each is refused in turn.
+fn expect_growths(rt: &(impl Abort + AllocGlobal), call: Call) {
+    let count = growths(rt.alloc(), call);
+    let is_right = match count {
+        Ok(count) => 3 < count,
+        Err(_) => false,
+    };
+    assert!(rt; is_right, "{count:?}");
+}
+
 #[test]
-fn each_growth_refused_in_turn(rt: HostRuntime) {
-    for call in [
-        Call::Part(Part::Walk),
-        Call::Part(Part::Sweep),
-        Call::Part(Part::Check),
-        Call::Judge,
-    ] {
-        let count = growths(rt.alloc(), call);
-        assert!(rt; count.is_ok_and(|count| 3 < count), "{call:?}: {count:?}");
-    }
+fn each_growth_of_a_walk_refused(rt: HostRuntime) {
+    expect_growths(&rt, Call::Part(Part::Walk));
+}
+
+#[test]
+fn each_growth_of_a_sweep_refused(rt: HostRuntime) {
+    expect_growths(&rt, Call::Part(Part::Sweep));
+}
+
+#[test]
+fn each_growth_of_a_check_refused(rt: HostRuntime) {
+    expect_growths(&rt, Call::Part(Part::Check));
+}
+
+#[test]
+fn each_growth_of_a_judgement_refused(rt: HostRuntime) {
+    expect_growths(&rt, Call::Judge);
 }
 
 /// Whether this is judged of a file of the greatest size, or the submission comes back for this reason, where at most so
