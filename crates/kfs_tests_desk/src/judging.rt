@@ -106,13 +106,18 @@ fn are_answered(
     submissions: Vec<Submission<Global>, Global>,
     answers: &[Result<Reply, Why>],
 ) -> bool {
-    match desk.submit_all(submissions) {
-        Ok(given) => {
-            let mut pairs = given.iter().zip(answers);
-            given.len() == answers.len() && pairs.all(|(given, wanted)| is_answer(given, wanted))
-        }
-        Err(_) => false,
+    let Ok(given) = desk.submit_all(submissions) else {
+        return false;
+    };
+    if given.len() != answers.len() {
+        return false;
     }
+    for (given, wanted) in given.iter().zip(answers) {
+        if !is_answer(given, wanted) {
+            return false;
+        }
+    }
+    true
 }
 
 /// Submissions of client 7 of these logs and plans.
@@ -127,17 +132,19 @@ fn submissions(
     Ok(all)
 }
 
-#[test]
-fn submissions_one_after_another(rt: HostRuntime) -> Result<(), Fail> {
-    let pairs = [
-        (TRUNCATE_LOG, CREATE_PLAN),
-        (WRITE_LOG, WRITE_PLAN),
-        (WRITE_LOG, GAP_PLAN),
-        (CREATE_LOG, CREATE_PLAN),
-        (CREATE_LOG, CREATE_PLAN),
-        (CREATE_LOG, CREATE_PLAN),
-    ];
-    let submissions = submissions(rt.alloc(), &pairs)?;
+/// Logs of client 7 with their plans.
+const PAIRS: [(&[u8], &[u8]); 6] = [
+    (TRUNCATE_LOG, CREATE_PLAN),
+    (WRITE_LOG, WRITE_PLAN),
+    (WRITE_LOG, GAP_PLAN),
+    (CREATE_LOG, CREATE_PLAN),
+    (CREATE_LOG, CREATE_PLAN),
+    (CREATE_LOG, CREATE_PLAN),
+];
+
+/// Whether a desk of four rows answers them as is due.
+fn are_pairs_answered(alloc: Global) -> Option<bool> {
+    let submissions = submissions(alloc, &PAIRS).ok()?;
     let answers = [
         Err(Why::OtherEntry),
         Err(Why::OtherEntry),
@@ -146,7 +153,11 @@ fn submissions_one_after_another(rt: HostRuntime) -> Result<(), Fail> {
         Ok(taken(3)),
         Err(Why::DocketFull),
     ];
-    let mut desk = opening(rt.alloc(), 4).ok_or("an opening")?;
-    assert!(rt; are_answered(&mut desk, submissions, &answers));
-    Ok(())
+    let mut desk = opening(alloc, 4)?;
+    Some(are_answered(&mut desk, submissions, &answers))
+}
+
+#[test]
+fn submissions_one_after_another(rt: HostRuntime) {
+    assert!(rt; are_pairs_answered(rt.alloc()) == Some(true));
 }

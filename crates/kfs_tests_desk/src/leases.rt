@@ -7,9 +7,8 @@ use kfs_image::Shape;
 use kfs_lease::LeaseKind::{Read, Write};
 use kfs_lease::{LeaseFault, LeaseKind, Leases};
 use kfs_tests::refusing::Refusing;
-use std::alloc::{AllocError, Allocator, Global};
+use std::alloc::{Allocator, Global};
 use std::process::Abort;
-use std::test::Fail;
 
 /// More growths than a tree or its leases make.
 const MANY: u64 = 2_000;
@@ -98,26 +97,33 @@ fn is_answered<A: Allocator + Clone>(
     }
 }
 
-/// Makes the calls one after another; each is answered as it says.
+/// Makes the calls one after another. Answers how many stand before the first that isn't answered as it says.
 fn make_calls<A: Allocator + Clone>(
-    rt: &impl Abort,
     leases: &mut Leases<A>,
     shape: &Shape<A>,
     calls: &[Call<'_>],
-) {
-    let mut count = 0u32;
+) -> usize {
+    let mut count = 0usize;
     for call in calls {
-        assert!(rt; is_answered(leases, shape, *call), "call {count}");
+        if !is_answered(leases, shape, *call) {
+            return count;
+        }
         count = count.saturating_add(1);
     }
+    count
 }
 
-/// Makes the calls on the tree of this module, from no leases on.
-fn expect_calls(rt: &(impl Abort + AllocGlobal), calls: &[Call<'_>]) -> Result<(), Fail> {
-    let desk = tree(rt.alloc()).ok_or("a tree")?;
-    let mut leases = Leases::new(rt.alloc());
-    make_calls(rt, &mut leases, desk.image().shape(), calls);
-    Ok(())
+/// Makes the calls on the tree of this module, from no leases on. Answers how many are answered as they say.
+fn answered(alloc: Global, calls: &[Call<'_>]) -> Option<usize> {
+    let desk = tree(alloc)?;
+    let mut leases = Leases::new(alloc);
+    Some(make_calls(&mut leases, desk.image().shape(), calls))
+}
+
+/// Each of the calls is answered as it says.
+fn expect_calls(rt: &(impl Abort + AllocGlobal), calls: &[Call<'_>]) {
+    let count = answered(rt.alloc(), calls);
+    assert!(rt; count == Some(calls.len()), "{count:?}");
 }
 
 const PATHS_THAT_NO_LINE_CAN_SAY: [Call<'static>; 3] = [
@@ -144,9 +150,13 @@ const CALLS_AND_NODES_THAT_GO: [Call<'static>; 14] = [
 ];
 
 #[test]
-fn paths_that_no_line_can_say_and_nodes_that_go(rt: HostRuntime) -> Result<(), Fail> {
-    expect_calls(&rt, &PATHS_THAT_NO_LINE_CAN_SAY)?;
-    expect_calls(&rt, &CALLS_AND_NODES_THAT_GO)
+fn paths_that_no_line_can_say(rt: HostRuntime) {
+    expect_calls(&rt, &PATHS_THAT_NO_LINE_CAN_SAY);
+}
+
+#[test]
+fn calls_and_nodes_that_go(rt: HostRuntime) {
+    expect_calls(&rt, &CALLS_AND_NODES_THAT_GO);
 }
 
 const BEFORE_THE_COPY: [Call<'static>; 6] = [
@@ -183,26 +193,31 @@ const ON_THE_COPY_THEN: [Call<'static>; 3] = [
     Call::Grant(7, "/m", Write, 20, Ok(30)),
 ];
 
-/// Makes these calls on the table and on a copy of it, one table after the other.
-fn expect_apart<A: Allocator + Clone>(
-    rt: &impl Abort,
+/// Makes these calls on the table and on a copy of it, one table after the other. Answers how many calls of each list are
+/// answered as they say.
+fn answered_apart<A: Allocator + Clone>(
     leases: &mut Leases<A>,
     shape: &Shape<A>,
-) -> Result<(), AllocError> {
-    make_calls(rt, leases, shape, &BEFORE_THE_COPY);
-    let mut copied = leases.copy()?;
-    make_calls(rt, &mut copied, shape, &ON_THE_COPY);
-    make_calls(rt, leases, shape, &ON_THE_TABLE);
-    make_calls(rt, &mut copied, shape, &ON_THE_COPY_THEN);
-    Ok(())
+) -> Option<[usize; 4]> {
+    let before = make_calls(leases, shape, &BEFORE_THE_COPY);
+    let mut copied = leases.copy().ok()?;
+    let on_the_copy = make_calls(&mut copied, shape, &ON_THE_COPY);
+    let on_the_table = make_calls(leases, shape, &ON_THE_TABLE);
+    let then = make_calls(&mut copied, shape, &ON_THE_COPY_THEN);
+    Some([before, on_the_copy, on_the_table, then])
+}
+
+/// The same on the tree of this module, from no leases on.
+fn answered_on_both(alloc: Global) -> Option<[usize; 4]> {
+    let desk = tree(alloc)?;
+    let mut leases = Leases::new(alloc);
+    answered_apart(&mut leases, desk.image().shape())
 }
 
 #[test]
-fn a_copy_and_the_table_go_on_apart(rt: HostRuntime) -> Result<(), Fail> {
-    let desk = tree(rt.alloc()).ok_or("a tree")?;
-    let mut leases = Leases::new(rt.alloc());
-    expect_apart(&rt, &mut leases, desk.image().shape())?;
-    Ok(())
+fn a_copy_and_the_table_go_on_apart(rt: HostRuntime) {
+    let counts = answered_on_both(rt.alloc());
+    assert!(rt; counts == Some([6, 6, 7, 3]), "{counts:?}");
 }
 
 /// A lease that is granted: the client, the path, the number of the node there, the kind and the end.
@@ -464,10 +479,11 @@ fn growths(alloc: Global, grants: &[Granted<'_>]) -> Result<(u32, u32), u64> {
 #[test]
 fn each_growth_of_a_grant_or_a_copy_refused(rt: HostRuntime) {
     let counts = growths(rt.alloc(), &GRANTS);
-    assert!(rt;
-        counts.is_ok_and(|(of_grants, of_copies)| 2 < of_grants && 2 < of_copies),
-        "{counts:?}"
-    );
+    let is_right = match counts {
+        Ok((of_grants, of_copies)) => 2 < of_grants && 2 < of_copies,
+        Err(_) => false,
+    };
+    assert!(rt; is_right, "{counts:?}");
 }
 
 /// Whether there is memory for a tree.
@@ -505,5 +521,9 @@ fn growths_of_a_tree(alloc: Global) -> Result<u64, u64> {
 #[test]
 fn each_growth_of_an_opening_and_a_tree_refused(rt: HostRuntime) {
     let count = growths_of_a_tree(rt.alloc());
-    assert!(rt; count.is_ok_and(|count| 5 < count), "{count:?}");
+    let is_right = match count {
+        Ok(count) => 5 < count,
+        Err(_) => false,
+    };
+    assert!(rt; is_right, "{count:?}");
 }

@@ -1,12 +1,12 @@
 //! Small logs over two files, with right plans, the same cut anew, and plans with one row that isn't right.
 
 use crate::marks::{joined, need, push_bytes, size_after};
-use crate::scenes::{Scene, Verdict, verdict, view};
+use crate::scenes::{Case, Scene, Verdict};
 use crate::spelling::PieceLine::{Put, Zero};
-use crate::spelling::{FileLine, NameLine, PieceLine, Rows, Step, log, plan};
-use kfs_judge::View;
+use crate::spelling::{FileLine, NameLine, PieceLine, Rows, Step};
 use kfs_plan::{Fault, RowFault};
 use std::alloc::Global;
+use std::process::Abort;
 
 /// The numbers of the two files, and how many bytes they have before each log.
 const FILES: [(u32, u64); 2] = [(5, 5_000), (6, 4_096)];
@@ -185,24 +185,14 @@ fn right_of(alloc: Global, steps: &[Step<'_>]) -> Option<Right> {
     })
 }
 
-/// A view with a log as bytes.
-#[derive(Drop)]
-struct Judge {
-    view: View<Global>,
-    log: Vec<u8, Global>,
-}
-
-fn judge_of(alloc: Global, steps: &[Step<'_>]) -> Option<Judge> {
-    Some(Judge {
-        view: view(alloc, &TWO_FILES)?,
-        log: log(alloc, steps)?,
-    })
+/// The two files, and this log.
+fn case_of(alloc: Global, steps: &[Step<'_>]) -> Option<Case<Global>> {
+    Case::new(alloc, &TWO_FILES, steps)
 }
 
 /// Whether this is judged of the plan.
-fn is_judged(alloc: Global, judge: &Judge, rows: Rows<'_>, wanted: Verdict) -> Option<bool> {
-    let plan = plan(alloc, rows)?;
-    Some(verdict(alloc, &judge.view, 7, &judge.log, &plan)? == wanted)
+fn is_judged(alloc: Global, case: &Case<Global>, rows: Rows<'_>, wanted: Verdict) -> Option<bool> {
+    Some(case.verdict(alloc, rows)? == wanted)
 }
 
 /// A change of a list of rows, at an index.
@@ -257,6 +247,27 @@ fn edited<T: Copy + Drop>(
     Some(out)
 }
 
+/// The changes of the right row of this index that are wrong in each list, and the index of the row that is wrong then:
+/// the row left out, doubled, in the other order with the one behind it, and replaced by each of these.
+fn wrong_edits<T: Copy + Drop>(
+    alloc: Global,
+    rows: &[T],
+    at: usize,
+    others: &[T],
+) -> Option<Vec<(Edit<T>, usize), Global>> {
+    let behind = at.checked_add(1)?;
+    let mut edits = Vec::new(alloc);
+    edits.push((Edit::LeftOut, at)).ok()?;
+    edits.push((Edit::Doubled, behind)).ok()?;
+    if behind < rows.len() {
+        edits.push((Edit::Swapped, at)).ok()?;
+    }
+    for other in others {
+        edits.push((Edit::Replaced(*other), at)).ok()?;
+    }
+    Some(edits)
+}
+
 /// The two parts of a piece, the first of which has so many bytes.
 fn parts(piece: PieceLine, first: u64) -> Option<(PieceLine, PieceLine)> {
     Some(match piece {
@@ -293,12 +304,12 @@ fn with_pieces<'a>(right: &'a Right, pieces: &'a [PieceLine]) -> Rows<'a> {
 }
 
 /// Whether the plan with the piece of this index cut at each of its bytes in turn is accepted, with the same need.
-fn is_piece_cut(alloc: Global, judge: &Judge, right: &Right, at: usize) -> Option<bool> {
+fn is_piece_cut(alloc: Global, case: &Case<Global>, right: &Right, at: usize) -> Option<bool> {
     let piece = *right.pieces.get(at)?;
     for first in 1..len_of(piece) {
         let (front, back) = parts(piece, first)?;
         let pieces = edited(alloc, &right.pieces, at, Edit::Cut(front, back))?;
-        if !is_judged(alloc, judge, with_pieces(right, &pieces), Ok(right.need))? {
+        if !is_judged(alloc, case, with_pieces(right, &pieces), Ok(right.need))? {
             return Some(false);
         }
     }
@@ -306,14 +317,14 @@ fn is_piece_cut(alloc: Global, judge: &Judge, right: &Right, at: usize) -> Optio
 }
 
 /// Whether the right plan is accepted, whole, cut at each byte in turn, and cut at all of them.
-fn are_cuts_accepted(alloc: Global, judge: &Judge, right: &Right) -> Option<bool> {
+fn are_cuts_accepted(alloc: Global, case: &Case<Global>, right: &Right) -> Option<bool> {
     for pieces in [&right.pieces, &right.bytes] {
-        if !is_judged(alloc, judge, with_pieces(right, pieces), Ok(right.need))? {
+        if !is_judged(alloc, case, with_pieces(right, pieces), Ok(right.need))? {
             return Some(false);
         }
     }
     for at in 0..right.pieces.len() {
-        if !is_piece_cut(alloc, judge, right, at)? {
+        if !is_piece_cut(alloc, case, right, at)? {
             return Some(false);
         }
     }
@@ -323,48 +334,28 @@ fn are_cuts_accepted(alloc: Global, judge: &Judge, right: &Right) -> Option<bool
 /// Whether the log needs so many blocks, and its plan is accepted however it is cut.
 fn is_small_accepted(alloc: Global, small: &Small<'_>) -> Option<bool> {
     let (steps, need) = *small;
-    let (judge, right) = (judge_of(alloc, steps)?, right_of(alloc, steps)?);
-    Some(right.need == need && are_cuts_accepted(alloc, &judge, &right)?)
+    let (case, right) = (case_of(alloc, steps)?, right_of(alloc, steps)?);
+    Some(right.need == need && are_cuts_accepted(alloc, &case, &right)?)
 }
 
-#[test]
-fn right_plans_cut_anew(rt: HostRuntime) {
-    for (index, small) in OVERLAPPING.iter().chain(&CUT).chain(&GAPS).enumerate() {
-        assert!(rt;
-            is_small_accepted(rt.alloc(), small) == Some(true),
-            "{index}"
-        );
-    }
-}
-
-/// A piece in another file, begun later, one byte longer, and past the greatest number.
-fn moved(piece: PieceLine) -> [PieceLine; 4] {
+/// A piece in another file, begun later, one byte longer, past the greatest number, without a byte, and from other sources.
+fn others(piece: PieceLine) -> [PieceLine; 8] {
     match piece {
         Zero(number, start, len) => [
             Zero(number.saturating_add(90), start, len),
             Zero(number, start.saturating_add(1), len),
             Zero(number, start, len.saturating_add(1)),
             Zero(number, u64::MAX, u64::MAX),
-        ],
-        Put(number, start, len, entry, place) => [
-            Put(number.saturating_add(90), start, len, entry, place),
-            Put(number, start.saturating_add(1), len, entry, place),
-            Put(number, start, len.saturating_add(1), entry, place),
-            Put(number, u64::MAX, u64::MAX, entry, place),
-        ],
-    }
-}
-
-/// The piece without a byte, and from other sources.
-fn of_others(piece: PieceLine) -> [PieceLine; 4] {
-    match piece {
-        Zero(number, start, len) => [
             Zero(number, start, 0),
             Put(number, start, len, 0, 0),
             Put(number, start, len, 1, 0),
             Put(number, start, len, u16::MAX, u32::MAX),
         ],
         Put(number, start, len, entry, place) => [
+            Put(number.saturating_add(90), start, len, entry, place),
+            Put(number, start.saturating_add(1), len, entry, place),
+            Put(number, start, len.saturating_add(1), entry, place),
+            Put(number, u64::MAX, u64::MAX, entry, place),
             Put(number, start, 0, entry, place),
             Zero(number, start, len),
             Put(number, start, len, entry.saturating_add(1), place),
@@ -393,7 +384,7 @@ fn shorter(piece: PieceLine, at: usize) -> (PieceLine, usize) {
 /// Whether the right pieces with the change at this index are refused for the piece `due`.
 fn is_piece_refused(
     alloc: Global,
-    judge: &Judge,
+    case: &Case<Global>,
     right: &Right,
     at: usize,
     edit: Edit<PieceLine>,
@@ -401,31 +392,32 @@ fn is_piece_refused(
 ) -> Option<bool> {
     let pieces = edited(alloc, &right.pieces, at, edit)?;
     let wanted = Err(Fault::Row(RowFault::Pieces(due)));
-    is_judged(alloc, judge, with_pieces(right, &pieces), wanted)
+    is_judged(alloc, case, with_pieces(right, &pieces), wanted)
 }
 
 /// Whether each change of the piece of this index is refused at the row that is due.
-fn are_piece_edits_refused(alloc: Global, judge: &Judge, right: &Right, at: usize) -> Option<bool> {
+fn are_piece_edits_refused(
+    alloc: Global,
+    case: &Case<Global>,
+    right: &Right,
+    at: usize,
+) -> Option<bool> {
     let piece = *right.pieces.get(at)?;
-    let behind = at.checked_add(1)?;
     let (short, due) = shorter(piece, at);
-    let mut is_refused = is_piece_refused(alloc, judge, right, at, Edit::LeftOut, at)?
-        && is_piece_refused(alloc, judge, right, at, Edit::Doubled, behind)?
-        && is_piece_refused(alloc, judge, right, at, Edit::Replaced(short), due)?;
-    if behind < right.pieces.len() {
-        is_refused = is_refused && is_piece_refused(alloc, judge, right, at, Edit::Swapped, at)?;
+    let mut edits = wrong_edits(alloc, &right.pieces, at, &others(piece))?;
+    edits.push((Edit::Replaced(short), due)).ok()?;
+    for (edit, due) in &edits {
+        if !is_piece_refused(alloc, case, right, at, *edit, *due)? {
+            return Some(false);
+        }
     }
-    for new in moved(piece).into_iter().chain(of_others(piece)) {
-        is_refused = is_refused
-            && is_piece_refused(alloc, judge, right, at, Edit::Replaced(new), at)?;
-    }
-    Some(is_refused)
+    Some(true)
 }
 
 /// Whether the plan with this change of its node rows is refused for the row `due`.
 fn is_node_refused(
     alloc: Global,
-    judge: &Judge,
+    case: &Case<Global>,
     right: &Right,
     at: usize,
     edit: Edit<FileLine>,
@@ -437,55 +429,80 @@ fn is_node_refused(
         nodes: &nodes,
         pieces: &right.pieces,
     };
-    is_judged(alloc, judge, rows, Err(Fault::Row(RowFault::Nodes(due))))
+    is_judged(alloc, case, rows, Err(Fault::Row(RowFault::Nodes(due))))
 }
 
-/// Whether each change of the node row of this index is refused at the row that is due.
-fn are_node_edits_refused(alloc: Global, judge: &Judge, right: &Right, at: usize) -> Option<bool> {
-    let FileLine(number, mode, uid, gid, size) = *right.nodes.get(at)?;
-    let behind = at.checked_add(1)?;
-    let mut is_refused = is_node_refused(alloc, judge, right, at, Edit::LeftOut, at)?
-        && is_node_refused(alloc, judge, right, at, Edit::Doubled, behind)?;
-    if behind < right.nodes.len() {
-        is_refused = is_refused && is_node_refused(alloc, judge, right, at, Edit::Swapped, at)?;
-    }
-    for new in [
+/// What else a node row could say.
+fn other_nodes(row: FileLine) -> [FileLine; 5] {
+    let FileLine(number, mode, uid, gid, size) = row;
+    [
         FileLine(number, mode, uid, gid, size.saturating_add(1)),
         FileLine(number, 0o600, uid, gid, size),
         FileLine(number, mode, 0, gid, size),
         FileLine(number, mode, uid, 0, size),
         FileLine(1, mode, uid, gid, size),
-    ] {
-        is_refused = is_refused
-            && is_node_refused(alloc, judge, right, at, Edit::Replaced(new), at)?;
-    }
-    Some(is_refused)
+    ]
 }
 
-/// Whether each change of one row of the log's right plan is refused at the row that is due.
-fn are_edits_refused(alloc: Global, steps: &[Step<'_>]) -> Option<bool> {
-    let (judge, right) = (judge_of(alloc, steps)?, right_of(alloc, steps)?);
-    for at in 0..right.nodes.len() {
-        if !are_node_edits_refused(alloc, &judge, &right, at)? {
-            return Some(false);
-        }
-    }
-    for at in 0..right.pieces.len() {
-        if !are_piece_edits_refused(alloc, &judge, &right, at)? {
+/// Whether each change of the node row of this index is refused at the row that is due.
+fn are_node_edits_refused(
+    alloc: Global,
+    case: &Case<Global>,
+    right: &Right,
+    at: usize,
+) -> Option<bool> {
+    let edits = wrong_edits(alloc, &right.nodes, at, &other_nodes(*right.nodes.get(at)?))?;
+    for (edit, due) in &edits {
+        if !is_node_refused(alloc, case, right, at, *edit, *due)? {
             return Some(false);
         }
     }
     Some(true)
 }
 
-#[test]
-fn plans_with_one_row_wrong(rt: HostRuntime) {
-    for (index, (steps, _)) in OVERLAPPING.iter().chain(&CUT).chain(&GAPS).enumerate() {
+/// Whether each change of one row of the log's right plan is refused at the row that is due.
+fn are_edits_refused(alloc: Global, steps: &[Step<'_>]) -> Option<bool> {
+    let (case, right) = (case_of(alloc, steps)?, right_of(alloc, steps)?);
+    for at in 0..right.nodes.len() {
+        if !are_node_edits_refused(alloc, &case, &right, at)? {
+            return Some(false);
+        }
+    }
+    for at in 0..right.pieces.len() {
+        if !are_piece_edits_refused(alloc, &case, &right, at)? {
+            return Some(false);
+        }
+    }
+    Some(true)
+}
+
+/// For each of the logs, the right plans are accepted, cut anew, too, and those with one row wrong are refused.
+fn expect_plans(rt: &(impl Abort + AllocGlobal), smalls: &[Small<'_>]) {
+    for (index, small) in smalls.iter().enumerate() {
         assert!(rt;
-            are_edits_refused(rt.alloc(), steps) == Some(true),
+            is_small_accepted(rt.alloc(), small) == Some(true),
+            "{index}"
+        );
+        assert!(rt;
+            are_edits_refused(rt.alloc(), small.0) == Some(true),
             "{index}"
         );
     }
+}
+
+#[test]
+fn plans_of_overlapping_writes(rt: HostRuntime) {
+    expect_plans(&rt, &OVERLAPPING);
+}
+
+#[test]
+fn plans_of_cuts(rt: HostRuntime) {
+    expect_plans(&rt, &CUT);
+}
+
+#[test]
+fn plans_of_gaps(rt: HostRuntime) {
+    expect_plans(&rt, &GAPS);
 }
 
 /// Three new empty files, and the right plan.
@@ -514,40 +531,38 @@ fn with_names(names: &[NameLine]) -> Rows<'_> {
 
 fn is_name_refused(
     alloc: Global,
-    judge: &Judge,
+    case: &Case<Global>,
     at: usize,
     edit: Edit<NameLine>,
     due: usize,
 ) -> Option<bool> {
     let names = edited(alloc, &NEW_NAMES, at, edit)?;
     let wanted = Err(Fault::Row(RowFault::Names(due)));
-    is_judged(alloc, judge, with_names(&names), wanted)
+    is_judged(alloc, case, with_names(&names), wanted)
 }
 
 /// Whether each change of the name row of this index is refused at the row that is due.
-fn are_name_edits_refused(alloc: Global, judge: &Judge, at: usize) -> Option<bool> {
+fn are_name_edits_refused(alloc: Global, case: &Case<Global>, at: usize) -> Option<bool> {
     let (name, number) = *NEW_NAMES.get(at)?;
-    let behind = at.checked_add(1)?;
-    let mut is_refused = is_name_refused(alloc, judge, at, Edit::LeftOut, at)?
-        && is_name_refused(alloc, judge, at, Edit::Doubled, behind)?;
-    if behind < NEW_NAMES.len() {
-        is_refused = is_refused && is_name_refused(alloc, judge, at, Edit::Swapped, at)?;
-    }
-    for new in [
+    let others = [
         (name, 0),
         (name, number.saturating_add(1)),
         (&b"f"[..], number),
-    ] {
-        is_refused = is_refused && is_name_refused(alloc, judge, at, Edit::Replaced(new), at)?;
+    ];
+    let edits = wrong_edits(alloc, &NEW_NAMES, at, &others)?;
+    for (edit, due) in &edits {
+        if !is_name_refused(alloc, case, at, *edit, *due)? {
+            return Some(false);
+        }
     }
-    Some(is_refused)
+    Some(true)
 }
 
 fn are_names_refused(alloc: Global) -> Option<bool> {
-    let judge = judge_of(alloc, &NEW_FILES)?;
-    let mut is_right = is_judged(alloc, &judge, with_names(&NEW_NAMES), Ok(0))?;
+    let case = case_of(alloc, &NEW_FILES)?;
+    let mut is_right = is_judged(alloc, &case, with_names(&NEW_NAMES), Ok(0))?;
     for at in 0..NEW_NAMES.len() {
-        is_right = is_right && are_name_edits_refused(alloc, &judge, at)?;
+        is_right = is_right && are_name_edits_refused(alloc, &case, at)?;
     }
     Some(is_right)
 }

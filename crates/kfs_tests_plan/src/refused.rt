@@ -1,4 +1,5 @@
-//! Each growth of the calls refused in turn: the answer is that there is no memory, and then what it is with memory.
+//! Each growth of the calls refused in turn: the answer is that there is no memory, and then what it is with memory. And
+//! a file of the greatest size, judged in little memory.
 ghost use Rattle.std.specs.Prelude.{◌≤◌, length, IfSome, IsOk};
 ghost use Rattle.std.specs.List.{AllByRecursion};
 ghost use Rattle.kfs_model.specs.Limits.{entry_limit};
@@ -6,14 +7,16 @@ ghost use Rattle.kfs_sweep.specs.Sizes.{IsSpanned};
 ghost use Rattle.kfs_judge.specs.Walks.{HasOrderedSizes};
 
 use crate::plans::TWO_FILES;
-use crate::scenes::{submission, view};
+use crate::rows::{EMPTY_FILE, WHOLE_FILE, WHOLE_FILE_ROWS};
+use crate::scenes::{Case, Verdict, judged, submission};
 use crate::spelling::PieceLine::{Put, Zero};
-use crate::spelling::{FileLine, Rows, Step, log, plan};
+use crate::spelling::{FileLine, Rows, Step, plan};
 use kfs_entry::{Log, Plan, decode_log, decode_plan};
 use kfs_judge::{View, Walk, judge_entries};
-use kfs_plan::{Outcome, RowFault, Submission, Why, check_plan, judge, sweep};
+use kfs_plan::{Back, RowFault, Submission, Why, check_plan, sweep};
 use kfs_tests::refusing::Refusing;
 use std::alloc::{Allocator, Global};
+use std::process::Abort;
 
 /// As many growths as nothing here makes.
 const AMPLE: u64 = 1 << 40;
@@ -61,28 +64,23 @@ fn spelled<A: Allocator>(alloc: A, bytes: &[u8]) -> Option<Log<A>>
     }
 }
 
-/// The log walked with the growth of this index refused; none where an answer isn't due. Answers whether there was such
-/// a growth, too.
-fn walked<A: Allocator + Copy, B: Allocator>(
-    alloc: A,
-    heap: &Refusing<B>,
-    view: &View<A>,
-    log: &Log<A>,
-    growth: u64,
-) -> Option<(Walk<A>, bool)>
+/// The plan that the rows say.
+fn right_plan<A: Allocator + Copy>(alloc: A) -> Option<Plan<A>> {
+    decode_plan(alloc, &plan(alloc, ROWS)?).ok()
+}
+
+/// The walk of the log, where no entry is bad; none without memory.
+fn walked<A: Allocator + Copy>(alloc: A, view: &View<A>, log: &Log<A>) -> Option<Walk<A>>
     requires count { length log.now.entries ≤ entry_limit }
-    ensures sizes { IfSome result (λ pair. HasOrderedSizes pair.0) }
+    ensures walked { IfSome result (λ walk. IsOk walk.outcome) }
+    ensures sizes { IfSome result HasOrderedSizes }
 {
     view.client(log.client)?;
-    heap.refuse_after(growth);
-    let first = judge_entries(alloc, view, log);
-    let has_refused = heap.has_refused();
-    heap.refuse_after(AMPLE);
-    match first {
-        Ok(walk) if !has_refused => Some((walk, false)),
-        Err(_) if has_refused => Some((judge_entries(alloc, view, log).ok()?, true)),
-        _ => None,
+    let walk = judge_entries(alloc, view, log).ok()?;
+    if walk.outcome.is_err() {
+        return None;
     }
+    Some(walk)
 }
 
 /// Whether the walk comes to the rows of the plan, and to the sizes of the three files.
@@ -97,142 +95,163 @@ fn is_walk<A: Allocator>(walk: &Walk<A>, plan: &Plan<A>) -> bool {
     }
 }
 
-/// What a judgement needs.
-#[derive(Drop)]
-struct Parts<A: Allocator> {
-    view: View<A>,
-    log: Vec<u8, A>,
-    plan: Vec<u8, A>,
-}
-
-fn parts_of<A: Allocator + Copy>(alloc: A) -> Option<Parts<A>> {
-    Some(Parts {
-        view: view(alloc, &TWO_FILES)?,
-        log: log(alloc, &STEPS)?,
-        plan: plan(alloc, ROWS)?,
-    })
-}
-
-/// Whether there was a growth of this index in the walk; none where an answer isn't due.
-fn is_walk_refused<A: Allocator + Copy, B: Allocator>(
+/// Whether the pieces are those of the plan; none without memory.
+fn is_swept<A: Allocator + Copy>(
     alloc: A,
-    heap: &Refusing<B>,
-    growth: u64,
-) -> Option<bool> {
-    let parts = parts_of(alloc)?;
-    let (log, plan) = (
-        spelled(alloc, &parts.log)?,
-        decode_plan(alloc, &parts.plan).ok()?,
-    );
-    let (walk, has_refused) = walked(alloc, heap, &parts.view, &log, growth)?;
-    is_walk(&walk, &plan).then_some(has_refused)
+    log: &Log<A>,
+    walk: &Walk<A>,
+    plan: &Plan<A>,
+) -> Option<bool>
+    requires walked { IsOk walk.now.outcome }
+    requires sizes { HasOrderedSizes walk.now }
+    requires spans { AllByRecursion IsSpanned log.now.entries }
+    requires count { length log.now.entries ≤ entry_limit }
+{
+    let pieces = sweep(alloc, log, walk).ok()?;
+    Some(pieces.as_slice() == plan.pieces.as_slice())
 }
 
-/// The same of the sweep, whose pieces are then those of the plan.
-fn is_sweep_refused<A: Allocator + Copy, B: Allocator>(
+/// Whether the plan is right, with its need; none without memory.
+fn is_checked<A: Allocator + Copy>(
     alloc: A,
-    heap: &Refusing<B>,
-    growth: u64,
-) -> Option<bool> {
-    let parts = parts_of(alloc)?;
-    let (log, plan) = (
-        spelled(alloc, &parts.log)?,
-        decode_plan(alloc, &parts.plan).ok()?,
-    );
-    let (walk, _) = walked(alloc, heap, &parts.view, &log, AMPLE)?;
-    if walk.outcome.is_err() {
-        return None;
-    }
-    heap.refuse_after(growth);
-    let first = sweep(alloc, &log, &walk);
-    let has_refused = heap.has_refused();
-    heap.refuse_after(AMPLE);
-    let pieces = match first {
-        Ok(pieces) if !has_refused => pieces,
-        Err(_) if has_refused => sweep(alloc, &log, &walk).ok()?,
-        _ => return None,
-    };
-    (pieces.as_slice() == plan.pieces.as_slice()).then_some(has_refused)
-}
-
-/// The same of the check of the plan, which then tells the need.
-fn is_check_refused<A: Allocator + Copy, B: Allocator>(
-    alloc: A,
-    heap: &Refusing<B>,
-    growth: u64,
-) -> Option<bool> {
-    let parts = parts_of(alloc)?;
-    let (log, plan) = (
-        spelled(alloc, &parts.log)?,
-        decode_plan(alloc, &parts.plan).ok()?,
-    );
-    let (walk, _) = walked(alloc, heap, &parts.view, &log, AMPLE)?;
-    if walk.outcome.is_err() {
-        return None;
-    }
-    heap.refuse_after(growth);
-    let first = check_plan(alloc, &log, &walk, &plan);
-    let has_refused = heap.has_refused();
-    heap.refuse_after(AMPLE);
-    let wanted = if has_refused {
-        Err(RowFault::OutOfMemory)
-    } else {
-        Ok(NEED)
-    };
-    let is_due = first == wanted && check_plan(alloc, &log, &walk, &plan) == Ok(NEED);
-    is_due.then_some(has_refused)
-}
-
-/// Whether the submission is judged right, with its need.
-fn is_right<A: Allocator + Copy>(alloc: A, view: &View<A>, submission: Submission<A>) -> bool {
-    match judge(alloc, view, submission) {
-        Ok(judged) => matches!(judged.outcome, Outcome::Yes { need: NEED, .. }),
-        Err(_) => false,
+    log: &Log<A>,
+    walk: &Walk<A>,
+    plan: &Plan<A>,
+) -> Option<bool>
+    requires walked { IsOk walk.now.outcome }
+    requires sizes { HasOrderedSizes walk.now }
+    requires spans { AllByRecursion IsSpanned log.now.entries }
+    requires count { length log.now.entries ≤ entry_limit }
+{
+    match check_plan(alloc, log, walk, plan) {
+        Ok(need) => Some(need == NEED),
+        Err(RowFault::OutOfMemory) => None,
+        Err(_) => Some(false),
     }
 }
 
-/// The same of the judgement, from which the submission comes back.
-fn is_judge_refused<A: Allocator + Copy, B: Allocator>(
-    alloc: A,
-    heap: &Refusing<B>,
-    growth: u64,
-) -> Option<bool> {
-    let parts = parts_of(alloc)?;
-    let submission = submission(alloc, 7, &parts.log, &parts.plan).ok()?;
-    heap.refuse_after(growth);
-    let first = judge(alloc, &parts.view, submission);
-    let has_refused = heap.has_refused();
-    heap.refuse_after(AMPLE);
-    let back = match first {
-        Ok(judged) => {
-            let is_right = matches!(judged.outcome, Outcome::Yes { need: NEED, .. });
-            return (is_right && !has_refused).then_some(false);
-        }
-        Err(back) => back,
-    };
-    let is_same = back.submission.client == 7
-        && back.submission.log.as_slice() == parts.log.as_slice()
-        && back.submission.plan.as_slice() == parts.plan.as_slice();
-    let is_due = back.why == Why::OutOfMemory && has_refused && is_same;
-    (is_due && is_right(alloc, &parts.view, back.submission)).then_some(true)
-}
-
-/// The calls whose growths are refused.
-#[derive(Clone, Copy, Debug)]
-enum Call {
+/// The calls of which a judgement consists.
+#[derive(Clone, Copy)]
+enum Part {
     Walk,
     Sweep,
     Check,
+}
+
+/// Whether the call behind the walk answers rightly; none without memory.
+fn is_rest_right<A: Allocator + Copy>(
+    alloc: A,
+    log: &Log<A>,
+    walk: &Walk<A>,
+    plan: &Plan<A>,
+    part: Part,
+) -> Option<bool>
+    requires walked { IsOk walk.now.outcome }
+    requires sizes { HasOrderedSizes walk.now }
+    requires spans { AllByRecursion IsSpanned log.now.entries }
+    requires count { length log.now.entries ≤ entry_limit }
+{
+    match part {
+        Part::Walk => Some(is_walk(walk, plan)),
+        Part::Sweep => is_swept(alloc, log, walk, plan),
+        Part::Check => is_checked(alloc, log, walk, plan),
+    }
+}
+
+/// Whether the call answers rightly of this log, with the growth of this index of it refused and no other; none without
+/// memory.
+fn is_right_of<A: Allocator + Copy>(
+    alloc: A,
+    heap: &Refusing<Global>,
+    view: &View<A>,
+    log: &Log<A>,
+    plan: &Plan<A>,
+    call: (Part, u64),
+) -> Option<bool>
+    requires spans { AllByRecursion IsSpanned log.now.entries }
+    requires count { length log.now.entries ≤ entry_limit }
+{
+    let (part, growth) = call;
+    let is_walk = matches!(part, Part::Walk);
+    if is_walk {
+        heap.refuse_after(growth);
+    }
+    let walk = walked(alloc, view, log)?;
+    if !is_walk {
+        heap.refuse_after(growth);
+    }
+    is_rest_right(alloc, log, &walk, plan, part)
+}
+
+/// The same of the log and the plan that are spelled anew.
+fn is_part_right<A: Allocator + Copy>(
+    alloc: A,
+    heap: &Refusing<Global>,
+    case: &Case<A>,
+    part: Part,
+    growth: u64,
+) -> Option<bool> {
+    heap.refuse_after(AMPLE);
+    let plan = right_plan(alloc)?;
+    let log = spelled(alloc, &case.log)?;
+    is_right_of(alloc, heap, &case.view, &log, &plan, (part, growth))
+}
+
+/// Whether there was a growth of this index in the call; none where an answer isn't due.
+fn is_part_refused<A: Allocator + Copy>(
+    alloc: A,
+    heap: &Refusing<Global>,
+    case: &Case<A>,
+    part: Part,
+    growth: u64,
+) -> Option<bool> {
+    let first = is_part_right(alloc, heap, case, part, growth);
+    let has_refused = heap.has_refused();
+    let due = if has_refused { None } else { Some(true) };
+    let again = is_part_right(alloc, heap, case, part, AMPLE);
+    (first == due && again == Some(true)).then_some(has_refused)
+}
+
+/// Whether client 7 has handed in the case's log and this plan.
+fn is_same<A: Allocator>(submission: &Submission<A>, log: &[u8], plan: &[u8]) -> bool {
+    submission.client == 7 && submission.log.as_slice() == log && submission.plan.as_slice() == plan
+}
+
+/// The same of the judgement, from which the submission comes back.
+fn is_judge_refused<A: Allocator + Copy>(
+    alloc: A,
+    heap: &Refusing<Global>,
+    case: &Case<A>,
+    growth: u64,
+) -> Option<bool> {
+    let plan = plan(alloc, ROWS)?;
+    let submission = submission(alloc, 7, &case.log, &plan).ok()?;
+    heap.refuse_after(growth);
+    let first = judged(alloc, &case.view, submission);
+    let has_refused = heap.has_refused();
+    heap.refuse_after(AMPLE);
+    let Back { submission, why } = match first {
+        Ok(verdict) => return (verdict == Ok(NEED) && !has_refused).then_some(false),
+        Err(back) => back,
+    };
+    let is_back = why == Why::OutOfMemory && is_same(&submission, &case.log, &plan);
+    let again = judged(alloc, &case.view, submission).ok()?;
+    (is_back && has_refused && again == Ok(NEED)).then_some(true)
+}
+
+/// The calls whose growths are refused.
+#[derive(Clone, Copy)]
+enum Call {
+    Part(Part),
     Judge,
 }
 
 fn is_refused(alloc: Global, call: Call, growth: u64) -> Option<bool> {
     let heap = Refusing::new(alloc, AMPLE);
+    let case = Case::new(&heap, &TWO_FILES, &STEPS)?;
     match call {
-        Call::Walk => is_walk_refused(&heap, &heap, growth),
-        Call::Sweep => is_sweep_refused(&heap, &heap, growth),
-        Call::Check => is_check_refused(&heap, &heap, growth),
-        Call::Judge => is_judge_refused(&heap, &heap, growth),
+        Call::Part(part) => is_part_refused(&heap, &heap, &case, part, growth),
+        Call::Judge => is_judge_refused(&heap, &heap, &case, growth),
     }
 }
 
@@ -248,10 +267,56 @@ fn growths(alloc: Global, call: Call) -> Result<u64, u64> {
     Err(MANY)
 }
 
+/// The call makes growths, and each is refused in turn.
+fn expect_growths(rt: &(impl Abort + AllocGlobal), call: Call) {
+    let count = growths(rt.alloc(), call);
+    let is_right = match count {
+        Ok(count) => 3 < count,
+        Err(_) => false,
+    };
+    assert!(rt; is_right, "{count:?}");
+}
+
 #[test]
-fn each_growth_refused_in_turn(rt: HostRuntime) {
-    for call in [Call::Walk, Call::Sweep, Call::Check, Call::Judge] {
-        let count = growths(rt.alloc(), call);
-        assert!(rt; count.is_ok_and(|count| 3 < count), "{call:?}: {count:?}");
+fn each_growth_of_a_walk_refused(rt: HostRuntime) {
+    expect_growths(&rt, Call::Part(Part::Walk));
+}
+
+#[test]
+fn each_growth_of_a_sweep_refused(rt: HostRuntime) {
+    expect_growths(&rt, Call::Part(Part::Sweep));
+}
+
+#[test]
+fn each_growth_of_a_check_refused(rt: HostRuntime) {
+    expect_growths(&rt, Call::Part(Part::Check));
+}
+
+#[test]
+fn each_growth_of_a_judgement_refused(rt: HostRuntime) {
+    expect_growths(&rt, Call::Judge);
+}
+
+/// Whether this is judged of a file of the greatest size, or the submission comes back for this reason, where at most so
+/// many bytes are held at one time beside the view and the submission.
+fn is_greatest_judged(alloc: Global, bytes: u64, wanted: Result<Verdict, Why>) -> Option<bool> {
+    let heap = Refusing::new(alloc, AMPLE);
+    let case = Case::new(&heap, &EMPTY_FILE, &WHOLE_FILE)?;
+    let plan = plan(&heap, WHOLE_FILE_ROWS)?;
+    let submission = submission(&heap, 7, &case.log, &plan).ok()?;
+    heap.leave(bytes);
+    match judged(&heap, &case.view, submission) {
+        Ok(verdict) => Some(wanted == Ok(verdict)),
+        Err(back) => Some(wanted == Err(back.why)),
+    }
+}
+
+#[test]
+fn a_file_of_the_greatest_size_in_little_memory(rt: HostRuntime) {
+    for (bytes, wanted) in [(16 << 20, Ok(Ok(1))), (1 << 10, Err(Why::OutOfMemory))] {
+        assert!(rt;
+            is_greatest_judged(rt.alloc(), bytes, wanted) == Some(true),
+            "{bytes}"
+        );
     }
 }

@@ -1,6 +1,6 @@
 //! Worked submissions, each with the need or the fault that is due.
 
-use crate::scenes::{Scene, Verdict, verdict, view};
+use crate::scenes::{Case, Scene, Verdict, verdict, view};
 use crate::spelling::PieceLine::{Put, Zero};
 use crate::spelling::{FileLine, NO_ROWS, NameLine, PieceLine, Rows, Step, log, plan};
 use kfs_entry::SpellFault;
@@ -277,9 +277,7 @@ const GREATEST: [Row<'static>; 3] = [
 
 /// What is judged of a log and a plan of client 7.
 fn judged(alloc: Global, scene: &Scene<'_>, steps: &[Step<'_>], rows: Rows<'_>) -> Option<Verdict> {
-    let view = view(alloc, scene)?;
-    let (log, plan) = (log(alloc, steps)?, plan(alloc, rows)?);
-    verdict(alloc, &view, 7, &log, &plan)
+    Case::new(alloc, scene, steps)?.verdict(alloc, rows)
 }
 
 fn expect_rows(rt: &(impl Abort + AllocGlobal), rows: &[Row<'_>]) {
@@ -290,10 +288,23 @@ fn expect_rows(rt: &(impl Abort + AllocGlobal), rows: &[Row<'_>]) {
 }
 
 #[test]
-fn worked_submissions(rt: HostRuntime) {
-    for rows in [&EDITED[..], &MADE, &PERMITTED, &GREATEST] {
-        expect_rows(&rt, rows);
-    }
+fn edits_of_ten_bytes(rt: HostRuntime) {
+    expect_rows(&rt, &EDITED);
+}
+
+#[test]
+fn new_files(rt: HostRuntime) {
+    expect_rows(&rt, &MADE);
+}
+
+#[test]
+fn writes_by_permission(rt: HostRuntime) {
+    expect_rows(&rt, &PERMITTED);
+}
+
+#[test]
+fn the_greatest_size(rt: HostRuntime) {
+    expect_rows(&rt, &GREATEST);
 }
 
 /// The client that hands in, the bytes of a log and a plan, and what is judged of them where the root is alone.
@@ -376,12 +387,21 @@ fn bytes_judged(alloc: Global, row: &BytesRow<'_>) -> Option<Verdict> {
     verdict(alloc, &view(alloc, &ROOT)?, client, log, plan)
 }
 
-#[test]
-fn submissions_by_their_bytes(rt: HostRuntime) {
-    for (index, row) in BAD_LOGS.iter().chain(&BAD_PLANS).enumerate() {
+fn expect_bytes(rt: &(impl Abort + AllocGlobal), rows: &[BytesRow<'_>]) {
+    for (index, row) in rows.iter().enumerate() {
         let given = bytes_judged(rt.alloc(), row);
         assert!(rt; given == Some(row.3), "{index}: {given:?}");
     }
+}
+
+#[test]
+fn logs_by_their_bytes(rt: HostRuntime) {
+    expect_bytes(&rt, &BAD_LOGS);
+}
+
+#[test]
+fn plans_by_their_bytes(rt: HostRuntime) {
+    expect_bytes(&rt, &BAD_PLANS);
 }
 
 /// Whether the rows of the edits are spelled like the vectors.

@@ -11,7 +11,7 @@ use kfs_image::{Image, TierSizes};
 use kfs_judge::View;
 use kfs_lease::{LeaseKind, Leases};
 use kfs_mode::Client;
-use kfs_plan::{Fault, Judged, Outcome, Submission, judge};
+use kfs_plan::{Back, Fault, Judged, Outcome, Submission, judge};
 use std::alloc::{AllocError, Allocator};
 use std::sync::Arc;
 
@@ -130,6 +130,18 @@ pub fn view<A: Allocator + Copy>(alloc: A, scene: &Scene<'_>) -> Option<View<A>>
 /// What is judged of a submission: the need, or the fault.
 pub type Verdict = Result<u64, Fault>;
 
+/// What is judged of a submission, or how it comes back where memory was refused.
+pub fn judged<A: Allocator + Copy>(
+    alloc: A,
+    view: &View<A>,
+    submission: Submission<A>,
+) -> Result<Verdict, Back<A>> {
+    match judge(alloc, view, submission)?.outcome {
+        Outcome::Yes { need, .. } => Ok(Ok(need)),
+        Outcome::No(fault) => Ok(Err(fault)),
+    }
+}
+
 /// What is judged of a log and a plan that this client hands in; none where memory was refused.
 pub fn verdict<A: Allocator + Copy>(
     alloc: A,
@@ -139,8 +151,26 @@ pub fn verdict<A: Allocator + Copy>(
     plan: &[u8],
 ) -> Option<Verdict> {
     let submission = submission(alloc, client, log, plan).ok()?;
-    match judge(alloc, view, submission).ok()?.outcome {
-        Outcome::Yes { need, .. } => Some(Ok(need)),
-        Outcome::No(fault) => Some(Err(fault)),
+    judged(alloc, view, submission).ok()
+}
+
+/// The view of a scene, and a log of client 7 as bytes.
+#[derive(Drop)]
+pub struct Case<A: Allocator> {
+    pub view: View<A>,
+    pub log: Vec<u8, A>,
+}
+
+impl<A: Allocator + Copy> Case<A> {
+    pub fn new(alloc: A, scene: &Scene<'_>, steps: &[Step<'_>]) -> Option<Case<A>> {
+        Some(Case {
+            view: view(alloc, scene)?,
+            log: log(alloc, steps)?,
+        })
+    }
+
+    /// What is judged of the log with this plan.
+    pub fn verdict(&self, alloc: A, rows: Rows<'_>) -> Option<Verdict> {
+        verdict(alloc, &self.view, 7, &self.log, &plan(alloc, rows)?)
     }
 }

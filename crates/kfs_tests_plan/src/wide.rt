@@ -1,9 +1,9 @@
 //! The log of the most entries, each of one byte.
 
 use crate::rows::EMPTY_FILE;
-use crate::scenes::{Verdict, verdict, view};
+use crate::scenes::{Case, Verdict};
 use crate::spelling::PieceLine::{Put, Zero};
-use crate::spelling::{FileLine, PieceLine, Rows, Step, log, plan};
+use crate::spelling::{FileLine, PieceLine, Rows, Step};
 use kfs_plan::{Fault, RowFault};
 use std::alloc::{AllocError, Global};
 
@@ -51,11 +51,8 @@ fn judged(alloc: Global, is_backward: bool, is_whole: bool) -> Option<Verdict> {
         nodes: &[FileLine(5, 0o644, 1000, 1000, 8_191)],
         pieces: &pieces,
     };
-    let (log, plan) = (
-        log(alloc, &writes(alloc, is_backward).ok()?)?,
-        plan(alloc, rows)?,
-    );
-    verdict(alloc, &view(alloc, &EMPTY_FILE)?, 7, &log, &plan)
+    let steps = writes(alloc, is_backward).ok()?;
+    Case::new(alloc, &EMPTY_FILE, &steps)?.verdict(alloc, rows)
 }
 
 #[test]
