@@ -7,8 +7,7 @@ ghost use Rattle.kfs_image.specs.Look.{IsAfter, IsNext};
 ghost use Rattle.kfs_image.specs.ShownTree.{IsLawful};
 
 use crate::layout::Shape;
-use crate::sizes::TierSizes;
-use kfs_value::{Name, NameRow, NodeRow};
+use kfs_value::{Name, NameRow, NodeRow, TierSizes};
 use std::alloc::{AllocError, Allocator};
 use std::marker::Model;
 use std::sync::Arc;

@@ -6,12 +6,10 @@ mod image;
 mod layout;
 mod rows;
 pub mod shape;
-mod sizes;
 mod slots;
 mod tally;
 
 pub use cell::{Answer, Cell};
 pub use image::Image;
-pub use kfs_value::{Header, Kind, Name};
+pub use kfs_value::{Header, Kind, Name, TierSizes};
 pub use layout::{Shape, look};
-pub use sizes::TierSizes;

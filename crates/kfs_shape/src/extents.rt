@@ -2,16 +2,15 @@
 ghost use Rattle.std.specs.Prelude.{◌≡◌};
 ghost use Rattle.std.specs.Option.{option_copied, option_map};
 ghost use Rattle.kfs_model.specs.Table.{numbers, pairs};
-ghost use Rattle.kfs_model.specs.Placement.{tier_size};
 ghost use Rattle.kfs_device.specs.Rules.{is_above, ends_in_file, tier_test, rule_8, rule_9};
 ghost use Rattle.kfs_device.specs.Finding.{least_failed};
 ghost use Rattle.kfs_shape.specs.Heads.{head_at, ShowsHeads};
 ghost use Rattle.kfs_shape.specs.Extents.{is_behind, is_full, is_in_place};
-ghost use Rattle.kfs_shape.specs.Views.{sizes_of, extent_row_of, raw_of};
+ghost use Rattle.kfs_shape.specs.Views.{extent_row_of, raw_of};
 
 use crate::least::{noted, previous};
-use crate::raw::{ExtentRow, RawImage, TierSizes};
-use kfs_value::{BLOCK_SIZE, Header, Kind};
+use crate::raw::{ExtentRow, RawImage};
+use kfs_value::{BLOCK_SIZE, Header, Kind, TierSizes};
 use std::alloc::Allocator;
 use std::collections::BTreeMap;
 
@@ -73,18 +72,6 @@ fn is_in_place<A: Allocator>(
     is_above && ends_in_file && is_full(row) && is_behind(before, row)
 }
 
-/// How many blocks a tier has: none where it is over 2.
-fn tier_size(sizes: TierSizes, tier: u8) -> u32
-    ensures { result ≡ tier_size (sizes_of sizes) tier }
-{
-    match tier {
-        0 => sizes.first,
-        1 => sizes.second,
-        2 => sizes.third,
-        _ => 0,
-    }
-}
-
 /// The least number of an extent that isn't above the row before, isn't of blocks of a file that begin
 /// below its size, has no block or not 4,096 bytes for each, or shares a block of the file with another
 /// extent. Takes no memory.
@@ -106,10 +93,10 @@ pub fn least_misplaced<A: Allocator>(
 
 /// Whether the extent's tier is from 0 to 2 and has its places.
 fn is_in_tier<A: Allocator>(sizes: TierSizes, row: &ExtentRow<A>) -> bool
-    ensures { result ≡ (tier_test (sizes_of sizes) (extent_row_of row.now)).holds }
+    ensures { result ≡ (tier_test sizes (extent_row_of row.now)).holds }
 {
     let end = u64::from(row.place) + u64::from(row.count);
-    row.tier <= 2 && end <= u64::from(tier_size(sizes, row.tier))
+    row.tier <= 2 && end <= u64::from(sizes.size(row.tier))
 }
 
 /// The least number of an extent that lies in no tier from 0 to 2, or past its end. Takes no memory.

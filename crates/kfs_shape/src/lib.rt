@@ -8,5 +8,5 @@ pub mod names;
 pub mod nodes;
 mod raw;
 
-pub use kfs_value::{Header, Kind, Name, NameRow};
-pub use raw::{ExtentRow, NodeRow, RawImage, TierSizes};
+pub use kfs_value::{Header, Kind, Name, NameRow, TierSizes};
+pub use raw::{ExtentRow, NodeRow, RawImage};

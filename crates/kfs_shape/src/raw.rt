@@ -1,15 +1,7 @@
 //! An image as its format lists it: rows of which nothing is known yet.
 
-use kfs_value::{Header, NameRow};
+use kfs_value::{Header, NameRow, TierSizes};
 use std::alloc::Allocator;
-
-/// How many blocks of 4,096 bytes each of the three tiers has.
-#[derive(Clone, Copy, Debug, PartialEq, Eq)]
-pub struct TierSizes {
-    pub first: u32,
-    pub second: u32,
-    pub third: u32,
-}
 
 /// A node and what it shows of itself.
 #[derive(Clone, Copy, Debug, PartialEq, Eq)]

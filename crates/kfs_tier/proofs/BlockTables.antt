@@ -63,7 +63,7 @@ module _ (old new : Slots) (place : ℕ) where
       by_slot None gone same = gone refl
       by_slot (Some bytes) gone same = ap blocks_of same
 
-eq_by_cmp-same : (k q : ℕ) → k ≡ q → eq_by_cmp nat_cmp k q ≡ true
+pub eq_by_cmp-same : (k q : ℕ) → k ≡ q → eq_by_cmp nat_cmp k q ≡ true
 eq_by_cmp-same k q same = grind (arith, nat_tests)
 
 pub eq_by_cmp-other : (k q : ℕ) → (k ≡ q → ⊥) → eq_by_cmp nat_cmp k q ≡ false

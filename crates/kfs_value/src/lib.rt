@@ -7,13 +7,15 @@ mod limits;
 mod name;
 mod plan;
 mod rows;
+mod sizes;
 
 pub use entry::{Entry, Log, Span};
 pub use header::{Header, Kind};
 pub use limits::{
     BLOCK_SIZE, CLIMB_LIMIT, ENTRY_LIMIT, GREATEST_MODE, LINK_LIMIT, PAYLOAD_LIMIT, ROOT,
-    SIZE_LIMIT,
+    SIZE_LIMIT, TIER_LIMIT,
 };
 pub use name::Name;
 pub use plan::{NameRow, NodeRow, Piece, Plan, Source};
 pub use rows::Rows;
+pub use sizes::TierSizes;

@@ -26,3 +26,6 @@ pub const ENTRY_LIMIT: u16 = 4_096;
 
 /// The most bytes of a payload.
 pub const PAYLOAD_LIMIT: u32 = 65_536;
+
+/// The most blocks of a tier.
+pub const TIER_LIMIT: u32 = 65_536;

@@ -2,9 +2,9 @@ use Rattle.std.proofs.Common.{◌≡◌}
 use Rattle.kfs_device.specs.Rules.{tier_test, rule_9}
 use Rattle.kfs_device.specs.Finding.{least_failed}
 use Rattle.kfs_shape.specs.Least.{merged}
-use Rattle.kfs_shape.specs.Views.{extent_row_of, sizes_of, raw_of}
+use Rattle.kfs_shape.specs.Views.{extent_row_of, raw_of}
 use Rattle.kfs_shape.proofs.Tests.{rest_failed}
 use Rattle.kfs_shape.proofs.extents.least_past_tier.Given as goal
 
 abbrev pub invariant-loop-row : goal.invariant-loop-row
-invariant-loop-row g l = merged l.least (rest_failed extent_row_of (tier_test (sizes_of l.raw.sizes)) l.rows l.row-index) ≡ least_failed (rule_9 (raw_of l.raw))
+invariant-loop-row g l = merged l.least (rest_failed extent_row_of (tier_test l.raw.sizes) l.rows l.row-index) ≡ least_failed (rule_9 (raw_of l.raw))

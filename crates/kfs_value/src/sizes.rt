@@ -1,7 +1,9 @@
 //! The sizes of the tiers.
 ghost use Rattle.std.specs.Prelude.{◌≡◌, ◌≤◌, IsSome, IfSome, ◌↔◌};
 ghost use Rattle.kfs_model.specs.Limits.{tier_limit};
+ghost use Rattle.kfs_model.specs.Placement.{tier_size};
 
+use crate::limits::TIER_LIMIT;
 use std::marker::Model;
 
 /// How many blocks of 4,096 bytes each of the three tiers has: non-volatile memory, solid-state disk
@@ -27,16 +29,13 @@ impl Model for TierSizes {
     ghost inverse = { λ v. record { first = v.first; second = v.second; third = v.third } };
 }
 
-/// The greatest size of a tier, in blocks.
-pub const LARGEST_TIER: u32 = 65_536;
-
 impl TierSizes {
     /// The sizes of tiers 0, 1 and 2 in blocks, or none where one is over 65,536. Takes no memory.
     pub fn new(first: u32, second: u32, third: u32) -> Option<TierSizes>
         ensures in_range { IsSome result ↔ ((first ≤ tier_limit) × (second ≤ tier_limit) × (third ≤ tier_limit)) }
         ensures value { IfSome result (λ sizes. sizes ≡ record { first = first; second = second; third = third }) }
     {
-        if first > LARGEST_TIER || second > LARGEST_TIER || third > LARGEST_TIER {
+        if first > TIER_LIMIT || second > TIER_LIMIT || third > TIER_LIMIT {
             return None;
         }
         Some(TierSizes {
@@ -44,5 +43,17 @@ impl TierSizes {
             second,
             third,
         })
+    }
+    /// How many blocks the tier has: none where it is over 2. Takes no memory.
+    pub fn size(&self, tier: u8) -> u32
+        ensures size { result ≡ tier_size self.now tier }
+        ensures in_range { result ≤ tier_limit }
+    {
+        match tier {
+            0 => self.first,
+            1 => self.second,
+            2 => self.third,
+            _ => 0,
+        }
     }
 }

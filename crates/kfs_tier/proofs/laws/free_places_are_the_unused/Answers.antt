@@ -1,0 +1,14 @@
+use Rattle.kfs_tier.proofs.UnusedPlaces.{CountsUnused-holds, FindsUnused-holds, MissesNone-holds, KeepsUnused-holds}
+use Rattle.kfs_tier.proofs.laws.free_places_are_the_unused.Goals as goal
+
+pub returns-clause-counted : goal.returns-clause-counted
+returns-clause-counted g = CountsUnused-holds
+
+pub returns-clause-found : goal.returns-clause-found
+returns-clause-found g = FindsUnused-holds
+
+pub returns-clause-none : goal.returns-clause-none
+returns-clause-none g = MissesNone-holds
+
+pub returns-clause-kept : goal.returns-clause-kept
+returns-clause-kept g = KeepsUnused-holds

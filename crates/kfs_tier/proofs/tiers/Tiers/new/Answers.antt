@@ -1,0 +1,20 @@
+use Rattle.std.proofs.Common.{true, length, replicate, ap, ◌∙◌}
+use Rattle.std.proofs.lemmas.List.{length-replicate}
+use Rattle.kfs_model.specs.Table.{empty}
+use Rattle.kfs_tier.specs.Tier.{TierShown}
+use Rattle.kfs_tier.proofs.TierChanges.{AreSized-three, fresh_is}
+use Rattle.kfs_tier.proofs.tiers.Tiers.new.Goals as goal
+
+pub invariant_of-result : goal.invariant_of-result
+invariant_of-result g c =
+    AreSized-three c.args.sizes _ _ _
+    (ap (λ (s : TierShown). length s.places) c.in_ok-first.ensures ∙ length-replicate _ true ∙ c.size.ensures.size)
+    (ap (λ (s : TierShown). length s.places) c.in_ok-second.ensures ∙ length-replicate _ true ∙ c.size-2.ensures.size)
+    (ap (λ (s : TierShown). length s.places) c.in_ok-third.ensures ∙ length-replicate _ true ∙ c.size-3.ensures.size)
+
+pub returns : goal.returns
+returns g c =
+    fresh_is c.args.sizes c.in_ok-first.first c.in_ok-second.second c.in_ok-third.third
+    (c.in_ok-first.ensures ∙ ap (λ n. record { places = replicate n true; blocks = empty }) c.size.ensures.size)
+    (c.in_ok-second.ensures ∙ ap (λ n. record { places = replicate n true; blocks = empty }) c.size-2.ensures.size)
+    (c.in_ok-third.ensures ∙ ap (λ n. record { places = replicate n true; blocks = empty }) c.size-3.ensures.size)
