@@ -1,0 +1,3 @@
+mod Ahead
+mod Places
+mod Together

@@ -1,0 +1,115 @@
+-- The chunk that a key belongs to, and what edits of a chunk and of those behind it make of all.
+use Rattle.std.proofs.Common.{◌≡◌, ◌<◌, ◌≤◌, ℕ, zero, suc, ◌+◌, Bool, true, false, cond, not, All, List, [], ◌∷◌, ◌++◌, length, get_or, slice_index_or, Option, Some, None, refl, sym, ap, subst, ◌∙◌, arith}
+use Rattle.std.proofs.lemmas.List.Elements.{All-tail}
+use Rattle.std.specs.declared.cmp.Ordering.{Ordering}
+use Rattle.std.specs.declared.cmp.Ordering.TheVariants.{Less, Equal, Greater}
+use Rattle.std.specs.Ordering.{is_lt, is_gt, is_eq, eq_by_cmp, ordering_reverse}
+use Rattle.std.specs.Cmp.{IsTotalOrder, upto}
+use Rattle.std.specs.List.Sorted.{IsPartitionedBy, IsPartitionPoint}
+use Rattle.std.specs.declared.sync.Arc.{Arc}
+use Rattle.kfs_chunks.specs.declared.edit.Edit.{Edit}
+use Rattle.kfs_chunks.specs.declared.chunk.Chunk.{Chunk}
+use Rattle.kfs_chunks.specs.Edits.{edited, Ascend}
+use Rattle.kfs_chunks.specs.Shown.{leasts, chunk_shows, shown_from, shown, begun, place, AreFrom, Rise, ArePlaced}
+
+turned : (r : Ordering) → is_lt (ordering_reverse r) ≡ is_gt r
+turned Less = refl
+turned Equal = refl
+turned Greater = refl
+
+pub true_or_false : (b : Bool) → b ≡ true → b ≡ false → ⊥
+true_or_false true yes_ no_ = cc
+true_or_false false yes_ no_ = cc
+
+module _ {K : Type 0} {cmp : K → K → Ordering} (o : IsTotalOrder cmp) where
+  flipped : (a b : K) → is_lt (cmp a b) ≡ is_gt (cmp b a)
+  flipped a b = ap is_lt (o.antisymm a b) ∙ turned (cmp b a)
+
+  -- not below one that is not below a third
+  pub not_below : (a b c : K) → is_lt (cmp a b) ≡ false → is_lt (cmp b c) ≡ false → is_lt (cmp a c) ≡ false
+  not_below a b c p q = flipped a c ∙ upto o c b a (sym (flipped b c) ∙ q) (sym (flipped a b) ∙ p)
+
+  -- keys on both sides of a third differ
+  pub differ : (q k l : K) → (is_lt (cmp q l) ≡ is_lt (cmp k l) → ⊥) → eq_by_cmp cmp q k ≡ false
+  differ q k l apart = at (cmp q k) refl
+    where
+      at : (r : Ordering) → cmp q k ≡ r → eq_by_cmp cmp q k ≡ false
+      at Less e = ap is_eq e
+      at Equal e = absurd (apart (ap is_lt (o.congr q k l e)))
+      at Greater e = ap is_eq e
+
+module _ {K V : Type 0} (cmp : K → K → Ordering) where
+  pub edited-append : (xs ys : List (Edit K V)) (q : K) (v : Option V) → edited cmp (xs ++ ys) q v ≡ edited cmp ys q (edited cmp xs q v)
+  edited-append [] ys q v = refl
+  edited-append (x ∷ xs) ys q v = edited-append xs ys q (cond (eq_by_cmp cmp q x.key) x.value v)
+
+  -- edits of other keys change nothing
+  pub edited-away : (es : List (Edit K V)) (q : K) (v : Option V) → All (λ e. eq_by_cmp cmp q e.key ≡ false) es → edited cmp es q v ≡ v
+  edited-away [] q v away = refl
+  edited-away (e ∷ es) q v away =
+      ap (λ b. edited cmp es q (cond b e.value v)) (away 0 e (omega arith)) ∙ edited-away es q v (All-tail (λ (x : Edit K V). eq_by_cmp cmp q x.key ≡ false) e es away)
+
+module _ {K V A : Type 0} (cmp : K → K → Ordering) where
+  pub begun_past : (d : Arc (Chunk K V A) A) (ds : List (Arc (Chunk K V A) A)) (k : K) → 0 < begun cmp (d ∷ ds) k → is_lt (cmp k d.value.least) ≡ false
+  begun_past d ds k = at (is_lt (cmp k d.value.least)) (begun cmp ds k)
+    where
+      at : (b : Bool) (n : ℕ) → 0 < cond b 0 (suc n) → b ≡ false
+      at true n past = absurd (omega (arith, past))
+      at false n past = refl
+
+  pub begun_before : (d : Arc (Chunk K V A) A) (ds : List (Arc (Chunk K V A) A)) (k : K) → begun cmp (d ∷ ds) k ≡ 0 → is_lt (cmp k d.value.least) ≡ true
+  begun_before d ds k = at (is_lt (cmp k d.value.least)) (begun cmp ds k)
+    where
+      at : (b : Bool) (n : ℕ) → cond b 0 (suc n) ≡ 0 → b ≡ true
+      at true n before = refl
+      at false n before = absurd (omega (arith, before))
+
+  pub begun_rest : (d : Arc (Chunk K V A) A) (ds : List (Arc (Chunk K V A) A)) (k : K) (n : ℕ) → suc n ≤ begun cmp (d ∷ ds) k → n ≤ begun cmp ds k
+  begun_rest d ds k n = at (is_lt (cmp k d.value.least)) (begun cmp ds k)
+    where
+      at : (b : Bool) (m : ℕ) → suc n ≤ cond b 0 (suc m) → n ≤ m
+      at true m le = absurd (omega (arith, le))
+      at false m le = omega (arith, le)
+
+module _ {K V A : Type 0} {cmp : K → K → Ordering} (o : IsTotalOrder cmp) where
+  -- a later key has no fewer chunks begun
+  pub begun_rises : (ds : List (Arc (Chunk K V A) A)) (a b : K) → is_lt (cmp b a) ≡ false → begun cmp ds a ≤ begun cmp ds b
+  begun_rises [] a b le = omega arith
+  begun_rises (d ∷ ds) a b le = at (begun_rises ds a b le) (is_lt (cmp a d.value.least)) refl
+    where
+      at : begun cmp ds a ≤ begun cmp ds b → (t : Bool) → is_lt (cmp a d.value.least) ≡ t → cond t 0 (suc (begun cmp ds a)) ≤ begun cmp (d ∷ ds) b
+      at rest true e = omega arith
+      at rest false e = omega (arith, rest, ap (λ t. cond t 0 (suc (begun cmp ds b))) (not_below o b a d.value.least le e))
+
+  from_at : (k : K) (cs : List (Arc (Chunk K V A) A)) (j : ℕ) (d : Arc (Chunk K V A) A) → AreFrom cmp k cs → j < length cs → is_lt (cmp (slice_index_or cs j d).value.least k) ≡ false
+  from_at k [] j d from below = absurd (omega (arith, below))
+  from_at k (c ∷ cs) zero d from below = from.0
+  from_at k (c ∷ cs) (suc j) d from below = from_at k cs j d from.1 (omega (arith, below))
+
+  pub parted : (q : K) (cs : List (Arc (Chunk K V A) A)) → Rise cmp cs → IsPartitionedBy (λ (y : Arc (Chunk K V A) A). not (is_lt (cmp q y.value.least))) cs
+  parted q [] rise i j d le below past = absurd (omega (arith, below))
+  parted q (c ∷ cs) rise zero zero d le below past = past
+  parted q (c ∷ cs) rise zero (suc j) d le below past =
+      ap not (not_below o q (slice_index_or cs j d).value.least c.value.least (un_not _ past) (from_at c.value.least cs j d rise.0 (omega (arith, below))))
+    where
+      un_not : (b : Bool) → not b ≡ true → b ≡ false
+      un_not true e = sym e
+      un_not false e = refl
+  parted q (c ∷ cs) rise (suc i) zero d le below past = absurd (omega (arith, le))
+  parted q (c ∷ cs) rise (suc i) (suc j) d le below past = parted q cs rise.1 i j d (omega (arith, le)) (omega (arith, below)) past
+
+module _ {K V A : Type 0} (cmp : K → K → Ordering) where
+  pub begun_is : (q : K) (cs : List (Arc (Chunk K V A) A)) (i : ℕ) → i ≤ length cs
+      → IsPartitionPoint (λ (y : Arc (Chunk K V A) A). not (is_lt (cmp q y.value.least)) ≡ true) (λ (y : Arc (Chunk K V A) A). not (is_lt (cmp q y.value.least)) ≡ false) cs i → begun cmp cs q ≡ i
+  begun_is q [] i le point = omega (arith, le)
+  begun_is q (c ∷ cs) zero le point = at (is_lt (cmp q c.value.least)) (point.1 0 c (omega arith) (omega arith))
+    where
+      at : (b : Bool) → not b ≡ false → cond b 0 (suc (begun cmp cs q)) ≡ 0
+      at true e = refl
+      at false e = absurd (true_or_false true refl e)
+  begun_is q (c ∷ cs) (suc i) le point =
+      at (is_lt (cmp q c.value.least)) (point.0 0 c (omega arith) (omega arith)) (begun_is q cs i (omega (arith, le)) (λ k d low high. point.0 (suc k) d (omega arith) (omega (arith, high)), λ k d low high. point.1 (suc k) d (omega (arith, low)) (omega (arith, high))))
+    where
+      at : (b : Bool) → not b ≡ true → begun cmp cs q ≡ i → cond b 0 (suc (begun cmp cs q)) ≡ suc i
+      at true e rest = absurd (true_or_false false e refl)
+      at false e rest = ap suc rest

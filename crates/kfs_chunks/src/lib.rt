@@ -1,0 +1,12 @@
+//! A sorted map in chunks that copies share.
+#![tactic(auto)]
+
+mod key;
+mod edit;
+mod place;
+mod change;
+mod slots;
+mod chunk;
+
+pub use edit::Edit;
+pub use key::Key;
