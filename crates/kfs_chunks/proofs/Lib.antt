@@ -1,3 +1,4 @@
 mod Ahead
 mod Places
 mod Together
+mod Whole

@@ -1,10 +1,16 @@
 -- The chunk that a key belongs to, and what edits of a chunk and of those behind it make of all.
 use Rattle.std.proofs.Common.{◌≡◌, ◌<◌, ◌≤◌, ℕ, zero, suc, ◌+◌, Bool, true, false, cond, not, All, List, [], ◌∷◌, ◌++◌, length, get_or, slice_index_or, Option, Some, None, refl, sym, ap, subst, ◌∙◌, arith}
+use Rattle.std.proofs.Common.{Result, Ok, Err, drop, length-drop, inl, inr}
+use Rattle.std.proofs.lemmas.List.{get_or-drop}
+use Rattle.std.specs.Prelude.{OnOk, OnErr, ◌⊎◌}
+use Rattle.std.specs.Map.{lookup}
+use Rattle.std.specs.BTreeMap.{is_at}
+use Rattle.kfs_chunks.specs.Slots.{opened, shown_at}
 use Rattle.std.proofs.lemmas.List.Elements.{All-tail}
 use Rattle.std.specs.declared.cmp.Ordering.{Ordering}
 use Rattle.std.specs.declared.cmp.Ordering.TheVariants.{Less, Equal, Greater}
 use Rattle.std.specs.Ordering.{is_lt, is_gt, is_eq, eq_by_cmp, ordering_reverse}
-use Rattle.std.specs.Cmp.{IsTotalOrder, upto}
+use Rattle.std.specs.Cmp.{IsTotalOrder, upto, tied_itself}
 use Rattle.std.specs.List.Sorted.{IsPartitionedBy, IsPartitionPoint}
 use Rattle.std.specs.declared.sync.Arc.{Arc}
 use Rattle.kfs_chunks.specs.declared.edit.Edit.{Edit}
@@ -113,3 +119,75 @@ module _ {K V A : Type 0} (cmp : K → K → Ordering) where
       at : (b : Bool) → not b ≡ true → begun cmp cs q ≡ i → cond b 0 (suc (begun cmp cs q)) ≡ suc i
       at true e rest = absurd (true_or_false false e refl)
       at false e rest = ap suc rest
+
+module _ {K V A : Type 0} (cmp : K → K → Ordering) where
+  begun_within : (cs : List (Arc (Chunk K V A) A)) (q : K) → begun cmp cs q ≤ length cs
+  begun_within [] q = omega arith
+  begun_within (c ∷ cs) q = at (is_lt (cmp q c.value.least)) (begun_within cs q)
+    where
+      at : (b : Bool) → begun cmp cs q ≤ length cs → cond b 0 (suc (begun cmp cs q)) ≤ suc (length cs)
+      at true rest = omega arith
+      at false rest = omega (arith, rest)
+
+  -- the chunk that a key belongs to is one of them
+  pub place_within : (cs : List (Arc (Chunk K V A) A)) (q : K) → 0 < length cs → place cmp cs q < length cs
+  place_within [] q some = absurd (omega (arith, some))
+  place_within (c ∷ cs) q some = omega (arith, begun_within cs q)
+
+  pub has_chunks : (cs : List (Arc (Chunk K V A) A)) (es : List (Edit K V)) → All (λ e. 0 < begun cmp cs e.key) es → 0 < length es → 0 < length cs
+  has_chunks [] [] past some = some
+  has_chunks [] (e ∷ es) past some = past 0 e some
+  has_chunks (c ∷ cs) es past some = omega arith
+
+  pub placed_rise : (cs : List (Arc (Chunk K V A) A)) → Rise cmp cs → ArePlaced cmp cs
+  placed_rise [] rise = tt
+  placed_rise (c ∷ cs) rise = rise.1
+
+  rise_rest : (front : List (Arc (Chunk K V A) A)) (c : Arc (Chunk K V A) A) (cs : List (Arc (Chunk K V A) A)) → Rise cmp (front ++ c ∷ cs) → Rise cmp cs
+  rise_rest [] c cs rise = rise.1
+  rise_rest (f ∷ front) c cs rise = rise_rest front c cs rise.1
+
+  pub placed_rest : (front : List (Arc (Chunk K V A) A)) (c : Arc (Chunk K V A) A) (cs : List (Arc (Chunk K V A) A)) → ArePlaced cmp (front ++ c ∷ cs) → Rise cmp cs
+  placed_rest [] c cs rise = rise
+  placed_rest (f ∷ front) c cs rise = rise_rest front c cs rise
+
+  pub head_before : (cs : List (Arc (Chunk K V A) A)) (next : Arc (Chunk K V A) A) (k : K) → 0 < length cs → next ≡ get_or cs 0 next → is_lt (cmp k next.value.least) ≡ true → begun cmp cs k ≡ 0
+  head_before [] next k some same less = refl
+  head_before (c ∷ cs) next k some same less = ap (λ b. cond b 0 (suc (begun cmp cs k))) (ap (λ (x : Arc (Chunk K V A) A). is_lt (cmp k x.value.least)) (sym same) ∙ less)
+
+  pub head_past : (cs : List (Arc (Chunk K V A) A)) (next : Arc (Chunk K V A) A) (k : K) → 0 < length cs → next ≡ get_or cs 0 next → is_lt (cmp k next.value.least) ≡ false → 0 < begun cmp cs k
+  head_past [] next k some same past = some
+  head_past (c ∷ cs) next k some same past = omega (arith, ap (λ b. cond b 0 (suc (begun cmp cs k))) (ap (λ (x : Arc (Chunk K V A) A). is_lt (cmp k x.value.least)) (sym same) ∙ past))
+
+module _ {K V A : Type 0} {cmp : K → K → Ordering} (o : IsTotalOrder cmp) where
+  pub place_rises : (cs : List (Arc (Chunk K V A) A)) (a b : K) → is_lt (cmp b a) ≡ false → place cmp cs a ≤ place cmp cs b
+  place_rises [] a b le = omega arith
+  place_rises (c ∷ cs) a b le = begun_rises o cs a b le
+
+module _ {K V : Type 0} {cmp : K → K → Ordering} (o : IsTotalOrder cmp) where
+  -- no edit is below an earlier one, nor below itself
+  pub not_earlier : (es : List (Edit K V)) (i k : ℕ) (d : Edit K V) → Ascend cmp es → i + k < length es → is_lt (cmp (slice_index_or es (i + k) d).key (slice_index_or es i d).key) ≡ false
+  not_earlier es i zero d ascend below =
+      ap (λ n. is_lt (cmp (slice_index_or es n d).key (slice_index_or es i d).key)) {x = i + 0} {y = i} (omega arith) ∙ ap is_lt (tied_itself o (slice_index_or es i d).key)
+  not_earlier es i (suc k) d ascend below = flipped o _ _ ∙ ap is_gt (ascend i (i + suc k) d (omega arith) below)
+
+module _ {K V : Type 0} (cmp : K → K → Ordering) where
+  pub ascend_drop : (es : List (Edit K V)) (r : ℕ) → Ascend cmp es → Ascend cmp (drop r es)
+  ascend_drop es r ascend i j d less below =
+      ap (λ (e : Edit K V). cmp e.key (slice_index_or (drop r es) j d).key) (get_or-drop r es i d)
+      ∙ ap (λ (e : Edit K V). cmp (slice_index_or es (r + i) d).key e.key) (get_or-drop r es j d)
+      ∙ ascend (r + i) (r + j) d (omega (arith, less)) (omega (arith, below, length-drop r es))
+
+module _ {K V : Type 0} (cmp : K → K → Ordering) where
+  -- a copy of a chunk shows the same
+  pub same_shows : {A : Type 0} (old new : Chunk K V A) → (new ≡ old) ⊎ ((new.least ≡ old.least) × (new.slots.entries ≡ old.slots.entries)) → (q : K) → shown_at cmp new.slots q ≡ shown_at cmp old.slots q
+  same_shows old new (inl same) q = ap (λ (x : Chunk K V _). shown_at cmp x.slots q) same
+  same_shows old new (inr same) q = ap (λ es. opened (lookup (is_at (cmp q)) es)) same.1
+
+pub on_ok : {T E P : Type 0} (r : Result T E) → P → OnOk r P
+on_ok (Ok done) p = p
+on_ok (Err error) p = tt
+
+pub on_err : {T E P : Type 0} (r : Result T E) → P → OnErr r P
+on_err (Ok done) p = tt
+on_err (Err error) p = p

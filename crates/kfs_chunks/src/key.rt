@@ -40,7 +40,7 @@ impl Key for (u32, Name) {
 
     ghost compared = { refl };
 
-    ghost cloned = { λ key copy same i. (same.0 i, (sym same.1.2.1 ∙ same_items same.1.0.bytes.items same.1.1.bytes.items same.1.2.2 ∙ same.1.2.0) i) };
+    ghost cloned = { λ key copy same i. (same.0 i, (sym same.1.3 ∙ same_items same.1.0.bytes.items same.1.1.bytes.items same.1.4 ∙ same.1.2) i) };
 
     fn duplicate(&self) -> (u32, Name) {
         (self.0, self.1.clone().unwrap())

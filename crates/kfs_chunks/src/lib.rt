@@ -5,8 +5,10 @@ mod key;
 mod edit;
 mod place;
 mod change;
+mod chunks;
 mod slots;
 mod chunk;
 
+pub use chunks::Chunks;
 pub use edit::Edit;
 pub use key::Key;
