@@ -191,3 +191,43 @@ on_ok (Err error) p = tt
 pub on_err : {T E P : Type 0} (r : Result T E) → P → OnErr r P
 on_err (Ok done) p = tt
 on_err (Err error) p = p
+
+rest_of : {K : Type 0} → List K → List K
+rest_of [] = []
+rest_of (k ∷ ks) = ks
+
+module _ {K V A : Type 0} (cmp : K → K → Ordering) where
+  from_again : (k : K) (olds news : List (Arc (Chunk K V A) A)) → leasts news ≡ leasts olds → AreFrom cmp k olds → AreFrom cmp k news
+  unfolding rest_of
+  from_again k [] [] same from = tt
+  from_again k [] (y ∷ ys) same from = absurd (none same)
+    where
+      none : leasts (y ∷ ys) ≡ [] → ⊥
+      none e = cc
+  from_again k (x ∷ xs) [] same from = tt
+  from_again k (x ∷ xs) (y ∷ ys) same from = (ap (λ ls. is_lt (cmp (get_or ls 0 x.value.least) k)) same ∙ from.0, from_again k xs ys (ap rest_of same) from.1)
+
+  rise_again : (olds news : List (Arc (Chunk K V A) A)) → leasts news ≡ leasts olds → Rise cmp olds → Rise cmp news
+  unfolding rest_of
+  rise_again [] [] same rise = tt
+  rise_again [] (y ∷ ys) same rise = absurd (none same)
+    where
+      none : leasts (y ∷ ys) ≡ [] → ⊥
+      none e = cc
+  rise_again (x ∷ xs) [] same rise = tt
+  rise_again (x ∷ xs) (y ∷ ys) same rise =
+      (
+        subst (λ k. AreFrom cmp k ys) (sym (ap (λ ls. get_or ls 0 x.value.least) same)) (from_again x.value.least xs ys (ap rest_of same) rise.0),
+        rise_again xs ys (ap rest_of same) rise.1,
+      )
+
+  -- chunks with the same least keys are placed as well
+  pub placed_again : (olds news : List (Arc (Chunk K V A) A)) → leasts news ≡ leasts olds → ArePlaced cmp olds → ArePlaced cmp news
+  unfolding rest_of
+  placed_again [] [] same placed = tt
+  placed_again [] (y ∷ ys) same placed = absurd (none same)
+    where
+      none : leasts (y ∷ ys) ≡ [] → ⊥
+      none e = cc
+  placed_again (x ∷ xs) [] same placed = tt
+  placed_again (x ∷ xs) (y ∷ ys) same placed = rise_again xs ys (ap rest_of same) placed

@@ -11,6 +11,26 @@ use kfs_pages::Change;
 use std::alloc::{AllocError, Allocator};
 use std::sync::Arc;
 
+/// Makes a chunk for the edits where there is none. The chunks show the same.
+pub(crate) fn begin<K: Key, V: Copy, A: Allocator + Clone>(
+    chunks: &mut Vec<Arc<Chunk<K, V, A>, A>, A>,
+    edits: &[Edit<K, V>],
+) -> Result<(), AllocError>
+    requires placed { ArePlaced K.cmp chunks.old.items }
+    ensures placed { ArePlaced K.cmp chunks.new.items }
+    ensures some { OnOk result (0 < length edits.now → 0 < length chunks.new.items) }
+    ensures shown { (q : K) → shown K.cmp chunks.new.items q ≡ shown K.cmp chunks.old.items q }
+{
+    if let Some(edit) = edits.first()
+        && chunks.is_empty()
+    {
+        let alloc = chunks.allocator().clone()?;
+        let chunk = Chunk::new(alloc.clone()?, &edit.key);
+        chunks.push(Arc::new(alloc, chunk)?)?;
+    }
+    Ok(())
+}
+
 /// Makes the edits and the other change. Every copy and growth comes before the other change, and
 /// that before the first edit.
 #[cycle(change_chunks)]

@@ -1,5 +1,5 @@
 //! A chunk: some keys next to each other, and their values.
-ghost use Rattle.std.specs.Prelude.{◌≡◌, All, IsSome, OnOk, OnErr, IfOk};
+ghost use Rattle.std.specs.Prelude.{◌≡◌, [], All, IsSome, OnOk, OnErr, IfOk};
 ghost use Rattle.std.specs.BTreeMap.{get};
 ghost use Rattle.kfs_chunks.specs.Slots.{shown_at};
 ghost use Rattle.kfs_chunks.specs.Edits.{edited};
@@ -30,6 +30,17 @@ impl<K: Key, V: Copy, A: Allocator + Clone> Clone for Chunk<K, V, A> {
 }
 
 impl<K: Key, V: Copy, A: Allocator + Clone> Chunk<K, V, A> {
+    /// A chunk without a value. Takes no memory.
+    pub(crate) fn new(alloc: A, least: &K) -> Chunk<K, V, A>
+        ensures least { result.least ≡ least.now }
+        ensures slots { result.slots.entries ≡ [] }
+    {
+        Chunk {
+            least: least.duplicate(),
+            slots: BTreeMap::new(alloc),
+        }
+    }
+
     /// Makes slots for the edits' keys where there are none. The chunk shows the same.
     pub(crate) fn reserve(&mut self, edits: &[Edit<K, V>]) -> Result<(), AllocError>
         ensures least { self.new.least ≡ self.old.least }
