@@ -33,6 +33,16 @@ impl<K: Key, V: Copy, A: Allocator> Model for Chunks<K, V, A> {
     ghost invariant = { λ s. ArePlaced K.cmp s.chunks.items };
 }
 
+impl<K: Key, V: Copy, A: Allocator + Clone> Clone for Chunks<K, V, A> {
+    ghost is_clone = { λ chunks copy. copy ≡ chunks };
+
+    fn clone(&self) -> Result<Chunks<K, V, A>, AllocError> {
+        Ok(Chunks {
+            chunks: self.chunks.clone()?,
+        })
+    }
+}
+
 impl<K: Key, V: Copy, A: Allocator> Chunks<K, V, A> {
     /// The map without a value. Takes no memory.
     pub fn new(alloc: A) -> Chunks<K, V, A>
