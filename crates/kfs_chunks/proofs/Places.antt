@@ -1,5 +1,5 @@
 -- The chunk that a key belongs to, and what edits of a chunk and of those behind it make of all.
-use Rattle.std.proofs.Common.{◌≡◌, ◌<◌, ◌≤◌, ℕ, zero, suc, ◌+◌, Bool, true, false, cond, not, All, List, [], ◌∷◌, ◌++◌, length, get_or, slice_index_or, Option, Some, None, refl, sym, ap, subst, ◌∙◌, arith}
+use Rattle.std.proofs.Common.{◌≡◌, ◌<◌, ◌≤◌, ℕ, zero, suc, ◌+◌, Bool, true, false, cond, not, All, List, [], ◌∷◌, ◌++◌, length, get_or, slice_index_or, Option, refl, sym, ap, subst, ◌∙◌, arith}
 use Rattle.std.proofs.Common.{Result, Ok, Err, drop, length-drop, inl, inr}
 use Rattle.std.proofs.lemmas.List.{get_or-drop}
 use Rattle.std.specs.Prelude.{OnOk, OnErr, ◌⊎◌}
@@ -16,7 +16,7 @@ use Rattle.std.specs.declared.sync.Arc.{Arc}
 use Rattle.kfs_chunks.specs.declared.edit.Edit.{Edit}
 use Rattle.kfs_chunks.specs.declared.chunk.Chunk.{Chunk}
 use Rattle.kfs_chunks.specs.Edits.{edited, Ascend}
-use Rattle.kfs_chunks.specs.Shown.{leasts, chunk_shows, shown_from, shown, begun, place, AreFrom, Rise, ArePlaced}
+use Rattle.kfs_chunks.specs.Shown.{leasts, begun, place, AreFrom, Rise, ArePlaced}
 
 turned : (r : Ordering) → is_lt (ordering_reverse r) ≡ is_gt r
 turned Less = refl
@@ -215,11 +215,10 @@ module _ {K V A : Type 0} (cmp : K → K → Ordering) where
       none : leasts (y ∷ ys) ≡ [] → ⊥
       none e = cc
   rise_again (x ∷ xs) [] same rise = tt
-  rise_again (x ∷ xs) (y ∷ ys) same rise =
-      (
-        subst (λ k. AreFrom cmp k ys) (sym (ap (λ ls. get_or ls 0 x.value.least) same)) (from_again x.value.least xs ys (ap rest_of same) rise.0),
-        rise_again xs ys (ap rest_of same) rise.1,
-      )
+  rise_again (x ∷ xs) (y ∷ ys) same rise = (
+    subst (λ k. AreFrom cmp k ys) (sym (ap (λ ls. get_or ls 0 x.value.least) same)) (from_again x.value.least xs ys (ap rest_of same) rise.0),
+    rise_again xs ys (ap rest_of same) rise.1,
+  )
 
   -- chunks with the same least keys are placed as well
   pub placed_again : (olds news : List (Arc (Chunk K V A) A)) → leasts news ≡ leasts olds → ArePlaced cmp olds → ArePlaced cmp news

@@ -5,14 +5,14 @@ use Rattle.std.specs.declared.cmp.Ordering.{Ordering}
 use Rattle.std.specs.Map.{lookup}
 use Rattle.std.specs.BTreeMap.{is_at}
 use Rattle.std.specs.declared.sync.Arc.{Arc}
-use Rattle.kfs_model.specs.Table.{Order, Table, get, empty, option_or, insert, remove, retain}
+use Rattle.kfs_model.specs.Table.{Order, Table, get, option_or, insert, remove, retain}
 use Rattle.kfs_model.proofs.TableLaws.{get-united, get-retain, same_table}
 use Rattle.kfs_pages.proofs.Numbers.{get-changed}
 use Rattle.kfs_pages.specs.Values.{changed}
 use Rattle.kfs_chunks.specs.declared.edit.Edit.{Edit}
 use Rattle.kfs_chunks.specs.Edits.{edited, entered, rewritten}
 use Rattle.kfs_chunks.specs.declared.chunk.Chunk.{Chunk}
-use Rattle.kfs_chunks.specs.Slots.{opened, shown_at, table_of}
+use Rattle.kfs_chunks.specs.Slots.{opened, table_of}
 use Rattle.kfs_chunks.specs.Shown.{chunk_shows, shown_from, shown, begun, place, table_from, whole}
 use Rattle.kfs_chunks.proofs.Places.{place_within}
 

@@ -2,7 +2,6 @@
 use Rattle.std.specs.Prelude.{◌≡◌, List, [], ◌∷◌, refl}
 use Rattle.std.specs.List.{AllZip}
 
-
 module _ {X : Type 0} where
   -- lists whose items are equal, place by place, are equal
   pub same_items : (xs ys : List X) → AllZip (λ x y. y ≡ x) xs ys → ys ≡ xs

@@ -1,5 +1,5 @@
 -- What chunks show, one behind the other: each key by the chunk that it belongs to.
-use Rattle.std.specs.Prelude.{◌≡◌, ℕ, suc, ◌<◌, false, Bool, List, [], ◌∷◌, Option, Some, None, map, if◌then◌else◌}
+use Rattle.std.specs.Prelude.{◌≡◌, ℕ, suc, false, List, [], ◌∷◌, Option, None, map, if◌then◌else◌}
 use Rattle.std.specs.declared.cmp.Ordering.{Ordering}
 use Rattle.std.specs.Ordering.{is_lt}
 use Rattle.std.specs.declared.sync.Arc.{Arc}

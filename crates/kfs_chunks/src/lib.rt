@@ -1,13 +1,13 @@
 //! A sorted map in chunks that copies share.
 #![tactic(auto)]
 
-mod key;
-mod edit;
-mod place;
 mod change;
-mod chunks;
-mod slots;
 mod chunk;
+mod chunks;
+mod edit;
+mod key;
+mod place;
+mod slots;
 
 pub use chunks::Chunks;
 pub use edit::Edit;

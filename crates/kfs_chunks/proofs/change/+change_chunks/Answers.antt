@@ -1,4 +1,4 @@
-use Rattle.std.proofs.Common.{rules, ◌≡◌, ◌∙◌, ℕ, ◌+◌, ◌++◌, ◌∷◌, ◌<◌, ◌≤◌, [], All, length, slice_index_or, arith, ap, sym, subst, take, drop, length-take, length-drop, Ok, Err}
+use Rattle.std.proofs.Common.{rules, ◌≡◌, ◌∙◌, ◌+◌, ◌++◌, ◌∷◌, ◌<◌, ◌≤◌, [], All, length, slice_index_or, arith, ap, sym, subst, take, drop, Ok, Err}
 use Rattle.std.proofs.lemmas.List.{take-append-drop, length-append}
 use Rattle.std.specs.Prelude.{OnOk, OnErr}
 use Rattle.std.specs.Ordering.{is_lt}
@@ -38,11 +38,11 @@ change_chunks-change_from-requires g t c =
             (
               search rules,
               (
-              subst (Ascend g.K.Ord.cmp) (sym c.split_at.ensures.back) (ascend_drop g.K.Ord.cmp es r c.requires.ascend),
-              (
-                subst (All (λ e. 0 < begun g.K.Ord.cmp rest e.key)) (sym c.split_at.ensures.back) c.run_of.ensures.rest,
-                (placed_rest g.K.Ord.cmp front chunk rest (subst (ArePlaced g.K.Ord.cmp) whole c.requires.placed), c.requires.then),
-              ),
+                subst (Ascend g.K.Ord.cmp) (sym c.split_at.ensures.back) (ascend_drop g.K.Ord.cmp es r c.requires.ascend),
+                (
+                  subst (All (λ e. 0 < begun g.K.Ord.cmp rest e.key)) (sym c.split_at.ensures.back) c.run_of.ensures.rest,
+                  (placed_rest g.K.Ord.cmp front chunk rest (subst (ArePlaced g.K.Ord.cmp) whole c.requires.placed), c.requires.then),
+                ),
               ),
             ),
           ),
@@ -100,10 +100,16 @@ change_from-change_chunks-done-requires g t c =
         search rules,
         (
           search rules,
-          (search rules, (search rules, (
-            c.requires.ascend,
-            (has_chunks g.K.Ord.cmp c.args.rest.now c.args.later.now c.requires.later, (placed_rise g.K.Ord.cmp c.args.rest.now c.requires.rise, c.requires.then)),
-          ))),
+          (
+            search rules,
+            (
+              search rules,
+              (
+                c.requires.ascend,
+                (has_chunks g.K.Ord.cmp c.args.rest.now c.args.later.now c.requires.later, (placed_rise g.K.Ord.cmp c.args.rest.now c.requires.rise, c.requires.then)),
+              ),
+            ),
+          ),
         ),
       ),
     )

@@ -1,4 +1,4 @@
-use Rattle.std.proofs.Common.{rules, ◌≡◌, ◌∙◌, ap, sym, subst, not}
+use Rattle.std.proofs.Common.{rules, ◌∙◌, ap, sym, subst, not}
 use Rattle.std.specs.Ordering.{is_lt}
 use Rattle.std.proofs.lemmas.List.Sorted.{IsPartitionPoint-from_clause}
 use Rattle.kfs_chunks.specs.Shown.{place, ArePlaced}

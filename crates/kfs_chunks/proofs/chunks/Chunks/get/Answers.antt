@@ -1,11 +1,10 @@
-use Rattle.std.proofs.Common.{rules, ◌≡◌, ◌<◌, ◌≤◌, ◌∙◌, length, ap, sym, arith, get_or, Option, None, ltb, false, true}
-use Rattle.std.specs.Option.{option_copied, is_some}
+use Rattle.std.proofs.Common.{rules, ◌≡◌, ◌<◌, ◌≤◌, ◌∙◌, length, ap, sym, arith, get_or}
+use Rattle.std.specs.Option.{option_copied}
 use Rattle.std.specs.FinMap.Entries.{find}
-use Rattle.std.proofs.lemmas.Bool.{ltb-true, ltb-false}
 use Rattle.kfs_model.specs.Table.{get}
 use Rattle.kfs_chunks.specs.declared.chunk.Chunk.{Chunk}
 use Rattle.kfs_chunks.specs.Slots.{shown_at}
-use Rattle.kfs_chunks.specs.Shown.{chunk_shows, shown, place, whole}
+use Rattle.kfs_chunks.specs.Shown.{chunk_shows, shown, place}
 use Rattle.kfs_chunks.proofs.Whole.{get-whole, shown-at, shown-none}
 use Rattle.kfs_chunks.proofs.chunks.Chunks.get.Goals as goal
 
