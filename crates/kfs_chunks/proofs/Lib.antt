@@ -1,0 +1,5 @@
+mod Ahead
+mod Copies
+mod Places
+mod Together
+mod Whole

@@ -1,0 +1,29 @@
+-- Edits of a table.
+use Rattle.std.specs.Prelude.{◌≡◌, ℕ, ◌<◌, List, [], ◌∷◌, Option, Some, None, not, length, slice_index_or, if◌then◌else◌}
+use Rattle.std.specs.declared.cmp.Ordering.{Ordering}
+use Rattle.std.specs.declared.cmp.Ordering.TheVariants.{Less}
+use Rattle.std.specs.Ordering.{eq_by_cmp}
+use Rattle.std.specs.FinMap.Entries.{put, where_key}
+use Rattle.kfs_model.specs.Table.{Order}
+use Rattle.kfs_chunks.specs.declared.edit.Edit.{Edit}
+
+module _ {K V : Type 0} (R : Order K) where
+  -- the entries with this at the key
+  abbrev pub entered : List (K × V) → K → Option V → List (K × V)
+  entered entries key None = where_key R.compare (λ k. not (eq_by_cmp R.compare key k)) entries
+  entered entries key (Some value) = put R.compare key value entries
+
+  -- the entries after the edits, one after the other
+  abbrev pub rewritten : List (K × V) → List (Edit K V) → List (K × V)
+  rewritten entries [] = entries
+  rewritten entries (e ∷ es) = rewritten (entered entries e.key e.value) es
+
+module _ {K V : Type 0} (cmp : K → K → Ordering) where
+  -- what the edits make of what a key had
+  abbrev pub edited : List (Edit K V) → K → Option V → Option V
+  edited [] q v = v
+  edited (e ∷ es) q v = edited es q (if eq_by_cmp cmp q e.key then e.value else v)
+
+  -- the keys ascend, none twice
+  abbrev pub Ascend : List (Edit K V) → Type 0
+  Ascend edits = (i j : ℕ) (d : Edit K V) → i < j → j < length edits → cmp (slice_index_or edits i d).key (slice_index_or edits j d).key ≡ Less

@@ -1,0 +1,4 @@
+pub mod Keys
+pub mod Slots
+pub mod Edits
+pub mod Shown

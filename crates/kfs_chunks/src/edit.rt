@@ -1,0 +1,9 @@
+//! Edits of a map in chunks.
+use crate::key::Key;
+
+/// What a key comes to have: a value, or none.
+#[derive(Drop)]
+pub struct Edit<K: Key, V: Copy> {
+    pub key: K,
+    pub value: Option<V>,
+}

@@ -1,0 +1,14 @@
+//! A sorted map in chunks that copies share.
+#![tactic(auto)]
+
+mod change;
+mod chunk;
+mod chunks;
+mod edit;
+mod key;
+mod place;
+mod slots;
+
+pub use chunks::Chunks;
+pub use edit::Edit;
+pub use key::Key;
