@@ -4,3 +4,4 @@ pub mod HeadTables
 pub mod OneLeast
 pub mod Neighbours
 pub mod NameCounts
+pub mod SharedPlaces

@@ -4,3 +4,4 @@ pub mod Heads
 pub mod Names
 pub mod Counts
 pub mod Extents
+pub mod Places

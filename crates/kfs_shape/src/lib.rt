@@ -1,11 +1,13 @@
 //! The rules of a raw image, checked.
 #![tactic(auto)]
 
+mod counts;
 pub mod extents;
 pub mod heads;
 mod least;
 pub mod names;
 pub mod nodes;
+pub mod places;
 mod raw;
 
 pub use kfs_value::{Header, Kind, Name, NameRow};
