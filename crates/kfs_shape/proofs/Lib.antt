@@ -5,3 +5,5 @@ pub mod OneLeast
 pub mod Neighbours
 pub mod NameCounts
 pub mod SharedPlaces
+pub mod Doubling
+pub mod Parents

@@ -68,11 +68,16 @@ unfolding tally
 tally_map test f [] = refl
 tally_map test f (x ∷ xs) = ap (λ n. cond (test (f x)) 1 0 + n) (tally_map test f xs)
 
+-- ascending name rows are the names
+pub names_listed : (raw : RawImage) → least_failed (rule_4 raw) ≡ None → (names_of raw).entries ≡ map name_entry raw.names
+names_listed raw ascend =
+    let above = names_above (heads_of raw) (with_previous None raw.names) (all_hold (rule_4 raw) ascend) in
+    sorted_entries name_order (map name_entry raw.names) (sorted_rows name_order name_entry raw.names above)
+
 -- a node has as many names as rows lead to it
 pub rows_counted : (raw : RawImage) (rows : List CodeNameRow) → raw.names ≡ map name_row_of rows → least_failed (rule_4 raw) ≡ None → (number : ℕ) → name_count (names_of raw) number ≡ count_by (leads_to number) rows
 rows_counted raw rows are ascend number =
-    let above = names_above (heads_of raw) (with_previous None raw.names) (all_hold (rule_4 raw) ascend) in
-    ap (count_by (λ e. e.1 == number)) (sorted_entries name_order (map name_entry raw.names) (sorted_rows name_order name_entry raw.names above))
+    ap (count_by (λ e. e.1 == number)) (names_listed raw ascend)
     ∙ is_tally (λ e. e.1 == number) (map name_entry raw.names)
     ∙ tally_map (λ e. e.1 == number) name_entry raw.names
     ∙ ap (tally (λ row. row.number == number)) are

@@ -5,3 +5,4 @@ pub mod Names
 pub mod Counts
 pub mod Extents
 pub mod Places
+pub mod Climbs

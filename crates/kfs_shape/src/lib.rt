@@ -1,6 +1,7 @@
 //! The rules of a raw image, checked.
 #![tactic(auto)]
 
+pub mod climbs;
 mod counts;
 pub mod extents;
 pub mod heads;
