@@ -7,3 +7,4 @@ pub mod NameCounts
 pub mod SharedPlaces
 pub mod Doubling
 pub mod Parents
+pub mod OneFinding

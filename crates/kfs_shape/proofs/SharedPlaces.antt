@@ -42,7 +42,8 @@ in_span heads sizes whole previous x small full lies =
     let some : 1 ≤ x.count = leb-true 1 x.count (left _ _ (left _ _ (right _ _ parts))) in
     let within : x.place + x.count ≤ tier_size sizes x.tier = leb-true (x.place + x.count) (tier_size sizes x.tier) (right (nat_le x.tier 2) (nat_le (x.place + x.count) (tier_size sizes x.tier)) lies) in
     let few = small_tier sizes small x.tier in
-    (some, omega arith)
+    let ends : x.place + x.count < 8589934592 = omega (arith, within, few) in
+    (some, ends)
 
 all_from : (heads : Table numbers Header) (sizes : TierSizes) (whole rows : List ExtentRow) (previous : Option ExtentRow) → AreSmall sizes
     → AllHold (map (extent_test heads whole) (with_previous previous rows)) → AllHold (map (tier_test sizes) rows) → AllByRecursion InSpan rows

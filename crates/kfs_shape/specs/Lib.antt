@@ -6,3 +6,4 @@ pub mod Counts
 pub mod Extents
 pub mod Places
 pub mod Climbs
+pub mod Findings
