@@ -1,15 +1,14 @@
 -- The directories of names, taken in one name row after another, are the parents.
-use Rattle.std.proofs.Common.{◌≡◌, ℕ, ◌+◌, ◌<◌, ◌≤◌, ◌==◌, ◌&&◌, not, nat_le, Bool, true, false, cond, List, [], ◌∷◌, length, ◌++◌, map, take, drop, replicate, get_or, find, slice_get, Option, Some, None, option_map, refl, sym, ap, ◌∙◌, ⊎_elim, arith, eqb-true, eq-eqb, leb-true}
+use Rattle.std.proofs.Common.{◌≡◌, ℕ, ◌+◌, ◌<◌, ◌≤◌, ◌==◌, ◌&&◌, not, Bool, true, false, cond, List, [], ◌∷◌, length, ◌++◌, map, take, drop, replicate, get_or, find, Option, Some, None, option_map, refl, sym, ap, ◌∙◌, arith, eqb-true, eq-eqb, leb-true}
 use Rattle.std.specs.List.{AllByRecursion}
-use Rattle.std.proofs.lemmas.Bool.{and_right, cases_lt, ne_eqb}
+use Rattle.std.proofs.lemmas.Bool.{and_right, ne_eqb}
 use Rattle.std.proofs.lemmas.List.{append-nil, drop_more, drop_all, get_or-replicate, length-replicate, take_all}
 use Rattle.std.proofs.lemmas.Option.{slice_get-get_or, slice_get_past}
 use Rattle.kfs_value.specs.declared.plan.NameRow.{NameRow as CodeNameRow}
 use Rattle.kfs_value.specs.Views.{name_row_of}
-use Rattle.kfs_model.specs.Header.{Header}
 use Rattle.kfs_model.specs.Table.{get, option_or}
 use Rattle.kfs_model.specs.Sight.{is_directory, holder}
-use Rattle.kfs_model.proofs.CleanIsAllowed.{left, right}
+use Rattle.kfs_model.proofs.CleanIsAllowed.{right}
 use Rattle.kfs_model.proofs.Heads.{has_parent}
 use Rattle.kfs_device.specs.RawImage.{NodeRow, RawImage, name_entry, heads_of, names_of}
 use Rattle.kfs_device.specs.Rules.{with_previous, number_test, rule_1, rule_4, parent_of}

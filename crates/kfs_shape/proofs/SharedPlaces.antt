@@ -1,5 +1,5 @@
 -- An extent shares a place with another one exactly where one of its places is counted twice.
-use Rattle.std.proofs.Common.{◌≡◌, ℕ, ◌+◌, ◌*◌, ◌-◌, ◌<◌, ◌≤◌, ◌==◌, ◌&&◌, nat_le, nat_lt, Bool, true, false, cond, List, [], ◌∷◌, length, map, take, drop, get_or, count_by, Option, Some, None, inl, inr, ⊎_elim, refl, sym, ap, subst, ◌∙◌, arith, eq-eqb, eqb-true, leb-true, le-leb, ltb-true, lt-ltb, zero-add}
+use Rattle.std.proofs.Common.{◌≡◌, ℕ, ◌+◌, ◌<◌, ◌≤◌, ◌==◌, ◌&&◌, nat_le, nat_lt, Bool, true, false, cond, List, [], ◌∷◌, length, map, take, drop, get_or, count_by, Option, Some, None, inl, inr, ⊎_elim, refl, sym, ap, subst, ◌∙◌, arith, eq-eqb, eqb-true, leb-true, le-leb, ltb-true, lt-ltb, zero-add}
 use Rattle.std.specs.List.{AllByRecursion}
 use Rattle.std.specs.BTreeMap.{BTreeMap}
 use Rattle.std.proofs.lemmas.Bool.{and_from, and_parts, cases_lt, false_from_ne_true}
@@ -16,7 +16,7 @@ use Rattle.kfs_device.proofs.Among.{Among, among_all, among_right}
 use Rattle.kfs_device.proofs.RulesHold.{AllHold}
 use Rattle.kfs_shape.proofs.NameCounts.{all_hold}
 use Rattle.kfs_shape.specs.Counts.{count_at}
-use Rattle.kfs_shape.specs.Places.{first_position, has_position, NoneTwice, TakenTwice, TellsWhetherAlone}
+use Rattle.kfs_shape.specs.Places.{first_position, has_position, TellsWhetherAlone}
 
 -- it has places, and their positions are all in its tier's span
 abbrev pub InSpan : ExtentRow → Type 0

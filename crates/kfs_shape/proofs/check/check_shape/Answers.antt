@@ -1,4 +1,4 @@
-use Rattle.std.proofs.Common.{◌≡◌, subst, sym, ap, ◌∙◌}
+use Rattle.std.proofs.Common.{subst, sym, ap, ◌∙◌}
 use Rattle.kfs_model.specs.Table.{option_or}
 use Rattle.kfs_device.specs.Finding.{finding_from}
 use Rattle.kfs_shape.specs.Findings.{name_rules, extent_rules, Tells}

@@ -1,4 +1,4 @@
-use Rattle.std.proofs.Common.{◌≡◌, ◌+◌, ◌||◌, get_or, Some, ap, ◌∙◌}
+use Rattle.std.proofs.Common.{◌+◌, ◌||◌, get_or, Some, ap, ◌∙◌}
 use Rattle.kfs_value.specs.declared.header.Kind.TheVariants as kinds
 use Rattle.kfs_model.specs.Sight.{is_file}
 use Rattle.kfs_device.specs.Rules.{climb_test}

@@ -1,4 +1,4 @@
-use Rattle.std.proofs.Common.{◌≡◌, ℕ, ◌+◌, ◌≤◌, ◌<◌}
+use Rattle.std.proofs.Common.{ℕ, ◌+◌, ◌≤◌, ◌<◌}
 use Rattle.kfs_shape.specs.Counts.{count_at}
 use Rattle.kfs_shape.specs.Places.{first_position}
 use Rattle.kfs_shape.specs.Views.{extent_row_of}
