@@ -33,6 +33,6 @@ taken_first None true header later = refl
 taken_first None false header later = refl
 taken_first (Some h) here header later = refl
 
-pub or_none : (head : Option Header) → option_or head None ≡ head
+pub or_none : {X : Type 0} (o : Option X) → option_or o None ≡ o
 or_none None = refl
-or_none (Some h) = refl
+or_none (Some x) = refl

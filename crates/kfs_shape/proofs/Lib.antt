@@ -4,3 +4,7 @@ pub mod HeadTables
 pub mod OneLeast
 pub mod Neighbours
 pub mod NameCounts
+pub mod SharedPlaces
+pub mod Doubling
+pub mod Parents
+pub mod OneFinding

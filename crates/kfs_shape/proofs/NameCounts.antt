@@ -25,17 +25,22 @@ use Rattle.kfs_shape.specs.Counts.{count_at, leads_to}
 tie : (a b : ℕ) → eq_by_cmp nat_cmp a b ≡ (b == a)
 tie a b = unsigned_tied a b ∙ nat_eq_equiv.symm a b
 
+module _ {X : Type 0} (test : X → Bool) where
+  pub counted_rest : (rows : List X) (index : ℕ) (row : X) → index < length rows → row ≡ get_or rows index row → tally test (drop index rows) ≡ cond (test row) 1 0 + tally test (drop (index + 1) rows)
+  unfolding tally
+  counted_rest rows index row within is =
+      ap (tally test) (drop_more rows index row within)
+      ∙ ap (λ r. cond (test r) 1 0 + tally test (drop (index + 1) rows)) (sym is)
+
+  pub counted_end : (rows : List X) (index : ℕ) → length rows ≤ index → tally test (drop index rows) ≡ 0
+  unfolding tally
+  counted_end rows index past = ap (tally test) (drop_all index rows past)
+
 pub counted_next : (rows : List CodeNameRow) (index number : ℕ) (row : CodeNameRow) → index < length rows → row ≡ get_or rows index row
     → tally (leads_to number) (drop index rows) ≡ cond (eq_by_cmp nat_cmp number row.number) 1 0 + tally (leads_to number) (drop (index + 1) rows)
-unfolding tally
 counted_next rows index number row within is =
-    ap (tally (leads_to number)) (drop_more rows index row within)
-    ∙ ap (λ r. cond (leads_to number r) 1 0 + tally (leads_to number) (drop (index + 1) rows)) (sym is)
+    counted_rest (leads_to number) rows index row within is
     ∙ ap (λ b. cond b 1 0 + tally (leads_to number) (drop (index + 1) rows)) (sym (tie number row.number))
-
-pub counted_end : (rows : List CodeNameRow) (index number : ℕ) → length rows ≤ index → tally (leads_to number) (drop index rows) ≡ 0
-unfolding tally
-counted_end rows index number past = ap (tally (leads_to number)) (drop_all index rows past)
 
 pub none_counted : (counts : BTreeMap ℕ ℕ) → IsEmpty counts → (number : ℕ) → count_at counts number ≡ 0
 none_counted counts empty number = ap (λ es. unwrap_or (lookup (is_at (nat_cmp number)) es) 0) empty
@@ -46,7 +51,7 @@ at_most false = omega arith
 
 -- ---- the names of rows that ascend
 
-all_hold : (tests : List Test) → least_failed tests ≡ None → AllHold tests
+pub all_hold : (tests : List Test) → least_failed tests ≡ None → AllHold tests
 all_hold [] none = tt
 all_hold (t ∷ ts) none = at t.holds refl (all_hold ts) none
   where
@@ -58,16 +63,21 @@ names_above : (heads : Table numbers Header) (es : List (Option NameRow × NameR
 names_above heads [] hold = tt
 names_above heads (e ∷ es) hold = (left _ _ hold.0, names_above heads es hold.1)
 
-tally_map : {X Y : Type 0} (test : Y → Bool) (f : X → Y) (xs : List X) → tally test (map f xs) ≡ tally (λ x. test (f x)) xs
+pub tally_map : {X Y : Type 0} (test : Y → Bool) (f : X → Y) (xs : List X) → tally test (map f xs) ≡ tally (λ x. test (f x)) xs
 unfolding tally
 tally_map test f [] = refl
 tally_map test f (x ∷ xs) = ap (λ n. cond (test (f x)) 1 0 + n) (tally_map test f xs)
 
+-- ascending name rows are the names
+pub names_listed : (raw : RawImage) → least_failed (rule_4 raw) ≡ None → (names_of raw).entries ≡ map name_entry raw.names
+names_listed raw ascend =
+    let above = names_above (heads_of raw) (with_previous None raw.names) (all_hold (rule_4 raw) ascend) in
+    sorted_entries name_order (map name_entry raw.names) (sorted_rows name_order name_entry raw.names above)
+
 -- a node has as many names as rows lead to it
 pub rows_counted : (raw : RawImage) (rows : List CodeNameRow) → raw.names ≡ map name_row_of rows → least_failed (rule_4 raw) ≡ None → (number : ℕ) → name_count (names_of raw) number ≡ count_by (leads_to number) rows
 rows_counted raw rows are ascend number =
-    let above = names_above (heads_of raw) (with_previous None raw.names) (all_hold (rule_4 raw) ascend) in
-    ap (count_by (λ e. e.1 == number)) (sorted_entries name_order (map name_entry raw.names) (sorted_rows name_order name_entry raw.names above))
+    ap (count_by (λ e. e.1 == number)) (names_listed raw ascend)
     ∙ is_tally (λ e. e.1 == number) (map name_entry raw.names)
     ∙ tally_map (λ e. e.1 == number) name_entry raw.names
     ∙ ap (tally (λ row. row.number == number)) are

@@ -1,12 +1,19 @@
 //! The rules of a raw image, checked.
 #![tactic(auto)]
 
+mod check;
+pub mod climbs;
+mod counts;
 pub mod extents;
+mod fault;
 pub mod heads;
 mod least;
 pub mod names;
 pub mod nodes;
+pub mod places;
 mod raw;
 
+pub use check::check_shape;
+pub use fault::{Finding, ShapeFault};
 pub use kfs_value::{Header, Kind, Name, NameRow, TierSizes};
 pub use raw::{ExtentRow, NodeRow, RawImage};

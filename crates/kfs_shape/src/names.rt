@@ -11,6 +11,7 @@ ghost use Rattle.kfs_shape.specs.Views.{raw_of};
 ghost use Rattle.kfs_shape.specs.Counts.{count_at, leads_to};
 ghost use Rattle.kfs_shape.specs.Heads.{head_at, ShowsHeads};
 
+use crate::counts::{count_more, count_of};
 use crate::heads::{has_directory, has_node};
 use crate::least::{noted, previous};
 use crate::raw::{NodeRow, RawImage};
@@ -81,34 +82,14 @@ pub fn least_lost_target<A: Allocator>(
 fn name_counts<A: Allocator + Copy>(
     alloc: A,
     rows: &[NameRow],
-) -> Result<BTreeMap<u32, u64, A>, AllocError>
+) -> Result<BTreeMap<u64, u64, A>, AllocError>
     ensures { IfOk result (λ counts. (number : ℕ) → count_at counts number ≡ count_by (leads_to number) rows.now) }
 {
     let mut counts = BTreeMap::new(alloc);
     for row in rows.iter() {
-        count_more(&mut counts, row.number)?;
+        count_more(&mut counts, u64::from(row.number))?;
     }
     Ok(counts)
-}
-
-/// Counts the number once more.
-fn count_more<A: Allocator + Clone>(
-    counts: &mut BTreeMap<u32, u64, A>,
-    number: u32,
-) -> Result<(), AllocError>
-    requires { count_at counts.old number + 1 < 2 ^ 64 }
-    ensures { IfOk result (λ done. (n : ℕ) → count_at counts.new n ≡ count_at counts.old n + (if eq_by_cmp nat_cmp n number then 1 else 0)) }
-{
-    let more = count_of(counts, number) + 1;
-    counts.insert(number, more)?;
-    Ok(())
-}
-
-/// How often the number was counted.
-fn count_of<A: Allocator>(counts: &BTreeMap<u32, u64, A>, number: u32) -> u64
-    ensures { result ≡ count_at counts.now number }
-{
-    counts.get(&number).copied().unwrap_or(0)
 }
 
 /// Whether a node of this row may have so many names.
@@ -137,7 +118,7 @@ pub fn least_miscounted<A: Allocator + Copy>(
     let rows = raw.nodes.as_slice();
     let mut least = None;
     for row in rows.iter() {
-        let holds = may_have_names(row, count_of(&counts, row.number));
+        let holds = may_have_names(row, count_of(&counts, u64::from(row.number)));
         least = noted(least, holds, row.number);
     }
     Ok(least)

@@ -1,0 +1,27 @@
+-- For each number of a node the one that a number of steps up from it leads to.
+use Rattle.std.specs.Prelude.{◌≡◌, ℕ, ◌<◌, ◌==◌, ◌&&◌, Bool, false, List, length, slice_get, Option, Some, None, if◌then◌else◌}
+use Rattle.kfs_model.specs.Table.{option_or}
+use Rattle.kfs_device.specs.RawImage.{RawImage}
+use Rattle.kfs_device.specs.Rules.{parent_of}
+
+-- where the list leads from a number; nowhere from one past its end
+abbrev pub up_at : List (Option ℕ) → (number : ℕ) → Option ℕ
+up_at ups number = elim (slice_get ups number) [ None ↦ None | Some up ↦ up ]
+
+-- where the list leads from there
+abbrev pub up_from : List (Option ℕ) → Option ℕ → Option ℕ
+up_from ups None = None
+up_from ups (Some number) = up_at ups number
+
+-- each directory leads to that of its name, and the root to itself
+abbrev pub ParentsOf : List (Option ℕ) → RawImage → Type 0
+ParentsOf ups raw = (number : ℕ) → up_at ups number ≡ (if number == 1 then Some 1 else parent_of raw number)
+
+-- if it is taken, the number leads up where it led nowhere; the others lead where they did
+pub record LeadsFirst (old new : List (Option ℕ)) (taken : Bool) (number up : ℕ) : Type 0 where
+  pub len : length new ≡ length old
+  pub each : (n : ℕ) → n < length old → up_at new n ≡ option_or (up_at old n) (if taken && (number == n) then Some up else None)
+
+abbrev pub is_root : Option ℕ → Bool
+is_root None = false
+is_root (Some number) = number == 1

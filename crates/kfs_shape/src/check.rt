@@ -1,0 +1,84 @@
+//! All ten rules of an image, one after another.
+ghost use Rattle.std.specs.Prelude.{◌≡◌, None, IfOk};
+ghost use Rattle.kfs_device.specs.Rules.{rule_1};
+ghost use Rattle.kfs_device.specs.Finding.{finding_from, finding_of, least_failed};
+ghost use Rattle.kfs_shape.specs.Findings.{found_at, node_rules, name_rules, extent_rules, Tells};
+ghost use Rattle.kfs_shape.specs.Heads.{ShowsHeads};
+ghost use Rattle.kfs_shape.specs.Views.{raw_of};
+
+use crate::climbs::least_unrooted;
+use crate::extents::{least_misplaced, least_past_tier};
+use crate::fault::{Finding, ShapeFault};
+use crate::heads::{headers, least_missing_root};
+use crate::names::{least_lost_target, least_miscounted};
+use crate::places::least_shared;
+use crate::raw::RawImage;
+use crate::{names, nodes};
+use kfs_value::Header;
+use std::alloc::Allocator;
+use std::collections::BTreeMap;
+
+/// A finding where there is a least number.
+fn no_failure(rule: u8, least: Option<u32>) -> Result<(), ShapeFault>
+    ensures { Tells result (found_at rule least) }
+{
+    match least {
+        Some(number) => Err(ShapeFault::Found(Finding { rule, number })),
+        None => Ok(()),
+    }
+}
+
+/// Checks the rules 1 to 3, and gives the headers by number.
+fn check_nodes<A: Allocator + Copy>(
+    alloc: A,
+    raw: &RawImage<A>,
+) -> Result<BTreeMap<u32, Header, A>, ShapeFault>
+    ensures shown { IfOk result (λ headers. ShowsHeads headers raw.now) }
+    ensures told { Tells result (finding_from (raw_of raw.now) node_rules) }
+{
+    no_failure(1, nodes::least_out_of_order(raw))?;
+    let headers = headers(alloc, raw)?;
+    no_failure(2, least_missing_root(raw, &headers))?;
+    no_failure(3, nodes::least_bad_header(raw))?;
+    Ok(headers)
+}
+
+/// Checks the rules 4 to 7 of an image whose node rows ascend.
+fn check_names<A: Allocator + Copy>(
+    alloc: A,
+    raw: &RawImage<A>,
+    headers: &BTreeMap<u32, Header, A>,
+) -> Result<(), ShapeFault>
+    requires shown { ShowsHeads headers.now raw.now }
+    requires in_range { least_failed (rule_1 (raw_of raw.now)) ≡ None }
+    ensures { Tells result (finding_from (raw_of raw.now) name_rules) }
+{
+    no_failure(4, names::least_out_of_order(raw, headers))?;
+    no_failure(5, least_lost_target(raw, headers))?;
+    no_failure(6, least_miscounted(alloc, raw)?)?;
+    no_failure(7, least_unrooted(alloc, raw, headers)?)
+}
+
+/// Checks the rules 8 to 10.
+fn check_extents<A: Allocator + Copy>(
+    alloc: A,
+    raw: &RawImage<A>,
+    headers: &BTreeMap<u32, Header, A>,
+) -> Result<(), ShapeFault>
+    requires { ShowsHeads headers.now raw.now }
+    ensures { Tells result (finding_from (raw_of raw.now) extent_rules) }
+{
+    no_failure(8, least_misplaced(raw, headers))?;
+    no_failure(9, least_past_tier(raw))?;
+    no_failure(10, least_shared(alloc, raw)?)
+}
+
+/// Whether the image is well formed. If not, the error has the least rule that is broken, with the least
+/// number at which it is, unless a growth was refused.
+pub fn check_shape<A: Allocator + Copy>(alloc: A, raw: &RawImage<A>) -> Result<(), ShapeFault>
+    ensures { Tells result (finding_of (raw_of raw.now)) }
+{
+    let headers = check_nodes(alloc, raw)?;
+    check_names(alloc, raw, &headers)?;
+    check_extents(alloc, raw, &headers)
+}

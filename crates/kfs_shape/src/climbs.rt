@@ -1,0 +1,142 @@
+//! The rule of the climbs: going up from each directory reaches the root.
+ghost use Rattle.std.specs.Prelude.{◌≡◌, ◌||◌, ◌<◌, ◌≤◌, ℕ, IfOk, None, length, Some, true};
+ghost use Rattle.kfs_model.specs.Sight.{is_directory, is_file};
+ghost use Rattle.kfs_device.specs.Rules.{rule_1, rule_4, rule_7, reaches_root};
+ghost use Rattle.kfs_device.specs.Finding.{least_failed};
+ghost use Rattle.kfs_shape.specs.Climbs.{up_at, up_from, is_root, LeadsFirst, ParentsOf};
+ghost use Rattle.kfs_shape.specs.Heads.{head_at, ShowsHeads};
+ghost use Rattle.kfs_shape.specs.Views.{node_row_of, raw_of};
+
+use crate::heads::has_directory;
+use crate::least::noted;
+use crate::raw::{NodeRow, RawImage};
+use kfs_value::{Header, Kind, NameRow, ROOT};
+use std::alloc::{AllocError, Allocator};
+use std::collections::BTreeMap;
+
+/// As many numbers as there are from 0 to the greatest one of a node.
+const NUMBERS: usize = 65_537;
+
+/// A climb of 2 to the power of this takes more steps than there are nodes.
+const DOUBLINGS: u32 = 17;
+
+/// Where the list leads from the number.
+fn up_at(ups: &[Option<u32>], number: u32) -> Option<u32>
+    ensures { result ≡ up_at ups.now number }
+{
+    match ups.get(number as usize) {
+        Some(up) => *up,
+        None => None,
+    }
+}
+
+/// Leads from the number to `up`, where it leads nowhere yet.
+fn lead_first(ups: &mut [Option<u32>], number: u32, up: u32)
+    ensures { LeadsFirst ups.old ups.new true number up }
+{
+    if let Some(None) = ups.get(number as usize) {
+        ups[number as usize] = Some(up);
+    }
+}
+
+/// Leads from the number of a directory's name to the directory that has the name, where it leads nowhere
+/// yet.
+fn lead_by_name<A: Allocator>(
+    ups: &mut [Option<u32>],
+    headers: &BTreeMap<u32, Header, A>,
+    row: &NameRow,
+)
+    ensures { LeadsFirst ups.old ups.new (is_directory (head_at headers.now row.now.number)) row.now.number row.now.dir }
+{
+    if has_directory(headers, row.number) {
+        lead_first(ups, row.number, row.dir);
+    }
+}
+
+/// For each number of a directory the directory of its first name; for the root itself. An error is for
+/// want of memory.
+fn parents<A: Allocator + Copy>(
+    alloc: A,
+    raw: &RawImage<A>,
+    headers: &BTreeMap<u32, Header, A>,
+) -> Result<Vec<Option<u32>, A>, AllocError>
+    requires shown { ShowsHeads headers.now raw.now }
+    requires in_range { least_failed (rule_1 (raw_of raw.now)) ≡ None }
+    requires ascend { least_failed (rule_4 (raw_of raw.now)) ≡ None }
+    ensures { IfOk result (λ ups. ParentsOf ups.items (raw_of raw.now)) }
+{
+    let rows = raw.names.as_slice();
+    let mut ups = vec![in alloc; None; NUMBERS]?;
+    lead_first(&mut ups, ROOT, ROOT);
+    for row in rows.iter() {
+        lead_by_name(&mut ups, headers, row);
+    }
+    Ok(ups)
+}
+
+/// Where the list leads from there.
+fn up_from(ups: &[Option<u32>], number: Option<u32>) -> Option<u32>
+    ensures { result ≡ up_from ups.now number }
+{
+    match number {
+        Some(number) => up_at(ups, number),
+        None => None,
+    }
+}
+
+/// Leads from each number where two steps of the list lead. An error is for want of memory.
+fn doubled<A: Allocator>(alloc: A, ups: &[Option<u32>]) -> Result<Vec<Option<u32>, A>, AllocError>
+    ensures { IfOk result (λ twice. (number : ℕ) → up_at twice.items number ≡ up_from ups.now (up_at ups.now number)) }
+{
+    let mut twice = Vec::new(alloc);
+    for up in ups.iter() {
+        twice.push(up_from(ups, *up))?;
+    }
+    Ok(twice)
+}
+
+/// For each number from which going up reaches the root, the root. An error is for want of memory.
+fn tops<A: Allocator + Copy>(
+    alloc: A,
+    raw: &RawImage<A>,
+    headers: &BTreeMap<u32, Header, A>,
+) -> Result<Vec<Option<u32>, A>, AllocError>
+    requires shown { ShowsHeads headers.now raw.now }
+    requires in_range { least_failed (rule_1 (raw_of raw.now)) ≡ None }
+    requires ascend { least_failed (rule_4 (raw_of raw.now)) ≡ None }
+    ensures { IfOk result (λ tops. (number : ℕ) → is_root (up_at tops.items number) ≡ reaches_root (raw_of raw.now) number) }
+{
+    let mut ups = parents(alloc, raw, headers)?;
+    for _ in 0..DOUBLINGS {
+        ups = doubled(alloc, &ups)?;
+    }
+    Ok(ups)
+}
+
+/// Whether the node is a file, or leads to the root.
+fn is_below_root(tops: &[Option<u32>], row: &NodeRow) -> bool
+    ensures { result ≡ (is_file (Some (node_row_of row.now).header) || is_root (up_at tops.now row.now.number)) }
+{
+    row.header.kind == Kind::File || up_at(tops, row.number) == Some(ROOT)
+}
+
+/// The least number of a directory from which going up doesn't reach the root. An error is for want of
+/// memory.
+pub fn least_unrooted<A: Allocator + Copy>(
+    alloc: A,
+    raw: &RawImage<A>,
+    headers: &BTreeMap<u32, Header, A>,
+) -> Result<Option<u32>, AllocError>
+    requires shown { ShowsHeads headers.now raw.now }
+    requires in_range { least_failed (rule_1 (raw_of raw.now)) ≡ None }
+    requires ascend { least_failed (rule_4 (raw_of raw.now)) ≡ None }
+    ensures { IfOk result (λ least. least ≡ least_failed (rule_7 (raw_of raw.now))) }
+{
+    let tops = tops(alloc, raw, headers)?;
+    let rows = raw.nodes.as_slice();
+    let mut least = None;
+    for row in rows.iter() {
+        least = noted(least, is_below_root(&tops, row), row.number);
+    }
+    Ok(least)
+}

@@ -1,0 +1,88 @@
+//! The rule of the device blocks: no two extents have one in common.
+ghost use Rattle.std.specs.Prelude.{◌≡◌, ◌+◌, ◌<◌, ◌^◌, ℕ, IfOk, None, count_by, if◌then◌else◌};
+ghost use Rattle.kfs_device.specs.Rules.{rule_8, rule_9, rule_10};
+ghost use Rattle.kfs_device.specs.Finding.{least_failed};
+ghost use Rattle.kfs_shape.specs.Counts.{count_at};
+ghost use Rattle.kfs_shape.specs.Places.{first_position, has_position, lies_at, TellsWhetherAlone};
+ghost use Rattle.kfs_shape.specs.Views.{extent_row_of, raw_of};
+
+use crate::counts::{count_more, count_of};
+use crate::least::noted;
+use crate::raw::{ExtentRow, RawImage, TierSizes};
+use std::alloc::{AllocError, Allocator};
+use std::collections::BTreeMap;
+
+/// From the first place of a tier to that of the next one, as positions count: no extent reaches over it.
+const TIER_SPAN: u64 = 8_589_934_592;
+
+/// The place of the extent's block of this index, as one number over all tiers.
+fn position<A: Allocator>(row: &ExtentRow<A>, index: u32) -> u64
+    ensures { result ≡ first_position (extent_row_of row.now) + index }
+{
+    let (tier, place) = (row.tier, row.place);
+    u64::from(tier) * TIER_SPAN + u64::from(place) + u64::from(index)
+}
+
+/// Counts each place of the extent once more.
+fn count_places<A: Allocator + Clone>(
+    uses: &mut BTreeMap<u64, u64, A>,
+    row: &ExtentRow<A>,
+) -> Result<(), AllocError>
+    requires { (n : ℕ) → count_at uses.old n + 1 < 2 ^ 64 }
+    ensures { IfOk result (λ done. (n : ℕ) → count_at uses.new n ≡ count_at uses.old n + (if has_position n (extent_row_of row.now) then 1 else 0)) }
+{
+    for index in 0..row.count {
+        count_more(uses, position(row, index))?;
+    }
+    Ok(())
+}
+
+/// How many extents have each place.
+fn place_counts<A: Allocator + Copy>(
+    alloc: A,
+    rows: &[ExtentRow<A>],
+) -> Result<BTreeMap<u64, u64, A>, AllocError>
+    ensures { IfOk result (λ uses. (n : ℕ) → count_at uses n ≡ count_by (lies_at n) rows.now) }
+{
+    let mut uses = BTreeMap::new(alloc);
+    for row in rows.iter() {
+        count_places(&mut uses, row)?;
+    }
+    Ok(uses)
+}
+
+/// Whether no place of the extent was counted twice.
+fn is_alone<A: Allocator>(uses: &BTreeMap<u64, u64, A>, row: &ExtentRow<A>) -> bool
+    ensures { TellsWhetherAlone uses.now (extent_row_of row.now) result }
+{
+    for index in 0..row.count {
+        if count_of(uses, position(row, index)) > 1 {
+            return false;
+        }
+    }
+    true
+}
+
+/// The least number of an extent that has a device block in common with another one. An error is for
+/// want of memory.
+pub fn least_shared<A: Allocator + Copy>(
+    alloc: A,
+    raw: &RawImage<A>,
+) -> Result<Option<u32>, AllocError>
+    requires full { least_failed (rule_8 (raw_of raw.now)) ≡ None }
+    requires in_tiers { least_failed (rule_9 (raw_of raw.now)) ≡ None }
+    ensures { IfOk result (λ least. least ≡ least_failed (rule_10 (raw_of raw.now))) }
+{
+    let TierSizes {
+        first: _first,
+        second: _second,
+        third: _third,
+    } = raw.sizes;
+    let rows = raw.extents.as_slice();
+    let uses = place_counts(alloc, rows)?;
+    let mut least = None;
+    for row in rows.iter() {
+        least = noted(least, is_alone(&uses, row), row.number);
+    }
+    Ok(least)
+}
