@@ -1,2 +1,2 @@
-mod Numbers
-mod Tables
+pub mod Numbers
+pub mod Tables
