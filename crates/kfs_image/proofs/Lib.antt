@@ -1,9 +1,11 @@
 pub mod Ahead
 pub mod BlankTrees
 pub mod Counts
+pub mod HeaderPages
 pub mod Holders
 pub mod NameOrder
 pub mod NetTables
+pub mod NodeEdits
 pub mod RowCounts
 pub mod RowSteps
 pub mod ShownTrees

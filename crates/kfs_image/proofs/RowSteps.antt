@@ -1,16 +1,14 @@
 -- What the rows show after a step on one of their maps.
-use Rattle.std.proofs.Common.{◌≡◌, ℕ, Bool, true, false, cond, List, Option, Some, None, option_map, refl, sym, ap, ◌∙◌}
+use Rattle.std.proofs.Common.{◌≡◌, ℕ, cond, List, Option, Some, None, option_map, refl, sym, ap, ◌∙◌}
 use Rattle.std.specs.Prelude.{unwrap_or}
-use Rattle.std.specs.Ordering.{nat_cmp, eq_by_cmp}
+use Rattle.std.specs.Ordering.{eq_by_cmp}
 use Rattle.std.specs.BTreeMap.{BTreeMap}
-use Rattle.kfs_model.specs.Table.{numbers, get}
+use Rattle.kfs_model.specs.Table.{get}
 use Rattle.kfs_model.proofs.TableLaws.{same_table}
 use Rattle.kfs_model.specs.Tree.{name_order}
-use Rattle.kfs_value.specs.declared.header.Header.{Header as CodeHeader}
 use Rattle.kfs_image.specs.declared.rows.Rows.{Rows}
 use Rattle.kfs_image.specs.Slots.{shown_at, changed}
-use Rattle.kfs_image.specs.Rows.{IsIndexed, ShowsSame, KeepsSlots, HasSlots, heads_shown, names_shown, heads_in, names_in}
-use Rattle.kfs_value.specs.Views.{header_of}
+use Rattle.kfs_image.specs.Rows.{IsIndexed, ShowsSame, KeepsSlots, HasSlots, heads_of, names_shown, heads_in, names_in}
 use Rattle.kfs_image.proofs.SlotTables.{get-table_of, get-changed}
 
 same_option : (o : Option ℕ) → option_map (λ number. number) o ≡ o
@@ -20,9 +18,6 @@ same_option (Some n) = refl
 pub get-names_of : (slots : BTreeMap (ℕ × List ℕ) (Option ℕ)) (q : ℕ × List ℕ) → get (names_shown slots) q ≡ shown_at name_order.compare slots q
 get-names_of slots q = get-table_of name_order (λ number. number) slots.entries q ∙ same_option _
 
-pub get-heads_of : (slots : BTreeMap ℕ (Option CodeHeader)) (q : ℕ) → get (heads_shown slots) q ≡ option_map header_of (shown_at nat_cmp slots q)
-get-heads_of slots q = get-table_of numbers header_of slots.entries q
-
 pub names_changed : (old new : BTreeMap (ℕ × List ℕ) (Option ℕ)) (key : ℕ × List ℕ) (w : Option ℕ)
     → ((q : ℕ × List ℕ) → shown_at name_order.compare new q ≡ cond (eq_by_cmp name_order.compare q key) w (shown_at name_order.compare old q))
     → names_shown new ≡ changed (names_shown old) key w
@@ -30,21 +25,9 @@ names_changed old new key w shown =
     same_table _ _ (λ q.
     get-names_of new q ∙ shown q ∙ ap (cond (eq_by_cmp name_order.compare q key) w) (sym (get-names_of old q)) ∙ sym (get-changed (names_shown old) key w q))
 
-viewed : (b : Bool) (w o : Option CodeHeader) → option_map header_of (cond b w o) ≡ cond b (option_map header_of w) (option_map header_of o)
-viewed true w o = refl
-viewed false w o = refl
-
-pub heads_changed : (old new : BTreeMap ℕ (Option CodeHeader)) (key : ℕ) (w : Option CodeHeader)
-    → ((q : ℕ) → shown_at nat_cmp new q ≡ cond (eq_by_cmp nat_cmp q key) w (shown_at nat_cmp old q)) → heads_shown new ≡ changed (heads_shown old) key (option_map header_of w)
-heads_changed old new key w shown =
-    same_table _ _ (λ q.
-    get-heads_of new q ∙ ap (option_map header_of) (shown q) ∙ viewed (eq_by_cmp nat_cmp q key) w (shown_at nat_cmp old q)
-    ∙ ap (cond (eq_by_cmp nat_cmp q key) (option_map header_of w)) (sym (get-heads_of old q)) ∙ sym (get-changed (heads_shown old) key (option_map header_of w) q))
-
 module _ {A : Type 0} where
   pub keeps_all : (a b c : Rows A) → KeepsSlots a b → KeepsSlots b c → KeepsSlots a c
   keeps_all a b c first second = record {
-    headers = λ q s. second.headers q (first.headers q s);
     names = λ q s. second.names q (first.names q s);
     counts = λ q s. second.counts q (first.counts q s);
     uplinks = λ q s. second.uplinks q (first.uplinks q s);
@@ -52,14 +35,14 @@ module _ {A : Type 0} where
 
   pub shows_all : (a b c : Rows A) → ShowsSame a b → ShowsSame b c → ShowsSame a c
   shows_all a b c first second = record {
-    headers = λ q. second.headers q ∙ first.headers q;
+    headers = second.headers ∙ first.headers;
     names = λ q. second.names q ∙ first.names q;
     counts = λ q. second.counts q ∙ first.counts q;
     uplinks = λ q. second.uplinks q ∙ first.uplinks q;
   }
 
   pub same_heads : (old new : Rows A) → ShowsSame old new → heads_in new ≡ heads_in old
-  same_heads old new same = same_table _ _ (λ q. get-heads_of new.headers q ∙ ap (option_map header_of) (same.headers q) ∙ sym (get-heads_of old.headers q))
+  same_heads old new same = ap heads_of same.headers
 
   pub same_names : (old new : Rows A) → ShowsSame old new → names_in new ≡ names_in old
   same_names old new same = same_table _ _ (λ q. get-names_of new.names q ∙ same.names q ∙ sym (get-names_of old.names q))

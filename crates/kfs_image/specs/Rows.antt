@@ -5,7 +5,7 @@ use Rattle.std.specs.BTreeMap as slots_of
 use Rattle.std.specs.BTreeMap.{BTreeMap}
 use Rattle.kfs_value.specs.declared.header.Header.{Header as CodeHeader}
 use Rattle.kfs_model.specs.Header.{Header}
-use Rattle.kfs_model.specs.Table.{Order, Table, numbers, pairs, get}
+use Rattle.kfs_model.specs.Table.{Order, Table, numbers, pairs, get, mapped}
 use Rattle.kfs_model.specs.Spelling.{IsName}
 use Rattle.kfs_model.specs.Tree.{NameTable, name_order, entry_count}
 use Rattle.kfs_image.specs.declared.rows.Rows.{Rows}
@@ -30,9 +30,9 @@ uplink_step directory (Some number) q = if eq_by_cmp (pairs numbers numbers).com
 abbrev pub by_node : Order (ℕ × ℕ)
 by_node = pairs numbers numbers
 
--- the headers that the slots show
-abbrev pub heads_shown : BTreeMap ℕ (Option CodeHeader) → Table numbers Header
-heads_shown slots = table_of numbers header_of slots.entries
+-- the headers as the model has them
+abbrev pub heads_of : Table numbers CodeHeader → Table numbers Header
+heads_of headers = mapped (λ number header. header_of header) headers
 
 -- the names that the slots show
 abbrev pub names_shown : BTreeMap (ℕ × List ℕ) (Option ℕ) → NameTable
@@ -40,7 +40,7 @@ names_shown slots = table_of name_order (λ number. number) slots.entries
 
 module _ {A : Type 0} where
   abbrev pub heads_in : Rows A → Table numbers Header
-  heads_in rows = heads_shown rows.headers
+  heads_in rows = heads_of rows.headers
 
   abbrev pub names_in : Rows A → NameTable
   names_in rows = names_shown rows.names
@@ -64,16 +64,15 @@ module _ {A : Type 0} where
     pub counts : (directory : ℕ) → names_counted rows directory ≡ entry_count (names_in rows) directory
     pub uplinks : (number directory : ℕ) → ways_counted rows (number, directory) ≡ ways_count (names_in rows) number directory
 
-  -- each map shows the same
+  -- the headers are the same, and each map shows the same
   pub record ShowsSame (old new : Rows A) : Type 0 where
-    pub headers : (q : ℕ) → shown_at nat_cmp new.headers q ≡ shown_at nat_cmp old.headers q
+    pub headers : new.headers ≡ old.headers
     pub names : (q : ℕ × List ℕ) → shown_at name_order.compare new.names q ≡ shown_at name_order.compare old.names q
     pub counts : (q : ℕ) → shown_at nat_cmp new.counts q ≡ shown_at nat_cmp old.counts q
     pub uplinks : (q : ℕ × ℕ) → shown_at by_node.compare new.uplinks q ≡ shown_at by_node.compare old.uplinks q
 
   -- no slot goes
   pub record KeepsSlots (old new : Rows A) : Type 0 where
-    pub headers : (q : ℕ) → IsSome (slots_of.get nat_cmp old.headers q) → IsSome (slots_of.get nat_cmp new.headers q)
     pub names : (q : ℕ × List ℕ) → IsSome (slots_of.get name_order.compare old.names q) → IsSome (slots_of.get name_order.compare new.names q)
     pub counts : (q : ℕ) → IsSome (slots_of.get nat_cmp old.counts q) → IsSome (slots_of.get nat_cmp new.counts q)
     pub uplinks : (q : ℕ × ℕ) → IsSome (slots_of.get by_node.compare old.uplinks q) → IsSome (slots_of.get by_node.compare new.uplinks q)

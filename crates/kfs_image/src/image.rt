@@ -3,6 +3,7 @@ ghost use Rattle.std.specs.Prelude.{◌≡◌, ℕ, List, Some, IfSome, IfNone, 
 ghost use Rattle.kfs_model.specs.Tree.{target};
 ghost use Rattle.kfs_image.specs.Change.{after_rows, after_net};
 ghost use Rattle.kfs_image.specs.Contents.{root_alone};
+ghost use Rattle.kfs_image.specs.NodeEdits.{AreNumbered};
 ghost use Rattle.kfs_image.specs.Look.{IsAfter, IsNext};
 ghost use Rattle.kfs_image.specs.ShownTree.{IsLawful};
 
@@ -66,6 +67,8 @@ fn change_shared<A: Allocator + Clone>(
     nodes: &[NodeRow],
     vacated: &mut Vec<(u32, u32), A>,
 ) -> Result<(), AllocError>
+    requires before { AreNumbered shape.old.value.heads }
+    requires after { AreNumbered (after_rows shape.old.value names.now nodes.now).heads }
     ensures ok { OnOk result (shape.new.value ≡ after_rows shape.old.value names.now nodes.now) }
     ensures err { OnErr result (shape.new.value ≡ shape.old.value) }
 {

@@ -1,15 +1,18 @@
 //! The nodes and names of an image, as views share them.
 ghost use Rattle.std.specs.Prelude.{◌≡◌, ℕ, List, Some, option_map, IfSome, IfNone, IfOk, OnOk, OnErr};
 ghost use Rattle.kfs_value.specs.Views.{header_of};
-ghost use Rattle.kfs_model.specs.Table.{get};
+ghost use Rattle.kfs_model.specs.Table.{empty, get};
+ghost use Rattle.kfs_pages.specs.Shown.{part};
 ghost use Rattle.kfs_model.specs.Tree.{entry_count, target};
 ghost use Rattle.kfs_model.specs.Sight.{parent_in};
 ghost use Rattle.kfs_image.specs.Contents.{root_alone};
 ghost use Rattle.kfs_image.specs.Look.{IsAnswer, IsAfter, IsNext};
 ghost use Rattle.kfs_image.specs.Change.{after_rows};
+ghost use Rattle.kfs_image.specs.NodeEdits.{AreNumbered};
 
 use crate::cell::{Answer, Cell};
 use crate::rows::{Rows, name_key};
+use kfs_pages::Page;
 use kfs_value::{GREATEST_MODE, Header, Kind, Name, NameRow, NodeRow, ROOT};
 use std::alloc::{AllocError, Allocator};
 use std::marker::Model;
@@ -67,6 +70,18 @@ impl<A: Allocator> Shape<A> {
         self.rows.target(key)
     }
 
+    /// The page of this index, or none where none of its 64 numbers is a node. The number n belongs to
+    /// the page (n - 1) / 64. A page has the headers of the nodes that belong to it, and no others; it is
+    /// the same for all that share it. Takes no memory.
+    pub fn page(&self, index: u32) -> Option<&Page<Header, A>>
+        ensures index { IfSome result (λ page. page.now.index ≡ index) }
+        ensures headers { IfSome result (λ page. (n : ℕ) → option_map header_of (get page.now.values n) ≡ get (part index self.now.heads) n) }
+        ensures some { IfSome result (λ page. part index self.now.heads ≡ empty → ⊥) }
+        ensures none { IfNone result (part index self.now.heads ≡ empty) }
+    {
+        self.rows.headers.page(index)
+    }
+
     fn count(&self, dir: u32) -> u64
         ensures { result ≡ entry_count self.now.names dir }
     {
@@ -116,6 +131,8 @@ impl<A: Allocator + Clone> Shape<A> {
         nodes: &[NodeRow],
         vacated: &mut Vec<(u32, u32), A>,
     ) -> Result<(), AllocError>
+        requires before { AreNumbered self.old.heads }
+        requires after { AreNumbered (after_rows self.old names.now nodes.now).heads }
         ensures ok { OnOk result (self.new ≡ after_rows self.old names.now nodes.now) }
         ensures err { OnErr result (self.new ≡ self.old) }
     {

@@ -2,6 +2,7 @@
 #![tactic(auto)]
 
 mod cell;
+mod edits;
 mod image;
 mod layout;
 mod rows;
@@ -11,5 +12,6 @@ mod tally;
 
 pub use cell::{Answer, Cell};
 pub use image::Image;
+pub use kfs_pages::Page;
 pub use kfs_value::{Header, Kind, Name, TierSizes};
 pub use layout::{Shape, look};

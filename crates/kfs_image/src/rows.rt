@@ -1,27 +1,30 @@
 //! The maps that hold the nodes and names of a shape, and the counts beside them.
 ghost use Rattle.std.specs.Prelude.{◌≡◌, ℕ, ◌+◌, ◌<◌, ◌≤◌, ◌^◌, option_map, All, IfOk, IfSome, IfNone, OnOk, OnErr, IsSome, Some, List, [], ◌∷◌};
-ghost use Rattle.std.specs.Ordering.{nat_cmp};
 ghost use Rattle.std.specs.BTreeMap as slots_of;
 ghost use Rattle.kfs_model.specs.Table.{get, pairs, numbers, empty};
 ghost use Rattle.kfs_model.specs.Tree.{entry_count, name_order, target};
 ghost use Rattle.kfs_model.specs.Sight.{holder};
 ghost use Rattle.kfs_image.specs.Look.{IsAfter, IsNext};
-ghost use Rattle.kfs_image.specs.Rows.{heads_shown, heads_in, names_in, count_step, uplink_step, names_counted, ways_counted, AreCounted, HasCounts, IsIndexed, ShowsSame, KeepsSlots, HasSlots};
+ghost use Rattle.kfs_pages.specs.Edits.{rewritten, AreEdits};
+ghost use Rattle.kfs_image.specs.NodeEdits.{IsNumber, AreNumbered};
+ghost use Rattle.kfs_image.specs.Rows.{heads_in, names_in, count_step, uplink_step, names_counted, ways_counted, AreCounted, HasCounts, IsIndexed, ShowsSame, KeepsSlots, HasSlots};
 ghost use Rattle.kfs_model.specs.Spelling.{IsName};
 ghost use Rattle.kfs_image.specs.Change.{led_to, renamed, reheaded};
 ghost use Rattle.kfs_image.specs.Slots.{shown_at, tallied, changed, IsFrom};
 ghost use Rattle.kfs_value.specs.Views.{header_of};
 
+use crate::edits::header_edits;
 use crate::{slots, tally};
+use kfs_pages::{Change, Edit, Pages};
 use kfs_value::{Header, Name, NameRow, NodeRow};
 use std::alloc::{AllocError, Allocator};
 use std::collections::BTreeMap;
 use std::ops::Bound;
 
-/// Nodes by number and names by directory and name. A slot without a value shows nothing; there are
-/// such slots only while a change is being made.
+/// Nodes by number, in pages that copies share, and names by directory and name. A slot without a value
+/// shows nothing; there are such slots only while a change is being made.
 pub(crate) struct Rows<A: Allocator> {
-    pub(crate) headers: BTreeMap<u32, Option<Header>, A>,
+    pub(crate) headers: Pages<Header, A>,
     /// The number that a name leads to.
     pub(crate) names: BTreeMap<(u32, Name), Option<u32>, A>,
     /// How many names a directory has.
@@ -47,11 +50,10 @@ impl<A: Allocator> Drop for Rows<A> {
 }
 
 impl<A: Allocator> Rows<A> {
-    #[tactic(auto, using(crate::proofs::SlotTables::tables))]
     pub(crate) fn header(&self, number: u32) -> Option<Header>
         ensures { option_map header_of result ≡ get (heads_in self.now) number }
     {
-        slots::shown(&self.headers, &number).copied()
+        self.headers.get(number).copied()
     }
 
     #[tactic(auto, using(crate::proofs::SlotTables::tables))]
@@ -195,7 +197,7 @@ impl<A: Allocator + Clone> Rows<A> {
         ensures indexed { IfOk result IsIndexed }
     {
         Ok(Rows {
-            headers: BTreeMap::new(alloc.clone()?),
+            headers: Pages::new(alloc.clone()?)?,
             names: BTreeMap::new(alloc.clone()?),
             counts: BTreeMap::new(alloc.clone()?),
             uplinks: BTreeMap::new(alloc),
@@ -204,13 +206,17 @@ impl<A: Allocator + Clone> Rows<A> {
 
     /// One node, and no name.
     pub(crate) fn with_node(alloc: A, number: u32, header: Header) -> Result<Rows<A>, AllocError>
+        requires { IsNumber number }
         ensures heads { IfOk result (λ rows. heads_in rows ≡ changed empty number (Some (header_of header))) }
         ensures names { IfOk result (λ rows. names_in rows ≡ empty) }
         ensures indexed { IfOk result IsIndexed }
     {
         let mut rows = Rows::empty(alloc)?;
-        rows.reserve_header(number)?;
-        set_header(&mut rows.headers, number, Some(header));
+        let edit = Edit {
+            number,
+            value: Some(header),
+        };
+        rows.headers.change_then(&[edit], &mut Nothing)?;
         Ok(rows)
     }
 
@@ -219,20 +225,11 @@ impl<A: Allocator + Clone> Rows<A> {
         ensures { IfOk result (ShowsSame self.now) }
     {
         Ok(Rows {
-            headers: slots::copy(&self.headers)?,
+            headers: self.headers.clone()?,
             names: slots::copy(&self.names)?,
             counts: slots::copy(&self.counts)?,
             uplinks: slots::copy(&self.uplinks)?,
         })
-    }
-
-    /// Makes a slot for the header of a node.
-    fn reserve_header(&mut self, number: u32) -> Result<(), AllocError>
-        ensures shown { ShowsSame self.old self.new }
-        ensures kept { KeepsSlots self.old self.new }
-        ensures slot { OnOk result (IsSome (slots_of.get nat_cmp self.new.headers number)) }
-    {
-        slots::reserve(&mut self.headers, number)
     }
 
     /// Makes the slots for a name row, and lists the way that it gives up.
@@ -285,33 +282,15 @@ impl<A: Allocator> Rows<A> {
 
     /// Takes out the slots of rows, and of the ways that were given up, where they have no value. Where
     /// the changes were made, only a row that takes something away has such a slot.
-    fn release(
-        &mut self,
-        names: &[NameRow],
-        nodes: &[NodeRow],
-        vacated: &[(u32, u32)],
-        were_made: bool,
-    )
+    fn release(&mut self, names: &[NameRow], vacated: &[(u32, u32)], were_made: bool)
         ensures { ShowsSame self.old self.new }
     {
-        for row in nodes {
-            self.release_header(row, were_made);
-        }
         for row in names {
             self.release_name(row, were_made);
         }
         for uplink in vacated {
             slots::release(&mut self.uplinks, uplink);
         }
-    }
-
-    fn release_header(&mut self, row: &NodeRow, was_made: bool)
-        ensures { ShowsSame self.old self.new }
-    {
-        if was_made && row.now.is_some() {
-            return;
-        }
-        slots::release(&mut self.headers, &row.number);
     }
 
     fn release_name(&mut self, row: &NameRow, was_made: bool)
@@ -331,19 +310,35 @@ impl<A: Allocator + Clone> Rows<A> {
     fn reserve(
         &mut self,
         names: &[NameRow],
-        nodes: &[NodeRow],
         vacated: &mut Vec<(u32, u32), A>,
     ) -> Result<(), AllocError>
         ensures shown { ShowsSame self.old self.new }
-        ensures nodes { OnOk result (All (λ row. IsSome (slots_of.get nat_cmp self.new.headers row.number)) nodes.now) }
         ensures names { OnOk result (All (λ row. HasSlots self.new row.dir row.name row.number) names.now) }
     {
-        for row in nodes {
-            self.reserve_header(row.number)?;
-        }
         for row in names {
             self.reserve_name(row, vacated)?;
         }
+        Ok(())
+    }
+
+    /// Makes the changes of name rows and the edits of headers. Every growth comes first, then the
+    /// edits, which may grow too, and then the names.
+    fn change(
+        &mut self,
+        names: &[NameRow],
+        edits: &[Edit<Header>],
+        vacated: &mut Vec<(u32, u32), A>,
+    ) -> Result<(), AllocError>
+        requires indexed { IsIndexed self.old }
+        requires edits { AreEdits edits.now }
+        ensures indexed { IsIndexed self.new }
+        ensures headers { OnOk result (self.new.headers ≡ rewritten self.old.headers edits.now) }
+        ensures names { OnOk result (names_in self.new ≡ renamed (names_in self.old) names.now) }
+        ensures err { OnErr result (ShowsSame self.old self.new) }
+    {
+        self.reserve(names, vacated)?;
+        self.headers.change_then(edits, &mut Nothing)?;
+        self.set_names(names);
         Ok(())
     }
 
@@ -355,42 +350,37 @@ impl<A: Allocator + Clone> Rows<A> {
         nodes: &[NodeRow],
         vacated: &mut Vec<(u32, u32), A>,
     ) -> Result<(), AllocError>
-        requires { IsIndexed self.old }
+        requires indexed { IsIndexed self.old }
+        requires before { AreNumbered (heads_in self.old) }
+        requires after { AreNumbered (reheaded (heads_in self.old) nodes.now) }
         ensures indexed { IsIndexed self.new }
         ensures headers { OnOk result (heads_in self.new ≡ reheaded (heads_in self.old) nodes.now) }
         ensures names { OnOk result (names_in self.new ≡ renamed (names_in self.old) names.now) }
         ensures err { OnErr result (ShowsSame self.old self.new) }
     {
-        if let Err(error) = self.reserve(names, nodes, vacated) {
-            self.release(names, nodes, vacated.as_slice(), false);
-            return Err(error);
-        }
-        set_headers(&mut self.headers, nodes);
-        self.set_names(names);
-        self.release(names, nodes, vacated.as_slice(), true);
+        let edits = header_edits(vacated.allocator(), nodes)?;
+        let done = self.change(names, edits.as_slice(), vacated);
+        self.release(names, vacated.as_slice(), done.is_ok());
+        done
+    }
+}
+
+/// No further change.
+#[derive(Drop)]
+struct Nothing;
+
+impl Change for Nothing {
+    ghost use Rattle.std.specs.Prelude.{⊤};
+
+    ghost can_make = { λ before. ⊤ };
+
+    ghost made = { λ before after. ⊤ };
+
+    ghost kept = { λ before after. ⊤ };
+
+    ghost not_tried = { λ before. tt };
+
+    fn make(&mut self) -> Result<(), AllocError> {
         Ok(())
     }
-}
-
-/// Makes the changes of node rows. Each has a slot.
-fn set_headers<A: Allocator>(headers: &mut BTreeMap<u32, Option<Header>, A>, nodes: &[NodeRow])
-    requires { All (λ row. IsSome (slots_of.get nat_cmp headers.old row.number)) nodes.now }
-    ensures { heads_shown headers.new ≡ reheaded (heads_shown headers.old) nodes.now }
-{
-    for row in nodes {
-        set_header(headers, row.number, row.now);
-    }
-}
-
-/// Sets a header that has a slot.
-fn set_header<A: Allocator>(
-    headers: &mut BTreeMap<u32, Option<Header>, A>,
-    number: u32,
-    now: Option<Header>,
-)
-    requires { IsSome (slots_of.get nat_cmp headers.old number) }
-    ensures kept { (q : ℕ) → IsSome (slots_of.get nat_cmp headers.old q) → IsSome (slots_of.get nat_cmp headers.new q) }
-    ensures header { heads_shown headers.new ≡ changed (heads_shown headers.old) number (option_map header_of now) }
-{
-    slots::set(headers, &number, now);
 }

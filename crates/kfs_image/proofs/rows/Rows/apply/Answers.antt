@@ -1,33 +1,34 @@
-use Rattle.std.proofs.Common.{ap, ◌∙◌}
-use Rattle.kfs_image.specs.Rows.{IsIndexed, heads_shown}
+use Rattle.std.proofs.Common.{◌≡◌, Ok, Err, ap, subst, ◌∙◌}
+use Rattle.std.specs.Prelude.{OnOk, OnErr}
+use Rattle.kfs_pages.specs.Edits.{rewritten}
+use Rattle.kfs_image.specs.Rows.{ShowsSame, heads_of, heads_in, names_in}
 use Rattle.kfs_image.specs.Change.{reheaded, renamed}
+use Rattle.kfs_image.proofs.NodeEdits.{heads_made}
 use Rattle.kfs_image.proofs.RowSteps.{shows_all, still_indexed, same_heads, same_names}
 use Rattle.kfs_image.proofs.rows.Rows.apply.Goals as goal
 
-pub returns-in-Err-clause-indexed : goal.returns-in-Err-clause-indexed
-returns-in-Err-clause-indexed g c = still_indexed _ _ c.release.ensures (still_indexed _ _ c.reserve.ensures.shown c.requires)
-
-pub returns-in-Err-clause-err : goal.returns-in-Err-clause-err
-returns-in-Err-clause-err g c = shows_all _ _ _ c.reserve.ensures.shown c.release.ensures
-
-pub set_names-requires-clause-indexed : goal.set_names-requires-clause-indexed
-set_names-requires-clause-indexed g c =
-    let indexed : IsIndexed c.reserve.new.self = still_indexed _ _ c.reserve.ensures.shown c.requires in
-    record { names = indexed.names; positive = indexed.positive; counts = indexed.counts; uplinks = indexed.uplinks }
-
-pub set_names-requires-clause-slots : goal.set_names-requires-clause-slots
-set_names-requires-clause-slots g c = λ k d below.
-    let slots = c.in_default.ensures.names k d below in
-    record { names = slots.names; counts = slots.counts; uplinks = slots.uplinks }
-
 pub returns-clause-indexed : goal.returns-clause-indexed
-returns-clause-indexed g c = still_indexed _ _ c.release-2.ensures c.set_names.ensures.indexed
+returns-clause-indexed g c = still_indexed _ _ c.release.ensures c.change-done.ensures.indexed
 
 pub returns-clause-headers : goal.returns-clause-headers
 returns-clause-headers g c =
-    same_heads _ _ c.release-2.ensures ∙ ap heads_shown c.set_names.ensures.headers ∙ c.set_headers.ensures
-    ∙ ap (λ heads. reheaded heads c.args.nodes.now) (same_heads _ _ c.reserve.ensures.shown)
+    elim c.change-done.result as (λ r. OnOk r (c.change-done.new.self.headers ≡ rewritten c.args.self.now.headers c.in_ok-edits.edits.items) → OnOk r (heads_in c.release.new.self ≡ reheaded (heads_in c.args.self.now) c.args.nodes.now)) [
+      | Ok done ↦ λ made.
+          same_heads _ _ c.release.ensures ∙ ap heads_of made
+          ∙ heads_made c.args.self.now.headers c.in_ok-edits.edits.items c.args.nodes.now c.in_ok-edits.ensures.edits c.in_ok-edits.ensures.made c.requires.before c.requires.after
+      | Err e ↦ λ none. none
+    ] (subst (λ edits. OnOk c.change-done.result (c.change-done.new.self.headers ≡ rewritten c.args.self.now.headers edits)) c.as_slice.ensures.value c.change-done.ensures.headers)
 
 pub returns-clause-names : goal.returns-clause-names
 returns-clause-names g c =
-    same_names _ _ c.release-2.ensures ∙ c.set_names.ensures.names ∙ ap (λ names. renamed names c.args.names.now) (same_names _ _ c.reserve.ensures.shown)
+    elim c.change-done.result as (λ r. OnOk r (names_in c.change-done.new.self ≡ renamed (names_in c.args.self.now) c.args.names.now) → OnOk r (names_in c.release.new.self ≡ renamed (names_in c.args.self.now) c.args.names.now)) [
+      | Ok done ↦ λ made. same_names _ _ c.release.ensures ∙ made
+      | Err e ↦ λ none. none
+    ] c.change-done.ensures.names
+
+pub returns-clause-err : goal.returns-clause-err
+returns-clause-err g c =
+    elim c.change-done.result as (λ r. OnErr r (ShowsSame c.args.self.now c.change-done.new.self) → OnErr r (ShowsSame c.args.self.now c.release.new.self)) [
+      | Ok done ↦ λ none. none
+      | Err e ↦ λ same. shows_all _ _ _ same c.release.ensures
+    ] c.change-done.ensures.err

@@ -5,7 +5,8 @@ use Rattle.std.specs.Map.{lookup}
 use Rattle.std.specs.BTreeMap.{is_at}
 use Rattle.kfs_model.specs.Table.{numbers, pairs, get}
 use Rattle.kfs_model.specs.Tree.{name_order}
-use Rattle.kfs_value.specs.Views.{header_of}
+use Rattle.kfs_image.proofs.NodeEdits.{no_heads}
+use Rattle.kfs_image.specs.Rows.{heads_of}
 use Rattle.kfs_image.specs.Slots.{table_of, opened}
 use Rattle.kfs_image.proofs.rows.Rows.empty.Goals as goal
 
@@ -13,8 +14,7 @@ never : {n : ℕ} → None ≡ Some n → ⊥
 never e = cc
 
 pub returns-clause-heads : goal.returns-clause-heads
-unfolding table_of
-returns-clause-heads g c = ap (table_of numbers header_of) c.new.ensures.empty
+returns-clause-heads g c = ap heads_of c.in_ok-new.ensures ∙ no_heads
 
 pub returns-clause-names : goal.returns-clause-names
 unfolding table_of

@@ -4,8 +4,5 @@ use Rattle.kfs_image.proofs.rows.Rows.release.Given as goal
 abbrev pub invariant-loop-row : goal.invariant-loop-row
 invariant-loop-row g l = ShowsSame l.fn.self l.self
 
-abbrev pub invariant-loop-row-2 : goal.invariant-loop-row-2
-invariant-loop-row-2 g l = ShowsSame l.fn.self l.self
-
 abbrev pub invariant-loop-uplink : goal.invariant-loop-uplink
 invariant-loop-uplink g l = ShowsSame l.fn.self l.self

@@ -37,7 +37,7 @@ returns-clause-names g c =
 
 pub returns-clause-kept : goal.returns-clause-kept
 returns-clause-kept g c =
-    keeps_all _ _ _ (record { headers = λ q slot. slot; names = c.set-from.ensures.kept; counts = λ q slot. slot; uplinks = λ q slot. slot })
+    keeps_all _ _ _ (record { names = c.set-from.ensures.kept; counts = λ q slot. slot; uplinks = λ q slot. slot })
     (keeps_all _ _ _ c.leave.ensures.kept c.enter.ensures.kept)
 
 pub returns-clause-indexed : goal.returns-clause-indexed
