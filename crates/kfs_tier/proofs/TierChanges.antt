@@ -7,7 +7,7 @@ use Rattle.kfs_model.specs.Table.{empty}
 use Rattle.kfs_model.specs.Placement.{Place, TierSizes, tier_size}
 use Rattle.kfs_tier.specs.Places.{is_free_in}
 use Rattle.kfs_tier.specs.Tier.{TierShown}
-use Rattle.kfs_tier.specs.Tiers.{TiersShown, places_in, is_free_at, IsInTier, is_place, is_among, AreDistinct, with_place, with_places, AreSized}
+use Rattle.kfs_tier.specs.Tiers.{TiersShown, places_in, is_free_at, IsInTier, is_place, is_among, AreDistinct, with_place, with_places, CanMove, AreSized}
 use Rattle.kfs_tier.specs.TierViews.{free_of, with_slots, devices_from, devices_of, CanTurn}
 
 in_free : (free : List (List Bool)) (t p : ℕ) → p < length (places_in free t) → t < length free
@@ -187,3 +187,29 @@ pub fresh_is : (sizes : TierSizes) (first second third : TierShown)
     (record { sizes = sizes; free = replicate sizes.first true ∷ replicate sizes.second true ∷ replicate sizes.third true ∷ []; devices = empty })
 unfolding devices_from with_slots
 fresh_is sizes first second third a b c = λ i. record { sizes = sizes; free = free_of (a i ∷ b i ∷ c i ∷ []); devices = devices_of (a i ∷ b i ∷ c i ∷ []) }
+
+-- one free place can be taken, and one used place given back
+pub can_take : (free : List (List Bool)) (place : Place) → is_free_at free place ≡ true → CanMove free [] (place ∷ [])
+unfolding with_places
+can_take free place is = record {
+  given_used = λ k d below. absurd (omega (arith, below));
+  given_once = tt;
+  taken_free = λ k d below. first k d below;
+  taken_once = (refl, tt);
+}
+  where
+    first : (k : ℕ) (d : Place) → k < 1 → is_free_at free (get_or (place ∷ []) k d) ≡ true
+    first zero d below = is
+    first (suc k) d below = absurd (omega (arith, below))
+
+pub can_give_back : (free : List (List Bool)) (place : Place) → IsInTier free place → is_free_at free place ≡ false → CanMove free (place ∷ []) []
+can_give_back free place inside is = record {
+  given_used = λ k d below. first k d below;
+  given_once = (refl, tt);
+  taken_free = λ k d below. absurd (omega (arith, below));
+  taken_once = tt;
+}
+  where
+    first : (k : ℕ) (d : Place) → k < 1 → IsInTier free (get_or (place ∷ []) k d) × (is_free_at free (get_or (place ∷ []) k d) ≡ false)
+    first zero d below = (inside, is)
+    first (suc k) d below = absurd (omega (arith, below))
