@@ -8,7 +8,8 @@ ghost use Rattle.kfs_shape.specs.Views.{extent_row_of, raw_of};
 
 use crate::counts::{count_more, count_of};
 use crate::least::noted;
-use crate::raw::{ExtentRow, RawImage, TierSizes};
+use crate::raw::{ExtentRow, RawImage};
+use kfs_value::TIER_LIMIT;
 use std::alloc::{AllocError, Allocator};
 use std::collections::BTreeMap;
 
@@ -73,11 +74,10 @@ pub fn least_shared<A: Allocator + Copy>(
     requires in_tiers { least_failed (rule_9 (raw_of raw.now)) ≡ None }
     ensures { IfOk result (λ least. least ≡ least_failed (rule_10 (raw_of raw.now))) }
 {
-    let TierSizes {
-        first: _first,
-        second: _second,
-        third: _third,
-    } = raw.sizes;
+    let sizes = raw.sizes;
+    prove!(sizes.size(0) <= TIER_LIMIT);
+    prove!(sizes.size(1) <= TIER_LIMIT);
+    prove!(sizes.size(2) <= TIER_LIMIT);
     let rows = raw.extents.as_slice();
     let uses = place_counts(alloc, rows)?;
     let mut least = None;

@@ -90,11 +90,7 @@ pub fn image<A: Allocator + Copy>(alloc: A, rows: Rows) -> Option<RawImage<A>> {
     for line in rows.extents {
         extents.push(extent(alloc, *line)?).ok()?;
     }
-    let sizes = TierSizes {
-        first: 8,
-        second: 8,
-        third: 8,
-    };
+    let sizes = TierSizes::new(8, 8, 8)?;
     Some(RawImage {
         sizes,
         nodes,
