@@ -6,12 +6,9 @@ ghost use Rattle.kfs_pages.specs.Edits.{edited, AreEdits};
 ghost use Rattle.kfs_image.specs.NodeEdits.{left_by, said_or, edits_from, IsNumber};
 
 use kfs_pages::Edit;
-use kfs_value::{Header, NodeRow};
+use kfs_value::{GREATEST_NUMBER, Header, NodeRow};
 use std::alloc::{AllocError, Allocator};
 use std::collections::BTreeMap;
-
-/// The greatest number that pages have.
-const GREATEST_NUMBER: u32 = 65_536;
 
 /// What the rows, one after the other, make of the headers, ascending. Rows of numbers that no node
 /// can have are left out.

@@ -7,11 +7,8 @@ ghost use Rattle.kfs_shape.specs.Views.{node_row_of, raw_of};
 
 use crate::least::{noted, previous};
 use crate::raw::{NodeRow, RawImage};
-use kfs_value::{GREATEST_MODE, Kind, SIZE_LIMIT};
+use kfs_value::{GREATEST_MODE, GREATEST_NUMBER, Kind, SIZE_LIMIT};
 use std::alloc::Allocator;
-
-/// The greatest number of a node.
-const GREATEST_NUMBER: u32 = 65_536;
 
 /// Whether the number is in range and above that of the row before.
 fn is_in_order(before: Option<&NodeRow>, row: &NodeRow) -> bool

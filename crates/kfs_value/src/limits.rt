@@ -3,6 +3,9 @@
 /// The number of the root directory.
 pub const ROOT: u32 = 1;
 
+/// The greatest number of a node.
+pub const GREATEST_NUMBER: u32 = 65_536;
+
 /// The greatest mode: all nine permission bits (POSIX `<sys/stat.h>`).
 pub const GREATEST_MODE: u16 = 0o777;
 
