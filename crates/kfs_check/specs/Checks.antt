@@ -1,11 +1,11 @@
 -- The code's checks, reasons and entry contexts as those of the definitions.
-use Rattle.std.specs.Prelude.{◌≡◌, ℕ, List, map, Option, Result}
+use Rattle.std.specs.Prelude.{◌≡◌, ℕ, Bool, List, map, Option, Result}
 use Rattle.std.specs.Option.{option_map}
 use Rattle.kfs_check.specs.Recorders.{LooksAlong}
 use Rattle.kfs_model.specs.Check.{checks_of, first_failing, looked}
 use Rattle.kfs_model.specs.Entry.{Entry}
 use Rattle.kfs_model.specs.Check as checks
-use Rattle.kfs_model.specs.Sight.{ClientSight, Cell, ParentOf, climbed}
+use Rattle.kfs_model.specs.Sight.{ClientSight, Cell, ParentOf, climb_limit, climb_meets, climbed}
 use Rattle.kfs_check.specs.declared.check.Reason.{Reason}
 use Rattle.kfs_check.specs.declared.check.Reason.TheVariants as reasons
 use Rattle.kfs_check.specs.declared.check.Check.{Check}
@@ -74,6 +74,11 @@ module _ {A : Type 0} (judge : EntryJudge A) where
   -- the directory in which a directory stands now
   abbrev pub parent_in : ClientSight → ℕ → Option ℕ
   parent_in before = (entry_context_in judge before).now.parent
+
+  -- whether the climb from the directory meets the node, looked at the parents of those that it passes
+  abbrev pub Climbs : {E : Type 0} → (old new : Recorder A) → Result Bool E → (node directory : ℕ) → Type 0
+  Climbs old new result node directory =
+      LooksAlong old new result (λ before. climbed_cells (parent_in before) climb_limit directory) (λ meets before. climb_meets (parent_in before) climb_limit node directory ≡ meets)
 
   -- what the check finds wrong, looked at its cells
   abbrev pub JudgesCheck : {E : Type 0} → (old new : Recorder A) → Result (Option Reason) E → Check → Type 0

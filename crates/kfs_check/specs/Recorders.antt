@@ -1,6 +1,6 @@
 -- A recorder before and after a call.
-use Rattle.std.specs.Prelude.{◌≡◌, List, Result, IfOk, OnOk}
-use Rattle.kfs_model.specs.Sight.{ClientSight, Cell}
+use Rattle.std.specs.Prelude.{◌≡◌, ℕ, List, [], ◌∷◌, Result, IfOk, OnOk}
+use Rattle.kfs_model.specs.Sight.{ClientSight, Cell, HeaderOf, NameIn}
 use Rattle.kfs_check.specs.declared.reads.Recorder.{Recorder}
 use Rattle.kfs_check.specs.Reads.{Agrees, AreOnce, Grows, Always, Within}
 use Rattle.kfs_check.specs.View.{client_sight_in}
@@ -37,3 +37,12 @@ module _ {A : Type 0} where
     pub goes : GoesOn old new
     pub known : IfOk result (λ x. Known new (says x))
     pub among : OnOk result (Known new (λ before. ReadsAt old new (cells before)))
+
+module _ {A X E : Type 0} (old new : Recorder A) (result : Result X E) where
+  -- a look at one header
+  abbrev pub LooksAtHeader : (number : ℕ) → (X → ClientSight → Type 0) → Type 0
+  LooksAtHeader number says = Looks old new result (HeaderOf number ∷ []) says
+
+  -- a look at one name
+  abbrev pub LooksAtName : (key : ℕ × List ℕ) → (X → ClientSight → Type 0) → Type 0
+  LooksAtName key says = Looks old new result (NameIn key.0 key.1 ∷ []) says

@@ -7,10 +7,10 @@ ghost use Rattle.kfs_value.specs.Views.{header_of, kind_of};
 ghost use Rattle.kfs_model.specs.Access.{may_header, owns};
 ghost use Rattle.kfs_model.specs.Check as checks;
 ghost use Rattle.kfs_model.specs.Sight as sight;
-ghost use Rattle.kfs_model.specs.Sight.{CountOf, HeaderOf, LeaseOn, NameIn, ParentOf, climb_limit, climb_meets};
+ghost use Rattle.kfs_model.specs.Sight.{CountOf, LeaseOn, ParentOf};
 ghost use Rattle.kfs_mode.specs.Mode.{want_shown};
-ghost use Rattle.kfs_check.specs.Recorders.{Looks, LooksAlong};
-ghost use Rattle.kfs_check.specs.Checks.{check_of, reason_of, entry_context_in, JudgesAll, JudgesCheck, IsOfHeader, IsOfRight, climbed_cells, parent_in};
+ghost use Rattle.kfs_check.specs.Recorders.{Looks, LooksAtHeader, LooksAtName};
+ghost use Rattle.kfs_check.specs.Checks.{check_of, reason_of, entry_context_in, Climbs, JudgesAll, JudgesCheck, IsOfHeader, IsOfRight, parent_in};
 
 use crate::check::{Check, Reason};
 use crate::reads::Recorder;
@@ -34,7 +34,7 @@ impl<A: Allocator + Copy> EntryJudge<'_, A> {
         recorder: &mut Recorder<'_, A>,
         number: u32,
     ) -> Result<Option<Header>, AllocError>
-        ensures { Looks recorder.old recorder.new result (HeaderOf number ∷ []) (λ header before. (entry_context_in self.now before).now.head number ≡ option_map header_of header) }
+        ensures { LooksAtHeader recorder.old recorder.new result number (λ header before. (entry_context_in self.now before).now.head number ≡ option_map header_of header) }
     {
         match self.draft.header(number) {
             Some(header) => Ok(header),
@@ -44,7 +44,7 @@ impl<A: Allocator + Copy> EntryJudge<'_, A> {
 
     /// The kind of the node now, and a file's where there is no node.
     pub fn kind(&self, recorder: &mut Recorder<'_, A>, number: u32) -> Result<Kind, AllocError>
-        ensures { Looks recorder.old recorder.new result (HeaderOf number ∷ []) (λ kind before. sight.kind_shown ((entry_context_in self.now before).now.head number) ≡ kind_of kind) }
+        ensures { LooksAtHeader recorder.old recorder.new result number (λ kind before. sight.kind_shown ((entry_context_in self.now before).now.head number) ≡ kind_of kind) }
     {
         let header = self.header(recorder, number)?;
         Ok(kind_in(header))
@@ -56,7 +56,7 @@ impl<A: Allocator + Copy> EntryJudge<'_, A> {
         recorder: &mut Recorder<'_, A>,
         key: &(u32, Name),
     ) -> Result<Option<u32>, AllocError>
-        ensures { Looks recorder.old recorder.new result (NameIn key.now.0 key.now.1 ∷ []) (λ number before. (entry_context_in self.now before).now.name key.now.0 key.now.1 ≡ number) }
+        ensures { LooksAtName recorder.old recorder.new result key.now (λ number before. (entry_context_in self.now before).now.name key.now.0 key.now.1 ≡ number) }
     {
         match self.draft.target(key) {
             Some(number) => Ok(number),
@@ -70,7 +70,7 @@ impl<A: Allocator + Copy> EntryJudge<'_, A> {
         number: u32,
         want: Want,
     ) -> Result<bool, AllocError>
-        ensures { Looks recorder.old recorder.new result (HeaderOf number ∷ []) (λ granted before. checks.is_permitted (entry_context_in self.now before) (want_shown want) number ≡ granted) }
+        ensures { LooksAtHeader recorder.old recorder.new result number (λ granted before. checks.is_permitted (entry_context_in self.now before) (want_shown want) number ≡ granted) }
     {
         let header = self.header(recorder, number)?;
         Ok(may_want(self.client, header, want))
@@ -192,7 +192,7 @@ impl<A: Allocator + Copy> EntryJudge<'_, A> {
     }
 
     fn may_write(&self, recorder: &mut Recorder<'_, A>, number: u32) -> Result<bool, AllocError>
-        ensures { Looks recorder.old recorder.new result (HeaderOf number ∷ []) (λ granted before. checks.may_write (entry_context_in self.now before) number ≡ granted) }
+        ensures { LooksAtHeader recorder.old recorder.new result number (λ granted before. checks.may_write (entry_context_in self.now before) number ≡ granted) }
     {
         let header = self.header(recorder, number)?;
         let own_file = self.draft.has_created(number) && is_file(header);
@@ -234,7 +234,7 @@ impl<A: Allocator + Copy> EntryJudge<'_, A> {
         node: u32,
         dir: u32,
     ) -> Result<bool, AllocError>
-        ensures { LooksAlong recorder.old recorder.new result (λ before. climbed_cells (parent_in self.now before) climb_limit dir) (λ meets before. climb_meets (parent_in self.now before) climb_limit node dir ≡ meets) }
+        ensures { Climbs self.now recorder.old recorder.new result node dir }
     {
         let mut current = dir;
         let mut left = CLIMB_LIMIT;
@@ -256,7 +256,7 @@ impl<A: Allocator + Copy> EntryJudge<'_, A> {
         recorder: &mut Recorder<'_, A>,
         number: u32,
     ) -> Result<bool, AllocError>
-        ensures { Looks recorder.old recorder.new result (HeaderOf number ∷ []) (λ free before. checks.is_number_free (entry_context_in self.now before) number ≡ free) }
+        ensures { LooksAtHeader recorder.old recorder.new result number (λ free before. checks.is_number_free (entry_context_in self.now before) number ≡ free) }
     {
         let before = recorder.header(number)?;
         let now = self.header(recorder, number)?;

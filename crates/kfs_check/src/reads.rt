@@ -4,9 +4,9 @@ ghost use Rattle.std.specs.Prelude.{◌≡◌, ℕ, ℤ, pos, Bool, [], ◌∷�
 ghost use Rattle.std.specs.Option.{option_map};
 ghost use Rattle.kfs_value.specs.Views.{header_of};
 ghost use Rattle.kfs_model.specs.Header.{Header as HeaderShown};
-ghost use Rattle.kfs_model.specs.Sight.{answer, Head, Number, Count, Held, HeaderOf, NameIn, CountOf, ParentOf, LeaseOn};
+ghost use Rattle.kfs_model.specs.Sight.{answer, Head, Number, Count, Held, CountOf, ParentOf, LeaseOn};
 ghost use Rattle.kfs_check.specs.Reads.{cell_of, answer_of};
-ghost use Rattle.kfs_check.specs.Recorders.{seen_by, Looks};
+ghost use Rattle.kfs_check.specs.Recorders.{seen_by, Looks, LooksAtHeader, LooksAtName};
 ghost use Rattle.kfs_check.specs.View.{client_sight_in};
 
 use crate::view::View;
@@ -87,7 +87,7 @@ impl<'a, A: Allocator + Copy> Recorder<'a, A> {
 
     /// The header of a node.
     pub fn header(&mut self, number: u32) -> Result<Option<Header>, AllocError>
-        ensures { Looks self.old self.new result (HeaderOf number ∷ []) (λ header before. before.sight.head number ≡ option_map header_of header) }
+        ensures { LooksAtHeader self.old self.new result number (λ header before. before.sight.head number ≡ option_map header_of header) }
     {
         let answer = self.read(Read::Look(Cell::Header(number)))?;
         Ok(header_in(answer))
@@ -95,7 +95,7 @@ impl<'a, A: Allocator + Copy> Recorder<'a, A> {
 
     /// The number that a name leads to.
     pub fn target(&mut self, key: &(u32, Name)) -> Result<Option<u32>, AllocError>
-        ensures { Looks self.old self.new result (NameIn key.now.0 key.now.1 ∷ []) (λ number before. before.sight.name key.now.0 key.now.1 ≡ number) }
+        ensures { LooksAtName self.old self.new result key.now (λ number before. before.sight.name key.now.0 key.now.1 ≡ number) }
     {
         let name = copied(&key.1)?;
         let answer = self.read(Read::Look(Cell::Name(key.0, name)))?;

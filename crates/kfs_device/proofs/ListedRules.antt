@@ -5,7 +5,7 @@ use Rattle.std.proofs.lemmas.Bool.{and_from, or_left, or_right, cases_eq, cases_
 use Rattle.kfs_model.specs.Header.{Kind, File, Directory, Header}
 use Rattle.kfs_model.specs.Table.{Table, numbers, pairs, get}
 use Rattle.kfs_model.proofs.TableLaws.{get-mapped}
-use Rattle.kfs_model.specs.Tree.{NameTable, headers, header_of, links_of, size_of, name_order, name_count}
+use Rattle.kfs_model.specs.Tree.{NameTable, headers, header_of, links_of, size_of, name_order, name_count, body_over, node_over}
 use Rattle.kfs_model.specs.Sight.{is_directory, is_file, parent_in}
 use Rattle.kfs_model.specs.Soundness.{Climbs, AreSound}
 use Rattle.kfs_model.specs.Spelling.{IsName}
@@ -13,7 +13,7 @@ use Rattle.kfs_model.specs.Placement.{TierSizes, Place, tier_size}
 use Rattle.kfs_model.proofs.CleanIsAllowed.{left, right}
 use Rattle.kfs_model.proofs.Heads.{get-headers}
 use Rattle.kfs_device.specs.Device.{Devices}
-use Rattle.kfs_device.specs.ShownTree.{DeviceImage, body_shown, node_shown, shown_tree, IsLawful}
+use Rattle.kfs_device.specs.ShownTree.{DeviceImage, file_bytes, shown_tree, IsLawful}
 use Rattle.kfs_device.specs.RawImage.{RawImage, IsSpelled, heads_of, names_of}
 use Rattle.kfs_device.specs.Rules.{Test, rules, number_test, rule_1, rule_2, kind_fits, header_test, rule_3, directory_test, rule_4, target_test, rule_5, names_fit, names_test, rule_6, parent_of, reaches_root, climb_test, rule_7, overlap, share_block, share_place, ends_in_file, is_extent, extent_test, rule_8, tier_test, rule_9, place_test, rule_10}
 use Rattle.kfs_device.specs.Finding.{Finding, least_of, least_failed, finding_from, finding_of, IsWellFormed}
@@ -67,7 +67,7 @@ module _ (image : DeviceImage) (lawful : IsLawful image) where
   head = get image.heads
 
   sound : AreSound head image.names
-  sound = subst (λ heads. AreSound (get heads) image.names) lawful.counted lawful.sound
+  sound = subst (λ heads. AreSound (get heads) image.names) lawful.tree.counted lawful.tree.sound
 
   at_heads : (P : Table numbers Header → Type 0) → P image.heads → P (heads_of raw)
   at_heads P there = subst P (sym (heads_back image)) there
@@ -77,17 +77,17 @@ module _ (image : DeviceImage) (lawful : IsLawful image) where
 
   -- ---- headers
 
-  own_header : (number : ℕ) (h : Header) → head number ≡ Some h → header_of image.names number (node_shown image.placement image.devices number h) ≡ h
+  own_header : (number : ℕ) (h : Header) → head number ≡ Some h → header_of image.names number (node_over (file_bytes image.placement image.devices) number h) ≡ h
   own_header number h is =
-      let shown : get (headers (shown_tree image)) number ≡ Some (header_of image.names number (node_shown image.placement image.devices number h)) =
-      get-headers (shown_tree image) number ∙ ap (option_map (header_of image.names number)) (get-mapped (node_shown image.placement image.devices) image.heads number ∙ ap (option_map (node_shown image.placement image.devices number)) is) in
-      let counted : get (headers (shown_tree image)) number ≡ Some h = ap (λ (heads : Table numbers Header). get heads number) lawful.counted ∙ is in
+      let shown : get (headers (shown_tree image)) number ≡ Some (header_of image.names number (node_over (file_bytes image.placement image.devices) number h)) =
+      get-headers (shown_tree image) number ∙ ap (option_map (header_of image.names number)) (get-mapped (node_over (file_bytes image.placement image.devices)) image.heads number ∙ ap (option_map (node_over (file_bytes image.placement image.devices) number)) is) in
+      let counted : get (headers (shown_tree image)) number ≡ Some h = ap (λ (heads : Table numbers Header). get heads number) lawful.tree.counted ∙ is in
       cc
 
   fits : (number : ℕ) (h : Header) → head number ≡ Some h → HeaderFits image.names number h
   fits number h is = by h.kind refl (ap (λ (x : Header). x.links) own) (ap (λ (x : Header). x.size) own)
     where
-      own : header_of image.names number (node_shown image.placement image.devices number h) ≡ h
+      own : header_of image.names number (node_over (file_bytes image.placement image.devices) number h) ≡ h
       own = own_header number h is
 
       as_file : h.kind ≡ File → IsTrue (is_file (head number))
@@ -100,19 +100,19 @@ module _ (image : DeviceImage) (lawful : IsLawful image) where
       root_or_named kind =
           ⊎_elim (λ root. or_left (number == 1) _ (eq-eqb number 1 root)) (λ other. or_right (number == 1) _ (eq-eqb (name_count image.names number) 1 (sound.directories number (as_directory kind) other))) (cases_eq number 1)
 
-      by : (kind : Kind) → h.kind ≡ kind → links_of image.names number (body_shown image.placement image.devices number h.kind h.size) ≡ h.links
-          → size_of (body_shown image.placement image.devices number h.kind h.size) ≡ h.size → HeaderFits image.names number h
+      by : (kind : Kind) → h.kind ≡ kind → links_of image.names number (body_over (file_bytes image.placement image.devices) number h.kind h.size) ≡ h.links
+          → size_of (body_over (file_bytes image.placement image.devices) number h.kind h.size) ≡ h.size → HeaderFits image.names number h
       by File kind links size =
           let names = sound.files number (as_file kind) in
-          let linked : name_count image.names number ≡ h.links = subst (λ k. links_of image.names number (body_shown image.placement image.devices number k h.size) ≡ h.links) kind links in
+          let linked : name_count image.names number ≡ h.links = subst (λ k. links_of image.names number (body_over (file_bytes image.placement image.devices) number k h.size) ≡ h.links) kind links in
           record {
             as_kind = ap (λ k. kind_fits k h.links h.size) kind;
             as_named = ap (λ k. names_fit k number h.links (name_count image.names number)) kind
                 ∙ and_from _ _ (and_from _ _ (le-leb 1 (name_count image.names number) names.0) (le-leb (name_count image.names number) 1024 names.1)) (eq-eqb h.links (name_count image.names number) (sym linked));
           }
       by Directory kind links size =
-          let one : 1 ≡ h.links = subst (λ k. links_of image.names number (body_shown image.placement image.devices number k h.size) ≡ h.links) kind links in
-          let none : 0 ≡ h.size = subst (λ k. size_of (body_shown image.placement image.devices number k h.size) ≡ h.size) kind size in
+          let one : 1 ≡ h.links = subst (λ k. links_of image.names number (body_over (file_bytes image.placement image.devices) number k h.size) ≡ h.links) kind links in
+          let none : 0 ≡ h.size = subst (λ k. size_of (body_over (file_bytes image.placement image.devices) number k h.size) ≡ h.size) kind size in
           record {
             as_kind = ap (λ k. kind_fits k h.links h.size) kind ∙ and_from _ _ (eq-eqb h.links 1 (sym one)) (eq-eqb h.size 0 (sym none));
             as_named = ap (λ k. names_fit k number h.links (name_count image.names number)) kind ∙ root_or_named kind;

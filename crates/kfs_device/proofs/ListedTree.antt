@@ -8,10 +8,10 @@ use Rattle.std.proofs.lemmas.List.{get_or-take, get_or-drop}
 use Rattle.kfs_model.specs.Header.{Kind, File, Directory, Header}
 use Rattle.kfs_model.specs.Table.{Order, Table, numbers, pairs, get}
 use Rattle.kfs_model.proofs.TableLaws.{get-mapped, same_table}
-use Rattle.kfs_model.specs.Tree.{FileBody}
+use Rattle.kfs_model.specs.Tree.{FileBody, body_over, node_over}
 use Rattle.kfs_model.specs.Placement.{Place, numbers_from, below}
 use Rattle.kfs_device.specs.Device.{Devices, byte_on}
-use Rattle.kfs_device.specs.ShownTree.{DeviceImage, file_byte, file_bytes, body_shown, node_shown, shown_tree, IsLawful}
+use Rattle.kfs_device.specs.ShownTree.{DeviceImage, file_byte, file_bytes, shown_tree, IsLawful}
 use Rattle.kfs_device.specs.RawImage.{devices_of, placement_of, image_of}
 use Rattle.kfs_device.specs.Listed.{block_bytes, extent_row, rows_of, AreRowsOf}
 use Rattle.kfs_device.proofs.Among.{Among, among_map}
@@ -80,26 +80,26 @@ module _ (image : DeviceImage) (lawful : IsLawful image) where
       ap (λ placement. file_bytes placement (devices_of (rows_of image)) number size) (placement_back image)
       ∙ same_map (file_byte image.placement (devices_of (rows_of image)) number) (file_byte image.placement image.devices number) (byte_back number) (below size)
 
-  body_back : (number : ℕ) (kind : Kind) (size : ℕ) → body_shown (placement_of (rows_of image)) (devices_of (rows_of image)) number kind size ≡ body_shown image.placement image.devices number kind size
+  body_back : (number : ℕ) (kind : Kind) (size : ℕ) → body_over (file_bytes (placement_of (rows_of image)) (devices_of (rows_of image))) number kind size ≡ body_over (file_bytes image.placement image.devices) number kind size
   body_back number File size = ap FileBody (bytes_back number size)
   body_back number Directory size = refl
 
-  node_back : (number : ℕ) (h : Header) → node_shown (placement_of (rows_of image)) (devices_of (rows_of image)) number h ≡ node_shown image.placement image.devices number h
+  node_back : (number : ℕ) (h : Header) → node_over (file_bytes (placement_of (rows_of image)) (devices_of (rows_of image))) number h ≡ node_over (file_bytes image.placement image.devices) number h
   node_back number h = λ i. record { mode = h.mode; uid = h.uid; gid = h.gid; body = body_back number h.kind h.size i }
 
   nodes_back : (shown_tree (image_of (rows_of image))).nodes ≡ (shown_tree image).nodes
   nodes_back = same_table _ _ each
     where
-      at : (number : ℕ) (o : Option Header) → option_map (node_shown (placement_of (rows_of image)) (devices_of (rows_of image)) number) o ≡ option_map (node_shown image.placement image.devices number) o
+      at : (number : ℕ) (o : Option Header) → option_map (node_over (file_bytes (placement_of (rows_of image)) (devices_of (rows_of image))) number) o ≡ option_map (node_over (file_bytes image.placement image.devices) number) o
       at number None = refl
       at number (Some h) = ap Some (node_back number h)
 
       each : (number : ℕ) → get (shown_tree (image_of (rows_of image))).nodes number ≡ get (shown_tree image).nodes number
       each number =
-          get-mapped (node_shown (placement_of (rows_of image)) (devices_of (rows_of image))) (image_of (rows_of image)).heads number
-          ∙ ap (λ (heads : Table numbers Header). option_map (node_shown (placement_of (rows_of image)) (devices_of (rows_of image)) number) (get heads number)) (heads_back image)
+          get-mapped (node_over (file_bytes (placement_of (rows_of image)) (devices_of (rows_of image)))) (image_of (rows_of image)).heads number
+          ∙ ap (λ (heads : Table numbers Header). option_map (node_over (file_bytes (placement_of (rows_of image)) (devices_of (rows_of image))) number) (get heads number)) (heads_back image)
           ∙ at number (get image.heads number)
-          ∙ sym (get-mapped (node_shown image.placement image.devices) image.heads number)
+          ∙ sym (get-mapped (node_over (file_bytes image.placement image.devices)) image.heads number)
 
   tree_back : shown_tree (image_of (rows_of image)) ≡ shown_tree image
   tree_back = λ i. record { nodes = nodes_back i; names = names_back image i }

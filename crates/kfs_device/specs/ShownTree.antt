@@ -1,10 +1,10 @@
 -- An image over device blocks, and the tree that it shows.
-use Rattle.std.specs.Prelude.{◌≡◌, ℕ, ◌/◌, ◌%◌, List, map, Some, None}
-use Rattle.kfs_model.specs.Header.{Kind, File, Directory, Header}
+use Rattle.std.specs.Prelude.{ℕ, ◌/◌, ◌%◌, List, map, Some, None}
+use Rattle.kfs_model.specs.Header.{Header}
 use Rattle.kfs_model.specs.Limits.{block_size}
-use Rattle.kfs_model.specs.Table.{Table, numbers, get, mapped}
-use Rattle.kfs_model.specs.Tree.{Tree, Node, NameTable, Body, FileBody, DirectoryBody, headers}
-use Rattle.kfs_model.specs.Soundness.{IsSound}
+use Rattle.kfs_model.specs.Table.{Table, numbers, get}
+use Rattle.kfs_model.specs.Tree.{Tree, NameTable, tree_over}
+use Rattle.kfs_model.specs.Soundness.{IsSoundOver}
 use Rattle.kfs_model.specs.Placement.{TierSizes, Placement, IsPlacement, below}
 use Rattle.kfs_device.specs.Device.{Devices, AreBlocks, byte_on}
 
@@ -25,25 +25,12 @@ file_byte placement devices number position =
 abbrev pub file_bytes : Placement → Devices → (number size : ℕ) → List ℕ
 file_bytes placement devices number size = map (file_byte placement devices number) (below size)
 
-abbrev pub body_shown : Placement → Devices → (number : ℕ) → Kind → (size : ℕ) → Body ℕ
-body_shown placement devices number File size = FileBody (file_bytes placement devices number size)
-body_shown placement devices number Directory size = DirectoryBody
-
-abbrev pub node_shown : Placement → Devices → (number : ℕ) → Header → Node ℕ
-node_shown placement devices number h = record {
-  mode = h.mode;
-  uid = h.uid;
-  gid = h.gid;
-  body = body_shown placement devices number h.kind h.size;
-}
-
 -- the image's nodes with the bytes of their blocks, and its names
 abbrev pub shown_tree : DeviceImage → Tree ℕ
-shown_tree image = record { nodes = mapped (node_shown image.placement image.devices) image.heads; names = image.names }
+shown_tree image = tree_over (file_bytes image.placement image.devices) image.heads image.names
 
 -- the tree is sound and has these headers, links and sizes with them; blocks lie in places of their own, whole and in tiers
 pub record IsLawful (image : DeviceImage) : Type 0 where
-  pub sound : IsSound (shown_tree image)
-  pub counted : headers (shown_tree image) ≡ image.heads
+  pub tree : IsSoundOver image.heads (shown_tree image)
   pub placed : IsPlacement image.sizes (get image.heads) image.placement
   pub blocks : AreBlocks image.sizes image.devices

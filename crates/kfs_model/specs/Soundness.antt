@@ -3,7 +3,7 @@
 use Rattle.std.specs.Prelude.{◌≡◌, ◌≢◌, ℕ, zero, suc, ◌<◌, ◌≤◌, ◌^◌, List, Option, Some, IsTrue}
 use Rattle.kfs_model.specs.Header.{Header}
 use Rattle.kfs_model.specs.Limits.{greatest_mode, greatest_number, link_limit, root_number, size_limit}
-use Rattle.kfs_model.specs.Table.{get}
+use Rattle.kfs_model.specs.Table.{Table, numbers, get}
 use Rattle.kfs_model.specs.Tree.{Tree, NameTable, headers, target, name_count}
 use Rattle.kfs_model.specs.Sight.{parent_in, is_directory, is_file}
 use Rattle.kfs_model.specs.Spelling.{IsName}
@@ -38,3 +38,8 @@ module _ (head : ℕ → Option Header) (names : NameTable) where
 
 abbrev pub IsSound : {B : Type 0} → Tree B → Type 0
 IsSound t = AreSound (get (headers t)) t.names
+
+-- the tree is sound, and these are its headers, with the links and sizes that it has
+pub record IsSoundOver {B : Type 0} (heads : Table numbers Header) (t : Tree B) : Type 0 where
+  pub sound : IsSound t
+  pub counted : headers t ≡ heads

@@ -80,3 +80,16 @@ module _ {B : Type 0} where
       body_content : Body B → List B
       body_content (FileBody content) = content
       body_content DirectoryBody = []
+
+-- A tree made of headers: `content` tells what stands in a file, by its number and its size.
+module _ {B : Type 0} (content : (number size : ℕ) → List B) where
+  abbrev pub body_over : (number : ℕ) → Kind → (size : ℕ) → Body B
+  body_over number File size = FileBody (content number size)
+  body_over number Directory size = DirectoryBody
+
+  abbrev pub node_over : (number : ℕ) → Header → Node B
+  node_over number h = record { mode = h.mode; uid = h.uid; gid = h.gid; body = body_over number h.kind h.size }
+
+  -- the nodes of these headers, and these names
+  abbrev pub tree_over : Table numbers Header → NameTable → Tree B
+  tree_over heads names = record { nodes = mapped node_over heads; names = names }

@@ -3,13 +3,13 @@ use Rattle.std.proofs.Common.{◌≡◌, ℕ, zero, suc, map, length, replicate,
 use Rattle.kfs_model.specs.Header.{Header}
 use Rattle.kfs_model.specs.Table.{Table, numbers, get}
 use Rattle.kfs_model.proofs.TableLaws.{same_table, get-mapped}
-use Rattle.kfs_model.specs.Tree.{Tree, Node, Body, FileBody, DirectoryBody, NameTable, name_order, headers, header_of}
+use Rattle.kfs_model.specs.Tree.{Tree, Node, Body, FileBody, DirectoryBody, NameTable, name_order, headers, header_of, node_over}
 use Rattle.kfs_model.specs.Soundness.{AreSound, IsSound}
 use Rattle.kfs_model.specs.Plan.{header_now, number_now, AreDifferences}
 use Rattle.kfs_model.specs.Judgement.{State, Submission, Verdict, Yes, No}
 use Rattle.kfs_image.specs.Contents.{Contents, contents_in}
 use Rattle.kfs_image.specs.Change.{after_rows}
-use Rattle.kfs_image.specs.ShownTree.{node_shown, tree_of, IsLawful}
+use Rattle.kfs_image.specs.ShownTree.{zeros, tree_of, IsLawful}
 use Rattle.kfs_image.proofs.NetTables.{net_makes}
 use Rattle.kfs_image.specs.declared.shape.Net.{Net}
 use Rattle.kfs_step.specs.Rows.{keyed_name_row, keyed_node_row}
@@ -23,10 +23,10 @@ length_zeros zero = refl
 length_zeros (suc size) = ap suc (length_zeros size)
 
 -- a node of zero bytes has the header that it is made from
-header_again : (names : NameTable) (number : ℕ) (node : Node ℕ) → header_of names number (node_shown number (header_of names number node)) ≡ header_of names number node
+header_again : (names : NameTable) (number : ℕ) (node : Node ℕ) → header_of names number (node_over zeros number (header_of names number node)) ≡ header_of names number node
 header_again names number node = by node.body
   where
-    by : (body : Body ℕ) → header_of names number (node_shown number (header_of names number (record node { body = body }))) ≡ header_of names number (record node { body = body })
+    by : (body : Body ℕ) → header_of names number (node_over zeros number (header_of names number (record node { body = body }))) ≡ header_of names number (record node { body = body })
     by (FileBody cells) = λ i. record (header_of names number (record node { body = FileBody cells })) { size = length_zeros (length cells) i }
     by DirectoryBody = refl
 
@@ -35,11 +35,11 @@ headers_again : (t : Tree ℕ) → headers (tree_of (contents_in t)) ≡ headers
 headers_again t =
     same_table _ _ (λ key.
     get-mapped (header_of t.names) (tree_of (contents_in t)).nodes key
-    ∙ ap (option_map (header_of t.names key)) (get-mapped node_shown (headers t) key ∙ ap (option_map (node_shown key)) (get-mapped (header_of t.names) t.nodes key))
+    ∙ ap (option_map (header_of t.names key)) (get-mapped (node_over zeros) (headers t) key ∙ ap (option_map (node_over zeros key)) (get-mapped (header_of t.names) t.nodes key))
     ∙ by key (get t.nodes key)
     ∙ sym (get-mapped (header_of t.names) t.nodes key))
   where
-    by : (key : ℕ) (o : Option (Node ℕ)) → option_map (header_of t.names key) (option_map (node_shown key) (option_map (header_of t.names key) o)) ≡ option_map (header_of t.names key) o
+    by : (key : ℕ) (o : Option (Node ℕ)) → option_map (header_of t.names key) (option_map (node_over zeros key) (option_map (header_of t.names key) o)) ≡ option_map (header_of t.names key) o
     by key None = refl
     by key (Some node) = ap Some (header_again t.names key node)
 

@@ -4,8 +4,7 @@ use Rattle.kfs_device.proofs.laws.well_formed_image_is_lawful.Goals as goal
 
 pub returns : goal.returns
 returns c raw spelled well_formed = record {
-  sound = tree_sound raw well_formed spelled;
-  counted = heads_counted raw well_formed;
+  tree = record { sound = tree_sound raw well_formed spelled; counted = heads_counted raw well_formed };
   placed = extents_placed raw well_formed;
   blocks = blocks_written raw well_formed;
 }
