@@ -1,10 +1,9 @@
 -- The tiers beside the placement: at first, as they are asked, and once both have changed.
-use Rattle.std.proofs.Common.{◌≡◌, ℕ, ◌<◌, true, false, All, List, [], ◌∷◌, length, get_or, replicate, Option, Some, None, Result, Ok, Err, sym, ap, subst, ◌∙◌, arith}
+use Rattle.std.proofs.Common.{◌≡◌, ℕ, true, All, List, [], ◌∷◌, length, get_or, replicate, Option, Some, None, Result, Ok, Err, sym, ap, subst, ◌∙◌, arith}
 use Rattle.std.specs.Prelude.{IfSome, IfNone, OnOk, OnErr, vec_len}
 use Rattle.kfs_model.specs.Limits.{block_size}
 use Rattle.kfs_model.specs.Table.{numbers, pairs, empty, get}
 use Rattle.kfs_model.specs.Placement.{Place, Placement, TierSizes, tier_size}
-use Rattle.kfs_device.specs.Device.{AreBlocks}
 use Rattle.kfs_chunks.specs.Edits.{rewritten}
 use Rattle.kfs_chunks.specs.Tables.{table, table_after}
 use Rattle.kfs_chunks.proofs.Tables.{table-rewritten}
@@ -58,8 +57,8 @@ module _ (entries : Entries) (tiers : TiersShown) (shown : BlocksShown) (view : 
 -- ---- once both have changed
 
 module _ {A : Type 0} (entries : Entries) (tiers : TiersShown) (shown : BlocksShown) (view : shown_of entries tiers ≡ shown) (held : AreHeld (table (pairs numbers numbers) entries) tiers)
-  (edits : List BlockEdit) (written : List (NewBlock A)) (can : CanChange shown edits written) (given taken : List Place)
-  (gives : given ≡ given_by (table (pairs numbers numbers) entries) edits) (takes : taken ≡ taken_by (table (pairs numbers numbers) entries) edits) where
+    (edits : List BlockEdit) (written : List (NewBlock A)) (can : CanChange shown edits written) (given taken : List Place)
+    (gives : given ≡ given_by (table (pairs numbers numbers) entries) edits) (takes : taken ≡ taken_by (table (pairs numbers numbers) entries) edits) where
   abbrev before : Placement
   before = table (pairs numbers numbers) entries
 
