@@ -1,8 +1,10 @@
 pub mod BlockTables
 pub mod MarkedBits
+pub mod MovedPlaces
 pub mod PlaceLists
 pub mod TierChanges
 pub mod TierLists
 pub mod TierRooms
 pub mod TiersChanged
 pub mod UnusedPlaces
+pub mod WrittenBlocks

@@ -1,13 +1,15 @@
 -- What the free places say of a placement where they are exactly those in which no block lies.
-use Rattle.std.proofs.Common.{◌≡◌, ℕ, suc, ◌+◌, ◌<◌, ◌&&◌, Bool, true, false, cond, not, List, [], ◌∷◌, length, get_or, filter, refl, sym, ap, ◌∙◌, arith}
+use Rattle.std.proofs.Common.{◌≡◌, ℕ, zero, suc, ◌+◌, ◌<◌, Bool, true, false, cond, List, [], ◌∷◌, length, get_or, replicate, filter, refl, sym, ap, ◌∙◌, arith}
 use Rattle.std.specs.List.{count_by}
 use Rattle.std.proofs.lemmas.List.Sums.{sum_by-cons}
-use Rattle.kfs_model.specs.Placement.{Place, Placement, tier_size, is_free, numbers_from, below}
+use Rattle.std.proofs.lemmas.List.{length-replicate, get_or-replicate, get_or_past}
+use Rattle.kfs_model.specs.Table.{empty}
 use Rattle.kfs_device.specs.Device.{Devices}
+use Rattle.kfs_model.specs.Placement.{TierSizes, Place, Placement, tier_size, is_free, numbers_from, below}
 use Rattle.kfs_tier.specs.Places.{free_count, is_free_in}
-use Rattle.kfs_tier.specs.Tiers.{TiersShown, places_in, is_free_at, is_among, with_places}
-use Rattle.kfs_tier.specs.Unused.{FreeIsUnused, CountsUnused, FindsUnused, MissesNone, KeepsUnused}
-use Rattle.kfs_tier.proofs.TierChanges.{can_turn, free_in_tier, is_free_at-with_places, AreSized-with_places}
+use Rattle.kfs_tier.specs.Tiers.{TiersShown, AreSized, places_in}
+use Rattle.kfs_tier.specs.Unused.{FreeIsUnused, CountsUnused, FindsUnused, MissesNone}
+use Rattle.kfs_tier.proofs.TierChanges.{free_in_tier, AreSized-three}
 
 count_same : (f : ℕ → Bool) (places : List Bool) (first : ℕ) → ((i : ℕ) → i < length places → get_or places i false ≡ f (first + i))
     → count_by (λ free. free) places ≡ length (filter f (numbers_from first (length places)))
@@ -55,20 +57,22 @@ FindsUnused-holds placement tiers holds tier from place next =
 pub MissesNone-holds : (placement : Placement) (tiers : TiersShown) → MissesNone placement tiers
 MissesNone-holds placement tiers holds tier from used place reached below = sym (holds.unused (record { tier = tier; place = place }) below) ∙ used place reached
 
-pub KeepsUnused-holds : (old new : Placement) (tiers : TiersShown) (given taken : List Place) (devices : Devices) → KeepsUnused old new tiers given taken devices
-KeepsUnused-holds old new tiers given taken devices holds can moved = record {
-  sized = AreSized-with_places tiers.sizes false taken (with_places true given tiers.free) (AreSized-with_places tiers.sizes true given tiers.free holds.sized);
-  unused = λ place below.
-      is_free_at-with_places place false taken (with_places true given tiers.free) (can_turn false taken (with_places true given tiers.free) (λ k d inside. (free_in_tier (with_places true given tiers.free) _ (can.taken_free k d inside), can.taken_free k d inside)) can.taken_once)
-      ∙ ap (λ b. cond (is_among taken place) false b) (is_free_at-with_places place true given tiers.free (can_turn true given tiers.free can.given_used can.given_once))
-      ∙ ap (λ b. cond b false (cond (is_among given place) true (is_free_at tiers.free place))) (moved.entered place below)
-      ∙ ap (λ b. cond (is_free old place && not (is_free new place)) false (cond b true (is_free_at tiers.free place))) (moved.left place below)
-      ∙ ap (λ b. cond (is_free old place && not (is_free new place)) false (cond (is_free new place && not (is_free old place)) true b)) (holds.unused place below)
-      ∙ moved_free (is_free old place) (is_free new place);
-}
-  where
-    moved_free : (o n : Bool) → cond (o && not n) false (cond (n && not o) true o) ≡ n
-    moved_free true true = refl
-    moved_free true false = refl
-    moved_free false true = refl
-    moved_free false false = refl
+-- at first all places are free
+module _ (sizes : TierSizes) where
+  abbrev all_free : List (List Bool)
+  all_free = replicate sizes.first true ∷ replicate sizes.second true ∷ replicate sizes.third true ∷ []
+
+  all_sized : AreSized sizes all_free
+  all_sized = AreSized-three sizes _ _ _ (length-replicate sizes.first true) (length-replicate sizes.second true) (length-replicate sizes.third true)
+
+  one_free : (n p : ℕ) → p < length (replicate n true) → is_free_in (replicate n true) p ≡ true
+  one_free n p below = get_or-replicate n p true false (omega (arith, below, length-replicate n true))
+
+  each_free : (tier p : ℕ) → p < length (places_in all_free tier) → is_free_in (places_in all_free tier) p ≡ true
+  each_free zero p below = one_free sizes.first p below
+  each_free (suc zero) p below = one_free sizes.second p below
+  each_free (suc (suc zero)) p below = one_free sizes.third p below
+  each_free (suc (suc (suc tier))) p below = absurd (omega (arith, below, ap length (get_or_past all_free (suc (suc (suc tier))) [] (omega arith))))
+
+  pub fresh_unused : (devices : Devices) → FreeIsUnused empty (record { sizes = sizes; free = replicate sizes.first true ∷ replicate sizes.second true ∷ replicate sizes.third true ∷ []; devices = devices })
+  fresh_unused devices = record { sized = all_sized; unused = λ place below. each_free place.tier place.place (omega (arith, below, all_sized.places place.tier)) }

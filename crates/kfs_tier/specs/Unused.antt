@@ -1,9 +1,10 @@
 -- The tiers beside a placement: free are exactly the places in which no block of a file lies.
-use Rattle.std.specs.Prelude.{◌≡◌, ℕ, ◌<◌, ◌≤◌, ◌&&◌, not, true, false, List, length, filter}
+use Rattle.std.specs.Prelude.{◌≡◌, ℕ, ◌<◌, ◌≤◌, true, false, All, List, length, filter, Some}
+use Rattle.kfs_model.specs.Table.{get}
 use Rattle.kfs_model.specs.Placement.{TierSizes, Place, Placement, tier_size, is_free, below}
 use Rattle.kfs_device.specs.Device.{Devices}
 use Rattle.kfs_tier.specs.Places.{free_count, IsNextFree, AreUsedFrom}
-use Rattle.kfs_tier.specs.Tiers.{TiersShown, AreSized, places_in, is_free_at, is_among, CanMove, moved}
+use Rattle.kfs_tier.specs.Tiers.{TiersShown, AreSized, places_in, is_free_at, is_among, AreDistinct, CanMove, moved}
 
 -- each place of a tier is free exactly where no block of a file lies there
 pub record FreeIsUnused (placement : Placement) (tiers : TiersShown) : Type 0 where
@@ -25,10 +26,26 @@ pub record IsNextUnused (sizes : TierSizes) (placement : Placement) (tier from p
 abbrev pub AreTakenFrom : TierSizes → Placement → (tier from : ℕ) → Type 0
 AreTakenFrom sizes placement tier from = (place : ℕ) → from ≤ place → place < tier_size sizes tier → is_free placement (record { tier = tier; place = place }) ≡ false
 
--- given are the places of tiers in which only the old placement has a block, taken those in which only the new one has
-pub record AreMoved (sizes : TierSizes) (old new : Placement) (given taken : List Place) : Type 0 where
-  pub left : (place : Place) → place.place < tier_size sizes place.tier → is_among given place ≡ (is_free new place && not (is_free old place))
-  pub entered : (place : Place) → place.place < tier_size sizes place.tier → is_among taken place ≡ (is_free old place && not (is_free new place))
+-- each place lies in its tier and has one block at the most
+pub record IsLaid (sizes : TierSizes) (placement : Placement) : Type 0 where
+  pub apart : (block other : ℕ × ℕ) (place : Place) → get placement block ≡ Some place → get placement other ≡ Some place → block ≡ other
+  pub in_tier : (block : ℕ × ℕ) (place : Place) → get placement block ≡ Some place → place.place < tier_size sizes place.tier
+
+-- a block lies at the place in the old placement, and not in the new one
+pub record IsLeft (old new : Placement) (place : Place) : Type 0 where
+  pub block : ℕ × ℕ
+  pub before : get old block ≡ Some place
+  pub after : get new block ≡ Some place → ⊥
+
+-- Given are the places that a block leaves, taken those that a block enters, and none stands twice among the ones or among the
+-- others. A place is both where one block leaves it and another one enters it.
+pub record AreMoved (old new : Placement) (given taken : List Place) : Type 0 where
+  pub each_left : All (IsLeft old new) given
+  pub all_left : (place : Place) → IsLeft old new place → is_among given place ≡ true
+  pub given_once : AreDistinct given
+  pub each_entered : All (IsLeft new old) taken
+  pub all_entered : (place : Place) → IsLeft new old place → is_among taken place ≡ true
+  pub taken_once : AreDistinct taken
 
 -- where free are the unused places: their count, the next one, and none left
 abbrev pub CountsUnused : Placement → TiersShown → Type 0
@@ -40,8 +57,13 @@ FindsUnused placement tiers = FreeIsUnused placement tiers → (tier from place 
 abbrev pub MissesNone : Placement → TiersShown → Type 0
 MissesNone placement tiers = FreeIsUnused placement tiers → (tier from : ℕ) → AreUsedFrom (places_in tiers.free tier) from → AreTakenFrom tiers.sizes placement tier from
 
--- a change that follows the placement keeps it so
+-- the places that blocks leave can be given back, and those that they enter taken
+abbrev pub CanFollow : (old new : Placement) → TiersShown → (given taken : List Place) → Type 0
+CanFollow old new tiers given taken =
+    FreeIsUnused old tiers → IsLaid tiers.sizes old → IsLaid tiers.sizes new → AreMoved old new given taken → CanMove tiers.free given taken
+
+-- and then free are the unused places again
 abbrev pub KeepsUnused : (old new : Placement) → TiersShown → (given taken : List Place) → Devices → Type 0
 KeepsUnused old new tiers given taken devices =
-    FreeIsUnused old tiers → CanMove tiers.free given taken → AreMoved tiers.sizes old new given taken
+    FreeIsUnused old tiers → IsLaid tiers.sizes old → IsLaid tiers.sizes new → AreMoved old new given taken
     → FreeIsUnused new (record { sizes = tiers.sizes; free = moved given taken tiers.free; devices = devices })

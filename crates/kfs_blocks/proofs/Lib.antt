@@ -1,0 +1,3 @@
+mod EditedPlaces
+mod HeldBlocks
+mod ReadBytes

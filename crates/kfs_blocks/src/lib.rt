@@ -1,0 +1,10 @@
+//! Where the blocks of files lie, and the three tiers, changed together.
+#![tactic(auto)]
+
+mod blocks;
+mod moves;
+mod staged;
+
+pub use blocks::Blocks;
+pub use kfs_chunks::Edit;
+pub use kfs_tier::{NewBlock, Place};
