@@ -3,3 +3,4 @@ pub mod Asked
 pub mod Readings
 pub mod Rows
 pub mod Submitted
+pub mod Walked

@@ -2,3 +2,4 @@ pub mod Command
 pub mod Example
 pub mod Reading
 pub mod Views
+pub mod Walked

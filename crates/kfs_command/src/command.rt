@@ -7,11 +7,11 @@ ghost use Rattle.kfs_command.specs.Reading.{IsAsked, begin_of, command_named, li
 ghost use Rattle.kfs_command.specs.Views.{act_of, asked_of, opening_of};
 ghost use Rattle.kfs_text.specs.Reading.{ReadsAs, checked, first_by, words_left};
 
-use kfs_entry::{SpellFault, decode_log};
+use crate::unjudged::has_other_entry;
 use kfs_image::TierSizes;
 use kfs_lease::{Act, LeaseKind};
 use kfs_mode::{Client, ClientFault};
-use kfs_plan::{Submission, keep_bytes};
+use kfs_plan::Submission;
 use kfs_text::{Refusal, Words};
 use std::alloc::Allocator;
 
@@ -225,7 +225,7 @@ fn read_submit<A: Allocator + Copy>(
     ensures bad { IfErr result (λ refusal. refusal ≡ Refusal.BadLine → IsBadLine (checked submit_of (words_left words.old))) }
 {
     let submission = read_submission(alloc, words)?;
-    if has_other_entry(alloc, submission.log.as_slice())? {
+    if has_other_entry(submission.log.as_slice()) {
         return Err(Refusal::BadLine);
     }
     Ok(submission)
@@ -243,19 +243,4 @@ fn read_submission<A: Allocator + Copy>(
     let plan = words.bytes(alloc)?;
     words.end()?;
     Ok(Submission { client, log, plan })
-}
-
-/// Whether the bytes are a log with a Write or a Truncate.
-fn has_other_entry<A: Allocator>(alloc: A, log: &[u8]) -> Result<bool, Refusal>
-    ensures yes { IfOk result (λ has. has ≡ true → HasOtherEntry log.now) }
-    ensures no { IfOk result (λ has. has ≡ false → HasOtherEntry log.now → ⊥) }
-    ensures memory { IfErr result (λ refusal. refusal ≡ Refusal.OutOfMemory) }
-{
-    match decode_log(alloc, log) {
-        Ok(log) => Ok(!keep_bytes(log.entries.as_slice())),
-        Err(fault) => match fault {
-            SpellFault::OutOfMemory => Err(Refusal::OutOfMemory),
-            _ => Ok(false),
-        },
-    }
 }

@@ -3,5 +3,6 @@
 
 mod command;
 pub mod examples;
+mod unjudged;
 
 pub use command::{Command, DeskCommand, OpeningCommand};
