@@ -7,12 +7,12 @@ use Rattle.std.specs.Cmp.{tied_itself}
 use Rattle.std.proofs.lemmas.Bool.{both_ways, cases_Bool, or_cases, or_left}
 use Rattle.std.proofs.lemmas.List.{drop_all}
 use Rattle.kfs_model.specs.Table.{numbers, pairs, get}
-use Rattle.kfs_model.specs.Placement.{TierSizes, Place, Placement}
+use Rattle.kfs_model.specs.Placement.{TierSizes, Place, Placement, IsLaid}
 use Rattle.kfs_chunks.specs.Edits.{edited, Ascend}
 use Rattle.kfs_chunks.specs.Tables.{table_after}
 use Rattle.kfs_chunks.proofs.Tables.{get-table_after}
 use Rattle.kfs_tier.specs.Tiers.{is_place, is_among, AreDistinct}
-use Rattle.kfs_tier.specs.Unused.{IsLaid, IsLeft, AreMoved}
+use Rattle.kfs_tier.specs.Unused.{IsLeft, AreMoved}
 use Rattle.kfs_tier.proofs.MovedPlaces.{is_place-is, is_place-same, among_at}
 use Rattle.kfs_tier.proofs.TierLists.{rest_at}
 use Rattle.kfs_blocks.specs.Moves.{BlockEdit, left_by, left_in, given_by, taken_by}

@@ -3,14 +3,14 @@ use Rattle.std.proofs.Common.{◌≡◌, ℕ, true, All, List, [], ◌∷◌, le
 use Rattle.std.specs.Prelude.{IfSome, IfNone, OnOk, OnErr, vec_len}
 use Rattle.kfs_model.specs.Limits.{block_size}
 use Rattle.kfs_model.specs.Table.{numbers, pairs, empty, get}
-use Rattle.kfs_model.specs.Placement.{Place, Placement, TierSizes, tier_size}
+use Rattle.kfs_model.specs.Placement.{Place, Placement, TierSizes, tier_size, IsLaid}
 use Rattle.kfs_chunks.specs.Edits.{rewritten}
 use Rattle.kfs_chunks.specs.Tables.{table, table_after}
 use Rattle.kfs_chunks.proofs.Tables.{table-rewritten}
 use Rattle.kfs_tier.specs.declared.change.NewBlock.{NewBlock}
 use Rattle.kfs_tier.specs.Places.{IsNextFree, AreUsedFrom}
 use Rattle.kfs_tier.specs.Tiers.{TiersShown, places_in, IsInTier, CanMove, with_blocks, changed as changed_tiers}
-use Rattle.kfs_tier.specs.Unused.{FreeIsUnused, IsLaid, IsNextUnused, AreTakenFrom}
+use Rattle.kfs_tier.specs.Unused.{FreeIsUnused, IsNextUnused, AreTakenFrom}
 use Rattle.kfs_tier.proofs.MovedPlaces.{CanFollow-holds, KeepsUnused-holds}
 use Rattle.kfs_tier.proofs.UnusedPlaces.{FindsUnused-holds, MissesNone-holds, fresh_unused}
 use Rattle.kfs_tier.proofs.WrittenBlocks.{AreBlocks-with_blocks}

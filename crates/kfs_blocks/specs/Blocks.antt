@@ -2,13 +2,13 @@
 use Rattle.std.specs.Prelude.{◌≡◌, ◌<◌, All, List, vec_len}
 use Rattle.kfs_model.specs.Limits.{block_size}
 use Rattle.kfs_model.specs.Table.{numbers, pairs}
-use Rattle.kfs_model.specs.Placement.{TierSizes, Placement, tier_size}
+use Rattle.kfs_model.specs.Placement.{TierSizes, Placement, tier_size, IsLaid}
 use Rattle.kfs_device.specs.Device.{Devices, AreBlocks}
 use Rattle.kfs_chunks.specs.Edits.{Ascend}
 use Rattle.kfs_chunks.specs.Tables.{table_after}
 use Rattle.kfs_tier.specs.declared.change.NewBlock.{NewBlock}
 use Rattle.kfs_tier.specs.Tiers.{TiersShown, with_blocks}
-use Rattle.kfs_tier.specs.Unused.{FreeIsUnused, IsLaid}
+use Rattle.kfs_tier.specs.Unused.{FreeIsUnused}
 use Rattle.kfs_blocks.specs.Moves.{BlockEdit}
 
 -- the sizes of the tiers, where the blocks of files lie, and the blocks that were written

@@ -1,11 +1,11 @@
 //! The blocks of files.
 ghost use Rattle.std.specs.Prelude.{◌≡◌, ◌+◌, ◌*◌, ◌≤◌, length, slice_index, IfSome, IfNone, IfOk, OnOk, OnErr, EachIndex};
 ghost use Rattle.kfs_model.specs.Limits.{block_size};
-ghost use Rattle.kfs_model.specs.Placement.{tier_size};
+ghost use Rattle.kfs_model.specs.Placement.{tier_size, IsLaid};
 ghost use Rattle.kfs_model.specs.Table.{empty, get};
 ghost use Rattle.kfs_device.specs.Device.{AreBlocks};
 ghost use Rattle.kfs_device.specs.ShownTree.{file_byte};
-ghost use Rattle.kfs_tier.specs.Unused.{IsLaid, IsNextUnused, AreTakenFrom, unused_places};
+ghost use Rattle.kfs_tier.specs.Unused.{IsNextUnused, AreTakenFrom, unused_places};
 ghost use Rattle.kfs_blocks.specs.Blocks.{CanChange, changed};
 
 use crate::moves::Moves;

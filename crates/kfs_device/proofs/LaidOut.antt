@@ -100,7 +100,7 @@ module _ (raw : RawImage) where
         subst (λ (e : (ℕ × ℕ) × Place). IsBlock (get (heads_of raw)) e.0.0 e.0.1) (sym one.is) own
 
     pub extents_placed : IsPlacement raw.sizes (get (heads_of raw)) (placement_of raw)
-    extents_placed = record { apart = apart; in_tier = in_tier; of_files = of_files }
+    extents_placed = record { laid = record { apart = apart; in_tier = in_tier }; of_files = of_files }
 
     -- ---- each block of each extent
 

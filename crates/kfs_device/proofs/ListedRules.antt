@@ -199,7 +199,7 @@ module _ (image : DeviceImage) (lawful : IsLawful image) where
           let tier : place.tier ≡ at.tier = eqb-true place.tier at.tier (left (place.tier == at.tier) (overlap place.place 1 at.place 1) share) in
           let start = same_start place.place at.place (right (place.tier == at.tier) (overlap place.place 1 at.place 1) share) in
           let places : at ≡ place = λ i. record { tier = sym tier i; place = sym start i } in
-          lawful.placed.apart other key place (is ∙ ap Some places) there
+          lawful.placed.laid.apart other key place (is ∙ ap Some places) there
 
   whole : (key : ℕ × ℕ) (place : Place) → is_extent raw.extents (extent_row image.devices (key, place)) ≡ true
   whole key place = and_from _ _ (eq-eqb (length (block_bytes image.devices place)) 4096 (length-block_bytes image.devices place)) (le-leb _ 1 (one_block key place))
@@ -217,7 +217,7 @@ module _ (image : DeviceImage) (lawful : IsLawful image) where
     where
       each : (key : ℕ × ℕ) (place : Place) → get image.placement key ≡ Some place → (tier_test image.sizes (extent_row image.devices (key, place))).holds ≡ true
       each key place is =
-          let less = lawful.placed.in_tier key place is in
+          let less = lawful.placed.laid.in_tier key place is in
           and_from _ _ (le-leb place.tier 2 (tier_there image.sizes place.tier place.place less)) (le-leb (place.place + 1) (tier_size image.sizes place.tier) (omega arith))
 
   holds_10 : AllHold (rule_10 raw)

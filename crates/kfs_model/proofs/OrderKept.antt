@@ -200,8 +200,7 @@ opens_in_order clients sizes tree distinct in_range sound = record {
   distinct = distinct;
   clients = in_range;
   placement = record {
-    apart = λ block other place is also. cc;
-    in_tier = λ block place is. cc;
+    laid = record { apart = λ block other place is also. cc; in_tier = λ block place is. cc };
     of_files = λ number block place is. cc;
   };
 }

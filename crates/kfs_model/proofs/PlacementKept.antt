@@ -160,7 +160,7 @@ module _ (s : State) (after : Tree ℕ) (marked_after : Tree Mark) (places : Lis
       (found_placed blocks places base other place also))
       (λ stays. ⊎_elim
       (λ one. absurd (never_both other block place one stays))
-      (λ too. old.apart block other place (from_base block place stays).1 (from_base other place too).1)
+      (λ too. old.laid.apart block other place (from_base block place stays).1 (from_base other place too).1)
       (found_placed blocks places base other place also))
       (found_placed blocks places base block place is)
 
@@ -168,7 +168,7 @@ module _ (s : State) (after : Tree ℕ) (marked_after : Tree Mark) (places : Lis
   in_tier_after block place is =
       ⊎_elim
       (λ one. subst (λ (p : Place). p.place < tier_size s.sizes p.tier) (sym one.2) (free_one block one.0 one.1).1)
-      (λ stays. old.in_tier block place (from_base block place stays).1)
+      (λ stays. old.laid.in_tier block place (from_base block place stays).1)
       (found_placed blocks places base block place is)
 
   stays_in_file : (number block : ℕ) → stays after marked_after (number, block) ≡ true → IsBlock (get (headers after)) number block
@@ -184,4 +184,4 @@ module _ (s : State) (after : Tree ℕ) (marked_after : Tree Mark) (places : Lis
       (found_placed blocks places base (number, block) place is)
 
   pub placement_kept : IsPlacement s.sizes (get (headers after)) (placement_after s after marked_after places)
-  placement_kept = record { apart = apart_after; in_tier = in_tier_after; of_files = of_files_after }
+  placement_kept = record { laid = record { apart = apart_after; in_tier = in_tier_after }; of_files = of_files_after }

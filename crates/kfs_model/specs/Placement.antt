@@ -39,10 +39,14 @@ pub record IsBlock (head : ℕ → Option Header) (number block : ℕ) : Type 0 
   pub file : IsTrue (is_file (Some header))
   pub begins : block * block_size < header.size
 
--- each place lies in its tier and has one block at the most, and the blocks are those of files
-pub record IsPlacement (sizes : TierSizes) (head : ℕ → Option Header) (placement : Placement) : Type 0 where
+-- each place lies in its tier and has one block at the most
+pub record IsLaid (sizes : TierSizes) (placement : Placement) : Type 0 where
   pub apart : (block other : ℕ × ℕ) (place : Place) → get placement block ≡ Some place → get placement other ≡ Some place → block ≡ other
   pub in_tier : (block : ℕ × ℕ) (place : Place) → get placement block ≡ Some place → place.place < tier_size sizes place.tier
+
+-- blocks are laid so, and are those of files
+pub record IsPlacement (sizes : TierSizes) (head : ℕ → Option Header) (placement : Placement) : Type 0 where
+  pub laid : IsLaid sizes placement
   pub of_files : (number block : ℕ) (place : Place) → get placement (number, block) ≡ Some place → IsBlock head number block
 
 -- no block of a file lies there

@@ -3,11 +3,11 @@ use Rattle.std.proofs.Common.{◌≡◌, ℕ, zero, suc, ◌<◌, ◌==◌, ◌&
 use Rattle.std.proofs.lemmas.Bool.{and_parts, both_ways, cases_Bool, or_cases, or_left, or_right}
 use Rattle.std.proofs.lemmas.List.Elements.{All-head, All-tail}
 use Rattle.kfs_model.specs.Table.{numbers, pairs, get}
-use Rattle.kfs_model.specs.Placement.{Place, Placement, tier_size, is_free}
+use Rattle.kfs_model.specs.Placement.{Place, Placement, tier_size, is_free, IsLaid}
 use Rattle.kfs_model.proofs.Tables.{found_from_any, any_from_found}
 use Rattle.kfs_device.specs.Device.{Devices}
 use Rattle.kfs_tier.specs.Tiers.{TiersShown, is_free_at, IsInTier, is_place, is_among, with_places, CanMove}
-use Rattle.kfs_tier.specs.Unused.{FreeIsUnused, IsLaid, IsLeft, AreMoved, CanFollow, KeepsUnused}
+use Rattle.kfs_tier.specs.Unused.{FreeIsUnused, IsLeft, AreMoved, CanFollow, KeepsUnused}
 use Rattle.kfs_tier.proofs.TierChanges.{can_turn, free_in_tier, is_free_at-with_places, AreSized-with_places}
 
 -- ---- equal places

@@ -1,7 +1,7 @@
 -- The tiers beside a placement: free are exactly the places in which no block of a file lies.
 use Rattle.std.specs.Prelude.{◌≡◌, ℕ, ◌<◌, ◌≤◌, true, false, All, List, length, filter, Some}
 use Rattle.kfs_model.specs.Table.{get}
-use Rattle.kfs_model.specs.Placement.{TierSizes, Place, Placement, tier_size, is_free, below}
+use Rattle.kfs_model.specs.Placement.{TierSizes, Place, Placement, tier_size, is_free, below, IsLaid}
 use Rattle.kfs_device.specs.Device.{Devices}
 use Rattle.kfs_tier.specs.Places.{free_count, IsNextFree, AreUsedFrom}
 use Rattle.kfs_tier.specs.Tiers.{TiersShown, AreSized, places_in, is_free_at, is_among, AreDistinct, CanMove, moved}
@@ -25,11 +25,6 @@ pub record IsNextUnused (sizes : TierSizes) (placement : Placement) (tier from p
 -- a block lies at each place of the tier from this one on
 abbrev pub AreTakenFrom : TierSizes → Placement → (tier from : ℕ) → Type 0
 AreTakenFrom sizes placement tier from = (place : ℕ) → from ≤ place → place < tier_size sizes tier → is_free placement (record { tier = tier; place = place }) ≡ false
-
--- each place lies in its tier and has one block at the most
-pub record IsLaid (sizes : TierSizes) (placement : Placement) : Type 0 where
-  pub apart : (block other : ℕ × ℕ) (place : Place) → get placement block ≡ Some place → get placement other ≡ Some place → block ≡ other
-  pub in_tier : (block : ℕ × ℕ) (place : Place) → get placement block ≡ Some place → place.place < tier_size sizes place.tier
 
 -- a block lies at the place in the old placement, and not in the new one
 pub record IsLeft (old new : Placement) (place : Place) : Type 0 where
