@@ -16,7 +16,8 @@ use Rattle.std.proofs.lemmas.Map.Entries.{none_below_head, none_past_head, looku
 use Rattle.std.proofs.lemmas.Map.Keys.{IsDistinct-from_sorted}
 use Rattle.std.proofs.lemmas.List.Kept.{IsStrictlySortedBy-filter}
 use Rattle.kfs_model.proofs.Tables.{keys_of-filter}
-use Rattle.kfs_chunks.specs.Slots.{opened, shown_at, IsFrom}
+use Rattle.kfs_chunks.specs.Slots.{opened, shown_at}
+use Rattle.kfs_chunks.specs.Starts.{IsFrom}
 
 not_above : (r : Ordering) → is_gt r ≡ false → is_le r ≡ true
 not_above Less e = refl
@@ -51,7 +52,7 @@ module _ {K X : Type 0} {R : K → K → Ordering} (o : IsTotalOrder R) where
     sorted = subst (IsStrictlySortedBy R) (sym (keys_of-filter (range_contains R start Unbounded) slots.entries)) (IsStrictlySortedBy-filter R (range_contains R start Unbounded) (keys_of slots.entries) ordered);
     shown = λ q from.
         ap opened
-        (sym (lookup-filter-keys (is_at (R q)) (range_contains R start Unbounded) true (λ k tied. ap (λ b. b && true) (contains_tied o start q k from.0 (as_equal (R q k) tied))) slots.entries));
+        (sym (lookup-filter-keys (is_at (R q)) (range_contains R start Unbounded) true (λ k tied. ap (λ b. b && true) (contains_tied o start q k from (as_equal (R q k) tied))) slots.entries));
   }
 
   -- behind a slot without a value

@@ -2,9 +2,6 @@
 use Rattle.std.specs.Prelude.{List, [], ◌∷◌, Option, Some, None}
 use Rattle.std.specs.declared.cmp.Ordering.{Ordering}
 use Rattle.std.specs.BTreeMap.{BTreeMap, get}
-use Rattle.std.specs.BTreeMap.Range.{IsInRange}
-use Rattle.std.specs.declared.ops.Bound.{Bound}
-use Rattle.std.specs.declared.ops.Bound.TheVariants.{Unbounded}
 use Rattle.kfs_model.specs.Table.{Order, Table, empty}
 use Rattle.kfs_pages.specs.Values.{changed}
 
@@ -24,7 +21,3 @@ module _ {K X : Type 0} (R : Order K) where
   unfoldable pub table_of : List (K × Option X) → Table R X
   table_of [] = empty
   table_of (slot ∷ slots) = changed (table_of slots) slot.0 slot.1
-
--- whether a key is not before the start
-abbrev pub IsFrom : {K : Type 0} → (K → K → Ordering) → Bound K → K → Type 0
-IsFrom cmp start key = IsInRange cmp start Unbounded key

@@ -3,7 +3,8 @@ ghost use Rattle.std.specs.Prelude.{◌≡◌, IsSome, IfSome, IfNone, OnOk, IfO
 ghost use Rattle.std.specs.Option.{option_copied};
 ghost use Rattle.std.specs.Ordering.{eq_by_cmp, is_lt};
 ghost use Rattle.std.specs.BTreeMap.{get};
-ghost use Rattle.kfs_chunks.specs.Slots.{shown_at, IsFrom};
+ghost use Rattle.kfs_chunks.specs.Slots.{shown_at};
+ghost use Rattle.kfs_chunks.specs.Starts.{IsFrom};
 
 use crate::key::Key;
 use std::alloc::{AllocError, Allocator};
