@@ -6,9 +6,11 @@ mod chunk;
 mod chunks;
 mod edit;
 mod key;
+mod nested;
 mod place;
 mod slots;
 
 pub use chunks::Chunks;
 pub use edit::Edit;
 pub use key::Key;
+pub use nested::EditChunks;

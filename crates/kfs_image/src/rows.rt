@@ -15,7 +15,7 @@ ghost use Rattle.kfs_value.specs.Views.{header_of};
 
 use crate::edits::header_edits;
 use crate::{slots, tally};
-use kfs_pages::{Change, Edit, Pages};
+use kfs_pages::{Edit, Nothing, Pages};
 use kfs_value::{Header, Name, NameRow, NodeRow};
 use std::alloc::{AllocError, Allocator};
 use std::collections::BTreeMap;
@@ -362,25 +362,5 @@ impl<A: Allocator + Clone> Rows<A> {
         let done = self.change(names, edits.as_slice(), vacated);
         self.release(names, vacated.as_slice(), done.is_ok());
         done
-    }
-}
-
-/// No further change.
-#[derive(Drop)]
-struct Nothing;
-
-impl Change for Nothing {
-    ghost use Rattle.std.specs.Prelude.{⊤};
-
-    ghost can_make = { λ before. ⊤ };
-
-    ghost made = { λ before after. ⊤ };
-
-    ghost kept = { λ before after. ⊤ };
-
-    ghost not_tried = { λ before. tt };
-
-    fn make(&mut self) -> Result<(), AllocError> {
-        Ok(())
     }
 }

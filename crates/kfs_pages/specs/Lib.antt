@@ -1,3 +1,4 @@
 pub mod Values
 pub mod Edits
 pub mod Shown
+pub mod Nested

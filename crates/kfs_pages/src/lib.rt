@@ -3,10 +3,12 @@
 
 mod change;
 mod edit;
+mod nested;
 mod page;
 mod pages;
 
 pub use change::Change;
 pub use edit::Edit;
+pub use nested::{EditPages, Nothing};
 pub use page::Page;
 pub use pages::Pages;
