@@ -3,9 +3,11 @@ pub mod BlankTrees
 pub mod Counts
 pub mod HeaderPages
 pub mod Holders
+pub mod Indexes
 pub mod NameOrder
 pub mod NetTables
 pub mod NodeEdits
+pub mod Overlays
 pub mod RowCounts
 pub mod RowSteps
 pub mod ShownTrees

@@ -5,11 +5,9 @@ use Rattle.std.proofs.lemmas.Bool.{eqb-true, leb-true, leb-false}
 use Rattle.std.proofs.lemmas.List.{get_or-map, length-map}
 use Rattle.std.proofs.lemmas.List.Elements.{All-cons, All-tail}
 use Rattle.std.proofs.lemmas.List.Kept.{IsStrictlySortedBy-filter}
-use Rattle.std.proofs.lemmas.Map.{lookup-none}
-use Rattle.std.proofs.lemmas.Map.Entries.{none_past_head}
-use Rattle.std.proofs.lemmas.Map.Keys.{IsDistinct-from_sorted, sorted_tail, below_from_sorted}
+use Rattle.std.proofs.lemmas.Map.Keys.{sorted_tail, below_from_sorted}
 use Rattle.std.specs.Ordering.{nat_cmp, eq_by_cmp}
-use Rattle.std.specs.Cmp.{unsigned_tied, eq_by_cmp_equiv, nat_cmp_total}
+use Rattle.std.specs.Cmp.{unsigned_tied, nat_cmp_total}
 use Rattle.std.specs.List.{filter}
 use Rattle.std.specs.List.Sorted.{IsStrictlySortedBy}
 use Rattle.std.specs.Map.{lookup, keys_of}
@@ -26,7 +24,9 @@ use Rattle.kfs_model.proofs.TableLaws.{same_table, get-mapped}
 use Rattle.kfs_image.specs.Slots.{changed}
 use Rattle.kfs_image.specs.Change.{reheaded}
 use Rattle.kfs_image.specs.Rows.{heads_of}
-use Rattle.kfs_image.specs.NodeEdits.{left_by, said_or, edits_from, IsNumber, AreNumbered}
+use Rattle.kfs_image.specs.NodeEdits.{left_by, edits_from, IsNumber, AreNumbered}
+use Rattle.kfs_image.specs.Overlays.{said_or}
+use Rattle.kfs_image.proofs.Overlays.{nothing_more}
 use Rattle.kfs_image.proofs.SlotTables.{get-changed}
 
 -- the rows that are left begin with the row at the index
@@ -61,15 +61,6 @@ by_range {P} n within out = at (is_number n) refl
     at false e = out e
 
 module _ {X : Type 0} where
-  -- a row is said last of its own number
-  pub said_next : (k q : ℕ) (now : Option X) (said : Option (Option X)) (there : Option X)
-      → said_or (cond (eq_by_cmp nat_cmp k q) (Some now) said) there ≡ cond (eq_by_cmp nat_cmp q k) now (said_or said there)
-  said_next k q now said there = ap (λ b. said_or (cond b (Some now) said) there) ((eq_by_cmp_equiv nat_cmp_total).symm k q) ∙ at (eq_by_cmp nat_cmp q k)
-    where
-      at : (b : Bool) → said_or (cond b (Some now) said) there ≡ cond b now (said_or said there)
-      at true = refl
-      at false = refl
-
   numbers_kept : (es : List (ℕ × Option X)) → map (λ (e : Edit X). e.number) (edits_from es) ≡ filter is_number (keys_of es)
   unfolding edits_from
   numbers_kept [] = refl
@@ -120,16 +111,13 @@ module _ {X : Type 0} where
           let apart = below_from_sorted (map (λ (e : Edit X). e.number) (edits_from es)) i j d.number ordered less (omega (arith, below, length-map (edits_from es) (λ (e : Edit X). e.number))) in
           omega (arith, at_i, at_j, apart)
 
-  nothing_more : (q : ℕ) (e : ℕ × Option X) (es : List (ℕ × Option X)) → IsStrictlySortedBy nat_cmp (keys_of (e ∷ es)) → eq_by_cmp nat_cmp q e.0 ≡ true → lookup (is_at (nat_cmp q)) es ≡ None
-  nothing_more q e es sorted tied = lookup-none (is_at (nat_cmp q)) es (none_past_head (eq_by_cmp_equiv nat_cmp_total) q e es (IsDistinct-from_sorted nat_cmp (keys_of (e ∷ es)) sorted) tied)
-
   -- the edits make of a number what was said of it
   pub edits_say : (es : List (ℕ × Option X)) (q : ℕ) (there : Option X) → IsStrictlySortedBy nat_cmp (keys_of es) → IsNumber q → edited (edits_from es) q there ≡ said_or (lookup (is_at (nat_cmp q)) es) there
   edits_say [] q there sorted within = ap (λ edits. edited edits q there) no_edits
   edits_say (e ∷ es) q there sorted within = by_range e.0 (kept (λ v. edits_say es q v (sorted_tail nat_cmp e.0 (keys_of es) sorted) within)) (left_out (λ v. edits_say es q v (sorted_tail nat_cmp e.0 (keys_of es) sorted) within))
     where
       at : (b : Bool) → eq_by_cmp nat_cmp q e.0 ≡ b → said_or (lookup (is_at (nat_cmp q)) es) (cond b e.1 there) ≡ said_or (cond b (Some e.1) (lookup (is_at (nat_cmp q)) es)) there
-      at true tied = ap (λ said. said_or said e.1) (nothing_more q e es sorted tied)
+      at true tied = ap (λ said. said_or said e.1) (nothing_more nat_cmp_total q e es sorted tied)
       at false apart = refl
 
       kept : ((v : Option X) → edited (edits_from es) q v ≡ said_or (lookup (is_at (nat_cmp q)) es) v) → is_number e.0 ≡ true → edited (edits_from (e ∷ es)) q there ≡ said_or (lookup (is_at (nat_cmp q)) (e ∷ es)) there

@@ -2,8 +2,7 @@
 use Rattle.std.proofs.Common.{◌≡◌, ℕ, ◌+◌, ◌<◌, ◌≤◌, Bool, true, false, cond, ◌&&◌, ◌==◌, List, [], ◌∷◌, length, Option, Some, None, option_map, refl, sym, ap, subst, ◌∙◌, eq-eqb, arith}
 use Rattle.std.specs.declared.cmp.Ordering.{Ordering}
 use Rattle.std.specs.declared.cmp.Ordering.TheVariants.{Less, Equal, Greater}
-use Rattle.std.specs.Ordering.{nat_cmp, is_eq, eq_by_cmp, ordering_then}
-use Rattle.std.specs.Cmp.{unsigned_ties, eq_by_cmp_equiv, nat_cmp_total}
+use Rattle.std.specs.Ordering.{nat_cmp, is_eq}
 use Rattle.std.specs.List.{count_by}
 use Rattle.kfs_model.specs.Table.{Order, numbers, pairs, get}
 use Rattle.kfs_model.specs.Tree.{NameTable, name_order}
@@ -14,18 +13,7 @@ use Rattle.kfs_model.specs.Spelling.{IsName}
 use Rattle.kfs_image.proofs.SlotTables.{get-changed}
 use Rattle.kfs_model.proofs.Counts.{counted}
 use Rattle.kfs_image.proofs.Counts.{count-changed}
-
-turned : (a b : ℕ) → (a == b) ≡ eq_by_cmp nat_cmp b a
-turned a b = unsigned_ties a b ∙ (eq_by_cmp_equiv nat_cmp_total).symm a b
-
-both_equal : (a b : Ordering) → is_eq (ordering_then a b) ≡ (is_eq a && is_eq b)
-both_equal Less b = refl
-both_equal Equal b = refl
-both_equal Greater b = refl
-
-turned_pair : (v n dir d : ℕ) → ((v == n) && (dir == d)) ≡ eq_by_cmp (pairs numbers numbers).compare (n, d) (v, dir)
-turned_pair v n dir d =
-    ap (λ b. b && (dir == d)) (turned v n) ∙ ap (λ b. eq_by_cmp nat_cmp n v && b) (turned dir d) ∙ sym (both_equal (nat_cmp n v) (nat_cmp d dir))
+use Rattle.kfs_image.proofs.Indexes.{count_step-counted, uplink_step-counted}
 
 module _ {K X Y : Type 0} (R : Order K) (view : X → Y) (p : K × Y → Bool) where
   one_or_none : (k : K) (w : Option Y) → counted R p k w ≤ 1
@@ -38,15 +26,6 @@ module _ {K X Y : Type 0} (R : Order K) (view : X → Y) (p : K × Y → Bool) w
   count-table_of [] = omega arith
   count-table_of (slot ∷ slots) =
       omega (arith, count-table_of slots, count-changed p (table_of R view slots) slot.0 (option_map view slot.1), one_or_none slot.0 (option_map view slot.1))
-
--- a name's step of a directory's count is its count there
-count_step-counted : (d : ℕ) (m : List ℕ) (w : Option ℕ) (q : ℕ) → count_step d w q ≡ counted name_order (λ (e : (ℕ × List ℕ) × ℕ). e.0.0 == q) (d, m) w
-count_step-counted d m None q = refl
-count_step-counted d m (Some n) q = ap (λ b. cond b 1 0) (sym (turned d q))
-
-uplink_step-counted : (d : ℕ) (m : List ℕ) (w : Option ℕ) (n q : ℕ) → uplink_step d w (n, q) ≡ counted name_order (λ (e : (ℕ × List ℕ) × ℕ). (e.1 == n) && (e.0.0 == q)) (d, m) w
-uplink_step-counted d m None n q = refl
-uplink_step-counted d m (Some v) n q = ap (λ b. cond b 1 0) (sym (turned_pair v n d q))
 
 -- names stay names where one of them comes to lead elsewhere
 still_names : (names : NameTable) (d : ℕ) (m : List ℕ) (w : Option ℕ) → ((key : ℕ × List ℕ) (n : ℕ) → get names key ≡ Some n → IsName key.1) → IsName m

@@ -1,7 +1,9 @@
 pub mod Change
 pub mod Contents
+pub mod Indexes
 pub mod Look
 pub mod NodeEdits
+pub mod Overlays
 pub mod Rows
 pub mod ShownTree
 pub mod Slots

@@ -1,5 +1,5 @@
 -- What node rows leave at a number, and the edits that say so.
-use Rattle.std.specs.Prelude.{◌≡◌, ℕ, ◌≤◌, ◌&&◌, nat_le, List, [], ◌∷◌, Option, Some, None, if◌then◌else◌}
+use Rattle.std.specs.Prelude.{◌≡◌, ℕ, ◌≤◌, ◌&&◌, nat_le, List, [], ◌∷◌, Option, Some, if◌then◌else◌}
 use Rattle.std.specs.Ordering.{nat_cmp, eq_by_cmp}
 use Rattle.kfs_value.specs.declared.header.Header.{Header as CodeHeader}
 use Rattle.kfs_value.specs.declared.plan.NodeRow.{NodeRow}
@@ -21,11 +21,6 @@ abbrev pub AreNumbered : Table numbers Header → Type 0
 AreNumbered heads = (number : ℕ) (h : Header) → get heads number ≡ Some h → IsNumber number
 
 module _ {X : Type 0} where
-  -- what was said last of a key, or else what stood there
-  abbrev pub said_or : Option (Option X) → Option X → Option X
-  said_or None there = there
-  said_or (Some now) there = now
-
   -- the edits to what was said, of numbers that pages have
   unfoldable pub edits_from : List (ℕ × Option X) → List (Edit X)
   edits_from [] = []

@@ -1,34 +1,17 @@
 -- The tables that the rows of a shape show, and what the indexes beside them count.
-use Rattle.std.specs.Prelude.{◌≡◌, ℕ, ◌==◌, ◌&&◌, List, Option, Some, None, IsSome, count_by, if◌then◌else◌}
-use Rattle.std.specs.Ordering.{nat_cmp, eq_by_cmp}
+use Rattle.std.specs.Prelude.{◌≡◌, ℕ, List, Option, Some, IsSome}
+use Rattle.std.specs.Ordering.{nat_cmp}
 use Rattle.std.specs.BTreeMap as slots_of
 use Rattle.std.specs.BTreeMap.{BTreeMap}
 use Rattle.kfs_value.specs.declared.header.Header.{Header as CodeHeader}
 use Rattle.kfs_model.specs.Header.{Header}
-use Rattle.kfs_model.specs.Table.{Order, Table, numbers, pairs, get, mapped}
+use Rattle.kfs_model.specs.Table.{Table, numbers, get, mapped}
 use Rattle.kfs_model.specs.Spelling.{IsName}
 use Rattle.kfs_model.specs.Tree.{NameTable, name_order, entry_count}
 use Rattle.kfs_image.specs.declared.rows.Rows.{Rows}
+pub use Rattle.kfs_image.specs.Indexes.{by_node, ways_count, count_step, uplink_step}
 use Rattle.kfs_image.specs.Slots.{table_of, shown_at, tallied, ArePositive}
 use Rattle.kfs_value.specs.Views.{header_of}
-
--- how many names of a directory lead to a node
-abbrev pub ways_count : NameTable → (number directory : ℕ) → ℕ
-ways_count names number directory = count_by (λ e. (e.1 == number) && (e.0.0 == directory)) names.entries
-
--- what a directory's count gains where a name of it comes to lead to the number
-abbrev pub count_step : (directory : ℕ) → Option ℕ → ℕ → ℕ
-count_step directory None q = 0
-count_step directory (Some number) q = if eq_by_cmp nat_cmp q directory then 1 else 0
-
--- what the count of a way gains then
-abbrev pub uplink_step : (directory : ℕ) → Option ℕ → ℕ × ℕ → ℕ
-uplink_step directory None q = 0
-uplink_step directory (Some number) q = if eq_by_cmp (pairs numbers numbers).compare q (number, directory) then 1 else 0
-
--- the order of the ways up: by the node's number and then the directory's
-abbrev pub by_node : Order (ℕ × ℕ)
-by_node = pairs numbers numbers
 
 -- the headers as the model has them
 abbrev pub heads_of : Table numbers CodeHeader → Table numbers Header

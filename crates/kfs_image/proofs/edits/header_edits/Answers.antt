@@ -1,13 +1,13 @@
-use Rattle.std.proofs.Common.{sym, ap, subst, ◌∙◌}
-use Rattle.kfs_pages.specs.Edits.{edited, AreEdits}
-use Rattle.kfs_image.proofs.NodeEdits.{are_edits, edits_say}
+use Rattle.std.proofs.Common.{◌≡◌, ℕ, Option, ◌∙◌}
+use Rattle.std.specs.Prelude.{IfOk}
+use Rattle.std.specs.declared.result.Result.{Result}
+use Rattle.std.specs.declared.result.Result.TheVariants.{Ok, Err}
 use Rattle.kfs_image.proofs.edits.header_edits.Goals as goal
 
-pub returns-clause-edits : goal.returns-clause-edits
-returns-clause-edits g c = subst AreEdits (sym c.in_ok-list_edits.ensures.edits) (are_edits c.in_ok-latest.latest.entries c.list_edits.ensures.ordered)
+-- what holds of each value that is answered
+answered : {T E : Type 0} {P Q : T → Type 0} (r : Result T E) → IfOk r P → ((value : T) → P value → Q value) → IfOk r Q
+answered (Ok value) p further = further value p
+answered (Err error) p further = tt
 
 pub returns-clause-made : goal.returns-clause-made
-returns-clause-made g c = λ q there within.
-    ap (λ edits. edited edits q there) c.in_ok-list_edits.ensures.edits
-    ∙ edits_say c.in_ok-latest.latest.entries q there c.list_edits.ensures.ordered within
-    ∙ c.in_ok-latest.ensures q there
+returns-clause-made g c = answered c.number_edits.result c.number_edits.ensures.said (λ edits said q there within. said q there within ∙ c.in_ok-latest.ensures q there)

@@ -1,6 +1,6 @@
 use Rattle.std.proofs.Common.{◌≡◌, ◌++◌}
 use Rattle.kfs_image.specs.NodeEdits.{edits_from}
-use Rattle.kfs_image.proofs.edits.list_edits.Given as goal
+use Rattle.kfs_image.proofs.overlay.list_numbers.Given as goal
 
 -- the edits so far, and those of the entries that are left, are those of all
 abbrev pub invariant-loop-number : goal.invariant-loop-number

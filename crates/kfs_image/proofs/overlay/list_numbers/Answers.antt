@@ -2,8 +2,8 @@ use Rattle.std.proofs.Common.{◌++◌, sym, ap, ◌∙◌, arith}
 use Rattle.std.proofs.lemmas.List.{append_assoc, append-nil}
 use Rattle.kfs_image.specs.NodeEdits.{edits_from}
 use Rattle.kfs_image.proofs.NodeEdits.{edit_kept, edit_left_out, no_edits}
-use Rattle.kfs_image.proofs.edits.list_edits.Goals.{else-number-ge1-via-then-number-ge1+else-number-le-GREATEST_NUMBER, else-number-ge1-via-else-number-ge1}
-use Rattle.kfs_image.proofs.edits.list_edits.Goals as goal
+use Rattle.kfs_image.proofs.overlay.list_numbers.Goals.{else-number-ge1-via-then-number-ge1+else-number-le-GREATEST_NUMBER, else-number-ge1-via-else-number-ge1}
+use Rattle.kfs_image.proofs.overlay.list_numbers.Goals as goal
 
 pub loop-number-preserved-then-number-le-GREATEST_NUMBER : goal.loop-number-preserved-then-number-le-GREATEST_NUMBER
 loop-number-preserved-then-number-le-GREATEST_NUMBER g c = record {
