@@ -14,12 +14,15 @@ on_none None is = is
 pub returns-in_err-entry-clause-missing : goal.returns-in_err-entry-clause-missing
 returns-in_err-entry-clause-missing c =
     let walked = c.loop.invariant in
-    on_none c.from_residual.result (c.loop.counter, record {
-      rest = drop c.loop.end c.args.source.now;
-      before = record { rows = walked.entries; number = walked.read.number; are = walked.read.are };
-      fewer = c.loop-test.true;
-      none = c.in_err-entry.ensures.none;
-    })
+    on_none c.from_residual.result (
+      c.loop.counter,
+      record {
+        rest = drop c.loop.end c.args.source.now;
+        before = record { rows = walked.entries; number = walked.read.number; are = walked.read.are };
+        fewer = c.loop-test.true;
+        none = c.in_err-entry.ensures.none;
+      },
+    )
 
 pub loop-preserved : goal.loop-preserved
 loop-preserved c =
