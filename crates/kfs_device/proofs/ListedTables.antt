@@ -6,7 +6,8 @@ use Rattle.kfs_model.proofs.TableLaws.{same_entries_table}
 use Rattle.kfs_model.specs.Tree.{name_order}
 use Rattle.kfs_model.specs.Placement.{Place}
 use Rattle.kfs_device.specs.ShownTree.{DeviceImage}
-use Rattle.kfs_device.specs.RawImage.{table_of, node_entry, name_entry, places_in, heads_of, names_of, placement_of}
+use Rattle.kfs_model.specs.Plan.{keyed_name}
+use Rattle.kfs_device.specs.RawImage.{table_of, node_entry, places_in, heads_of, names_of, placement_of}
 use Rattle.kfs_device.specs.Listed.{node_row, name_row, extent_row, rows_of}
 use Rattle.kfs_device.proofs.RowTables.{sorted_entries}
 
@@ -26,7 +27,7 @@ module _ (image : DeviceImage) where
   heads_back = table_back numbers image.heads _ (entries_back node_entry node_row (λ e. refl) image.heads.entries)
 
   pub names_back : names_of (rows_of image) ≡ image.names
-  names_back = table_back name_order image.names _ (entries_back name_entry name_row (λ e. refl) image.names.entries)
+  names_back = table_back name_order image.names _ (entries_back keyed_name name_row (λ e. refl) image.names.entries)
 
   places_back : (es : List ((ℕ × ℕ) × Place)) → flat_map places_in (map (extent_row image.devices) es) ≡ es
   places_back [] = refl

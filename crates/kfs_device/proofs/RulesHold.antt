@@ -7,7 +7,8 @@ use Rattle.kfs_model.specs.Tree.{name_order, name_count}
 use Rattle.kfs_model.specs.Sight.{is_directory, is_file}
 use Rattle.kfs_model.specs.Placement.{tier_size}
 use Rattle.kfs_model.proofs.CleanIsAllowed.{left, right}
-use Rattle.kfs_device.specs.RawImage.{ExtentRow, RawImage, node_entry, name_entry, heads_of, names_of}
+use Rattle.kfs_model.specs.Plan.{keyed_name}
+use Rattle.kfs_device.specs.RawImage.{ExtentRow, RawImage, node_entry, heads_of, names_of}
 use Rattle.kfs_device.specs.Rules.{Test, with_previous, is_above, number_test, rule_1, rule_2, kind_fits, header_test, rule_3, directory_test, rule_4, target_test, rule_5, names_fit, names_test, rule_6, reaches_root, climb_test, rule_7, share_block, share_place, ends_in_file, is_extent, extent_test, rule_8, tier_test, rule_9, place_test, rule_10}
 use Rattle.kfs_device.specs.Finding.{fails_at, IsWellFormed}
 use Rattle.kfs_device.proofs.LeastFinding.{none_is_broken}
@@ -110,7 +111,7 @@ module _ (raw : RawImage) (well_formed : IsWellFormed raw) where
 
   -- ---- names
 
-  pub names_ascend : AreAbove name_order name_entry (with_previous None raw.names)
+  pub names_ascend : AreAbove name_order keyed_name (with_previous None raw.names)
   names_ascend =
       each_tested (λ e. is_above name_order (λ row. (row.directory, row.name)) e ≡ true) (directory_test (heads_of raw)) (λ e holds. left _ _ holds) (with_previous None raw.names) holds_4
 

@@ -10,7 +10,8 @@ use Rattle.kfs_model.specs.Spelling.{IsName}
 use Rattle.kfs_model.specs.Soundness.{Climbs, InRange, NameIsSound, AreSound, IsSound}
 use Rattle.kfs_model.proofs.CleanIsAllowed.{left, right}
 use Rattle.kfs_device.specs.ShownTree.{shown_tree}
-use Rattle.kfs_device.specs.RawImage.{RawImage, IsSpelled, node_entry, name_entry, heads_of, names_of, image_of}
+use Rattle.kfs_model.specs.Plan.{keyed_name}
+use Rattle.kfs_device.specs.RawImage.{RawImage, IsSpelled, node_entry, heads_of, names_of, image_of}
 use Rattle.kfs_device.specs.Rules.{kind_fits, names_fit}
 use Rattle.kfs_device.specs.Finding.{IsWellFormed}
 use Rattle.kfs_device.proofs.Among.{among_all, from_map}
@@ -61,7 +62,7 @@ module _ (raw : RawImage) where
   pub each_name : (P : ℕ → List ℕ → ℕ → Type 0) → AllByRecursion (λ row. P row.directory row.name row.number) raw.names
       → (directory : ℕ) (name : List ℕ) (number : ℕ) → target (names_of raw) directory name ≡ Some number → P directory name number
   each_name P all directory name number is =
-      let (row, among, same) = from_map name_entry raw.names ((directory, name), number) (get_among name_order (map name_entry raw.names) (directory, name) number is) in
+      let (row, among, same) = from_map keyed_name raw.names ((directory, name), number) (get_among name_order (map keyed_name raw.names) (directory, name) number is) in
       subst (λ (e : (ℕ × List ℕ) × ℕ). P e.0.0 e.0.1 e.1) (sym same) (among_all (λ row. P row.directory row.name row.number) raw.names row all among)
 
   module _ (well_formed : IsWellFormed raw) where
@@ -81,8 +82,8 @@ module _ (raw : RawImage) where
     pub node_rows : (headers (shown_tree (image_of raw))).entries ≡ map node_entry raw.nodes
     node_rows = ap (λ (heads : Table numbers Header). heads.entries) heads_counted ∙ sorted_entries numbers (map node_entry raw.nodes) (sorted_rows numbers node_entry raw.nodes (nodes_ascend raw well_formed))
 
-    pub name_rows : (shown_tree (image_of raw)).names.entries ≡ map name_entry raw.names
-    name_rows = sorted_entries name_order (map name_entry raw.names) (sorted_rows name_order name_entry raw.names (names_ascend raw well_formed))
+    pub name_rows : (shown_tree (image_of raw)).names.entries ≡ map keyed_name raw.names
+    name_rows = sorted_entries name_order (map keyed_name raw.names) (sorted_rows name_order keyed_name raw.names (names_ascend raw well_formed))
 
     -- ---- soundness
 

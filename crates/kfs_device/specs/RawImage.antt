@@ -6,6 +6,7 @@ use Rattle.kfs_model.specs.Limits.{block_size}
 use Rattle.kfs_model.specs.Table.{Order, Table, numbers, pairs, empty, insert, get}
 use Rattle.kfs_model.specs.Tree.{NameTable, name_order}
 use Rattle.kfs_model.specs.PlanRow.{NameRow}
+use Rattle.kfs_model.specs.Plan.{keyed_name}
 use Rattle.kfs_model.specs.Spelling.{IsName}
 use Rattle.kfs_model.specs.Placement.{TierSizes, Place, Placement, below}
 use Rattle.kfs_device.specs.Device.{Devices}
@@ -45,14 +46,11 @@ table_of R (e ∷ es) = insert (table_of R es) e.0 e.1
 abbrev pub node_entry : NodeRow → ℕ × Header
 node_entry row = (row.number, row.header)
 
-abbrev pub name_entry : NameRow → (ℕ × List ℕ) × ℕ
-name_entry row = ((row.directory, row.name), row.number)
-
 abbrev pub heads_of : RawImage → Table numbers Header
 heads_of raw = table_of numbers (map node_entry raw.nodes)
 
 abbrev pub names_of : RawImage → NameTable
-names_of raw = table_of name_order (map name_entry raw.names)
+names_of raw = table_of name_order (map keyed_name raw.names)
 
 -- where the extent's block of this index lies
 abbrev pub place_in : ExtentRow → (index : ℕ) → (ℕ × ℕ) × Place

@@ -9,7 +9,8 @@ ghost use Rattle.kfs_model.specs.Placement.{TierSizes, Place, Placement, is_free
 ghost use Rattle.kfs_device.specs.Device.{Devices};
 ghost use Rattle.kfs_device.specs.ShownTree.{DeviceImage, IsLawful, shown_tree};
 ghost use Rattle.kfs_device.specs.FreeRuns.{AreApart, free_runs};
-ghost use Rattle.kfs_device.specs.RawImage.{RawImage, IsSpelled, node_entry, name_entry, heads_of, names_of, placement_of, image_of, has_place, IsLaidOut};
+ghost use Rattle.kfs_model.specs.Plan.{keyed_name};
+ghost use Rattle.kfs_device.specs.RawImage.{RawImage, IsSpelled, node_entry, heads_of, names_of, placement_of, image_of, has_place, IsLaidOut};
 ghost use Rattle.kfs_device.specs.Rules.{parent_of, reaches_root};
 ghost use Rattle.kfs_device.specs.Finding.{Finding, finding_of, is_broken_at, IsLeastBroken, IsWellFormed};
 ghost use Rattle.kfs_device.specs.Listed.{rows_of, AreRowsOf};
@@ -37,7 +38,7 @@ pub fn lawful_image_has_rows()
 /// rows say, counts of names and parents with them.
 pub fn rows_are_headers_and_names()
     ensures nodes { (raw : RawImage) → IsWellFormed raw → (headers (shown_tree (image_of raw))).entries ≡ map node_entry raw.nodes }
-    ensures names { (raw : RawImage) → IsWellFormed raw → (shown_tree (image_of raw)).names.entries ≡ map name_entry raw.names }
+    ensures names { (raw : RawImage) → IsWellFormed raw → (shown_tree (image_of raw)).names.entries ≡ map keyed_name raw.names }
     ensures cells { (raw : RawImage) → IsWellFormed raw → sight (shown_tree (image_of raw)) ≡ sight_over (heads_of raw) (names_of raw) }
 {}
 

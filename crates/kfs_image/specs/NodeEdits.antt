@@ -4,6 +4,7 @@ use Rattle.std.specs.Ordering.{nat_cmp, eq_by_cmp}
 use Rattle.kfs_value.specs.declared.header.Header.{Header as CodeHeader}
 use Rattle.kfs_value.specs.declared.plan.NodeRow.{NodeRow}
 use Rattle.kfs_model.specs.Header.{Header}
+use Rattle.kfs_model.specs.Limits.{greatest_number}
 use Rattle.kfs_model.specs.Table.{Table, numbers, get}
 use Rattle.kfs_pages.specs.declared.edit.Edit.{Edit}
 
@@ -14,7 +15,7 @@ left_by (row ∷ rows) q there = left_by rows q (if eq_by_cmp nat_cmp q row.numb
 
 -- one of the numbers that pages have
 abbrev pub IsNumber : ℕ → Type 0
-IsNumber number = (1 ≤ number) × (number ≤ 65536)
+IsNumber number = (1 ≤ number) × (number ≤ greatest_number)
 
 -- each node has such a number
 abbrev pub AreNumbered : Table numbers Header → Type 0
@@ -24,4 +25,4 @@ module _ {X : Type 0} where
   -- the edits to what was said, of numbers that pages have
   unfoldable pub edits_from : List (ℕ × Option X) → List (Edit X)
   edits_from [] = []
-  edits_from (e ∷ es) = if nat_le 1 e.0 && nat_le e.0 65536 then record { number = e.0; value = e.1 } ∷ edits_from es else edits_from es
+  edits_from (e ∷ es) = if nat_le 1 e.0 && nat_le e.0 greatest_number then record { number = e.0; value = e.1 } ∷ edits_from es else edits_from es

@@ -10,13 +10,11 @@ ghost use Rattle.kfs_model.specs.Lease.{row_of};
 ghost use Rattle.kfs_mode.specs.Clients.{AreDistinct};
 
 use arrayvec::ArrayVec;
+use kfs_value::GREATEST_NUMBER;
 use std::marker::Model;
 
 /// The greatest number of supplementary groups of a client.
 pub const GROUP_LIMIT: usize = 16;
-
-/// The greatest number of a node.
-pub const LARGEST_NUMBER: u32 = 65_536;
 
 /// A client: who it is, and the numbers that it may give to new nodes.
 #[derive(Clone, Debug, PartialEq, Eq, Drop)]
@@ -71,7 +69,7 @@ impl Client {
         let Ok(groups) = ArrayVec::try_from(groups) else {
             return Err(ClientFault::TooManyGroups);
         };
-        if first == 0 || last > LARGEST_NUMBER {
+        if first == 0 || last > GREATEST_NUMBER {
             return Err(ClientFault::BadGrant);
         }
         Ok(Client {

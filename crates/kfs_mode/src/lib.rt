@@ -5,4 +5,4 @@ mod class;
 mod client;
 
 pub use class::{Class, Want, class_of, may};
-pub use client::{Client, ClientFault, GROUP_LIMIT, LARGEST_NUMBER, find_client};
+pub use client::{Client, ClientFault, GROUP_LIMIT, find_client};

@@ -1,6 +1,7 @@
 -- Edits of a table, and the pages that they are of.
 use Rattle.std.specs.Prelude.{◌≡◌, ℕ, ◌-◌, ◌/◌, ◌≤◌, ◌<◌, List, [], ◌∷◌, Option, All, length, slice_index_or, if◌then◌else◌}
 use Rattle.std.specs.Ordering.{nat_cmp, eq_by_cmp}
+use Rattle.kfs_model.specs.Limits.{greatest_number}
 use Rattle.kfs_model.specs.Table.{Table, numbers}
 use Rattle.kfs_pages.specs.declared.edit.Edit.{Edit}
 use Rattle.kfs_pages.specs.Values.{changed}
@@ -20,10 +21,10 @@ module _ {V : Type 0} where
   edited [] n v = v
   edited (e ∷ es) n v = edited es n (if eq_by_cmp nat_cmp n e.number then e.value else v)
 
-  -- the numbers ascend, none twice, from 1 to 65,536
+  -- the numbers ascend, none twice, and nodes may have them
   pub record AreEdits (edits : List (Edit V)) : Type 0 where
     pub ascend : (i j : ℕ) (d : Edit V) → i < j → j < length edits → (slice_index_or edits i d).number < (slice_index_or edits j d).number
-    pub range : All (λ e. (1 ≤ e.number) × (e.number ≤ 65536)) edits
+    pub range : All (λ e. (1 ≤ e.number) × (e.number ≤ greatest_number)) edits
 
   -- the pages of the edits ascend
   abbrev pub Ascends : List (Edit V) → Type 0

@@ -13,7 +13,8 @@ use Rattle.kfs_model.specs.Table.{Table, numbers}
 use Rattle.kfs_model.specs.Tree.{name_order, name_count}
 use Rattle.kfs_model.proofs.CleanIsAllowed.{left}
 use Rattle.kfs_model.proofs.Counts.{tally, is_tally}
-use Rattle.kfs_device.specs.RawImage.{RawImage, name_entry, heads_of, names_of}
+use Rattle.kfs_model.specs.Plan.{keyed_name}
+use Rattle.kfs_device.specs.RawImage.{RawImage, heads_of, names_of}
 use Rattle.kfs_device.specs.Rules.{Test, with_previous, directory_test, rule_4}
 use Rattle.kfs_device.specs.Finding.{least_of, least_failed}
 use Rattle.kfs_device.proofs.RowTables.{AreAbove, sorted_entries, sorted_rows}
@@ -59,7 +60,7 @@ all_hold (t ∷ ts) none = at t.holds refl (all_hold ts) none
     at true is rest none = (is, rest none)
     at false is rest none = cc
 
-names_above : (heads : Table numbers Header) (es : List (Option NameRow × NameRow)) → AllHold (map (directory_test heads) es) → AreAbove name_order name_entry es
+names_above : (heads : Table numbers Header) (es : List (Option NameRow × NameRow)) → AllHold (map (directory_test heads) es) → AreAbove name_order keyed_name es
 names_above heads [] hold = tt
 names_above heads (e ∷ es) hold = (left _ _ hold.0, names_above heads es hold.1)
 
@@ -69,17 +70,17 @@ tally_map test f [] = refl
 tally_map test f (x ∷ xs) = ap (λ n. cond (test (f x)) 1 0 + n) (tally_map test f xs)
 
 -- ascending name rows are the names
-pub names_listed : (raw : RawImage) → least_failed (rule_4 raw) ≡ None → (names_of raw).entries ≡ map name_entry raw.names
+pub names_listed : (raw : RawImage) → least_failed (rule_4 raw) ≡ None → (names_of raw).entries ≡ map keyed_name raw.names
 names_listed raw ascend =
     let above = names_above (heads_of raw) (with_previous None raw.names) (all_hold (rule_4 raw) ascend) in
-    sorted_entries name_order (map name_entry raw.names) (sorted_rows name_order name_entry raw.names above)
+    sorted_entries name_order (map keyed_name raw.names) (sorted_rows name_order keyed_name raw.names above)
 
 -- a node has as many names as rows lead to it
 pub rows_counted : (raw : RawImage) (rows : List CodeNameRow) → raw.names ≡ map name_row_of rows → least_failed (rule_4 raw) ≡ None → (number : ℕ) → name_count (names_of raw) number ≡ count_by (leads_to number) rows
 rows_counted raw rows are ascend number =
     ap (count_by (λ e. e.1 == number)) (names_listed raw ascend)
-    ∙ is_tally (λ e. e.1 == number) (map name_entry raw.names)
-    ∙ tally_map (λ e. e.1 == number) name_entry raw.names
+    ∙ is_tally (λ e. e.1 == number) (map keyed_name raw.names)
+    ∙ tally_map (λ e. e.1 == number) keyed_name raw.names
     ∙ ap (tally (λ row. row.number == number)) are
     ∙ tally_map (λ row. row.number == number) name_row_of rows
     ∙ sym (is_tally (leads_to number) rows)

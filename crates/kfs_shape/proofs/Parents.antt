@@ -10,7 +10,8 @@ use Rattle.kfs_model.specs.Table.{get, option_or}
 use Rattle.kfs_model.specs.Sight.{is_directory, holder}
 use Rattle.kfs_model.proofs.CleanIsAllowed.{right}
 use Rattle.kfs_model.proofs.Heads.{has_parent}
-use Rattle.kfs_device.specs.RawImage.{NodeRow, RawImage, name_entry, heads_of, names_of}
+use Rattle.kfs_model.specs.Plan.{keyed_name}
+use Rattle.kfs_device.specs.RawImage.{NodeRow, RawImage, heads_of, names_of}
 use Rattle.kfs_device.specs.Rules.{with_previous, number_test, rule_1, rule_4, parent_of}
 use Rattle.kfs_device.specs.Finding.{least_failed}
 use Rattle.kfs_device.proofs.RulesHold.{AllHold}
@@ -86,7 +87,7 @@ module _ (raw : RawImage) where
   holder_is : (rows : List CodeNameRow) → raw.names ≡ map name_row_of rows → least_failed (rule_4 raw) ≡ None → (number : ℕ) → holder (names_of raw) number ≡ holder_in rows number
   holder_is rows are ascend number =
       ap (λ es. option_map (λ e. e.0.0) (find (λ e. e.1 == number) es)) (names_listed raw ascend)
-      ∙ found_mapped (λ e. e.1 == number) name_entry (λ e. e.0.0) raw.names
+      ∙ found_mapped (λ e. e.1 == number) keyed_name (λ e. e.0.0) raw.names
       ∙ ap (λ rows. option_map (λ row. row.directory) (find (λ row. row.number == number) rows)) are
       ∙ found_mapped (λ row. row.number == number) name_row_of (λ row. row.directory) rows
 

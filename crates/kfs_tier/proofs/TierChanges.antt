@@ -7,7 +7,7 @@ use Rattle.kfs_model.specs.Table.{empty}
 use Rattle.kfs_model.specs.Placement.{Place, TierSizes, tier_size}
 use Rattle.kfs_tier.specs.Places.{is_free_in}
 use Rattle.kfs_tier.specs.Tier.{TierShown}
-use Rattle.kfs_tier.specs.Tiers.{TiersShown, places_in, is_free_at, IsInTier, is_place, is_among, AreDistinct, with_place, with_places, CanMove, AreSized}
+use Rattle.kfs_tier.specs.Tiers.{TiersShown, new_tiers, places_in, is_free_at, IsInTier, is_place, is_among, AreDistinct, with_place, with_places, CanMove, AreSized}
 use Rattle.kfs_tier.specs.TierViews.{free_of, with_slots, devices_from, devices_of, CanTurn}
 
 in_free : (free : List (List Bool)) (t p : ℕ) → p < length (places_in free t) → t < length free
@@ -184,7 +184,7 @@ pub fresh_is : (sizes : TierSizes) (first second third : TierShown)
     → first ≡ record { places = replicate sizes.first true; blocks = empty } → second ≡ record { places = replicate sizes.second true; blocks = empty }
     → third ≡ record { places = replicate sizes.third true; blocks = empty }
     → ◌≡◌ {A = TiersShown} (record { sizes = sizes; free = free_of (first ∷ second ∷ third ∷ []); devices = devices_of (first ∷ second ∷ third ∷ []) })
-    (record { sizes = sizes; free = replicate sizes.first true ∷ replicate sizes.second true ∷ replicate sizes.third true ∷ []; devices = empty })
+    (new_tiers sizes)
 unfolding devices_from with_slots
 fresh_is sizes first second third a b c = λ i. record { sizes = sizes; free = free_of (a i ∷ b i ∷ c i ∷ []); devices = devices_of (a i ∷ b i ∷ c i ∷ []) }
 

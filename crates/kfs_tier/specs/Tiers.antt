@@ -1,7 +1,7 @@
 -- What contracts see of three tiers, and what a change of several of their places makes of it.
-use Rattle.std.specs.Prelude.{◌≡◌, ℕ, ◌<◌, ◌&&◌, ◌==◌, Bool, true, false, IsTrue, List, [], ◌∷◌, All, length, slice_index_or, slice_set}
+use Rattle.std.specs.Prelude.{◌≡◌, ℕ, ◌<◌, ◌&&◌, ◌==◌, Bool, true, false, IsTrue, List, [], ◌∷◌, All, length, replicate, slice_index_or, slice_set}
 use Rattle.std.specs.List.{list_any}
-use Rattle.kfs_model.specs.Table.{insert}
+use Rattle.kfs_model.specs.Table.{empty, insert}
 use Rattle.kfs_model.specs.Placement.{TierSizes, Place, tier_size}
 use Rattle.kfs_device.specs.Device.{Devices}
 use Rattle.kfs_tier.specs.Places.{is_free_in}
@@ -12,6 +12,14 @@ pub record TiersShown : Type 0 where
   pub sizes : TierSizes
   pub free : List (List Bool)
   pub devices : Devices
+
+-- of these sizes: all places are free and no block is written
+abbrev pub new_tiers : TierSizes → TiersShown
+new_tiers sizes = record {
+  sizes = sizes;
+  free = replicate sizes.first true ∷ replicate sizes.second true ∷ replicate sizes.third true ∷ [];
+  devices = empty;
+}
 
 -- the places of the tier, none for a tier over 2
 abbrev pub places_in : List (List Bool) → (tier : ℕ) → List Bool

@@ -1,11 +1,10 @@
 //! The three tiers of an image.
-ghost use Rattle.std.specs.Prelude.{◌≡◌, ◌+◌, ◌≤◌, All, length, vec_len, slice_index, true, replicate, [], ◌∷◌, IfSome, IfNone, IfOk, OnOk, OnErr, EachIndex};
+ghost use Rattle.std.specs.Prelude.{◌≡◌, ◌+◌, ◌≤◌, All, length, vec_len, slice_index, IfSome, IfNone, IfOk, OnOk, OnErr, EachIndex};
 ghost use Rattle.kfs_model.specs.Limits.{block_size};
 ghost use Rattle.kfs_model.specs.Placement.{tier_size};
-ghost use Rattle.kfs_model.specs.Table.{empty};
 ghost use Rattle.kfs_device.specs.Device.{byte_on};
 ghost use Rattle.kfs_tier.specs.Places.{free_count, IsNextFree, AreUsedFrom};
-ghost use Rattle.kfs_tier.specs.Tiers.{places_in, is_free_at, AreSized, IsInTier, CanMove, changed};
+ghost use Rattle.kfs_tier.specs.Tiers.{new_tiers, places_in, is_free_at, AreSized, IsInTier, CanMove, changed};
 
 use crate::change::{NewBlock, change_all};
 use crate::place::Place;
@@ -49,7 +48,7 @@ impl<A: Allocator> Tiers<A> {
     pub fn new(alloc: A, sizes: TierSizes) -> Result<Tiers<A>, AllocError>
     where
         A: Clone,
-        ensures { IfOk result (λ tiers. tiers ≡ record { sizes = sizes; free = replicate sizes.first true ∷ replicate sizes.second true ∷ replicate sizes.third true ∷ []; devices = empty }) }
+        ensures { IfOk result (λ tiers. tiers ≡ new_tiers sizes) }
     {
         let first = Tier::new(alloc.clone()?, sizes.size(0))?;
         let second = Tier::new(alloc.clone()?, sizes.size(1))?;
