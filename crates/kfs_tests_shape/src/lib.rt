@@ -1,11 +1,16 @@
-//! Tests of the check of raw images: what is found in the worked examples of kfs_device and in some images beside them.
-//! The expected values come from these examples, never from the program's own output.
+//! Tests of the parts that stand below every judgement: logs and plans as bytes, what permission bits grant, and what the
+//! check of raw images finds. The expected values come from docs/FORMATS.md and from the worked examples of kfs_examples
+//! and kfs_device, never from the program's own output.
 //!
 //! A test is proved, too, and carries the clauses of all calls that it makes. So each call stands in a
 //! small function without clauses, which a test then makes over a table.
 #![tactic(auto)]
 
 #[cfg(test)]
+mod codec;
+#[cfg(test)]
 mod findings;
 #[cfg(test)]
 mod images;
+#[cfg(test)]
+mod modes;

@@ -1,13 +1,13 @@
 //! Bytes that are logs and plans, what they say, and that this encodes to the same bytes.
 
 use crate::codec::memory::is_same_again;
-use crate::vectors::{
-    CREATE_LOG, CREATE_PLAN, EDITS_LOG, EDITS_PLAN, EMPTY_LOG, EMPTY_PLAN, GONE_PLAN, MOVE_LOG,
-    MOVE_PLAN, OTHERS_LOG,
-};
 use kfs_entry::{
     Entry, Header, Kind, Name, NameRow, NodeRow, Piece, Plan, Source, Span, SpellFault, decode_log,
     decode_plan,
+};
+use kfs_tests::vectors::{
+    CREATE_LOG, CREATE_PLAN, EDITS_LOG, EDITS_PLAN, EMPTY_LOG, EMPTY_PLAN, GONE_PLAN, MOVE_LOG,
+    MOVE_PLAN, OTHERS_LOG,
 };
 use std::alloc::{AllocError, Global};
 use std::process::Abort;

@@ -1,7 +1,7 @@
 //! Logs and plans with one growth refused: want of memory is said, and the same call then succeeds.
 
-use crate::refusing::Refusing;
 use kfs_entry::{SpellFault, decode_log, decode_plan, encode_log, encode_plan};
+use kfs_tests::refusing::Refusing;
 use std::alloc::{AllocError, Allocator, Global};
 use std::process::Abort;
 
