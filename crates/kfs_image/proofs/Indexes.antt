@@ -7,9 +7,10 @@ use Rattle.std.specs.Ordering.{nat_cmp, is_eq, eq_by_cmp, ordering_then}
 use Rattle.std.specs.Cmp.{unsigned_ties, eq_by_cmp_equiv, nat_cmp_total}
 use Rattle.kfs_model.specs.Table.{Order, Table, numbers, pairs, get}
 use Rattle.kfs_model.specs.Tree.{NameTable, name_order}
+use Rattle.kfs_model.specs.Spelling.{IsName}
 use Rattle.kfs_model.proofs.Counts.{counted}
 use Rattle.kfs_image.specs.Slots.{changed}
-use Rattle.kfs_image.specs.Indexes.{IsCounted, ArePositive, by_node, count_at, count_step, uplink_step}
+use Rattle.kfs_image.specs.Indexes.{AreNames, IsCounted, ArePositive, by_node, count_at, count_step, uplink_step}
 use Rattle.kfs_image.proofs.Counts.{count-changed}
 use Rattle.kfs_image.proofs.SlotTables.{get-changed}
 
@@ -58,6 +59,15 @@ module _ {K : Type 0} {R : Order K} where
       at : (b : Bool) → cond b now (get t q) ≡ Some count → 0 < count
       at true is = new count is
       at false is = all q count is
+
+-- names stay names where one of them comes to lead elsewhere
+pub still_names : (names : NameTable) (d : ℕ) (m : List ℕ) (w : Option ℕ) → AreNames names → IsName m → AreNames (changed names (d, m) w)
+still_names names d m w all name key n found = at (name_order.compare key (d, m)) refl
+  where
+    at : (o : Ordering) → name_order.compare key (d, m) ≡ o → IsName key.1
+    at Equal tied = subst (λ (k : ℕ × List ℕ). IsName k.1) (sym (name_order.exact key (d, m) tied)) name
+    at Less apart = all key n (sym (get-changed names (d, m) w key ∙ ap (λ o. cond (is_eq o) w (get names key)) apart) ∙ found)
+    at Greater apart = all key n (sym (get-changed names (d, m) w key ∙ ap (λ o. cond (is_eq o) w (get names key)) apart) ∙ found)
 
 -- a name counts in its directory, and as a way to its node
 pub counted_name : (names : NameTable) (counts : Table numbers ℕ) (ways : Table by_node ℕ) → IsCounted names counts ways → (d : ℕ) (m : List ℕ) (n : ℕ) → get names (d, m) ≡ Some n

@@ -4,6 +4,7 @@ pub mod Counts
 pub mod HeaderPages
 pub mod Holders
 pub mod Indexes
+pub mod NameEdits
 pub mod NameOrder
 pub mod NetTables
 pub mod NodeEdits

@@ -60,6 +60,10 @@ by_range {P} n within out = at (is_number n) refl
     at true e = within e
     at false e = out e
 
+-- a number is one that pages have, or it isn't
+pub number_or_not : {P : Type 0} (n : ℕ) → (IsNumber n → P) → ((IsNumber n → ⊥) → P) → P
+number_or_not n within out = by_range n (λ is. within (in_range n is)) (λ isnt. out (out_of_range n isnt))
+
 module _ {X : Type 0} where
   numbers_kept : (es : List (ℕ × Option X)) → map (λ (e : Edit X). e.number) (edits_from es) ≡ filter is_number (keys_of es)
   unfolding edits_from
@@ -131,7 +135,7 @@ module _ {X : Type 0} where
       left_out rest isnt = ap (λ edits. edited edits q there) (edits_without e es isnt) ∙ rest there ∙ away isnt (eq_by_cmp nat_cmp q e.0) refl
 
   -- edits make nothing of a number that no page has
-  edited_beside : (edits : List (Edit X)) (q : ℕ) (there : Option X) → All (λ (e : Edit X). IsNumber e.number) edits → (IsNumber q → ⊥) → edited edits q there ≡ there
+  pub edited_beside : (edits : List (Edit X)) (q : ℕ) (there : Option X) → All (λ (e : Edit X). IsNumber e.number) edits → (IsNumber q → ⊥) → edited edits q there ≡ there
   edited_beside [] q there within out = refl
   edited_beside (e ∷ es) q there within out = at (edited_beside es q there (All-tail (λ (x : Edit X). IsNumber x.number) e es within) out) (eq_by_cmp nat_cmp q e.number) refl
     where
@@ -169,12 +173,11 @@ heads_made headers edits rows are says before after =
     same_table _ _ (λ q.
     get-mapped (λ number header. header_of header) (rewritten headers edits) q
     ∙ ap (option_map header_of) (get-rewritten headers edits q)
-    ∙ by_range q
+    ∙ number_or_not q
     (λ is.
-    ap (option_map header_of) (says q (get headers q) (in_range q is))
+    ap (option_map header_of) (says q (get headers q) is)
     ∙ sym (get-reheaded (heads_of headers) rows q (get headers q) (get-mapped (λ number header. header_of header) headers q)))
-    (λ isnt.
-    let out = out_of_range q isnt in
+    (λ out.
     ap (option_map header_of) (edited_beside edits q (get headers q) are.range out)
     ∙ sym (get-mapped (λ number header. header_of header) headers q)
     ∙ none_beyond (heads_of headers) q before out

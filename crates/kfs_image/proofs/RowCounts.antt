@@ -13,7 +13,7 @@ use Rattle.kfs_model.specs.Spelling.{IsName}
 use Rattle.kfs_image.proofs.SlotTables.{get-changed}
 use Rattle.kfs_model.proofs.Counts.{counted}
 use Rattle.kfs_image.proofs.Counts.{count-changed}
-use Rattle.kfs_image.proofs.Indexes.{count_step-counted, uplink_step-counted}
+use Rattle.kfs_image.proofs.Indexes.{still_names, count_step-counted, uplink_step-counted}
 
 module _ {K X Y : Type 0} (R : Order K) (view : X → Y) (p : K × Y → Bool) where
   one_or_none : (k : K) (w : Option Y) → counted R p k w ≤ 1
@@ -26,16 +26,6 @@ module _ {K X Y : Type 0} (R : Order K) (view : X → Y) (p : K × Y → Bool) w
   count-table_of [] = omega arith
   count-table_of (slot ∷ slots) =
       omega (arith, count-table_of slots, count-changed p (table_of R view slots) slot.0 (option_map view slot.1), one_or_none slot.0 (option_map view slot.1))
-
--- names stay names where one of them comes to lead elsewhere
-still_names : (names : NameTable) (d : ℕ) (m : List ℕ) (w : Option ℕ) → ((key : ℕ × List ℕ) (n : ℕ) → get names key ≡ Some n → IsName key.1) → IsName m
-    → (key : ℕ × List ℕ) (n : ℕ) → get (changed names (d, m) w) key ≡ Some n → IsName key.1
-still_names names d m w all name key n found = at (name_order.compare key (d, m)) refl
-  where
-    at : (o : Ordering) → name_order.compare key (d, m) ≡ o → IsName key.1
-    at Equal tied = subst (λ (k : ℕ × List ℕ). IsName k.1) (sym (name_order.exact key (d, m) tied)) name
-    at Less apart = all key n (sym (get-changed names (d, m) w key ∙ ap (λ o. cond (is_eq o) w (get names key)) apart) ∙ found)
-    at Greater apart = all key n (sym (get-changed names (d, m) w key ∙ ap (λ o. cond (is_eq o) w (get names key)) apart) ∙ found)
 
 module _ {A : Type 0} where
   -- a name counts in its directory, and as a way to its node

@@ -3,6 +3,7 @@ use Rattle.std.specs.Prelude.{◌≡◌, ℕ, ◌<◌, ◌==◌, ◌&&◌, List,
 use Rattle.std.specs.Ordering.{nat_cmp, eq_by_cmp}
 use Rattle.kfs_model.specs.Table.{Order, Table, numbers, pairs, get}
 use Rattle.kfs_model.specs.Tree.{NameTable, entry_count}
+use Rattle.kfs_model.specs.Spelling.{IsName}
 use Rattle.kfs_image.specs.NodeEdits.{IsNumber}
 
 -- how many names of a directory lead to a node
@@ -38,6 +39,10 @@ module _ {K : Type 0} {R : Order K} where
   -- each count that shows is at least 1
   abbrev pub ArePositive : Table R ℕ → Type 0
   ArePositive t = (key : K) (count : ℕ) → get t key ≡ Some count → 0 < count
+
+-- each name is one
+abbrev pub AreNames : NameTable → Type 0
+AreNames names = (key : ℕ × List ℕ) (number : ℕ) → get names key ≡ Some number → IsName key.1
 
 -- each directory that has a name is a number that pages have
 abbrev pub AreInPages : NameTable → Type 0

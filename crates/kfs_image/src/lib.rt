@@ -5,6 +5,7 @@ mod cell;
 mod edits;
 mod image;
 mod layout;
+mod name_edits;
 mod overlay;
 mod rows;
 pub mod shape;
