@@ -1,9 +1,12 @@
-use Rattle.std.proofs.Common.{rules, ◌≡◌, ◌∙◌, ℕ, ◌+◌, ◌++◌, ◌∷◌, [], All, length, arith, ap, sym, subst, take, drop, length-take, length-drop, Ok, Err}
+use Rattle.std.proofs.Common.{rules, ◌≡◌, ◌∙◌, ℕ, ◌⊎◌, inl, inr, Result, ◌+◌, ◌++◌, ◌∷◌, [], All, length, arith, ap, sym, subst, take, drop, length-take, length-drop, Ok, Err}
 use Rattle.std.proofs.lemmas.List.{take-append-drop, get_or-take, get_or-drop, length-append}
 use Rattle.std.specs.Prelude.{OnOk, OnErr}
 use Rattle.kfs_pages.specs.declared.edit.Edit.{Edit}
 use Rattle.kfs_pages.specs.Edits.{page_of, edited, Ascends, IsWithin, IsOfPage}
-use Rattle.kfs_pages.specs.Shown.{shown, slot_shows, IsPlaced}
+use Rattle.kfs_model.specs.Table.{get}
+use Rattle.std.specs.Result.{is_ok}
+use Rattle.kfs_pages.specs.Values.{Sheet}
+use Rattle.kfs_pages.specs.Shown.{shown, slot_shows, IsPlaced, Stands}
 use Rattle.kfs_pages.proofs.Tables.{edited_pages, placed_front, placed_again}
 use Rattle.kfs_pages.proofs.change.+change_pages.Goals as goal
 
@@ -106,3 +109,41 @@ change_pages-returns-clause-err g t c =
           edited_pages front page c.change_from.new.slot rest c.change_from.new.rest c.args.first index [] [] n here (λ k d below. omega (arith, below)) (λ k d below. omega (arith, below)) (on_page n) (on_rest n)
           ∙ ap (λ pages. shown c.args.first pages n) (sym whole)
     ] c.change_from.ensures.page_err c.change_from.ensures.rest_err
+
+-- a copy of a page is the page
+same_page : {P : Type 0} → P ⊎ P → P
+same_page (inl e) = e
+same_page (inr e) = e
+
+on_err : {X E P : Type 0} (result : Result X E) → P → OnErr result P
+on_err (Ok done) p = tt
+on_err (Err error) p = p
+
+on_ok : {X E P : Type 0} (result : Result X E) → P → OnOk result P
+on_ok (Ok done) p = p
+on_ok (Err error) p = tt
+
+pub change_from-returns-in_err-page-clause-page_err : goal.change_from-returns-in_err-page-clause-page_err
+change_from-returns-in_err-page-clause-page_err g t c =
+    let copied : c.make_mut.follows.lender-at-none.value ≡ c.in-Some.page.value =
+    same_page (subst (λ r. OnErr r ((c.make_mut.follows.lender-at-none.value ≡ c.in-Some.page.value) ⊎ (c.make_mut.follows.lender-at-none.value ≡ c.in-Some.page.value))) c.in_err-page.was c.make_mut.follows.holds-at-none) in
+    let same : (n : ℕ) → get c.make_mut.follows.lender-at-none.value.values n ≡ slot_shows c.args.slot.now n =
+    λ n. ap (λ (s : Sheet _). get s.values n) copied ∙ ap (λ slot. slot_shows slot n) (sym c.in-Some.is) ∙ c.found.ensures.shown n in
+    on_err c.from_residual-in_err-page.result same
+
+pub change_from-returns-then-is_ok-clause-stands : goal.change_from-returns-then-is_ok-clause-stands
+change_from-returns-then-is_ok-clause-stands g t c =
+    let written = c.make_mut.follows.holds c.write.new.self (ap is_ok c.in_ok-page.was) ∙ c.write.ensures.sheet in
+    ap (λ (s : Sheet _). s.index) written ∙ ap (λ (s : Sheet _). s.index) (same_page c.in_ok-page.ensures.value) ∙ subst (Stands c.args.index) c.in-Some.is c.found.ensures.stands
+
+pub change_from-returns-then-is_ok-clause-page : goal.change_from-returns-then-is_ok-clause-page
+change_from-returns-then-is_ok-clause-page g t c =
+    let written = c.make_mut.follows.holds c.write.new.self (ap is_ok c.in_ok-page.was) in
+    let mine = c.args.mine.now in
+    let made : (n : ℕ) → get (c.make_mut.follows.lender c.write.new.self).value.values n ≡ edited mine n (slot_shows c.args.slot.now n) =
+    λ n. ap (λ (s : Sheet _). get s.values n) written
+    ∙ c.write.ensures.shown n
+    ∙ ap (λ (s : Sheet _). edited mine n (get s.values n)) (same_page c.in_ok-page.ensures.value)
+    ∙ ap (λ slot. edited mine n (slot_shows slot n)) (sym c.in-Some.is)
+    ∙ ap (edited mine n) (c.found.ensures.shown n) in
+    on_ok c.change_pages-done.result made
