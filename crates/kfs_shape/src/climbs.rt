@@ -88,7 +88,7 @@ fn up_from(ups: &[Option<u32>], number: Option<u32>) -> Option<u32>
 fn doubled<A: Allocator>(alloc: A, ups: &[Option<u32>]) -> Result<Vec<Option<u32>, A>, AllocError>
     ensures { IfOk result (λ twice. (number : ℕ) → up_at twice.items number ≡ up_from ups.now (up_at ups.now number)) }
 {
-    let mut twice = Vec::new(alloc);
+    let mut twice = Vec::with_capacity(alloc, ups.len())?;
     for up in ups.iter() {
         twice.push(up_from(ups, *up))?;
     }

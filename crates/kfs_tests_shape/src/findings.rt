@@ -162,7 +162,7 @@ const RIGHT: [Rows; 3] = [
 fn broken_rules_are_found(rt: HostRuntime) {
     for (rule, number, rows) in BROKEN {
         assert!(&rt;
-            found(rt.alloc(), rows) == Some(Some((rule, number))),
+            found(rt.alloc(), &[rows]) == Some(Some((rule, number))),
             "{rule} {number}"
         );
     }
@@ -171,6 +171,6 @@ fn broken_rules_are_found(rt: HostRuntime) {
 #[test]
 fn right_images_are_well_formed(rt: HostRuntime) {
     for rows in RIGHT {
-        assert!(&rt; found(rt.alloc(), rows) == Some(None));
+        assert!(&rt; found(rt.alloc(), &[rows]) == Some(None));
     }
 }

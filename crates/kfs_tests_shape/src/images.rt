@@ -5,6 +5,9 @@ use kfs_shape::{
 };
 use std::alloc::Allocator;
 
+/// The number of the root directory.
+pub const ROOT: u32 = 1;
+
 /// A node of mode 0o777 or 0o644, unless its mode is said.
 #[derive(Clone, Copy)]
 pub enum NodeLine {
@@ -22,7 +25,7 @@ pub type NameLine = (u32, &'static [u8], u32);
 #[derive(Clone, Copy)]
 pub struct ExtentLine(pub u32, pub u32, pub u8, pub u32, pub u32, pub usize);
 
-/// The rows of an image with three tiers of eight blocks.
+/// Rows of an image with three tiers of eight blocks.
 #[derive(Clone, Copy)]
 pub struct Rows {
     pub nodes: &'static [NodeLine],
@@ -76,32 +79,60 @@ fn extent<A: Allocator>(alloc: A, line: ExtentLine) -> Option<ExtentRow<A>> {
     })
 }
 
-/// The image with these rows.
-pub fn image<A: Allocator + Copy>(alloc: A, rows: Rows) -> Option<RawImage<A>> {
-    let mut nodes = Vec::new(alloc);
-    for line in rows.nodes {
-        nodes.push(node(*line)).ok()?;
+/// Takes in the names of a part that stand in the root, or those that stand elsewhere.
+fn push_names<A: Allocator>(names: &mut Vec<NameRow, A>, part: &Rows, in_root: bool) -> Option<()> {
+    for line in part.names {
+        if (line.0 == ROOT) == in_root {
+            names.push(name(*line)?).ok()?;
+        }
     }
+    Some(())
+}
+
+/// The names of the parts, those in the root first.
+fn names_of<A: Allocator + Copy>(alloc: A, parts: &[Rows]) -> Option<Vec<NameRow, A>> {
     let mut names = Vec::new(alloc);
-    for line in rows.names {
-        names.push(name(*line)?).ok()?;
+    for in_root in [true, false] {
+        for part in parts {
+            push_names(&mut names, part, in_root)?;
+        }
     }
+    Some(names)
+}
+
+fn nodes_of<A: Allocator + Copy>(alloc: A, parts: &[Rows]) -> Option<Vec<NodeRow, A>> {
+    let mut nodes = Vec::new(alloc);
+    for part in parts {
+        for line in part.nodes {
+            nodes.push(node(*line)).ok()?;
+        }
+    }
+    Some(nodes)
+}
+
+fn extents_of<A: Allocator + Copy>(alloc: A, parts: &[Rows]) -> Option<Vec<ExtentRow<A>, A>> {
     let mut extents = Vec::new(alloc);
-    for line in rows.extents {
-        extents.push(extent(alloc, *line)?).ok()?;
+    for part in parts {
+        for line in part.extents {
+            extents.push(extent(alloc, *line)?).ok()?;
+        }
     }
-    let sizes = TierSizes::new(8, 8, 8)?;
+    Some(extents)
+}
+
+/// The image with the rows of all parts.
+pub fn image<A: Allocator + Copy>(alloc: A, parts: &[Rows]) -> Option<RawImage<A>> {
     Some(RawImage {
-        sizes,
-        nodes,
-        names,
-        extents,
+        sizes: TierSizes::new(8, 8, 8)?,
+        nodes: nodes_of(alloc, parts)?,
+        names: names_of(alloc, parts)?,
+        extents: extents_of(alloc, parts)?,
     })
 }
 
-/// What is found in the image with these rows: rule and number, none where it is well formed.
-pub fn found<A: Allocator + Copy>(alloc: A, rows: Rows) -> Option<Option<(u8, u32)>> {
-    let raw = image(alloc, rows)?;
+/// What is found in the image with the rows of all parts: rule and number, none where it is well formed.
+pub fn found<A: Allocator + Copy>(alloc: A, parts: &[Rows]) -> Option<Option<(u8, u32)>> {
+    let raw = image(alloc, parts)?;
     match check_shape(alloc, &raw) {
         Ok(()) => Some(None),
         Err(ShapeFault::Found(finding)) => Some(Some((finding.rule, finding.number))),

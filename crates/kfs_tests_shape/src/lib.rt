@@ -7,6 +7,8 @@
 #![tactic(auto)]
 
 #[cfg(test)]
+mod chains;
+#[cfg(test)]
 mod codec;
 #[cfg(test)]
 mod findings;
@@ -14,3 +16,5 @@ mod findings;
 mod images;
 #[cfg(test)]
 mod modes;
+#[cfg(test)]
+mod rules;
