@@ -3,10 +3,8 @@ use Rattle.std.proofs.Common.{◌≡◌, Bool, true, false, cond, not, T, List, 
 use Rattle.std.specs.Ordering.{eq_by_cmp}
 use Rattle.std.specs.Cmp.{eq_by_cmp_equiv}
 use Rattle.std.specs.FinMap.Entries.{find, find-put, find-where_key, is_sorted, same_entries}
-use Rattle.kfs_model.specs.Table.{Order, Table, get}
-use Rattle.kfs_model.proofs.TableLaws.{get-insert, same_table}
-use Rattle.kfs_pages.specs.Values.{changed}
-use Rattle.kfs_pages.proofs.Numbers.{get-changed}
+use Rattle.kfs_model.specs.Table.{Order, Table, get, changed}
+use Rattle.kfs_model.proofs.TableLaws.{get-insert, same_table, get-changed}
 use Rattle.kfs_chunks.specs.declared.edit.Edit.{Edit}
 use Rattle.kfs_chunks.specs.Edits.{edited, entered, rewritten}
 use Rattle.kfs_chunks.specs.Tables.{table, table_after}

@@ -5,10 +5,8 @@ use Rattle.std.specs.declared.cmp.Ordering.{Ordering}
 use Rattle.std.specs.Map.{lookup}
 use Rattle.std.specs.BTreeMap.{is_at}
 use Rattle.std.specs.declared.sync.Arc.{Arc}
-use Rattle.kfs_model.specs.Table.{Order, Table, get, option_or, insert, remove, retain}
-use Rattle.kfs_model.proofs.TableLaws.{get-united, get-retain, same_table}
-use Rattle.kfs_pages.proofs.Numbers.{get-changed}
-use Rattle.kfs_pages.specs.Values.{changed}
+use Rattle.kfs_model.specs.Table.{Order, Table, get, option_or, insert, remove, retain, changed}
+use Rattle.kfs_model.proofs.TableLaws.{get-united, get-retain, same_table, get-changed}
 use Rattle.kfs_chunks.specs.declared.edit.Edit.{Edit}
 use Rattle.kfs_chunks.specs.Edits.{edited, entered, rewritten}
 use Rattle.kfs_chunks.specs.declared.chunk.Chunk.{Chunk}

@@ -2,8 +2,7 @@
 use Rattle.std.specs.Prelude.{List, [], ◌∷◌, Option, Some, None}
 use Rattle.std.specs.declared.cmp.Ordering.{Ordering}
 use Rattle.std.specs.BTreeMap.{BTreeMap, get}
-use Rattle.kfs_model.specs.Table.{Order, Table, empty}
-use Rattle.kfs_pages.specs.Values.{changed}
+use Rattle.kfs_model.specs.Table.{Order, Table, empty, changed}
 
 module _ {X : Type 0} where
   -- what a slot shows, where there is one

@@ -1,7 +1,6 @@
 -- The table that a list of entries makes, the first of two with one key, and a table after edits.
 use Rattle.std.specs.Prelude.{List, [], ◌∷◌}
-use Rattle.kfs_model.specs.Table.{Order, Table, empty, insert}
-use Rattle.kfs_pages.specs.Values.{changed}
+use Rattle.kfs_model.specs.Table.{Order, Table, empty, insert, changed}
 use Rattle.kfs_chunks.specs.declared.edit.Edit.{Edit}
 
 module _ {K V : Type 0} (R : Order K) where

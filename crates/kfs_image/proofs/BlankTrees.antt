@@ -1,7 +1,7 @@
 -- A tree all of whose bytes are zero is the one that its headers and names show.
 use Rattle.std.proofs.Common.{◌≡◌, ℕ, zero, suc, Bool, true, false, cond, length, replicate, Option, Some, None, option_map, refl, sym, ap, subst, ◌∙◌}
 use Rattle.kfs_model.specs.Header.{Kind, File, Directory, Header}
-use Rattle.kfs_model.specs.Table.{numbers, empty, get, insert, mapped}
+use Rattle.kfs_model.specs.Table.{numbers, empty, get, insert, mapped, changed}
 use Rattle.kfs_model.proofs.TableLaws.{same_table, same_entries_table, get-mapped}
 use Rattle.kfs_model.specs.Tree.{Tree, Node, Body, FileBody, DirectoryBody, headers, header_of, kind_of, size_of, content_of, body_over, node_over}
 use Rattle.kfs_model.specs.Soundness.{IsSound}
@@ -11,7 +11,6 @@ use Rattle.kfs_model.specs.Limits.{greatest_mode}
 use Rattle.kfs_model.proofs.FreshTree.{fresh_is_sound}
 use Rattle.std.specs.Ordering.{eq_by_cmp}
 use Rattle.kfs_image.specs.Contents.{Contents, contents_in, root_alone}
-use Rattle.kfs_image.specs.Slots.{changed}
 use Rattle.kfs_image.specs.ShownTree.{zeros, tree_of, IsLawful}
 
 -- all bytes of all files are zero

@@ -1,8 +1,7 @@
 -- How many entries of a table pass a test, after a change at one key.
 use Rattle.std.proofs.Common.{◌≡◌, ◌+◌, Bool, Option, Some, None, count_by, ◌∙◌, arith}
-use Rattle.kfs_model.specs.Table.{Order, Table, get}
+use Rattle.kfs_model.specs.Table.{Order, Table, get, changed}
 use Rattle.kfs_model.proofs.Counts.{counted, count-insert, count-remove}
-use Rattle.kfs_image.specs.Slots.{changed}
 
 module _ {K X : Type 0} {R : Order K} (p : K × X → Bool) where
   -- what stood at the key counts no more, and what stands there now does

@@ -5,14 +5,13 @@ use Rattle.std.specs.declared.cmp.Ordering.{Ordering}
 use Rattle.std.specs.declared.cmp.Ordering.TheVariants.{Less, Equal, Greater}
 use Rattle.std.specs.Ordering.{nat_cmp, is_eq, eq_by_cmp, ordering_then}
 use Rattle.std.specs.Cmp.{unsigned_ties, eq_by_cmp_equiv, nat_cmp_total}
-use Rattle.kfs_model.specs.Table.{Order, Table, numbers, pairs, get}
+use Rattle.kfs_model.specs.Table.{Order, Table, numbers, pairs, get, changed}
 use Rattle.kfs_model.specs.Tree.{NameTable, name_order}
 use Rattle.kfs_model.specs.Spelling.{IsName}
 use Rattle.kfs_model.proofs.Counts.{counted}
-use Rattle.kfs_image.specs.Slots.{changed}
 use Rattle.kfs_image.specs.Indexes.{AreNames, IsCounted, ArePositive, by_node, count_at, count_step, uplink_step}
 use Rattle.kfs_image.proofs.Counts.{count-changed}
-use Rattle.kfs_image.proofs.SlotTables.{get-changed}
+use Rattle.kfs_model.proofs.TableLaws.{get-changed}
 
 turned : (a b : ℕ) → (a == b) ≡ eq_by_cmp nat_cmp b a
 turned a b = unsigned_ties a b ∙ (eq_by_cmp_equiv nat_cmp_total).symm a b

@@ -6,8 +6,8 @@ use Rattle.std.specs.Ordering.{is_eq}
 use Rattle.std.specs.Bool.{Decides, passes}
 use Rattle.std.specs.FinMap.Entries.{find, is_sorted}
 use Rattle.kfs_model.specs.Header.{Header}
-use Rattle.kfs_model.specs.Table.{Order, Table, numbers, get}
-use Rattle.kfs_model.proofs.TableLaws.{same_table}
+use Rattle.kfs_model.specs.Table.{Order, Table, numbers, get, changed}
+use Rattle.kfs_model.proofs.TableLaws.{same_table, get-changed}
 use Rattle.kfs_model.specs.Tree.{Tree, NameTable, headers, name_order}
 use Rattle.kfs_model.specs.Soundness.{IsSound}
 use Rattle.kfs_model.specs.FirstWrong.{same_option, same_header}
@@ -18,10 +18,8 @@ use Rattle.kfs_model.proofs.Tables.{left_part, right_part, find_below}
 use Rattle.kfs_value.specs.Views.{header_of, name_row_of, node_row_of}
 use Rattle.kfs_value.specs.declared.plan.NameRow.{NameRow}
 use Rattle.kfs_value.specs.declared.plan.NodeRow.{NodeRow}
-use Rattle.kfs_image.specs.Slots.{changed}
 use Rattle.kfs_image.specs.Contents.{Contents, contents_in}
 use Rattle.kfs_image.specs.Change.{led_to, renamed, reheaded, after_rows}
-use Rattle.kfs_image.proofs.SlotTables.{get-changed}
 
 -- what a row puts in place of what stands at its key, where there is a row
 abbrev replaced : {X Y : Type 0} → (Y → Option X) → Option Y → Option X → Option X

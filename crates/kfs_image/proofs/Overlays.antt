@@ -10,13 +10,11 @@ use Rattle.std.specs.Cmp.{IsTotalOrder, eq_by_cmp_equiv}
 use Rattle.std.specs.List.Sorted.{IsStrictlySortedBy}
 use Rattle.std.specs.Map.{lookup, keys_of}
 use Rattle.std.specs.BTreeMap.{BTreeMap, get as get_slot, is_at}
-use Rattle.kfs_model.specs.Table.{Order, Table, get}
-use Rattle.kfs_model.proofs.TableLaws.{same_table}
+use Rattle.kfs_model.specs.Table.{Order, Table, get, changed}
+use Rattle.kfs_model.proofs.TableLaws.{same_table, get-changed}
 use Rattle.kfs_chunks.specs.declared.edit.Edit.{Edit}
 use Rattle.kfs_chunks.specs.Edits.{edited, Ascend}
-use Rattle.kfs_image.specs.Slots.{changed}
 use Rattle.kfs_image.specs.Overlays.{said_or, key_edits, overlaid}
-use Rattle.kfs_image.proofs.SlotTables.{get-changed}
 
 module _ {X : Type 0} where
   -- what is said now goes before what was said

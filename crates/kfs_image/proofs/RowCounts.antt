@@ -4,13 +4,13 @@ use Rattle.std.specs.declared.cmp.Ordering.{Ordering}
 use Rattle.std.specs.declared.cmp.Ordering.TheVariants.{Less, Equal, Greater}
 use Rattle.std.specs.Ordering.{nat_cmp, is_eq}
 use Rattle.std.specs.List.{count_by}
-use Rattle.kfs_model.specs.Table.{Order, numbers, pairs, get}
+use Rattle.kfs_model.specs.Table.{Order, numbers, pairs, get, changed}
 use Rattle.kfs_model.specs.Tree.{NameTable, name_order}
 use Rattle.kfs_image.specs.declared.rows.Rows.{Rows}
-use Rattle.kfs_image.specs.Slots.{ArePositive, tallied, changed, table_of}
+use Rattle.kfs_image.specs.Slots.{ArePositive, tallied, table_of}
 use Rattle.kfs_image.specs.Rows.{IsIndexed, names_in, count_step, uplink_step}
 use Rattle.kfs_model.specs.Spelling.{IsName}
-use Rattle.kfs_image.proofs.SlotTables.{get-changed}
+use Rattle.kfs_model.proofs.TableLaws.{get-changed}
 use Rattle.kfs_model.proofs.Counts.{counted}
 use Rattle.kfs_image.proofs.Counts.{count-changed}
 use Rattle.kfs_image.proofs.Indexes.{still_names, count_step-counted, uplink_step-counted}

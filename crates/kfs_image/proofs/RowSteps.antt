@@ -3,13 +3,13 @@ use Rattle.std.proofs.Common.{◌≡◌, ℕ, cond, List, Option, Some, None, op
 use Rattle.std.specs.Prelude.{unwrap_or}
 use Rattle.std.specs.Ordering.{eq_by_cmp}
 use Rattle.std.specs.BTreeMap.{BTreeMap}
-use Rattle.kfs_model.specs.Table.{get}
-use Rattle.kfs_model.proofs.TableLaws.{same_table}
+use Rattle.kfs_model.specs.Table.{get, changed}
+use Rattle.kfs_model.proofs.TableLaws.{same_table, get-changed}
 use Rattle.kfs_model.specs.Tree.{name_order}
 use Rattle.kfs_image.specs.declared.rows.Rows.{Rows}
-use Rattle.kfs_image.specs.Slots.{shown_at, changed}
+use Rattle.kfs_image.specs.Slots.{shown_at}
 use Rattle.kfs_image.specs.Rows.{IsIndexed, ShowsSame, KeepsSlots, HasSlots, heads_of, names_shown, heads_in, names_in}
-use Rattle.kfs_image.proofs.SlotTables.{get-table_of, get-changed}
+use Rattle.kfs_image.proofs.SlotTables.{get-table_of}
 
 same_option : (o : Option ℕ) → option_map (λ number. number) o ≡ o
 same_option None = refl

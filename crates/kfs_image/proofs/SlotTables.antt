@@ -4,19 +4,9 @@ use Rattle.std.specs.Ordering.{eq_by_cmp}
 use Rattle.std.specs.Cmp.{eq_by_cmp_equiv}
 use Rattle.std.specs.Map.{lookup}
 use Rattle.std.specs.BTreeMap.{is_at}
-use Rattle.kfs_model.specs.Table.{Order, Table, get}
+use Rattle.kfs_model.specs.Table.{Order, Table, get, changed}
 use Rattle.kfs_model.proofs.TableLaws.{get-insert, get-remove}
-use Rattle.kfs_image.specs.Slots.{opened, changed, table_of}
-
-module _ {K X : Type 0} {R : Order K} where
-  pub get-changed : (t : Table R X) (k : K) (w : Option X) (q : K) → get (changed t k w) q ≡ cond (eq_by_cmp R.compare q k) w (get t q)
-  unfolding changed
-  get-changed t k None q = get-remove t k q ∙ turned (eq_by_cmp R.compare k q) (eq_by_cmp R.compare q k) ((eq_by_cmp_equiv R.total).symm k q)
-    where
-      turned : (a b : Bool) → a ≡ b → cond (not a) (get t q) None ≡ cond b None (get t q)
-      turned a true e = ap (λ x. cond (not x) (get t q) None) e
-      turned a false e = ap (λ x. cond (not x) (get t q) None) e
-  get-changed t k (Some v) q = get-insert t k v q
+use Rattle.kfs_image.specs.Slots.{opened, table_of}
 
 module _ {K X Y : Type 0} (R : Order K) (view : X → Y) where
   option_map-cond : (b : Bool) (slot : Option X) (rest : Option Y) (later : Option (Option X)) → rest ≡ option_map view (opened later)

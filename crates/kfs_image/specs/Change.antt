@@ -4,9 +4,8 @@ use Rattle.kfs_value.specs.declared.plan.NameRow.{NameRow}
 use Rattle.kfs_value.specs.declared.plan.NodeRow.{NodeRow}
 use Rattle.kfs_value.specs.Views.{header_of}
 use Rattle.kfs_model.specs.Header.{Header}
-use Rattle.kfs_model.specs.Table.{Table, numbers}
+use Rattle.kfs_model.specs.Table.{Table, numbers, changed}
 use Rattle.kfs_model.specs.Tree.{NameTable}
-use Rattle.kfs_image.specs.Slots.{changed}
 use Rattle.kfs_image.specs.Contents.{Contents, ImageShown}
 
 -- a row's number, where 0 stands for none

@@ -3,12 +3,11 @@ use Rattle.std.specs.Prelude.{◌≡◌, ℕ, List, [], ◌∷◌, Option, Some,
 use Rattle.std.specs.declared.cmp.Ordering.{Ordering}
 use Rattle.std.specs.Ordering.{nat_cmp}
 use Rattle.std.specs.BTreeMap.{BTreeMap, get}
-use Rattle.kfs_model.specs.Table.{Order, Table}
+use Rattle.kfs_model.specs.Table.{Order, Table, changed}
 use Rattle.kfs_pages.specs.declared.edit.Edit as numbered
 use Rattle.kfs_pages.specs.Edits as numbered_edits
 use Rattle.kfs_chunks.specs.declared.edit.Edit.{Edit}
 use Rattle.kfs_chunks.specs.Edits.{edited}
-use Rattle.kfs_image.specs.Slots.{changed}
 use Rattle.kfs_image.specs.NodeEdits.{IsNumber}
 
 module _ {X : Type 0} where

@@ -5,7 +5,7 @@ use Rattle.std.specs.BTreeMap.{BTreeMap, get}
 use Rattle.std.specs.BTreeMap.Range.{IsInRange}
 use Rattle.std.specs.declared.ops.Bound.{Bound}
 use Rattle.std.specs.declared.ops.Bound.TheVariants.{Unbounded}
-use Rattle.kfs_model.specs.Table.{Order, Table, empty, insert, remove}
+use Rattle.kfs_model.specs.Table.{Order, Table, empty, changed}
 
 module _ {X : Type 0} where
   -- what a slot shows, where there is one
@@ -25,12 +25,6 @@ tallied cmp tally key = unwrap_or (shown_at cmp tally key) 0
 -- each count that shows is at least 1
 abbrev pub ArePositive : {K : Type 0} → (K → K → Ordering) → BTreeMap K (Option ℕ) → Type 0
 ArePositive {K} cmp tally = (key : K) (count : ℕ) → shown_at cmp tally key ≡ Some count → 0 < count
-
-module _ {K X : Type 0} {R : Order K} where
-  -- the table with this at the key
-  unfoldable pub changed : Table R X → K → Option X → Table R X
-  changed t key None = remove t key
-  changed t key (Some value) = insert t key value
 
 module _ {K X Y : Type 0} (R : Order K) (view : X → Y) where
   -- the table that the slots show

@@ -1,6 +1,6 @@
 //! The edits of the names, of the counts beside them and of the ways up that name rows make.
 ghost use Rattle.std.specs.Prelude.{◌≡◌, ℕ, ◌+◌, ◌<◌, [], OnOk, IfOk, Option, Some, unwrap_or};
-ghost use Rattle.kfs_model.specs.Table.{get};
+ghost use Rattle.kfs_model.specs.Table.{get, changed};
 ghost use Rattle.kfs_model.specs.Tree.{name_order};
 ghost use Rattle.kfs_pages.specs.Edits.{AreEdits};
 ghost use Rattle.kfs_chunks.specs.Edits.{Ascend};
@@ -9,7 +9,6 @@ ghost use Rattle.kfs_image.specs.Change.{led_to, renamed};
 ghost use Rattle.kfs_image.specs.Indexes.{AreNames, IsCounted, by_node, count_at, count_step, uplink_step, ArePositive};
 ghost use Rattle.kfs_image.specs.NameEdits.{names_seen, counts_seen, ways_seen, IsCountedOver, names_edited, IsCountedAfter};
 ghost use Rattle.kfs_image.specs.Overlays.{Say, SayOfNumbers};
-ghost use Rattle.kfs_image.specs.Slots.{changed};
 
 use crate::overlay::{Overlay, key_edits, number_edits};
 use crate::rows::{name_key, target_of};

@@ -1,7 +1,7 @@
 //! The maps that hold the nodes and names of a shape, and the counts beside them.
 ghost use Rattle.std.specs.Prelude.{◌≡◌, ℕ, ◌+◌, ◌<◌, ◌≤◌, ◌^◌, option_map, All, IfOk, IfSome, IfNone, OnOk, OnErr, IsSome, Some, List, [], ◌∷◌};
 ghost use Rattle.std.specs.BTreeMap as slots_of;
-ghost use Rattle.kfs_model.specs.Table.{get, pairs, numbers, empty};
+ghost use Rattle.kfs_model.specs.Table.{get, pairs, numbers, empty, changed};
 ghost use Rattle.kfs_model.specs.Tree.{entry_count, name_order, target};
 ghost use Rattle.kfs_model.specs.Sight.{holder};
 ghost use Rattle.kfs_image.specs.Look.{IsAfter, IsNext};
@@ -10,7 +10,7 @@ ghost use Rattle.kfs_image.specs.NodeEdits.{IsNumber, AreNumbered};
 ghost use Rattle.kfs_image.specs.Rows.{heads_in, names_in, count_step, uplink_step, names_counted, ways_counted, AreCounted, HasCounts, IsIndexed, ShowsSame, KeepsSlots, HasSlots};
 ghost use Rattle.kfs_model.specs.Spelling.{IsName};
 ghost use Rattle.kfs_image.specs.Change.{led_to, renamed, reheaded};
-ghost use Rattle.kfs_image.specs.Slots.{shown_at, tallied, changed, IsFrom};
+ghost use Rattle.kfs_image.specs.Slots.{shown_at, tallied, IsFrom};
 ghost use Rattle.kfs_value.specs.Views.{header_of};
 
 use crate::edits::header_edits;

@@ -1,13 +1,14 @@
 -- What stands at a key of each table that the operations make, and that tables which answer alike are equal.
-use Rattle.std.specs.Prelude.{◌≡◌, Bool, true, false, cond, not, T, List, [], ◌∷◌, refl, Some, None, option_map}
+use Rattle.std.specs.Prelude.{◌≡◌, Bool, true, false, cond, not, T, List, [], ◌∷◌, refl, Option, Some, None, option_map}
 use Rattle.std.specs.declared.cmp.Ordering.{Ordering}
 use Rattle.std.specs.declared.cmp.Ordering.TheVariants.{Less, Equal, Greater}
 use Rattle.std.specs.Ordering.{is_eq, eq_by_cmp}
+use Rattle.std.specs.Cmp.{eq_by_cmp_equiv}
 use Rattle.std.specs.FinMap.Entries.{find, is_sorted, find-put, find-where_key, same_entries}
 use mathlib.Core.Path.{sym, ap, ◌∙◌}
 use mathlib.Core.HLevel.{Σ_prop_path}
 use lib.Dec.{T_prop}
-use Rattle.kfs_model.specs.Table.{Order, Table, option_or, get, insert, retain, remove, changed_entries, mapped, united_entries, united}
+use Rattle.kfs_model.specs.Table.{Order, Table, option_or, get, insert, retain, remove, changed, changed_entries, mapped, united_entries, united}
 
 module _ {K X : Type 0} {R : Order K} where
   pub same_entries_table : (s t : Table R X) → s.entries ≡ t.entries → s ≡ t
@@ -30,6 +31,15 @@ module _ {K X : Type 0} {R : Order K} where
   pub get-remove : (t : Table R X) (k q : K) → get (remove t k) q ≡ cond (not (eq_by_cmp R.compare k q)) (get t q) None
   unfolding remove
   get-remove t k q = get-retain (λ j. not (eq_by_cmp R.compare k j)) t q
+
+  pub get-changed : (t : Table R X) (k : K) (w : Option X) (q : K) → get (changed t k w) q ≡ cond (eq_by_cmp R.compare q k) w (get t q)
+  unfolding changed
+  get-changed t k None q = get-remove t k q ∙ turned (eq_by_cmp R.compare k q) (eq_by_cmp R.compare q k) ((eq_by_cmp_equiv R.total).symm k q)
+    where
+      turned : (a b : Bool) → a ≡ b → cond (not a) (get t q) None ≡ cond b None (get t q)
+      turned a true e = ap (λ x. cond (not x) (get t q) None) e
+      turned a false e = ap (λ x. cond (not x) (get t q) None) e
+  get-changed t k (Some v) q = get-insert t k v q
 
 module _ {K X Y : Type 0} (R : Order K) where
   find-changed : (f : K → X → Y) (q : K) (es : List (K × X)) → find R.compare q (changed_entries f es) ≡ option_map (f q) (find R.compare q es)

@@ -1,5 +1,6 @@
 -- A finite map whose entries stand in the order of their keys. It computes, so tables of literals compare by `refl`.
 --     get t k, insert t k v, remove t k      what stands at a key, a table with one entry put or taken away
+--     changed t k value      the table with this at a key, an entry or none
 --     retain p t, mapped f t      the entries whose keys pass a test; each value changed by a function of its key
 --     united old new      the entries of both, those of new where both have one
 use Rattle.std.specs.Prelude.{◌≡◌, ℕ, Bool, not, ◌&&◌, T, List, [], ◌∷◌, refl, Option, Some, None}
@@ -73,6 +74,11 @@ module _ {K X : Type 0} {R : Order K} where
 
   unfoldable pub remove : Table R X → K → Table R X
   remove t k = retain (λ j. not (eq_by_cmp R.compare k j)) t
+
+  -- the table with this at the key
+  unfoldable pub changed : Table R X → K → Option X → Table R X
+  changed t key None = remove t key
+  changed t key (Some value) = insert t key value
 
 module _ {K X Y : Type 0} where
   -- each value changed by a function of its key

@@ -6,19 +6,9 @@ use Rattle.std.specs.Option.{is_some}
 use Rattle.kfs_pages.specs.Edits.{page_of}
 use Rattle.std.specs.Ordering.{nat_cmp, eq_by_cmp}
 use Rattle.std.specs.Cmp.{eq_by_cmp_equiv, unsigned_tied}
-use Rattle.kfs_model.specs.Table.{Order, Table, numbers, get, empty}
+use Rattle.kfs_model.specs.Table.{Order, Table, numbers, get, empty, changed}
 use Rattle.kfs_model.proofs.TableLaws.{get-insert, get-remove, same_table}
-use Rattle.kfs_pages.specs.Values.{changed, numbered}
-
-module _ {K X : Type 0} {R : Order K} where
-  pub get-changed : (t : Table R X) (k : K) (w : Option X) (q : K) → get (changed t k w) q ≡ cond (eq_by_cmp R.compare q k) w (get t q)
-  unfolding changed
-  get-changed t k None q = get-remove t k q ∙ turned (eq_by_cmp R.compare k q) (eq_by_cmp R.compare q k) ((eq_by_cmp_equiv R.total).symm k q)
-    where
-      turned : (a b : Bool) → a ≡ b → cond (not a) (get t q) None ≡ cond b None (get t q)
-      turned a true e = ap (λ x. cond (not x) (get t q) None) e
-      turned a false e = ap (λ x. cond (not x) (get t q) None) e
-  get-changed t k (Some v) q = get-insert t k v q
+use Rattle.kfs_pages.specs.Values.{numbered}
 
 pub by_less : {P : Type 0} (a b : ℕ) → (a < b → P) → (b ≤ a → P) → P
 by_less {P} a b less not_less = at (nat_lt a b) refl

@@ -7,13 +7,13 @@ use Rattle.std.specs.Cmp.{unsigned_tied}
 use Rattle.std.specs.declared.sync.Arc.{Arc}
 use Rattle.std.specs.List.{AllZip}
 use Rattle.std.specs.Option.{is_some}
-use Rattle.kfs_model.specs.Table.{Table, numbers, get, empty, option_or}
-use Rattle.kfs_model.proofs.TableLaws.{get-united, get-retain, same_table}
+use Rattle.kfs_model.specs.Table.{Table, numbers, get, empty, option_or, changed}
+use Rattle.kfs_model.proofs.TableLaws.{get-united, get-retain, same_table, get-changed}
 use Rattle.kfs_pages.specs.declared.edit.Edit.{Edit}
-use Rattle.kfs_pages.specs.Values.{Sheet, changed, IsNext}
+use Rattle.kfs_pages.specs.Values.{Sheet, IsNext}
 use Rattle.kfs_pages.specs.Edits.{page_of, rewritten, edited}
 use Rattle.kfs_pages.specs.Shown.{part, slot_shows, shown, Stands, IsPlaced, page_table, table_from}
-use Rattle.kfs_pages.proofs.Numbers.{by_less, get-changed}
+use Rattle.kfs_pages.proofs.Numbers.{by_less}
 
 or_none : {Y : Type 0} (o rest : Option Y) → rest ≡ None → option_or o rest ≡ o
 or_none None rest none = none

@@ -2,9 +2,8 @@
 use Rattle.std.specs.Prelude.{◌≡◌, ℕ, ◌-◌, ◌/◌, ◌≤◌, ◌<◌, List, [], ◌∷◌, Option, All, length, slice_index_or, if◌then◌else◌}
 use Rattle.std.specs.Ordering.{nat_cmp, eq_by_cmp}
 use Rattle.kfs_model.specs.Limits.{greatest_number}
-use Rattle.kfs_model.specs.Table.{Table, numbers}
+use Rattle.kfs_model.specs.Table.{Table, numbers, changed}
 use Rattle.kfs_pages.specs.declared.edit.Edit.{Edit}
-use Rattle.kfs_pages.specs.Values.{changed}
 
 -- the index of the page that a number belongs to
 unfoldable pub page_of : ℕ → ℕ

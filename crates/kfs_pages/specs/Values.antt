@@ -1,12 +1,6 @@
 -- The values of a page, and the table that they make.
 use Rattle.std.specs.Prelude.{◌≡◌, ℕ, ◌+◌, ◌<◌, List, [], ◌∷◌, Option, Some, None}
-use Rattle.kfs_model.specs.Table.{Order, Table, numbers, empty, get, insert, remove}
-
-module _ {K X : Type 0} {R : Order K} where
-  -- the table with this at the key
-  unfoldable pub changed : Table R X → K → Option X → Table R X
-  changed t key None = remove t key
-  changed t key (Some value) = insert t key value
+use Rattle.kfs_model.specs.Table.{Order, Table, numbers, empty, get, changed}
 
 module _ {V : Type 0} where
   -- the table of these values at the numbers from the first on

@@ -1,8 +1,8 @@
 //! A page: the values of 64 numbers next to each other.
 ghost use Rattle.std.specs.Prelude.{◌≡◌, ℕ, ◌+◌, ◌*◌, ◌<◌, All, Some, None, true, false, IfOk, IfSome, IfNone};
 ghost use Rattle.std.specs.Option.{option_copied};
-ghost use Rattle.kfs_model.specs.Table.{empty, get};
-ghost use Rattle.kfs_pages.specs.Values.{changed, IsNext};
+ghost use Rattle.kfs_model.specs.Table.{empty, get, changed};
+ghost use Rattle.kfs_pages.specs.Values.{IsNext};
 ghost use Rattle.kfs_pages.specs.Edits.{page_of, edited, rewritten, IsOfPage};
 
 use crate::edit::Edit;

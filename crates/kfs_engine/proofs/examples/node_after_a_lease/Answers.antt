@@ -4,7 +4,7 @@ use Rattle.std.specs.Prelude.{codes}
 use Rattle.std.specs.Fmt.{digits}
 use native.Mathlib.Decide.{ℕ_discrete}
 use Rattle.kfs_examples.specs.Example.{computing}
-use Rattle.kfs_image.specs.Slots.{changed}
+use Rattle.kfs_model.specs.Table.{changed}
 use Rattle.kfs_value.specs.declared.header.Kind.TheVariants.{Directory}
 use Rattle.kfs_plan.specs.declared.answers.Done.TheVariants.{Leased}
 use Rattle.kfs_text.specs.Cut.{cut}

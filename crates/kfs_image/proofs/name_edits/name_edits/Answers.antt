@@ -1,12 +1,11 @@
 use Rattle.std.proofs.Common.{◌≡◌, ◌+◌, drop, sym, ap, subst, ◌∙◌}
 use Rattle.std.proofs.lemmas.List.{at_drop_all}
-use Rattle.kfs_model.specs.Table.{Table}
+use Rattle.kfs_model.specs.Table.{Table, changed}
 use Rattle.kfs_model.specs.Tree.{NameTable, name_order}
 use Rattle.kfs_chunks.specs.Tables.{table}
 use Rattle.kfs_value.specs.declared.plan.NameRow.{NameRow}
 use Rattle.kfs_image.specs.Change.{led_to, renamed}
 use Rattle.kfs_image.specs.Indexes.{AreNames, IsCounted, by_node}
-use Rattle.kfs_image.specs.Slots.{changed}
 use Rattle.kfs_image.specs.NameEdits.{names_seen, counts_seen, ways_edited}
 use Rattle.kfs_image.proofs.NameEdits.{edited_seen, counted_edits}
 use Rattle.kfs_image.proofs.NodeEdits.{rows_left}

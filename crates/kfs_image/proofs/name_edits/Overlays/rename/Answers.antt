@@ -1,5 +1,5 @@
 use Rattle.std.proofs.Common.{◌≡◌, ℕ, List, sym, ap, subst, ◌∙◌, arith}
-use Rattle.kfs_model.specs.Table.{get}
+use Rattle.kfs_model.specs.Table.{get, changed}
 use Rattle.kfs_model.specs.Spelling.{IsName}
 use Rattle.kfs_model.specs.Tree.{NameTable, name_order}
 use Rattle.kfs_chunks.specs.Tables.{table}
@@ -7,7 +7,6 @@ use Rattle.kfs_image.specs.Change.{led_to}
 use Rattle.kfs_image.specs.Indexes.{AreNames, IsCounted, count_step, uplink_step}
 use Rattle.kfs_image.specs.NameEdits.{names_seen, counts_seen, ways_seen}
 use Rattle.kfs_image.specs.Overlays.{overlaid}
-use Rattle.kfs_image.specs.Slots.{changed}
 use Rattle.kfs_image.proofs.Indexes.{still_names, counted_name, counted_after}
 use Rattle.kfs_image.proofs.Overlays.{overlaid_set}
 use Rattle.kfs_image.proofs.name_edits.Overlays.rename.Goals as goal

@@ -1,6 +1,7 @@
 use Rattle.std.proofs.Common.{◌∙◌, ◌-◌, ◌+◌, ◌*◌, ap, arith}
 use Rattle.kfs_pages.specs.Edits.{page_of}
-use Rattle.kfs_pages.specs.Values.{Sheet, changed}
+use Rattle.kfs_pages.specs.Values.{Sheet}
+use Rattle.kfs_model.specs.Table.{changed}
 use Rattle.kfs_pages.proofs.Numbers.{numbered-set}
 use Rattle.kfs_pages.proofs.page.Page.set.Goals as goal
 
