@@ -107,14 +107,21 @@ const BREAKS: [(u32, Rows); RULES] = [
     ),
 ];
 
+/// The rows that break the rule of this index.
+fn breaking(index: usize) -> Rows {
+    match BREAKS.get(index) {
+        Some((_, rows)) => *rows,
+        None => NO_ROWS,
+    }
+}
+
 /// Rows in which the rules of both indexes are broken, or the one if they are the same.
-fn broken(first: usize, second: usize) -> Option<[Rows; 3]> {
+fn broken(first: usize, second: usize) -> [Rows; 3] {
     let has_root = first != 1 && second != 1;
     let root = if has_root { ROOT_ALONE } else { NO_ROWS };
-    let (_, rows) = BREAKS.get(first)?;
-    let (_, others) = BREAKS.get(second)?;
-    let others = if first == second { NO_ROWS } else { *others };
-    Some([root, *rows, others])
+    let is_alone = first == second;
+    let others = if is_alone { NO_ROWS } else { breaking(second) };
+    [root, breaking(first), others]
 }
 
 /// The finding of the rule of this index.
@@ -126,7 +133,7 @@ fn due(index: usize) -> Option<(u8, u32)> {
 
 /// What is found where the rules of both indexes are broken.
 fn found_of_both<A: Allocator + Copy>(alloc: A, first: usize, second: usize) -> Option<(u8, u32)> {
-    found(alloc, &broken(first, second)?)?
+    found(alloc, &broken(first, second))?
 }
 
 #[test]
@@ -198,7 +205,7 @@ fn each_growth_refused_in_turn(rt: HostRuntime) {
         rule: 10,
         number: 101,
     };
-    let parts = broken(9, 9).unwrap_or([NO_ROWS; 3]);
+    let parts = broken(9, 9);
     let of_the_last_rule = growths(&rt, &parts, Err(ShapeFault::Found(shared)));
     assert!(&rt;
         20 < of_the_last_rule && of_the_last_rule < MANY,
