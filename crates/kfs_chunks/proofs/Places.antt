@@ -104,7 +104,7 @@ module _ {K V A : Type 0} {cmp : K → K → Ordering} (o : IsTotalOrder cmp) wh
   parted q (c ∷ cs) rise (suc i) (suc j) d le below past = parted q cs rise.1 i j d (omega (arith, le)) (omega (arith, below)) past
 
 module _ {X : Type 0} (test : X → Bool) where
-  before_within : (xs : List X) → before test xs ≤ length xs
+  pub before_within : (xs : List X) → before test xs ≤ length xs
   before_within [] = omega arith
   before_within (x ∷ xs) = at (test x) (before_within xs)
     where

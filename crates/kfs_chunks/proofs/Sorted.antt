@@ -1,12 +1,12 @@
 -- Where a key stands among sorted entries, and what an edit makes of them.
-use Rattle.std.proofs.Common.{◌≡◌, ◌<◌, ◌≤◌, ℕ, zero, suc, Bool, true, false, cond, not, ◌&&◌, T, List, [], ◌∷◌, length, get_or, slice_set, Option, Some, None, refl, sym, ap, subst, ◌∙◌, arith}
+use Rattle.std.proofs.Common.{◌≡◌, ◌<◌, ◌≤◌, ℕ, zero, suc, Bool, true, false, cond, not, ◌&&◌, T, List, [], ◌∷◌, length, get_or, slice_set, Result, Ok, Err, Option, Some, None, refl, sym, ap, subst, ◌∙◌, arith}
 use Rattle.std.specs.Prelude.{IsSome, is_some}
 use Rattle.std.specs.declared.cmp.Ordering.{Ordering}
 use Rattle.std.specs.declared.cmp.Ordering.TheVariants.{Less, Equal, Greater}
 use Rattle.std.specs.declared.ops.Bound.{Bound}
 use Rattle.std.specs.declared.ops.Bound.TheVariants.{Included, Excluded, Unbounded}
 use Rattle.std.specs.Ordering.{is_eq, is_lt, is_gt, eq_by_cmp}
-use Rattle.std.specs.Cmp.{IsTotalOrder, upto}
+use Rattle.std.specs.Cmp.{IsTotalOrder, upto, tied_itself}
 use Rattle.std.specs.List.{insert, remove}
 use Rattle.std.specs.List.Sorted.{IsPartitionedBy, IsPartitionPoint}
 use Rattle.std.specs.FinMap.{IsAntisymmetric}
@@ -15,7 +15,7 @@ use Rattle.kfs_model.specs.Table.{Order}
 use Rattle.kfs_model.proofs.Tables.{left_part, right_part, find_below, find_head, find_behind}
 use Rattle.kfs_chunks.specs.Edits.{entered}
 use Rattle.kfs_chunks.specs.Starts.{before, is_from, first_from}
-use Rattle.kfs_chunks.proofs.Places.{true_or_false, flipped}
+use Rattle.kfs_chunks.proofs.Places.{true_or_false, flipped, before_within}
 
 module _ {K : Type 0} (R : Order K) where
   -- the order, by a comparison that is its own
@@ -25,11 +25,12 @@ module _ {K : Type 0} (R : Order K) where
 module _ {X : Type 0} (test : X → Bool) where
   pub before_passes : (xs : List X) (d : X) → before test xs < length xs → test (get_or xs (before test xs) d) ≡ true
   before_passes [] d within = absurd (omega (arith, within))
-  before_passes (x ∷ xs) d = at (test x) refl
+  before_passes (x ∷ xs) d within = at (before_passes xs d) (test x) refl within
     where
-      at : (b : Bool) → test x ≡ b → cond b 0 (suc (before test xs)) < suc (length xs) → test (get_or (x ∷ xs) (cond b 0 (suc (before test xs))) d) ≡ true
-      at true e within = e
-      at false e within = before_passes xs d (omega (arith, within))
+      at : (before test xs < length xs → test (get_or xs (before test xs) d) ≡ true)
+          → (b : Bool) → test x ≡ b → cond b 0 (suc (before test xs)) < suc (length xs) → test (get_or (x ∷ xs) (cond b 0 (suc (before test xs))) d) ≡ true
+      at rest true e within = e
+      at rest false e within = rest (omega (arith, within))
 
 as_less : (r : Ordering) → T (is_lt r) → r ≡ Less
 as_less Less t = refl
@@ -41,6 +42,21 @@ less_from Less e = refl
 less_from Equal e = absurd (true_or_false true refl e)
 less_from Greater e = absurd (true_or_false true refl e)
 
+not_some : {V : Type 0} (o : Option V) → is_some o ≡ false → o ≡ None
+not_some None out = refl
+not_some (Some v) out = absurd (true_or_false true refl out)
+
+module _ {K : Type 0} (R : Order K) where
+  -- what is below a key before the start is before the start
+  earlier : (start : Bound K) (k l : K) → R.compare k l ≡ Less → is_from R.compare start l ≡ false → is_from R.compare start k ≡ false
+  earlier (Included a) k l less past = ap (λ r. not (is_lt r)) (R.total.trans k l a less (less_from _ past))
+  earlier (Excluded a) k l less past = upto R.total k l a (ap is_gt less) past
+  earlier Unbounded k l less past = past
+
+  -- a key is from itself on
+  pub from_itself : (k : K) → is_from R.compare (Included k) k ≡ true
+  from_itself k = ap (λ r. not (is_lt r)) (tied_itself R.total k)
+
 module _ {K V : Type 0} (R : Order K) where
   -- a key at an index behind the first is above it
   first_below : (k : K) (es : List (K × V)) (j : ℕ) (d : K × V) → T (below_all R.compare k es) → j < length es → R.compare k (get_or es j d).0 ≡ Less
@@ -48,17 +64,11 @@ module _ {K V : Type 0} (R : Order K) where
   first_below k (e ∷ es) zero d below within = as_less _ (left_part _ _ below)
   first_below k (e ∷ es) (suc j) d below within = first_below k es j d (right_part _ _ below) (omega (arith, within))
 
-  -- what is below a key before the start is before the start
-  earlier : (start : Bound K) (k l : K) → R.compare k l ≡ Less → is_from R.compare start l ≡ false → is_from R.compare start k ≡ false
-  earlier (Included a) k l less past = ap (λ r. not (is_lt r)) (R.total.trans k l a less (less_from _ past))
-  earlier (Excluded a) k l less past = upto R.total k l a (ap is_gt less) past
-  earlier Unbounded k l less past = past
-
   pub parted : (start : Bound K) (es : List (K × V)) → T (is_sorted R.compare es) → IsPartitionedBy (λ (e : K × V). not (is_from R.compare start e.0)) es
   parted start [] sorted i j d le below past = absurd (omega (arith, below))
   parted start (e ∷ es) sorted zero zero d le below past = past
   parted start (e ∷ es) sorted zero (suc j) d le below past =
-      ap not (earlier start e.0 (get_or es j d).0 (first_below e.0 es j d (left_part _ _ sorted) (omega (arith, below))) (un_not _ past))
+      ap not (earlier R start e.0 (get_or es j d).0 (first_below e.0 es j d (left_part _ _ sorted) (omega (arith, below))) (un_not _ past))
     where
       un_not : (b : Bool) → not b ≡ true → b ≡ false
       un_not true e = sym e
@@ -84,11 +94,11 @@ module _ {K V : Type 0} (R : Order K) where
   -- where no entry is from the start on, nothing is found there
   pub none_from : (start : Bound K) (es : List (K × V)) (q : K) → length es ≤ first_from R.compare start es → is_from R.compare start q ≡ true → find R.compare q es ≡ None
   none_from start [] q past from = refl
-  none_from start (e ∷ es) q past from = at (is_from R.compare start e.0) refl past
+  none_from start (e ∷ es) q past from = at (λ less. none_from start es q less from) (is_from R.compare start e.0) refl past
     where
-      at : (b : Bool) → is_from R.compare start e.0 ≡ b → suc (length es) ≤ cond b 0 (suc (first_from R.compare start es)) → find R.compare q (e ∷ es) ≡ None
-      at true here past = absurd (omega (arith, past))
-      at false here past = passed_over start q e es from here ∙ none_from start es q (omega (arith, past)) from
+      at : (length es ≤ first_from R.compare start es → find R.compare q es ≡ None) → (b : Bool) → is_from R.compare start e.0 ≡ b → suc (length es) ≤ cond b 0 (suc (first_from R.compare start es)) → find R.compare q (e ∷ es) ≡ None
+      at rest true here past = absurd (omega (arith, past))
+      at rest false here past = passed_over start q e es from here ∙ rest (omega (arith, past))
 
   below_lower : (k l : K) (es : List (K × V)) → R.compare k l ≡ Less → T (below_all R.compare l es) → T (below_all R.compare k es)
   below_lower k l [] less below = tt
@@ -102,16 +112,17 @@ module _ {K V : Type 0} (R : Order K) where
   pub least_from : (start : Bound K) (es : List (K × V)) (d : K × V) (q : K) → T (is_sorted R.compare es) → first_from R.compare start es < length es → is_from R.compare start q ≡ true
       → IsSome (find R.compare q es) → is_lt (R.compare q (get_or es (first_from R.compare start es) d).0) ≡ false
   least_from start [] d q sorted within from some = absurd (omega (arith, within))
-  least_from start (e ∷ es) d q sorted within from some = at (is_from R.compare start e.0) refl within
+  least_from start (e ∷ es) d q sorted within from some = at (λ less. least_from start es d q (right_part _ _ sorted) less from) (is_from R.compare start e.0) refl within
     where
       first : (r : Ordering) → R.compare q e.0 ≡ r → is_lt (R.compare q e.0) ≡ false
       first Less p = absurd (true_or_false true refl (sym some ∙ ap is_some (none_lower q e es p (left_part _ _ sorted))))
       first Equal p = ap is_lt p
       first Greater p = ap is_lt p
-      at : (b : Bool) → is_from R.compare start e.0 ≡ b → cond b 0 (suc (first_from R.compare start es)) < suc (length es)
+      at : (first_from R.compare start es < length es → IsSome (find R.compare q es) → is_lt (R.compare q (get_or es (first_from R.compare start es) d).0) ≡ false)
+          → (b : Bool) → is_from R.compare start e.0 ≡ b → cond b 0 (suc (first_from R.compare start es)) < suc (length es)
           → is_lt (R.compare q (get_or (e ∷ es) (cond b 0 (suc (first_from R.compare start es))) d).0) ≡ false
-      at true here within = first (R.compare q e.0) refl
-      at false here within = least_from start es d q (right_part _ _ sorted) (omega (arith, within)) from (ap is_some (sym (passed_over start q e es from here)) ∙ some)
+      at rest true here within = first (R.compare q e.0) refl
+      at rest false here within = rest (omega (arith, within)) (ap is_some (sym (passed_over start q e es from here)) ∙ some)
 
   -- the key has the entry at the index
   pub record IsHeld (k : K) (es : List (K × V)) (at : ℕ) : Type 0 where
@@ -122,6 +133,8 @@ module _ {K V : Type 0} (R : Order K) where
 
   -- no entry has the key, which would stand at the index
   pub record IsOut (k : K) (es : List (K × V)) (at : ℕ) : Type 0 where
+    pub within : at ≤ length es
+    pub none : find R.compare k es ≡ None
     pub entered_there : (v : V) → put R.compare k v es ≡ insert es at (k, v)
     pub kept : where_key R.compare (λ j. not (eq_by_cmp R.compare k j)) es ≡ es
 
@@ -135,12 +148,13 @@ module _ {K V : Type 0} (R : Order K) where
 
   out_kept : (k : K) (es : List (K × V)) → is_some (find R.compare k es) ≡ false → where_key R.compare (λ j. not (eq_by_cmp R.compare k j)) es ≡ es
   out_kept k [] out = refl
-  out_kept k (e ∷ es) out = at (eq_by_cmp R.compare k e.0) out
+  out_kept k (e ∷ es) out = at (out_kept k es) (eq_by_cmp R.compare k e.0) out
     where
-      at : (b : Bool) → is_some (cond b (Some e.1) (find R.compare k es)) ≡ false
+      at : (is_some (find R.compare k es) ≡ false → where_key R.compare (λ j. not (eq_by_cmp R.compare k j)) es ≡ es)
+          → (b : Bool) → is_some (cond b (Some e.1) (find R.compare k es)) ≡ false
           → cond (not b) (e ∷ where_key R.compare (λ j. not (eq_by_cmp R.compare k j)) es) (where_key R.compare (λ j. not (eq_by_cmp R.compare k j)) es) ≡ e ∷ es
-      at true out = absurd (true_or_false true refl out)
-      at false out = ap (λ rest. e ∷ rest) (out_kept k es out)
+      at rest true out = absurd (true_or_false true refl out)
+      at rest false out = ap (λ es. e ∷ es) (rest out)
 
   held_first : (k : K) (e : K × V) (es : List (K × V)) → R.compare k e.0 ≡ Equal → T (below_all R.compare e.0 es) → IsHeld k (e ∷ es) 0
   held_first k e es p below =
@@ -166,48 +180,71 @@ module _ {K V : Type 0} (R : Order K) where
   -- a key that is found has the first entry from it on
   pub held : (k : K) (es : List (K × V)) → T (is_sorted R.compare es) → is_some (find R.compare k es) ≡ true → IsHeld k es (first_from R.compare (Included k) es)
   held k [] sorted some = absurd (true_or_false false some refl)
-  held k (e ∷ es) sorted some = at (R.compare k e.0) refl
+  held k (e ∷ es) sorted some = at (held k es (right_part _ _ sorted)) (R.compare k e.0) refl
     where
-      at : (r : Ordering) → R.compare k e.0 ≡ r → IsHeld k (e ∷ es) (first_from R.compare (Included k) (e ∷ es))
-      at Less p = absurd (true_or_false false (sym (ap is_some (none_lower k e es p (left_part _ _ sorted))) ∙ some) refl)
-      at Equal p = subst (IsHeld k (e ∷ es)) (sym (first_is k e es Equal p)) (held_first k e es p (left_part _ _ sorted))
-      at Greater p =
+      at : (is_some (find R.compare k es) ≡ true → IsHeld k es (first_from R.compare (Included k) es))
+          → (r : Ordering) → R.compare k e.0 ≡ r → IsHeld k (e ∷ es) (first_from R.compare (Included k) (e ∷ es))
+      at rest Less p = absurd (true_or_false false (sym (ap is_some (none_lower k e es p (left_part _ _ sorted))) ∙ some) refl)
+      at rest Equal p = subst (IsHeld k (e ∷ es)) (sym (first_is k e es Equal p)) (held_first k e es p (left_part _ _ sorted))
+      at rest Greater p =
           subst (IsHeld k (e ∷ es)) (sym (first_is k e es Greater p))
-          (held_behind k e es _ p (held k es (right_part _ _ sorted) (sym (ap (λ r. is_some (cond (is_eq r) (Some e.1) (find R.compare k es))) p) ∙ some)))
+          (held_behind k e es _ p (rest (sym (ap (λ r. is_some (cond (is_eq r) (Some e.1) (find R.compare k es))) p) ∙ some)))
 
   put_there : (k : K) (v : V) (es : List (K × V)) → is_some (find R.compare k es) ≡ false → put R.compare k v es ≡ insert es (first_from R.compare (Included k) es) (k, v)
   put_there k v [] out = refl
-  put_there k v (e ∷ es) out = at (R.compare k e.0) refl
+  put_there k v (e ∷ es) out = at (put_there k v es) (R.compare k e.0) refl
     where
       choice : (r : Ordering) → R.compare k e.0 ≡ r → put R.compare k v (e ∷ es) ≡ by_order r ((k, v) ∷ e ∷ es) ((e.0, v) ∷ es) (e ∷ put R.compare k v es)
       choice r p = ap (λ r. by_order r ((k, v) ∷ e ∷ es) ((e.0, v) ∷ es) (e ∷ put R.compare k v es)) p
-      at : (r : Ordering) → R.compare k e.0 ≡ r → put R.compare k v (e ∷ es) ≡ insert (e ∷ es) (first_from R.compare (Included k) (e ∷ es)) (k, v)
-      at Less p = choice Less p ∙ ap (λ n. insert (e ∷ es) n (k, v)) (sym (first_is k e es Less p))
-      at Equal p = absurd (true_or_false true refl (sym (ap (λ r. is_some (cond (is_eq r) (Some e.1) (find R.compare k es))) p) ∙ out))
-      at Greater p =
+      at : (is_some (find R.compare k es) ≡ false → put R.compare k v es ≡ insert es (first_from R.compare (Included k) es) (k, v))
+          → (r : Ordering) → R.compare k e.0 ≡ r → put R.compare k v (e ∷ es) ≡ insert (e ∷ es) (first_from R.compare (Included k) (e ∷ es)) (k, v)
+      at rest Less p = choice Less p ∙ ap (λ n. insert (e ∷ es) n (k, v)) (sym (first_is k e es Less p))
+      at rest Equal p = absurd (true_or_false true refl (sym (ap (λ r. is_some (cond (is_eq r) (Some e.1) (find R.compare k es))) p) ∙ out))
+      at rest Greater p =
           choice Greater p
-          ∙ ap (λ es. e ∷ es) (put_there k v es (sym (ap (λ r. is_some (cond (is_eq r) (Some e.1) (find R.compare k es))) p) ∙ out))
+          ∙ ap (λ es. e ∷ es) (rest (sym (ap (λ r. is_some (cond (is_eq r) (Some e.1) (find R.compare k es))) p) ∙ out))
           ∙ ap (λ n. insert (e ∷ es) n (k, v)) (sym (first_is k e es Greater p))
 
   -- a key that isn't found would stand there
   pub out_there : (k : K) (es : List (K × V)) → is_some (find R.compare k es) ≡ false → IsOut k es (first_from R.compare (Included k) es)
   out_there k es out = record {
+    within = before_within (λ (e : K × V). is_from R.compare (Included k) e.0) es;
+    none = not_some (find R.compare k es) out;
     entered_there = λ v. put_there k v es out;
     kept = out_kept k es out;
   }
+
+  -- what a search answers
+  abbrev pub searched : K → List (K × V) → Result ℕ ℕ
+  searched k es = cond (is_some (find R.compare k es)) (Ok (first_from R.compare (Included k) es)) (Err (first_from R.compare (Included k) es))
+
+  pub held_where : (k : K) (es : List (K × V)) (at : ℕ) → T (is_sorted R.compare es) → searched k es ≡ Ok at → IsHeld k es at
+  held_where k es at sorted answer = by (is_some (find R.compare k es)) refl answer
+    where
+      by : (b : Bool) → is_some (find R.compare k es) ≡ b → cond b (Ok (first_from R.compare (Included k) es)) (Err (first_from R.compare (Included k) es)) ≡ Ok at → IsHeld k es at
+      by true some answer = let same : first_from R.compare (Included k) es ≡ at = cc answer in subst (IsHeld k es) same (held k es sorted some)
+      by false out answer = cc answer
+
+  pub out_where : (k : K) (es : List (K × V)) (at : ℕ) → searched k es ≡ Err at → IsOut k es at
+  out_where k es at answer = by (is_some (find R.compare k es)) refl answer
+    where
+      by : (b : Bool) → is_some (find R.compare k es) ≡ b → cond b (Ok (first_from R.compare (Included k) es)) (Err (first_from R.compare (Included k) es)) ≡ Err at → IsOut k es at
+      by true some answer = cc answer
+      by false out answer = let same : first_from R.compare (Included k) es ≡ at = cc answer in subst (IsOut k es) same (out_there k es out)
 
   -- whether a key is found shows at the first entry from it on
   pub some_there : (k : K) (es : List (K × V)) (d : K × V) → T (is_sorted R.compare es) → first_from R.compare (Included k) es < length es
       → is_some (find R.compare k es) ≡ eq_by_cmp R.compare k (get_or es (first_from R.compare (Included k) es) d).0
   some_there k [] d sorted within = absurd (omega (arith, within))
-  some_there k (e ∷ es) d sorted within = at (R.compare k e.0) refl
+  some_there k (e ∷ es) d sorted within = at (some_there k es d (right_part _ _ sorted)) (R.compare k e.0) refl
     where
-      at : (r : Ordering) → R.compare k e.0 ≡ r → is_some (find R.compare k (e ∷ es)) ≡ eq_by_cmp R.compare k (get_or (e ∷ es) (first_from R.compare (Included k) (e ∷ es)) d).0
-      at Less p = ap is_some (none_lower k e es p (left_part _ _ sorted)) ∙ sym (ap (λ n. eq_by_cmp R.compare k (get_or (e ∷ es) n d).0) (first_is k e es Less p) ∙ ap is_eq p)
-      at Equal p = ap (λ r. is_some (cond (is_eq r) (Some e.1) (find R.compare k es))) p ∙ sym (ap (λ n. eq_by_cmp R.compare k (get_or (e ∷ es) n d).0) (first_is k e es Equal p) ∙ ap is_eq p)
-      at Greater p =
+      at : (first_from R.compare (Included k) es < length es → is_some (find R.compare k es) ≡ eq_by_cmp R.compare k (get_or es (first_from R.compare (Included k) es) d).0)
+          → (r : Ordering) → R.compare k e.0 ≡ r → is_some (find R.compare k (e ∷ es)) ≡ eq_by_cmp R.compare k (get_or (e ∷ es) (first_from R.compare (Included k) (e ∷ es)) d).0
+      at rest Less p = ap is_some (none_lower k e es p (left_part _ _ sorted)) ∙ sym (ap (λ n. eq_by_cmp R.compare k (get_or (e ∷ es) n d).0) (first_is k e es Less p) ∙ ap is_eq p)
+      at rest Equal p = ap (λ r. is_some (cond (is_eq r) (Some e.1) (find R.compare k es))) p ∙ sym (ap (λ n. eq_by_cmp R.compare k (get_or (e ∷ es) n d).0) (first_is k e es Equal p) ∙ ap is_eq p)
+      at rest Greater p =
           ap (λ r. is_some (cond (is_eq r) (Some e.1) (find R.compare k es))) p
-          ∙ some_there k es d (right_part _ _ sorted) (omega (arith, within, first_is k e es Greater p))
+          ∙ rest (omega (arith, within, first_is k e es Greater p))
           ∙ sym (ap (λ n. eq_by_cmp R.compare k (get_or (e ∷ es) n d).0) (first_is k e es Greater p))
 
   -- sorted entries stay sorted by an edit

@@ -93,9 +93,9 @@ impl<K: Key, V: Copy, A: Allocator> Entries<K, V, A> {
     /// The first entry from the start on.
     pub(crate) fn next(&self, start: Bound<&K>) -> Option<(&K, &V)>
         ensures shown { IfSome result (λ p. find K.cmp p.0.now self.now.pairs ≡ Some p.1.now) }
-        ensures within { IfSome result (λ p. is_from K.cmp (bound_map (λ x. x.now) start) p.0.now ≡ true) }
-        ensures least { IfSome result (λ p. (q : K) → is_from K.cmp (bound_map (λ x. x.now) start) q ≡ true → IsSome (find K.cmp q self.now.pairs) → is_lt (K.cmp q p.0.now) ≡ false) }
-        ensures none { IfNone result ((q : K) → is_from K.cmp (bound_map (λ x. x.now) start) q ≡ true → find K.cmp q self.now.pairs ≡ None) }
+        ensures within { IfSome result (λ p. is_from K.cmp (bound_map (λ x. x.now) start.entry) p.0.now ≡ true) }
+        ensures least { IfSome result (λ p. (q : K) → is_from K.cmp (bound_map (λ x. x.now) start.entry) q ≡ true → IsSome (find K.cmp q self.now.pairs) → is_lt (K.cmp q p.0.now) ≡ false) }
+        ensures none { IfNone result ((q : K) → is_from K.cmp (bound_map (λ x. x.now) start.entry) q ≡ true → find K.cmp q self.now.pairs ≡ None) }
     {
         let (key, value) = self.pairs.get(place(&self.pairs, start))?;
         Some((key, value))
@@ -105,7 +105,7 @@ impl<K: Key, V: Copy, A: Allocator> Entries<K, V, A> {
 /// The index of the first entry from the start on, or else their number.
 fn place<K: Key, V: Copy>(pairs: &[(K, V)], start: Bound<&K>) -> usize
     requires { T (is_sorted K.cmp pairs.now) }
-    ensures { result ≡ first_from K.cmp (bound_map (λ x. x.now) start) pairs.now }
+    ensures { result ≡ first_from K.cmp (bound_map (λ x. x.now) start.entry) pairs.now }
 {
     pairs.partition_point(|pair| !is_from(&start, &pair.0))
 }
