@@ -8,7 +8,7 @@ use Rattle.std.specs.declared.ops.Bound.TheVariants.{Included, Excluded, Unbound
 use Rattle.std.specs.Ordering.{is_eq, is_lt, is_gt, eq_by_cmp}
 use Rattle.std.specs.Cmp.{IsTotalOrder, upto, tied_itself}
 use Rattle.std.specs.List.{insert, remove}
-use Rattle.std.specs.List.Sorted.{IsPartitionedBy, IsPartitionPoint}
+use Rattle.std.specs.List.Sorted.{IsPartitionedBy}
 use Rattle.std.specs.FinMap.{IsAntisymmetric}
 use Rattle.std.specs.FinMap.Entries.{find, put, where_key, by_order, is_sorted, below_all, is_sorted-put, is_sorted-where_key}
 use Rattle.kfs_model.specs.Table.{Order}
@@ -54,7 +54,7 @@ module _ {K : Type 0} (R : Order K) where
   earlier Unbounded k l less past = past
 
   -- a key is from itself on
-  pub from_itself : (k : K) → is_from R.compare (Included k) k ≡ true
+  from_itself : (k : K) → is_from R.compare (Included k) k ≡ true
   from_itself k = ap (λ r. not (is_lt r)) (tied_itself R.total k)
 
 module _ {K V : Type 0} (R : Order K) where
@@ -125,17 +125,17 @@ module _ {K V : Type 0} (R : Order K) where
       at rest false here within = rest (omega (arith, within)) (ap is_some (sym (passed_over start q e es from here)) ∙ some)
 
   -- the key has the entry at the index
-  pub record IsHeld (k : K) (es : List (K × V)) (at : ℕ) : Type 0 where
+  pub record StandsAt (k : K) (es : List (K × V)) (at : ℕ) : Type 0 where
     pub within : at < length es
     pub value : (d : K × V) → find R.compare k es ≡ Some (get_or es at d).1
     pub replaced : (v : V) (d : K × V) → put R.compare k v es ≡ slice_set es at ((get_or es at d).0, v)
     pub removed : where_key R.compare (λ j. not (eq_by_cmp R.compare k j)) es ≡ remove es at
 
   -- no entry has the key, which would stand at the index
-  pub record IsOut (k : K) (es : List (K × V)) (at : ℕ) : Type 0 where
+  pub record FitsAt (k : K) (es : List (K × V)) (at : ℕ) : Type 0 where
     pub within : at ≤ length es
     pub none : find R.compare k es ≡ None
-    pub entered_there : (v : V) → put R.compare k v es ≡ insert es at (k, v)
+    pub put_there : (v : V) → put R.compare k v es ≡ insert es at (k, v)
     pub kept : where_key R.compare (λ j. not (eq_by_cmp R.compare k j)) es ≡ es
 
   -- where a key stands by the first entry
@@ -146,9 +146,9 @@ module _ {K V : Type 0} (R : Order K) where
       turn true = refl
       turn false = refl
 
-  out_kept : (k : K) (es : List (K × V)) → is_some (find R.compare k es) ≡ false → where_key R.compare (λ j. not (eq_by_cmp R.compare k j)) es ≡ es
-  out_kept k [] out = refl
-  out_kept k (e ∷ es) out = at (out_kept k es) (eq_by_cmp R.compare k e.0) out
+  kept_without : (k : K) (es : List (K × V)) → is_some (find R.compare k es) ≡ false → where_key R.compare (λ j. not (eq_by_cmp R.compare k j)) es ≡ es
+  kept_without k [] out = refl
+  kept_without k (e ∷ es) out = at (kept_without k es) (eq_by_cmp R.compare k e.0) out
     where
       at : (is_some (find R.compare k es) ≡ false → where_key R.compare (λ j. not (eq_by_cmp R.compare k j)) es ≡ es)
           → (b : Bool) → is_some (cond b (Some e.1) (find R.compare k es)) ≡ false
@@ -156,19 +156,19 @@ module _ {K V : Type 0} (R : Order K) where
       at rest true out = absurd (true_or_false true refl out)
       at rest false out = ap (λ es. e ∷ es) (rest out)
 
-  held_first : (k : K) (e : K × V) (es : List (K × V)) → R.compare k e.0 ≡ Equal → T (below_all R.compare e.0 es) → IsHeld k (e ∷ es) 0
-  held_first k e es p below =
+  stands_first : (k : K) (e : K × V) (es : List (K × V)) → R.compare k e.0 ≡ Equal → T (below_all R.compare e.0 es) → StandsAt k (e ∷ es) 0
+  stands_first k e es p below =
       let rest = where_key R.compare (λ j. not (eq_by_cmp R.compare k j)) es in
       let out : find R.compare k es ≡ None = subst (λ j. find R.compare j es ≡ None) (sym (R.exact k e.0 p)) (find_below R e.0 es below) in
       record {
         within = omega arith;
         value = λ d. ap (λ r. cond (is_eq r) (Some e.1) (find R.compare k es)) p;
         replaced = λ v d. ap (λ r. by_order r ((k, v) ∷ e ∷ es) ((e.0, v) ∷ es) (e ∷ put R.compare k v es)) p;
-        removed = ap (λ r. cond (not (is_eq r)) (e ∷ rest) rest) p ∙ out_kept k es (ap is_some out);
+        removed = ap (λ r. cond (not (is_eq r)) (e ∷ rest) rest) p ∙ kept_without k es (ap is_some out);
       }
 
-  held_behind : (k : K) (e : K × V) (es : List (K × V)) (at : ℕ) → R.compare k e.0 ≡ Greater → IsHeld k es at → IsHeld k (e ∷ es) (suc at)
-  held_behind k e es at p held =
+  stands_behind : (k : K) (e : K × V) (es : List (K × V)) (at : ℕ) → R.compare k e.0 ≡ Greater → StandsAt k es at → StandsAt k (e ∷ es) (suc at)
+  stands_behind k e es at p held =
       let rest = where_key R.compare (λ j. not (eq_by_cmp R.compare k j)) es in
       record {
         within = omega (arith, held.within);
@@ -178,21 +178,21 @@ module _ {K V : Type 0} (R : Order K) where
       }
 
   -- a key that is found has the first entry from it on
-  pub held : (k : K) (es : List (K × V)) → T (is_sorted R.compare es) → is_some (find R.compare k es) ≡ true → IsHeld k es (first_from R.compare (Included k) es)
-  held k [] sorted some = absurd (true_or_false false some refl)
-  held k (e ∷ es) sorted some = at (held k es (right_part _ _ sorted)) (R.compare k e.0) refl
+  stands_there : (k : K) (es : List (K × V)) → T (is_sorted R.compare es) → is_some (find R.compare k es) ≡ true → StandsAt k es (first_from R.compare (Included k) es)
+  stands_there k [] sorted some = absurd (true_or_false false some refl)
+  stands_there k (e ∷ es) sorted some = at (stands_there k es (right_part _ _ sorted)) (R.compare k e.0) refl
     where
-      at : (is_some (find R.compare k es) ≡ true → IsHeld k es (first_from R.compare (Included k) es))
-          → (r : Ordering) → R.compare k e.0 ≡ r → IsHeld k (e ∷ es) (first_from R.compare (Included k) (e ∷ es))
+      at : (is_some (find R.compare k es) ≡ true → StandsAt k es (first_from R.compare (Included k) es))
+          → (r : Ordering) → R.compare k e.0 ≡ r → StandsAt k (e ∷ es) (first_from R.compare (Included k) (e ∷ es))
       at rest Less p = absurd (true_or_false false (sym (ap is_some (none_lower k e es p (left_part _ _ sorted))) ∙ some) refl)
-      at rest Equal p = subst (IsHeld k (e ∷ es)) (sym (first_is k e es Equal p)) (held_first k e es p (left_part _ _ sorted))
+      at rest Equal p = subst (StandsAt k (e ∷ es)) (sym (first_is k e es Equal p)) (stands_first k e es p (left_part _ _ sorted))
       at rest Greater p =
-          subst (IsHeld k (e ∷ es)) (sym (first_is k e es Greater p))
-          (held_behind k e es _ p (rest (sym (ap (λ r. is_some (cond (is_eq r) (Some e.1) (find R.compare k es))) p) ∙ some)))
+          subst (StandsAt k (e ∷ es)) (sym (first_is k e es Greater p))
+          (stands_behind k e es _ p (rest (sym (ap (λ r. is_some (cond (is_eq r) (Some e.1) (find R.compare k es))) p) ∙ some)))
 
-  put_there : (k : K) (v : V) (es : List (K × V)) → is_some (find R.compare k es) ≡ false → put R.compare k v es ≡ insert es (first_from R.compare (Included k) es) (k, v)
-  put_there k v [] out = refl
-  put_there k v (e ∷ es) out = at (put_there k v es) (R.compare k e.0) refl
+  put_without : (k : K) (v : V) (es : List (K × V)) → is_some (find R.compare k es) ≡ false → put R.compare k v es ≡ insert es (first_from R.compare (Included k) es) (k, v)
+  put_without k v [] out = refl
+  put_without k v (e ∷ es) out = at (put_without k v es) (R.compare k e.0) refl
     where
       choice : (r : Ordering) → R.compare k e.0 ≡ r → put R.compare k v (e ∷ es) ≡ by_order r ((k, v) ∷ e ∷ es) ((e.0, v) ∷ es) (e ∷ put R.compare k v es)
       choice r p = ap (λ r. by_order r ((k, v) ∷ e ∷ es) ((e.0, v) ∷ es) (e ∷ put R.compare k v es)) p
@@ -206,34 +206,16 @@ module _ {K V : Type 0} (R : Order K) where
           ∙ ap (λ n. insert (e ∷ es) n (k, v)) (sym (first_is k e es Greater p))
 
   -- a key that isn't found would stand there
-  pub out_there : (k : K) (es : List (K × V)) → is_some (find R.compare k es) ≡ false → IsOut k es (first_from R.compare (Included k) es)
-  out_there k es out = record {
+  fits_there : (k : K) (es : List (K × V)) → is_some (find R.compare k es) ≡ false → FitsAt k es (first_from R.compare (Included k) es)
+  fits_there k es out = record {
     within = before_within (λ (e : K × V). is_from R.compare (Included k) e.0) es;
     none = not_some (find R.compare k es) out;
-    entered_there = λ v. put_there k v es out;
-    kept = out_kept k es out;
+    put_there = λ v. put_without k v es out;
+    kept = kept_without k es out;
   }
 
-  -- what a search answers
-  abbrev pub searched : K → List (K × V) → Result ℕ ℕ
-  searched k es = cond (is_some (find R.compare k es)) (Ok (first_from R.compare (Included k) es)) (Err (first_from R.compare (Included k) es))
-
-  pub held_where : (k : K) (es : List (K × V)) (at : ℕ) → T (is_sorted R.compare es) → searched k es ≡ Ok at → IsHeld k es at
-  held_where k es at sorted answer = by (is_some (find R.compare k es)) refl answer
-    where
-      by : (b : Bool) → is_some (find R.compare k es) ≡ b → cond b (Ok (first_from R.compare (Included k) es)) (Err (first_from R.compare (Included k) es)) ≡ Ok at → IsHeld k es at
-      by true some answer = let same : first_from R.compare (Included k) es ≡ at = cc answer in subst (IsHeld k es) same (held k es sorted some)
-      by false out answer = cc answer
-
-  pub out_where : (k : K) (es : List (K × V)) (at : ℕ) → searched k es ≡ Err at → IsOut k es at
-  out_where k es at answer = by (is_some (find R.compare k es)) refl answer
-    where
-      by : (b : Bool) → is_some (find R.compare k es) ≡ b → cond b (Ok (first_from R.compare (Included k) es)) (Err (first_from R.compare (Included k) es)) ≡ Err at → IsOut k es at
-      by true some answer = cc answer
-      by false out answer = let same : first_from R.compare (Included k) es ≡ at = cc answer in subst (IsOut k es) same (out_there k es out)
-
   -- whether a key is found shows at the first entry from it on
-  pub some_there : (k : K) (es : List (K × V)) (d : K × V) → T (is_sorted R.compare es) → first_from R.compare (Included k) es < length es
+  some_there : (k : K) (es : List (K × V)) (d : K × V) → T (is_sorted R.compare es) → first_from R.compare (Included k) es < length es
       → is_some (find R.compare k es) ≡ eq_by_cmp R.compare k (get_or es (first_from R.compare (Included k) es) d).0
   some_there k [] d sorted within = absurd (omega (arith, within))
   some_there k (e ∷ es) d sorted within = at (some_there k es d (right_part _ _ sorted)) (R.compare k e.0) refl
@@ -246,6 +228,39 @@ module _ {K V : Type 0} (R : Order K) where
           ap (λ r. is_some (cond (is_eq r) (Some e.1) (find R.compare k es))) p
           ∙ rest (omega (arith, within, first_is k e es Greater p))
           ∙ sym (ap (λ n. eq_by_cmp R.compare k (get_or (e ∷ es) n d).0) (first_is k e es Greater p))
+
+  -- what a search answers
+  abbrev pub searched : K → List (K × V) → Result ℕ ℕ
+  searched k es = cond (is_some (find R.compare k es)) (Ok (first_from R.compare (Included k) es)) (Err (first_from R.compare (Included k) es))
+
+  -- the answer where the first entry from the key on is this one
+  pub searched_at : (k : K) (es : List (K × V)) (at : ℕ) (e : K × V) → T (is_sorted R.compare es) → at ≡ first_from R.compare (Included k) es → at < length es → e ≡ get_or es at e
+      → searched k es ≡ cond (eq_by_cmp R.compare k e.0) (Ok at) (Err at)
+  searched_at k es at e sorted same within here =
+      let first = first_from R.compare (Included k) es in
+      let tied : is_some (find R.compare k es) ≡ eq_by_cmp R.compare k e.0 =
+          some_there k es e sorted (omega (arith, same, within)) ∙ ap (λ (d : K × V). eq_by_cmp R.compare k d.0) (ap (λ n. get_or es n e) (sym same) ∙ sym here) in
+      ap (λ b. cond b (Ok first) (Err first)) tied ∙ ap (λ n. cond (eq_by_cmp R.compare k e.0) (Ok n) (Err n)) (sym same)
+
+  -- the answer where no entry is from the key on
+  pub searched_past : (k : K) (es : List (K × V)) (at : ℕ) → at ≡ first_from R.compare (Included k) es → length es ≤ at → searched k es ≡ Err at
+  searched_past k es at same past =
+      let first = first_from R.compare (Included k) es in
+      ap (λ (o : Option V). cond (is_some o) (Ok first) (Err first)) (none_from (Included k) es k (omega (arith, same, past)) (from_itself R k)) ∙ ap Err (sym same)
+
+  pub stands_where : (k : K) (es : List (K × V)) (at : ℕ) → T (is_sorted R.compare es) → searched k es ≡ Ok at → StandsAt k es at
+  stands_where k es at sorted answer = by (is_some (find R.compare k es)) refl answer
+    where
+      by : (b : Bool) → is_some (find R.compare k es) ≡ b → cond b (Ok (first_from R.compare (Included k) es)) (Err (first_from R.compare (Included k) es)) ≡ Ok at → StandsAt k es at
+      by true some answer = let same : first_from R.compare (Included k) es ≡ at = cc answer in subst (StandsAt k es) same (stands_there k es sorted some)
+      by false out answer = cc answer
+
+  pub fits_where : (k : K) (es : List (K × V)) (at : ℕ) → searched k es ≡ Err at → FitsAt k es at
+  fits_where k es at answer = by (is_some (find R.compare k es)) refl answer
+    where
+      by : (b : Bool) → is_some (find R.compare k es) ≡ b → cond b (Ok (first_from R.compare (Included k) es)) (Err (first_from R.compare (Included k) es)) ≡ Err at → FitsAt k es at
+      by true some answer = cc answer
+      by false out answer = let same : first_from R.compare (Included k) es ≡ at = cc answer in subst (FitsAt k es) same (fits_there k es out)
 
   -- sorted entries stay sorted by an edit
   pub is_sorted-entered : (es : List (K × V)) (k : K) (w : Option V) → T (is_sorted R.compare es) → T (is_sorted R.compare (entered R.compare es k w))

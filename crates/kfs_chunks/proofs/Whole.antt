@@ -1,6 +1,6 @@
 -- What the one table of the chunks has at a key.
 use Rattle.std.proofs.Common.{◌≡◌, ◌<◌, ◌≤◌, suc, length, get_or, arith, Bool, true, false, cond, not, List, [], ◌∷◌, Option, Some, None, refl, sym, ap, ◌∙◌}
-use Rattle.std.specs.Ordering.{is_lt, eq_by_cmp}
+use Rattle.std.specs.Ordering.{is_lt}
 use Rattle.std.specs.declared.cmp.Ordering.{Ordering}
 use Rattle.std.specs.declared.sync.Arc.{Arc}
 use Rattle.kfs_model.specs.Table.{Order, Table, get, option_or, insert, remove, retain}

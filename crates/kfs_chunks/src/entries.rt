@@ -83,9 +83,7 @@ impl<K: Key, V: Copy, A: Allocator> Entries<K, V, A> {
             (Ok(at), None) => {
                 let _ = self.pairs.remove(at);
             }
-            (Err(at), Some(value)) => {
-                let _ = self.pairs.insert(at, (key.duplicate(), value));
-            }
+            (Err(at), Some(value)) => self.pairs.insert(at, (key.duplicate(), value)).unwrap(),
             (Err(_), None) => {}
         }
     }
@@ -97,13 +95,13 @@ impl<K: Key, V: Copy, A: Allocator> Entries<K, V, A> {
         ensures least { IfSome result (λ p. (q : K) → is_from K.cmp (bound_map (λ x. x.now) start.entry) q ≡ true → IsSome (find K.cmp q self.now.pairs) → is_lt (K.cmp q p.0.now) ≡ false) }
         ensures none { IfNone result ((q : K) → is_from K.cmp (bound_map (λ x. x.now) start.entry) q ≡ true → find K.cmp q self.now.pairs ≡ None) }
     {
-        let (key, value) = self.pairs.get(place(&self.pairs, start))?;
+        let (key, value) = self.pairs.get(first_from(&self.pairs, start))?;
         Some((key, value))
     }
 }
 
 /// The index of the first entry from the start on, or else their number.
-fn place<K: Key, V: Copy>(pairs: &[(K, V)], start: Bound<&K>) -> usize
+fn first_from<K: Key, V: Copy>(pairs: &[(K, V)], start: Bound<&K>) -> usize
     requires { T (is_sorted K.cmp pairs.now) }
     ensures { result ≡ first_from K.cmp (bound_map (λ x. x.now) start.entry) pairs.now }
 {
@@ -115,10 +113,14 @@ fn search<K: Key, V: Copy>(pairs: &[(K, V)], key: &K) -> Result<usize, usize>
     requires { T (is_sorted K.cmp pairs.now) }
     ensures { result ≡ (let at = first_from K.cmp (Included key.now) pairs.now in if is_some (find K.cmp key.now pairs.now) then Ok at else Err at) }
 {
-    let at = place(pairs, Bound::Included(key));
-    match pairs.get(at) {
-        Some(pair) if key.cmp(&pair.0).is_eq() => Ok(at),
-        _ => Err(at),
+    let at = first_from(pairs, Bound::Included(key));
+    let Some(pair) = pairs.get(at) else {
+        return Err(at);
+    };
+    if key.cmp(&pair.0).is_eq() {
+        Ok(at)
+    } else {
+        Err(at)
     }
 }
 

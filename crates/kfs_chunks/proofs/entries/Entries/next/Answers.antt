@@ -13,10 +13,10 @@ returns-in_err-key-clause-none g c =
     let order = order_by g.K.Key.order cmp g.met.K.Key.compared in
     let start = bound_map (λ (x : Bor g.row.K.Denot). x.now) c.args.start in
     let es = c.self.inside.pairs.items in
-    let past : length c.deref.result.now ≤ c.place.result = search rules in
+    let past : length c.deref.result.now ≤ c.first_from.result = search rules in
     subst (λ r. IfNone r ((q : g.row.K.Denot) → is_from cmp start q ≡ true → find cmp q c.args.self.now.pairs ≡ None)) (sym c.from_residual.ensures) (λ q from.
     ap (λ s. find cmp q s.pairs) (sym c.self.view_is)
-    ∙ none_from order start es q (omega (arith, past, ap length c.deref.ensures.value, c.place.ensures, ap (first_from cmp start) c.deref-2.ensures.value)) from)
+    ∙ none_from order start es q (omega (arith, past, ap length c.deref.ensures.value, c.first_from.ensures, ap (first_from cmp start) c.deref-2.ensures.value)) from)
 
 pub returns-clause-shown : goal.returns-clause-shown
 returns-clause-shown g c =
@@ -25,11 +25,11 @@ returns-clause-shown g c =
     let start = bound_map (λ (x : Bor g.row.K.Denot). x.now) c.args.start in
     let es = c.self.inside.pairs.items in
     let pair = c.in_ok-key.field-0.now in
-    let within : c.place.result < length c.deref.result.now = search rules in
-    let here : pair ≡ get_or c.deref.result.now c.place.result pair = search rules in
+    let within : c.first_from.result < length c.deref.result.now = search rules in
+    let here : pair ≡ get_or c.deref.result.now c.first_from.result pair = search rules in
     ap (λ s. find cmp pair.0 s.pairs) (sym c.self.view_is)
-    ∙ subst (λ (e : g.row.K.Denot × g.row.V.Denot). find cmp e.0 es ≡ Some e.1) (sym (here ∙ ap (λ es. get_or es c.place.result pair) c.deref.ensures.value))
-    (find_itself order es c.place.result pair c.self.invariant (omega (arith, within, ap length c.deref.ensures.value)))
+    ∙ subst (λ (e : g.row.K.Denot × g.row.V.Denot). find cmp e.0 es ≡ Some e.1) (sym (here ∙ ap (λ es. get_or es c.first_from.result pair) c.deref.ensures.value))
+    (find_itself order es c.first_from.result pair c.self.invariant (omega (arith, within, ap length c.deref.ensures.value)))
 
 pub returns-clause-within : goal.returns-clause-within
 returns-clause-within g c =
@@ -37,10 +37,10 @@ returns-clause-within g c =
     let start = bound_map (λ (x : Bor g.row.K.Denot). x.now) c.args.start in
     let es = c.self.inside.pairs.items in
     let pair = c.in_ok-key.field-0.now in
-    let within : c.place.result < length c.deref.result.now = search rules in
-    let here : pair ≡ get_or c.deref.result.now c.place.result pair = search rules in
-    let at : c.place.result ≡ first_from cmp start es = c.place.ensures ∙ ap (first_from cmp start) c.deref-2.ensures.value in
-    ap (λ (e : g.row.K.Denot × g.row.V.Denot). is_from cmp start e.0) (here ∙ ap (λ es. get_or es c.place.result pair) c.deref.ensures.value ∙ ap (λ n. get_or es n pair) at)
+    let within : c.first_from.result < length c.deref.result.now = search rules in
+    let here : pair ≡ get_or c.deref.result.now c.first_from.result pair = search rules in
+    let at : c.first_from.result ≡ first_from cmp start es = c.first_from.ensures ∙ ap (first_from cmp start) c.deref-2.ensures.value in
+    ap (λ (e : g.row.K.Denot × g.row.V.Denot). is_from cmp start e.0) (here ∙ ap (λ es. get_or es c.first_from.result pair) c.deref.ensures.value ∙ ap (λ n. get_or es n pair) at)
     ∙ before_passes (λ e. is_from cmp start e.0) es pair (omega (arith, within, at, ap length c.deref.ensures.value))
 
 pub returns-clause-least : goal.returns-clause-least
@@ -50,9 +50,9 @@ returns-clause-least g c =
     let start = bound_map (λ (x : Bor g.row.K.Denot). x.now) c.args.start in
     let es = c.self.inside.pairs.items in
     let pair = c.in_ok-key.field-0.now in
-    let within : c.place.result < length c.deref.result.now = search rules in
-    let here : pair ≡ get_or c.deref.result.now c.place.result pair = search rules in
-    let at : c.place.result ≡ first_from cmp start es = c.place.ensures ∙ ap (first_from cmp start) c.deref-2.ensures.value in
+    let within : c.first_from.result < length c.deref.result.now = search rules in
+    let here : pair ≡ get_or c.deref.result.now c.first_from.result pair = search rules in
+    let at : c.first_from.result ≡ first_from cmp start es = c.first_from.ensures ∙ ap (first_from cmp start) c.deref-2.ensures.value in
     λ q from some.
-        ap (λ (e : g.row.K.Denot × g.row.V.Denot). is_lt (cmp q e.0)) (here ∙ ap (λ es. get_or es c.place.result pair) c.deref.ensures.value ∙ ap (λ n. get_or es n pair) at)
+        ap (λ (e : g.row.K.Denot × g.row.V.Denot). is_lt (cmp q e.0)) (here ∙ ap (λ es. get_or es c.first_from.result pair) c.deref.ensures.value ∙ ap (λ n. get_or es n pair) at)
         ∙ least_from order start es pair q c.self.invariant (omega (arith, within, at, ap length c.deref.ensures.value)) from (ap (λ s. is_some (find cmp q s.pairs)) c.self.view_is ∙ some)

@@ -4,7 +4,7 @@ use Rattle.std.proofs.lemmas.List.Sorted.{IsPartitionPoint-from_clause}
 use Rattle.kfs_chunks.specs.Starts.{is_from}
 use Rattle.kfs_chunks.proofs.Places.{before_is}
 use Rattle.kfs_chunks.proofs.Sorted.{order_by, parted}
-use Rattle.kfs_chunks.proofs.entries.place.Goals as goal
+use Rattle.kfs_chunks.proofs.entries.first_from.Goals as goal
 
 pub returns : goal.returns
 returns g c =
