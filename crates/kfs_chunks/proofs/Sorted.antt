@@ -118,6 +118,7 @@ module _ {K V : Type 0} (R : Order K) where
       first Less p = absurd (true_or_false true refl (sym some ∙ ap is_some (none_lower q e es p (left_part _ _ sorted))))
       first Equal p = ap is_lt p
       first Greater p = ap is_lt p
+
       at : (first_from R.compare start es < length es → IsSome (find R.compare q es) → is_lt (R.compare q (get_or es (first_from R.compare start es) d).0) ≡ false)
           → (b : Bool) → is_from R.compare start e.0 ≡ b → cond b 0 (suc (first_from R.compare start es)) < suc (length es)
           → is_lt (R.compare q (get_or (e ∷ es) (cond b 0 (suc (first_from R.compare start es))) d).0) ≡ false
@@ -196,6 +197,7 @@ module _ {K V : Type 0} (R : Order K) where
     where
       choice : (r : Ordering) → R.compare k e.0 ≡ r → put R.compare k v (e ∷ es) ≡ by_order r ((k, v) ∷ e ∷ es) ((e.0, v) ∷ es) (e ∷ put R.compare k v es)
       choice r p = ap (λ r. by_order r ((k, v) ∷ e ∷ es) ((e.0, v) ∷ es) (e ∷ put R.compare k v es)) p
+
       at : (is_some (find R.compare k es) ≡ false → put R.compare k v es ≡ insert es (first_from R.compare (Included k) es) (k, v))
           → (r : Ordering) → R.compare k e.0 ≡ r → put R.compare k v (e ∷ es) ≡ insert (e ∷ es) (first_from R.compare (Included k) (e ∷ es)) (k, v)
       at rest Less p = choice Less p ∙ ap (λ n. insert (e ∷ es) n (k, v)) (sym (first_is k e es Less p))
@@ -239,7 +241,7 @@ module _ {K V : Type 0} (R : Order K) where
   searched_at k es at e sorted same within here =
       let first = first_from R.compare (Included k) es in
       let tied : is_some (find R.compare k es) ≡ eq_by_cmp R.compare k e.0 =
-          some_there k es e sorted (omega (arith, same, within)) ∙ ap (λ (d : K × V). eq_by_cmp R.compare k d.0) (ap (λ n. get_or es n e) (sym same) ∙ sym here) in
+      some_there k es e sorted (omega (arith, same, within)) ∙ ap (λ (d : K × V). eq_by_cmp R.compare k d.0) (ap (λ n. get_or es n e) (sym same) ∙ sym here) in
       ap (λ b. cond b (Ok first) (Err first)) tied ∙ ap (λ n. cond (eq_by_cmp R.compare k e.0) (Ok n) (Err n)) (sym same)
 
   -- the answer where no entry is from the key on

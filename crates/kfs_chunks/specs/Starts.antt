@@ -1,9 +1,10 @@
 -- Where a walk over entries in the order of their keys begins.
-use Rattle.std.specs.Prelude.{ℕ, suc, Bool, true, not, List, [], ◌∷◌, if◌then◌else◌}
+use Rattle.std.specs.Prelude.{◌≡◌, ℕ, suc, Bool, true, false, not, List, [], ◌∷◌, Some, IsSome, if◌then◌else◌}
 use Rattle.std.specs.declared.cmp.Ordering.{Ordering}
 use Rattle.std.specs.declared.ops.Bound.{Bound}
 use Rattle.std.specs.declared.ops.Bound.TheVariants.{Included, Excluded, Unbounded}
 use Rattle.std.specs.Ordering.{is_lt, is_gt}
+use Rattle.std.specs.FinMap.Entries.{find}
 
 module _ {X : Type 0} where
   -- how many come before the first that passes the test
@@ -21,3 +22,9 @@ module _ {K : Type 0} (cmp : K → K → Ordering) where
   -- the index of the first entry from the start on, or else their number
   abbrev pub first_from : {V : Type 0} → Bound K → List (K × V) → ℕ
   first_from start entries = before (λ e. is_from start e.0) entries
+
+  -- the entry is the first from the start on
+  pub record IsNext {V : Type 0} (start : Bound K) (entries : List (K × V)) (key : K) (value : V) : Type 0 where
+    pub found : find cmp key entries ≡ Some value
+    pub within : is_from start key ≡ true
+    pub least : (q : K) → is_from start q ≡ true → IsSome (find cmp q entries) → is_lt (cmp q key) ≡ false

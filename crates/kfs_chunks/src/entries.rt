@@ -1,12 +1,11 @@
 //! The entries of a chunk: keys with their values in one block of memory, the keys ascending.
-ghost use Rattle.std.specs.Prelude.{◌≡◌, ◌<◌, ◌≤◌, ◌+◌, [], T, true, false, is_some, IsSome, IfSome, IfNone, OnOk, Some, None, Ok, Err, if◌then◌else◌};
+ghost use Rattle.std.specs.Prelude.{◌≡◌, ◌<◌, ◌≤◌, ◌+◌, [], T, true, is_some, IfSome, IfNone, OnOk, Some, None, Ok, Err, if◌then◌else◌};
 ghost use Rattle.std.specs.Option.{option_copied};
-ghost use Rattle.std.specs.Ordering.{is_lt};
 ghost use Rattle.std.specs.FinMap.Entries.{find, is_sorted};
 ghost use Rattle.std.specs.Range.Bound.{bound_map};
 ghost use Rattle.std.specs.declared.ops.Bound.TheVariants.{Included};
 ghost use Rattle.kfs_chunks.specs.Edits.{entered};
-ghost use Rattle.kfs_chunks.specs.Starts.{is_from, first_from};
+ghost use Rattle.kfs_chunks.specs.Starts.{is_from, first_from, IsNext};
 
 use crate::key::Key;
 use std::alloc::{AllocError, Allocator};
@@ -90,9 +89,7 @@ impl<K: Key, V: Copy, A: Allocator> Entries<K, V, A> {
 
     /// The first entry from the start on.
     pub(crate) fn next(&self, start: Bound<&K>) -> Option<(&K, &V)>
-        ensures shown { IfSome result (λ p. find K.cmp p.0.now self.now.pairs ≡ Some p.1.now) }
-        ensures within { IfSome result (λ p. is_from K.cmp (bound_map (λ x. x.now) start.entry) p.0.now ≡ true) }
-        ensures least { IfSome result (λ p. (q : K) → is_from K.cmp (bound_map (λ x. x.now) start.entry) q ≡ true → IsSome (find K.cmp q self.now.pairs) → is_lt (K.cmp q p.0.now) ≡ false) }
+        ensures some { IfSome result (λ p. IsNext K.cmp (bound_map (λ x. x.now) start.entry) self.now.pairs p.0.now p.1.now) }
         ensures none { IfNone result ((q : K) → is_from K.cmp (bound_map (λ x. x.now) start.entry) q ≡ true → find K.cmp q self.now.pairs ≡ None) }
     {
         let (key, value) = self.pairs.get(first_from(&self.pairs, start))?;

@@ -10,7 +10,7 @@ pub index_mut-requires : goal.index_mut-requires
 index_mut-requires g c =
     let order = order_by g.K.Key.order g.K.Ord.cmp g.met.K.Key.compared in
     let held : StandsAt order c.args.key.now c.self.inside.pairs.items c.in-Ok-Some.at =
-        stands_where order c.args.key.now c.self.inside.pairs.items c.in-Ok-Some.at c.self.invariant (ap (searched order c.args.key.now) (sym c.deref.ensures.value) ∙ sym c.search.ensures ∙ c.in-Ok-Some.is-0) in
+    stands_where order c.args.key.now c.self.inside.pairs.items c.in-Ok-Some.at c.self.invariant (ap (searched order c.args.key.now) (sym c.deref.ensures.value) ∙ sym c.search.ensures ∙ c.in-Ok-Some.is-0) in
     omega (arith, held.within, c.deref.ensures.len, ap length c.deref.ensures.value)
 
 pub invariant_of-self : goal.invariant_of-self
@@ -18,9 +18,9 @@ invariant_of-self g c =
     let order = order_by g.K.Key.order g.K.Ord.cmp g.met.K.Key.compared in
     let es = c.self.inside.pairs.items in
     let held : StandsAt order c.args.key.now es c.in-Ok-Some.at =
-        stands_where order c.args.key.now es c.in-Ok-Some.at c.self.invariant (ap (searched order c.args.key.now) (sym c.deref.ensures.value) ∙ sym c.search.ensures ∙ c.in-Ok-Some.is-0) in
+    stands_where order c.args.key.now es c.in-Ok-Some.at c.self.invariant (ap (searched order c.args.key.now) (sym c.deref.ensures.value) ∙ sym c.search.ensures ∙ c.in-Ok-Some.is-0) in
     let same : slice_set es c.in-Ok-Some.at (c.index_mut.result.now.0, c.in-Ok-Some.value) ≡ entered g.K.Ord.cmp es c.args.key.now (Some c.in-Ok-Some.value) =
-        ap (λ e. slice_set es c.in-Ok-Some.at (e.0, c.in-Ok-Some.value)) c.index_mut.ensures.value ∙ sym (held.replaced c.in-Ok-Some.value c.index_mut.result.now) in
+    ap (λ e. slice_set es c.in-Ok-Some.at (e.0, c.in-Ok-Some.value)) c.index_mut.ensures.value ∙ sym (held.replaced c.in-Ok-Some.value c.index_mut.result.now) in
     subst (λ es. T (is_sorted g.K.Ord.cmp es)) (sym same) (is_sorted-entered order es c.args.key.now (Some c.in-Ok-Some.value) c.self.invariant)
 
 pub returns-in-Ok-Some-clause-pairs : goal.returns-in-Ok-Some-clause-pairs
@@ -28,7 +28,7 @@ returns-in-Ok-Some-clause-pairs g c =
     let order = order_by g.K.Key.order g.K.Ord.cmp g.met.K.Key.compared in
     let es = c.self.inside.pairs.items in
     let held : StandsAt order c.args.key.now es c.in-Ok-Some.at =
-        stands_where order c.args.key.now es c.in-Ok-Some.at c.self.invariant (ap (searched order c.args.key.now) (sym c.deref.ensures.value) ∙ sym c.search.ensures ∙ c.in-Ok-Some.is-0) in
+    stands_where order c.args.key.now es c.in-Ok-Some.at c.self.invariant (ap (searched order c.args.key.now) (sym c.deref.ensures.value) ∙ sym c.search.ensures ∙ c.in-Ok-Some.is-0) in
     ap (λ e. slice_set es c.in-Ok-Some.at (e.0, c.in-Ok-Some.value)) c.index_mut.ensures.value
     ∙ sym (held.replaced c.in-Ok-Some.value c.index_mut.result.now)
     ∙ ap (entered g.K.Ord.cmp es c.args.key.now) (sym c.in-Ok-Some.is-1)
@@ -38,7 +38,7 @@ pub remove-requires : goal.remove-requires
 remove-requires g c =
     let order = order_by g.K.Key.order g.K.Ord.cmp g.met.K.Key.compared in
     let held : StandsAt order c.args.key.now c.self.inside.pairs.items c.in-Ok-None.at =
-        stands_where order c.args.key.now c.self.inside.pairs.items c.in-Ok-None.at c.self.invariant (ap (searched order c.args.key.now) (sym c.deref.ensures.value) ∙ sym c.search.ensures ∙ c.in-Ok-None.is-0) in
+    stands_where order c.args.key.now c.self.inside.pairs.items c.in-Ok-None.at c.self.invariant (ap (searched order c.args.key.now) (sym c.deref.ensures.value) ∙ sym c.search.ensures ∙ c.in-Ok-None.is-0) in
     omega (arith, held.within, c.deref.ensures.len, ap length c.deref.ensures.value)
 
 pub invariant_of-self-in-Ok-None : goal.invariant_of-self-in-Ok-None
@@ -46,7 +46,7 @@ invariant_of-self-in-Ok-None g c =
     let order = order_by g.K.Key.order g.K.Ord.cmp g.met.K.Key.compared in
     let es = c.self.inside.pairs.items in
     let held : StandsAt order c.args.key.now es c.in-Ok-None.at =
-        stands_where order c.args.key.now es c.in-Ok-None.at c.self.invariant (ap (searched order c.args.key.now) (sym c.deref.ensures.value) ∙ sym c.search.ensures ∙ c.in-Ok-None.is-0) in
+    stands_where order c.args.key.now es c.in-Ok-None.at c.self.invariant (ap (searched order c.args.key.now) (sym c.deref.ensures.value) ∙ sym c.search.ensures ∙ c.in-Ok-None.is-0) in
     subst (λ es. T (is_sorted g.K.Ord.cmp es)) (sym (c.remove.ensures.items ∙ sym held.removed)) (is_sorted-entered order es c.args.key.now None c.self.invariant)
 
 pub returns-in-Ok-None-clause-pairs : goal.returns-in-Ok-None-clause-pairs
@@ -54,7 +54,7 @@ returns-in-Ok-None-clause-pairs g c =
     let order = order_by g.K.Key.order g.K.Ord.cmp g.met.K.Key.compared in
     let es = c.self.inside.pairs.items in
     let held : StandsAt order c.args.key.now es c.in-Ok-None.at =
-        stands_where order c.args.key.now es c.in-Ok-None.at c.self.invariant (ap (searched order c.args.key.now) (sym c.deref.ensures.value) ∙ sym c.search.ensures ∙ c.in-Ok-None.is-0) in
+    stands_where order c.args.key.now es c.in-Ok-None.at c.self.invariant (ap (searched order c.args.key.now) (sym c.deref.ensures.value) ∙ sym c.search.ensures ∙ c.in-Ok-None.is-0) in
     c.remove.ensures.items
     ∙ sym held.removed
     ∙ ap (entered g.K.Ord.cmp es c.args.key.now) (sym c.in-Ok-None.is-1)
@@ -64,7 +64,7 @@ pub insert-requires : goal.insert-requires
 insert-requires g c =
     let order = order_by g.K.Key.order g.K.Ord.cmp g.met.K.Key.compared in
     let out : FitsAt order c.args.key.now c.self.inside.pairs.items c.in-Err-Some.at =
-        fits_where order c.args.key.now c.self.inside.pairs.items c.in-Err-Some.at (ap (searched order c.args.key.now) (sym c.deref.ensures.value) ∙ sym c.search.ensures ∙ c.in-Err-Some.is-0) in
+    fits_where order c.args.key.now c.self.inside.pairs.items c.in-Err-Some.at (ap (searched order c.args.key.now) (sym c.deref.ensures.value) ∙ sym c.search.ensures ∙ c.in-Err-Some.is-0) in
     omega (arith, out.within, c.deref.ensures.len, ap length c.deref.ensures.value)
 
 pub invariant_of-self-in-Err-Some : goal.invariant_of-self-in-Err-Some
@@ -74,10 +74,10 @@ invariant_of-self-in-Err-Some g c =
     let out : FitsAt order c.args.key.now es c.in-Err-Some.at = fits_where order c.args.key.now es c.in-Err-Some.at (ap (searched order c.args.key.now) (sym c.deref.ensures.value) ∙ sym c.search.ensures ∙ c.in-Err-Some.is-0) in
     let done : is_ok c.insert.result ≡ true = search rules in
     let same : c.insert.new.self.items ≡ entered g.K.Ord.cmp es c.args.key.now (Some c.in-Err-Some.value) =
-        c.insert.ensures.items
-        ∙ ap (λ b. cond b (insert es c.in-Err-Some.at (c.duplicate.result, c.in-Err-Some.value)) es) done
-        ∙ ap (λ k. insert es c.in-Err-Some.at (k, c.in-Err-Some.value)) c.duplicate.ensures
-        ∙ sym (out.put_there c.in-Err-Some.value) in
+    c.insert.ensures.items
+    ∙ ap (λ b. cond b (insert es c.in-Err-Some.at (c.duplicate.result, c.in-Err-Some.value)) es) done
+    ∙ ap (λ k. insert es c.in-Err-Some.at (k, c.in-Err-Some.value)) c.duplicate.ensures
+    ∙ sym (out.put_there c.in-Err-Some.value) in
     subst (λ es. T (is_sorted g.K.Ord.cmp es)) (sym same) (is_sorted-entered order es c.args.key.now (Some c.in-Err-Some.value) c.self.invariant)
 
 pub returns-in-Err-Some-clause-pairs : goal.returns-in-Err-Some-clause-pairs
