@@ -1,6 +1,6 @@
-mod Ahead
 mod Copies
 mod Places
+mod Sorted
 pub mod Tables
 mod Together
 mod Whole

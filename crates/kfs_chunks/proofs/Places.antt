@@ -3,9 +3,7 @@ use Rattle.std.proofs.Common.{◌≡◌, ◌<◌, ◌≤◌, ℕ, zero, suc, ◌
 use Rattle.std.proofs.Common.{Result, Ok, Err, drop, length-drop, inl, inr}
 use Rattle.std.proofs.lemmas.List.{get_or-drop}
 use Rattle.std.specs.Prelude.{OnOk, OnErr, ◌⊎◌}
-use Rattle.std.specs.Map.{lookup}
-use Rattle.std.specs.BTreeMap.{is_at}
-use Rattle.kfs_chunks.specs.Slots.{opened, shown_at}
+use Rattle.std.specs.FinMap.Entries.{find}
 use Rattle.std.proofs.lemmas.List.Elements.{All-tail}
 use Rattle.std.specs.declared.cmp.Ordering.{Ordering}
 use Rattle.std.specs.declared.cmp.Ordering.TheVariants.{Less, Equal, Greater}
@@ -16,6 +14,7 @@ use Rattle.std.specs.declared.sync.Arc.{Arc}
 use Rattle.kfs_chunks.specs.declared.edit.Edit.{Edit}
 use Rattle.kfs_chunks.specs.declared.chunk.Chunk.{Chunk}
 use Rattle.kfs_chunks.specs.Edits.{edited, Ascend}
+use Rattle.kfs_chunks.specs.Starts.{before}
 use Rattle.kfs_chunks.specs.Shown.{leasts, begun, place, AreFrom, Rise, ArePlaced}
 
 turned : (r : Ordering) → is_lt (ordering_reverse r) ≡ is_gt r
@@ -28,7 +27,7 @@ true_or_false true yes_ no_ = cc
 true_or_false false yes_ no_ = cc
 
 module _ {K : Type 0} {cmp : K → K → Ordering} (o : IsTotalOrder cmp) where
-  flipped : (a b : K) → is_lt (cmp a b) ≡ is_gt (cmp b a)
+  pub flipped : (a b : K) → is_lt (cmp a b) ≡ is_gt (cmp b a)
   flipped a b = ap is_lt (o.antisymm a b) ∙ turned (cmp b a)
 
   -- not below one that is not below a third
@@ -104,35 +103,35 @@ module _ {K V A : Type 0} {cmp : K → K → Ordering} (o : IsTotalOrder cmp) wh
   parted q (c ∷ cs) rise (suc i) zero d le below past = absurd (omega (arith, le))
   parted q (c ∷ cs) rise (suc i) (suc j) d le below past = parted q cs rise.1 i j d (omega (arith, le)) (omega (arith, below)) past
 
-module _ {K V A : Type 0} (cmp : K → K → Ordering) where
-  pub begun_is : (q : K) (cs : List (Arc (Chunk K V A) A)) (i : ℕ) → i ≤ length cs
-      → IsPartitionPoint (λ (y : Arc (Chunk K V A) A). not (is_lt (cmp q y.value.least)) ≡ true) (λ (y : Arc (Chunk K V A) A). not (is_lt (cmp q y.value.least)) ≡ false) cs i → begun cmp cs q ≡ i
-  begun_is q [] i le point = omega (arith, le)
-  begun_is q (c ∷ cs) zero le point = at (is_lt (cmp q c.value.least)) (point.1 0 c (omega arith) (omega arith))
+module _ {X : Type 0} (test : X → Bool) where
+  pub before_within : (xs : List X) → before test xs ≤ length xs
+  before_within [] = omega arith
+  before_within (x ∷ xs) = at (test x) (before_within xs)
     where
-      at : (b : Bool) → not b ≡ false → cond b 0 (suc (begun cmp cs q)) ≡ 0
+      at : (b : Bool) → before test xs ≤ length xs → cond b 0 (suc (before test xs)) ≤ suc (length xs)
+      at true rest = omega arith
+      at false rest = omega (arith, rest)
+
+  -- a partition point is how many come before the first that passes
+  pub before_is : (xs : List X) (i : ℕ) → i ≤ length xs → IsPartitionPoint (λ y. not (test y) ≡ true) (λ y. not (test y) ≡ false) xs i → before test xs ≡ i
+  before_is [] i le point = omega (arith, le)
+  before_is (x ∷ xs) zero le point = at (test x) (point.1 0 x (omega arith) (omega arith))
+    where
+      at : (b : Bool) → not b ≡ false → cond b 0 (suc (before test xs)) ≡ 0
       at true e = refl
       at false e = absurd (true_or_false true refl e)
-  begun_is q (c ∷ cs) (suc i) le point =
-      at (is_lt (cmp q c.value.least)) (point.0 0 c (omega arith) (omega arith)) (begun_is q cs i (omega (arith, le)) (λ k d low high. point.0 (suc k) d (omega arith) (omega (arith, high)), λ k d low high. point.1 (suc k) d (omega (arith, low)) (omega (arith, high))))
+  before_is (x ∷ xs) (suc i) le point =
+      at (test x) (point.0 0 x (omega arith) (omega arith)) (before_is xs i (omega (arith, le)) (λ k d low high. point.0 (suc k) d (omega arith) (omega (arith, high)), λ k d low high. point.1 (suc k) d (omega (arith, low)) (omega (arith, high))))
     where
-      at : (b : Bool) → not b ≡ true → begun cmp cs q ≡ i → cond b 0 (suc (begun cmp cs q)) ≡ suc i
+      at : (b : Bool) → not b ≡ true → before test xs ≡ i → cond b 0 (suc (before test xs)) ≡ suc i
       at true e rest = absurd (true_or_false false e refl)
       at false e rest = ap suc rest
 
 module _ {K V A : Type 0} (cmp : K → K → Ordering) where
-  begun_within : (cs : List (Arc (Chunk K V A) A)) (q : K) → begun cmp cs q ≤ length cs
-  begun_within [] q = omega arith
-  begun_within (c ∷ cs) q = at (is_lt (cmp q c.value.least)) (begun_within cs q)
-    where
-      at : (b : Bool) → begun cmp cs q ≤ length cs → cond b 0 (suc (begun cmp cs q)) ≤ suc (length cs)
-      at true rest = omega arith
-      at false rest = omega (arith, rest)
-
   -- the chunk that a key belongs to is one of them
   pub place_within : (cs : List (Arc (Chunk K V A) A)) (q : K) → 0 < length cs → place cmp cs q < length cs
   place_within [] q some = absurd (omega (arith, some))
-  place_within (c ∷ cs) q some = omega (arith, begun_within cs q)
+  place_within (c ∷ cs) q some = omega (arith, before_within (λ (chunk : Arc (Chunk K V A) A). is_lt (cmp q chunk.value.least)) cs)
 
   pub has_chunks : (cs : List (Arc (Chunk K V A) A)) (es : List (Edit K V)) → All (λ e. 0 < begun cmp cs e.key) es → 0 < length es → 0 < length cs
   has_chunks [] [] past some = some
@@ -180,9 +179,9 @@ module _ {K V : Type 0} (cmp : K → K → Ordering) where
 
 module _ {K V : Type 0} (cmp : K → K → Ordering) where
   -- a copy of a chunk shows the same
-  pub same_shows : {A : Type 0} (old new : Chunk K V A) → (new ≡ old) ⊎ ((new.least ≡ old.least) × (new.slots.entries ≡ old.slots.entries)) → (q : K) → shown_at cmp new.slots q ≡ shown_at cmp old.slots q
-  same_shows old new (inl same) q = ap (λ (x : Chunk K V _). shown_at cmp x.slots q) same
-  same_shows old new (inr same) q = ap (λ es. opened (lookup (is_at (cmp q)) es)) same.1
+  pub same_shows : {A : Type 0} (old new : Chunk K V A) → (new ≡ old) ⊎ ((new.least ≡ old.least) × (new.entries.pairs ≡ old.entries.pairs)) → (q : K) → find cmp q new.entries.pairs ≡ find cmp q old.entries.pairs
+  same_shows old new (inl same) q = ap (λ (x : Chunk K V _). find cmp q x.entries.pairs) same
+  same_shows old new (inr same) q = ap (find cmp q) same.1
 
 pub on_ok : {T E P : Type 0} (r : Result T E) → P → OnOk r P
 on_ok (Ok done) p = p

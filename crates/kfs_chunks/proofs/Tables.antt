@@ -25,7 +25,7 @@ module _ {K V : Type 0} (R : Order K) where
   unfolding get
   entries-table xs sorted = same_entries R.compare R.total R.exact (table R xs).entries xs (table R xs).sorted sorted (get-table xs)
 
-  pub find-entered : (xs : List (K × V)) (k : K) (w : Option V) (q : K) → find R.compare q (entered R xs k w) ≡ cond (eq_by_cmp R.compare q k) w (find R.compare q xs)
+  pub find-entered : (xs : List (K × V)) (k : K) (w : Option V) (q : K) → find R.compare q (entered R.compare xs k w) ≡ cond (eq_by_cmp R.compare q k) w (find R.compare q xs)
   unfolding get
   find-entered xs k None q =
       find-where_key R.compare (λ j. not (eq_by_cmp R.compare k j)) q (λ x e. ap (λ j. not (eq_by_cmp R.compare k j)) (sym (R.exact q x e))) xs
@@ -39,7 +39,7 @@ module _ {K V : Type 0} (R : Order K) where
   -- what is found after edits
   pub find-rewritten : (xs : List (K × V)) (es : List (Edit K V)) (q : K) → find R.compare q (rewritten R xs es) ≡ edited R.compare es q (find R.compare q xs)
   find-rewritten xs [] q = refl
-  find-rewritten xs (e ∷ es) q = find-rewritten (entered R xs e.key e.value) es q ∙ ap (edited R.compare es q) (find-entered xs e.key e.value q)
+  find-rewritten xs (e ∷ es) q = find-rewritten (entered R.compare xs e.key e.value) es q ∙ ap (edited R.compare es q) (find-entered xs e.key e.value q)
 
 module _ {K V : Type 0} {R : Order K} where
   pub get-table_after : (t : Table R V) (es : List (Edit K V)) (q : K) → get (table_after t es) q ≡ edited R.compare es q (get t q)

@@ -7,16 +7,17 @@ use Rattle.std.specs.FinMap.Entries.{put, where_key}
 use Rattle.kfs_model.specs.Table.{Order}
 use Rattle.kfs_chunks.specs.declared.edit.Edit.{Edit}
 
-module _ {K V : Type 0} (R : Order K) where
+module _ {K V : Type 0} (cmp : K → K → Ordering) where
   -- the entries with this at the key
   abbrev pub entered : List (K × V) → K → Option V → List (K × V)
-  entered entries key None = where_key R.compare (λ k. not (eq_by_cmp R.compare key k)) entries
-  entered entries key (Some value) = put R.compare key value entries
+  entered entries key None = where_key cmp (λ k. not (eq_by_cmp cmp key k)) entries
+  entered entries key (Some value) = put cmp key value entries
 
+module _ {K V : Type 0} (R : Order K) where
   -- the entries after the edits, one after the other
   abbrev pub rewritten : List (K × V) → List (Edit K V) → List (K × V)
   rewritten entries [] = entries
-  rewritten entries (e ∷ es) = rewritten (entered entries e.key e.value) es
+  rewritten entries (e ∷ es) = rewritten (entered R.compare entries e.key e.value) es
 
 module _ {K V : Type 0} (cmp : K → K → Ordering) where
   -- what the edits make of what a key had

@@ -1,6 +1,6 @@
 pub mod Keys
-pub mod Slots
+pub mod Held
 pub mod Starts
 pub mod Edits
-pub mod Shown
 pub mod Tables
+pub mod Shown

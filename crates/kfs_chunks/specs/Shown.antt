@@ -1,12 +1,14 @@
 -- What chunks show, one behind the other: each key by the chunk that it belongs to.
-use Rattle.std.specs.Prelude.{◌≡◌, ℕ, suc, false, List, [], ◌∷◌, Option, None, map, if◌then◌else◌}
+use Rattle.std.specs.Prelude.{◌≡◌, ℕ, false, List, [], ◌∷◌, Option, None, map, if◌then◌else◌}
 use Rattle.std.specs.declared.cmp.Ordering.{Ordering}
 use Rattle.std.specs.Ordering.{is_lt}
+use Rattle.std.specs.FinMap.Entries.{find}
 use Rattle.std.specs.declared.sync.Arc.{Arc}
 use Rattle.kfs_model.specs.Table.{Order, Table, empty, united, retain}
 use Rattle.std.specs.Prelude.{not}
 use Rattle.kfs_chunks.specs.declared.chunk.Chunk.{Chunk}
-use Rattle.kfs_chunks.specs.Slots.{shown_at, table_of}
+use Rattle.kfs_chunks.specs.Starts.{before}
+use Rattle.kfs_chunks.specs.Tables.{table}
 
 module _ {K V A : Type 0} where
   -- the least keys of the chunks
@@ -16,7 +18,7 @@ module _ {K V A : Type 0} where
 module _ {K V A : Type 0} (cmp : K → K → Ordering) where
   -- what a chunk shows at a key
   abbrev pub chunk_shows : Arc (Chunk K V A) A → K → Option V
-  chunk_shows chunk q = shown_at cmp chunk.value.slots q
+  chunk_shows chunk q = find cmp q chunk.value.entries.pairs
 
   -- what a chunk and those behind it show at a key: what its own chunk shows, the last that begins
   -- at the key or below, or the first
@@ -30,8 +32,7 @@ module _ {K V A : Type 0} (cmp : K → K → Ordering) where
 
   -- how many of the chunks, from the first on, begin at the key or below
   abbrev pub begun : List (Arc (Chunk K V A) A) → K → ℕ
-  begun [] q = 0
-  begun (chunk ∷ chunks) q = if is_lt (cmp q chunk.value.least) then 0 else suc (begun chunks q)
+  begun chunks q = before (λ chunk. is_lt (cmp q chunk.value.least)) chunks
 
   -- the index of the chunk that a key belongs to
   abbrev pub place : List (Arc (Chunk K V A) A) → K → ℕ
@@ -56,9 +57,9 @@ module _ {K V A : Type 0} (cmp : K → K → Ordering) where
 module _ {K V A : Type 0} (R : Order K) where
   -- the one table of a chunk and those behind it, each at its own keys
   unfoldable pub table_from : Arc (Chunk K V A) A → List (Arc (Chunk K V A) A) → Table R V
-  table_from chunk [] = table_of R chunk.value.slots.entries
+  table_from chunk [] = table R chunk.value.entries.pairs
   table_from chunk (next ∷ chunks) =
-      united (retain (λ q. not (is_lt (R.compare q next.value.least))) (table_from next chunks)) (retain (λ q. is_lt (R.compare q next.value.least)) (table_of R chunk.value.slots.entries))
+      united (retain (λ q. not (is_lt (R.compare q next.value.least))) (table_from next chunks)) (retain (λ q. is_lt (R.compare q next.value.least)) (table R chunk.value.entries.pairs))
 
   -- the one table of the chunks
   unfoldable pub whole : List (Arc (Chunk K V A) A) → Table R V

@@ -1,8 +1,30 @@
--- Where a walk over keys in order begins.
+-- Where a walk over entries in the order of their keys begins.
+use Rattle.std.specs.Prelude.{◌≡◌, ℕ, suc, Bool, true, false, not, List, [], ◌∷◌, Some, IsSome, if◌then◌else◌}
 use Rattle.std.specs.declared.cmp.Ordering.{Ordering}
-use Rattle.std.specs.BTreeMap.Range.{IsFromStart}
 use Rattle.std.specs.declared.ops.Bound.{Bound}
+use Rattle.std.specs.declared.ops.Bound.TheVariants.{Included, Excluded, Unbounded}
+use Rattle.std.specs.Ordering.{is_lt, is_gt}
+use Rattle.std.specs.FinMap.Entries.{find}
 
--- whether a key is not before the start
-abbrev pub IsFrom : {K : Type 0} → (K → K → Ordering) → Bound K → K → Type 0
-IsFrom cmp start key = IsFromStart cmp start key
+module _ {X : Type 0} where
+  -- how many come before the first that passes the test
+  abbrev pub before : (X → Bool) → List X → ℕ
+  before test [] = 0
+  before test (x ∷ xs) = if test x then 0 else suc (before test xs)
+
+module _ {K : Type 0} (cmp : K → K → Ordering) where
+  -- whether a key is at the start or behind it
+  abbrev pub is_from : Bound K → K → Bool
+  is_from (Included first) key = not (is_lt (cmp key first))
+  is_from (Excluded last) key = is_gt (cmp key last)
+  is_from Unbounded key = true
+
+  -- the index of the first entry from the start on, or else their number
+  abbrev pub first_from : {V : Type 0} → Bound K → List (K × V) → ℕ
+  first_from start entries = before (λ e. is_from start e.0) entries
+
+  -- the entry is the first from the start on
+  pub record IsNext {V : Type 0} (start : Bound K) (entries : List (K × V)) (key : K) (value : V) : Type 0 where
+    pub found : find cmp key entries ≡ Some value
+    pub within : is_from start key ≡ true
+    pub least : (q : K) → is_from start q ≡ true → IsSome (find cmp q entries) → is_lt (cmp q key) ≡ false

@@ -1,30 +1,28 @@
 //! A chunk: some keys next to each other, and their values.
-ghost use Rattle.std.specs.Prelude.{◌≡◌, [], All, IsSome, OnOk, OnErr, IfOk};
-ghost use Rattle.std.specs.BTreeMap.{get};
-ghost use Rattle.kfs_chunks.specs.Slots.{shown_at};
+ghost use Rattle.std.specs.Prelude.{◌≡◌, ◌≤◌, [], length, OnOk};
+ghost use Rattle.std.specs.FinMap.Entries.{find};
 ghost use Rattle.kfs_chunks.specs.Edits.{edited};
 
 use crate::edit::Edit;
+use crate::entries::Entries;
 use crate::key::Key;
-use crate::slots::{self, Slot};
 use std::alloc::{AllocError, Allocator};
-use std::collections::BTreeMap;
 
 /// The values of the keys from the least on, up to the least of the next chunk. The first chunk of a
-/// map has the keys below its least too. A slot without a value shows nothing.
+/// map has the keys below its least too.
 #[derive(Drop)]
 pub(crate) struct Chunk<K: Key, V: Copy, A: Allocator> {
     pub(crate) least: K,
-    pub(crate) slots: BTreeMap<K, Slot<V>, A>,
+    pub(crate) entries: Entries<K, V, A>,
 }
 
 impl<K: Key, V: Copy, A: Allocator + Clone> Clone for Chunk<K, V, A> {
-    ghost is_clone = { λ chunk copy. (copy.least ≡ chunk.least) × (copy.slots.entries ≡ chunk.slots.entries) };
+    ghost is_clone = { λ chunk copy. (copy.least ≡ chunk.least) × (copy.entries.pairs ≡ chunk.entries.pairs) };
 
     fn clone(&self) -> Result<Chunk<K, V, A>, AllocError> {
         Ok(Chunk {
             least: self.least.duplicate(),
-            slots: slots::copy(&self.slots)?,
+            entries: self.entries.clone()?,
         })
     }
 }
@@ -33,45 +31,31 @@ impl<K: Key, V: Copy, A: Allocator + Clone> Chunk<K, V, A> {
     /// A chunk without a value. Takes no memory.
     pub(crate) fn new(alloc: A, least: &K) -> Chunk<K, V, A>
         ensures least { result.least ≡ least.now }
-        ensures slots { result.slots.entries ≡ [] }
+        ensures entries { result.entries.pairs ≡ [] }
     {
         Chunk {
             least: least.duplicate(),
-            slots: BTreeMap::new(alloc),
+            entries: Entries::new(alloc),
         }
     }
 
-    /// Makes slots for the edits' keys where there are none. The chunk shows the same.
+    /// Makes room for the edits. The chunk shows the same.
     pub(crate) fn reserve(&mut self, edits: &[Edit<K, V>]) -> Result<(), AllocError>
         ensures least { self.new.least ≡ self.old.least }
-        ensures room { OnOk result (All (λ e. IsSome (get K.cmp self.new.slots e.key)) edits.now) }
-        ensures shown { (q : K) → shown_at K.cmp self.new.slots q ≡ shown_at K.cmp self.old.slots q }
+        ensures room { OnOk result (length edits.now ≤ self.new.entries.room) }
+        ensures pairs { self.new.entries.pairs ≡ self.old.entries.pairs }
     {
-        for edit in edits {
-            slots::reserve(&mut self.slots, &edit.key)?;
-        }
-        Ok(())
+        self.entries.reserve(edits.len())
     }
 
-    /// Makes the edits, each of a key that has a slot, and takes out the slots that have no value
-    /// then. Takes no memory.
+    /// Makes the edits, for which there is room. Takes no memory.
     pub(crate) fn write(&mut self, edits: &[Edit<K, V>])
-        requires { All (λ e. IsSome (get K.cmp self.old.slots e.key)) edits.now }
+        requires { length edits.now ≤ self.old.entries.room }
         ensures least { self.new.least ≡ self.old.least }
-        ensures shown { (q : K) → shown_at K.cmp self.new.slots q ≡ edited K.cmp edits.now q (shown_at K.cmp self.old.slots q) }
+        ensures shown { (q : K) → find K.cmp q self.new.entries.pairs ≡ edited K.cmp edits.now q (find K.cmp q self.old.entries.pairs) }
     {
         for edit in edits {
-            slots::set(&mut self.slots, &edit.key, edit.value);
-        }
-        self.release(edits);
-    }
-
-    fn release(&mut self, edits: &[Edit<K, V>])
-        ensures least { self.new.least ≡ self.old.least }
-        ensures shown { (q : K) → shown_at K.cmp self.new.slots q ≡ shown_at K.cmp self.old.slots q }
-    {
-        for edit in edits {
-            slots::release(&mut self.slots, &edit.key);
+            self.entries.set(&edit.key, edit.value);
         }
     }
 }

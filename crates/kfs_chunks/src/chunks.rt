@@ -9,7 +9,6 @@ use crate::chunk::Chunk;
 use crate::edit::Edit;
 use crate::key::Key;
 use crate::place::place;
-use crate::slots;
 use kfs_pages::Change;
 use std::alloc::{AllocError, Allocator};
 use std::marker::Model;
@@ -58,7 +57,7 @@ impl<K: Key, V: Copy, A: Allocator> Chunks<K, V, A> {
         ensures { option_copied result ≡ find K.order.compare key.now self.now }
     {
         let chunk = self.chunks.get(place(&self.chunks, key))?;
-        slots::shown(&chunk.slots, key)
+        chunk.entries.get(key)
     }
 }
 

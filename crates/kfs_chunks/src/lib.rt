@@ -5,10 +5,10 @@ mod change;
 mod chunk;
 mod chunks;
 mod edit;
+mod entries;
 mod key;
 mod nested;
 mod place;
-mod slots;
 
 pub use chunks::Chunks;
 pub use edit::Edit;

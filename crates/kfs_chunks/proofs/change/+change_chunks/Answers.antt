@@ -3,7 +3,7 @@ use Rattle.std.proofs.lemmas.List.{take-append-drop, length-append}
 use Rattle.std.specs.Prelude.{OnOk, OnErr}
 use Rattle.std.specs.Ordering.{is_lt}
 use Rattle.kfs_chunks.specs.declared.chunk.Chunk.{Chunk}
-use Rattle.kfs_chunks.specs.Slots.{shown_at}
+use Rattle.std.specs.FinMap.Entries.{find}
 use Rattle.kfs_chunks.specs.declared.edit.Edit.{Edit}
 use Rattle.kfs_chunks.specs.Edits.{edited, Ascend}
 use Rattle.kfs_chunks.specs.Shown.{chunk_shows, shown, begun, place, ArePlaced}
@@ -118,9 +118,9 @@ pub change_from-returns-then-is_ok-clause-chunk : goal.change_from-returns-then-
 change_from-returns-then-is_ok-clause-chunk g t c =
     let lent : (c.make_mut.follows.lender c.write.new.self).value ≡ c.write.new.self = search rules in
     on_ok c.change_chunks-done.result (λ q.
-    ap (λ (x : Chunk _ _ _). shown_at g.K.Ord.cmp x.slots q) lent ∙ c.write.ensures.shown q ∙ ap (edited g.K.Ord.cmp c.args.mine.now q) (c.reserve.ensures.shown q ∙ same_shows g.K.Ord.cmp c.args.chunk.now.value c.in_ok-chunk.chunk.now c.in_ok-chunk.ensures.value q))
+    ap (λ (x : Chunk _ _ _). find g.K.Ord.cmp q x.entries.pairs) lent ∙ c.write.ensures.shown q ∙ ap (edited g.K.Ord.cmp c.args.mine.now q) (ap (find g.K.Ord.cmp q) c.reserve.ensures.pairs ∙ same_shows g.K.Ord.cmp c.args.chunk.now.value c.in_ok-chunk.chunk.now c.in_ok-chunk.ensures.value q))
 
 pub change_from-returns-else-is_ok-clause-chunk_err : goal.change_from-returns-else-is_ok-clause-chunk_err
 change_from-returns-else-is_ok-clause-chunk_err g t c =
     let lent : (c.make_mut.follows.lender c.reserve.new.self).value ≡ c.reserve.new.self = search rules in
-    on_err c.change_chunks-done.result (λ q. ap (λ (x : Chunk _ _ _). shown_at g.K.Ord.cmp x.slots q) lent ∙ c.reserve.ensures.shown q ∙ same_shows g.K.Ord.cmp c.args.chunk.now.value c.in_ok-chunk.chunk.now c.in_ok-chunk.ensures.value q)
+    on_err c.change_chunks-done.result (λ q. ap (λ (x : Chunk _ _ _). find g.K.Ord.cmp q x.entries.pairs) lent ∙ ap (find g.K.Ord.cmp q) c.reserve.ensures.pairs ∙ same_shows g.K.Ord.cmp c.args.chunk.now.value c.in_ok-chunk.chunk.now c.in_ok-chunk.ensures.value q)

@@ -3,7 +3,6 @@ use Rattle.std.specs.Option.{option_copied}
 use Rattle.std.specs.FinMap.Entries.{find}
 use Rattle.kfs_model.specs.Table.{get}
 use Rattle.kfs_chunks.specs.declared.chunk.Chunk.{Chunk}
-use Rattle.kfs_chunks.specs.Slots.{shown_at}
 use Rattle.kfs_chunks.specs.Shown.{chunk_shows, shown, place}
 use Rattle.kfs_chunks.proofs.Whole.{get-whole, shown-at, shown-none}
 use Rattle.kfs_chunks.proofs.chunks.Chunks.get.Goals as goal
@@ -29,8 +28,8 @@ returns g c =
     let at : c.place.result ≡ place g.K.Ord.cmp cs q = search rules in
     let within : c.place.result < length cs = search rules in
     let here : c.in_ok-chunk.chunk.now ≡ get_or cs c.place.result c.in_ok-chunk.chunk.now = search rules in
-    c.shown.ensures
-    ∙ ap (λ (x : Chunk _ _ _). shown_at g.K.Ord.cmp x.slots q) c.deref-3.ensures
+    c.get-2.ensures
+    ∙ ap (λ (x : Chunk _ _ _). find g.K.Ord.cmp q x.entries.pairs) c.deref-3.ensures
     ∙ ap (λ chunk. chunk_shows g.K.Ord.cmp chunk q) (here ∙ ap (λ k. get_or cs k c.in_ok-chunk.chunk.now) at)
     ∙ sym (shown-at g.K.Ord.cmp cs q c.in_ok-chunk.chunk.now (omega (arith, within)))
     ∙ ap (λ cmp. shown cmp cs q) g.met.K.Key.compared
