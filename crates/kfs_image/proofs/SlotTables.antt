@@ -1,11 +1,10 @@
 -- What the tables of slots show.
-use Rattle.std.proofs.Common.{◌≡◌, Bool, true, false, cond, not, List, [], ◌∷◌, Option, Some, None, option_map, refl, ap, ◌∙◌}
+use Rattle.std.proofs.Common.{◌≡◌, Bool, true, false, cond, List, [], ◌∷◌, Option, Some, option_map, refl, ◌∙◌}
 use Rattle.std.specs.Ordering.{eq_by_cmp}
-use Rattle.std.specs.Cmp.{eq_by_cmp_equiv}
 use Rattle.std.specs.Map.{lookup}
 use Rattle.std.specs.BTreeMap.{is_at}
-use Rattle.kfs_model.specs.Table.{Order, Table, get, changed}
-use Rattle.kfs_model.proofs.TableLaws.{get-insert, get-remove}
+use Rattle.kfs_model.specs.Table.{Order, get}
+use Rattle.kfs_model.proofs.TableLaws.{get-changed}
 use Rattle.kfs_image.specs.Slots.{opened, table_of}
 
 module _ {K X Y : Type 0} (R : Order K) (view : X → Y) where

@@ -1,13 +1,13 @@
 -- What the values of a page have at a number.
-use Rattle.std.proofs.Common.{◌≡◌, ◌==◌, ◌<◌, ◌≤◌, ◌-◌, ◌*◌, ℕ, zero, suc, nat_lt, ◌+◌, Bool, true, false, cond, not, List, [], ◌∷◌, length, get_or, Option, Some, None, refl, sym, ap, ◌∙◌, arith}
+use Rattle.std.proofs.Common.{◌≡◌, ◌==◌, ◌<◌, ◌≤◌, ◌-◌, ◌*◌, ℕ, zero, suc, nat_lt, ◌+◌, Bool, true, false, cond, List, [], ◌∷◌, length, get_or, Option, Some, None, refl, sym, ap, ◌∙◌, arith}
 use Rattle.std.proofs.Math.ListN.{set}
 use Rattle.std.proofs.lemmas.Bool.{eqb-true, eq-eqb, ltb-true, ltb-false}
 use Rattle.std.specs.Option.{is_some}
 use Rattle.kfs_pages.specs.Edits.{page_of}
 use Rattle.std.specs.Ordering.{nat_cmp, eq_by_cmp}
-use Rattle.std.specs.Cmp.{eq_by_cmp_equiv, unsigned_tied}
-use Rattle.kfs_model.specs.Table.{Order, Table, numbers, get, empty, changed}
-use Rattle.kfs_model.proofs.TableLaws.{get-insert, get-remove, same_table}
+use Rattle.std.specs.Cmp.{unsigned_tied}
+use Rattle.kfs_model.specs.Table.{Table, numbers, get, empty, changed}
+use Rattle.kfs_model.proofs.TableLaws.{same_table, get-changed}
 use Rattle.kfs_pages.specs.Values.{numbered}
 
 pub by_less : {P : Type 0} (a b : ℕ) → (a < b → P) → (b ≤ a → P) → P
