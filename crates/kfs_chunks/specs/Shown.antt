@@ -1,11 +1,10 @@
 -- What chunks show, one behind the other: each key by the chunk that it belongs to.
-use Rattle.std.specs.Prelude.{◌≡◌, ℕ, false, List, [], ◌∷◌, Option, None, map, if◌then◌else◌}
+use Rattle.std.specs.Prelude.{◌≡◌, ℕ, false, List, [], ◌∷◌, Option, None, map, if◌then◌else◌, not}
 use Rattle.std.specs.declared.cmp.Ordering.{Ordering}
 use Rattle.std.specs.Ordering.{is_lt}
 use Rattle.std.specs.FinMap.Entries.{find}
 use Rattle.std.specs.declared.sync.Arc.{Arc}
 use Rattle.kfs_model.specs.Table.{Order, Table, empty, united, retain}
-use Rattle.std.specs.Prelude.{not}
 use Rattle.kfs_chunks.specs.declared.chunk.Chunk.{Chunk}
 use Rattle.kfs_chunks.specs.Starts.{before}
 use Rattle.kfs_chunks.specs.Tables.{table}

@@ -1,8 +1,7 @@
 -- The first wrong row of a plan: names before nodes before pieces.
-use Rattle.std.specs.Prelude.{ℕ, zero, suc, ◌+◌, ◌==◌, ◌&&◌, ◌||◌, not, Bool, true, false, nat_lt, List, [], ◌∷◌, length, map, filter, flat_map, Option, Some, None, option_map}
+use Rattle.std.specs.Prelude.{ℕ, zero, suc, ◌+◌, ◌==◌, ◌&&◌, ◌||◌, not, Bool, true, false, nat_lt, List, [], ◌∷◌, length, map, filter, flat_map, Option, Some, None, option_map, nat_eq}
 use Rattle.std.specs.List.{list_any, last_or}
 use Rattle.std.specs.Cmp.Lexicographic.{pointwise}
-use Rattle.std.specs.Prelude.{nat_eq}
 use Rattle.kfs_model.specs.Header.{Header, Kind, File, Directory}
 use Rattle.kfs_model.specs.Table.{Order, Table, numbers, get, retain, mapped, united}
 use Rattle.kfs_model.specs.Tree.{Tree, Node, NameTable, headers, content_of}

@@ -1,7 +1,6 @@
 -- The new node has the client's uid and gid, and its cells were looked at.
-use Rattle.std.specs.Prelude.{refl}
+use Rattle.std.specs.Prelude.{refl, ◌==◌, ◌||◌}
 use Rattle.std.specs.Option.{option_map}
-use Rattle.std.specs.Prelude.{◌==◌, ◌||◌}
 use Rattle.std.proofs.Common.{ap, ◌+◌, ◌++◌, ◌∙◌, arith}
 use Rattle.kfs_model.specs.Check.{checks_of, looked}
 use Rattle.kfs_model.specs.Entry.{Create}
