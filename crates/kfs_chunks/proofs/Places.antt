@@ -26,6 +26,10 @@ pub true_or_false : (b : Bool) → b ≡ true → b ≡ false → ⊥
 true_or_false true yes_ no_ = cc
 true_or_false false yes_ no_ = cc
 
+pub un_not : (b : Bool) → not b ≡ true → b ≡ false
+un_not true e = sym e
+un_not false e = refl
+
 module _ {K : Type 0} {cmp : K → K → Ordering} (o : IsTotalOrder cmp) where
   pub flipped : (a b : K) → is_lt (cmp a b) ≡ is_gt (cmp b a)
   flipped a b = ap is_lt (o.antisymm a b) ∙ turned (cmp b a)
@@ -96,10 +100,6 @@ module _ {K V A : Type 0} {cmp : K → K → Ordering} (o : IsTotalOrder cmp) wh
   parted q (c ∷ cs) rise zero zero d le below past = past
   parted q (c ∷ cs) rise zero (suc j) d le below past =
       ap not (not_below o q (slice_index_or cs j d).value.least c.value.least (un_not _ past) (from_at c.value.least cs j d rise.0 (omega (arith, below))))
-    where
-      un_not : (b : Bool) → not b ≡ true → b ≡ false
-      un_not true e = sym e
-      un_not false e = refl
   parted q (c ∷ cs) rise (suc i) zero d le below past = absurd (omega (arith, le))
   parted q (c ∷ cs) rise (suc i) (suc j) d le below past = parted q cs rise.1 i j d (omega (arith, le)) (omega (arith, below)) past
 

@@ -15,7 +15,7 @@ use Rattle.kfs_model.specs.Table.{Order}
 use Rattle.kfs_model.proofs.Tables.{left_part, right_part, find_below, find_head, find_behind}
 use Rattle.kfs_chunks.specs.Edits.{entered}
 use Rattle.kfs_chunks.specs.Starts.{before, is_from, first_from}
-use Rattle.kfs_chunks.proofs.Places.{true_or_false, flipped, before_within}
+use Rattle.kfs_chunks.proofs.Places.{true_or_false, un_not, flipped, before_within}
 
 module _ {K : Type 0} (R : Order K) where
   -- the order, by a comparison that is its own
@@ -64,17 +64,14 @@ module _ {K V : Type 0} (R : Order K) where
   first_below k (e ∷ es) zero d below within = as_less _ (left_part _ _ below)
   first_below k (e ∷ es) (suc j) d below within = first_below k es j d (right_part _ _ below) (omega (arith, within))
 
-  pub parted : (start : Bound K) (es : List (K × V)) → T (is_sorted R.compare es) → IsPartitionedBy (λ (e : K × V). not (is_from R.compare start e.0)) es
-  parted start [] sorted i j d le below past = absurd (omega (arith, below))
-  parted start (e ∷ es) sorted zero zero d le below past = past
-  parted start (e ∷ es) sorted zero (suc j) d le below past =
+  -- the entries before a start stand before the others
+  pub parted_from : (start : Bound K) (es : List (K × V)) → T (is_sorted R.compare es) → IsPartitionedBy (λ (e : K × V). not (is_from R.compare start e.0)) es
+  parted_from start [] sorted i j d le below past = absurd (omega (arith, below))
+  parted_from start (e ∷ es) sorted zero zero d le below past = past
+  parted_from start (e ∷ es) sorted zero (suc j) d le below past =
       ap not (earlier R start e.0 (get_or es j d).0 (first_below e.0 es j d (left_part _ _ sorted) (omega (arith, below))) (un_not _ past))
-    where
-      un_not : (b : Bool) → not b ≡ true → b ≡ false
-      un_not true e = sym e
-      un_not false e = refl
-  parted start (e ∷ es) sorted (suc i) zero d le below past = absurd (omega (arith, le))
-  parted start (e ∷ es) sorted (suc i) (suc j) d le below past = parted start es (right_part _ _ sorted) i j d (omega (arith, le)) (omega (arith, below)) past
+  parted_from start (e ∷ es) sorted (suc i) zero d le below past = absurd (omega (arith, le))
+  parted_from start (e ∷ es) sorted (suc i) (suc j) d le below past = parted_from start es (right_part _ _ sorted) i j d (omega (arith, le)) (omega (arith, below)) past
 
   -- an entry is what is found at its key
   pub find_itself : (es : List (K × V)) (i : ℕ) (d : K × V) → T (is_sorted R.compare es) → i < length es → find R.compare (get_or es i d).0 es ≡ Some (get_or es i d).1
