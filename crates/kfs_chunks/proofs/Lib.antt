@@ -1,6 +1,7 @@
-mod Copies
-mod Places
+mod FirstEntries
+mod Order
+mod Parts
+mod Rewritten
 mod Sorted
 pub mod Tables
 mod Together
-mod Whole

@@ -4,9 +4,10 @@ ghost use Rattle.std.specs.Option.{option_copied};
 ghost use Rattle.std.specs.FinMap.Entries.{find, is_sorted};
 ghost use Rattle.std.specs.Range.Bound.{bound_map};
 ghost use Rattle.std.specs.declared.ops.Bound.TheVariants.{Included};
-ghost use Rattle.kfs_chunks.specs.Edits.{entered};
-ghost use Rattle.kfs_chunks.specs.Starts.{is_from, first_from, IsNext};
+ghost use Rattle.kfs_chunks.specs.Edits.{entered, entered_all};
+ghost use Rattle.kfs_chunks.specs.Starts.{is_from, first_from, entry_from, reaches};
 
+use crate::edit::Edit;
 use crate::key::Key;
 use std::alloc::{AllocError, Allocator};
 use std::marker::Model;
@@ -87,10 +88,37 @@ impl<K: Key, V: Copy, A: Allocator> Entries<K, V, A> {
         }
     }
 
+    /// Makes the edits, for which there is room. Takes no memory.
+    pub(crate) fn write(&mut self, edits: &[Edit<K, V>])
+        requires { length edits.now ≤ self.old.room }
+        ensures pairs { self.new.pairs ≡ entered_all K.cmp self.old.pairs edits.now }
+    {
+        for edit in edits {
+            self.set(&edit.key, edit.value);
+        }
+    }
+
+    /// How many there are.
+    pub(crate) fn len(&self) -> usize
+        ensures { result ≡ length self.now.pairs }
+    {
+        self.pairs.len()
+    }
+
+    /// Whether there is an entry from the start on. Looks at the last alone.
+    pub(crate) fn reaches(&self, start: &Bound<&K>) -> bool
+        ensures { result ≡ reaches K.cmp (bound_map (λ x. x.now) start.now) self.now.pairs }
+    {
+        match self.pairs.last() {
+            Some((last, _)) => is_from(start, last),
+            None => false,
+        }
+    }
+
     /// The first entry from the start on.
     pub(crate) fn next(&self, start: Bound<&K>) -> Option<(&K, &V)>
-        ensures some { IfSome result (λ p. IsNext K.cmp (bound_map (λ x. x.now) start.entry) self.now.pairs p.0.now p.1.now) }
-        ensures none { IfNone result ((q : K) → is_from K.cmp (bound_map (λ x. x.now) start.entry) q ≡ true → find K.cmp q self.now.pairs ≡ None) }
+        ensures some { IfSome result (λ p. entry_from K.cmp (bound_map (λ x. x.now) start.entry) self.now.pairs ≡ Some (p.0.now, p.1.now)) }
+        ensures none { IfNone result (entry_from K.cmp (bound_map (λ x. x.now) start.entry) self.now.pairs ≡ None) }
     {
         let (key, value) = self.pairs.get(first_from(&self.pairs, start))?;
         Some((key, value))

@@ -2,13 +2,13 @@
 #![tactic(auto)]
 
 mod change;
-mod chunk;
 mod chunks;
 mod edit;
 mod entries;
 mod key;
 mod nested;
 mod place;
+mod rebuilt;
 
 pub use chunks::Chunks;
 pub use edit::Edit;

@@ -1,0 +1,151 @@
+-- Sorted entries in two parts, and the chunks that they stand in.
+use Rattle.std.proofs.Common.{◌≡◌, ◌<◌, ◌≤◌, ℕ, zero, suc, Bool, true, false, cond, not, T, ◌&&◌, All, List, [], ◌∷◌, ◌++◌, length, get_or, slice_index_or, Option, Some, None, refl, sym, ap, subst, ◌∙◌, arith}
+use Rattle.std.specs.Prelude.{is_some}
+use Rattle.std.proofs.lemmas.List.{append_assoc}
+use Rattle.std.specs.declared.cmp.Ordering.{Ordering}
+use Rattle.std.specs.declared.cmp.Ordering.TheVariants.{Less, Equal, Greater}
+use Rattle.std.specs.declared.ops.Bound.{Bound}
+use Rattle.std.specs.declared.ops.Bound.TheVariants.{Included}
+use Rattle.std.specs.declared.sync.Arc.{Arc}
+use Rattle.std.specs.Ordering.{is_lt, is_gt}
+use Rattle.std.specs.List.Sorted.{IsPartitionedBy}
+use Rattle.std.specs.FinMap.Entries.{is_sorted, below_all}
+use Rattle.kfs_model.specs.Table.{Order}
+use Rattle.kfs_model.proofs.Tables.{left_part, right_part}
+use Rattle.kfs_chunks.specs.declared.edit.Edit.{Edit}
+use Rattle.kfs_chunks.specs.Edits.{entered_all}
+use Rattle.kfs_chunks.specs.Held.{Held}
+use Rattle.kfs_chunks.specs.Joined.{joined, place, IsSized, AreSized}
+use Rattle.kfs_chunks.specs.Starts.{is_from, entry_from, reaches, before}
+use Rattle.kfs_chunks.proofs.Order.{true_or_false, flipped, not_below}
+use Rattle.kfs_chunks.proofs.Sorted.{earlier, as_less, less_from, below_lower}
+use Rattle.kfs_chunks.proofs.FirstEntries.{entry-append}
+
+both_parts : (a b : Bool) → T a → T b → T (a && b)
+both_parts true b p q = q
+both_parts false b p q = p
+
+module _ {K V : Type 0} (cmp : K → K → Ordering) where
+  below_left : (k : K) (xs ys : List (K × V)) → T (below_all cmp k (xs ++ ys)) → T (below_all cmp k xs)
+  below_left k [] ys below = tt
+  below_left k (x ∷ xs) ys below = both_parts _ _ (left_part _ _ below) (below_left k xs ys (right_part _ _ below))
+
+  below_right : (k : K) (xs ys : List (K × V)) → T (below_all cmp k (xs ++ ys)) → T (below_all cmp k ys)
+  below_right k [] ys below = below
+  below_right k (x ∷ xs) ys below = below_right k xs ys (right_part _ _ below)
+
+  pub sorted_left : (xs ys : List (K × V)) → T (is_sorted cmp (xs ++ ys)) → T (is_sorted cmp xs)
+  sorted_left [] ys sorted = tt
+  sorted_left (x ∷ xs) ys sorted = both_parts _ _ (below_left x.0 xs ys (left_part _ _ sorted)) (sorted_left xs ys (right_part _ _ sorted))
+
+  pub sorted_right : (xs ys : List (K × V)) → T (is_sorted cmp (xs ++ ys)) → T (is_sorted cmp ys)
+  sorted_right [] ys sorted = sorted
+  sorted_right (x ∷ xs) ys sorted = sorted_right xs ys (right_part _ _ sorted)
+
+module _ {K V : Type 0} (R : Order K) where
+  -- where an entry is before the start, all before it are
+  none_before : (start : Bound K) (xs : List (K × V)) (e : K × V) (ys : List (K × V)) → T (is_sorted R.compare (xs ++ e ∷ ys)) → is_from R.compare start e.0 ≡ false → entry_from R.compare start xs ≡ None
+  none_before start [] e ys sorted past = refl
+  none_before start (x ∷ xs) e ys sorted past =
+      let less : R.compare x.0 e.0 ≡ Less = as_less _ (left_part _ _ (below_right R.compare x.0 xs (e ∷ ys) (left_part _ _ sorted))) in
+      ap (λ b. cond b (Some x) (entry_from R.compare start xs)) (earlier R start x.0 e.0 less past) ∙ none_before start xs e ys (right_part _ _ sorted) past
+
+  -- an entry that a start reaches is below what stands behind
+  pub reached_below : (k : K) (xs ys : List (K × V)) → T (is_sorted R.compare (xs ++ ys)) → reaches R.compare (Included k) xs ≡ true → T (below_all R.compare k ys)
+  reached_below k [] ys sorted reached = absurd (true_or_false false reached refl)
+  reached_below k (x ∷ xs) ys sorted reached = at (is_from R.compare (Included k) x.0) refl reached
+    where
+      below : T (below_all R.compare x.0 ys)
+      below = below_right R.compare x.0 xs ys (left_part _ _ sorted)
+
+      by : (r : Ordering) → R.compare k x.0 ≡ r → not (is_lt (R.compare x.0 k)) ≡ true → T (below_all R.compare k ys)
+      by Less p here = below_lower R k x.0 ys p below
+      by Equal p here = subst (λ key. T (below_all R.compare key ys)) (sym (R.exact k x.0 p)) below
+      by Greater p here = absurd (true_or_false false (ap not (sym (flipped R.total x.0 k ∙ ap is_gt p)) ∙ here) refl)
+
+      at : (b : Bool) → is_from R.compare (Included k) x.0 ≡ b → is_some (cond b (Some x) (entry_from R.compare (Included k) xs)) ≡ true → T (below_all R.compare k ys)
+      at true here reached = by (R.compare k x.0) refl here
+      at false past reached = reached_below k xs ys (right_part _ _ sorted) reached
+
+module _ {K V : Type 0} (R : Order K) where
+  -- a later start has no entry where an earlier one has none
+  pub none_later : (a b : K) (es : List (K × V)) → is_lt (R.compare b a) ≡ false → entry_from R.compare (Included a) es ≡ None → entry_from R.compare (Included b) es ≡ None
+  none_later a b [] le none = refl
+  none_later a b (e ∷ es) le none = at (is_from R.compare (Included a) e.0) refl none
+    where
+      at : (t : Bool) → is_from R.compare (Included a) e.0 ≡ t → cond t (Some e) (entry_from R.compare (Included a) es) ≡ None → entry_from R.compare (Included b) (e ∷ es) ≡ None
+      at true here none = absurd (let x : Some e ≡ None = none in cc)
+      at false past none = ap (λ t. cond t (Some e) (entry_from R.compare (Included b) es)) (later (is_lt (R.compare e.0 b)) refl) ∙ none_later a b es le none
+        where
+          later : (t : Bool) → is_lt (R.compare e.0 b) ≡ t → is_from R.compare (Included b) e.0 ≡ false
+          later true less = ap not less
+          later false from = absurd (true_or_false (is_lt (R.compare e.0 a)) (ap is_lt (less_from _ past)) (not_below R.total e.0 b a from le))
+
+module _ {K V A : Type 0} where
+  pub joined-append : (xs ys : List (Arc (Held K V) A)) → joined (xs ++ ys) ≡ joined xs ++ joined ys
+  joined-append [] ys = refl
+  joined-append (x ∷ xs) ys = ap (λ es. x.value.pairs ++ es) (joined-append xs ys) ∙ sym (append_assoc x.value.pairs (joined xs) (joined ys))
+
+  pub sized-append : (xs ys : List (Arc (Held K V) A)) → AreSized xs → AreSized ys → AreSized (xs ++ ys)
+  sized-append [] ys left right = right
+  sized-append (x ∷ xs) ys left right = (left.0, sized-append xs ys left.1 right)
+
+  pub sized_left : (xs ys : List (Arc (Held K V) A)) → AreSized (xs ++ ys) → AreSized xs
+  sized_left [] ys sized = tt
+  sized_left (x ∷ xs) ys sized = (sized.0, sized_left xs ys sized.1)
+
+  pub sized_right : (xs ys : List (Arc (Held K V) A)) → AreSized (xs ++ ys) → AreSized ys
+  sized_right [] ys sized = sized
+  sized_right (x ∷ xs) ys sized = sized_right xs ys sized.1
+
+module _ {K V A : Type 0} (cmp : K → K → Ordering) (start : Bound K) where
+  -- the first entry of all stands in the chunk at the place
+  pub in_place : (cs : List (Arc (Held K V) A)) (d : Arc (Held K V) A) → place cmp start cs < length cs → entry_from cmp start (joined cs) ≡ entry_from cmp start (get_or cs (place cmp start cs) d).value.pairs
+  in_place [] d within = absurd (omega (arith, within))
+  in_place (c ∷ cs) d within = entry-append cmp start c.value.pairs (joined cs) ∙ at (in_place cs d) (reaches cmp start c.value.pairs) within
+    where
+      at : (place cmp start cs < length cs → entry_from cmp start (joined cs) ≡ entry_from cmp start (get_or cs (place cmp start cs) d).value.pairs)
+          → (b : Bool) → cond b 0 (suc (place cmp start cs)) < suc (length cs)
+          → cond b (entry_from cmp start c.value.pairs) (entry_from cmp start (joined cs)) ≡ entry_from cmp start (get_or (c ∷ cs) (cond b 0 (suc (place cmp start cs))) d).value.pairs
+      at rest true within = refl
+      at rest false within = rest (omega (arith, within))
+
+  -- where there is no place, there is no entry
+  pub past_place : (cs : List (Arc (Held K V) A)) → length cs ≤ place cmp start cs → entry_from cmp start (joined cs) ≡ None
+  past_place [] past = refl
+  past_place (c ∷ cs) past = entry-append cmp start c.value.pairs (joined cs) ∙ at (past_place cs) (reaches cmp start c.value.pairs) past
+    where
+      at : (length cs ≤ place cmp start cs → entry_from cmp start (joined cs) ≡ None)
+          → (b : Bool) → suc (length cs) ≤ cond b 0 (suc (place cmp start cs)) → cond b (entry_from cmp start c.value.pairs) (entry_from cmp start (joined cs)) ≡ None
+      at rest true past = absurd (omega (arith, past))
+      at rest false past = rest (omega (arith, past))
+
+  -- no chunk in front of the place has an entry from the start on
+  pub none_in_front : (front back : List (Arc (Held K V) A)) → length front ≤ place cmp start (front ++ back) → entry_from cmp start (joined front) ≡ None
+  none_in_front [] back before_place = refl
+  none_in_front (c ∷ front) back before_place = entry-append cmp start c.value.pairs (joined front) ∙ at (none_in_front front back) (reaches cmp start c.value.pairs) before_place
+    where
+      at : (length front ≤ place cmp start (front ++ back) → entry_from cmp start (joined front) ≡ None)
+          → (b : Bool) → suc (length front) ≤ cond b 0 (suc (place cmp start (front ++ back))) → cond b (entry_from cmp start c.value.pairs) (entry_from cmp start (joined front)) ≡ None
+      at rest true past = absurd (omega (arith, past))
+      at rest false past = rest (omega (arith, past))
+
+module _ {K V A : Type 0} (R : Order K) (start : Bound K) where
+  -- chunks without an entry from the start on stand before those with one
+  pub parted_chunks : (cs : List (Arc (Held K V) A)) → T (is_sorted R.compare (joined cs)) → AreSized cs → IsPartitionedBy (λ (c : Arc (Held K V) A). not (reaches R.compare start c.value.pairs)) cs
+  parted_chunks [] sorted sized i j d le below past = absurd (omega (arith, below))
+  parted_chunks (c ∷ cs) sorted sized zero zero d le below past = past
+  parted_chunks (c ∷ []) sorted sized zero (suc j) d le below past = absurd (omega (arith, below))
+  parted_chunks (c ∷ n ∷ ns) sorted sized zero (suc j) d le below past =
+      let next : not (reaches R.compare start n.value.pairs) ≡ true = parted_chunks (n ∷ ns) (sorted_right R.compare c.value.pairs (joined (n ∷ ns)) sorted) sized.1 zero j d (omega arith) (omega (arith, below)) past in
+      front_past c.value.pairs n.value.pairs (joined ns) sorted sized.1.0.0 next
+    where
+      front_past : (xs es ys : List (K × V)) → T (is_sorted R.compare (xs ++ es ++ ys)) → 1 ≤ length es → not (reaches R.compare start es) ≡ true → not (reaches R.compare start xs) ≡ true
+      front_past xs [] ys sorted some past = absurd (omega (arith, some))
+      front_past xs (e ∷ es) ys sorted some past = ap (λ (o : Option (K × V)). not (is_some o)) (none_before R start xs e (es ++ ys) sorted (at (is_from R.compare start e.0) past))
+        where
+          at : (b : Bool) → not (is_some (cond b (Some e) (entry_from R.compare start es))) ≡ true → b ≡ false
+          at true past = absurd (true_or_false false past refl)
+          at false past = refl
+  parted_chunks (c ∷ cs) sorted sized (suc i) zero d le below past = absurd (omega (arith, le))
+  parted_chunks (c ∷ cs) sorted sized (suc i) (suc j) d le below past = parted_chunks cs (sorted_right R.compare c.value.pairs (joined cs) sorted) sized.1 i j d (omega (arith, le)) (omega (arith, below)) past
