@@ -1,14 +1,15 @@
 //! The entries of a chunk: keys with their values in one block of memory, the keys ascending.
-ghost use Rattle.std.specs.Prelude.{◌≡◌, ◌<◌, ◌≤◌, ◌+◌, [], T, true, is_some, IfSome, IfNone, OnOk, Some, None, Ok, Err, if◌then◌else◌};
+ghost use Rattle.std.specs.Prelude.{◌≡◌, ◌<◌, ◌≤◌, ◌+◌, [], T, is_some, IfSome, IfNone, IfOk, OnOk, length, take, drop, Some, None, Ok, Err, if◌then◌else◌};
 ghost use Rattle.std.specs.Option.{option_copied};
 ghost use Rattle.std.specs.FinMap.Entries.{find, is_sorted};
 ghost use Rattle.std.specs.Range.Bound.{bound_map};
 ghost use Rattle.std.specs.declared.ops.Bound.TheVariants.{Included};
-ghost use Rattle.kfs_chunks.specs.Edits.{entered, entered_all};
+ghost use Rattle.kfs_chunks.specs.Edits.{entered, entered_all, Ascend};
 ghost use Rattle.kfs_chunks.specs.Starts.{is_from, first_from, entry_from, reaches};
 
 use crate::edit::Edit;
 use crate::key::Key;
+use crate::merge::{copy_to, merged};
 use std::alloc::{AllocError, Allocator};
 use std::marker::Model;
 use std::ops::Bound;
@@ -37,9 +38,7 @@ impl<K: Key, V: Copy, A: Allocator + Clone> Clone for Entries<K, V, A> {
 
     fn clone(&self) -> Result<Entries<K, V, A>, AllocError> {
         let mut pairs = Vec::with_capacity(self.pairs.allocator().clone()?, self.pairs.len())?;
-        for (key, value) in &self.pairs {
-            pairs.push((key.duplicate(), *value))?;
-        }
+        copy_to(&mut pairs, &self.pairs)?;
         Ok(Entries { pairs })
     }
 }
@@ -125,8 +124,29 @@ impl<K: Key, V: Copy, A: Allocator> Entries<K, V, A> {
     }
 }
 
+impl<K: Key, V: Copy, A: Allocator + Clone> Entries<K, V, A> {
+    /// The entries after the edits, in memory of their own.
+    pub(crate) fn merged(&self, edits: &[Edit<K, V>]) -> Result<Entries<K, V, A>, AllocError>
+        requires { Ascend K.cmp edits.now }
+        ensures { IfOk result (λ merged. merged.pairs ≡ entered_all K.cmp self.now.pairs edits.now) }
+    {
+        let pairs = merged(self.pairs.allocator().clone()?, &self.pairs, edits)?;
+        Ok(Entries { pairs })
+    }
+
+    /// A copy of so many entries, from an index on.
+    pub(crate) fn part(&self, from: usize, count: usize) -> Result<Entries<K, V, A>, AllocError>
+        requires { from + count ≤ length self.now.pairs }
+        ensures { IfOk result (λ part. part.pairs ≡ take count (drop from self.now.pairs)) }
+    {
+        let mut pairs = Vec::with_capacity(self.pairs.allocator().clone()?, count)?;
+        copy_to(&mut pairs, &self.pairs[from..from + count])?;
+        Ok(Entries { pairs })
+    }
+}
+
 /// The index of the first entry from the start on, or else their number.
-fn first_from<K: Key, V: Copy>(pairs: &[(K, V)], start: Bound<&K>) -> usize
+pub(crate) fn first_from<K: Key, V: Copy>(pairs: &[(K, V)], start: Bound<&K>) -> usize
     requires { T (is_sorted K.cmp pairs.now) }
     ensures { result ≡ first_from K.cmp (bound_map (λ x. x.now) start.entry) pairs.now }
 {

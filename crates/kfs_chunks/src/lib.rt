@@ -6,6 +6,7 @@ mod chunks;
 mod edit;
 mod entries;
 mod key;
+mod merge;
 mod nested;
 mod place;
 mod rebuilt;

@@ -2,7 +2,7 @@
 ghost use Rattle.std.specs.Prelude.{◌≡◌, ◌++◌, T, IfOk, OnOk};
 ghost use Rattle.std.specs.FinMap.Entries.{is_sorted};
 ghost use Rattle.kfs_chunks.specs.Edits.{entered_all, Ascend};
-ghost use Rattle.kfs_chunks.specs.Joined.{joined, AreSized};
+ghost use Rattle.kfs_chunks.specs.Joined.{joined, IsSized, AreSized};
 
 use crate::change::GREATEST_SIZE;
 use crate::edit::Edit;
@@ -32,7 +32,8 @@ pub(crate) fn rebuilt<K: Key, V: Copy, A: Allocator + Clone>(
         left = rest;
         later = others;
     }
-    cut(&mut new, &[], later)?;
+    let last = Entries::new(chunks.allocator().clone()?).merged(later)?;
+    cut(&mut new, &last)?;
     Ok(new)
 }
 
@@ -43,14 +44,39 @@ fn push<K: Key, V: Copy, A: Allocator + Clone>(
     edits: &[Edit<K, V>],
 ) -> Result<(), AllocError>
     requires ascend { Ascend K.cmp edits.now }
-    requires sorted { T (is_sorted K.cmp chunk.now.value.pairs) }
     requires sized { AreSized new.old.items }
+    requires size { IsSized chunk.now.value.pairs }
     ensures joined { OnOk result (joined new.new.items ≡ joined new.old.items ++ entered_all K.cmp chunk.now.value.pairs edits.now) }
     ensures sized { OnOk result (AreSized new.new.items) }
 {
     if edits.is_empty() {
-        new.push(chunk.clone()?)
-    } else {
-        cut(new, chunk.as_slice(), edits)
+        new.push(chunk.clone()?)?;
+        return Ok(());
     }
+    cut(new, &chunk.merged(edits)?)
+}
+
+/// Adds the entries, cut into chunks: one where they fit, and else half as large ones, so that there
+/// is room for more.
+fn cut<K: Key, V: Copy, A: Allocator + Clone>(
+    new: &mut Vec<Arc<Entries<K, V, A>, A>, A>,
+    entries: &Entries<K, V, A>,
+) -> Result<(), AllocError>
+    requires sized { AreSized new.old.items }
+    ensures joined { OnOk result (joined new.new.items ≡ joined new.old.items ++ entries.now.pairs) }
+    ensures sized { OnOk result (AreSized new.new.items) }
+{
+    let size = if entries.len() <= GREATEST_SIZE {
+        GREATEST_SIZE
+    } else {
+        GREATEST_SIZE / 2
+    };
+    let mut from = 0;
+    while from < entries.len() {
+        let count = size.min(entries.len() - from);
+        let chunk = entries.part(from, count)?;
+        new.push(Arc::new(new.allocator().clone()?, chunk)?)?;
+        from += count;
+    }
+    Ok(())
 }
