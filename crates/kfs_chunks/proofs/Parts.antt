@@ -53,7 +53,7 @@ module _ {K V : Type 0} (R : Order K) where
   -- an entry that a start reaches is below what stands behind
   pub reached_below : (k : K) (xs ys : List (K × V)) → T (is_sorted R.compare (xs ++ ys)) → reaches R.compare (Included k) xs ≡ true → T (below_all R.compare k ys)
   reached_below k [] ys sorted reached = absurd (true_or_false false reached refl)
-  reached_below k (x ∷ xs) ys sorted reached = at (is_from R.compare (Included k) x.0) refl reached
+  reached_below k (x ∷ xs) ys sorted reached = at (reached_below k xs ys (right_part _ _ sorted)) (is_from R.compare (Included k) x.0) refl reached
     where
       below : T (below_all R.compare x.0 ys)
       below = below_right R.compare x.0 xs ys (left_part _ _ sorted)
@@ -63,19 +63,19 @@ module _ {K V : Type 0} (R : Order K) where
       by Equal p here = subst (λ key. T (below_all R.compare key ys)) (sym (R.exact k x.0 p)) below
       by Greater p here = absurd (true_or_false false (ap not (sym (flipped R.total x.0 k ∙ ap is_gt p)) ∙ here) refl)
 
-      at : (b : Bool) → is_from R.compare (Included k) x.0 ≡ b → is_some (cond b (Some x) (entry_from R.compare (Included k) xs)) ≡ true → T (below_all R.compare k ys)
-      at true here reached = by (R.compare k x.0) refl here
-      at false past reached = reached_below k xs ys (right_part _ _ sorted) reached
+      at : (reaches R.compare (Included k) xs ≡ true → T (below_all R.compare k ys)) → (b : Bool) → is_from R.compare (Included k) x.0 ≡ b → is_some (cond b (Some x) (entry_from R.compare (Included k) xs)) ≡ true → T (below_all R.compare k ys)
+      at rest true here reached = by (R.compare k x.0) refl here
+      at rest false past reached = rest reached
 
 module _ {K V : Type 0} (R : Order K) where
   -- a later start has no entry where an earlier one has none
   pub none_later : (a b : K) (es : List (K × V)) → is_lt (R.compare b a) ≡ false → entry_from R.compare (Included a) es ≡ None → entry_from R.compare (Included b) es ≡ None
   none_later a b [] le none = refl
-  none_later a b (e ∷ es) le none = at (is_from R.compare (Included a) e.0) refl none
+  none_later a b (e ∷ es) le none = at (none_later a b es le) (is_from R.compare (Included a) e.0) refl none
     where
-      at : (t : Bool) → is_from R.compare (Included a) e.0 ≡ t → cond t (Some e) (entry_from R.compare (Included a) es) ≡ None → entry_from R.compare (Included b) (e ∷ es) ≡ None
-      at true here none = absurd (let x : Some e ≡ None = none in cc)
-      at false past none = ap (λ t. cond t (Some e) (entry_from R.compare (Included b) es)) (later (is_lt (R.compare e.0 b)) refl) ∙ none_later a b es le none
+      at : (entry_from R.compare (Included a) es ≡ None → entry_from R.compare (Included b) es ≡ None) → (t : Bool) → is_from R.compare (Included a) e.0 ≡ t → cond t (Some e) (entry_from R.compare (Included a) es) ≡ None → entry_from R.compare (Included b) (e ∷ es) ≡ None
+      at rest true here none = absurd (let x : Some e ≡ None = none in cc)
+      at rest false past none = ap (λ t. cond t (Some e) (entry_from R.compare (Included b) es)) (later (is_lt (R.compare e.0 b)) refl) ∙ rest none
         where
           later : (t : Bool) → is_lt (R.compare e.0 b) ≡ t → is_from R.compare (Included b) e.0 ≡ false
           later true less = ap not less
@@ -140,7 +140,7 @@ module _ {K V A : Type 0} (R : Order K) (start : Bound K) where
       let next : not (reaches R.compare start n.value.pairs) ≡ true = parted_chunks (n ∷ ns) (sorted_right R.compare c.value.pairs (joined (n ∷ ns)) sorted) sized.1 zero j d (omega arith) (omega (arith, below)) past in
       front_past c.value.pairs n.value.pairs (joined ns) sorted sized.1.0.0 next
     where
-      front_past : (xs es ys : List (K × V)) → T (is_sorted R.compare (xs ++ es ++ ys)) → 1 ≤ length es → not (reaches R.compare start es) ≡ true → not (reaches R.compare start xs) ≡ true
+      front_past : (xs es ys : List (K × V)) → T (is_sorted R.compare (xs ++ (es ++ ys))) → 1 ≤ length es → not (reaches R.compare start es) ≡ true → not (reaches R.compare start xs) ≡ true
       front_past xs [] ys sorted some past = absurd (omega (arith, some))
       front_past xs (e ∷ es) ys sorted some past = ap (λ (o : Option (K × V)). not (is_some o)) (none_before R start xs e (es ++ ys) sorted (at (is_from R.compare start e.0) past))
         where

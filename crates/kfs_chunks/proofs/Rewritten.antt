@@ -35,20 +35,18 @@ module _ {K V : Type 0} (cmp : K → K → Ordering) where
   entered_all-append es [] later = refl
   entered_all-append es (e ∷ mine) later = entered_all-append (entered cmp es e.key e.value) mine later
 
-module _ {K V : Type 0} (R : Order K) where
-  other_than : K → K → Bool
-  other_than k j = not (eq_by_cmp R.compare k j)
-
+module _ {K : Type 0} (R : Order K) where
   -- a key that is before the start k is met before it
   met_before : (k j : K) → is_from R.compare (Included k) j ≡ false → R.compare k j ≡ Greater
   met_before k j past = R.total.antisymm k j ∙ ap ordering_reverse (less_from _ past)
 
+module _ {K V : Type 0} (R : Order K) where
   -- an edit behind the entries in front leaves them as they are
   entered_behind : (xs ys : List (K × V)) (k : K) (w : Option V) → entry_from R.compare (Included k) xs ≡ None → entered R.compare (xs ++ ys) k w ≡ xs ++ entered R.compare ys k w
   entered_behind [] ys k w none = refl
   entered_behind (x ∷ xs) ys k w none =
       let parts = no_first _ x _ none in
-      at w (met_before k x.0 parts.0) (entered_behind xs ys k w parts.1)
+      at w (met_before R k x.0 parts.0) (entered_behind xs ys k w parts.1)
     where
       at : (w : Option V) → R.compare k x.0 ≡ Greater → entered R.compare (xs ++ ys) k w ≡ xs ++ entered R.compare ys k w → entered R.compare (x ∷ xs ++ ys) k w ≡ x ∷ xs ++ entered R.compare ys k w
       at None p rest = ap (λ r. cond (not (is_eq r)) (x ∷ where_key R.compare (λ j. not (eq_by_cmp R.compare k j)) (xs ++ ys)) (where_key R.compare (λ j. not (eq_by_cmp R.compare k j)) (xs ++ ys))) p ∙ ap (λ es. x ∷ es) rest
@@ -64,7 +62,10 @@ module _ {K V : Type 0} (R : Order K) where
   entered_before [] ys k (Some v) below = put_first ys k v below
   entered_before (x ∷ xs) ys k None below = at (eq_by_cmp R.compare k x.0) (entered_before xs ys k None below)
     where
+      kept : List (K × V)
       kept = where_key R.compare (λ j. not (eq_by_cmp R.compare k j)) (xs ++ ys)
+
+      mine : List (K × V)
       mine = where_key R.compare (λ j. not (eq_by_cmp R.compare k j)) xs
 
       at : (b : Bool) → kept ≡ mine ++ ys → cond (not b) (x ∷ kept) kept ≡ cond (not b) (x ∷ mine) mine ++ ys
@@ -86,6 +87,7 @@ module _ {K V : Type 0} (R : Order K) where
       let parts = no_first _ x _ none in
       at (eq_by_cmp R.compare j x.0) parts.0 (none_after_entry xs j k None less parts.1)
     where
+      kept : List (K × V)
       kept = where_key R.compare (λ l. not (eq_by_cmp R.compare j l)) xs
 
       at : (b : Bool) → is_from R.compare (Included k) x.0 ≡ false → entry_from R.compare (Included k) kept ≡ None → entry_from R.compare (Included k) (cond (not b) (x ∷ kept) kept) ≡ None
@@ -126,6 +128,7 @@ module _ {K V : Type 0} (R : Order K) where
   length-entered [] k (Some v) sorted = (omega arith, omega arith)
   length-entered (x ∷ xs) k None sorted = at (R.compare k x.0) refl (length-entered xs k None (right_part _ _ sorted))
     where
+      kept : List (K × V)
       kept = where_key R.compare (λ j. not (eq_by_cmp R.compare k j)) xs
 
       at : (r : Ordering) → R.compare k x.0 ≡ r → (length kept ≤ length xs + 1) × (length xs ≤ length kept + 1)
@@ -139,6 +142,7 @@ module _ {K V : Type 0} (R : Order K) where
           (omega (arith, same, all), omega (arith, same, all))
   length-entered (x ∷ xs) k (Some v) sorted = at (R.compare k x.0) (length-entered xs k (Some v) (right_part _ _ sorted))
     where
+      more : List (K × V)
       more = put R.compare k v xs
 
       at : (r : Ordering) → (length more ≤ length xs + 1) × (length xs ≤ length more + 1)

@@ -1,5 +1,5 @@
 -- What edits of a chunk and of those behind it make of all chunks.
-use Rattle.std.proofs.Common.{◌≡◌, Bool, true, false, cond, T, All, List, [], ◌∷◌, ◌++◌, refl, sym, ap, ◌∙◌}
+use Rattle.std.proofs.Common.{◌≡◌, Bool, true, false, cond, T, All, List, [], ◌∷◌, ◌++◌, None, refl, sym, ap, ◌∙◌}
 use Rattle.std.specs.declared.cmp.Ordering.{Ordering}
 use Rattle.std.specs.declared.ops.Bound.TheVariants.{Included}
 use Rattle.std.specs.declared.sync.Arc.{Arc}
@@ -25,9 +25,9 @@ module _ {K V A : Type 0} (R : Order K) where
       → joined (front ++ new ∷ news) ≡ cond made (entered_all R.compare (joined (front ++ old ∷ olds)) (mine ++ later)) (joined (front ++ old ∷ olds))
   edited_chunks true front old new olds news mine later ascend in_front in_mine in_later chunk rest =
       joined-append front (new ∷ news)
-      ∙ (λ i. joined front ++ chunk i ++ rest i)
+      ∙ (λ i. joined front ++ (chunk i ++ rest i))
       ∙ ap (λ es. joined front ++ es) (sym (parts_edited R old.value.pairs (joined olds) mine later ascend in_mine in_later))
       ∙ sym (all_behind R (joined front) (joined (old ∷ olds)) (mine ++ later) in_front)
       ∙ ap (λ es. entered_all R.compare es (mine ++ later)) (sym (joined-append front (old ∷ olds)))
   edited_chunks false front old new olds news mine later ascend in_front in_mine in_later chunk rest =
-      joined-append front (new ∷ news) ∙ (λ i. joined front ++ chunk i ++ rest i) ∙ sym (joined-append front (old ∷ olds))
+      joined-append front (new ∷ news) ∙ (λ i. joined front ++ (chunk i ++ rest i)) ∙ sym (joined-append front (old ∷ olds))

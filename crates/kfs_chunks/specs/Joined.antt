@@ -1,5 +1,5 @@
 -- What chunks hold, one behind the other.
-use Rattle.std.specs.Prelude.{ℕ, ◌≤◌, Bool, false, Result, Ok, Err, List, [], ◌∷◌, ◌++◌, length}
+use Rattle.std.specs.Prelude.{ℕ, ◌≤◌, Bool, false, Result, Ok, Err, List, [], ◌∷◌, ◌++◌, length, if◌then◌else◌}
 use Rattle.std.specs.declared.cmp.Ordering.{Ordering}
 use Rattle.std.specs.declared.ops.Bound.{Bound}
 use Rattle.std.specs.declared.sync.Arc.{Arc}
@@ -30,3 +30,7 @@ module _ {K V A : Type 0} (cmp : K → K → Ordering) where
 abbrev pub were_made : {E : Type 0} → Result Bool E → Bool
 were_made (Ok made) = made
 were_made (Err error) = false
+
+-- the one where they were made, and else the other
+abbrev pub if_made : {E X : Type 0} → Result Bool E → X → X → X
+if_made result made kept = if were_made result then made else kept

@@ -1,9 +1,9 @@
 //! A change of chunks as they are cut: every copy and growth on the way in, every value on the way out.
-ghost use Rattle.std.specs.Prelude.{◌≡◌, ◌++◌, T, All, Ok, None, true, false, OnErr, if◌then◌else◌};
+ghost use Rattle.std.specs.Prelude.{◌≡◌, ◌++◌, T, All, Ok, None, true, false, OnErr};
 ghost use Rattle.std.specs.FinMap.Entries.{is_sorted, below_all};
 ghost use Rattle.std.specs.declared.ops.Bound.TheVariants.{Included};
 ghost use Rattle.kfs_chunks.specs.Edits.{entered_all, Ascend};
-ghost use Rattle.kfs_chunks.specs.Joined.{joined, were_made, IsSized, AreSized};
+ghost use Rattle.kfs_chunks.specs.Joined.{joined, were_made, if_made, IsSized, AreSized};
 ghost use Rattle.kfs_chunks.specs.Starts.{entry_from};
 
 use crate::edit::Edit;
@@ -32,7 +32,7 @@ pub(crate) fn change_chunks<K: Key, V: Copy, A: Allocator + Clone, T: Change>(
     requires sized { AreSized chunks.old }
     requires then { T.can_make then.old }
     ensures sized { AreSized chunks.new }
-    ensures joined { joined chunks.new ≡ (if were_made result then entered_all K.cmp (joined chunks.old) edits.now else joined chunks.old) }
+    ensures joined { joined chunks.new ≡ if_made result (entered_all K.cmp (joined chunks.old) edits.now) (joined chunks.old) }
     ensures made { were_made result ≡ true → T.made then.old then.new }
     ensures not_tried { result ≡ Ok false → then.new ≡ then.old }
     ensures kept { OnErr result (T.kept then.old then.new) }
@@ -67,8 +67,8 @@ fn change_from<K: Key, V: Copy, A: Allocator + Clone, T: Change>(
     requires then { T.can_make then.old }
     ensures size { IsSized chunk.new.value.pairs }
     ensures sized { AreSized rest.new }
-    ensures chunk { chunk.new.value.pairs ≡ (if were_made result then entered_all K.cmp chunk.old.value.pairs mine.now else chunk.old.value.pairs) }
-    ensures rest { joined rest.new ≡ (if were_made result then entered_all K.cmp (joined rest.old) later.now else joined rest.old) }
+    ensures chunk { chunk.new.value.pairs ≡ if_made result (entered_all K.cmp chunk.old.value.pairs mine.now) chunk.old.value.pairs }
+    ensures rest { joined rest.new ≡ if_made result (entered_all K.cmp (joined rest.old) later.now) (joined rest.old) }
     ensures made { were_made result ≡ true → T.made then.old then.new }
     ensures not_tried { result ≡ Ok false → then.new ≡ then.old }
     ensures kept { OnErr result (T.kept then.old then.new) }
