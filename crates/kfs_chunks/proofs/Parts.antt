@@ -1,7 +1,7 @@
 -- Sorted entries in two parts, and the chunks that they stand in.
-use Rattle.std.proofs.Common.{◌≡◌, ◌<◌, ◌≤◌, ℕ, zero, suc, Bool, true, false, cond, not, T, ◌&&◌, All, List, [], ◌∷◌, ◌++◌, length, get_or, slice_index_or, Option, Some, None, refl, sym, ap, subst, ◌∙◌, arith}
+use Rattle.std.proofs.Common.{◌≡◌, ◌<◌, ◌≤◌, ℕ, zero, suc, Bool, true, false, cond, not, T, ◌&&◌, All, List, [], ◌∷◌, ◌++◌, length, get_or, slice_index_or, ◌+◌, ◌-◌, take, drop, length-take, length-drop, Option, Some, None, refl, sym, ap, subst, ◌∙◌, arith}
 use Rattle.std.specs.Prelude.{is_some}
-use Rattle.std.proofs.lemmas.List.{append_assoc}
+use Rattle.std.proofs.lemmas.List.{append_assoc, get_or-take, get_or-drop}
 use Rattle.std.specs.declared.cmp.Ordering.{Ordering}
 use Rattle.std.specs.declared.cmp.Ordering.TheVariants.{Less, Equal, Greater}
 use Rattle.std.specs.declared.ops.Bound.{Bound}
@@ -9,17 +9,17 @@ use Rattle.std.specs.declared.ops.Bound.TheVariants.{Included}
 use Rattle.std.specs.declared.sync.Arc.{Arc}
 use Rattle.std.specs.Ordering.{is_lt, is_gt}
 use Rattle.std.specs.List.Sorted.{IsPartitionedBy}
-use Rattle.std.specs.FinMap.Entries.{is_sorted, below_all}
+use Rattle.std.specs.FinMap.Entries.{find, is_sorted, below_all}
 use Rattle.kfs_model.specs.Table.{Order}
 use Rattle.kfs_model.proofs.Tables.{left_part, right_part}
 use Rattle.kfs_chunks.specs.declared.edit.Edit.{Edit}
-use Rattle.kfs_chunks.specs.Edits.{entered_all}
+use Rattle.kfs_chunks.specs.Edits.{Ascend}
 use Rattle.kfs_chunks.specs.Held.{Held}
 use Rattle.kfs_chunks.specs.Joined.{joined, place, IsSized, AreSized}
 use Rattle.kfs_chunks.specs.Starts.{is_from, entry_from, reaches, before}
-use Rattle.kfs_chunks.proofs.Order.{true_or_false, flipped, not_below}
-use Rattle.kfs_chunks.proofs.Sorted.{earlier, as_less, less_from, below_lower}
-use Rattle.kfs_chunks.proofs.FirstEntries.{entry-append}
+use Rattle.kfs_chunks.proofs.Order.{true_or_false, flipped, not_below, not_earlier}
+use Rattle.kfs_chunks.proofs.Sorted.{earlier, as_less, less_from, below_lower, first_below, not_some}
+use Rattle.kfs_chunks.proofs.FirstEntries.{entry-append, find_same}
 
 both_parts : (a b : Bool) → T a → T b → T (a && b)
 both_parts true b p q = q
@@ -80,6 +80,31 @@ module _ {K V : Type 0} (R : Order K) where
           later : (t : Bool) → is_lt (R.compare e.0 b) ≡ t → is_from R.compare (Included b) e.0 ≡ false
           later true less = ap not less
           later false from = absurd (true_or_false (is_lt (R.compare e.0 a)) (ap is_lt (less_from _ past)) (not_below R.total e.0 b a from le))
+
+module _ {K V : Type 0} (R : Order K) where
+  -- the edits that reach into the entries stand before the others
+  pub parted_edits : (xs : List (K × V)) (es : List (Edit K V)) → Ascend R.compare es → IsPartitionedBy (λ (e : Edit K V). reaches R.compare (Included e.key) xs) es
+  parted_edits xs es ascend i j d le below reached = at (reaches R.compare (Included (slice_index_or es i d).key) xs) refl
+    where
+      later : is_lt (R.compare (slice_index_or es j d).key (slice_index_or es i d).key) ≡ false
+      later = ap (λ n. is_lt (R.compare (slice_index_or es n d).key (slice_index_or es i d).key)) {x = j} {y = i + (j - i)} (omega (arith, le)) ∙ not_earlier R.total es i (j - i) d ascend (omega (arith, le, below))
+
+      at : (b : Bool) → reaches R.compare (Included (slice_index_or es i d).key) xs ≡ b → reaches R.compare (Included (slice_index_or es i d).key) xs ≡ true
+      at true e = e
+      at false e = absurd (true_or_false false (ap is_some (sym (none_later R (slice_index_or es i d).key (slice_index_or es j d).key xs later (not_some _ e))) ∙ reached) refl)
+
+  -- the keys of those that do are below what stands behind the entries
+  pub run_below : (xs ys : List (K × V)) (es : List (Edit K V)) (run : ℕ) → T (is_sorted R.compare (xs ++ ys)) → ((k : ℕ) (d : Edit K V) → 0 ≤ k → k < run → reaches R.compare (Included (slice_index_or es k d).key) xs ≡ true)
+      → All (λ e. T (below_all R.compare e.key ys)) (take run es)
+  run_below xs ys es run sorted reached k d below =
+      let within : k < run = omega (arith, below, length-take run es) in
+      subst (λ (e : Edit K V). T (below_all R.compare e.key ys)) (sym (get_or-take run es k d within)) (reached_below R (slice_index_or es k d).key xs ys sorted (reached k d (omega arith) within))
+
+  -- and the others have no entry from their keys on
+  pub run_past : (xs : List (K × V)) (es : List (Edit K V)) (run : ℕ) → ((k : ℕ) (d : Edit K V) → run ≤ k → k < length es → reaches R.compare (Included (slice_index_or es k d).key) xs ≡ false)
+      → All (λ e. entry_from R.compare (Included e.key) xs ≡ None) (drop run es)
+  run_past xs es run past k d below =
+      ap (λ (e : Edit K V). entry_from R.compare (Included e.key) xs) (get_or-drop run es k d) ∙ not_some _ (past (run + k) d (omega arith) (omega (arith, below, length-drop run es)))
 
 module _ {K V A : Type 0} where
   pub joined-append : (xs ys : List (Arc (Held K V) A)) → joined (xs ++ ys) ≡ joined xs ++ joined ys
@@ -149,3 +174,35 @@ module _ {K V A : Type 0} (R : Order K) (start : Bound K) where
           at false past = refl
   parted_chunks (c ∷ cs) sorted sized (suc i) zero d le below past = absurd (omega (arith, le))
   parted_chunks (c ∷ cs) sorted sized (suc i) (suc j) d le below past = parted_chunks cs (sorted_right R.compare c.value.pairs (joined cs) sorted) sized.1 i j d (omega (arith, le)) (omega (arith, below)) past
+
+module _ {K V A : Type 0} (R : Order K) where
+  sorted_at : (cs : List (Arc (Held K V) A)) (i : ℕ) (d : Arc (Held K V) A) → T (is_sorted R.compare (joined cs)) → i < length cs → T (is_sorted R.compare (get_or cs i d).value.pairs)
+  sorted_at [] i d sorted within = absurd (omega (arith, within))
+  sorted_at (c ∷ cs) zero d sorted within = sorted_left R.compare c.value.pairs (joined cs) sorted
+  sorted_at (c ∷ cs) (suc i) d sorted within = sorted_at cs i d (sorted_right R.compare c.value.pairs (joined cs) sorted) (omega (arith, within))
+
+  -- what is found at a key is found in the chunk at its place
+  pub found_in_place : (q : K) (cs : List (Arc (Held K V) A)) (d : Arc (Held K V) A) → T (is_sorted R.compare (joined cs)) → place R.compare (Included q) cs < length cs
+      → find R.compare q (joined cs) ≡ find R.compare q (get_or cs (place R.compare (Included q) cs) d).value.pairs
+  found_in_place q cs d sorted within = find_same R q (joined cs) _ sorted (sorted_at cs (place R.compare (Included q) cs) d sorted within) (in_place R.compare (Included q) cs d within)
+
+module _ {K V : Type 0} (R : Order K) where
+  -- sorted entries reach as far as the last
+  pub reaches_last : (start : Bound K) (es : List (K × V)) (i : ℕ) (d : K × V) → T (is_sorted R.compare es) → i + 1 ≡ length es → reaches R.compare start es ≡ is_from R.compare start (get_or es i d).0
+  reaches_last start [] i d sorted last = absurd (omega (arith, last))
+  reaches_last start (e ∷ []) i d sorted last = at (is_from R.compare start e.0) ∙ ap (λ n. is_from R.compare start (get_or (e ∷ []) n d).0) {x = 0} {y = i} (omega (arith, last))
+    where
+      at : (b : Bool) → is_some (cond b (Some e) None) ≡ b
+      at true = refl
+      at false = refl
+  reaches_last start (e ∷ f ∷ es) zero d sorted last = absurd (omega (arith, last))
+  reaches_last start (e ∷ f ∷ es) (suc i) d sorted last = at (is_from R.compare start e.0) refl (is_from R.compare start (get_or (f ∷ es) i d).0) refl (reaches_last start (f ∷ es) i d (right_part _ _ sorted) (omega (arith, last)))
+    where
+      less : R.compare e.0 (get_or (f ∷ es) i d).0 ≡ Less
+      less = first_below R e.0 (f ∷ es) i d (left_part _ _ sorted) (omega (arith, last))
+
+      at : (b : Bool) → is_from R.compare start e.0 ≡ b → (l : Bool) → is_from R.compare start (get_or (f ∷ es) i d).0 ≡ l → reaches R.compare start (f ∷ es) ≡ is_from R.compare start (get_or (f ∷ es) i d).0
+          → is_some (cond b (Some e) (entry_from R.compare start (f ∷ es))) ≡ is_from R.compare start (get_or (f ∷ es) i d).0
+      at false past l e rest = rest
+      at true here true e rest = sym e
+      at true here false e rest = absurd (true_or_false true refl (sym here ∙ earlier R start _ _ less e))

@@ -59,7 +59,7 @@ module _ {K : Type 0} (R : Order K) where
 
 module _ {K V : Type 0} (R : Order K) where
   -- a key at an index behind the first is above it
-  first_below : (k : K) (es : List (K × V)) (j : ℕ) (d : K × V) → T (below_all R.compare k es) → j < length es → R.compare k (get_or es j d).0 ≡ Less
+  pub first_below : (k : K) (es : List (K × V)) (j : ℕ) (d : K × V) → T (below_all R.compare k es) → j < length es → R.compare k (get_or es j d).0 ≡ Less
   first_below k [] j d below within = absurd (omega (arith, within))
   first_below k (e ∷ es) zero d below within = as_less _ (left_part _ _ below)
   first_below k (e ∷ es) (suc j) d below within = first_below k es j d (right_part _ _ below) (omega (arith, within))
