@@ -206,3 +206,17 @@ module _ {K V : Type 0} (R : Order K) where
       at false past l e rest = rest
       at true here true e rest = sym e
       at true here false e rest = absurd (true_or_false true refl (sym here ∙ earlier R start _ _ less e))
+
+module _ {K V A : Type 0} (cmp : K → K → Ordering) where
+  -- a chunk and those behind it
+  pub sorted_behind : (front : List (Arc (Held K V) A)) (c : Arc (Held K V) A) (cs : List (Arc (Held K V) A)) → T (is_sorted cmp (joined (front ++ c ∷ cs))) → T (is_sorted cmp (c.value.pairs ++ joined cs))
+  sorted_behind front c cs sorted = sorted_right cmp (joined front) (joined (c ∷ cs)) (subst (λ es. T (is_sorted cmp es)) (joined-append front (c ∷ cs)) sorted)
+
+module _ {K V A : Type 0} (R : Order K) where
+  -- no chunk in front of the first edit's place has an entry from an edit's key on
+  pub front_past : (front back : List (Arc (Held K V) A)) (es : List (Edit K V)) (k : K) → Ascend R.compare es → ((d : Edit K V) → k ≡ (slice_index_or es 0 d).key) → length front ≤ place R.compare (Included k) (front ++ back)
+      → All (λ e. entry_from R.compare (Included e.key) (joined front) ≡ None) es
+  front_past front back es k ascend first before_place i d below =
+      none_later R k (slice_index_or es i d).key (joined front)
+      (ap (λ l. is_lt (R.compare (slice_index_or es i d).key l)) (first d) ∙ ap (λ n. is_lt (R.compare (slice_index_or es n d).key (slice_index_or es 0 d).key)) {x = i} {y = 0 + i} (omega arith) ∙ not_earlier R.total es 0 i d ascend (omega (arith, below)))
+      (none_in_front R.compare (Included k) front back before_place)

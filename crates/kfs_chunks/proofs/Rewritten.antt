@@ -11,6 +11,7 @@ use Rattle.kfs_model.specs.Table.{Order}
 use Rattle.kfs_model.proofs.Tables.{left_part, right_part, find_below}
 use Rattle.kfs_chunks.specs.declared.edit.Edit.{Edit}
 use Rattle.kfs_chunks.specs.Edits.{entered, entered_all, Ascend}
+use Rattle.kfs_chunks.specs.Joined.{IsSized}
 use Rattle.kfs_chunks.specs.Starts.{is_from, entry_from}
 use Rattle.kfs_chunks.proofs.Sorted.{as_less, less_from, kept_without, is_sorted-entered}
 
@@ -163,3 +164,7 @@ module _ {K V : Type 0} (R : Order K) where
       let one = length-entered xs e.key e.value sorted in
       let rest = length-all (entered R.compare xs e.key e.value) es (is_sorted-entered R xs e.key e.value sorted) in
       (omega (arith, one.0, rest.0), omega (arith, one.1, rest.1))
+
+  -- entries stay as many as a chunk may have, where there are fewer edits than entries, and room for as many
+  pub sized_still : (xs : List (K × V)) (es : List (Edit K V)) → T (is_sorted R.compare xs) → length es < length xs → length xs + length es ≤ 256 → IsSized (entered_all R.compare xs es)
+  sized_still xs es sorted fewer room = let sizes = length-all xs es sorted in (omega (arith, sizes.1, fewer), omega (arith, sizes.0, room))

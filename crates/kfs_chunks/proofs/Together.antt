@@ -1,5 +1,6 @@
 -- What edits of a chunk and of those behind it make of all chunks.
-use Rattle.std.proofs.Common.{◌≡◌, Bool, true, false, cond, T, All, List, [], ◌∷◌, ◌++◌, None, refl, sym, ap, ◌∙◌}
+use Rattle.std.proofs.Common.{◌≡◌, Bool, true, false, cond, T, All, List, [], ◌∷◌, ◌++◌, None, refl, sym, ap, ◌∙◌, inl, inr}
+use Rattle.std.specs.Prelude.{◌⊎◌}
 use Rattle.std.specs.declared.cmp.Ordering.{Ordering}
 use Rattle.std.specs.declared.ops.Bound.TheVariants.{Included}
 use Rattle.std.specs.declared.sync.Arc.{Arc}
@@ -31,3 +32,9 @@ module _ {K V A : Type 0} (R : Order K) where
       ∙ ap (λ es. entered_all R.compare es (mine ++ later)) (sym (joined-append front (old ∷ olds)))
   edited_chunks false front old new olds news mine later ascend in_front in_mine in_later chunk rest =
       joined-append front (new ∷ news) ∙ (λ i. joined front ++ (chunk i ++ rest i)) ∙ sym (joined-append front (old ∷ olds))
+
+module _ {K V : Type 0} where
+  -- a chunk of one's own has the entries of the one that was shared
+  pub same_pairs : (old new : Held K V) → (new ≡ old) ⊎ (new.pairs ≡ old.pairs) → new.pairs ≡ old.pairs
+  same_pairs old new (inl same) = ap (λ (x : Held K V). x.pairs) same
+  same_pairs old new (inr same) = same

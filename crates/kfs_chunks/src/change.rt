@@ -22,20 +22,20 @@ pub(crate) const GREATEST_SIZE: usize = 256;
 /// has; where not, nothing was tried. Every copy and growth comes before the other change, and that
 /// before the first edit.
 #[cycle(change_chunks)]
-pub(crate) fn change_chunks<K: Key, V: Copy, A: Allocator + Clone, T: Change>(
+pub(crate) fn change_chunks<K: Key, V: Copy, A: Allocator + Clone, C: Change>(
     chunks: &mut [Arc<Entries<K, V, A>, A>],
     edits: &[Edit<K, V>],
-    then: &mut T,
+    then: &mut C,
 ) -> Result<bool, AllocError>
     requires ascend { Ascend K.cmp edits.now }
     requires sorted { T (is_sorted K.cmp (joined chunks.old)) }
     requires sized { AreSized chunks.old }
-    requires then { T.can_make then.old }
+    requires then { C.can_make then.old }
     ensures sized { AreSized chunks.new }
     ensures joined { joined chunks.new ≡ if_made result (entered_all K.cmp (joined chunks.old) edits.now) (joined chunks.old) }
-    ensures made { were_made result ≡ true → T.made then.old then.new }
+    ensures made { were_made result ≡ true → C.made then.old then.new }
     ensures not_tried { result ≡ Ok false → then.new ≡ then.old }
-    ensures kept { OnErr result (T.kept then.old then.new) }
+    ensures kept { OnErr result (C.kept then.old then.new) }
 {
     let Some(edit) = edits.first() else {
         then.make()?;
@@ -53,25 +53,26 @@ pub(crate) fn change_chunks<K: Key, V: Copy, A: Allocator + Clone, T: Change>(
 
 /// Makes the edits of a chunk, those of the chunks behind it, and the other change.
 #[cycle(change_chunks)]
-fn change_from<K: Key, V: Copy, A: Allocator + Clone, T: Change>(
+fn change_from<K: Key, V: Copy, A: Allocator + Clone, C: Change>(
     chunk: &mut Arc<Entries<K, V, A>, A>,
     rest: &mut [Arc<Entries<K, V, A>, A>],
     mine: &[Edit<K, V>],
     later: &[Edit<K, V>],
-    then: &mut T,
+    then: &mut C,
 ) -> Result<bool, AllocError>
     requires ascend { Ascend K.cmp later.now }
+    requires chunk { T (is_sorted K.cmp chunk.old.value.pairs) }
     requires sorted { T (is_sorted K.cmp (joined rest.old)) }
     requires size { IsSized chunk.old.value.pairs }
     requires sized { AreSized rest.old }
-    requires then { T.can_make then.old }
+    requires then { C.can_make then.old }
     ensures size { IsSized chunk.new.value.pairs }
     ensures sized { AreSized rest.new }
     ensures chunk { chunk.new.value.pairs ≡ if_made result (entered_all K.cmp chunk.old.value.pairs mine.now) chunk.old.value.pairs }
     ensures rest { joined rest.new ≡ if_made result (entered_all K.cmp (joined rest.old) later.now) (joined rest.old) }
-    ensures made { were_made result ≡ true → T.made then.old then.new }
+    ensures made { were_made result ≡ true → C.made then.old then.new }
     ensures not_tried { result ≡ Ok false → then.new ≡ then.old }
-    ensures kept { OnErr result (T.kept then.old then.new) }
+    ensures kept { OnErr result (C.kept then.old then.new) }
 {
     if chunk.len() <= mine.len() || mine.len() > GREATEST_SIZE - chunk.len() {
         return Ok(false);
