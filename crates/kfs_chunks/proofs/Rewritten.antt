@@ -111,7 +111,7 @@ module _ {K V : Type 0} (R : Order K) where
       ap (λ all. entered_all R.compare all es) (entered_behind xs ys e.key e.value (none 0 e (omega arith)))
       ∙ all_behind xs (entered R.compare ys e.key e.value) es (All-tail (λ (x : Edit K V). entry_from R.compare (Included x.key) xs ≡ None) e es none)
 
-  none_still : (xs : List (K × V)) (j : K) (w : Option V) (es : List (Edit K V)) → All (λ l. R.compare j l.key ≡ Less) es → All (λ e. entry_from R.compare (Included e.key) xs ≡ None) es → All (λ e. entry_from R.compare (Included e.key) (entered R.compare xs j w) ≡ None) es
+  pub none_still : (xs : List (K × V)) (j : K) (w : Option V) (es : List (Edit K V)) → All (λ l. R.compare j l.key ≡ Less) es → All (λ e. entry_from R.compare (Included e.key) xs ≡ None) es → All (λ e. entry_from R.compare (Included e.key) (entered R.compare xs j w) ≡ None) es
   none_still xs j w es less none i d below = none_after_entry xs j (slice_index_or es i d).key w (less i d below) (none i d below)
 
   -- edits of both parts, each made there, are made of both

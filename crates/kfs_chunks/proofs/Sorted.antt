@@ -137,7 +137,7 @@ module _ {K V : Type 0} (R : Order K) where
     pub kept : where_key R.compare (λ j. not (eq_by_cmp R.compare k j)) es ≡ es
 
   -- where a key stands by the first entry
-  first_is : (k : K) (e : K × V) (es : List (K × V)) (r : Ordering) → R.compare k e.0 ≡ r → first_from R.compare (Included k) (e ∷ es) ≡ cond (is_gt r) (suc (first_from R.compare (Included k) es)) 0
+  pub first_is : (k : K) (e : K × V) (es : List (K × V)) (r : Ordering) → R.compare k e.0 ≡ r → first_from R.compare (Included k) (e ∷ es) ≡ cond (is_gt r) (suc (first_from R.compare (Included k) es)) 0
   first_is k e es r p = ap (λ b. cond (not b) 0 (suc (first_from R.compare (Included k) es))) (flipped R.total e.0 k ∙ ap is_gt p) ∙ turn (is_gt r)
     where
       turn : (b : Bool) → cond (not b) 0 (suc (first_from R.compare (Included k) es)) ≡ cond b (suc (first_from R.compare (Included k) es)) 0
@@ -154,7 +154,7 @@ module _ {K V : Type 0} (R : Order K) where
       at rest true out = absurd (true_or_false true refl out)
       at rest false out = ap (λ es. e ∷ es) (rest out)
 
-  stands_first : (k : K) (e : K × V) (es : List (K × V)) → R.compare k e.0 ≡ Equal → T (below_all R.compare e.0 es) → StandsAt k (e ∷ es) 0
+  pub stands_first : (k : K) (e : K × V) (es : List (K × V)) → R.compare k e.0 ≡ Equal → T (below_all R.compare e.0 es) → StandsAt k (e ∷ es) 0
   stands_first k e es p below =
       let rest = where_key R.compare (λ j. not (eq_by_cmp R.compare k j)) es in
       let out : find R.compare k es ≡ None = subst (λ j. find R.compare j es ≡ None) (sym (R.exact k e.0 p)) (find_below R e.0 es below) in

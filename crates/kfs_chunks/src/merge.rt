@@ -1,11 +1,11 @@
 //! Entries after edits, in memory of their own, by one walk over both.
-ghost use Rattle.std.specs.Prelude.{◌≡◌, ◌∷◌, ◌++◌, List, T, All, IfOk, OnOk, slice_get};
+ghost use Rattle.std.specs.Prelude.{◌≡◌, ◌∷◌, ◌++◌, List, T, All, IfOk, OnOk, None};
 ghost use Rattle.std.specs.declared.cmp.Ordering.TheVariants.{Less};
 ghost use Rattle.std.specs.declared.ops.Bound.TheVariants.{Included};
-ghost use Rattle.std.specs.FinMap.Entries.{is_sorted, below_all};
+ghost use Rattle.std.specs.FinMap.Entries.{is_sorted};
 ghost use Rattle.kfs_chunks.specs.declared.edit.Edit.{Edit as EditValue};
-ghost use Rattle.kfs_chunks.specs.Edits.{entered_all, Ascend};
-ghost use Rattle.kfs_chunks.specs.Starts.{entry_from};
+ghost use Rattle.kfs_chunks.specs.Edits.{entered, entered_all, Ascend};
+ghost use Rattle.kfs_chunks.specs.Starts.{first_from};
 
 use crate::edit::Edit;
 use crate::entries::first_from;
@@ -54,12 +54,16 @@ fn enter<'a, K: Key, V: Copy, A: Allocator>(
 /// The entries without the first, where that has the key.
 fn behind<'a, K: Key, V: Copy>(entries: &'a [(K, V)], key: &K) -> &'a [(K, V)]
     requires sorted { T (is_sorted K.cmp entries.now) }
-    requires from { entry_from K.cmp (Included key.now) entries.now ≡ slice_get entries.now 0 }
-    ensures { T (below_all K.cmp key.now result.now) }
+    requires from { first_from K.cmp (Included key.now) entries.now ≡ 0 }
+    ensures { result.now ≡ entered K.cmp entries.now key.now None }
 {
-    match entries.split_first() {
-        Some((first, rest)) if first.0.cmp(key).is_eq() => rest,
-        _ => entries,
+    let Some((first, rest)) = entries.split_first() else {
+        return entries;
+    };
+    if first.0.cmp(key).is_eq() {
+        rest
+    } else {
+        entries
     }
 }
 
