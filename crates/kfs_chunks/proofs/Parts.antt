@@ -8,6 +8,7 @@ use Rattle.std.specs.declared.ops.Bound.{Bound}
 use Rattle.std.specs.declared.ops.Bound.TheVariants.{Included}
 use Rattle.std.specs.declared.sync.Arc.{Arc}
 use Rattle.std.specs.Ordering.{is_lt, is_gt}
+use Rattle.std.specs.List.{AllZip}
 use Rattle.std.specs.List.Sorted.{IsPartitionedBy}
 use Rattle.std.specs.FinMap.Entries.{find, is_sorted, below_all}
 use Rattle.kfs_model.specs.Table.{Order}
@@ -220,3 +221,17 @@ module _ {K V A : Type 0} (R : Order K) where
       none_later R k (slice_index_or es i d).key (joined front)
       (ap (λ l. is_lt (R.compare (slice_index_or es i d).key l)) (first d) ∙ ap (λ n. is_lt (R.compare (slice_index_or es n d).key (slice_index_or es 0 d).key)) {x = i} {y = 0 + i} (omega arith) ∙ not_earlier R.total es 0 i d ascend (omega (arith, below)))
       (none_in_front R.compare (Included k) front back before_place)
+
+module _ {K V A : Type 0} (P : Arc (Held K V) A → Arc (Held K V) A → Type 0) (both : (a b : Arc (Held K V) A) → P a b → b.value ≡ a.value) where
+  -- chunks that are those of others, one by one
+  pub copied_joined : (xs ys : List (Arc (Held K V) A)) → AllZip P xs ys → joined ys ≡ joined xs
+  copied_joined [] [] same = refl
+  copied_joined [] (y ∷ ys) same = absurd same
+  copied_joined (x ∷ xs) [] same = absurd same
+  copied_joined (x ∷ xs) (y ∷ ys) same = λ i. (both x y same.0 i).pairs ++ copied_joined xs ys same.1 i
+
+  pub copied_sized : (xs ys : List (Arc (Held K V) A)) → AllZip P xs ys → AreSized xs → AreSized ys
+  copied_sized [] [] same sized = tt
+  copied_sized [] (y ∷ ys) same sized = absurd same
+  copied_sized (x ∷ xs) [] same sized = absurd same
+  copied_sized (x ∷ xs) (y ∷ ys) same sized = (subst (λ (v : Held K V). IsSized v.pairs) (sym (both x y same.0)) sized.0, copied_sized xs ys same.1 sized.1)

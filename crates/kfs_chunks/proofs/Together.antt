@@ -11,6 +11,7 @@ use Rattle.kfs_chunks.specs.Edits.{entered_all, Ascend}
 use Rattle.kfs_chunks.specs.Held.{Held}
 use Rattle.kfs_chunks.specs.Joined.{joined}
 use Rattle.kfs_chunks.specs.Starts.{entry_from}
+use Rattle.kfs_chunks.proofs.Order.{true_or_false}
 use Rattle.kfs_chunks.proofs.Parts.{joined-append}
 use Rattle.kfs_chunks.proofs.Rewritten.{all_behind, parts_edited}
 
@@ -38,3 +39,12 @@ module _ {K V : Type 0} where
   pub same_pairs : (old new : Held K V) → (new ≡ old) ⊎ (new.pairs ≡ old.pairs) → new.pairs ≡ old.pairs
   same_pairs old new (inl same) = ap (λ (x : Held K V). x.pairs) same
   same_pairs old new (inr same) = same
+
+-- what a choice took
+pub took_first : {X : Type 0} (made : Bool) (x y z : X) → z ≡ cond made x y → made ≡ true → z ≡ x
+took_first true x y z choice made = choice
+took_first false x y z choice made = absurd (true_or_false false made refl)
+
+pub took_second : {X : Type 0} (made : Bool) (x y z : X) → z ≡ cond made x y → made ≡ false → z ≡ y
+took_second true x y z choice made = absurd (true_or_false true refl made)
+took_second false x y z choice made = choice
