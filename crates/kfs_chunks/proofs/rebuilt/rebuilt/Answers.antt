@@ -1,4 +1,4 @@
-use Rattle.std.proofs.Common.{◌≡◌, ◌∷◌, ◌++◌, [], ◌∙◌, T, All, None, rules, length, take, drop, sym, ap, subst}
+use Rattle.std.proofs.Common.{◌≡◌, ◌∷◌, ◌++◌, [], ◌∙◌, T, All, None, rules, sym, ap, subst}
 use Rattle.std.proofs.lemmas.List.{append_assoc, nil_from_length}
 use Rattle.std.specs.declared.ops.Bound.TheVariants.{Included}
 use Rattle.std.specs.FinMap.Entries.{is_sorted, below_all}
@@ -32,11 +32,11 @@ loop-chunk-preserved g c =
       left = sized.1;
       sized = c.in_ok-push.ensures.sized;
       joined =
-        ap (λ done. done ++ entered_all g.K.Ord.cmp (joined rest) others) c.in_ok-push.ensures.joined
-        ∙ append_assoc (joined c.loop-chunk.new.items) (entered_all g.K.Ord.cmp es mine) (entered_all g.K.Ord.cmp (joined rest) others)
-        ∙ ap (λ more. joined c.loop-chunk.new.items ++ more) (sym (parts_edited order es (joined rest) mine others (subst (λ es. Ascend g.K.Ord.cmp es) edits c.loop-chunk.invariant.ascend) below none))
-        ∙ (λ i. joined c.loop-chunk.new.items ++ entered_all g.K.Ord.cmp (joined (sym whole i)) (sym edits i))
-        ∙ c.loop-chunk.invariant.joined;
+          ap (λ done. done ++ entered_all g.K.Ord.cmp (joined rest) others) c.in_ok-push.ensures.joined
+          ∙ append_assoc (joined c.loop-chunk.new.items) (entered_all g.K.Ord.cmp es mine) (entered_all g.K.Ord.cmp (joined rest) others)
+          ∙ ap (λ more. joined c.loop-chunk.new.items ++ more) (sym (parts_edited order es (joined rest) mine others (subst (λ es. Ascend g.K.Ord.cmp es) edits c.loop-chunk.invariant.ascend) below none))
+          ∙ (λ i. joined c.loop-chunk.new.items ++ entered_all g.K.Ord.cmp (joined (sym whole i)) (sym edits i))
+          ∙ c.loop-chunk.invariant.joined;
     }
 
 pub returns-clause-joined : goal.returns-clause-joined
