@@ -1,4 +1,4 @@
-use Rattle.std.proofs.Common.{◌≡◌, ◌<◌, ◌≤◌, ◌+◌, ◌∷◌, ◌++◌, [], ◌∙◌, All, length, drop, sym, ap, subst, arith}
+use Rattle.std.proofs.Common.{◌≡◌, ◌<◌, ◌≤◌, ◌+◌, ◌∷◌, ◌++◌, ◌∙◌, All, length, drop, sym, ap, subst, arith}
 use Rattle.std.proofs.lemmas.List.{drop_all, drop_more}
 use Rattle.std.specs.declared.cmp.Ordering.TheVariants.{Less}
 use Rattle.kfs_chunks.specs.Edits.{entered_all}
@@ -16,9 +16,9 @@ loop-edit-preserved g c =
     record {
       sorted = c.in_ok-left.ensures.sorted;
       entered =
-        c.in_ok-left.ensures.entered later less
-        ∙ ap (λ es. c.loop-edit.merged.items ++ entered_all g.K.Ord.cmp c.loop-edit.left.now es) (ap (λ e. e ∷ later) c.edit-item.is ∙ sym (drop_more edits i c.edit-item.result within))
-        ∙ c.loop-edit.invariant.entered;
+          c.in_ok-left.ensures.entered later less
+          ∙ ap (λ es. c.loop-edit.merged.items ++ entered_all g.K.Ord.cmp c.loop-edit.left.now es) (ap (λ e. e ∷ later) c.edit-item.is ∙ sym (drop_more edits i c.edit-item.result within))
+          ∙ c.loop-edit.invariant.entered;
     }
 
 pub returns : goal.returns

@@ -12,12 +12,15 @@ loop-from-preserved g c =
     let count = c.min-count.result in
     let chunk = c.in_ok-new.field-0 in
     let items : c.push.new.self.items ≡ c.loop-from.new.items ++ chunk ∷ [] = c.in_ok-push.ensures.items in
-    let value : chunk.value.pairs ≡ take count (drop from es) = let a = c.in_ok-new in let b = c.in_ok-chunk in let d = c.in_ok-push in ? in
-    let sizes : (1 ≤ count) × (count ≤ 256) = let a = c.min-count in let b = c.if-len-le-GREATEST_SIZE in let d = c.len-in-loop-from-2 in ? in
-    let within : from + count ≤ length es = let e = c.len-in-loop-from in omega arith in
+    let value : chunk.value.pairs ≡ take count (drop from es) = ap (λ held. held.pairs) c.in_ok-new.ensures.ok ∙ c.in_ok-chunk.ensures in
+    let greatest : (128 ≤ c.if-len-le-GREATEST_SIZE.size) × (c.if-len-le-GREATEST_SIZE.size ≤ 256) =
+    elim c.if-len-le-GREATEST_SIZE.branch [ then-len-le-GREATEST_SIZE w ↦ (omega arith, omega arith) | else-len-le-GREATEST_SIZE w ↦ (omega arith, omega arith) ] in
+    let least : 1 ≤ count = omega arith in
+    let most : count ≤ 256 = omega arith in
+    let within : from + count ≤ length es = omega arith in
     let size : length chunk.value.pairs ≡ count = ap length value ∙ length-take-le count (drop from es) (omega (arith, within, length-drop from es)) in
     record {
       within = within;
-      sized = subst AreSized (sym items) (sized-push c.loop-from.new.items chunk c.loop-from.invariant.sized (omega (arith, size, sizes.0), omega (arith, size, sizes.1)));
+      sized = subst AreSized (sym items) (sized-push c.loop-from.new.items chunk c.loop-from.invariant.sized (omega (arith, size, least), omega (arith, size, most)));
       joined = ap joined items ∙ joined_cut c.loop-from.new.items chunk (joined c.args.new.now.items) es from count c.loop-from.invariant.joined value;
     }

@@ -1,4 +1,5 @@
 use Rattle.std.proofs.Common.{◌≡◌, ◌∷◌, ◌++◌, [], ◌∙◌, rules, sym, ap, subst}
+use Rattle.std.proofs.lemmas.List.{nil_from_length}
 use Rattle.std.specs.Prelude.{OnOk}
 use Rattle.kfs_chunks.specs.Edits.{entered_all}
 use Rattle.kfs_chunks.specs.Joined.{joined, IsSized, AreSized}
@@ -10,7 +11,7 @@ returns-then-is_empty-clause-joined g c =
     let chunk = c.in_ok-clone.field-0 in
     let items : c.push.new.self.items ≡ c.args.new.now.items ++ chunk ∷ [] = c.in_ok-push.ensures.items in
     let value : chunk.value ≡ c.args.chunk.now.value = search rules in
-    let none : c.args.edits.now ≡ [] = search rules in
+    let none : c.args.edits.now ≡ [] = nil_from_length c.args.edits.now (search rules) in
     ap joined items
     ∙ joined-push c.args.new.now.items chunk
     ∙ ap (λ held. joined c.args.new.now.items ++ held.pairs) value
