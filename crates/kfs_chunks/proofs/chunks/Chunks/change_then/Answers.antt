@@ -20,7 +20,7 @@ invariant_of-self-then-branch g c =
     let old = c.self.inside.chunks.items in
     let new = c.change_chunks.new.chunks in
     let written : (with_items c.self.inside.chunks new).items ≡ new = with_items_is c.self.inside.chunks new (omega (arith, c.change_chunks.auto.chunks, c.as_mut_slice.ensures.len)) in
-    let done : were_made c.change_chunks.result ≡ true = ap were_made (c.in_ok-change_chunks.was tt) ∙ c.if-branch.true in
+    let done : were_made c.change_chunks.result ≡ true = ap were_made c.in_ok-change_chunks.was ∙ c.if-branch.true in
     let made : joined new ≡ entered_all cmp (joined old) es =
     took_first (were_made c.change_chunks.result) _ _ _ c.change_chunks.ensures.joined done ∙ ap (λ cs. entered_all cmp (joined cs) es) c.as_mut_slice.ensures.value in
     (subst (λ es. T (is_sorted cmp es)) (sym (ap joined written ∙ made)) (is_sorted-all order (joined old) es c.self.invariant.0), subst AreSized (sym written) c.change_chunks.ensures.sized)
@@ -36,7 +36,7 @@ invariant_of-self-2 g c =
     let old = c.self.inside.chunks.items in
     let now = c.change_chunks.new.chunks in
     let written : (with_items c.self.inside.chunks now).items ≡ now = with_items_is c.self.inside.chunks now (omega (arith, c.change_chunks.auto.chunks, c.as_mut_slice.ensures.len)) in
-    let not_done : were_made c.change_chunks.result ≡ false = ap were_made (c.in_ok-change_chunks.was tt) ∙ c.if-branch.false in
+    let not_done : were_made c.change_chunks.result ≡ false = ap were_made c.in_ok-change_chunks.was ∙ c.if-branch.false in
     let kept : joined now ≡ joined old = took_second (were_made c.change_chunks.result) _ _ _ c.change_chunks.ensures.joined not_done ∙ ap joined c.as_mut_slice.ensures.value in
-    let made : joined c.in_ok-chunks.chunks.items ≡ entered_all cmp (joined old) es = (c.in_ok-chunks.ensures tt).joined ∙ ap (λ xs. entered_all cmp xs es) (ap joined written ∙ kept) in
-    (subst (λ es. T (is_sorted cmp es)) (sym made) (is_sorted-all order (joined old) es c.self.invariant.0), (c.in_ok-chunks.ensures tt).sized)
+    let made : joined c.in_ok-chunks.chunks.items ≡ entered_all cmp (joined old) es = c.in_ok-chunks.ensures.joined ∙ ap (λ xs. entered_all cmp xs es) (ap joined written ∙ kept) in
+    (subst (λ es. T (is_sorted cmp es)) (sym made) (is_sorted-all order (joined old) es c.self.invariant.0), c.in_ok-chunks.ensures.sized)
