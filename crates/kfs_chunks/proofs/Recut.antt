@@ -9,6 +9,7 @@ use Rattle.std.specs.declared.ops.Bound.{Bound}
 use Rattle.std.specs.declared.ops.Bound.TheVariants.{Included}
 use Rattle.std.specs.declared.sync.Arc.{Arc}
 use Rattle.std.specs.Ordering.{is_eq, is_gt, eq_by_cmp, ordering_reverse}
+use Rattle.std.specs.Cmp.{Equal-is}
 use Rattle.std.specs.FinMap.Entries.{put, by_order, is_sorted}
 use Rattle.kfs_model.specs.Table.{Order}
 use Rattle.kfs_model.proofs.Tables.{left_part}
@@ -48,14 +49,9 @@ module _ {K V : Type 0} (cmp : K → K → Ordering) where
   pub sorted_drop : (n : ℕ) (es : List (K × V)) → T (is_sorted cmp es) → T (is_sorted cmp (drop n es))
   sorted_drop n es sorted = sorted_right cmp (take n es) (drop n es) (subst (λ xs. T (is_sorted cmp xs)) (sym (take-append-drop n es)) sorted)
 
-as_equal : (r : Ordering) → is_eq r ≡ true → r ≡ Equal
-as_equal Less same = absurd (true_or_false false same refl)
-as_equal Equal same = refl
-as_equal Greater same = absurd (true_or_false false same refl)
-
 module _ {K V : Type 0} (R : Order K) where
   -- entries whose first is above the key don't have it
-  pub without_lower : (k : K) (e : K × V) (es : List (K × V)) → T (is_sorted R.compare (e ∷ es)) → R.compare k e.0 ≡ Less → entered R.compare (e ∷ es) k None ≡ e ∷ es
+  without_lower : (k : K) (e : K × V) (es : List (K × V)) → T (is_sorted R.compare (e ∷ es)) → R.compare k e.0 ≡ Less → entered R.compare (e ∷ es) k None ≡ e ∷ es
   without_lower k e es sorted less = kept_without R k (e ∷ es) (ap is_some (none_lower R k e es less (left_part _ _ sorted)))
 
   -- the first entry from the key on isn't below it
@@ -64,7 +60,7 @@ module _ {K V : Type 0} (R : Order K) where
 
   -- without the first entry, where that has the key, the others are left
   pub without_first : (k : K) (e : K × V) (es : List (K × V)) → T (is_sorted R.compare (e ∷ es)) → eq_by_cmp R.compare e.0 k ≡ true → entered R.compare (e ∷ es) k None ≡ es
-  without_first k e es sorted same = (stands_first R k e es (R.total.antisymm k e.0 ∙ ap ordering_reverse (as_equal _ same)) (left_part _ _ sorted)).removed
+  without_first k e es sorted same = (stands_first R k e es (R.total.antisymm k e.0 ∙ ap ordering_reverse ((Equal-is _).0 same)) (left_part _ _ sorted)).removed
 
   -- entries from the key on, whose first has another, don't have it
   pub without_other : (k : K) (e : K × V) (es : List (K × V)) → T (is_sorted R.compare (e ∷ es)) → first_from R.compare (Included k) (e ∷ es) ≡ 0 → eq_by_cmp R.compare e.0 k ≡ false → entered R.compare (e ∷ es) k None ≡ e ∷ es
@@ -90,7 +86,7 @@ module _ {K V : Type 0} (R : Order K) where
       at Greater above = absurd (not_above k e es from above)
 
   -- edits of ascending keys: what is in front of the first stays, then comes what it makes, and the later are made in what is left
-  pub walked : (es : List (K × V)) (e : Edit K V) (later : List (Edit K V)) → T (is_sorted R.compare es) → All (λ l. R.compare e.key l.key ≡ Less) later
+  walked : (es : List (K × V)) (e : Edit K V) (later : List (Edit K V)) → T (is_sorted R.compare es) → All (λ l. R.compare e.key l.key ≡ Less) later
       → entered_all R.compare es (e ∷ later)
       ≡ take (first_from R.compare (Included e.key) es) es ++ (entered R.compare [] e.key e.value ++ entered_all R.compare (entered R.compare (drop (first_from R.compare (Included e.key) es) es) e.key None) later)
   walked es e later sorted less =
