@@ -1,4 +1,3 @@
-pub mod Ahead
 pub mod BlankTrees
 pub mod Counts
 pub mod HeaderPages
@@ -7,9 +6,7 @@ pub mod Indexes
 pub mod NameEdits
 pub mod NameOrder
 pub mod NetTables
+pub mod NextNames
 pub mod NodeEdits
 pub mod Overlays
-pub mod RowCounts
-pub mod RowSteps
 pub mod ShownTrees
-pub mod SlotTables
