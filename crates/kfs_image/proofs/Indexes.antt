@@ -59,13 +59,17 @@ module _ {K : Type 0} {R : Order K} where
       at true is = new count is
       at false is = all q count is
 
+never : {n : ℕ} → None ≡ Some n → ⊥
+never e = cc
+
+pub no_names : AreNames empty
+unfolding get
+no_names key number found = absurd (never found)
+
 -- empty tables count the names of an empty one
 pub nothing_counted : IsCounted empty empty empty
 unfolding get
 nothing_counted = record { positive = λ way count found. absurd (never found); counts = λ d. refl; uplinks = λ n d. refl }
-  where
-    never : {n : ℕ} → None ≡ Some n → ⊥
-    never e = cc
 
 -- names stay names where one of them comes to lead elsewhere
 pub still_names : (names : NameTable) (d : ℕ) (m : List ℕ) (w : Option ℕ) → AreNames names → IsName m → AreNames (changed names (d, m) w)

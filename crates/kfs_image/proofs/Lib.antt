@@ -1,5 +1,6 @@
 pub mod BlankTrees
 pub mod Counts
+pub mod EditedRows
 pub mod HeaderPages
 pub mod Holders
 pub mod Indexes

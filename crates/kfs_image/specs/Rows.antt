@@ -1,15 +1,11 @@
--- The tables that the rows of a shape show, and rows after edits.
-use Rattle.std.specs.Prelude.{ℕ, List}
+-- The tables that the rows of a shape show.
+use Rattle.std.specs.Prelude.{ℕ}
 use Rattle.kfs_value.specs.declared.header.Header.{Header as CodeHeader}
 use Rattle.kfs_value.specs.Views.{header_of}
 use Rattle.kfs_model.specs.Header.{Header}
 use Rattle.kfs_model.specs.Table.{Table, numbers, mapped}
 use Rattle.kfs_model.specs.Tree.{NameTable, name_order}
-use Rattle.kfs_pages.specs.declared.edit.Edit as numbered
-use Rattle.kfs_pages.specs.Edits as numbered_edits
-use Rattle.kfs_chunks.specs.Edits.{rewritten}
 use Rattle.kfs_chunks.specs.Tables.{table}
-use Rattle.kfs_image.specs.declared.name_edits.NameEdits.{NameEdits}
 use Rattle.kfs_image.specs.declared.rows.Rows.{Rows}
 use Rattle.kfs_image.specs.Indexes.{by_node, AreNames, AreInPages, IsCounted}
 use Rattle.kfs_image.specs.NodeEdits.{AreNumbered}
@@ -37,12 +33,3 @@ module _ {A : Type 0} where
   pub record IsIndexed (rows : Rows A) : Type 0 where
     pub names : AreNames (names_in rows)
     pub counted : IsCounted (names_in rows) rows.counts (ways_in rows)
-
-  -- the rows after edits of each map
-  abbrev pub edited_rows : Rows A → List (numbered.Edit CodeHeader) → NameEdits A → Rows A
-  edited_rows rows headers edits = record {
-    headers = numbered_edits.rewritten rows.headers headers;
-    names = rewritten name_order rows.names edits.names.items;
-    counts = numbered_edits.rewritten rows.counts edits.counts.items;
-    uplinks = rewritten by_node rows.uplinks edits.uplinks.items;
-  }

@@ -5,14 +5,14 @@ ghost use Rattle.kfs_model.specs.Spelling.{IsName};
 ghost use Rattle.kfs_model.specs.Table.{get, empty, changed};
 ghost use Rattle.kfs_model.specs.Tree.{entry_count, name_order, target};
 ghost use Rattle.kfs_model.specs.Sight.{holder};
-ghost use Rattle.kfs_pages.specs.Edits.{AreEdits};
-ghost use Rattle.kfs_chunks.specs.Edits.{Ascend};
+ghost use Rattle.kfs_pages.specs.Edits.{rewritten, AreEdits};
+ghost use Rattle.kfs_chunks.specs.Edits as keyed;
 ghost use Rattle.kfs_chunks.specs.Starts.{is_from};
 ghost use Rattle.kfs_image.specs.Change.{led_to, renamed, reheaded};
 ghost use Rattle.kfs_image.specs.Indexes.{by_node};
 ghost use Rattle.kfs_image.specs.Look.{IsAfter, IsNext};
 ghost use Rattle.kfs_image.specs.NodeEdits.{IsNumber};
-ghost use Rattle.kfs_image.specs.Rows.{heads_in, names_in, edited_rows, IsIndexed, FitPages};
+ghost use Rattle.kfs_image.specs.Rows.{heads_in, names_in, IsIndexed, FitPages};
 
 use crate::edits::header_edits;
 use crate::name_edits::{NameEdits, name_edits};
@@ -170,10 +170,13 @@ impl<A: Allocator + Clone> Rows<A> {
         edits: &NameEdits<A>,
     ) -> Result<(), AllocError>
         requires headers { AreEdits headers.now }
-        requires names { Ascend name_order.compare edits.now.names.items }
+        requires names { keyed.Ascend name_order.compare edits.now.names.items }
         requires counts { AreEdits edits.now.counts.items }
-        requires uplinks { Ascend by_node.compare edits.now.uplinks.items }
-        ensures ok { OnOk result (self.new ≡ edited_rows self.old headers.now edits.now) }
+        requires uplinks { keyed.Ascend by_node.compare edits.now.uplinks.items }
+        ensures headers { OnOk result (self.new.headers ≡ rewritten self.old.headers headers.now) }
+        ensures names { OnOk result (self.new.names ≡ keyed.rewritten name_order self.old.names edits.now.names.items) }
+        ensures counts { OnOk result (self.new.counts ≡ rewritten self.old.counts edits.now.counts.items) }
+        ensures uplinks { OnOk result (self.new.uplinks ≡ keyed.rewritten by_node self.old.uplinks edits.now.uplinks.items) }
         ensures err { OnErr result (self.new ≡ self.old) }
     {
         let mut then = EditChunks {
