@@ -1,5 +1,5 @@
-use Rattle.std.proofs.Common.{◌≡◌, Some, None, sym, ap, ◌∙◌}
-use Rattle.kfs_model.specs.Table.{empty, get}
+use Rattle.std.proofs.Common.{◌≡◌, ap, ◌∙◌}
+use Rattle.kfs_model.specs.Table.{empty}
 use Rattle.kfs_model.specs.Tree.{name_order}
 use Rattle.kfs_chunks.specs.Tables.{table}
 use Rattle.kfs_image.specs.Indexes.{by_node}
