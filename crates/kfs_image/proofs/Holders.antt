@@ -142,12 +142,6 @@ none_found : (o : Option ℕ) → (IsSome o → ⊥) → o ≡ None
 none_found None never = refl
 none_found (Some n) never = absurd (never refl)
 
-further : (n k : ℕ) → n ≤ k → (k ≡ n → ⊥) → n < k
-further n k least other = omega arith
-
-differ : true ≡ false → ⊥
-differ e = cc
-
 module _ {names : NameTable} {counts : Table numbers ℕ} (uplinks : List ((ℕ × ℕ) × ℕ)) (counted : IsCounted names counts (table by_node uplinks)) (n : ℕ) where
   no_ways : (c : ℕ) → find_key by_node.compare (n, c) uplinks ≡ None → ways_count names n c ≡ 0
   no_ways c none = sym (counted.uplinks n c) ∙ ap (λ o. unwrap_or o 0) (get-table by_node uplinks (n, c) ∙ none)
@@ -158,7 +152,7 @@ module _ {names : NameTable} {counts : Table numbers ℕ} (uplinks : List ((ℕ 
 
   module _ (key : ℕ × ℕ) (count : ℕ) (next : IsNext by_node.compare (Included (n, 0)) uplinks key count) where
     none_before : (c : ℕ) → is_lt (by_node.compare (n, c) key) ≡ true → ways_count names n c ≡ 0
-    none_before c before = no_ways c (none_found _ (λ some. differ (sym before ∙ next.least (n, c) (from_first n c) some)))
+    none_before c before = no_ways c (none_found _ (λ some. let differ : true ≡ false = sym before ∙ next.least (n, c) (from_first n c) some in cc))
 
     -- the first way counted is one from the node
     pub held_first : (d : ℕ) → key ≡ (n, d) → holder names n ≡ Some d
@@ -170,4 +164,4 @@ module _ {names : NameTable} {counts : Table numbers ℕ} (uplinks : List ((ℕ 
 
     -- the first way counted is one from a later node
     pub held_later : (key.0 ≡ n → ⊥) → holder names n ≡ None
-    held_later other = nothing_holds names n (λ c. none_before c (before_node n c key.0 key.1 (further n key.0 (at_or_after n key.0 key.1 next.within) other)))
+    held_later other = nothing_holds names n (λ c. none_before c (before_node n c key.0 key.1 (omega (arith, at_or_after n key.0 key.1 next.within, other))))

@@ -59,17 +59,14 @@ module _ {K : Type 0} {R : Order K} where
       at true is = new count is
       at false is = all q count is
 
-never : {n : ℕ} → None ≡ Some n → ⊥
-never e = cc
-
 pub no_names : AreNames empty
 unfolding get
-no_names key number found = absurd (never found)
+no_names key number found = cc
 
 -- empty tables count the names of an empty one
 pub nothing_counted : IsCounted empty empty empty
 unfolding get
-nothing_counted = record { positive = λ way count found. absurd (never found); counts = λ d. refl; uplinks = λ n d. refl }
+nothing_counted = record { positive = λ way count found. cc; counts = λ d. refl; uplinks = λ n d. refl }
 
 -- names stay names where one of them comes to lead elsewhere
 pub still_names : (names : NameTable) (d : ℕ) (m : List ℕ) (w : Option ℕ) → AreNames names → IsName m → AreNames (changed names (d, m) w)

@@ -1,5 +1,5 @@
 -- Which name of a directory comes next: the first from where its later names begin, if it stands there.
-use Rattle.std.proofs.Common.{◌≡◌, ℕ, ◌<◌, ◌≤◌, true, false, List, Option, Some, None, sym, ap, subst, ◌∙◌, arith}
+use Rattle.std.proofs.Common.{◌≡◌, ℕ, ◌≤◌, true, false, List, Option, Some, None, sym, ap, subst, ◌∙◌, arith}
 use Rattle.std.specs.Prelude.{is_some}
 use Rattle.std.specs.Borrow.{Bor}
 use Rattle.std.specs.Ordering.{is_lt}
@@ -14,21 +14,12 @@ use Rattle.kfs_image.specs.Indexes.{AreNames}
 use Rattle.kfs_image.specs.Look.{IsAfter, IsNext}
 use Rattle.kfs_image.proofs.NameOrder.{in_directory, earlier_directory}
 
-never : true ≡ false → ⊥
-never e = cc
-
-different : (n : ℕ) → None ≡ Some n → ⊥
-different n e = cc
-
-further : (d e : ℕ) → d ≤ e → (e ≡ d → ⊥) → d < e
-further d e least other = omega arith
-
 module _ (names : List ((ℕ × List ℕ) × ℕ)) (named : AreNames (table name_order names)) (start : Bound (ℕ × List ℕ)) (dir : ℕ) (after : Option (Bor (List ℕ)))
     (within : (m : List ℕ) → IsName m → IsAfter after m → is_from name_order.compare start (dir, m) ≡ true) where
   -- the directory has no later name where no entry stands from the start on
   pub no_later : ((q : ℕ × List ℕ) → is_from name_order.compare start q ≡ true → find name_order.compare q names ≡ None)
       → (m : List ℕ) (n : ℕ) → target (table name_order names) dir m ≡ Some n → IsAfter after m → ⊥
-  no_later none m n leads later = different n (sym (get-table name_order names (dir, m) ∙ none (dir, m) (within m (named (dir, m) n leads) later)) ∙ leads)
+  no_later none m n leads later = let found : None ≡ Some n = sym (get-table name_order names (dir, m) ∙ none (dir, m) (within m (named (dir, m) n leads) later)) ∙ leads in cc
 
   module _ (key : ℕ × List ℕ) (number : ℕ) (next : IsNextEntry name_order.compare start names key number) where
     not_before : (m : List ℕ) (n : ℕ) → target (table name_order names) dir m ≡ Some n → IsAfter after m → is_lt (name_order.compare (dir, m) key) ≡ false
@@ -47,4 +38,6 @@ module _ (names : List ((ℕ × List ℕ) × ℕ)) (named : AreNames (table name
 
     -- where it is of a later directory, this one has no later name
     pub next_beyond : dir ≤ key.0 → (key.0 ≡ dir → ⊥) → (m : List ℕ) (n : ℕ) → target (table name_order names) dir m ≡ Some n → IsAfter after m → ⊥
-    next_beyond least other m n leads after = never (ap is_lt (sym (earlier_directory dir key.0 m key.1 (further dir key.0 least other))) ∙ not_before m n leads after)
+    next_beyond least other m n leads after =
+        let differ : true ≡ false = ap is_lt (sym (earlier_directory dir key.0 m key.1 (omega (arith, least, other)))) ∙ not_before m n leads after in
+        cc

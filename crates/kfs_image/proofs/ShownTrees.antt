@@ -1,5 +1,5 @@
 -- What a lawful image shows is what the cells of its tree show.
-use Rattle.std.proofs.Common.{◌≡◌, ℕ, false, true, Option, Some, None, refl, sym, ap, ◌∙◌, arith}
+use Rattle.std.proofs.Common.{◌≡◌, Option, Some, None, refl, sym, ap, ◌∙◌, arith}
 use Rattle.std.specs.Prelude.{pos, IsTrue}
 use Rattle.kfs_model.specs.Header.{Header}
 use Rattle.kfs_model.specs.Table.{get}
@@ -26,14 +26,11 @@ lawful_numbered c lawful number h found =
     let greatest = range.greatest in
     (least, omega (arith, greatest))
 
-never : false ≡ true → ⊥
-never e = cc
-
 lawful_in_pages : (c : Contents) → IsLawful c → AreInPages c.names
 lawful_in_pages c lawful key number found = at (get (headers (tree_of c)) key.0) refl (lawful.sound.names_sound key.0 key.1 number found).holder
   where
     at : (o : Option Header) → get (headers (tree_of c)) key.0 ≡ o → IsTrue (is_directory o) → IsNumber key.0
-    at None is held = absurd (never held)
+    at None is held = cc
     at (Some h) is held =
         let range = lawful.sound.ranges key.0 h is in
         let least = range.least in
