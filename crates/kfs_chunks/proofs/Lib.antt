@@ -1,6 +1,8 @@
-mod Copies
-mod Places
+mod FirstEntries
+mod Order
+mod Parts
+mod Recut
+mod Rewritten
 mod Sorted
 pub mod Tables
 mod Together
-mod Whole

@@ -15,7 +15,7 @@ use Rattle.kfs_model.specs.Table.{Order}
 use Rattle.kfs_model.proofs.Tables.{left_part, right_part, find_below, find_head, find_behind}
 use Rattle.kfs_chunks.specs.Edits.{entered}
 use Rattle.kfs_chunks.specs.Starts.{before, is_from, first_from}
-use Rattle.kfs_chunks.proofs.Places.{true_or_false, un_not, flipped, before_within}
+use Rattle.kfs_chunks.proofs.Order.{true_or_false, un_not, flipped, before_within}
 
 module _ {K : Type 0} (R : Order K) where
   -- the order, by a comparison that is its own
@@ -32,34 +32,34 @@ module _ {X : Type 0} (test : X → Bool) where
       at rest true e within = e
       at rest false e within = rest (omega (arith, within))
 
-as_less : (r : Ordering) → T (is_lt r) → r ≡ Less
+pub as_less : (r : Ordering) → T (is_lt r) → r ≡ Less
 as_less Less t = refl
 as_less Equal t = absurd t
 as_less Greater t = absurd t
 
-less_from : (r : Ordering) → not (is_lt r) ≡ false → r ≡ Less
+pub less_from : (r : Ordering) → not (is_lt r) ≡ false → r ≡ Less
 less_from Less e = refl
 less_from Equal e = absurd (true_or_false true refl e)
 less_from Greater e = absurd (true_or_false true refl e)
 
-not_some : {V : Type 0} (o : Option V) → is_some o ≡ false → o ≡ None
+pub not_some : {V : Type 0} (o : Option V) → is_some o ≡ false → o ≡ None
 not_some None out = refl
 not_some (Some v) out = absurd (true_or_false true refl out)
 
 module _ {K : Type 0} (R : Order K) where
   -- what is below a key before the start is before the start
-  earlier : (start : Bound K) (k l : K) → R.compare k l ≡ Less → is_from R.compare start l ≡ false → is_from R.compare start k ≡ false
+  pub earlier : (start : Bound K) (k l : K) → R.compare k l ≡ Less → is_from R.compare start l ≡ false → is_from R.compare start k ≡ false
   earlier (Included a) k l less past = ap (λ r. not (is_lt r)) (R.total.trans k l a less (less_from _ past))
   earlier (Excluded a) k l less past = upto R.total k l a (ap is_gt less) past
   earlier Unbounded k l less past = past
 
   -- a key is from itself on
-  from_itself : (k : K) → is_from R.compare (Included k) k ≡ true
+  pub from_itself : (k : K) → is_from R.compare (Included k) k ≡ true
   from_itself k = ap (λ r. not (is_lt r)) (tied_itself R.total k)
 
 module _ {K V : Type 0} (R : Order K) where
   -- a key at an index behind the first is above it
-  first_below : (k : K) (es : List (K × V)) (j : ℕ) (d : K × V) → T (below_all R.compare k es) → j < length es → R.compare k (get_or es j d).0 ≡ Less
+  pub first_below : (k : K) (es : List (K × V)) (j : ℕ) (d : K × V) → T (below_all R.compare k es) → j < length es → R.compare k (get_or es j d).0 ≡ Less
   first_below k [] j d below within = absurd (omega (arith, within))
   first_below k (e ∷ es) zero d below within = as_less _ (left_part _ _ below)
   first_below k (e ∷ es) (suc j) d below within = first_below k es j d (right_part _ _ below) (omega (arith, within))
@@ -80,7 +80,7 @@ module _ {K V : Type 0} (R : Order K) where
   find_itself (e ∷ es) (suc i) d sorted within = find_behind R (get_or es i d).0 (get_or es i d).1 e es sorted (find_itself es i d (right_part _ _ sorted) (omega (arith, within)))
 
   -- a key that isn't before the start isn't that of an entry before it
-  passed_over : (start : Bound K) (q : K) (e : K × V) (es : List (K × V)) → is_from R.compare start q ≡ true → is_from R.compare start e.0 ≡ false → find R.compare q (e ∷ es) ≡ find R.compare q es
+  pub passed_over : (start : Bound K) (q : K) (e : K × V) (es : List (K × V)) → is_from R.compare start q ≡ true → is_from R.compare start e.0 ≡ false → find R.compare q (e ∷ es) ≡ find R.compare q es
   passed_over start q e es from past = at (R.compare q e.0) refl
     where
       at : (r : Ordering) → R.compare q e.0 ≡ r → find R.compare q (e ∷ es) ≡ find R.compare q es
@@ -97,12 +97,12 @@ module _ {K V : Type 0} (R : Order K) where
       at rest true here past = absurd (omega (arith, past))
       at rest false here past = passed_over start q e es from here ∙ rest (omega (arith, past))
 
-  below_lower : (k l : K) (es : List (K × V)) → R.compare k l ≡ Less → T (below_all R.compare l es) → T (below_all R.compare k es)
+  pub below_lower : (k l : K) (es : List (K × V)) → R.compare k l ≡ Less → T (below_all R.compare l es) → T (below_all R.compare k es)
   below_lower k l [] less below = tt
   below_lower k l (e ∷ es) less below =
       subst T (sym (ap (λ r. is_lt r && below_all R.compare k es) (R.total.trans k l e.0 less (as_less _ (left_part _ _ below))))) (below_lower k l es less (right_part _ _ below))
 
-  none_lower : (q : K) (e : K × V) (es : List (K × V)) → R.compare q e.0 ≡ Less → T (below_all R.compare e.0 es) → find R.compare q (e ∷ es) ≡ None
+  pub none_lower : (q : K) (e : K × V) (es : List (K × V)) → R.compare q e.0 ≡ Less → T (below_all R.compare e.0 es) → find R.compare q (e ∷ es) ≡ None
   none_lower q e es less below = ap (λ r. cond (is_eq r) (Some e.1) (find R.compare q es)) less ∙ find_below R q es (below_lower q e.0 es less below)
 
   -- nothing is found from the start on below the first entry there
@@ -137,14 +137,14 @@ module _ {K V : Type 0} (R : Order K) where
     pub kept : where_key R.compare (λ j. not (eq_by_cmp R.compare k j)) es ≡ es
 
   -- where a key stands by the first entry
-  first_is : (k : K) (e : K × V) (es : List (K × V)) (r : Ordering) → R.compare k e.0 ≡ r → first_from R.compare (Included k) (e ∷ es) ≡ cond (is_gt r) (suc (first_from R.compare (Included k) es)) 0
+  pub first_is : (k : K) (e : K × V) (es : List (K × V)) (r : Ordering) → R.compare k e.0 ≡ r → first_from R.compare (Included k) (e ∷ es) ≡ cond (is_gt r) (suc (first_from R.compare (Included k) es)) 0
   first_is k e es r p = ap (λ b. cond (not b) 0 (suc (first_from R.compare (Included k) es))) (flipped R.total e.0 k ∙ ap is_gt p) ∙ turn (is_gt r)
     where
       turn : (b : Bool) → cond (not b) 0 (suc (first_from R.compare (Included k) es)) ≡ cond b (suc (first_from R.compare (Included k) es)) 0
       turn true = refl
       turn false = refl
 
-  kept_without : (k : K) (es : List (K × V)) → is_some (find R.compare k es) ≡ false → where_key R.compare (λ j. not (eq_by_cmp R.compare k j)) es ≡ es
+  pub kept_without : (k : K) (es : List (K × V)) → is_some (find R.compare k es) ≡ false → where_key R.compare (λ j. not (eq_by_cmp R.compare k j)) es ≡ es
   kept_without k [] out = refl
   kept_without k (e ∷ es) out = at (kept_without k es) (eq_by_cmp R.compare k e.0) out
     where
@@ -154,7 +154,7 @@ module _ {K V : Type 0} (R : Order K) where
       at rest true out = absurd (true_or_false true refl out)
       at rest false out = ap (λ es. e ∷ es) (rest out)
 
-  stands_first : (k : K) (e : K × V) (es : List (K × V)) → R.compare k e.0 ≡ Equal → T (below_all R.compare e.0 es) → StandsAt k (e ∷ es) 0
+  pub stands_first : (k : K) (e : K × V) (es : List (K × V)) → R.compare k e.0 ≡ Equal → T (below_all R.compare e.0 es) → StandsAt k (e ∷ es) 0
   stands_first k e es p below =
       let rest = where_key R.compare (λ j. not (eq_by_cmp R.compare k j)) es in
       let out : find R.compare k es ≡ None = subst (λ j. find R.compare j es ≡ None) (sym (R.exact k e.0 p)) (find_below R e.0 es below) in

@@ -1,67 +1,50 @@
 -- What edits of a chunk and of those behind it make of all chunks.
-use Rattle.std.proofs.Common.{◌≡◌, ◌<◌, ◌≤◌, suc, Bool, true, false, cond, All, List, [], ◌∷◌, ◌++◌, length, get_or, slice_index_or, refl, sym, ap, ◌∙◌, arith}
+use Rattle.std.proofs.Common.{◌≡◌, Bool, true, false, cond, T, All, List, [], ◌∷◌, ◌++◌, None, refl, sym, ap, ◌∙◌, inl, inr}
+use Rattle.std.specs.Prelude.{◌⊎◌}
 use Rattle.std.specs.declared.cmp.Ordering.{Ordering}
-use Rattle.std.specs.Ordering.{is_lt}
-use Rattle.std.specs.Cmp.{IsTotalOrder}
+use Rattle.std.specs.declared.ops.Bound.TheVariants.{Included}
 use Rattle.std.specs.declared.sync.Arc.{Arc}
+use Rattle.std.specs.FinMap.Entries.{below_all}
+use Rattle.kfs_model.specs.Table.{Order}
 use Rattle.kfs_chunks.specs.declared.edit.Edit.{Edit}
-use Rattle.kfs_chunks.specs.declared.chunk.Chunk.{Chunk}
-use Rattle.kfs_chunks.specs.Edits.{edited}
-use Rattle.kfs_chunks.specs.Shown.{leasts, chunk_shows, shown_from, shown, begun, place}
-use Rattle.kfs_chunks.proofs.Places.{differ, edited-append, edited-away, begun_past, begun_before, begun_rest, true_or_false}
+use Rattle.kfs_chunks.specs.Edits.{entered_all, Ascend}
+use Rattle.kfs_chunks.specs.Held.{Held}
+use Rattle.kfs_chunks.specs.Joined.{joined}
+use Rattle.kfs_chunks.specs.Starts.{entry_from}
+use Rattle.kfs_chunks.proofs.Order.{true_or_false}
+use Rattle.kfs_chunks.proofs.Parts.{joined-append}
+use Rattle.kfs_chunks.proofs.Rewritten.{all_behind, parts_edited}
 
-module _ {K V A : Type 0} {cmp : K → K → Ordering} (o : IsTotalOrder cmp) where
-  -- behind a chunk that no edit belongs to
-  behind : (c d d' : Arc (Chunk K V A) A) (xs ys : List (Arc (Chunk K V A) A)) (es : List (Edit K V)) (q : K) → d'.value.least ≡ d.value.least
-      → All (λ e. is_lt (cmp e.key d.value.least) ≡ false) es
-      → shown_from cmp d' ys q ≡ edited cmp es q (shown_from cmp d xs q)
-      → shown_from cmp c (d' ∷ ys) q ≡ edited cmp es q (shown_from cmp c (d ∷ xs) q)
-  behind c d d' xs ys es q same past inner = ap (λ l. cond (is_lt (cmp q l)) (chunk_shows cmp c q) (shown_from cmp d' ys q)) same ∙ at (is_lt (cmp q d.value.least)) refl
-    where
-      at : (b : Bool) → is_lt (cmp q d.value.least) ≡ b → cond b (chunk_shows cmp c q) (shown_from cmp d' ys q) ≡ edited cmp es q (cond b (chunk_shows cmp c q) (shown_from cmp d xs q))
-      at false e = inner
-      at true e = sym (edited-away cmp es q (chunk_shows cmp c q) (λ k x below. differ o q (slice_index_or es k x).key d.value.least (λ alike. true_or_false true refl (sym e ∙ alike ∙ past k x below))))
+module _ {K V A : Type 0} (R : Order K) where
+  -- the edits of one chunk and of those behind it, made there or not, are made of all or not
+  pub edited_chunks : (made : Bool) (front : List (Arc (Held K V) A)) (old new : Arc (Held K V) A) (olds news : List (Arc (Held K V) A)) (mine later : List (Edit K V))
+      → Ascend R.compare (mine ++ later)
+      → All (λ e. entry_from R.compare (Included e.key) (joined front) ≡ None) (mine ++ later)
+      → All (λ e. T (below_all R.compare e.key (joined olds))) mine
+      → All (λ e. entry_from R.compare (Included e.key) old.value.pairs ≡ None) later
+      → new.value.pairs ≡ cond made (entered_all R.compare old.value.pairs mine) old.value.pairs
+      → joined news ≡ cond made (entered_all R.compare (joined olds) later) (joined olds)
+      → joined (front ++ new ∷ news) ≡ cond made (entered_all R.compare (joined (front ++ old ∷ olds)) (mine ++ later)) (joined (front ++ old ∷ olds))
+  edited_chunks true front old new olds news mine later ascend in_front in_mine in_later chunk rest =
+      joined-append front (new ∷ news)
+      ∙ (λ i. joined front ++ (chunk i ++ rest i))
+      ∙ ap (λ es. joined front ++ es) (sym (parts_edited R old.value.pairs (joined olds) mine later ascend in_mine in_later))
+      ∙ sym (all_behind R (joined front) (joined (old ∷ olds)) (mine ++ later) in_front)
+      ∙ ap (λ es. entered_all R.compare es (mine ++ later)) (sym (joined-append front (old ∷ olds)))
+  edited_chunks false front old new olds news mine later ascend in_front in_mine in_later chunk rest =
+      joined-append front (new ∷ news) ∙ (λ i. joined front ++ (chunk i ++ rest i)) ∙ sym (joined-append front (old ∷ olds))
 
-  at_chunk : (old new : Arc (Chunk K V A) A) (olds news : List (Arc (Chunk K V A) A)) (mine later : List (Edit K V)) (q : K)
-      → leasts news ≡ leasts olds
-      → All (λ e. begun cmp olds e.key ≡ 0) mine
-      → All (λ e. 0 < begun cmp olds e.key) later
-      → chunk_shows cmp new q ≡ edited cmp mine q (chunk_shows cmp old q)
-      → shown cmp news q ≡ edited cmp later q (shown cmp olds q)
-      → shown_from cmp new news q ≡ edited cmp later q (edited cmp mine q (shown_from cmp old olds q))
-  at_chunk old new [] [] mine later q same in_mine in_later chunk rest = chunk ∙ sym (edited-away cmp later q _ (λ k x below. absurd (omega (arith, in_later k x below))))
-  at_chunk old new [] (y ∷ ys) mine later q same in_mine in_later chunk rest = absurd (none same)
-    where
-      none : leasts (y ∷ ys) ≡ [] → ⊥
-      none e = cc
-  at_chunk old new (x ∷ xs) [] mine later q same in_mine in_later chunk rest = absurd (none same)
-    where
-      none : [] ≡ leasts (x ∷ xs) → ⊥
-      none e = cc
-  at_chunk old new (d ∷ ds) (d' ∷ ds') mine later q same in_mine in_later chunk rest =
-      ap (λ l. cond (is_lt (cmp q l)) (chunk_shows cmp new q) (shown_from cmp d' ds' q)) (ap (λ ls. get_or ls 0 d.value.least) same) ∙ at (is_lt (cmp q d.value.least)) refl
-    where
-      at : (b : Bool) → is_lt (cmp q d.value.least) ≡ b
-          → cond b (chunk_shows cmp new q) (shown_from cmp d' ds' q) ≡ edited cmp later q (edited cmp mine q (cond b (chunk_shows cmp old q) (shown_from cmp d ds q)))
-      at true e = chunk ∙ sym (edited-away cmp later q _ (λ k x below. differ o q (slice_index_or later k x).key d.value.least (λ alike. true_or_false true refl (sym e ∙ alike ∙ begun_past cmp d ds (slice_index_or later k x).key (in_later k x below)))))
-      at false e =
-          rest ∙ ap (edited cmp later q) (sym (edited-away cmp mine q _ (λ k x below. differ o q (slice_index_or mine k x).key d.value.least (λ alike. true_or_false false (sym e ∙ alike ∙ begun_before cmp d ds (slice_index_or mine k x).key (in_mine k x below)) refl))))
+module _ {K V : Type 0} where
+  -- a chunk of one's own has the entries of the one that was shared
+  pub same_pairs : (old new : Held K V) → (new ≡ old) ⊎ (new.pairs ≡ old.pairs) → new.pairs ≡ old.pairs
+  same_pairs old new (inl same) = ap (λ (x : Held K V). x.pairs) same
+  same_pairs old new (inr same) = same
 
-  -- the edits of one chunk and of those behind it, made there, are made of all
-  pub edited_chunks : (front : List (Arc (Chunk K V A) A)) (old new : Arc (Chunk K V A) A) (olds news : List (Arc (Chunk K V A) A)) (mine later : List (Edit K V)) (q : K)
-      → new.value.least ≡ old.value.least
-      → leasts news ≡ leasts olds
-      → All (λ e. length front ≤ place cmp (front ++ old ∷ olds) e.key) (mine ++ later)
-      → All (λ e. begun cmp olds e.key ≡ 0) mine
-      → All (λ e. 0 < begun cmp olds e.key) later
-      → chunk_shows cmp new q ≡ edited cmp mine q (chunk_shows cmp old q)
-      → shown cmp news q ≡ edited cmp later q (shown cmp olds q)
-      → shown cmp (front ++ new ∷ news) q ≡ edited cmp (mine ++ later) q (shown cmp (front ++ old ∷ olds) q)
-  edited_chunks [] old new olds news mine later q least same placed in_mine in_later chunk rest =
-      at_chunk old new olds news mine later q same in_mine in_later chunk rest ∙ sym (edited-append cmp mine later q _)
-  edited_chunks (c ∷ []) old new olds news mine later q least same placed in_mine in_later chunk rest =
-      behind c old new olds news (mine ++ later) q least (λ k x below. begun_past cmp old olds (slice_index_or (mine ++ later) k x).key (omega (arith, placed k x below)))
-      (edited_chunks [] old new olds news mine later q least same (λ k x below. omega arith) in_mine in_later chunk rest)
-  edited_chunks (c ∷ f ∷ fs) old new olds news mine later q least same placed in_mine in_later chunk rest =
-      behind c f f (fs ++ old ∷ olds) (fs ++ new ∷ news) (mine ++ later) q refl (λ k x below. begun_past cmp f (fs ++ old ∷ olds) (slice_index_or (mine ++ later) k x).key (omega (arith, placed k x below)))
-      (edited_chunks (f ∷ fs) old new olds news mine later q least same (λ k x below. begun_rest cmp f (fs ++ old ∷ olds) (slice_index_or (mine ++ later) k x).key (suc (length fs)) (placed k x below)) in_mine in_later chunk rest)
+-- what a choice took
+pub took_first : {X : Type 0} (made : Bool) (x y z : X) → z ≡ cond made x y → made ≡ true → z ≡ x
+took_first true x y z choice made = choice
+took_first false x y z choice made = absurd (true_or_false false made refl)
+
+pub took_second : {X : Type 0} (made : Bool) (x y z : X) → z ≡ cond made x y → made ≡ false → z ≡ y
+took_second true x y z choice made = absurd (true_or_false true refl made)
+took_second false x y z choice made = choice

@@ -13,11 +13,15 @@ module _ {K V : Type 0} (cmp : K → K → Ordering) where
   entered entries key None = where_key cmp (λ k. not (eq_by_cmp cmp key k)) entries
   entered entries key (Some value) = put cmp key value entries
 
-module _ {K V : Type 0} (R : Order K) where
   -- the entries after the edits, one after the other
+  abbrev pub entered_all : List (K × V) → List (Edit K V) → List (K × V)
+  entered_all entries [] = entries
+  entered_all entries (e ∷ es) = entered_all (entered entries e.key e.value) es
+
+module _ {K V : Type 0} (R : Order K) where
+  -- the entries after the edits, by the order of the keys
   abbrev pub rewritten : List (K × V) → List (Edit K V) → List (K × V)
-  rewritten entries [] = entries
-  rewritten entries (e ∷ es) = rewritten (entered R.compare entries e.key e.value) es
+  rewritten entries edits = entered_all R.compare entries edits
 
 module _ {K V : Type 0} (cmp : K → K → Ordering) where
   -- what the edits make of what a key had

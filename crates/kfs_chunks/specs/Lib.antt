@@ -3,4 +3,4 @@ pub mod Held
 pub mod Starts
 pub mod Edits
 pub mod Tables
-pub mod Shown
+pub mod Joined

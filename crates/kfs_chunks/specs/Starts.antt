@@ -1,5 +1,5 @@
 -- Where a walk over entries in the order of their keys begins.
-use Rattle.std.specs.Prelude.{◌≡◌, ℕ, suc, Bool, true, false, not, List, [], ◌∷◌, Some, IsSome, if◌then◌else◌}
+use Rattle.std.specs.Prelude.{◌≡◌, ℕ, suc, Bool, true, false, not, List, [], ◌∷◌, Option, Some, None, IsSome, is_some, if◌then◌else◌}
 use Rattle.std.specs.declared.cmp.Ordering.{Ordering}
 use Rattle.std.specs.declared.ops.Bound.{Bound}
 use Rattle.std.specs.declared.ops.Bound.TheVariants.{Included, Excluded, Unbounded}
@@ -22,6 +22,15 @@ module _ {K : Type 0} (cmp : K → K → Ordering) where
   -- the index of the first entry from the start on, or else their number
   abbrev pub first_from : {V : Type 0} → Bound K → List (K × V) → ℕ
   first_from start entries = before (λ e. is_from start e.0) entries
+
+  -- the first entry from the start on
+  abbrev pub entry_from : {V : Type 0} → Bound K → List (K × V) → Option (K × V)
+  entry_from start [] = None
+  entry_from start (e ∷ es) = if is_from start e.0 then Some e else entry_from start es
+
+  -- whether there is one
+  abbrev pub reaches : {V : Type 0} → Bound K → List (K × V) → Bool
+  reaches start entries = is_some (entry_from start entries)
 
   -- the entry is the first from the start on
   pub record IsNext {V : Type 0} (start : Bound K) (entries : List (K × V)) (key : K) (value : V) : Type 0 where

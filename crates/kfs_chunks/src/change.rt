@@ -1,92 +1,86 @@
-//! A change of chunks: every copy and growth on the way in, every value on the way out.
-ghost use Rattle.std.specs.Prelude.{◌≡◌, ◌<◌, All, OnOk, OnErr, length};
-ghost use Rattle.kfs_chunks.specs.Edits.{edited, Ascend};
-ghost use Rattle.kfs_chunks.specs.Shown.{leasts, chunk_shows, shown, begun, ArePlaced, Rise};
+//! A change of chunks as they are cut: every copy and growth on the way in, every value on the way out.
+ghost use Rattle.std.specs.Prelude.{◌≡◌, ◌++◌, T, All, Ok, None, true, false, OnErr};
+ghost use Rattle.std.specs.FinMap.Entries.{is_sorted, below_all};
+ghost use Rattle.std.specs.declared.ops.Bound.TheVariants.{Included};
+ghost use Rattle.kfs_chunks.specs.Edits.{entered_all, Ascend};
+ghost use Rattle.kfs_chunks.specs.Joined.{joined, were_made, if_made, IsSized, AreSized};
+ghost use Rattle.kfs_chunks.specs.Starts.{entry_from};
 
-use crate::chunk::Chunk;
 use crate::edit::Edit;
+use crate::entries::Entries;
 use crate::key::Key;
 use crate::place::{place, run_of};
 use kfs_pages::Change;
 use std::alloc::{AllocError, Allocator};
+use std::ops::Bound;
 use std::sync::Arc;
 
-/// Makes a chunk for the edits where there is none. The chunks show the same.
-pub(crate) fn begin<K: Key, V: Copy, A: Allocator + Clone>(
-    chunks: &mut Vec<Arc<Chunk<K, V, A>, A>, A>,
-    edits: &[Edit<K, V>],
-) -> Result<(), AllocError>
-    requires placed { ArePlaced K.cmp chunks.old.items }
-    ensures placed { ArePlaced K.cmp chunks.new.items }
-    ensures some { OnOk result (0 < length edits.now → 0 < length chunks.new.items) }
-    ensures shown { (q : K) → shown K.cmp chunks.new.items q ≡ shown K.cmp chunks.old.items q }
-{
-    if let Some(edit) = edits.first()
-        && chunks.is_empty()
-    {
-        let alloc = chunks.allocator().clone()?;
-        let chunk = Chunk::new(alloc.clone()?, &edit.key);
-        chunks.push(Arc::new(alloc, chunk)?)?;
-    }
-    Ok(())
-}
+/// How many entries a chunk has at most.
+pub(crate) const GREATEST_SIZE: usize = 256;
 
-/// Makes the edits and the other change. Every copy and growth comes before the other change, and
-/// that before the first edit.
+/// Makes the edits and the other change, where each chunk has room for its own. Answers whether it
+/// has; where not, nothing was tried. Every copy and growth comes before the other change, and that
+/// before the first edit.
 #[cycle(change_chunks)]
-pub(crate) fn change_chunks<K: Key, V: Copy, A: Allocator + Clone, T: Change>(
-    chunks: &mut [Arc<Chunk<K, V, A>, A>],
+pub(crate) fn change_chunks<K: Key, V: Copy, A: Allocator + Clone, C: Change>(
+    chunks: &mut [Arc<Entries<K, V, A>, A>],
     edits: &[Edit<K, V>],
-    then: &mut T,
-) -> Result<(), AllocError>
+    then: &mut C,
+) -> Result<bool, AllocError>
     requires ascend { Ascend K.cmp edits.now }
-    requires some { 0 < length edits.now → 0 < length chunks.old }
-    requires placed { ArePlaced K.cmp chunks.old }
-    requires then { T.can_make then.old }
-    ensures leasts { leasts chunks.new ≡ leasts chunks.old }
-    ensures ok { OnOk result ((q : K) → shown K.cmp chunks.new q ≡ edited K.cmp edits.now q (shown K.cmp chunks.old q)) }
-    ensures err { OnErr result ((q : K) → shown K.cmp chunks.new q ≡ shown K.cmp chunks.old q) }
-    ensures made { OnOk result (T.made then.old then.new) }
-    ensures kept { OnErr result (T.kept then.old then.new) }
+    requires sorted { T (is_sorted K.cmp (joined chunks.old)) }
+    requires sized { AreSized chunks.old }
+    requires then { C.can_make then.old }
+    ensures sized { AreSized chunks.new }
+    ensures joined { joined chunks.new ≡ if_made result (entered_all K.cmp (joined chunks.old) edits.now) (joined chunks.old) }
+    ensures made { were_made result ≡ true → C.made then.old then.new }
+    ensures not_tried { result ≡ Ok false → then.new ≡ then.old }
+    ensures kept { OnErr result (C.kept then.old then.new) }
 {
     let Some(edit) = edits.first() else {
-        return then.make();
+        then.make()?;
+        return Ok(true);
     };
-    let index = place(chunks, &edit.key);
+    let last = chunks.len().saturating_sub(1);
+    let index = place(chunks, &Bound::Included(&edit.key)).min(last);
     let (_, rest) = chunks.split_at_mut(index);
     let Some((chunk, rest)) = rest.split_first_mut() else {
-        unreachable!();
+        return Ok(false);
     };
-    let (mine, later) = edits.split_at(run_of(edits, rest));
+    let (mine, later) = edits.split_at(run_of(edits, chunk, rest));
     change_from(chunk, rest, mine, later, then)
 }
 
 /// Makes the edits of a chunk, those of the chunks behind it, and the other change.
 #[cycle(change_chunks)]
-fn change_from<K: Key, V: Copy, A: Allocator + Clone, T: Change>(
-    chunk: &mut Arc<Chunk<K, V, A>, A>,
-    rest: &mut [Arc<Chunk<K, V, A>, A>],
+fn change_from<K: Key, V: Copy, A: Allocator + Clone, C: Change>(
+    chunk: &mut Arc<Entries<K, V, A>, A>,
+    rest: &mut [Arc<Entries<K, V, A>, A>],
     mine: &[Edit<K, V>],
     later: &[Edit<K, V>],
-    then: &mut T,
-) -> Result<(), AllocError>
+    then: &mut C,
+) -> Result<bool, AllocError>
     requires ascend { Ascend K.cmp later.now }
-    requires later { All (λ e. 0 < begun K.cmp rest.old e.key) later.now }
-    requires rise { Rise K.cmp rest.old }
-    requires then { T.can_make then.old }
-    ensures least { chunk.new.value.least ≡ chunk.old.value.least }
-    ensures leasts { leasts rest.new ≡ leasts rest.old }
-    ensures chunk { OnOk result ((q : K) → chunk_shows K.cmp chunk.new q ≡ edited K.cmp mine.now q (chunk_shows K.cmp chunk.old q)) }
-    ensures rest { OnOk result ((q : K) → shown K.cmp rest.new q ≡ edited K.cmp later.now q (shown K.cmp rest.old q)) }
-    ensures chunk_err { OnErr result ((q : K) → chunk_shows K.cmp chunk.new q ≡ chunk_shows K.cmp chunk.old q) }
-    ensures rest_err { OnErr result ((q : K) → shown K.cmp rest.new q ≡ shown K.cmp rest.old q) }
-    ensures made { OnOk result (T.made then.old then.new) }
-    ensures kept { OnErr result (T.kept then.old then.new) }
+    requires chunk { T (is_sorted K.cmp chunk.old.value.pairs) }
+    requires sorted { T (is_sorted K.cmp (joined rest.old)) }
+    requires size { IsSized chunk.old.value.pairs }
+    requires sized { AreSized rest.old }
+    requires then { C.can_make then.old }
+    ensures size { IsSized chunk.new.value.pairs }
+    ensures sized { AreSized rest.new }
+    ensures chunk { chunk.new.value.pairs ≡ if_made result (entered_all K.cmp chunk.old.value.pairs mine.now) chunk.old.value.pairs }
+    ensures rest { joined rest.new ≡ if_made result (entered_all K.cmp (joined rest.old) later.now) (joined rest.old) }
+    ensures made { were_made result ≡ true → C.made then.old then.new }
+    ensures not_tried { result ≡ Ok false → then.new ≡ then.old }
+    ensures kept { OnErr result (C.kept then.old then.new) }
 {
+    if chunk.len() <= mine.len() || mine.len() > GREATEST_SIZE - chunk.len() {
+        return Ok(false);
+    }
     let chunk = Arc::make_mut(chunk)?;
-    chunk.reserve(mine)?;
+    chunk.reserve(mine.len())?;
     let done = change_chunks(rest, later, then);
-    if done.is_ok() {
+    if let Ok(true) = done {
         chunk.write(mine);
     }
     done

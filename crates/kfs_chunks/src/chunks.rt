@@ -1,35 +1,41 @@
 //! Chunks of all keys, as one sorted map.
-ghost use Rattle.std.specs.Prelude.{◌≡◌, [], OnOk, OnErr};
+ghost use Rattle.std.specs.Prelude.{◌≡◌, [], true, None, IfSome, IfNone, OnOk, OnErr};
 ghost use Rattle.std.specs.Option.{option_copied};
 ghost use Rattle.std.specs.FinMap.Entries.{find};
+ghost use Rattle.std.specs.Range.Bound.{bound_map};
 ghost use Rattle.kfs_chunks.specs.Edits.{rewritten, Ascend};
+ghost use Rattle.kfs_chunks.specs.Starts.{is_from, IsNext};
 
-use crate::change::{begin, change_chunks};
-use crate::chunk::Chunk;
+use crate::change::change_chunks;
 use crate::edit::Edit;
+use crate::entries::Entries;
 use crate::key::Key;
 use crate::place::place;
+use crate::rebuilt::rebuilt;
 use kfs_pages::Change;
 use std::alloc::{AllocError, Allocator};
 use std::marker::Model;
+use std::ops::Bound;
 use std::sync::Arc;
 
 /// A sorted map from keys to values. Copies share its chunks, and each sees the map as it was when it
 /// was made.
 #[derive(Drop)]
 pub struct Chunks<K: Key, V: Copy, A: Allocator> {
-    chunks: Vec<Arc<Chunk<K, V, A>, A>, A>,
+    /// Each has 1 to 256 entries, and those of a chunk come before those of the next.
+    chunks: Vec<Arc<Entries<K, V, A>, A>, A>,
 }
 
 impl<K: Key, V: Copy, A: Allocator> Model for Chunks<K, V, A> {
-    ghost use Rattle.std.specs.Prelude.{List};
-    ghost use Rattle.kfs_chunks.specs.Shown.{whole, ArePlaced};
+    ghost use Rattle.std.specs.Prelude.{List, T};
+    ghost use Rattle.std.specs.FinMap.Entries.{is_sorted};
+    ghost use Rattle.kfs_chunks.specs.Joined.{joined, AreSized};
 
     ghost Value = { List (K × V) };
 
-    ghost view = { λ s. (whole K.order s.chunks.items).entries };
+    ghost view = { λ s. joined s.chunks.items };
 
-    ghost invariant = { λ s. ArePlaced K.cmp s.chunks.items };
+    ghost invariant = { λ s. T (is_sorted K.cmp (joined s.chunks.items)) × AreSized s.chunks.items };
 }
 
 impl<K: Key, V: Copy, A: Allocator + Clone> Clone for Chunks<K, V, A> {
@@ -56,14 +62,24 @@ impl<K: Key, V: Copy, A: Allocator> Chunks<K, V, A> {
     pub fn get(&self, key: &K) -> Option<&V>
         ensures { option_copied result ≡ find K.order.compare key.now self.now }
     {
-        let chunk = self.chunks.get(place(&self.chunks, key))?;
-        chunk.entries.get(key)
+        let chunk = self.chunks.get(place(&self.chunks, &Bound::Included(key)))?;
+        chunk.get(key)
+    }
+
+    /// The first entry from the start on, and none where there is none. Takes no memory.
+    pub fn next(&self, start: Bound<&K>) -> Option<(&K, &V)>
+        ensures some { IfSome result (λ p. IsNext K.order.compare (bound_map (λ x. x.now) start.entry) self.now p.0.now p.1.now) }
+        ensures none { IfNone result ((q : K) → is_from K.order.compare (bound_map (λ x. x.now) start.entry) q ≡ true → find K.order.compare q self.now ≡ None) }
+    {
+        let chunk = self.chunks.get(place(&self.chunks, &start))?;
+        chunk.next(start)
     }
 }
 
 impl<K: Key, V: Copy, A: Allocator + Clone> Chunks<K, V, A> {
     /// Makes the edits and the other change, or neither. Every copy and growth of chunks comes first,
-    /// then the other change, and then the edits. A copy that was made before shows what it showed.
+    /// then the other change, and then the edits. A chunk that has no room for its edits, or that they
+    /// may empty, is cut anew in a new list of chunks. A copy that was made before shows what it showed.
     pub fn change_then<T: Change>(
         &mut self,
         edits: &[Edit<K, V>],
@@ -76,7 +92,12 @@ impl<K: Key, V: Copy, A: Allocator + Clone> Chunks<K, V, A> {
         ensures made { OnOk result (T.made then.old then.new) }
         ensures kept { OnErr result (T.kept then.old then.new) }
     {
-        begin(&mut self.chunks, edits)?;
-        change_chunks(self.chunks.as_mut_slice(), edits, then)
+        if change_chunks(self.chunks.as_mut_slice(), edits, then)? {
+            return Ok(());
+        }
+        let chunks = rebuilt(&self.chunks, edits)?;
+        then.make()?;
+        self.chunks = chunks;
+        Ok(())
     }
 }

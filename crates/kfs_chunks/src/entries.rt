@@ -1,13 +1,15 @@
 //! The entries of a chunk: keys with their values in one block of memory, the keys ascending.
-ghost use Rattle.std.specs.Prelude.{◌≡◌, ◌<◌, ◌≤◌, ◌+◌, [], T, true, is_some, IfSome, IfNone, OnOk, Some, None, Ok, Err, if◌then◌else◌};
+ghost use Rattle.std.specs.Prelude.{◌≡◌, ◌<◌, ◌≤◌, ◌+◌, [], T, is_some, IfSome, IfNone, IfOk, OnOk, length, take, drop, Some, None, Ok, Err, if◌then◌else◌};
 ghost use Rattle.std.specs.Option.{option_copied};
 ghost use Rattle.std.specs.FinMap.Entries.{find, is_sorted};
 ghost use Rattle.std.specs.Range.Bound.{bound_map};
 ghost use Rattle.std.specs.declared.ops.Bound.TheVariants.{Included};
-ghost use Rattle.kfs_chunks.specs.Edits.{entered};
-ghost use Rattle.kfs_chunks.specs.Starts.{is_from, first_from, IsNext};
+ghost use Rattle.kfs_chunks.specs.Edits.{entered, entered_all, Ascend};
+ghost use Rattle.kfs_chunks.specs.Starts.{is_from, first_from, entry_from, reaches};
 
+use crate::edit::Edit;
 use crate::key::Key;
+use crate::merge::{copy_to, merged};
 use std::alloc::{AllocError, Allocator};
 use std::marker::Model;
 use std::ops::Bound;
@@ -36,9 +38,7 @@ impl<K: Key, V: Copy, A: Allocator + Clone> Clone for Entries<K, V, A> {
 
     fn clone(&self) -> Result<Entries<K, V, A>, AllocError> {
         let mut pairs = Vec::with_capacity(self.pairs.allocator().clone()?, self.pairs.len())?;
-        for (key, value) in &self.pairs {
-            pairs.push((key.duplicate(), *value))?;
-        }
+        copy_to(&mut pairs, &self.pairs)?;
         Ok(Entries { pairs })
     }
 }
@@ -87,18 +87,66 @@ impl<K: Key, V: Copy, A: Allocator> Entries<K, V, A> {
         }
     }
 
+    /// Makes the edits, for which there is room. Takes no memory.
+    pub(crate) fn write(&mut self, edits: &[Edit<K, V>])
+        requires { length edits.now ≤ self.old.room }
+        ensures pairs { self.new.pairs ≡ entered_all K.cmp self.old.pairs edits.now }
+    {
+        for edit in edits {
+            self.set(&edit.key, edit.value);
+        }
+    }
+
+    /// How many there are.
+    pub(crate) fn len(&self) -> usize
+        ensures { result ≡ length self.now.pairs }
+    {
+        self.pairs.len()
+    }
+
+    /// Whether there is an entry from the start on. Looks at the last alone.
+    pub(crate) fn reaches(&self, start: &Bound<&K>) -> bool
+        ensures { result ≡ reaches K.cmp (bound_map (λ x. x.now) start.now) self.now.pairs }
+    {
+        match self.pairs.last() {
+            Some((last, _)) => is_from(start, last),
+            None => false,
+        }
+    }
+
     /// The first entry from the start on.
     pub(crate) fn next(&self, start: Bound<&K>) -> Option<(&K, &V)>
-        ensures some { IfSome result (λ p. IsNext K.cmp (bound_map (λ x. x.now) start.entry) self.now.pairs p.0.now p.1.now) }
-        ensures none { IfNone result ((q : K) → is_from K.cmp (bound_map (λ x. x.now) start.entry) q ≡ true → find K.cmp q self.now.pairs ≡ None) }
+        ensures some { IfSome result (λ p. entry_from K.cmp (bound_map (λ x. x.now) start.entry) self.now.pairs ≡ Some (p.0.now, p.1.now)) }
+        ensures none { IfNone result (entry_from K.cmp (bound_map (λ x. x.now) start.entry) self.now.pairs ≡ None) }
     {
         let (key, value) = self.pairs.get(first_from(&self.pairs, start))?;
         Some((key, value))
     }
 }
 
+impl<K: Key, V: Copy, A: Allocator + Clone> Entries<K, V, A> {
+    /// The entries after the edits, in memory of their own.
+    pub(crate) fn merged(&self, edits: &[Edit<K, V>]) -> Result<Entries<K, V, A>, AllocError>
+        requires { Ascend K.cmp edits.now }
+        ensures { IfOk result (λ merged. merged.pairs ≡ entered_all K.cmp self.now.pairs edits.now) }
+    {
+        let pairs = merged(self.pairs.allocator().clone()?, &self.pairs, edits)?;
+        Ok(Entries { pairs })
+    }
+
+    /// A copy of so many entries, from an index on.
+    pub(crate) fn part(&self, from: usize, count: usize) -> Result<Entries<K, V, A>, AllocError>
+        requires { from + count ≤ length self.now.pairs }
+        ensures { IfOk result (λ part. part.pairs ≡ take count (drop from self.now.pairs)) }
+    {
+        let mut pairs = Vec::with_capacity(self.pairs.allocator().clone()?, count)?;
+        copy_to(&mut pairs, &self.pairs[from..from + count])?;
+        Ok(Entries { pairs })
+    }
+}
+
 /// The index of the first entry from the start on, or else their number.
-fn first_from<K: Key, V: Copy>(pairs: &[(K, V)], start: Bound<&K>) -> usize
+pub(crate) fn first_from<K: Key, V: Copy>(pairs: &[(K, V)], start: Bound<&K>) -> usize
     requires { T (is_sorted K.cmp pairs.now) }
     ensures { result ≡ first_from K.cmp (bound_map (λ x. x.now) start.entry) pairs.now }
 {

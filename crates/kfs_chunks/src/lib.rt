@@ -2,13 +2,14 @@
 #![tactic(auto)]
 
 mod change;
-mod chunk;
 mod chunks;
 mod edit;
 mod entries;
 mod key;
+mod merge;
 mod nested;
 mod place;
+mod rebuilt;
 
 pub use chunks::Chunks;
 pub use edit::Edit;

@@ -1,48 +1,46 @@
 //! The chunk that a key belongs to.
-ghost use Rattle.std.specs.Prelude.{◌≡◌, ◌≤◌, ◌<◌, All, length, take, drop};
+ghost use Rattle.std.specs.Prelude.{◌≡◌, ◌≤◌, ◌++◌, T, All, None, length, take, drop};
+ghost use Rattle.std.specs.FinMap.Entries.{is_sorted, below_all};
+ghost use Rattle.std.specs.Range.Bound.{bound_map};
+ghost use Rattle.std.specs.declared.ops.Bound.TheVariants.{Included};
 ghost use Rattle.kfs_chunks.specs.Edits.{Ascend};
-ghost use Rattle.kfs_chunks.specs.Shown.{place, begun, ArePlaced};
+ghost use Rattle.kfs_chunks.specs.Joined.{joined, place, AreSized};
+ghost use Rattle.kfs_chunks.specs.Starts.{entry_from};
 
-use crate::chunk::Chunk;
 use crate::edit::Edit;
+use crate::entries::Entries;
 use crate::key::Key;
 use std::alloc::Allocator;
+use std::ops::Bound;
 use std::sync::Arc;
 
-/// The index of the chunk that a key belongs to: the last that begins at the key or below, or the
-/// first.
+/// The index of the first chunk that has an entry from the start on, or else their number.
 pub(crate) fn place<K: Key, V: Copy, A: Allocator>(
-    chunks: &[Arc<Chunk<K, V, A>, A>],
-    key: &K,
+    chunks: &[Arc<Entries<K, V, A>, A>],
+    start: &Bound<&K>,
 ) -> usize
-    requires { ArePlaced K.cmp chunks.now }
-    ensures { result ≡ place K.cmp chunks.now key.now }
+    requires sorted { T (is_sorted K.cmp (joined chunks.now)) }
+    requires sized { AreSized chunks.now }
+    ensures { result ≡ place K.cmp (bound_map (λ x. x.now) start.now) chunks.now }
 {
-    match chunks.split_first() {
-        Some((_, rest)) => rest.partition_point(|chunk| !key.cmp(&chunk.least).is_lt()),
-        None => 0,
-    }
+    chunks.partition_point(|chunk| !chunk.reaches(start))
 }
 
-/// How many of the edits, from the first on, are of keys before the chunks.
+/// How many of the edits, from the first on, are of the chunk: those of keys up to its last, or all
+/// where no chunk is behind it.
 pub(crate) fn run_of<K: Key, V: Copy, A: Allocator>(
     edits: &[Edit<K, V>],
-    chunks: &[Arc<Chunk<K, V, A>, A>],
+    chunk: &Entries<K, V, A>,
+    rest: &[Arc<Entries<K, V, A>, A>],
 ) -> usize
-    requires { Ascend K.cmp edits.now }
+    requires ascend { Ascend K.cmp edits.now }
+    requires sorted { T (is_sorted K.cmp (chunk.now.pairs ++ joined rest.now)) }
     ensures within { result ≤ length edits.now }
-    ensures run { All (λ e. begun K.cmp chunks.now e.key ≡ 0) (take result edits.now) }
-    ensures rest { All (λ e. 0 < begun K.cmp chunks.now e.key) (drop result edits.now) }
+    ensures run { All (λ e. T (below_all K.cmp e.key (joined rest.now))) (take result edits.now) }
+    ensures rest { All (λ e. entry_from K.cmp (Included e.key) chunk.now.pairs ≡ None) (drop result edits.now) }
 {
-    let Some(next) = chunks.first() else {
+    if rest.is_empty() {
         return edits.len();
-    };
-    let mut run = 0;
-    for edit in edits {
-        if !edit.key.cmp(&next.least).is_lt() {
-            break;
-        }
-        run += 1;
     }
-    run
+    edits.partition_point(|edit| chunk.reaches(&Bound::Included(&edit.key)))
 }

@@ -2,7 +2,7 @@ use Rattle.std.proofs.Common.{rules, sym, not, Bor}
 use Rattle.std.specs.Range.Bound.{bound_map}
 use Rattle.std.proofs.lemmas.List.Sorted.{IsPartitionPoint-from_clause}
 use Rattle.kfs_chunks.specs.Starts.{is_from}
-use Rattle.kfs_chunks.proofs.Places.{before_is}
+use Rattle.kfs_chunks.proofs.Order.{before_is}
 use Rattle.kfs_chunks.proofs.Sorted.{order_by, parted_from}
 use Rattle.kfs_chunks.proofs.entries.first_from.Goals as goal
 
