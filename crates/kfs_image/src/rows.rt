@@ -1,5 +1,5 @@
 //! The maps that hold the nodes and names of a shape, and the counts beside them.
-ghost use Rattle.std.specs.Prelude.{◌≡◌, ℕ, ◌≤◌, true, option_map, IfOk, IfSome, IfNone, OnOk, OnErr, Some, None, List, [], ◌∷◌};
+ghost use Rattle.std.specs.Prelude.{◌≡◌, ℕ, ◌≤◌, true, option_map, IfOk, IfSome, IfNone, OnOk, OnErr, Some, List, [], ◌∷◌};
 ghost use Rattle.kfs_value.specs.Views.{header_of};
 ghost use Rattle.kfs_model.specs.Spelling.{IsName};
 ghost use Rattle.kfs_model.specs.Table.{get, empty, changed};
@@ -8,9 +8,6 @@ ghost use Rattle.kfs_model.specs.Sight.{holder};
 ghost use Rattle.kfs_pages.specs.Edits.{rewritten, AreEdits};
 ghost use Rattle.kfs_chunks.specs.Edits as keyed;
 ghost use Rattle.kfs_chunks.specs.Starts.{is_from};
-ghost use Rattle.kfs_chunks.specs.Starts as starts;
-ghost use Rattle.std.specs.Range.Bound.{bound_map};
-ghost use Rattle.std.specs.FinMap.Entries.{find};
 ghost use Rattle.kfs_image.specs.Change.{led_to, renamed, reheaded};
 ghost use Rattle.kfs_image.specs.Indexes.{by_node};
 ghost use Rattle.kfs_image.specs.Look.{IsAfter, IsNext};
@@ -19,7 +16,7 @@ ghost use Rattle.kfs_image.specs.Rows.{heads_in, names_in, IsIndexed, FitPages};
 
 use crate::edits::header_edits;
 use crate::name_edits::{NameEdits, name_edits};
-use kfs_chunks::{Chunks, EditChunks, Key};
+use kfs_chunks::{Chunks, EditChunks};
 use kfs_pages::{Edit, EditPages, Nothing, Pages};
 use kfs_value::{Header, Name, NameRow, NodeRow};
 use std::alloc::{AllocError, Allocator};
@@ -91,7 +88,7 @@ impl<A: Allocator> Rows<A> {
         requires { IsIndexed self.now }
         ensures { result ≡ holder (names_in self.now) number }
     {
-        let (key, _) = next(&self.uplinks, Bound::Included(&(number, 0)))?;
+        let (key, _) = self.uplinks.next(Bound::Included(&(number, 0)))?;
         if key.0 == number { Some(key.1) } else { None }
     }
 
@@ -102,7 +99,7 @@ impl<A: Allocator> Rows<A> {
         ensures none { IfNone result ((m : List ℕ) (n : ℕ) → target (names_in self.now) dir m ≡ Some n → IsAfter after.entry m → ⊥) }
     {
         let start = start_after(dir, after);
-        let (key, number) = next(&self.names, start.as_ref())?;
+        let (key, number) = self.names.next(start.as_ref())?;
         if key.0 == dir {
             Some((&key.1, *number))
         } else {
@@ -174,11 +171,7 @@ impl<A: Allocator + Clone> Rows<A> {
 
     /// Makes the edits of all four maps, or none of them. Every copy and growth comes before the first
     /// edit.
-    fn change(
-        &mut self,
-        headers: &[Edit<Header>],
-        edits: &NameEdits<A>,
-    ) -> Result<(), AllocError>
+    fn change(&mut self, headers: &[Edit<Header>], edits: &NameEdits<A>) -> Result<(), AllocError>
         requires headers { AreEdits headers.now }
         requires names { keyed.Ascend name_order.compare edits.now.names.items }
         requires counts { AreEdits edits.now.counts.items }
@@ -225,15 +218,4 @@ impl<A: Allocator + Clone> Rows<A> {
         let edits = name_edits(alloc, &self.names, &self.counts, &self.uplinks, names)?;
         self.change(headers.as_slice(), &edits)
     }
-}
-
-// A stub, until `Chunks::next` is there.
-fn next<'a, K: Key, V: Copy, A: Allocator>(
-    chunks: &'a Chunks<K, V, A>,
-    start: Bound<&K>,
-) -> Option<(&'a K, &'a V)>
-    ensures some { IfSome result (λ p. starts.IsNext K.order.compare (bound_map (λ x. x.now) start.entry) chunks.now p.0.now p.1.now) }
-    ensures none { IfNone result ((q : K) → is_from K.order.compare (bound_map (λ x. x.now) start.entry) q ≡ true → find K.order.compare q chunks.now ≡ None) }
-{
-    None
 }

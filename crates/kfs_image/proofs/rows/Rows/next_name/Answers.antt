@@ -1,4 +1,4 @@
-use Rattle.std.proofs.Common.{◌≡◌, ℕ, true, Some, None, List, sym, subst}
+use Rattle.std.proofs.Common.{◌≡◌, ℕ, true, Some, List, sym, subst}
 use Rattle.std.specs.Prelude.{IfNone}
 use Rattle.kfs_model.specs.Tree.{name_order, target}
 use Rattle.kfs_chunks.specs.Starts.{is_from, IsNext}
