@@ -1,22 +1,23 @@
 -- Which directory holds a node: the least one with a name that leads there.
-use Rattle.std.proofs.Common.{◌≡◌, ℕ, ◌+◌, ◌<◌, ◌≤◌, Bool, true, false, cond, T, ◌&&◌, ◌==◌, List, [], ◌∷◌, Option, Some, None, refl, sym, ap, subst, ◌∙◌, eq-eqb, arith}
+use Rattle.std.proofs.Common.{◌≡◌, ℕ, ◌+◌, ◌<◌, ◌≤◌, Bool, true, false, cond, not, T, ◌&&◌, ◌==◌, List, [], ◌∷◌, Option, Some, None, refl, sym, ap, subst, ◌∙◌, eq-eqb, arith}
 use Rattle.std.specs.Prelude.{option_map, find, unwrap_or, IsSome}
 use Rattle.std.specs.declared.cmp.Ordering.{Ordering}
 use Rattle.std.specs.declared.cmp.Ordering.TheVariants.{Less, Equal, Greater}
-use Rattle.std.specs.Ordering.{nat_cmp, is_lt, is_gt, ordering_then}
+use Rattle.std.specs.Ordering.{nat_cmp, is_lt, ordering_then}
 use Rattle.std.specs.Cmp.{nat_cmp_is}
 use Rattle.std.specs.declared.ops.Bound.TheVariants.{Included}
 use Rattle.std.specs.List.{count_by}
-use Rattle.std.specs.FinMap.Entries.{is_sorted, below_all}
+use Rattle.std.specs.FinMap.Entries.{find as find_key, is_sorted, below_all}
 use Rattle.std.proofs.lemmas.List.Sums.{sum_by-cons}
 use Rattle.std.proofs.lemmas.Cmp.{ranked}
 use Rattle.std.proofs.lemmas.Bool.Decides.{nat_tests}
-use Rattle.kfs_model.specs.Table.{numbers, pairs}
+use Rattle.kfs_model.specs.Table.{Table, numbers, get}
 use Rattle.kfs_model.specs.Tree.{NameTable, name_order}
 use Rattle.kfs_model.specs.Sight.{holder}
-use Rattle.kfs_image.specs.declared.rows.Rows.{Rows}
-use Rattle.kfs_image.specs.Slots.{shown_at, IsFrom}
-use Rattle.kfs_image.specs.Rows.{IsIndexed, names_in, ways_count}
+use Rattle.kfs_chunks.specs.Starts.{is_from, IsNext}
+use Rattle.kfs_chunks.specs.Tables.{table}
+use Rattle.kfs_chunks.proofs.Tables.{get-table}
+use Rattle.kfs_image.specs.Indexes.{by_node, ways_count, IsCounted}
 
 abbrev Entry : Type 0
 Entry = (ℕ × List ℕ) × ℕ
@@ -113,62 +114,54 @@ least_holds names n d some least = first_holds names.entries n d names.sorted so
 pub nothing_holds : (names : NameTable) (n : ℕ) → ((c : ℕ) → ways_count names n c ≡ 0) → holder names n ≡ None
 nothing_holds names n none = no_holder names.entries n none
 
--- ---- by what the counts of ways show
+-- ---- by the first way up that is counted
 
-from_first : (n c : ℕ) → is_gt ((pairs numbers numbers).compare (n, 0) (n, c)) ≡ false
-from_first n c = ap (λ r. is_gt (ordering_then r (nat_cmp 0 c))) (sym (nat_cmp_is n n Equal refl)) ∙ at (nat_cmp 0 c) refl
+from_first : (n c : ℕ) → is_from by_node.compare (Included (n, 0)) (n, c) ≡ true
+from_first n c = ap (λ r. not (is_lt (ordering_then r (nat_cmp c 0)))) (sym (nat_cmp_is n n Equal refl)) ∙ at (nat_cmp c 0) refl
   where
-    at : (r : Ordering) → r ≡ nat_cmp 0 c → is_gt r ≡ false
-    at Less is = refl
+    at : (r : Ordering) → r ≡ nat_cmp c 0 → not (is_lt r) ≡ true
+    at Less is = let less : c < 0 = ranked c 0 Less is in absurd (omega arith)
     at Equal is = refl
-    at Greater is = let less : c < 0 = ranked 0 c Greater is in absurd (omega arith)
+    at Greater is = refl
 
-before_in_node : (n c d : ℕ) → c < d → is_lt ((pairs numbers numbers).compare (n, c) (n, d)) ≡ true
+before_in_node : (n c d : ℕ) → c < d → is_lt (by_node.compare (n, c) (n, d)) ≡ true
 before_in_node n c d less = ap (λ r. is_lt (ordering_then r (nat_cmp c d))) (sym (nat_cmp_is n n Equal refl)) ∙ ap is_lt (sym (nat_cmp_is c d Less less))
 
-before_node : (n c k d : ℕ) → n < k → is_lt ((pairs numbers numbers).compare (n, c) (k, d)) ≡ true
+before_node : (n c k d : ℕ) → n < k → is_lt (by_node.compare (n, c) (k, d)) ≡ true
 before_node n c k d less = ap (λ r. is_lt (ordering_then r (nat_cmp c d))) (sym (nat_cmp_is n k Less less))
 
-at_or_after : (n k d : ℕ) → is_gt ((pairs numbers numbers).compare (n, 0) (k, d)) ≡ false → n ≤ k
-at_or_after n k d within = at (nat_cmp n k) refl within
+at_or_after : (n k d : ℕ) → is_from by_node.compare (Included (n, 0)) (k, d) ≡ true → n ≤ k
+at_or_after n k d within = at (nat_cmp k n) refl within
   where
-    at : (r : Ordering) → r ≡ nat_cmp n k → is_gt (ordering_then r (nat_cmp 0 d)) ≡ false → n ≤ k
-    at Less is within = let less : n < k = ranked n k Less is in omega arith
-    at Equal is within = let same : n ≡ k = ranked n k Equal is in omega arith
-    at Greater is within = cc
+    at : (r : Ordering) → r ≡ nat_cmp k n → not (is_lt (ordering_then r (nat_cmp d 0))) ≡ true → n ≤ k
+    at Less is within = cc
+    at Equal is within = let same : k ≡ n = ranked k n Equal is in omega arith
+    at Greater is within = let more : n < k = ranked k n Greater is in omega arith
 
-none_shown : (o : Option ℕ) → (IsSome o → ⊥) → o ≡ None
-none_shown None never = refl
-none_shown (Some n) never = absurd (never refl)
+none_found : (o : Option ℕ) → (IsSome o → ⊥) → o ≡ None
+none_found None never = refl
+none_found (Some n) never = absurd (never refl)
 
-further : (n k : ℕ) → n ≤ k → (k ≡ n → ⊥) → n < k
-further n k least other = omega arith
-
-differ : true ≡ false → ⊥
-differ e = cc
-
-module _ {A : Type 0} (rows : Rows A) (indexed : IsIndexed rows) (n : ℕ) where
-  no_ways : (c : ℕ) → shown_at (pairs numbers numbers).compare rows.uplinks (n, c) ≡ None → ways_count (names_in rows) n c ≡ 0
-  no_ways c none = sym (indexed.uplinks n c) ∙ ap (λ o. unwrap_or o 0) none
+module _ {names : NameTable} {counts : Table numbers ℕ} (uplinks : List ((ℕ × ℕ) × ℕ)) (counted : IsCounted names counts (table by_node uplinks)) (n : ℕ) where
+  no_ways : (c : ℕ) → find_key by_node.compare (n, c) uplinks ≡ None → ways_count names n c ≡ 0
+  no_ways c none = sym (counted.uplinks n c) ∙ ap (λ o. unwrap_or o 0) (get-table by_node uplinks (n, c) ∙ none)
 
   -- no directory holds the node where no way from it is counted
-  pub nowhere : ((q : ℕ × ℕ) → IsFrom (pairs numbers numbers).compare (Included (n, 0)) q → shown_at (pairs numbers numbers).compare rows.uplinks q ≡ None) → holder (names_in rows) n ≡ None
-  nowhere none = nothing_holds (names_in rows) n (λ c. no_ways c (none (n, c) (from_first n c, tt)))
+  pub nowhere : ((q : ℕ × ℕ) → is_from by_node.compare (Included (n, 0)) q ≡ true → find_key by_node.compare q uplinks ≡ None) → holder names n ≡ None
+  nowhere none = nothing_holds names n (λ c. no_ways c (none (n, c) (from_first n c)))
 
-  module _ (key : ℕ × ℕ) (least : (q : ℕ × ℕ) → IsFrom (pairs numbers numbers).compare (Included (n, 0)) q → IsSome (shown_at (pairs numbers numbers).compare rows.uplinks q) → is_lt ((pairs numbers numbers).compare q key) ≡ false) where
-    none_before : (c : ℕ) → is_lt ((pairs numbers numbers).compare (n, c) key) ≡ true → ways_count (names_in rows) n c ≡ 0
-    none_before c before = no_ways c (none_shown _ (λ some. differ (sym before ∙ least (n, c) (from_first n c, tt) some)))
+  module _ (key : ℕ × ℕ) (count : ℕ) (next : IsNext by_node.compare (Included (n, 0)) uplinks key count) where
+    none_before : (c : ℕ) → is_lt (by_node.compare (n, c) key) ≡ true → ways_count names n c ≡ 0
+    none_before c before = no_ways c (none_found _ (λ some. let differ : true ≡ false = sym before ∙ next.least (n, c) (from_first n c) some in cc))
 
     -- the first way counted is one from the node
-    pub held_first : (d count : ℕ) → key ≡ (n, d) → shown_at (pairs numbers numbers).compare rows.uplinks key ≡ Some count → holder (names_in rows) n ≡ Some d
-    held_first d count is found =
-        let way : shown_at (pairs numbers numbers).compare rows.uplinks (n, d) ≡ Some count = subst (λ k. shown_at (pairs numbers numbers).compare rows.uplinks k ≡ Some count) is found in
-        let counted : ways_count (names_in rows) n d ≡ count = sym (indexed.uplinks n d) ∙ ap (λ o. unwrap_or o 0) way in
-        let some = indexed.positive (n, d) count way in
-        least_holds (names_in rows) n d (omega (arith, counted, some))
-        (λ c less. none_before c (ap (λ k. is_lt ((pairs numbers numbers).compare (n, c) k)) is ∙ before_in_node n c d less))
+    pub held_first : (d : ℕ) → key ≡ (n, d) → holder names n ≡ Some d
+    held_first d is =
+        let way : get (table by_node uplinks) (n, d) ≡ Some count = get-table by_node uplinks (n, d) ∙ subst (λ k. find_key by_node.compare k uplinks ≡ Some count) is next.found in
+        let counted_here : ways_count names n d ≡ count = sym (counted.uplinks n d) ∙ ap (λ o. unwrap_or o 0) way in
+        let some = counted.positive (n, d) count way in
+        least_holds names n d (omega (arith, counted_here, some)) (λ c less. none_before c (ap (λ k. is_lt (by_node.compare (n, c) k)) is ∙ before_in_node n c d less))
 
     -- the first way counted is one from a later node
-    pub held_later : IsFrom (pairs numbers numbers).compare (Included (n, 0)) key → (key.0 ≡ n → ⊥) → holder (names_in rows) n ≡ None
-    held_later within other =
-        nothing_holds (names_in rows) n (λ c. none_before c (before_node n c key.0 key.1 (further n key.0 (at_or_after n key.0 key.1 within.0) other)))
+    pub held_later : (key.0 ≡ n → ⊥) → holder names n ≡ None
+    held_later other = nothing_holds names n (λ c. none_before c (before_node n c key.0 key.1 (omega (arith, at_or_after n key.0 key.1 next.within, other))))

@@ -5,7 +5,7 @@ use Rattle.std.specs.declared.cmp.Ordering.{Ordering}
 use Rattle.std.specs.declared.cmp.Ordering.TheVariants.{Less, Equal, Greater}
 use Rattle.std.specs.Ordering.{nat_cmp, is_eq, eq_by_cmp, ordering_then}
 use Rattle.std.specs.Cmp.{unsigned_ties, eq_by_cmp_equiv, nat_cmp_total}
-use Rattle.kfs_model.specs.Table.{Order, Table, numbers, pairs, get, changed}
+use Rattle.kfs_model.specs.Table.{Order, Table, numbers, pairs, empty, get, changed}
 use Rattle.kfs_model.specs.Tree.{NameTable, name_order}
 use Rattle.kfs_model.specs.Spelling.{IsName}
 use Rattle.kfs_model.proofs.Counts.{counted}
@@ -58,6 +58,15 @@ module _ {K : Type 0} {R : Order K} where
       at : (b : Bool) → cond b now (get t q) ≡ Some count → 0 < count
       at true is = new count is
       at false is = all q count is
+
+pub no_names : AreNames empty
+unfolding get
+no_names key number found = cc
+
+-- empty tables count the names of an empty one
+pub nothing_counted : IsCounted empty empty empty
+unfolding get
+nothing_counted = record { positive = λ way count found. cc; counts = λ d. refl; uplinks = λ n d. refl }
 
 -- names stay names where one of them comes to lead elsewhere
 pub still_names : (names : NameTable) (d : ℕ) (m : List ℕ) (w : Option ℕ) → AreNames names → IsName m → AreNames (changed names (d, m) w)

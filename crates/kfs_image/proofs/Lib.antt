@@ -1,15 +1,13 @@
-pub mod Ahead
 pub mod BlankTrees
 pub mod Counts
+pub mod EditedRows
 pub mod HeaderPages
 pub mod Holders
 pub mod Indexes
 pub mod NameEdits
 pub mod NameOrder
 pub mod NetTables
+pub mod NextNames
 pub mod NodeEdits
 pub mod Overlays
-pub mod RowCounts
-pub mod RowSteps
 pub mod ShownTrees
-pub mod SlotTables

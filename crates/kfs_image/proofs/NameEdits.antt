@@ -12,13 +12,12 @@ use Rattle.std.specs.FinMap.Entries.{find}
 use Rattle.std.specs.BTreeMap.{BTreeMap, get as get_slot}
 use Rattle.kfs_model.specs.Table.{Order, Table, numbers, get}
 use Rattle.kfs_model.specs.Tree.{NameTable, name_order, entry_count}
-use Rattle.kfs_model.proofs.TableLaws.{same_table}
 use Rattle.kfs_pages.specs.declared.edit.Edit as numbered
 use Rattle.kfs_pages.specs.Edits as numbered_edits
 use Rattle.kfs_pages.specs.Edits.{AreEdits}
 use Rattle.kfs_pages.proofs.Tables.{get-rewritten}
 use Rattle.kfs_chunks.specs.declared.edit.Edit.{Edit}
-use Rattle.kfs_chunks.specs.Edits.{edited, rewritten}
+use Rattle.kfs_chunks.specs.Edits.{rewritten}
 use Rattle.kfs_chunks.specs.Tables.{table}
 use Rattle.kfs_chunks.proofs.Tables.{get-table, find-rewritten}
 use Rattle.kfs_image.specs.Indexes.{IsCounted, AreInPages, ArePositive, by_node, count_at}

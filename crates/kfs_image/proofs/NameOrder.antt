@@ -1,9 +1,11 @@
 -- The order of names by directory and bytes.
-use Rattle.std.proofs.Common.{◌≡◌, ℕ, ◌<◌, List, refl, sym, ap}
-use Rattle.std.specs.declared.cmp.Ordering.TheVariants.{Less, Equal}
-use Rattle.std.specs.Ordering.{nat_cmp, ordering_then}
+use Rattle.std.proofs.Common.{◌≡◌, ℕ, ◌<◌, List, refl, sym, ap, ◌∙◌}
+use Rattle.std.specs.declared.cmp.Ordering.{Ordering}
+use Rattle.std.specs.declared.cmp.Ordering.TheVariants.{Less, Equal, Greater}
+use Rattle.std.specs.Ordering.{nat_cmp, is_lt, is_gt, ordering_reverse, ordering_then}
 use Rattle.std.specs.Cmp.{nat_cmp_is}
 use Rattle.std.specs.Cmp.Lexicographic.{slice_cmp}
+use Rattle.kfs_model.specs.Table.{byte_order}
 use Rattle.kfs_model.specs.Tree.{name_order}
 
 -- in one directory the bytes decide
@@ -12,3 +14,12 @@ in_directory d a b = ap (λ r. ordering_then r (slice_cmp nat_cmp a b)) (sym (na
 
 pub earlier_directory : (d e : ℕ) (a b : List ℕ) → d < e → name_order.compare (d, a) (e, b) ≡ Less
 earlier_directory d e a b less = ap (λ r. ordering_then r (slice_cmp nat_cmp a b)) (sym (nat_cmp_is d e Less less))
+
+-- in one directory a name stands behind another where its bytes do
+pub behind_in_directory : (d : ℕ) (a b : List ℕ) → is_gt (name_order.compare (d, b) (d, a)) ≡ is_lt (slice_cmp nat_cmp a b)
+behind_in_directory d a b = ap is_gt (in_directory d b a ∙ byte_order.total.antisymm b a) ∙ turned (slice_cmp nat_cmp a b)
+  where
+    turned : (o : Ordering) → is_gt (ordering_reverse o) ≡ is_lt o
+    turned Less = refl
+    turned Equal = refl
+    turned Greater = refl

@@ -7,4 +7,3 @@ pub mod NodeEdits
 pub mod Overlays
 pub mod Rows
 pub mod ShownTree
-pub mod Slots

@@ -1,10 +1,10 @@
 //! An image: the shape that views share, and the tiers.
 ghost use Rattle.std.specs.Prelude.{◌≡◌, ℕ, List, Some, IfSome, IfNone, IfOk, OnOk, OnErr};
 ghost use Rattle.kfs_model.specs.Tree.{target};
-ghost use Rattle.kfs_image.specs.Change.{after_rows, after_net};
+ghost use Rattle.kfs_image.specs.Change.{after_rows, after_net, renamed, reheaded};
 ghost use Rattle.kfs_image.specs.Contents.{root_alone};
-ghost use Rattle.kfs_image.specs.NodeEdits.{AreNumbered};
 ghost use Rattle.kfs_image.specs.Look.{IsAfter, IsNext};
+ghost use Rattle.kfs_image.specs.Rows.{FitPages};
 ghost use Rattle.kfs_image.specs.ShownTree.{IsLawful};
 
 use crate::layout::Shape;
@@ -49,31 +49,31 @@ impl<A: Allocator + Clone> Image<A> {
         })
     }
 
-    /// Makes the change of a net, in place where no view shares the shape. `Err` leaves what the
-    /// image shows as it is, and a view shows what it showed in any case.
+    /// Makes the change of a net. Pages and chunks that a view shares are copied where they change, and
+    /// the others stay shared. `Err` leaves what the image shows as it is, and a view shows what it
+    /// showed in any case.
     pub(crate) fn change(&mut self, names: &[NameRow], nodes: &[NodeRow]) -> Result<(), AllocError>
         requires { IsLawful (after_net self.old names.now nodes.now).contents }
         ensures ok { OnOk result (self.new ≡ after_net self.old names.now nodes.now) }
         ensures err { OnErr result (self.new ≡ self.old) }
     {
-        let mut vacated = Vec::new(self.alloc.clone()?);
-        change_shared(&mut self.shape, names, nodes, &mut vacated)
+        change_shared(&mut self.shape, &self.alloc, names, nodes)
     }
 }
 
 fn change_shared<A: Allocator + Clone>(
     shape: &mut Arc<Shape<A>, A>,
+    alloc: &A,
     names: &[NameRow],
     nodes: &[NodeRow],
-    vacated: &mut Vec<(u32, u32), A>,
 ) -> Result<(), AllocError>
-    requires before { AreNumbered shape.old.value.heads }
-    requires after { AreNumbered (after_rows shape.old.value names.now nodes.now).heads }
+    requires before { FitPages shape.old.value.heads shape.old.value.names }
+    requires after { FitPages (reheaded shape.old.value.heads nodes.now) (renamed shape.old.value.names names.now) }
     ensures ok { OnOk result (shape.new.value ≡ after_rows shape.old.value names.now nodes.now) }
     ensures err { OnErr result (shape.new.value ≡ shape.old.value) }
 {
     let shape = Arc::make_mut(shape)?;
-    shape.apply(names, nodes, vacated)
+    shape.apply(alloc, names, nodes)
 }
 
 impl<A: Allocator> Image<A> {

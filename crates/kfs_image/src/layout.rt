@@ -7,8 +7,8 @@ ghost use Rattle.kfs_model.specs.Tree.{entry_count, target};
 ghost use Rattle.kfs_model.specs.Sight.{parent_in};
 ghost use Rattle.kfs_image.specs.Contents.{root_alone};
 ghost use Rattle.kfs_image.specs.Look.{IsAnswer, IsAfter, IsNext};
-ghost use Rattle.kfs_image.specs.Change.{after_rows};
-ghost use Rattle.kfs_image.specs.NodeEdits.{AreNumbered};
+ghost use Rattle.kfs_image.specs.Change.{after_rows, renamed, reheaded};
+ghost use Rattle.kfs_image.specs.Rows.{FitPages};
 
 use crate::cell::{Answer, Cell};
 use crate::rows::{Rows, name_key};
@@ -39,7 +39,7 @@ impl<A: Allocator + Clone> Clone for Shape<A> {
 
     fn clone(&self) -> Result<Shape<A>, AllocError> {
         Ok(Shape {
-            rows: self.rows.copy()?,
+            rows: self.rows.clone()?,
         })
     }
 }
@@ -123,19 +123,19 @@ impl<A: Allocator + Clone> Shape<A> {
         Ok(Shape { rows })
     }
 
-    /// Makes the changes of a net. Every growth comes first: where one is refused, the shape shows
-    /// what it showed. `vacated` is an empty list, to hold the ways that are given up.
+    /// Makes the changes of a net. Every copy and growth comes first: where one is refused, the shape
+    /// shows what it showed.
     pub(crate) fn apply(
         &mut self,
+        alloc: &A,
         names: &[NameRow],
         nodes: &[NodeRow],
-        vacated: &mut Vec<(u32, u32), A>,
     ) -> Result<(), AllocError>
-        requires before { AreNumbered self.old.heads }
-        requires after { AreNumbered (after_rows self.old names.now nodes.now).heads }
+        requires before { FitPages self.old.heads self.old.names }
+        requires after { FitPages (reheaded self.old.heads nodes.now) (renamed self.old.names names.now) }
         ensures ok { OnOk result (self.new ≡ after_rows self.old names.now nodes.now) }
         ensures err { OnErr result (self.new ≡ self.old) }
     {
-        self.rows.apply(names, nodes, vacated)
+        self.rows.apply(alloc, names, nodes)
     }
 }

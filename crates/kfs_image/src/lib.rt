@@ -9,8 +9,6 @@ mod name_edits;
 mod overlay;
 mod rows;
 pub mod shape;
-mod slots;
-mod tally;
 
 pub use cell::{Answer, Cell};
 pub use image::Image;

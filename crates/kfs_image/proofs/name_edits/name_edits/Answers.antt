@@ -1,6 +1,6 @@
-use Rattle.std.proofs.Common.{◌≡◌, ◌+◌, drop, sym, ap, subst, ◌∙◌}
+use Rattle.std.proofs.Common.{◌+◌, drop, sym, ap, subst, ◌∙◌}
 use Rattle.std.proofs.lemmas.List.{at_drop_all}
-use Rattle.kfs_model.specs.Table.{Table, changed}
+use Rattle.kfs_model.specs.Table.{changed}
 use Rattle.kfs_model.specs.Tree.{NameTable, name_order}
 use Rattle.kfs_chunks.specs.Tables.{table}
 use Rattle.kfs_value.specs.declared.plan.NameRow.{NameRow}

@@ -1,26 +1,14 @@
-use Rattle.std.proofs.Common.{ap, ◌∙◌}
-use Rattle.kfs_image.specs.Rows.{IsIndexed}
-use Rattle.kfs_image.specs.Change.{renamed}
-use Rattle.kfs_image.proofs.RowSteps.{still_indexed, same_names}
+use Rattle.std.proofs.Common.{Ok, Err, rules}
+use Rattle.std.specs.Prelude.{OnOk}
+use Rattle.std.specs.declared.result.Result.{Result}
 use Rattle.kfs_image.proofs.rows.Rows.change.Goals as goal
 
-pub returns-in_err-reserve-clause-indexed : goal.returns-in_err-reserve-clause-indexed
-returns-in_err-reserve-clause-indexed g c = still_indexed _ _ c.reserve.ensures.shown c.requires.indexed
+-- what is said third of a change that was made
+third : {T E : Type 0} (P Q R S : Type 0) (r : Result T E) → OnOk r (P × (Q × (R × S))) → OnOk r R
+third P Q R S (Ok done) all = all.1.1.0
+third P Q R S (Err error) all = tt
 
-pub returns-in_err-change_then-clause-indexed : goal.returns-in_err-change_then-clause-indexed
-returns-in_err-change_then-clause-indexed g c =
-    let indexed : IsIndexed c.reserve.new.self = still_indexed _ _ c.reserve.ensures.shown c.requires.indexed in
-    record { names = indexed.names; positive = indexed.positive; counts = indexed.counts; uplinks = indexed.uplinks }
-
-pub set_names-requires-clause-indexed : goal.set_names-requires-clause-indexed
-set_names-requires-clause-indexed g c =
-    let indexed : IsIndexed c.reserve.new.self = still_indexed _ _ c.reserve.ensures.shown c.requires.indexed in
-    record { names = indexed.names; positive = indexed.positive; counts = indexed.counts; uplinks = indexed.uplinks }
-
-pub set_names-requires-clause-slots : goal.set_names-requires-clause-slots
-set_names-requires-clause-slots g c = λ k d below.
-    let slots = c.in_ok-reserve.ensures.names k d below in
-    record { names = slots.names; counts = slots.counts; uplinks = slots.uplinks }
-
-pub returns-clause-names : goal.returns-clause-names
-returns-clause-names g c = c.set_names.ensures.names ∙ ap (λ names. renamed names c.args.names.now) (same_names _ _ c.reserve.ensures.shown)
+pub returns-clause-uplinks : goal.returns-clause-uplinks
+returns-clause-uplinks g c =
+    let edited : OnOk c.change_then.result _ = third _ _ _ _ c.change_then.result c.change_then.ensures.made in
+    search rules
