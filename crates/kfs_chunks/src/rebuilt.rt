@@ -1,5 +1,5 @@
 //! Chunks with their edits made, in a list of its own.
-ghost use Rattle.std.specs.Prelude.{◌≡◌, ◌++◌, T, IfOk, OnOk};
+ghost use Rattle.std.specs.Prelude.{◌≡◌, ◌≤◌, ◌++◌, T, IfOk, OnOk};
 ghost use Rattle.std.specs.FinMap.Entries.{is_sorted};
 ghost use Rattle.kfs_chunks.specs.Edits.{entered_all, Ascend};
 ghost use Rattle.kfs_chunks.specs.Joined.{joined, IsSized, AreSized};
@@ -56,8 +56,7 @@ fn push<K: Key, V: Copy, A: Allocator + Clone>(
     cut(new, &chunk.merged(edits)?)
 }
 
-/// Adds the entries, cut into chunks: one where they fit, and else half as large ones, so that there
-/// is room for more.
+/// Adds the entries, cut into chunks of one size, the last of which may be smaller.
 fn cut<K: Key, V: Copy, A: Allocator + Clone>(
     new: &mut Vec<Arc<Entries<K, V, A>, A>, A>,
     entries: &Entries<K, V, A>,
@@ -66,11 +65,7 @@ fn cut<K: Key, V: Copy, A: Allocator + Clone>(
     ensures joined { OnOk result (joined new.new.items ≡ joined new.old.items ++ entries.now.pairs) }
     ensures sized { OnOk result (AreSized new.new.items) }
 {
-    let size = if entries.len() <= GREATEST_SIZE {
-        GREATEST_SIZE
-    } else {
-        GREATEST_SIZE / 2
-    };
+    let size = size_for(entries.len());
     let mut from = 0;
     while from < entries.len() {
         let count = size.min(entries.len() - from);
@@ -79,4 +74,19 @@ fn cut<K: Key, V: Copy, A: Allocator + Clone>(
         from += count;
     }
     Ok(())
+}
+
+/// How large the chunks are that so many entries are cut into: one where they fit, two halves where
+/// those fit, and else chunks half as large as they may be, so that each has room for more.
+fn size_for(len: usize) -> usize
+    ensures least { 1 ≤ result }
+    ensures most { result ≤ 256 }
+{
+    if len <= GREATEST_SIZE {
+        GREATEST_SIZE
+    } else if len <= 2 * GREATEST_SIZE {
+        len - len / 2
+    } else {
+        GREATEST_SIZE / 2
+    }
 }

@@ -3,7 +3,6 @@ use Rattle.std.proofs.lemmas.List.{length-take-le}
 use Rattle.kfs_chunks.specs.Joined.{joined, AreSized}
 use Rattle.kfs_chunks.proofs.Recut.{sized-push, joined_cut}
 use Rattle.kfs_chunks.proofs.rebuilt.cut.Goals as goal
-use Rattle.kfs_chunks.proofs.rebuilt.cut.Goals.{then-len-le-GREATEST_SIZE, else-len-le-GREATEST_SIZE}
 
 pub loop-from-preserved : goal.loop-from-preserved
 loop-from-preserved g c =
@@ -13,10 +12,8 @@ loop-from-preserved g c =
     let chunk = c.in_ok-new.field-0 in
     let items : c.push.new.self.items ≡ c.loop-from.new.items ++ chunk ∷ [] = c.in_ok-push.ensures.items in
     let value : chunk.value.pairs ≡ take count (drop from es) = ap (λ held. held.pairs) c.in_ok-new.ensures.ok ∙ c.in_ok-chunk.ensures in
-    let greatest : (128 ≤ c.if-len-le-GREATEST_SIZE.size) × (c.if-len-le-GREATEST_SIZE.size ≤ 256) =
-    elim c.if-len-le-GREATEST_SIZE.branch [ then-len-le-GREATEST_SIZE w ↦ (omega arith, omega arith) | else-len-le-GREATEST_SIZE w ↦ (omega arith, omega arith) ] in
-    let least : 1 ≤ count = omega arith in
-    let most : count ≤ 256 = omega arith in
+    let least : 1 ≤ count = omega (arith, c.size_for-size.ensures.least) in
+    let most : count ≤ 256 = omega (arith, c.size_for-size.ensures.most) in
     let within : from + count ≤ length es = omega arith in
     let size : length chunk.value.pairs ≡ count = ap length value ∙ length-take-le count (drop from es) (omega (arith, within, length-drop from es)) in
     record {

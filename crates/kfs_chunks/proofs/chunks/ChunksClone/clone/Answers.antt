@@ -11,4 +11,4 @@ invariant_of-result g c =
     (subst (λ es. T (is_sorted g.K.Ord.cmp es)) (sym (copied_joined _ (λ a b same. same) xs ys same)) c.self.invariant.0, copied_sized _ (λ a b same. same) xs ys same c.self.invariant.1)
 
 pub returns : goal.returns
-returns g c = record { cases = copied_joined _ (λ a b same. same) c.self.inside.chunks.items c.in_ok-clone.field-0.items c.in_ok-clone.ensures.cases.0 ∙ c.self.view_is; }
+returns g c = record { cases = copied_joined _ (λ a b same. same) c.self.inside.chunks.items c.in_ok-clone.field-0.items c.in_ok-clone.ensures.cases.0 ∙ c.self.view_is }
