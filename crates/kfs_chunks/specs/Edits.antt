@@ -1,5 +1,5 @@
 -- Edits of a table.
-use Rattle.std.specs.Prelude.{◌≡◌, ℕ, ◌<◌, List, [], ◌∷◌, Option, Some, None, not, length, slice_index_or, if◌then◌else◌}
+use Rattle.std.specs.Prelude.{◌≡◌, ℕ, ◌<◌, All, List, [], ◌∷◌, ◌++◌, Option, Some, None, not, length, slice_index_or, if◌then◌else◌}
 use Rattle.std.specs.declared.cmp.Ordering.{Ordering}
 use Rattle.std.specs.declared.cmp.Ordering.TheVariants.{Less}
 use Rattle.std.specs.Ordering.{eq_by_cmp}
@@ -17,6 +17,11 @@ module _ {K V : Type 0} (cmp : K → K → Ordering) where
   abbrev pub entered_all : List (K × V) → List (Edit K V) → List (K × V)
   entered_all entries [] = entries
   entered_all entries (e ∷ es) = entered_all (entered entries e.key e.value) es
+
+  -- the edit is made in what moved from the left list to the one before: so, whatever edits come later, these
+  -- make the same of what is left
+  abbrev pub IsPassed : Edit K V → (old left : List (K × V)) → (new rest : List (K × V)) → Type 0
+  IsPassed edit old left new rest = (later : List (Edit K V)) → All (λ e. cmp edit.key e.key ≡ Less) later → new ++ entered_all rest later ≡ old ++ entered_all left (edit ∷ later)
 
 module _ {K V : Type 0} (R : Order K) where
   -- the entries after the edits, by the order of the keys

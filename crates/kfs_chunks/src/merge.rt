@@ -1,10 +1,8 @@
 //! Entries after edits, in memory of their own, by one walk over both.
-ghost use Rattle.std.specs.Prelude.{◌≡◌, ◌∷◌, ◌++◌, List, T, All, IfOk, OnOk, None};
-ghost use Rattle.std.specs.declared.cmp.Ordering.TheVariants.{Less};
+ghost use Rattle.std.specs.Prelude.{◌≡◌, ◌++◌, T, IfOk, OnOk, None};
 ghost use Rattle.std.specs.declared.ops.Bound.TheVariants.{Included};
 ghost use Rattle.std.specs.FinMap.Entries.{is_sorted};
-ghost use Rattle.kfs_chunks.specs.declared.edit.Edit.{Edit as EditValue};
-ghost use Rattle.kfs_chunks.specs.Edits.{entered, entered_all, Ascend};
+ghost use Rattle.kfs_chunks.specs.Edits.{entered, entered_all, Ascend, IsPassed};
 ghost use Rattle.kfs_chunks.specs.Starts.{first_from};
 
 use crate::edit::Edit;
@@ -41,7 +39,7 @@ fn enter<'a, K: Key, V: Copy, A: Allocator>(
 ) -> Result<&'a [(K, V)], AllocError>
     requires { T (is_sorted K.cmp left.now) }
     ensures sorted { IfOk result (λ rest. T (is_sorted K.cmp rest.now)) }
-    ensures entered { IfOk result (λ rest. (later : List (EditValue K V)) → All (λ e. K.cmp edit.now.key e.key ≡ Less) later → merged.new.items ++ entered_all K.cmp rest.now later ≡ merged.old.items ++ entered_all K.cmp left.now (edit.now ∷ later)) }
+    ensures passed { IfOk result (λ rest. IsPassed K.cmp edit.now merged.old.items left.now merged.new.items rest.now) }
 {
     let (below, from) = left.split_at(first_from(left, Bound::Included(&edit.key)));
     copy_to(merged, below)?;

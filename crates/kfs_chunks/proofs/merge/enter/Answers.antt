@@ -28,8 +28,8 @@ returns-clause-sorted g c =
     let same : c.behind.result.now ≡ entered g.K.Ord.cmp back c.args.edit.now.key None = c.behind.ensures ∙ ap (λ es. entered g.K.Ord.cmp es c.args.edit.now.key None) c.split_at.ensures.back in
     subst (λ es. T (is_sorted g.K.Ord.cmp es)) (sym same) (is_sorted-entered order back c.args.edit.now.key None (sorted_drop g.K.Ord.cmp c.first_from.result c.args.left.now c.requires))
 
-pub returns-clause-entered : goal.returns-clause-entered
-returns-clause-entered g c later less =
+pub returns-clause-passed : goal.returns-clause-passed
+returns-clause-passed g c later less =
     let order = order_by g.K.Key.order g.K.Ord.cmp g.met.K.Key.compared in
     let edit = c.args.edit.now in
     let es = c.args.left.now in

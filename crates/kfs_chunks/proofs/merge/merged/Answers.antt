@@ -16,7 +16,7 @@ loop-edit-preserved g c =
     record {
       sorted = c.in_ok-left.ensures.sorted;
       entered =
-          c.in_ok-left.ensures.entered later less
+          c.in_ok-left.ensures.passed later less
           ∙ ap (λ es. c.loop-edit.merged.items ++ entered_all g.K.Ord.cmp c.loop-edit.left.now es) (ap (λ e. e ∷ later) c.edit-item.is ∙ sym (drop_more edits i c.edit-item.result within))
           ∙ c.loop-edit.invariant.entered;
     }
