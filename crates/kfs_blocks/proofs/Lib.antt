@@ -1,3 +1,4 @@
 mod EditedPlaces
 mod HeldBlocks
+mod ReadAcross
 mod ReadBytes

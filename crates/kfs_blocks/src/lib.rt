@@ -3,6 +3,7 @@
 
 mod blocks;
 mod moves;
+mod read;
 mod staged;
 
 pub use blocks::Blocks;
