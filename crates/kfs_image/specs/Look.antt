@@ -1,11 +1,12 @@
 -- What a look at a cell answers.
-use Rattle.std.specs.Prelude.{◌≡◌, ℕ, List, Option, Some, None, option_map, false}
+use Rattle.std.specs.Prelude.{◌≡◌, ℕ, ◌<◌, List, Option, Some, None, IsSome, option_map, false}
 use Rattle.std.specs.declared.cmp.Ordering.TheVariants.{Less}
 use Rattle.std.specs.Ordering.{nat_cmp, is_lt}
 use Rattle.std.specs.Cmp.Lexicographic.{slice_cmp}
 use Rattle.std.specs.Borrow.{Bor}
 use Rattle.kfs_value.specs.Views.{header_of}
-use Rattle.kfs_model.specs.Table.{get}
+use Rattle.kfs_model.specs.Header.{Header}
+use Rattle.kfs_model.specs.Table.{Table, numbers, get}
 use Rattle.kfs_model.specs.Tree.{NameTable, target, entry_count}
 use Rattle.kfs_model.specs.Sight.{parent_in}
 use Rattle.kfs_image.specs.declared.cell.Cell.{Cell}
@@ -55,3 +56,9 @@ pub record IsNext (names : NameTable) (directory : ℕ) (after : Option (Bor (Li
   pub leads : target names directory name ≡ Some number
   pub later : IsAfter after name
   pub least : (m : List ℕ) (n : ℕ) → target names directory m ≡ Some n → IsAfter after m → is_lt (slice_cmp nat_cmp m name) ≡ false
+
+-- a node has the number, the least above this one that a node has
+pub record IsNextNode (heads : Table numbers Header) (after number : ℕ) : Type 0 where
+  pub node : IsSome (get heads number)
+  pub later : after < number
+  pub least : (m : ℕ) → after < m → m < number → get heads m ≡ None

@@ -1,9 +1,10 @@
 //! An image: the shape that views share, and the tiers.
-ghost use Rattle.std.specs.Prelude.{◌≡◌, ℕ, List, Some, IfSome, IfNone, IfOk, OnOk, OnErr};
+ghost use Rattle.std.specs.Prelude.{◌≡◌, ℕ, ◌<◌, List, Some, None, IfSome, IfNone, IfOk, OnOk, OnErr};
+ghost use Rattle.kfs_model.specs.Table.{get};
 ghost use Rattle.kfs_model.specs.Tree.{target};
 ghost use Rattle.kfs_image.specs.Change.{after_rows, after_net, renamed, reheaded};
 ghost use Rattle.kfs_image.specs.Contents.{root_alone};
-ghost use Rattle.kfs_image.specs.Look.{IsAfter, IsNext};
+ghost use Rattle.kfs_image.specs.Look.{IsAfter, IsNext, IsNextNode};
 ghost use Rattle.kfs_image.specs.Rows.{FitPages};
 ghost use Rattle.kfs_image.specs.ShownTree.{IsLawful};
 
@@ -83,6 +84,14 @@ impl<A: Allocator> Image<A> {
         ensures lawful { IsLawful self.now.contents }
     {
         &self.shape
+    }
+
+    /// The least number above `after` that a node has, or none where no node has one. Takes no memory.
+    pub fn next_node(&self, after: u32) -> Option<u32>
+        ensures found { IfSome result (IsNextNode self.now.contents.heads after) }
+        ensures none { IfNone result ((m : ℕ) → after < m → get self.now.contents.heads m ≡ None) }
+    {
+        self.shape.next_node(after)
     }
 
     /// The least name of the directory above `after`, or of all its names where `after` is none, and

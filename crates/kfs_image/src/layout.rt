@@ -1,12 +1,12 @@
 //! The nodes and names of an image, as views share them.
-ghost use Rattle.std.specs.Prelude.{◌≡◌, ℕ, List, Some, option_map, IfSome, IfNone, IfOk, OnOk, OnErr};
+ghost use Rattle.std.specs.Prelude.{◌≡◌, ℕ, ◌<◌, List, Some, None, option_map, IfSome, IfNone, IfOk, OnOk, OnErr};
 ghost use Rattle.kfs_value.specs.Views.{header_of};
 ghost use Rattle.kfs_model.specs.Table.{empty, get};
 ghost use Rattle.kfs_pages.specs.Shown.{part};
 ghost use Rattle.kfs_model.specs.Tree.{entry_count, target};
 ghost use Rattle.kfs_model.specs.Sight.{parent_in};
 ghost use Rattle.kfs_image.specs.Contents.{root_alone};
-ghost use Rattle.kfs_image.specs.Look.{IsAnswer, IsAfter, IsNext};
+ghost use Rattle.kfs_image.specs.Look.{IsAnswer, IsAfter, IsNext, IsNextNode};
 ghost use Rattle.kfs_image.specs.Change.{after_rows, renamed, reheaded};
 ghost use Rattle.kfs_image.specs.Rows.{FitPages};
 
@@ -95,6 +95,14 @@ impl<A: Allocator> Shape<A> {
             return None;
         }
         self.rows.holder(number)
+    }
+
+    /// The least number above `after` that a node has.
+    pub(crate) fn next_node(&self, after: u32) -> Option<u32>
+        ensures found { IfSome result (IsNextNode self.now.heads after) }
+        ensures none { IfNone result ((m : ℕ) → after < m → get self.now.heads m ≡ None) }
+    {
+        self.rows.next_node(after)
     }
 
     /// The least name of the directory above `after`, or of all its names, and where it leads.

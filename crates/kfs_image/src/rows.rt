@@ -1,5 +1,5 @@
 //! The maps that hold the nodes and names of a shape, and the counts beside them.
-ghost use Rattle.std.specs.Prelude.{◌≡◌, ℕ, ◌≤◌, true, option_map, IfOk, IfSome, IfNone, OnOk, OnErr, Some, List, [], ◌∷◌};
+ghost use Rattle.std.specs.Prelude.{◌≡◌, ℕ, ◌≤◌, ◌<◌, true, option_map, IfOk, IfSome, IfNone, OnOk, OnErr, Some, None, List, [], ◌∷◌};
 ghost use Rattle.kfs_value.specs.Views.{header_of};
 ghost use Rattle.kfs_model.specs.Spelling.{IsName};
 ghost use Rattle.kfs_model.specs.Table.{get, empty, changed};
@@ -10,7 +10,7 @@ ghost use Rattle.kfs_chunks.specs.Edits as keyed;
 ghost use Rattle.kfs_chunks.specs.Starts.{is_from};
 ghost use Rattle.kfs_image.specs.Change.{led_to, renamed, reheaded};
 ghost use Rattle.kfs_image.specs.Indexes.{by_node};
-ghost use Rattle.kfs_image.specs.Look.{IsAfter, IsNext};
+ghost use Rattle.kfs_image.specs.Look.{IsAfter, IsNext, IsNextNode};
 ghost use Rattle.kfs_image.specs.NodeEdits.{IsNumber};
 ghost use Rattle.kfs_image.specs.Rows.{heads_in, names_in, IsIndexed, FitPages};
 
@@ -90,6 +90,15 @@ impl<A: Allocator> Rows<A> {
     {
         let (key, _) = self.uplinks.next(Bound::Included(&(number, 0)))?;
         if key.0 == number { Some(key.1) } else { None }
+    }
+
+    /// The least number above `after` that a node has.
+    pub(crate) fn next_node(&self, after: u32) -> Option<u32>
+        ensures found { IfSome result (IsNextNode (heads_in self.now) after) }
+        ensures none { IfNone result ((m : ℕ) → after < m → get (heads_in self.now) m ≡ None) }
+    {
+        let (number, _) = self.headers.next(after)?;
+        Some(number)
     }
 
     /// The least name of the directory above `after`, or of all its names, and where it leads.
