@@ -8,11 +8,12 @@ ghost use Rattle.kfs_chunks.specs.Tables.{table};
 ghost use Rattle.kfs_image.specs.Change.{led_to, renamed};
 ghost use Rattle.kfs_image.specs.Indexes.{AreNames, CountsFewer, CountsMore, IsCounted, by_node, count_at, count_step, uplink_step, ArePositive};
 ghost use Rattle.kfs_image.specs.NameEdits.{names_seen, counts_seen, ways_seen, IsCountedOver, names_edited, IsCountedAfter};
-ghost use Rattle.kfs_image.specs.Overlays.{Say, SayOfNumbers};
+ghost use Rattle.kfs_chunks.specs.Overlays.{Say};
+ghost use Rattle.kfs_image.specs.Overlays.{SayOfNumbers};
 
-use crate::overlay::{Overlay, key_edits, number_edits};
+use crate::overlay::number_edits;
 use crate::rows::{name_key, target_of};
-use kfs_chunks::Chunks;
+use kfs_chunks::{Chunks, Overlay, key_edits};
 use kfs_pages::Pages;
 use kfs_value::{Name, NameRow};
 use std::alloc::{AllocError, Allocator};
