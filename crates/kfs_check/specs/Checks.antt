@@ -5,7 +5,7 @@ use Rattle.kfs_check.specs.Recorders.{LooksAlong}
 use Rattle.kfs_model.specs.Check.{checks_of, first_failing, looked}
 use Rattle.kfs_model.specs.Entry.{Entry}
 use Rattle.kfs_model.specs.Check as checks
-use Rattle.kfs_model.specs.Sight.{ClientSight, Cell, ParentOf, climb_limit, climb_meets, climbed}
+use Rattle.kfs_model.specs.Sight.{Sight, ClientSight, Cell, ParentOf, climb_limit, climb_meets, climbed}
 use Rattle.kfs_check.specs.declared.check.Reason.{Reason}
 use Rattle.kfs_check.specs.declared.check.Reason.TheVariants as reasons
 use Rattle.kfs_check.specs.declared.check.Check.{Check}
@@ -13,6 +13,8 @@ use Rattle.kfs_check.specs.declared.check.Check.TheVariants as variants
 use Rattle.kfs_check.specs.declared.reads.Recorder.{Recorder}
 use Rattle.kfs_check.specs.declared.entry_judge.EntryJudge.{EntryJudge}
 use Rattle.kfs_draft.specs.Overlay.{entry_context_of}
+use Rattle.kfs_mode.specs.Mode.{want_shown}
+use Rattle.kfs_mode.specs.declared.class.Want.{Want}
 
 abbrev pub reason_of : Reason → checks.Reason
 reason_of reasons.NoSuchNode = checks.NoSuchNode
@@ -71,9 +73,17 @@ abbrev pub entry_context_in : {A : Type 0} → EntryJudge A → ClientSight → 
 entry_context_in judge before = entry_context_of judge.client.now judge.draft.now before
 
 module _ {A : Type 0} (judge : EntryJudge A) where
+  -- what the cells show now
+  abbrev pub sight_in : ClientSight → Sight
+  sight_in before = (entry_context_in judge before).now
+
   -- the directory in which a directory stands now
   abbrev pub parent_in : ClientSight → ℕ → Option ℕ
-  parent_in before = (entry_context_in judge before).now.parent
+  parent_in before = (sight_in before).parent
+
+  -- whether the client is granted this of the node now
+  abbrev pub is_granted_in : ClientSight → Want → (number : ℕ) → Bool
+  is_granted_in before want number = checks.is_permitted (entry_context_in judge before) (want_shown want) number
 
   -- whether the climb from the directory meets the node, looked at the parents of those that it passes
   abbrev pub Climbs : {E : Type 0} → (old new : Recorder A) → Result Bool E → (node directory : ℕ) → Type 0

@@ -10,7 +10,7 @@ ghost use Rattle.kfs_model.specs.Sight as sight;
 ghost use Rattle.kfs_model.specs.Sight.{CountOf, LeaseOn, ParentOf};
 ghost use Rattle.kfs_mode.specs.Mode.{want_shown};
 ghost use Rattle.kfs_check.specs.Recorders.{Looks, LooksAtHeader, LooksAtName};
-ghost use Rattle.kfs_check.specs.Checks.{check_of, reason_of, entry_context_in, Climbs, JudgesAll, JudgesCheck, IsOfHeader, IsOfRight, parent_in};
+ghost use Rattle.kfs_check.specs.Checks.{check_of, reason_of, entry_context_in, Climbs, JudgesAll, JudgesCheck, IsOfHeader, IsOfRight, is_granted_in, parent_in, sight_in};
 
 use crate::check::{Check, Reason};
 use crate::reads::Recorder;
@@ -34,7 +34,7 @@ impl<A: Allocator + Copy> EntryJudge<'_, A> {
         recorder: &mut Recorder<'_, A>,
         number: u32,
     ) -> Result<Option<Header>, AllocError>
-        ensures { LooksAtHeader recorder.old recorder.new result number (λ header before. (entry_context_in self.now before).now.head number ≡ option_map header_of header) }
+        ensures { LooksAtHeader recorder.old recorder.new result number (λ header before. (sight_in self.now before).head number ≡ option_map header_of header) }
     {
         match self.draft.header(number) {
             Some(header) => Ok(header),
@@ -44,7 +44,7 @@ impl<A: Allocator + Copy> EntryJudge<'_, A> {
 
     /// The kind of the node now, and a file's where there is no node.
     pub fn kind(&self, recorder: &mut Recorder<'_, A>, number: u32) -> Result<Kind, AllocError>
-        ensures { LooksAtHeader recorder.old recorder.new result number (λ kind before. sight.kind_shown ((entry_context_in self.now before).now.head number) ≡ kind_of kind) }
+        ensures { LooksAtHeader recorder.old recorder.new result number (λ kind before. sight.kind_shown ((sight_in self.now before).head number) ≡ kind_of kind) }
     {
         let header = self.header(recorder, number)?;
         Ok(kind_in(header))
@@ -56,7 +56,7 @@ impl<A: Allocator + Copy> EntryJudge<'_, A> {
         recorder: &mut Recorder<'_, A>,
         key: &(u32, Name),
     ) -> Result<Option<u32>, AllocError>
-        ensures { LooksAtName recorder.old recorder.new result key.now (λ number before. (entry_context_in self.now before).now.name key.now.0 key.now.1 ≡ number) }
+        ensures { LooksAtName recorder.old recorder.new result key.now (λ number before. (sight_in self.now before).name key.now.0 key.now.1 ≡ number) }
     {
         match self.draft.target(key) {
             Some(number) => Ok(number),
@@ -70,7 +70,7 @@ impl<A: Allocator + Copy> EntryJudge<'_, A> {
         number: u32,
         want: Want,
     ) -> Result<bool, AllocError>
-        ensures { LooksAtHeader recorder.old recorder.new result number (λ granted before. checks.is_permitted (entry_context_in self.now before) (want_shown want) number ≡ granted) }
+        ensures { LooksAtHeader recorder.old recorder.new result number (λ granted before. is_granted_in self.now before want number ≡ granted) }
     {
         let header = self.header(recorder, number)?;
         Ok(may_want(self.client, header, want))
@@ -209,7 +209,7 @@ impl<A: Allocator + Copy> EntryJudge<'_, A> {
     }
 
     fn has_no_names(&self, recorder: &mut Recorder<'_, A>, dir: u32) -> Result<bool, AllocError>
-        ensures { Looks recorder.old recorder.new result (CountOf dir ∷ []) (λ empty before. int_eq ((entry_context_in self.now before).now.count dir) (pos 0) ≡ empty) }
+        ensures { Looks recorder.old recorder.new result (CountOf dir ∷ []) (λ empty before. int_eq ((sight_in self.now before).count dir) (pos 0) ≡ empty) }
     {
         let count = recorder.count(dir)?;
         let shift = self.draft.shift(dir);

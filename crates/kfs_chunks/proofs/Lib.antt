@@ -1,5 +1,6 @@
 mod FirstEntries
 mod Order
+pub mod Overlays
 mod Parts
 mod Recut
 mod Rewritten

@@ -4,3 +4,4 @@ pub mod Starts
 pub mod Edits
 pub mod Tables
 pub mod Joined
+pub mod Overlays

@@ -58,6 +58,11 @@ impl<K: Key, V: Copy, A: Allocator> Chunks<K, V, A> {
         }
     }
 
+    /// The allocator of its chunks. Takes no memory.
+    pub fn allocator(&self) -> &A {
+        self.chunks.allocator()
+    }
+
     /// The value at a key. Takes no memory.
     pub fn get(&self, key: &K) -> Option<&V>
         ensures { option_copied result ≡ find K.order.compare key.now self.now }

@@ -8,6 +8,7 @@ mod entries;
 mod key;
 mod merge;
 mod nested;
+mod overlay;
 mod place;
 mod rebuilt;
 
@@ -15,3 +16,4 @@ pub use chunks::Chunks;
 pub use edit::Edit;
 pub use key::Key;
 pub use nested::EditChunks;
+pub use overlay::{Overlay, key_edits};

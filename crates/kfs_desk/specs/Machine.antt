@@ -169,6 +169,10 @@ pub record IsChange (outcome : leases.LeaseOutcome) (words : ℕ → Done) (answ
   pub said : IsTold words answer told
   pub is : outcome ≡ (told, new)
 
+-- they are what the act makes of the leases, in its own words
+abbrev pub IsChangeOf : Leases → Sight → List Client → Act → (answer : Result Done LeaseFault) → (new : Leases) → Type 0
+IsChangeOf table sight clients act answer new = IsChange (outcome_at table sight clients act) (done_by act) answer new
+
 -- the answer tells an outcome in these words; the call with that outcome is a row that fits, and leads to this state
 pub record IsLeaseStep (s : State) (call : Call) (words : ℕ → Done) (answer : Result Done LeaseFault) (t : State) : Type 0 where
   pub outcome : Result ℕ leases.LeaseFault

@@ -15,7 +15,7 @@ ghost use Rattle.kfs_check.specs.View.{clients_of, contents_of, leases_of};
 ghost use Rattle.kfs_plan.specs.Judging.{HasOtherEntry, IsVerdict, submission_of};
 ghost use Rattle.kfs_image.specs.Change.{after_net};
 ghost use Rattle.kfs_desk.specs.Landing.{CanLand, KeepsAll, answer_at, ended_by, ended_with, image_after, leases_left};
-ghost use Rattle.kfs_desk.specs.Machine.{IsAnswered, IsBackFor, IsCallOf, IsChange, IsImageOf, RunsThrough, call_of, done_by, number_of, outcome_at, state_at};
+ghost use Rattle.kfs_desk.specs.Machine.{IsAnswered, IsBackFor, IsCallOf, IsChangeOf, IsImageOf, RunsThrough, call_of, done_by, number_of, outcome_at, state_at};
 ghost use Rattle.kfs_desk.specs.Opening.{begin_fault, do_overlap, fault_behind};
 ghost use Rattle.kfs_value.specs.Room.{Appends, spare_of};
 
@@ -286,7 +286,7 @@ fn change<A: Allocator + Clone>(
     act: Act<'_>,
 ) -> Result<Result<Done, LeaseFault>, Unanswered>
     requires distinct { AreDistinct clients.now }
-    ensures ok { IfOk result (λ answer. IsChange (outcome_at leases.old.value (sight_of shape.now) clients.now act.entry) (done_by act.entry) answer leases.new.value) }
+    ensures ok { IfOk result (λ answer. IsChangeOf leases.old.value (sight_of shape.now) clients.now act.entry answer leases.new.value) }
     ensures err { OnErr result (leases.new.value ≡ leases.old.value) }
     ensures not_full { IfErr result (λ why. why ≡ Unanswered.OutOfMemory) }
 {

@@ -9,5 +9,4 @@ pub mod NameOrder
 pub mod NetTables
 pub mod NextNames
 pub mod NodeEdits
-pub mod Overlays
 pub mod ShownTrees

@@ -22,10 +22,11 @@ use Rattle.kfs_chunks.specs.Tables.{table}
 use Rattle.kfs_chunks.proofs.Tables.{get-table, find-rewritten}
 use Rattle.kfs_image.specs.Indexes.{IsCounted, AreInPages, ArePositive, by_node, count_at}
 use Rattle.kfs_image.specs.NodeEdits.{IsNumber}
-use Rattle.kfs_image.specs.Overlays.{said_or, overlaid, Say, SayOfNumbers}
+use Rattle.kfs_chunks.specs.Overlays.{said_or, overlaid, Say}
+use Rattle.kfs_image.specs.Overlays.{SayOfNumbers}
 use Rattle.kfs_image.proofs.Indexes.{counted_less, counted_more, still_positive}
 use Rattle.kfs_image.proofs.NodeEdits.{number_or_not, edited_beside}
-use Rattle.kfs_image.proofs.Overlays.{get-overlaid, overlaid_set, is_overlaid}
+use Rattle.kfs_chunks.proofs.Overlays.{get-overlaid, overlaid_set, is_overlaid}
 
 module _ {K X : Type 0} {R : Order K} where
   -- what was read is what the table seen has at the key

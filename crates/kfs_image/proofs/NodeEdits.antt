@@ -24,8 +24,8 @@ use Rattle.kfs_model.proofs.TableLaws.{same_table, get-mapped, get-changed}
 use Rattle.kfs_image.specs.Change.{reheaded}
 use Rattle.kfs_image.specs.Rows.{heads_of}
 use Rattle.kfs_image.specs.NodeEdits.{left_by, edits_from, IsNumber, AreNumbered}
-use Rattle.kfs_image.specs.Overlays.{said_or}
-use Rattle.kfs_image.proofs.Overlays.{nothing_more}
+use Rattle.kfs_chunks.specs.Overlays.{said_or}
+use Rattle.kfs_chunks.proofs.Overlays.{nothing_more}
 
 -- the rows that are left begin with the row at the index
 pub rows_left : {X : Type 0} (xs : List X) (i : ℕ) (d : X) → i < length xs → drop i xs ≡ slice_index_or xs i d ∷ drop (i + 1) xs

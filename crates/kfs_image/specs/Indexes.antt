@@ -1,5 +1,5 @@
 -- The counts of names that stand beside the names, and that they are those of the names.
-use Rattle.std.specs.Prelude.{◌≡◌, ℕ, ◌<◌, ◌==◌, ◌&&◌, List, Option, Some, None, unwrap_or, count_by, if◌then◌else◌}
+use Rattle.std.specs.Prelude.{◌≡◌, ℕ, ◌+◌, ◌<◌, ◌==◌, ◌&&◌, List, Option, Some, None, unwrap_or, count_by, if◌then◌else◌}
 use Rattle.std.specs.Ordering.{nat_cmp, eq_by_cmp}
 use Rattle.kfs_model.specs.Table.{Order, Table, numbers, pairs, get}
 use Rattle.kfs_model.specs.Tree.{NameTable, entry_count}
@@ -35,6 +35,13 @@ module _ {K : Type 0} {R : Order K} where
   -- how often a key was counted
   abbrev pub count_at : Table R ℕ → K → ℕ
   count_at t key = unwrap_or (get t key) 0
+
+  -- each key is counted by its step more often than before, and by its step less often
+  abbrev pub CountsMore : (old : Table R ℕ) (step : K → ℕ) (new : Table R ℕ) → Type 0
+  CountsMore old step new = (q : K) → count_at new q ≡ count_at old q + step q
+
+  abbrev pub CountsFewer : (old : Table R ℕ) (step : K → ℕ) (new : Table R ℕ) → Type 0
+  CountsFewer old step new = (q : K) → count_at new q + step q ≡ count_at old q
 
   -- each count that shows is at least 1
   abbrev pub ArePositive : Table R ℕ → Type 0

@@ -8,7 +8,7 @@ use Rattle.kfs_chunks.specs.Tables.{table}
 use Rattle.kfs_image.specs.declared.name_edits.NameEdits.{NameEdits}
 use Rattle.kfs_image.specs.declared.name_edits.Overlays.{Overlays}
 use Rattle.kfs_image.specs.Indexes.{IsCounted, AreInPages, by_node}
-use Rattle.kfs_image.specs.Overlays.{overlaid}
+use Rattle.kfs_chunks.specs.Overlays.{overlaid}
 
 module _ {A : Type 0} where
   -- the names that the overlays show

@@ -4,9 +4,10 @@ ghost use Rattle.std.specs.Ordering.{nat_cmp};
 ghost use Rattle.std.specs.BTreeMap.{get};
 ghost use Rattle.kfs_pages.specs.Edits.{edited, AreEdits};
 ghost use Rattle.kfs_image.specs.NodeEdits.{left_by, IsNumber};
-ghost use Rattle.kfs_image.specs.Overlays.{said_or};
+ghost use Rattle.kfs_chunks.specs.Overlays.{said_or};
 
-use crate::overlay::{Overlay, number_edits};
+use crate::overlay::number_edits;
+use kfs_chunks::Overlay;
 use kfs_pages::Edit;
 use kfs_value::{Header, NodeRow};
 use std::alloc::{AllocError, Allocator};

@@ -6,13 +6,14 @@ ghost use Rattle.kfs_pages.specs.Edits.{AreEdits};
 ghost use Rattle.kfs_chunks.specs.Edits.{Ascend};
 ghost use Rattle.kfs_chunks.specs.Tables.{table};
 ghost use Rattle.kfs_image.specs.Change.{led_to, renamed};
-ghost use Rattle.kfs_image.specs.Indexes.{AreNames, IsCounted, by_node, count_at, count_step, uplink_step, ArePositive};
+ghost use Rattle.kfs_image.specs.Indexes.{AreNames, CountsFewer, CountsMore, IsCounted, by_node, count_at, count_step, uplink_step, ArePositive};
 ghost use Rattle.kfs_image.specs.NameEdits.{names_seen, counts_seen, ways_seen, IsCountedOver, names_edited, IsCountedAfter};
-ghost use Rattle.kfs_image.specs.Overlays.{Say, SayOfNumbers};
+ghost use Rattle.kfs_chunks.specs.Overlays.{Say};
+ghost use Rattle.kfs_image.specs.Overlays.{SayOfNumbers};
 
-use crate::overlay::{Overlay, key_edits, number_edits};
+use crate::overlay::number_edits;
 use crate::rows::{name_key, target_of};
-use kfs_chunks::Chunks;
+use kfs_chunks::{Chunks, Overlay, key_edits};
 use kfs_pages::Pages;
 use kfs_value::{Name, NameRow};
 use std::alloc::{AllocError, Allocator};
@@ -127,8 +128,8 @@ impl<A: Allocator + Clone> Overlays<A> {
         requires uplinks { (n : ℕ) → from ≡ Some n → 0 < count_at (ways_seen self.old uplinks.now) (n, dir) }
         ensures names { self.new.names ≡ self.old.names }
         ensures positive { OnOk result (ArePositive (ways_seen self.old uplinks.now) → ArePositive (ways_seen self.new uplinks.now)) }
-        ensures counts { OnOk result ((q : ℕ) → count_at (counts_seen self.new counts.now) q + count_step dir from q ≡ count_at (counts_seen self.old counts.now) q) }
-        ensures uplinks { OnOk result ((q : ℕ × ℕ) → count_at (ways_seen self.new uplinks.now) q + uplink_step dir from q ≡ count_at (ways_seen self.old uplinks.now) q) }
+        ensures counts { OnOk result (CountsFewer (counts_seen self.old counts.now) (count_step dir from) (counts_seen self.new counts.now)) }
+        ensures uplinks { OnOk result (CountsFewer (ways_seen self.old uplinks.now) (uplink_step dir from) (ways_seen self.new uplinks.now)) }
     {
         if let Some(number) = from {
             let way = (number, dir);
@@ -150,8 +151,8 @@ impl<A: Allocator + Clone> Overlays<A> {
     ) -> Result<(), AllocError>
         ensures names { self.new.names ≡ self.old.names }
         ensures positive { OnOk result (ArePositive (ways_seen self.old uplinks.now) → ArePositive (ways_seen self.new uplinks.now)) }
-        ensures counts { OnOk result ((q : ℕ) → count_at (counts_seen self.new counts.now) q ≡ count_at (counts_seen self.old counts.now) q + count_step dir to q) }
-        ensures uplinks { OnOk result ((q : ℕ × ℕ) → count_at (ways_seen self.new uplinks.now) q ≡ count_at (ways_seen self.old uplinks.now) q + uplink_step dir to q) }
+        ensures counts { OnOk result (CountsMore (counts_seen self.old counts.now) (count_step dir to) (counts_seen self.new counts.now)) }
+        ensures uplinks { OnOk result (CountsMore (ways_seen self.old uplinks.now) (uplink_step dir to) (ways_seen self.new uplinks.now)) }
     {
         if let Some(number) = to {
             let way = (number, dir);

@@ -1,9 +1,11 @@
 -- The parts of a path that are still to come, and one step along it.
-use Rattle.std.specs.Prelude.{◌≡◌, ℕ, ◌+◌, List, [], ◌∷◌, Option, Some, None, IsSomeAnd, Err}
+use Rattle.std.specs.Prelude.{◌≡◌, ℕ, ◌+◌, List, [], ◌∷◌, Option, Some, None, IsSomeAnd, Result, Err}
 use Rattle.std.specs.Borrow.{Bor}
 use Rattle.kfs_model.specs.Access.{Client}
 use Rattle.kfs_model.specs.Sight.{Sight}
 use Rattle.kfs_model.specs.Lease.{parts_of, walked}
+use Rattle.kfs_model.specs.Lease as model
+use Rattle.kfs_model.specs.Limits.{root_number}
 use Rattle.kfs_lease.specs.Faults.{fault_of}
 use Rattle.kfs_lease.specs.declared.leases.LeaseFault.{LeaseFault}
 use Rattle.kfs_lease.specs.declared.path.Parts.{Parts}
@@ -15,6 +17,10 @@ left_of (Some rest) = parts_of rest.now
 
 abbrev pub parts_left : Parts → List (List ℕ)
 parts_left parts = left_of parts.rest
+
+-- the node that the parts that are left lead to from the root
+abbrev pub walked_along : Sight → Client → Parts → Result ℕ model.LeaseFault
+walked_along sight client parts = walked sight client root_number 0 (parts_left parts)
 
 module _ (sight : Sight) (client : Client) (directory index : ℕ) (name : List ℕ) where
   -- the name leads from the directory to the next node, where the walk goes on

@@ -4,14 +4,13 @@ ghost use Rattle.std.specs.Option.{option_map_or};
 ghost use Rattle.std.specs.List.{list_all, position};
 ghost use Rattle.std.specs.Iterator.{at_most, YieldsFirstBy};
 ghost use Rattle.kfs_model.specs.Lease as model;
-ghost use Rattle.kfs_model.specs.Limits.{root_number};
 ghost use Rattle.kfs_model.specs.Spelling as spelling;
 ghost use Rattle.kfs_image.specs.Contents.{sight_of};
 ghost use Rattle.kfs_model.specs.Table.{get};
 ghost use Rattle.kfs_model.specs.Tree.{target};
 ghost use Rattle.kfs_model.specs.Sight.{is_directory};
 ghost use Rattle.kfs_value.specs.Views.{header_of as header_shown};
-ghost use Rattle.kfs_lease.specs.Paths.{left_of, parts_left, LeadsTo, StopsAt};
+ghost use Rattle.kfs_lease.specs.Paths.{left_of, parts_left, walked_along, LeadsTo, StopsAt};
 ghost use Rattle.kfs_lease.specs.Faults.{fault_of};
 
 use crate::leases::LeaseFault;
@@ -97,8 +96,8 @@ pub(crate) fn walk<A: Allocator>(
     names: Parts<'_>,
 ) -> Result<u32, LeaseFault>
     requires { IsTrue (list_all spelling.is_name (parts_left names)) }
-    ensures ok { IfOk result (λ number. model.walked (sight_of shape.now) client.now root_number 0 (parts_left names.entry) ≡ Ok number) }
-    ensures err { IfErr result (λ fault. IsSomeAnd (fault_of fault) (λ f. model.walked (sight_of shape.now) client.now root_number 0 (parts_left names.entry) ≡ Err f)) }
+    ensures ok { IfOk result (λ number. walked_along (sight_of shape.now) client.now names.entry ≡ Ok number) }
+    ensures err { IfErr result (λ fault. IsSomeAnd (fault_of fault) (λ f. walked_along (sight_of shape.now) client.now names.entry ≡ Err f)) }
 {
     let mut number = ROOT;
     for (index, name) in names.enumerate() {

@@ -1,2 +1,9 @@
--- The rows of clients: no two have one number.
+-- The rows of clients: what one is made of, and that no two have one number.
+use Rattle.std.specs.Prelude.{ℕ, Bool, List}
+use Rattle.kfs_model.specs.Access.{Client}
 pub use Rattle.kfs_model.specs.Access.{AreDistinct}
+
+-- the row of what a client is made of
+abbrev pub client_row : (number uid gid : ℕ) (groups : List ℕ) (privileged : Bool) (first last : ℕ) → Client
+client_row number uid gid groups privileged first last =
+    record { number = number; uid = uid; gid = gid; groups = groups; privileged = privileged; first = first; last = last }

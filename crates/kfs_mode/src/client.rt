@@ -7,7 +7,7 @@ ghost use Rattle.kfs_model.specs.Access as access;
 ghost use Rattle.kfs_model.specs.Access.{is_grant};
 ghost use Rattle.kfs_model.specs.CleanStep.{IsClient};
 ghost use Rattle.kfs_model.specs.Lease.{row_of};
-ghost use Rattle.kfs_mode.specs.Clients.{AreDistinct};
+ghost use Rattle.kfs_mode.specs.Clients.{AreDistinct, client_row};
 
 use arrayvec::ArrayVec;
 use kfs_value::GREATEST_NUMBER;
@@ -64,7 +64,7 @@ impl Client {
     ) -> Result<Client, ClientFault>
         ensures groups { IsErrOf result ClientFault.TooManyGroups ↔ (group_limit < length groups.now) }
         ensures grant { IsErrOf result ClientFault.BadGrant ↔ ((length groups.now ≤ group_limit) × IsFalse (is_grant first last)) }
-        ensures row { IfOk result (λ c. c ≡ record { number = number; uid = uid; gid = gid; groups = groups.now; privileged = privileged; first = first; last = last }) }
+        ensures row { IfOk result (λ c. c ≡ client_row number uid gid groups.now privileged first last) }
     {
         let Ok(groups) = ArrayVec::try_from(groups) else {
             return Err(ClientFault::TooManyGroups);

@@ -92,6 +92,10 @@ base_marks number place content = places_from (Base number) place content
 abbrev pub marked : Tree ℕ → Tree Mark
 marked t = mapped_tree (λ n content. base_marks n 0 content) t
 
+-- the tree of marks after a log
+abbrev pub marks_after : Client → (before : ClientSight) → Tree ℕ → List Entry → Result (Tree Mark) EntryFault
+marks_after client before t entries = run over_marks client before (marked t) entries
+
 -- ---- what marks stand for
 
 abbrev pub payload_of : Option Entry → List ℕ
@@ -114,4 +118,4 @@ looked_up byte (Err fault) = Err fault
 
 -- a log's run over marks, looked up in the tree and in the payloads
 abbrev pub run_by_marks : Client → (before : ClientSight) → Tree ℕ → List Entry → Result (Tree ℕ) EntryFault
-run_by_marks client before t entries = looked_up (byte_of t entries) (run over_marks client before (marked t) entries)
+run_by_marks client before t entries = looked_up (byte_of t entries) (marks_after client before t entries)

@@ -3,7 +3,7 @@
 ghost use Rattle.std.specs.Prelude.{◌≡◌, ℕ, List, [], Some, None, Result, IfOk, true};
 ghost use Rattle.kfs_model.specs.Tree.{Tree};
 ghost use Rattle.kfs_model.specs.Entry.{Log};
-ghost use Rattle.kfs_model.specs.Run.{Mark, run, over_bytes, over_marks, marked};
+ghost use Rattle.kfs_model.specs.Run.{Mark, marks_after, run, over_bytes, over_marks};
 ghost use Rattle.kfs_model.specs.PlanRow.{Piece, Plan};
 ghost use Rattle.kfs_model.specs.Plan.{ArePieces, IsRight, OldBytesStay};
 ghost use Rattle.kfs_model.specs.Compare.{first_apart};
@@ -39,13 +39,13 @@ pub fn marks_give_bytes()
 
 /// After a run a byte from before the log stands only where it stood: in the same file, at the same place.
 pub fn old_bytes_keep_their_place()
-    ensures { EachRun (λ client before tree entries. IfOk (run over_marks client before (marked tree) entries) OldBytesStay) }
+    ensures { EachRun (λ client before tree entries. IfOk (marks_after client before tree entries) OldBytesStay) }
 {}
 
 /// After a log without a fault a byte of a file has the mark of the last entry that covers it, and where none does the mark
 /// that it had before: a byte of the file, or zero behind the file's old end.
 pub fn last_entry_decides()
-    ensures { EachRun (λ client before tree entries. before.sight ≡ sight tree → IfOk (run over_marks client before (marked tree) entries) (LastEntryDecides tree entries)) }
+    ensures { EachRun (λ client before tree entries. before.sight ≡ sight tree → IfOk (marks_after client before tree entries) (LastEntryDecides tree entries)) }
 {}
 
 /// A plan has no wrong row exactly where it is right.

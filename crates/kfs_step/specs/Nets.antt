@@ -5,7 +5,7 @@ use Rattle.kfs_model.specs.Tree.{name_order}
 use Rattle.kfs_model.specs.Sight.{Cell, ClientSight, Sight}
 use Rattle.kfs_model.specs.Plan.{AreDifferences, number_now, header_now}
 use Rattle.kfs_draft.specs.declared.draft.Draft.{Draft}
-use Rattle.kfs_draft.specs.Overlay.{IsWritten}
+use Rattle.kfs_draft.specs.Overlay.{IsWritten, over}
 use Rattle.kfs_check.specs.declared.reads.Recorder.{Recorder}
 use Rattle.kfs_check.specs.Recorders.{GoesOn, Known, ReadsAt}
 use Rattle.kfs_step.specs.Rows.{keyed_name_row, keyed_node_row}
@@ -23,6 +23,10 @@ AreNodesOf before after rows = AreDifferences numbers header_now before.head aft
 pub record IsNetOf {A : Type 0} (before after : Sight) (net : Net A) : Type 0 where
   pub names : AreNamesOf before after net.names.items
   pub nodes : AreNodesOf before after net.nodes.items
+
+-- the net of a state and of what the draft shows over it
+abbrev pub IsNetOver : {A B : Type 0} → Draft A → Sight → Net B → Type 0
+IsNetOver draft s net = IsNetOf s (over draft s) net
 
 -- a look at all that a draft has written: the reads go on, the answer is true of each state that agrees with what was read,
 -- and the further reads are at cells that were written

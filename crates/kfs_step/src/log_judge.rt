@@ -5,7 +5,7 @@ ghost use Rattle.kfs_model.specs.Sight.{Sight};
 ghost use Rattle.kfs_step.specs.Entered.{IsEntered};
 ghost use Rattle.kfs_draft.specs.Overlay.{has_created, over, ShiftsBy, ShiftsFurther, HasRoom, IsWritten};
 ghost use Rattle.kfs_check.specs.Recorders.{GoesOn, seen_by};
-ghost use Rattle.kfs_step.specs.Nets.{IsNetOf, LooksOver};
+ghost use Rattle.kfs_step.specs.Nets.{IsNetOver, LooksOver};
 ghost use Rattle.kfs_step.specs.FileSizes.{AreSizesOver};
 ghost use Rattle.kfs_sweep.specs.Sizes.{Ascend, IsSize};
 ghost use Rattle.std.specs.List.{AllByRecursion};
@@ -94,7 +94,7 @@ impl<'a, A: Allocator + Copy> LogJudge<'a, A> {
     /// What differs after the entries so far.
     pub fn net(&mut self, alloc: A) -> Result<Net<A>, AllocError>
         ensures draft { self.new.draft ≡ self.old.draft }
-        ensures looks { LooksOver self.old.draft self.old.recorder self.new.recorder result (λ net before. IsNetOf before.sight (over self.old.draft before.sight) net) }
+        ensures looks { LooksOver self.old.draft self.old.recorder self.new.recorder result (λ net before. IsNetOver self.old.draft before.sight net) }
     {
         let names = name_rows(alloc, &self.draft, &mut self.recorder)?;
         let nodes = node_rows(alloc, &self.draft, &mut self.recorder)?;

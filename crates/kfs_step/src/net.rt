@@ -1,10 +1,9 @@
 //! What differs after a log.
 ghost use Rattle.std.specs.Option.{option_map};
 ghost use Rattle.kfs_value.specs.Views.{header_of};
-ghost use Rattle.kfs_model.specs.Plan.{header_now, number_now};
 ghost use Rattle.kfs_check.specs.Recorders.{LooksAtHeader, LooksAtName};
 ghost use Rattle.kfs_draft.specs.Overlay.{over};
-ghost use Rattle.kfs_step.specs.Rows.{IsRow, keyed_name_row, keyed_node_row};
+ghost use Rattle.kfs_step.specs.Rows.{IsRowOfName, IsRowOfNode};
 ghost use Rattle.kfs_step.specs.Nets.{AreNamesOf, AreNodesOf, LooksOver};
 
 use kfs_check::Recorder;
@@ -36,7 +35,7 @@ fn name_row<A: Allocator + Copy>(
     key: &(u32, Name),
     now: Option<u32>,
 ) -> Result<Option<NameRow>, AllocError>
-    ensures { LooksAtName recorder.old recorder.new result key.now (λ row before. IsRow number_now keyed_name_row key.now (before.sight.name key.now.0 key.now.1) now row) }
+    ensures { LooksAtName recorder.old recorder.new result key.now (λ row before. IsRowOfName before.sight key.now now row) }
 {
     let before = recorder.target(key)?;
     if before == now {
@@ -73,7 +72,7 @@ fn node_row<A: Allocator + Copy>(
     number: u32,
     now: Option<Header>,
 ) -> Result<Option<NodeRow>, AllocError>
-    ensures { LooksAtHeader recorder.old recorder.new result number (λ row before. IsRow header_now keyed_node_row number (before.sight.head number) (option_map header_of now) row) }
+    ensures { LooksAtHeader recorder.old recorder.new result number (λ row before. IsRowOfNode before.sight number (option_map header_of now) row) }
 {
     let before = recorder.header(number)?;
     if before == now {

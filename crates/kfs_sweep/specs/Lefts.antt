@@ -1,5 +1,5 @@
 -- What is left of right pieces.
-use Rattle.std.specs.Prelude.{ℕ, ◌+◌, ◌<◌, ◌≤◌, ◌^◌, List, [], ◌∷◌, drop, Some, None}
+use Rattle.std.specs.Prelude.{ℕ, ◌+◌, ◌<◌, ◌≤◌, ◌^◌, List, [], ◌∷◌, drop, map, Some, None}
 use Rattle.kfs_model.specs.Limits.{size_limit}
 use Rattle.kfs_model.specs.PlanRow.{Piece, Source, Zero, Payload}
 use Rattle.kfs_value.specs.Views.{piece_of}
@@ -9,6 +9,10 @@ use Rattle.kfs_sweep.specs.declared.compare.Left.{Left}
 -- the first piece, perhaps without its front, and those behind it
 abbrev pub left_of : List CodePiece → Left → List CodePiece
 left_of right left = elim left.front [ None ↦ [] | Some front ↦ front ∷ drop left.next right ]
+
+-- what they say
+abbrev pub pieces_left : List CodePiece → Left → List Piece
+pieces_left right left = map piece_of (left_of right left)
 
 abbrev pub IsPlaceShort : Source → ℕ → Type 0
 IsPlaceShort Zero distance = Unit {0}

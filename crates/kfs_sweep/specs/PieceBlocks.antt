@@ -1,9 +1,10 @@
--- The blocks that one piece writes.
-use Rattle.std.specs.Prelude.{ℕ, ◌-◌, ◌/◌, ◌%◌, ◌==◌, ◌||◌, ◌++◌, nat_le, Bool, List, [], ◌∷◌, if◌then◌else◌}
+-- The blocks that one piece writes, and a count of blocks.
+use Rattle.std.specs.Prelude.{◌≡◌, ℕ, ◌+◌, ◌-◌, ◌/◌, ◌%◌, ◌==◌, ◌||◌, ◌++◌, nat_le, Bool, List, [], ◌∷◌, if◌then◌else◌}
 use Rattle.kfs_model.specs.Limits.{block_size}
 use Rattle.kfs_model.specs.PlanRow.{Piece, Source}
 use Rattle.kfs_model.specs.Plan.{end_of}
-use Rattle.kfs_model.specs.Blocks.{Blocks, block_of}
+use Rattle.kfs_model.specs.Blocks.{Blocks, block_of, counted}
+use Rattle.kfs_sweep.specs.declared.blocks.Count.{Count}
 
 -- The blocks that one piece of a file of this size writes, where zero bytes ended last at `until` and go on behind the piece or not.
 module _ (size until : ℕ) (goes_on : Bool) (p : Piece) where
@@ -13,6 +14,10 @@ module _ (size until : ℕ) (goes_on : Bool) (p : Piece) where
 
   abbrev pub piece_blocks : List Blocks
   piece_blocks = of_source p.source
+
+-- The later count has these blocks counted: whatever comes behind them, both come to the same.
+abbrev pub HasCounted : (before : Count) → List Blocks → (after : Count) → Type 0
+HasCounted before blocks after = (rest : List Blocks) → after.total + counted after.next rest ≡ before.total + counted before.next (blocks ++ rest)
 
 -- where the zero bytes of the piece end, 0 for a payload's
 abbrev pub zeros_until : Piece → ℕ

@@ -1,11 +1,11 @@
 //! How many blocks of a file its right pieces write.
-ghost use Rattle.std.specs.Prelude.{◌≡◌, ◌+◌, ◌%◌, ◌/◌, ◌<◌, ◌≤◌, ◌^◌, ◌==◌, ◌++◌, ◌||◌, ℕ, List, [], ◌∷◌, drop, map, nat_le, if◌then◌else◌};
+ghost use Rattle.std.specs.Prelude.{◌≡◌, ◌+◌, ◌%◌, ◌/◌, ◌<◌, ◌≤◌, ◌^◌, ◌==◌, ◌||◌, [], ◌∷◌, drop, map, nat_le, if◌then◌else◌};
 ghost use Rattle.std.specs.List.{AllByRecursion};
 ghost use Rattle.kfs_value.specs.Views.{piece_of};
-ghost use Rattle.kfs_model.specs.Blocks.{Blocks, block_of, counted, goes_on, touches};
+ghost use Rattle.kfs_model.specs.Blocks.{block_of, counted, goes_on, touches};
 ghost use Rattle.kfs_model.specs.Limits.{size_limit};
 ghost use Rattle.kfs_sweep.specs.Lefts.{IsFilled, IsWhole};
-ghost use Rattle.kfs_sweep.specs.PieceBlocks.{piece_blocks, zeros_until};
+ghost use Rattle.kfs_sweep.specs.PieceBlocks.{HasCounted, piece_blocks, zeros_until};
 
 use kfs_value::{BLOCK_SIZE, Piece, Source};
 
@@ -22,7 +22,7 @@ fn with_blocks(count: Count, first: u64, last: u64) -> Count
     requires small { last ≤ 2 ^ 20 }
     requires near { count.next ≤ 2 ^ 20 + 1 }
     requires low { count.total ≤ count.next }
-    ensures counts { (rest : List Blocks) → result.total + counted result.next rest ≡ count.total + counted count.next (record { first = first; last = last } ∷ rest) }
+    ensures counts { HasCounted count (record { first = first; last = last } ∷ []) result }
     ensures low { result.total ≤ result.next }
     ensures near { result.next ≤ 2 ^ 20 + 1 }
 {
@@ -41,7 +41,7 @@ fn with_place(count: Count, place: u64, is_left_out: bool) -> Count
     requires small { place ≤ size_limit }
     requires near { count.next ≤ 2 ^ 20 + 1 }
     requires low { count.total ≤ count.next }
-    ensures counts { (rest : List Blocks) → result.total + counted result.next rest ≡ count.total + counted count.next ((if is_left_out then [] else block_of place ∷ []) ++ rest) }
+    ensures counts { HasCounted count (if is_left_out then [] else block_of place ∷ []) result }
     ensures low { result.total ≤ result.next }
     ensures near { result.next ≤ 2 ^ 20 + 1 }
 {
@@ -58,7 +58,7 @@ fn with_piece(count: Count, until: u64, piece: &Piece, goes_on: bool, size: u64)
     requires filled { 0 < piece.now.len }
     requires low { count.total ≤ count.next }
     requires near { count.next ≤ 2 ^ 20 + 1 }
-    ensures counts { (rest : List Blocks) → result.total + counted result.next rest ≡ count.total + counted count.next (piece_blocks size until goes_on (piece_of piece.now) ++ rest) }
+    ensures counts { HasCounted count (piece_blocks size until goes_on (piece_of piece.now)) result }
     ensures low { result.total ≤ result.next }
     ensures near { result.next ≤ 2 ^ 20 + 1 }
 {

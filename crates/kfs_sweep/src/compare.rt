@@ -4,7 +4,7 @@ ghost use Rattle.std.specs.Option.{option_map};
 ghost use Rattle.std.specs.List.{AllByRecursion};
 ghost use Rattle.kfs_value.specs.Views.{piece_of};
 ghost use Rattle.kfs_model.specs.Compare.{begins_alike, behind_piece, first_apart, without_front};
-ghost use Rattle.kfs_sweep.specs.Lefts.{IsShort, IsWhole, left_of};
+ghost use Rattle.kfs_sweep.specs.Lefts.{IsShort, IsWhole, left_of, pieces_left};
 
 use kfs_value::{Piece, Source};
 
@@ -72,7 +72,7 @@ fn cut_front(piece: Piece, distance: u64) -> Piece
 /// What is left behind a piece, if the piece says what the right pieces say from their first byte on.
 fn left_behind(right: &[Piece], left: Left, piece: &Piece) -> Option<Left>
     requires short { AllByRecursion IsWhole (left_of right.now left) }
-    ensures behind { option_map (λ after. map piece_of (left_of right.now after)) result ≡ behind_piece (piece_of piece.now) (map piece_of (left_of right.now left)) }
+    ensures behind { option_map (λ after. pieces_left right.now after) result ≡ behind_piece (piece_of piece.now) (pieces_left right.now left) }
     ensures short { IfSome result (λ after. AllByRecursion IsWhole (left_of right.now after)) }
 {
     let mut wanted = *piece;

@@ -3,7 +3,7 @@ use Rattle.std.specs.Ordering.{nat_cmp}
 use Rattle.std.specs.BTreeMap.{get}
 use Rattle.kfs_value.specs.declared.header.Header.{Header}
 use Rattle.kfs_image.specs.NodeEdits.{left_by}
-use Rattle.kfs_image.specs.Overlays.{said_or}
+use Rattle.kfs_chunks.specs.Overlays.{said_or}
 use Rattle.kfs_image.proofs.edits.latest_rows.Given as goal
 
 -- the rows that are left make of what was said so far what all rows make

@@ -9,7 +9,7 @@ use Rattle.kfs_image.specs.Indexes.{AreNames, IsCounted, by_node}
 use Rattle.kfs_image.specs.NameEdits.{names_seen, counts_seen, ways_edited}
 use Rattle.kfs_image.proofs.NameEdits.{edited_seen, counted_edits}
 use Rattle.kfs_image.proofs.NodeEdits.{rows_left}
-use Rattle.kfs_image.proofs.Overlays.{overlaid_none}
+use Rattle.kfs_chunks.proofs.Overlays.{overlaid_none}
 use Rattle.kfs_image.proofs.name_edits.name_edits.Goals as goal
 
 pub loop-row-init : goal.loop-row-init

@@ -2,7 +2,7 @@ use Rattle.std.proofs.Common.{◌+◌, ◌<◌, sym, ap, subst, ◌∙◌}
 use Rattle.std.specs.Prelude.{unwrap_or}
 use Rattle.kfs_chunks.specs.Tables.{table}
 use Rattle.kfs_image.specs.Indexes.{by_node, count_at, count_step, uplink_step}
-use Rattle.kfs_image.specs.Overlays.{overlaid}
+use Rattle.kfs_chunks.specs.Overlays.{overlaid}
 use Rattle.kfs_image.proofs.NameEdits.{seen_less, seen_positive}
 use Rattle.kfs_image.proofs.name_edits.Overlays.leave.Goals as goal
 

@@ -6,9 +6,9 @@ use Rattle.kfs_chunks.specs.Tables.{table}
 use Rattle.kfs_image.specs.Change.{led_to}
 use Rattle.kfs_image.specs.Indexes.{AreNames, IsCounted, count_step, uplink_step}
 use Rattle.kfs_image.specs.NameEdits.{names_seen, counts_seen, ways_seen}
-use Rattle.kfs_image.specs.Overlays.{overlaid}
+use Rattle.kfs_chunks.specs.Overlays.{overlaid}
 use Rattle.kfs_image.proofs.Indexes.{still_names, counted_name, counted_after}
-use Rattle.kfs_image.proofs.Overlays.{overlaid_set}
+use Rattle.kfs_chunks.proofs.Overlays.{overlaid_set}
 use Rattle.kfs_image.proofs.name_edits.Overlays.rename.Goals as goal
 
 pub leave-requires-clause-counts : goal.leave-requires-clause-counts

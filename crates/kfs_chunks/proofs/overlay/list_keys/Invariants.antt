@@ -1,6 +1,6 @@
 use Rattle.std.proofs.Common.{◌≡◌, ◌++◌}
-use Rattle.kfs_image.specs.Overlays.{key_edits}
-use Rattle.kfs_image.proofs.overlay.list_keys.Given as goal
+use Rattle.kfs_chunks.specs.Overlays.{key_edits}
+use Rattle.kfs_chunks.proofs.overlay.list_keys.Given as goal
 
 -- the edits so far, and those of the entries that are left, are those of all
 abbrev pub invariant-loop-key : goal.invariant-loop-key

@@ -1,7 +1,7 @@
 use Rattle.std.proofs.Common.{◌++◌, ◌∷◌, sym, ap, ◌∙◌}
 use Rattle.std.proofs.lemmas.List.{append_assoc, append-nil}
-use Rattle.kfs_image.specs.Overlays.{key_edits}
-use Rattle.kfs_image.proofs.overlay.list_keys.Goals as goal
+use Rattle.kfs_chunks.specs.Overlays.{key_edits}
+use Rattle.kfs_chunks.proofs.overlay.list_keys.Goals as goal
 
 pub loop-key-preserved : goal.loop-key-preserved
 loop-key-preserved g c = record {

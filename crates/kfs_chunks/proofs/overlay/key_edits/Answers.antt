@@ -1,7 +1,7 @@
 use Rattle.std.proofs.Common.{sym, ap, subst, ◌∙◌}
 use Rattle.kfs_chunks.specs.Edits.{edited, Ascend}
-use Rattle.kfs_image.proofs.Overlays.{key_edits_ascend, key_edits_say}
-use Rattle.kfs_image.proofs.overlay.key_edits.Goals as goal
+use Rattle.kfs_chunks.proofs.Overlays.{key_edits_ascend, key_edits_say}
+use Rattle.kfs_chunks.proofs.overlay.key_edits.Goals as goal
 
 pub returns-clause-ascend : goal.returns-clause-ascend
 returns-clause-ascend g c =

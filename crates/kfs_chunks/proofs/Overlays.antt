@@ -14,7 +14,9 @@ use Rattle.kfs_model.specs.Table.{Order, Table, get, changed}
 use Rattle.kfs_model.proofs.TableLaws.{same_table, get-changed}
 use Rattle.kfs_chunks.specs.declared.edit.Edit.{Edit}
 use Rattle.kfs_chunks.specs.Edits.{edited, Ascend}
-use Rattle.kfs_image.specs.Overlays.{said_or, key_edits, overlaid}
+use Rattle.kfs_chunks.specs.Tables.{table_after}
+use Rattle.kfs_chunks.specs.Overlays.{said_or, key_edits, overlaid, Say}
+use Rattle.kfs_chunks.proofs.Tables.{get-table_after}
 
 module _ {X : Type 0} where
   -- what is said now goes before what was said
@@ -80,3 +82,7 @@ module _ {K X : Type 0} {R : Order K} where
   -- a table that shows at each key what the overlay shows over another
   pub is_overlaid : (t new : Table R X) (es : List (K × Option X)) → ((q : K) → get new q ≡ said_or (lookup (is_at (R.compare q)) es) (get t q)) → new ≡ overlaid t es
   is_overlaid t new es shows = same_table _ _ (λ q. shows q ∙ sym (get-overlaid t es q))
+
+  -- edits that say what was said make the table seen
+  pub table_after_said : (t : Table R X) (edits : List (Edit K X)) (latest : BTreeMap K (Option X)) → Say R.compare edits latest → table_after t edits ≡ overlaid t latest.entries
+  table_after_said t edits latest says = is_overlaid t (table_after t edits) latest.entries (λ q. get-table_after t edits q ∙ says q (get t q))
