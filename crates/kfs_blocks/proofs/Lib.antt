@@ -1,3 +1,5 @@
+mod BlockWalks
 mod EditedPlaces
+mod FilledBlocks
 mod HeldBlocks
 mod ReadBytes

@@ -2,9 +2,11 @@
 #![tactic(auto)]
 
 mod blocks;
+mod fill;
 mod moves;
 mod staged;
 
 pub use blocks::Blocks;
+pub use fill::{BlockRow, BlockRun};
 pub use kfs_chunks::Edit;
 pub use kfs_tier::{NewBlock, Place};
