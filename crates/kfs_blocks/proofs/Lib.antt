@@ -1,4 +1,6 @@
+mod BlockWalks
 mod EditedPlaces
+mod FilledBlocks
 mod HeldBlocks
 mod ReadAcross
 mod ReadBytes

@@ -2,12 +2,16 @@
 ghost use Rattle.std.specs.Prelude.{◌≡◌, ◌+◌, ◌*◌, ◌≤◌, length, slice_index, IfSome, IfNone, IfOk, OnOk, OnErr, EachIndex};
 ghost use Rattle.kfs_model.specs.Limits.{block_size};
 ghost use Rattle.kfs_model.specs.Placement.{tier_size, IsLaid};
-ghost use Rattle.kfs_model.specs.Table.{empty, get};
+ghost use Rattle.kfs_model.specs.Table.{empty, get, pairs, numbers};
 ghost use Rattle.kfs_device.specs.Device.{AreBlocks};
 ghost use Rattle.kfs_device.specs.ShownTree.{file_byte};
 ghost use Rattle.kfs_tier.specs.Unused.{IsNextUnused, AreTakenFrom, unused_places};
+ghost use Rattle.kfs_chunks.specs.Edits.{Ascend};
+ghost use Rattle.kfs_chunks.specs.Tables.{table_after};
 ghost use Rattle.kfs_blocks.specs.Blocks.{CanChange, changed};
+ghost use Rattle.kfs_blocks.specs.Fill.{CanFill, filled, placement_after};
 
+use crate::fill::{BlockRow, BlockRun, copies, fill_edits};
 use crate::moves::Moves;
 use crate::staged::{StagedTiers, TiersChange};
 use kfs_chunks::{Chunks, Edit};
@@ -117,5 +121,34 @@ impl<A: Allocator> Blocks<A> {
         let done = self.placement.change_then(edits, &mut self.tiers);
         self.tiers.change = None;
         done
+    }
+
+    /// Unmaps the blocks in these runs, and then maps each row's block to its place and writes its bytes
+    /// there, one row after the other. A block that is unmapped or moves leaves its bytes behind. A run
+    /// costs as many steps as it has mapped blocks. `Err` where memory is refused leaves all as it is.
+    pub fn fill(&mut self, gone: &[BlockRun], rows: &[BlockRow<A>]) -> Result<(), AllocError>
+    where
+        A: Clone,
+        requires { CanFill self.old gone.now rows.now }
+        ensures ok { OnOk result (self.new ≡ filled gone.now rows.now self.old) }
+        ensures err { OnErr result (self.new ≡ self.old) }
+    {
+        let edits = self.edits_of(gone, rows)?;
+        let written = copies(edits.allocator(), rows)?;
+        self.change(edits.as_slice(), written)
+    }
+
+    /// The edits of the placement that a fill makes.
+    fn edits_of(
+        &self,
+        gone: &[BlockRun],
+        rows: &[BlockRow<A>],
+    ) -> Result<Vec<Edit<(u32, u32), Place>, A>, AllocError>
+    where
+        A: Clone,
+        ensures ascend { IfOk result (λ edits. Ascend (pairs numbers numbers).compare edits.items) }
+        ensures placed { IfOk result (λ edits. table_after self.now.placement edits.items ≡ placement_after gone.now rows.now self.now.placement) }
+    {
+        fill_edits(&self.placement, gone, rows)
     }
 }

@@ -2,10 +2,12 @@
 #![tactic(auto)]
 
 mod blocks;
+mod fill;
 mod moves;
 mod read;
 mod staged;
 
 pub use blocks::Blocks;
+pub use fill::{BlockRow, BlockRun};
 pub use kfs_chunks::Edit;
 pub use kfs_tier::{NewBlock, Place};
