@@ -113,7 +113,7 @@ module _ {A : Type 0} where
           let within : k < length (row ∷ rows) = omega (arith, below, long, length-map blocks new_part, length-map (row ∷ rows) row_part) in
           subst P (sym (get_or-map row_part (row ∷ rows) k row (new_part d) within) ∙ ap (λ parts. get_or parts k (new_part d)) (sym alike) ∙ get_or-map new_part blocks k d (new_part d) below) (holds k row within)
 
-  -- the rows' blocks are whole where those of the same parts are
+  -- they are whole where those of the rows are
   whole_blocks : (blocks : List (NewBlock A)) (rows : List (BlockRow A)) → map new_part blocks ≡ map row_part rows → All (λ (r : BlockRow A). vec_len r.bytes ≡ block_size) rows → All (λ (b : NewBlock A). vec_len b.bytes ≡ block_size) blocks
   whole_blocks blocks rows alike whole k d below =
       let block : NewBlock A = get_or blocks k d in
