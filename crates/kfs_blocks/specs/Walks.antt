@@ -10,6 +10,10 @@ use Rattle.kfs_chunks.specs.Overlays.{overlaid}
 abbrev pub AreUnmapped : List ((ℕ × ℕ) × Place) → (number first end : ℕ) → Type 0
 AreUnmapped placement number first end = (block : ℕ) → first ≤ block → block < end → get (table (pairs numbers numbers) placement) (number, block) ≡ None
 
+-- the placement that these entries make
+abbrev pub placed : List ((ℕ × ℕ) × Place) → Placement
+placed entries = table (pairs numbers numbers) entries
+
 module _ {A : Type 0} where
   -- the placement that shows with what was said of blocks
   abbrev pub seen : Overlay (ℕ × ℕ) Place A → List ((ℕ × ℕ) × Place) → Placement

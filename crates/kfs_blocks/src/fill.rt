@@ -2,9 +2,9 @@
 ghost use Rattle.std.specs.Prelude.{◌≡◌, ◌∷◌, [], ◌≤◌, ◌<◌, map, IfSome, IfNone, IfOk, OnOk};
 ghost use Rattle.kfs_model.specs.Table.{pairs, numbers};
 ghost use Rattle.kfs_chunks.specs.Edits.{Ascend};
-ghost use Rattle.kfs_chunks.specs.Tables.{table, table_after};
+ghost use Rattle.kfs_chunks.specs.Tables.{table_after};
 ghost use Rattle.kfs_blocks.specs.Fill.{less, placement_after, new_part, row_part};
-ghost use Rattle.kfs_blocks.specs.Walks.{AreUnmapped, seen, SeesMapped};
+ghost use Rattle.kfs_blocks.specs.Walks.{AreUnmapped, placed, seen, SeesMapped};
 
 use kfs_chunks::{Chunks, Edit, Overlay, key_edits};
 use kfs_tier::{NewBlock, Place};
@@ -39,7 +39,7 @@ pub(crate) fn fill_edits<A: Allocator + Clone>(
     rows: &[BlockRow<A>],
 ) -> Result<Vec<Edit<(u32, u32), Place>, A>, AllocError>
     ensures ascend { IfOk result (λ edits. Ascend (pairs numbers numbers).compare edits.items) }
-    ensures placed { IfOk result (λ edits. table_after (table (pairs numbers numbers) placement.now) edits.items ≡ placement_after gone.now rows.now (table (pairs numbers numbers) placement.now)) }
+    ensures placed { IfOk result (λ edits. table_after (placed placement.now) edits.items ≡ placement_after gone.now rows.now (placed placement.now)) }
 {
     let mut said = Overlay::new(placement.allocator().clone()?);
     for run in gone {
