@@ -101,7 +101,9 @@ impl<A: Allocator> Blocks<A> {
             None => buffer.fill(0),
         }
     }
+}
 
+impl<A: Allocator + Clone> Blocks<A> {
     /// Edits where blocks lie, and writes blocks, which each may lie at any place of a tier. A block
     /// that moves leaves its bytes behind, and one keeps its bytes when its place is given back or
     /// taken. `Err` where memory is refused leaves all as it is.
@@ -110,8 +112,6 @@ impl<A: Allocator> Blocks<A> {
         edits: &[Edit<(u32, u32), Place>],
         written: Vec<NewBlock<A>, A>,
     ) -> Result<(), AllocError>
-    where
-        A: Clone,
         requires { CanChange self.old edits.now written.items }
         ensures ok { OnOk result (self.new ≡ changed edits.now written.items self.old) }
         ensures err { OnErr result (self.new ≡ self.old) }
@@ -127,8 +127,6 @@ impl<A: Allocator> Blocks<A> {
     /// there, one row after the other. A block that is unmapped or moves leaves its bytes behind. A run
     /// costs as many steps as it has mapped blocks. `Err` where memory is refused leaves all as it is.
     pub fn fill(&mut self, gone: &[BlockRun], rows: &[BlockRow<A>]) -> Result<(), AllocError>
-    where
-        A: Clone,
         requires { CanFill self.old gone.now rows.now }
         ensures ok { OnOk result (self.new ≡ filled gone.now rows.now self.old) }
         ensures err { OnErr result (self.new ≡ self.old) }
@@ -144,8 +142,6 @@ impl<A: Allocator> Blocks<A> {
         gone: &[BlockRun],
         rows: &[BlockRow<A>],
     ) -> Result<Vec<Edit<(u32, u32), Place>, A>, AllocError>
-    where
-        A: Clone,
         ensures ascend { IfOk result (λ edits. Ascend (pairs numbers numbers).compare edits.items) }
         ensures placed { IfOk result (λ edits. table_after self.now.placement edits.items ≡ placement_after gone.now rows.now self.now.placement) }
     {

@@ -4,6 +4,7 @@
 mod blocks;
 mod fill;
 mod moves;
+mod nested;
 mod read;
 mod staged;
 
@@ -11,3 +12,4 @@ pub use blocks::Blocks;
 pub use fill::{BlockRow, BlockRun};
 pub use kfs_chunks::Edit;
 pub use kfs_tier::{NewBlock, Place};
+pub use nested::FillBlocks;

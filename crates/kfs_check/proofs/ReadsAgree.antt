@@ -12,8 +12,8 @@ use Rattle.std.proofs.lemmas.Bool.{eqb-true, eq-eqb}
 use Rattle.std.proofs.lemmas.List.Elements.{All-from_recursion}
 use Rattle.std.proofs.lemmas.List.Quantifiers.{all_pairs_push}
 use Rattle.std.specs.List.{AllByRecursion}
-use Rattle.kfs_image.specs.declared.cell.Cell.{Cell as CodeCell}
-use Rattle.kfs_image.specs.declared.cell.Cell.TheVariants as cells
+use Rattle.kfs_nodes.specs.declared.cell.Cell.{Cell as CodeCell}
+use Rattle.kfs_nodes.specs.declared.cell.Cell.TheVariants as cells
 use Rattle.kfs_check.specs.declared.reads.Read.{Read}
 use Rattle.kfs_check.specs.declared.reads.Read.TheVariants as reads
 use Rattle.kfs_check.specs.contracts.reads.ReadPartialEq.TheImpl as impl

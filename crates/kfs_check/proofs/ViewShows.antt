@@ -1,12 +1,12 @@
 -- The answer of a look is what the cell shows.
 use Rattle.std.specs.Prelude.{◌≡◌, ℕ, Bool, pos}
 use Rattle.std.proofs.Common.{ap, sym}
-use Rattle.kfs_image.specs.declared.cell.Cell.{Cell as CodeCell}
-use Rattle.kfs_image.specs.declared.cell.Cell.TheVariants as cells
-use Rattle.kfs_image.specs.declared.cell.Answer.{Answer as CodeAnswer}
-use Rattle.kfs_image.specs.declared.cell.Answer.TheVariants as answers
-use Rattle.kfs_image.specs.Contents.{Contents, sight_of}
-use Rattle.kfs_image.specs.Look.{IsAnswer}
+use Rattle.kfs_nodes.specs.declared.cell.Cell.{Cell as CodeCell}
+use Rattle.kfs_nodes.specs.declared.cell.Cell.TheVariants as cells
+use Rattle.kfs_nodes.specs.declared.cell.Answer.{Answer as CodeAnswer}
+use Rattle.kfs_nodes.specs.declared.cell.Answer.TheVariants as answers
+use Rattle.kfs_nodes.specs.Contents.{Contents, sight_of}
+use Rattle.kfs_nodes.specs.Look.{IsAnswer}
 use Rattle.kfs_model.specs.Sight.{answer, Head, Number, Count}
 use Rattle.kfs_check.specs.Reads.{look_of, look_answer_of}
 

@@ -2,10 +2,10 @@
 use Rattle.std.specs.Prelude.{◌≡◌, ◌≢◌, ◌⊎◌, pos, List, All, AllPairs, Contains}
 use Rattle.std.specs.Option.{option_map}
 use Rattle.std.specs.List.{AllByRecursion}
-use Rattle.kfs_image.specs.declared.cell.Cell.{Cell as CodeCell}
-use Rattle.kfs_image.specs.declared.cell.Cell.TheVariants as cells
-use Rattle.kfs_image.specs.declared.cell.Answer.{Answer as CodeAnswer}
-use Rattle.kfs_image.specs.declared.cell.Answer.TheVariants as answers
+use Rattle.kfs_nodes.specs.declared.cell.Cell.{Cell as CodeCell}
+use Rattle.kfs_nodes.specs.declared.cell.Cell.TheVariants as cells
+use Rattle.kfs_nodes.specs.declared.cell.Answer.{Answer as CodeAnswer}
+use Rattle.kfs_nodes.specs.declared.cell.Answer.TheVariants as answers
 use Rattle.kfs_check.specs.declared.reads.Read.{Read}
 use Rattle.kfs_check.specs.declared.reads.Read.TheVariants as reads
 use Rattle.kfs_check.specs.declared.reads.ReadAnswer.{ReadAnswer}

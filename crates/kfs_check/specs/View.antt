@@ -3,7 +3,7 @@ use Rattle.std.specs.Prelude.{ℕ, List}
 use Rattle.kfs_model.specs.Access.{Client}
 use Rattle.kfs_model.specs.Lease.{Leases, holds}
 use Rattle.kfs_model.specs.Sight.{ClientSight}
-use Rattle.kfs_image.specs.Contents.{Contents, sight_of}
+use Rattle.kfs_nodes.specs.Contents.{Contents, sight_of}
 use Rattle.kfs_check.specs.declared.view.View.{View}
 
 module _ {A : Type 0} where

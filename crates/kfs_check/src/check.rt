@@ -1,6 +1,6 @@
 //! The checks of an entry, and why one fails.
 
-use kfs_image::Name;
+use kfs_nodes::Name;
 
 /// Why an entry is refused.
 #[derive(Clone, Copy, Debug, PartialEq, Eq)]

@@ -15,8 +15,8 @@ ghost use Rattle.kfs_check.specs.Checks.{check_of, reason_of, entry_context_in, 
 use crate::check::{Check, Reason};
 use crate::reads::Recorder;
 use kfs_draft::Draft;
-use kfs_image::{Header, Kind, Name};
 use kfs_mode::{Client, Want, may};
+use kfs_nodes::{Header, Kind, Name};
 use kfs_value::{CLIMB_LIMIT, LINK_LIMIT, SIZE_LIMIT};
 use std::alloc::{AllocError, Allocator};
 

@@ -11,7 +11,7 @@ ghost use Rattle.kfs_check.specs.View.{client_sight_in};
 
 use crate::view::View;
 use indexmap::IndexMap;
-use kfs_image::{Answer, Cell, Header, Name};
+use kfs_nodes::{Answer, Cell, Header, Name};
 use std::alloc::{AllocError, Allocator};
 use std::hash::{BuildHasherDefault, FoldHasher};
 

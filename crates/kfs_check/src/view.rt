@@ -3,9 +3,9 @@ ghost use Rattle.kfs_mode.specs.Clients.{AreDistinct};
 
 mod answers;
 
-use kfs_image::Shape;
 use kfs_lease::Leases;
 use kfs_mode::Client;
+use kfs_nodes::Shape;
 use std::alloc::Allocator;
 use std::sync::Arc;
 

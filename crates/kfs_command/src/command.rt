@@ -8,9 +8,9 @@ ghost use Rattle.kfs_command.specs.Views.{act_of, asked_of, opening_of};
 ghost use Rattle.kfs_text.specs.Reading.{ReadsAs, checked, first_by, words_left};
 
 use crate::unjudged::has_other_entry;
-use kfs_image::TierSizes;
 use kfs_lease::{Act, LeaseKind};
 use kfs_mode::{Client, ClientFault};
+use kfs_nodes::TierSizes;
 use kfs_plan::Submission;
 use kfs_text::{Refusal, Words};
 use std::alloc::Allocator;

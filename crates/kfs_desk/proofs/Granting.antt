@@ -8,7 +8,7 @@ use Rattle.kfs_model.specs.Machine.{IsRead, outcome_of, leased}
 use Rattle.kfs_model.proofs.OrderKept.{step_keeps_order}
 use Rattle.kfs_model.proofs.RowFits.{row_fits}
 use Rattle.kfs_lease.specs.declared.leases.LeaseFault.{LeaseFault as CodeFault}
-use Rattle.kfs_image.specs.Contents.{Contents, sight_of}
+use Rattle.kfs_nodes.specs.Contents.{Contents, sight_of}
 use Rattle.kfs_image.specs.ShownTree.{tree_of, IsLawful}
 use Rattle.kfs_image.proofs.ShownTrees.{sight_shown}
 use Rattle.kfs_lease.specs.declared.act.Act.{Act}

@@ -28,11 +28,11 @@ use Rattle.kfs_value.specs.declared.header.Header.{Header as CodeHeader}
 use Rattle.kfs_value.specs.declared.plan.NodeRow.{NodeRow}
 use Rattle.kfs_value.specs.declared.entry.Log.{Log as CodeLog}
 use Rattle.kfs_value.specs.declared.plan.Plan.{Plan as CodePlan}
-use Rattle.kfs_image.specs.declared.shape.Net.{Net}
-use Rattle.kfs_image.specs.Change.{after_rows}
+use Rattle.kfs_nodes.specs.declared.net.Net.{Net}
+use Rattle.kfs_nodes.specs.Change.{after_rows}
 use Rattle.kfs_image.specs.ShownTree.{tree_of, IsLawful}
 use Rattle.kfs_image.proofs.BlankTrees.{IsBlank, blank_is_shown, blank_is_lawful, shown_zero}
-use Rattle.kfs_image.specs.Contents.{contents_in}
+use Rattle.kfs_nodes.specs.Contents.{contents_in}
 use Rattle.kfs_image.proofs.NetTables.{net_makes}
 use Rattle.kfs_plan.specs.KeptBytes.{KeepsBytes, keeps_bytes}
 use Rattle.kfs_step.specs.Rows.{keyed_node_row}

@@ -3,8 +3,8 @@ use Rattle.std.specs.Prelude.{ℕ, ◌==◌, not, false, List, [], ◌∷◌, Al
 use Rattle.kfs_model.specs.Lease.{Leases, without_gone}
 use Rattle.kfs_value.specs.declared.header.Header.{Header}
 use Rattle.kfs_value.specs.declared.plan.NodeRow.{NodeRow}
-use Rattle.kfs_image.specs.Contents.{ImageShown}
-use Rattle.kfs_image.specs.Change.{after_net}
+use Rattle.kfs_image.specs.Image.{ImageShown}
+use Rattle.kfs_image.specs.Image.{after_net}
 use Rattle.kfs_image.specs.ShownTree.{IsLawful}
 use Rattle.kfs_plan.specs.KeptBytes.{KeepsBytes}
 use Rattle.kfs_plan.specs.declared.submission.Outcome.{Outcome}

@@ -15,7 +15,7 @@ use Rattle.kfs_model.specs.Order.{IsInOrder}
 use Rattle.kfs_lease.specs.Faults.{fault_of}
 use Rattle.kfs_lease_rows.specs.Rows.{kind_of}
 use Rattle.kfs_lease.specs.declared.leases.LeaseFault.{LeaseFault}
-use Rattle.kfs_image.specs.Contents.{ImageShown}
+use Rattle.kfs_image.specs.Image.{ImageShown}
 use Rattle.kfs_image.specs.ShownTree.{tree_of}
 use Rattle.kfs_plan.specs.Judging.{HasOtherEntry, refusal_of, submission_of}
 use Rattle.kfs_plan.specs.declared.submission.Back.{Back}

@@ -9,25 +9,23 @@ ghost use Rattle.kfs_model.specs.Table.{empty};
 ghost use Rattle.kfs_mode.specs.Clients.{AreDistinct};
 ghost use Rattle.kfs_lease.specs.Faults as refusals;
 ghost use Rattle.kfs_lease_rows.specs.Rows.{kind_of};
-ghost use Rattle.kfs_image.specs.Contents.{sight_of};
+ghost use Rattle.kfs_nodes.specs.Contents.{sight_of};
 ghost use Rattle.kfs_image.specs.ShownTree.{IsLawful, tree_of};
 ghost use Rattle.kfs_check.specs.View.{clients_of, contents_of, leases_of};
 ghost use Rattle.kfs_plan.specs.Judging.{HasOtherEntry, IsVerdict, submission_of};
-ghost use Rattle.kfs_image.specs.Change.{after_net};
+ghost use Rattle.kfs_image.specs.Image.{after_net};
 ghost use Rattle.kfs_desk.specs.Landing.{CanLand, KeepsAll, answer_at, ended_by, ended_with, image_after, leases_left};
 ghost use Rattle.kfs_desk.specs.Machine.{IsAnswered, IsBackFor, IsCallOf, IsChangeOf, IsImageOf, RunsThrough, call_of, done_by, number_of, outcome_at, state_at};
 ghost use Rattle.kfs_desk.specs.Opening.{begin_fault, do_overlap, fault_behind};
 ghost use Rattle.kfs_value.specs.Room.{Appends, spare_of};
 
+use crate::back::BeginBack;
 use kfs_entry::NodeRow;
-use kfs_image::shape::{Fill, Net, net_apply};
-use kfs_image::{Image, Shape};
+use kfs_image::{Fill, Image, Net, Shape, net_apply};
 use kfs_judge::View;
 use kfs_lease::{LeaseFault, LeaseKind, Leases};
 use kfs_mode::Client;
-use kfs_plan::answers::{
-    Act, ActReply, BeginBack, BeginFault, Done, Reply, SubmissionsBack, Unanswered,
-};
+use kfs_plan::answers::{Act, ActReply, BeginFault, Done, Reply, SubmissionsBack, Unanswered};
 use kfs_plan::{Back, Judged, Outcome, Submission, Why, judge, keep_bytes};
 use std::alloc::{AllocError, Allocator};
 use std::marker::Model;

@@ -1,7 +1,9 @@
 //! The desk: it owns the image, the clients and their leases, and answers each call in turn.
 #![tactic(auto)]
 
+mod back;
 mod desk;
 
+pub use back::BeginBack;
 pub use desk::Desk;
 pub use kfs_plan::answers;

@@ -8,8 +8,8 @@ use Rattle.std.specs.FinMap.Entries.{find, where_key, below_all, is_sorted, is_s
 use borrow.Author.Tests.{eqb-true, eq-eqb}
 use Rattle.kfs_model.specs.Table.{byte_order, get}
 use Rattle.kfs_model.specs.Tree.{NameTable, name_order, target}
-use Rattle.kfs_image.specs.Look.{IsAfter, IsNext}
-use Rattle.kfs_image.proofs.NameOrder.{in_directory}
+use Rattle.kfs_nodes.specs.Look.{IsAfter, IsNext}
+use Rattle.kfs_nodes.proofs.NameOrder.{in_directory}
 use Rattle.kfs_engine.specs.Listing.{name_text, names_text}
 
 -- ---- after a name

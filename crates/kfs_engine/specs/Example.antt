@@ -7,7 +7,7 @@ use Rattle.kfs_model.specs.Machine.{opening}
 use Rattle.kfs_model.specs.Placement.{TierSizes}
 use Rattle.kfs_model.specs.Table.{empty, insert}
 use Rattle.kfs_model.specs.Tree.{NameTable}
-use Rattle.kfs_image.specs.Contents.{root_alone}
+use Rattle.kfs_nodes.specs.Contents.{root_alone}
 use Rattle.kfs_image.specs.ShownTree.{tree_of}
 use Rattle.kfs_desk.specs.Machine.{Desk}
 use Rattle.kfs_engine.specs.Session.{Start}

@@ -10,7 +10,8 @@ use Rattle.kfs_model.specs.Machine.{opening}
 use Rattle.kfs_mode.specs.declared.client.ClientFault.{ClientFault}
 use Rattle.kfs_value.specs.Views.{header_of}
 use Rattle.kfs_value.specs.declared.header.Header.{Header as CodeHeader}
-use Rattle.kfs_image.specs.Contents.{ImageShown, root_alone}
+use Rattle.kfs_nodes.specs.Contents.{root_alone}
+use Rattle.kfs_image.specs.Image.{ImageShown}
 use Rattle.kfs_plan.specs.Judging.{HasOtherEntry}
 use Rattle.kfs_image.specs.ShownTree.{tree_of}
 use Rattle.kfs_desk.specs.Machine.{Desk, IsActed, IsAnswered}

@@ -17,7 +17,7 @@ use crate::listing::list_line;
 use crate::opening::Opening;
 use kfs_command::{Command, DeskCommand, OpeningCommand};
 use kfs_desk::Desk;
-use kfs_image::{Answer, Cell, Header, Kind, look};
+use kfs_nodes::{Answer, Cell, Header, Kind, look};
 use kfs_plan::answers::{Act, Unanswered};
 use kfs_plan::{Submission, Why};
 use kfs_report::{act_line, node_line, reply_line};

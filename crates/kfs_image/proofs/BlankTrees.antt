@@ -1,8 +1,8 @@
 -- A tree all of whose bytes are zero is the one that its headers and names show.
 use Rattle.std.proofs.Common.{◌≡◌, ℕ, zero, suc, Bool, true, false, cond, length, replicate, Option, Some, None, option_map, refl, sym, ap, subst, ◌∙◌}
 use Rattle.kfs_model.specs.Header.{Kind, File, Directory, Header}
-use Rattle.kfs_model.specs.Table.{numbers, empty, get, insert, mapped, changed}
-use Rattle.kfs_model.proofs.TableLaws.{same_table, same_entries_table, get-mapped}
+use Rattle.kfs_model.specs.Table.{numbers, get}
+use Rattle.kfs_model.proofs.TableLaws.{same_table, get-mapped}
 use Rattle.kfs_model.specs.Tree.{Tree, Node, Body, FileBody, DirectoryBody, headers, header_of, kind_of, size_of, content_of, body_over, node_over}
 use Rattle.kfs_model.specs.Soundness.{IsSound}
 use Rattle.kfs_model.specs.Run.{byte_at}
@@ -10,7 +10,7 @@ use Rattle.kfs_model.specs.Fresh.{fresh_tree}
 use Rattle.kfs_model.specs.Limits.{greatest_mode}
 use Rattle.kfs_model.proofs.FreshTree.{fresh_is_sound}
 use Rattle.std.specs.Ordering.{eq_by_cmp}
-use Rattle.kfs_image.specs.Contents.{Contents, contents_in, root_alone}
+use Rattle.kfs_nodes.specs.Contents.{Contents, contents_in, root_alone}
 use Rattle.kfs_image.specs.ShownTree.{zeros, tree_of, IsLawful}
 
 -- all bytes of all files are zero
@@ -70,10 +70,3 @@ fresh_is_blank = record { cells = λ number. by (eq_by_cmp numbers.compare numbe
 
 pub fresh_is_lawful : IsLawful root_alone
 fresh_is_lawful = blank_is_lawful fresh_tree fresh_is_blank (fresh_is_sound ℕ)
-
-pub root_is_alone : (rows : Contents) → rows.heads ≡ changed empty 1 (Some (record { kind = Directory; mode = greatest_mode; uid = 0; gid = 0; links = 1; size = 0 })) → rows.names ≡ empty → rows ≡ root_alone
-unfolding changed insert mapped
-root_is_alone rows heads names =
-    let one = same_entries_table (changed empty 1 (Some (record { kind = Directory; mode = greatest_mode; uid = 0; gid = 0; links = 1; size = 0 }))) root_alone.heads refl in
-    let none = same_entries_table empty root_alone.names refl in
-    λ i. record { heads = (heads ∙ one) i; names = (names ∙ none) i }

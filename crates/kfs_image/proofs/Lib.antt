@@ -1,12 +1,3 @@
 pub mod BlankTrees
-pub mod Counts
-pub mod EditedRows
-pub mod HeaderPages
-pub mod Holders
-pub mod Indexes
-pub mod NameEdits
-pub mod NameOrder
 pub mod NetTables
-pub mod NextNames
-pub mod NodeEdits
 pub mod ShownTrees

@@ -5,10 +5,10 @@ use Rattle.kfs_model.specs.Header.{Header}
 use Rattle.kfs_model.specs.Table.{get}
 use Rattle.kfs_model.specs.Tree.{target, entry_count, headers}
 use Rattle.kfs_model.specs.Sight.{sight, parent_in, is_directory}
-use Rattle.kfs_image.specs.Contents.{Contents, sight_of}
-use Rattle.kfs_image.specs.Indexes.{AreInPages}
-use Rattle.kfs_image.specs.NodeEdits.{IsNumber, AreNumbered}
-use Rattle.kfs_image.specs.Rows.{FitPages}
+use Rattle.kfs_nodes.specs.Contents.{Contents, sight_of}
+use Rattle.kfs_nodes.specs.Indexes.{AreInPages}
+use Rattle.kfs_nodes.specs.NodeEdits.{IsNumber, AreNumbered}
+use Rattle.kfs_nodes.specs.Rows.{FitPages}
 use Rattle.kfs_image.specs.ShownTree.{tree_of, IsLawful}
 
 pub sight_shown : (c : Contents) → IsLawful c → sight_of c ≡ sight (tree_of c)

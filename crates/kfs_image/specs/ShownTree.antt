@@ -2,7 +2,7 @@
 use Rattle.std.specs.Prelude.{ℕ, List, replicate}
 use Rattle.kfs_model.specs.Tree.{Tree, tree_over}
 use Rattle.kfs_model.specs.Soundness.{IsSoundOver}
-use Rattle.kfs_image.specs.Contents.{Contents}
+use Rattle.kfs_nodes.specs.Contents.{Contents}
 
 -- a file's zero bytes, as many as its size says
 abbrev pub zeros : (number size : ℕ) → List ℕ

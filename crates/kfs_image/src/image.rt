@@ -2,13 +2,15 @@
 ghost use Rattle.std.specs.Prelude.{◌≡◌, ℕ, ◌<◌, List, Some, None, IfSome, IfNone, IfOk, OnOk, OnErr};
 ghost use Rattle.kfs_model.specs.Table.{get};
 ghost use Rattle.kfs_model.specs.Tree.{target};
-ghost use Rattle.kfs_image.specs.Change.{after_rows, after_net, renamed, reheaded};
-ghost use Rattle.kfs_image.specs.Contents.{root_alone};
-ghost use Rattle.kfs_image.specs.Look.{IsAfter, IsNext, IsNextNode};
-ghost use Rattle.kfs_image.specs.Rows.{FitPages};
+ghost use Rattle.kfs_nodes.specs.Change.{after_rows, renamed, reheaded};
+ghost use Rattle.kfs_nodes.specs.Contents.{root_alone};
+ghost use Rattle.kfs_image.specs.Image.{after_net};
+ghost use Rattle.kfs_nodes.specs.Look.{IsAfter, IsNext, IsNextNode};
+ghost use Rattle.kfs_nodes.specs.Rows.{FitPages};
 ghost use Rattle.kfs_image.specs.ShownTree.{IsLawful};
 
-use crate::layout::Shape;
+use kfs_nodes::Shape;
+use kfs_pages::Nothing;
 use kfs_value::{Name, NameRow, NodeRow, TierSizes};
 use std::alloc::{AllocError, Allocator};
 use std::marker::Model;
@@ -24,7 +26,7 @@ pub struct Image<A: Allocator> {
 }
 
 impl<A: Allocator> Model for Image<A> {
-    ghost use Rattle.kfs_image.specs.Contents.{ImageShown};
+    ghost use Rattle.kfs_image.specs.Image.{ImageShown};
     ghost use Rattle.kfs_image.specs.ShownTree.{IsLawful};
 
     ghost Value = { ImageShown };
@@ -74,7 +76,7 @@ fn change_shared<A: Allocator + Clone>(
     ensures err { OnErr result (shape.new.value ≡ shape.old.value) }
 {
     let shape = Arc::make_mut(shape)?;
-    shape.apply(alloc, names, nodes)
+    shape.apply(alloc, names, nodes, &mut Nothing)
 }
 
 impl<A: Allocator> Image<A> {

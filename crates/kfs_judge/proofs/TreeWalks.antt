@@ -10,7 +10,7 @@ use Rattle.kfs_model.specs.Run.{EntryFault, run, over_bytes}
 use Rattle.kfs_model.specs.SeenAfter.{seen_run_from, shown_run}
 use Rattle.kfs_model.proofs.OneByOne.{run_is_one_by_one}
 use Rattle.kfs_model.proofs.SeenRun.{run_is_seen, run_keeps_sound, bytes_faithful}
-use Rattle.kfs_image.specs.declared.shape.Net.{Net}
+use Rattle.kfs_nodes.specs.declared.net.Net.{Net}
 use Rattle.kfs_judge.specs.declared.walk.EntryFault.{EntryFault as CodeEntryFault}
 use Rattle.kfs_judge.specs.Walks.{ComesTo, ComesToTree, fault_of}
 use Rattle.kfs_step.specs.Nets.{IsNetOf}

@@ -13,7 +13,7 @@ use Rattle.kfs_model.specs.CleanStep.{Fits}
 use Rattle.kfs_model.specs.Machine.{OneByOne}
 use Rattle.kfs_model.specs.Entry.{Entry}
 use Rattle.kfs_model.specs.Run.{EntryFault, run, over_bytes}
-use Rattle.kfs_image.specs.declared.shape.Net.{Net}
+use Rattle.kfs_nodes.specs.declared.net.Net.{Net}
 use Rattle.kfs_judge.specs.declared.walk.EntryFault.{EntryFault as CodeEntryFault}
 use Rattle.kfs_step.specs.Nets.{IsNetOf}
 use Rattle.kfs_sweep.specs.declared.sizes.FileSize.{FileSize}

@@ -14,7 +14,7 @@ ghost use Rattle.kfs_judge.specs.Walks.{HasOrderedSizes, IsRowOf, IsWalkOf, IsCe
 use indexmap::IndexMap;
 use kfs_check::{Read, ReadAnswer, Reason, View};
 use kfs_entry::{Entry, Log, Span};
-use kfs_image::shape::Net;
+use kfs_nodes::Net;
 use kfs_step::LogJudge;
 use kfs_sweep::FileSize;
 use std::alloc::{AllocError, Allocator};

@@ -20,7 +20,7 @@ use Rattle.kfs_sweep.specs.declared.sizes.FileSize.{FileSize}
 use Rattle.kfs_sweep.specs.Sizes.{AreSizes, AreSwept}
 use Rattle.kfs_sweep.proofs.LogMade.{of_value}
 use Rattle.kfs_sweep.proofs.SizesBetween.{sizes_between}
-use Rattle.kfs_image.specs.declared.shape.Net.{Net}
+use Rattle.kfs_nodes.specs.declared.net.Net.{Net}
 use Rattle.kfs_plan.specs.declared.rows.RowFault.{RowFault as CodeRowFault}
 use Rattle.kfs_plan.specs.PlanCheck.{first_unlike, TellsRow}
 use Rattle.kfs_step.specs.Rows.{keyed_name_row, keyed_node_row}

@@ -24,7 +24,7 @@ use Rattle.kfs_value.specs.contracts.plan.NameRowPartialEq.TheImpl as names
 use Rattle.kfs_value.specs.contracts.plan.NodeRowPartialEq.TheImpl as nodes
 use Rattle.kfs_value.specs.contracts.header.HeaderPartialEq.TheImpl as heads
 use Rattle.kfs_value.specs.contracts.header.KindPartialEq.TheImpl as kind_tests
-use Rattle.kfs_image.specs.declared.shape.Net.{Net}
+use Rattle.kfs_nodes.specs.declared.net.Net.{Net}
 use Rattle.kfs_plan.specs.PlanCheck.{first_unlike}
 use Rattle.kfs_step.specs.Rows.{keyed_name_row, keyed_node_row}
 

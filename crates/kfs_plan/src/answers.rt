@@ -1,10 +1,8 @@
 //! What the desk is asked for and what it answers.
 
 use crate::submission::{Fault, Submission};
-use kfs_image::Image;
 pub use kfs_lease::Act;
 use kfs_lease::LeaseFault;
-use kfs_mode::Client;
 use std::alloc::{AllocError, Allocator};
 
 /// The answer to a submission, with its place in the docket.
@@ -77,12 +75,4 @@ pub enum BeginFault {
     GrantOverlap(usize),
     /// A growth of memory was refused.
     OutOfMemory,
-}
-
-/// The image and the clients of a desk that was not begun, and why.
-#[derive(Drop)]
-pub struct BeginBack<A: Allocator> {
-    pub image: Image<A>,
-    pub clients: Vec<Client, A>,
-    pub why: BeginFault,
 }

@@ -10,8 +10,8 @@ ghost use Rattle.kfs_plan.specs.PlanCheck.{TellsOfEachRun, TellsOfEachTree};
 ghost use Rattle.kfs_plan.specs.declared.rows.RowFault.TheVariants.{OutOfMemory};
 
 use kfs_entry::{Log, Plan};
-use kfs_image::shape::Net;
 use kfs_judge::Walk;
+use kfs_nodes::Net;
 use kfs_sweep::{FileSize, first_piece_apart, need_of, sweep};
 use std::alloc::{AllocError, Allocator};
 

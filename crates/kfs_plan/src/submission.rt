@@ -5,9 +5,9 @@ ghost use Rattle.kfs_plan.specs.declared.submission.Why.TheVariants.{OutOfMemory
 use crate::rows::RowFault;
 use indexmap::IndexMap;
 use kfs_entry::{Log, Plan, SpellFault};
-use kfs_image::shape::Net;
 use kfs_judge::{EntryFault, Read, ReadAnswer};
 use kfs_mode::Client;
+use kfs_nodes::Net;
 use std::alloc::{AllocError, Allocator};
 use std::hash::{BuildHasherDefault, FoldHasher};
 

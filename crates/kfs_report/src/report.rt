@@ -7,8 +7,8 @@ ghost use Rattle.kfs_value.specs.Room.{Appends, spare_of};
 
 mod names;
 
-use kfs_image::{Header, Kind};
 use kfs_mode::ClientFault;
+use kfs_nodes::{Header, Kind};
 use kfs_plan::answers::{ActReply, BeginFault, Done, Reply};
 use kfs_text::parts::{field, flag, number, octal, text};
 use names::{begin_fault, client_fault, judgement_fault, lease_fault};

@@ -11,7 +11,7 @@ use Rattle.kfs_check.specs.Recorders.{GoesOn, Known, ReadsAt}
 use Rattle.kfs_step.specs.Rows.{keyed_name_row, keyed_node_row}
 use Rattle.kfs_value.specs.declared.plan.NameRow.{NameRow as CodeNameRow}
 use Rattle.kfs_value.specs.declared.plan.NodeRow.{NodeRow as CodeNodeRow}
-use Rattle.kfs_image.specs.declared.shape.Net.{Net}
+use Rattle.kfs_nodes.specs.declared.net.Net.{Net}
 
 -- the rows are exactly the names that differ, and the headers
 abbrev pub AreNamesOf : Sight → Sight → List CodeNameRow → Type 0

@@ -12,7 +12,7 @@ ghost use Rattle.kfs_check.specs.Checks.{Judges};
 use crate::check::check;
 use crate::log_judge::LogJudge;
 use kfs_check::{EntryJudge, Reason, Recorder};
-use kfs_image::Header;
+use kfs_nodes::Header;
 use std::alloc::{AllocError, Allocator};
 
 /// Why the mode of the node `number` can't be changed, if so.

@@ -14,7 +14,7 @@ ghost use Rattle.kfs_check.specs.Checks.{Judges};
 use crate::check::check;
 use crate::log_judge::LogJudge;
 use kfs_check::{EntryJudge, Reason, Recorder};
-use kfs_image::{Header, Kind, Name};
+use kfs_nodes::{Header, Kind, Name};
 use std::alloc::{AllocError, Allocator};
 
 /// Why a node `number` can't be made under the name `key`, if so.

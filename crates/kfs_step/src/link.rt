@@ -10,7 +10,7 @@ use crate::check::check;
 use crate::log_judge::LogJudge;
 use kfs_check::{EntryJudge, Reason, Recorder};
 use kfs_draft::linked;
-use kfs_image::Name;
+use kfs_nodes::Name;
 use std::alloc::{AllocError, Allocator};
 
 /// Why the node `number` can't have the name `key` too, if so.

@@ -9,7 +9,7 @@ ghost use Rattle.kfs_step.specs.Nets.{AreNamesOf, AreNodesOf, LooksOver};
 use kfs_check::Recorder;
 use kfs_draft::Draft;
 use kfs_entry::{NameRow, NodeRow};
-use kfs_image::{Header, Name};
+use kfs_nodes::{Header, Name};
 use std::alloc::{AllocError, Allocator};
 
 /// The names whose numbers differ, ascending.

@@ -12,7 +12,7 @@ use crate::check::check;
 use crate::log_judge::LogJudge;
 use crate::unlink::going_fault;
 use kfs_check::{EntryJudge, Reason, Recorder};
-use kfs_image::{Kind, Name};
+use kfs_nodes::{Kind, Name};
 use std::alloc::{AllocError, Allocator};
 
 /// Why the name `key` can't become `new_key`, if so.

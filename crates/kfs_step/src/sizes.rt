@@ -10,7 +10,7 @@ ghost use Rattle.kfs_sweep.specs.Sizes.{Ascend, IsSize, size_in};
 
 use kfs_check::Recorder;
 use kfs_draft::Draft;
-use kfs_image::Header;
+use kfs_nodes::Header;
 use kfs_sweep::FileSize;
 use kfs_value::SIZE_LIMIT;
 use std::alloc::{AllocError, Allocator};

@@ -12,7 +12,7 @@ use crate::check::check;
 use crate::log_judge::LogJudge;
 use kfs_check::{EntryJudge, Reason, Recorder};
 use kfs_draft::unlinked;
-use kfs_image::{Kind, Name};
+use kfs_nodes::{Kind, Name};
 use std::alloc::{AllocError, Allocator};
 
 /// Why the name `key` of a node of this kind can't go, if so.

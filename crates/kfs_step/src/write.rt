@@ -13,7 +13,7 @@ ghost use Rattle.kfs_check.specs.Checks.{Judges, JudgesAll};
 use crate::check::check;
 use crate::log_judge::LogJudge;
 use kfs_check::{EntryJudge, Reason, Recorder};
-use kfs_image::Header;
+use kfs_nodes::Header;
 use std::alloc::{AllocError, Allocator};
 
 /// Why `len` bytes can't be put into the file `number` from `offset` on, if so.

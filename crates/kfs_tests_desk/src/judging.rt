@@ -5,8 +5,8 @@ use crate::desks::{
 };
 use kfs_desk::Desk;
 use kfs_desk::answers::Reply;
-use kfs_image::Name;
 use kfs_judge::{EntryFault, Reason};
+use kfs_nodes::Name;
 use kfs_plan::{Fault, RowFault, Submission, Why};
 use kfs_tests::vectors::{CREATE_LOG, CREATE_PLAN};
 use std::alloc::{AllocError, Global};

@@ -3,9 +3,9 @@
 
 use crate::desks::{AMPLE, client, grown};
 use kfs_desk::Desk;
-use kfs_image::Shape;
 use kfs_lease::LeaseKind::{Read, Write};
 use kfs_lease::{LeaseFault, LeaseKind, Leases};
+use kfs_nodes::Shape;
 use kfs_tests::refusing::Refusing;
 use std::alloc::{Allocator, Global};
 use std::process::Abort;

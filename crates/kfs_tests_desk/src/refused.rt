@@ -5,8 +5,8 @@ use crate::desks::{
 };
 use kfs_desk::Desk;
 use kfs_desk::answers::Done;
-use kfs_image::Kind;
 use kfs_lease::LeaseFault;
+use kfs_nodes::Kind;
 use kfs_plan::{Back, Submission, Why};
 use kfs_tests::refusing::Refusing;
 use kfs_tests::vectors::{CREATE_LOG, CREATE_PLAN, EMPTY_LOG, EMPTY_PLAN};

@@ -7,11 +7,11 @@ use Rattle.kfs_model.specs.Tree.{Tree, Node, Body, FileBody, DirectoryBody, Name
 use Rattle.kfs_model.specs.Soundness.{AreSound, IsSound}
 use Rattle.kfs_model.specs.Plan.{header_now, number_now, AreDifferences}
 use Rattle.kfs_model.specs.Judgement.{State, Submission, Verdict, Yes, No}
-use Rattle.kfs_image.specs.Contents.{Contents, contents_in}
-use Rattle.kfs_image.specs.Change.{after_rows}
+use Rattle.kfs_nodes.specs.Contents.{Contents, contents_in}
+use Rattle.kfs_nodes.specs.Change.{after_rows}
 use Rattle.kfs_image.specs.ShownTree.{zeros, tree_of, IsLawful}
 use Rattle.kfs_image.proofs.NetTables.{net_makes}
-use Rattle.kfs_image.specs.declared.shape.Net.{Net}
+use Rattle.kfs_nodes.specs.declared.net.Net.{Net}
 use Rattle.kfs_step.specs.Rows.{keyed_name_row, keyed_node_row}
 use Rattle.kfs_plan.specs.Judging.{IsVerdict, Tells}
 use Rattle.kfs_plan.specs.declared.submission.Outcome.TheVariants as outcomes

@@ -1,13 +1,12 @@
 //! Trees with files, of which client 7 holds leases, and what is judged against them.
 ghost use Rattle.std.specs.Prelude.{◌≡◌, IfSome};
 ghost use Rattle.kfs_mode.specs.Clients.{AreDistinct};
-ghost use Rattle.kfs_image.specs.Change.{after_net};
+ghost use Rattle.kfs_image.specs.Image.{after_net};
 ghost use Rattle.kfs_image.specs.ShownTree.{IsLawful};
 ghost use Rattle.kfs_check.specs.View.{contents_of};
 
 use crate::spelling::{Rows, Step, log, plan};
-use kfs_image::shape::{Fill, Net, net_apply};
-use kfs_image::{Image, TierSizes};
+use kfs_image::{Fill, Image, Net, TierSizes, net_apply};
 use kfs_judge::View;
 use kfs_lease::{LeaseKind, Leases};
 use kfs_mode::Client;

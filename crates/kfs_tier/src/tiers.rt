@@ -17,7 +17,8 @@ use std::marker::Model;
 /// written takes no memory.
 pub struct Tiers<A: Allocator> {
     sizes: TierSizes,
-    tiers: [Tier<A>; 3],
+    // Three of them. With an array each caller would have to show that the whole fits into memory.
+    tiers: Vec<Tier<A>, A>,
 }
 
 impl<A: Allocator> Model for Tiers<A> {
@@ -26,9 +27,9 @@ impl<A: Allocator> Model for Tiers<A> {
 
     ghost Value = { TiersShown };
 
-    ghost view = { λ t. record { sizes = t.sizes; free = free_of t.tiers; devices = devices_of t.tiers } };
+    ghost view = { λ t. record { sizes = t.sizes; free = free_of t.tiers.items; devices = devices_of t.tiers.items } };
 
-    ghost invariant = { λ t. AreSized t.sizes (free_of t.tiers) };
+    ghost invariant = { λ t. AreSized t.sizes (free_of t.tiers.items) };
 }
 
 // Written out, so that the drop of the three is proved once and not in each crate that drops them.
@@ -52,11 +53,12 @@ impl<A: Allocator> Tiers<A> {
     {
         let first = Tier::new(alloc.clone()?, sizes.size(0))?;
         let second = Tier::new(alloc.clone()?, sizes.size(1))?;
-        let third = Tier::new(alloc, sizes.size(2))?;
-        Ok(Tiers {
-            sizes,
-            tiers: [first, second, third],
-        })
+        let third = Tier::new(alloc.clone()?, sizes.size(2))?;
+        let mut tiers = Vec::new(alloc);
+        tiers.push(first)?;
+        tiers.push(second)?;
+        tiers.push(third)?;
+        Ok(Tiers { sizes, tiers })
     }
 
     /// How many places the tier has: none where it is over 2. Takes no memory.

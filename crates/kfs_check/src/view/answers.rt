@@ -1,15 +1,15 @@
 //! What a view is made of, and what it shows.
 ghost use Rattle.std.specs.Prelude.{◌≡◌};
 ghost use Rattle.std.specs.Option.{option_map};
-ghost use Rattle.kfs_image.specs.Look.{IsAnswer};
+ghost use Rattle.kfs_nodes.specs.Look.{IsAnswer};
 ghost use Rattle.kfs_model.specs.Lease.{holds, row_of};
 ghost use Rattle.kfs_mode.specs.Clients.{AreDistinct};
 ghost use Rattle.kfs_check.specs.View.{contents_of, leases_of, clients_of};
 
 use crate::view::View;
-use kfs_image::{Answer, Cell, Shape, look};
 use kfs_lease::Leases;
 use kfs_mode::{Client, find_client};
+use kfs_nodes::{Answer, Cell, Shape, look};
 use std::alloc::Allocator;
 use std::sync::Arc;
 

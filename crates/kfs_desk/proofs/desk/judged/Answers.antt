@@ -3,7 +3,7 @@ use Rattle.std.proofs.Common.{◌≡◌, Result, Ok, Err, sym, ap, subst, ◌∙
 use Rattle.std.specs.Prelude.{IfOk}
 use Rattle.kfs_model.specs.Lease.{holds, row_of}
 use Rattle.kfs_model.specs.Sight.{client_sight}
-use Rattle.kfs_image.specs.Contents.{sight_of}
+use Rattle.kfs_nodes.specs.Contents.{sight_of}
 use Rattle.kfs_image.specs.ShownTree.{tree_of}
 use Rattle.kfs_image.proofs.ShownTrees.{sight_shown}
 use Rattle.kfs_check.specs.Reads.{Agrees}

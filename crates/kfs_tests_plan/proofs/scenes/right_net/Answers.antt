@@ -4,7 +4,7 @@ use Rattle.kfs_model.specs.Table.{empty}
 use Rattle.kfs_model.specs.Lease.{holds}
 use Rattle.kfs_model.specs.Sight.{client_sight}
 use Rattle.kfs_model.specs.Judgement.{State}
-use Rattle.kfs_image.specs.Contents.{sight_of}
+use Rattle.kfs_nodes.specs.Contents.{sight_of}
 use Rattle.kfs_image.specs.ShownTree.{tree_of}
 use Rattle.kfs_image.proofs.ShownTrees.{sight_shown}
 use Rattle.kfs_check.specs.Reads.{Agrees}

@@ -1,14 +1,10 @@
-use Rattle.std.proofs.Common.{arith}
 use Rattle.kfs_blocks.proofs.FilledBlocks.{can_change, filled_ok}
 use Rattle.kfs_blocks.proofs.blocks.Blocks.fill.Goals as goal
 
 pub change-requires : goal.change-requires
 change-requires g c =
-    let fits = c.well_formed in (
-      omega arith,
-      can_change c.args.gone.now c.args.rows.now c.args.self.now c.in_ok-edits.edits.items c.as_slice.result.now c.in_ok-written.written.items c.as_slice.ensures.value c.in_ok-edits.ensures.ascend c.in_ok-edits.ensures.placed
-          c.in_ok-written.ensures c.requires,
-    )
+    can_change c.args.gone.now c.args.rows.now c.args.self.now c.in_ok-edits.edits.items c.as_slice.result.now c.in_ok-written.written.items c.as_slice.ensures.value c.in_ok-edits.ensures.ascend c.in_ok-edits.ensures.placed
+    c.in_ok-written.ensures c.requires
 
 pub returns-clause-ok : goal.returns-clause-ok
 returns-clause-ok g c =

@@ -1,7 +1,7 @@
 use Rattle.std.proofs.Common.{sym, subst}
-use Rattle.kfs_image.specs.Change.{after_net, renamed, reheaded}
-use Rattle.kfs_image.specs.Contents.{ImageShown}
-use Rattle.kfs_image.specs.Rows.{FitPages}
+use Rattle.kfs_nodes.specs.Change.{renamed, reheaded}
+use Rattle.kfs_image.specs.Image.{ImageShown, after_net}
+use Rattle.kfs_nodes.specs.Rows.{FitPages}
 use Rattle.kfs_image.proofs.ShownTrees.{lawful_fits}
 use Rattle.kfs_image.proofs.image.Image.change.Goals as goal
 

@@ -1,0 +1,32 @@
+//! A fill of blocks that is made together with another change, or not at all.
+ghost use Rattle.std.proofs.Common.{rules};
+
+use crate::blocks::Blocks;
+use crate::fill::{BlockRow, BlockRun};
+use kfs_pages::Change;
+use std::alloc::{AllocError, Allocator};
+
+/// The blocks of files, with the runs that they lose and the rows that are mapped and written.
+#[derive(Drop)]
+pub struct FillBlocks<'a, A: Allocator> {
+    pub blocks: &'a mut Blocks<A>,
+    pub gone: &'a [BlockRun],
+    pub rows: &'a [BlockRow<A>],
+}
+
+impl<'a, A: Allocator + Clone> Change for FillBlocks<'a, A> {
+    ghost use Rattle.kfs_pages.specs.Nested.{Becomes};
+    ghost use Rattle.kfs_blocks.specs.Fill.{CanFill, filled};
+
+    ghost can_make = { λ before. CanFill before.blocks.now before.gone.now before.rows.now };
+
+    ghost made = { λ before after. Becomes before.blocks after.blocks (filled before.gone.now before.rows.now before.blocks.now) };
+
+    ghost kept = { λ before after. Becomes before.blocks after.blocks before.blocks.now };
+
+    ghost not_tried = { λ before. Prim.search rules };
+
+    fn make(&mut self) -> Result<(), AllocError> {
+        self.blocks.fill(self.gone, self.rows)
+    }
+}
