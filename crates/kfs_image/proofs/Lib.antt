@@ -1,3 +1,8 @@
-pub mod BlankTrees
+pub mod ChangedImages
+pub mod EmptyFills
+mod FreshImage
+mod GoneBlocks
+pub mod KeptTrees
 pub mod NetTables
+mod ReadFile
 pub mod ShownTrees

@@ -1,2 +1,4 @@
+pub mod Gone
 pub mod Image
-pub mod ShownTree
+pub mod Net
+pub mod Read
