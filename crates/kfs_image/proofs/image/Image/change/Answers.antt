@@ -22,22 +22,22 @@ change_shared-requires-clause-after g c =
 pub change_shared-requires-clause-then : goal.change_shared-requires-clause-then
 change_shared-requires-clause-then g c =
     let are : AreGone c.args.net.now.nodes.items c.args.fill.now.zero.items c.as_slice-3.result.now =
-        subst (AreGone c.args.net.now.nodes.items c.args.fill.now.zero.items) (sym c.as_slice-3.ensures.value)
-        (subst (λ zero. AreGone c.args.net.now.nodes.items zero c.in_ok-gone.gone.items) c.as_slice-2.ensures.value
-        (subst (λ nodes. AreGone nodes c.as_slice-2.result.now c.in_ok-gone.gone.items) c.as_slice.ensures.value c.in_ok-gone.ensures)) in
+    subst (AreGone c.args.net.now.nodes.items c.args.fill.now.zero.items) (sym c.as_slice-3.ensures.value)
+    (subst (λ zero. AreGone c.args.net.now.nodes.items zero c.in_ok-gone.gone.items) c.as_slice-2.ensures.value
+    (subst (λ nodes. AreGone nodes c.as_slice-2.result.now c.in_ok-gone.gone.items) c.as_slice.ensures.value c.in_ok-gone.ensures)) in
     let of : AreOf c.args.net.now c.args.fill.now c.as_slice-5.result.now c.as_slice-6.result.now c.as_slice-3.result.now c.as_slice-4.result.now =
-        record { names_are = c.as_slice-5.ensures.value; nodes_are = c.as_slice-6.ensures.value; rows_are = c.as_slice-4.ensures.value; gone_are = are } in
+    record { names_are = c.as_slice-5.ensures.value; nodes_are = c.as_slice-6.ensures.value; rows_are = c.as_slice-4.ensures.value; gone_are = are } in
     let can : CanApply c.args.net.now c.args.fill.now (image_with c.self.inside.shape.value c.self.inside.blocks) = subst (CanApply c.args.net.now c.args.fill.now) (sym c.self.view_is) c.requires in
     can_fill c.args.net.now c.args.fill.now c.as_slice-5.result.now c.as_slice-6.result.now c.as_slice-3.result.now c.as_slice-4.result.now of c.self.inside.shape.value c.self.inside.blocks c.self.invariant can
 
 pub invariant_of-self : goal.invariant_of-self
 invariant_of-self g c =
     let are : AreGone c.args.net.now.nodes.items c.args.fill.now.zero.items c.as_slice-3.result.now =
-        subst (AreGone c.args.net.now.nodes.items c.args.fill.now.zero.items) (sym c.as_slice-3.ensures.value)
-        (subst (λ zero. AreGone c.args.net.now.nodes.items zero c.in_ok-gone.gone.items) c.as_slice-2.ensures.value
-        (subst (λ nodes. AreGone nodes c.as_slice-2.result.now c.in_ok-gone.gone.items) c.as_slice.ensures.value c.in_ok-gone.ensures)) in
+    subst (AreGone c.args.net.now.nodes.items c.args.fill.now.zero.items) (sym c.as_slice-3.ensures.value)
+    (subst (λ zero. AreGone c.args.net.now.nodes.items zero c.in_ok-gone.gone.items) c.as_slice-2.ensures.value
+    (subst (λ nodes. AreGone nodes c.as_slice-2.result.now c.in_ok-gone.gone.items) c.as_slice.ensures.value c.in_ok-gone.ensures)) in
     let of : AreOf c.args.net.now c.args.fill.now c.as_slice-5.result.now c.as_slice-6.result.now c.as_slice-3.result.now c.as_slice-4.result.now =
-        record { names_are = c.as_slice-5.ensures.value; nodes_are = c.as_slice-6.ensures.value; rows_are = c.as_slice-4.ensures.value; gone_are = are } in
+    record { names_are = c.as_slice-5.ensures.value; nodes_are = c.as_slice-6.ensures.value; rows_are = c.as_slice-4.ensures.value; gone_are = are } in
     let can : CanApply c.args.net.now c.args.fill.now (image_with c.self.inside.shape.value c.self.inside.blocks) = subst (CanApply c.args.net.now c.args.fill.now) (sym c.self.view_is) c.requires in
     changed_lawful c.args.net.now c.args.fill.now c.as_slice-5.result.now c.as_slice-6.result.now c.as_slice-3.result.now c.as_slice-4.result.now of c.self.inside.shape.value c.self.inside.blocks c.self.invariant c.change_shared.result c.change_shared.new.shape.value c.change_shared.new.then.blocks.now can
     (changed_ok c.args.net.now c.args.fill.now c.as_slice-5.result.now c.as_slice-6.result.now c.as_slice-3.result.now c.as_slice-4.result.now of c.self.inside.shape.value c.self.inside.blocks c.self.invariant c.change_shared.result c.change_shared.new.shape.value c.change_shared.new.then.blocks.now _ c.change_shared.ensures.ok c.change_shared.ensures.made)
