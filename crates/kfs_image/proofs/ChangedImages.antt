@@ -52,22 +52,24 @@ module _ {A : Type 0} (net : Net A) (fill : Fill A) (names : List NameRow) (node
     devices = written_by (of.rows_are i) blocks.devices;
   }
 
-  module _ {T E : Type 0} (r : Result T E) (new : Contents) (new_blocks : BlocksShown) where
-    -- the change was made of both, or of neither
-    pub changed_ok : (G : Type 0) → OnOk r (new ≡ after_rows contents names nodes) → OnOk r ((new_blocks ≡ filled gone rows blocks) × G) → OnOk r (image_with new new_blocks ≡ applied net fill image)
-    changed_ok G = elim r as (λ r. OnOk r (new ≡ after_rows contents names nodes) → OnOk r ((new_blocks ≡ filled gone rows blocks) × G) → OnOk r (image_with new new_blocks ≡ applied net fill image)) [
-      | Ok done ↦ λ made filled_so. (λ i. image_with (made i) (filled_so.0 i)) ∙ applied_is
-      | Err error ↦ λ made filled_so. tt
-    ]
+module _ {T E : Type 0} (r : Result T E) (contents made new : Contents) (blocks made_blocks new_blocks : BlocksShown) (after : DeviceImage) (is : image_with made made_blocks ≡ after) where
+  -- the change was made of both, or of neither
+  pub changed_ok : (G : Type 0) → OnOk r (new ≡ made) → OnOk r ((new_blocks ≡ made_blocks) × G) → OnOk r (image_with new new_blocks ≡ after)
+  changed_ok G = elim r as (λ r. OnOk r (new ≡ made) → OnOk r ((new_blocks ≡ made_blocks) × G) → OnOk r (image_with new new_blocks ≡ after)) [
+    | Ok done ↦ λ made_so blocks_so. (λ i. image_with (made_so i) (blocks_so.0 i)) ∙ is
+    | Err error ↦ λ made_so blocks_so. tt
+  ]
 
-    pub changed_err : (H : Type 0) → OnErr r (new ≡ contents) → OnErr r ((new_blocks ≡ blocks) × H) → OnErr r (image_with new new_blocks ≡ image)
-    changed_err H = elim r as (λ r. OnErr r (new ≡ contents) → OnErr r ((new_blocks ≡ blocks) × H) → OnErr r (image_with new new_blocks ≡ image)) [
-      | Ok done ↦ λ kept left_so. tt
-      | Err error ↦ λ kept left_so. (λ i. image_with (kept i) (left_so.0 i))
-    ]
+  pub changed_err : (H : Type 0) → OnErr r (new ≡ contents) → OnErr r ((new_blocks ≡ blocks) × H) → OnErr r (image_with new new_blocks ≡ image_with contents blocks)
+  changed_err H = elim r as (λ r. OnErr r (new ≡ contents) → OnErr r ((new_blocks ≡ blocks) × H) → OnErr r (image_with new new_blocks ≡ image_with contents blocks)) [
+    | Ok done ↦ λ kept left_so. tt
+    | Err error ↦ λ kept left_so. (λ i. image_with (kept i) (left_so.0 i))
+  ]
 
-    pub changed_lawful : CanApply net fill image → OnOk r (image_with new new_blocks ≡ applied net fill image) → OnErr r (image_with new new_blocks ≡ image) → IsLawful (image_with new new_blocks)
-    changed_lawful can = elim r as (λ r. OnOk r (image_with new new_blocks ≡ applied net fill image) → OnErr r (image_with new new_blocks ≡ image) → IsLawful (image_with new new_blocks)) [
-      | Ok done ↦ λ made kept. subst IsLawful (sym made) can.lawful
-      | Err error ↦ λ made kept. subst IsLawful (sym kept) lawful
-    ]
+  pub changed_lawful : (G H : Type 0) → IsLawful (image_with contents blocks) → IsLawful after → OnOk r (new ≡ made) → OnErr r (new ≡ contents) → OnOk r ((new_blocks ≡ made_blocks) × G) → OnErr r ((new_blocks ≡ blocks) × H)
+      → IsLawful (image_with new new_blocks)
+  changed_lawful G H lawful lawful_after made_so kept blocks_so left_so = at r (changed_ok G made_so blocks_so) (changed_err H kept left_so)
+    where
+      at : (r : Result T E) → OnOk r (image_with new new_blocks ≡ after) → OnErr r (image_with new new_blocks ≡ image_with contents blocks) → IsLawful (image_with new new_blocks)
+      at (Ok done) is_after is_before = subst IsLawful (sym is_after) lawful_after
+      at (Err error) is_after is_before = subst IsLawful (sym is_before) lawful

@@ -1,4 +1,5 @@
 pub mod ChangedImages
+mod EditedImages
 pub mod EmptyFills
 mod FreshImage
 mod GoneBlocks

@@ -10,14 +10,17 @@ ghost use Rattle.kfs_tier.specs.Unused.{IsNextUnused, AreTakenFrom, unused_place
 ghost use Rattle.kfs_nodes.specs.Change.{after_rows, renamed, reheaded};
 ghost use Rattle.kfs_nodes.specs.Look.{IsAfter, IsNext, IsNextNode};
 ghost use Rattle.kfs_nodes.specs.Rows.{FitPages};
+ghost use Rattle.kfs_image.specs.Edit.{CanEdit, edited_all};
 ghost use Rattle.kfs_image.specs.Image.{contents_of, fresh_image};
 ghost use Rattle.kfs_image.specs.Net.{CanApply, applied};
 ghost use Rattle.kfs_image.specs.Read.{IsRead};
 
+use crate::edit::{Edit, Parts};
 use crate::gone::gone_blocks;
 use crate::net::Fill;
 use crate::read::ReadFault;
-use kfs_blocks::{Blocks, FillBlocks, Place};
+use kfs_blocks::{Blocks, ChangeBlocks, FillBlocks, Place};
+use kfs_chunks::key_edits;
 use kfs_nodes::{Answer, Cell, Net, Shape, look};
 use kfs_pages::Change;
 use kfs_value::{Header, Kind, Name, NameRow, NodeRow, TierSizes};
@@ -61,6 +64,35 @@ impl<A: Allocator + Clone> Image<A> {
             blocks,
             alloc,
         })
+    }
+
+    /// Makes the edits, one after the other, after which the image is lawful. Every growth comes before
+    /// the first change, so `Err` leaves what the image shows as it is. A view that was taken before shows
+    /// what it showed in any case.
+    pub fn edit(&mut self, edits: &[Edit<A>]) -> Result<(), AllocError>
+        requires { CanEdit edits.now self.old }
+        ensures ok { OnOk result (self.new ≡ edited_all edits.now self.old) }
+        ensures err { OnErr result (self.new ≡ self.old) }
+    {
+        let Parts {
+            names,
+            nodes,
+            said,
+            mut written,
+        } = Parts::of(&self.alloc, edits)?;
+        let places = key_edits(&self.alloc, &said)?;
+        let mut then = ChangeBlocks {
+            blocks: &mut self.blocks,
+            edits: places.as_slice(),
+            written: &mut written,
+        };
+        change_shared(
+            &mut self.shape,
+            &self.alloc,
+            names.as_slice(),
+            nodes.as_slice(),
+            &mut then,
+        )
     }
 
     /// Makes the change of a net and a fill. Pages and chunks that a view shares are copied where they

@@ -1,11 +1,13 @@
 //! The image of the file system: its nodes, names and tiers.
 #![tactic(auto)]
 
+mod edit;
 mod gone;
 mod image;
 mod net;
 mod read;
 
+pub use edit::Edit;
 pub use image::Image;
 pub use kfs_blocks::{BlockRow, BlockRun, Place};
 pub use kfs_nodes::{Answer, Cell, Net, Page, Shape, look};

@@ -5,7 +5,7 @@ use Rattle.kfs_nodes.specs.Rows.{FitPages}
 use Rattle.kfs_image.specs.Gone.{AreGone}
 use Rattle.kfs_image.specs.Image.{image_with}
 use Rattle.kfs_image.specs.Net.{CanApply, applied}
-use Rattle.kfs_image.proofs.ChangedImages.{AreOf, can_fill, changed_lawful, changed_ok, changed_err}
+use Rattle.kfs_image.proofs.ChangedImages.{AreOf, can_fill, applied_is, changed_lawful}
 use Rattle.kfs_image.proofs.ShownTrees.{lawful_fits}
 use Rattle.kfs_image.proofs.image.Image.change.Goals as goal
 
@@ -39,6 +39,8 @@ invariant_of-self g c =
     let of : AreOf c.args.net.now c.args.fill.now c.as_slice-5.result.now c.as_slice-6.result.now c.as_slice-3.result.now c.as_slice-4.result.now =
     record { names_are = c.as_slice-5.ensures.value; nodes_are = c.as_slice-6.ensures.value; rows_are = c.as_slice-4.ensures.value; gone_are = are } in
     let can : CanApply c.args.net.now c.args.fill.now (image_with c.self.inside.shape.value c.self.inside.blocks) = subst (CanApply c.args.net.now c.args.fill.now) (sym c.self.view_is) c.requires in
-    changed_lawful c.args.net.now c.args.fill.now c.as_slice-5.result.now c.as_slice-6.result.now c.as_slice-3.result.now c.as_slice-4.result.now of c.self.inside.shape.value c.self.inside.blocks c.self.invariant c.change_shared.result c.change_shared.new.shape.value c.change_shared.new.then.blocks.now can
-    (changed_ok c.args.net.now c.args.fill.now c.as_slice-5.result.now c.as_slice-6.result.now c.as_slice-3.result.now c.as_slice-4.result.now of c.self.inside.shape.value c.self.inside.blocks c.self.invariant c.change_shared.result c.change_shared.new.shape.value c.change_shared.new.then.blocks.now _ c.change_shared.ensures.ok c.change_shared.ensures.made)
-    (changed_err c.args.net.now c.args.fill.now c.as_slice-5.result.now c.as_slice-6.result.now c.as_slice-3.result.now c.as_slice-4.result.now of c.self.inside.shape.value c.self.inside.blocks c.self.invariant c.change_shared.result c.change_shared.new.shape.value c.change_shared.new.then.blocks.now _ c.change_shared.ensures.err c.change_shared.ensures.kept)
+    let contents = c.self.inside.shape.value in
+    let blocks = c.self.inside.blocks in
+    let after = applied_is c.args.net.now c.args.fill.now c.as_slice-5.result.now c.as_slice-6.result.now c.as_slice-3.result.now c.as_slice-4.result.now of contents blocks c.self.invariant in
+    changed_lawful c.change_shared.result contents _ c.change_shared.new.shape.value blocks _ c.change_shared.new.then.blocks.now _ after _ _ c.self.invariant can.lawful
+    c.change_shared.ensures.ok c.change_shared.ensures.err c.change_shared.ensures.made c.change_shared.ensures.kept
