@@ -28,7 +28,7 @@ module _ {A : Type 0} where
   IsWhole sizes (Map number block place) = Unit
   IsWhole sizes (Bytes place bytes) = (place.place < tier_size sizes place.tier) × (vec_len bytes ≡ block_size)
 
-  -- the image after is lawful
+  -- the image after is lawful, and each block that is written lies in its tier and is whole
   pub record CanEdit (edits : List (Edit A)) (image : DeviceImage) : Type 0 where
     pub lawful : IsLawful (edited_all edits image)
     pub whole : All (IsWhole image.sizes) edits
