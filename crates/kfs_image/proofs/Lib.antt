@@ -1,6 +1,7 @@
 pub mod ChangedImages
 mod EditedImages
 pub mod EmptyFills
+pub mod FilledImages
 mod FreshImage
 mod GoneBlocks
 pub mod KeptTrees

@@ -102,18 +102,44 @@ pub fn submission<A: Allocator + Copy>(
     })
 }
 
+/// The net of a log of client 7, of this uid and gid, with write leases on the nodes at these paths, where it is judged right
+/// with this plan.
+pub fn net_of<A: Allocator + Copy>(
+    alloc: A,
+    image: &Image<A>,
+    ids: (u32, u32),
+    held: &[&[u8]],
+    made: (&[Step<'_>], Rows<'_>),
+) -> Option<Net<A>>
+    ensures { IfSome result (λ net. IsLawful (after_net net image.now)) }
+{
+    let (steps, rows) = made;
+    let view = view_of(alloc, image, clients(alloc, ids, &[])?, held)?;
+    let submission = Submission {
+        client: 7,
+        log: log(alloc, steps)?,
+        plan: plan(alloc, rows)?,
+    };
+    right_net(alloc, image, &view, submission)
+}
+
+/// Makes the change of the net, with no block written.
+fn apply_alone<A: Allocator + Clone>(
+    alloc: &A,
+    image: &mut Image<A>,
+    net: &Net<A>,
+) -> Result<(), AllocError>
+    requires { IsLawful (after_net net.now image.old) }
+{
+    let fill = Fill::empty(alloc)?;
+    net_apply(image, net, &fill)
+}
+
 /// A new image with the tree of the scene.
 fn image_of<A: Allocator + Copy>(alloc: A, scene: &Scene<'_>) -> Option<Image<A>> {
     let mut image = Image::fresh(alloc, TierSizes::new(8, 8, 8)?).ok()?;
-    let view = view_of(alloc, &image, clients(alloc, scene.maker, &[])?, &[b"/"])?;
-    let submission = Submission {
-        client: 7,
-        log: log(alloc, scene.made.0)?,
-        plan: plan(alloc, scene.made.1)?,
-    };
-    let net = right_net(alloc, &image, &view, submission)?;
-    let fill = Fill::empty(&alloc).ok()?;
-    net_apply(&mut image, &net, &fill).ok()?;
+    let net = net_of(alloc, &image, scene.maker, &[b"/"], scene.made)?;
+    apply_alone(&alloc, &mut image, &net).ok()?;
     Some(image)
 }
 
