@@ -10,6 +10,7 @@ pub mod ChangedMarks
 pub mod Made
 pub mod Fits
 pub mod Counting
+pub mod ListedBlocks
 pub mod FileParts
 pub mod Listed
 pub mod SizesBetween
