@@ -11,6 +11,8 @@ pub mod Made
 pub mod Fits
 pub mod Counting
 pub mod ListedBlocks
+pub mod TouchedBlocks
+pub mod WrittenLists
 pub mod FileParts
 pub mod Listed
 pub mod SizesBetween
