@@ -1,11 +1,14 @@
 -- Blocks listed one after another.
-use Rattle.std.proofs.Common.{◌≡◌, ℕ, suc, ◌+◌, ◌-◌, ◌<◌, ◌≤◌, max, List, [], ◌∷◌, ◌++◌, length, map, drop, refl, sym, ap, ◌∙◌, arith, append_assoc}
+use Rattle.std.proofs.Common.{◌≡◌, ℕ, suc, ◌+◌, ◌-◌, ◌<◌, ◌≤◌, max, Bool, cond, List, [], ◌∷◌, ◌++◌, length, map, drop, get_or, refl, sym, ap, ◌∙◌, arith, append_assoc}
 use Rattle.std.proofs.lemmas.List.{append-nil, drop_all}
 use Rattle.kfs_value.specs.Views.{piece_of}
 use Rattle.kfs_value.specs.declared.plan.Piece.{Piece as CodePiece}
-use Rattle.kfs_model.specs.Blocks.{Blocks, touches}
+use Rattle.kfs_model.specs.Blocks.{Blocks, goes_on, touches}
 use Rattle.kfs_model.specs.Placement.{numbers_from}
-use Rattle.kfs_sweep.specs.BlockLists.{HasListed, listed}
+use Rattle.kfs_model.specs.Plan.{end_of}
+use Rattle.kfs_model.specs.PlanRow.{Piece}
+use Rattle.kfs_sweep.proofs.Lists.{drop_next}
+use Rattle.kfs_sweep.specs.BlockLists.{HasListed, blocks_between, cleared_from, listed, zeros_start}
 
 listed_next : (next : ℕ) (r : Blocks) (rs : List Blocks) → listed next (r ∷ rs) ≡ numbers_from (max r.first next) (r.last + 1 - max r.first next) ++ listed (max next (r.last + 1)) rs
 unfolding listed
@@ -43,3 +46,23 @@ listed_both old mid out next later last front back one two rest =
 pub listed_rows : (size until next : ℕ) (out : List ℕ) (pieces : List CodePiece) (i : ℕ) → length pieces ≤ i → out ++ listed next (touches size until (map piece_of (drop i pieces))) ≡ out
 unfolding listed touches
 listed_rows size until next out pieces i h = ap (λ xs. out ++ listed next (touches size until (map piece_of xs))) (drop_all i pieces h) ∙ append-nil out
+
+-- ---- the loop over pieces, for the ranges that they clear
+
+module _ (size start end : ℕ) (pieces : List CodePiece) (i : ℕ) where
+  cleared_next : (p : Piece) (rs : List Piece) (goes : Bool) → goes_on end (p ∷ rs) ≡ goes
+      → cleared_from size start end (p ∷ rs) ≡ cond goes (cleared_from size start (end_of p) rs) (blocks_between size start end ++ cleared_from size (zeros_start p) (end_of p) rs)
+  unfolding cleared_from
+  cleared_next p rs goes is = ap (λ b. cond b (cleared_from size start (end_of p) rs) (blocks_between size start end ++ cleared_from size (zeros_start p) (end_of p) rs)) is
+
+  pub cleared_row : (d : CodePiece) (goes : Bool) → i < length pieces → goes_on end (map piece_of (drop i pieces)) ≡ goes
+      → cleared_from size start end (map piece_of (drop i pieces))
+      ≡ cond goes (cleared_from size start (end_of (piece_of (get_or pieces i d))) (map piece_of (drop (i + 1) pieces)))
+      (blocks_between size start end ++ cleared_from size (zeros_start (piece_of (get_or pieces i d))) (end_of (piece_of (get_or pieces i d))) (map piece_of (drop (i + 1) pieces)))
+  cleared_row d goes h is =
+      let row : map piece_of (drop i pieces) ≡ piece_of (get_or pieces i d) ∷ map piece_of (drop (i + 1) pieces) = ap (map piece_of) (drop_next pieces i d h) in
+      ap (cleared_from size start end) row ∙ cleared_next (piece_of (get_or pieces i d)) (map piece_of (drop (i + 1) pieces)) goes (ap (goes_on end) (sym row) ∙ is)
+
+  pub cleared_rows : length pieces ≤ i → cleared_from size start end (map piece_of (drop i pieces)) ≡ blocks_between size start end
+  unfolding cleared_from
+  cleared_rows h = ap (λ xs. cleared_from size start end (map piece_of xs)) (drop_all i pieces h)

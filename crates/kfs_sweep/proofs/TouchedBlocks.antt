@@ -121,22 +121,25 @@ before_part s e q h = grind (arith, nat_tests)
 behind_part : (s e q : ℕ) → e ≤ q → (leb s q && ltb q e) ≡ false
 behind_part s e q h = grind (arith, nat_tests)
 
-pub part_before : (size f q : ℕ) (rs : List Piece) → q < f → AreParts size f rs → part_at rs q ≡ None
+part_before : (size f q : ℕ) (rs : List Piece) → q < f → AreParts size f rs → part_at rs q ≡ None
 part_before size f q [] h parts = refl
 part_before size f q (r ∷ rs) h parts =
     let low = parts.0 in
     let filled = parts.1 in
     ap (λ b. cond b (Some r.source) (part_at rs q)) (before_part r.start (end_of r) q (omega arith)) ∙ part_before size (end_of r) q rs (omega arith) parts.2
 
-pub part_in : (r : Piece) (rs : List Piece) (q : ℕ) → r.start ≤ q → q < end_of r → part_at (r ∷ rs) q ≡ Some r.source
+part_in : (r : Piece) (rs : List Piece) (q : ℕ) → r.start ≤ q → q < end_of r → part_at (r ∷ rs) q ≡ Some r.source
 part_in r rs q h k = ap (λ b. cond b (Some r.source) (part_at rs q)) (inside_part r.start (end_of r) q h k)
 
-pub part_behind : (r : Piece) (rs : List Piece) (q : ℕ) → end_of r ≤ q → part_at (r ∷ rs) q ≡ part_at rs q
+part_behind : (r : Piece) (rs : List Piece) (q : ℕ) → end_of r ≤ q → part_at (r ∷ rs) q ≡ part_at rs q
 part_behind r rs q h = ap (λ b. cond b (Some r.source) (part_at rs q)) (behind_part r.start (end_of r) q h)
 
-pub ends_low : (size f : ℕ) (rs : List Piece) → AreParts size f rs → f ≤ size
+ends_low : (size f : ℕ) (rs : List Piece) → AreParts size f rs → f ≤ size
 ends_low size f [] parts = parts
 ends_low size f (r ∷ rs) parts = let low = parts.0 in let rest = ends_low size (end_of r) rs parts.2 in omega arith
+
+le_same : (n : ℕ) → n ≤ n
+le_same n = omega arith
 
 at_or_behind : (f s : ℕ) → f ≤ s → 1 ≤ s → (f ≤ s - 1) ⊎ (s ≡ f)
 at_or_behind f s h i = grind arith
@@ -176,14 +179,14 @@ module _ (marks : List Mark) (k : ℕ) where
     ends : end_of r ≤ length marks
     ends = ends_low (length marks) (end_of r) rs is.parts.2
 
-    zero_in : (q : ℕ) → r.start ≤ q → q < end_of r → is_zero (get_or marks q Zero) ≡ is_zero_source r.source
+    pub zero_in : (q : ℕ) → r.start ≤ q → q < end_of r → is_zero (get_or marks q Zero) ≡ is_zero_source r.source
     zero_in q h i = let l = low in let e = ends in is.zero q (omega arith) (omega arith) ∙ ap is_zero_part (part_in r rs q h i)
 
     payload_in : (q : ℕ) → r.start ≤ q → q < end_of r → is_payload (get_or marks q Zero) ≡ not (is_zero_source r.source)
     payload_in q h i = let l = low in let e = ends in is.payload q (omega arith) (omega arith) ∙ ap is_payload_part (part_in r rs q h i)
 
     -- between the place and the piece bytes are as before
-    zero_before : (q : ℕ) → f ≤ q → q < r.start → is_zero (get_or marks q Zero) ≡ false
+    pub zero_before : (q : ℕ) → f ≤ q → q < r.start → is_zero (get_or marks q Zero) ≡ false
     zero_before q h i =
         let e = ends in
         let s : r.start ≤ r.start = omega arith in
@@ -211,24 +214,29 @@ module _ (marks : List Mark) (k : ℕ) where
         ap (λ q. is_zero (get_or marks q Zero)) back ∙ is.before least ∙ ne_eqb until f (λ u. apart (h ∙ sym u)))
         (at_or_behind f r.start low some)
 
-    -- where zero bytes end and don't go on, the next byte isn't zero
-    not_zero_right : end_of r < length marks → goes_on (end_of r) rs ≡ false → is_zero (get_or marks (end_of r) Zero) ≡ false
-    not_zero_right below stops =
-        let l = low in
-        let e : end_of r ≤ end_of r = omega arith in
-        is.zero (end_of r) (omega arith) below ∙ ap is_zero_part (part_behind r rs (end_of r) e) ∙ stopped rs is.parts.2 stops
-      where
-        stopped : (ss : List Piece) → AreParts (length marks) (end_of r) ss → goes_on (end_of r) ss ≡ false → is_zero_part (part_at ss (end_of r)) ≡ false
-        stopped [] parts stops = refl
-        stopped (t ∷ ts) parts stops = ⊎_elim
-            (λ (h : end_of r < t.start).
-            let s : t.start ≤ t.start = omega arith in
-            ap is_zero_part (part_before (length marks) t.start (end_of r) (t ∷ ts) h (s, parts.1, parts.2)))
-            (λ (h : t.start ≡ end_of r).
-            let fill = parts.1 in
-            ap is_zero_part (part_in t ts (end_of r) (omega arith) (omega arith)) ∙ other_source (is_zero_source t.source) (t.start == end_of r) stops (eq-eqb t.start (end_of r) h))
-            (before_or_same (end_of r) t.start parts.0)
+  -- the parts behind a piece; zero bytes end there where it is of zero bytes
+  pub behind_part_classes : (f until : ℕ) (r : Piece) (rs : List Piece) → Classes marks f until (r ∷ rs) → Classes marks (end_of r) (cond (is_zero_source r.source) (end_of r) 0) rs
+  behind_part_classes f until r rs is = next f until r rs is (cond (is_zero_source r.source) (end_of r) 0) (same (is_zero_source r.source)) (either (is_zero_source r.source))
+    where
+      same : (b : Bool) → eqb (cond b (end_of r) 0) (end_of r) ≡ b
+      same true = eq-eqb (end_of r) (end_of r) refl
+      same false = ne_eqb 0 (end_of r) (λ e. let l = is.parts.0 in let fill = is.parts.1 in let b : ⊥ = omega arith in b)
 
+      either : (b : Bool) → (cond b (end_of r) 0 ≡ 0) ⊎ (cond b (end_of r) 0 ≡ end_of r)
+      either true = inr refl
+      either false = inl refl
+
+  -- where no zero bytes go on, the byte isn't zero
+  pub stops_at : (f until : ℕ) (rs : List Piece) → Classes marks f until rs → f < length marks → goes_on f rs ≡ false → is_zero (get_or marks f Zero) ≡ false
+  stops_at f until [] is below stops = is.zero f (le_same f) below
+  stops_at f until (r ∷ rs) is below stops = ⊎_elim
+      (λ (h : f < r.start). zero_before f until r rs is f (le_same f) h)
+      (λ (h : r.start ≡ f).
+      let fill = is.parts.1 in
+      zero_in f until r rs is f (omega arith) (omega arith) ∙ other_source (is_zero_source r.source) (r.start == f) stops (eq-eqb r.start f h))
+      (before_or_same f r.start is.parts.0)
+
+  module _ (f until : ℕ) (r : Piece) (rs : List Piece) (is : Classes marks f until (r ∷ rs)) where
     abbrev start_list : List Blocks
     start_list = cond ((r.start % 4096 == 0) || (r.start == until)) [] (block_of r.start ∷ [])
 
@@ -249,14 +257,14 @@ module _ (marks : List Mark) (k : ℕ) where
         let tests = neither (r.start % 4096) 0 r.start until parts.0 in
         let within = has_from (r.start / 4096) (r.start / 4096) parts.1 in
         let odd = tests.0 in
-        let e = ends in
-        let fill = filled in
+        let e = ends f until r rs is in
+        let fill = filled f until r rs is in
         inr (
           r.start,
           (let a : 4096 * k < r.start = omega arith in a),
           (let b : r.start < 4096 * k + 4096 = omega arith in b),
           (let c : r.start < length marks = omega arith in c),
-          differs_at r.start false true (not_zero_left (omega arith) tests.1) (zero_in r.start (omega arith) (omega arith) ∙ zeros) refl,
+          differs_at r.start false true (not_zero_left f until r rs is (omega arith) tests.1) (zero_in f until r rs is r.start (omega arith) (omega arith) ∙ zeros) refl,
         )
 
     end_touched : is_zero_source r.source ≡ true → list_any (has_block k) end_list ≡ true → IsTouched marks k
@@ -265,13 +273,13 @@ module _ (marks : List Mark) (k : ℕ) where
         let tests = none_of (end_of r % 4096) 0 (length marks) (end_of r) (goes_on (end_of r) rs) parts.0 in
         let within = has_from (end_of r / 4096) (end_of r / 4096) parts.1 in
         let odd = tests.0 in
-        let fill = filled in
+        let fill = filled f until r rs is in
         inr (
           end_of r,
           (let a : 4096 * k < end_of r = omega arith in a),
           (let b : end_of r < 4096 * k + 4096 = omega arith in b),
           tests.1,
-          differs_at (end_of r) true false (zero_in (end_of r - 1) (omega arith) (omega arith) ∙ zeros) (not_zero_right tests.1 tests.2) refl,
+          differs_at (end_of r) true false (zero_in f until r rs is (end_of r - 1) (omega arith) (omega arith) ∙ zeros) (stops_at (end_of r) _ rs (behind_part_classes f until r rs is) tests.1 tests.2) refl,
         )
 
     here_touched : is_zero_source r.source ≡ false → list_any (has_block k) here_list ≡ true → IsTouched marks k
@@ -279,34 +287,34 @@ module _ (marks : List Mark) (k : ℕ) where
         let within = has_from (r.start / 4096) ((end_of r - 1) / 4096) (sym (or-false (has_block k (record { first = r.start / 4096; last = (end_of r - 1) / 4096 }))) ∙ h) in
         let first = within.0 in
         let last = within.1 in
-        let fill = filled in
-        let e = ends in
+        let fill = filled f until r rs is in
+        let e = ends f until r rs is in
         let q = max r.start (4096 * k) in
         inl (
           q,
           (let b : 4096 * k ≤ q = omega arith in b),
           (let c : q < 4096 * k + 4096 = omega arith in c),
           (let d : q < length marks = omega arith in d),
-          payload_in q (omega arith) (omega arith) ∙ ap not payload,
+          payload_in f until r rs is q (omega arith) (omega arith) ∙ ap not payload,
         )
 
   touched_from : (rs : List Piece) (f until : ℕ) → Classes marks f until rs → list_any (has_block k) (touches (length marks) until rs) ≡ true → IsTouched marks k
   unfolding touches
   touched_from [] f until is h = cc
-  touched_from (r ∷ rs) f until is h = at (is_zero_source r.source) refl (λ after same either h. touched_from rs (end_of r) after (next f until r rs is after same either) h)
+  touched_from (r ∷ rs) f until is h = at (is_zero_source r.source) refl (touched_from rs (end_of r) (cond (is_zero_source r.source) (end_of r) 0) (behind_part_classes f until r rs is))
     where
       at : (b : Bool) → is_zero_source r.source ≡ b
-          → ((after : ℕ) → eqb after (end_of r) ≡ is_zero_source r.source → (after ≡ 0) ⊎ (after ≡ end_of r) → list_any (has_block k) (touches (length marks) after rs) ≡ true → IsTouched marks k) → IsTouched marks k
+          → (list_any (has_block k) (touches (length marks) (cond (is_zero_source r.source) (end_of r) 0) rs) ≡ true → IsTouched marks k) → IsTouched marks k
       at true zeros more = ⊎_elim
           (start_touched f until r rs is zeros)
           (λ (h : list_any (has_block k) (end_list f until r rs is ++ touches (length marks) (end_of r) rs) ≡ true). ⊎_elim
           (end_touched f until r rs is zeros)
-          (more (end_of r) (eq-eqb (end_of r) (end_of r) refl ∙ sym zeros) (inr refl))
+          (λ later. more (ap (λ b. list_any (has_block k) (touches (length marks) (cond b (end_of r) 0) rs)) zeros ∙ later))
           (or_cases _ _ (sym (list_any-append (has_block k) (end_list f until r rs is) (touches (length marks) (end_of r) rs)) ∙ h)))
           (or_cases _ _ (sym (list_any-append (has_block k) (start_list f until r rs is) (end_list f until r rs is ++ touches (length marks) (end_of r) rs)) ∙ ap (list_any (has_block k)) (sym (touches_is f until r rs is true zeros)) ∙ h))
       at false payload more = ⊎_elim
           (here_touched f until r rs is payload)
-          (more 0 (ne_eqb 0 (end_of r) (λ e. let l = is.parts.0 in let fill = is.parts.1 in let b : ⊥ = omega arith in b) ∙ sym payload) (inl refl))
+          (λ later. more (ap (λ b. list_any (has_block k) (touches (length marks) (cond b (end_of r) 0) rs)) payload ∙ later))
           (or_cases _ _ (sym (list_any-append (has_block k) (here_list f until r rs is) (touches (length marks) 0 rs)) ∙ ap (list_any (has_block k)) (sym (touches_is f until r rs is false payload)) ∙ h))
 
   -- a block that the pieces of a file touch is written

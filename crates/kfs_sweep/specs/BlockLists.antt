@@ -1,5 +1,5 @@
 -- Lists of blocks: those that the pieces of a file write, and the ranges of those that they make all zero.
-use Rattle.std.specs.Prelude.{◌≡◌, ℕ, ◌+◌, ◌-◌, ◌/◌, ◌++◌, max, nat_le, nat_lt, List, [], ◌∷◌, length, map, Some, if◌then◌else◌}
+use Rattle.std.specs.Prelude.{◌≡◌, ℕ, ◌+◌, ◌-◌, ◌/◌, ◌++◌, ◌&&◌, max, nat_le, nat_lt, Bool, List, [], ◌∷◌, length, map, Some, if◌then◌else◌}
 use Rattle.kfs_model.specs.Blocks.{Blocks, goes_on, is_zero_source, of_file, touches}
 use Rattle.kfs_model.specs.Limits.{block_size}
 use Rattle.kfs_model.specs.Placement.{block_count, numbers_from}
@@ -17,6 +17,9 @@ listed next (r ∷ rs) = numbers_from (max r.first next) (r.last + 1 - max r.fir
 -- The later list has these blocks listed: whatever comes behind them, both come to the same.
 abbrev pub HasListed : (before : List ℕ) (next : ℕ) → List Blocks → (after : List ℕ) (later : ℕ) → Type 0
 HasListed before next blocks after later = (rest : List Blocks) → after ++ listed later rest ≡ before ++ listed next (blocks ++ rest)
+
+abbrev pub is_in_range : (block : ℕ) → BlockRange → Bool
+is_in_range block range = nat_le range.first block && nat_lt block range.end
 
 -- the first block behind those that end by this place, in a file of this size: its last block may be a short one
 abbrev pub whole_until : (size end : ℕ) → ℕ
