@@ -13,6 +13,7 @@ pub mod Counting
 pub mod ListedBlocks
 pub mod TouchedBlocks
 pub mod WrittenLists
+pub mod ClearedRuns
 pub mod FileParts
 pub mod Listed
 pub mod SizesBetween
