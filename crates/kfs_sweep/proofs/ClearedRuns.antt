@@ -2,9 +2,9 @@
 use Rattle.std.proofs.Common.{◌≡◌, ℕ, zero, suc, ◌+◌, ◌-◌, ◌*◌, ◌/◌, ◌<◌, ◌≤◌, ◌⊎◌, inl, inr, ⊎_elim, min, Bool, true, false, cond, ◌==◌, ◌&&◌, ◌||◌, ltb, leb, List, [], ◌∷◌, ◌++◌, length, drop, map, filter, flat_map, get_or, length-drop, Option, Some, None, refl, sym, ap, ◌∙◌, arith, eqb-true}
 use Rattle.std.specs.List.{list_any, list_all}
 use Rattle.std.proofs.Math.Bool.{or-false}
-use Rattle.std.proofs.lemmas.Bool.{and_from, and_parts, both_ways, eq-eqb, leb-true, leb-false, le-leb, lt-ltb, ltb-true, or_cases, or_left, or_right}
+use Rattle.std.proofs.lemmas.Bool.{and_from, and_parts, both_ways, eq-eqb, leb-true, leb-false, le-leb, lt-ltb, ltb-true, or_cases, or_left, or_right, true_from_ne_false}
 use Rattle.std.proofs.lemmas.List.{get_or-take, get_or-drop, length-take}
-use Rattle.std.proofs.lemmas.List.Folds.{list_any-append}
+use Rattle.std.proofs.lemmas.List.Folds.{list_all_at, list_any-append}
 use Rattle.kfs_model.specs.Blocks.{goes_on, is_zero_source, of_file}
 use Rattle.kfs_model.specs.LastCover.{extent}
 use Rattle.kfs_model.specs.Placement.{is_cleared, is_zero, block_count, blocks_that, cleared_blocks, numbers_from}
@@ -22,6 +22,15 @@ use Rattle.kfs_sweep.specs.BlockLists.{blocks_between, cleared_from, cleared_run
 use Rattle.kfs_sweep.specs.declared.block_lists.BlockRange.{BlockRange}
 use Rattle.kfs_sweep.proofs.TouchedBlocks.{behind_part_classes, classes, stops_at, zero_before, zero_in}
 use Rattle.kfs_sweep.proofs.WrittenLists.{blocks_by_number}
+
+-- ---- lists of marks
+
+all_read : (xs : List Mark) → ((j : ℕ) → j < length xs → is_zero (get_or xs j Zero) ≡ true) → list_all is_zero xs ≡ true
+all_read [] zeros = refl
+all_read (x ∷ xs) zeros = and_from (is_zero x) (list_all is_zero xs) (zeros 0 (omega arith)) (all_read xs (λ j below. zeros (suc j) (omega arith)))
+
+read_all : (xs : List Mark) (j : ℕ) → list_all is_zero xs ≡ true → j < length xs → is_zero (get_or xs j Zero) ≡ true
+read_all xs j all below = true_from_ne_false _ (λ other. both_ways _ (list_all_at is_zero xs j Zero below other) all)
 
 -- ---- one range
 
@@ -42,6 +51,9 @@ module _ (size e k : ℕ) where
       at false is =
           let short = leb-false size e is in
           ⊎_elim (λ (h : size ≤ e). absurd (omega arith)) (λ (h : 4096 * k + 4096 ≤ e). let below : k < e / 4096 = omega arith in below) reaches
+
+  reach_or_not : ((size ≤ e) ⊎ (4096 * k + 4096 ≤ e)) ⊎ (((4096 * k ≤ e) × (e < 4096 * k + 4096) × (e < size)) ⊎ (e < 4096 * k))
+  reach_or_not = grind arith
 
 module _ (size s e k : ℕ) where
   abbrev range : BlockRange
@@ -71,15 +83,6 @@ module _ (marks : List Mark) (k : ℕ) where
   abbrev AllZero : Type 0
   AllZero = (q : ℕ) → 4096 * k ≤ q → q < 4096 * k + 4096 → q < length marks → is_zero (get_or marks q Zero) ≡ true
 
-  all_read : (xs : List Mark) → ((j : ℕ) → j < length xs → is_zero (get_or xs j Zero) ≡ true) → list_all is_zero xs ≡ true
-  all_read [] zeros = refl
-  all_read (x ∷ xs) zeros = and_from (is_zero x) (list_all is_zero xs) (zeros 0 (omega arith)) (all_read xs (λ j below. zeros (suc j) (omega arith)))
-
-  read_all : (xs : List Mark) (j : ℕ) → list_all is_zero xs ≡ true → j < length xs → is_zero (get_or xs j Zero) ≡ true
-  read_all [] j all below = absurd (omega arith)
-  read_all (x ∷ xs) zero all below = (and_parts (is_zero x) (list_all is_zero xs) all).0
-  read_all (x ∷ xs) (suc j) all below = read_all xs j (and_parts (is_zero x) (list_all is_zero xs) all).1 (omega arith)
-
   long : length (block_at marks k) ≡ min 4096 (length marks - 4096 * k)
   long = length-take 4096 (drop (4096 * k) marks) ∙ ap (min 4096) (length-drop (4096 * k) marks)
 
@@ -101,9 +104,6 @@ module _ (marks : List Mark) (k : ℕ) where
       ap is_zero (read j (omega arith)) ∙ all (4096 * k + j) (omega arith) (omega arith) (omega arith))
 
   -- ---- over pieces
-
-  reach_or_not : (e size : ℕ) → ((size ≤ e) ⊎ (4096 * k + 4096 ≤ e)) ⊎ (((4096 * k ≤ e) × (e < 4096 * k + 4096) × (e < size)) ⊎ (e < 4096 * k))
-  reach_or_not e size = grind arith
 
   -- a range has blocks of zero bytes alone, where bytes from s to e are zero
   between_zero : (s e : ℕ) → ((q : ℕ) → s ≤ q → q < e → is_zero (get_or marks q Zero) ≡ true) → list_any (is_in_range k) (blocks_between (length marks) s e) ≡ true → AllZero
@@ -175,7 +175,7 @@ module _ (marks : List Mark) (k : ℕ) where
         (λ (inside : (4096 * k ≤ e) × (e < 4096 * k + 4096) × (e < length marks)). absurd (not_inside e until [] is refl inside.0 inside.1 inside.2))
         (λ (before : e < 4096 * k). absurd (both_ways _ (is.zero (4096 * k) (omega arith) begins) first_zero))
         other)
-        (reach_or_not e (length marks))
+        (reach_or_not (length marks) e k)
     zero_ranges (r ∷ rs) s e until is low =
         at (goes_on e (r ∷ rs)) refl (λ start least. zero_ranges rs start (end_of r) (cond (is_zero_source r.source) (end_of r) 0) (behind_part_classes marks k e until r rs is) least)
       where
@@ -192,7 +192,7 @@ module _ (marks : List Mark) (k : ℕ) where
             (λ (inside : (4096 * k ≤ e) × (e < 4096 * k + 4096) × (e < length marks)). absurd (not_inside e until (r ∷ rs) is stops inside.0 inside.1 inside.2))
             (λ (before : e < 4096 * k). or_right here later (more (zeros_start r) (start_by r rs e until is before)))
             other)
-            (reach_or_not e (length marks))
+            (reach_or_not (length marks) e k)
 
 -- ---- of a file
 

@@ -144,7 +144,7 @@ le_same n = omega arith
 at_or_behind : (f s : ℕ) → f ≤ s → 1 ≤ s → (f ≤ s - 1) ⊎ (s ≡ f)
 at_or_behind f s h i = grind arith
 
-before_or_same : (e s : ℕ) → e ≤ s → (e < s) ⊎ (s ≡ e)
+pub before_or_same : (e s : ℕ) → e ≤ s → (e < s) ⊎ (s ≡ e)
 before_or_same e s h = grind arith
 
 other_source : (a b : Bool) → (a && b) ≡ false → b ≡ true → a ≡ false

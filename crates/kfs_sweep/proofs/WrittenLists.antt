@@ -1,5 +1,5 @@
 -- The written blocks of a run are those that its right pieces list.
-use Rattle.std.proofs.Common.{◌≡◌, ℕ, zero, suc, ◌+◌, ◌-◌, ◌*◌, ◌<◌, ◌≤◌, ◌⊎◌, ⊎_elim, max, Bool, true, false, cond, ◌&&◌, leb, List, [], ◌∷◌, ◌++◌, length, take, drop, map, filter, flat_map, Some, refl, sym, ap, subst, ◌∙◌, arith, drop-drop, length-append}
+use Rattle.std.proofs.Common.{◌≡◌, ℕ, zero, suc, ◌+◌, ◌-◌, ◌*◌, ◌<◌, ◌≤◌, ⊎_elim, max, Bool, true, false, cond, ◌&&◌, leb, List, [], ◌∷◌, ◌++◌, length, take, drop, map, filter, flat_map, Some, refl, sym, ap, subst, ◌∙◌, arith, drop-drop, length-append}
 use Rattle.std.specs.List.{list_any, AllByRecursion}
 use Rattle.std.proofs.lemmas.Bool.{or_left, or_right}
 use Rattle.std.proofs.lemmas.Bool.Decides.{nat_tests}
@@ -17,9 +17,12 @@ use Rattle.kfs_model.proofs.Tape.{below_or_not}
 use Rattle.kfs_model.proofs.Touches.{Classes, file_count}
 use Rattle.kfs_model.proofs.WrittenBlocks.{all_found}
 use Rattle.kfs_sweep.specs.BlockLists.{listed, node_written}
-use Rattle.kfs_sweep.proofs.TouchedBlocks.{classes, touched_written}
+use Rattle.kfs_sweep.proofs.TouchedBlocks.{before_or_same, classes, touched_written}
 
 -- ---- ascending numbers that pass a test
+
+in_stretch : (f l k : ℕ) → f ≤ k → k < l + 1 → (leb f k && leb k l) ≡ true
+in_stretch f l k low high = grind (arith, nat_tests)
 
 module _ (p : ℕ → Bool) (bound : ℕ) where
   -- ascending from a number on, each below the bound and passing the test
@@ -40,9 +43,6 @@ module _ (p : ℕ → Bool) (bound : ℕ) where
       let here = pass m (omega arith) (omega arith) in
       (low, here.0, here.1, picked_run count (m + 1) (m + 1) later xs (omega arith) (omega arith) (λ some. omega arith) (λ k least below. pass k (omega arith) (omega arith)) picked)
 
-  first_or_later : (first x : ℕ) → first ≤ x → (first < x) ⊎ (x ≡ first)
-  first_or_later first x low = grind arith
-
   later_part : (first x : ℕ) (xs : List ℕ) → first < x → IsPicked first (x ∷ xs) → IsPicked (first + 1) (x ∷ xs)
   later_part first x xs later picked = (omega arith, picked.1, picked.2, picked.3)
 
@@ -58,7 +58,7 @@ module _ (p : ℕ → Bool) (bound : ℕ) where
       let parts = same_first first x xs same picked in
       let few = picked_few count (first + 1) xs (omega arith) parts.1 in
       subst (λ b. suc (length xs) ≤ length (cond b (first ∷ filter p (numbers_from (first + 1) count)) (filter p (numbers_from (first + 1) count)))) (sym parts.0) (let one : suc (length xs) ≤ suc (length (filter p (numbers_from (first + 1) count))) = omega arith in one))
-      (first_or_later first x picked.0)
+      (before_or_same first x picked.0)
     where
       more : (b : Bool) → suc (length xs) ≤ length (filter p (numbers_from (first + 1) count)) → suc (length xs) ≤ length (cond b (first ∷ filter p (numbers_from (first + 1) count)) (filter p (numbers_from (first + 1) count)))
       more true few = omega arith
@@ -78,15 +78,12 @@ module _ (p : ℕ → Bool) (bound : ℕ) where
       at true passes (x ∷ xs) picked long all few = ⊎_elim
           (λ (later : first < x). let under = few (x ∷ xs) (later_part first x xs later picked) in absurd (omega arith))
           (λ (same : x ≡ first). let parts = same_first first x xs same picked in λ i. same i ∷ all xs parts.1 (omega arith) i)
-          (first_or_later first x picked.0)
+          (before_or_same first x picked.0)
       at false fails [] picked long all few = all [] tt long
       at false fails (x ∷ xs) picked long all few = ⊎_elim
           (λ (later : first < x). all (x ∷ xs) (later_part first x xs later picked) long)
           (λ (same : x ≡ first). let parts = same_first first x xs same picked in cc (parts.0, fails))
-          (first_or_later first x picked.0)
-
-  in_stretch : (f l k : ℕ) → f ≤ k → k < l + 1 → (leb f k && leb k l) ≡ true
-  in_stretch f l k low high = grind (arith, nat_tests)
+          (before_or_same first x picked.0)
 
   listed_picked : (rs : List Blocks) (next : ℕ) → ((k : ℕ) → list_any (has_block k) rs ≡ true → (k < bound) × (p k ≡ true)) → IsPicked next (listed next rs)
   unfolding listed

@@ -1,5 +1,5 @@
 -- Lists of blocks: those that the pieces of a file write, and the ranges of those that they make all zero.
-use Rattle.std.specs.Prelude.{◌≡◌, ℕ, ◌+◌, ◌-◌, ◌/◌, ◌++◌, ◌==◌, ◌&&◌, max, nat_le, nat_lt, Bool, List, [], ◌∷◌, length, map, Some, if◌then◌else◌}
+use Rattle.std.specs.Prelude.{◌≡◌, ℕ, ◌+◌, ◌-◌, ◌/◌, ◌<◌, ◌++◌, ◌==◌, ◌&&◌, max, nat_le, nat_lt, Bool, List, [], ◌∷◌, length, map, Some, if◌then◌else◌}
 use Rattle.std.specs.List.{list_any}
 use Rattle.kfs_model.specs.Blocks.{Blocks, goes_on, is_zero_source, of_file, touches}
 use Rattle.kfs_model.specs.LastCover.{extent}
@@ -53,7 +53,7 @@ cleared_runs size pieces = cleared_from size 0 0 pieces
 abbrev pub node_written : List Piece → ℕ × Node Mark → List (ℕ × ℕ)
 node_written pieces entry = map (λ block. (entry.0, block)) (listed 0 (touches (length (content_of (Some entry.1))) 0 (of_file entry.0 pieces)))
 
--- the log makes the block all zero exactly where it is in a range that the file's pieces clear
-abbrev pub IsClearedAlike : (after : Tree Mark) → List Piece → (number block : ℕ) → Type 0
-IsClearedAlike after pieces number block =
-    list_any (λ other. (other.0 == number) && (other.1 == block)) (cleared_blocks after) ≡ list_any (is_in_range block) (cleared_runs (extent after number) (of_file number pieces))
+-- a block of this file is one that the log makes all zero exactly where it is in a range that the file's pieces clear
+abbrev pub IsClearedInRanges : (after : Tree Mark) → List Piece → (number : ℕ) → Type 0
+IsClearedInRanges after pieces number = (block : ℕ) → block < block_count (extent after number)
+    → list_any (λ other. (other.0 == number) && (other.1 == block)) (cleared_blocks after) ≡ list_any (is_in_range block) (cleared_runs (extent after number) (of_file number pieces))
