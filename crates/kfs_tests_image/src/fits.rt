@@ -36,7 +36,7 @@ fn header_after<A: Allocator>(image: &Image<A>, rows: &[NodeRow], number: u32) -
 }
 
 /// How many blocks the file has, none where there is no file.
-fn block_count(header: Option<Header>) -> u64
+pub fn block_count(header: Option<Header>) -> u64
     ensures { result ≡ blocks_in (option_map header_of header) }
 {
     match header {
@@ -46,7 +46,7 @@ fn block_count(header: Option<Header>) -> u64
 }
 
 /// Whether the place is one of its tier's, and free.
-fn is_place_free<A: Allocator>(image: &Image<A>, place: Place) -> bool
+pub fn is_place_free<A: Allocator>(image: &Image<A>, place: Place) -> bool
     ensures in_tier { IsTrue result → place.place < tier_size image.now.sizes place.tier }
     ensures free { IsTrue result → is_free image.now.placement place ≡ true }
 {

@@ -1,0 +1,111 @@
+//! Edits of an image: as many blocks of a tier as there may be, and edits of which each growth is refused in turn.
+ghost use Rattle.std.specs.Prelude.{[], ◌∷◌, IfSome};
+ghost use Rattle.kfs_image.specs.Edit.{CanEdit};
+
+use crate::fits::{block_count, header, is_place_free};
+use crate::landings::{Landing, fresh, land};
+use kfs_image::{Edit, Image, Place};
+use kfs_tests_plan::spelling::PieceLine::Zero;
+use kfs_tests_plan::spelling::{FileLine, Rows, Step};
+use std::alloc::{Allocator, Global};
+use std::process::Abort;
+
+/// How many blocks a tier may have.
+const GREATEST: u32 = 65_536;
+
+/// File 5 at `/a`, as long as a tier.
+const LONG: Landing<'static> = Landing {
+    held: &[b"/"],
+    made: (
+        &[Step::Create(b"a", 5, 0o644), Step::Truncate(5, 268_435_456)],
+        Rows {
+            names: &[(b"a", 5)],
+            nodes: &[FileLine(5, 0o644, 1000, 1000, 268_435_456)],
+            pieces: &[Zero(5, 0, 268_435_456)],
+        },
+    ),
+    written: &[],
+    zero: &[],
+};
+
+/// The edit that lays a block of a file at a place, where the image is lawful after it.
+fn mapping<A: Allocator>(image: &Image<A>, number: u32, block: u32, place: Place) -> Option<Edit<A>>
+    ensures { IfSome result (λ edit. CanEdit (edit ∷ []) image.now) }
+{
+    let _shape = image.shape();
+    let is_free = is_place_free(image, place);
+    if is_free && u64::from(block) < block_count(header(image, number)) {
+        Some(Edit::Map(number, block, Some(place)))
+    } else {
+        None
+    }
+}
+
+/// The edit after which the block lies nowhere.
+fn unmapping<A: Allocator>(image: &Image<A>, number: u32, block: u32) -> Edit<A>
+    ensures { CanEdit (result ∷ []) image.now }
+{
+    let _shape = image.shape();
+    Edit::Map(number, block, None)
+}
+
+/// Makes the one edit.
+fn make<A: Allocator + Copy>(alloc: A, image: &mut Image<A>, edit: Edit<A>) -> Option<()>
+    requires { CanEdit (edit ∷ []) image.old }
+{
+    let mut edits = Vec::new(alloc);
+    edits.push(edit).ok()?;
+    image.edit(edits.as_slice()).ok()
+}
+
+/// Lays the block of file 5 at the least free place of tier 0 that isn't below `from`, and answers it.
+fn lay(alloc: Global, image: &mut Image<Global>, block: u32, from: u32) -> Option<u32> {
+    let place = image.next_free(0, from)?;
+    let edit = mapping(image, 5, block, Place { tier: 0, place })?;
+    make(alloc, image, edit)?;
+    Some(place)
+}
+
+/// The image in which all blocks of file 5 lie on tier 0, each at the place of its own number.
+fn filled(alloc: Global) -> Option<Image<Global>> {
+    let mut image = fresh(alloc, (GREATEST, 0, 0))?;
+    land(alloc, &mut image, &LONG)?;
+    for block in 0..GREATEST {
+        if lay(alloc, &mut image, block, block)? != block {
+            return None;
+        }
+    }
+    Some(image)
+}
+
+/// How many places of tier 0 are free, the least of them, and the place of a block of file 5.
+fn found(image: &Image<Global>, block: u32) -> (u32, Option<u32>, Option<u32>) {
+    let place = image.place_of(5, block);
+    (
+        image.free(0),
+        image.next_free(0, 0),
+        place.map(|place| place.place),
+    )
+}
+
+#[test]
+fn a_tier_of_which_each_place_is_used(rt: HostRuntime) {
+    let image = filled(rt.alloc());
+    assert!(rt; image.is_some());
+    if let Some(mut image) = image {
+        expect_one_freed(&rt, &mut image);
+    }
+}
+
+/// A block that is freed is the one that is found, and is used again.
+fn expect_one_freed(rt: &(impl Abort + AllocGlobal), image: &mut Image<Global>) {
+    assert!(rt; found(image, 40_000) == (0, None, Some(40_000)));
+    let edit = unmapping(image, 5, 40_000);
+    let is_made = make(rt.alloc(), image, edit).is_some();
+    assert!(rt; is_made);
+    assert!(rt; found(image, 40_000) == (1, Some(40_000), None));
+    assert!(rt; image.next_free(0, 40_001) == None);
+    let place = lay(rt.alloc(), image, 40_000, 0);
+    assert!(rt; place == Some(40_000));
+    assert!(rt; found(image, 40_000) == (0, None, Some(40_000)));
+}
