@@ -1,1 +1,2 @@
+pub mod Bytes
 pub mod Fill

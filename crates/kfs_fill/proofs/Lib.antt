@@ -1,0 +1,6 @@
+pub mod BlockBytes
+pub mod BlockRows
+pub mod FreePlaces
+pub mod Narrowed
+pub mod PartSteps
+pub mod PutPieces
