@@ -1,6 +1,6 @@
 -- The bytes of a block: as a read of the file leaves them, and all of them as one list.
-use Rattle.std.proofs.Common.{◌≡◌, ℕ, zero, suc, ◌+◌, ◌-◌, ◌*◌, ◌<◌, ◌≤◌, ◌++◌, ◌⊎◌, ◌↔◌, min, Bool, true, false, List, [], ◌∷◌, length, replicate, take, drop, map, Option, Some, None, Result, Ok, Err, option_map, refl, sym, ap, ◌∙◌, ⊎_elim, arith}
-use Rattle.std.specs.Prelude.{IsTrue, IfOk, OnErr, slice_get, unwrap_or}
+use Rattle.std.proofs.Common.{◌≡◌, ℕ, zero, suc, ◌+◌, ◌-◌, ◌*◌, ◌<◌, ◌≤◌, ◌++◌, ◌↔◌, min, true, List, [], ◌∷◌, length, replicate, take, drop, map, Option, Some, None, Result, Ok, Err, option_map, refl, sym, ap, ◌∙◌, ⊎_elim, arith}
+use Rattle.std.specs.Prelude.{IsTrue, IfOk, OnErr}
 use Rattle.std.proofs.Math.ListN.{get_or, get_or-append}
 use Rattle.std.proofs.lemmas.Bool.{cases_lt}
 use Rattle.std.proofs.lemmas.List.{get_or-take, get_or-drop, get_or_past, take_at, get_or-append_right, length-take, length-drop}
@@ -17,7 +17,7 @@ use Rattle.kfs_model.proofs.TableLaws.{get-mapped}
 use Rattle.kfs_device.specs.ShownTree.{DeviceImage, file_bytes, shown_tree}
 use Rattle.kfs_fill.specs.Bytes.{byte_over, ArePut}
 use Rattle.kfs_fill.specs.Fill.{byte_after}
-use Rattle.kfs_image.specs.Read.{bytes_from, IsRead}
+use Rattle.kfs_image.specs.Read.{IsRead}
 use Rattle.kfs_image.specs.declared.read.ReadFault.{ReadFault}
 use Rattle.kfs_image.specs.declared.read.ReadFault.TheVariants as faults
 

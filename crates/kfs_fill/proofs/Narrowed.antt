@@ -1,10 +1,12 @@
 -- The pieces of a part of a list say of a block what all of them say.
-use Rattle.std.proofs.Common.{◌≡◌, ℕ, zero, suc, map, ◌*◌, ◌+◌, ◌-◌, ◌<◌, ◌≤◌, ◌⊎◌, inl, inr, Bool, true, false, cond, ltb, leb, eqb, ◌||◌, ◌&&◌, List, [], ◌∷◌, Option, Some, None, refl, sym, ap, ◌∙◌, arith}
+use Rattle.std.proofs.Common.{◌≡◌, ℕ, length, drop, subst, zero, suc, map, ◌*◌, ◌+◌, ◌-◌, ◌<◌, ◌≤◌, ◌⊎◌, inr, Bool, true, false, cond, ltb, leb, eqb, ◌||◌, ◌&&◌, List, [], ◌∷◌, Some, None, refl, sym, ap, ◌∙◌, arith}
+use Rattle.std.proofs.Math.ListN.{get_or}
 use Rattle.std.proofs.lemmas.Bool.Decides.{nat_tests}
-use Rattle.kfs_model.specs.Plan.{said_by, covers, end_of, ComesBy, IsBehind, Ascend}
+use Rattle.std.proofs.lemmas.List.{drop_more}
+use Rattle.kfs_model.specs.Plan.{said_by, covers, end_of, ComesBy, Ascend}
 use Rattle.kfs_model.specs.PlanCut.{said_at}
 use Rattle.kfs_model.specs.PlanRow.{Piece}
-use Rattle.kfs_model.specs.Run.{Mark, byte_at, byte_of}
+use Rattle.kfs_model.specs.Run.{byte_at, byte_of}
 use Rattle.kfs_model.specs.Entry.{Entry}
 use Rattle.kfs_model.specs.Limits.{block_size}
 use Rattle.kfs_model.specs.Placement.{numbers_from, below}
@@ -134,3 +136,23 @@ module _ (n b : ℕ) (blocks : List (ℕ × ℕ)) (pieces left : List Piece) (so
 
   pub block_left : (before : Tree ℕ) (entries : List Entry) → block_after before entries (beginning n (b * block_size + block_size) left_now) n b ≡ block_after before entries pieces n b
   block_left before entries = block_same before entries (beginning n (b * block_size + block_size) left_now) pieces n b block_size said_within
+
+module _ (blocks : List (ℕ × ℕ)) (index : ℕ) (d : ℕ × ℕ) (pieces left now : List Piece) (block : ℕ) (inside : index < length blocks)
+    (so_far : AreLeft (drop index blocks) pieces left) (is : block ≡ (get_or blocks index d).1) (reached : now ≡ reaching (get_or blocks index d).0 (block * 4096) left) where
+  with_first : AreLeft (get_or blocks index d ∷ drop (index + 1) blocks) pieces left
+  with_first = subst (λ bs. AreLeft bs pieces left) (drop_more blocks index d inside) so_far
+
+  reached_there : now ≡ reaching (get_or blocks index d).0 ((get_or blocks index d).1 * block_size) left
+  reached_there = reached ∙ ap (λ b. reaching (get_or blocks index d).0 (b * 4096) left) is
+
+  pub left_behind : AreLeft (drop (index + 1) blocks) pieces now
+  left_behind =
+      subst (AreLeft (drop (index + 1) blocks) pieces) (sym reached_there)
+      (left_next (get_or blocks index d).0 (get_or blocks index d).1 (drop (index + 1) blocks) pieces left with_first)
+
+  pub bytes_there : (before : Tree ℕ) (entries : List Entry) (part : List Piece) → part ≡ beginning (get_or blocks index d).0 (block * 4096 + 4096) now
+      → block_after before entries part (get_or blocks index d).0 (get_or blocks index d).1 ≡ block_after before entries pieces (get_or blocks index d).0 (get_or blocks index d).1
+  bytes_there before entries part begun =
+      ap (λ ps. block_after before entries ps (get_or blocks index d).0 (get_or blocks index d).1)
+      (begun ∙ (λ i. beginning (get_or blocks index d).0 (is i * 4096 + 4096) (reached_there i)))
+      ∙ block_left (get_or blocks index d).0 (get_or blocks index d).1 (drop (index + 1) blocks) pieces left with_first before entries

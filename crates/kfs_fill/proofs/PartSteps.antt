@@ -36,8 +36,8 @@ module _ (n q : ℕ) where
     pub reaching_next : (d : CodePiece) → i < length pieces → ends_by n q (piece_of (get_or pieces i d)) ≡ true
         → reaching n q (map piece_of (drop (i + 1) pieces)) ≡ reaching n q (map piece_of (drop i pieces))
     reaching_next d inside over = sym (
-      ap (λ ps. reaching n q (map piece_of ps)) (drop_more pieces i d inside)
-      ∙ reaching_over (piece_of (get_or pieces i d)) (map piece_of (drop (i + 1) pieces)) over)
+        ap (λ ps. reaching n q (map piece_of ps)) (drop_more pieces i d inside)
+        ∙ reaching_over (piece_of (get_or pieces i d)) (map piece_of (drop (i + 1) pieces)) over)
 
     pub reaching_here : (d : CodePiece) → i < length pieces → ends_by n q (piece_of (get_or pieces i d)) ≡ false → reaching n q (map piece_of (drop i pieces)) ≡ map piece_of (drop i pieces)
     reaching_here d inside over =

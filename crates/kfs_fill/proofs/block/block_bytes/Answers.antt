@@ -1,4 +1,4 @@
-use Rattle.std.proofs.Common.{◌*◌, length, drop, sym, ap, ◌∙◌, arith}
+use Rattle.std.proofs.Common.{◌*◌, length, drop, ap, ◌∙◌, arith}
 use Rattle.std.proofs.Math.ListN.{get_or}
 use Rattle.kfs_model.specs.Limits.{block_size}
 use Rattle.kfs_device.specs.ShownTree.{shown_tree}

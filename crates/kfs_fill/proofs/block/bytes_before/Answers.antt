@@ -1,4 +1,4 @@
-use Rattle.std.proofs.Common.{◌≡◌, ◌++◌, ◌<◌, length, drop, ◌∙◌, arith}
+use Rattle.std.proofs.Common.{◌++◌, ◌<◌, length, drop, ◌∙◌, arith}
 use Rattle.std.proofs.Math.ListN.{get_or-append}
 use Rattle.std.proofs.lemmas.List.{get_or-take}
 use Rattle.kfs_fill.proofs.BlockBytes.{all_zero, read_or_zero}

@@ -1,4 +1,4 @@
-use Rattle.std.proofs.Common.{refl, arith}
+use Rattle.std.proofs.Common.{arith}
 use Rattle.kfs_value.specs.Views.{piece_of}
 use Rattle.kfs_fill.specs.Bytes.{entries_of}
 use Rattle.kfs_fill.proofs.PutPieces.{put_part}

@@ -1,4 +1,4 @@
-use Rattle.std.proofs.Common.{◌≡◌, map, drop}
+use Rattle.std.proofs.Common.{map, drop}
 use Rattle.kfs_value.specs.Views.{piece_of}
 use Rattle.kfs_fill.specs.Bytes.{entries_of, ArePut}
 use Rattle.kfs_fill.proofs.bytes.put_pieces.Given as goal
