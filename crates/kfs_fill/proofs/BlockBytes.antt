@@ -48,6 +48,9 @@ block_is before entries pieces number block size start len old new behind begins
 
 -- ---- what a read leaves in bytes that were zero
 
+pub in_front : (len k byte : ℕ) (front rest : List ℕ) → k < len → k < length front → get_or front k 0 ≡ byte → get_or (take len (front ++ rest)) k 0 ≡ byte
+in_front len k byte front rest taken inside is = get_or-take len (front ++ rest) k 0 taken ∙ get_or-append front rest 0 k inside ∙ is
+
 zero_at : (n k : ℕ) → ◌≡◌ {A = ℕ} (get_or (replicate n 0) k 0) 0
 zero_at zero k = refl
 zero_at (suc n) zero = refl

@@ -1,8 +1,8 @@
 -- The rows of blocks, one after the other.
-use Rattle.std.proofs.Common.{◌≡◌, ℕ, ◌+◌, ◌<◌, ◌++◌, List, [], ◌∷◌, length, take, refl, sym, ◌∙◌}
+use Rattle.std.proofs.Common.{◌≡◌, ℕ, ◌+◌, ◌<◌, ◌++◌, List, [], ◌∷◌, length, take, sym, ◌∙◌}
 use Rattle.std.proofs.Math.ListN.{get_or}
 use Rattle.std.proofs.lemmas.List.{map_push, map_more, take_more}
-use Rattle.std.proofs.lemmas.List.Elements.{All-nil, All-push}
+use Rattle.std.proofs.lemmas.List.Elements.{All-push}
 use Rattle.kfs_model.specs.Entry.{Entry}
 use Rattle.kfs_model.specs.Placement.{Place, in_first_tier}
 use Rattle.kfs_model.specs.PlanRow.{Piece}
@@ -19,9 +19,6 @@ module _ {A : Type 0} (before : Tree ℕ) (entries : List Entry) (pieces : List 
 
   abbrev HasBytes : BlockRow A → Type 0
   HasBytes r = r.bytes.items ≡ block_after before entries pieces r.number r.block
-
-  pub no_rows : AreRowsOf {A = A} before entries pieces [] [] []
-  no_rows = record { keys = refl; laid = refl; bytes = All-nil HasBytes }
 
   pub next_row : (blocks : List (ℕ × ℕ)) (places : List ℕ) (rows : List (BlockRow A)) (index : ℕ) (d : ℕ × ℕ) (e : ℕ) (r : BlockRow A) → index < length blocks → index < length places
       → key_of r ≡ get_or blocks index d → r.place ≡ in_first_tier (get_or places index e) → HasBytes r

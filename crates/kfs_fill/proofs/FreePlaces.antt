@@ -43,9 +43,6 @@ module _ (sizes : TierSizes) (placement : Placement) where
   abbrev pub AreFound : (found : List ℕ) (from : ℕ) → Type 0
   AreFound found from = unused_places sizes placement 0 ≡ found ++ unused_from from
 
-  pub found_none : AreFound [] 0
-  found_none = ap (λ n. filter (λ place. is_free placement (record { tier = 0; place = place })) (numbers_from 0 n)) (let same : tier_size sizes 0 ≡ tier_size sizes 0 - 0 = omega arith in same)
-
   module _ (found : List ℕ) (from : ℕ) (so_far : AreFound found from) where
     pub found_next : (place : ℕ) → IsNextUnused sizes placement 0 from place → AreFound (found ++ place ∷ []) (place + 1)
     found_next place next =

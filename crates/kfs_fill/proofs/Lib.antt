@@ -1,5 +1,6 @@
 pub mod BlockBytes
 pub mod BlockRows
+pub mod Chosen
 pub mod FreePlaces
 pub mod Narrowed
 pub mod PartSteps

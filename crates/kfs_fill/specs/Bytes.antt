@@ -1,13 +1,14 @@
 -- What a log says of bytes of files: the bytes of its payloads, its pieces put over the bytes of a block, and those of its
 -- pieces that a block needs.
-use Rattle.std.specs.Prelude.{◌≡◌, ℕ, ◌+◌, ◌<◌, ◌==◌, ◌&&◌, ◌||◌, nat_lt, nat_le, Bool, List, [], ◌∷◌, length, map, Some, None, slice_index, if◌then◌else◌}
+use Rattle.std.specs.Prelude.{◌≡◌, ℕ, ◌+◌, ◌<◌, ◌==◌, ◌&&◌, ◌||◌, nat_lt, nat_le, Bool, List, [], ◌∷◌, length, map, Some, None, slice_index, EachIndex, if◌then◌else◌}
 use Rattle.std.specs.List.{AllByRecursion}
 use Rattle.kfs_model.specs.Entry.{Entry}
-use Rattle.kfs_model.specs.Plan.{end_of, ComesBy}
+use Rattle.kfs_model.specs.Plan.{said_by, end_of, ComesBy}
 use Rattle.kfs_model.specs.PlanCut.{said_at}
-use Rattle.kfs_model.specs.PlanRow.{Piece}
-use Rattle.kfs_model.specs.Run.{byte_of}
-use Rattle.kfs_model.specs.Tree.{Tree}
+use Rattle.kfs_model.specs.PlanRow.{Piece, Source}
+use Rattle.kfs_model.specs.Run.{byte_at, byte_of}
+use Rattle.kfs_model.specs.Table.{get}
+use Rattle.kfs_model.specs.Tree.{Tree, content_of}
 use Rattle.kfs_value.specs.Views.{entry_of, piece_of, IsWithin}
 use Rattle.kfs_fill.specs.declared.bytes.LogBytes.{LogBytes}
 
@@ -21,6 +22,14 @@ pieces_of log = map piece_of log.pieces.now
 -- each payload lies in the source
 abbrev pub HasPayloads : LogBytes → Type 0
 HasPayloads log = AllByRecursion (IsWithin (length log.source.now)) log.entries.now
+
+-- bytes of a file from `start` on, 0 past its end
+abbrev pub AreBytesOf : Tree ℕ → (number start : ℕ) → List ℕ → Type 0
+AreBytesOf t number start bytes = EachIndex bytes (λ k. slice_index bytes k ≡ byte_at (content_of (get t.nodes number)) (start + k))
+
+-- bytes that a source gives from a distance to its piece's start on
+abbrev pub AreGivenBy : List Entry → Source → (distance : ℕ) → List ℕ → Type 0
+AreGivenBy entries source distance bytes = (before : Tree ℕ) → EachIndex bytes (λ k. slice_index bytes k ≡ byte_of before entries (said_by source (distance + k)))
 
 -- a byte of a file with the pieces put over the one that stood there
 abbrev pub byte_over : Tree ℕ → List Entry → List Piece → (number position old : ℕ) → ℕ

@@ -1,11 +1,7 @@
 //! A block of a file after a log.
-ghost use Rattle.std.specs.Prelude.{◌≡◌, ◌+◌, ◌*◌, ◌<◌, ℕ, IfOk, vec_len, slice_index};
-ghost use Rattle.kfs_model.specs.Limits.{block_size};
-ghost use Rattle.kfs_model.specs.Run.{byte_at};
-ghost use Rattle.kfs_model.specs.Table.{get};
-ghost use Rattle.kfs_model.specs.Tree.{content_of};
+ghost use Rattle.std.specs.Prelude.{◌≡◌, IfOk, vec_len};
 ghost use Rattle.kfs_device.specs.ShownTree.{shown_tree};
-ghost use Rattle.kfs_fill.specs.Bytes.{entries_of, pieces_of, HasPayloads};
+ghost use Rattle.kfs_fill.specs.Bytes.{entries_of, pieces_of, AreBytesOf, HasPayloads};
 ghost use Rattle.kfs_fill.specs.Fill.{block_after};
 
 use crate::bytes::{LogBytes, put_pieces};
@@ -22,7 +18,7 @@ fn bytes_before<A: Allocator>(
     count: usize,
 ) -> Result<Vec<u8, A>, AllocError>
     ensures len { IfOk result (λ bytes. vec_len bytes ≡ count) }
-    ensures bytes { IfOk result (λ bytes. (k : ℕ) → k < count → slice_index bytes.items k ≡ byte_at (content_of (get (shown_tree image.now).nodes number)) (start + k)) }
+    ensures bytes { IfOk result (λ bytes. AreBytesOf (shown_tree image.now) number start bytes.items) }
 {
     let mut bytes = Vec::new(alloc);
     bytes.resize(count, 0)?;

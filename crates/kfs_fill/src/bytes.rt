@@ -1,10 +1,8 @@
 //! A log's pieces put over the bytes of a file.
-ghost use Rattle.std.specs.Prelude.{◌≡◌, ℕ, ◌+◌, ◌<◌, ◌∷◌, [], length, drop, slice_get, slice_index, EachIndex};
+ghost use Rattle.std.specs.Prelude.{◌≡◌, ◌∷◌, [], drop, slice_get, slice_index, EachIndex};
 ghost use Rattle.kfs_value.specs.Views.{piece_of, source_of};
-ghost use Rattle.kfs_model.specs.Plan.{said_by};
-ghost use Rattle.kfs_model.specs.Run.{byte_at, byte_of, payload_of};
-ghost use Rattle.kfs_model.specs.Tree.{Tree};
-ghost use Rattle.kfs_fill.specs.Bytes.{entries_of, pieces_of, HasPayloads, ArePut};
+ghost use Rattle.kfs_model.specs.Run.{byte_at, payload_of};
+ghost use Rattle.kfs_fill.specs.Bytes.{entries_of, pieces_of, HasPayloads, ArePut, AreGivenBy};
 
 use kfs_value::{Entry, Piece, Source, Span};
 
@@ -54,7 +52,7 @@ fn put_bytes(bytes: &mut [u8], payload: &[u8])
 /// Fills the bytes with what stands in the source of a piece from a distance to its start on.
 fn put_source(bytes: &mut [u8], log: &LogBytes<'_>, source: Source, distance: usize)
     requires { HasPayloads log.now }
-    ensures { (before : Tree ℕ) → EachIndex bytes.new (λ k. slice_index bytes.new k ≡ byte_of before (entries_of log.now) (said_by (source_of source) (distance + k))) }
+    ensures { AreGivenBy (entries_of log.now) (source_of source) distance bytes.new }
 {
     match source {
         Source::Zero => bytes.fill(0),

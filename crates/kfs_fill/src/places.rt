@@ -1,6 +1,7 @@
 //! The places that a landing takes.
 ghost use Rattle.std.specs.Prelude.{◌≡◌, IfOk, take};
 ghost use Rattle.kfs_tier.specs.Unused.{unused_places};
+ghost use Rattle.kfs_fill.specs.Places.{CanBeChosen};
 
 use kfs_image::Image;
 use std::alloc::{AllocError, Allocator};
@@ -11,7 +12,8 @@ pub fn free_places<A: Allocator>(
     image: &Image<A>,
     count: usize,
 ) -> Result<Vec<u32, A>, AllocError>
-    ensures { IfOk result (λ places. places.items ≡ take count (unused_places image.now.sizes image.now.placement 0)) }
+    ensures least { IfOk result (λ places. places.items ≡ take count (unused_places image.now.sizes image.now.placement 0)) }
+    ensures chosen { IfOk result (λ places. CanBeChosen image.now.sizes image.now.placement places.items) }
 {
     let size = image.tier_size(0);
     let mut places = Vec::new(alloc);

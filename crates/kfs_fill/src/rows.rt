@@ -12,8 +12,8 @@ use kfs_image::{BlockRow, Image, Place};
 use kfs_value::BLOCK_SIZE;
 use std::alloc::{AllocError, Allocator};
 
-/// The rows of these blocks, with their bytes after the log: each block of a file lies at its place of tier 0. Pieces and
-/// blocks ascend, so all rows together look at each piece only a few times.
+/// The rows of these blocks, each with its place of tier 0 and its bytes after the log. Pieces and blocks ascend, so
+/// pieces that end before a block aren't looked at again, nor for a block those that begin behind it.
 pub fn block_rows<A: Allocator + Copy>(
     alloc: A,
     image: &Image<A>,

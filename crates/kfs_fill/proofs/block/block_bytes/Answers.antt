@@ -14,5 +14,5 @@ returns g c =
     (omega (arith, c.as_mut_slice.ensures.len, c.in_ok-bytes.ensures.len))
     (omega (arith, c.as_mut_slice.ensures.len, c.in_ok-bytes.ensures.len, c.put_pieces.auto.bytes))
     (omega (arith, c.in_ok-bytes.ensures.len))
-    (λ k below. ap (λ bytes. get_or bytes k 0) c.as_mut_slice.ensures.value ∙ c.in_ok-bytes.ensures.bytes k below)
+    (λ k below. ap (λ bytes. get_or bytes k 0) c.as_mut_slice.ensures.value ∙ c.in_ok-bytes.ensures.bytes k (omega (arith, below, c.in_ok-bytes.ensures.len, c.in_ok-bytes.bytes.ok.0)))
     c.put_pieces.ensures

@@ -1,16 +1,17 @@
 use Rattle.std.proofs.Common.{◌++◌, ◌<◌, length, drop, ◌∙◌, arith}
-use Rattle.std.proofs.Math.ListN.{get_or-append}
-use Rattle.std.proofs.lemmas.List.{get_or-take}
-use Rattle.kfs_fill.proofs.BlockBytes.{all_zero, read_or_zero}
+use Rattle.std.proofs.lemmas.List.{length-take}
+use Rattle.kfs_fill.proofs.BlockBytes.{all_zero, in_front, read_or_zero}
 use Rattle.kfs_fill.proofs.block.bytes_before.Goals as goal
 
 pub returns-clause-bytes : goal.returns-clause-bytes
 returns-clause-bytes g c k below =
+    let len = c.resize.new.self.len in
     let old = c.as_mut_slice.result.now in
     let new = c.read_file-read.new.buffer in
-    let inside : k < length old = omega (arith, below, c.as_mut_slice.ensures.len, c.in_ok-resize.ensures.len) in
+    let rest = drop (length new) c.resize.new.self.items in
+    let taken : k < len = omega (arith, below, length-take len (new ++ rest)) in
+    let inside : k < length old = omega (arith, taken, c.as_mut_slice.ensures.len) in
     let zeros = all_zero _ _ _ old c.new-bytes.ensures.items (c.as_mut_slice.ensures.value ∙ c.in_ok-resize.ensures.items) in
-    get_or-take c.resize.new.self.len (new ++ drop (length new) c.resize.new.self.items) k 0 (omega (arith, below, c.in_ok-resize.ensures.len))
-    ∙ get_or-append new (drop (length new) c.resize.new.self.items) 0 k (omega (arith, inside, c.read_file-read.auto.buffer))
-    ∙ read_or_zero c.args.image.now c.args.number c.args.start old new (λ j within. zeros j) c.read_file-read.result
-    c.read_file-read.ensures.read c.read_file-read.ensures.no_node c.read_file-read.ensures.directory c.read_file-read.ensures.kept k inside
+    in_front len k _ new rest taken (omega (arith, inside, c.read_file-read.auto.buffer))
+    (read_or_zero c.args.image.now c.args.number c.args.start old new (λ j within. zeros j) c.read_file-read.result
+    c.read_file-read.ensures.read c.read_file-read.ensures.no_node c.read_file-read.ensures.directory c.read_file-read.ensures.kept k inside)
