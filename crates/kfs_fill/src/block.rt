@@ -9,7 +9,7 @@ use kfs_image::{Image, read_file};
 use kfs_value::BLOCK_SIZE;
 use std::alloc::{AllocError, Allocator};
 
-/// So many bytes of a file from `start` on, zero past its end.
+/// So many bytes of a file from `start` on, zero past its end and where there is no file.
 fn bytes_before<A: Allocator>(
     alloc: A,
     image: &Image<A>,
@@ -22,7 +22,8 @@ fn bytes_before<A: Allocator>(
 {
     let mut bytes = Vec::new(alloc);
     bytes.resize(count, 0)?;
-    let _read = read_file(image, number, start, bytes.as_mut_slice());
+    // Bytes past the file's end stay zero, and all of them where there is no file yet.
+    let _ = read_file(image, number, start, bytes.as_mut_slice());
     Ok(bytes)
 }
 
