@@ -1,10 +1,10 @@
 -- Pieces put over bytes of a file, each over those behind it.
-use Rattle.std.proofs.Common.{◌≡◌, ℕ, map, ◌+◌, ◌-◌, ◌<◌, ◌≤◌, ◌++◌, ◌⊎◌, ◌&&◌, inl, inr, subst, min, Bool, true, false, cond, ltb, leb, eqb, List, [], ◌∷◌, length, take, drop, Option, Some, None, refl, sym, ap, ◌∙◌, ⊎_elim, arith}
+use Rattle.std.proofs.Common.{append_assoc, ◌≡◌, ℕ, map, ◌+◌, ◌-◌, ◌<◌, ◌≤◌, ◌++◌, ◌⊎◌, ◌&&◌, inl, inr, subst, min, Bool, true, false, cond, ltb, leb, eqb, List, [], ◌∷◌, length, take, drop, Option, Some, None, refl, sym, ap, ◌∙◌, ⊎_elim, arith}
 use Rattle.std.specs.Prelude.{slice_index}
 use Rattle.std.proofs.Math.ListN.{get_or, get_or-append}
 use Rattle.std.proofs.lemmas.Bool.{cases_lt}
 use Rattle.std.proofs.lemmas.Bool.Decides.{nat_tests}
-use Rattle.std.proofs.lemmas.List.{get_or-take, get_or-drop, get_or-append_right, length-take-le, drop_more}
+use Rattle.std.proofs.lemmas.List.{get_or-take, get_or-drop, get_or-append_right, length-take-le, append-nil}
 use borrow.Rule.Slice.PartMut.{put_mid}
 use Rattle.kfs_model.specs.Entry.{Entry}
 use Rattle.kfs_model.specs.Plan.{covers, end_of, said_by}
@@ -44,15 +44,27 @@ put_first entries p ps n start old middle new long behind first before k below =
     ∙ ap (byte_over before entries (p ∷ []) n (start + k)) (behind before k below)
     ∙ sym (over_first before entries p ps n (start + k) (slice_index old k))
 
-pub put_next : (entries : List Entry) (pieces : List CodePiece) (index : ℕ) (d : CodePiece) (n start : ℕ) (old middle new : List ℕ) → 0 < index → index ≤ length pieces → length middle ≡ length old
-    → ArePut entries (map piece_of (drop index pieces)) n start old middle → ArePut entries (piece_of (get_or pieces (index - 1) d) ∷ []) n start middle new
-    → ArePut entries (map piece_of (drop (index - 1) pieces)) n start old new
-put_next entries pieces index d n start old middle new some within long behind first =
-    subst (λ ps. ArePut entries (map piece_of ps) n start old new) (sym from_last)
-    (put_first entries (piece_of (get_or pieces (index - 1) d)) (map piece_of (drop index pieces)) n start old middle new long behind first)
-  where
-    from_last : drop (index - 1) pieces ≡ get_or pieces (index - 1) d ∷ drop index pieces
-    from_last = drop_more pieces (index - 1) d (omega (arith, some, within)) ∙ ap (λ i. get_or pieces (index - 1) d ∷ drop i pieces) (omega (arith, some))
+-- the pieces that aren't left are put already
+pub record ArePutBehind (entries : List Entry) (pieces left : List CodePiece) (n start : ℕ) (old new : List ℕ) : Type 0 where
+  pub behind : List CodePiece
+  pub all : left ++ behind ≡ pieces
+  pub put : ArePut entries (map piece_of behind) n start old new
+
+module _ (entries : List Entry) (pieces : List CodePiece) (n start : ℕ) (old : List ℕ) where
+  pub none_behind : (left : List CodePiece) → left ≡ pieces → ArePutBehind entries pieces left n start old old
+  none_behind left is = record { behind = []; all = append-nil left ∙ is; put = put_nothing entries n start old }
+
+  pub last_behind : (left rest : List CodePiece) (p : CodePiece) (middle new : List ℕ) → left ≡ rest ++ p ∷ [] → length middle ≡ length old
+      → ArePut entries (piece_of p ∷ []) n start middle new → ArePutBehind entries pieces left n start old middle → ArePutBehind entries pieces rest n start old new
+  last_behind left rest p middle new is long put so_far = record {
+    behind = p ∷ so_far.behind;
+    all = sym (append_assoc rest (p ∷ []) so_far.behind) ∙ ap (λ front. front ++ so_far.behind) (sym is) ∙ so_far.all;
+    put = put_first entries (piece_of p) (map piece_of so_far.behind) n start old middle new long so_far.put put;
+  }
+
+  pub all_behind : (left : List CodePiece) (new : List ℕ) → left ≡ [] → ArePutBehind entries pieces left n start old new → ArePut entries (map piece_of pieces) n start old new
+  all_behind left new none so_far =
+      subst (λ ps. ArePut entries (map piece_of ps) n start old new) (ap (λ front. front ++ so_far.behind) (sym none) ∙ so_far.all) so_far.put
 
 -- ---- a part of some bytes put anew
 

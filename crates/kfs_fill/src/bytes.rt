@@ -88,7 +88,7 @@ pub(crate) fn put_pieces(bytes: &mut [u8], log: &LogBytes<'_>, number: u32, star
     requires { HasPayloads log.now }
     ensures { ArePut (entries_of log.now) (pieces_of log.now) number start bytes.old bytes.new }
 {
-    for index in (0..log.pieces.len()).rev() {
-        put_piece(bytes, log, &log.pieces[index], number, start);
+    for piece in log.pieces.iter().rev() {
+        put_piece(bytes, log, piece, number, start);
     }
 }

@@ -1,15 +1,21 @@
-use Rattle.std.proofs.Common.{◌≡◌, map, drop, subst, arith}
-use Rattle.kfs_value.specs.Views.{piece_of}
-use Rattle.kfs_fill.specs.Bytes.{entries_of, ArePut}
-use Rattle.kfs_fill.proofs.PutPieces.{put_next}
+use Rattle.std.proofs.Common.{◌∙◌}
+use Rattle.std.proofs.lemmas.List.{nil_from_length}
+use Rattle.kfs_fill.specs.Bytes.{entries_of}
+use Rattle.kfs_fill.proofs.PutPieces.{none_behind, last_behind, all_behind}
 use Rattle.kfs_fill.proofs.bytes.put_pieces.Goals as goal
 
-pub loop-index-preserved : goal.loop-index-preserved
-loop-index-preserved c =
-    put_next (entries_of c.args.log.now) c.args.log.now.pieces.now c.loop-index.index _ c.args.number c.args.start c.args.bytes.now c.loop-index.bytes c.put_piece.new.bytes
-    c.loop-index-test.true c.loop-index.auto.index c.loop-index.auto.bytes c.loop-index.invariant c.put_piece.ensures
+pub loop-piece-init : goal.loop-piece-init
+loop-piece-init c =
+    none_behind (entries_of c.args.log.now) c.args.log.now.pieces.now c.args.number c.args.start c.args.bytes.now c.into_iter-piece-iterator.result.iter.rest.now
+    ((λ i. (c.into_iter-piece-iterator.ensures.into_iter_gives i).iter.rest.now) ∙ (λ i. (c.rev-piece-items.ensures.source i).rest.now) ∙ c.iter.ensures.rest)
+
+pub loop-piece-preserved : goal.loop-piece-preserved
+loop-piece-preserved c =
+    last_behind (entries_of c.args.log.now) c.args.log.now.pieces.now c.args.number c.args.start c.args.bytes.now c.loop-piece.piece-iterator.iter.rest.now c.next.new.self.iter.rest.now
+    c.in-Some.piece.now c.loop-piece.bytes c.put_piece.new.bytes c.in-Some.ensures.steps c.loop-piece.auto.bytes c.put_piece.ensures c.loop-piece.invariant
 
 pub returns : goal.returns
 returns c =
-    let none : c.loop-index.index ≡ 0 = omega arith in
-    subst (λ index. ArePut (entries_of c.args.log.now) (map piece_of (drop index c.args.log.now.pieces.now)) c.args.number c.args.start c.args.bytes.now c.loop-index.bytes) none c.loop-index.invariant
+    let left = c.loop-piece.piece-iterator.iter.rest.now in
+    all_behind (entries_of c.args.log.now) c.args.log.now.pieces.now c.args.number c.args.start c.args.bytes.now left c.loop-piece.bytes
+    (nil_from_length left c.in-None.ensures.steps.0) c.loop-piece.invariant

@@ -1,7 +1,6 @@
-use Rattle.std.proofs.Common.{map, drop}
-use Rattle.kfs_value.specs.Views.{piece_of}
-use Rattle.kfs_fill.specs.Bytes.{entries_of, ArePut}
+use Rattle.kfs_fill.specs.Bytes.{entries_of}
+use Rattle.kfs_fill.proofs.PutPieces.{ArePutBehind}
 use Rattle.kfs_fill.proofs.bytes.put_pieces.Given as goal
 
-abbrev pub invariant-loop-index : goal.invariant-loop-index
-invariant-loop-index l = ArePut (entries_of l.log) (map piece_of (drop l.index l.log.pieces.now)) l.number l.start l.initial.bytes l.bytes
+abbrev pub invariant-loop-piece : goal.invariant-loop-piece
+invariant-loop-piece l = ArePutBehind (entries_of l.log) l.log.pieces.now l.piece-iterator.iter.rest.now l.number l.start l.initial.bytes l.bytes
