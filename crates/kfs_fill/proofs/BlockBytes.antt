@@ -60,8 +60,8 @@ take_none : (n : ℕ) → ◌≡◌ {A = List ℕ} (take n []) []
 take_none zero = refl
 take_none (suc n) = refl
 
-pub all_zero : (n m : ℕ) (none bytes : List ℕ) → none ≡ [] → bytes ≡ take n none ++ replicate m 0 → (k : ℕ) → get_or bytes k 0 ≡ 0
-all_zero n m none bytes empty is k = ap (λ b. get_or b k 0) (is ∙ ap (λ b. take n b ++ replicate m 0) empty ∙ ap (λ b. b ++ replicate m 0) (take_none n)) ∙ zero_at m k
+pub all_zero : (n m : ℕ) (none items bytes : List ℕ) → none ≡ [] → bytes ≡ items → items ≡ take n none ++ replicate m 0 → (k : ℕ) → get_or bytes k 0 ≡ 0
+all_zero n m none items bytes empty same is k = ap (λ b. get_or b k 0) (same ∙ is ∙ ap (λ b. take n b ++ replicate m 0) empty ∙ ap (λ b. b ++ replicate m 0) (take_none n)) ∙ zero_at m k
 
 module _ (image : DeviceImage) (number start : ℕ) where
   abbrev content : List ℕ

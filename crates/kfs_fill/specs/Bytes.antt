@@ -29,7 +29,8 @@ AreBytesOf t number start bytes = EachIndex bytes (λ k. slice_index bytes k ≡
 
 -- bytes that a source gives from a distance to its piece's start on
 abbrev pub AreGivenBy : List Entry → Source → (distance : ℕ) → List ℕ → Type 0
-AreGivenBy entries source distance bytes = (before : Tree ℕ) → EachIndex bytes (λ k. slice_index bytes k ≡ byte_of before entries (said_by source (distance + k)))
+AreGivenBy entries source distance bytes =
+    (before : Tree ℕ) → EachIndex bytes (λ k. slice_index bytes k ≡ byte_of before entries (said_by source (distance + k)))
 
 -- a byte of a file with the pieces put over the one that stood there
 abbrev pub byte_over : Tree ℕ → List Entry → List Piece → (number position old : ℕ) → ℕ
