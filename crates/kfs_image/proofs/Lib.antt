@@ -1,5 +1,6 @@
 pub mod ChangedImages
 pub mod EmptyFills
+pub mod FilledImages
 mod FreshImage
 mod GoneBlocks
 pub mod KeptTrees
