@@ -1,8 +1,8 @@
 -- A landing whose fill has the log's blocks leaves a lawful image, which shows the tree after the log.
-use Rattle.std.proofs.Common.{◌≡◌, ◌≢◌, ℕ, ◌+◌, ◌*◌, ◌/◌, ◌%◌, ◌<◌, ◌&&◌, not, Bool, true, false, cond, All, List, length, map, get_or, Option, Some, None, option_map, IsTrue, Result, Ok, refl, sym, ap, subst, ◌∙◌, ⊎_elim, arith, lt-ltb}
+use Rattle.std.proofs.Common.{◌≡◌, ℕ, ◌+◌, ◌*◌, ◌/◌, ◌%◌, ◌<◌, ◌&&◌, not, true, false, cond, List, length, map, get_or, Option, Some, None, option_map, Result, Ok, refl, sym, ap, subst, ◌∙◌, ⊎_elim, arith, lt-ltb}
 use Rattle.std.specs.Prelude.{vec_len, zip}
 use Rattle.std.specs.List.{list_any}
-use Rattle.std.proofs.lemmas.Bool.{both_ways, cases_Bool}
+use Rattle.std.proofs.lemmas.Bool.{cases_Bool}
 use Rattle.std.proofs.lemmas.List.{get_or-map, length-map}
 use Rattle.std.proofs.lemmas.List.Elements.{All-from_recursion}
 use Rattle.std.proofs.lemmas.Option.{slice_get-get_or}
@@ -16,7 +16,7 @@ use Rattle.kfs_model.specs.Placement.{IsBlock, Place, Placement, below, block_co
 use Rattle.kfs_model.specs.Plan.{ArePieces, is_base, mark_at}
 use Rattle.kfs_model.specs.PlanRow.{Piece}
 use Rattle.kfs_model.specs.Run.{EntryFault, Mark, Zero, byte_at, byte_of, looked_up, marked, over_bytes, over_marks, run}
-use Rattle.kfs_model.specs.Sight.{ClientSight, is_file}
+use Rattle.kfs_model.specs.Sight.{ClientSight}
 use Rattle.kfs_model.specs.Soundness.{IsSound}
 use Rattle.kfs_model.specs.Table.{Table, get, numbers, pairs, retain}
 use Rattle.kfs_model.specs.Tree.{Body, DirectoryBody, FileBody, Node, Tree, content_of, header_of, headers, tree_over}
@@ -29,7 +29,7 @@ use Rattle.kfs_model.proofs.WrittenBlocks.{written_in_files}
 use Rattle.kfs_device.specs.Device.{Devices, byte_on}
 use Rattle.kfs_device.specs.ShownTree.{DeviceImage, IsLawful, file_byte, file_bytes, shown_tree}
 use Rattle.kfs_blocks.specs.declared.fill.BlockRow.{BlockRow}
-use Rattle.kfs_blocks.specs.Fill.{less, mapped_by, written_by}
+use Rattle.kfs_blocks.specs.Fill.{less}
 use Rattle.kfs_image.specs.declared.net.Fill.{Fill}
 use Rattle.kfs_image.specs.Net.{CanApply, after_net, applied, blocks_in, cut, is_block}
 use Rattle.kfs_image.proofs.FilledImages.{Fit, can_apply_free, free_has_none, still_placed}
@@ -106,7 +106,7 @@ module _ {A : Type 0} (image : DeviceImage) (s : State) (client : Client) (befor
   bytes_are : recut byte marked_after ≡ after
   bytes_are =
       let both : ◌≡◌ {A = Result (Tree ℕ) EntryFault} (Ok (recut byte marked_after)) (Ok after) =
-          ap (looked_up byte) (sym landing.marks) ∙ marks_give_bytes client before s.tree entries ∙ landing.ran in
+      ap (looked_up byte) (sym landing.marks) ∙ marks_give_bytes client before s.tree entries ∙ landing.ran in
       cc
 
   heads_alike : headers marked_after ≡ headers after
@@ -179,7 +179,7 @@ module _ {A : Type 0} (image : DeviceImage) (s : State) (client : Client) (befor
   net_is_lawful : IsLawful (after_net net image)
   net_is_lawful =
       let same : image_kept image after ≡ after_net net image =
-          λ i. record { sizes = image.sizes; heads = sym landing.heads i; names = sym landing.names i; placement = cut (sym landing.heads i) image.placement; devices = image.devices } in
+      λ i. record { sizes = image.sizes; heads = sym landing.heads i; names = sym landing.names i; placement = cut (sym landing.heads i) image.placement; devices = image.devices } in
       subst IsLawful same (kept_is_lawful image landing.lawful after landing.sound)
 
   -- The net and the fill can be applied: the image after is lawful.
@@ -215,15 +215,15 @@ module _ {A : Type 0} (image : DeviceImage) (s : State) (client : Client) (befor
     in_written listed =
         let (k, row, below, at, same) = row_of rows blocks landing.rows.keys block listed in
         let lies : get (applied net fill image).placement block ≡ Some row.place =
-            ap (λ (t : Placement). get t block) (mapped_is rows left)
-            ∙ ap (get (inserted (pairs numbers numbers) with_place rows left)) (sym same ∙ ap block_of (sym at))
-            ∙ get-inserted (pairs numbers numbers) with_place rows left own k row below
-            ∙ ap (λ (r : BlockRow A). Some r.place) at in
+        ap (λ (t : Placement). get t block) (mapped_is rows left)
+        ∙ ap (get (inserted (pairs numbers numbers) with_place rows left)) (sym same ∙ ap block_of (sym at))
+        ∙ get-inserted (pairs numbers numbers) with_place rows left own k row below
+        ∙ ap (λ (r : BlockRow A). Some r.place) at in
         let stands : get (applied net fill image).devices (row.place.tier, row.place.place) ≡ Some row.bytes.items =
-            ap (λ (t : Devices). get t (row.place.tier, row.place.place)) (rows_written rows image.devices)
-            ∙ ap (λ (r : BlockRow A). get (inserted (pairs numbers numbers) with_bytes rows image.devices) (r.place.tier, r.place.place)) (sym at)
-            ∙ get-inserted (pairs numbers numbers) with_bytes rows image.devices own_places k row below
-            ∙ ap (λ (r : BlockRow A). Some r.bytes.items) at in
+        ap (λ (t : Devices). get t (row.place.tier, row.place.place)) (rows_written rows image.devices)
+        ∙ ap (λ (r : BlockRow A). get (inserted (pairs numbers numbers) with_bytes rows image.devices) (r.place.tier, r.place.place)) (sym at)
+        ∙ get-inserted (pairs numbers numbers) with_bytes rows image.devices own_places k row below
+        ∙ ap (λ (r : BlockRow A). Some r.bytes.items) at in
         let bytes : row.bytes.items ≡ block_after s.tree entries pieces row.number row.block = subst (λ (r : BlockRow A). r.bytes.items ≡ block_after s.tree entries pieces r.number r.block) at (landing.rows.bytes k row below) in
         let small : place % block_size < block_size = omega arith in
         let sum : place / block_size * block_size + (0 + place % block_size) ≡ place = omega arith in
@@ -266,7 +266,7 @@ module _ {A : Type 0} (image : DeviceImage) (s : State) (client : Client) (befor
         same_bytes None is = refl
         same_bytes (Some lies) is =
             let none : IsNoKey (pairs numbers numbers) with_bytes rows (lies.tier, lies.place) = λ i d below same.
-                free_has_none image.placement (get_or rows i d).place (rows_fit.each i d below).free block (is ∙ (λ k. Some (record { tier = (same k).0; place = (same k).1 }))) in
+            free_has_none image.placement (get_or rows i d).place (rows_fit.each i d below).free block (is ∙ (λ k. Some (record { tier = (same k).0; place = (same k).1 }))) in
             ap (λ (found : Option (List ℕ)). elim found as (λ _. ℕ) [ None ↦ 0 | Some items ↦ get_or items (place % block_size) 0 ])
             (ap (λ (t : Devices). get t (lies.tier, lies.place)) (rows_written rows image.devices) ∙ get-inserted_elsewhere (pairs numbers numbers) with_bytes rows image.devices (lies.tier, lies.place) none)
 
@@ -275,7 +275,7 @@ module _ {A : Type 0} (image : DeviceImage) (s : State) (client : Client) (befor
             let (file, at) = old_bytes_stand client before s.tree entries marked_after landing.marks number place n p is in
             let stood = old_bytes_stood s.tree client before entries marked_after landing.marks number place n p is in
             let short : place < length (content_of (get (shown_tree image).nodes number)) =
-                subst (λ (t : Tree ℕ). place < length (content_of (get t.nodes number))) landing.tree (subst (λ n. place < length (content_of (get s.tree.nodes n))) file (subst (λ p. p < length (content_of (get s.tree.nodes n))) at stood)) in
+            subst (λ (t : Tree ℕ). place < length (content_of (get t.nodes number))) landing.tree (subst (λ n. place < length (content_of (get s.tree.nodes n))) file (subst (λ p. p < length (content_of (get s.tree.nodes n))) at stood)) in
             sym (shown_byte image number place short)
             ∙ ap (λ (t : Tree ℕ). byte_at (content_of (get t.nodes number)) place) (sym landing.tree)
             ∙ (λ i. byte (Mark.Base (sym file i) (sym at i)))

@@ -80,16 +80,16 @@ module _ (tree : Tree ℕ) where
       → (number place n p : ℕ) → mark_at after number place ≡ Some (Base n p) → p < length (content_of (get tree.nodes n))
   old_bytes_stood client before entries after ran number place n p there =
       let both : ◌≡◌ {A = Result (Tree Bool) EntryFault} (Ok (recut stood after)) (Ok (recut any_mark after)) =
-          ap (recut_outcome stood over_marks all_pass refl) (sym ran)
-          ∙ tested_run stood refl (λ entry place. refl) client before (marked tree) entries
-          ∙ ap (λ t. run all_pass client before t entries) marked_alike
-          ∙ sym (tested_run any_mark refl (λ entry place. refl) client before (marked tree) entries)
-          ∙ ap (recut_outcome any_mark over_marks all_pass refl) ran in
+      ap (recut_outcome stood over_marks all_pass refl) (sym ran)
+      ∙ tested_run stood refl (λ entry place. refl) client before (marked tree) entries
+      ∙ ap (λ t. run all_pass client before t entries) marked_alike
+      ∙ sym (tested_run any_mark refl (λ entry place. refl) client before (marked tree) entries)
+      ∙ ap (recut_outcome any_mark over_marks all_pass refl) ran in
       let same : recut stood after ≡ recut any_mark after = cc in
       let marks = content_of (get after.nodes number) in
       let cells : map stood marks ≡ map any_mark marks =
-          sym (content-recut stood after number) ∙ ap (λ (t : Tree Bool). content_of (get t.nodes number)) same ∙ content-recut any_mark after number in
+      sym (content-recut stood after number) ∙ ap (λ (t : Tree Bool). content_of (get t.nodes number)) same ∙ content-recut any_mark after number in
       let answers : ◌≡◌ {A = Option Bool} (Some (stood (Base n p))) (Some true) =
-          ap (option_map stood) (sym there) ∙ sym (slice_get-map stood marks place) ∙ ap (λ (bs : List Bool). slice_get bs place) cells ∙ slice_get-map any_mark marks place ∙ ap (option_map any_mark) there in
+      ap (option_map stood) (sym there) ∙ sym (slice_get-map stood marks place) ∙ ap (λ (bs : List Bool). slice_get bs place) cells ∙ slice_get-map any_mark marks place ∙ ap (option_map any_mark) there in
       let answer : stood (Base n p) ≡ true = cc in
       ltb-true p (length (content_of (get tree.nodes n))) answer

@@ -1,5 +1,5 @@
 -- A tree is made again of its headers and names where each file is filled with its own bytes.
-use Rattle.std.proofs.Common.{◌≡◌, ℕ, zero, suc, ◌+◌, ◌<◌, List, [], ◌∷◌, length, map, get_or, Option, Some, None, option_map, refl, sym, ap, subst, ◌∙◌, arith}
+use Rattle.std.proofs.Common.{◌≡◌, ℕ, zero, suc, ◌+◌, ◌<◌, List, [], ◌∷◌, length, map, get_or, Option, Some, None, option_map, refl, ap, subst, ◌∙◌, arith}
 use Rattle.kfs_model.specs.Table.{get}
 use Rattle.kfs_model.proofs.TableLaws.{same_table, get-mapped}
 use Rattle.kfs_model.specs.Tree.{Tree, Node, Body, FileBody, DirectoryBody, body_over, content_of, header_of, headers, kind_of, node_over, size_of, tree_over}
@@ -46,7 +46,7 @@ module _ (content : (number size : ℕ) → List ℕ) (t : Tree ℕ) (each : (nu
   pub tree_again : tree_over content (headers t) t.names ≡ t
   tree_again =
       let nodes = same_table (tree_over content (headers t) t.names).nodes t.nodes (λ number.
-          get-mapped (node_over content) (headers t) number
-          ∙ ap (option_map (node_over content number)) (get-headers t number)
-          ∙ node_again number (get t.nodes number) refl) in
+      get-mapped (node_over content) (headers t) number
+      ∙ ap (option_map (node_over content number)) (get-headers t number)
+      ∙ node_again number (get t.nodes number) refl) in
       λ i. record { nodes = nodes i; names = t.names }
