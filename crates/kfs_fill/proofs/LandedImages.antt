@@ -44,7 +44,7 @@ use Rattle.kfs_fill.proofs.PutRows.{HaveOwnKeys, IsNoKey, get-inserted, get-inse
 use Rattle.kfs_fill.proofs.TreesOver.{get_or-numbers_from, length-numbers_from, made_again, tree_again}
 
 -- what a function takes
-abbrev Taken : {X Y : Type 0} → (X → Y) → Type 0
+abbrev pub Taken : {X Y : Type 0} → (X → Y) → Type 0
 Taken {X} f = X
 
 -- nets, as they are put to an image
