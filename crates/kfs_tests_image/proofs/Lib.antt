@@ -1,2 +1,3 @@
+mod EachEdit
 mod Loops
 mod OneEdit

@@ -1,14 +1,18 @@
 //! Edits of an image: as many blocks of a tier as there may be, and edits of which each growth is refused in turn.
-ghost use Rattle.std.specs.Prelude.{[], ◌∷◌, IfSome};
+ghost use Rattle.std.specs.Prelude.{◌≡◌, [], ◌∷◌, IfOk, IfSome};
 ghost use Rattle.kfs_image.specs.Edit.{CanEdit};
+ghost use Rattle.kfs_tests_image.specs.Edits.{each_kind};
 
 use crate::fits::{block_count, header, is_place_free};
-use crate::landings::{Landing, fresh, land};
-use kfs_image::{Edit, Image, Place};
+use crate::landings::{Landing, Written, block_row, fresh, land};
+use kfs_image::{BlockRow, Edit, Header, Image, Name, Place};
 use kfs_tests_plan::spelling::PieceLine::Zero;
 use kfs_tests_plan::spelling::{FileLine, Rows, Step};
-use std::alloc::{Allocator, Global};
+use std::alloc::{AllocError, Allocator, Global};
 use std::process::Abort;
+
+/// How many bytes a block has.
+const BLOCK_LEN: usize = 4_096;
 
 /// How many blocks a tier may have.
 const GREATEST: u32 = 65_536;
@@ -56,6 +60,46 @@ fn make<A: Allocator + Copy>(alloc: A, image: &mut Image<A>, edit: Edit<A>) -> O
     let mut edits = Vec::new(alloc);
     edits.push(edit).ok()?;
     image.edit(edits.as_slice()).ok()
+}
+
+/// An edit of each kind: the header of the root and its name `a` as they are, block 1 of file 5 at a place with these bytes,
+/// and block 0 nowhere.
+fn of_each_kind<A: Allocator>(
+    alloc: A,
+    header: Option<Header>,
+    name: Name,
+    target: Option<u32>,
+    place: Place,
+    bytes: Vec<u8, A>,
+) -> Result<Vec<Edit<A>, A>, AllocError>
+    ensures { IfOk result (λ edits. edits.items ≡ each_kind header name target place bytes) }
+{
+    let mut edits = Vec::new(alloc);
+    edits.push(Edit::Header(1, header))?;
+    edits.push(Edit::Name(1, name, target))?;
+    edits.push(Edit::Map(5, 1, Some(place)))?;
+    edits.push(Edit::Bytes(place, bytes))?;
+    edits.push(Edit::Map(5, 0, None))?;
+    Ok(edits)
+}
+
+/// Such edits of place 2, with bytes from 128 on, where the image is lawful after them.
+pub fn edits_of_each_kind<A: Allocator + Copy>(
+    alloc: A,
+    image: &Image<A>,
+) -> Option<Vec<Edit<A>, A>>
+    ensures { IfSome result (λ edits. CanEdit edits.items image.now) }
+{
+    let place = Place { tier: 0, place: 2 };
+    let _shape = image.shape();
+    let BlockRow { bytes, .. } = block_row(alloc, Written(5, 1, 2, 128))?;
+    let is_free = is_place_free(image, place);
+    if !is_free || block_count(header(image, 5)) <= 1 || bytes.len() != BLOCK_LEN {
+        return None;
+    }
+    let name = (1, Name::new(b"a")?);
+    let target = image.shape().target(&name);
+    of_each_kind(alloc, header(image, 1), name.1, target, place, bytes).ok()
 }
 
 /// Lays the block of file 5 at the least free place of tier 0 that isn't below `from`, and answers it.

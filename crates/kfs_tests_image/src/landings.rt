@@ -53,7 +53,8 @@ pub fn fresh<A: Allocator + Copy>(alloc: A, sizes: (u32, u32, u32)) -> Option<Im
     Image::fresh(alloc, TierSizes::new(first, second, third)?).ok()
 }
 
-fn block_row<A: Allocator>(alloc: A, written: Written) -> Option<BlockRow<A>> {
+/// The row of the block, with its bytes.
+pub fn block_row<A: Allocator>(alloc: A, written: Written) -> Option<BlockRow<A>> {
     let Written(number, block, place, first) = written;
     let mut bytes = Vec::new(alloc);
     for k in 0..4_096u16 {

@@ -1,10 +1,12 @@
 //! Each growth refused in turn: the image shows what it showed, and then the same call is answered with memory.
+ghost use Rattle.kfs_image.specs.Edit.{CanEdit};
 ghost use Rattle.kfs_image.specs.Net.{CanApply};
 
+use crate::edits::edits_of_each_kind;
 use crate::landings::{
     Landing, Read, Shown, Written, change_of, fresh, land, shown_by, wrong_read,
 };
-use kfs_image::{Answer, BlockRun, Cell, Fill, Image, Net, Shape, look, net_apply};
+use kfs_image::{Answer, BlockRun, Cell, Edit, Fill, Image, Net, Shape, look, net_apply};
 use kfs_tests::refusing::Refusing;
 use kfs_tests_plan::spelling::PieceLine::Zero;
 use kfs_tests_plan::spelling::{FileLine, Rows, Step};
@@ -113,6 +115,24 @@ const AFTER: State<'static> = (
     ],
 );
 
+/// After the edits of each kind: block 1 of file 5 lies at place 2, and block 0 nowhere.
+const EDITED: State<'static> = (
+    Shown {
+        sizes: (Some(8_192), None),
+        names: (Some(5), None),
+        places: (None, Some((0, 2))),
+        free: (2, Some(0)),
+    },
+    &[Read(
+        5,
+        4_090,
+        Ok(20),
+        &[
+            0, 0, 0, 0, 0, 0, 128, 129, 130, 131, 132, 133, 134, 135, 136, 137, 138, 139, 140, 141,
+        ],
+    )],
+);
+
 /// Whether the image is in the state.
 fn is_in<A: Allocator>(image: &Image<A>, state: &State<'_>) -> bool {
     let (wanted, reads) = state;
@@ -132,7 +152,23 @@ fn is_fresh_refused(alloc: Global, growth: u64) -> Option<bool> {
     is_in(&again, &FRESH).then_some(has_refused)
 }
 
-/// The same of a change, whose growth of this index the heap refuses.
+/// Of a change that was made: no growth of it, where none was refused and the image is in this state.
+fn unrefused<A: Allocator>(
+    heap: &Refusing<Global>,
+    image: &Image<A>,
+    after: &State<'_>,
+) -> Option<bool> {
+    (!heap.has_refused() && is_in(image, after)).then_some(false)
+}
+
+/// Whether a growth was refused, and the image shows what it showed. The heap then refuses none.
+fn is_kept<A: Allocator>(heap: &Refusing<Global>, image: &Image<A>) -> bool {
+    let has_refused = heap.has_refused();
+    heap.refuse_after(AMPLE);
+    has_refused && is_in(image, &BEFORE)
+}
+
+/// The same of a landing, whose growth of this index the heap refuses.
 fn is_change_refused<A: Allocator + Clone>(
     heap: &Refusing<Global>,
     image: &mut Image<A>,
@@ -141,16 +177,34 @@ fn is_change_refused<A: Allocator + Clone>(
 ) -> Option<bool>
     requires { CanApply net.now fill.now image.old }
 {
-    let first = net_apply(image, net, fill);
-    let has_refused = heap.has_refused();
-    heap.refuse_after(AMPLE);
-    match first {
-        Ok(()) => return (!has_refused && is_in(image, &AFTER)).then_some(false),
+    match net_apply(image, net, fill) {
+        Ok(()) => return unrefused(heap, image, &AFTER),
         Err(_) => {}
     }
-    let is_kept = has_refused && is_in(image, &BEFORE);
+    if !is_kept(heap, image) {
+        return None;
+    }
     net_apply(image, net, fill).ok()?;
-    (is_kept && is_in(image, &AFTER)).then_some(true)
+    is_in(image, &AFTER).then_some(true)
+}
+
+/// The same of edits.
+fn is_edit_refused<A: Allocator + Clone>(
+    heap: &Refusing<Global>,
+    image: &mut Image<A>,
+    edits: &[Edit<A>],
+) -> Option<bool>
+    requires { CanEdit edits.now image.old }
+{
+    match image.edit(edits) {
+        Ok(()) => return unrefused(heap, image, &EDITED),
+        Err(_) => {}
+    }
+    if !is_kept(heap, image) {
+        return None;
+    }
+    image.edit(edits).ok()?;
+    is_in(image, &EDITED).then_some(true)
 }
 
 /// Whether the shape has no file 6.
@@ -158,34 +212,75 @@ fn is_old<A: Allocator>(shape: &Shape<A>) -> bool {
     matches!(look(shape, &Cell::Header(6)), Answer::Header(None))
 }
 
-/// The same of the full landing, while a view may share the shape, and shows what it showed.
-fn is_landing_refused(alloc: Global, is_shared: bool, growth: u64) -> Option<bool> {
+/// The same of the full landing from now on.
+fn is_landing_refused<'a>(
+    heap: &'a Refusing<Global>,
+    image: &mut Image<&'a Refusing<Global>>,
+    growth: u64,
+) -> Option<bool> {
+    let (net, fill) = change_of(heap, image, &FULL)?;
+    heap.refuse_after(growth);
+    is_change_refused(heap, image, &net, &fill)
+}
+
+/// And of the edits of each kind.
+fn are_edits_refused<'a>(
+    heap: &'a Refusing<Global>,
+    image: &mut Image<&'a Refusing<Global>>,
+    growth: u64,
+) -> Option<bool> {
+    let edits = edits_of_each_kind(heap, image)?;
+    heap.refuse_after(growth);
+    is_edit_refused(heap, image, edits.as_slice())
+}
+
+/// The same of a change of an image, while a view may share the shape, and shows what it showed.
+fn is_shared_refused(alloc: Global, change: Change, is_shared: bool, growth: u64) -> Option<bool> {
     let heap = Refusing::new(alloc, AMPLE);
     let mut image = fresh(&heap, SIZES)?;
     land(&heap, &mut image, &BEGUN)?;
-    let (net, fill) = change_of(&heap, &image, &FULL)?;
-    if !is_shared {
-        heap.refuse_after(growth);
-        return is_change_refused(&heap, &mut image, &net, &fill);
-    }
     let view = image.shape().clone().ok()?;
-    heap.refuse_after(growth);
-    let has_refused = is_change_refused(&heap, &mut image, &net, &fill)?;
+    if !is_shared {
+        drop(view);
+        return change.is_refused(&heap, &mut image, growth);
+    }
+    let has_refused = change.is_refused(&heap, &mut image, growth)?;
     is_old(&view).then_some(has_refused)
+}
+
+/// The changes whose growths are refused.
+#[derive(Clone, Copy)]
+enum Change {
+    Landing,
+    Edits,
+}
+
+impl Change {
+    fn is_refused<'a>(
+        self,
+        heap: &'a Refusing<Global>,
+        image: &mut Image<&'a Refusing<Global>>,
+        growth: u64,
+    ) -> Option<bool> {
+        match self {
+            Change::Landing => is_landing_refused(heap, image, growth),
+            Change::Edits => are_edits_refused(heap, image, growth),
+        }
+    }
 }
 
 /// The calls whose growths are refused.
 #[derive(Clone, Copy)]
 enum Call {
     Fresh,
-    /// The full landing, on an image whose shape a view shares, or none.
-    Landing(bool),
+    /// The change of an image whose shape a view shares, or none.
+    Made(Change, bool),
 }
 
 fn is_refused(alloc: Global, call: Call, growth: u64) -> Option<bool> {
     match call {
         Call::Fresh => is_fresh_refused(alloc, growth),
-        Call::Landing(is_shared) => is_landing_refused(alloc, is_shared, growth),
+        Call::Made(change, is_shared) => is_shared_refused(alloc, change, is_shared, growth),
     }
 }
 
@@ -203,7 +298,13 @@ fn growths(alloc: Global, call: Call) -> Result<u64, u64> {
 
 #[test]
 fn each_growth_refused_in_turn(rt: HostRuntime) {
-    for call in [Call::Fresh, Call::Landing(false), Call::Landing(true)] {
+    for call in [
+        Call::Fresh,
+        Call::Made(Change::Landing, false),
+        Call::Made(Change::Landing, true),
+        Call::Made(Change::Edits, false),
+        Call::Made(Change::Edits, true),
+    ] {
         let count = growths(rt.alloc(), call);
         let is_right = match count {
             Ok(count) => 3 < count,
