@@ -28,7 +28,7 @@ const AFTER: [Shown<'static>; 4] = [
 
 /// The header of 65 in the second page, where the shape has that page.
 fn header_in_second_page(shape: &Shape<Global>) -> Option<Option<Header>> {
-    Some(shape.page(1)?.get(65))
+    Some(shape.page(1)?.get(65).copied())
 }
 
 /// Whether the second page has the file 65.
