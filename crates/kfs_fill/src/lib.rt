@@ -3,10 +3,12 @@
 
 mod block;
 mod bytes;
+mod fill;
 mod parts;
 mod places;
 mod rows;
 
 pub use bytes::LogBytes;
+pub use fill::fill_of;
 pub use places::free_places;
 pub use rows::block_rows;

@@ -2,9 +2,9 @@
 ghost use Rattle.std.specs.Prelude.{[], ◌∷◌, IfSome};
 ghost use Rattle.kfs_image.specs.Edit.{CanEdit};
 
-use crate::fits::{block_count, header, is_place_free};
+use crate::fits::{block_count, is_place_free};
 use crate::landings::{Landing, fresh, land};
-use kfs_image::{Edit, Image, Place};
+use kfs_image::{Edit, Image, Place, header};
 use kfs_tests_plan::spelling::PieceLine::Zero;
 use kfs_tests_plan::spelling::{FileLine, Rows, Step};
 use std::alloc::{Allocator, Global};
