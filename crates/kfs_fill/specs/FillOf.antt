@@ -17,7 +17,9 @@ use Rattle.kfs_tier.specs.Unused.{unused_places}
 use Rattle.kfs_blocks.specs.declared.fill.BlockRow.{BlockRow}
 use Rattle.kfs_blocks.specs.declared.fill.BlockRun.{BlockRun}
 use Rattle.kfs_nodes.specs.Change.{reheaded}
+use Rattle.kfs_nodes.specs.declared.net.Net.{Net}
 use Rattle.kfs_image.specs.declared.net.Fill.{Fill}
+use Rattle.kfs_image.specs.Net.{CanApply, applied}
 use Rattle.kfs_fill.specs.declared.bytes.LogBytes.{LogBytes}
 use Rattle.kfs_fill.specs.Bytes.{entries_of, pieces_of}
 use Rattle.kfs_fill.specs.Fill.{AreCleared, AreRowsOf}
@@ -56,3 +58,13 @@ IsFillOf image log nodes fill =
     (s : State) (after : Tree ℕ) (marked_after : Tree Mark) → s.tree ≡ shown_tree image → s.placement ≡ image.placement → s.sizes ≡ image.sizes
     → headers marked_after ≡ headers after → reheaded image.heads nodes ≡ headers after → ArePieces marked_after (pieces_of log)
     → need marked_after ≤ length (unused_places image.sizes image.placement 0) → Fills s (entries_of log) (pieces_of log) after marked_after fill
+
+-- whatever fill of the log it is, the net can be applied with it
+abbrev pub CanLandWith : {A : Type 0} → DeviceImage → LogBytes → Net A → Type 0
+CanLandWith {A} image log net = (fill : Fill A) → IsFillOf image log net.nodes.items fill → CanApply net fill image
+
+-- the net has been applied with a fill of the log
+pub record HasLandedWith {A : Type 0} (old : DeviceImage) (log : LogBytes) (net : Net A) (new : DeviceImage) : Type 0 where
+  pub fill : Fill A
+  pub is : IsFillOf old log net.nodes.items fill
+  pub made : new ≡ applied net fill old
