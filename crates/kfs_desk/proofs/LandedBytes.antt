@@ -18,7 +18,7 @@ use Rattle.kfs_model.proofs.RowFits.{row_fits}
 use Rattle.kfs_value.specs.declared.entry.Log.{Log as CodeLog}
 use Rattle.kfs_value.specs.declared.plan.Plan.{Plan as CodePlan}
 use Rattle.kfs_entry.specs.Answers.{log_of, plan_of}
-use Rattle.kfs_device.specs.ShownTree.{IsLawful, shown_tree}
+use Rattle.kfs_device.specs.ShownTree.{DeviceImage, IsLawful, shown_tree}
 use Rattle.kfs_tier.specs.Unused.{unused_places}
 use Rattle.kfs_nodes.specs.Contents.{Contents}
 use Rattle.kfs_nodes.specs.Change.{reheaded, renamed}
@@ -27,7 +27,7 @@ use Rattle.kfs_image.specs.declared.net.Fill.{Fill}
 use Rattle.kfs_image.specs.Net.{CanApply, applied}
 use Rattle.kfs_fill.specs.declared.bytes.LogBytes.{LogBytes}
 use Rattle.kfs_fill.specs.Bytes.{entries_of, pieces_of}
-use Rattle.kfs_fill.specs.FillOf.{Fills, IsFillOf, places_of}
+use Rattle.kfs_fill.specs.FillOf.{CanLandWith, Fills, HasLandedWith, IsFillOf, places_of}
 use Rattle.kfs_fill.proofs.LandedImages.{IsLanding, landed_lawful, landed_placement, landed_tree}
 use Rattle.kfs_sweep.specs.Lefts.{IsFilled, IsWhole}
 use Rattle.kfs_plan.specs.Judging.{TellsYes}
@@ -170,6 +170,30 @@ module _ (desk : Parts) (is_desk : IsDesk desk) (lawful : IsLawful desk.image) (
           within_limit = within;
           in_order = step_keeps_order s (state_of (desk_filled rows)) (record { call = Submit submission step.reading; answer = Replied step.reply; places = step.places }) is_desk.in_order step.read step.fits;
         }
+
+  -- ---- what land_bytes is asked for and leaves
+
+  module _ (bytes : LogBytes) (says : entries_of bytes ≡ entries) (tells : pieces_of bytes ≡ pieces) (room : told ≤ free) where
+    pub can_land_with : CanLandWith desk.image bytes net
+    can_land_with fill is = can_apply fill bytes says tells is room
+
+    module _ (new : DeviceImage) (has : HasLandedWith desk.image bytes net new) where
+      -- the desk with the image that it leaves
+      abbrev pub desk_landed : (rows : ℕ) → Parts
+      desk_landed rows = record desk { image = new; leases = ended_by desk.leases net.nodes.items; rows = rows }
+
+      same_desk : (rows : ℕ) → desk_filled has.fill bytes says tells has.is room rows ≡ desk_landed rows
+      same_desk rows = λ i. record desk { image = sym has.made i; leases = ended_by desk.leases net.nodes.items; rows = rows }
+
+      pub step_landed : IsJudgement s submission (Yes after marked_after) → (position rows : ℕ) → IsStep s submission (replies.Yes position false told) (state_of (desk_landed rows))
+      step_landed judgement position rows =
+          subst (λ (d : Parts). IsStep s submission (replies.Yes position false told) (state_of d)) (same_desk rows) (step_filled has.fill bytes says tells has.is room judgement position rows)
+
+      pub done_landed : (rows : ℕ) → IsDone s submission (state_of (desk_landed rows))
+      done_landed rows = subst (λ (d : Parts). IsDone s submission (state_of d)) (same_desk rows) (done_filled has.fill bytes says tells has.is room rows)
+
+      pub landed_in_order : IsJudgement s submission (Yes after marked_after) → (rows : ℕ) → rows ≤ desk.limit → IsDesk (desk_landed rows)
+      landed_in_order judgement rows within = subst IsDesk (same_desk rows) (filled_in_order has.fill bytes says tells has.is room judgement rows within)
 
   -- ---- without room
 
