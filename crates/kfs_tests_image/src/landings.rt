@@ -4,8 +4,8 @@ ghost use Rattle.kfs_image.specs.Net.{CanApply};
 
 use crate::fits::fits;
 use kfs_image::{
-    Answer, BlockRow, BlockRun, Cell, Fill, Image, Name, Net, Place, ReadFault, TierSizes, header, look,
-    net_apply, read_file,
+    Answer, BlockRow, BlockRun, Cell, Fill, Image, Name, Net, Place, ReadFault, TierSizes, header,
+    look, net_apply, read_file,
 };
 use kfs_tests_plan::scenes::net_of;
 use kfs_tests_plan::spelling::{Rows, Step};
