@@ -12,4 +12,4 @@ pub use blocks::Blocks;
 pub use fill::{BlockRow, BlockRun};
 pub use kfs_chunks::Edit;
 pub use kfs_tier::{NewBlock, Place};
-pub use nested::FillBlocks;
+pub use nested::{ChangeBlocks, FillBlocks};

@@ -9,7 +9,8 @@ use Rattle.kfs_model.proofs.OrderKept.{step_keeps_order}
 use Rattle.kfs_model.proofs.RowFits.{row_fits}
 use Rattle.kfs_lease.specs.declared.leases.LeaseFault.{LeaseFault as CodeFault}
 use Rattle.kfs_nodes.specs.Contents.{Contents, sight_of}
-use Rattle.kfs_image.specs.ShownTree.{tree_of, IsLawful}
+use Rattle.kfs_device.specs.ShownTree.{IsLawful, shown_tree}
+use Rattle.kfs_image.specs.Image.{contents_of}
 use Rattle.kfs_image.proofs.ShownTrees.{sight_shown}
 use Rattle.kfs_lease.specs.declared.act.Act.{Act}
 use Rattle.kfs_lease.specs.declared.act.Act.TheVariants as acts
@@ -34,12 +35,12 @@ module _ (act : Act) (answer : Result Done CodeFault) (new : Leases) where
       by (acts.Tick moment) same = ap (leased s []) same ∙ leased_is s is.told new
 
   -- a change that looks at the desk's contents and clients
-  pub act_is_step : (desk : Parts) → IsLawful desk.image.contents → (contents : Contents) (clients : List Client) → contents ≡ desk.image.contents → clients ≡ desk.clients
+  pub act_is_step : (desk : Parts) → IsLawful desk.image → (contents : Contents) (clients : List Client) → contents ≡ contents_of desk.image → clients ≡ desk.clients
       → IsChange (outcome_at desk.leases (sight_of contents) clients act) (done_by act) answer new → IsLeaseStep (state_of desk) (call_of act) (done_by act) answer (with_leases (state_of desk) new)
   act_is_step desk lawful contents clients contents_are clients_are is =
-      let shown = ap sight_of contents_are ∙ sight_shown desk.image.contents lawful in
+      let shown = ap sight_of contents_are ∙ sight_shown desk.image lawful in
       let looked = subst (λ s. IsChange (outcome_at desk.leases s clients act) (done_by act) answer new) shown is in
-      change_is_step (state_of desk) (subst (λ rows. IsChange (outcome_at desk.leases (sight (tree_of desk.image.contents)) rows act) (done_by act) answer new) clients_are looked)
+      change_is_step (state_of desk) (subst (λ rows. IsChange (outcome_at desk.leases (sight (shown_tree desk.image)) rows act) (done_by act) answer new) clients_are looked)
 
   pub step_in_order : (desk : Parts) → IsDesk desk → IsLeaseStep (state_of desk) (call_of act) (done_by act) answer (with_leases (state_of desk) new)
       → (rows : ℕ) → rows ≤ desk.limit → IsDesk (record desk { leases = new; rows = rows })

@@ -30,8 +30,10 @@ use Rattle.kfs_value.specs.declared.entry.Log.{Log as CodeLog}
 use Rattle.kfs_value.specs.declared.plan.Plan.{Plan as CodePlan}
 use Rattle.kfs_nodes.specs.declared.net.Net.{Net}
 use Rattle.kfs_nodes.specs.Change.{after_rows}
-use Rattle.kfs_image.specs.ShownTree.{tree_of, IsLawful}
-use Rattle.kfs_image.proofs.BlankTrees.{IsBlank, blank_is_shown, blank_is_lawful, shown_zero}
+use Rattle.kfs_device.specs.ShownTree.{DeviceImage, IsLawful, shown_tree}
+use Rattle.kfs_image.specs.Image.{contents_of}
+use Rattle.kfs_image.specs.Net.{after_net, cut}
+use Rattle.kfs_image.proofs.KeptTrees.{AreKept, image_kept, kept_is_shown, kept_is_lawful}
 use Rattle.kfs_nodes.specs.Contents.{contents_in}
 use Rattle.kfs_image.proofs.NetTables.{net_makes}
 use Rattle.kfs_plan.specs.KeptBytes.{KeepsBytes, keeps_bytes}
@@ -44,8 +46,10 @@ use Rattle.kfs_plan.specs.declared.submission.Fault.{Fault}
 use Rattle.kfs_plan.specs.declared.answers.Reply.{Reply}
 use Rattle.kfs_plan.specs.declared.answers.Reply.TheVariants as replies
 use Rattle.kfs_desk.specs.Docket.{is_rejudged, position_of}
+use Rattle.kfs_desk.proofs.KeptCells.{bytes-kept}
+use Rattle.kfs_desk.proofs.StaysCut.{stays-is-cut}
 use Rattle.kfs_desk.proofs.Untouched.{IsUntouched, all-untouched}
-use Rattle.kfs_desk.proofs.UntouchedBlocks.{need-untouched}
+use Rattle.kfs_desk.proofs.UntouchedBlocks.{need-untouched, none-cleared}
 use Rattle.kfs_desk.specs.Landing.{CanLand, KeepsAll, answer_at, ended_by, ended_with, image_after, leases_left}
 use Rattle.kfs_desk.specs.Machine.{Parts, IsDesk, IsAnswered, IsStep, IsDone, Means, shown, state_of}
 
@@ -117,7 +121,7 @@ nothing_in : {X : Type 0} (xs : List X) → length xs ≡ 0 → xs ≡ []
 nothing_in [] none = refl
 nothing_in (x ∷ xs) none = absurd (omega arith)
 
-module _ (desk : Parts) (is_desk : IsDesk desk) (lawful : IsLawful desk.image.contents) (submission : Submission) where
+module _ (desk : Parts) (is_desk : IsDesk desk) (lawful : IsLawful desk.image) (submission : Submission) where
   abbrev s : State
   s = state_of desk
 
@@ -131,54 +135,29 @@ module _ (desk : Parts) (is_desk : IsDesk desk) (lawful : IsLawful desk.image.co
     are_kept : list_all keeps_bytes entries ≡ true
     are_kept = all_kept submission.log log.entries kept
 
-    untouched : IsUntouched marked_after
+    untouched : IsUntouched s.tree marked_after
     untouched = all-untouched yes.client sight_before s.tree entries are_kept marked_after yes.comes.ran_marked
 
     no_need : need marked_after ≡ 0
-    no_need = need-untouched marked_after untouched
+    no_need = need-untouched s.tree marked_after untouched
 
-    -- no byte of the tree after is other than zero
-    abbrev byte : Mark → ℕ
-    byte = byte_of s.tree entries
+    -- each file has the bytes that it had, or none
+    bytes : AreKept s.tree after
+    bytes = bytes-kept yes.client sight_before s.tree entries are_kept after yes.comes.ran
 
-    zero_bytes : (cells : List Mark) → list_all is_base cells ≡ true → map byte cells ≡ replicate (length (map byte cells)) 0
-    zero_bytes [] all = refl
-    zero_bytes (Mark.Base n place ∷ cells) all =
-        let rest = zero_bytes cells (and_parts (is_base (Mark.Base n place)) (list_all is_base cells) all).1 in
-        let here = shown_zero desk.image.contents n place in
-        λ i. here i ∷ rest i
-    zero_bytes (Mark.Zero ∷ cells) all = cc
-    zero_bytes (Mark.Payload entry place ∷ cells) all = cc
-
-    zero_body : (number mode uid gid : ℕ) (body : Body Mark) → list_all is_base (content_of (Some (record { mode = mode; uid = uid; gid = gid; body = body }))) ≡ true
-        → content_of (Some (on_node byte number (record { mode = mode; uid = uid; gid = gid; body = body }))) ≡ replicate (length (content_of (Some (on_node byte number (record { mode = mode; uid = uid; gid = gid; body = body }))))) 0
-    zero_body number mode uid gid (FileBody cells) all = zero_bytes cells all
-    zero_body number mode uid gid DirectoryBody all = refl
-
-    zero_cells : (number : ℕ) (found : Option (Node Mark)) → list_all is_base (content_of found) ≡ true → content_of (option_map (on_node byte number) found) ≡ replicate (length (content_of (option_map (on_node byte number) found))) 0
-    zero_cells number None all = refl
-    zero_cells number (Some node) all = zero_body number node.mode node.uid node.gid node.body all
-
-    blank : IsBlank after
-    blank =
-        let both : ◌≡◌ {A = Result (Tree ℕ) EntryFault} (Ok (recut byte marked_after)) (Ok after) = ap (looked_up byte) (sym yes.comes.ran_marked) ∙ marks_give_bytes yes.client sight_before s.tree entries ∙ yes.comes.ran in
-        let same : recut byte marked_after ≡ after = cc in
-        subst IsBlank same (record {
-          cells = λ number.
-              subst (λ (found : Option (Node ℕ)). content_of found ≡ replicate (length (content_of found)) 0) (sym (get-mapped (on_node byte) marked_after.nodes number))
-              (zero_cells number (get marked_after.nodes number) (untouched.cells number));
-        })
-
-    contents_are : after_rows desk.image.contents net.names.items net.nodes.items ≡ contents_in after
+    contents_are : after_rows (contents_of desk.image) net.names.items net.nodes.items ≡ contents_in after
     contents_are =
-        net_makes desk.image.contents after net.names.items net.nodes.items yes.comes.sound yes.comes.differs.names
-        (subst (λ heads. AreDifferences numbers header_now (get heads) (get (headers after)) (map keyed_node_row net.nodes.items)) lawful.counted yes.comes.differs.nodes)
+        net_makes (contents_of desk.image) after net.names.items net.nodes.items yes.comes.sound yes.comes.differs.names
+        (subst (λ heads. AreDifferences numbers header_now (get heads) (get (headers after)) (map keyed_node_row net.nodes.items)) lawful.tree.counted yes.comes.differs.nodes)
 
-    tree_is : tree_of (after_rows desk.image.contents net.names.items net.nodes.items) ≡ after
-    tree_is = ap tree_of contents_are ∙ blank_is_shown after blank
+    image_is : after_net net desk.image ≡ image_kept desk.image after
+    image_is = λ i. record desk.image { heads = (contents_are i).heads; names = (contents_are i).names; placement = cut (contents_are i).heads desk.image.placement }
 
-    lawful_after : IsLawful (after_rows desk.image.contents net.names.items net.nodes.items)
-    lawful_after = subst IsLawful (sym contents_are) (blank_is_lawful after blank yes.comes.sound)
+    tree_is : shown_tree (after_net net desk.image) ≡ after
+    tree_is = ap (λ image. shown_tree image) image_is ∙ kept_is_shown desk.image after bytes
+
+    lawful_after : IsLawful (after_net net desk.image)
+    lawful_after = subst IsLawful (sym image_is) (kept_is_lawful desk.image lawful after yes.comes.sound)
 
     abbrev entries_of : List (ℕ × Option Header)
     entries_of = map keyed_node_row net.nodes.items
@@ -234,9 +213,11 @@ module _ (desk : Parts) (is_desk : IsDesk desk) (lawful : IsLawful desk.image.co
     no_blocks : written_blocks marked_after ≡ []
     no_blocks = nothing_in (written_blocks marked_after) no_need
 
-    none_placed : placement_after s after marked_after [] ≡ empty
-    unfolding retain
-    none_placed = ap (λ blocks. placed (zip blocks []) (retain (stays after marked_after) empty)) no_blocks ∙ same_entries_table (retain (stays after marked_after) empty) empty refl
+    none_placed : placement_after s after marked_after [] ≡ (after_net net desk.image).placement
+    none_placed =
+        ap (λ blocks. placed (zip blocks []) (retain (stays after marked_after) desk.image.placement)) no_blocks
+        ∙ stays-is-cut after marked_after (none-cleared s.tree marked_after untouched) desk.image.placement
+        ∙ ap (λ (image : DeviceImage). image.placement) (sym image_is)
 
     state_after : (rows : ℕ) → state_of (record desk { image = image_after desk.image (outcomes.Yes log plan net told); leases = ended_by desk.leases net.nodes.items; rows = rows }) ≡ landed s after marked_after []
     state_after rows = λ i. record { clients = desk.clients; sizes = desk.image.sizes; tree = tree_is i; leases = leases_end i; placement = sym none_placed i }

@@ -3,9 +3,8 @@ use Rattle.std.specs.Prelude.{ℕ, ◌==◌, not, false, List, [], ◌∷◌, Al
 use Rattle.kfs_model.specs.Lease.{Leases, without_gone}
 use Rattle.kfs_value.specs.declared.header.Header.{Header}
 use Rattle.kfs_value.specs.declared.plan.NodeRow.{NodeRow}
-use Rattle.kfs_image.specs.Image.{ImageShown}
-use Rattle.kfs_image.specs.Image.{after_net}
-use Rattle.kfs_image.specs.ShownTree.{IsLawful}
+use Rattle.kfs_image.specs.Net.{after_net}
+use Rattle.kfs_device.specs.ShownTree.{DeviceImage, IsLawful}
 use Rattle.kfs_plan.specs.KeptBytes.{KeepsBytes}
 use Rattle.kfs_plan.specs.declared.submission.Outcome.{Outcome}
 use Rattle.kfs_plan.specs.declared.submission.Outcome.TheVariants as outcomes
@@ -23,18 +22,18 @@ ended_by leases [] = leases
 ended_by leases (row ∷ rows) = ended_by (ended_with leases row.number row.now) rows
 
 module _ {A : Type 0} where
-  abbrev pub image_after : ImageShown → Outcome A → ImageShown
+  abbrev pub image_after : DeviceImage → Outcome A → DeviceImage
   image_after image (outcomes.No fault) = image
-  image_after image (outcomes.Yes log plan net need) = after_net image net.names.items net.nodes.items
+  image_after image (outcomes.Yes log plan net need) = after_net net image
 
   abbrev pub leases_left : Leases → Outcome A → Leases
   leases_left leases (outcomes.No fault) = leases
   leases_left leases (outcomes.Yes log plan net need) = ended_by leases net.nodes.items
 
-  -- the tree after is sound, with headers of its own
-  abbrev pub CanLand : ImageShown → Outcome A → Type 0
+  -- the image after is lawful
+  abbrev pub CanLand : DeviceImage → Outcome A → Type 0
   CanLand image (outcomes.No fault) = Unit {0}
-  CanLand image (outcomes.Yes log plan net need) = IsLawful (after_net image net.names.items net.nodes.items).contents
+  CanLand image (outcomes.Yes log plan net need) = IsLawful (after_net net image)
 
   -- a Yes is of entries that keep every byte
   abbrev pub KeepsAll : Outcome A → Type 0

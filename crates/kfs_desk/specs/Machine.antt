@@ -1,7 +1,6 @@
 -- The desk as a state of the machine, and its calls as rows that fit.
 use Rattle.std.specs.Prelude.{◌≡◌, ◌≢◌, ◌↔◌, ℕ, ◌+◌, ◌≤◌, false, List, [], ◌∷◌, Option, Some, option_map, Result, Ok, Err, IfOk, IsErrOf, OnErr}
 use Rattle.kfs_model.specs.Access.{Client}
-use Rattle.kfs_model.specs.Table.{empty}
 use Rattle.kfs_model.specs.Entry.{Log}
 use Rattle.kfs_model.specs.Lease.{Leases, row_of}
 use Rattle.kfs_model.specs.Lease as leases
@@ -15,8 +14,7 @@ use Rattle.kfs_model.specs.Order.{IsInOrder}
 use Rattle.kfs_lease.specs.Faults.{fault_of}
 use Rattle.kfs_lease_rows.specs.Rows.{kind_of}
 use Rattle.kfs_lease.specs.declared.leases.LeaseFault.{LeaseFault}
-use Rattle.kfs_image.specs.Image.{ImageShown}
-use Rattle.kfs_image.specs.ShownTree.{tree_of}
+use Rattle.kfs_device.specs.ShownTree.{DeviceImage, shown_tree}
 use Rattle.kfs_plan.specs.Judging.{HasOtherEntry, refusal_of, submission_of}
 use Rattle.kfs_plan.specs.declared.submission.Back.{Back}
 use Rattle.kfs_plan.specs.declared.submission.Submission.{Submission as CodeSubmission}
@@ -41,15 +39,15 @@ pub record Desk : Type 0 where
 
 -- what a desk is made of
 pub record Parts : Type 0 where
-  pub image : ImageShown
+  pub image : DeviceImage
   pub clients : List Client
   pub leases : Leases
   pub rows : ℕ
   pub limit : ℕ
 
--- no block of a file is placed as yet
-abbrev pub state_at : ImageShown → List Client → Leases → State
-state_at image clients held = record { clients = clients; sizes = image.sizes; tree = tree_of image.contents; leases = held; placement = empty }
+-- the tree that the image shows, and where its blocks lie, with these clients and leases
+abbrev pub state_at : DeviceImage → List Client → Leases → State
+state_at image clients held = record { clients = clients; sizes = image.sizes; tree = shown_tree image; leases = held; placement = image.placement }
 
 abbrev pub state_of : Parts → State
 state_of desk = state_at desk.image desk.clients desk.leases
@@ -62,10 +60,11 @@ pub record IsDesk (desk : Parts) : Type 0 where
   pub within_limit : desk.rows ≤ desk.limit
   pub in_order : IsInOrder (state_of desk)
 
--- the image shows the state's tree, and its tiers are the state's
-pub record IsImageOf (image : ImageShown) (s : State) : Type 0 where
-  pub tree : tree_of image.contents ≡ s.tree
+-- the image shows the state's tree, its tiers are the state's, and its blocks lie where the state says
+pub record IsImageOf (image : DeviceImage) (s : State) : Type 0 where
+  pub tree : shown_tree image ≡ s.tree
   pub sizes : image.sizes ≡ s.sizes
+  pub placement : image.placement ≡ s.placement
 
 -- ---- a submission
 

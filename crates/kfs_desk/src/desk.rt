@@ -10,10 +10,11 @@ ghost use Rattle.kfs_mode.specs.Clients.{AreDistinct};
 ghost use Rattle.kfs_lease.specs.Faults as refusals;
 ghost use Rattle.kfs_lease_rows.specs.Rows.{kind_of};
 ghost use Rattle.kfs_nodes.specs.Contents.{sight_of};
-ghost use Rattle.kfs_image.specs.ShownTree.{IsLawful, tree_of};
+ghost use Rattle.kfs_device.specs.ShownTree.{IsLawful, shown_tree};
+ghost use Rattle.kfs_image.specs.Image as images;
 ghost use Rattle.kfs_check.specs.View.{clients_of, contents_of, leases_of};
 ghost use Rattle.kfs_plan.specs.Judging.{HasOtherEntry, IsVerdict, submission_of};
-ghost use Rattle.kfs_image.specs.Image.{after_net};
+ghost use Rattle.kfs_image.specs.Net.{after_net};
 ghost use Rattle.kfs_desk.specs.Landing.{CanLand, KeepsAll, answer_at, ended_by, ended_with, image_after, leases_left};
 ghost use Rattle.kfs_desk.specs.Machine.{IsAnswered, IsBackFor, IsCallOf, IsChangeOf, IsImageOf, RunsThrough, call_of, done_by, number_of, outcome_at, state_at};
 ghost use Rattle.kfs_desk.specs.Opening.{begin_fault, do_overlap, fault_behind};
@@ -61,14 +62,14 @@ impl<A: Allocator + Copy> Desk<A> {
         clients: Vec<Client, A>,
         limit: u32,
     ) -> Result<Desk<A>, BeginBack<A>>
-        ensures ok { IfOk result (λ desk. desk ≡ record { state = opening clients.items image.sizes (tree_of image.contents) empty; rows = 0; limit = limit }) }
+        ensures ok { IfOk result (λ desk. desk ≡ record { state = opening clients.items image.sizes (shown_tree image) image.placement; rows = 0; limit = limit }) }
         ensures back { IfErr result (λ back. (back.image ≡ image) × (back.clients ≡ clients)) }
         ensures fit { OnOk result (begin_fault clients.items ≡ None) }
 
         // Where the clients have a fault, it is named; else a growth was refused.
         ensures why { IfErr result (λ back. back.why ≡ unwrap_or (begin_fault clients.items) BeginFault.OutOfMemory) }
     {
-        // An image's tree is sound.
+        // An image is lawful.
         let _shape = image.shape();
         let fault = first_fault(&clients);
         if let Some(why) = fault {
@@ -241,7 +242,7 @@ fn judged<A: Allocator + Copy>(
     ensures submission { IfOk result (λ judged. judged.submission ≡ submission) }
     ensures back { IfErr result (λ back. back.submission ≡ submission) }
     ensures memory { IfErr result (λ back. back.why ≡ Why.OutOfMemory) }
-    ensures lawful { IsLawful image.now.contents }
+    ensures lawful { IsLawful image.now }
 {
     let Ok(view) = view_of(image, leases, clients) else {
         let why = Why::OutOfMemory;
@@ -267,10 +268,10 @@ fn view_of<A: Allocator + Copy>(
     clients: &Arc<Vec<Client, A>, A>,
 ) -> Result<View<A>, AllocError>
     requires distinct { AreDistinct clients.now.value.items }
-    ensures contents { IfOk result (λ view. contents_of view ≡ image.now.contents) }
+    ensures contents { IfOk result (λ view. contents_of view ≡ images.contents_of image.now) }
     ensures leases { IfOk result (λ view. leases_of view ≡ leases.now.value) }
     ensures clients { IfOk result (λ view. clients_of view ≡ clients.now.value.items) }
-    ensures lawful { IsLawful image.now.contents }
+    ensures lawful { IsLawful image.now }
 {
     let shape = image.shape().clone()?;
     Ok(View::of(shape, leases.clone()?, clients.clone()?))
@@ -386,15 +387,25 @@ fn change_state<A: Allocator + Copy>(
     leases: &mut Arc<Leases<A>, A>,
     net: &Net<A>,
 ) -> Result<(), AllocError>
-    requires { IsLawful (after_net image.old net.now.names.items net.now.nodes.items).contents }
-    ensures image { OnOk result (image.new ≡ after_net image.old net.now.names.items net.now.nodes.items) }
+    requires { IsLawful (after_net net.now image.old) }
+    ensures image { OnOk result (image.new ≡ after_net net.now image.old) }
     ensures leases { OnOk result (leases.new.value ≡ ended_by leases.old.value net.now.nodes.items) }
     ensures err { OnErr result ((image.new ≡ image.old) × (leases.new.value ≡ leases.old.value)) }
 {
     let leases = Arc::make_mut(leases)?;
-    net_apply(image, net, &Fill::empty())?;
+    apply_alone(image, net)?;
     end_leases(leases, net.nodes.as_slice());
     Ok(())
+}
+
+/// Makes a net's change, and writes no block.
+fn apply_alone<A: Allocator + Copy>(image: &mut Image<A>, net: &Net<A>) -> Result<(), AllocError>
+    requires { IsLawful (after_net net.now image.old) }
+    ensures ok { OnOk result (image.new ≡ after_net net.now image.old) }
+    ensures err { OnErr result (image.new ≡ image.old) }
+{
+    let fill = Fill::empty(net.names.allocator())?;
+    net_apply(image, net, &fill)
 }
 
 /// Ends the leases on the nodes that go.

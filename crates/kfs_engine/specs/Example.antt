@@ -7,8 +7,8 @@ use Rattle.kfs_model.specs.Machine.{opening}
 use Rattle.kfs_model.specs.Placement.{TierSizes}
 use Rattle.kfs_model.specs.Table.{empty, insert}
 use Rattle.kfs_model.specs.Tree.{NameTable}
-use Rattle.kfs_nodes.specs.Contents.{root_alone}
-use Rattle.kfs_image.specs.ShownTree.{tree_of}
+use Rattle.kfs_device.specs.ShownTree.{shown_tree}
+use Rattle.kfs_image.specs.Image.{fresh_image}
 use Rattle.kfs_desk.specs.Machine.{Desk}
 use Rattle.kfs_engine.specs.Session.{Start}
 
@@ -18,11 +18,11 @@ eight_blocks_each = record { first = 8; second = 8; third = 8 }
 
 -- that image, and these clients
 abbrev pub opening_with : List Client → Start
-opening_with clients = record { image = Some (record { contents = root_alone; sizes = eight_blocks_each }); clients = clients }
+opening_with clients = record { image = Some (fresh_image eight_blocks_each); clients = clients }
 
 -- the desk that opens with these
 abbrev pub desk_with : List Client → (limit : ℕ) → Desk
-desk_with clients limit = record { state = opening clients eight_blocks_each (tree_of root_alone) empty; rows = 0; limit = limit }
+desk_with clients limit = record { state = opening clients eight_blocks_each (shown_tree (fresh_image eight_blocks_each)) empty; rows = 0; limit = limit }
 
 abbrev pub desk_of_7 : Desk
 desk_of_7 = desk_with (client_7 ∷ []) 100

@@ -1,7 +1,7 @@
 -- A session: what each line is answered, and what it leaves.
 use Rattle.std.specs.Prelude.{◌≡◌, ◌≢◌, ◌⊎◌, ℕ, List, [], ◌∷◌, ◌++◌, codes, Option, Some, None, Result, Ok, Err, if◌then◌else◌}
 use Rattle.kfs_model.specs.Access.{Client}
-use Rattle.kfs_model.specs.Table.{empty, get}
+use Rattle.kfs_model.specs.Table.{get}
 use Rattle.kfs_model.specs.Tree.{headers}
 use Rattle.kfs_model.specs.Sight.{is_directory}
 use Rattle.kfs_model.specs.Judgement.{Submission}
@@ -10,10 +10,9 @@ use Rattle.kfs_model.specs.Machine.{opening}
 use Rattle.kfs_mode.specs.declared.client.ClientFault.{ClientFault}
 use Rattle.kfs_value.specs.Views.{header_of}
 use Rattle.kfs_value.specs.declared.header.Header.{Header as CodeHeader}
-use Rattle.kfs_nodes.specs.Contents.{root_alone}
-use Rattle.kfs_image.specs.Image.{ImageShown}
+use Rattle.kfs_device.specs.ShownTree.{DeviceImage, shown_tree}
+use Rattle.kfs_image.specs.Image.{fresh_image}
 use Rattle.kfs_plan.specs.Judging.{HasOtherEntry}
-use Rattle.kfs_image.specs.ShownTree.{tree_of}
 use Rattle.kfs_desk.specs.Machine.{Desk, IsActed, IsAnswered}
 use Rattle.kfs_desk.specs.Opening.{begin_fault}
 use Rattle.kfs_plan.specs.declared.answers.ActReply.{ActReply}
@@ -28,7 +27,7 @@ use Rattle.kfs_text.specs.Parts.{line_of}
 
 -- what a desk is begun with: the image, where one was made, and the clients
 pub record Start : Type 0 where
-  pub image : Option ImageShown
+  pub image : Option DeviceImage
   pub clients : List Client
 
 -- before the desk is begun, and after
@@ -55,12 +54,12 @@ IsSaid text s outcome = outcome ≡ (line_of text, s)
 -- ---- before the desk is begun
 
 -- the desk, or the fault of the clients: the image stays then, and they are forgotten
-abbrev pub begun : ImageShown → List Client → (limit : ℕ) → Option BeginFault → LineOutcome
-begun image clients limit None = (line_of (codes "ok"), After (record { state = opening clients image.sizes (tree_of image.contents) empty; rows = 0; limit = limit }))
+abbrev pub begun : DeviceImage → List Client → (limit : ℕ) → Option BeginFault → LineOutcome
+begun image clients limit None = (line_of (codes "ok"), After (record { state = opening clients image.sizes (shown_tree image) image.placement; rows = 0; limit = limit }))
 begun image clients limit (Some fault) = (line_of (codes "begin " ++ begin_text fault), Before (record { image = Some image; clients = [] }))
 
 -- without an image there is no desk
-abbrev pub begun_over : Option ImageShown → List Client → (limit : ℕ) → LineOutcome
+abbrev pub begun_over : Option DeviceImage → List Client → (limit : ℕ) → LineOutcome
 begun_over None clients limit = (line_of (codes "bad line"), Before (record { image = None; clients = clients }))
 begun_over (Some image) clients limit = begun image clients limit (begin_fault clients)
 
@@ -69,7 +68,7 @@ admitted start (Ok client) = (line_of (codes "ok"), Before (record start { clien
 admitted start (Err fault) = (line_of (codes "client " ++ client_text fault), Before start)
 
 abbrev pub opened : Start → OpeningCommand → LineOutcome
-opened start (New sizes) = (line_of (codes "ok"), Before (record start { image = Some (record { contents = root_alone; sizes = sizes }) }))
+opened start (New sizes) = (line_of (codes "ok"), Before (record start { image = Some (fresh_image sizes) }))
 opened start (Row client) = admitted start client
 opened start (Begin limit) = begun_over start.image start.clients limit
 

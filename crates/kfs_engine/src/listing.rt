@@ -17,7 +17,7 @@ pub fn list_line<A: Allocator + Copy>(
     image: &Image<A>,
     dir: u32,
 ) -> Result<(), AllocError>
-    ensures { OnOk result (out.new.items ≡ out.old.items ++ line_of (list_text dir image.now.contents.names)) }
+    ensures { OnOk result (out.new.items ≡ out.old.items ++ line_of (list_text dir image.now.names)) }
 {
     out.try_reserve(LONGEST_LINE)?;
     text(out, b"list");
@@ -33,7 +33,7 @@ fn push_names<A: Allocator + Copy>(
     image: &Image<A>,
     dir: u32,
 ) -> Result<(), AllocError>
-    ensures { OnOk result (out.new.items ≡ out.old.items ++ names_text (names_in image.now.contents.names dir)) }
+    ensures { OnOk result (out.new.items ≡ out.old.items ++ names_text (names_in image.now.names dir)) }
 {
     let mut after = None;
     while let Some((name, node)) = image.next_name(dir, after) {

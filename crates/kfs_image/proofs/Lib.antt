@@ -1,3 +1,10 @@
-pub mod BlankTrees
+pub mod ChangedImages
+mod EditedImages
+pub mod EmptyFills
+pub mod FilledImages
+mod FreshImage
+mod GoneBlocks
+pub mod KeptTrees
 pub mod NetTables
+mod ReadFile
 pub mod ShownTrees

@@ -87,7 +87,7 @@ reheaded_is heads [] = refl
 reheaded_is heads (row ∷ rows) = reheaded_is (changed heads row.number (option_map header_of row.now)) rows
 
 -- no name of a sound tree leads to 0
-led_back : (after : Tree ℕ) → IsSound after → (key : ℕ × List ℕ) → led_to (number_now (get after.names key)) ≡ get after.names key
+pub led_back : (after : Tree ℕ) → IsSound after → (key : ℕ × List ℕ) → led_to (number_now (get after.names key)) ≡ get after.names key
 led_back after sound key = by (get after.names key) refl
   where
     by : (o : Option ℕ) → get after.names key ≡ o → led_to (number_now o) ≡ o

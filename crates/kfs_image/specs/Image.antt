@@ -1,16 +1,28 @@
--- What contracts see of an image, and what a net makes of it.
-use Rattle.std.specs.Prelude.{List}
-use Rattle.kfs_value.specs.declared.plan.NameRow.{NameRow}
-use Rattle.kfs_value.specs.declared.plan.NodeRow.{NodeRow}
+-- What contracts see of an image: its nodes and names, which views share, and its blocks.
+use Rattle.kfs_model.specs.Table.{empty}
 use Rattle.kfs_model.specs.Placement.{TierSizes}
-use Rattle.kfs_nodes.specs.Contents.{Contents}
-use Rattle.kfs_nodes.specs.Change.{after_rows}
+use Rattle.kfs_device.specs.ShownTree.{DeviceImage}
+use Rattle.kfs_blocks.specs.Blocks.{BlocksShown}
+use Rattle.kfs_nodes.specs.Contents.{Contents, root_alone}
 
--- what an image shows
-pub record ImageShown : Type 0 where
-  pub contents : Contents
-  pub sizes : TierSizes
+-- the image of these nodes and names, over these blocks
+abbrev pub image_with : Contents → BlocksShown → DeviceImage
+image_with contents blocks = record {
+  sizes = blocks.sizes;
+  heads = contents.heads;
+  names = contents.names;
+  placement = blocks.placement;
+  devices = blocks.devices;
+}
 
--- what a net makes of an image
-abbrev pub after_net : ImageShown → List NameRow → List NodeRow → ImageShown
-after_net image names nodes = record image { contents = after_rows image.contents names nodes }
+-- an image's nodes and names
+abbrev pub contents_of : DeviceImage → Contents
+contents_of image = record { heads = image.heads; names = image.names }
+
+-- where its blocks lie, and what was written
+abbrev pub blocks_of : DeviceImage → BlocksShown
+blocks_of image = record { sizes = image.sizes; placement = image.placement; devices = image.devices }
+
+-- a new image: the root directory alone, and no block written
+abbrev pub fresh_image : TierSizes → DeviceImage
+fresh_image sizes = image_with root_alone (record { sizes = sizes; placement = empty; devices = empty })

@@ -1,2 +1,6 @@
+pub mod Edit
+pub mod Gone
 pub mod Image
-pub mod ShownTree
+pub mod Net
+pub mod Parts
+pub mod Read

@@ -1,97 +1,185 @@
-//! An image: the shape that views share, and the tiers.
-ghost use Rattle.std.specs.Prelude.{◌≡◌, ℕ, ◌<◌, List, Some, None, IfSome, IfNone, IfOk, OnOk, OnErr};
+//! An image: the shape that views share, and the blocks of files.
+ghost use Rattle.std.specs.Prelude.{◌≡◌, ◌↔◌, ℕ, ◌<◌, List, length, option_map, Err, Some, None, IsTrue, IfSome, IfNone, IfOk, OnOk, OnErr};
+ghost use Rattle.kfs_value.specs.Views.{header_of};
 ghost use Rattle.kfs_model.specs.Table.{get};
 ghost use Rattle.kfs_model.specs.Tree.{target};
+ghost use Rattle.kfs_model.specs.Placement.{tier_size};
+ghost use Rattle.kfs_model.specs.Sight.{is_directory};
+ghost use Rattle.kfs_device.specs.ShownTree.{IsLawful};
+ghost use Rattle.kfs_tier.specs.Unused.{IsNextUnused, AreTakenFrom, unused_places};
 ghost use Rattle.kfs_nodes.specs.Change.{after_rows, renamed, reheaded};
-ghost use Rattle.kfs_nodes.specs.Contents.{root_alone};
-ghost use Rattle.kfs_image.specs.Image.{after_net};
 ghost use Rattle.kfs_nodes.specs.Look.{IsAfter, IsNext, IsNextNode};
 ghost use Rattle.kfs_nodes.specs.Rows.{FitPages};
-ghost use Rattle.kfs_image.specs.ShownTree.{IsLawful};
+ghost use Rattle.kfs_image.specs.Edit.{CanEdit, edited_all};
+ghost use Rattle.kfs_image.specs.Image.{contents_of, fresh_image};
+ghost use Rattle.kfs_image.specs.Net.{CanApply, applied};
+ghost use Rattle.kfs_image.specs.Read.{IsRead};
 
-use kfs_nodes::Shape;
-use kfs_pages::Nothing;
-use kfs_value::{Name, NameRow, NodeRow, TierSizes};
+use crate::edit::{Edit, Parts};
+use crate::gone::gone_blocks;
+use crate::net::Fill;
+use crate::read::ReadFault;
+use kfs_blocks::{Blocks, ChangeBlocks, FillBlocks, Place};
+use kfs_chunks::key_edits;
+use kfs_nodes::{Answer, Cell, Net, Shape, look};
+use kfs_pages::Change;
+use kfs_value::{Header, Kind, Name, NameRow, NodeRow, TierSizes};
 use std::alloc::{AllocError, Allocator};
 use std::marker::Model;
 use std::sync::Arc;
 
-/// The image that the desk owns. Its tree is sound, and its headers are those that the tree has. Views
-/// share its shape and see it as it was when they were taken.
+/// The image that the desk owns: nodes, names, and the blocks of files on three tiers. Its tree is
+/// sound, and its headers are those that the tree has; each block is one of a file, begins below the
+/// file's size, and has a place of its own. A place is free where no block lies. Views share its shape
+/// and see it as it was when they were taken.
 #[derive(Drop)]
 pub struct Image<A: Allocator> {
     shape: Arc<Shape<A>, A>,
-    sizes: TierSizes,
+    blocks: Blocks<A>,
     alloc: A,
 }
 
 impl<A: Allocator> Model for Image<A> {
-    ghost use Rattle.kfs_image.specs.Image.{ImageShown};
-    ghost use Rattle.kfs_image.specs.ShownTree.{IsLawful};
+    ghost use Rattle.kfs_device.specs.ShownTree.{DeviceImage, IsLawful};
+    ghost use Rattle.kfs_image.specs.Image.{image_with};
 
-    ghost Value = { ImageShown };
+    ghost Value = { DeviceImage };
 
-    ghost view = { λ i. record { contents = i.shape.value; sizes = i.sizes } };
+    ghost view = { λ i. image_with i.shape.value i.blocks };
 
-    ghost invariant = { λ i. IsLawful i.shape.value };
+    ghost invariant = { λ i. IsLawful (image_with i.shape.value i.blocks) };
 }
 
 impl<A: Allocator + Clone> Image<A> {
     /// The image with the root directory alone, of mode 0o777, uid 0 and gid 0, over tiers of these
-    /// sizes.
-    #[tactic(auto, using(crate::proofs::BlankTrees::fresh_is_lawful))]
+    /// sizes, in which no block was written. `Err` where memory is refused.
     pub fn fresh(alloc: A, sizes: TierSizes) -> Result<Image<A>, AllocError>
-        ensures { IfOk result (λ image. image ≡ record { contents = root_alone; sizes = sizes }) }
+        ensures { IfOk result (λ image. image ≡ fresh_image sizes) }
     {
         let shape = Shape::with_root(alloc.clone()?)?;
         let shape = Arc::new(alloc.clone()?, shape)?;
+        let blocks = Blocks::new(alloc.clone()?, sizes)?;
         Ok(Image {
             shape,
-            sizes,
+            blocks,
             alloc,
         })
     }
 
-    /// Makes the change of a net. Pages and chunks that a view shares are copied where they change, and
-    /// the others stay shared. `Err` leaves what the image shows as it is, and a view shows what it
-    /// showed in any case.
-    pub(crate) fn change(&mut self, names: &[NameRow], nodes: &[NodeRow]) -> Result<(), AllocError>
-        requires { IsLawful (after_net self.old names.now nodes.now).contents }
-        ensures ok { OnOk result (self.new ≡ after_net self.old names.now nodes.now) }
+    /// Makes the edits, one after the other, after which the image is lawful. Every growth comes before
+    /// the first change, so `Err` leaves what the image shows as it is. A view that was taken before shows
+    /// what it showed in any case.
+    pub fn edit(&mut self, edits: &[Edit<A>]) -> Result<(), AllocError>
+        requires { CanEdit edits.now self.old }
+        ensures ok { OnOk result (self.new ≡ edited_all edits.now self.old) }
         ensures err { OnErr result (self.new ≡ self.old) }
     {
-        change_shared(&mut self.shape, &self.alloc, names, nodes)
+        let Parts {
+            names,
+            nodes,
+            said,
+            mut written,
+        } = Parts::of(&self.alloc, edits)?;
+        let places = key_edits(&self.alloc, &said)?;
+        let mut then = ChangeBlocks {
+            blocks: &mut self.blocks,
+            edits: places.as_slice(),
+            written: &mut written,
+        };
+        change_shared(
+            &mut self.shape,
+            &self.alloc,
+            names.as_slice(),
+            nodes.as_slice(),
+            &mut then,
+        )
+    }
+
+    /// Makes the change of a net and a fill. Pages and chunks that a view shares are copied where they
+    /// change, and the others stay shared. `Err` leaves what the image shows as it is, and a view shows
+    /// what it showed in any case.
+    pub(crate) fn change(&mut self, net: &Net<A>, fill: &Fill<A>) -> Result<(), AllocError>
+        requires { CanApply net.now fill.now self.old }
+        ensures ok { OnOk result (self.new ≡ applied net.now fill.now self.old) }
+        ensures err { OnErr result (self.new ≡ self.old) }
+    {
+        let gone = gone_blocks(&self.alloc, net.nodes.as_slice(), fill.zero.as_slice())?;
+        let mut then = FillBlocks {
+            blocks: &mut self.blocks,
+            gone: gone.as_slice(),
+            rows: fill.rows.as_slice(),
+        };
+        change_shared(
+            &mut self.shape,
+            &self.alloc,
+            net.names.as_slice(),
+            net.nodes.as_slice(),
+            &mut then,
+        )
     }
 }
 
-fn change_shared<A: Allocator + Clone>(
+fn change_shared<A: Allocator + Clone, T: Change>(
     shape: &mut Arc<Shape<A>, A>,
     alloc: &A,
     names: &[NameRow],
     nodes: &[NodeRow],
+    then: &mut T,
 ) -> Result<(), AllocError>
     requires before { FitPages shape.old.value.heads shape.old.value.names }
     requires after { FitPages (reheaded shape.old.value.heads nodes.now) (renamed shape.old.value.names names.now) }
+    requires then { T.can_make then.old }
     ensures ok { OnOk result (shape.new.value ≡ after_rows shape.old.value names.now nodes.now) }
     ensures err { OnErr result (shape.new.value ≡ shape.old.value) }
+    ensures made { OnOk result (T.made then.old then.new) }
+    ensures kept { OnErr result (T.kept then.old then.new) }
 {
     let shape = Arc::make_mut(shape)?;
-    shape.apply(alloc, names, nodes, &mut Nothing)
+    shape.apply(alloc, names, nodes, then)
 }
 
 impl<A: Allocator> Image<A> {
     /// The shape of now, to share with a view. Takes no memory.
     pub fn shape(&self) -> &Arc<Shape<A>, A>
-        ensures shape { result.now.value ≡ self.now.contents }
-        ensures lawful { IsLawful self.now.contents }
+        ensures shape { result.now.value ≡ contents_of self.now }
+        ensures lawful { IsLawful self.now }
     {
         &self.shape
     }
 
+    /// How many blocks the tier has: none where it is over 2. Takes no memory.
+    pub fn tier_size(&self, tier: u8) -> u32
+        ensures { result ≡ tier_size self.now.sizes tier }
+    {
+        self.blocks.size(tier)
+    }
+
+    /// In how many places of the tier no block of a file lies: none where it is over 2. Takes no memory.
+    pub fn free(&self, tier: u8) -> u32
+        ensures { result ≡ length (unused_places self.now.sizes self.now.placement tier) }
+    {
+        self.blocks.free(tier)
+    }
+
+    /// The tier's least free place that isn't below `from`, or none. Takes no memory.
+    pub fn next_free(&self, tier: u8, from: u32) -> Option<u32>
+        ensures found { IfSome result (λ place. IsNextUnused self.now.sizes self.now.placement tier from place) }
+        ensures none { IfNone result (AreTakenFrom self.now.sizes self.now.placement tier from) }
+    {
+        self.blocks.next_free(tier, from)
+    }
+
+    /// Where a block of a file lies, or none where it isn't mapped. Takes no memory.
+    pub fn place_of(&self, number: u32, block: u32) -> Option<Place>
+        ensures { result ≡ get self.now.placement (number, block) }
+    {
+        self.blocks.place_of(number, block)
+    }
+
     /// The least number above `after` that a node has, or none where no node has one. Takes no memory.
     pub fn next_node(&self, after: u32) -> Option<u32>
-        ensures found { IfSome result (IsNextNode self.now.contents.heads after) }
-        ensures none { IfNone result ((m : ℕ) → after < m → get self.now.contents.heads m ≡ None) }
+        ensures found { IfSome result (IsNextNode self.now.heads after) }
+        ensures none { IfNone result ((m : ℕ) → after < m → get self.now.heads m ≡ None) }
     {
         self.shape.next_node(after)
     }
@@ -99,9 +187,43 @@ impl<A: Allocator> Image<A> {
     /// The least name of the directory above `after`, or of all its names where `after` is none, and
     /// the number that it leads to. Takes no memory.
     pub fn next_name(&self, dir: u32, after: Option<&Name>) -> Option<(&Name, u32)>
-        ensures found { IfSome result (λ p. IsNext self.now.contents.names dir after.entry p.0.now p.1) }
-        ensures none { IfNone result ((m : List ℕ) (n : ℕ) → target self.now.contents.names dir m ≡ Some n → IsAfter after.entry m → ⊥) }
+        ensures found { IfSome result (λ p. IsNext self.now.names dir after.entry p.0.now p.1) }
+        ensures none { IfNone result ((m : List ℕ) (n : ℕ) → target self.now.names dir m ≡ Some n → IsAfter after.entry m → ⊥) }
     {
         self.shape.next_name(dir, after)
+    }
+
+    /// Reads bytes of a file into the front of the buffer.
+    pub(crate) fn read(
+        &self,
+        number: u32,
+        start: u64,
+        buffer: &mut [u8],
+    ) -> Result<usize, ReadFault>
+        ensures read { IfOk result (IsRead self.now number start buffer.old buffer.new) }
+        ensures no_node { (result ≡ Err ReadFault.NoSuchNode) ↔ (get self.now.heads number ≡ None) }
+        ensures directory { (result ≡ Err ReadFault.IsDirectory) ↔ IsTrue (is_directory (get self.now.heads number)) }
+        ensures kept { OnErr result (buffer.new ≡ buffer.old) }
+    {
+        let header = self.header(number).ok_or(ReadFault::NoSuchNode)?;
+        if header.kind == Kind::Directory {
+            return Err(ReadFault::IsDirectory);
+        }
+        if header.size <= start {
+            return Ok(0);
+        }
+        let left = usize::try_from(header.size - start).unwrap_or(usize::MAX);
+        let count = left.min(buffer.len());
+        self.blocks.read_bytes(number, start, &mut buffer[..count]);
+        Ok(count)
+    }
+
+    fn header(&self, number: u32) -> Option<Header>
+        ensures { option_map header_of result ≡ get self.now.heads number }
+    {
+        match look(&self.shape, &Cell::Header(number)) {
+            Answer::Header(header) => header,
+            _ => unreachable!(),
+        }
     }
 }

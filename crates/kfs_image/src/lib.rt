@@ -1,10 +1,16 @@
 //! The image of the file system: its nodes, names and tiers.
 #![tactic(auto)]
 
+mod edit;
+mod gone;
 mod image;
 mod net;
+mod read;
 
+pub use edit::Edit;
 pub use image::Image;
+pub use kfs_blocks::{BlockRow, BlockRun, Place};
 pub use kfs_nodes::{Answer, Cell, Net, Page, Shape, look};
 pub use kfs_value::{Header, Kind, Name, TierSizes};
 pub use net::{Fill, net_apply};
+pub use read::{ReadFault, read_file};

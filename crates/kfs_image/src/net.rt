@@ -1,39 +1,45 @@
 //! The change that a landing makes to an image.
-ghost use Rattle.std.specs.Prelude.{◌≡◌, OnOk, OnErr};
-ghost use Rattle.kfs_image.specs.Image.{after_net};
-ghost use Rattle.kfs_image.specs.ShownTree.{IsLawful};
+ghost use Rattle.std.specs.Prelude.{◌≡◌, [], IfOk, OnOk, OnErr};
+ghost use Rattle.kfs_image.specs.Net.{CanApply, applied};
 
 use crate::image::Image;
+use kfs_blocks::{BlockRow, BlockRun};
 use kfs_nodes::Net;
 use std::alloc::{AllocError, Allocator};
-use std::marker::PhantomData;
 
-/// The blocks that a landing writes and those that it clears: none, as long as logs have no bytes.
+/// The blocks that a landing writes, and those that it makes zero.
 #[derive(Debug, Drop)]
 pub struct Fill<A: Allocator> {
-    blocks: PhantomData<A>,
+    /// The written blocks of files, with their places and their bytes.
+    pub rows: Vec<BlockRow<A>, A>,
+    /// Runs of blocks of which every byte is zero.
+    pub zero: Vec<BlockRun, A>,
 }
 
-impl<A: Allocator> Fill<A> {
-    /// No block.
-    pub fn empty() -> Fill<A> {
-        Fill {
-            blocks: PhantomData,
-        }
+impl<A: Allocator + Clone> Fill<A> {
+    /// No block. `Err` where the allocator isn't copied.
+    pub fn empty(alloc: &A) -> Result<Fill<A>, AllocError>
+        ensures { IfOk result (λ fill. (fill.rows.items ≡ []) × (fill.zero.items ≡ [])) }
+    {
+        Ok(Fill {
+            rows: Vec::new(alloc.clone()?),
+            zero: Vec::new(alloc.clone()?),
+        })
     }
 }
 
-/// Makes the change of a net, after which the tree is sound and the headers are its own. Every growth
-/// comes before the first change, so `Err` leaves what the image shows as it is. A view that was taken
-/// before shows what it showed.
+/// Makes the change of a net and a fill, after which the image is lawful: the names and headers of the
+/// net, the blocks of the fill mapped and written, and those unmapped that are zero, or are no block of
+/// a file any more. Every growth comes before the first change, so `Err` leaves what the image shows as
+/// it is. A view that was taken before shows what it showed.
 pub fn net_apply<A: Allocator + Clone>(
     image: &mut Image<A>,
     net: &Net<A>,
-    _fill: &Fill<A>,
+    fill: &Fill<A>,
 ) -> Result<(), AllocError>
-    requires { IsLawful (after_net image.old net.now.names.items net.now.nodes.items).contents }
-    ensures ok { OnOk result (image.new ≡ after_net image.old net.now.names.items net.now.nodes.items) }
+    requires { CanApply net.now fill.now image.old }
+    ensures ok { OnOk result (image.new ≡ applied net.now fill.now image.old) }
     ensures err { OnErr result (image.new ≡ image.old) }
 {
-    image.change(net.names.as_slice(), net.nodes.as_slice())
+    image.change(net, fill)
 }

@@ -1,4 +1,4 @@
-//! The rules of a raw image, checked.
+//! The rules of a raw image, checked, and the change that a landing makes to an image.
 #![tactic(auto)]
 
 mod check;
@@ -15,5 +15,6 @@ mod raw;
 
 pub use check::check_shape;
 pub use fault::{Finding, ShapeFault};
+pub use kfs_image::{Fill, Net, net_apply};
 pub use kfs_value::{Header, Kind, Name, NameRow, TierSizes};
 pub use raw::{ExtentRow, NodeRow, RawImage};

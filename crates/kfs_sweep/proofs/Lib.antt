@@ -10,6 +10,10 @@ pub mod ChangedMarks
 pub mod Made
 pub mod Fits
 pub mod Counting
+pub mod ListedBlocks
+pub mod TouchedBlocks
+pub mod WrittenLists
+pub mod ClearedRuns
 pub mod FileParts
 pub mod Listed
 pub mod SizesBetween

@@ -1,10 +1,11 @@
 -- The blocks that one piece writes, and a count of blocks.
-use Rattle.std.specs.Prelude.{◌≡◌, ℕ, ◌+◌, ◌-◌, ◌/◌, ◌%◌, ◌==◌, ◌||◌, ◌++◌, nat_le, Bool, List, [], ◌∷◌, if◌then◌else◌}
+use Rattle.std.specs.Prelude.{◌≡◌, ℕ, ◌+◌, ◌-◌, ◌/◌, ◌%◌, ◌==◌, ◌||◌, ◌++◌, nat_le, Bool, List, [], ◌∷◌, Option, Some, None, if◌then◌else◌}
 use Rattle.kfs_model.specs.Limits.{block_size}
 use Rattle.kfs_model.specs.PlanRow.{Piece, Source}
 use Rattle.kfs_model.specs.Plan.{end_of}
 use Rattle.kfs_model.specs.Blocks.{Blocks, block_of, counted}
 use Rattle.kfs_sweep.specs.declared.blocks.Count.{Count}
+use Rattle.kfs_sweep.specs.declared.touched.Touched.{Touched}
 
 -- The blocks that one piece of a file of this size writes, where zero bytes ended last at `until` and go on behind the piece or not.
 module _ (size until : ℕ) (goes_on : Bool) (p : Piece) where
@@ -14,6 +15,11 @@ module _ (size until : ℕ) (goes_on : Bool) (p : Piece) where
 
   abbrev pub piece_blocks : List Blocks
   piece_blocks = of_source p.source
+
+-- the blocks that a stretch of the code's says, if there is one
+abbrev pub blocks_in : Option Touched → List Blocks
+blocks_in None = []
+blocks_in (Some touched) = record { first = touched.first; last = touched.last } ∷ []
 
 -- The later count has these blocks counted: whatever comes behind them, both come to the same.
 abbrev pub HasCounted : (before : Count) → List Blocks → (after : Count) → Type 0

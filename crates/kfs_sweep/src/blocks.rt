@@ -1,12 +1,13 @@
 //! How many blocks of a file its right pieces write.
-ghost use Rattle.std.specs.Prelude.{◌≡◌, ◌+◌, ◌%◌, ◌/◌, ◌<◌, ◌≤◌, ◌^◌, ◌==◌, ◌||◌, [], ◌∷◌, drop, map, nat_le, if◌then◌else◌};
+ghost use Rattle.std.specs.Prelude.{◌≡◌, ◌+◌, ◌<◌, ◌≤◌, ◌^◌, ◌++◌, [], ◌∷◌, drop, map, if◌then◌else◌};
 ghost use Rattle.std.specs.List.{AllByRecursion};
 ghost use Rattle.kfs_value.specs.Views.{piece_of};
 ghost use Rattle.kfs_model.specs.Blocks.{block_of, counted, goes_on, touches};
 ghost use Rattle.kfs_model.specs.Limits.{size_limit};
 ghost use Rattle.kfs_sweep.specs.Lefts.{IsFilled, IsWhole};
-ghost use Rattle.kfs_sweep.specs.PieceBlocks.{HasCounted, piece_blocks, zeros_until};
+ghost use Rattle.kfs_sweep.specs.PieceBlocks.{HasCounted, blocks_in, piece_blocks, zeros_until};
 
+use crate::touched::Touched;
 use kfs_value::{BLOCK_SIZE, Piece, Source};
 
 /// How many blocks are counted so far, and the first block behind them.
@@ -16,39 +17,67 @@ pub(crate) struct Count {
     pub total: u64,
 }
 
-/// Counts the blocks from the first to the last, those that are counted already left out.
-fn with_blocks(count: Count, first: u64, last: u64) -> Count
-    requires order { first ≤ last }
-    requires small { last ≤ 2 ^ 20 }
-    requires near { count.next ≤ 2 ^ 20 + 1 }
-    requires low { count.total ≤ count.next }
-    ensures counts { HasCounted count (record { first = first; last = last } ∷ []) result }
-    ensures low { result.total ≤ result.next }
-    ensures near { result.next ≤ 2 ^ 20 + 1 }
+/// The block of a place, unless it is left out.
+fn block_at(place: u64, is_left_out: bool) -> Option<Touched>
+    requires { place ≤ size_limit }
+    ensures { blocks_in result ≡ (if is_left_out then [] else block_of place ∷ []) }
 {
-    let from = count.next.max(first);
-    if from > last {
-        return count;
+    if is_left_out {
+        return None;
     }
-    Count {
-        next: last + 1,
-        total: count.total + (last + 1 - from),
+    let block = place / BLOCK_SIZE;
+    Some(Touched {
+        first: block,
+        last: block,
+    })
+}
+
+/// The blocks that a piece writes, in their order: at the most those of two stretches.
+pub(crate) fn touched_by(
+    until: u64,
+    piece: &Piece,
+    goes_on: bool,
+    size: u64,
+) -> (Option<Touched>, Option<Touched>)
+    requires whole { IsWhole piece.now }
+    requires filled { 0 < piece.now.len }
+    ensures { blocks_in result.0 ++ blocks_in result.1 ≡ piece_blocks size until goes_on (piece_of piece.now) }
+{
+    let end = piece.start + piece.len;
+    match piece.source {
+        Source::Zero => {
+            let starts_out = piece.start % BLOCK_SIZE == 0 || piece.start == until;
+            let ends_out = end % BLOCK_SIZE == 0 || size <= end || goes_on;
+            (block_at(piece.start, starts_out), block_at(end, ends_out))
+        }
+        Source::Payload { entry: _, place: _ } => {
+            let touched = Touched {
+                first: piece.start / BLOCK_SIZE,
+                last: (end - 1) / BLOCK_SIZE,
+            };
+            (Some(touched), None)
+        }
     }
 }
 
-/// Counts the block of a place, unless it is told not to.
-fn with_place(count: Count, place: u64, is_left_out: bool) -> Count
-    requires small { place ≤ size_limit }
+/// Counts the blocks of a stretch, if there is one, those that are counted already left out.
+fn with_blocks(count: Count, touched: Option<Touched>) -> Count
     requires near { count.next ≤ 2 ^ 20 + 1 }
     requires low { count.total ≤ count.next }
-    ensures counts { HasCounted count (if is_left_out then [] else block_of place ∷ []) result }
+    ensures counts { HasCounted count (blocks_in touched) result }
     ensures low { result.total ≤ result.next }
     ensures near { result.next ≤ 2 ^ 20 + 1 }
 {
-    if is_left_out {
-        count
-    } else {
-        with_blocks(count, place / BLOCK_SIZE, place / BLOCK_SIZE)
+    let Some(blocks) = touched else {
+        return count;
+    };
+    let from = count.next.max(blocks.first);
+    if from > blocks.last {
+        return count;
+    }
+    Count {
+        next: blocks.last + 1,
+        total: count.total + (blocks.last + 1 - from),
     }
 }
 
@@ -62,22 +91,13 @@ fn with_piece(count: Count, until: u64, piece: &Piece, goes_on: bool, size: u64)
     ensures low { result.total ≤ result.next }
     ensures near { result.next ≤ 2 ^ 20 + 1 }
 {
-    let end = piece.start + piece.len;
-    match piece.source {
-        Source::Zero => {
-            let starts_out = piece.start % BLOCK_SIZE == 0 || piece.start == until;
-            let ends_out = end % BLOCK_SIZE == 0 || size <= end || goes_on;
-            let begun = with_place(count, piece.start, starts_out);
-            with_place(begun, end, ends_out)
-        }
-        Source::Payload { entry: _, place: _ } => {
-            with_blocks(count, piece.start / BLOCK_SIZE, (end - 1) / BLOCK_SIZE)
-        }
-    }
+    let (front, back) = touched_by(until, piece, goes_on, size);
+    let begun = with_blocks(count, front);
+    with_blocks(begun, back)
 }
 
 /// Whether the pieces from an index on go on with zero bytes at a place.
-fn goes_on_at(pieces: &[Piece], index: usize, place: u64) -> bool
+pub(crate) fn goes_on_at(pieces: &[Piece], index: usize, place: u64) -> bool
     ensures { result ≡ goes_on place (map piece_of (drop index pieces.now)) }
 {
     if index >= pieces.len() {
@@ -87,7 +107,7 @@ fn goes_on_at(pieces: &[Piece], index: usize, place: u64) -> bool
 }
 
 /// Where the zero bytes of a piece end, and 0 for a payload's.
-fn zeros_end(piece: &Piece) -> u64
+pub(crate) fn zeros_end(piece: &Piece) -> u64
     requires { IsWhole piece.now }
     ensures { result ≡ zeros_until (piece_of piece.now) }
 {

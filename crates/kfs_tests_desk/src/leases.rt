@@ -444,8 +444,8 @@ fn make_all<A: Allocator + Clone, B: Allocator>(
 }
 
 /// The same on the tree of this module, from no leases on.
-fn make_with_one_refused<B: Allocator>(
-    heap: &Refusing<B>,
+fn make_with_one_refused(
+    heap: &Refusing<Global>,
     grants: &[Granted<'_>],
     growth: u64,
 ) -> Option<(bool, bool)> {

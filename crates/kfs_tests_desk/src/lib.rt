@@ -13,6 +13,8 @@ mod judging;
 #[cfg(test)]
 mod leases;
 #[cfg(test)]
+mod pages;
+#[cfg(test)]
 mod refused;
 #[cfg(test)]
 mod submitting;

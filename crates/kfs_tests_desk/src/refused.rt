@@ -225,8 +225,8 @@ fn change_from<A: Allocator + Copy, B: Allocator>(
 }
 
 /// The same from the first call on.
-fn change_with_one_refused<B: Allocator>(
-    heap: &Refusing<B>,
+fn change_with_one_refused(
+    heap: &Refusing<Global>,
     change: &Change<'_>,
     growth: u64,
 ) -> Option<(bool, bool)> {

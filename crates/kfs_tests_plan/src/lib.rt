@@ -15,9 +15,7 @@ mod plans;
 mod refused;
 #[cfg(test)]
 mod rows;
-#[cfg(test)]
-mod scenes;
-#[cfg(test)]
-mod spelling;
+pub mod scenes;
+pub mod spelling;
 #[cfg(test)]
 mod wide;

@@ -1,8 +1,9 @@
 //! Trees with files, of which client 7 holds leases, and what is judged against them.
 ghost use Rattle.std.specs.Prelude.{◌≡◌, IfSome};
 ghost use Rattle.kfs_mode.specs.Clients.{AreDistinct};
-ghost use Rattle.kfs_image.specs.Image.{after_net};
-ghost use Rattle.kfs_image.specs.ShownTree.{IsLawful};
+ghost use Rattle.kfs_device.specs.ShownTree.{IsLawful};
+ghost use Rattle.kfs_image.specs.Image as images;
+ghost use Rattle.kfs_image.specs.Net.{after_net};
 ghost use Rattle.kfs_check.specs.View.{contents_of};
 
 use crate::spelling::{Rows, Step, log, plan};
@@ -45,7 +46,7 @@ fn view_of<A: Allocator + Copy>(
     held: &[&[u8]],
 ) -> Option<View<A>>
     requires distinct { AreDistinct clients.items }
-    ensures contents { IfSome result (λ view. contents_of view ≡ image.now.contents) }
+    ensures contents { IfSome result (λ view. contents_of view ≡ images.contents_of image.now) }
 {
     let mut leases = Leases::new(alloc);
     for path in held {
@@ -73,8 +74,8 @@ fn right_net<A: Allocator + Copy>(
     view: &View<A>,
     submission: Submission<A>,
 ) -> Option<Net<A>>
-    requires contents { contents_of view.now ≡ image.now.contents }
-    ensures lawful { IfSome result (λ net. IsLawful (after_net image.now net.names.items net.nodes.items).contents) }
+    requires contents { contents_of view.now ≡ images.contents_of image.now }
+    ensures lawful { IfSome result (λ net. IsLawful (after_net net image.now)) }
 {
     let _shape = image.shape();
     let Ok(judged) = judge(alloc, view, submission) else {
@@ -101,17 +102,44 @@ pub fn submission<A: Allocator + Copy>(
     })
 }
 
+/// The net of a log of client 7, of this uid and gid, with write leases on the nodes at these paths, where it is judged right
+/// with this plan.
+pub fn net_of<A: Allocator + Copy>(
+    alloc: A,
+    image: &Image<A>,
+    ids: (u32, u32),
+    held: &[&[u8]],
+    made: (&[Step<'_>], Rows<'_>),
+) -> Option<Net<A>>
+    ensures { IfSome result (λ net. IsLawful (after_net net image.now)) }
+{
+    let (steps, rows) = made;
+    let view = view_of(alloc, image, clients(alloc, ids, &[])?, held)?;
+    let submission = Submission {
+        client: 7,
+        log: log(alloc, steps)?,
+        plan: plan(alloc, rows)?,
+    };
+    right_net(alloc, image, &view, submission)
+}
+
+/// Makes the change of the net, with no block written.
+fn apply_alone<A: Allocator + Clone>(
+    alloc: &A,
+    image: &mut Image<A>,
+    net: &Net<A>,
+) -> Result<(), AllocError>
+    requires { IsLawful (after_net net.now image.old) }
+{
+    let fill = Fill::empty(alloc)?;
+    net_apply(image, net, &fill)
+}
+
 /// A new image with the tree of the scene.
 fn image_of<A: Allocator + Copy>(alloc: A, scene: &Scene<'_>) -> Option<Image<A>> {
     let mut image = Image::fresh(alloc, TierSizes::new(8, 8, 8)?).ok()?;
-    let view = view_of(alloc, &image, clients(alloc, scene.maker, &[])?, &[b"/"])?;
-    let submission = Submission {
-        client: 7,
-        log: log(alloc, scene.made.0)?,
-        plan: plan(alloc, scene.made.1)?,
-    };
-    let net = right_net(alloc, &image, &view, submission)?;
-    net_apply(&mut image, &net, &Fill::empty()).ok()?;
+    let net = net_of(alloc, &image, scene.maker, &[b"/"], scene.made)?;
+    apply_alone(&alloc, &mut image, &net).ok()?;
     Some(image)
 }
 

@@ -1,9 +1,12 @@
-use Rattle.std.proofs.Common.{◌++◌, refl, take, append-nil}
-use Rattle.std.proofs.KnownBytes.{Appends-trans, Consumes-kept, Consumes-trans}
+use Rattle.std.proofs.Common.{◌++◌, [], refl, take, append-nil}
+use Rattle.std.proofs.KnownBytes.{Appends-nil, Appends-trans, Consumes-kept, Consumes-nil, Consumes-trans}
 use Rattle.std.proofs.lemmas.Result.{err_from_is_err_and}
 use Rattle.kfs_engine.specs.declared.fault.EngineFault.TheVariants.{ReadFault}
 use Rattle.kfs_engine.proofs.Conversations.{Stands-read, Stands-unread}
 use Rattle.kfs_engine.proofs.answer_all.Goals as goal
+
+pub reads-init : goal.reads-init
+reads-init g c = ([], [], Consumes-nil _, Appends-nil _, c.new-conversation.ensures)
 
 pub returns-in_err-count-clause-session : goal.returns-in_err-count-clause-session
 returns-in_err-count-clause-session g c =

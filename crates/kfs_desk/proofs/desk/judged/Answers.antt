@@ -4,7 +4,7 @@ use Rattle.std.specs.Prelude.{IfOk}
 use Rattle.kfs_model.specs.Lease.{holds, row_of}
 use Rattle.kfs_model.specs.Sight.{client_sight}
 use Rattle.kfs_nodes.specs.Contents.{sight_of}
-use Rattle.kfs_image.specs.ShownTree.{tree_of}
+use Rattle.kfs_device.specs.ShownTree.{shown_tree}
 use Rattle.kfs_image.proofs.ShownTrees.{sight_shown}
 use Rattle.kfs_check.specs.Reads.{Agrees}
 use Rattle.kfs_check.specs.View.{client_sight_in}
@@ -18,11 +18,11 @@ pub returns-clause-verdict : goal.returns-clause-verdict
 returns-clause-verdict g c =
     let number = c.args.submission.client in
     let image = c.args.image.now in
-    let sights = ap sight_of c.in-Ok.ensures.contents ∙ sight_shown image.contents c.view_of.ensures.lawful in
-    let seen : client_sight_in c.in-Ok.view number ≡ client_sight (tree_of image.contents) (holds c.args.leases.now.value number) = λ i. record { sight = sights i; held = holds (c.in-Ok.ensures.leases i) number } in
+    let sights = ap sight_of c.in-Ok.ensures.contents ∙ sight_shown image c.view_of.ensures.lawful in
+    let seen : client_sight_in c.in-Ok.view number ≡ client_sight (shown_tree image) (holds c.args.leases.now.value number) = λ i. record { sight = sights i; held = holds (c.in-Ok.ensures.leases i) number } in
     three c.judge.result c.judge.ensures.known c.judge.ensures.client c.judge.ensures.view_agrees (λ judged known client agrees.
     known _ (record {
-      sound = c.view_of.ensures.lawful.sound;
+      sound = c.view_of.ensures.lawful.tree.sound;
       row = sym (client ∙ ap (λ rows. row_of rows number) c.in-Ok.ensures.clients);
       agrees = subst (Agrees judged.reads.entries) seen agrees;
     }))

@@ -4,11 +4,11 @@ use Rattle.kfs_engine.proofs.listing.push_names.Goals as goal
 
 pub loop-name-smaller : goal.loop-name-smaller
 loop-name-smaller g c =
-    omega (arith, ap length (next_after c.args.image.now.contents.names c.args.dir c.loop-name.after c.in-Some.name c.in-Some.node c.in-Some.ensures.found))
+    omega (arith, ap length (next_after c.args.image.now.names c.args.dir c.loop-name.after c.in-Some.name c.in-Some.node c.in-Some.ensures.found))
 
 pub loop-name-preserved : goal.loop-name-preserved
 loop-name-preserved g c =
-    let names = c.args.image.now.contents.names in
+    let names = c.args.image.now.names in
     let dir = c.args.dir in
     let left = names_after names dir c.loop-name.after in
     let rest = names_after names dir (Some c.in-Some.name) in
@@ -17,5 +17,5 @@ loop-name-preserved g c =
 
 pub returns : goal.returns
 returns g c =
-    let left = names_after c.args.image.now.contents.names c.args.dir c.loop-name.after in
-    written_all c.loop-name.out.items _ left (none_after c.args.image.now.contents.names c.args.dir c.loop-name.after c.in_default.ensures.none) c.loop-name.invariant
+    let left = names_after c.args.image.now.names c.args.dir c.loop-name.after in
+    written_all c.loop-name.out.items _ left (none_after c.args.image.now.names c.args.dir c.loop-name.after c.in_default.ensures.none) c.loop-name.invariant

@@ -4,7 +4,7 @@ use Rattle.kfs_engine.proofs.Listed.{names_after}
 use Rattle.kfs_engine.proofs.listing.push_names.Given as goal
 
 abbrev pub invariant-loop-name : goal.invariant-loop-name
-invariant-loop-name g l = l.out.items ++ names_text (names_after l.image.contents.names l.dir l.after) ≡ l.fn.out.items ++ names_text (names_in l.image.contents.names l.dir)
+invariant-loop-name g l = l.out.items ++ names_text (names_after l.image.names l.dir l.after) ≡ l.fn.out.items ++ names_text (names_in l.image.names l.dir)
 
 abbrev pub decreases-loop-name : goal.decreases-loop-name
-decreases-loop-name g l = length (names_after l.image.contents.names l.dir l.after)
+decreases-loop-name g l = length (names_after l.image.names l.dir l.after)

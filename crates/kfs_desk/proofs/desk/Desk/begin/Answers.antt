@@ -1,4 +1,4 @@
--- There is no lease yet, and the image's tree is sound.
+-- There is no lease yet, and the image is lawful.
 use Rattle.std.proofs.Common.{◌≡◌, List, sym, ap, subst, ◌∙◌, arith}
 use Rattle.std.specs.List.{AllByRecursion}
 use Rattle.kfs_model.specs.Access.{Client}
@@ -6,7 +6,10 @@ use Rattle.kfs_model.specs.CleanStep.{IsClient}
 use Rattle.kfs_model.specs.Lease.{no_leases}
 use Rattle.kfs_model.specs.Order.{IsInOrder}
 use Rattle.kfs_model.proofs.OrderKept.{opens_in_order}
-use Rattle.kfs_image.specs.ShownTree.{tree_of}
+use Rattle.kfs_model.specs.Header.{Header}
+use Rattle.kfs_model.specs.Placement.{IsPlacement}
+use Rattle.kfs_model.specs.Table.{Table, numbers, get}
+use Rattle.kfs_device.specs.ShownTree.{shown_tree}
 use Rattle.kfs_mode.specs.Clients.{AreDistinct}
 use Rattle.kfs_desk.specs.Machine.{state_at}
 use Rattle.kfs_desk.proofs.desk.Desk.begin.Goals as goal
@@ -14,12 +17,20 @@ use Rattle.kfs_desk.proofs.desk.Desk.begin.Goals as goal
 pub invariant_of-result : goal.invariant_of-result
 invariant_of-result g c =
     let image = c.args.image in
+    let lawful = c.shape-shape.ensures.lawful in
     let leases : c.in-Ok.leases.value ≡ no_leases = c.in-Ok.ensures.ok ∙ c.new.ensures in
     let clients = c.deref.ensures.value ∙ ap (λ v. v.items) (sym c.in-Ok-new.ensures.ok) in
     let distinct = subst AreDistinct clients c.in_default.ensures.distinct in
     let in_range = subst (λ (rows : List Client). AllByRecursion IsClient rows) clients c.in_default.ensures.in_range in
+    let opened = opens_in_order c.in-Ok-new.clients.value.items image.sizes (shown_tree image) distinct in_range lawful.tree.sound in
     record {
       within_limit = omega arith;
-      in_order = subst (λ held. IsInOrder (state_at image c.in-Ok-new.clients.value.items held)) (sym leases)
-          (opens_in_order c.in-Ok-new.clients.value.items image.sizes (tree_of image.contents) distinct in_range c.shape-shape.ensures.lawful.sound);
+      in_order = subst (λ held. IsInOrder (state_at image c.in-Ok-new.clients.value.items held)) (sym leases) (record {
+        sound = opened.sound;
+        on_nodes = opened.on_nodes;
+        compatible = opened.compatible;
+        distinct = opened.distinct;
+        clients = opened.clients;
+        placement = subst (λ (heads : Table numbers Header). IsPlacement image.sizes (get heads) image.placement) (sym lawful.tree.counted) lawful.placed;
+      });
     }

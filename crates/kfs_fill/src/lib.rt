@@ -1,0 +1,12 @@
+//! The blocks that a landing writes, and those that it makes zero.
+#![tactic(auto)]
+
+mod block;
+mod bytes;
+mod parts;
+mod places;
+mod rows;
+
+pub use bytes::LogBytes;
+pub use places::free_places;
+pub use rows::block_rows;

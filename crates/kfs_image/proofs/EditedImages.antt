@@ -1,0 +1,197 @@
+-- An image once edits are made, one after the other, of each of its tables.
+use Rattle.std.proofs.Common.{◌≡◌, ℕ, ◌+◌, ◌<◌, ◌≤◌, Bool, true, false, cond, List, [], ◌∷◌, ◌++◌, map, length, get_or, drop, Option, option_map, refl, sym, ap, subst, ◌∙◌, arith}
+use Rattle.std.specs.Ordering.{eq_by_cmp}
+use Rattle.std.proofs.lemmas.List.{drop_all}
+use Rattle.std.specs.Prelude.{Vec, vec_len}
+use Rattle.kfs_model.specs.Header.{Header}
+use Rattle.kfs_model.specs.Limits.{block_size}
+use Rattle.kfs_model.specs.Placement.{Placement}
+use Rattle.kfs_model.specs.Table.{Table, pairs, numbers, get, changed, insert}
+use Rattle.kfs_model.specs.Tree.{NameTable, name_order}
+use Rattle.kfs_model.proofs.TableLaws.{same_table, get-changed}
+use Rattle.kfs_device.specs.Device.{Devices}
+use Rattle.kfs_device.specs.ShownTree.{DeviceImage, IsLawful, shown_tree}
+use Rattle.kfs_value.specs.declared.plan.NameRow.{NameRow}
+use Rattle.kfs_value.specs.declared.plan.NodeRow.{NodeRow}
+use Rattle.kfs_value.specs.Views.{header_of}
+use Rattle.kfs_chunks.specs.Edits.{Ascend}
+use Rattle.kfs_chunks.specs.Overlays.{Say, overlaid}
+use Rattle.kfs_chunks.specs.Tables.{table_after}
+use Rattle.kfs_chunks.proofs.Overlays.{overlaid_none, table_after_said}
+use Rattle.kfs_tier.specs.declared.change.NewBlock.{NewBlock}
+use Rattle.kfs_tier.specs.Tiers.{with_blocks}
+use Rattle.kfs_tier.proofs.TierLists.{rest_at}
+use Rattle.kfs_blocks.specs.Blocks.{BlocksShown, CanChange, changed as changed_blocks}
+use Rattle.kfs_blocks.specs.Moves.{BlockEdit}
+use Rattle.kfs_nodes.specs.Contents.{Contents}
+use Rattle.kfs_nodes.specs.Change.{after_rows, led_to, renamed, reheaded}
+use Rattle.kfs_nodes.specs.Rows.{FitPages}
+use Rattle.kfs_image.specs.declared.edit.Edit.{Edit}
+use Rattle.kfs_image.specs.declared.edit.Edit.TheVariants as edits
+use Rattle.kfs_image.specs.declared.edit.Parts.{Parts}
+use Rattle.kfs_image.specs.Edit.{CanEdit, edited, edited_all}
+use Rattle.kfs_image.specs.Image.{image_with}
+use Rattle.kfs_image.specs.Parts.{AreOf, AreWhole, above_zero, plain, with_parts}
+use Rattle.kfs_image.proofs.NetTables.{led_back}
+use Rattle.kfs_image.proofs.ShownTrees.{lawful_fits}
+
+-- ---- one more row, or block
+
+pub one_name : (names : NameTable) (rows : List NameRow) (row : NameRow) → renamed names (rows ++ row ∷ []) ≡ changed (renamed names rows) (row.dir, row.name) (led_to row.number)
+one_name names [] row = refl
+one_name names (r ∷ rows) row = one_name (changed names (r.dir, r.name) (led_to r.number)) rows row
+
+pub one_node : (heads : Table numbers Header) (rows : List NodeRow) (row : NodeRow) → reheaded heads (rows ++ row ∷ []) ≡ changed (reheaded heads rows) row.number (option_map header_of row.now)
+one_node heads [] row = refl
+one_node heads (r ∷ rows) row = one_node (changed heads r.number (option_map header_of r.now)) rows row
+
+pub one_block : {A : Type 0} (devices : Devices) (blocks : List (NewBlock A)) (block : NewBlock A) → with_blocks (blocks ++ block ∷ []) devices ≡ insert (with_blocks blocks devices) (block.place.tier, block.place.place) block.bytes.items
+unfolding with_blocks
+one_block devices [] block = refl
+one_block devices (b ∷ blocks) block = one_block (insert devices (b.place.tier, b.place.place) b.bytes.items) blocks block
+
+-- ---- edits, one after the other
+
+-- the first image has the tables of the other one, but no name that leads to 0
+record IsPlain (image other : DeviceImage) : Type 0 where
+  sizes : image.sizes ≡ other.sizes
+  heads : image.heads ≡ other.heads
+  names : (key : ℕ × List ℕ) → get image.names key ≡ above_zero (get other.names key)
+  placement : image.placement ≡ other.placement
+  devices : image.devices ≡ other.devices
+
+above_either : (b : Bool) (x y : Option ℕ) → cond b (above_zero x) (above_zero y) ≡ above_zero (cond b x y)
+above_either true x y = refl
+above_either false x y = refl
+
+module _ {A : Type 0} where
+  -- without an edit the parts say nothing
+  pub none_said : (parts : Parts A) → AreOf [] parts → (image : DeviceImage) → with_parts parts image ≡ image
+  unfolding edited_all
+  none_said parts of = of.make
+
+  -- and parts that say nothing are those of no edit
+  pub nothing_said : (parts : Parts A) → parts.names.items ≡ [] → parts.nodes.items ≡ [] → parts.said.latest.entries ≡ [] → parts.written.items ≡ [] → AreOf [] parts
+  unfolding edited_all with_blocks
+  nothing_said parts names nodes said written = record {
+    make = λ image i. record {
+      sizes = image.sizes;
+      heads = reheaded image.heads (nodes i);
+      names = renamed image.names (names i);
+      placement = overlaid_none image.placement parts.said.latest.entries said i;
+      devices = with_blocks (written i) image.devices;
+    };
+    whole = λ sizes whole. subst (AreWhole sizes) (sym written) (λ k d below. absurd (omega (arith, below)));
+  }
+
+  pub edit_made : (edits : List (Edit A)) (i : ℕ) (edit : Edit A) (image : DeviceImage) → i < length edits → edit ≡ get_or edits i edit
+      → edited_all (map plain (drop (i + 1) edits)) (edited (plain edit) image) ≡ edited_all (map plain (drop i edits)) image
+  unfolding edited_all
+  edit_made edits i edit image below here = ap (λ rest. edited_all (map plain rest) image) (sym (rest_at edits i edit below here))
+
+  pub edits_made : (edits : List (Edit A)) (i : ℕ) (image : DeviceImage) → length edits ≤ i → image ≡ edited_all (map plain (drop i edits)) image
+  unfolding edited_all
+  edits_made edits i image past = sym (ap (λ rest. edited_all (map plain rest) image) (drop_all i edits past))
+
+  plain_one : (e : Edit A) (image other : DeviceImage) → IsPlain image other → IsPlain (edited (plain e) image) (edited e other)
+  plain_one (edits.Header number header) image other alike = record {
+    sizes = alike.sizes;
+    heads = ap (λ (heads : Table numbers Header). changed heads number (option_map header_of header)) alike.heads;
+    names = alike.names;
+    placement = alike.placement;
+    devices = alike.devices;
+  }
+  plain_one (edits.Name dir name number) image other alike = record {
+    sizes = alike.sizes;
+    heads = alike.heads;
+    names = λ key.
+        get-changed image.names (dir, name) (above_zero number) key
+        ∙ ap (cond (eq_by_cmp name_order.compare key (dir, name)) (above_zero number)) (alike.names key)
+        ∙ above_either (eq_by_cmp name_order.compare key (dir, name)) number (get other.names key)
+        ∙ ap above_zero (sym (get-changed other.names (dir, name) number key));
+    placement = alike.placement;
+    devices = alike.devices;
+  }
+  plain_one (edits.Map number block place) image other alike = record {
+    sizes = alike.sizes;
+    heads = alike.heads;
+    names = alike.names;
+    placement = ap (λ (placement : Placement). changed placement (number, block) place) alike.placement;
+    devices = alike.devices;
+  }
+  plain_one (edits.Bytes place bytes) image other alike = record {
+    sizes = alike.sizes;
+    heads = alike.heads;
+    names = alike.names;
+    placement = alike.placement;
+    devices = ap (λ (devices : Devices). insert devices (place.tier, place.place) bytes.items) alike.devices;
+  }
+
+  plain_all : (es : List (Edit A)) (image other : DeviceImage) → IsPlain image other → IsPlain (edited_all (map plain es) image) (edited_all es other)
+  unfolding edited_all
+  plain_all [] image other alike = alike
+  plain_all (e ∷ es) image other alike = plain_all es (edited (plain e) image) (edited e other) (plain_one e image other alike)
+
+  -- from a lawful image to a lawful image no name comes to lead to 0
+  plain_is : (es : List (Edit A)) (image : DeviceImage) → IsLawful image → IsLawful (edited_all es image) → edited_all (map plain es) image ≡ edited_all es image
+  plain_is es image lawful lawful_after =
+      let back = led_back (shown_tree image) lawful.tree.sound in
+      let alike = plain_all es image image (record { sizes = refl; heads = refl; names = λ key. sym (back key); placement = refl; devices = refl }) in
+      let after = edited_all es image in
+      λ i. record {
+        sizes = alike.sizes i;
+        heads = alike.heads i;
+        names = same_table (edited_all (map plain es) image).names after.names (λ key. alike.names key ∙ led_back (shown_tree after) lawful_after.tree.sound key) i;
+        placement = alike.placement i;
+        devices = alike.devices i;
+      }
+
+-- ---- the parts of edits, put into an image
+
+-- these are the rows of edits and the edits of the placement
+pub record AreMade {A : Type 0} (edits : List (Edit A)) (parts : Parts A) (names : List NameRow) (nodes : List NodeRow) (made places : List BlockEdit) : Type 0 where
+  pub of : AreOf edits parts
+  pub names_are : names ≡ parts.names.items
+  pub nodes_are : nodes ≡ parts.nodes.items
+  pub places_are : places ≡ made
+  pub ascend : Ascend (pairs numbers numbers).compare made
+  pub said : Say (pairs numbers numbers).compare made parts.said.latest
+
+module _ {A : Type 0} (edits : List (Edit A)) (parts : Parts A) (names : List NameRow) (nodes : List NodeRow) (made places : List BlockEdit) (are : AreMade edits parts names nodes made places)
+    (contents : Contents) (blocks : BlocksShown) (lawful : IsLawful (image_with contents blocks)) (can : CanEdit edits (image_with contents blocks)) where
+  abbrev image : DeviceImage
+  image = image_with contents blocks
+
+  placed : table_after blocks.placement places ≡ overlaid blocks.placement parts.said.latest.entries
+  placed = ap (table_after blocks.placement) are.places_are ∙ table_after_said blocks.placement made parts.said.latest are.said
+
+  -- nodes, names and blocks together are those of the image after
+  pub edited_is : image_with (after_rows contents names nodes) (changed_blocks places parts.written.items blocks) ≡ edited_all edits image
+  edited_is =
+      (λ i. record {
+        sizes = blocks.sizes;
+        heads = reheaded contents.heads (are.nodes_are i);
+        names = renamed contents.names (are.names_are i);
+        placement = placed i;
+        devices = with_blocks parts.written.items blocks.devices;
+      })
+      ∙ are.of.make image
+      ∙ plain_is edits image lawful can.lawful
+
+  lawful_after : IsLawful (image_with (after_rows contents names nodes) (changed_blocks places parts.written.items blocks))
+  lawful_after = subst IsLawful (sym edited_is) can.lawful
+
+  pub edits_fit : FitPages (reheaded contents.heads nodes) (renamed contents.names names)
+  edits_fit = lawful_fits (image_with (after_rows contents names nodes) (changed_blocks places parts.written.items blocks)) lawful_after
+
+  pub can_change : CanChange blocks places parts.written.items
+  can_change = record {
+    ascend = subst (Ascend (pairs numbers numbers).compare) (sym are.places_are) are.ascend;
+    laid = lawful_after.placed.laid;
+    in_tier = λ k d below. (are.of.whole blocks.sizes can.whole k d below).0;
+    whole = λ k d below. (are.of.whole blocks.sizes can.whole k d below).1;
+  }
+
+-- a copy of a whole block is whole
+pub whole_copy : {A : Type 0} (copy bytes : Vec ℕ A) → copy.items ≡ bytes.items → vec_len bytes ≡ block_size → vec_len copy ≡ block_size
+whole_copy copy bytes same whole = let long : length copy.items ≡ length bytes.items = ap length same in omega (arith, copy.ok.0, bytes.ok.0, long, whole)

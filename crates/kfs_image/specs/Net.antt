@@ -1,0 +1,51 @@
+-- What a landing makes of an image: its names and headers are those of the net, and its blocks those of the fill.
+use Rattle.std.specs.Prelude.{◌≡◌, ℕ, ◌<◌, nat_lt, Bool, All, Option, Some, None, vec_len, if◌then◌else◌}
+use Rattle.kfs_model.specs.Header.{Header}
+use Rattle.kfs_model.specs.Limits.{block_size}
+use Rattle.kfs_model.specs.Table.{Table, numbers, get, retain}
+use Rattle.kfs_model.specs.Sight.{is_file}
+use Rattle.kfs_model.specs.Placement.{Placement, tier_size, block_count}
+use Rattle.kfs_device.specs.ShownTree.{DeviceImage, IsLawful}
+use Rattle.kfs_blocks.specs.Fill.{less, mapped_by, written_by}
+use Rattle.kfs_nodes.specs.declared.net.Net.{Net}
+use Rattle.kfs_nodes.specs.Change.{renamed, reheaded}
+use Rattle.kfs_image.specs.declared.net.Fill.{Fill}
+
+-- how many blocks a file has by its size; none where it is no file
+abbrev pub blocks_in : Option Header → ℕ
+blocks_in None = 0
+blocks_in (Some h) = if is_file (Some h) then block_count h.size else 0
+
+-- the block begins below the size of the file with its number
+abbrev pub is_block : Table numbers Header → ℕ × ℕ → Bool
+is_block heads block = nat_lt block.1 (blocks_in (get heads block.0))
+
+-- the placement less the blocks that these headers' files don't have
+abbrev pub cut : Table numbers Header → Placement → Placement
+cut heads placement = retain (is_block heads) placement
+
+module _ {A : Type 0} where
+  -- the image with the net's rows, in which no block is written
+  abbrev pub after_net : Net A → DeviceImage → DeviceImage
+  after_net net image = record image {
+    heads = reheaded image.heads net.nodes.items;
+    names = renamed image.names net.names.items;
+    placement = cut (reheaded image.heads net.nodes.items) image.placement;
+  }
+
+  -- Names and headers are changed by the net's rows. Of the blocks that lay somewhere, those made zero and those that are no
+  -- block of a file any more are unmapped; then the written ones lie at their places, with their bytes.
+  abbrev pub applied : Net A → Fill A → DeviceImage → DeviceImage
+  applied net fill image = record {
+    sizes = image.sizes;
+    heads = reheaded image.heads net.nodes.items;
+    names = renamed image.names net.names.items;
+    placement = mapped_by fill.rows.items (cut (reheaded image.heads net.nodes.items) (less fill.zero.items image.placement));
+    devices = written_by fill.rows.items image.devices;
+  }
+
+  -- The image after is lawful. Each written block lies in its tier and is whole.
+  pub record CanApply (net : Net A) (fill : Fill A) (image : DeviceImage) : Type 0 where
+    pub lawful : IsLawful (applied net fill image)
+    pub in_tier : All (λ r. r.place.place < tier_size image.sizes r.place.tier) fill.rows.items
+    pub whole : All (λ r. vec_len r.bytes ≡ block_size) fill.rows.items

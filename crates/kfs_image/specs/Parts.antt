@@ -1,0 +1,45 @@
+-- What edits say of each of an image's tables.
+use Rattle.std.specs.Prelude.{◌≡◌, ℕ, ◌<◌, All, List, map, Option, vec_len}
+use Rattle.kfs_model.specs.Limits.{block_size}
+use Rattle.kfs_model.specs.Placement.{TierSizes, tier_size}
+use Rattle.kfs_model.specs.Plan.{number_now}
+use Rattle.kfs_device.specs.ShownTree.{DeviceImage}
+use Rattle.kfs_chunks.specs.Overlays.{overlaid}
+use Rattle.kfs_tier.specs.declared.change.NewBlock.{NewBlock}
+use Rattle.kfs_tier.specs.Tiers.{with_blocks}
+use Rattle.kfs_nodes.specs.Change.{led_to, renamed, reheaded}
+use Rattle.kfs_image.specs.declared.edit.Edit.{Edit}
+use Rattle.kfs_image.specs.declared.edit.Edit.TheVariants.{Header, Name, Map, Bytes}
+use Rattle.kfs_image.specs.declared.edit.Parts.{Parts}
+use Rattle.kfs_image.specs.Edit.{edited_all, IsWhole}
+
+-- the number, where 0 is none too
+abbrev pub above_zero : Option ℕ → Option ℕ
+above_zero number = led_to (number_now number)
+
+module _ {A : Type 0} where
+  -- the edit, with none for a name that leads to 0
+  abbrev pub plain : Edit A → Edit A
+  plain (Header number header) = Header number header
+  plain (Name dir name number) = Name dir name (above_zero number)
+  plain (Map number block place) = Map number block place
+  plain (Bytes place bytes) = Bytes place bytes
+
+  -- the image with what the parts say in place of what stood there
+  abbrev pub with_parts : Parts A → DeviceImage → DeviceImage
+  with_parts parts image = record {
+    sizes = image.sizes;
+    heads = reheaded image.heads parts.nodes.items;
+    names = renamed image.names parts.names.items;
+    placement = overlaid image.placement parts.said.latest.entries;
+    devices = with_blocks parts.written.items image.devices;
+  }
+
+  -- the blocks lie in their tiers, and are whole
+  abbrev pub AreWhole : TierSizes → List (NewBlock A) → Type 0
+  AreWhole sizes written = All (λ b. (b.place.place < tier_size sizes b.place.tier) × (vec_len b.bytes ≡ block_size)) written
+
+  -- the parts make of each image what the edits do, one after the other; and what they write is whole where the edits are
+  pub record AreOf (edits : List (Edit A)) (parts : Parts A) : Type 0 where
+    pub make : (image : DeviceImage) → with_parts parts image ≡ edited_all (map plain edits) image
+    pub whole : (sizes : TierSizes) → All (IsWhole sizes) edits → AreWhole sizes parts.written.items

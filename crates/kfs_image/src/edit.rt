@@ -1,0 +1,90 @@
+//! Changes of an image, one after the other.
+ghost use Rattle.std.specs.Prelude.{◌≡◌, [], IfOk, OnOk};
+ghost use Rattle.kfs_model.specs.Placement.{TierSizes};
+ghost use Rattle.kfs_device.specs.ShownTree.{DeviceImage};
+ghost use Rattle.kfs_image.specs.Edit.{edited, IsWhole};
+ghost use Rattle.kfs_image.specs.Parts.{plain, with_parts, AreOf, AreWhole};
+
+use kfs_blocks::{NewBlock, Place};
+use kfs_chunks::Overlay;
+use kfs_value::{Header, Name, NameRow, NodeRow};
+use std::alloc::{AllocError, Allocator};
+
+/// A change of what an image has of one node, name or block. What a value of none says is gone.
+#[derive(Debug, Drop)]
+pub enum Edit<A: Allocator> {
+    /// The header of the node with this number.
+    Header(u32, Option<Header>),
+    /// The number to which a directory's name leads: the directory, the name, the number.
+    Name(u32, Name, Option<u32>),
+    /// Where a block of a file lies: the file's number, the block, the place.
+    Map(u32, u32, Option<Place>),
+    /// The 4,096 bytes at a place of a tier.
+    Bytes(Place, Vec<u8, A>),
+}
+
+/// What edits say of names, of nodes, of where blocks lie, and of what is written.
+#[derive(Drop)]
+pub(crate) struct Parts<A: Allocator> {
+    pub(crate) names: Vec<NameRow, A>,
+    pub(crate) nodes: Vec<NodeRow, A>,
+    pub(crate) said: Overlay<(u32, u32), Place, A>,
+    pub(crate) written: Vec<NewBlock<A>, A>,
+}
+
+impl<A: Allocator + Clone> Parts<A> {
+    /// What the edits say, one after the other.
+    pub(crate) fn of(alloc: &A, edits: &[Edit<A>]) -> Result<Parts<A>, AllocError>
+        ensures { IfOk result (AreOf edits.now) }
+    {
+        let mut parts = Parts::empty(alloc)?;
+        for edit in edits {
+            parts.add(edit)?;
+        }
+        Ok(parts)
+    }
+
+    /// Nothing is said.
+    fn empty(alloc: &A) -> Result<Parts<A>, AllocError>
+        ensures { IfOk result (AreOf []) }
+    {
+        Ok(Parts {
+            names: Vec::new(alloc.clone()?),
+            nodes: Vec::new(alloc.clone()?),
+            said: Overlay::new(alloc.clone()?),
+            written: Vec::new(alloc.clone()?),
+        })
+    }
+
+    /// Says also what the edit does, after what was said.
+    fn add(&mut self, edit: &Edit<A>) -> Result<(), AllocError>
+        ensures made { OnOk result ((image : DeviceImage) → with_parts self.new image ≡ edited (plain edit.now) (with_parts self.old image)) }
+        ensures whole { OnOk result ((sizes : TierSizes) → IsWhole sizes edit.now → AreWhole sizes self.old.written.items → AreWhole sizes self.new.written.items) }
+    {
+        match edit {
+            Edit::Header(number, now) => self.nodes.push(NodeRow {
+                number: *number,
+                now: *now,
+            })?,
+            Edit::Name(dir, name, number) => self.names.push(NameRow {
+                dir: *dir,
+                name: name.clone()?,
+                number: number.unwrap_or(0),
+            })?,
+            Edit::Map(number, block, place) => self.said.set((*number, *block), *place)?,
+            Edit::Bytes(place, bytes) => self.written.push(NewBlock {
+                place: *place,
+                bytes: copy_of(bytes)?,
+            })?,
+        }
+        Ok(())
+    }
+}
+
+fn copy_of<A: Allocator + Clone>(bytes: &Vec<u8, A>) -> Result<Vec<u8, A>, AllocError>
+    ensures { IfOk result (λ copy. copy.items ≡ bytes.now.items) }
+{
+    let mut copy = Vec::new(bytes.allocator().clone()?);
+    copy.extend_from_slice(bytes.as_slice())?;
+    Ok(copy)
+}

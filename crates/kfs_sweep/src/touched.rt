@@ -1,0 +1,11 @@
+//! Stretches of blocks.
+ghost use Rattle.std.specs.Prelude.{◌≤◌, ◌^◌};
+
+/// Blocks of a file from the first to the last, both included.
+#[derive(Clone, Copy)]
+pub(crate) struct Touched {
+    pub first: u64,
+    pub last: u64,
+    ghost order: { first ≤ last },
+    ghost small: { last ≤ 2 ^ 20 },
+}

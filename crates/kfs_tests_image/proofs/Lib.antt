@@ -1,0 +1,3 @@
+mod EachEdit
+mod Loops
+mod OneEdit
