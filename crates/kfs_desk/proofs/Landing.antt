@@ -125,39 +125,21 @@ module _ (desk : Parts) (is_desk : IsDesk desk) (lawful : IsLawful desk.image) (
   abbrev s : State
   s = state_of desk
 
-  module _ {A : Type 0} (log : CodeLog A) (plan : CodePlan A) (net : Net A) (told : ℕ) (after : Tree ℕ) (marked_after : Tree Mark) (yes : TellsYes s submission log plan net told after marked_after) (kept : All KeepsBytes log.entries) where
+  -- what the rows of a Yes make of names, headers and leases
+  module _ {A : Type 0} (log : CodeLog A) (plan : CodePlan A) (net : Net A) (told : ℕ) (after : Tree ℕ) (marked_after : Tree Mark) (yes : TellsYes s submission log plan net told after marked_after) where
     abbrev entries : List Entry
     entries = map (entry_of submission.log) log.entries
 
     abbrev sight_before : ClientSight
     sight_before = client_sight_of s yes.client.number
 
-    are_kept : list_all keeps_bytes entries ≡ true
-    are_kept = all_kept submission.log log.entries kept
-
-    untouched : IsUntouched s.tree marked_after
-    untouched = all-untouched yes.client sight_before s.tree entries are_kept marked_after yes.comes.ran_marked
-
-    no_need : need marked_after ≡ 0
-    no_need = need-untouched s.tree marked_after untouched
-
-    -- each file has the bytes that it had, or none
-    bytes : AreKept s.tree after
-    bytes = bytes-kept yes.client sight_before s.tree entries are_kept after yes.comes.ran
-
-    contents_are : after_rows (contents_of desk.image) net.names.items net.nodes.items ≡ contents_in after
+    pub contents_are : after_rows (contents_of desk.image) net.names.items net.nodes.items ≡ contents_in after
     contents_are =
         net_makes (contents_of desk.image) after net.names.items net.nodes.items yes.comes.sound yes.comes.differs.names
         (subst (λ heads. AreDifferences numbers header_now (get heads) (get (headers after)) (map keyed_node_row net.nodes.items)) lawful.tree.counted yes.comes.differs.nodes)
 
     image_is : after_net net desk.image ≡ image_kept desk.image after
     image_is = λ i. record desk.image { heads = (contents_are i).heads; names = (contents_are i).names; placement = cut (contents_are i).heads desk.image.placement }
-
-    tree_is : shown_tree (after_net net desk.image) ≡ after
-    tree_is = ap (λ image. shown_tree image) image_is ∙ kept_is_shown desk.image after bytes
-
-    lawful_after : IsLawful (after_net net desk.image)
-    lawful_after = subst IsLawful (sym image_is) (kept_is_lawful desk.image lawful after yes.comes.sound)
 
     abbrev entries_of : List (ℕ × Option Header)
     entries_of = map keyed_node_row net.nodes.items
@@ -189,7 +171,7 @@ module _ (desk : Parts) (is_desk : IsDesk desk) (lawful : IsLawful desk.image) (
         by (Some h) is = false_from_ne_true _ (λ any. let none = gone_after number any in cc) ∙ sym (ap (λ o. not (is_some o)) is)
 
     -- the leases on nodes that go end, and no other
-    leases_end : ended_by desk.leases net.nodes.items ≡ leases_after s after
+    pub leases_end : ended_by desk.leases net.nodes.items ≡ leases_after s after
     unfolding without_gone on_those
     leases_end =
         let is_node : ℕ × ℕ → Bool = λ key. is_some (get after.nodes key.1) in
@@ -210,43 +192,63 @@ module _ (desk : Parts) (is_desk : IsDesk desk) (lawful : IsLawful desk.image) (
             turned true o = refl
             turned false o = refl
 
-    no_blocks : written_blocks marked_after ≡ []
-    no_blocks = nothing_in (written_blocks marked_after) no_need
+    module _ (kept : All KeepsBytes log.entries) where
+      are_kept : list_all keeps_bytes entries ≡ true
+      are_kept = all_kept submission.log log.entries kept
 
-    none_placed : placement_after s after marked_after [] ≡ (after_net net desk.image).placement
-    none_placed =
-        ap (λ blocks. placed (zip blocks []) (retain (stays after marked_after) desk.image.placement)) no_blocks
-        ∙ stays-is-cut after marked_after (none-cleared s.tree marked_after untouched) desk.image.placement
-        ∙ ap (λ (image : DeviceImage). image.placement) (sym image_is)
+      untouched : IsUntouched s.tree marked_after
+      untouched = all-untouched yes.client sight_before s.tree entries are_kept marked_after yes.comes.ran_marked
 
-    state_after : (rows : ℕ) → state_of (record desk { image = image_after desk.image (outcomes.Yes log plan net told); leases = ended_by desk.leases net.nodes.items; rows = rows }) ≡ landed s after marked_after []
-    state_after rows = λ i. record { clients = desk.clients; sizes = desk.image.sizes; tree = tree_is i; leases = leases_end i; placement = sym none_placed i }
+      no_need : need marked_after ≡ 0
+      no_need = need-untouched s.tree marked_after untouched
 
-    yes_answer : Accepted told ≡ reply_to s (Yes after marked_after)
-    unfolding reply_to
-    yes_answer =
-        ap Accepted yes.need_told
-        ∙ ap (λ b. cond b (NoRoom (need marked_after) (length (free_places s))) (Accepted (need marked_after))) (sym (ap (nat_lt (length (free_places s))) no_need ∙ le-ltb (length (free_places s)) 0 (omega arith)))
+      -- each file has the bytes that it had, or none
+      bytes : AreKept s.tree after
+      bytes = bytes-kept yes.client sight_before s.tree entries are_kept after yes.comes.ran
 
-    -- no place is asked for, and so none is one for each written block
-    chosen : are_chosen s (written_blocks marked_after) [] ≡ true
-    chosen = ap (λ blocks. are_chosen s blocks []) no_blocks
+      tree_is : shown_tree (after_net net desk.image) ≡ after
+      tree_is = ap (λ image. shown_tree image) image_is ∙ kept_is_shown desk.image after bytes
 
-    yes_fits : (rows : ℕ) → replied s [] (Yes after marked_after) (reply_to s (Yes after marked_after)) ≡ Some (Replied (Accepted told), state_of (record desk { image = image_after desk.image (outcomes.Yes log plan net told); leases = ended_by desk.leases net.nodes.items; rows = rows }))
-    yes_fits rows =
-        ap (replied s [] (Yes after marked_after)) (sym yes_answer)
-        ∙ ap (λ b. cond b (Some (Replied (Accepted told), landed s after marked_after [])) None) chosen
-        ∙ ap (λ t. Some (Replied (Accepted told), t)) (sym (state_after rows))
+      lawful_after : IsLawful (after_net net desk.image)
+      lawful_after = subst IsLawful (sym image_is) (kept_is_lawful desk.image lawful after yes.comes.sound)
 
-    yes_done : (rows : ℕ) → IsDone s submission (state_of (record desk { image = image_after desk.image (outcomes.Yes log plan net told); leases = ended_by desk.leases net.nodes.items; rows = rows }))
-    yes_done rows = record {
-      client = yes.client;
-      row = yes.row;
-      log = log_of submission.log log;
-      spelled = yes.spelled.log_read;
-      one_by_one = subst (OneByOne yes.client sight_before 0 [] s.tree entries) (sym tree_is) yes.comes.allowed;
-      sound = subst IsSound (sym tree_is) yes.comes.sound;
-    }
+      no_blocks : written_blocks marked_after ≡ []
+      no_blocks = nothing_in (written_blocks marked_after) no_need
+
+      none_placed : placement_after s after marked_after [] ≡ (after_net net desk.image).placement
+      none_placed =
+          ap (λ blocks. placed (zip blocks []) (retain (stays after marked_after) desk.image.placement)) no_blocks
+          ∙ stays-is-cut after marked_after (none-cleared s.tree marked_after untouched) desk.image.placement
+          ∙ ap (λ (image : DeviceImage). image.placement) (sym image_is)
+
+      state_after : (rows : ℕ) → state_of (record desk { image = image_after desk.image (outcomes.Yes log plan net told); leases = ended_by desk.leases net.nodes.items; rows = rows }) ≡ landed s after marked_after []
+      state_after rows = λ i. record { clients = desk.clients; sizes = desk.image.sizes; tree = tree_is i; leases = leases_end i; placement = sym none_placed i }
+
+      yes_answer : Accepted told ≡ reply_to s (Yes after marked_after)
+      unfolding reply_to
+      yes_answer =
+          ap Accepted yes.need_told
+          ∙ ap (λ b. cond b (NoRoom (need marked_after) (length (free_places s))) (Accepted (need marked_after))) (sym (ap (nat_lt (length (free_places s))) no_need ∙ le-ltb (length (free_places s)) 0 (omega arith)))
+
+      -- no place is asked for, and so none is one for each written block
+      chosen : are_chosen s (written_blocks marked_after) [] ≡ true
+      chosen = ap (λ blocks. are_chosen s blocks []) no_blocks
+
+      yes_fits : (rows : ℕ) → replied s [] (Yes after marked_after) (reply_to s (Yes after marked_after)) ≡ Some (Replied (Accepted told), state_of (record desk { image = image_after desk.image (outcomes.Yes log plan net told); leases = ended_by desk.leases net.nodes.items; rows = rows }))
+      yes_fits rows =
+          ap (replied s [] (Yes after marked_after)) (sym yes_answer)
+          ∙ ap (λ b. cond b (Some (Replied (Accepted told), landed s after marked_after [])) None) chosen
+          ∙ ap (λ t. Some (Replied (Accepted told), t)) (sym (state_after rows))
+
+      yes_done : (rows : ℕ) → IsDone s submission (state_of (record desk { image = image_after desk.image (outcomes.Yes log plan net told); leases = ended_by desk.leases net.nodes.items; rows = rows }))
+      yes_done rows = record {
+        client = yes.client;
+        row = yes.row;
+        log = log_of submission.log log;
+        spelled = yes.spelled.log_read;
+        one_by_one = subst (OneByOne yes.client sight_before 0 [] s.tree entries) (sym tree_is) yes.comes.allowed;
+        sound = subst IsSound (sym tree_is) yes.comes.sound;
+      }
 
   -- ---- any verdict
 

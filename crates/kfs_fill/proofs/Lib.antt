@@ -2,6 +2,8 @@ pub mod BlockBytes
 pub mod BlockRows
 pub mod Chosen
 mod ChosenPlaces
+mod FileBlocks
+mod FilledLogs
 pub mod FreePlaces
 mod LandedBytes
 pub mod LandedImages
@@ -10,6 +12,7 @@ mod ListedBlocks
 pub mod Narrowed
 mod OldMarks
 pub mod PartSteps
+mod Pushed
 mod PutRows
 pub mod PutPieces
 mod TreesOver

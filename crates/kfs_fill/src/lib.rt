@@ -3,10 +3,14 @@
 
 mod block;
 mod bytes;
+mod fill;
+mod land;
 mod parts;
 mod places;
 mod rows;
 
 pub use bytes::LogBytes;
+pub use fill::fill_of;
+pub use land::land_bytes;
 pub use places::free_places;
 pub use rows::block_rows;

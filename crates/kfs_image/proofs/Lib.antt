@@ -4,6 +4,7 @@ pub mod EmptyFills
 pub mod FilledImages
 mod FreshImage
 mod GoneBlocks
+mod HeadersAfter
 pub mod KeptTrees
 pub mod NetTables
 mod ReadFile

@@ -3,11 +3,13 @@
 
 mod edit;
 mod gone;
+mod headers;
 mod image;
 mod net;
 mod read;
 
 pub use edit::Edit;
+pub use headers::{header, header_after};
 pub use image::Image;
 pub use kfs_blocks::{BlockRow, BlockRun, Place};
 pub use kfs_nodes::{Answer, Cell, Net, Page, Shape, look};

@@ -3,9 +3,9 @@ ghost use Rattle.std.specs.Prelude.{◌≡◌, [], ◌∷◌, IfOk, IfSome};
 ghost use Rattle.kfs_image.specs.Edit.{CanEdit};
 ghost use Rattle.kfs_tests_image.specs.Edits.{each_kind};
 
-use crate::fits::{block_count, header, is_place_free};
+use crate::fits::{block_count, is_place_free};
 use crate::landings::{Landing, Written, block_row, fresh, land};
-use kfs_image::{BlockRow, Edit, Header, Image, Name, Place};
+use kfs_image::{BlockRow, Edit, Header, Image, Name, Place, header};
 use kfs_tests_plan::spelling::PieceLine::Zero;
 use kfs_tests_plan::spelling::{FileLine, Rows, Step};
 use std::alloc::{AllocError, Allocator, Global};

@@ -1,39 +1,14 @@
 //! Whether a fill can be applied after a net: found out as a test runs.
 ghost use Rattle.std.specs.Prelude.{◌≡◌, ◌≢◌, ℕ, ◌<◌, true, All, length, get_or, option_map, IsTrue};
 ghost use Rattle.kfs_value.specs.Views.{header_of};
-ghost use Rattle.kfs_model.specs.Table.{get};
 ghost use Rattle.kfs_model.specs.Placement.{tier_size, is_free};
 ghost use Rattle.kfs_device.specs.ShownTree.{IsLawful};
-ghost use Rattle.kfs_nodes.specs.Change.{reheaded};
 ghost use Rattle.kfs_image.specs.Net.{CanApply, after_net, blocks_in};
 ghost use Rattle.kfs_image.proofs.FilledImages.{FitsRow, ArePlacedApart, still_placed};
 
-use kfs_image::{Answer, BlockRow, Cell, Fill, Header, Image, Kind, Net, Place, look};
-use kfs_value::{BLOCK_SIZE, NodeRow};
+use kfs_image::{BlockRow, Fill, Header, Image, Kind, Net, Place, header_after};
+use kfs_value::BLOCK_SIZE;
 use std::alloc::Allocator;
-
-/// The header of the number.
-pub fn header<A: Allocator>(image: &Image<A>, number: u32) -> Option<Header>
-    ensures { option_map header_of result ≡ get image.now.heads number }
-{
-    match look(image.shape(), &Cell::Header(number)) {
-        Answer::Header(header) => header,
-        _ => unreachable!(),
-    }
-}
-
-/// The header of the number once the rows are made.
-fn header_after<A: Allocator>(image: &Image<A>, rows: &[NodeRow], number: u32) -> Option<Header>
-    ensures { option_map header_of result ≡ get (reheaded image.now.heads rows.now) number }
-{
-    let mut found = header(image, number);
-    for row in rows {
-        if row.number == number {
-            found = row.now;
-        }
-    }
-    found
-}
 
 /// How many blocks the file has, none where there is no file.
 pub fn block_count(header: Option<Header>) -> u64

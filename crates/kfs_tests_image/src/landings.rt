@@ -2,10 +2,10 @@
 ghost use Rattle.std.specs.Prelude.{IfSome};
 ghost use Rattle.kfs_image.specs.Net.{CanApply};
 
-use crate::fits::{fits, header};
+use crate::fits::fits;
 use kfs_image::{
-    Answer, BlockRow, BlockRun, Cell, Fill, Image, Name, Net, Place, ReadFault, TierSizes, look,
-    net_apply, read_file,
+    Answer, BlockRow, BlockRun, Cell, Fill, Image, Name, Net, Place, ReadFault, TierSizes, header,
+    look, net_apply, read_file,
 };
 use kfs_tests_plan::scenes::net_of;
 use kfs_tests_plan::spelling::{Rows, Step};

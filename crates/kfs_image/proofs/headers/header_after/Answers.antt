@@ -1,8 +1,8 @@
 use Rattle.std.proofs.Common.{option_map, ap, ◌∙◌}
 use Rattle.kfs_value.specs.Views.{header_of}
-use Rattle.kfs_tests_image.proofs.Loops.{head_here, head_beside, head_end}
-use Rattle.kfs_tests_image.proofs.fits.header_after.Goals as goal
-use Rattle.kfs_tests_image.proofs.fits.header_after.Goals.{then-row-number, else-row-number}
+use Rattle.kfs_image.proofs.HeadersAfter.{head_here, head_beside, head_end}
+use Rattle.kfs_image.proofs.headers.header_after.Goals as goal
+use Rattle.kfs_image.proofs.headers.header_after.Goals.{then-row-number, else-row-number}
 
 pub loop-row-preserved : goal.loop-row-preserved
 loop-row-preserved g c = elim c.if-row-number.branch [

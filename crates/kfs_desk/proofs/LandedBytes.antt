@@ -1,0 +1,214 @@
+-- A Yes lands with its bytes: with the fill of its log it makes the machine's step, and without room nothing changes.
+use Rattle.std.proofs.Common.{◌≡◌, ℕ, ◌+◌, ◌<◌, ◌≤◌, true, false, cond, List, [], length, Some, None, Result, Ok, refl, sym, ap, subst, ◌∙◌, arith, le-ltb, lt-ltb}
+use Rattle.std.specs.List.{AllByRecursion}
+use Rattle.kfs_model.specs.Entry.{Entry}
+use Rattle.kfs_model.specs.Judgement.{Accepted, IsJudgement, NoRoom, Reading, State, Submission, Yes, client_sight_of, free_places, reply_to, verdict_on}
+use Rattle.kfs_model.specs.Machine.{CallOutcome, OneByOne, Replied, Submit, landed, next, outcome_of, replied}
+use Rattle.kfs_model.specs.Placement.{need, written_blocks}
+use Rattle.kfs_model.specs.Plan.{ArePieces}
+use Rattle.kfs_model.specs.PlanRow.{Piece}
+use Rattle.kfs_model.specs.Run.{EntryFault, Mark, byte_of, looked_up}
+use Rattle.kfs_model.specs.Sight.{ClientSight}
+use Rattle.kfs_model.specs.Soundness.{IsSound}
+use Rattle.kfs_model.specs.Tree.{Tree, headers}
+use Rattle.kfs_model.proofs.Cells.{headers-recut, recut}
+use Rattle.kfs_model.proofs.Marks.{marks_give_bytes}
+use Rattle.kfs_model.proofs.OrderKept.{step_keeps_order}
+use Rattle.kfs_model.proofs.RowFits.{row_fits}
+use Rattle.kfs_value.specs.declared.entry.Log.{Log as CodeLog}
+use Rattle.kfs_value.specs.declared.plan.Plan.{Plan as CodePlan}
+use Rattle.kfs_entry.specs.Answers.{log_of, plan_of}
+use Rattle.kfs_device.specs.ShownTree.{DeviceImage, IsLawful, shown_tree}
+use Rattle.kfs_tier.specs.Unused.{unused_places}
+use Rattle.kfs_nodes.specs.Contents.{Contents}
+use Rattle.kfs_nodes.specs.Change.{reheaded, renamed}
+use Rattle.kfs_nodes.specs.declared.net.Net.{Net}
+use Rattle.kfs_image.specs.declared.net.Fill.{Fill}
+use Rattle.kfs_image.specs.Net.{CanApply, applied}
+use Rattle.kfs_fill.specs.declared.bytes.LogBytes.{LogBytes}
+use Rattle.kfs_fill.specs.Bytes.{entries_of, pieces_of}
+use Rattle.kfs_fill.specs.FillOf.{CanLandWith, Fills, HasLandedWith, IsFillOf, places_of}
+use Rattle.kfs_fill.proofs.LandedImages.{IsLanding, landed_lawful, landed_placement, landed_tree}
+use Rattle.kfs_sweep.specs.Lefts.{IsFilled, IsWhole}
+use Rattle.kfs_plan.specs.Judging.{TellsYes}
+use Rattle.kfs_plan.specs.declared.answers.Reply.TheVariants as replies
+use Rattle.kfs_desk.specs.Landing.{ended_by}
+use Rattle.kfs_desk.specs.Machine.{IsDesk, IsDone, IsStep, Parts, state_of}
+use Rattle.kfs_desk.proofs.Landing.{contents_are, leases_end}
+use Rattle.kfs_desk.proofs.WholePieces as whole
+
+module _ (desk : Parts) (is_desk : IsDesk desk) (lawful : IsLawful desk.image) (submission : Submission) {A : Type 0} (log : CodeLog A) (plan : CodePlan A) (net : Net A) (told : ℕ) (after : Tree ℕ) (marked_after : Tree Mark)
+    (yes : TellsYes (state_of desk) submission log plan net told after marked_after) where
+  abbrev s : State
+  s = state_of desk
+
+  abbrev entries : List Entry
+  entries = (log_of submission.log log).entries
+
+  abbrev pieces : List Piece
+  pieces = (plan_of plan).pieces
+
+  abbrev sight_before : ClientSight
+  sight_before = client_sight_of s yes.client.number
+
+  -- how many places of tier 0 are free
+  abbrev free : ℕ
+  free = length (unused_places desk.image.sizes desk.image.placement 0)
+
+  heads_alike : headers marked_after ≡ headers after
+  heads_alike =
+      let byte = byte_of s.tree entries in
+      let both : ◌≡◌ {A = Result (Tree ℕ) EntryFault} (Ok (recut byte marked_after)) (Ok after) =
+      ap (looked_up byte) (sym yes.comes.ran_marked) ∙ marks_give_bytes yes.client sight_before s.tree entries ∙ yes.comes.ran in
+      let same : recut byte marked_after ≡ after = cc in
+      sym (headers-recut byte marked_after) ∙ ap (λ (t : Tree ℕ). headers t) same
+
+  heads_are : reheaded desk.image.heads net.nodes.items ≡ headers after
+  heads_are = ap (λ (c : Contents). c.heads) (contents_are desk is_desk lawful submission log plan net told after marked_after yes)
+
+  names_are : renamed desk.image.names net.names.items ≡ after.names
+  names_are = ap (λ (c : Contents). c.names) (contents_are desk is_desk lawful submission log plan net told after marked_after yes)
+
+  -- the plan's pieces can be cut into blocks
+  pub plan_whole : AllByRecursion IsWhole plan.pieces
+  plan_whole = whole.pieces_whole yes.client sight_before s.tree entries marked_after refl yes.comes.ran_marked yes.spelled.log_read.0.1 after yes.comes.sound heads_alike plan.pieces yes.right.pieces.said
+
+  pub plan_filled : AllByRecursion IsFilled plan.pieces
+  plan_filled = whole.pieces_filled marked_after plan.pieces yes.right.pieces.said
+
+  -- ---- with room
+
+  module _ (fill : Fill A) (bytes : LogBytes) (says : entries_of bytes ≡ entries) (tells : pieces_of bytes ≡ pieces) (is : IsFillOf desk.image bytes net.nodes.items fill) (room : told ≤ free) where
+    abbrev places : List ℕ
+    places = places_of fill.rows.items
+
+    fills : Fills s entries pieces after marked_after fill
+    fills =
+        subst (λ es. Fills s es pieces after marked_after fill) says
+        (subst (λ ps. Fills s (entries_of bytes) ps after marked_after fill) tells
+        (is s after marked_after refl refl refl heads_alike heads_are (subst (ArePieces marked_after) (sym tells) yes.right.pieces) (subst (λ n. n ≤ free) yes.need_told room)))
+
+    landing : IsLanding desk.image s yes.client sight_before entries after marked_after pieces net fill places
+    landing = record {
+      lawful = lawful;
+      tree = refl;
+      placement = refl;
+      sizes = refl;
+      ran = yes.comes.ran;
+      marks = yes.comes.ran_marked;
+      sound = yes.comes.sound;
+      right = yes.right.pieces;
+      heads = heads_are;
+      names = names_are;
+      chosen = fills.chosen;
+      rows = fills.rows;
+      cleared = fills.cleared;
+    }
+
+    -- The net and the fill can be applied.
+    pub can_apply : CanApply net fill desk.image
+    can_apply = landed_lawful desk.image s yes.client sight_before entries after marked_after pieces net fill places landing
+
+    -- the desk where both have been applied
+    abbrev pub desk_filled : (rows : ℕ) → Parts
+    desk_filled rows = record desk { image = applied net fill desk.image; leases = ended_by desk.leases net.nodes.items; rows = rows }
+
+    tree_is : shown_tree (applied net fill desk.image) ≡ after
+    tree_is = landed_tree desk.image s yes.client sight_before entries after marked_after pieces net fill places landing
+
+    -- The desk then shows the machine's state after the landing.
+    pub state_filled : (rows : ℕ) → state_of (desk_filled rows) ≡ landed s after marked_after places
+    state_filled rows = λ i. record {
+      clients = desk.clients;
+      sizes = desk.image.sizes;
+      tree = tree_is i;
+      leases = leases_end desk is_desk lawful submission log plan net told after marked_after yes i;
+      placement = landed_placement desk.image s yes.client sight_before entries after marked_after pieces net fill places landing i;
+    }
+
+    answer : reply_to s (Yes after marked_after) ≡ Accepted told
+    unfolding reply_to free_places
+    answer =
+        ap (λ b. cond b (NoRoom (need marked_after) free) (Accepted (need marked_after))) (le-ltb free (need marked_after) (subst (λ n. n ≤ free) yes.need_told room))
+        ∙ ap Accepted (sym yes.need_told)
+
+    -- A row with the places of the fill fits.
+    pub fits_filled : (reading : Reading) → Yes after marked_after ≡ verdict_on s submission.client reading
+        → next s (record { call = Submit submission reading; answer = Replied (Accepted told); places = places }) ≡ Some (landed s after marked_after places)
+    unfolding outcome_of
+    fits_filled reading judged = row_fits s (landed s after marked_after places) _ (
+        ap (λ verdict. replied s places verdict (reply_to s verdict)) (sym judged)
+        ∙ ap (replied s places (Yes after marked_after)) answer
+        ∙ ap (λ b. cond b (Some (Replied (Accepted told), landed s after marked_after places)) None) fills.chosen
+        )
+
+    pub step_filled : IsJudgement s submission (Yes after marked_after) → (position rows : ℕ) → IsStep s submission (replies.Yes position false told) (state_of (desk_filled rows))
+    step_filled judgement position rows = record {
+      reading = judgement.reading;
+      read = judgement.read;
+      reply = Accepted told;
+      said = refl;
+      places = places;
+      fits = fits_filled judgement.reading judgement.judgement ∙ ap Some (sym (state_filled rows));
+    }
+
+    pub done_filled : (rows : ℕ) → IsDone s submission (state_of (desk_filled rows))
+    done_filled rows = record {
+      client = yes.client;
+      row = yes.row;
+      log = log_of submission.log log;
+      spelled = yes.spelled.log_read;
+      one_by_one = subst (OneByOne yes.client sight_before 0 [] s.tree entries) (sym tree_is) yes.comes.allowed;
+      sound = subst IsSound (sym tree_is) yes.comes.sound;
+    }
+
+    -- The state stays in order.
+    pub filled_in_order : IsJudgement s submission (Yes after marked_after) → (rows : ℕ) → rows ≤ desk.limit → IsDesk (desk_filled rows)
+    filled_in_order judgement rows within =
+        let step = step_filled judgement desk.rows rows in
+        record {
+          within_limit = within;
+          in_order = step_keeps_order s (state_of (desk_filled rows)) (record { call = Submit submission step.reading; answer = Replied step.reply; places = step.places }) is_desk.in_order step.read step.fits;
+        }
+
+  -- ---- what land_bytes is asked for and leaves
+
+  module _ (bytes : LogBytes) (says : entries_of bytes ≡ entries) (tells : pieces_of bytes ≡ pieces) (room : told ≤ free) where
+    pub can_land_with : CanLandWith desk.image bytes net
+    can_land_with fill is = can_apply fill bytes says tells is room
+
+    module _ (new : DeviceImage) (has : HasLandedWith desk.image bytes net new) where
+      -- the desk with the image that it leaves
+      abbrev pub desk_landed : (rows : ℕ) → Parts
+      desk_landed rows = record desk { image = new; leases = ended_by desk.leases net.nodes.items; rows = rows }
+
+      same_desk : (rows : ℕ) → desk_filled has.fill bytes says tells has.is room rows ≡ desk_landed rows
+      same_desk rows = λ i. record desk { image = sym has.made i; leases = ended_by desk.leases net.nodes.items; rows = rows }
+
+      pub step_landed : IsJudgement s submission (Yes after marked_after) → (position rows : ℕ) → IsStep s submission (replies.Yes position false told) (state_of (desk_landed rows))
+      step_landed judgement position rows =
+          subst (λ (d : Parts). IsStep s submission (replies.Yes position false told) (state_of d)) (same_desk rows) (step_filled has.fill bytes says tells has.is room judgement position rows)
+
+      pub done_landed : (rows : ℕ) → IsDone s submission (state_of (desk_landed rows))
+      done_landed rows = subst (λ (d : Parts). IsDone s submission (state_of d)) (same_desk rows) (done_filled has.fill bytes says tells has.is room rows)
+
+      pub landed_in_order : IsJudgement s submission (Yes after marked_after) → (rows : ℕ) → rows ≤ desk.limit → IsDesk (desk_landed rows)
+      landed_in_order judgement rows within = subst IsDesk (same_desk rows) (filled_in_order has.fill bytes says tells has.is room judgement rows within)
+
+  -- ---- without room
+
+  module _ (full : free < told) where
+    no_room : reply_to s (Yes after marked_after) ≡ NoRoom told free
+    unfolding reply_to free_places
+    no_room =
+        ap (λ b. cond b (NoRoom (need marked_after) free) (Accepted (need marked_after))) (lt-ltb free (need marked_after) (subst (λ n. free < n) yes.need_told full))
+        ∙ ap (λ n. NoRoom n free) (sym yes.need_told)
+
+    -- A row without places fits, and leaves the state as it is.
+    pub fits_full : (reading : Reading) → Yes after marked_after ≡ verdict_on s submission.client reading
+        → next s (record { call = Submit submission reading; answer = Replied (NoRoom told free); places = [] }) ≡ Some s
+    unfolding outcome_of
+    fits_full reading judged = row_fits s s _ (
+        ap (λ verdict. replied s [] verdict (reply_to s verdict)) (sym judged)
+        ∙ ap (replied s [] (Yes after marked_after)) no_room
+        )

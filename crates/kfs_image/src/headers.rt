@@ -1,0 +1,33 @@
+//! The headers of nodes, as they are and once rows are made.
+ghost use Rattle.std.specs.Prelude.{◌≡◌, option_map};
+ghost use Rattle.kfs_value.specs.Views.{header_of};
+ghost use Rattle.kfs_model.specs.Table.{get};
+ghost use Rattle.kfs_nodes.specs.Change.{reheaded};
+
+use crate::image::Image;
+use kfs_nodes::{Answer, Cell, look};
+use kfs_value::{Header, NodeRow};
+use std::alloc::Allocator;
+
+/// The header of the node with this number.
+pub fn header<A: Allocator>(image: &Image<A>, number: u32) -> Option<Header>
+    ensures { option_map header_of result ≡ get image.now.heads number }
+{
+    match look(image.shape(), &Cell::Header(number)) {
+        Answer::Header(header) => header,
+        _ => unreachable!(),
+    }
+}
+
+/// The header of the node with this number once the rows are made, in the time of all rows.
+pub fn header_after<A: Allocator>(image: &Image<A>, rows: &[NodeRow], number: u32) -> Option<Header>
+    ensures { option_map header_of result ≡ get (reheaded image.now.heads rows.now) number }
+{
+    let mut found = header(image, number);
+    for row in rows {
+        if row.number == number {
+            found = row.now;
+        }
+    }
+    found
+}
