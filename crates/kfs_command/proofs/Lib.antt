@@ -2,5 +2,3 @@
 pub mod Asked
 pub mod Readings
 pub mod Rows
-pub mod Submitted
-pub mod Walked

@@ -8,7 +8,7 @@ use Rattle.kfs_model.specs.Judgement.{Submission}
 use Rattle.kfs_model.specs.Placement.{TierSizes}
 use Rattle.kfs_mode.specs.declared.client.ClientFault.{ClientFault}
 use Rattle.kfs_mode.specs.declared.client.ClientFault.TheVariants.{TooManyGroups, BadGrant}
-use Rattle.kfs_plan.specs.Judging.{HasOtherEntry, submission_with}
+use Rattle.kfs_plan.specs.Judging.{submission_with}
 use Rattle.kfs_text.specs.Cut.{cut, space}
 use Rattle.kfs_text.specs.Decimals.{decimal32, decimal64, decimal_within, decimals32, hexadecimal}
 use Rattle.kfs_text.specs.Reading.{are_words}
@@ -116,17 +116,3 @@ asked_in (name ∷ words) = if are_words (name ∷ words) then command_of name w
 -- what the line asks for, none where it is no command
 abbrev pub asked_by : (line : List ℕ) → Option Command
 asked_by line = asked_in (cut space line)
-
--- the line is no command, or hands in a log with a Write or a Truncate
-abbrev pub IsBadLine : Option Command → Type 0
-IsBadLine None = Unit {0}
-IsBadLine (Some (Setup command)) = ⊥
-IsBadLine (Some (Request command)) = IsUnjudged command
-  where
-    IsUnjudged : DeskCommand → Type 0
-    IsUnjudged (Lease client path kind end) = ⊥
-    IsUnjudged (Drop client number) = ⊥
-    IsUnjudged (Tick moment) = ⊥
-    IsUnjudged (Submit submission) = HasOtherEntry submission.log
-    IsUnjudged (Node number) = ⊥
-    IsUnjudged (Listing directory) = ⊥

@@ -2,4 +2,3 @@ pub mod Command
 pub mod Example
 pub mod Reading
 pub mod Views
-pub mod Walked

@@ -1,17 +1,9 @@
--- What is read is the command that a line asks for.
-use Rattle.std.specs.Prelude.{◌≡◌, ℕ, List, codes, bytes_eq, Option, Some, None, Result, MatchResult, if◌then◌else◌}
-use Rattle.kfs_command.specs.Command.{Command, Setup, Begin, Request, Tick, Node, Listing, IsBadLine, client_of, drop_of, lease_of, new_of, submit_of, with_number}
-use Rattle.kfs_command.specs.Views.{asked_of}
-use Rattle.kfs_command.specs.declared.command.Command.{Command as CodeCommand}
+-- The commands by their names.
+use Rattle.std.specs.Prelude.{ℕ, List, codes, bytes_eq, Option, Some, None, if◌then◌else◌}
+use Rattle.kfs_command.specs.Command.{Command, Setup, Begin, Request, Tick, Node, Listing, client_of, drop_of, lease_of, new_of, submit_of, with_number}
 use Rattle.kfs_command.specs.declared.command.Name.{Name}
 use Rattle.kfs_command.specs.declared.command.Name.TheVariants as names
 use Rattle.kfs_text.specs.Decimals.{decimal32, decimal64}
-use Rattle.kfs_text.specs.declared.words.Refusal.{Refusal}
-use Rattle.kfs_text.specs.declared.words.Refusal.TheVariants.{BadLine}
-
--- what is read is the command that was asked for, and the line is bad only where that is a bad line
-abbrev pub IsAsked : {A : Type 0} → Option Command → Result (CodeCommand A) Refusal → Type 0
-IsAsked asked result = MatchResult result (λ command. (asked ≡ Some (asked_of command)) × (IsBadLine asked → ⊥)) (λ refusal. refusal ≡ BadLine → IsBadLine asked)
 
 -- ---- the commands with one number alone, and each command by its name
 

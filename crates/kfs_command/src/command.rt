@@ -1,13 +1,12 @@
 //! The command lines that a session answers.
-ghost use Rattle.std.specs.Prelude.{◌≡◌, ℕ, List, true, false, IfOk, IfErr, IsErrOf, Some};
+ghost use Rattle.std.specs.Prelude.{◌≡◌, ℕ, List, true, false, IfOk, IsErrOf, None, Some};
 ghost use Rattle.kfs_lease_rows.specs.Rows.{kind_of};
-ghost use Rattle.kfs_plan.specs.Judging.{HasOtherEntry, submission_of};
-ghost use Rattle.kfs_command.specs.Command.{Listing as ListingLine, Node as NodeLine, Request, Setup, Submit as SubmitLine, IsBadLine, asked_by, client_of, drop_of, kind_named, lease_of, new_of, submit_of};
-ghost use Rattle.kfs_command.specs.Reading.{IsAsked, begin_of, command_named, listing_of, named_by, node_of, tick_of};
+ghost use Rattle.kfs_plan.specs.Judging.{submission_of};
+ghost use Rattle.kfs_command.specs.Command.{Listing as ListingLine, Node as NodeLine, Request, Setup, Submit as SubmitLine, asked_by, client_of, drop_of, kind_named, lease_of, new_of, submit_of};
+ghost use Rattle.kfs_command.specs.Reading.{begin_of, command_named, listing_of, named_by, node_of, tick_of};
 ghost use Rattle.kfs_command.specs.Views.{act_of, asked_of, opening_of};
 ghost use Rattle.kfs_text.specs.Reading.{ReadsAs, checked, first_by, words_left};
 
-use crate::unjudged::has_other_entry;
 use kfs_lease::{Act, LeaseKind};
 use kfs_mode::{Client, ClientFault};
 use kfs_nodes::TierSizes;
@@ -51,8 +50,7 @@ impl<'a, A: Allocator + Copy> Command<'a, A> {
     /// range, is a bad line.
     pub fn read(alloc: A, line: &'a [u8]) -> Result<Command<'a, A>, Refusal>
         ensures ok { IfOk result (λ command. asked_by line.now ≡ Some (asked_of command)) }
-        ensures good { IfOk result (λ command. IsBadLine (asked_by line.now) → ⊥) }
-        ensures bad { IsErrOf result Refusal.BadLine → IsBadLine (asked_by line.now) }
+        ensures bad { IsErrOf result Refusal.BadLine → asked_by line.now ≡ None }
     {
         let mut words = Words::new(line);
         let name = name_in(words.word()?);
@@ -60,9 +58,9 @@ impl<'a, A: Allocator + Copy> Command<'a, A> {
     }
 
     /// The command of this name with the words behind it.
-    #[tactic(auto, using(crate::proofs::Readings::nameless, crate::proofs::Submitted::none_is_bad))]
+    #[tactic(auto, using(crate::proofs::Readings::nameless))]
     fn named(alloc: A, name: Option<Name>, words: &mut Words<'a>) -> Result<Command<'a, A>, Refusal>
-        ensures { IsAsked (checked (command_named name) (words_left words.old)) result }
+        ensures { ReadsAs asked_of (checked (command_named name) (words_left words.old)) result }
     {
         match name.ok_or(Refusal::BadLine)? {
             Name::New => Ok(Command::Opening(read_new(words)?)),
@@ -214,25 +212,8 @@ fn read_list(words: &mut Words<'_>) -> Result<u32, Refusal>
     words.only_number32()
 }
 
-/// A log with a Write or a Truncate is a bad line yet.
-#[tactic(auto, using(crate::proofs::Submitted::none_is_bad, crate::proofs::Submitted::other_is_bad))]
-fn read_submit<A: Allocator + Copy>(
-    alloc: A,
-    words: &mut Words<'_>,
-) -> Result<Submission<A>, Refusal>
-    ensures ok { IfOk result (λ submission. checked submit_of (words_left words.old) ≡ Some (Request (SubmitLine (submission_of submission)))) }
-    ensures judged { IfOk result (λ submission. HasOtherEntry submission.log.items → ⊥) }
-    ensures bad { IfErr result (λ refusal. refusal ≡ Refusal.BadLine → IsBadLine (checked submit_of (words_left words.old))) }
-{
-    let submission = read_submission(alloc, words)?;
-    if has_other_entry(submission.log.as_slice()) {
-        return Err(Refusal::BadLine);
-    }
-    Ok(submission)
-}
-
 #[tactic(auto, using(crate::proofs::Readings::submit_steps))]
-fn read_submission<A: Allocator + Copy>(
+fn read_submit<A: Allocator + Copy>(
     alloc: A,
     words: &mut Words<'_>,
 ) -> Result<Submission<A>, Refusal>

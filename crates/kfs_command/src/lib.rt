@@ -3,6 +3,5 @@
 
 mod command;
 pub mod examples;
-mod unjudged;
 
 pub use command::{Command, DeskCommand, OpeningCommand};

@@ -13,7 +13,6 @@ use Rattle.kfs_model.specs.Soundness.{IsSound}
 use Rattle.kfs_model.specs.Tree.{Tree, headers}
 use Rattle.kfs_model.proofs.Cells.{headers-recut, recut}
 use Rattle.kfs_model.proofs.Marks.{marks_give_bytes}
-use Rattle.kfs_model.proofs.OrderKept.{step_keeps_order}
 use Rattle.kfs_model.proofs.RowFits.{row_fits}
 use Rattle.kfs_value.specs.declared.entry.Log.{Log as CodeLog}
 use Rattle.kfs_value.specs.declared.plan.Plan.{Plan as CodePlan}
@@ -162,15 +161,6 @@ module _ (desk : Parts) (is_desk : IsDesk desk) (lawful : IsLawful desk.image) (
       sound = subst IsSound (sym tree_is) yes.comes.sound;
     }
 
-    -- The state stays in order.
-    pub filled_in_order : IsJudgement s submission (Yes after marked_after) → (rows : ℕ) → rows ≤ desk.limit → IsDesk (desk_filled rows)
-    filled_in_order judgement rows within =
-        let step = step_filled judgement desk.rows rows in
-        record {
-          within_limit = within;
-          in_order = step_keeps_order s (state_of (desk_filled rows)) (record { call = Submit submission step.reading; answer = Replied step.reply; places = step.places }) is_desk.in_order step.read step.fits;
-        }
-
   -- ---- what land_bytes is asked for and leaves
 
   module _ (bytes : LogBytes) (says : entries_of bytes ≡ entries) (tells : pieces_of bytes ≡ pieces) (room : told ≤ free) where
@@ -191,9 +181,6 @@ module _ (desk : Parts) (is_desk : IsDesk desk) (lawful : IsLawful desk.image) (
 
       pub done_landed : (rows : ℕ) → IsDone s submission (state_of (desk_landed rows))
       done_landed rows = subst (λ (d : Parts). IsDone s submission (state_of d)) (same_desk rows) (done_filled has.fill bytes says tells has.is room rows)
-
-      pub landed_in_order : IsJudgement s submission (Yes after marked_after) → (rows : ℕ) → rows ≤ desk.limit → IsDesk (desk_landed rows)
-      landed_in_order judgement rows within = subst IsDesk (same_desk rows) (filled_in_order has.fill bytes says tells has.is room judgement rows within)
 
   -- ---- without room
 

@@ -1,11 +1,20 @@
 -- What a verdict's outcome makes of an image and of the leases, and the answer to it.
-use Rattle.std.specs.Prelude.{ℕ, ◌==◌, not, false, List, [], ◌∷◌, All, Option, None, Some}
+use Rattle.std.specs.Prelude.{◌≡◌, ℕ, ◌≤◌, ◌<◌, ◌==◌, not, false, List, [], ◌∷◌, length, Option, None, Some}
+use Rattle.std.specs.List.{AllByRecursion}
 use Rattle.kfs_model.specs.Lease.{Leases, without_gone}
+use Rattle.kfs_model.specs.Plan.{Ascend}
+use Rattle.kfs_value.specs.declared.entry.Log.{Log}
 use Rattle.kfs_value.specs.declared.header.Header.{Header}
 use Rattle.kfs_value.specs.declared.plan.NodeRow.{NodeRow}
-use Rattle.kfs_image.specs.Net.{after_net}
-use Rattle.kfs_device.specs.ShownTree.{DeviceImage, IsLawful}
-use Rattle.kfs_plan.specs.KeptBytes.{KeepsBytes}
+use Rattle.kfs_value.specs.declared.plan.Plan.{Plan}
+use Rattle.kfs_entry.specs.Answers.{SpansAreWithin, log_of, plan_of}
+use Rattle.kfs_sweep.specs.Lefts.{IsFilled, IsWhole}
+use Rattle.kfs_tier.specs.Unused.{unused_places}
+use Rattle.kfs_nodes.specs.declared.net.Net.{Net}
+use Rattle.kfs_device.specs.ShownTree.{DeviceImage}
+use Rattle.kfs_fill.specs.declared.bytes.LogBytes.{LogBytes}
+use Rattle.kfs_fill.specs.Bytes.{entries_of, pieces_of}
+use Rattle.kfs_fill.specs.FillOf.{CanLandWith, HasLandedWith}
 use Rattle.kfs_plan.specs.declared.submission.Outcome.{Outcome}
 use Rattle.kfs_plan.specs.declared.submission.Outcome.TheVariants as outcomes
 use Rattle.kfs_plan.specs.declared.answers.Reply.{Reply}
@@ -21,26 +30,50 @@ abbrev pub ended_by : Leases → List NodeRow → Leases
 ended_by leases [] = leases
 ended_by leases (row ∷ rows) = ended_by (ended_with leases row.number row.now) rows
 
+-- how many places of tier 0 are free
+abbrev pub free_in : DeviceImage → ℕ
+free_in image = length (unused_places image.sizes image.placement 0)
+
 module _ {A : Type 0} where
-  abbrev pub image_after : DeviceImage → Outcome A → DeviceImage
-  image_after image (outcomes.No fault) = image
-  image_after image (outcomes.Yes log plan net need) = after_net net image
+  -- the log read from these bytes, and the pieces of the plan
+  pub record AreOf (source : List ℕ) (log : Log A) (plan : Plan A) (bytes : LogBytes) : Type 0 where
+    pub entries : entries_of bytes ≡ (log_of source log).entries
+    pub pieces : pieces_of bytes ≡ (plan_of plan).pieces
 
-  abbrev pub leases_left : Leases → Outcome A → Leases
-  leases_left leases (outcomes.No fault) = leases
-  leases_left leases (outcomes.Yes log plan net need) = ended_by leases net.nodes.items
+  -- payloads lie in the bytes, pieces are in order and can be cut into blocks, and where there is room the net can be applied
+  pub record CanLandYes (image : DeviceImage) (source : List ℕ) (log : Log A) (plan : Plan A) (net : Net A) (need : ℕ) : Type 0 where
+    pub within : SpansAreWithin (length source) log
+    pub ascend : Ascend (plan_of plan).pieces
+    pub whole : AllByRecursion IsWhole plan.pieces
+    pub filled : AllByRecursion IsFilled plan.pieces
+    pub fits : need ≤ free_in image → (bytes : LogBytes) → AreOf source log plan bytes → CanLandWith image bytes net
 
-  -- the image after is lawful
-  abbrev pub CanLand : DeviceImage → Outcome A → Type 0
-  CanLand image (outcomes.No fault) = Unit {0}
-  CanLand image (outcomes.Yes log plan net need) = IsLawful (after_net net image)
+  abbrev pub CanLand : DeviceImage → (source : List ℕ) → Outcome A → Type 0
+  CanLand image source (outcomes.No fault) = Unit {0}
+  CanLand image source (outcomes.Yes log plan net need) = CanLandYes image source log plan net need
 
-  -- a Yes is of entries that keep every byte
-  abbrev pub KeepsAll : Outcome A → Type 0
-  KeepsAll (outcomes.No fault) = Unit {0}
-  KeepsAll (outcomes.Yes log plan net need) = All KeepsBytes log.entries
+  -- the net has been applied, with a fill of its log
+  pub record HasLanded (old : DeviceImage) (source : List ℕ) (log : Log A) (plan : Plan A) (net : Net A) (new : DeviceImage) : Type 0 where
+    pub bytes : LogBytes
+    pub are : AreOf source log plan bytes
+    pub landed : HasLandedWith old bytes net new
 
-  -- the answer with this place in the docket
-  abbrev pub answer_at : (position : ℕ) → Outcome A → Reply
-  answer_at position (outcomes.No fault) = replies.No position false fault
-  answer_at position (outcomes.Yes log plan net need) = replies.Yes position false need
+  -- The answer to an outcome at this place in the docket: a No is told; a Yes needs more places than there are, or its log has
+  -- landed.
+  abbrev pub Answers : (old : DeviceImage) → (source : List ℕ) → (position : ℕ) → Outcome A → Reply → (new : DeviceImage) → Type 0
+  Answers old source position (outcomes.No fault) reply new = (reply ≡ replies.No position false fault) × (new ≡ old)
+  Answers old source position (outcomes.Yes log plan net need) (replies.No p rejudged fault) new = ⊥
+  Answers old source position (outcomes.Yes log plan net need) (replies.NoRoom p rejudged n free) new =
+      (replies.NoRoom p rejudged n free ≡ replies.NoRoom position false need (free_in old)) × (free_in old < need) × (new ≡ old)
+  Answers old source position (outcomes.Yes log plan net need) (replies.Yes p rejudged n) new =
+      (replies.Yes p rejudged n ≡ replies.Yes position false need) × (need ≤ free_in old) × HasLanded old source log plan net new
+
+  -- the leases after the answer to a net: after a Yes those on nodes that went have ended
+  abbrev pub left_by : Leases → Net A → Reply → Leases
+  left_by leases net (replies.Yes position rejudged need) = ended_by leases net.nodes.items
+  left_by leases net (replies.No position rejudged fault) = leases
+  left_by leases net (replies.NoRoom position rejudged need free) = leases
+
+  abbrev pub leases_left : Leases → Outcome A → Reply → Leases
+  leases_left leases (outcomes.No fault) reply = leases
+  leases_left leases (outcomes.Yes log plan net need) reply = left_by leases net reply

@@ -7,7 +7,7 @@ use Rattle.kfs_model.specs.Lease as leases
 use Rattle.kfs_model.specs.Sight.{Sight}
 use Rattle.kfs_model.specs.Soundness.{IsSound}
 use Rattle.kfs_model.specs.Spelling.{LogAnswer}
-use Rattle.kfs_model.specs.Judgement.{State, Submission, Reading, IsReadAs, Reply, Accepted, Refused, client_sight_of}
+use Rattle.kfs_model.specs.Judgement.{State, Submission, Reading, IsReadAs, Reply, Accepted, NoRoom, Refused, client_sight_of}
 use Rattle.kfs_model.specs.Machine.{Call, Submit, Lease, Drop, Tick, CallAnswer, Replied, OneByOne, next}
 use Rattle.kfs_model.specs.Machine as machine
 use Rattle.kfs_model.specs.Order.{IsInOrder}
@@ -15,7 +15,7 @@ use Rattle.kfs_lease.specs.Faults.{fault_of}
 use Rattle.kfs_lease_rows.specs.Rows.{kind_of}
 use Rattle.kfs_lease.specs.declared.leases.LeaseFault.{LeaseFault}
 use Rattle.kfs_device.specs.ShownTree.{DeviceImage, shown_tree}
-use Rattle.kfs_plan.specs.Judging.{HasOtherEntry, refusal_of, submission_of}
+use Rattle.kfs_plan.specs.Judging.{refusal_of, submission_of}
 use Rattle.kfs_plan.specs.declared.submission.Back.{Back}
 use Rattle.kfs_plan.specs.declared.submission.Submission.{Submission as CodeSubmission}
 use Rattle.kfs_plan.specs.declared.submission.Why.{Why}
@@ -72,6 +72,7 @@ pub record IsImageOf (image : DeviceImage) (s : State) : Type 0 where
 abbrev pub reply_of : CodeReply → Option Reply
 reply_of (replies.Yes position rejudged need) = Some (Accepted need)
 reply_of (replies.No position rejudged fault) = option_map Refused (refusal_of fault)
+reply_of (replies.NoRoom position rejudged need free) = Some (NoRoom need free)
 
 -- the submission with this answer is a row that fits, and leads to this state
 pub record IsStep (s : State) (submission : Submission) (answer : CodeReply) (t : State) : Type 0 where
@@ -91,10 +92,11 @@ pub record IsDone (s : State) (submission : Submission) (t : State) : Type 0 whe
   pub one_by_one : OneByOne client (client_sight_of s client.number) 0 [] s.tree log.entries t.tree
   pub sound : IsSound t.tree
 
--- a Yes says that it is done, and a No leaves the tree and the leases
+-- a Yes says that it is done, and any other answer leaves the state as it is
 abbrev pub Means : (s : State) → Submission → CodeReply → (t : State) → Type 0
 Means s submission (replies.Yes position rejudged need) t = IsDone s submission t
-Means s submission (replies.No position rejudged fault) t = (t.tree ≡ s.tree) × (t.leases ≡ s.leases)
+Means s submission (replies.No position rejudged fault) t = t ≡ s
+Means s submission (replies.NoRoom position rejudged need free) t = t ≡ s
 
 -- the answer is such a step, judged once, means what it says, and adds the docket's row at its position
 pub record IsAnswered (old : Desk) (submission : Submission) (answer : CodeReply) (new : Desk) : Type 0 where
@@ -105,11 +107,10 @@ pub record IsAnswered (old : Desk) (submission : Submission) (answer : CodeReply
   pub rows : new.rows ≡ old.rows + 1
   pub limit : new.limit ≡ old.limit
 
--- why there is no answer: a full docket, that exactly, or else a Write or a Truncate, or want of memory
-abbrev pub IsWhy : Desk → (log : List ℕ) → Why → Type 0
-IsWhy desk log whys.DocketFull = desk.rows ≡ desk.limit
-IsWhy desk log whys.OtherEntry = (desk.rows ≢ desk.limit) × HasOtherEntry log
-IsWhy desk log whys.OutOfMemory = desk.rows ≢ desk.limit
+-- why there is no answer: a full docket, that exactly, or else want of memory
+abbrev pub IsWhy : Desk → Why → Type 0
+IsWhy desk whys.DocketFull = desk.rows ≡ desk.limit
+IsWhy desk whys.OutOfMemory = desk.rows ≢ desk.limit
 
 -- it came back for this reason
 abbrev pub IsBackFor : {A T : Type 0} → Result T (Back A) → Why → Type 0
@@ -123,7 +124,7 @@ RunsThrough desk [] [] last = last ≡ desk
 RunsThrough desk [] (answer ∷ answers) last = ⊥
 RunsThrough desk (submission ∷ submissions) [] last = ⊥
 RunsThrough desk (submission ∷ submissions) (Ok reply ∷ answers) last = (next : Desk) × IsAnswered desk (submission_of submission) reply next × RunsThrough next submissions answers last
-RunsThrough desk (submission ∷ submissions) (Err back ∷ answers) last = (back.submission ≡ submission) × IsWhy desk submission.log.items back.why × RunsThrough desk submissions answers last
+RunsThrough desk (submission ∷ submissions) (Err back ∷ answers) last = (back.submission ≡ submission) × IsWhy desk back.why × RunsThrough desk submissions answers last
 
 -- ---- a call for the leases
 

@@ -3,6 +3,7 @@ ghost use Rattle.std.specs.Prelude.{◌≡◌, ◌↔◌, ◌+◌, ◌≤◌, �
 ghost use Rattle.std.specs.List.{list_any, AllByRecursion};
 ghost use Rattle.kfs_model.specs.CleanStep.{IsClient};
 ghost use Rattle.kfs_model.specs.Order.{IsInOrder};
+ghost use Rattle.kfs_model.specs.Plan.{Ascend};
 ghost use Rattle.kfs_model.specs.Machine as machine;
 ghost use Rattle.kfs_model.specs.Machine.{opening};
 ghost use Rattle.kfs_model.specs.Table.{empty};
@@ -12,22 +13,25 @@ ghost use Rattle.kfs_lease_rows.specs.Rows.{kind_of};
 ghost use Rattle.kfs_nodes.specs.Contents.{sight_of};
 ghost use Rattle.kfs_device.specs.ShownTree.{IsLawful, shown_tree};
 ghost use Rattle.kfs_image.specs.Image as images;
+ghost use Rattle.kfs_sweep.specs.Lefts.{IsFilled, IsWhole};
+ghost use Rattle.kfs_fill.specs.Bytes.{HasPayloads, pieces_of};
+ghost use Rattle.kfs_fill.specs.FillOf.{CanLandWith, HasLandedWith};
 ghost use Rattle.kfs_check.specs.View.{clients_of, contents_of, leases_of};
-ghost use Rattle.kfs_plan.specs.Judging.{HasOtherEntry, IsVerdict, submission_of};
-ghost use Rattle.kfs_image.specs.Net.{after_net};
-ghost use Rattle.kfs_desk.specs.Landing.{CanLand, KeepsAll, answer_at, ended_by, ended_with, image_after, leases_left};
+ghost use Rattle.kfs_plan.specs.Judging.{IsVerdict, submission_of};
+ghost use Rattle.kfs_desk.specs.Landing.{Answers, CanLand, ended_by, ended_with, leases_left};
 ghost use Rattle.kfs_desk.specs.Machine.{IsAnswered, IsBackFor, IsCallOf, IsChangeOf, IsImageOf, RunsThrough, call_of, done_by, number_of, outcome_at, state_at};
 ghost use Rattle.kfs_desk.specs.Opening.{begin_fault, do_overlap, fault_behind};
 ghost use Rattle.kfs_value.specs.Room.{Appends, spare_of};
 
 use crate::back::BeginBack;
 use kfs_entry::NodeRow;
-use kfs_image::{Fill, Image, Net, Shape, net_apply};
+use kfs_fill::{LogBytes, land_bytes};
+use kfs_image::{Image, Net, Shape};
 use kfs_judge::View;
 use kfs_lease::{LeaseFault, LeaseKind, Leases};
 use kfs_mode::Client;
 use kfs_plan::answers::{Act, ActReply, BeginFault, Done, Reply, SubmissionsBack, Unanswered};
-use kfs_plan::{Back, Judged, Outcome, Submission, Why, judge, keep_bytes};
+use kfs_plan::{Back, Judged, Outcome, Submission, Why, judge};
 use std::alloc::{AllocError, Allocator};
 use std::marker::Model;
 use std::sync::Arc;
@@ -155,14 +159,14 @@ impl<A: Allocator + Copy> Desk<A> {
         Ok(ActReply { position, answer })
     }
 
-    /// Judges the submission against the state of now, and lands it: where it is judged right, the
-    /// tree changes as its log says. A submission that isn't answered comes back; so does one that is
-    /// judged right and has a Write or a Truncate, which nothing lands yet.
+    /// Judges the submission against the state of now, and lands it: where it is judged right and tier
+    /// 0 has a free place for each block that its log writes, the tree changes as the log says, and any
+    /// other answer leaves it as it is. A submission that isn't answered comes back, and the desk is as
+    /// it was.
     pub fn submit(&mut self, submission: Submission<A>) -> Result<Reply, Back<A>>
         ensures full { IsBackFor result Why.DocketFull ↔ (self.old.rows ≡ self.old.limit) }
         ensures answered { IfOk result (λ reply. IsAnswered self.old (submission_of submission) reply self.new) }
         ensures back { IfErr result (λ back. (back.submission ≡ submission) × (self.new ≡ self.old)) }
-        ensures other { IsBackFor result Why.OtherEntry → HasOtherEntry submission.log.items }
     {
         if self.is_full() {
             let why = Why::DocketFull;
@@ -176,13 +180,13 @@ impl<A: Allocator + Copy> Desk<A> {
             &self.clients,
             submission,
         )?;
-        if may_change_bytes(&judged.outcome) {
-            return Err(Back {
-                submission: judged.submission,
-                why: Why::OtherEntry,
-            });
-        }
-        let reply = land(&mut self.image, &mut self.leases, position, judged)?;
+        let reply = land(
+            self.alloc,
+            &mut self.image,
+            &mut self.leases,
+            position,
+            judged,
+        )?;
         self.rows = position + 1;
         Ok(reply)
     }
@@ -249,16 +253,6 @@ fn judged<A: Allocator + Copy>(
         return Err(Back { submission, why });
     };
     judge(alloc, &view, submission)
-}
-
-/// Whether it is a Yes of a log with a Write or a Truncate.
-fn may_change_bytes<A: Allocator>(outcome: &Outcome<A>) -> bool
-    ensures { IsFalse result ↔ KeepsAll outcome.now }
-{
-    match outcome {
-        Outcome::Yes { log, .. } => !keep_bytes(log.entries.as_slice()),
-        Outcome::No(_) => false,
-    }
 }
 
 /// The shape, the leases and the clients of now.
@@ -339,17 +333,17 @@ fn push_within<T: Drop, A: Allocator>(out: &mut Vec<T, A>, value: T)
     out.push(value).unwrap();
 }
 
-/// Makes the change of what was judged right, at its place in the docket. Leases on nodes that go end.
+/// Lands what a verdict came to, at its place in the docket. Leases on nodes that go end.
 fn land<A: Allocator + Copy>(
+    alloc: A,
     image: &mut Image<A>,
     leases: &mut Arc<Leases<A>, A>,
     position: u32,
     judged: Judged<A>,
 ) -> Result<Reply, Back<A>>
-    requires { CanLand image.old judged.outcome }
-    ensures answer { IfOk result (λ reply. reply ≡ answer_at position judged.outcome) }
-    ensures ok { OnOk result (image.new ≡ image_after image.old judged.outcome) }
-    ensures leases { OnOk result (leases.new.value ≡ leases_left leases.old.value judged.outcome) }
+    requires { CanLand image.old judged.submission.log.items judged.outcome }
+    ensures answer { IfOk result (λ reply. Answers image.old judged.submission.log.items position judged.outcome reply image.new) }
+    ensures leases { IfOk result (λ reply. leases.new.value ≡ leases_left leases.old.value judged.outcome reply) }
     ensures back { IfErr result (λ back. (back.submission ≡ judged.submission) × (back.why ≡ Why.OutOfMemory)) }
     ensures err { OnErr result ((image.new ≡ image.old) × (leases.new.value ≡ leases.old.value)) }
 {
@@ -359,8 +353,13 @@ fn land<A: Allocator + Copy>(
         ..
     } = judged;
     let rejudged = false;
-    let (net, need) = match outcome {
-        Outcome::Yes { net, need, .. } => (net, need),
+    let (log, plan, net, need) = match outcome {
+        Outcome::Yes {
+            log,
+            plan,
+            net,
+            need,
+        } => (log, plan, net, need),
         Outcome::No(fault) => {
             return Ok(Reply::No {
                 position,
@@ -369,7 +368,21 @@ fn land<A: Allocator + Copy>(
             });
         }
     };
-    if change_state(image, leases, &net).is_err() {
+    let free = image.free(0);
+    if u64::from(free) < need {
+        return Ok(Reply::NoRoom {
+            position,
+            rejudged,
+            need,
+            free,
+        });
+    }
+    let bytes = LogBytes {
+        source: &submission.log,
+        entries: &log.entries,
+        pieces: &plan.pieces,
+    };
+    if change_state(alloc, image, leases, &bytes, &net).is_err() {
         let why = Why::OutOfMemory;
         return Err(Back { submission, why });
     }
@@ -380,32 +393,28 @@ fn land<A: Allocator + Copy>(
     })
 }
 
-/// Makes a net's change. The leases are made the desk's own before the first change: no view shares
-/// them then.
+/// Makes a net's change with the bytes of its log. The leases are made the desk's own before the first
+/// change: no view shares them then.
 fn change_state<A: Allocator + Copy>(
+    alloc: A,
     image: &mut Image<A>,
     leases: &mut Arc<Leases<A>, A>,
+    bytes: &LogBytes<'_>,
     net: &Net<A>,
 ) -> Result<(), AllocError>
-    requires { IsLawful (after_net net.now image.old) }
-    ensures image { OnOk result (image.new ≡ after_net net.now image.old) }
+    requires payloads { HasPayloads bytes.now }
+    requires pieces { Ascend (pieces_of bytes.now) }
+    requires whole { AllByRecursion IsWhole bytes.now.pieces.now }
+    requires filled { AllByRecursion IsFilled bytes.now.pieces.now }
+    requires fits { CanLandWith image.old bytes.now net.now }
+    ensures image { OnOk result (HasLandedWith image.old bytes.now net.now image.new) }
     ensures leases { OnOk result (leases.new.value ≡ ended_by leases.old.value net.now.nodes.items) }
     ensures err { OnErr result ((image.new ≡ image.old) × (leases.new.value ≡ leases.old.value)) }
 {
     let leases = Arc::make_mut(leases)?;
-    apply_alone(image, net)?;
+    land_bytes(alloc, image, bytes, net)?;
     end_leases(leases, net.nodes.as_slice());
     Ok(())
-}
-
-/// Makes a net's change, and writes no block.
-fn apply_alone<A: Allocator + Copy>(image: &mut Image<A>, net: &Net<A>) -> Result<(), AllocError>
-    requires { IsLawful (after_net net.now image.old) }
-    ensures ok { OnOk result (image.new ≡ after_net net.now image.old) }
-    ensures err { OnErr result (image.new ≡ image.old) }
-{
-    let fill = Fill::empty(net.names.allocator())?;
-    net_apply(image, net, &fill)
 }
 
 /// Ends the leases on the nodes that go.

@@ -12,7 +12,6 @@ use Rattle.kfs_value.specs.Views.{header_of}
 use Rattle.kfs_value.specs.declared.header.Header.{Header as CodeHeader}
 use Rattle.kfs_device.specs.ShownTree.{DeviceImage, shown_tree}
 use Rattle.kfs_image.specs.Image.{fresh_image}
-use Rattle.kfs_plan.specs.Judging.{HasOtherEntry}
 use Rattle.kfs_desk.specs.Machine.{Desk, IsActed, IsAnswered}
 use Rattle.kfs_desk.specs.Opening.{begin_fault}
 use Rattle.kfs_plan.specs.declared.answers.ActReply.{ActReply}
@@ -20,7 +19,7 @@ use Rattle.kfs_plan.specs.declared.answers.BeginFault.{BeginFault}
 use Rattle.kfs_plan.specs.declared.answers.Done.{Done}
 use Rattle.kfs_plan.specs.declared.answers.Done.TheVariants.{Leased, Dropped, Ticked}
 use Rattle.kfs_plan.specs.declared.answers.Reply.{Reply}
-use Rattle.kfs_command.specs.Command.{Command, Setup, Request, OpeningCommand, New, Row, Begin, DeskCommand, Lease, Drop, Tick, Submit, Node, Listing, IsBadLine, asked_by}
+use Rattle.kfs_command.specs.Command.{Command, Setup, Request, OpeningCommand, New, Row, Begin, DeskCommand, Lease, Drop, Tick, Submit, Node, Listing, asked_by}
 use Rattle.kfs_engine.specs.Listing.{list_text}
 use Rattle.kfs_report.specs.Text.{act_text, begin_text, client_text, node_text, reply_text}
 use Rattle.kfs_text.specs.Parts.{line_of}
@@ -92,7 +91,6 @@ IsCallAnswered desk call words outcome = IsFull desk outcome ⊎ IsCalled desk c
 
 -- the submission is answered: the desk's reply to it
 pub record IsSubmitted (desk : Desk) (submission : Submission) (outcome : LineOutcome) : Type 0 where
-  pub judged : HasOtherEntry submission.log → ⊥
   pub answer : Reply
   pub next : Desk
   pub below : desk.rows ≢ desk.limit
@@ -121,7 +119,7 @@ abbrev pub Serves : Desk → DeskCommand → LineOutcome → Type 0
 Serves desk (Lease client path kind end) outcome = IsCallAnswered desk (machine.Lease client path kind end) Leased outcome
 Serves desk (Drop client number) outcome = IsCallAnswered desk (machine.Drop client number) Dropped outcome
 Serves desk (Tick moment) outcome = IsCallAnswered desk (machine.Tick moment) Ticked outcome
-Serves desk (Submit submission) outcome = ((HasOtherEntry submission.log → ⊥) × IsFull desk outcome) ⊎ IsSubmitted desk submission outcome
+Serves desk (Submit submission) outcome = IsFull desk outcome ⊎ IsSubmitted desk submission outcome
 Serves desk (Node number) outcome = IsNone desk number outcome ⊎ IsNode desk number outcome
 Serves desk (Listing directory) outcome = IsSaid (names_line desk directory) (After desk) outcome
 
@@ -137,10 +135,10 @@ abbrev pub Obeys : Stage → Option Command → LineOutcome → Type 0
 Obeys s None outcome = ⊥
 Obeys s (Some command) outcome = Does s command outcome
 
--- a bad line, or what the line asks for, or want of memory, which may come at any line and leaves the stage
+-- a line that is no command, or what it asks for, or want of memory, which may come at any line and leaves the stage
 abbrev pub Answers : Stage → (line : List ℕ) → LineOutcome → Type 0
 Answers s line outcome =
-    (IsBadLine (asked_by line) × IsSaid (codes "bad line") s outcome)
+    ((asked_by line ≡ None) × IsSaid (codes "bad line") s outcome)
     ⊎ (Obeys s (asked_by line) outcome ⊎ IsSaid (codes "memory") s outcome)
 
 -- the text that the lines are answered one after another, and the last stage

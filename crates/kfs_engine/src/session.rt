@@ -3,10 +3,9 @@ ghost use Rattle.std.specs.Prelude.{◌≡◌, ◌≤◌, ◌++◌, codes, Some,
 ghost use Rattle.kfs_model.specs.Table.{get};
 ghost use Rattle.kfs_model.specs.Tree.{headers};
 ghost use Rattle.kfs_value.specs.Views.{header_of};
-ghost use Rattle.kfs_plan.specs.Judging.{HasOtherEntry, submission_of};
+ghost use Rattle.kfs_plan.specs.Judging.{submission_of};
 ghost use Rattle.kfs_desk.specs.Machine.{call_of, done_by};
 ghost use Rattle.kfs_command.specs.Command as commands;
-ghost use Rattle.kfs_command.specs.Command.{IsBadLine};
 ghost use Rattle.kfs_engine.specs.Session.{After, Answers, IsCallAnswered, IsReplied, Serves, fresh, names_line};
 ghost use Rattle.kfs_command.specs.Views.{asked_of_desk, opening_of};
 ghost use Rattle.kfs_engine.specs.Views.{IsDone, IsOutOfPlace, stage_of};
@@ -91,8 +90,7 @@ impl<A: Allocator + Copy> Session<A> {
         command: DeskCommand<'_, A>,
         reply: &mut Vec<u8, A>,
     ) -> Result<(), Refusal>
-        requires room { 128 ≤ spare_of reply.old }
-        requires good { IsBadLine (Some (commands.Request (asked_of_desk command))) → ⊥ }
+        requires { 128 ≤ spare_of reply.old }
         ensures ok { OnOk result (IsDone self.old (commands.Request (asked_of_desk command.entry)) reply.old.items reply.new.items self.new) }
         ensures bad { IsErrOf result Refusal.BadLine → IsOutOfPlace self.old (commands.Request (asked_of_desk command.entry)) self.new }
         ensures memory { IsErrOf result Refusal.OutOfMemory → stage_of self.new ≡ stage_of self.old }
@@ -104,15 +102,14 @@ impl<A: Allocator + Copy> Session<A> {
     }
 }
 
-/// Answers a command to the desk, whose log, where it has one, has no Write and no Truncate.
+/// Answers a command to the desk.
 fn answer_by_desk<A: Allocator + Copy>(
     alloc: A,
     desk: &mut Desk<A>,
     command: DeskCommand<'_, A>,
     reply: &mut Vec<u8, A>,
 ) -> Result<(), Refusal>
-    requires room { 128 ≤ spare_of reply.old }
-    requires good { IsBadLine (Some (commands.Request (asked_of_desk command))) → ⊥ }
+    requires { 128 ≤ spare_of reply.old }
     ensures ok { OnOk result (IsReplied (Serves desk.old (asked_of_desk command.entry)) reply.old.items reply.new.items (After desk.new)) }
     ensures err { IfErr result (λ why. (why ≡ Refusal.OutOfMemory) × (desk.new ≡ desk.old)) }
 {
@@ -147,27 +144,16 @@ fn hand_in<A: Allocator + Copy>(
     submission: Submission<A>,
     reply: &mut Vec<u8, A>,
 ) -> Result<(), Refusal>
-    requires room { 128 ≤ spare_of reply.old }
-    requires judged { HasOtherEntry submission.log.items → ⊥ }
+    requires { 128 ≤ spare_of reply.old }
     ensures ok { OnOk result (IsReplied (Serves desk.old (commands.Submit (submission_of submission))) reply.old.items reply.new.items (After desk.new)) }
     ensures err { IfErr result (λ why. (why ≡ Refusal.OutOfMemory) × (desk.new ≡ desk.old)) }
 {
     match desk.submit(submission) {
         Ok(answer) => Ok(reply_line(reply, &answer)?),
-        Err(back) => unanswered(back.why, reply),
-    }
-}
-
-/// What is replied where the desk gave a submission back.
-fn unanswered<A: Allocator>(why: Why, reply: &mut Vec<u8, A>) -> Result<(), Refusal>
-    requires { 128 ≤ spare_of reply.old }
-    ensures ok { OnOk result ((why ≡ Why.DocketFull) × (reply.new.items ≡ reply.old.items ++ line_of (codes "full"))) }
-    ensures bad { IsErrOf result Refusal.BadLine → why ≡ Why.OtherEntry }
-{
-    match why {
-        Why::OutOfMemory => Err(Refusal::OutOfMemory),
-        Why::OtherEntry => Err(Refusal::BadLine),
-        Why::DocketFull => Ok(text(reply, b"full\n")),
+        Err(back) => match back.why {
+            Why::DocketFull => Ok(text(reply, b"full\n")),
+            Why::OutOfMemory => Err(Refusal::OutOfMemory),
+        },
     }
 }
 

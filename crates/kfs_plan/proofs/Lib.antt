@@ -1,5 +1,4 @@
 -- Lemmas on the comparison of a plan, and on verdicts.
-pub mod KeptBytes
 pub mod MarkedRuns
 pub mod Ranges
 pub mod RowsCompared

@@ -1,7 +1,6 @@
 -- What a judgement answered, as the definitions say it.
 use Rattle.std.specs.Prelude.{◌≡◌, ◌≢◌, ℕ, Bool, true, false, List, [], length, Option, None, Some, Result, Ok, Err}
 use Rattle.std.specs.Option.{option_map}
-use Rattle.std.specs.List.{list_all}
 use Rattle.kfs_model.specs.Access.{Client}
 use Rattle.kfs_model.specs.Entry.{Entry, Log}
 use Rattle.kfs_model.specs.Tree.{Tree}
@@ -35,7 +34,6 @@ use Rattle.kfs_check.specs.declared.view.View.{View}
 use Rattle.kfs_judge.specs.declared.walk.EntryFault.{EntryFault as CodeEntryFault}
 use Rattle.kfs_check.specs.declared.reads.Read.{Read}
 use Rattle.kfs_check.specs.declared.reads.ReadAnswer.{ReadAnswer}
-use Rattle.kfs_plan.specs.KeptBytes.{keeps_bytes}
 use Rattle.kfs_sweep.specs.declared.sizes.FileSize.{FileSize}
 use Rattle.kfs_plan.specs.PlanCheck.{TellsOfEachRun}
 use Rattle.kfs_check.specs.Reads.{Agrees, AreAmong}
@@ -73,12 +71,6 @@ submission_with client log plan = record { client = client; log = log; plan = pl
 
 abbrev pub submission_of : {A : Type 0} → CodeSubmission A → Submission
 submission_of submission = submission_with submission.client submission.log.items submission.plan.items
-
--- the bytes spell a log with an entry that may change bytes
-pub record HasOtherEntry (bytes : List ℕ) : Type 0 where
-  pub log : Log
-  pub spelled : LogAnswer bytes (Ok log)
-  pub other : list_all keeps_bytes log.entries ≡ false
 
 -- the bytes of the submission are this log of the client and this plan, and the payloads' spans lie in the log's bytes
 pub record AreSpelled {A : Type 0} (submission : Submission) (log : CodeLog A) (plan : CodePlan A) : Type 0 where

@@ -1,3 +1,2 @@
-pub mod KeptBytes
 pub mod PlanCheck
 pub mod Judging

@@ -8,7 +8,8 @@ use std::alloc::{AllocError, Allocator};
 /// The answer to a submission, with its place in the docket.
 #[derive(Clone, Copy, Debug, PartialEq, Eq)]
 pub enum Reply {
-    /// The tree is now what the log makes of it. `need` counts the written blocks.
+    /// The tree is now what the log makes of it. `need` counts the written blocks, each of which has a
+    /// new place on tier 0.
     Yes {
         position: u32,
         rejudged: bool,
@@ -19,6 +20,14 @@ pub enum Reply {
         position: u32,
         rejudged: bool,
         fault: Fault,
+    },
+    /// The log and the plan are right, and of the `need` places that the written blocks take only `free`
+    /// are free on tier 0. The tree is as it was.
+    NoRoom {
+        position: u32,
+        rejudged: bool,
+        need: u64,
+        free: u32,
     },
 }
 

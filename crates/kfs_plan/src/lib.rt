@@ -4,14 +4,12 @@
 
 pub mod answers;
 mod judgement;
-mod kept;
 mod pieces;
 mod rows;
 mod spelling;
 mod submission;
 
 pub use judgement::judge;
-pub use kept::keep_bytes;
 pub use pieces::sweep;
 pub use rows::{RowFault, check_plan};
 pub use submission::{Back, Fault, Judged, Outcome, Submission, Why};

@@ -67,9 +67,6 @@ pub enum Why {
     OutOfMemory,
     /// 2: the docket has as many rows as its limit allows. Only a desk answers so.
     DocketFull,
-    /// 3: what is judged right has a Write or a Truncate, which nothing lands yet. Only a desk answers
-    /// so.
-    OtherEntry,
 }
 
 /// A submission that comes back as it was handed in.

@@ -22,7 +22,7 @@ use Rattle.kfs_plan.specs.declared.answers.BeginFault.TheVariants as begin
 use Rattle.kfs_plan.specs.declared.answers.Done.{Done}
 use Rattle.kfs_plan.specs.declared.answers.Done.TheVariants as done
 use Rattle.kfs_plan.specs.declared.answers.Reply.{Reply}
-use Rattle.kfs_plan.specs.declared.answers.Reply.TheVariants.{Yes, No}
+use Rattle.kfs_plan.specs.declared.answers.Reply.TheVariants.{Yes, No, NoRoom}
 use Rattle.kfs_text.specs.Parts.{field_text, flag_text, line_of, numbered_text, octal_text}
 use Rattle.kfs_value.specs.Room.{spare_of}
 
@@ -108,6 +108,7 @@ head_text position word rejudged = decimal position ++ (word ++ flag_text rejudg
 abbrev pub reply_text : Reply → List ℕ
 reply_text (Yes position rejudged need) = head_text position (codes " yes rejudged=") rejudged ++ (codes " need=" ++ decimal need)
 reply_text (No position rejudged fault) = head_text position (codes " no rejudged=") rejudged ++ (codes " " ++ fault_text fault)
+reply_text (NoRoom position rejudged need free) = head_text position (codes " noroom rejudged=") rejudged ++ (codes " need=" ++ (decimal need ++ (codes " free=" ++ decimal free)))
 
 abbrev pub done_text : Done → List ℕ
 done_text (done.Leased node) = codes " leased " ++ decimal node

@@ -17,7 +17,8 @@ use std::alloc::{AllocError, Allocator};
 /// The most bytes of a line.
 pub const LONGEST_LINE: usize = 128;
 
-/// The line of a submission that landed: `P yes rejudged=R need=N` or `P no rejudged=R FAULT`.
+/// The line of a submission that landed: `P yes rejudged=R need=N`, `P no rejudged=R
+/// FAULT` or `P noroom rejudged=R need=N free=F`.
 pub fn reply_line<A: Allocator>(out: &mut Vec<u8, A>, reply: &Reply) -> Result<(), AllocError>
     ensures { AddsLine out.old out.new (reply_text reply.now) result }
 {
@@ -49,6 +50,18 @@ fn push_reply<A: Allocator>(out: &mut Vec<u8, A>, reply: &Reply)
             push_head(out, *position, b" no rejudged=", *rejudged);
             text(out, b" ");
             judgement_fault(out, *fault);
+        }
+        Reply::NoRoom {
+            position,
+            rejudged,
+            need,
+            free,
+        } => {
+            push_head(out, *position, b" noroom rejudged=", *rejudged);
+            text(out, b" need=");
+            number(out, *need);
+            text(out, b" free=");
+            number(out, u64::from(*free));
         }
     }
 }

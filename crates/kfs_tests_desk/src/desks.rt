@@ -17,9 +17,10 @@ pub fn client(number: u32, last: u32) -> Result<Client, ClientFault> {
     Client::new(number, 1000, 1000, &[], false, 2, last)
 }
 
-/// The desk of a fresh image and of the clients 7, which has the numbers from 2 on, and 8, which has none.
-fn begun<A: Allocator + Copy>(alloc: A, limit: u32) -> Option<Desk<A>> {
-    let image = Image::fresh(alloc, TierSizes::new(8, 8, 8)?).ok()?;
+/// The desk of a fresh image with so many blocks on tier 0, and of the clients 7, which has the numbers
+/// from 2 on, and 8, which has none.
+fn begun<A: Allocator + Copy>(alloc: A, blocks: u32, limit: u32) -> Option<Desk<A>> {
+    let image = Image::fresh(alloc, TierSizes::new(blocks, 8, 8)?).ok()?;
     let first = client(7, 65_536).ok()?;
     let second = client(8, 1).ok()?;
     Desk::begin(alloc, image, vec![in alloc; first, second].ok()?, limit).ok()
@@ -80,10 +81,15 @@ pub fn called<A: Allocator + Copy>(
     Some(next)
 }
 
-/// Such a desk whose docket takes `limit` rows, and of which client 7 holds a write lease on the root.
-/// The lease is row 0.
+/// Such a desk with 8 blocks, whose docket takes `limit` rows, and of which client 7 holds a write lease
+/// on the root. The lease is row 0.
 pub fn opening<A: Allocator + Copy>(alloc: A, limit: u32) -> Option<Desk<A>> {
-    let mut desk = begun(alloc, limit)?;
+    opening_over(alloc, 8, limit)
+}
+
+/// The same with so many blocks on tier 0.
+pub fn opening_over<A: Allocator + Copy>(alloc: A, blocks: u32, limit: u32) -> Option<Desk<A>> {
+    let mut desk = begun(alloc, blocks, limit)?;
     if is_called(&mut desk, 0, &(Call::Lease(7, b"/"), Ok(Done::Leased(1)))) {
         Some(desk)
     } else {
@@ -142,10 +148,15 @@ pub fn is_answered<A: Allocator + Copy>(
 }
 
 pub fn yes(position: u32) -> Reply {
+    landed(position, 0)
+}
+
+/// A yes to a log that writes so many blocks.
+pub fn landed(position: u32, need: u64) -> Reply {
     Reply::Yes {
         position,
         rejudged: false,
-        need: 0,
+        need,
     }
 }
 
@@ -163,6 +174,8 @@ pub fn is_accepted<A: Allocator + Copy>(
 pub enum Shown<'a> {
     /// The node is of uid and gid 1000, of this kind and this mode, and has one name and no byte.
     Node(u32, Kind, u16),
+    /// The file is of uid and gid 1000 and mode 0o644, and has one name and so many bytes.
+    File(u32, u64),
     /// No node has this number.
     NoNode(u32),
     /// The name of a directory leads to this number, or to none.
@@ -173,20 +186,24 @@ pub enum Shown<'a> {
     Parent(u32, Option<u32>),
 }
 
+/// The cell of a header, and the header of uid and gid 1000 and of one name.
+fn header_cell(number: u32, kind: Kind, mode: u16, size: u64) -> (Cell, Answer) {
+    let header = Header {
+        kind,
+        mode,
+        uid: 1000,
+        gid: 1000,
+        links: 1,
+        size,
+    };
+    (Cell::Header(number), Answer::Header(Some(header)))
+}
+
 /// The cell, and what it shows.
 fn cell_of(shown: Shown<'_>) -> Option<(Cell, Answer)> {
     Some(match shown {
-        Shown::Node(number, kind, mode) => {
-            let header = Header {
-                kind,
-                mode,
-                uid: 1000,
-                gid: 1000,
-                links: 1,
-                size: 0,
-            };
-            (Cell::Header(number), Answer::Header(Some(header)))
-        }
+        Shown::Node(number, kind, mode) => header_cell(number, kind, mode, 0),
+        Shown::File(number, size) => header_cell(number, Kind::File, 0o644, size),
         Shown::NoNode(number) => (Cell::Header(number), Answer::Header(None)),
         Shown::Name(dir, name, number) => (Cell::Name(dir, Name::new(name)?), Answer::Name(number)),
         Shown::Count(number, count) => (Cell::Count(number), Answer::Count(count)),

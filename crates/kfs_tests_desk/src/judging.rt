@@ -1,7 +1,7 @@
 //! A view from before a submission, and submissions one after another.
 
 use crate::desks::{
-    FILE, NO_FILE, create, is_answer, is_answered, opening, shows, submission, yes,
+    FILE, NO_FILE, create, is_answer, is_answered, landed, opening, shows, submission, yes,
 };
 use kfs_desk::Desk;
 use kfs_desk::answers::Reply;
@@ -133,27 +133,25 @@ fn submissions(
 }
 
 /// Logs of client 7 with their plans.
-const PAIRS: [(&[u8], &[u8]); 6] = [
-    (TRUNCATE_LOG, CREATE_PLAN),
-    (WRITE_LOG, WRITE_PLAN),
+const PAIRS: [(&[u8], &[u8]); 5] = [
     (WRITE_LOG, GAP_PLAN),
-    (CREATE_LOG, CREATE_PLAN),
+    (WRITE_LOG, WRITE_PLAN),
+    (TRUNCATE_LOG, CREATE_PLAN),
     (CREATE_LOG, CREATE_PLAN),
     (CREATE_LOG, CREATE_PLAN),
 ];
 
-/// Whether a desk of four rows answers them as is due.
+/// Whether a desk of five rows answers them as is due.
 fn are_pairs_answered(alloc: Global) -> Option<bool> {
     let submissions = submissions(alloc, &PAIRS).ok()?;
     let answers = [
-        Err(Why::OtherEntry),
-        Err(Why::OtherEntry),
         Ok(wrong_piece(1)),
-        Ok(yes(2)),
+        Ok(landed(2, 1)),
         Ok(taken(3)),
+        Ok(taken(4)),
         Err(Why::DocketFull),
     ];
-    let mut desk = opening(alloc, 4)?;
+    let mut desk = opening(alloc, 5)?;
     Some(are_answered(&mut desk, submissions, &answers))
 }
 

@@ -1,7 +1,8 @@
 //! Submissions with each growth refused in turn: the desk is as it was, and then answers yes.
 
 use crate::desks::{
-    AMPLE, Call, Called, FILE, NO_FILE, Shown, called, grown, is_accepted, shows, submission, yes,
+    AMPLE, Call, Called, FILE, NO_FILE, Shown, called, grown, is_answered, landed, shows,
+    submission,
 };
 use kfs_desk::Desk;
 use kfs_desk::answers::Done;
@@ -24,6 +25,8 @@ struct Change<'a> {
     leases: &'a [Called<'a>],
     log: &'a [u8],
     plan: &'a [u8],
+    /// How many blocks the log writes.
+    need: u64,
     /// What the image shows before the change, and calls that are then refused.
     before: (&'a [Shown<'a>], &'a [Called<'a>]),
     /// The same after it.
@@ -39,6 +42,7 @@ const CREATE: Change<'static> = Change {
     leases: &[],
     log: CREATE_LOG,
     plan: CREATE_PLAN,
+    need: 0,
     before: (&NO_FILE, &ROOT_HELD),
     after: (&FILE, &ROOT_HELD),
 };
@@ -55,8 +59,22 @@ const CHMOD: Change<'static> = Change {
     log: b"KLOG\x01\0\0\0\x07\0\x01\x07\0\0\0\x05\x01\x80",
     plan: b"KPLN\x01\0\0\0\x01\0\0\0\0\0\0\0\x05\x01\x01\x80\0\0\x03\xe8\0\0\x03\
       \xe8\0\x01\0\0\0\0\0\0\0\0",
+    need: 0,
     before: (&FILE, &FILE_HELD),
     after: (&[Shown::Node(5, Kind::File, 0o600)], &FILE_HELD),
+};
+
+/// Two bytes of the file are written.
+const WRITE: Change<'static> = Change {
+    nodes: (CREATE_LOG, CREATE_PLAN),
+    leases: &FILE_LEASED,
+    log: b"KLOG\x01\0\0\0\x07\0\x01\x02\0\0\0\x05\0\0\0\0\0\0\0\0\0\0\0\x02hi",
+    plan: b"KPLN\x01\0\0\0\x01\0\0\0\x01\0\0\0\x05\x01\x01\xa4\0\0\x03\xe8\0\0\x03\
+      \xe8\0\x01\0\0\0\0\0\0\0\x02\0\0\0\x05\0\0\0\0\0\0\0\0\0\0\0\0\0\0\0\x02\x01\0\0\
+      \0\0\0\0",
+    need: 1,
+    before: (&FILE, &FILE_HELD),
+    after: (&[Shown::File(5, 2)], &FILE_HELD),
 };
 
 /// The file's only name goes, and with it the file and the lease on it.
@@ -65,6 +83,7 @@ const UNLINK: Change<'static> = Change {
     leases: &FILE_LEASED,
     log: b"KLOG\x01\0\0\0\x07\0\x01\x05\0\0\0\x01\x01a\0",
     plan: b"KPLN\x01\0\x01\0\x01\0\0\0\0\0\0\0\x01\x01a\0\0\0\0\0\0\0\x05\0",
+    need: 0,
     before: (&FILE, &FILE_HELD),
     after: (
         &NO_FILE,
@@ -108,6 +127,7 @@ const RENAME: Change<'static> = Change {
     log: b"KLOG\x01\0\0\0\x07\0\x01\x06\0\0\0\x14\x01x\0\0\0\x15\x01y",
     plan: b"KPLN\x01\0\x02\0\x01\0\0\0\0\0\0\0\x14\x01x\0\0\0\0\0\0\0\x15\x01y\0\0\
       \0\x0a\0\0\0\x0c\0",
+    need: 0,
     before: (
         &[
             Shown::Name(20, b"x", Some(10)),
@@ -181,7 +201,7 @@ fn handed_in_again<A: Allocator + Copy>(
 ) -> Option<u32> {
     let Back { submission, why } = back;
     let next = stands(desk, position, change.before)?;
-    if why == Why::OutOfMemory && is_accepted(desk, submission, next) {
+    if why == Why::OutOfMemory && is_answered(desk, submission, &Ok(landed(next, change.need))) {
         Some(next)
     } else {
         None
@@ -197,7 +217,7 @@ fn handed_in<A: Allocator + Copy>(
 ) -> Option<(u32, bool)> {
     match desk.submit(submission) {
         Ok(reply) => {
-            if reply == yes(position) {
+            if reply == landed(position, change.need) {
                 Some((position, false))
             } else {
                 None
@@ -271,6 +291,11 @@ fn each_growth_of_a_create_refused(rt: HostRuntime) {
 #[test]
 fn each_growth_of_a_chmod_refused(rt: HostRuntime) {
     expect_growths(&rt, &CHMOD);
+}
+
+#[test]
+fn each_growth_of_a_write_refused(rt: HostRuntime) {
+    expect_growths(&rt, &WRITE);
 }
 
 #[test]

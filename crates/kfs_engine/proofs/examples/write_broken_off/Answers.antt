@@ -11,7 +11,7 @@ bad = codes "bad line\n"
 
 answered : IsText (codes "x" ∷ []) (codes "bad line\n")
 unfolding cut bad
-answered = (fresh, (bad, fresh, [], inl (tt, refl), (refl, refl), refl), (omega arith, tt))
+answered = (fresh, (bad, fresh, [], inl (refl, refl), (refl, refl), refl), (omega arith, tt))
 
 pub returns : goal.returns
 unfolding cut bad

@@ -9,7 +9,6 @@ returns-in_ok-reply_line-in-Ok-clause-ok g c =
       line_of (reply_text c.in-Ok.answer),
       c.in_ok-reply_line-in-Ok.ensures.ok,
       inr (record {
-        judged = c.requires.judged;
         answer = c.in-Ok.answer;
         next = c.submit.new.self;
         below = λ full. answered.full.1 full;

@@ -32,7 +32,7 @@ loop-submission-preserved g c =
     record {
       runs = λ answers last rest.
           let told = c.submit-answer.ensures in
-          let first = runs_first at.self c.in-Some.submission c.submit-answer.new.self (into_iter_items c.next.new.self) answer answers last told.answered told.back told.full told.other rest in
+          let first = runs_first at.self c.in-Some.submission c.submit-answer.new.self (into_iter_items c.next.new.self) answer answers last told.answered told.back told.full rest in
           subst (λ all. RunsThrough c.args.self.now (into_iter_items c.into_iter-submission-iterator.result) all last)
           (sym (append_assoc at.answers.items (answer ∷ []) answers) ∙ ap (λ front. front ++ answers) (sym c.push_within.ensures.items))
           (at.invariant.runs (answer ∷ answers) last (subst (λ submissions. RunsThrough at.self submissions (answer ∷ answers) last) (sym steps) first));
