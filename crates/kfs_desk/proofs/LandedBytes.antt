@@ -1,10 +1,10 @@
 -- A Yes lands with its bytes: with the fill of its log it makes the machine's step, and without room nothing changes.
-use Rattle.std.proofs.Common.{◌≡◌, ℕ, ◌+◌, ◌<◌, ◌≤◌, true, false, cond, List, [], length, Some, None, Result, Ok, refl, sym, ap, subst, ◌∙◌, arith, le-ltb, lt-ltb}
+use Rattle.std.proofs.Common.{◌≡◌, ℕ, ◌<◌, ◌≤◌, false, cond, List, [], length, Some, None, Result, Ok, refl, sym, ap, subst, ◌∙◌, le-ltb, lt-ltb}
 use Rattle.std.specs.List.{AllByRecursion}
 use Rattle.kfs_model.specs.Entry.{Entry}
 use Rattle.kfs_model.specs.Judgement.{Accepted, IsJudgement, NoRoom, Reading, State, Submission, Yes, client_sight_of, free_places, reply_to, verdict_on}
-use Rattle.kfs_model.specs.Machine.{CallOutcome, OneByOne, Replied, Submit, landed, next, outcome_of, replied}
-use Rattle.kfs_model.specs.Placement.{need, written_blocks}
+use Rattle.kfs_model.specs.Machine.{OneByOne, Replied, Submit, landed, next, outcome_of, replied}
+use Rattle.kfs_model.specs.Placement.{need}
 use Rattle.kfs_model.specs.Plan.{ArePieces}
 use Rattle.kfs_model.specs.PlanRow.{Piece}
 use Rattle.kfs_model.specs.Run.{EntryFault, Mark, byte_of, looked_up}

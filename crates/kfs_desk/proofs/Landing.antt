@@ -1,57 +1,34 @@
--- What a verdict comes to at the desk is the machine's step.
-use Rattle.std.proofs.Common.{◌≡◌, ◌≢◌, ℕ, ◌+◌, ◌≤◌, ◌==◌, ◌&&◌, ◌||◌, not, Bool, true, false, cond, T, List, [], ◌∷◌, map, length, replicate, Option, Some, None, option_map, is_some, Result, Ok, refl, sym, ap, subst, ◌∙◌, arith, eqb-true}
-use Rattle.std.specs.Prelude.{All, nat_lt, zip, is_none}
-use Rattle.std.specs.List.{list_all, list_any}
-use Rattle.std.proofs.lemmas.Bool.{and_parts, and_from, both_ways, false_from_ne_true, eq-eqb, le-ltb}
+-- What the rows of a Yes make of names, headers and leases.
+use Rattle.std.proofs.Common.{◌≡◌, ◌≢◌, ℕ, ◌==◌, ◌&&◌, ◌||◌, not, Bool, true, false, cond, T, List, [], ◌∷◌, map, Option, Some, None, option_map, is_some, refl, sym, ap, subst, ◌∙◌, eqb-true}
+use Rattle.std.specs.Prelude.{is_none}
+use Rattle.std.specs.List.{list_any}
+use Rattle.std.proofs.lemmas.Bool.{and_parts, and_from, both_ways, false_from_ne_true, eq-eqb}
 use Rattle.kfs_model.specs.Header.{Header}
-use Rattle.kfs_model.specs.Table.{get, empty, retain, numbers}
-use Rattle.kfs_model.proofs.TableLaws.{same_table, same_entries_table, get-mapped, get-retain}
-use Rattle.kfs_model.specs.Tree.{Tree, Node, Body, FileBody, DirectoryBody, headers, header_of, content_of}
-use Rattle.kfs_model.specs.Sight.{ClientSight}
-use Rattle.kfs_model.specs.Soundness.{IsSound}
-use Rattle.kfs_model.specs.Entry.{Entry}
-use Rattle.kfs_model.specs.Run.{Mark, EntryFault, byte_of, looked_up}
-use Rattle.kfs_model.specs.Plan.{header_now, is_base, AreDifferences}
-use Rattle.kfs_model.specs.Placement.{written_blocks, need}
+use Rattle.kfs_model.specs.Table.{get, retain, numbers}
+use Rattle.kfs_model.proofs.TableLaws.{same_table, get-retain}
+use Rattle.kfs_model.specs.Tree.{Tree, Node, headers, header_of}
+use Rattle.kfs_model.specs.Run.{Mark}
+use Rattle.kfs_model.specs.Plan.{header_now, AreDifferences}
 use Rattle.kfs_model.specs.Lease.{Lease, Leases, on_those, without_gone}
-use Rattle.kfs_model.specs.Judgement.{State, Submission, IsJudgement, Verdict, Yes, No, Accepted, NoRoom, Refused, client_sight_of, free_places, reply_to}
-use Rattle.kfs_model.specs.Machine.{OneByOne, Replied, Submit, are_chosen, leases_after, landed, outcome_of, placed, placement_after, replied, stays}
-use Rattle.kfs_model.proofs.OrderKept.{step_keeps_order}
+use Rattle.kfs_model.specs.Judgement.{State, Submission, Yes}
+use Rattle.kfs_model.specs.Machine.{leases_after}
 use Rattle.kfs_model.proofs.Tables.{found_from_any, any_from_found}
-use Rattle.kfs_model.proofs.RowFits.{row_fits}
-use Rattle.kfs_model.proofs.Cells.{on_node, recut}
 use Rattle.kfs_model.proofs.Heads.{get-headers}
-use Rattle.kfs_model.proofs.Marks.{marks_give_bytes}
-use Rattle.kfs_entry.specs.Answers.{log_of}
-use Rattle.kfs_value.specs.Views.{entry_of, header_of as shown_header}
+use Rattle.kfs_value.specs.Views.{header_of as shown_header}
 use Rattle.kfs_value.specs.declared.header.Header.{Header as CodeHeader}
 use Rattle.kfs_value.specs.declared.plan.NodeRow.{NodeRow}
 use Rattle.kfs_value.specs.declared.entry.Log.{Log as CodeLog}
 use Rattle.kfs_value.specs.declared.plan.Plan.{Plan as CodePlan}
 use Rattle.kfs_nodes.specs.declared.net.Net.{Net}
 use Rattle.kfs_nodes.specs.Change.{after_rows}
-use Rattle.kfs_device.specs.ShownTree.{DeviceImage, IsLawful, shown_tree}
+use Rattle.kfs_device.specs.ShownTree.{IsLawful}
 use Rattle.kfs_image.specs.Image.{contents_of}
-use Rattle.kfs_image.specs.Net.{after_net, cut}
-use Rattle.kfs_image.proofs.KeptTrees.{AreKept, image_kept, kept_is_shown, kept_is_lawful}
 use Rattle.kfs_nodes.specs.Contents.{contents_in}
 use Rattle.kfs_image.proofs.NetTables.{net_makes}
-use Rattle.kfs_plan.specs.KeptBytes.{KeepsBytes, keeps_bytes}
 use Rattle.kfs_step.specs.Rows.{keyed_node_row}
-use Rattle.kfs_plan.specs.Judging.{HasOtherEntry, IsVerdict, Tells, TellsYes}
-use Rattle.kfs_plan.specs.declared.submission.Outcome.{Outcome}
-use Rattle.kfs_plan.specs.declared.submission.Outcome.TheVariants as outcomes
-use Rattle.kfs_plan.proofs.KeptBytes.{all_kept, not_all_kept}
-use Rattle.kfs_plan.specs.declared.submission.Fault.{Fault}
-use Rattle.kfs_plan.specs.declared.answers.Reply.{Reply}
-use Rattle.kfs_plan.specs.declared.answers.Reply.TheVariants as replies
-use Rattle.kfs_desk.specs.Docket.{is_rejudged, position_of}
-use Rattle.kfs_desk.proofs.KeptCells.{bytes-kept}
-use Rattle.kfs_desk.proofs.StaysCut.{stays-is-cut}
-use Rattle.kfs_desk.proofs.Untouched.{IsUntouched, all-untouched}
-use Rattle.kfs_desk.proofs.UntouchedBlocks.{need-untouched, none-cleared}
-use Rattle.kfs_desk.specs.Landing.{CanLand, KeepsAll, answer_at, ended_by, ended_with, image_after, leases_left}
-use Rattle.kfs_desk.specs.Machine.{Parts, IsDesk, IsAnswered, IsStep, IsDone, Means, shown, state_of}
+use Rattle.kfs_plan.specs.Judging.{TellsYes}
+use Rattle.kfs_desk.specs.Landing.{ended_by, ended_with}
+use Rattle.kfs_desk.specs.Machine.{Parts, IsDesk, state_of}
 
 -- ---- leases on nodes that go
 
@@ -121,21 +98,11 @@ module _ (desk : Parts) (is_desk : IsDesk desk) (lawful : IsLawful desk.image) (
   abbrev s : State
   s = state_of desk
 
-  -- what the rows of a Yes make of names, headers and leases
   module _ {A : Type 0} (log : CodeLog A) (plan : CodePlan A) (net : Net A) (told : ℕ) (after : Tree ℕ) (marked_after : Tree Mark) (yes : TellsYes s submission log plan net told after marked_after) where
-    abbrev entries : List Entry
-    entries = map (entry_of submission.log) log.entries
-
-    abbrev sight_before : ClientSight
-    sight_before = client_sight_of s yes.client.number
-
     pub contents_are : after_rows (contents_of desk.image) net.names.items net.nodes.items ≡ contents_in after
     contents_are =
         net_makes (contents_of desk.image) after net.names.items net.nodes.items yes.comes.sound yes.comes.differs.names
         (subst (λ heads. AreDifferences numbers header_now (get heads) (get (headers after)) (map keyed_node_row net.nodes.items)) lawful.tree.counted yes.comes.differs.nodes)
-
-    image_is : after_net net desk.image ≡ image_kept desk.image after
-    image_is = λ i. record desk.image { heads = (contents_are i).heads; names = (contents_are i).names; placement = cut (contents_are i).heads desk.image.placement }
 
     abbrev entries_of : List (ℕ × Option Header)
     entries_of = map keyed_node_row net.nodes.items

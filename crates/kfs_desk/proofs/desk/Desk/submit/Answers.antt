@@ -1,5 +1,5 @@
 -- What is judged lands as the machine's step.
-use Rattle.std.proofs.Common.{◌≡◌, ap, ◌+◌, ◌≤◌, sym, subst, arith}
+use Rattle.std.proofs.Common.{ap, ◌+◌, ◌≤◌, sym, subst, arith}
 use Rattle.kfs_plan.specs.Judging.{submission_of}
 use Rattle.kfs_desk.specs.Landing.{Answers, CanLand}
 use Rattle.kfs_desk.specs.Machine.{Desk, Parts, IsAnswered, shown}

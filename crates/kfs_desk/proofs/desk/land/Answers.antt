@@ -1,0 +1,42 @@
+-- What lands is the log of the verdict, where there is room for its blocks.
+use Rattle.std.proofs.Common.{◌≡◌, ◌≤◌, List, ℕ, map, refl, sym, subst, ◌∙◌, Result, Ok, Err, false}
+use Rattle.std.specs.Prelude.{OnOk, is_err}
+use Rattle.kfs_value.specs.Views.{entry_of, piece_of}
+use Rattle.kfs_value.specs.declared.entry.Log.{Log}
+use Rattle.kfs_value.specs.declared.plan.Plan.{Plan}
+use Rattle.kfs_fill.specs.declared.bytes.LogBytes.{LogBytes}
+use Rattle.kfs_fill.specs.FillOf.{HasLandedWith}
+use Rattle.kfs_plan.specs.declared.answers.Reply.TheVariants as replies
+use Rattle.kfs_desk.specs.Landing.{Answers, AreOf, CanLand, CanLandYes, free_in}
+use Rattle.kfs_desk.proofs.desk.land.Goals as goal
+
+are_of : {A : Type 0} (source : List ℕ) (log : Log A) (plan : Plan A) (bytes : LogBytes) → bytes.source.now ≡ source → bytes.entries.now ≡ log.entries → bytes.pieces.now ≡ plan.pieces → AreOf source log plan bytes
+are_of source log plan bytes from entries pieces = record {
+  entries = λ i. map (entry_of (from i)) (entries i);
+  pieces = λ i. map piece_of (pieces i);
+}
+
+where_ok : {T E P : Type 0} (r : Result T E) → OnOk r P → is_err r ≡ false → P
+where_ok (Ok x) holds good = holds
+where_ok (Err e) holds good = cc
+
+pub change_state-requires-clause-fits : goal.change_state-requires-clause-fits
+change_state-requires-clause-fits g c =
+    let yes = c.in-Yes in
+    let source = c.args.judged.submission.log.items in
+    let image = c.args.image.now in
+    let can : CanLandYes image source yes.log yes.plan yes.net yes.need = subst (CanLand image source) yes.is c.requires in
+    let room : yes.need ≤ free_in image = subst (λ n. yes.need ≤ n) (c.from.ensures ∙ c.free-free.ensures) c.if-from-need.false in
+    let bytes : LogBytes = record { source = c.deref.result; entries = c.deref-2.result; pieces = c.deref-3.result } in
+    can.fits room bytes (are_of source yes.log yes.plan bytes c.deref.ensures.value c.deref-2.ensures c.deref-3.ensures)
+
+pub returns-clause-answer : goal.returns-clause-answer
+returns-clause-answer g c =
+    let yes = c.in-Yes in
+    let source = c.args.judged.submission.log.items in
+    let image = c.args.image.now in
+    let room : yes.need ≤ free_in image = subst (λ n. yes.need ≤ n) (c.from.ensures ∙ c.free-free.ensures) c.if-from-need.false in
+    let bytes : LogBytes = record { source = c.deref.result; entries = c.deref-2.result; pieces = c.deref-3.result } in
+    let landed : HasLandedWith image bytes yes.net c.change_state.new.image = where_ok c.change_state.result c.change_state.ensures.image (sym c.is_err.ensures.value ∙ c.if-is_err.false) in
+    subst (λ outcome. Answers image source c.args.position outcome (replies.Yes c.args.position false yes.need) c.change_state.new.image) (sym yes.is)
+    (refl, room, record { bytes = bytes; are = are_of source yes.log yes.plan bytes c.deref.ensures.value c.deref-2.ensures c.deref-3.ensures; landed = landed })
