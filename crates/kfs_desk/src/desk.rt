@@ -347,11 +347,7 @@ fn land<A: Allocator + Copy>(
     ensures back { IfErr result (λ back. (back.submission ≡ judged.submission) × (back.why ≡ Why.OutOfMemory)) }
     ensures err { OnErr result ((image.new ≡ image.old) × (leases.new.value ≡ leases.old.value)) }
 {
-    let Judged {
-        submission,
-        outcome,
-        ..
-    } = judged;
+    let (submission, outcome) = judged.into_parts();
     let rejudged = false;
     let (log, plan, net, need) = match outcome {
         Outcome::Yes {
