@@ -96,7 +96,8 @@ impl<A: Allocator> Judged<A> {
     /// Whether the view has the client's row and answers each read as the verdict has them. Takes no
     /// memory.
     pub fn holds_in(&self, view: &View<A>) -> bool
-        ensures { IsTrue result ↔ HoldsIn view.now self.now }
+        ensures holds { IsTrue result ↔ HoldsIn view.now self.now }
+        ensures known { IsKnown self.now }
     {
         let number = self.submission.client;
         has_row(view, number, self.client.as_ref()) && agrees(view, number, &self.reads)

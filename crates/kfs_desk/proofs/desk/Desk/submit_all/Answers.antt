@@ -14,7 +14,7 @@ nothing_left [] none = refl
 nothing_left (x ∷ xs) none = absurd (omega arith)
 
 same_limit : {A : Type 0} (submission : Submission A) (old new : Desk) (answer : Result Reply (Back A))
-    → IfOk answer (λ reply. IsAnswered old (submission_of submission) reply new) → IfErr answer (λ back. (back.submission ≡ submission) × (new ≡ old)) → new.limit ≡ old.limit
+    → IfOk answer (λ reply. IsAnswered old (submission_of submission) false reply new) → IfErr answer (λ back. (back.submission ≡ submission) × (new ≡ old)) → new.limit ≡ old.limit
 same_limit submission old new (Ok reply) answered same = answered.limit
 same_limit submission old new (Err back) answered same = ap (λ (d : Desk). d.limit) same.1
 
