@@ -1,5 +1,5 @@
 -- One submission more at the front of those that were handed in.
-use Rattle.std.proofs.Common.{◌≡◌, ◌↔◌, List, ◌∷◌, Result, Ok, Err, refl, subst}
+use Rattle.std.proofs.Common.{◌≡◌, false, ◌↔◌, List, ◌∷◌, Result, Ok, Err, refl, subst}
 use Rattle.std.specs.Prelude.{IfOk, IfErr}
 use Rattle.kfs_plan.specs.Judging.{submission_of}
 use Rattle.kfs_plan.specs.declared.submission.Back.{Back}

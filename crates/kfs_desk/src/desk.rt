@@ -1,5 +1,5 @@
 //! The desk: it owns the image and the leases, and lands what was judged.
-ghost use Rattle.std.specs.Prelude.{◌≡◌, ◌↔◌, ◌+◌, ◌≤◌, ◌<◌, ◌==◌, ◌++◌, ◌∷◌, [], IfOk, IfErr, OnErr, OnOk, IfNone, IsErrOf, IsFalse, IsTrue, Ok, Err, None, unwrap_or};
+ghost use Rattle.std.specs.Prelude.{◌≡◌, ◌↔◌, false, ◌+◌, ◌≤◌, ◌<◌, ◌==◌, ◌++◌, ◌∷◌, [], IfOk, IfErr, OnErr, OnOk, IfNone, IsErrOf, IsFalse, IsTrue, Ok, Err, None, unwrap_or};
 ghost use Rattle.std.specs.List.{list_any, AllByRecursion};
 ghost use Rattle.kfs_model.specs.CleanStep.{IsClient};
 ghost use Rattle.kfs_model.specs.Order.{IsInOrder};
