@@ -30,6 +30,7 @@ const LONG_PLAN: &[u8] = b"KPLN\x01\0\0\0\x01\0\0\0\x01\0\0\0\x05\x01\x01\xa4\0\
 const UNREAD: u8 = 7;
 
 /// What an image shows of file 5 and of tier 0.
+#[derive(Clone, Copy)]
 struct Shown<'a> {
     /// A read into a buffer of 20 bytes of `UNREAD`: the start, the answer, and the buffer afterwards.
     read: (u64, Result<usize, ReadFault>, &'a [u8]),
