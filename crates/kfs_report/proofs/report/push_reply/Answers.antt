@@ -11,7 +11,12 @@ pub returns-in-NoRoom : goal.returns-in-NoRoom
 returns-in-NoRoom g c = record {
   spare = omega (arith, c.push_head-in-NoRoom.ensures.spare, c.text-in-NoRoom.ensures.spare, c.number-in-NoRoom.ensures.spare, c.text-in-NoRoom-2.ensures.spare, c.number-in-NoRoom-2.ensures.spare);
   items = rw (
-    c.in-NoRoom.is, c.number-in-NoRoom-2.ensures.items, c.text-in-NoRoom-2.ensures.items, c.number-in-NoRoom.ensures.items, c.text-in-NoRoom.ensures.items, c.push_head-in-NoRoom.ensures.items,
+    c.in-NoRoom.is,
+    c.number-in-NoRoom-2.ensures.items,
+    c.text-in-NoRoom-2.ensures.items,
+    c.number-in-NoRoom.ensures.items,
+    c.text-in-NoRoom.ensures.items,
+    c.push_head-in-NoRoom.ensures.items,
     c.from.ensures,
-    ) (simp append_assoc);
+  ) (simp append_assoc);
 }
