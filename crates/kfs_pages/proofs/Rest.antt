@@ -1,14 +1,14 @@
 -- A change of some pages, or of the groups behind some, as one of all.
-use Rattle.std.proofs.Common.{◌≡◌, ◌≤◌, ℕ, ◌+◌, ◌*◌, All, List, [], ◌∷◌, ◌++◌, length, Option, sym, ap, subst, ◌∙◌, arith}
+use Rattle.std.proofs.Common.{◌≡◌, ◌≤◌, ℕ, ◌+◌, ◌*◌, All, List, ◌++◌, length, Option, sym, ap, subst, ◌∙◌, arith}
 use Rattle.std.proofs.lemmas.List.{append_assoc}
 use Rattle.std.specs.declared.sync.Arc.{Arc}
 use Rattle.kfs_pages.specs.declared.edit.Edit.{Edit}
 use Rattle.kfs_pages.specs.declared.group.Group.{Group}
 use Rattle.kfs_pages.specs.Values.{Sheet}
-use Rattle.kfs_pages.specs.Edits.{page_of, edited}
-use Rattle.kfs_pages.specs.Groups.{held, all_held, flat, AreWhole}
-use Rattle.kfs_pages.specs.Shown.{slot_shows, Edited, IsPlaced}
-use Rattle.kfs_pages.proofs.Tables.{edited_behind, edited_page, placed_front, placed_again}
+use Rattle.kfs_pages.specs.Edits.{page_of}
+use Rattle.kfs_pages.specs.Groups.{all_held, flat, AreWhole}
+use Rattle.kfs_pages.specs.Shown.{Edited, IsPlaced}
+use Rattle.kfs_pages.proofs.Tables.{edited_behind, placed_front, placed_again}
 use Rattle.kfs_pages.proofs.Groups.{held_append, length-held, flat_both, length-flat}
 
 module _ {V A : Type 0} where

@@ -35,6 +35,10 @@ module _ {V A : Type 0} where
   flat [] = []
   flat (group ∷ groups) = pages_of group ++ flat groups
 
+  -- the same of shared groups
+  abbrev pub laid_out : List (Option (Arc (Group V A) A)) → List (Option (Sheet V))
+  laid_out groups = flat (all_held groups)
+
   -- each group has 32 places
   abbrev pub AreWhole : List (Option (Group V A)) → Type 0
   AreWhole [] = Unit {0}

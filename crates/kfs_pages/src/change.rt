@@ -1,7 +1,7 @@
 //! A change of pages: every copy and growth on the way in, every value on the way out.
-ghost use Rattle.std.specs.Prelude.{◌≡◌, ℕ, ◌+◌, ◌*◌, ◌≤◌, ◌<◌, ◌++◌, [], All, IsSome, OnOk, OnErr, length};
+ghost use Rattle.std.specs.Prelude.{◌≡◌, ℕ, ◌+◌, ◌*◌, ◌≤◌, ◌<◌, ◌++◌, [], ◌∷◌, All, IsSome, OnOk, OnErr, length};
 ghost use Rattle.kfs_pages.specs.Edits.{edited, Ascends, IsWithin, IsOfPage};
-ghost use Rattle.kfs_pages.specs.Groups.{held, all_held, pages_of, flat, AreWhole};
+ghost use Rattle.kfs_pages.specs.Groups.{held, all_held, pages_of, laid_out, AreWhole};
 ghost use Rattle.kfs_pages.specs.Shown.{slot_shows, Stands, IsPlaced, Edited};
 
 use crate::edit::{Edit, page_of, run_of};
@@ -79,12 +79,12 @@ pub(crate) fn change_groups<V: Copy, A: Allocator + Clone, T: Change>(
     requires within { IsWithin (32 * first) (32 * (first + length groups.old)) edits.now }
     requires end { first + length groups.old ≤ 32 }
     requires whole { AreWhole (all_held groups.old) }
-    requires placed { IsPlaced (32 * first) (flat (all_held groups.old)) }
+    requires placed { IsPlaced (32 * first) (laid_out groups.old) }
     requires then { T.can_make then.old }
     ensures whole { AreWhole (all_held groups.new) }
-    ensures placed { IsPlaced (32 * first) (flat (all_held groups.new)) }
-    ensures ok { OnOk result (Edited (32 * first) edits.now (flat (all_held groups.old)) (flat (all_held groups.new))) }
-    ensures err { OnErr result (Edited (32 * first) [] (flat (all_held groups.old)) (flat (all_held groups.new))) }
+    ensures placed { IsPlaced (32 * first) (laid_out groups.new) }
+    ensures ok { OnOk result (Edited (32 * first) edits.now (laid_out groups.old) (laid_out groups.new)) }
+    ensures err { OnErr result (Edited (32 * first) [] (laid_out groups.old) (laid_out groups.new)) }
     ensures made { OnOk result (T.made then.old then.new) }
     ensures kept { OnErr result (T.kept then.old then.new) }
 {
@@ -114,14 +114,13 @@ fn change_group<V: Copy, A: Allocator + Clone, T: Change>(
     requires end { index + 1 + length rest.old ≤ 32 }
     requires group { length (pages_of (held slot.old)) ≡ 32 }
     requires whole { AreWhole (all_held rest.old) }
-    requires placed { IsPlaced (32 * index) (pages_of (held slot.old) ++ flat (all_held rest.old)) }
+    requires placed { IsPlaced (32 * index) (laid_out (slot.old ∷ rest.old)) }
     requires then { T.can_make then.old }
     ensures group { length (pages_of (held slot.new)) ≡ 32 }
     ensures whole { AreWhole (all_held rest.new) }
-    ensures placed { IsPlaced (32 * index) (pages_of (held slot.new) ++ flat (all_held rest.new)) }
-    ensures ok { OnOk result
-        (Edited (32 * index) edits.now (pages_of (held slot.old) ++ flat (all_held rest.old)) (pages_of (held slot.new) ++ flat (all_held rest.new))) }
-    ensures err { OnErr result (Edited (32 * index) [] (pages_of (held slot.old) ++ flat (all_held rest.old)) (pages_of (held slot.new) ++ flat (all_held rest.new))) }
+    ensures placed { IsPlaced (32 * index) (laid_out (slot.new ∷ rest.new)) }
+    ensures ok { OnOk result (Edited (32 * index) edits.now (laid_out (slot.old ∷ rest.old)) (laid_out (slot.new ∷ rest.new))) }
+    ensures err { OnErr result (Edited (32 * index) [] (laid_out (slot.old ∷ rest.old)) (laid_out (slot.new ∷ rest.new))) }
     ensures made { OnOk result (T.made then.old then.new) }
     ensures kept { OnErr result (T.kept then.old then.new) }
 {
@@ -131,15 +130,8 @@ fn change_group<V: Copy, A: Allocator + Clone, T: Change>(
     };
     let group = Arc::make_mut(group)?;
     let pages = group.pages.as_mut_slice();
-    change_pages(
-        alloc,
-        pages,
-        GROUP_LEN * index,
-        rest,
-        index + 1,
-        edits,
-        then,
-    )
+    let first = GROUP_LEN * index;
+    change_pages(alloc, pages, first, rest, index + 1, edits, then)
 }
 
 /// Makes the edits of the pages from the first on and of the groups behind them, and the other change.
@@ -158,12 +150,12 @@ fn change_pages<V: Copy, A: Allocator + Clone, T: Change>(
     requires edge { first + length pages.old ≡ 32 * next }
     requires end { next + length groups.old ≤ 32 }
     requires whole { AreWhole (all_held groups.old) }
-    requires placed { IsPlaced first (all_held pages.old ++ flat (all_held groups.old)) }
+    requires placed { IsPlaced first (all_held pages.old ++ laid_out groups.old) }
     requires then { T.can_make then.old }
     ensures whole { AreWhole (all_held groups.new) }
-    ensures placed { IsPlaced first (all_held pages.new ++ flat (all_held groups.new)) }
-    ensures ok { OnOk result (Edited first edits.now (all_held pages.old ++ flat (all_held groups.old)) (all_held pages.new ++ flat (all_held groups.new))) }
-    ensures err { OnErr result (Edited first [] (all_held pages.old ++ flat (all_held groups.old)) (all_held pages.new ++ flat (all_held groups.new))) }
+    ensures placed { IsPlaced first (all_held pages.new ++ laid_out groups.new) }
+    ensures ok { OnOk result (Edited first edits.now (all_held pages.old ++ laid_out groups.old) (all_held pages.new ++ laid_out groups.new)) }
+    ensures err { OnErr result (Edited first [] (all_held pages.old ++ laid_out groups.old) (all_held pages.new ++ laid_out groups.new)) }
     ensures made { OnOk result (T.made then.old then.new) }
     ensures kept { OnErr result (T.kept then.old then.new) }
 {
@@ -202,15 +194,15 @@ fn change_from<V: Copy, A: Allocator + Clone, T: Change>(
     requires end { next + length groups.old ≤ 32 }
     requires stands { Stands index (held slot.old) }
     requires whole { AreWhole (all_held groups.old) }
-    requires placed { IsPlaced (index + 1) (all_held rest.old ++ flat (all_held groups.old)) }
+    requires placed { IsPlaced (index + 1) (all_held rest.old ++ laid_out groups.old) }
     requires then { T.can_make then.old }
     ensures stands { Stands index (held slot.new) }
     ensures whole { AreWhole (all_held groups.new) }
-    ensures placed { IsPlaced (index + 1) (all_held rest.new ++ flat (all_held groups.new)) }
+    ensures placed { IsPlaced (index + 1) (all_held rest.new ++ laid_out groups.new) }
     ensures page { OnOk result ((n : ℕ) → slot_shows (held slot.new) n ≡ edited mine.now n (slot_shows (held slot.old) n)) }
-    ensures rest { OnOk result (Edited (index + 1) later.now (all_held rest.old ++ flat (all_held groups.old)) (all_held rest.new ++ flat (all_held groups.new))) }
+    ensures rest { OnOk result (Edited (index + 1) later.now (all_held rest.old ++ laid_out groups.old) (all_held rest.new ++ laid_out groups.new)) }
     ensures page_err { OnErr result ((n : ℕ) → slot_shows (held slot.new) n ≡ slot_shows (held slot.old) n) }
-    ensures rest_err { OnErr result (Edited (index + 1) [] (all_held rest.old ++ flat (all_held groups.old)) (all_held rest.new ++ flat (all_held groups.new))) }
+    ensures rest_err { OnErr result (Edited (index + 1) [] (all_held rest.old ++ laid_out groups.old) (all_held rest.new ++ laid_out groups.new)) }
     ensures made { OnOk result (T.made then.old then.new) }
     ensures kept { OnErr result (T.kept then.old then.new) }
 {

@@ -28,14 +28,14 @@ pub struct Pages<V: Copy, A: Allocator> {
 impl<V: Copy, A: Allocator> Model for Pages<V, A> {
     ghost use Rattle.std.specs.Prelude.{◌≡◌, length};
     ghost use Rattle.kfs_model.specs.Table.{Table, numbers};
-    ghost use Rattle.kfs_pages.specs.Groups.{all_held, flat, AreWhole};
+    ghost use Rattle.kfs_pages.specs.Groups.{all_held, laid_out, AreWhole};
     ghost use Rattle.kfs_pages.specs.Shown.{table_from, IsPlaced};
 
     ghost Value = { Table numbers V };
 
-    ghost view = { λ s. table_from 0 (flat (all_held s.groups.items)) };
+    ghost view = { λ s. table_from 0 (laid_out s.groups.items) };
 
-    ghost invariant = { λ s. (length s.groups.items ≡ 32) × AreWhole (all_held s.groups.items) × IsPlaced 0 (flat (all_held s.groups.items)) };
+    ghost invariant = { λ s. (length s.groups.items ≡ 32) × AreWhole (all_held s.groups.items) × IsPlaced 0 (laid_out s.groups.items) };
 }
 
 impl<V: Copy, A: Allocator + Clone> Clone for Pages<V, A> {

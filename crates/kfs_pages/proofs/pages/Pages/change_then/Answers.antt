@@ -1,4 +1,4 @@
-use Rattle.std.proofs.Common.{◌≡◌, ◌∙◌, ℕ, List, [], Option, ap, arith, length, slice_index_or, Ok, Err}
+use Rattle.std.proofs.Common.{◌≡◌, ◌∙◌, List, [], Option, ap, arith, length, slice_index_or, Ok, Err}
 use Rattle.std.proofs.lemmas.List.{with_items_is}
 use Rattle.std.specs.Vec.{with_items}
 use Rattle.std.specs.declared.sync.Arc.{Arc}
