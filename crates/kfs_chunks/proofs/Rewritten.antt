@@ -156,6 +156,11 @@ module _ {K V : Type 0} (R : Order K) where
   is_sorted-all xs [] sorted = sorted
   is_sorted-all xs (e ∷ es) sorted = is_sorted-all (entered R.compare xs e.key e.value) es (is_sorted-entered R xs e.key e.value sorted)
 
+  -- and so they do where the edits are made or not
+  pub is_sorted-if : (made : Bool) (xs : List (K × V)) (es : List (Edit K V)) → T (is_sorted R.compare xs) → T (is_sorted R.compare (cond made (entered_all R.compare xs es) xs))
+  is_sorted-if true xs es sorted = is_sorted-all xs es sorted
+  is_sorted-if false xs es sorted = sorted
+
   -- so many edits leave at most so many entries more, and at most so many less
   pub length-all : (xs : List (K × V)) (es : List (Edit K V)) → T (is_sorted R.compare xs)
       → (length (entered_all R.compare xs es) ≤ length xs + length es) × (length xs ≤ length (entered_all R.compare xs es) + length es)

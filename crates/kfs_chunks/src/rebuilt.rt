@@ -1,5 +1,5 @@
 //! Chunks with their edits made, in a list of its own.
-ghost use Rattle.std.specs.Prelude.{◌≡◌, ◌≤◌, ◌++◌, T, IfOk, OnOk};
+ghost use Rattle.std.specs.Prelude.{◌≡◌, ◌≤◌, [], ◌++◌, T, IfOk, OnOk};
 ghost use Rattle.std.specs.FinMap.Entries.{is_sorted};
 ghost use Rattle.kfs_chunks.specs.Edits.{entered_all, Ascend};
 ghost use Rattle.kfs_chunks.specs.Joined.{joined, IsSized, AreSized};
@@ -34,6 +34,20 @@ pub(crate) fn rebuilt<K: Key, V: Copy, A: Allocator + Clone>(
     }
     let last = Entries::new(chunks.allocator().clone()?).merged(later)?;
     cut(&mut new, &last)?;
+    Ok(new)
+}
+
+/// What the edits make where nothing stood, as chunks.
+pub(crate) fn fresh<K: Key, V: Copy, A: Allocator + Clone>(
+    alloc: &A,
+    edits: &[Edit<K, V>],
+) -> Result<Vec<Arc<Entries<K, V, A>, A>, A>, AllocError>
+    requires { Ascend K.cmp edits.now }
+    ensures joined { IfOk result (λ new. joined new.items ≡ entered_all K.cmp [] edits.now) }
+    ensures sized { IfOk result (λ new. AreSized new.items) }
+{
+    let mut new = Vec::new(alloc.clone()?);
+    cut(&mut new, &Entries::new(alloc.clone()?).merged(edits)?)?;
     Ok(new)
 }
 
