@@ -17,7 +17,7 @@ use Rattle.kfs_chunks.specs.declared.edit.Edit.{Edit}
 use Rattle.kfs_chunks.specs.Edits.{Ascend}
 use Rattle.kfs_chunks.specs.Held.{Held}
 use Rattle.kfs_chunks.specs.Joined.{joined, place, Each, IsFilled, AreSized, AreFilled}
-use Rattle.kfs_chunks.specs.Starts.{is_from, entry_from, reaches, before}
+use Rattle.kfs_chunks.specs.Starts.{is_from, entry_from, reaches}
 use Rattle.kfs_chunks.proofs.Order.{true_or_false, un_not, flipped, not_below, not_earlier}
 use Rattle.kfs_chunks.proofs.Sorted.{earlier, as_less, less_from, below_lower, first_below, not_some}
 use Rattle.kfs_chunks.proofs.FirstEntries.{entry-append, find_same}

@@ -86,7 +86,8 @@ impl<K: Key, V: Copy, A: Allocator> Chunks<K, V, A> {
 impl<K: Key, V: Copy, A: Allocator + Clone> Chunks<K, V, A> {
     /// Makes the edits and the other change, or neither. Every copy and growth of chunks comes first,
     /// then the other change, and then the edits. A chunk that has no room for its edits, or that they
-    /// may empty, is cut anew, with its part, in a new list of parts. A copy that was made before shows what it showed.
+    /// may empty, is cut anew, with its part, in a new list of parts. A copy that was made before shows
+    /// what it showed.
     pub fn change_then<T: Change>(
         &mut self,
         edits: &[Edit<K, V>],

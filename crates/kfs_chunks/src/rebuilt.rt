@@ -79,7 +79,7 @@ fn cut<K: Key, V: Copy, A: Allocator + Clone>(
     ensures joined { OnOk result (joined new.new.items ≡ joined new.old.items ++ entries.now.pairs) }
     ensures sized { OnOk result (AreSized new.new.items) }
 {
-    let size = size_for(entries.len());
+    let size = size_for(entries.len(), GREATEST_SIZE);
     let mut from = 0;
     while from < entries.len() {
         let count = size.min(entries.len() - from);
@@ -90,17 +90,19 @@ fn cut<K: Key, V: Copy, A: Allocator + Clone>(
     Ok(())
 }
 
-/// How large the chunks are that so many entries are cut into: one where they fit, two halves where
-/// those fit, and else chunks half as large as they may be, so that each has room for more.
-fn size_for(len: usize) -> usize
+/// How many stand in a block, of which one takes so many at most: all where they fit, one half where
+/// two halves fit, and else half of what fits, so that each block has room for more.
+pub(crate) fn size_for(len: usize, most: usize) -> usize
+    requires fits_two { 2 ≤ most }
+    requires most { most ≤ 256 }
     ensures least { 1 ≤ result }
-    ensures most { result ≤ 256 }
+    ensures most { result ≤ most }
 {
-    if len <= GREATEST_SIZE {
-        GREATEST_SIZE
-    } else if len <= 2 * GREATEST_SIZE {
+    if len <= most {
+        most
+    } else if len <= 2 * most {
         len - len / 2
     } else {
-        GREATEST_SIZE / 2
+        most / 2
     }
 }

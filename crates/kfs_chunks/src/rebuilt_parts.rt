@@ -1,5 +1,5 @@
 //! Parts with their edits made, in a list of its own.
-ghost use Rattle.std.specs.Prelude.{◌≡◌, ◌≤◌, ◌++◌, T, IfOk, OnOk};
+ghost use Rattle.std.specs.Prelude.{◌≡◌, ◌++◌, T, IfOk, OnOk};
 ghost use Rattle.std.specs.FinMap.Entries.{is_sorted};
 ghost use Rattle.kfs_chunks.specs.Edits.{entered_all, Ascend};
 ghost use Rattle.kfs_chunks.specs.Joined.{joined, IsFilled, AreFilled, AreSized};
@@ -9,7 +9,7 @@ use crate::entries::Entries;
 use crate::key::Key;
 use crate::part::{MOST_CHUNKS, Part};
 use crate::place::run_of_part;
-use crate::rebuilt::fresh;
+use crate::rebuilt::{fresh, size_for};
 use std::alloc::{AllocError, Allocator};
 use std::sync::Arc;
 
@@ -69,7 +69,7 @@ fn cut_parts<K: Key, V: Copy, A: Allocator + Clone>(
     ensures joined { OnOk result (joined new.new.items ≡ joined new.old.items ++ joined chunks.now) }
     ensures filled { OnOk result (AreFilled new.new.items) }
 {
-    let size = size_for(chunks.len());
+    let size = size_for(chunks.len(), MOST_CHUNKS);
     let mut left = chunks;
     while !left.is_empty() {
         let (mine, rest) = left.split_at(size.min(left.len()));
@@ -78,19 +78,4 @@ fn cut_parts<K: Key, V: Copy, A: Allocator + Clone>(
         left = rest;
     }
     Ok(())
-}
-
-/// How many chunks the parts have that so many are cut into: all where they fit, two halves where
-/// those fit, and else half as many as a part may have, so that each has room for more.
-fn size_for(len: usize) -> usize
-    ensures least { 1 ≤ result }
-    ensures most { result ≤ 64 }
-{
-    if len <= MOST_CHUNKS {
-        MOST_CHUNKS
-    } else if len <= 2 * MOST_CHUNKS {
-        len - len / 2
-    } else {
-        MOST_CHUNKS / 2
-    }
 }

@@ -1,4 +1,4 @@
-use Rattle.std.proofs.Common.{rules, ◌≡◌, ◌∙◌, ◌++◌, ◌∷◌, ◌+◌, ◌≤◌, ◌<◌, T, All, None, List, length, arith, ap, sym, subst, take, drop}
+use Rattle.std.proofs.Common.{rules, ◌≡◌, ◌∙◌, ◌++◌, ◌∷◌, ◌+◌, ◌≤◌, ◌<◌, T, All, None, length, arith, ap, sym, subst, take, drop}
 use Rattle.std.proofs.lemmas.List.{take-append-drop, length-append, with_items_is}
 use Rattle.std.specs.Vec.{with_items}
 use Rattle.std.specs.declared.ops.Bound.TheVariants.{Included}

@@ -1,5 +1,5 @@
-use Rattle.std.proofs.Common.{rules, ◌≡◌, ◌≤◌, ◌∙◌, ◌++◌, ◌∷◌, [], T, length, ap, sym, subst, arith}
-use Rattle.std.proofs.lemmas.List.{append_assoc, append-nil, length-append, nil_from_length}
+use Rattle.std.proofs.Common.{rules, ◌≡◌, ◌≤◌, ◌∙◌, ◌++◌, ◌∷◌, [], T, length, ap, sym, subst}
+use Rattle.std.proofs.lemmas.List.{append_assoc, append-nil, nil_from_length}
 use Rattle.std.specs.FinMap.Entries.{is_sorted}
 use Rattle.kfs_chunks.specs.Joined.{joined, IsSized, IsFilled, AreSized, AreFilled}
 use Rattle.kfs_chunks.proofs.Parts.{joined-append, joined_filled, sized_filled, sorted_left, sorted_right, each_left, each_right}

@@ -1,6 +1,5 @@
-use Rattle.std.proofs.Common.{◌∙◌, ◌≤◌, sym, ap, subst, T, length}
+use Rattle.std.proofs.Common.{◌∙◌, ◌≤◌, sym, subst, T}
 use Rattle.std.specs.FinMap.Entries.{is_sorted}
-use Rattle.kfs_chunks.specs.Held.{Held}
 use Rattle.kfs_chunks.specs.Joined.{IsSized}
 use Rattle.kfs_chunks.proofs.Parts.{copied_joined, copied_each, copied_length}
 use Rattle.kfs_chunks.proofs.part.PartClone.clone.Goals as goal
