@@ -1,17 +1,17 @@
 -- The first entry from a start on, in sorted entries and in lists one behind the other.
-use Rattle.std.proofs.Common.{◌≡◌, ◌<◌, ◌≤◌, ℕ, suc, Bool, true, false, cond, not, T, ◌&&◌, List, [], ◌∷◌, ◌++◌, length, get_or, Option, Some, None, refl, sym, ap, ◌∙◌, arith}
+use Rattle.std.proofs.Common.{◌≡◌, ◌<◌, ◌≤◌, suc, Bool, true, false, cond, not, T, List, [], ◌∷◌, ◌++◌, length, get_or, Option, Some, None, refl, sym, ap, ◌∙◌, arith}
 use Rattle.std.specs.Prelude.{IsSome, is_some}
 use Rattle.std.specs.declared.cmp.Ordering.{Ordering}
 use Rattle.std.specs.declared.cmp.Ordering.TheVariants.{Less, Equal, Greater}
 use Rattle.std.specs.declared.ops.Bound.{Bound}
 use Rattle.std.specs.declared.ops.Bound.TheVariants.{Included}
 use Rattle.std.specs.Ordering.{is_eq, is_lt, is_gt, eq_by_cmp}
-use Rattle.std.specs.FinMap.Entries.{find, is_sorted, below_all}
+use Rattle.std.specs.FinMap.Entries.{find, is_sorted}
 use Rattle.kfs_model.specs.Table.{Order}
 use Rattle.kfs_model.proofs.Tables.{left_part, right_part, find_head, find_behind}
 use Rattle.kfs_chunks.specs.Starts.{is_from, first_from, entry_from, reaches, IsNext}
 use Rattle.kfs_chunks.proofs.Order.{true_or_false, flipped}
-use Rattle.kfs_chunks.proofs.Sorted.{from_itself, passed_over, none_lower, earlier, as_less}
+use Rattle.kfs_chunks.proofs.Sorted.{from_itself, passed_over, none_lower}
 
 module _ {K V : Type 0} (cmp : K → K → Ordering) (start : Bound K) where
   -- of two lists, the first that has one

@@ -1,6 +1,6 @@
 -- Comparisons turned round, edits whose keys ascend, and counts of those before the first that passes a test.
-use Rattle.std.proofs.Common.{◌≡◌, ◌<◌, ◌≤◌, ℕ, zero, suc, ◌+◌, Bool, true, false, cond, not, List, [], ◌∷◌, length, slice_index_or, refl, sym, ap, ◌∙◌, arith, drop, length-drop}
-use Rattle.std.proofs.lemmas.List.{get_or-drop}
+use Rattle.std.proofs.Common.{◌≡◌, ◌<◌, ◌≤◌, ℕ, zero, suc, ◌+◌, Bool, true, false, cond, not, List, [], ◌∷◌, length, slice_index_or, refl, sym, ap, ◌∙◌, arith, take, drop, length-take, length-drop}
+use Rattle.std.proofs.lemmas.List.{get_or-take, get_or-drop}
 use Rattle.std.specs.declared.cmp.Ordering.{Ordering}
 use Rattle.std.specs.declared.cmp.Ordering.TheVariants.{Less, Equal, Greater}
 use Rattle.std.specs.Ordering.{is_lt, is_gt, ordering_reverse}
@@ -68,3 +68,11 @@ module _ {K V : Type 0} (cmp : K → K → Ordering) where
       ap (λ (e : Edit K V). cmp e.key (slice_index_or (drop r es) j d).key) (get_or-drop r es i d)
       ∙ ap (λ (e : Edit K V). cmp (slice_index_or es (r + i) d).key e.key) (get_or-drop r es j d)
       ∙ ascend (r + i) (r + j) d (omega (arith, less)) (omega (arith, below, length-drop r es))
+
+  pub ascend_take : (es : List (Edit K V)) (r : ℕ) → Ascend cmp es → Ascend cmp (take r es)
+  ascend_take es r ascend i j d less below =
+      let in_run : j < r = omega (arith, below, length-take r es) in
+      let in_all : j < length es = omega (arith, below, length-take r es) in
+      ap (λ (e : Edit K V). cmp e.key (slice_index_or (take r es) j d).key) (get_or-take r es i d (omega (arith, less, in_run)))
+      ∙ ap (λ (e : Edit K V). cmp (slice_index_or es i d).key e.key) (get_or-take r es j d in_run)
+      ∙ ascend i j d less in_all

@@ -1,7 +1,7 @@
 -- Sorted entries in two parts, and the chunks that they stand in.
 use Rattle.std.proofs.Common.{◌≡◌, ◌<◌, ◌≤◌, ℕ, zero, suc, Bool, true, false, cond, not, T, ◌&&◌, All, List, [], ◌∷◌, ◌++◌, length, get_or, slice_index_or, ◌+◌, ◌-◌, take, drop, length-take, length-drop, Option, Some, None, refl, sym, ap, subst, ◌∙◌, arith}
 use Rattle.std.specs.Prelude.{is_some}
-use Rattle.std.proofs.lemmas.List.{append_assoc, get_or-take, get_or-drop}
+use Rattle.std.proofs.lemmas.List.{append_assoc, append-nil, length-append, get_or-take, get_or-drop}
 use Rattle.std.specs.declared.cmp.Ordering.{Ordering}
 use Rattle.std.specs.declared.cmp.Ordering.TheVariants.{Less, Equal, Greater}
 use Rattle.std.specs.declared.ops.Bound.{Bound}
@@ -16,9 +16,9 @@ use Rattle.kfs_model.proofs.Tables.{left_part, right_part}
 use Rattle.kfs_chunks.specs.declared.edit.Edit.{Edit}
 use Rattle.kfs_chunks.specs.Edits.{Ascend}
 use Rattle.kfs_chunks.specs.Held.{Held}
-use Rattle.kfs_chunks.specs.Joined.{joined, place, IsSized, AreSized}
-use Rattle.kfs_chunks.specs.Starts.{is_from, entry_from, reaches, before}
-use Rattle.kfs_chunks.proofs.Order.{true_or_false, flipped, not_below, not_earlier}
+use Rattle.kfs_chunks.specs.Joined.{joined, place, Each, IsFilled, AreSized, AreFilled}
+use Rattle.kfs_chunks.specs.Starts.{is_from, entry_from, reaches}
+use Rattle.kfs_chunks.proofs.Order.{true_or_false, un_not, flipped, not_below, not_earlier}
 use Rattle.kfs_chunks.proofs.Sorted.{earlier, as_less, less_from, below_lower, first_below, not_some}
 use Rattle.kfs_chunks.proofs.FirstEntries.{entry-append, find_same}
 
@@ -112,17 +112,32 @@ module _ {K V A : Type 0} where
   joined-append [] ys = refl
   joined-append (x ∷ xs) ys = ap (λ es. x.value.pairs ++ es) (joined-append xs ys) ∙ sym (append_assoc x.value.pairs (joined xs) (joined ys))
 
-  pub sized-append : (xs ys : List (Arc (Held K V) A)) → AreSized xs → AreSized ys → AreSized (xs ++ ys)
-  sized-append [] ys left right = right
-  sized-append (x ∷ xs) ys left right = (left.0, sized-append xs ys left.1 right)
+  pub each-append : (P : List (K × V) → Type 0) (xs ys : List (Arc (Held K V) A)) → Each P xs → Each P ys → Each P (xs ++ ys)
+  each-append P [] ys left right = right
+  each-append P (x ∷ xs) ys left right = (left.0, each-append P xs ys left.1 right)
 
-  pub sized_left : (xs ys : List (Arc (Held K V) A)) → AreSized (xs ++ ys) → AreSized xs
-  sized_left [] ys sized = tt
-  sized_left (x ∷ xs) ys sized = (sized.0, sized_left xs ys sized.1)
+  pub each_left : (P : List (K × V) → Type 0) (xs ys : List (Arc (Held K V) A)) → Each P (xs ++ ys) → Each P xs
+  each_left P [] ys all = tt
+  each_left P (x ∷ xs) ys all = (all.0, each_left P xs ys all.1)
 
-  pub sized_right : (xs ys : List (Arc (Held K V) A)) → AreSized (xs ++ ys) → AreSized ys
-  sized_right [] ys sized = sized
-  sized_right (x ∷ xs) ys sized = sized_right xs ys sized.1
+  pub each_right : (P : List (K × V) → Type 0) (xs ys : List (Arc (Held K V) A)) → Each P (xs ++ ys) → Each P ys
+  each_right P [] ys all = all
+  each_right P (x ∷ xs) ys all = each_right P xs ys all.1
+
+  pub each_at : (P : List (K × V) → Type 0) (cs : List (Arc (Held K V) A)) (i : ℕ) (d : Arc (Held K V) A) → Each P cs → i < length cs → P (get_or cs i d).value.pairs
+  each_at P [] i d all within = absurd (omega (arith, within))
+  each_at P (c ∷ cs) zero d all within = all.0
+  each_at P (c ∷ cs) (suc i) d all within = each_at P cs i d all.1 (omega (arith, within))
+
+  -- chunks of the right size have an entry each
+  pub sized_filled : (cs : List (Arc (Held K V) A)) → AreSized cs → AreFilled cs
+  sized_filled [] sized = tt
+  sized_filled (c ∷ cs) sized = (sized.0.0, sized_filled cs sized.1)
+
+  -- where there is one, so have all together
+  pub joined_filled : (cs : List (Arc (Held K V) A)) → AreFilled cs → 1 ≤ length cs → IsFilled (joined cs)
+  joined_filled [] filled some = some
+  joined_filled (c ∷ cs) filled some = omega (arith, filled.0, length-append c.value.pairs (joined cs))
 
 module _ {K V A : Type 0} (cmp : K → K → Ordering) (start : Bound K) where
   -- the first entry of all stands in the chunk at the place
@@ -156,25 +171,51 @@ module _ {K V A : Type 0} (cmp : K → K → Ordering) (start : Bound K) where
       at rest true past = absurd (omega (arith, past))
       at rest false past = rest (omega (arith, past))
 
+module _ {K V : Type 0} (R : Order K) (start : Bound K) where
+  -- where some entries end before the start, so do those in front of them
+  front_ends : (xs es ys : List (K × V)) → T (is_sorted R.compare (xs ++ (es ++ ys))) → IsFilled es → not (reaches R.compare start es) ≡ true → not (reaches R.compare start xs) ≡ true
+  front_ends xs [] ys sorted some past = absurd (omega (arith, some))
+  front_ends xs (e ∷ es) ys sorted some past = ap (λ (o : Option (K × V)). not (is_some o)) (none_before R start xs e (es ++ ys) sorted (at (is_from R.compare start e.0) past))
+    where
+      at : (b : Bool) → not (is_some (cond b (Some e) (entry_from R.compare start es))) ≡ true → b ≡ false
+      at true past = absurd (true_or_false false past refl)
+      at false past = refl
+
 module _ {K V A : Type 0} (R : Order K) (start : Bound K) where
   -- chunks without an entry from the start on stand before those with one
-  pub parted_chunks : (cs : List (Arc (Held K V) A)) → T (is_sorted R.compare (joined cs)) → AreSized cs → IsPartitionedBy (λ (c : Arc (Held K V) A). not (reaches R.compare start c.value.pairs)) cs
-  parted_chunks [] sorted sized i j d le below past = absurd (omega (arith, below))
-  parted_chunks (c ∷ cs) sorted sized zero zero d le below past = past
-  parted_chunks (c ∷ []) sorted sized zero (suc j) d le below past = absurd (omega (arith, below))
-  parted_chunks (c ∷ n ∷ ns) sorted sized zero (suc j) d le below past =
-      let next : not (reaches R.compare start n.value.pairs) ≡ true = parted_chunks (n ∷ ns) (sorted_right R.compare c.value.pairs (joined (n ∷ ns)) sorted) sized.1 zero j d (omega arith) (omega (arith, below)) past in
-      front_past c.value.pairs n.value.pairs (joined ns) sorted sized.1.0.0 next
+  pub parted_chunks : (cs : List (Arc (Held K V) A)) → T (is_sorted R.compare (joined cs)) → AreFilled cs → IsPartitionedBy (λ (c : Arc (Held K V) A). not (reaches R.compare start c.value.pairs)) cs
+  parted_chunks [] sorted filled i j d le below past = absurd (omega (arith, below))
+  parted_chunks (c ∷ cs) sorted filled zero zero d le below past = past
+  parted_chunks (c ∷ []) sorted filled zero (suc j) d le below past = absurd (omega (arith, below))
+  parted_chunks (c ∷ n ∷ ns) sorted filled zero (suc j) d le below past =
+      let next : not (reaches R.compare start n.value.pairs) ≡ true = parted_chunks (n ∷ ns) (sorted_right R.compare c.value.pairs (joined (n ∷ ns)) sorted) filled.1 zero j d (omega arith) (omega (arith, below)) past in
+      front_ends R start c.value.pairs n.value.pairs (joined ns) sorted filled.1.0 next
+  parted_chunks (c ∷ cs) sorted filled (suc i) zero d le below past = absurd (omega (arith, le))
+  parted_chunks (c ∷ cs) sorted filled (suc i) (suc j) d le below past = parted_chunks cs (sorted_right R.compare c.value.pairs (joined cs) sorted) filled.1 i j d (omega (arith, le)) (omega (arith, below)) past
+
+module _ {K V A : Type 0} (R : Order K) (start : Bound K) where
+  -- chunks together reach as far as the last
+  pub reaches_behind : (cs : List (Arc (Held K V) A)) (i : ℕ) (d : Arc (Held K V) A) → T (is_sorted R.compare (joined cs)) → AreFilled cs → i + 1 ≡ length cs
+      → reaches R.compare start (joined cs) ≡ reaches R.compare start (get_or cs i d).value.pairs
+  reaches_behind [] i d sorted filled last = absurd (omega (arith, last))
+  reaches_behind (c ∷ []) zero d sorted filled last = ap (λ es. reaches R.compare start es) (append-nil c.value.pairs)
+  reaches_behind (c ∷ []) (suc i) d sorted filled last = absurd (omega (arith, last))
+  reaches_behind (c ∷ n ∷ ns) zero d sorted filled last = absurd (omega (arith, last))
+  reaches_behind (c ∷ n ∷ ns) (suc i) d sorted filled last =
+      ap is_some (entry-append R.compare start c.value.pairs (joined (n ∷ ns)))
+      ∙ at (reaches R.compare start c.value.pairs) refl (reaches R.compare start (joined (n ∷ ns))) refl
+      ∙ reaches_behind (n ∷ ns) i d (sorted_right R.compare c.value.pairs (joined (n ∷ ns)) sorted) filled.1 (omega (arith, last))
     where
-      front_past : (xs es ys : List (K × V)) → T (is_sorted R.compare (xs ++ (es ++ ys))) → 1 ≤ length es → not (reaches R.compare start es) ≡ true → not (reaches R.compare start xs) ≡ true
-      front_past xs [] ys sorted some past = absurd (omega (arith, some))
-      front_past xs (e ∷ es) ys sorted some past = ap (λ (o : Option (K × V)). not (is_some o)) (none_before R start xs e (es ++ ys) sorted (at (is_from R.compare start e.0) past))
-        where
-          at : (b : Bool) → not (is_some (cond b (Some e) (entry_from R.compare start es))) ≡ true → b ≡ false
-          at true past = absurd (true_or_false false past refl)
-          at false past = refl
-  parted_chunks (c ∷ cs) sorted sized (suc i) zero d le below past = absurd (omega (arith, le))
-  parted_chunks (c ∷ cs) sorted sized (suc i) (suc j) d le below past = parted_chunks cs (sorted_right R.compare c.value.pairs (joined cs) sorted) sized.1 i j d (omega (arith, le)) (omega (arith, below)) past
+      ahead : reaches R.compare start (joined (n ∷ ns)) ≡ false → not (reaches R.compare start c.value.pairs) ≡ true
+      ahead past =
+          front_ends R start c.value.pairs (joined (n ∷ ns)) [] (subst (λ es. T (is_sorted R.compare (c.value.pairs ++ es))) (sym (append-nil (joined (n ∷ ns)))) sorted)
+          (joined_filled (n ∷ ns) filled.1 (omega arith)) (ap not past)
+
+      at : (b : Bool) → reaches R.compare start c.value.pairs ≡ b → (l : Bool) → reaches R.compare start (joined (n ∷ ns)) ≡ l
+          → is_some (cond b (entry_from R.compare start c.value.pairs) (entry_from R.compare start (joined (n ∷ ns)))) ≡ reaches R.compare start (joined (n ∷ ns))
+      at false past l e = refl
+      at true here true e = here ∙ sym e
+      at true here false e = absurd (true_or_false _ here (un_not _ (ahead e)))
 
 module _ {K V A : Type 0} (R : Order K) where
   sorted_at : (cs : List (Arc (Held K V) A)) (i : ℕ) (d : Arc (Held K V) A) → T (is_sorted R.compare (joined cs)) → i < length cs → T (is_sorted R.compare (get_or cs i d).value.pairs)
@@ -230,8 +271,14 @@ module _ {K V A : Type 0} (P : Arc (Held K V) A → Arc (Held K V) A → Type 0)
   copied_joined (x ∷ xs) [] same = absurd same
   copied_joined (x ∷ xs) (y ∷ ys) same = λ i. (both x y same.0 i).pairs ++ copied_joined xs ys same.1 i
 
-  pub copied_sized : (xs ys : List (Arc (Held K V) A)) → AllZip P xs ys → AreSized xs → AreSized ys
-  copied_sized [] [] same sized = tt
-  copied_sized [] (y ∷ ys) same sized = absurd same
-  copied_sized (x ∷ xs) [] same sized = absurd same
-  copied_sized (x ∷ xs) (y ∷ ys) same sized = (subst (λ (v : Held K V). IsSized v.pairs) (sym (both x y same.0)) sized.0, copied_sized xs ys same.1 sized.1)
+  pub copied_each : (Q : List (K × V) → Type 0) (xs ys : List (Arc (Held K V) A)) → AllZip P xs ys → Each Q xs → Each Q ys
+  copied_each Q [] [] same all = tt
+  copied_each Q [] (y ∷ ys) same all = absurd same
+  copied_each Q (x ∷ xs) [] same all = absurd same
+  copied_each Q (x ∷ xs) (y ∷ ys) same all = (subst (λ (v : Held K V). Q v.pairs) (sym (both x y same.0)) all.0, copied_each Q xs ys same.1 all.1)
+
+  pub copied_length : (xs ys : List (Arc (Held K V) A)) → AllZip P xs ys → length ys ≡ length xs
+  copied_length [] [] same = refl
+  copied_length [] (y ∷ ys) same = absurd same
+  copied_length (x ∷ xs) [] same = absurd same
+  copied_length (x ∷ xs) (y ∷ ys) same = ap suc (copied_length xs ys same.1)

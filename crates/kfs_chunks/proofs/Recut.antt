@@ -16,10 +16,10 @@ use Rattle.kfs_model.proofs.Tables.{left_part}
 use Rattle.kfs_chunks.specs.declared.edit.Edit.{Edit}
 use Rattle.kfs_chunks.specs.Edits.{entered, entered_all, Ascend}
 use Rattle.kfs_chunks.specs.Held.{Held}
-use Rattle.kfs_chunks.specs.Joined.{joined, IsSized, AreSized}
+use Rattle.kfs_chunks.specs.Joined.{joined, Each}
 use Rattle.kfs_chunks.specs.Starts.{before, is_from, first_from, entry_from}
 use Rattle.kfs_chunks.proofs.Order.{true_or_false, flipped, ascend_drop}
-use Rattle.kfs_chunks.proofs.Parts.{sorted_left, sorted_right, none_later, joined-append, sized-append}
+use Rattle.kfs_chunks.proofs.Parts.{sorted_left, sorted_right, none_later, joined-append, each-append}
 use Rattle.kfs_chunks.proofs.Rewritten.{all_behind, none_still, ascend-head}
 use Rattle.kfs_chunks.proofs.Sorted.{first_is, kept_without, none_lower, stands_first}
 
@@ -129,8 +129,8 @@ module _ {K V A : Type 0} where
   pub joined-push : (chunks : List (Arc (Held K V) A)) (chunk : Arc (Held K V) A) → joined (chunks ++ chunk ∷ []) ≡ joined chunks ++ chunk.value.pairs
   joined-push chunks chunk = joined-append chunks (chunk ∷ []) ∙ ap (λ es. joined chunks ++ es) (append-nil chunk.value.pairs)
 
-  pub sized-push : (chunks : List (Arc (Held K V) A)) (chunk : Arc (Held K V) A) → AreSized chunks → IsSized chunk.value.pairs → AreSized (chunks ++ chunk ∷ [])
-  sized-push chunks chunk sized size = sized-append chunks (chunk ∷ []) sized (size, tt)
+  pub each-push : (P : List (K × V) → Type 0) (chunks : List (Arc (Held K V) A)) (chunk : Arc (Held K V) A) → Each P chunks → P chunk.value.pairs → Each P (chunks ++ chunk ∷ [])
+  each-push P chunks chunk all this = each-append P chunks (chunk ∷ []) all (this, tt)
 
   -- a chunk of the next entries goes on with them
   pub joined_cut : (chunks : List (Arc (Held K V) A)) (chunk : Arc (Held K V) A) (done es : List (K × V)) (from count : ℕ) → joined chunks ≡ done ++ take from es → chunk.value.pairs ≡ take count (drop from es)

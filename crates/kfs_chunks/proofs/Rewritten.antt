@@ -1,5 +1,5 @@
 -- What edits make of entries in two parts, and how many entries they leave.
-use Rattle.std.proofs.Common.{◌≡◌, ◌<◌, ◌≤◌, ◌+◌, ℕ, zero, suc, Bool, true, false, cond, not, T, ◌&&◌, All, List, [], ◌∷◌, ◌++◌, length, slice_index_or, Option, Some, None, refl, sym, ap, subst, ◌∙◌, arith}
+use Rattle.std.proofs.Common.{◌≡◌, ◌<◌, ◌≤◌, ◌+◌, suc, Bool, true, false, cond, not, T, All, List, [], ◌∷◌, ◌++◌, length, slice_index_or, Option, Some, None, refl, sym, ap, subst, ◌∙◌, arith}
 use Rattle.std.specs.Prelude.{is_some}
 use Rattle.std.proofs.lemmas.List.Elements.{All-tail}
 use Rattle.std.specs.declared.cmp.Ordering.{Ordering}
@@ -155,6 +155,11 @@ module _ {K V : Type 0} (R : Order K) where
   pub is_sorted-all : (xs : List (K × V)) (es : List (Edit K V)) → T (is_sorted R.compare xs) → T (is_sorted R.compare (entered_all R.compare xs es))
   is_sorted-all xs [] sorted = sorted
   is_sorted-all xs (e ∷ es) sorted = is_sorted-all (entered R.compare xs e.key e.value) es (is_sorted-entered R xs e.key e.value sorted)
+
+  -- and so they do where the edits are made or not
+  pub is_sorted-if : (made : Bool) (xs : List (K × V)) (es : List (Edit K V)) → T (is_sorted R.compare xs) → T (is_sorted R.compare (cond made (entered_all R.compare xs es) xs))
+  is_sorted-if true xs es sorted = is_sorted-all xs es sorted
+  is_sorted-if false xs es sorted = sorted
 
   -- so many edits leave at most so many entries more, and at most so many less
   pub length-all : (xs : List (K × V)) (es : List (Edit K V)) → T (is_sorted R.compare xs)

@@ -1,7 +1,6 @@
 -- What edits of a chunk and of those behind it make of all chunks.
-use Rattle.std.proofs.Common.{◌≡◌, Bool, true, false, cond, T, All, List, [], ◌∷◌, ◌++◌, None, refl, sym, ap, ◌∙◌, inl, inr}
+use Rattle.std.proofs.Common.{◌≡◌, Bool, true, false, cond, T, All, List, ◌∷◌, ◌++◌, None, refl, sym, ap, ◌∙◌, inl, inr}
 use Rattle.std.specs.Prelude.{◌⊎◌}
-use Rattle.std.specs.declared.cmp.Ordering.{Ordering}
 use Rattle.std.specs.declared.ops.Bound.TheVariants.{Included}
 use Rattle.std.specs.declared.sync.Arc.{Arc}
 use Rattle.std.specs.FinMap.Entries.{below_all}

@@ -10,16 +10,28 @@ use Rattle.kfs_chunks.specs.Starts.{before, reaches}
 abbrev pub IsSized : {X : Type 0} → List X → Type 0
 IsSized entries = (1 ≤ length entries) × (length entries ≤ 256)
 
+-- one at least
+abbrev pub IsFilled : {X : Type 0} → List X → Type 0
+IsFilled entries = 1 ≤ length entries
+
 module _ {K V A : Type 0} where
   -- the entries of all chunks
   abbrev pub joined : List (Arc (Held K V) A) → List (K × V)
   joined [] = []
   joined (chunk ∷ chunks) = chunk.value.pairs ++ joined chunks
 
+  -- the entries of each are so
+  abbrev pub Each : (List (K × V) → Type 0) → List (Arc (Held K V) A) → Type 0
+  Each P [] = Unit {0}
+  Each P (chunk ∷ chunks) = P chunk.value.pairs × Each P chunks
+
   -- each chunk has as many entries as it may have
   abbrev pub AreSized : List (Arc (Held K V) A) → Type 0
-  AreSized [] = Unit {0}
-  AreSized (chunk ∷ chunks) = IsSized chunk.value.pairs × AreSized chunks
+  AreSized chunks = Each IsSized chunks
+
+  -- each part has an entry
+  abbrev pub AreFilled : List (Arc (Held K V) A) → Type 0
+  AreFilled parts = Each IsFilled parts
 
 module _ {K V A : Type 0} (cmp : K → K → Ordering) where
   -- the index of the first chunk that has an entry from the start on, or else their number

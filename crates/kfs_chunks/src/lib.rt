@@ -9,8 +9,10 @@ mod key;
 mod merge;
 mod nested;
 mod overlay;
+mod part;
 mod place;
 mod rebuilt;
+mod rebuilt_parts;
 
 pub use chunks::Chunks;
 pub use edit::Edit;

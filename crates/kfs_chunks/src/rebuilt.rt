@@ -1,5 +1,5 @@
 //! Chunks with their edits made, in a list of its own.
-ghost use Rattle.std.specs.Prelude.{◌≡◌, ◌≤◌, ◌++◌, T, IfOk, OnOk};
+ghost use Rattle.std.specs.Prelude.{◌≡◌, ◌≤◌, [], ◌++◌, T, IfOk, OnOk};
 ghost use Rattle.std.specs.FinMap.Entries.{is_sorted};
 ghost use Rattle.kfs_chunks.specs.Edits.{entered_all, Ascend};
 ghost use Rattle.kfs_chunks.specs.Joined.{joined, IsSized, AreSized};
@@ -37,6 +37,20 @@ pub(crate) fn rebuilt<K: Key, V: Copy, A: Allocator + Clone>(
     Ok(new)
 }
 
+/// What the edits make where nothing stood, as chunks.
+pub(crate) fn fresh<K: Key, V: Copy, A: Allocator + Clone>(
+    alloc: &A,
+    edits: &[Edit<K, V>],
+) -> Result<Vec<Arc<Entries<K, V, A>, A>, A>, AllocError>
+    requires { Ascend K.cmp edits.now }
+    ensures joined { IfOk result (λ new. joined new.items ≡ entered_all K.cmp [] edits.now) }
+    ensures sized { IfOk result (λ new. AreSized new.items) }
+{
+    let mut new = Vec::new(alloc.clone()?);
+    cut(&mut new, &Entries::new(alloc.clone()?).merged(edits)?)?;
+    Ok(new)
+}
+
 /// Adds the chunk after its edits: the same chunk where there are none.
 fn push<K: Key, V: Copy, A: Allocator + Clone>(
     new: &mut Vec<Arc<Entries<K, V, A>, A>, A>,
@@ -65,7 +79,7 @@ fn cut<K: Key, V: Copy, A: Allocator + Clone>(
     ensures joined { OnOk result (joined new.new.items ≡ joined new.old.items ++ entries.now.pairs) }
     ensures sized { OnOk result (AreSized new.new.items) }
 {
-    let size = size_for(entries.len());
+    let size = size_for(entries.len(), GREATEST_SIZE);
     let mut from = 0;
     while from < entries.len() {
         let count = size.min(entries.len() - from);
@@ -76,17 +90,19 @@ fn cut<K: Key, V: Copy, A: Allocator + Clone>(
     Ok(())
 }
 
-/// How large the chunks are that so many entries are cut into: one where they fit, two halves where
-/// those fit, and else chunks half as large as they may be, so that each has room for more.
-fn size_for(len: usize) -> usize
+/// How many stand in a block, of which one takes so many at most: all where they fit, one half where
+/// two halves fit, and else half of what fits, so that each block has room for more.
+pub(crate) fn size_for(len: usize, most: usize) -> usize
+    requires fits_two { 2 ≤ most }
+    requires most { most ≤ 256 }
     ensures least { 1 ≤ result }
-    ensures most { result ≤ 256 }
+    ensures most { result ≤ most }
 {
-    if len <= GREATEST_SIZE {
-        GREATEST_SIZE
-    } else if len <= 2 * GREATEST_SIZE {
+    if len <= most {
+        most
+    } else if len <= 2 * most {
         len - len / 2
     } else {
-        GREATEST_SIZE / 2
+        most / 2
     }
 }

@@ -1,2 +1,4 @@
 pub mod Numbers
 pub mod Tables
+pub mod Groups
+pub mod Rest

@@ -4,15 +4,13 @@ use Rattle.std.proofs.lemmas.Bool.{eqb-false, eqb-true, eq-eqb}
 use Rattle.std.proofs.lemmas.List.Elements.{All-tail}
 use Rattle.std.specs.Ordering.{nat_cmp, eq_by_cmp}
 use Rattle.std.specs.Cmp.{unsigned_tied}
-use Rattle.std.specs.declared.sync.Arc.{Arc}
-use Rattle.std.specs.List.{AllZip}
 use Rattle.std.specs.Option.{is_some}
 use Rattle.kfs_model.specs.Table.{Table, numbers, get, empty, option_or, changed}
 use Rattle.kfs_model.proofs.TableLaws.{get-united, get-retain, same_table, get-changed}
 use Rattle.kfs_pages.specs.declared.edit.Edit.{Edit}
 use Rattle.kfs_pages.specs.Values.{Sheet, IsNext}
 use Rattle.kfs_pages.specs.Edits.{page_of, rewritten, edited}
-use Rattle.kfs_pages.specs.Shown.{part, slot_shows, shown, Stands, IsPlaced, page_table, table_from}
+use Rattle.kfs_pages.specs.Shown.{part, slot_shows, shown, Edited, Stands, IsPlaced, page_table, table_from}
 use Rattle.kfs_pages.proofs.Numbers.{by_less}
 
 or_none : {Y : Type 0} (o rest : Option Y) → rest ≡ None → option_or o rest ≡ o
@@ -37,38 +35,32 @@ module _ {V : Type 0} where
       at_first rest true same = absurd (away 0 e (omega arith) (ap page_of (sym (eqb-true n e.number (sym (unsigned_tied n e.number) ∙ same)))))
       at_first rest false same = rest
 
-module _ {V A : Type 0} where
+module _ {V : Type 0} where
+  -- edits that are of no page in front, made behind those, are made of all
+  pub edited_behind : (front olds news : List (Option (Sheet V))) (first : ℕ) (es : List (Edit V)) → All (λ e. first + length front ≤ page_of e.number) es → Edited (first + length front) es olds news → Edited first es (front ++ olds) (front ++ news)
+  edited_behind [] olds news first es away made n = subst (λ k. shown k news n ≡ edited es n (shown k olds n)) {x = first + 0} {y = first} (omega arith) (made n)
+  edited_behind (page ∷ front) olds news first es away made n =
+      at_page (edited_behind front olds news (first + 1) es (λ k d below. omega (arith, away k d below)) (λ m. subst (λ k. shown k news m ≡ edited es m (shown k olds m)) {x = first + suc (length front)} {y = first + 1 + length front} (omega arith) (made m)) n) (page_of n == first) refl
+    where
+      at_page : shown (first + 1) (front ++ news) n ≡ edited es n (shown (first + 1) (front ++ olds) n) → (b : Bool) → (page_of n == first) ≡ b → cond b (slot_shows page n) (shown (first + 1) (front ++ news) n) ≡ edited es n (cond b (slot_shows page n) (shown (first + 1) (front ++ olds) n))
+      at_page inner false is = inner
+      at_page inner true is = sym (edited-away es n _ (λ k d below same. omega (arith, away k d below, same, eqb-true (page_of n) first is)))
+
   -- the edits of one page and of those after it, made there, are made of all
-  pub edited_pages : (front : List (Option (Arc (Sheet V) A))) (old new : Option (Arc (Sheet V) A)) (olds news : List (Option (Arc (Sheet V) A))) (first index : ℕ) (mine later : List (Edit V)) (n : ℕ)
-      → first + length front ≡ index
+  pub edited_page : (old new : Option (Sheet V)) (olds news : List (Option (Sheet V))) (index : ℕ) (mine later : List (Edit V))
       → All (λ e. page_of e.number ≡ index) mine
       → All (λ e. index + 1 ≤ page_of e.number) later
-      → slot_shows new n ≡ edited mine n (slot_shows old n)
-      → shown (index + 1) news n ≡ edited later n (shown (index + 1) olds n)
-      → shown first (front ++ new ∷ news) n ≡ edited (mine ++ later) n (shown first (front ++ old ∷ olds) n)
-  edited_pages [] old new olds news first index mine later n here in_page in_later slot rest =
-      at_page (page_of n == first) refl ∙ sym (edited-append mine later n _)
+      → ((n : ℕ) → slot_shows new n ≡ edited mine n (slot_shows old n))
+      → Edited (index + 1) later olds news
+      → Edited index (mine ++ later) (old ∷ olds) (new ∷ news)
+  edited_page old new olds news index mine later in_page in_later slot rest n = at_page (page_of n == index) refl ∙ sym (edited-append mine later n _)
     where
-      same_index : first ≡ index
-      same_index = omega (arith, here)
-
-      at_page : (b : Bool) → (page_of n == first) ≡ b → cond b (slot_shows new n) (shown (first + 1) news n) ≡ edited later n (edited mine n (cond b (slot_shows old n) (shown (first + 1) olds n)))
-      at_page true is = slot ∙ sym (edited-away later n _ (λ k d below same. omega (arith, in_later k d below, same, eqb-true (page_of n) first is, here)))
-      at_page false is =
-          rw same_index (rest ∙ ap (edited later n) (sym (edited-away mine n _ (λ k d below same. eqb-false (page_of n) first is (omega (arith, in_page k d below, same, here))))))
-  edited_pages (page ∷ front) old new olds news first index mine later n here in_page in_later slot rest =
-      at_page (edited_pages front old new olds news (first + 1) index mine later n (omega (arith, here)) in_page in_later slot rest) (page_of n == first) refl
-    where
-      at_page : shown (first + 1) (front ++ new ∷ news) n ≡ edited (mine ++ later) n (shown (first + 1) (front ++ old ∷ olds) n) → (b : Bool) → (page_of n == first) ≡ b
-          → cond b (slot_shows page n) (shown (first + 1) (front ++ new ∷ news) n) ≡ edited (mine ++ later) n (cond b (slot_shows page n) (shown (first + 1) (front ++ old ∷ olds) n))
-      at_page inner false is = inner
-      at_page inner true is =
-          sym (edited-append mine later n _
-          ∙ ap (edited later n) (edited-away mine n _ (λ k d below same. omega (arith, in_page k d below, same, eqb-true (page_of n) first is, here)))
-          ∙ edited-away later n _ (λ k d below same. omega (arith, in_later k d below, same, eqb-true (page_of n) first is, here)))
+      at_page : (b : Bool) → (page_of n == index) ≡ b → cond b (slot_shows new n) (shown (index + 1) news n) ≡ edited later n (edited mine n (cond b (slot_shows old n) (shown (index + 1) olds n)))
+      at_page true is = slot n ∙ sym (edited-away later n _ (λ k d below same. omega (arith, in_later k d below, same, eqb-true (page_of n) index is)))
+      at_page false is = rest n ∙ ap (edited later n) (sym (edited-away mine n _ (λ k d below same. eqb-false (page_of n) index is (omega (arith, in_page k d below, same)))))
 
   -- pages in their places are those in front, one, and those behind
-  pub placed_front : (front back : List (Option (Arc (Sheet V) A))) (first : ℕ) → IsPlaced first (front ++ back) → IsPlaced (first + length front) back
+  pub placed_front : (front back : List (Option (Sheet V))) (first : ℕ) → IsPlaced first (front ++ back) → IsPlaced (first + length front) back
   placed_front [] back first placed = rw (sum_zero first) placed
     where
       sum_zero : (n : ℕ) → n + 0 ≡ n
@@ -78,11 +70,11 @@ module _ {V A : Type 0} where
       sum_more : (n m : ℕ) → n + suc m ≡ n + 1 + m
       sum_more n m = omega arith
 
-  pub placed_again : (front back others : List (Option (Arc (Sheet V) A))) (first : ℕ) → IsPlaced first (front ++ back) → IsPlaced (first + length front) others → IsPlaced first (front ++ others)
+  pub placed_again : (front back others : List (Option (Sheet V))) (first : ℕ) → IsPlaced first (front ++ back) → IsPlaced (first + length front) others → IsPlaced first (front ++ others)
   placed_again [] back others first placed again = subst (λ k. IsPlaced k others) (omega arith) again
   placed_again (page ∷ front) back others first placed again = (placed.0, placed_again front back others (first + 1) placed.1 (subst (λ k. IsPlaced k others) (omega arith) again))
 
-  pub stands_at : (pages : List (Option (Arc (Sheet V) A))) (first k : ℕ) (page : Arc (Sheet V) A) → IsPlaced first pages → get_or pages k None ≡ Some page → page.value.index ≡ first + k
+  pub stands_at : (pages : List (Option (Sheet V))) (first k : ℕ) (page : Sheet V) → IsPlaced first pages → get_or pages k None ≡ Some page → page.index ≡ first + k
   stands_at [] first k page placed here = absurd (differ here)
     where
       differ : None ≡ Some page → ⊥
@@ -90,12 +82,12 @@ module _ {V A : Type 0} where
   stands_at (p ∷ pages) first zero page placed here = subst (Stands first) here placed.0 ∙ omega arith
   stands_at (p ∷ pages) first (suc k) page placed here = stands_at pages (first + 1) k page placed.1 here ∙ omega arith
 
-  get-page_table : (page : Option (Arc (Sheet V) A)) (q : ℕ) → get (page_table page) q ≡ slot_shows page q
+  get-page_table : (page : Option (Sheet V)) (q : ℕ) → get (page_table page) q ≡ slot_shows page q
   unfolding page_table get
   get-page_table None q = refl
   get-page_table (Some page) q = refl
 
-  early : (first : ℕ) (pages : List (Option (Arc (Sheet V) A))) (q : ℕ) → page_of q < first → shown first pages q ≡ None
+  early : (first : ℕ) (pages : List (Option (Sheet V))) (q : ℕ) → page_of q < first → shown first pages q ≡ None
   early first [] q before = refl
   early first (page ∷ pages) q before = at_test (early (first + 1) pages q (omega (arith, before))) (page_of q == first) refl
     where
@@ -103,7 +95,7 @@ module _ {V A : Type 0} where
       at_test rest true same = absurd (omega (arith, before, eqb-true (page_of q) first same))
       at_test rest false same = rest
 
-  pub shown-at : (first : ℕ) (pages : List (Option (Arc (Sheet V) A))) (k q : ℕ) → page_of q ≡ first + k → shown first pages q ≡ slot_shows (get_or pages k None) q
+  pub shown-at : (first : ℕ) (pages : List (Option (Sheet V))) (k q : ℕ) → page_of q ≡ first + k → shown first pages q ≡ slot_shows (get_or pages k None) q
   shown-at first [] k q at = refl
   shown-at first (page ∷ pages) zero q at = at_test (page_of q == first) refl
     where
@@ -116,7 +108,7 @@ module _ {V A : Type 0} where
       at_test rest true same = absurd (omega (arith, at, eqb-true (page_of q) first same))
       at_test rest false same = rest
 
-  pub get-table_from : (first : ℕ) (pages : List (Option (Arc (Sheet V) A))) (q : ℕ) → get (table_from first pages) q ≡ shown first pages q
+  pub get-table_from : (first : ℕ) (pages : List (Option (Sheet V))) (q : ℕ) → get (table_from first pages) q ≡ shown first pages q
   unfolding table_from get
   get-table_from first [] q = refl
   get-table_from first (page ∷ pages) q =
@@ -129,18 +121,18 @@ module _ {V A : Type 0} where
       at_test rest true same = or_none (slot_shows page q) _ (rest ∙ early (first + 1) pages q (omega (arith, eqb-true (page_of q) first same)))
       at_test rest false same = rest
 
-  pub table_edited : (old new : List (Option (Arc (Sheet V) A))) (es : List (Edit V)) → ((q : ℕ) → shown 0 new q ≡ edited es q (shown 0 old q)) → table_from 0 new ≡ rewritten (table_from 0 old) es
+  pub table_edited : (old new : List (Option (Sheet V))) (es : List (Edit V)) → ((q : ℕ) → shown 0 new q ≡ edited es q (shown 0 old q)) → table_from 0 new ≡ rewritten (table_from 0 old) es
   table_edited old new es made = same_table _ _ (λ q. get-table_from 0 new q ∙ made q ∙ ap (edited es q) (sym (get-table_from 0 old q)) ∙ sym (get-rewritten (table_from 0 old) es q))
 
-  pub table_kept : (old new : List (Option (Arc (Sheet V) A))) → ((q : ℕ) → shown 0 new q ≡ shown 0 old q) → table_from 0 new ≡ table_from 0 old
+  pub table_kept : (old new : List (Option (Sheet V))) → ((q : ℕ) → shown 0 new q ≡ shown 0 old q) → table_from 0 new ≡ table_from 0 old
   table_kept old new same = same_table _ _ (λ q. get-table_from 0 new q ∙ same q ∙ sym (get-table_from 0 old q))
 
   -- what the map has at a number is what its page has there
-  pub get-at : (pages : List (Option (Arc (Sheet V) A))) (q : ℕ) → get (table_from 0 pages) q ≡ slot_shows (get_or pages (page_of q) None) q
+  pub get-at : (pages : List (Option (Sheet V))) (q : ℕ) → get (table_from 0 pages) q ≡ slot_shows (get_or pages (page_of q) None) q
   get-at pages q = get-table_from 0 pages q ∙ shown-at 0 pages (page_of q) q (omega arith)
 
   -- the part of the map that belongs to a page is what the page has
-  pub part-at : (pages : List (Option (Arc (Sheet V) A))) (index : ℕ) (t : Table numbers V) → ((n : ℕ) → (page_of n ≡ index → ⊥) → get t n ≡ None) → ((n : ℕ) → slot_shows (get_or pages index None) n ≡ get t n) → t ≡ part index (table_from 0 pages)
+  pub part-at : (pages : List (Option (Sheet V))) (index : ℕ) (t : Table numbers V) → ((n : ℕ) → (page_of n ≡ index → ⊥) → get t n ≡ None) → ((n : ℕ) → slot_shows (get_or pages index None) n ≡ get t n) → t ≡ part index (table_from 0 pages)
   part-at pages index t own same = same_table _ _ (λ n. at n (page_of n == index) refl ∙ sym (get-retain (λ m. page_of m == index) (table_from 0 pages) n))
     where
       at : (n : ℕ) (b : Bool) → (page_of n == index) ≡ b → get t n ≡ cond b (get (table_from 0 pages) n) None
@@ -148,72 +140,40 @@ module _ {V A : Type 0} where
       at n false e = own n (eqb-false (page_of n) index e)
 
   -- where there is no page, the map has nothing at its numbers
-  pub part-none : (pages : List (Option (Arc (Sheet V) A))) (index : ℕ) → get_or pages index None ≡ None → part index (table_from 0 pages) ≡ empty
+  pub part-none : (pages : List (Option (Sheet V))) (index : ℕ) → get_or pages index None ≡ None → part index (table_from 0 pages) ≡ empty
   unfolding get
-  part-none pages index none = sym (part-at pages index empty (λ n other. refl) (λ n. ap (λ (slot : Option (Arc (Sheet V) A)). slot_shows slot n) none))
+  part-none pages index none = sym (part-at pages index empty (λ n other. refl) (λ n. ap (λ (slot : Option (Sheet V)). slot_shows slot n) none))
 
 module _ {V : Type 0} where
   pub get-part : (index : ℕ) (t : Table numbers V) (n : ℕ) → page_of n ≡ index → get (part index t) n ≡ get t n
   get-part index t n own = get-retain (λ m. page_of m == index) t n ∙ ap (λ b. cond b (get t n) None) (eq-eqb (page_of n) index own)
 
-module _ {V A : Type 0} where
+module _ {V : Type 0} where
   -- a page without a value shows what no page shows
-  pub blank_shows : (slot : Option (Arc (Sheet V) A)) (sheet : Sheet V) (index : ℕ) → is_some slot ≡ false → sheet ≡ record { index = index; values = empty } → (n : ℕ) → get sheet.values n ≡ slot_shows slot n
+  pub blank_shows : (slot : Option (Sheet V)) (sheet : Sheet V) (index : ℕ) → is_some slot ≡ false → sheet ≡ record { index = index; values = empty } → (n : ℕ) → get sheet.values n ≡ slot_shows slot n
   unfolding get
   blank_shows None sheet index none blank n = ap (λ (s : Sheet V). get s.values n) blank
   blank_shows (Some page) sheet index none blank n = cc
 
--- pages whose values are those of others, place by place
-module _ {V A : Type 0} (P : Option (Arc (Sheet V) A) → Option (Arc (Sheet V) A) → Type 0) (both : (a b : Arc (Sheet V) A) → P (Some a) (Some b) → b.value ≡ a.value) (left : (a : Arc (Sheet V) A) → P (Some a) None → ⊥) (right : (b : Arc (Sheet V) A) → P None (Some b) → ⊥) where
-  pub copied_length : (xs ys : List (Option (Arc (Sheet V) A))) → AllZip P xs ys → length ys ≡ length xs
-  copied_length [] [] same = refl
-  copied_length [] (y ∷ ys) same = absurd same
-  copied_length (x ∷ xs) [] same = absurd same
-  copied_length (x ∷ xs) (y ∷ ys) same = omega (arith, copied_length xs ys same.1)
+placed_none : (V : Type 0) (first count : ℕ) → IsPlaced {V = V} first (replicate count None)
+placed_none V first zero = tt
+placed_none V first (suc count) = (tt, placed_none V (first + 1) count)
 
-  stands_copied : (index : ℕ) (x y : Option (Arc (Sheet V) A)) → P x y → Stands index x → Stands index y
-  stands_copied index None None same stands = tt
-  stands_copied index None (Some b) same stands = absurd (right b same)
-  stands_copied index (Some a) None same stands = absurd (left a same)
-  stands_copied index (Some a) (Some b) same stands = ap (λ (s : Sheet V). s.index) (both a b same) ∙ stands
-
-  pub copied_placed : (first : ℕ) (xs ys : List (Option (Arc (Sheet V) A))) → AllZip P xs ys → IsPlaced first xs → IsPlaced first ys
-  copied_placed first [] [] same placed = tt
-  copied_placed first [] (y ∷ ys) same placed = absurd same
-  copied_placed first (x ∷ xs) [] same placed = absurd same
-  copied_placed first (x ∷ xs) (y ∷ ys) same placed = (stands_copied first x y same.0 placed.0, copied_placed (first + 1) xs ys same.1 placed.1)
-
-  shows_copied : (x y : Option (Arc (Sheet V) A)) → P x y → (n : ℕ) → slot_shows y n ≡ slot_shows x n
-  shows_copied None None same n = refl
-  shows_copied None (Some b) same n = absurd (right b same)
-  shows_copied (Some a) None same n = absurd (left a same)
-  shows_copied (Some a) (Some b) same n = ap (λ (s : Sheet V). get s.values n) (both a b same)
-
-  pub copied_shown : (first : ℕ) (xs ys : List (Option (Arc (Sheet V) A))) → AllZip P xs ys → (n : ℕ) → shown first ys n ≡ shown first xs n
-  copied_shown first [] [] same n = refl
-  copied_shown first [] (y ∷ ys) same n = absurd same
-  copied_shown first (x ∷ xs) [] same n = absurd same
-  copied_shown first (x ∷ xs) (y ∷ ys) same n =
-      let here = shows_copied x y same.0 n in
-      let rest = copied_shown (first + 1) xs ys same.1 n in
-      λ i. cond (page_of n == first) (here i) (rest i)
-
-pub placed_none : (V A : Type 0) (first count : ℕ) → IsPlaced {V = V} {A = A} first (replicate count None)
-placed_none V A first zero = tt
-placed_none V A first (suc count) = (tt, placed_none V A (first + 1) count)
-
-shown_none : (V A : Type 0) (first count n : ℕ) → shown {V = V} {A = A} first (replicate count None) n ≡ None
-shown_none V A first zero n = refl
-shown_none V A first (suc count) n = at (page_of n == first) (shown_none V A (first + 1) count n)
+shown_none : (V : Type 0) (first count n : ℕ) → shown {V = V} first (replicate count None) n ≡ None
+shown_none V first zero n = refl
+shown_none V first (suc count) n = at (page_of n == first) (shown_none V (first + 1) count n)
   where
-    at : (b : Bool) → shown {V = V} {A = A} (first + 1) (replicate count None) n ≡ None → cond b None (shown {V = V} {A = A} (first + 1) (replicate count None) n) ≡ None
+    at : (b : Bool) → shown {V = V} (first + 1) (replicate count None) n ≡ None → cond b None (shown {V = V} (first + 1) (replicate count None) n) ≡ None
     at true rest = refl
     at false rest = rest
 
-module _ {V A : Type 0} where
-  pub table_none : (pages : List (Option (Arc (Sheet V) A))) (count : ℕ) → pages ≡ replicate count None → table_from 0 pages ≡ empty
+module _ {V : Type 0} where
+  pub placed_blank : (pages : List (Option (Sheet V))) (count : ℕ) → pages ≡ replicate count None → IsPlaced 0 pages
+  placed_blank pages count none = subst (IsPlaced 0) (sym none) (placed_none V 0 count)
+
+  pub table_none : (pages : List (Option (Sheet V))) (count : ℕ) → pages ≡ replicate count None → table_from 0 pages ≡ empty
   unfolding get
-  table_none pages count none = same_table _ _ (λ n. get-table_from 0 pages n ∙ ap (λ all. shown 0 all n) none ∙ shown_none V A 0 count n)
+  table_none pages count none = same_table _ _ (λ n. get-table_from 0 pages n ∙ ap (λ all. shown 0 all n) none ∙ shown_none V 0 count n)
 
 module _ {V : Type 0} where
   part-some : (index : ℕ) (t : Table numbers V) (n : ℕ) (v : V) → get (part index t) n ≡ Some v → (page_of n ≡ index) × (get t n ≡ Some v)

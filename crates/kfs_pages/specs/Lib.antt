@@ -1,4 +1,5 @@
 pub mod Values
 pub mod Edits
+pub mod Groups
 pub mod Shown
 pub mod Nested

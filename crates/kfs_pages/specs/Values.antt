@@ -1,6 +1,6 @@
 -- The values of a page, and the table that they make.
 use Rattle.std.specs.Prelude.{◌≡◌, ℕ, ◌+◌, ◌<◌, List, [], ◌∷◌, Option, Some, None}
-use Rattle.kfs_model.specs.Table.{Order, Table, numbers, empty, get, changed}
+use Rattle.kfs_model.specs.Table.{Table, numbers, empty, get, changed}
 
 module _ {V : Type 0} where
   -- the table of these values at the numbers from the first on

@@ -3,6 +3,7 @@
 
 mod change;
 mod edit;
+mod group;
 mod nested;
 mod page;
 mod pages;

@@ -6,33 +6,36 @@ ghost use Rattle.kfs_pages.specs.Values.{IsNext};
 ghost use Rattle.kfs_pages.specs.Edits.{rewritten, AreEdits};
 ghost use Rattle.kfs_pages.specs.Shown.{part};
 
-use crate::change::{Change, change_pages};
+use crate::change::{Change, change_groups};
 use crate::edit::{Edit, page_of};
+use crate::group::{GROUP_LEN, Group, nothing, page_at};
 use crate::page::Page;
 use std::alloc::{AllocError, Allocator};
 use std::marker::Model;
 use std::sync::Arc;
 
-/// How many pages there are.
-const PAGES: u32 = 1024;
+/// How many groups of pages there are.
+const GROUPS: u32 = 32;
 
-/// A map from the numbers 1 to 65,536 to values. Copies share its pages, and each sees the map as it
-/// was when it was made.
+/// A map from the numbers 1 to 65,536 to values. Copies share its groups of pages, and each sees the
+/// map as it was when it was made. A change beside a copy copies the list of the groups, and of each
+/// group that it touches the list of its pages, and the pages that it touches.
 #[derive(Drop)]
 pub struct Pages<V: Copy, A: Allocator> {
-    pages: Vec<Option<Arc<Page<V, A>, A>>, A>,
+    groups: Vec<Option<Arc<Group<V, A>, A>>, A>,
 }
 
 impl<V: Copy, A: Allocator> Model for Pages<V, A> {
     ghost use Rattle.std.specs.Prelude.{◌≡◌, length};
     ghost use Rattle.kfs_model.specs.Table.{Table, numbers};
+    ghost use Rattle.kfs_pages.specs.Groups.{all_held, laid_out, AreWhole};
     ghost use Rattle.kfs_pages.specs.Shown.{table_from, IsPlaced};
 
     ghost Value = { Table numbers V };
 
-    ghost view = { λ s. table_from 0 s.pages.items };
+    ghost view = { λ s. table_from 0 (laid_out s.groups.items) };
 
-    ghost invariant = { λ s. (length s.pages.items ≡ 1024) × IsPlaced 0 s.pages.items };
+    ghost invariant = { λ s. (length s.groups.items ≡ 32) × AreWhole (all_held s.groups.items) × IsPlaced 0 (laid_out s.groups.items) };
 }
 
 impl<V: Copy, A: Allocator + Clone> Clone for Pages<V, A> {
@@ -40,7 +43,7 @@ impl<V: Copy, A: Allocator + Clone> Clone for Pages<V, A> {
 
     fn clone(&self) -> Result<Pages<V, A>, AllocError> {
         Ok(Pages {
-            pages: self.pages.clone()?,
+            groups: self.groups.clone()?,
         })
     }
 }
@@ -50,18 +53,16 @@ impl<V: Copy, A: Allocator> Pages<V, A> {
     pub fn new(alloc: A) -> Result<Pages<V, A>, AllocError>
         ensures { IfOk result (λ pages. pages ≡ empty) }
     {
-        let mut pages = Vec::with_capacity(alloc, PAGES as usize)?;
-        for _ in 0..PAGES {
-            pages.push(None)?;
-        }
-        Ok(Pages { pages })
+        Ok(Pages {
+            groups: nothing(alloc, GROUPS)?,
+        })
     }
 
     /// The value at a number. Takes no memory.
     pub fn get(&self, number: u32) -> Option<&V>
         ensures { option_copied result ≡ get self.now number }
     {
-        let page = self.pages.get(page_of(number) as usize)?.as_ref()?;
+        let page = page_at(&self.groups, page_of(number))?;
         page.get(number)
     }
 
@@ -72,7 +73,7 @@ impl<V: Copy, A: Allocator> Pages<V, A> {
         ensures some { IfSome result (λ page. part index self.now ≡ empty → ⊥) }
         ensures none { IfNone result (part index self.now ≡ empty) }
     {
-        let page = self.pages.get(index as usize)?.as_ref()?;
+        let page = page_at(&self.groups, index)?;
         if page.is_blank() {
             return None;
         }
@@ -84,7 +85,8 @@ impl<V: Copy, A: Allocator> Pages<V, A> {
         ensures found { IfSome result (λ p. IsNext self.now after p.0 p.1.now) }
         ensures none { IfNone result ((m : ℕ) → after < m → get self.now m ≡ None) }
     {
-        for index in after / 64..self.pages.len() as u32 {
+        let pages = self.groups.len() as u32 * GROUP_LEN;
+        for index in after / 64..pages {
             let found = self.next_in(index, after);
             if found.is_some() {
                 return found;
@@ -117,7 +119,7 @@ impl<V: Copy, A: Allocator + Clone> Pages<V, A> {
         ensures made { OnOk result (T.made then.old then.new) }
         ensures kept { OnErr result (T.kept then.old then.new) }
     {
-        let alloc = self.pages.allocator().clone()?;
-        change_pages(&alloc, self.pages.as_mut_slice(), 0, edits, then)
+        let alloc = self.groups.allocator().clone()?;
+        change_groups(&alloc, self.groups.as_mut_slice(), 0, edits, then)
     }
 }

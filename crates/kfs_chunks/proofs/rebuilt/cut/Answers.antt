@@ -1,7 +1,7 @@
 use Rattle.std.proofs.Common.{◌≡◌, ◌≤◌, ◌+◌, ◌∷◌, ◌++◌, [], ◌∙◌, length, take, drop, sym, ap, subst, arith, length-drop}
 use Rattle.std.proofs.lemmas.List.{length-take-le}
-use Rattle.kfs_chunks.specs.Joined.{joined, AreSized}
-use Rattle.kfs_chunks.proofs.Recut.{sized-push, joined_cut}
+use Rattle.kfs_chunks.specs.Joined.{joined, IsSized, AreSized}
+use Rattle.kfs_chunks.proofs.Recut.{each-push, joined_cut}
 use Rattle.kfs_chunks.proofs.rebuilt.cut.Goals as goal
 
 pub loop-from-preserved : goal.loop-from-preserved
@@ -18,6 +18,6 @@ loop-from-preserved g c =
     let size : length chunk.value.pairs ≡ count = ap length value ∙ length-take-le count (drop from es) (omega (arith, within, length-drop from es)) in
     record {
       within = within;
-      sized = subst AreSized (sym items) (sized-push c.loop-from.new.items chunk c.loop-from.invariant.sized (omega (arith, size, least), omega (arith, size, most)));
+      sized = subst AreSized (sym items) (each-push IsSized c.loop-from.new.items chunk c.loop-from.invariant.sized (omega (arith, size, least), omega (arith, size, most)));
       joined = ap joined items ∙ joined_cut c.loop-from.new.items chunk (joined c.args.new.now.items) es from count c.loop-from.invariant.joined value;
     }

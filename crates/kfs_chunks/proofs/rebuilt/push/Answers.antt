@@ -3,7 +3,7 @@ use Rattle.std.proofs.lemmas.List.{nil_from_length}
 use Rattle.std.specs.Prelude.{OnOk}
 use Rattle.kfs_chunks.specs.Edits.{entered_all}
 use Rattle.kfs_chunks.specs.Joined.{joined, IsSized, AreSized}
-use Rattle.kfs_chunks.proofs.Recut.{joined-push, sized-push}
+use Rattle.kfs_chunks.proofs.Recut.{joined-push, each-push}
 use Rattle.kfs_chunks.proofs.rebuilt.push.Goals as goal
 
 pub returns-then-is_empty-clause-joined : goal.returns-then-is_empty-clause-joined
@@ -22,7 +22,7 @@ returns-then-is_empty-clause-sized g c =
     let chunk = c.in_ok-clone.field-0 in
     let items : c.push.new.self.items ≡ c.args.new.now.items ++ chunk ∷ [] = c.in_ok-push.ensures.items in
     let value : chunk.value ≡ c.args.chunk.now.value = search rules in
-    subst AreSized (sym items) (sized-push c.args.new.now.items chunk c.requires.sized (subst (λ held. IsSized held.pairs) (sym value) c.requires.size))
+    subst AreSized (sym items) (each-push IsSized c.args.new.now.items chunk c.requires.sized (subst (λ held. IsSized held.pairs) (sym value) c.requires.size))
 
 pub returns-clause-joined : goal.returns-clause-joined
 returns-clause-joined g c =

@@ -9,14 +9,14 @@ use Rattle.kfs_chunks.proofs.Parts.{past_place, found_in_place}
 use Rattle.kfs_chunks.proofs.Sorted.{order_by}
 use Rattle.kfs_chunks.proofs.chunks.Chunks.get.Goals as goal
 
-pub returns-in_err-chunk : goal.returns-in_err-chunk
-returns-in_err-chunk g c =
+pub returns-in_err-part : goal.returns-in_err-part
+returns-in_err-part g c =
     let cmp = g.K.Ord.cmp in
     let q = c.args.key.now in
-    let cs = c.self.inside.chunks.items in
+    let cs = c.self.inside.parts.items in
     let order = order_by g.K.Key.order cmp g.met.K.Key.compared in
-    let at : c.place.result ≡ place cmp (Included q) cs = search rules in
-    let past : length cs ≤ c.place.result = search rules in
+    let at : c.place_part.result ≡ place cmp (Included q) cs = search rules in
+    let past : length cs ≤ c.place_part.result = search rules in
     ap option_copied c.from_residual.ensures
     ∙ sym (find_none order q (joined cs) c.self.invariant.0 (past_place cmp (Included q) cs (omega (arith, at, past))))
     ∙ ap (λ compare. find compare q (joined cs)) g.met.K.Key.compared
@@ -26,12 +26,12 @@ pub returns : goal.returns
 returns g c =
     let cmp = g.K.Ord.cmp in
     let q = c.args.key.now in
-    let cs = c.self.inside.chunks.items in
+    let cs = c.self.inside.parts.items in
     let order = order_by g.K.Key.order cmp g.met.K.Key.compared in
-    let chunk = c.in_ok-chunk.chunk.now in
-    let at : c.place.result ≡ place cmp (Included q) cs = search rules in
-    let within : c.place.result < length cs = search rules in
-    let here : chunk ≡ get_or cs c.place.result chunk = search rules in
+    let chunk = c.in_ok-part.part.now in
+    let at : c.place_part.result ≡ place cmp (Included q) cs = search rules in
+    let within : c.place_part.result < length cs = search rules in
+    let here : chunk ≡ get_or cs c.place_part.result chunk = search rules in
     c.get-2.ensures
     ∙ ap (λ (x : Held _ _). find cmp q x.pairs) c.deref-3.ensures
     ∙ ap (λ chunk. find cmp q chunk.value.pairs) (here ∙ ap (λ k. get_or cs k chunk) at)

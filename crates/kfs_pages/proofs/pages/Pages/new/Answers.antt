@@ -1,14 +1,16 @@
-use Rattle.std.proofs.Common.{◌∙◌, ap, sym, subst, length, arith}
-use Rattle.std.proofs.lemmas.List.{length-replicate}
-use Rattle.kfs_pages.specs.Shown.{IsPlaced}
-use Rattle.kfs_pages.proofs.Tables.{placed_none, table_none}
+use Rattle.std.proofs.Common.{◌*◌}
+use Rattle.kfs_pages.specs.Groups.{all_held, flat}
+use Rattle.kfs_pages.proofs.Groups.{blank_count, blank_whole, blank_groups}
+use Rattle.kfs_pages.proofs.Tables.{placed_blank, table_none}
 use Rattle.kfs_pages.proofs.pages.Pages.new.Goals as goal
 
 pub invariant_of-result : goal.invariant_of-result
-invariant_of-result g c = (
-  ap length c.loop.invariant ∙ length-replicate _ _ ∙ omega (arith, c.loop-test.false, c.loop.auto),
-  subst (IsPlaced 0) (sym c.loop.invariant) (placed_none _ _ 0 c.loop.counter),
-)
+invariant_of-result g c =
+    let groups = c.in_ok-nothing.field-0.items in
+    let none = c.in_ok-nothing.ensures in
+    (blank_count groups 32 none, blank_whole groups 32 none, placed_blank (flat (all_held groups)) (32 * 32) (blank_groups groups 32 none))
 
 pub returns : goal.returns
-returns g c = table_none c.loop.pages.items c.loop.counter c.loop.invariant
+returns g c =
+    let groups = c.in_ok-nothing.field-0.items in
+    table_none (flat (all_held groups)) (32 * 32) (blank_groups groups 32 c.in_ok-nothing.ensures)

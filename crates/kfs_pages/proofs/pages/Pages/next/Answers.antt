@@ -3,9 +3,11 @@ use Rattle.std.specs.Prelude.{IfSome, IfNone}
 use Rattle.std.specs.Option.{is_some}
 use Rattle.kfs_model.specs.Table.{get}
 use Rattle.kfs_pages.specs.Edits.{page_of}
+use Rattle.kfs_pages.specs.Groups.{all_held, flat}
 use Rattle.kfs_pages.specs.Shown.{part, slot_shows}
 use Rattle.kfs_pages.specs.Values.{IsNext}
 use Rattle.kfs_pages.proofs.Numbers.{by_less, get_or-behind}
+use Rattle.kfs_pages.proofs.Groups.{length-flat, length-held}
 use Rattle.kfs_pages.proofs.Tables.{get-part, get-at, next_whole}
 use Rattle.kfs_pages.proofs.pages.Pages.next.Goals as goal
 
@@ -36,5 +38,7 @@ returns-clause-none g c m above =
     by_less (page_of m) c.loop-index.index (λ less. c.loop-index.invariant m above less)
     (λ from.
     ap (λ t. get t m) (sym c.self.view_is)
-    ∙ get-at c.self.inside.pages.items m
-    ∙ ap (λ slot. slot_shows slot m) (get_or-behind c.self.inside.pages.items (page_of m) (omega (arith, from, c.loop-index-test.false, c.self.invariant.0))))
+    ∙ get-at (flat (all_held c.self.inside.groups.items)) m
+    ∙ ap (λ slot. slot_shows slot m)
+    (get_or-behind (flat (all_held c.self.inside.groups.items)) (page_of m)
+    (omega (arith, from, c.loop-index-test.false, c.self.invariant.0, length-flat (all_held c.self.inside.groups.items) c.self.invariant.1, length-held c.self.inside.groups.items))))
