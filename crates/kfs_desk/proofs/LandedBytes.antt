@@ -1,5 +1,5 @@
 -- A Yes lands with its bytes: with the fill of its log it makes the machine's step, and without room nothing changes.
-use Rattle.std.proofs.Common.{◌≡◌, ℕ, ◌<◌, ◌≤◌, false, cond, List, [], length, Some, None, Result, Ok, refl, sym, ap, subst, ◌∙◌, le-ltb, lt-ltb}
+use Rattle.std.proofs.Common.{◌≡◌, Bool, ℕ, ◌<◌, ◌≤◌, false, cond, List, [], length, Some, None, Result, Ok, refl, sym, ap, subst, ◌∙◌, le-ltb, lt-ltb}
 use Rattle.std.specs.List.{AllByRecursion}
 use Rattle.kfs_model.specs.Entry.{Entry}
 use Rattle.kfs_model.specs.Judgement.{Accepted, IsJudgement, NoRoom, Reading, State, Submission, Yes, client_sight_of, free_places, reply_to, verdict_on}
@@ -141,8 +141,8 @@ module _ (desk : Parts) (is_desk : IsDesk desk) (lawful : IsLawful desk.image) (
         ∙ ap (λ b. cond b (Some (Replied (Accepted told), landed s after marked_after places)) None) fills.chosen
         )
 
-    pub step_filled : IsJudgement s submission (Yes after marked_after) → (position rows : ℕ) → IsStep s submission (replies.Yes position false told) (state_of (desk_filled rows))
-    step_filled judgement position rows = record {
+    pub step_filled : IsJudgement s submission (Yes after marked_after) → (position : ℕ) (again : Bool) (rows : ℕ) → IsStep s submission (replies.Yes position again told) (state_of (desk_filled rows))
+    step_filled judgement position again rows = record {
       reading = judgement.reading;
       read = judgement.read;
       reply = Accepted told;
@@ -175,9 +175,9 @@ module _ (desk : Parts) (is_desk : IsDesk desk) (lawful : IsLawful desk.image) (
       same_desk : (rows : ℕ) → desk_filled has.fill bytes says tells has.is room rows ≡ desk_landed rows
       same_desk rows = λ i. record desk { image = sym has.made i; leases = ended_by desk.leases net.nodes.items; rows = rows }
 
-      pub step_landed : IsJudgement s submission (Yes after marked_after) → (position rows : ℕ) → IsStep s submission (replies.Yes position false told) (state_of (desk_landed rows))
-      step_landed judgement position rows =
-          subst (λ (d : Parts). IsStep s submission (replies.Yes position false told) (state_of d)) (same_desk rows) (step_filled has.fill bytes says tells has.is room judgement position rows)
+      pub step_landed : IsJudgement s submission (Yes after marked_after) → (position : ℕ) (again : Bool) (rows : ℕ) → IsStep s submission (replies.Yes position again told) (state_of (desk_landed rows))
+      step_landed judgement position again rows =
+          subst (λ (d : Parts). IsStep s submission (replies.Yes position again told) (state_of d)) (same_desk rows) (step_filled has.fill bytes says tells has.is room judgement position again rows)
 
       pub done_landed : (rows : ℕ) → IsDone s submission (state_of (desk_landed rows))
       done_landed rows = subst (λ (d : Parts). IsDone s submission (state_of d)) (same_desk rows) (done_filled has.fill bytes says tells has.is room rows)

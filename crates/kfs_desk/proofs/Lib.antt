@@ -6,3 +6,4 @@ pub mod LandedBytes
 pub mod Landing
 pub mod Openings
 mod WholePieces
+pub mod Views

@@ -1,10 +1,10 @@
 -- The desk as a state of the machine, and its calls as rows that fit.
-use Rattle.std.specs.Prelude.{◌≡◌, ◌≢◌, ◌↔◌, ℕ, ◌+◌, ◌≤◌, false, List, [], ◌∷◌, Option, Some, option_map, Result, Ok, Err, IfOk, IsErrOf, OnErr}
+use Rattle.std.specs.Prelude.{◌≡◌, ◌≢◌, ◌↔◌, ℕ, ◌+◌, ◌≤◌, Bool, false, List, [], ◌∷◌, Option, Some, option_map, Result, Ok, Err, IfOk, IsErrOf, OnErr}
 use Rattle.kfs_model.specs.Access.{Client}
 use Rattle.kfs_model.specs.Entry.{Log}
 use Rattle.kfs_model.specs.Lease.{Leases, row_of}
 use Rattle.kfs_model.specs.Lease as leases
-use Rattle.kfs_model.specs.Sight.{Sight}
+use Rattle.kfs_model.specs.Sight.{Sight, sight}
 use Rattle.kfs_model.specs.Soundness.{IsSound}
 use Rattle.kfs_model.specs.Spelling.{LogAnswer}
 use Rattle.kfs_model.specs.Judgement.{State, Submission, Reading, IsReadAs, Reply, Accepted, NoRoom, Refused, client_sight_of}
@@ -29,6 +29,11 @@ use Rattle.kfs_plan.specs.declared.answers.Done.{Done}
 use Rattle.kfs_plan.specs.declared.answers.Done.TheVariants as dones
 use Rattle.kfs_plan.specs.declared.answers.Reply.{Reply as CodeReply}
 use Rattle.kfs_plan.specs.declared.answers.Reply.TheVariants as replies
+use Rattle.kfs_check.specs.Reads.{Agrees}
+use Rattle.kfs_check.specs.View.{clients_of, contents_of, leases_of}
+use Rattle.kfs_check.specs.declared.view.View.{View}
+use Rattle.kfs_nodes.specs.Contents.{sight_of}
+use Rattle.kfs_plan.specs.Judged.{Judged}
 use Rattle.kfs_desk.specs.Docket.{position_of, is_rejudged}
 
 -- what contracts see of a desk: the machine's state, and how many rows the docket has and may have
@@ -66,7 +71,18 @@ pub record IsImageOf (image : DeviceImage) (s : State) : Type 0 where
   pub sizes : image.sizes ≡ s.sizes
   pub placement : image.placement ≡ s.placement
 
+-- the view shares what the state's tree shows, its leases and its clients
+pub record IsViewOf {A : Type 0} (view : View A) (s : State) : Type 0 where
+  pub sight : sight_of (contents_of view) ≡ sight s.tree
+  pub leases : leases_of view ≡ s.leases
+  pub clients : clients_of view ≡ s.clients
+
 -- ---- a submission
+
+-- the state has the client's row as the verdict has it, and answers each recorded read as recorded
+pub record IsCurrent {A : Type 0} (s : State) (judged : Judged A) : Type 0 where
+  pub row : row_of s.clients judged.submission.client ≡ judged.client
+  pub agrees : Agrees judged.reads (client_sight_of s judged.submission.client)
 
 -- the reply of the machine, none where a growth was refused
 abbrev pub reply_of : CodeReply → Option Reply
@@ -98,10 +114,11 @@ Means s submission (replies.Yes position rejudged need) t = IsDone s submission 
 Means s submission (replies.No position rejudged fault) t = t ≡ s
 Means s submission (replies.NoRoom position rejudged need free) t = t ≡ s
 
--- the answer is such a step, judged once, means what it says, and adds the docket's row at its position
-pub record IsAnswered (old : Desk) (submission : Submission) (answer : CodeReply) (new : Desk) : Type 0 where
+-- the answer is such a step, tells whether the submission was judged again, means what it says, and adds the docket's row at
+-- its position
+pub record IsAnswered (old : Desk) (submission : Submission) (again : Bool) (answer : CodeReply) (new : Desk) : Type 0 where
   pub step : IsStep old.state submission answer new.state
-  pub once : is_rejudged answer ≡ false
+  pub judged : is_rejudged answer ≡ again
   pub meaning : Means old.state submission answer new.state
   pub position : position_of answer ≡ old.rows
   pub rows : new.rows ≡ old.rows + 1
@@ -123,7 +140,7 @@ abbrev pub RunsThrough : {A : Type 0} → Desk → List (CodeSubmission A) → L
 RunsThrough desk [] [] last = last ≡ desk
 RunsThrough desk [] (answer ∷ answers) last = ⊥
 RunsThrough desk (submission ∷ submissions) [] last = ⊥
-RunsThrough desk (submission ∷ submissions) (Ok reply ∷ answers) last = (next : Desk) × IsAnswered desk (submission_of submission) reply next × RunsThrough next submissions answers last
+RunsThrough desk (submission ∷ submissions) (Ok reply ∷ answers) last = (next : Desk) × IsAnswered desk (submission_of submission) false reply next × RunsThrough next submissions answers last
 RunsThrough desk (submission ∷ submissions) (Err back ∷ answers) last = (back.submission ≡ submission) × IsWhy desk back.why × RunsThrough desk submissions answers last
 
 -- ---- a call for the leases

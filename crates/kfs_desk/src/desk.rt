@@ -1,5 +1,5 @@
 //! The desk: it owns the image and the leases, and lands what was judged.
-ghost use Rattle.std.specs.Prelude.{◌≡◌, ◌↔◌, ◌+◌, ◌≤◌, ◌<◌, ◌==◌, ◌++◌, ◌∷◌, [], IfOk, IfErr, OnErr, OnOk, IfNone, IsErrOf, IsFalse, IsTrue, Ok, Err, None, unwrap_or};
+ghost use Rattle.std.specs.Prelude.{◌≡◌, ◌↔◌, false, ◌+◌, ◌≤◌, ◌<◌, ◌==◌, ◌++◌, ◌∷◌, [], IfOk, IfErr, OnErr, OnOk, IfNone, IsErrOf, IsFalse, IsTrue, Ok, Err, None, unwrap_or};
 ghost use Rattle.std.specs.List.{list_any, AllByRecursion};
 ghost use Rattle.kfs_model.specs.CleanStep.{IsClient};
 ghost use Rattle.kfs_model.specs.Order.{IsInOrder};
@@ -19,7 +19,8 @@ ghost use Rattle.kfs_fill.specs.FillOf.{CanLandWith, HasLandedWith};
 ghost use Rattle.kfs_check.specs.View.{clients_of, contents_of, leases_of};
 ghost use Rattle.kfs_plan.specs.Judging.{IsVerdict, submission_of};
 ghost use Rattle.kfs_desk.specs.Landing.{Answers, CanLand, ended_by, ended_with, leases_left};
-ghost use Rattle.kfs_desk.specs.Machine.{IsAnswered, IsBackFor, IsCallOf, IsChangeOf, IsImageOf, RunsThrough, call_of, done_by, number_of, outcome_at, state_at};
+ghost use Rattle.kfs_desk.specs.Machine.{IsAnswered, IsBackFor, IsCallOf, IsChangeOf, IsCurrent, IsImageOf, IsViewOf, RunsThrough, call_of, done_by, number_of, outcome_at, state_at};
+ghost use Rattle.kfs_desk.specs.Docket.{is_rejudged};
 ghost use Rattle.kfs_desk.specs.Opening.{begin_fault, do_overlap, fault_behind};
 ghost use Rattle.kfs_value.specs.Room.{Appends, spare_of};
 
@@ -165,7 +166,7 @@ impl<A: Allocator + Copy> Desk<A> {
     /// it was.
     pub fn submit(&mut self, submission: Submission<A>) -> Result<Reply, Back<A>>
         ensures full { IsBackFor result Why.DocketFull ↔ (self.old.rows ≡ self.old.limit) }
-        ensures answered { IfOk result (λ reply. IsAnswered self.old (submission_of submission) reply self.new) }
+        ensures answered { IfOk result (λ reply. IsAnswered self.old (submission_of submission) false reply self.new) }
         ensures back { IfErr result (λ back. (back.submission ≡ submission) × (self.new ≡ self.old)) }
     {
         if self.is_full() {
@@ -185,6 +186,48 @@ impl<A: Allocator + Copy> Desk<A> {
             &mut self.image,
             &mut self.leases,
             position,
+            false,
+            judged,
+        )?;
+        self.rows = position + 1;
+        Ok(reply)
+    }
+
+    /// A view of the state of now, to judge against. `Err` where memory is refused.
+    pub fn view(&self) -> Result<View<A>, AllocError>
+        ensures { IfOk result (λ view. IsViewOf view self.now.state) }
+    {
+        view_of(&self.image, &self.leases, &self.clients)
+    }
+
+    /// Lands a verdict, wherever it was made. Where the client's row or a read that it rests on differs
+    /// in the state of now, the submission is judged again. A submission that isn't answered comes back,
+    /// and the desk is as it was.
+    pub fn land(&mut self, judged: Judged<A>) -> Result<Reply, Back<A>>
+        ensures full { IsBackFor result Why.DocketFull ↔ (self.old.rows ≡ self.old.limit) }
+        ensures answered { IfOk result (λ reply. IsAnswered self.old (submission_of judged.submission) (is_rejudged reply) reply self.new) }
+        ensures rejudged { IfOk result (λ reply. IsFalse (is_rejudged reply) ↔ IsCurrent self.old.state judged) }
+        ensures back { IfErr result (λ back. (back.submission ≡ judged.submission) × (self.new ≡ self.old)) }
+    {
+        if self.is_full() {
+            let (submission, _outcome) = judged.into_parts();
+            let why = Why::DocketFull;
+            return Err(Back { submission, why });
+        }
+        let position = self.rows;
+        let (judged, rejudged) = current(
+            self.alloc,
+            &self.image,
+            &self.leases,
+            &self.clients,
+            judged,
+        )?;
+        let reply = land(
+            self.alloc,
+            &mut self.image,
+            &mut self.leases,
+            position,
+            rejudged,
             judged,
         )?;
         self.rows = position + 1;
@@ -253,6 +296,35 @@ fn judged<A: Allocator + Copy>(
         return Err(Back { submission, why });
     };
     judge(alloc, &view, submission)
+}
+
+/// A verdict in the state of now: this one where it holds there, or else that of a judgement that is made again;
+/// and whether it was. The view that it is compared with ends here, so that landing shares nothing.
+fn current<A: Allocator + Copy>(
+    alloc: A,
+    image: &Image<A>,
+    leases: &Arc<Leases<A>, A>,
+    clients: &Arc<Vec<Client, A>, A>,
+    judged: Judged<A>,
+) -> Result<(Judged<A>, bool), Back<A>>
+    requires distinct { AreDistinct clients.now.value.items }
+    ensures verdict { IfOk result (λ p. IsVerdict (state_at image.now clients.now.value.items leases.now.value) (submission_of judged.submission) p.0.outcome) }
+    ensures submission { IfOk result (λ p. p.0.submission ≡ judged.submission) }
+    ensures again { IfOk result (λ p. IsFalse p.1 ↔ IsCurrent (state_at image.now clients.now.value.items leases.now.value) judged) }
+    ensures back { IfErr result (λ back. back.submission ≡ judged.submission) }
+    ensures memory { IfErr result (λ back. back.why ≡ Why.OutOfMemory) }
+    ensures lawful { IsLawful image.now }
+{
+    let Ok(view) = view_of(image, leases, clients) else {
+        let (submission, _outcome) = judged.into_parts();
+        let why = Why::OutOfMemory;
+        return Err(Back { submission, why });
+    };
+    if judged.holds_in(&view) {
+        return Ok((judged, false));
+    }
+    let (submission, _outcome) = judged.into_parts();
+    Ok((judge(alloc, &view, submission)?, true))
 }
 
 /// The shape, the leases and the clients of now.
@@ -339,20 +411,16 @@ fn land<A: Allocator + Copy>(
     image: &mut Image<A>,
     leases: &mut Arc<Leases<A>, A>,
     position: u32,
+    rejudged: bool,
     judged: Judged<A>,
 ) -> Result<Reply, Back<A>>
     requires { CanLand image.old judged.submission.log.items judged.outcome }
-    ensures answer { IfOk result (λ reply. Answers image.old judged.submission.log.items position judged.outcome reply image.new) }
+    ensures answer { IfOk result (λ reply. Answers image.old judged.submission.log.items position rejudged judged.outcome reply image.new) }
     ensures leases { IfOk result (λ reply. leases.new.value ≡ leases_left leases.old.value judged.outcome reply) }
     ensures back { IfErr result (λ back. (back.submission ≡ judged.submission) × (back.why ≡ Why.OutOfMemory)) }
     ensures err { OnErr result ((image.new ≡ image.old) × (leases.new.value ≡ leases.old.value)) }
 {
-    let Judged {
-        submission,
-        outcome,
-        ..
-    } = judged;
-    let rejudged = false;
+    let (submission, outcome) = judged.into_parts();
     let (log, plan, net, need) = match outcome {
         Outcome::Yes {
             log,

@@ -1,5 +1,5 @@
 -- A session: what each line is answered, and what it leaves.
-use Rattle.std.specs.Prelude.{◌≡◌, ◌≢◌, ◌⊎◌, ℕ, List, [], ◌∷◌, ◌++◌, codes, Option, Some, None, Result, Ok, Err, if◌then◌else◌}
+use Rattle.std.specs.Prelude.{◌≡◌, ◌≢◌, ◌⊎◌, ℕ, List, [], ◌∷◌, ◌++◌, codes, false, Option, Some, None, Result, Ok, Err, if◌then◌else◌}
 use Rattle.kfs_model.specs.Access.{Client}
 use Rattle.kfs_model.specs.Table.{get}
 use Rattle.kfs_model.specs.Tree.{headers}
@@ -94,7 +94,7 @@ pub record IsSubmitted (desk : Desk) (submission : Submission) (outcome : LineOu
   pub answer : Reply
   pub next : Desk
   pub below : desk.rows ≢ desk.limit
-  pub answered : IsAnswered desk submission answer next
+  pub answered : IsAnswered desk submission false answer next
   pub is : outcome ≡ (line_of (reply_text answer), After next)
 
 -- ---- looks

@@ -15,7 +15,7 @@ land-requires g c =
     let desk : Parts = record { image = inside.image; clients = inside.clients.value.items; leases = inside.leases.value; rows = inside.rows; limit = inside.limit } in
     let outcome = c.in_ok-judged.judged.outcome in
     subst (λ submission. CanLand inside.image submission.log.items outcome) (sym c.in_ok-judged.ensures.submission)
-    (can_land desk c.self.invariant c.judged.ensures.lawful (submission_of c.args.submission) outcome c.in_ok-judged.ensures.verdict)
+    (can_land desk c.self.invariant c.judged.ensures.lawful (submission_of c.args.submission) false outcome c.in_ok-judged.ensures.verdict)
 
 pub invariant_of-self-2 : goal.invariant_of-self-2
 invariant_of-self-2 g c =
@@ -24,9 +24,9 @@ invariant_of-self-2 g c =
     let after : Parts = record desk { image = c.land.new.image; leases = c.land.new.leases.value; rows = inside.rows + 1 } in
     let outcome = c.in_ok-judged.judged.outcome in
     let reply = c.in_ok-reply.reply in
-    let told = subst (λ submission. Answers inside.image submission.log.items inside.rows outcome reply c.land.new.image) c.in_ok-judged.ensures.submission c.in_ok-reply.ensures.answer in
-    let is : IsAnswered (shown desk) (submission_of c.args.submission) reply (shown after) =
-    answered desk c.self.invariant c.judged.ensures.lawful (submission_of c.args.submission) outcome reply c.land.new.image c.land.new.leases.value c.in_ok-judged.ensures.verdict told c.in_ok-reply.ensures.leases in
+    let told = subst (λ submission. Answers inside.image submission.log.items inside.rows false outcome reply c.land.new.image) c.in_ok-judged.ensures.submission c.in_ok-reply.ensures.answer in
+    let is : IsAnswered (shown desk) (submission_of c.args.submission) false reply (shown after) =
+    answered desk c.self.invariant c.judged.ensures.lawful (submission_of c.args.submission) false outcome reply c.land.new.image c.land.new.leases.value c.in_ok-judged.ensures.verdict told c.in_ok-reply.ensures.leases in
     let room = c.is_full.ensures.room c.if-is_full.false in
     let is_rows = ap (λ (d : Desk). d.rows) c.self.view_is in
     let is_limit = ap (λ (d : Desk). d.limit) c.self.view_is in
@@ -40,7 +40,7 @@ returns-clause-answered g c =
     let after : Parts = record desk { image = c.land.new.image; leases = c.land.new.leases.value; rows = inside.rows + 1 } in
     let outcome = c.in_ok-judged.judged.outcome in
     let reply = c.in_ok-reply.reply in
-    let told = subst (λ submission. Answers inside.image submission.log.items inside.rows outcome reply c.land.new.image) c.in_ok-judged.ensures.submission c.in_ok-reply.ensures.answer in
-    let is : IsAnswered (shown desk) (submission_of c.args.submission) reply (shown after) =
-    answered desk c.self.invariant c.judged.ensures.lawful (submission_of c.args.submission) outcome reply c.land.new.image c.land.new.leases.value c.in_ok-judged.ensures.verdict told c.in_ok-reply.ensures.leases in
-    subst (λ (d : Desk). IsAnswered d (submission_of c.args.submission) reply (shown after)) c.self.view_is is
+    let told = subst (λ submission. Answers inside.image submission.log.items inside.rows false outcome reply c.land.new.image) c.in_ok-judged.ensures.submission c.in_ok-reply.ensures.answer in
+    let is : IsAnswered (shown desk) (submission_of c.args.submission) false reply (shown after) =
+    answered desk c.self.invariant c.judged.ensures.lawful (submission_of c.args.submission) false outcome reply c.land.new.image c.land.new.leases.value c.in_ok-judged.ensures.verdict told c.in_ok-reply.ensures.leases in
+    subst (λ (d : Desk). IsAnswered d (submission_of c.args.submission) false reply (shown after)) c.self.view_is is
