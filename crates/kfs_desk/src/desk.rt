@@ -108,6 +108,13 @@ impl<A: Allocator + Copy> Desk<A> {
         }
     }
 
+    /// How many rows the docket has. Takes no memory.
+    pub fn docket_len(&self) -> u32
+        ensures { result ≡ self.now.rows }
+    {
+        self.rows
+    }
+
     /// The image of now. The desk's state is in order, as each call leaves it.
     pub fn image(&self) -> &Image<A>
         ensures shown { IsImageOf result.now self.now.state }

@@ -1,5 +1,5 @@
 -- A session: what each line is answered, and what it leaves.
-use Rattle.std.specs.Prelude.{◌≡◌, ◌≢◌, ◌⊎◌, ℕ, List, [], ◌∷◌, ◌++◌, codes, false, Option, Some, None, Result, Ok, Err, if◌then◌else◌}
+use Rattle.std.specs.Prelude.{◌≡◌, ◌≢◌, ◌⊎◌, ℕ, List, [], ◌∷◌, ◌++◌, codes, decimal, false, Option, Some, None, Result, Ok, Err, if◌then◌else◌}
 use Rattle.kfs_model.specs.Access.{Client}
 use Rattle.kfs_model.specs.Table.{get}
 use Rattle.kfs_model.specs.Tree.{headers}
@@ -19,7 +19,8 @@ use Rattle.kfs_plan.specs.declared.answers.BeginFault.{BeginFault}
 use Rattle.kfs_plan.specs.declared.answers.Done.{Done}
 use Rattle.kfs_plan.specs.declared.answers.Done.TheVariants.{Leased, Dropped, Ticked}
 use Rattle.kfs_plan.specs.declared.answers.Reply.{Reply}
-use Rattle.kfs_command.specs.Command.{Command, Setup, Request, OpeningCommand, New, Row, Begin, DeskCommand, Lease, Drop, Tick, Submit, Node, Listing, asked_by}
+use Rattle.kfs_command.specs.Command.{Command, Setup, Request, OpeningCommand, New, Row, Begin, DeskCommand, Lease, Drop, Tick, Submit, Node, Listing, Bytes, DocketLength, asked_by}
+use Rattle.kfs_engine.specs.Bytes.{read_text}
 use Rattle.kfs_engine.specs.Listing.{list_text}
 use Rattle.kfs_report.specs.Text.{act_text, begin_text, client_text, node_text, reply_text}
 use Rattle.kfs_text.specs.Parts.{line_of}
@@ -112,6 +113,10 @@ IsNone desk number outcome = (get (headers desk.state.tree) number ≡ None) × 
 abbrev pub names_line : Desk → (directory : ℕ) → List ℕ
 names_line desk directory = if is_directory (get (headers desk.state.tree) directory) then list_text directory desk.state.tree.names else codes "none"
 
+-- the line of how many rows the docket has
+abbrev pub docket_line : Desk → List ℕ
+docket_line desk = codes "docket " ++ decimal desk.rows
+
 -- ---- lines
 
 -- a command to the desk
@@ -122,6 +127,8 @@ Serves desk (Tick moment) outcome = IsCallAnswered desk (machine.Tick moment) Ti
 Serves desk (Submit submission) outcome = IsFull desk outcome ⊎ IsSubmitted desk submission outcome
 Serves desk (Node number) outcome = IsNone desk number outcome ⊎ IsNode desk number outcome
 Serves desk (Listing directory) outcome = IsSaid (names_line desk directory) (After desk) outcome
+Serves desk (Bytes number start count) outcome = IsSaid (read_text desk.state.tree number start count) (After desk) outcome
+Serves desk DocketLength outcome = IsSaid (docket_line desk) (After desk) outcome
 
 -- a command where it is due
 abbrev pub Does : Stage → Command → LineOutcome → Type 0
