@@ -1,5 +1,6 @@
--- There is no lease yet, and the image is lawful.
-use Rattle.std.proofs.Common.{◌≡◌, List, sym, ap, subst, ◌∙◌, arith}
+-- There is no lease yet, the image is lawful, and no client has a fault.
+use Rattle.std.proofs.Common.{◌≡◌, List, None, refl, sym, ap, subst, ◌∙◌, arith}
+use Rattle.std.specs.Prelude.{IfOk}
 use Rattle.std.specs.List.{AllByRecursion}
 use Rattle.kfs_model.specs.Access.{Client}
 use Rattle.kfs_model.specs.CleanStep.{IsClient}
@@ -12,6 +13,7 @@ use Rattle.kfs_model.specs.Table.{Table, numbers, get}
 use Rattle.kfs_device.specs.ShownTree.{shown_tree}
 use Rattle.kfs_mode.specs.Clients.{AreDistinct}
 use Rattle.kfs_desk.specs.Machine.{state_at}
+use Rattle.kfs_desk.proofs.Openings.{none_found}
 use Rattle.kfs_desk.proofs.desk.Desk.begin.Goals as goal
 
 pub invariant_of-result : goal.invariant_of-result
@@ -20,8 +22,11 @@ invariant_of-result g c =
     let lawful = c.shape-shape.ensures.lawful in
     let leases : c.in-Ok.leases.value ≡ no_leases = c.in-Ok.ensures.ok ∙ c.new.ensures in
     let clients = c.deref.ensures.value ∙ ap (λ v. v.items) (sym c.in-Ok-new.ensures.ok) in
-    let distinct = subst AreDistinct clients c.in_default.ensures.distinct in
-    let in_range = subst (λ (rows : List Client). AllByRecursion IsClient rows) clients c.in_default.ensures.in_range in
+    let found = none_found c.first_fault.result (sym c.unwrap_or-fault.ensures ∙ c.in_default.is) in
+    let none_twice = subst (λ r. IfOk r (λ fault. fault ≡ None → AreDistinct c.deref.result.now)) found c.first_fault.ensures.distinct refl in
+    let all_in_range = subst (λ r. IfOk r (λ fault. fault ≡ None → AllByRecursion IsClient c.deref.result.now)) found c.first_fault.ensures.in_range refl in
+    let distinct = subst AreDistinct clients none_twice in
+    let in_range = subst (λ (rows : List Client). AllByRecursion IsClient rows) clients all_in_range in
     let opened = opens_in_order c.in-Ok-new.clients.value.items image.sizes (shown_tree image) distinct in_range lawful.tree.sound in
     record {
       within_limit = omega arith;
