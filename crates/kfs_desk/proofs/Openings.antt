@@ -1,6 +1,6 @@
 -- The fault of a client, seen from its number and its grant.
-use Rattle.std.proofs.Common.{◌≡◌, ◌==◌, Bool, true, false, cond, List, length, Option, Some, None, Result, Ok, Err, ap, ◌∙◌}
-use Rattle.std.specs.Result.{result_unwrap_or}
+use Rattle.std.proofs.Common.{◌≡◌, ◌==◌, Bool, true, false, cond, List, length, Option, Some, None, Result, Ok, Err, sym, ap, ◌∙◌}
+use Rattle.std.specs.Result.{IfOk, result_unwrap_or}
 use Rattle.std.specs.List.{list_any}
 use Rattle.std.specs.declared.alloc.AllocError.{AllocError}
 use Rattle.kfs_model.specs.Access.{Client}
@@ -27,7 +27,7 @@ module _ (earlier : List Client) (client : Client) where
   pub no_fault : is_twice ≡ false → has_overlap ≡ false → fault_behind earlier client ≡ None
   no_fault new alone = ap (λ b. by_tests b has_overlap) new ∙ ap (λ b. by_tests false b) alone
 
--- without a fault, none was found
-pub none_found : (found : Result (Option BeginFault) AllocError) → result_unwrap_or found (Some OutOfMemory) ≡ None → found ≡ Ok None
-none_found (Ok fault) none = ap Ok none
-none_found (Err refused) none = cc
+-- what holds where no fault was found
+pub at_none : {P : Type 0} (found : Result (Option BeginFault) AllocError) {fault : Option BeginFault} → IfOk found (λ none. none ≡ None → P) → fault ≡ result_unwrap_or found (Some OutOfMemory) → fault ≡ None → P
+at_none (Ok here) holds is none = holds (sym is ∙ none)
+at_none (Err refused) holds is none = cc (is, none)
