@@ -3,6 +3,7 @@
 
 mod back;
 mod desk;
+mod first_fault;
 
 pub use back::BeginBack;
 pub use desk::Desk;
