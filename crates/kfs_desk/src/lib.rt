@@ -3,7 +3,10 @@
 
 mod back;
 mod desk;
+mod docket;
+mod state;
 
 pub use back::BeginBack;
 pub use desk::Desk;
+pub use kfs_docket::Docket;
 pub use kfs_plan::answers;
