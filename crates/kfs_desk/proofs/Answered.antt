@@ -22,11 +22,11 @@ use Rattle.kfs_desk.proofs.Dockets.{desk_with}
 use Rattle.kfs_desk.proofs.LandedBytes.{can_land_with, done_landed, fits_full, plan_filled, plan_whole, step_landed}
 
 -- what an answer at this place in the docket comes to
-pub record IsAnswer (s : State) (submission : Submission) (again : Bool) (position : ℕ) (answer : Reply) (t : State) : Type 0 where
+pub record IsAnswer (s : State) (submission : Submission) (again : Bool) (place : ℕ) (answer : Reply) (t : State) : Type 0 where
   pub step : (row : Row) × IsStep s submission answer row t
   pub judged : is_rejudged answer ≡ again
   pub meaning : Means s submission answer t
-  pub position : position_of answer ≡ position
+  pub position : position_of answer ≡ place
 
 module _ (desk : Parts) (is_desk : IsDesk desk) (lawful : IsLawful desk.image) (submission : Submission) (again : Bool) where
   abbrev s : State
@@ -35,6 +35,12 @@ module _ (desk : Parts) (is_desk : IsDesk desk) (lawful : IsLawful desk.image) (
   -- the state with this image and these leases
   abbrev at : DeviceImage → Leases → State
   at image leases = state_at image desk.clients leases
+
+  -- the same of an equal answer, and of an equal image
+  stays : (position : ℕ) (answer reply : Reply) (new : DeviceImage) → reply ≡ answer → new ≡ desk.image → IsAnswer s submission again position answer s → IsAnswer s submission again position reply (at new desk.leases)
+  stays position answer reply new said same is =
+      subst (λ r. IsAnswer s submission again position r (at new desk.leases)) (sym said)
+      (subst (λ image. IsAnswer s submission again position answer (at image desk.leases)) (sym same) is)
 
   module _ {A : Type 0} where
     pub can_land : (outcome : Outcome A) → IsVerdict s submission outcome → CanLand desk.image submission.log outcome
@@ -52,12 +58,6 @@ module _ (desk : Parts) (is_desk : IsDesk desk) (lawful : IsLawful desk.image) (
         by (No refusal) none = absurd none
 
     module _ (position : ℕ) where
-      -- the same of an equal answer, and of an equal image
-      stays : (answer reply : Reply) (new : DeviceImage) → reply ≡ answer → new ≡ desk.image → IsAnswer s submission again position answer s → IsAnswer s submission again position reply (at new desk.leases)
-      stays answer reply new said same is =
-          subst (λ r. IsAnswer s submission again position r (at new desk.leases)) (sym said)
-          (subst (λ image. IsAnswer s submission again position answer (at image desk.leases)) (sym same) is)
-
       refused : (fault : Fault) → IsVerdict {A = A} s submission (outcomes.No fault) → IsAnswer s submission again position (replies.No position again fault) s
       unfolding outcome_of reply_to
       refused fault is = by is.verdict is.judgement is.told
@@ -65,15 +65,18 @@ module _ (desk : Parts) (is_desk : IsDesk desk) (lawful : IsLawful desk.image) (
           by : (verdict : Verdict) → IsJudgement s submission verdict → Tells {A = A} s submission (outcomes.No fault) verdict → IsAnswer s submission again position (replies.No position again fault) s
           by (Yes after marked_after) judgement told = absurd told
           by (No refusal) judgement told = record {
-            step = (record { call = Submit submission judgement.reading; answer = Replied (Refused refusal); places = [] }, record {
-              reading = judgement.reading;
-              read = judgement.read;
-              asked = refl;
-              reply = Refused refusal;
-              said = ap (option_map Refused) told;
-              answered = refl;
-              fits = row_fits s s _ (ap (λ verdict. replied s [] verdict (reply_to s verdict)) (sym judgement.judgement));
-            });
+            step = (
+              record { call = Submit submission judgement.reading; answer = Replied (Refused refusal); places = [] },
+              record {
+                reading = judgement.reading;
+                read = judgement.read;
+                asked = refl;
+                reply = Refused refusal;
+                said = ap (option_map Refused) told;
+                answered = refl;
+                fits = row_fits s s _ (ap (λ verdict. replied s [] verdict (reply_to s verdict)) (sym judgement.judgement));
+              },
+            );
             judged = refl;
             meaning = refl;
             position = refl;
@@ -86,15 +89,18 @@ module _ (desk : Parts) (is_desk : IsDesk desk) (lawful : IsLawful desk.image) (
             by : (verdict : Verdict) → IsJudgement s submission verdict → Tells s submission (outcomes.Yes log plan net told) verdict
                 → IsAnswer s submission again position (replies.NoRoom position again told (free_in desk.image)) s
             by (Yes after marked_after) judgement told_so = record {
-              step = (record { call = Submit submission judgement.reading; answer = Replied (NoRoom told (free_in desk.image)); places = [] }, record {
-                reading = judgement.reading;
-                read = judgement.read;
-                asked = refl;
-                reply = NoRoom told (free_in desk.image);
-                said = refl;
-                answered = refl;
-                fits = fits_full desk is_desk lawful submission log plan net told after marked_after told_so full judgement.reading judgement.judgement;
-              });
+              step = (
+                record { call = Submit submission judgement.reading; answer = Replied (NoRoom told (free_in desk.image)); places = [] },
+                record {
+                  reading = judgement.reading;
+                  read = judgement.read;
+                  asked = refl;
+                  reply = NoRoom told (free_in desk.image);
+                  said = refl;
+                  answered = refl;
+                  fits = fits_full desk is_desk lawful submission log plan net told after marked_after told_so full judgement.reading judgement.judgement;
+                },
+              );
               judged = refl;
               meaning = refl;
               position = refl;
@@ -119,11 +125,11 @@ module _ (desk : Parts) (is_desk : IsDesk desk) (lawful : IsLawful desk.image) (
           → IsAnswer s submission again position reply (at new (leases_left desk.leases outcome reply))
       answers (outcomes.No fault) reply new is told =
           let (said, same) = told in
-          stays (replies.No position again fault) reply new said same (refused fault is)
+          stays position (replies.No position again fault) reply new said same (refused fault is)
       answers (outcomes.Yes log plan net need) (replies.No place rejudged fault) new is told = absurd told
       answers (outcomes.Yes log plan net need) (replies.NoRoom place rejudged n free) new is told =
           let (said, full, same) = told in
-          stays (replies.NoRoom position again need (free_in desk.image)) (replies.NoRoom place rejudged n free) new said same (without_room log plan net need is full)
+          stays position (replies.NoRoom position again need (free_in desk.image)) (replies.NoRoom place rejudged n free) new said same (without_room log plan net need is full)
       answers (outcomes.Yes log plan net need) (replies.Yes place rejudged n) new is told =
           let (said, room, has) = told in
           subst (λ r. IsAnswer s submission again position r (at new (ended_by desk.leases net.nodes.items))) (sym said) (landed log plan net need is room new has)

@@ -42,7 +42,8 @@ module _ (act : Act) (answer : Result Done CodeFault) (new : Leases) where
       let looked = subst (λ s. IsChange (outcome_at desk.leases s clients act) (done_by act) answer new) shown is in
       change_is_step (state_of desk) (subst (λ rows. IsChange (outcome_at desk.leases (sight (shown_tree desk.image)) rows act) (done_by act) answer new) clients_are looked)
 
-  -- A call for the leases has no bytes.
+module _ (act : Act) (answer : Result Done CodeFault) where
+  -- a call for the leases has no bytes
   act_read : (s t : State) (row : Row) → IsLeaseStep s (call_of act) (done_by act) answer row t → IsRead row
   act_read s t row step = subst (λ (call : Call). IsRead (record row { call = call })) (sym step.asked) (read act)
     where

@@ -73,8 +73,7 @@ returns-clause-rejudged g c =
     let is : IsAnswer (state_of desk) submission c.in_ok-judged.rejudged c.len-position.result reply (state_of new) =
     answered desk c.self.invariant c.current.ensures.lawful submission c.in_ok-judged.rejudged c.len-position.result outcome reply c.land.new.image c.land.new.leases.value c.in_ok-judged.ensures.verdict told c.in_ok-reply.ensures.leases in
     let state = ap (λ (d : Desk). d.state) c.self.view_is in
-    let same = c.in_ok-judged.ensures.again in
-    (
+    let same = c.in_ok-judged.ensures.again in (
       (λ once. subst (λ s. IsCurrent s c.args.judged) state (same.0 (sym is.judged ∙ once))),
       (λ current. is.judged ∙ same.1 (subst (λ s. IsCurrent s c.args.judged) (sym state) current)),
     )
