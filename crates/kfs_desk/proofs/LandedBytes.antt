@@ -1,5 +1,5 @@
 -- A Yes lands with its bytes: with the fill of its log it makes the machine's step, and without room nothing changes.
-use Rattle.std.proofs.Common.{◌≡◌, Bool, ℕ, ◌<◌, ◌≤◌, false, cond, List, [], length, Some, None, Result, Ok, refl, sym, ap, subst, ◌∙◌, le-ltb, lt-ltb}
+use Rattle.std.proofs.Common.{◌≡◌, Bool, ℕ, ◌<◌, ◌≤◌, cond, List, [], length, Some, None, Result, Ok, refl, sym, ap, subst, ◌∙◌, le-ltb, lt-ltb}
 use Rattle.std.specs.List.{AllByRecursion}
 use Rattle.kfs_model.specs.Entry.{Entry}
 use Rattle.kfs_model.specs.Judgement.{Accepted, IsJudgement, NoRoom, Reading, State, Submission, Yes, client_sight_of, free_places, reply_to, verdict_on}

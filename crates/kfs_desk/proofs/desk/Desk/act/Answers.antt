@@ -1,5 +1,5 @@
 -- The call is a step of the machine, which leaves the tree, and its row is the docket's next.
-use Rattle.std.proofs.Common.{◌+◌, ◌<◌, ◌≤◌, length, refl, sym, ap, subst, ◌∙◌, arith}
+use Rattle.std.proofs.Common.{◌<◌, length, refl, sym, ap, subst, ◌∙◌, arith}
 use Rattle.kfs_mode.specs.Clients.{AreDistinct}
 use Rattle.kfs_model.specs.Machine.{Row}
 use Rattle.kfs_desk.specs.Machine.{Desk, Parts, IsActed, IsLeaseStep, call_of, done_by, shown, state_of}

@@ -1,6 +1,5 @@
 -- A verdict that holds now, or is made again, lands as the machine's step, whose row is the docket's next.
-use Rattle.std.proofs.Common.{Bool, ap, ◌+◌, ◌<◌, length, sym, subst, refl, ◌∙◌, arith}
-use Rattle.kfs_model.specs.Judgement.{State, Submission}
+use Rattle.std.proofs.Common.{Bool, ap, ◌<◌, length, sym, subst, refl, ◌∙◌, arith}
 use Rattle.kfs_model.specs.Machine.{Row}
 use Rattle.kfs_plan.specs.Judging.{submission_of}
 use Rattle.kfs_desk.specs.Landing.{Answers, CanLand}
