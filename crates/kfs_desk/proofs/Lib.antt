@@ -1,5 +1,6 @@
 pub mod Answered
 pub mod ClientRows
+pub mod Dockets
 pub mod GrantedNumbers
 pub mod Granting
 pub mod Histories

@@ -1,11 +1,12 @@
 //! The desk: it owns the image and the leases, and lands what was judged.
-ghost use Rattle.std.specs.Prelude.{◌≡◌, ◌↔◌, ◌⊎◌, false, ◌+◌, ◌≤◌, ◌<◌, ◌++◌, ◌∷◌, [], IfOk, IfErr, OnErr, OnOk, IsErrOf, IsFalse, IsTrue, Ok, Err, None, Some};
+ghost use Rattle.std.specs.Prelude.{◌≡◌, ◌↔◌, ◌⊎◌, false, ◌+◌, ◌≤◌, ◌<◌, ◌++◌, ◌∷◌, [], IfOk, IfErr, OnErr, OnOk, IsErrOf, IsFalse, IsTrue, Ok, Err, None, Some, length};
 ghost use Rattle.std.specs.List.{AllByRecursion};
 ghost use Rattle.kfs_model.specs.Order.{IsInOrder};
 ghost use Rattle.kfs_model.specs.Plan.{Ascend};
 ghost use Rattle.kfs_model.specs.Machine as machine;
 ghost use Rattle.kfs_model.specs.Machine.{opening};
 ghost use Rattle.kfs_model.specs.Table.{empty};
+ghost use Rattle.kfs_docket.specs.Legal.{LeadsTo};
 ghost use Rattle.kfs_mode.specs.Clients.{AreDistinct};
 ghost use Rattle.kfs_lease.specs.Faults as refusals;
 ghost use Rattle.kfs_lease_rows.specs.Rows.{kind_of};
@@ -18,13 +19,16 @@ ghost use Rattle.kfs_fill.specs.FillOf.{CanLandWith, HasLandedWith};
 ghost use Rattle.kfs_check.specs.View.{clients_of, contents_of, leases_of};
 ghost use Rattle.kfs_plan.specs.Judging.{IsVerdict, submission_of};
 ghost use Rattle.kfs_desk.specs.Landing.{Answers, CanLand, ended_by, ended_with, leases_left};
-ghost use Rattle.kfs_desk.specs.Machine.{IsAnswered, IsBackFor, IsCallOf, IsChangeOf, IsCurrent, IsImageOf, IsViewOf, RunsThrough, call_of, done_by, number_of, outcome_at, state_at};
+ghost use Rattle.kfs_desk.specs.Machine.{IsAnswered, IsBackFor, IsCallOf, IsChangeOf, IsCurrent, IsImageOf, IsViewOf, RunsThrough, call_of, done_by, number_of, opened_at, outcome_at, state_at};
 ghost use Rattle.kfs_desk.specs.Docket.{is_rejudged};
 ghost use Rattle.kfs_desk.specs.Opening.{begin_fault};
 ghost use Rattle.kfs_value.specs.Room.{Appends, spare_of};
 
 use crate::back::BeginBack;
+use crate::docket::{add_act, add_answer};
 use crate::first_fault::first_fault;
+use crate::state::ShownState;
+use kfs_docket::Docket;
 use kfs_entry::NodeRow;
 use kfs_fill::{LogBytes, land_bytes};
 use kfs_image::{Image, Net, Shape};
@@ -35,17 +39,19 @@ use kfs_plan::answers::{Act, ActReply, BeginFault, Done, Reply, SubmissionsBack,
 use kfs_plan::{Back, Judged, Outcome, Submission, Why, judge};
 use std::alloc::{AllocError, Allocator};
 use std::marker::Model;
+use std::snapshot::Snapshot;
 use std::sync::Arc;
 
-/// The image, the clients, their leases, and the length of the docket, which has a row for each call
-/// that was answered, refusals included. Its state is in order.
+/// The image, the clients, their leases, and the docket, which has a row for each call that was
+/// answered, refusals included. The docket leads from the state of the start to the state of now, which is in order.
 #[derive(Drop)]
 pub struct Desk<A: Allocator> {
     alloc: A,
     image: Image<A>,
     clients: Arc<Vec<Client, A>, A>,
     leases: Arc<Leases<A>, A>,
-    rows: u32,
+    opening: ShownState<A>,
+    docket: Docket,
     limit: u32,
 }
 
@@ -54,9 +60,9 @@ impl<A: Allocator> Model for Desk<A> {
 
     ghost Value = { DeskShown };
 
-    ghost view = { λ d. shown (record { image = d.image; clients = d.clients.value.items; leases = d.leases.value; rows = d.rows; limit = d.limit }) };
+    ghost view = { λ d. shown (record { image = d.image; clients = d.clients.value.items; leases = d.leases.value; opening = d.opening; docket = d.docket; limit = d.limit }) };
 
-    ghost invariant = { λ d. IsDesk (record { image = d.image; clients = d.clients.value.items; leases = d.leases.value; rows = d.rows; limit = d.limit }) };
+    ghost invariant = { λ d. IsDesk (record { image = d.image; clients = d.clients.value.items; leases = d.leases.value; opening = d.opening; docket = d.docket; limit = d.limit }) };
 }
 
 impl<A: Allocator + Copy> Desk<A> {
@@ -67,7 +73,7 @@ impl<A: Allocator + Copy> Desk<A> {
         clients: Vec<Client, A>,
         limit: u32,
     ) -> Result<Desk<A>, BeginBack<A>>
-        ensures ok { IfOk result (λ desk. desk ≡ record { state = opening clients.items image.sizes (shown_tree image) image.placement; rows = 0; limit = limit }) }
+        ensures ok { IfOk result (λ desk. desk ≡ opened_at (opening clients.items image.sizes (shown_tree image) image.placement) limit) }
         ensures back { IfErr result (λ back. (back.image ≡ image) × (back.clients ≡ clients)) }
         ensures fit { OnOk result (begin_fault clients.items ≡ None) }
 
@@ -94,10 +100,11 @@ impl<A: Allocator + Copy> Desk<A> {
         match Arc::new(alloc, clients) {
             Ok(clients) => Ok(Desk {
                 alloc,
+                opening: ShownState::of(&image, &clients, &leases),
                 image,
                 clients,
                 leases,
-                rows: 0,
+                docket: Docket::new(),
                 limit,
             }),
             Err(refused) => Err(BeginBack {
@@ -108,11 +115,12 @@ impl<A: Allocator + Copy> Desk<A> {
         }
     }
 
-    /// How many rows the docket has. Takes no memory.
-    pub fn docket_len(&self) -> u32
-        ensures { result ≡ self.now.rows }
+    /// The docket, which leads from the state that the desk began with to the state of now.
+    pub fn docket(&self) -> &Docket
+        ensures shown { result.now ≡ self.now.docket }
+        ensures legal { LeadsTo self.now.opening self.now.docket self.now.state }
     {
-        self.rows
+        &self.docket
     }
 
     /// The image of now. The desk's state is in order, as each call leaves it.
@@ -160,10 +168,12 @@ impl<A: Allocator + Copy> Desk<A> {
         ensures { IsCallOf self.old (call_of act.entry) (done_by act.entry) result self.new }
     {
         let position = self.next_row()?;
+        let before = ShownState::of(&self.image, &self.clients, &self.leases);
         let shape = self.image.shape();
         let clients = &self.clients;
         let answer = change(&mut self.leases, shape, clients, act)?;
-        self.rows = position + 1;
+        let after = ShownState::of(&self.image, &self.clients, &self.leases);
+        add_act(&mut self.docket, &before, &act, &answer, &after);
         Ok(ActReply { position, answer })
     }
 
@@ -172,7 +182,7 @@ impl<A: Allocator + Copy> Desk<A> {
     /// other answer leaves it as it is. A submission that isn't answered comes back, and the desk is as
     /// it was.
     pub fn submit(&mut self, submission: Submission<A>) -> Result<Reply, Back<A>>
-        ensures full { IsBackFor result Why.DocketFull ↔ (self.old.rows ≡ self.old.limit) }
+        ensures full { IsBackFor result Why.DocketFull ↔ (length self.old.docket ≡ self.old.limit) }
         ensures answered { IfOk result (λ reply. IsAnswered self.old (submission_of submission) false reply self.new) }
         ensures back { IfErr result (λ back. (back.submission ≡ submission) × (self.new ≡ self.old)) }
     {
@@ -180,7 +190,9 @@ impl<A: Allocator + Copy> Desk<A> {
             let why = Why::DocketFull;
             return Err(Back { submission, why });
         }
-        let position = self.rows;
+        let position = self.docket.len();
+        let before = ShownState::of(&self.image, &self.clients, &self.leases);
+        let handed_in = Snapshot::of(&submission);
         let judged = judged(
             self.alloc,
             &self.image,
@@ -196,7 +208,8 @@ impl<A: Allocator + Copy> Desk<A> {
             false,
             judged,
         )?;
-        self.rows = position + 1;
+        let after = ShownState::of(&self.image, &self.clients, &self.leases);
+        add_answer(&mut self.docket, &before, &handed_in, &reply, &after);
         Ok(reply)
     }
 
@@ -211,7 +224,7 @@ impl<A: Allocator + Copy> Desk<A> {
     /// in the state of now, the submission is judged again. A submission that isn't answered comes back,
     /// and the desk is as it was.
     pub fn land(&mut self, judged: Judged<A>) -> Result<Reply, Back<A>>
-        ensures full { IsBackFor result Why.DocketFull ↔ (self.old.rows ≡ self.old.limit) }
+        ensures full { IsBackFor result Why.DocketFull ↔ (length self.old.docket ≡ self.old.limit) }
         ensures answered { IfOk result (λ reply. IsAnswered self.old (submission_of judged.submission) (is_rejudged reply) reply self.new) }
         ensures rejudged { IfOk result (λ reply. IsFalse (is_rejudged reply) ↔ IsCurrent self.old.state judged) }
         ensures back { IfErr result (λ back. (back.submission ≡ judged.submission) × (self.new ≡ self.old)) }
@@ -221,7 +234,9 @@ impl<A: Allocator + Copy> Desk<A> {
             let why = Why::DocketFull;
             return Err(Back { submission, why });
         }
-        let position = self.rows;
+        let position = self.docket.len();
+        let before = ShownState::of(&self.image, &self.clients, &self.leases);
+        let handed_in = Snapshot::of(judged.submission());
         let (judged, rejudged) = current(
             self.alloc,
             &self.image,
@@ -237,7 +252,8 @@ impl<A: Allocator + Copy> Desk<A> {
             rejudged,
             judged,
         )?;
-        self.rows = position + 1;
+        let after = ShownState::of(&self.image, &self.clients, &self.leases);
+        add_answer(&mut self.docket, &before, &handed_in, &reply, &after);
         Ok(reply)
     }
 
@@ -263,22 +279,22 @@ impl<A: Allocator + Copy> Desk<A> {
 
     /// The place of the docket's next row.
     fn next_row(&self) -> Result<u32, Unanswered>
-        ensures full { IsErrOf result Unanswered.DocketFull ↔ (self.now.rows ≡ self.now.limit) }
-        ensures row { IfOk result (λ row. (row ≡ self.now.rows) × row < self.now.limit) }
+        ensures full { IsErrOf result Unanswered.DocketFull ↔ (length self.now.docket ≡ self.now.limit) }
+        ensures row { IfOk result (λ row. (row ≡ length self.now.docket) × row < self.now.limit) }
         ensures only { IfErr result (λ why. why ≡ Unanswered.DocketFull) }
     {
         if self.is_full() {
             return Err(Unanswered::DocketFull);
         }
-        Ok(self.rows)
+        Ok(self.docket.len())
     }
 
     /// Whether the docket has as many rows as its limit allows.
     fn is_full(&self) -> bool
-        ensures full { IsTrue result ↔ (self.now.rows ≡ self.now.limit) }
-        ensures room { IsFalse result → self.now.rows < self.now.limit }
+        ensures full { IsTrue result ↔ (length self.now.docket ≡ self.now.limit) }
+        ensures room { IsFalse result → length self.now.docket < self.now.limit }
     {
-        self.rows == self.limit
+        self.docket.len() == self.limit
     }
 }
 
