@@ -1,7 +1,6 @@
 //! The desk: it owns the image and the leases, and lands what was judged.
-ghost use Rattle.std.specs.Prelude.{◌≡◌, ◌↔◌, false, ◌+◌, ◌≤◌, ◌<◌, ◌==◌, ◌++◌, ◌∷◌, [], IfOk, IfErr, OnErr, OnOk, IfNone, IsErrOf, IsFalse, IsTrue, Ok, Err, None, length, unwrap_or};
-ghost use Rattle.std.specs.List.{list_any, AllByRecursion};
-ghost use Rattle.kfs_model.specs.CleanStep.{IsClient};
+ghost use Rattle.std.specs.Prelude.{◌≡◌, ◌↔◌, ◌⊎◌, false, ◌+◌, ◌≤◌, ◌<◌, ◌++◌, ◌∷◌, [], IfOk, IfErr, OnErr, OnOk, IsErrOf, IsFalse, IsTrue, Ok, Err, None, Some, length};
+ghost use Rattle.std.specs.List.{AllByRecursion};
 ghost use Rattle.kfs_model.specs.Order.{IsInOrder};
 ghost use Rattle.kfs_model.specs.Plan.{Ascend};
 ghost use Rattle.kfs_model.specs.Machine as machine;
@@ -22,11 +21,12 @@ ghost use Rattle.kfs_plan.specs.Judging.{IsVerdict, submission_of};
 ghost use Rattle.kfs_desk.specs.Landing.{Answers, CanLand, ended_by, ended_with, leases_left};
 ghost use Rattle.kfs_desk.specs.Machine.{IsAnswered, IsBackFor, IsCallOf, IsChangeOf, IsCurrent, IsImageOf, IsViewOf, RunsThrough, call_of, done_by, number_of, opened_at, outcome_at, state_at};
 ghost use Rattle.kfs_desk.specs.Docket.{is_rejudged};
-ghost use Rattle.kfs_desk.specs.Opening.{begin_fault, do_overlap, fault_behind};
+ghost use Rattle.kfs_desk.specs.Opening.{begin_fault};
 ghost use Rattle.kfs_value.specs.Room.{Appends, spare_of};
 
 use crate::back::BeginBack;
 use crate::docket::{add_act, add_answer};
+use crate::first_fault::first_fault;
 use crate::state::ShownState;
 use kfs_docket::Docket;
 use kfs_entry::NodeRow;
@@ -77,12 +77,12 @@ impl<A: Allocator + Copy> Desk<A> {
         ensures back { IfErr result (λ back. (back.image ≡ image) × (back.clients ≡ clients)) }
         ensures fit { OnOk result (begin_fault clients.items ≡ None) }
 
-        // Where the clients have a fault, it is named; else a growth was refused.
-        ensures why { IfErr result (λ back. back.why ≡ unwrap_or (begin_fault clients.items) BeginFault.OutOfMemory) }
+        // The fault of the clients, or a growth was refused, which may be at any clients.
+        ensures why { IfErr result (λ back. (back.why ≡ BeginFault.OutOfMemory) ⊎ (begin_fault clients.items ≡ Some back.why)) }
     {
         // An image is lawful.
         let _shape = image.shape();
-        let fault = first_fault(&clients);
+        let fault = first_fault(alloc, &clients).unwrap_or(Some(BeginFault::OutOfMemory));
         if let Some(why) = fault {
             return Err(BeginBack {
                 image,
@@ -523,54 +523,4 @@ fn end_leases_on<A: Allocator>(leases: &mut Leases<A>, row: &NodeRow)
     if row.now.is_none() {
         leases.remove_node(row.number);
     }
-}
-
-/// Why a desk can't have these clients: the fault of the first that can't stand behind the earlier ones.
-fn first_fault(clients: &[Client]) -> Option<BeginFault>
-    ensures first { result ≡ begin_fault clients.now }
-    ensures distinct { IfNone result (AreDistinct clients.now) }
-    ensures in_range { IfNone result (AllByRecursion IsClient clients.now) }
-{
-    for (index, client) in clients.iter().enumerate() {
-        let fault = fault_of(&clients[..index], client);
-        if fault.is_some() {
-            return fault;
-        }
-    }
-    None
-}
-
-/// Why the client can't stand behind these: its number before its grant.
-fn fault_of(earlier: &[Client], client: &Client) -> Option<BeginFault>
-    ensures fault { result ≡ fault_behind earlier.now client.now }
-    ensures in_range { IsClient client.now }
-{
-    if has_number(earlier, client.number()) {
-        return Some(BeginFault::ClientTwice(earlier.len()));
-    }
-    if has_overlap(earlier, client) {
-        return Some(BeginFault::GrantOverlap(earlier.len()));
-    }
-    None
-}
-
-fn has_number(clients: &[Client], number: u32) -> bool
-    ensures { result ≡ list_any (λ row. row.number == number) clients.now }
-{
-    clients.iter().any(|client| client.number() == number)
-}
-
-fn has_overlap(clients: &[Client], client: &Client) -> bool
-    ensures { result ≡ list_any (λ row. do_overlap row client.now) clients.now }
-{
-    clients.iter().any(|other| grants_overlap(other, client))
-}
-
-/// Whether a number is in both grants. A grant whose first number is above its last is empty.
-fn grants_overlap(one: &Client, other: &Client) -> bool
-    ensures { result ≡ do_overlap one.now other.now }
-{
-    let (first, last) = one.grant();
-    let (other_first, other_last) = other.grant();
-    first.max(other_first) <= last.min(other_last)
 }

@@ -4,6 +4,7 @@
 mod back;
 mod desk;
 mod docket;
+mod first_fault;
 mod state;
 
 pub use back::BeginBack;

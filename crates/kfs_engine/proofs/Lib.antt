@@ -1,4 +1,4 @@
 -- Lemmas on sessions.
+pub mod BytesSaid
 pub mod Conversations
 pub mod Listed
-pub mod Reads
