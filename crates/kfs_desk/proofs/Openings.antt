@@ -6,7 +6,7 @@ use Rattle.std.specs.declared.alloc.AllocError.{AllocError}
 use Rattle.kfs_model.specs.Access.{Client}
 use Rattle.kfs_plan.specs.declared.answers.BeginFault.{BeginFault}
 use Rattle.kfs_plan.specs.declared.answers.BeginFault.TheVariants.{ClientTwice, GrantOverlap, OutOfMemory}
-use Rattle.kfs_desk.specs.Opening.{begin_fault, do_overlap, fault_behind}
+use Rattle.kfs_desk.specs.Opening.{do_overlap, fault_behind}
 
 module _ (earlier : List Client) (client : Client) where
   abbrev pub is_twice : Bool
@@ -32,7 +32,7 @@ pub at_none : {P : Type 0} (found : Result (Option BeginFault) AllocError) {faul
 at_none (Ok here) holds is none = holds (sym is ∙ none)
 at_none (Err refused) holds is none = cc (is, none)
 
--- nor have the clients one then
-pub none_first : (found : Result (Option BeginFault) AllocError) {fault : Option BeginFault} (clients : List Client) → IfOk found (λ here. here ≡ begin_fault clients) → fault ≡ result_unwrap_or found (Some OutOfMemory) → fault ≡ None → begin_fault clients ≡ None
-none_first (Ok here) clients is told none = sym is ∙ sym told ∙ none
-none_first (Err refused) clients is told none = cc (told, none)
+-- it is what the clients come to, then
+pub none_found : {said : Option BeginFault} (found : Result (Option BeginFault) AllocError) {fault : Option BeginFault} → IfOk found (λ none. none ≡ said) → fault ≡ result_unwrap_or found (Some OutOfMemory) → fault ≡ None → said ≡ None
+none_found (Ok here) holds is none = sym holds ∙ sym is ∙ none
+none_found (Err refused) holds is none = cc (is, none)
