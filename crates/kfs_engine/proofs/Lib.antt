@@ -1,4 +1,3 @@
 -- Lemmas on sessions.
-pub mod BytesSaid
 pub mod Conversations
 pub mod Listed
