@@ -2,8 +2,8 @@
 use Rattle.std.proofs.Common.{◌≡◌, ℕ, nat_lt, ◌==◌, ◌&&◌, List, [], ◌∷◌, length, take, Option, Some, None, option_map, refl, sym, ap, ◌∙◌, Bool, true, false, if◌then◌else◌}
 use Rattle.kfs_plan.specs.Judging.{submission_with}
 use Rattle.kfs_model.specs.Steps.{◌>>=◌}
-use Rattle.kfs_command.specs.Command.{Command, Setup, Request, Row, Begin, Lease, Drop, Tick, Submit, Node, Listing, asked_by, asked_in, client_of, client_row, command_of, drop_of, kind_named, lease_of, new_of, submit_of, with_number}
-use Rattle.kfs_command.specs.Reading.{begin_of, command_named, listing_of, named_by, node_of, tick_of}
+use Rattle.kfs_command.specs.Command.{Command, Setup, Request, Row, Begin, Lease, Drop, Tick, Submit, Node, Listing, Bytes, DocketLength, asked_by, asked_in, client_of, client_row, command_of, drop_of, kind_named, lease_of, new_of, read_limit, read_of, submit_of, with_number}
+use Rattle.kfs_command.specs.Reading.{begin_of, command_named, docket_of, listing_of, named_by, node_of, tick_of}
 use Rattle.kfs_text.specs.Cut.{cut, space}
 use Rattle.kfs_text.specs.Decimals.{decimal32, decimal64, decimal_within, decimals32, hexadecimal}
 use Rattle.kfs_text.specs.Reading.{are_words, checked, ended, first_by, only}
@@ -80,6 +80,33 @@ drop_steps words =
     ∙ bind_all (first_by decimal32 words) _ _ (λ x. checked_then decimal32 _ x.1
     ∙ bind_all (first_by decimal32 x.1) _ _ (λ y. checked_nothing _ y.1))
 
+-- ---- read
+
+read_then : (words : List (List ℕ)) → read_of words ≡ word_then decimal32 (λ a. word_then decimal64 (λ b. word_then (decimal_within read_limit) (λ c. nothing_then (Some (Request (Bytes a b c)))))) words
+unfolding ended word_then nothing_then
+read_then [] = refl
+read_then (a ∷ []) = bind_none (decimal32 a) _ (λ x. refl)
+read_then (a ∷ b ∷ []) = bind_none (decimal32 a) _ (λ x. sym (bind_none (decimal64 b) _ (λ y. refl)))
+read_then (a ∷ b ∷ c ∷ []) = refl
+read_then (a ∷ b ∷ c ∷ d ∷ words) = bind_none (decimal32 a) _ (λ x. sym (bind_none (decimal64 b) _ (λ y. sym (bind_none (decimal_within read_limit c) _ (λ z. refl)))))
+
+pub read_steps : (words : List (List ℕ)) → checked read_of words ≡ (first_by decimal32 words >>= λ x. first_by decimal64 x.1 >>= λ y. first_by (decimal_within read_limit) y.1 >>= λ z. ended z.1 >>= λ done. Some (Request (Bytes x.0 y.0 z.0)))
+read_steps words =
+    checked_same _ _ read_then words ∙ checked_then decimal32 _ words
+    ∙ bind_all (first_by decimal32 words) _ _ (λ x. checked_then decimal64 _ x.1
+    ∙ bind_all (first_by decimal64 x.1) _ _ (λ y. checked_then (decimal_within read_limit) _ y.1
+    ∙ bind_all (first_by (decimal_within read_limit) y.1) _ _ (λ z. checked_nothing _ z.1)))
+
+-- ---- docket
+
+docket_then : (words : List (List ℕ)) → docket_of words ≡ nothing_then (Some (Request DocketLength)) words
+unfolding docket_of ended nothing_then
+docket_then [] = refl
+docket_then (a ∷ words) = refl
+
+pub docket_steps : (words : List (List ℕ)) → checked docket_of words ≡ (ended words >>= λ done. Some (Request DocketLength))
+docket_steps words = checked_same _ _ docket_then words ∙ checked_nothing _ words
+
 -- ---- submit
 
 submit_then : (words : List (List ℕ)) → submit_of words ≡ word_then decimal32 (λ a. word_then hexadecimal (λ b. word_then hexadecimal (λ c. nothing_then (Some (Request (Submit (submission_with a b c))))))) words
@@ -152,7 +179,7 @@ name_or false name others other words same = same
 
 -- a word's command is that of its name
 pub command_by_name : (word : List ℕ) (name : Option Name) → name ≡ named_by word → (words : List (List ℕ)) → command_of word words ≡ command_named name words
-unfolding begin_of tick_of node_of listing_of
+unfolding begin_of tick_of node_of listing_of docket_of
 command_by_name word name is words =
     name_or (bytes_eq word (codes "new")) names.New _ _ words
     (name_or (bytes_eq word (codes "client")) names.Client _ _ words
@@ -162,7 +189,9 @@ command_by_name word name is words =
     (name_or (bytes_eq word (codes "tick")) names.Tick _ _ words
     (name_or (bytes_eq word (codes "submit")) names.Submit _ _ words
     (name_or (bytes_eq word (codes "node")) names.Node _ _ words
-    (name_or (bytes_eq word (codes "list")) names.List None None words refl))))))))
+    (name_or (bytes_eq word (codes "list")) names.List _ _ words
+    (name_or (bytes_eq word (codes "read")) names.Read _ _ words
+    (name_or (bytes_eq word (codes "docket")) names.Docket None None words refl))))))))))
     ∙ ap (λ n. command_named n words) (sym is)
 
 -- a word that names nothing begins no command

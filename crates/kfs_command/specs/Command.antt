@@ -27,6 +27,8 @@ pub data DeskCommand : Type 0 where
   Submit : (submission : Submission) → DeskCommand
   Node : (number : ℕ) → DeskCommand
   Listing : (directory : ℕ) → DeskCommand
+  Bytes : (number start count : ℕ) → DeskCommand
+  DocketLength : DeskCommand
 
 pub data Command : Type 0 where
   Setup : (command : OpeningCommand) → Command
@@ -89,6 +91,23 @@ submit_of (a ∷ b ∷ c ∷ []) = do
   Some (Request (Submit (submission_with client log plan)))
 submit_of words = None
 
+-- at most this many bytes are asked for at once
+abbrev pub read_limit : ℕ
+read_limit = 65536
+
+abbrev pub read_of : List (List ℕ) → Option Command
+read_of (a ∷ b ∷ c ∷ []) = do
+  number ← decimal32 a
+  start ← decimal64 b
+  count ← decimal_within read_limit c
+  Some (Request (Bytes number start count))
+read_of words = None
+
+-- a command of no word
+abbrev pub alone : Command → List (List ℕ) → Option Command
+alone command [] = Some command
+alone command words = None
+
 -- a command with one number alone
 abbrev pub with_number : (List ℕ → Option ℕ) → (ℕ → Command) → List (List ℕ) → Option Command
 with_number number command (a ∷ []) = option_map command (number a)
@@ -107,6 +126,8 @@ command_of name words =
     else if bytes_eq name (codes "submit") then submit_of words
     else if bytes_eq name (codes "node") then with_number decimal32 (λ number. Request (Node number)) words
     else if bytes_eq name (codes "list") then with_number decimal32 (λ directory. Request (Listing directory)) words
+    else if bytes_eq name (codes "read") then read_of words
+    else if bytes_eq name (codes "docket") then alone (Request DocketLength) words
     else None
 
 abbrev pub asked_in : List (List ℕ) → Option Command

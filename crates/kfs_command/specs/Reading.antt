@@ -1,6 +1,6 @@
 -- The commands by their names.
 use Rattle.std.specs.Prelude.{ℕ, List, codes, bytes_eq, Option, Some, None, if◌then◌else◌}
-use Rattle.kfs_command.specs.Command.{Command, Setup, Begin, Request, Tick, Node, Listing, client_of, drop_of, lease_of, new_of, submit_of, with_number}
+use Rattle.kfs_command.specs.Command.{Command, Setup, Begin, Request, Tick, Node, Listing, DocketLength, alone, client_of, drop_of, lease_of, new_of, read_of, submit_of, with_number}
 use Rattle.kfs_command.specs.declared.command.Name.{Name}
 use Rattle.kfs_command.specs.declared.command.Name.TheVariants as names
 use Rattle.kfs_text.specs.Decimals.{decimal32, decimal64}
@@ -19,6 +19,9 @@ node_of = with_number decimal32 (λ number. Request (Node number))
 unfoldable pub listing_of : List (List ℕ) → Option Command
 listing_of = with_number decimal32 (λ directory. Request (Listing directory))
 
+unfoldable pub docket_of : List (List ℕ) → Option Command
+docket_of = alone (Request DocketLength)
+
 -- the command that a word names
 abbrev pub named_by : (word : List ℕ) → Option Name
 named_by word =
@@ -31,6 +34,8 @@ named_by word =
     else if bytes_eq word (codes "submit") then Some names.Submit
     else if bytes_eq word (codes "node") then Some names.Node
     else if bytes_eq word (codes "list") then Some names.List
+    else if bytes_eq word (codes "read") then Some names.Read
+    else if bytes_eq word (codes "docket") then Some names.Docket
     else None
 
 abbrev pub command_named : Option Name → List (List ℕ) → Option Command
@@ -44,3 +49,5 @@ command_named (Some names.Tick) words = tick_of words
 command_named (Some names.Submit) words = submit_of words
 command_named (Some names.Node) words = node_of words
 command_named (Some names.List) words = listing_of words
+command_named (Some names.Read) words = read_of words
+command_named (Some names.Docket) words = docket_of words

@@ -27,6 +27,8 @@ module _ {A : Type 0} where
   asked_of_desk (desk.Submit submission) = commands.Submit (submission_of submission)
   asked_of_desk (desk.Node number) = commands.Node number
   asked_of_desk (desk.List number) = commands.Listing number
+  asked_of_desk (desk.Read number start count) = commands.Bytes number start count
+  asked_of_desk desk.Docket = commands.DocketLength
 
   abbrev pub asked_of : Command A → commands.Command
   asked_of (read.Opening command) = commands.Setup (opening_of command)

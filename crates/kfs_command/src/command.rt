@@ -2,9 +2,9 @@
 ghost use Rattle.std.specs.Prelude.{◌≡◌, ℕ, List, true, false, IfOk, IsErrOf, None, Some};
 ghost use Rattle.kfs_lease_rows.specs.Rows.{kind_of};
 ghost use Rattle.kfs_plan.specs.Judging.{submission_of};
-ghost use Rattle.kfs_command.specs.Command.{Listing as ListingLine, Node as NodeLine, Request, Setup, Submit as SubmitLine, asked_by, client_of, drop_of, kind_named, lease_of, new_of, submit_of};
-ghost use Rattle.kfs_command.specs.Reading.{begin_of, command_named, listing_of, named_by, node_of, tick_of};
-ghost use Rattle.kfs_command.specs.Views.{act_of, asked_of, opening_of};
+ghost use Rattle.kfs_command.specs.Command.{Listing as ListingLine, Node as NodeLine, Request, Setup, Submit as SubmitLine, asked_by, client_of, drop_of, kind_named, lease_of, new_of, read_of, submit_of};
+ghost use Rattle.kfs_command.specs.Reading.{begin_of, command_named, docket_of, listing_of, named_by, node_of, tick_of};
+ghost use Rattle.kfs_command.specs.Views.{act_of, asked_of, asked_of_desk, opening_of};
 ghost use Rattle.kfs_text.specs.Reading.{ReadsAs, checked, first_by, words_left};
 
 use kfs_lease::{Act, LeaseKind};
@@ -13,6 +13,9 @@ use kfs_nodes::TierSizes;
 use kfs_plan::Submission;
 use kfs_text::{Refusal, Words};
 use std::alloc::Allocator;
+
+/// The most bytes that a line may ask for.
+const READ_LIMIT: u64 = 65_536;
 
 /// A command with its words read.
 #[derive(Drop)]
@@ -43,6 +46,10 @@ pub enum DeskCommand<'a, A: Allocator> {
     Node(u32),
     /// `list N`: the names of a directory.
     List(u32),
+    /// `read N START LEN`: at most LEN bytes of a file from START on, of which LEN is at most 65,536.
+    Read { number: u32, start: u64, count: u32 },
+    /// `docket`: how many rows the docket has.
+    Docket,
 }
 
 impl<'a, A: Allocator + Copy> Command<'a, A> {
@@ -72,6 +79,8 @@ impl<'a, A: Allocator + Copy> Command<'a, A> {
             Name::Submit => Ok(Command::Desk(DeskCommand::Submit(read_submit(alloc, words)?))),
             Name::Node => Ok(Command::Desk(DeskCommand::Node(read_node(words)?))),
             Name::List => Ok(Command::Desk(DeskCommand::List(read_list(words)?))),
+            Name::Read => Ok(Command::Desk(read_bytes(words)?)),
+            Name::Docket => Ok(Command::Desk(read_docket(words)?)),
         }
     }
 }
@@ -88,6 +97,8 @@ enum Name {
     Submit,
     Node,
     List,
+    Read,
+    Docket,
 }
 
 /// The command that the word names.
@@ -112,6 +123,10 @@ fn name_in(word: &[u8]) -> Option<Name>
         Some(Name::Node)
     } else if word == b"list".as_slice() {
         Some(Name::List)
+    } else if word == b"read".as_slice() {
+        Some(Name::Read)
+    } else if word == b"docket".as_slice() {
+        Some(Name::Docket)
     } else {
         None
     }
@@ -210,6 +225,29 @@ fn read_list(words: &mut Words<'_>) -> Result<u32, Refusal>
     ensures { ReadsAs (λ directory. Request (ListingLine directory)) (checked listing_of (words_left words.old)) result }
 {
     words.only_number32()
+}
+
+#[tactic(auto, using(crate::proofs::Readings::read_steps))]
+fn read_bytes<A: Allocator>(words: &mut Words<'_>) -> Result<DeskCommand<'static, A>, Refusal>
+    ensures { ReadsAs (λ command. Request (asked_of_desk command)) (checked read_of (words_left words.old)) result }
+{
+    let number = words.number32()?;
+    let start = words.number64()?;
+    let count = words.number(READ_LIMIT)? as u32;
+    words.end()?;
+    Ok(DeskCommand::Read {
+        number,
+        start,
+        count,
+    })
+}
+
+#[tactic(auto, using(crate::proofs::Readings::docket_steps))]
+fn read_docket<A: Allocator>(words: &mut Words<'_>) -> Result<DeskCommand<'static, A>, Refusal>
+    ensures { ReadsAs (λ command. Request (asked_of_desk command)) (checked docket_of (words_left words.old)) result }
+{
+    words.end()?;
+    Ok(DeskCommand::Docket)
 }
 
 #[tactic(auto, using(crate::proofs::Readings::submit_steps))]

@@ -1,5 +1,5 @@
 -- What a verdict's outcome makes of an image and of the leases, and the answer to it.
-use Rattle.std.specs.Prelude.{◌≡◌, ℕ, ◌≤◌, ◌<◌, ◌==◌, not, false, List, [], ◌∷◌, length, Option, None, Some}
+use Rattle.std.specs.Prelude.{◌≡◌, ℕ, ◌≤◌, ◌<◌, ◌==◌, not, Bool, List, [], ◌∷◌, length, Option, None, Some}
 use Rattle.std.specs.List.{AllByRecursion}
 use Rattle.kfs_model.specs.Lease.{Leases, without_gone}
 use Rattle.kfs_model.specs.Plan.{Ascend}
@@ -60,13 +60,13 @@ module _ {A : Type 0} where
 
   -- The answer to an outcome at this place in the docket: a No is told; a Yes needs more places than there are, or its log has
   -- landed.
-  abbrev pub Answers : (old : DeviceImage) → (source : List ℕ) → (position : ℕ) → Outcome A → Reply → (new : DeviceImage) → Type 0
-  Answers old source position (outcomes.No fault) reply new = (reply ≡ replies.No position false fault) × (new ≡ old)
-  Answers old source position (outcomes.Yes log plan net need) (replies.No p rejudged fault) new = ⊥
-  Answers old source position (outcomes.Yes log plan net need) (replies.NoRoom p rejudged n free) new =
-      (replies.NoRoom p rejudged n free ≡ replies.NoRoom position false need (free_in old)) × (free_in old < need) × (new ≡ old)
-  Answers old source position (outcomes.Yes log plan net need) (replies.Yes p rejudged n) new =
-      (replies.Yes p rejudged n ≡ replies.Yes position false need) × (need ≤ free_in old) × HasLanded old source log plan net new
+  abbrev pub Answers : (old : DeviceImage) → (source : List ℕ) → (position : ℕ) → (again : Bool) → Outcome A → Reply → (new : DeviceImage) → Type 0
+  Answers old source position again (outcomes.No fault) reply new = (reply ≡ replies.No position again fault) × (new ≡ old)
+  Answers old source position again (outcomes.Yes log plan net need) (replies.No p rejudged fault) new = ⊥
+  Answers old source position again (outcomes.Yes log plan net need) (replies.NoRoom p rejudged n free) new =
+      (replies.NoRoom p rejudged n free ≡ replies.NoRoom position again need (free_in old)) × (free_in old < need) × (new ≡ old)
+  Answers old source position again (outcomes.Yes log plan net need) (replies.Yes p rejudged n) new =
+      (replies.Yes p rejudged n ≡ replies.Yes position again need) × (need ≤ free_in old) × HasLanded old source log plan net new
 
   -- the leases after the answer to a net: after a Yes those on nodes that went have ended
   abbrev pub left_by : Leases → Net A → Reply → Leases

@@ -1,3 +1,4 @@
+pub mod Bytes
 pub mod Conversation
 pub mod Example
 pub mod Listing

@@ -1,5 +1,5 @@
 -- A session: what each line is answered, and what it leaves.
-use Rattle.std.specs.Prelude.{◌≡◌, ◌≢◌, ◌⊎◌, ℕ, List, [], ◌∷◌, ◌++◌, codes, Option, Some, None, Result, Ok, Err, if◌then◌else◌}
+use Rattle.std.specs.Prelude.{◌≡◌, ◌≢◌, ◌⊎◌, ℕ, List, [], ◌∷◌, ◌++◌, length, codes, decimal, false, Option, Some, None, Result, Ok, Err, if◌then◌else◌}
 use Rattle.kfs_model.specs.Access.{Client}
 use Rattle.kfs_model.specs.Table.{get}
 use Rattle.kfs_model.specs.Tree.{headers}
@@ -12,14 +12,15 @@ use Rattle.kfs_value.specs.Views.{header_of}
 use Rattle.kfs_value.specs.declared.header.Header.{Header as CodeHeader}
 use Rattle.kfs_device.specs.ShownTree.{DeviceImage, shown_tree}
 use Rattle.kfs_image.specs.Image.{fresh_image}
-use Rattle.kfs_desk.specs.Machine.{Desk, IsActed, IsAnswered}
+use Rattle.kfs_desk.specs.Machine.{Desk, IsActed, IsAnswered, opened_at}
 use Rattle.kfs_desk.specs.Opening.{begin_fault}
 use Rattle.kfs_plan.specs.declared.answers.ActReply.{ActReply}
 use Rattle.kfs_plan.specs.declared.answers.BeginFault.{BeginFault}
 use Rattle.kfs_plan.specs.declared.answers.Done.{Done}
 use Rattle.kfs_plan.specs.declared.answers.Done.TheVariants.{Leased, Dropped, Ticked}
 use Rattle.kfs_plan.specs.declared.answers.Reply.{Reply}
-use Rattle.kfs_command.specs.Command.{Command, Setup, Request, OpeningCommand, New, Row, Begin, DeskCommand, Lease, Drop, Tick, Submit, Node, Listing, asked_by}
+use Rattle.kfs_command.specs.Command.{Command, Setup, Request, OpeningCommand, New, Row, Begin, DeskCommand, Lease, Drop, Tick, Submit, Node, Listing, Bytes, DocketLength, asked_by}
+use Rattle.kfs_engine.specs.Bytes.{read_text}
 use Rattle.kfs_engine.specs.Listing.{list_text}
 use Rattle.kfs_report.specs.Text.{act_text, begin_text, client_text, node_text, reply_text}
 use Rattle.kfs_text.specs.Parts.{line_of}
@@ -54,7 +55,7 @@ IsSaid text s outcome = outcome ≡ (line_of text, s)
 
 -- the desk, or the fault of the clients: the image stays then, and they are forgotten
 abbrev pub begun : DeviceImage → List Client → (limit : ℕ) → Option BeginFault → LineOutcome
-begun image clients limit None = (line_of (codes "ok"), After (record { state = opening clients image.sizes (shown_tree image) image.placement; rows = 0; limit = limit }))
+begun image clients limit None = (line_of (codes "ok"), After (opened_at (opening clients image.sizes (shown_tree image) image.placement) limit))
 begun image clients limit (Some fault) = (line_of (codes "begin " ++ begin_text fault), Before (record { image = Some image; clients = [] }))
 
 -- without an image there is no desk
@@ -75,13 +76,13 @@ opened start (Begin limit) = begun_over start.image start.clients limit
 
 -- the docket has as many rows as its limit
 abbrev pub IsFull : Desk → LineOutcome → Type 0
-IsFull desk outcome = (desk.rows ≡ desk.limit) × IsSaid (codes "full") (After desk) outcome
+IsFull desk outcome = (length desk.docket ≡ desk.limit) × IsSaid (codes "full") (After desk) outcome
 
 -- the machine's step of the call, told in these words, with the docket's next row
 pub record IsCalled (desk : Desk) (call : machine.Call) (words : ℕ → Done) (outcome : LineOutcome) : Type 0 where
   pub answer : ActReply
   pub next : Desk
-  pub below : desk.rows ≢ desk.limit
+  pub below : length desk.docket ≢ desk.limit
   pub acted : IsActed desk call words answer next
   pub is : outcome ≡ (line_of (act_text answer), After next)
 
@@ -93,8 +94,8 @@ IsCallAnswered desk call words outcome = IsFull desk outcome ⊎ IsCalled desk c
 pub record IsSubmitted (desk : Desk) (submission : Submission) (outcome : LineOutcome) : Type 0 where
   pub answer : Reply
   pub next : Desk
-  pub below : desk.rows ≢ desk.limit
-  pub answered : IsAnswered desk submission answer next
+  pub below : length desk.docket ≢ desk.limit
+  pub answered : IsAnswered desk submission false answer next
   pub is : outcome ≡ (line_of (reply_text answer), After next)
 
 -- ---- looks
@@ -112,6 +113,10 @@ IsNone desk number outcome = (get (headers desk.state.tree) number ≡ None) × 
 abbrev pub names_line : Desk → (directory : ℕ) → List ℕ
 names_line desk directory = if is_directory (get (headers desk.state.tree) directory) then list_text directory desk.state.tree.names else codes "none"
 
+-- the line of how many rows the docket has
+abbrev pub docket_line : Desk → List ℕ
+docket_line desk = codes "docket " ++ decimal (length desk.docket)
+
 -- ---- lines
 
 -- a command to the desk
@@ -122,6 +127,8 @@ Serves desk (Tick moment) outcome = IsCallAnswered desk (machine.Tick moment) Ti
 Serves desk (Submit submission) outcome = IsFull desk outcome ⊎ IsSubmitted desk submission outcome
 Serves desk (Node number) outcome = IsNone desk number outcome ⊎ IsNode desk number outcome
 Serves desk (Listing directory) outcome = IsSaid (names_line desk directory) (After desk) outcome
+Serves desk (Bytes number start count) outcome = IsSaid (read_text desk.state.tree number start count) (After desk) outcome
+Serves desk DocketLength outcome = IsSaid (docket_line desk) (After desk) outcome
 
 -- a command where it is due
 abbrev pub Does : Stage → Command → LineOutcome → Type 0

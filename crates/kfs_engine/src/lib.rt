@@ -6,6 +6,7 @@ ghost use Rattle.std.specs.Io.KnownBytes.{IsAtEnd};
 ghost use Rattle.kfs_engine.specs.Conversation.{IsSession};
 ghost use Rattle.kfs_text.specs.Streams.{Exchanges};
 
+mod bytes;
 mod conversation;
 pub mod examples;
 mod fault;

@@ -6,12 +6,13 @@ ghost use Rattle.kfs_value.specs.Views.{header_of};
 ghost use Rattle.kfs_plan.specs.Judging.{submission_of};
 ghost use Rattle.kfs_desk.specs.Machine.{call_of, done_by};
 ghost use Rattle.kfs_command.specs.Command as commands;
-ghost use Rattle.kfs_engine.specs.Session.{After, Answers, IsCallAnswered, IsReplied, Serves, fresh, names_line};
+ghost use Rattle.kfs_engine.specs.Session.{After, Answers, IsCallAnswered, IsReplied, Serves, docket_line, fresh, names_line};
 ghost use Rattle.kfs_command.specs.Views.{asked_of_desk, opening_of};
 ghost use Rattle.kfs_engine.specs.Views.{IsDone, IsOutOfPlace, stage_of};
 ghost use Rattle.kfs_text.specs.Parts.{line_of};
 ghost use Rattle.kfs_value.specs.Room.{spare_of};
 
+use crate::bytes::bytes_line;
 use crate::listing::list_line;
 use crate::opening::Opening;
 use kfs_command::{Command, DeskCommand, OpeningCommand};
@@ -21,7 +22,7 @@ use kfs_plan::answers::{Act, Unanswered};
 use kfs_plan::{Submission, Why};
 use kfs_report::{act_line, node_line, reply_line};
 use kfs_text::Refusal;
-use kfs_text::parts::text;
+use kfs_text::parts::{number, text};
 use std::alloc::Allocator;
 
 /// What lines were answered before: the desk, or what it is begun with.
@@ -118,6 +119,15 @@ fn answer_by_desk<A: Allocator + Copy>(
         DeskCommand::Submit(submission) => hand_in(desk, submission, reply),
         DeskCommand::Node(number) => show_node(desk, number, reply),
         DeskCommand::List(number) => show_names(alloc, desk, number, reply),
+        DeskCommand::Read {
+            number,
+            start,
+            count,
+        } => Ok(bytes_line(alloc, reply, desk.image(), number, start, count)?),
+        DeskCommand::Docket => {
+            show_docket(desk, reply);
+            Ok(())
+        }
     }
 }
 
@@ -182,6 +192,16 @@ fn show_node<A: Allocator + Copy>(
         None => text(reply, b"none\n"),
     }
     Ok(())
+}
+
+/// Appends the line of how many rows the docket has.
+fn show_docket<A: Allocator + Copy>(desk: &Desk<A>, reply: &mut Vec<u8, A>)
+    requires { 128 ≤ spare_of reply.old }
+    ensures { reply.new.items ≡ reply.old.items ++ line_of (docket_line desk.now) }
+{
+    text(reply, b"docket ");
+    number(reply, u64::from(desk.docket().len()));
+    text(reply, b"\n");
 }
 
 /// Appends the line of a directory's names, or `none` where the number is no directory's.

@@ -113,7 +113,7 @@ module _ (n : ℕ) where
         at true is own other = let same = eqb-true r.number n is in (least r.start (subst (λ m. ComesBy k e m r.start) same from.0), from.1, own same)
         at false is own other = other
 
-    classes : (rs : List Piece) → ArePieces after rs → Classes marks 0 0 (of_file n rs)
+    pub classes : (rs : List Piece) → ArePieces after rs → Classes marks 0 0 (of_file n rs)
     classes rs are = record {
       parts = parts_of rs 0 0 0 (all_from after rs are) are.said (omega arith) (λ s h. let z : 0 ≤ s = omega arith in z);
       payload = λ q low below. sym (payload_part rs q ∙ ap is_payload_said (said_of_pieces after rs are n q ∙ ap changed_mark (slice_get-get_or marks q Mark.Zero below)) ∙ payload_changed (get_or marks q Mark.Zero));

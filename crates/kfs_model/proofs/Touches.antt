@@ -61,7 +61,7 @@ ends_low size f (r ∷ rs) parts = let low = parts.0 in let rest = ends_low size
 at_or_behind : (f s : ℕ) → f ≤ s → 1 ≤ s → (f ≤ s - 1) ⊎ (s ≡ f)
 at_or_behind f s h i = grind arith
 
-before_or_same : (e s : ℕ) → e ≤ s → (e < s) ⊎ (s ≡ e)
+pub before_or_same : (e s : ℕ) → e ≤ s → (e < s) ⊎ (s ≡ e)
 before_or_same e s h = grind arith
 
 other_source : (a b : Bool) → (a && b) ≡ false → b ≡ true → a ≡ false
@@ -133,14 +133,14 @@ module _ (marks : List Mark) (k : ℕ) where
     ends : end_of r ≤ length marks
     ends = ends_low (length marks) (end_of r) rs is.parts.2
 
-    zero_in : (q : ℕ) → r.start ≤ q → q < end_of r → is_zero (get_or marks q Zero) ≡ is_zero_source r.source
+    pub zero_in : (q : ℕ) → r.start ≤ q → q < end_of r → is_zero (get_or marks q Zero) ≡ is_zero_source r.source
     zero_in q h i = let l = low in let e = ends in is.zero q (omega arith) (omega arith) ∙ ap is_zero_part (part_in r rs q h i)
 
     payload_in : (q : ℕ) → r.start ≤ q → q < end_of r → is_payload (get_or marks q Zero) ≡ not (is_zero_source r.source)
     payload_in q h i = let l = low in let e = ends in is.payload q (omega arith) (omega arith) ∙ ap is_payload_part (part_in r rs q h i)
 
     -- between the place and the piece bytes are as before
-    zero_before : (q : ℕ) → f ≤ q → q < r.start → is_zero (get_or marks q Zero) ≡ false
+    pub zero_before : (q : ℕ) → f ≤ q → q < r.start → is_zero (get_or marks q Zero) ≡ false
     zero_before q h i =
         let e = ends in
         let s : r.start ≤ r.start = omega arith in
@@ -174,25 +174,7 @@ module _ (marks : List Mark) (k : ℕ) where
         ap (λ q. is_zero (get_or marks q Zero)) back ∙ is.before least ∙ ne_eqb until f (λ u. apart (h ∙ sym u)))
         (at_or_behind f r.start low some)
 
-    -- where zero bytes end and don't go on, the next byte isn't zero
-    not_zero_right : end_of r < length marks → goes_on (end_of r) rs ≡ false → is_zero (get_or marks (end_of r) Zero) ≡ false
-    not_zero_right below stops =
-        let l = low in
-        let e : end_of r ≤ end_of r = omega arith in
-        is.zero (end_of r) (omega arith) below ∙ ap is_zero_part (part_behind r rs (end_of r) e) ∙ stopped rs is.parts.2 stops
-      where
-        stopped : (ss : List Piece) → AreParts (length marks) (end_of r) ss → goes_on (end_of r) ss ≡ false → is_zero_part (part_at ss (end_of r)) ≡ false
-        stopped [] parts stops = refl
-        stopped (t ∷ ts) parts stops = ⊎_elim
-            (λ (h : end_of r < t.start).
-            let s : t.start ≤ t.start = omega arith in
-            ap is_zero_part (part_before (length marks) t.start (end_of r) (t ∷ ts) h (s, parts.1, parts.2)))
-            (λ (h : t.start ≡ end_of r).
-            let fill = parts.1 in
-            ap is_zero_part (part_in t ts (end_of r) (omega arith) (omega arith)) ∙ other_source (is_zero_source t.source) (t.start == end_of r) stops (eq-eqb t.start (end_of r) h))
-            (before_or_same (end_of r) t.start parts.0)
-
-    -- and where the next byte isn't zero they don't go on
+    -- zero bytes don't go on where the next byte isn't zero
     stops_right : end_of r < length marks → is_zero (get_or marks (end_of r) Zero) ≡ false → goes_on (end_of r) rs ≡ false
     stops_right below other =
         let l = low in
@@ -209,6 +191,29 @@ module _ (marks : List Mark) (k : ℕ) where
             ap (λ b. b && (t.start == end_of r)) source)
             (before_or_same (end_of r) t.start parts.0)
 
+  -- the parts behind a piece; zero bytes end there where it is of zero bytes
+  pub behind_part_classes : (f until : ℕ) (r : Piece) (rs : List Piece) → Classes marks f until (r ∷ rs) → Classes marks (end_of r) (cond (is_zero_source r.source) (end_of r) 0) rs
+  behind_part_classes f until r rs is = next f until r rs is (cond (is_zero_source r.source) (end_of r) 0) (same (is_zero_source r.source)) (either (is_zero_source r.source))
+    where
+      same : (b : Bool) → eqb (cond b (end_of r) 0) (end_of r) ≡ b
+      same true = eq-eqb (end_of r) (end_of r) refl
+      same false = ne_eqb 0 (end_of r) (λ e. let l = is.parts.0 in let fill = is.parts.1 in let b : ⊥ = omega arith in b)
+
+      either : (b : Bool) → (cond b (end_of r) 0 ≡ 0) ⊎ (cond b (end_of r) 0 ≡ end_of r)
+      either true = inr refl
+      either false = inl refl
+
+  -- where no zero bytes go on, the byte isn't zero
+  pub stops_at : (f until : ℕ) (rs : List Piece) → Classes marks f until rs → f < length marks → goes_on f rs ≡ false → is_zero (get_or marks f Zero) ≡ false
+  stops_at f until [] is below stops = is.zero f (le_same f) below
+  stops_at f until (r ∷ rs) is below stops = ⊎_elim
+      (λ (h : f < r.start). zero_before f until r rs is f (le_same f) h)
+      (λ (h : r.start ≡ f).
+      let fill = is.parts.1 in
+      zero_in f until r rs is f (omega arith) (omega arith) ∙ other_source (is_zero_source r.source) (r.start == f) stops (eq-eqb r.start f h))
+      (before_or_same f r.start is.parts.0)
+
+  module _ (f until : ℕ) (r : Piece) (rs : List Piece) (is : Classes marks f until (r ∷ rs)) where
     abbrev start_list : List Blocks
     start_list = cond ((r.start % 4096 == 0) || (r.start == until)) [] (block_of r.start ∷ [])
 
@@ -229,21 +234,21 @@ module _ (marks : List Mark) (k : ℕ) where
         let tests = neither (r.start % 4096) 0 r.start until parts.0 in
         let within = has_from (r.start / 4096) (r.start / 4096) parts.1 in
         let odd = tests.0 in
-        let l = low in
-        let e = ends in
-        let fill = filled in
+        let l = low f until r rs is in
+        let e = ends f until r rs is in
+        let fill = filled f until r rs is in
         let a : 4096 * k < r.start = omega arith in
         let b : r.start < 4096 * k + 4096 = omega arith in
         let c : r.start < length marks = omega arith in
         inr (
           r.start,
-          low,
+          low f until r rs is,
           (λ same u. tests.1 (same ∙ sym u)),
           (
             a,
             b,
             c,
-            differs_at r.start false true (not_zero_left (omega arith) tests.1) (zero_in r.start (omega arith) (omega arith) ∙ zeros) refl,
+            differs_at r.start false true (not_zero_left f until r rs is (omega arith) tests.1) (zero_in f until r rs is r.start (omega arith) (omega arith) ∙ zeros) refl,
           ),
         )
 
@@ -254,8 +259,8 @@ module _ (marks : List Mark) (k : ℕ) where
         let within = has_from (end_of r / 4096) (end_of r / 4096) parts.1 in
         let odd = tests.0 in
         let under = tests.1 in
-        let l = low in
-        let fill = filled in
+        let l = low f until r rs is in
+        let fill = filled f until r rs is in
         let a : 4096 * k < end_of r = omega arith in
         let b : end_of r < 4096 * k + 4096 = omega arith in
         let c : f ≤ end_of r = omega arith in
@@ -267,7 +272,7 @@ module _ (marks : List Mark) (k : ℕ) where
             a,
             b,
             under,
-            differs_at (end_of r) true false (zero_in (end_of r - 1) (omega arith) (omega arith) ∙ zeros) (not_zero_right under tests.2) refl,
+            differs_at (end_of r) true false (zero_in f until r rs is (end_of r - 1) (omega arith) (omega arith) ∙ zeros) (stops_at (end_of r) _ rs (behind_part_classes f until r rs is) under tests.2) refl,
           ),
         )
 
@@ -276,15 +281,15 @@ module _ (marks : List Mark) (k : ℕ) where
         let within = has_from (r.start / 4096) ((end_of r - 1) / 4096) (sym (or-false (has_block k (record { first = r.start / 4096; last = (end_of r - 1) / 4096 }))) ∙ h) in
         let first = within.0 in
         let last = within.1 in
-        let l = low in
-        let fill = filled in
-        let e = ends in
+        let l = low f until r rs is in
+        let fill = filled f until r rs is in
+        let e = ends f until r rs is in
         let q = max r.start (4096 * k) in
         let a : f ≤ q = omega arith in
         let b : 4096 * k ≤ q = omega arith in
         let c : q < 4096 * k + 4096 = omega arith in
         let d : q < length marks = omega arith in
-        inl (q, a, (b, c, d, payload_in q (omega arith) (omega arith) ∙ ap not payload))
+        inl (q, a, (b, c, d, payload_in f until r rs is q (omega arith) (omega arith) ∙ ap not payload))
 
   touched_from : (rs : List Piece) (f until : ℕ) → Classes marks f until rs → list_any (has_block k) (touches (length marks) until rs) ≡ true → TouchedFrom f until
   unfolding touches
@@ -546,7 +551,7 @@ same_bools false true h i = i refl
 same_bools false false h i = refl
 
 module _ (n : ℕ) (marks : List Mark) (rs : List Piece) (is : Classes marks 0 0 rs) where
-  exact : (k : ℕ) → list_any (has_block k) (touches (length marks) 0 rs) ≡ is_written (block_at marks k)
+  pub exact : (k : ℕ) → list_any (has_block k) (touches (length marks) 0 rs) ≡ is_written (block_at marks k)
   exact k = same_bools _ _ to from
     where
       to : list_any (has_block k) (touches (length marks) 0 rs) ≡ true → is_written (block_at marks k) ≡ true

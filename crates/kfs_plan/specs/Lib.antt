@@ -1,2 +1,3 @@
 pub mod PlanCheck
 pub mod Judging
+pub mod Judged

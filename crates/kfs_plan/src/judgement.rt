@@ -10,9 +10,10 @@ ghost use Rattle.kfs_judge.specs.Walks.{HasOrderedSizes};
 ghost use Rattle.kfs_check.specs.View.{clients_of, client_sight_in};
 ghost use Rattle.kfs_plan.specs.Judging.{AreLooked, IsAlike, IsSettled, IsVerdict, submission_of, submission_with};
 
+use crate::judged::Judged;
 use crate::rows::{RowFault, check_rows};
 use crate::spelling::{Spelled, read_submission};
-use crate::submission::{Back, Fault, Judged, Outcome, Submission, Why};
+use crate::submission::{Back, Fault, Outcome, Submission, Why};
 use indexmap::IndexMap;
 use kfs_entry::{Log, Plan};
 use kfs_judge::{Read, ReadAnswer, View, Walk, judge_entries};
@@ -33,19 +34,21 @@ pub fn judge<A: Allocator + Copy>(
     ensures client { IfOk result (λ j. j.client ≡ row_of (clients_of view.now) submission.client) }
 
     // In every state that is alike, this is the verdict.
-    ensures known { IfOk result (λ j. (s : State) → IsAlike s submission.client j.client j.reads.entries → IsVerdict s (submission_of submission) j.outcome) }
-    ensures view_agrees { IfOk result (λ j. Agrees j.reads.entries (client_sight_in view.now submission.client)) }
-    ensures among { IfOk result (λ j. AreLooked view.now (submission_of submission) j.outcome j.reads.entries) }
+    ensures known { IfOk result (λ j. (s : State) → IsAlike s submission.client j.client j.reads → IsVerdict s (submission_of submission) j.outcome) }
+    ensures view_agrees { IfOk result (λ j. Agrees j.reads (client_sight_in view.now submission.client)) }
+    ensures among { IfOk result (λ j. AreLooked view.now (submission_of submission) j.outcome j.reads) }
     ensures memory { IfErr result (λ b. b.why ≡ Why.OutOfMemory) }
 {
     let (log, plan) = (submission.log.as_slice(), submission.plan.as_slice());
     match find(alloc, view, submission.client, log, plan) {
-        Ok(finding) => Ok(Judged {
-            submission,
-            client: finding.client,
-            reads: finding.reads,
-            outcome: finding.outcome,
-        }),
+        Ok(finding) => {
+            let Finding {
+                client,
+                reads,
+                outcome,
+            } = finding;
+            Ok(Judged::of(submission, client, reads, outcome))
+        }
         Err(why) => Err(Back { submission, why }),
     }
 }

@@ -3,13 +3,15 @@
 #![tactic(auto)]
 
 pub mod answers;
+mod judged;
 mod judgement;
 mod pieces;
 mod rows;
 mod spelling;
 mod submission;
 
+pub use judged::Judged;
 pub use judgement::judge;
 pub use pieces::sweep;
 pub use rows::{RowFault, check_plan};
-pub use submission::{Back, Fault, Judged, Outcome, Submission, Why};
+pub use submission::{Back, Fault, Outcome, Submission, Why};

@@ -1,15 +1,12 @@
-//! A submission, the verdict on it, and what is handed back without one.
+//! A submission, what it comes to, and what is handed back without a verdict.
 ghost use Rattle.std.specs.Prelude.{◌≡◌};
 ghost use Rattle.kfs_plan.specs.declared.submission.Why.TheVariants.{OutOfMemory};
 
 use crate::rows::RowFault;
-use indexmap::IndexMap;
 use kfs_entry::{Log, Plan, SpellFault};
-use kfs_judge::{EntryFault, Read, ReadAnswer};
-use kfs_mode::Client;
+use kfs_judge::EntryFault;
 use kfs_nodes::Net;
 use std::alloc::{AllocError, Allocator};
-use std::hash::{BuildHasherDefault, FoldHasher};
 
 /// What a client hands in: a log and a plan as bytes.
 #[derive(Debug, Drop)]
@@ -48,16 +45,6 @@ pub enum Outcome<A: Allocator> {
         need: u64,
     },
     No(Fault),
-}
-
-/// The verdict on a submission: what was handed in, the client's row and the reads that it rests on,
-/// and what it comes to.
-#[derive(Drop)]
-pub struct Judged<A: Allocator> {
-    pub submission: Submission<A>,
-    pub client: Option<Client>,
-    pub reads: IndexMap<Read, ReadAnswer, BuildHasherDefault<FoldHasher>, A>,
-    pub outcome: Outcome<A>,
 }
 
 /// Why a submission comes back without a verdict or an answer.

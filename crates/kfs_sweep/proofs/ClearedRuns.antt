@@ -14,13 +14,13 @@ use Rattle.kfs_model.specs.Run.{Mark, Zero}
 use Rattle.kfs_model.specs.Table.{numbers, get}
 use Rattle.kfs_model.specs.Tree.{Tree, Node, content_of}
 use Rattle.kfs_model.proofs.Blocks.{block_at}
+use Rattle.kfs_model.proofs.Need.{classes}
 use Rattle.kfs_model.proofs.Pieces.{list_any-filter}
 use Rattle.kfs_model.proofs.Tables.{any_from_found, found_from_any}
 use Rattle.kfs_model.proofs.Tape.{below_or_not}
-use Rattle.kfs_model.proofs.Touches.{Classes}
+use Rattle.kfs_model.proofs.Touches.{Classes, behind_part_classes, stops_at, zero_before, zero_in}
 use Rattle.kfs_sweep.specs.BlockLists.{blocks_between, cleared_from, cleared_runs, is_in_range, whole_until, zeros_start}
 use Rattle.kfs_sweep.specs.declared.block_lists.BlockRange.{BlockRange}
-use Rattle.kfs_sweep.proofs.TouchedBlocks.{behind_part_classes, classes, stops_at, zero_before, zero_in}
 use Rattle.kfs_sweep.proofs.WrittenLists.{blocks_by_number}
 
 -- ---- lists of marks

@@ -11,7 +11,6 @@ pub mod Made
 pub mod Fits
 pub mod Counting
 pub mod ListedBlocks
-pub mod TouchedBlocks
 pub mod WrittenLists
 pub mod ClearedRuns
 pub mod FileParts

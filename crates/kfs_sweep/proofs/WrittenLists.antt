@@ -13,11 +13,11 @@ use Rattle.kfs_model.specs.Run.{Mark}
 use Rattle.kfs_model.specs.Table.{numbers, get}
 use Rattle.kfs_model.specs.Tree.{Tree, Node, content_of}
 use Rattle.kfs_model.proofs.Blocks.{has_block, block_at, numbered, passes}
+use Rattle.kfs_model.proofs.Need.{classes}
 use Rattle.kfs_model.proofs.Tape.{below_or_not}
-use Rattle.kfs_model.proofs.Touches.{Classes, file_count}
+use Rattle.kfs_model.proofs.Touches.{Classes, before_or_same, exact, file_count}
 use Rattle.kfs_model.proofs.WrittenBlocks.{all_found}
 use Rattle.kfs_sweep.specs.BlockLists.{listed, node_written}
-use Rattle.kfs_sweep.proofs.TouchedBlocks.{before_or_same, classes, touched_written}
 
 -- ---- ascending numbers that pass a test
 
@@ -160,7 +160,7 @@ module _ (n : ℕ) (marks : List Mark) (rs : List Piece) (is : Classes marks 0 0
   touched = touches (length marks) 0 rs
 
   pass : (k : ℕ) → list_any (has_block k) touched ≡ true → (k < block_count (length marks)) × (has_written k ≡ true)
-  pass k has = let written = touched_written marks k rs is has in (written_below marks k written, written)
+  pass k has = let written = sym (exact n marks rs is k) ∙ has in (written_below marks k written, written)
 
   file_written : map (numbered n) (filter (passes is_written) (blocks_of marks)) ≡ map (λ k. (n, k)) (listed 0 touched)
   file_written =

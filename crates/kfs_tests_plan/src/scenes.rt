@@ -11,7 +11,7 @@ use kfs_image::{Fill, Image, Net, TierSizes, net_apply};
 use kfs_judge::View;
 use kfs_lease::{LeaseKind, Leases};
 use kfs_mode::Client;
-use kfs_plan::{Back, Fault, Judged, Outcome, Submission, judge};
+use kfs_plan::{Back, Fault, Outcome, Submission, judge};
 use std::alloc::{AllocError, Allocator};
 use std::sync::Arc;
 
@@ -81,7 +81,7 @@ fn right_net<A: Allocator + Copy>(
     let Ok(judged) = judge(alloc, view, submission) else {
         return None;
     };
-    let Judged { outcome, .. } = judged;
+    let (_submission, outcome) = judged.into_parts();
     match outcome {
         Outcome::Yes { net, .. } => Some(net),
         Outcome::No(_) => None,
@@ -163,9 +163,10 @@ pub fn judged<A: Allocator + Copy>(
     view: &View<A>,
     submission: Submission<A>,
 ) -> Result<Verdict, Back<A>> {
-    match judge(alloc, view, submission)?.outcome {
-        Outcome::Yes { need, .. } => Ok(Ok(need)),
-        Outcome::No(fault) => Ok(Err(fault)),
+    let judged = judge(alloc, view, submission)?;
+    match judged.outcome() {
+        Outcome::Yes { need, .. } => Ok(Ok(*need)),
+        Outcome::No(fault) => Ok(Err(*fault)),
     }
 }
 

@@ -24,5 +24,5 @@ returns-clause-verdict g c =
     known _ (record {
       sound = c.view_of.ensures.lawful.tree.sound;
       row = sym (client ∙ ap (λ rows. row_of rows number) c.in-Ok.ensures.clients);
-      agrees = subst (Agrees judged.reads.entries) seen agrees;
+      agrees = subst (Agrees judged.reads) seen agrees;
     }))

@@ -21,7 +21,7 @@ returns-in-Yes g c =
     let s : State = record { clients = clients_of c.args.view.now; sizes = image.sizes; tree = shown_tree image; leases = leases; placement = image.placement } in
     let sights = ap sight_of c.requires.contents ∙ sight_shown image lawful in
     let seen : client_sight_in c.args.view.now number ≡ client_sight (shown_tree image) (holds leases number) = λ i. record { sight = sights i; held = holds leases number } in
-    let agrees = subst (Agrees c.in-Ok.judged.reads.entries) seen c.in-Ok.ensures.view_agrees in
+    let agrees = subst (Agrees c.in-Ok.judged.reads) seen c.in-Ok.ensures.view_agrees in
     let verdict = c.in-Ok.ensures.known s (record { sound = lawful.tree.sound; row = sym c.in-Ok.ensures.client; agrees = agrees }) in
-    let told = subst (λ o. IsVerdict s (submission_of c.args.submission) o) c.in-Yes.is verdict in
+    let told = subst (λ o. IsVerdict s (submission_of c.args.submission) o) (sym c.into_parts-submission.ensures.outcome ∙ c.in-Yes.is) verdict in
     record { lawful = net_is_lawful image lawful s refl (submission_of c.args.submission) _ _ c.in-Yes.net _ told }

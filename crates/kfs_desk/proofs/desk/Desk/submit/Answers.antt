@@ -1,9 +1,11 @@
--- What is judged lands as the machine's step.
-use Rattle.std.proofs.Common.{ap, ◌+◌, ◌≤◌, sym, subst, arith}
+-- What is judged lands as the machine's step, whose row is the docket's next.
+use Rattle.std.proofs.Common.{false, ap, ◌<◌, length, sym, subst, refl, arith}
+use Rattle.kfs_model.specs.Machine.{Row}
 use Rattle.kfs_plan.specs.Judging.{submission_of}
 use Rattle.kfs_desk.specs.Landing.{Answers, CanLand}
-use Rattle.kfs_desk.specs.Machine.{Desk, Parts, IsAnswered, shown}
-use Rattle.kfs_desk.proofs.Answered.{answered, answered_in_order, can_land}
+use Rattle.kfs_desk.specs.Machine.{Desk, IsAnswered, IsStep, Parts, shown, state_at, state_of}
+use Rattle.kfs_desk.proofs.Answered.{IsAnswer, answered, answered_at, answered_desk, can_land, told_of}
+use Rattle.kfs_desk.proofs.desk.Desk.submit.Given as given
 use Rattle.kfs_desk.proofs.desk.Desk.submit.Goals as goal
 
 pub judged-requires : goal.judged-requires
@@ -12,35 +14,57 @@ judged-requires g c = record { distinct = c.self.invariant.in_order.distinct }
 pub land-requires : goal.land-requires
 land-requires g c =
     let inside = c.self.inside in
-    let desk : Parts = record { image = inside.image; clients = inside.clients.value.items; leases = inside.leases.value; rows = inside.rows; limit = inside.limit } in
+    let desk : Parts = record { image = inside.image; clients = inside.clients.value.items; leases = inside.leases.value; opening = inside.opening; docket = inside.docket; limit = inside.limit } in
     let outcome = c.in_ok-judged.judged.outcome in
     subst (λ submission. CanLand inside.image submission.log.items outcome) (sym c.in_ok-judged.ensures.submission)
-    (can_land desk c.self.invariant c.judged.ensures.lawful (submission_of c.args.submission) outcome c.in_ok-judged.ensures.verdict)
+    (can_land desk c.self.invariant c.judged.ensures.lawful (submission_of c.args.submission) false outcome c.in_ok-judged.ensures.verdict)
+
+pub add_answer-requires-clause-step : goal.add_answer-requires-clause-step
+add_answer-requires-clause-step g c =
+    let inside = c.self.inside in
+    let submission = submission_of c.args.submission in
+    let outcome = c.in_ok-judged.judged.outcome in
+    let reply = c.in_ok-reply.reply in
+    let told = subst (λ handed_in. Answers inside.image handed_in.log.items c.len-position.result false outcome reply c.land.new.image) c.in_ok-judged.ensures.submission c.in_ok-reply.ensures.answer in
+    let desk : Parts = record { image = inside.image; clients = inside.clients.value.items; leases = inside.leases.value; opening = inside.opening; docket = inside.docket; limit = inside.limit } in
+    let is : IsAnswer (state_of desk) submission false c.len-position.result reply (state_at c.land.new.image desk.clients c.land.new.leases.value) =
+    answered desk c.self.invariant c.judged.ensures.lawful submission false c.len-position.result outcome reply c.land.new.image c.land.new.leases.value c.in_ok-judged.ensures.verdict told c.in_ok-reply.ensures.leases in
+    told_of c.of-before.ensures (ap submission_of c.of-handed_in.ensures) c.of-after.ensures (λ s u t. (row : Row) × IsStep s u reply row t) is.step
+
+-- the desk before and after, the row of the step between them, and the answer
+module _ (g : given.Over) (c : goal.After-drop-before-inside-4 g) where
+  abbrev before : Parts
+  before = let inside = c.self.inside in record { image = inside.image; clients = inside.clients.value.items; leases = inside.leases.value; opening = inside.opening; docket = inside.docket; limit = inside.limit }
+
+  abbrev after : Parts
+  after = record before { image = c.land.new.image; leases = c.land.new.leases.value; docket = c.add_answer.new.docket }
+
+  abbrev row : Row
+  row = c.add_answer.ensures.0
+
+  step : IsStep (state_of before) (submission_of c.args.submission) c.in_ok-reply.reply row (state_of after)
+  step = told_of (sym c.of-before.ensures) (sym (ap submission_of c.of-handed_in.ensures)) (sym c.of-after.ensures) (λ s u t. IsStep s u c.in_ok-reply.reply row t) c.add_answer.ensures.1
+
+  is_answer : IsAnswer (state_of before) (submission_of c.args.submission) false c.len-position.result c.in_ok-reply.reply (state_of after)
+  is_answer =
+      let inside = c.self.inside in
+      let submission = submission_of c.args.submission in
+      let outcome = c.in_ok-judged.judged.outcome in
+      let reply = c.in_ok-reply.reply in
+      let told = subst (λ handed_in. Answers inside.image handed_in.log.items c.len-position.result false outcome reply c.land.new.image) c.in_ok-judged.ensures.submission c.in_ok-reply.ensures.answer in
+      answered before c.self.invariant c.judged.ensures.lawful submission false c.len-position.result outcome reply c.land.new.image c.land.new.leases.value c.in_ok-judged.ensures.verdict told c.in_ok-reply.ensures.leases
+
+  is_answered : IsAnswered (shown before) (submission_of c.args.submission) false c.in_ok-reply.reply (shown after)
+  is_answered = answered_at before after c.self.invariant (submission_of c.args.submission) c.in_ok-reply.reply row step refl c.add_answer.ensures.2 refl false c.len-position.result c.len-position.ensures is_answer
 
 pub invariant_of-self-2 : goal.invariant_of-self-2
 invariant_of-self-2 g c =
     let inside = c.self.inside in
-    let desk : Parts = record { image = inside.image; clients = inside.clients.value.items; leases = inside.leases.value; rows = inside.rows; limit = inside.limit } in
-    let after : Parts = record desk { image = c.land.new.image; leases = c.land.new.leases.value; rows = inside.rows + 1 } in
-    let outcome = c.in_ok-judged.judged.outcome in
-    let reply = c.in_ok-reply.reply in
-    let told = subst (λ submission. Answers inside.image submission.log.items inside.rows outcome reply c.land.new.image) c.in_ok-judged.ensures.submission c.in_ok-reply.ensures.answer in
-    let is : IsAnswered (shown desk) (submission_of c.args.submission) reply (shown after) =
-    answered desk c.self.invariant c.judged.ensures.lawful (submission_of c.args.submission) outcome reply c.land.new.image c.land.new.leases.value c.in_ok-judged.ensures.verdict told c.in_ok-reply.ensures.leases in
-    let room = c.is_full.ensures.room c.if-is_full.false in
-    let is_rows = ap (λ (d : Desk). d.rows) c.self.view_is in
+    let below = c.is_full.ensures.room c.if-is_full.false in
+    let is_docket = ap (λ (d : Desk). length d.docket) c.self.view_is in
     let is_limit = ap (λ (d : Desk). d.limit) c.self.view_is in
-    let within : inside.rows + 1 ≤ inside.limit = omega arith in
-    answered_in_order desk c.self.invariant (submission_of c.args.submission) reply after is.step within
+    let room : length inside.docket < inside.limit = omega arith in
+    answered_desk (before g c) (after g c) c.self.invariant (submission_of c.args.submission) c.in_ok-reply.reply (row g c) (step g c) refl c.add_answer.ensures.2 refl room
 
 pub returns-clause-answered : goal.returns-clause-answered
-returns-clause-answered g c =
-    let inside = c.self.inside in
-    let desk : Parts = record { image = inside.image; clients = inside.clients.value.items; leases = inside.leases.value; rows = inside.rows; limit = inside.limit } in
-    let after : Parts = record desk { image = c.land.new.image; leases = c.land.new.leases.value; rows = inside.rows + 1 } in
-    let outcome = c.in_ok-judged.judged.outcome in
-    let reply = c.in_ok-reply.reply in
-    let told = subst (λ submission. Answers inside.image submission.log.items inside.rows outcome reply c.land.new.image) c.in_ok-judged.ensures.submission c.in_ok-reply.ensures.answer in
-    let is : IsAnswered (shown desk) (submission_of c.args.submission) reply (shown after) =
-    answered desk c.self.invariant c.judged.ensures.lawful (submission_of c.args.submission) outcome reply c.land.new.image c.land.new.leases.value c.in_ok-judged.ensures.verdict told c.in_ok-reply.ensures.leases in
-    subst (λ (d : Desk). IsAnswered d (submission_of c.args.submission) reply (shown after)) c.self.view_is is
+returns-clause-answered g c = subst (λ (d : Desk). IsAnswered d (submission_of c.args.submission) false c.in_ok-reply.reply (shown (after g c))) c.self.view_is (is_answered g c)

@@ -1,4 +1,4 @@
-use Rattle.std.proofs.Common.{◌≡◌, List, ◌∷◌, [], ◌++◌, length, Result, Ok, Err, refl, sym, ap, subst, ◌∙◌, append_assoc, append-nil, arith}
+use Rattle.std.proofs.Common.{◌≡◌, false, List, ◌∷◌, [], ◌++◌, length, Result, Ok, Err, refl, sym, ap, subst, ◌∙◌, append_assoc, append-nil, arith}
 use Rattle.std.specs.Vec.Iter.{into_iter_items}
 use Rattle.std.specs.Prelude.{IfOk, IfErr}
 use Rattle.kfs_plan.specs.Judging.{submission_of}
@@ -14,7 +14,7 @@ nothing_left [] none = refl
 nothing_left (x ∷ xs) none = absurd (omega arith)
 
 same_limit : {A : Type 0} (submission : Submission A) (old new : Desk) (answer : Result Reply (Back A))
-    → IfOk answer (λ reply. IsAnswered old (submission_of submission) reply new) → IfErr answer (λ back. (back.submission ≡ submission) × (new ≡ old)) → new.limit ≡ old.limit
+    → IfOk answer (λ reply. IsAnswered old (submission_of submission) false reply new) → IfErr answer (λ back. (back.submission ≡ submission) × (new ≡ old)) → new.limit ≡ old.limit
 same_limit submission old new (Ok reply) answered same = answered.limit
 same_limit submission old new (Err back) answered same = ap (λ (d : Desk). d.limit) same.1
 

@@ -1,0 +1,43 @@
+-- A view of the state of now, and the verdicts that hold there.
+use Rattle.std.proofs.Common.{◌≡◌, ℕ, List, sym, ap, subst, ◌∙◌}
+use Rattle.kfs_model.specs.Access.{Client}
+use Rattle.kfs_model.specs.Judgement.{State, client_sight_of}
+use Rattle.kfs_model.specs.Lease.{Leases, holds, row_of}
+use Rattle.kfs_nodes.specs.Contents.{sight_of}
+use Rattle.kfs_device.specs.ShownTree.{DeviceImage, IsLawful}
+use Rattle.kfs_image.specs.Image as images
+use Rattle.kfs_image.proofs.ShownTrees.{sight_shown}
+use Rattle.kfs_check.specs.Reads.{Agrees}
+use Rattle.kfs_check.specs.View.{client_sight_in, clients_of, contents_of, leases_of}
+use Rattle.kfs_check.specs.declared.view.View.{View}
+use Rattle.kfs_plan.specs.Judged.{HoldsIn, IsKnown, Judged}
+use Rattle.kfs_plan.specs.Judging.{IsVerdict, submission_of}
+use Rattle.kfs_desk.specs.Machine.{IsCurrent, IsViewOf, state_at}
+
+module _ (image : DeviceImage) (lawful : IsLawful image) (clients : List Client) (leases : Leases) {A : Type 0} (view : View A)
+    (same_contents : contents_of view ≡ images.contents_of image) (same_leases : leases_of view ≡ leases) (same_clients : clients_of view ≡ clients) where
+  abbrev s : State
+  s = state_at image clients leases
+
+  pub is_view : IsViewOf view s
+  is_view = record { sight = ap sight_of same_contents ∙ sight_shown image lawful; leases = same_leases; clients = same_clients }
+
+  seen : (number : ℕ) → client_sight_in view number ≡ client_sight_of s number
+  seen number = λ i. record { sight = is_view.sight i; held = holds (same_leases i) number }
+
+  pub current_by : (judged : Judged A) → HoldsIn view judged → IsCurrent s judged
+  current_by judged is = record {
+    row = sym (ap (λ rows. row_of rows judged.submission.client) same_clients) ∙ is.row;
+    agrees = subst (Agrees judged.reads) (seen judged.submission.client) is.agrees;
+  }
+
+  pub holds_by : (judged : Judged A) → IsCurrent s judged → HoldsIn view judged
+  holds_by judged is = record {
+    row = ap (λ rows. row_of rows judged.submission.client) same_clients ∙ is.row;
+    agrees = subst (Agrees judged.reads) (sym (seen judged.submission.client)) is.agrees;
+  }
+
+  pub verdict_by : (judged : Judged A) → IsKnown judged → HoldsIn view judged → IsVerdict s (submission_of judged.submission) judged.outcome
+  verdict_by judged known is =
+      let current = current_by judged is in
+      known s (record { sound = lawful.tree.sound; row = current.row; agrees = current.agrees })

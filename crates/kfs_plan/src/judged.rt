@@ -1,0 +1,178 @@
+//! A verdict with what it rests on, and whether it holds in another view.
+ghost use Rattle.std.specs.Prelude.{◌≡◌, ◌↔◌, IsTrue};
+ghost use Rattle.std.specs.Option.{option_map};
+ghost use Rattle.kfs_model.specs.Sight as sights;
+ghost use Rattle.kfs_model.specs.Lease.{row_of};
+ghost use Rattle.kfs_check.specs.Reads.{Agrees, answer_of, cell_of, look_answer_of};
+ghost use Rattle.kfs_check.specs.View.{clients_of, client_sight_in};
+ghost use Rattle.kfs_plan.specs.Judged.{HoldsIn, IsKnown};
+
+use crate::submission::{Outcome, Submission};
+use indexmap::IndexMap;
+use kfs_judge::{Read, ReadAnswer, View};
+use kfs_mode::Client;
+use kfs_nodes::Answer;
+use std::alloc::Allocator;
+use std::hash::{BuildHasherDefault, FoldHasher};
+use std::marker::Model;
+
+/// The verdict on a submission: what was handed in, the client's row and the reads that it rests on,
+/// and what it comes to. In every sound state that has the row and agrees with the reads it is the verdict.
+#[derive(Drop)]
+pub struct Judged<A: Allocator> {
+    submission: Submission<A>,
+    client: Option<Client>,
+    reads: IndexMap<Read, ReadAnswer, BuildHasherDefault<FoldHasher>, A>,
+    outcome: Outcome<A>,
+}
+
+impl<A: Allocator> Model for Judged<A> {
+    ghost use Rattle.kfs_plan.specs.Judged.{Judged as JudgedShown, IsKnown};
+
+    ghost Value = { JudgedShown A };
+
+    ghost view = { λ j. record { submission = j.submission; client = j.client; reads = j.reads.entries; outcome = j.outcome } };
+
+    ghost invariant = { λ j. IsKnown (record { submission = j.submission; client = j.client; reads = j.reads.entries; outcome = j.outcome }) };
+}
+
+impl<A: Allocator> Judged<A> {
+    /// The verdict of these parts.
+    pub(crate) fn of(
+        submission: Submission<A>,
+        client: Option<Client>,
+        reads: IndexMap<Read, ReadAnswer, BuildHasherDefault<FoldHasher>, A>,
+        outcome: Outcome<A>,
+    ) -> Judged<A>
+        requires known { IsKnown (record { submission = submission; client = client; reads = reads.entries; outcome = outcome }) }
+        ensures { result ≡ record { submission = submission; client = client; reads = reads.entries; outcome = outcome } }
+    {
+        Judged {
+            submission,
+            client,
+            reads,
+            outcome,
+        }
+    }
+
+    /// What was handed in. Takes no memory.
+    pub fn submission(&self) -> &Submission<A>
+        ensures { result.now ≡ self.now.submission }
+    {
+        &self.submission
+    }
+
+    /// The client's row that the verdict rests on; none where there was none. Takes no memory.
+    pub fn client(&self) -> Option<&Client>
+        ensures { option_map (λ row. row.now) result ≡ self.now.client }
+    {
+        self.client.as_ref()
+    }
+
+    /// The reads that the verdict rests on. Takes no memory.
+    pub fn reads(&self) -> &IndexMap<Read, ReadAnswer, BuildHasherDefault<FoldHasher>, A>
+        ensures { result.now.entries ≡ self.now.reads }
+    {
+        &self.reads
+    }
+
+    /// What the submission comes to. Takes no memory.
+    pub fn outcome(&self) -> &Outcome<A>
+        ensures { result.now ≡ self.now.outcome }
+    {
+        &self.outcome
+    }
+
+    /// What was handed in and what it comes to, which is the verdict in every state that is alike.
+    /// Takes no memory.
+    pub fn into_parts(self) -> (Submission<A>, Outcome<A>)
+        ensures submission { result.0 ≡ self.submission }
+        ensures outcome { result.1 ≡ self.outcome }
+        ensures known { IsKnown self }
+    {
+        (self.submission, self.outcome)
+    }
+
+    /// Whether the view has the client's row and answers each read as the verdict has them. Takes no
+    /// memory.
+    pub fn holds_in(&self, view: &View<A>) -> bool
+        ensures holds { IsTrue result ↔ HoldsIn view.now self.now }
+        ensures known { IsKnown self.now }
+    {
+        let number = self.submission.client;
+        has_row(view, number, self.client.as_ref()) && agrees(view, number, &self.reads)
+    }
+}
+
+/// Whether the view has this row for the number, or none where that is none.
+fn has_row<A: Allocator>(view: &View<A>, number: u32, row: Option<&Client>) -> bool
+    ensures { IsTrue result ↔ (row_of (clients_of view.now) number ≡ option_map (λ r. r.now) row.entry) }
+{
+    match (view.client(number), row) {
+        (Some(here), Some(row)) => here == row,
+        (None, None) => true,
+        (Some(_), None) | (None, Some(_)) => false,
+    }
+}
+
+/// Whether the view answers the client each read as recorded.
+fn agrees<A: Allocator>(
+    view: &View<A>,
+    client: u32,
+    reads: &IndexMap<Read, ReadAnswer, BuildHasherDefault<FoldHasher>, A>,
+) -> bool
+    ensures { IsTrue result ↔ Agrees reads.now.entries (client_sight_in view.now client) }
+{
+    for (read, answer) in reads.iter() {
+        if !is_same(shown(view, client, read), *answer) {
+            return false;
+        }
+    }
+    true
+}
+
+/// What the view shows the client at a cell.
+fn shown<A: Allocator>(view: &View<A>, client: u32, read: &Read) -> ReadAnswer
+    ensures { sights.answer (client_sight_in view.now client) (cell_of read.now) ≡ answer_of result }
+{
+    match read {
+        Read::Look(cell) => ReadAnswer::Look(view.look(cell)),
+        Read::Lease(number) => ReadAnswer::Lease(view.holds(client, *number)),
+    }
+}
+
+/// Whether two answers tell the same.
+fn is_same(one: ReadAnswer, other: ReadAnswer) -> bool
+    ensures { IsTrue result ↔ (answer_of one ≡ answer_of other) }
+{
+    match one {
+        ReadAnswer::Look(one) => match other {
+            ReadAnswer::Look(other) => is_same_look(one, other),
+            ReadAnswer::Lease(_) => false,
+        },
+        ReadAnswer::Lease(one) => match other {
+            ReadAnswer::Look(_) => false,
+            ReadAnswer::Lease(other) => one == other,
+        },
+    }
+}
+
+/// Whether two answers of a shape tell the same, be it of a name or of a parent.
+fn is_same_look(one: Answer, other: Answer) -> bool
+    ensures { IsTrue result ↔ (look_answer_of one ≡ look_answer_of other) }
+{
+    match one {
+        Answer::Header(one) => match other {
+            Answer::Header(other) => one == other,
+            Answer::Name(_) | Answer::Count(_) | Answer::Parent(_) => false,
+        },
+        Answer::Count(one) => match other {
+            Answer::Count(other) => one == other,
+            Answer::Header(_) | Answer::Name(_) | Answer::Parent(_) => false,
+        },
+        Answer::Name(one) | Answer::Parent(one) => match other {
+            Answer::Name(other) | Answer::Parent(other) => one == other,
+            Answer::Header(_) | Answer::Count(_) => false,
+        },
+    }
+}
