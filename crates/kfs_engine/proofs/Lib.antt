@@ -1,5 +1,5 @@
 -- Lemmas on sessions.
+pub mod BytesSaid
 pub mod Conversations
 pub mod Held
 pub mod Listed
-pub mod Reads

@@ -33,6 +33,8 @@ pub enum Call<'a> {
     Lease(u32, &'a [u8]),
     /// A client gives up its lease on a node.
     Drop(u32, u32),
+    /// The moment goes on to this one.
+    Tick(u64),
 }
 
 /// Such a call, and what it is answered.
@@ -48,6 +50,7 @@ fn act_of(call: Call<'_>) -> Act<'_> {
             end: 100,
         },
         Call::Drop(client, number) => Act::Drop { client, number },
+        Call::Tick(moment) => Act::Tick { moment },
     }
 }
 

@@ -20,3 +20,5 @@ mod pages;
 mod refused;
 #[cfg(test)]
 mod submitting;
+#[cfg(test)]
+mod verdicts;

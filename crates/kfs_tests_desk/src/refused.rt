@@ -15,7 +15,7 @@ use std::alloc::{Allocator, Global};
 use std::process::Abort;
 
 /// More growths than a submission makes.
-const MANY: u64 = 400;
+pub const MANY: u64 = 400;
 
 /// A change that client 7 hands in, with what stands before and behind it.
 struct Change<'a> {
@@ -48,17 +48,22 @@ const CREATE: Change<'static> = Change {
 };
 
 /// Client 7 has a lease on the file.
-const FILE_LEASED: [Called<'static>; 1] = [(Call::Lease(7, b"/a"), Ok(Done::Leased(5)))];
+pub const FILE_LEASED: [Called<'static>; 1] = [(Call::Lease(7, b"/a"), Ok(Done::Leased(5)))];
 
 const FILE_HELD: [Called<'static>; 1] = [(Call::Lease(8, b"/a"), Err(LeaseFault::LeaseHeld(7)))];
 
-/// The file is closed to all others: mode 0o600.
+/// File 5 gets the mode 0o600.
+pub const CHMOD_LOG: &[u8] = b"KLOG\x01\0\0\0\x07\0\x01\x07\0\0\0\x05\x01\x80";
+
+pub const CHMOD_PLAN: &[u8] = b"KPLN\x01\0\0\0\x01\0\0\0\0\0\0\0\x05\x01\x01\x80\0\0\x03\xe8\0\0\x03\
+      \xe8\0\x01\0\0\0\0\0\0\0\0";
+
+/// The file is closed to all others.
 const CHMOD: Change<'static> = Change {
     nodes: (CREATE_LOG, CREATE_PLAN),
     leases: &FILE_LEASED,
-    log: b"KLOG\x01\0\0\0\x07\0\x01\x07\0\0\0\x05\x01\x80",
-    plan: b"KPLN\x01\0\0\0\x01\0\0\0\0\0\0\0\x05\x01\x01\x80\0\0\x03\xe8\0\0\x03\
-      \xe8\0\x01\0\0\0\0\0\0\0\0",
+    log: CHMOD_LOG,
+    plan: CHMOD_PLAN,
     need: 0,
     before: (&FILE, &FILE_HELD),
     after: (&[Shown::Node(5, Kind::File, 0o600)], &FILE_HELD),
@@ -77,12 +82,17 @@ const WRITE: Change<'static> = Change {
     after: (&[Shown::File(5, 2)], &FILE_HELD),
 };
 
+/// The name `a` of the root goes, and with it file 5.
+pub const UNLINK_LOG: &[u8] = b"KLOG\x01\0\0\0\x07\0\x01\x05\0\0\0\x01\x01a\0";
+
+pub const UNLINK_PLAN: &[u8] = b"KPLN\x01\0\x01\0\x01\0\0\0\0\0\0\0\x01\x01a\0\0\0\0\0\0\0\x05\0";
+
 /// The file's only name goes, and with it the file and the lease on it.
 const UNLINK: Change<'static> = Change {
     nodes: (CREATE_LOG, CREATE_PLAN),
     leases: &FILE_LEASED,
-    log: b"KLOG\x01\0\0\0\x07\0\x01\x05\0\0\0\x01\x01a\0",
-    plan: b"KPLN\x01\0\x01\0\x01\0\0\0\0\0\0\0\x01\x01a\0\0\0\0\0\0\0\x05\0",
+    log: UNLINK_LOG,
+    plan: UNLINK_PLAN,
     need: 0,
     before: (&FILE, &FILE_HELD),
     after: (

@@ -1,5 +1,6 @@
 -- What is read of a file is what its line says.
 use Rattle.std.proofs.Common.{◌≡◌, ◌≢◌, ℕ, ◌++◌, false, true, List, length, take, drop, Option, Some, None, refl, sym, ap, subst, ◌∙◌, codes}
+use Rattle.std.proofs.Math.Seq.{take-append_seam}
 use Rattle.kfs_model.specs.Header.{Header}
 use Rattle.kfs_model.specs.Sight.{is_directory}
 use Rattle.kfs_model.specs.Table.{get}
@@ -8,9 +9,6 @@ use Rattle.kfs_device.specs.ShownTree.{DeviceImage, IsLawful, shown_tree}
 use Rattle.kfs_image.specs.Read.{IsRead, bytes_from}
 use Rattle.kfs_image.specs.declared.read.ReadFault.TheVariants as faults
 use Rattle.kfs_engine.specs.Bytes.{fault_text, hex_text, read_text, text_of_node}
-
-take_front : {X : Type 0} (xs ys : List X) → take (length xs) (xs ++ ys) ≡ xs
-take_front xs ys = search rules
 
 file_text : (found : Option Header) (bytes : List ℕ) → found ≢ None → is_directory found ≢ true → text_of_node found bytes ≡ codes "bytes " ++ hex_text bytes
 file_text None bytes there file = absurd (there refl)
@@ -28,7 +26,7 @@ module _ (image : DeviceImage) (lawful : IsLawful image) (number start count : �
       → get image.heads number ≢ None → is_directory (get image.heads number) ≢ true → codes "bytes " ++ hex_text items ≡ read_text (shown_tree image) number start count
   bytes_said old new items len counted is kept there file =
       let bytes = bytes_from image number start (length old) in
-      let items_are : items ≡ bytes = kept ∙ ap (take len) is.bytes ∙ ap (λ n. take n (bytes ++ drop len old)) is.count_is ∙ take_front bytes (drop len old) in
+      let items_are : items ≡ bytes = kept ∙ ap (take len) is.bytes ∙ ap (λ n. take n (bytes ++ drop len old)) is.count_is ∙ take-append_seam bytes (drop len old) in
       let asked : bytes ≡ bytes_from image number start count = ap (bytes_from image number start) counted in
       ap (λ bs. codes "bytes " ++ hex_text bs) (items_are ∙ asked)
       ∙ sym (file_text (get image.heads number) (bytes_from image number start count) there file)
