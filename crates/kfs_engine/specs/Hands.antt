@@ -14,13 +14,13 @@ use Rattle.kfs_model.specs.Spelling.{LogAnswer}
 use Rattle.kfs_model.specs.Tree.{Tree}
 
 -- what was handed in, and what its verdict rests on: the client's row, and what was answered at each cell that was read
-pub record Verdict : Type 0 where
+pub record HeldVerdict : Type 0 where
   pub submission : Submission
   pub client : Option Client
   pub reads : List (Cell × Answer)
 
 -- the state has that row, and these answers
-pub record IsUpToDate (s : State) (verdict : Verdict) : Type 0 where
+pub record IsUpToDate (s : State) (verdict : HeldVerdict) : Type 0 where
   pub row : row_of s.clients verdict.submission.client ≡ verdict.client
   pub answers : AllByRecursion (λ read. answer (client_sight_of s verdict.submission.client) read.0 ≡ read.1) verdict.reads
 
@@ -40,7 +40,7 @@ pub record AreLookedAt (s : State) (submission : Submission) (reads : List (Cell
 
 -- A verdict of the state on the submission: it is up to date there, and rests on enough, for in each sound state in which it is up
 -- to date the submission comes to the same; and it rests on nothing that the log doesn't look at.
-pub record IsVerdictOn (s : State) (submission : Submission) (verdict : Verdict) : Type 0 where
+pub record IsVerdictOn (s : State) (submission : Submission) (verdict : HeldVerdict) : Type 0 where
   pub submitted : verdict.submission ≡ submission
   pub current : IsUpToDate s verdict
   pub told : Result ℕ Fault
@@ -49,15 +49,15 @@ pub record IsVerdictOn (s : State) (submission : Submission) (verdict : Verdict)
 
 -- what each worker holds, from worker 0 on
 abbrev pub Hands : Type 0
-Hands = List (Option Verdict)
+Hands = List (Option HeldVerdict)
 
 -- eight workers, and no verdict
 abbrev pub no_verdict : Hands
 no_verdict = replicate 8 None
 
-abbrev pub held_by : Hands → (worker : ℕ) → Option Verdict
+abbrev pub held_by : Hands → (worker : ℕ) → Option HeldVerdict
 held_by hands worker = get_or hands worker None
 
 -- this worker holds this, and the others what they held
-abbrev pub with_held : Hands → (worker : ℕ) → Option Verdict → Hands
+abbrev pub with_held : Hands → (worker : ℕ) → Option HeldVerdict → Hands
 with_held hands worker held = set hands worker held

@@ -21,7 +21,7 @@ use Rattle.kfs_plan.specs.declared.answers.Done.TheVariants.{Leased, Dropped, Ti
 use Rattle.kfs_plan.specs.declared.answers.Reply.{Reply}
 use Rattle.kfs_command.specs.Command.{Command, Setup, Request, OpeningCommand, New, Row, Begin, DeskCommand, Lease, Drop, Tick, Submit, Node, Listing, Bytes, DocketLength, Judge, Land, asked_by}
 use Rattle.kfs_engine.specs.Bytes.{read_text}
-use Rattle.kfs_engine.specs.Hands.{Hands, IsUpToDate, IsVerdictOn, Verdict, held_by, no_verdict, with_held}
+use Rattle.kfs_engine.specs.Hands.{Hands, IsUpToDate, IsVerdictOn, HeldVerdict, held_by, no_verdict, with_held}
 use Rattle.kfs_engine.specs.Listing.{list_text}
 use Rattle.kfs_report.specs.Text.{act_text, begin_text, client_text, node_text, reply_text}
 use Rattle.kfs_text.specs.Parts.{line_of}
@@ -135,23 +135,23 @@ abbrev pub WithHands : Hands → (DeskOutcome → Type 0) → LineOutcome → Ty
 WithHands hands Holds outcome = (said : DeskOutcome) × Holds said × (outcome ≡ (said.0, After said.1 hands))
 
 -- the worker, who holds no verdict, holds one on the submission then, and the desk is as it was; with a full hand it is a bad line
-abbrev pub Judges : Desk → Hands → (worker : ℕ) → (held : Option Verdict) → Submission → LineOutcome → Type 0
+abbrev pub Judges : Desk → Hands → (worker : ℕ) → (held : Option HeldVerdict) → Submission → LineOutcome → Type 0
 Judges desk hands worker (Some verdict) submission outcome = IsSaid (codes "bad line") (After desk hands) outcome
 Judges desk hands worker None submission outcome =
-    (verdict : Verdict) × IsVerdictOn desk.state submission verdict × IsSaid (codes "judged " ++ decimal worker) (After desk (with_held hands worker (Some verdict))) outcome
+    (verdict : HeldVerdict) × IsVerdictOn desk.state submission verdict × IsSaid (codes "judged " ++ decimal worker) (After desk (with_held hands worker (Some verdict))) outcome
 
 -- the verdict's submission is answered, judged again exactly where the verdict isn't up to date
-pub record IsLanded (desk : Desk) (verdict : Verdict) (outcome : DeskOutcome) : Type 0 where
+pub record IsLanded (desk : Desk) (verdict : HeldVerdict) (outcome : DeskOutcome) : Type 0 where
   pub again : Bool
   pub why : IsFalse again ↔ IsUpToDate desk.state verdict
   pub submitted : IsSubmitted desk verdict.submission again outcome
 
 -- the docket is full, or the verdict is landed, or there is want of memory, which leaves the desk
-abbrev pub IsLandingAnswered : Desk → Verdict → DeskOutcome → Type 0
+abbrev pub IsLandingAnswered : Desk → HeldVerdict → DeskOutcome → Type 0
 IsLandingAnswered desk verdict outcome = IsFull desk outcome ⊎ (IsLanded desk verdict outcome ⊎ IsSaid (codes "memory") desk outcome)
 
 -- whatever comes of the verdict that the worker holds, it holds none then; with an empty hand it is a bad line
-abbrev pub Lands : Desk → Hands → (worker : ℕ) → (held : Option Verdict) → LineOutcome → Type 0
+abbrev pub Lands : Desk → Hands → (worker : ℕ) → (held : Option HeldVerdict) → LineOutcome → Type 0
 Lands desk hands worker None outcome = IsSaid (codes "bad line") (After desk hands) outcome
 Lands desk hands worker (Some verdict) outcome = WithHands (with_held hands worker None) (IsLandingAnswered desk verdict) outcome
 

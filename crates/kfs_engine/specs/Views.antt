@@ -5,7 +5,7 @@ use Rattle.kfs_plan.specs.Judged.{Judged}
 use Rattle.kfs_plan.specs.Judging.{submission_of}
 use Rattle.kfs_desk.specs.Machine.{Desk}
 use Rattle.kfs_command.specs.Command as commands
-use Rattle.kfs_engine.specs.Hands.{Hands, Verdict, no_verdict}
+use Rattle.kfs_engine.specs.Hands.{Hands, HeldVerdict, no_verdict}
 use Rattle.kfs_engine.specs.Session.{Does, IsReplied, LineOutcome, Stage, Start, Before, After, opened}
 use Rattle.kfs_text.specs.Parts.{line_of}
 use Rattle.kfs_engine.specs.declared.hands.Hands.{Hands as CodeHands}
@@ -23,7 +23,7 @@ module _ {A : Type 0} where
   Opens opening command outcome = opened (start_of opening) command ≡ outcome
 
   -- what is held of the code's verdict
-  abbrev pub verdict_of : Judged A → Verdict
+  abbrev pub verdict_of : Judged A → HeldVerdict
   verdict_of judged = record { submission = submission_of judged.submission; client = judged.client; reads = map (λ read. (cell_of read.0, answer_of read.1)) judged.reads }
 
   abbrev pub hands_of : CodeHands A → Hands
