@@ -1,6 +1,6 @@
 -- Verdicts of the code as they are held, and hands.
 use Rattle.std.proofs.Common.{◌≡◌, ◌≢◌, ◌⊎◌, inl, inr, ℕ, ◌++◌, Bool, true, false, List, [], ◌∷◌, map, Option, Some, None, option_map, Result, Ok, Err, refl, sym, ap, subst, ◌∙◌}
-use Rattle.std.specs.Prelude.{get_or, set, codes, decimal}
+use Rattle.std.specs.Prelude.{get_or, set, codes, decimal, All, Contains, OnOk}
 use Rattle.std.specs.List.{AllByRecursion}
 use Rattle.std.proofs.Math.ListN.{get_or-map}
 use Rattle.std.proofs.lemmas.List.{map-set, set-get_or}
@@ -21,12 +21,14 @@ use Rattle.kfs_plan.specs.declared.submission.Fault.{Fault as CodeFault}
 use Rattle.kfs_plan.specs.declared.submission.Outcome.{Outcome}
 use Rattle.kfs_plan.specs.declared.submission.Outcome.TheVariants as outcomes
 use Rattle.kfs_plan.specs.declared.submission.Submission.{Submission as CodeSubmission}
-use Rattle.kfs_desk.specs.Machine.{Desk, IsCurrent, IsViewOf}
+use Rattle.kfs_lease.specs.declared.act.Act.{Act}
+use Rattle.kfs_lease.specs.declared.act.Act.TheVariants as acts
+use Rattle.kfs_desk.specs.Machine.{Desk, IsCurrent, IsViewOf, call_of, done_by}
 use Rattle.kfs_command.specs.Command as commands
-use Rattle.kfs_engine.specs.Hands.{AreLookedAt, ComesTo, Hands, IsUpToDate, IsVerdictOn, held_by}
-use Rattle.kfs_engine.specs.Hands as held
-use Rattle.kfs_engine.specs.Session.{After, DeskOutcome, IsLandingAnswered, IsReplied, Judges, Lands, Serves, WithHands}
-use Rattle.kfs_engine.specs.Views.{verdict_of}
+use Rattle.kfs_command.specs.Views.{act_of}
+use Rattle.kfs_engine.specs.Hands.{AreLookedAt, ComesTo, Hands, HeldVerdict, IsUpToDate, IsVerdictOn, held_by, with_held}
+use Rattle.kfs_engine.specs.Holding.{hands_of, verdict_of}
+use Rattle.kfs_engine.specs.Session.{After, DeskOutcome, IsCallAnswered, IsLandingAnswered, IsReplied, Judges, Lands, Serves, WithHands}
 use Rattle.kfs_text.specs.Parts.{line_of}
 
 -- ---- what a verdict of the code rests on
@@ -140,46 +142,53 @@ module _ {A : Type 0} (s : State) (in_order : IsInOrder s) (view : View A) (of :
 
 -- ---- hands
 
-module _ {A : Type 0} where
-  -- the code's hands as they are shown
-  abbrev pub shown : List (Option (Judged A)) → Hands
-  shown held = map (option_map verdict_of) held
+-- what is written into a hand, as it is shown
+pub shown_with : {A : Type 0} (held : List (Option (Judged A))) (worker : ℕ) (hand : Option (Judged A)) → hands_of (set held worker hand) ≡ with_held (hands_of held) worker (option_map verdict_of hand)
+shown_with held worker hand = map-set (option_map verdict_of) held worker hand
 
-  shown_at : (held : List (Option (Judged A))) (worker : ℕ) (hand : Option (Judged A)) → get_or held worker None ≡ hand → held_by (shown held) worker ≡ option_map verdict_of hand
-  shown_at held worker hand is = get_or-map (option_map verdict_of) held worker None ∙ ap (option_map verdict_of) is
+pub shown_at : {A : Type 0} (held : List (Option (Judged A))) (worker : ℕ) → held_by (hands_of held) worker ≡ option_map verdict_of (get_or held worker None)
+shown_at held worker = get_or-map (option_map verdict_of) held worker None
 
-  module _ (desk : Desk) (old new : List (Option (Judged A))) (worker : ℕ) where
-    pub judged_held : (submission : Submission) (judged : Judged A) → get_or old worker None ≡ None → new ≡ set old worker (Some judged) → IsVerdictOn desk.state submission (verdict_of judged)
-        → Serves desk (shown old) (commands.Judge worker submission) (line_of (codes "judged " ++ decimal worker), After desk (shown new))
-    judged_held submission judged empty put is =
-        let text = line_of (codes "judged " ++ decimal worker) in
-        let after : shown new ≡ set (shown old) worker (Some (verdict_of judged)) = ap shown put ∙ map-set (option_map verdict_of) old worker (Some judged) in
-        subst (λ hand. Judges desk (shown old) worker hand submission (text, After desk (shown new))) (sym (shown_at old worker None empty))
-        (verdict_of judged, is, ap (λ hands. (text, After desk hands)) after)
+pub none_shown : {A : Type 0} (hand : Option (Judged A)) → option_map verdict_of hand ≡ None → hand ≡ None
+none_shown None is = refl
+none_shown (Some judged) is = cc
 
-    pub full_hand : (submission : Submission) → get_or old worker None ≢ None → new ≡ old → Serves desk (shown old) (commands.Judge worker submission) (line_of (codes "bad line"), After desk (shown new))
-    full_hand submission full same = by (get_or old worker None) refl
-      where
-        text : List ℕ
-        text = line_of (codes "bad line")
+module _ (desk : Desk) (old new : Hands) (worker : ℕ) where
+  pub judged_held : (submission : Submission) (verdict : HeldVerdict) → held_by old worker ≡ None → new ≡ with_held old worker (Some verdict) → IsVerdictOn desk.state submission verdict
+      → Serves desk old (commands.Judge worker submission) (line_of (codes "judged " ++ decimal worker), After desk new)
+  judged_held submission verdict empty put is =
+      let text = line_of (codes "judged " ++ decimal worker) in
+      subst (λ hand. Judges desk old worker hand submission (text, After desk new)) (sym empty) (verdict, is, ap (λ hands. (text, After desk hands)) put)
 
-        by : (hand : Option (Judged A)) → get_or old worker None ≡ hand → Serves desk (shown old) (commands.Judge worker submission) (text, After desk (shown new))
-        by None is = absurd (full is)
-        by (Some judged) is =
-            subst (λ hand. Judges desk (shown old) worker hand submission (text, After desk (shown new))) (sym (shown_at old worker (Some judged) is)) (ap (λ held. (text, After desk (shown held))) same)
+  pub full_hand : (submission : Submission) → held_by old worker ≢ None → new ≡ old → Serves desk old (commands.Judge worker submission) (line_of (codes "bad line"), After desk new)
+  full_hand submission full same = by (held_by old worker) full
+    where
+      by : (hand : Option HeldVerdict) → hand ≢ None → Judges desk old worker hand submission (line_of (codes "bad line"), After desk new)
+      by None some = absurd (some refl)
+      by (Some verdict) some = ap (λ hands. (line_of (codes "bad line"), After desk hands)) same
 
-    pub empty_hand : get_or old worker None ≡ None → new ≡ set old worker None → Serves desk (shown old) (commands.Land worker) (line_of (codes "bad line"), After desk (shown new))
-    empty_hand empty left =
-        let text = line_of (codes "bad line") in
-        let same : new ≡ old = left ∙ ap (set old worker) (sym empty) ∙ set-get_or old worker None in
-        subst (λ hand. Lands desk (shown old) worker hand (text, After desk (shown new))) (sym (shown_at old worker None empty)) (ap (λ held. (text, After desk (shown held))) same)
+  pub empty_hand : held_by old worker ≡ None → new ≡ with_held old worker None → Serves desk old (commands.Land worker) (line_of (codes "bad line"), After desk new)
+  empty_hand empty left =
+      let text = line_of (codes "bad line") in
+      let same : new ≡ old = left ∙ ap (set old worker) (sym empty) ∙ set-get_or old worker None in
+      subst (λ hand. Lands desk old worker hand (text, After desk new)) (sym empty) (ap (λ hands. (text, After desk hands)) same)
 
-    pub landed : (judged : Judged A) → get_or old worker None ≡ Some judged → new ≡ set old worker None → (said : DeskOutcome) → IsLandingAnswered desk (verdict_of judged) said → Serves desk (shown old) (commands.Land worker) (said.0, After said.1 (shown new))
-    landed judged is left said answered =
-        let after : shown new ≡ set (shown old) worker None = ap shown left ∙ map-set (option_map verdict_of) old worker None in
-        subst (λ hand. Lands desk (shown old) worker hand (said.0, After said.1 (shown new))) (sym (shown_at old worker (Some judged) is))
-        (said, answered, ap (λ hands. (said.0, After said.1 hands)) after)
+  pub landed : (verdict : HeldVerdict) → held_by old worker ≡ Some verdict → new ≡ with_held old worker None → (said : DeskOutcome) → IsLandingAnswered desk verdict said → Serves desk old (commands.Land worker) (said.0, After said.1 new)
+  landed verdict is left said answered =
+      subst (λ hand. Lands desk old worker hand (said.0, After said.1 new)) (sym is) (said, answered, ap (λ hands. (said.0, After said.1 hands)) left)
 
--- an answer of the desk, where the workers hold what they held
-pub with_hands : (hands : Hands) (Holds : DeskOutcome → Type 0) (before after : List ℕ) (desk : Desk) → IsReplied Holds before after desk → IsReplied (WithHands hands Holds) before after (After desk hands)
-with_hands hands Holds before after desk is = (is.0, is.1, ((is.0, desk), is.2, refl))
+-- ---- what the desk answers, where the workers hold what they held
+
+on_ok : {T E P Q : Type 0} (result : Result T E) → (P → Q) → OnOk result P → OnOk result Q
+on_ok (Ok x) f p = f p
+on_ok (Err e) f p = tt
+
+pub with_hands : {T E : Type 0} (result : Result T E) (hands : Hands) (Holds : DeskOutcome → Type 0) (before after : List ℕ) (desk : Desk) → OnOk result (IsReplied Holds before after desk) → OnOk result (IsReplied (WithHands hands Holds) before after (After desk hands))
+with_hands result hands Holds before after desk = on_ok result (λ is. (is.0, is.1, ((is.0, desk), is.2, refl)))
+
+-- a call for the leases
+pub act_served : {T E : Type 0} (result : Result T E) (desk : Desk) (hands : Hands) (act : Act) (before after : List ℕ) (next : Desk) → OnOk result (IsReplied (IsCallAnswered desk (call_of act) (done_by act)) before after next)
+    → OnOk result (IsReplied (Serves desk hands (act_of act)) before after (After next hands))
+act_served result desk hands (acts.Lease client path kind end) before after next is = with_hands result hands _ before after next is
+act_served result desk hands (acts.Drop client number) before after next is = with_hands result hands _ before after next is
+act_served result desk hands (acts.Tick moment) before after next is = with_hands result hands _ before after next is

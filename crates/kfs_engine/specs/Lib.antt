@@ -2,6 +2,7 @@ pub mod Bytes
 pub mod Conversation
 pub mod Example
 pub mod Hands
+pub mod Holding
 pub mod Listing
 pub mod Progress
 pub mod Session

@@ -1,14 +1,10 @@
 -- What the parts of a session are in the definitions.
-use Rattle.std.specs.Prelude.{◌≡◌, ◌⊎◌, ℕ, List, codes, map, Option, None, Some, option_map}
-use Rattle.kfs_check.specs.Reads.{answer_of, cell_of}
-use Rattle.kfs_plan.specs.Judged.{Judged}
-use Rattle.kfs_plan.specs.Judging.{submission_of}
+use Rattle.std.specs.Prelude.{◌≡◌, ◌⊎◌, ℕ, List, codes, Option, None, Some}
 use Rattle.kfs_desk.specs.Machine.{Desk}
 use Rattle.kfs_command.specs.Command as commands
-use Rattle.kfs_engine.specs.Hands.{Hands, HeldVerdict, no_verdict}
+use Rattle.kfs_engine.specs.Hands.{no_verdict}
 use Rattle.kfs_engine.specs.Session.{Does, IsReplied, LineOutcome, Stage, Start, Before, After, opened}
 use Rattle.kfs_text.specs.Parts.{line_of}
-use Rattle.kfs_engine.specs.declared.hands.Hands.{Hands as CodeHands}
 use Rattle.kfs_engine.specs.declared.opening.Opening.{Opening}
 use Rattle.kfs_engine.specs.declared.session.Session.{Session}
 use Rattle.kfs_engine.specs.declared.session.Stage.{Stage as CodeStage}
@@ -22,16 +18,9 @@ module _ {A : Type 0} where
   abbrev pub Opens : Opening A → commands.OpeningCommand → LineOutcome → Type 0
   Opens opening command outcome = opened (start_of opening) command ≡ outcome
 
-  -- what is held of the code's verdict
-  abbrev pub verdict_of : Judged A → HeldVerdict
-  verdict_of judged = record { submission = submission_of judged.submission; client = judged.client; reads = map (λ read. (cell_of read.0, answer_of read.1)) judged.reads }
-
-  abbrev pub hands_of : CodeHands A → Hands
-  hands_of hands = map (option_map verdict_of) hands.held
-
   abbrev pub stage_in : CodeStage A → Stage
   stage_in (stages.Before opening) = Before (start_of opening)
-  stage_in (stages.After desk hands) = After desk (hands_of hands)
+  stage_in (stages.After desk hands) = After desk hands
 
   abbrev pub stage_of : Session A → Stage
   stage_of session = stage_in session.stage

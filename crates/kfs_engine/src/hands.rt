@@ -1,11 +1,12 @@
 //! What the workers hold: a verdict each, or none.
-ghost use Rattle.std.specs.Prelude.{◌≡◌, ◌↔◌, IsTrue, None, Some, get_or, set};
-ghost use Rattle.kfs_engine.specs.Hands.{no_verdict};
-ghost use Rattle.kfs_engine.specs.Views.{hands_of};
+ghost use Rattle.std.specs.Prelude.{◌≡◌, ◌↔◌, IsTrue, None, Some, option_map};
+ghost use Rattle.kfs_engine.specs.Hands.{held_by, no_verdict, with_held};
+ghost use Rattle.kfs_engine.specs.Holding.{verdict_of};
 
 use kfs_command::Worker;
 use kfs_plan::Judged;
 use std::alloc::Allocator;
+use std::marker::Model;
 
 /// A hand for each of the workers 0 to 7.
 #[derive(Drop)]
@@ -13,10 +14,20 @@ pub struct Hands<A: Allocator> {
     held: [Option<Judged<A>>; 8],
 }
 
+impl<A: Allocator> Model for Hands<A> {
+    ghost use Rattle.kfs_engine.specs.Hands.{Hands as HandsShown};
+
+    ghost Value = { HandsShown };
+
+    ghost use Rattle.kfs_engine.specs.Holding.{hands_of};
+
+    ghost view = { λ h. hands_of h.held };
+}
+
 impl<A: Allocator> Hands<A> {
     /// All are empty.
     pub fn new() -> Hands<A>
-        ensures { hands_of result ≡ no_verdict }
+        ensures { result ≡ no_verdict }
     {
         Hands {
             held: [None, None, None, None, None, None, None, None],
@@ -25,22 +36,22 @@ impl<A: Allocator> Hands<A> {
 
     /// Whether the worker holds no verdict.
     pub fn is_empty(&self, worker: Worker) -> bool
-        ensures { IsTrue result ↔ (get_or self.now.held worker.number None ≡ None) }
+        ensures { IsTrue result ↔ (held_by self.now worker.number ≡ None) }
     {
         self.held[worker.number()].is_none()
     }
 
     /// Gives the verdict to the worker.
     pub fn put(&mut self, worker: Worker, judged: Judged<A>)
-        ensures { self.new.held ≡ set self.old.held worker.number (Some judged) }
+        ensures { self.new ≡ with_held self.old worker.number (Some (verdict_of judged)) }
     {
         self.held[worker.number()] = Some(judged);
     }
 
     /// Takes the verdict that the worker holds.
     pub fn take(&mut self, worker: Worker) -> Option<Judged<A>>
-        ensures taken { result ≡ get_or self.old.held worker.number None }
-        ensures left { self.new.held ≡ set self.old.held worker.number None }
+        ensures taken { option_map verdict_of result ≡ held_by self.old worker.number }
+        ensures left { self.new ≡ with_held self.old worker.number None }
     {
         self.held[worker.number()].take()
     }

@@ -8,7 +8,7 @@ ghost use Rattle.kfs_desk.specs.Machine.{call_of, done_by};
 ghost use Rattle.kfs_command.specs.Command as commands;
 ghost use Rattle.kfs_engine.specs.Session.{After, Answers, IsCallAnswered, IsNodeShown, IsReplied, IsSubmissionAnswered, Serves, docket_line, fresh, names_line};
 ghost use Rattle.kfs_command.specs.Views.{asked_of_desk, opening_of};
-ghost use Rattle.kfs_engine.specs.Views.{IsDone, IsOutOfPlace, IsUndone, hands_of, stage_of};
+ghost use Rattle.kfs_engine.specs.Views.{IsDone, IsOutOfPlace, IsUndone, stage_of};
 ghost use Rattle.kfs_text.specs.Parts.{line_of};
 ghost use Rattle.kfs_value.specs.Room.{spare_of};
 
@@ -114,9 +114,9 @@ fn answer_due<A: Allocator + Copy>(
     reply: &mut Vec<u8, A>,
 ) -> Result<(), Refusal>
     requires { 128 ≤ spare_of reply.old }
-    ensures ok { OnOk result (IsReplied (Serves desk.old (hands_of hands.old) (asked_of_desk command.entry)) reply.old.items reply.new.items (After desk.new (hands_of hands.new))) }
-    ensures bad { IsErrOf result Refusal.BadLine → Serves desk.old (hands_of hands.old) (asked_of_desk command.entry) (line_of (codes "bad line"), After desk.new (hands_of hands.new)) }
-    ensures memory { IsErrOf result Refusal.OutOfMemory → IsUndone (After desk.old (hands_of hands.old)) (commands.Request (asked_of_desk command.entry)) (After desk.new (hands_of hands.new)) }
+    ensures ok { OnOk result (IsReplied (Serves desk.old hands.old (asked_of_desk command.entry)) reply.old.items reply.new.items (After desk.new hands.new)) }
+    ensures bad { IsErrOf result Refusal.BadLine → Serves desk.old hands.old (asked_of_desk command.entry) (line_of (codes "bad line"), After desk.new hands.new) }
+    ensures memory { IsErrOf result Refusal.OutOfMemory → IsUndone (After desk.old hands.old) (commands.Request (asked_of_desk command.entry)) (After desk.new hands.new) }
 {
     match command {
         DeskCommand::Act(act) => make_call(desk, act, reply),

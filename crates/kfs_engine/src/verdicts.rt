@@ -3,8 +3,8 @@ ghost use Rattle.std.specs.Prelude.{◌≡◌, ◌≤◌, codes, IfErr, IfOk, Is
 ghost use Rattle.kfs_plan.specs.Judging.{submission_of};
 ghost use Rattle.kfs_command.specs.Command as commands;
 ghost use Rattle.kfs_engine.specs.Hands.{IsVerdictOn};
+ghost use Rattle.kfs_engine.specs.Holding.{verdict_of};
 ghost use Rattle.kfs_engine.specs.Session.{After, IsLandingAnswered, IsReplied, Serves};
-ghost use Rattle.kfs_engine.specs.Views.{hands_of, verdict_of};
 ghost use Rattle.kfs_text.specs.Parts.{line_of};
 ghost use Rattle.kfs_value.specs.Room.{spare_of};
 
@@ -27,8 +27,8 @@ pub fn judge_for<A: Allocator + Copy>(
     reply: &mut Vec<u8, A>,
 ) -> Result<(), Refusal>
     requires { 128 ≤ spare_of reply.old }
-    ensures ok { OnOk result (IsReplied (Serves desk.now (hands_of hands.old) (commands.Judge worker.number (submission_of submission))) reply.old.items reply.new.items (After desk.now (hands_of hands.new))) }
-    ensures bad { IsErrOf result Refusal.BadLine → Serves desk.now (hands_of hands.old) (commands.Judge worker.number (submission_of submission)) (line_of (codes "bad line"), After desk.now (hands_of hands.new)) }
+    ensures ok { OnOk result (IsReplied (Serves desk.now hands.old (commands.Judge worker.number (submission_of submission))) reply.old.items reply.new.items (After desk.now hands.new)) }
+    ensures bad { IsErrOf result Refusal.BadLine → Serves desk.now hands.old (commands.Judge worker.number (submission_of submission)) (line_of (codes "bad line"), After desk.now hands.new) }
     ensures memory { IsErrOf result Refusal.OutOfMemory → hands.new ≡ hands.old }
 {
     if !hands.is_empty(worker) {
@@ -68,9 +68,9 @@ pub fn land_for<A: Allocator + Copy>(
     reply: &mut Vec<u8, A>,
 ) -> Result<(), Refusal>
     requires { 128 ≤ spare_of reply.old }
-    ensures ok { OnOk result (IsReplied (Serves desk.old (hands_of hands.old) (commands.Land worker.number)) reply.old.items reply.new.items (After desk.new (hands_of hands.new))) }
-    ensures bad { IsErrOf result Refusal.BadLine → Serves desk.old (hands_of hands.old) (commands.Land worker.number) (line_of (codes "bad line"), After desk.new (hands_of hands.new)) }
-    ensures memory { IsErrOf result Refusal.OutOfMemory → Serves desk.old (hands_of hands.old) (commands.Land worker.number) (line_of (codes "memory"), After desk.new (hands_of hands.new)) }
+    ensures ok { OnOk result (IsReplied (Serves desk.old hands.old (commands.Land worker.number)) reply.old.items reply.new.items (After desk.new hands.new)) }
+    ensures bad { IsErrOf result Refusal.BadLine → Serves desk.old hands.old (commands.Land worker.number) (line_of (codes "bad line"), After desk.new hands.new) }
+    ensures memory { IsErrOf result Refusal.OutOfMemory → Serves desk.old hands.old (commands.Land worker.number) (line_of (codes "memory"), After desk.new hands.new) }
 {
     let judged = hands.take(worker).ok_or(Refusal::BadLine)?;
     land_judged(desk, judged, reply)

@@ -7,8 +7,10 @@ use Rattle.kfs_engine.specs.Hands.{no_verdict}
 use Rattle.kfs_engine.specs.Session.{After}
 use Rattle.kfs_engine.proofs.examples.verdict_at_a_full_docket.Goals as goal
 
-full bad : List ℕ
+full : List ℕ
 full = codes "full\n"
+
+bad : List ℕ
 bad = codes "bad line\n"
 
 pub returns : goal.returns
