@@ -1,37 +1,46 @@
 //! What the workers hold: a verdict each, or none.
-ghost use Rattle.std.specs.Prelude.{◌≡◌, ◌↔◌, IsTrue, None, Some, option_map};
+ghost use Rattle.std.specs.Prelude.{◌≡◌, ◌↔◌, IfOk, IsTrue, None, Some, option_map};
 ghost use Rattle.kfs_engine.specs.Hands.{held_by, no_verdict, with_held};
 ghost use Rattle.kfs_engine.specs.Holding.{verdict_of};
 
 use kfs_command::Worker;
 use kfs_plan::Judged;
-use std::alloc::Allocator;
+use std::alloc::{AllocError, Allocator};
 use std::marker::Model;
 
-/// A hand for each of the workers 0 to 7.
+/// How many workers there are.
+const WORKERS: usize = 8;
+
+/// A hand for each worker, in their order.
 #[derive(Drop)]
 pub struct Hands<A: Allocator> {
-    held: [Option<Judged<A>>; 8],
+    held: Vec<Option<Judged<A>>, A>,
 }
 
 impl<A: Allocator> Model for Hands<A> {
     ghost use Rattle.kfs_engine.specs.Hands.{Hands as HandsShown};
 
+    ghost use Rattle.std.specs.Prelude.{◌≡◌, length};
+
     ghost Value = { HandsShown };
 
     ghost use Rattle.kfs_engine.specs.Holding.{hands_of};
 
-    ghost view = { λ h. hands_of h.held };
+    ghost view = { λ h. hands_of h.held.items };
+
+    ghost invariant = { λ h. length h.held.items ≡ 8 };
 }
 
 impl<A: Allocator> Hands<A> {
     /// All are empty.
-    pub fn new() -> Hands<A>
-        ensures { result ≡ no_verdict }
+    pub fn new(alloc: A) -> Result<Hands<A>, AllocError>
+        ensures { IfOk result (λ hands. hands ≡ no_verdict) }
     {
-        Hands {
-            held: [None, None, None, None, None, None, None, None],
+        let mut held = Vec::new(alloc);
+        for _ in 0..WORKERS {
+            held.push(None)?;
         }
+        Ok(Hands { held })
     }
 
     /// Whether the worker holds no verdict.

@@ -78,8 +78,9 @@ impl<A: Allocator + Copy> Session<A> {
     {
         match &mut self.stage {
             Stage::Before(opening) => {
+                let hands = Hands::new(self.alloc)?;
                 if let Some(desk) = opening.answer(command, reply)? {
-                    self.stage = Stage::After(desk, Hands::new());
+                    self.stage = Stage::After(desk, hands);
                 }
                 Ok(())
             }
