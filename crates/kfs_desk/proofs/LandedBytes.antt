@@ -1,9 +1,9 @@
 -- A Yes lands with its bytes: with the fill of its log it makes the machine's step, and without room nothing changes.
-use Rattle.std.proofs.Common.{◌≡◌, Bool, ℕ, ◌<◌, ◌≤◌, false, cond, List, [], length, Some, None, Result, Ok, refl, sym, ap, subst, ◌∙◌, le-ltb, lt-ltb}
+use Rattle.std.proofs.Common.{◌≡◌, Bool, ℕ, ◌<◌, ◌≤◌, cond, List, [], length, Some, None, Result, Ok, refl, sym, ap, subst, ◌∙◌, le-ltb, lt-ltb}
 use Rattle.std.specs.List.{AllByRecursion}
 use Rattle.kfs_model.specs.Entry.{Entry}
 use Rattle.kfs_model.specs.Judgement.{Accepted, IsJudgement, NoRoom, Reading, State, Submission, Yes, client_sight_of, free_places, reply_to, verdict_on}
-use Rattle.kfs_model.specs.Machine.{OneByOne, Replied, Submit, landed, next, outcome_of, replied}
+use Rattle.kfs_model.specs.Machine.{OneByOne, Replied, Row, Submit, landed, next, outcome_of, replied}
 use Rattle.kfs_model.specs.Placement.{need}
 use Rattle.kfs_model.specs.Plan.{ArePieces}
 use Rattle.kfs_model.specs.PlanRow.{Piece}
@@ -32,7 +32,7 @@ use Rattle.kfs_sweep.specs.Lefts.{IsFilled, IsWhole}
 use Rattle.kfs_plan.specs.Judging.{TellsYes}
 use Rattle.kfs_plan.specs.declared.answers.Reply.TheVariants as replies
 use Rattle.kfs_desk.specs.Landing.{ended_by}
-use Rattle.kfs_desk.specs.Machine.{IsDesk, IsDone, IsStep, Parts, state_of}
+use Rattle.kfs_desk.specs.Machine.{IsDesk, IsDone, IsStep, Parts, state_at, state_of}
 use Rattle.kfs_desk.proofs.Landing.{contents_are, leases_end}
 use Rattle.kfs_desk.proofs.WholePieces as whole
 
@@ -108,16 +108,16 @@ module _ (desk : Parts) (is_desk : IsDesk desk) (lawful : IsLawful desk.image) (
     pub can_apply : CanApply net fill desk.image
     can_apply = landed_lawful desk.image s yes.client sight_before entries after marked_after pieces net fill places landing
 
-    -- the desk where both have been applied
-    abbrev pub desk_filled : (rows : ℕ) → Parts
-    desk_filled rows = record desk { image = applied net fill desk.image; leases = ended_by desk.leases net.nodes.items; rows = rows }
+    -- the state where both have been applied
+    abbrev state_filled : State
+    state_filled = state_at (applied net fill desk.image) desk.clients (ended_by desk.leases net.nodes.items)
 
     tree_is : shown_tree (applied net fill desk.image) ≡ after
     tree_is = landed_tree desk.image s yes.client sight_before entries after marked_after pieces net fill places landing
 
-    -- The desk then shows the machine's state after the landing.
-    pub state_filled : (rows : ℕ) → state_of (desk_filled rows) ≡ landed s after marked_after places
-    state_filled rows = λ i. record {
+    -- It is the machine's state after the landing.
+    filled_is : state_filled ≡ landed s after marked_after places
+    filled_is = λ i. record {
       clients = desk.clients;
       sizes = desk.image.sizes;
       tree = tree_is i;
@@ -131,9 +131,11 @@ module _ (desk : Parts) (is_desk : IsDesk desk) (lawful : IsLawful desk.image) (
         ap (λ b. cond b (NoRoom (need marked_after) free) (Accepted (need marked_after))) (le-ltb free (need marked_after) (subst (λ n. n ≤ free) yes.need_told room))
         ∙ ap Accepted (sym yes.need_told)
 
-    -- A row with the places of the fill fits.
-    pub fits_filled : (reading : Reading) → Yes after marked_after ≡ verdict_on s submission.client reading
-        → next s (record { call = Submit submission reading; answer = Replied (Accepted told); places = places }) ≡ Some (landed s after marked_after places)
+    -- the submission with the places of the fill
+    abbrev row_filled : Reading → Row
+    row_filled reading = record { call = Submit submission reading; answer = Replied (Accepted told); places = places }
+
+    fits_filled : (reading : Reading) → Yes after marked_after ≡ verdict_on s submission.client reading → next s (row_filled reading) ≡ Some (landed s after marked_after places)
     unfolding outcome_of
     fits_filled reading judged = row_fits s (landed s after marked_after places) _ (
         ap (λ verdict. replied s places verdict (reply_to s verdict)) (sym judged)
@@ -141,18 +143,19 @@ module _ (desk : Parts) (is_desk : IsDesk desk) (lawful : IsLawful desk.image) (
         ∙ ap (λ b. cond b (Some (Replied (Accepted told), landed s after marked_after places)) None) fills.chosen
         )
 
-    pub step_filled : IsJudgement s submission (Yes after marked_after) → (position : ℕ) (again : Bool) (rows : ℕ) → IsStep s submission (replies.Yes position again told) (state_of (desk_filled rows))
-    step_filled judgement position again rows = record {
+    pub step_filled : (judgement : IsJudgement s submission (Yes after marked_after)) → (position : ℕ) (again : Bool) → IsStep s submission (replies.Yes position again told) (row_filled judgement.reading) state_filled
+    step_filled judgement position again = record {
       reading = judgement.reading;
       read = judgement.read;
+      asked = refl;
       reply = Accepted told;
       said = refl;
-      places = places;
-      fits = fits_filled judgement.reading judgement.judgement ∙ ap Some (sym (state_filled rows));
+      answered = refl;
+      fits = fits_filled judgement.reading judgement.judgement ∙ ap Some (sym filled_is);
     }
 
-    pub done_filled : (rows : ℕ) → IsDone s submission (state_of (desk_filled rows))
-    done_filled rows = record {
+    pub done_filled : IsDone s submission state_filled
+    done_filled = record {
       client = yes.client;
       row = yes.row;
       log = log_of submission.log log;
@@ -168,19 +171,20 @@ module _ (desk : Parts) (is_desk : IsDesk desk) (lawful : IsLawful desk.image) (
     can_land_with fill is = can_apply fill bytes says tells is room
 
     module _ (new : DeviceImage) (has : HasLandedWith desk.image bytes net new) where
-      -- the desk with the image that it leaves
-      abbrev pub desk_landed : (rows : ℕ) → Parts
-      desk_landed rows = record desk { image = new; leases = ended_by desk.leases net.nodes.items; rows = rows }
+      -- the state with the image that it leaves
+      abbrev pub state_landed : State
+      state_landed = state_at new desk.clients (ended_by desk.leases net.nodes.items)
 
-      same_desk : (rows : ℕ) → desk_filled has.fill bytes says tells has.is room rows ≡ desk_landed rows
-      same_desk rows = λ i. record desk { image = sym has.made i; leases = ended_by desk.leases net.nodes.items; rows = rows }
+      -- the same of the image that the fill makes
+      with_new : (P : State → Type 0) → P (state_filled has.fill bytes says tells has.is room) → P state_landed
+      with_new P = subst (λ image. P (state_at image desk.clients (ended_by desk.leases net.nodes.items))) (sym has.made)
 
-      pub step_landed : IsJudgement s submission (Yes after marked_after) → (position : ℕ) (again : Bool) (rows : ℕ) → IsStep s submission (replies.Yes position again told) (state_of (desk_landed rows))
-      step_landed judgement position again rows =
-          subst (λ (d : Parts). IsStep s submission (replies.Yes position again told) (state_of d)) (same_desk rows) (step_filled has.fill bytes says tells has.is room judgement position again rows)
+      pub step_landed : IsJudgement s submission (Yes after marked_after) → (position : ℕ) (again : Bool) → (row : Row) × IsStep s submission (replies.Yes position again told) row state_landed
+      step_landed judgement position again =
+          with_new (λ t. (row : Row) × IsStep s submission (replies.Yes position again told) row t) (_, step_filled has.fill bytes says tells has.is room judgement position again)
 
-      pub done_landed : (rows : ℕ) → IsDone s submission (state_of (desk_landed rows))
-      done_landed rows = subst (λ (d : Parts). IsDone s submission (state_of d)) (same_desk rows) (done_filled has.fill bytes says tells has.is room rows)
+      pub done_landed : IsDone s submission state_landed
+      done_landed = with_new (IsDone s submission) (done_filled has.fill bytes says tells has.is room)
 
   -- ---- without room
 

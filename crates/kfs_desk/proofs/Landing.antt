@@ -10,7 +10,7 @@ use Rattle.kfs_model.specs.Tree.{Tree, Node, headers, header_of}
 use Rattle.kfs_model.specs.Run.{Mark}
 use Rattle.kfs_model.specs.Plan.{header_now, AreDifferences}
 use Rattle.kfs_model.specs.Lease.{Lease, Leases, on_those, without_gone}
-use Rattle.kfs_model.specs.Judgement.{State, Submission, Yes}
+use Rattle.kfs_model.specs.Judgement.{State, Submission}
 use Rattle.kfs_model.specs.Machine.{leases_after}
 use Rattle.kfs_model.proofs.Tables.{found_from_any, any_from_found}
 use Rattle.kfs_model.proofs.Heads.{get-headers}

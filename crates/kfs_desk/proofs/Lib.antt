@@ -1,9 +1,12 @@
 pub mod Answered
 pub mod ClientRows
+pub mod Dockets
+pub mod GrantedNumbers
 pub mod Granting
 pub mod Histories
 pub mod LandedBytes
 pub mod Landing
+pub mod NumberSet
 pub mod Openings
 mod WholePieces
 pub mod Views

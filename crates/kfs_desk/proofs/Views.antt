@@ -3,7 +3,7 @@ use Rattle.std.proofs.Common.{◌≡◌, ℕ, List, sym, ap, subst, ◌∙◌}
 use Rattle.kfs_model.specs.Access.{Client}
 use Rattle.kfs_model.specs.Judgement.{State, client_sight_of}
 use Rattle.kfs_model.specs.Lease.{Leases, holds, row_of}
-use Rattle.kfs_nodes.specs.Contents.{Contents, sight_of}
+use Rattle.kfs_nodes.specs.Contents.{sight_of}
 use Rattle.kfs_device.specs.ShownTree.{DeviceImage, IsLawful}
 use Rattle.kfs_image.specs.Image as images
 use Rattle.kfs_image.proofs.ShownTrees.{sight_shown}

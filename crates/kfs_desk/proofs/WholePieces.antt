@@ -1,5 +1,5 @@
 -- The pieces of a right plan end in range: in their files, and in the payloads that they are from.
-use Rattle.std.proofs.Common.{◌≡◌, ℕ, ◌+◌, ◌-◌, ◌<◌, ◌≤◌, ◌==◌, ◌&&◌, Bool, true, false, cond, ltb, leb, List, [], ◌∷◌, length, map, Option, Some, None, unwrap_or, Result, Ok, refl, sym, ap, subst, ◌∙◌, arith, leb-true, ltb-true}
+use Rattle.std.proofs.Common.{◌≡◌, ℕ, ◌+◌, ◌-◌, ◌<◌, ◌≤◌, ◌==◌, ◌&&◌, Bool, true, false, cond, ltb, leb, List, [], ◌∷◌, length, map, Option, Some, None, unwrap_or, Ok, refl, sym, ap, subst, ◌∙◌, arith, leb-true, ltb-true}
 use Rattle.std.specs.List.{AllByRecursion}
 use Rattle.std.proofs.lemmas.Bool.{and_parts}
 use Rattle.std.proofs.lemmas.Option.{slice_get_within}
@@ -8,7 +8,7 @@ use Rattle.kfs_model.specs.Entry.{Entry, Create, Write, Truncate, Link, Unlink, 
 use Rattle.kfs_model.specs.Header.{Header}
 use Rattle.kfs_model.specs.LastCover.{covered_by, extent, last_cover, start_mark}
 use Rattle.kfs_model.specs.Limits.{payload_limit, size_limit}
-use Rattle.kfs_model.specs.Plan.{ArePieces, IsTrueOf, mark_at, said_by}
+use Rattle.kfs_model.specs.Plan.{IsTrueOf, mark_at, said_by}
 use Rattle.kfs_model.specs.Run.{Mark, Payload, marked, over_marks, run}
 use Rattle.kfs_model.specs.Sight.{ClientSight, sight}
 use Rattle.kfs_model.specs.Soundness.{IsSound}

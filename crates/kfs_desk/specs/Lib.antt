@@ -1,4 +1,5 @@
 pub mod Docket
+pub mod Grants
 pub mod Landing
 pub mod Machine
 pub mod Opening

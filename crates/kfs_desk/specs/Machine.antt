@@ -1,5 +1,5 @@
 -- The desk as a state of the machine, and its calls as rows that fit.
-use Rattle.std.specs.Prelude.{◌≡◌, ◌≢◌, ◌↔◌, ℕ, ◌+◌, ◌≤◌, Bool, false, List, [], ◌∷◌, Option, Some, option_map, Result, Ok, Err, IfOk, IsErrOf, OnErr}
+use Rattle.std.specs.Prelude.{◌≡◌, ◌≢◌, ◌↔◌, ℕ, ◌≤◌, Bool, false, List, [], ◌∷◌, ◌++◌, length, Option, Some, option_map, Result, Ok, Err, IfOk, IsErrOf, OnErr}
 use Rattle.kfs_model.specs.Access.{Client}
 use Rattle.kfs_model.specs.Entry.{Log}
 use Rattle.kfs_model.specs.Lease.{Leases, row_of}
@@ -8,9 +8,10 @@ use Rattle.kfs_model.specs.Sight.{Sight, sight}
 use Rattle.kfs_model.specs.Soundness.{IsSound}
 use Rattle.kfs_model.specs.Spelling.{LogAnswer}
 use Rattle.kfs_model.specs.Judgement.{State, Submission, Reading, IsReadAs, Reply, Accepted, NoRoom, Refused, client_sight_of}
-use Rattle.kfs_model.specs.Machine.{Call, Submit, Lease, Drop, Tick, CallAnswer, Replied, OneByOne, next}
+use Rattle.kfs_model.specs.Machine.{Call, Submit, Lease, Drop, Tick, CallAnswer, Replied, OneByOne, Row, next}
 use Rattle.kfs_model.specs.Machine as machine
 use Rattle.kfs_model.specs.Order.{IsInOrder}
+use Rattle.kfs_docket.specs.Legal.{LeadsTo}
 use Rattle.kfs_lease.specs.Faults.{fault_of}
 use Rattle.kfs_lease_rows.specs.Rows.{kind_of}
 use Rattle.kfs_lease.specs.declared.leases.LeaseFault.{LeaseFault}
@@ -36,10 +37,11 @@ use Rattle.kfs_nodes.specs.Contents.{sight_of}
 use Rattle.kfs_plan.specs.Judged.{Judged}
 use Rattle.kfs_desk.specs.Docket.{position_of, is_rejudged}
 
--- what contracts see of a desk: the machine's state, and how many rows the docket has and may have
+-- what contracts see of a desk: the state that it began with, the docket, the state after it, and how many rows it may have
 pub record Desk : Type 0 where
+  pub opening : State
+  pub docket : List Row
   pub state : State
-  pub rows : ℕ
   pub limit : ℕ
 
 -- what a desk is made of
@@ -47,7 +49,8 @@ pub record Parts : Type 0 where
   pub image : DeviceImage
   pub clients : List Client
   pub leases : Leases
-  pub rows : ℕ
+  pub opening : State
+  pub docket : List Row
   pub limit : ℕ
 
 -- the tree that the image shows, and where its blocks lie, with these clients and leases
@@ -58,12 +61,17 @@ abbrev pub state_of : Parts → State
 state_of desk = state_at desk.image desk.clients desk.leases
 
 abbrev pub shown : Parts → Desk
-shown desk = record { state = state_of desk; rows = desk.rows; limit = desk.limit }
+shown desk = record { opening = desk.opening; docket = desk.docket; state = state_of desk; limit = desk.limit }
 
--- the docket keeps to its limit, and the machine's state is in order
+-- the docket keeps to its limit, and leads to the machine's state, which is in order
 pub record IsDesk (desk : Parts) : Type 0 where
-  pub within_limit : desk.rows ≤ desk.limit
+  pub within_limit : length desk.docket ≤ desk.limit
+  pub legal : LeadsTo desk.opening desk.docket (state_of desk)
   pub in_order : IsInOrder (state_of desk)
+
+-- the desk that begins with this state
+abbrev pub opened_at : State → (limit : ℕ) → Desk
+opened_at s limit = record { opening = s; docket = []; state = s; limit = limit }
 
 -- the image shows the state's tree, its tiers are the state's, and its blocks lie where the state says
 pub record IsImageOf (image : DeviceImage) (s : State) : Type 0 where
@@ -90,14 +98,15 @@ reply_of (replies.Yes position rejudged need) = Some (Accepted need)
 reply_of (replies.No position rejudged fault) = option_map Refused (refusal_of fault)
 reply_of (replies.NoRoom position rejudged need free) = Some (NoRoom need free)
 
--- the submission with this answer is a row that fits, and leads to this state
-pub record IsStep (s : State) (submission : Submission) (answer : CodeReply) (t : State) : Type 0 where
+-- the row is the submission with this answer, and leads from the one state to the other
+pub record IsStep (s : State) (submission : Submission) (answer : CodeReply) (row : Row) (t : State) : Type 0 where
   pub reading : Reading
   pub read : IsReadAs submission reading
+  pub asked : row.call ≡ Submit submission reading
   pub reply : Reply
   pub said : reply_of answer ≡ Some reply
-  pub places : List ℕ
-  pub fits : next s (record { call = Submit submission reading; answer = Replied reply; places = places }) ≡ Some t
+  pub answered : row.answer ≡ Replied reply
+  pub fits : next s row ≡ Some t
 
 -- the new tree is what the entries of the log give one by one from the tree before, each of them allowed, and it is sound
 pub record IsDone (s : State) (submission : Submission) (t : State) : Type 0 where
@@ -114,20 +123,22 @@ Means s submission (replies.Yes position rejudged need) t = IsDone s submission 
 Means s submission (replies.No position rejudged fault) t = t ≡ s
 Means s submission (replies.NoRoom position rejudged need free) t = t ≡ s
 
--- the answer is such a step, tells whether the submission was judged again, means what it says, and adds the docket's row at
--- its position
+-- the answer is such a step, tells whether the submission was judged again, means what it says, and adds the step's row to
+-- the docket, at its position
 pub record IsAnswered (old : Desk) (submission : Submission) (again : Bool) (answer : CodeReply) (new : Desk) : Type 0 where
-  pub step : IsStep old.state submission answer new.state
+  pub row : Row
+  pub step : IsStep old.state submission answer row new.state
   pub judged : is_rejudged answer ≡ again
   pub meaning : Means old.state submission answer new.state
-  pub position : position_of answer ≡ old.rows
-  pub rows : new.rows ≡ old.rows + 1
+  pub position : position_of answer ≡ length old.docket
+  pub docket : new.docket ≡ old.docket ++ row ∷ []
+  pub opening : new.opening ≡ old.opening
   pub limit : new.limit ≡ old.limit
 
 -- why there is no answer: a full docket, that exactly, or else want of memory
 abbrev pub IsWhy : Desk → Why → Type 0
-IsWhy desk whys.DocketFull = desk.rows ≡ desk.limit
-IsWhy desk whys.OutOfMemory = desk.rows ≢ desk.limit
+IsWhy desk whys.DocketFull = length desk.docket ≡ desk.limit
+IsWhy desk whys.OutOfMemory = length desk.docket ≢ desk.limit
 
 -- it came back for this reason
 abbrev pub IsBackFor : {A T : Type 0} → Result T (Back A) → Why → Type 0
@@ -190,21 +201,25 @@ pub record IsChange (outcome : leases.LeaseOutcome) (words : ℕ → Done) (answ
 abbrev pub IsChangeOf : Leases → Sight → List Client → Act → (answer : Result Done LeaseFault) → (new : Leases) → Type 0
 IsChangeOf table sight clients act answer new = IsChange (outcome_at table sight clients act) (done_by act) answer new
 
--- the answer tells an outcome in these words; the call with that outcome is a row that fits, and leads to this state
-pub record IsLeaseStep (s : State) (call : Call) (words : ℕ → Done) (answer : Result Done LeaseFault) (t : State) : Type 0 where
+-- the answer tells an outcome in these words; the row is the call with that outcome, and leads from the one state to the other
+pub record IsLeaseStep (s : State) (call : Call) (words : ℕ → Done) (answer : Result Done LeaseFault) (row : Row) (t : State) : Type 0 where
   pub outcome : Result ℕ leases.LeaseFault
   pub said : IsTold words answer outcome
-  pub fits : next s (record { call = call; answer = row_answer outcome; places = [] }) ≡ Some t
+  pub asked : row.call ≡ call
+  pub answered : row.answer ≡ row_answer outcome
+  pub fits : next s row ≡ Some t
 
--- the answer to the call is such a step in these words, and adds the docket's row at its position
+-- the answer to the call is such a step in these words, and adds the step's row to the docket, at its position
 pub record IsActed (old : Desk) (call : Call) (words : ℕ → Done) (reply : ActReply) (new : Desk) : Type 0 where
-  pub step : IsLeaseStep old.state call words reply.answer new.state
-  pub position : reply.position ≡ old.rows
-  pub rows : new.rows ≡ old.rows + 1
+  pub row : Row
+  pub step : IsLeaseStep old.state call words reply.answer row new.state
+  pub position : reply.position ≡ length old.docket
+  pub docket : new.docket ≡ old.docket ++ row ∷ []
+  pub opening : new.opening ≡ old.opening
   pub limit : new.limit ≡ old.limit
 
 -- the call is answered as such a step, or the desk stays as it is: for want of a row in the docket exactly where it is full
 pub record IsCallOf (old : Desk) (call : Call) (words : ℕ → Done) (result : Result ActReply Unanswered) (new : Desk) : Type 0 where
-  pub full : IsErrOf result unanswered.DocketFull ↔ (old.rows ≡ old.limit)
+  pub full : IsErrOf result unanswered.DocketFull ↔ (length old.docket ≡ old.limit)
   pub done : IfOk result (λ reply. IsActed old call words reply new)
   pub err : OnErr result (new ≡ old)

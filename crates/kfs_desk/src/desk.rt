@@ -1,12 +1,12 @@
 //! The desk: it owns the image and the leases, and lands what was judged.
-ghost use Rattle.std.specs.Prelude.{◌≡◌, ◌↔◌, false, ◌+◌, ◌≤◌, ◌<◌, ◌==◌, ◌++◌, ◌∷◌, [], IfOk, IfErr, OnErr, OnOk, IfNone, IsErrOf, IsFalse, IsTrue, Ok, Err, None, unwrap_or};
-ghost use Rattle.std.specs.List.{list_any, AllByRecursion};
-ghost use Rattle.kfs_model.specs.CleanStep.{IsClient};
+ghost use Rattle.std.specs.Prelude.{◌≡◌, ◌↔◌, ◌⊎◌, false, ◌+◌, ◌≤◌, ◌<◌, ◌++◌, ◌∷◌, [], IfOk, IfErr, OnErr, OnOk, IsErrOf, IsFalse, IsTrue, Ok, Err, None, Some, length};
+ghost use Rattle.std.specs.List.{AllByRecursion};
 ghost use Rattle.kfs_model.specs.Order.{IsInOrder};
 ghost use Rattle.kfs_model.specs.Plan.{Ascend};
 ghost use Rattle.kfs_model.specs.Machine as machine;
 ghost use Rattle.kfs_model.specs.Machine.{opening};
 ghost use Rattle.kfs_model.specs.Table.{empty};
+ghost use Rattle.kfs_docket.specs.Legal.{LeadsTo};
 ghost use Rattle.kfs_mode.specs.Clients.{AreDistinct};
 ghost use Rattle.kfs_lease.specs.Faults as refusals;
 ghost use Rattle.kfs_lease_rows.specs.Rows.{kind_of};
@@ -19,12 +19,16 @@ ghost use Rattle.kfs_fill.specs.FillOf.{CanLandWith, HasLandedWith};
 ghost use Rattle.kfs_check.specs.View.{clients_of, contents_of, leases_of};
 ghost use Rattle.kfs_plan.specs.Judging.{IsVerdict, submission_of};
 ghost use Rattle.kfs_desk.specs.Landing.{Answers, CanLand, ended_by, ended_with, leases_left};
-ghost use Rattle.kfs_desk.specs.Machine.{IsAnswered, IsBackFor, IsCallOf, IsChangeOf, IsCurrent, IsImageOf, IsViewOf, RunsThrough, call_of, done_by, number_of, outcome_at, state_at};
+ghost use Rattle.kfs_desk.specs.Machine.{IsAnswered, IsBackFor, IsCallOf, IsChangeOf, IsCurrent, IsImageOf, IsViewOf, RunsThrough, call_of, done_by, number_of, opened_at, outcome_at, state_at};
 ghost use Rattle.kfs_desk.specs.Docket.{is_rejudged};
-ghost use Rattle.kfs_desk.specs.Opening.{begin_fault, do_overlap, fault_behind};
+ghost use Rattle.kfs_desk.specs.Opening.{begin_fault};
 ghost use Rattle.kfs_value.specs.Room.{Appends, spare_of};
 
 use crate::back::BeginBack;
+use crate::docket::{add_act, add_answer};
+use crate::first_fault::first_fault;
+use crate::state::ShownState;
+use kfs_docket::Docket;
 use kfs_entry::NodeRow;
 use kfs_fill::{LogBytes, land_bytes};
 use kfs_image::{Image, Net, Shape};
@@ -35,17 +39,19 @@ use kfs_plan::answers::{Act, ActReply, BeginFault, Done, Reply, SubmissionsBack,
 use kfs_plan::{Back, Judged, Outcome, Submission, Why, judge};
 use std::alloc::{AllocError, Allocator};
 use std::marker::Model;
+use std::snapshot::Snapshot;
 use std::sync::Arc;
 
-/// The image, the clients, their leases, and the length of the docket, which has a row for each call
-/// that was answered, refusals included. Its state is in order.
+/// The image, the clients, their leases, and the docket, which has a row for each call that was
+/// answered, refusals included. The docket leads from the state of the start to the state of now, which is in order.
 #[derive(Drop)]
 pub struct Desk<A: Allocator> {
     alloc: A,
     image: Image<A>,
     clients: Arc<Vec<Client, A>, A>,
     leases: Arc<Leases<A>, A>,
-    rows: u32,
+    opening: ShownState<A>,
+    docket: Docket,
     limit: u32,
 }
 
@@ -54,9 +60,9 @@ impl<A: Allocator> Model for Desk<A> {
 
     ghost Value = { DeskShown };
 
-    ghost view = { λ d. shown (record { image = d.image; clients = d.clients.value.items; leases = d.leases.value; rows = d.rows; limit = d.limit }) };
+    ghost view = { λ d. shown (record { image = d.image; clients = d.clients.value.items; leases = d.leases.value; opening = d.opening; docket = d.docket; limit = d.limit }) };
 
-    ghost invariant = { λ d. IsDesk (record { image = d.image; clients = d.clients.value.items; leases = d.leases.value; rows = d.rows; limit = d.limit }) };
+    ghost invariant = { λ d. IsDesk (record { image = d.image; clients = d.clients.value.items; leases = d.leases.value; opening = d.opening; docket = d.docket; limit = d.limit }) };
 }
 
 impl<A: Allocator + Copy> Desk<A> {
@@ -67,16 +73,16 @@ impl<A: Allocator + Copy> Desk<A> {
         clients: Vec<Client, A>,
         limit: u32,
     ) -> Result<Desk<A>, BeginBack<A>>
-        ensures ok { IfOk result (λ desk. desk ≡ record { state = opening clients.items image.sizes (shown_tree image) image.placement; rows = 0; limit = limit }) }
+        ensures ok { IfOk result (λ desk. desk ≡ opened_at (opening clients.items image.sizes (shown_tree image) image.placement) limit) }
         ensures back { IfErr result (λ back. (back.image ≡ image) × (back.clients ≡ clients)) }
         ensures fit { OnOk result (begin_fault clients.items ≡ None) }
 
-        // Where the clients have a fault, it is named; else a growth was refused.
-        ensures why { IfErr result (λ back. back.why ≡ unwrap_or (begin_fault clients.items) BeginFault.OutOfMemory) }
+        // The fault of the clients, or a growth was refused, which may be at any clients.
+        ensures why { IfErr result (λ back. (back.why ≡ BeginFault.OutOfMemory) ⊎ (begin_fault clients.items ≡ Some back.why)) }
     {
         // An image is lawful.
         let _shape = image.shape();
-        let fault = first_fault(&clients);
+        let fault = first_fault(alloc, &clients).unwrap_or(Some(BeginFault::OutOfMemory));
         if let Some(why) = fault {
             return Err(BeginBack {
                 image,
@@ -94,10 +100,11 @@ impl<A: Allocator + Copy> Desk<A> {
         match Arc::new(alloc, clients) {
             Ok(clients) => Ok(Desk {
                 alloc,
+                opening: ShownState::of(&image, &clients, &leases),
                 image,
                 clients,
                 leases,
-                rows: 0,
+                docket: Docket::new(),
                 limit,
             }),
             Err(refused) => Err(BeginBack {
@@ -108,11 +115,12 @@ impl<A: Allocator + Copy> Desk<A> {
         }
     }
 
-    /// How many rows the docket has. Takes no memory.
-    pub fn docket_len(&self) -> u32
-        ensures { result ≡ self.now.rows }
+    /// The docket, which leads from the state that the desk began with to the state of now.
+    pub fn docket(&self) -> &Docket
+        ensures shown { result.now ≡ self.now.docket }
+        ensures legal { LeadsTo self.now.opening self.now.docket self.now.state }
     {
-        self.rows
+        &self.docket
     }
 
     /// The image of now. The desk's state is in order, as each call leaves it.
@@ -160,10 +168,12 @@ impl<A: Allocator + Copy> Desk<A> {
         ensures { IsCallOf self.old (call_of act.entry) (done_by act.entry) result self.new }
     {
         let position = self.next_row()?;
+        let before = ShownState::of(&self.image, &self.clients, &self.leases);
         let shape = self.image.shape();
         let clients = &self.clients;
         let answer = change(&mut self.leases, shape, clients, act)?;
-        self.rows = position + 1;
+        let after = ShownState::of(&self.image, &self.clients, &self.leases);
+        add_act(&mut self.docket, &before, &act, &answer, &after);
         Ok(ActReply { position, answer })
     }
 
@@ -172,7 +182,7 @@ impl<A: Allocator + Copy> Desk<A> {
     /// other answer leaves it as it is. A submission that isn't answered comes back, and the desk is as
     /// it was.
     pub fn submit(&mut self, submission: Submission<A>) -> Result<Reply, Back<A>>
-        ensures full { IsBackFor result Why.DocketFull ↔ (self.old.rows ≡ self.old.limit) }
+        ensures full { IsBackFor result Why.DocketFull ↔ (length self.old.docket ≡ self.old.limit) }
         ensures answered { IfOk result (λ reply. IsAnswered self.old (submission_of submission) false reply self.new) }
         ensures back { IfErr result (λ back. (back.submission ≡ submission) × (self.new ≡ self.old)) }
     {
@@ -180,7 +190,9 @@ impl<A: Allocator + Copy> Desk<A> {
             let why = Why::DocketFull;
             return Err(Back { submission, why });
         }
-        let position = self.rows;
+        let position = self.docket.len();
+        let before = ShownState::of(&self.image, &self.clients, &self.leases);
+        let handed_in = Snapshot::of(&submission);
         let judged = judged(
             self.alloc,
             &self.image,
@@ -196,7 +208,8 @@ impl<A: Allocator + Copy> Desk<A> {
             false,
             judged,
         )?;
-        self.rows = position + 1;
+        let after = ShownState::of(&self.image, &self.clients, &self.leases);
+        add_answer(&mut self.docket, &before, &handed_in, &reply, &after);
         Ok(reply)
     }
 
@@ -211,7 +224,7 @@ impl<A: Allocator + Copy> Desk<A> {
     /// in the state of now, the submission is judged again. A submission that isn't answered comes back,
     /// and the desk is as it was.
     pub fn land(&mut self, judged: Judged<A>) -> Result<Reply, Back<A>>
-        ensures full { IsBackFor result Why.DocketFull ↔ (self.old.rows ≡ self.old.limit) }
+        ensures full { IsBackFor result Why.DocketFull ↔ (length self.old.docket ≡ self.old.limit) }
         ensures answered { IfOk result (λ reply. IsAnswered self.old (submission_of judged.submission) (is_rejudged reply) reply self.new) }
         ensures rejudged { IfOk result (λ reply. IsFalse (is_rejudged reply) ↔ IsCurrent self.old.state judged) }
         ensures back { IfErr result (λ back. (back.submission ≡ judged.submission) × (self.new ≡ self.old)) }
@@ -221,7 +234,9 @@ impl<A: Allocator + Copy> Desk<A> {
             let why = Why::DocketFull;
             return Err(Back { submission, why });
         }
-        let position = self.rows;
+        let position = self.docket.len();
+        let before = ShownState::of(&self.image, &self.clients, &self.leases);
+        let handed_in = Snapshot::of(judged.submission());
         let (judged, rejudged) = current(
             self.alloc,
             &self.image,
@@ -237,7 +252,8 @@ impl<A: Allocator + Copy> Desk<A> {
             rejudged,
             judged,
         )?;
-        self.rows = position + 1;
+        let after = ShownState::of(&self.image, &self.clients, &self.leases);
+        add_answer(&mut self.docket, &before, &handed_in, &reply, &after);
         Ok(reply)
     }
 
@@ -263,22 +279,22 @@ impl<A: Allocator + Copy> Desk<A> {
 
     /// The place of the docket's next row.
     fn next_row(&self) -> Result<u32, Unanswered>
-        ensures full { IsErrOf result Unanswered.DocketFull ↔ (self.now.rows ≡ self.now.limit) }
-        ensures row { IfOk result (λ row. (row ≡ self.now.rows) × row < self.now.limit) }
+        ensures full { IsErrOf result Unanswered.DocketFull ↔ (length self.now.docket ≡ self.now.limit) }
+        ensures row { IfOk result (λ row. (row ≡ length self.now.docket) × row < self.now.limit) }
         ensures only { IfErr result (λ why. why ≡ Unanswered.DocketFull) }
     {
         if self.is_full() {
             return Err(Unanswered::DocketFull);
         }
-        Ok(self.rows)
+        Ok(self.docket.len())
     }
 
     /// Whether the docket has as many rows as its limit allows.
     fn is_full(&self) -> bool
-        ensures full { IsTrue result ↔ (self.now.rows ≡ self.now.limit) }
-        ensures room { IsFalse result → self.now.rows < self.now.limit }
+        ensures full { IsTrue result ↔ (length self.now.docket ≡ self.now.limit) }
+        ensures room { IsFalse result → length self.now.docket < self.now.limit }
     {
-        self.rows == self.limit
+        self.docket.len() == self.limit
     }
 }
 
@@ -507,54 +523,4 @@ fn end_leases_on<A: Allocator>(leases: &mut Leases<A>, row: &NodeRow)
     if row.now.is_none() {
         leases.remove_node(row.number);
     }
-}
-
-/// Why a desk can't have these clients: the fault of the first that can't stand behind the earlier ones.
-fn first_fault(clients: &[Client]) -> Option<BeginFault>
-    ensures first { result ≡ begin_fault clients.now }
-    ensures distinct { IfNone result (AreDistinct clients.now) }
-    ensures in_range { IfNone result (AllByRecursion IsClient clients.now) }
-{
-    for (index, client) in clients.iter().enumerate() {
-        let fault = fault_of(&clients[..index], client);
-        if fault.is_some() {
-            return fault;
-        }
-    }
-    None
-}
-
-/// Why the client can't stand behind these: its number before its grant.
-fn fault_of(earlier: &[Client], client: &Client) -> Option<BeginFault>
-    ensures fault { result ≡ fault_behind earlier.now client.now }
-    ensures in_range { IsClient client.now }
-{
-    if has_number(earlier, client.number()) {
-        return Some(BeginFault::ClientTwice(earlier.len()));
-    }
-    if has_overlap(earlier, client) {
-        return Some(BeginFault::GrantOverlap(earlier.len()));
-    }
-    None
-}
-
-fn has_number(clients: &[Client], number: u32) -> bool
-    ensures { result ≡ list_any (λ row. row.number == number) clients.now }
-{
-    clients.iter().any(|client| client.number() == number)
-}
-
-fn has_overlap(clients: &[Client], client: &Client) -> bool
-    ensures { result ≡ list_any (λ row. do_overlap row client.now) clients.now }
-{
-    clients.iter().any(|other| grants_overlap(other, client))
-}
-
-/// Whether a number is in both grants. A grant whose first number is above its last is empty.
-fn grants_overlap(one: &Client, other: &Client) -> bool
-    ensures { result ≡ do_overlap one.now other.now }
-{
-    let (first, last) = one.grant();
-    let (other_first, other_last) = other.grant();
-    first.max(other_first) <= last.min(other_last)
 }

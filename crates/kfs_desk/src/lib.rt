@@ -3,7 +3,11 @@
 
 mod back;
 mod desk;
+mod docket;
+mod first_fault;
+mod state;
 
 pub use back::BeginBack;
 pub use desk::Desk;
+pub use kfs_docket::Docket;
 pub use kfs_plan::answers;

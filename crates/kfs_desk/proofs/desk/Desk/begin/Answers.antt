@@ -1,5 +1,5 @@
--- There is no lease yet, and the image is lawful.
-use Rattle.std.proofs.Common.{◌≡◌, List, sym, ap, subst, ◌∙◌, arith}
+-- There is no lease yet, the image is lawful, and no client has a fault.
+use Rattle.std.proofs.Common.{◌≡◌, List, sym, ap, subst, ◌∙◌}
 use Rattle.std.specs.List.{AllByRecursion}
 use Rattle.kfs_model.specs.Access.{Client}
 use Rattle.kfs_model.specs.CleanStep.{IsClient}
@@ -12,6 +12,8 @@ use Rattle.kfs_model.specs.Table.{Table, numbers, get}
 use Rattle.kfs_device.specs.ShownTree.{shown_tree}
 use Rattle.kfs_mode.specs.Clients.{AreDistinct}
 use Rattle.kfs_desk.specs.Machine.{state_at}
+use Rattle.kfs_desk.proofs.Dockets.{desk_opened}
+use Rattle.kfs_desk.proofs.Openings.{at_none}
 use Rattle.kfs_desk.proofs.desk.Desk.begin.Goals as goal
 
 pub invariant_of-result : goal.invariant_of-result
@@ -20,17 +22,15 @@ invariant_of-result g c =
     let lawful = c.shape-shape.ensures.lawful in
     let leases : c.in-Ok.leases.value ≡ no_leases = c.in-Ok.ensures.ok ∙ c.new.ensures in
     let clients = c.deref.ensures.value ∙ ap (λ v. v.items) (sym c.in-Ok-new.ensures.ok) in
-    let distinct = subst AreDistinct clients c.in_default.ensures.distinct in
-    let in_range = subst (λ (rows : List Client). AllByRecursion IsClient rows) clients c.in_default.ensures.in_range in
+    let distinct = subst AreDistinct clients (at_none c.first_fault.result c.first_fault.ensures.distinct c.unwrap_or-fault.ensures c.in_default.is) in
+    let in_range = subst (λ (rows : List Client). AllByRecursion IsClient rows) clients (at_none c.first_fault.result c.first_fault.ensures.in_range c.unwrap_or-fault.ensures c.in_default.is) in
     let opened = opens_in_order c.in-Ok-new.clients.value.items image.sizes (shown_tree image) distinct in_range lawful.tree.sound in
-    record {
-      within_limit = omega arith;
-      in_order = subst (λ held. IsInOrder (state_at image c.in-Ok-new.clients.value.items held)) (sym leases) (record {
-        sound = opened.sound;
-        on_nodes = opened.on_nodes;
-        compatible = opened.compatible;
-        distinct = opened.distinct;
-        clients = opened.clients;
-        placement = subst (λ (heads : Table numbers Header). IsPlacement image.sizes (get heads) image.placement) (sym lawful.tree.counted) lawful.placed;
-      });
-    }
+    let in_order = subst (λ held. IsInOrder (state_at image c.in-Ok-new.clients.value.items held)) (sym leases) (record {
+      sound = opened.sound;
+      on_nodes = opened.on_nodes;
+      compatible = opened.compatible;
+      distinct = opened.distinct;
+      clients = opened.clients;
+      placement = subst (λ (heads : Table numbers Header). IsPlacement image.sizes (get heads) image.placement) (sym lawful.tree.counted) lawful.placed;
+    }) in
+    desk_opened _ c.of.ensures c.new-in-Ok-new.ensures in_order

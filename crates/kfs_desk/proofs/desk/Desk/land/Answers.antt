@@ -1,54 +1,78 @@
--- A verdict that holds now, or is made again, lands as the machine's step.
-use Rattle.std.proofs.Common.{◌≡◌, Bool, ap, ◌+◌, ◌≤◌, sym, subst, ◌∙◌, arith}
+-- A verdict that holds now, or is made again, lands as the machine's step, whose row is the docket's next.
+use Rattle.std.proofs.Common.{Bool, ap, ◌<◌, length, sym, subst, refl, ◌∙◌, arith}
+use Rattle.kfs_model.specs.Machine.{Row}
 use Rattle.kfs_plan.specs.Judging.{submission_of}
 use Rattle.kfs_desk.specs.Landing.{Answers, CanLand}
-use Rattle.kfs_desk.specs.Machine.{Desk, IsAnswered, IsCurrent, Parts, shown}
-use Rattle.kfs_desk.proofs.Answered.{answered, answered_in_order, can_land}
-use Rattle.kfs_desk.proofs.desk.Desk.land.Given as given
+use Rattle.kfs_desk.specs.Machine.{Desk, IsAnswered, IsCurrent, IsStep, Parts, shown, state_of}
+use Rattle.kfs_desk.proofs.Answered.{IsAnswer, answered, answered_at, answered_desk, can_land, told_of}
 use Rattle.kfs_desk.proofs.desk.Desk.land.Goals as goal
 
 pub land-requires : goal.land-requires
 land-requires g c =
     let inside = c.self.inside in
-    let desk : Parts = record { image = inside.image; clients = inside.clients.value.items; leases = inside.leases.value; rows = inside.rows; limit = inside.limit } in
+    let desk : Parts = record { image = inside.image; clients = inside.clients.value.items; leases = inside.leases.value; opening = inside.opening; docket = inside.docket; limit = inside.limit } in
     let outcome = c.in_ok-judged.judged.outcome in
     subst (λ submission. CanLand inside.image submission.log.items outcome) (sym c.in_ok-judged.ensures.submission)
     (can_land desk c.self.invariant c.current.ensures.lawful (submission_of c.args.judged.submission) c.in_ok-judged.rejudged outcome c.in_ok-judged.ensures.verdict)
 
--- the desk before and after, and the answer at it
-module _ (g : given.Over) (c : goal.After-self-1 g) where
-  abbrev before : Parts
-  before = let inside = c.self.inside in record { image = inside.image; clients = inside.clients.value.items; leases = inside.leases.value; rows = inside.rows; limit = inside.limit }
-
-  abbrev after : Parts
-  after = record before { image = c.land.new.image; leases = c.land.new.leases.value; rows = c.self.inside.rows + 1 }
-
-  is_answered : IsAnswered (shown before) (submission_of c.args.judged.submission) c.in_ok-judged.rejudged c.in_ok-reply.reply (shown after)
-  is_answered =
-      let inside = c.self.inside in
-      let outcome = c.in_ok-judged.judged.outcome in
-      let reply = c.in_ok-reply.reply in
-      let told = subst (λ submission. Answers inside.image submission.log.items inside.rows c.in_ok-judged.rejudged outcome reply c.land.new.image) c.in_ok-judged.ensures.submission c.in_ok-reply.ensures.answer in
-      answered before c.self.invariant c.current.ensures.lawful (submission_of c.args.judged.submission) c.in_ok-judged.rejudged outcome reply c.land.new.image c.land.new.leases.value c.in_ok-judged.ensures.verdict told c.in_ok-reply.ensures.leases
+pub add_answer-requires-clause-step : goal.add_answer-requires-clause-step
+add_answer-requires-clause-step g c =
+    let inside = c.self.inside in
+    let desk : Parts = record { image = inside.image; clients = inside.clients.value.items; leases = inside.leases.value; opening = inside.opening; docket = inside.docket; limit = inside.limit } in
+    let submission = submission_of c.args.judged.submission in
+    let outcome = c.in_ok-judged.judged.outcome in
+    let reply = c.in_ok-reply.reply in
+    let told = subst (λ handed_in. Answers inside.image handed_in.log.items c.len-position.result c.in_ok-judged.rejudged outcome reply c.land.new.image) c.in_ok-judged.ensures.submission c.in_ok-reply.ensures.answer in
+    let new : Parts = record desk { image = c.land.new.image; leases = c.land.new.leases.value } in
+    let is : IsAnswer (state_of desk) submission c.in_ok-judged.rejudged c.len-position.result reply (state_of new) =
+    answered desk c.self.invariant c.current.ensures.lawful submission c.in_ok-judged.rejudged c.len-position.result outcome reply c.land.new.image c.land.new.leases.value c.in_ok-judged.ensures.verdict told c.in_ok-reply.ensures.leases in
+    told_of c.of-before.ensures (ap submission_of (c.of-handed_in.ensures ∙ c.submission.ensures)) c.of-after.ensures (λ s u t. (row : Row) × IsStep s u reply row t) is.step
 
 pub invariant_of-self-2 : goal.invariant_of-self-2
 invariant_of-self-2 g c =
     let inside = c.self.inside in
-    let room = c.is_full.ensures.room c.if-is_full.false in
-    let is_rows = ap (λ (d : Desk). d.rows) c.self.view_is in
+    let desk : Parts = record { image = inside.image; clients = inside.clients.value.items; leases = inside.leases.value; opening = inside.opening; docket = inside.docket; limit = inside.limit } in
+    let new : Parts = record desk { image = c.land.new.image; leases = c.land.new.leases.value; docket = c.add_answer.new.docket } in
+    let submission = submission_of c.args.judged.submission in
+    let reply = c.in_ok-reply.reply in
+    let (row, row_is, added) = c.add_answer.ensures in
+    let step : IsStep (state_of desk) submission reply row (state_of new) = told_of (sym c.of-before.ensures) (sym (ap submission_of (c.of-handed_in.ensures ∙ c.submission.ensures))) (sym c.of-after.ensures) (λ s u t. IsStep s u reply row t) row_is in
+    let below = c.is_full.ensures.room c.if-is_full.false in
+    let is_docket = ap (λ (d : Desk). length d.docket) c.self.view_is in
     let is_limit = ap (λ (d : Desk). d.limit) c.self.view_is in
-    let within : inside.rows + 1 ≤ inside.limit = omega arith in
-    answered_in_order (before g c) c.self.invariant (submission_of c.args.judged.submission) c.in_ok-reply.reply (after g c) (is_answered g c).step within
+    let room : length inside.docket < inside.limit = omega arith in
+    answered_desk desk new c.self.invariant submission reply row step refl added refl room
 
 pub returns-clause-answered : goal.returns-clause-answered
 returns-clause-answered g c =
-    let is = is_answered g c in
-    subst (λ (b : Bool). IsAnswered c.args.self.now (submission_of c.args.judged.submission) b c.in_ok-reply.reply (shown (after g c))) (sym is.judged)
-    (subst (λ (d : Desk). IsAnswered d (submission_of c.args.judged.submission) c.in_ok-judged.rejudged c.in_ok-reply.reply (shown (after g c))) c.self.view_is is)
+    let inside = c.self.inside in
+    let desk : Parts = record { image = inside.image; clients = inside.clients.value.items; leases = inside.leases.value; opening = inside.opening; docket = inside.docket; limit = inside.limit } in
+    let submission = submission_of c.args.judged.submission in
+    let outcome = c.in_ok-judged.judged.outcome in
+    let reply = c.in_ok-reply.reply in
+    let told = subst (λ handed_in. Answers inside.image handed_in.log.items c.len-position.result c.in_ok-judged.rejudged outcome reply c.land.new.image) c.in_ok-judged.ensures.submission c.in_ok-reply.ensures.answer in
+    let new : Parts = record desk { image = c.land.new.image; leases = c.land.new.leases.value; docket = c.add_answer.new.docket } in
+    let is : IsAnswer (state_of desk) submission c.in_ok-judged.rejudged c.len-position.result reply (state_of new) =
+    answered desk c.self.invariant c.current.ensures.lawful submission c.in_ok-judged.rejudged c.len-position.result outcome reply c.land.new.image c.land.new.leases.value c.in_ok-judged.ensures.verdict told c.in_ok-reply.ensures.leases in
+    let (row, row_is, added) = c.add_answer.ensures in
+    let step : IsStep (state_of desk) submission reply row (state_of new) = told_of (sym c.of-before.ensures) (sym (ap submission_of (c.of-handed_in.ensures ∙ c.submission.ensures))) (sym c.of-after.ensures) (λ s u t. IsStep s u reply row t) row_is in
+    let at : IsAnswered (shown desk) submission c.in_ok-judged.rejudged reply (shown new) = answered_at desk new c.self.invariant submission reply row step refl added refl c.in_ok-judged.rejudged c.len-position.result c.len-position.ensures is in
+    subst (λ (again : Bool). IsAnswered c.args.self.now submission again reply (shown new)) (sym is.judged)
+    (subst (λ (d : Desk). IsAnswered d submission c.in_ok-judged.rejudged reply (shown new)) c.self.view_is at)
 
 pub returns-clause-rejudged : goal.returns-clause-rejudged
 returns-clause-rejudged g c =
-    let is = is_answered g c in
+    let inside = c.self.inside in
+    let desk : Parts = record { image = inside.image; clients = inside.clients.value.items; leases = inside.leases.value; opening = inside.opening; docket = inside.docket; limit = inside.limit } in
+    let submission = submission_of c.args.judged.submission in
+    let outcome = c.in_ok-judged.judged.outcome in
+    let reply = c.in_ok-reply.reply in
+    let told = subst (λ handed_in. Answers inside.image handed_in.log.items c.len-position.result c.in_ok-judged.rejudged outcome reply c.land.new.image) c.in_ok-judged.ensures.submission c.in_ok-reply.ensures.answer in
+    let new : Parts = record desk { image = c.land.new.image; leases = c.land.new.leases.value } in
+    let is : IsAnswer (state_of desk) submission c.in_ok-judged.rejudged c.len-position.result reply (state_of new) =
+    answered desk c.self.invariant c.current.ensures.lawful submission c.in_ok-judged.rejudged c.len-position.result outcome reply c.land.new.image c.land.new.leases.value c.in_ok-judged.ensures.verdict told c.in_ok-reply.ensures.leases in
     let state = ap (λ (d : Desk). d.state) c.self.view_is in
-    let same = c.in_ok-judged.ensures.again in
-    ((λ once. subst (λ s. IsCurrent s c.args.judged) state (same.0 (sym is.judged ∙ once))), (λ current. is.judged ∙ same.1 (subst (λ s. IsCurrent s c.args.judged) (sym state) current)))
+    let same = c.in_ok-judged.ensures.again in (
+      (λ once. subst (λ s. IsCurrent s c.args.judged) state (same.0 (sym is.judged ∙ once))),
+      (λ current. is.judged ∙ same.1 (subst (λ s. IsCurrent s c.args.judged) (sym state) current)),
+    )

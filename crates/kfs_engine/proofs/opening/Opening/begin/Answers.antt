@@ -1,17 +1,11 @@
-use Rattle.std.proofs.Common.{rules, ◌≡◌, ◌≢◌, ◌∙◌, ◌++◌, List, [], Option, Some, None, ap, sym}
-use Rattle.std.specs.Prelude.{codes, unwrap_or}
+use Rattle.std.proofs.Common.{rules, ◌≡◌, ◌≢◌, ◌⊎◌, ⊎_elim, ◌∙◌, ◌++◌, [], Some, ap, sym}
+use Rattle.std.specs.Prelude.{codes}
 use Rattle.kfs_desk.specs.Opening.{begin_fault}
-use Rattle.kfs_plan.specs.declared.answers.BeginFault.{BeginFault}
 use Rattle.kfs_plan.specs.declared.answers.BeginFault.TheVariants.{OutOfMemory}
 use Rattle.kfs_text.specs.Parts.{line_of}
 use Rattle.kfs_report.specs.Text.{begin_text}
 use Rattle.kfs_engine.specs.Session.{Before, begun, begun_over}
 use Rattle.kfs_engine.proofs.opening.Opening.begin.Goals as goal
-
--- what is no want of memory is the fault
-fault_found : (found : Option BeginFault) (why : BeginFault) → why ≡ unwrap_or found OutOfMemory → why ≢ OutOfMemory → found ≡ Some why
-fault_found None why is other = absurd (other is)
-fault_found (Some fault) why is other = ap Some (sym is)
 
 pub returns-clause-ok : goal.returns-clause-ok
 returns-clause-ok g c =
@@ -19,9 +13,9 @@ returns-clause-ok g c =
     let clients = c.args.self.now.clients.items in
     let line = line_of (codes "begin " ++ begin_text back.why) in
     let image : c.args.self.now.image ≡ Some back.image = search rules in
-    let why : back.why ≡ unwrap_or (begin_fault clients) OutOfMemory = search rules in
+    let why : (back.why ≡ OutOfMemory) ⊎ (begin_fault clients ≡ Some back.why) = search rules in
     let other : back.why ≢ OutOfMemory = search rules in
-    let found : begin_fault clients ≡ Some back.why = fault_found (begin_fault clients) back.why why other in
+    let found : begin_fault clients ≡ Some back.why = ⊎_elim (λ memory. absurd (other memory)) (λ named. named) why in
     let cleared : c.replace-clients.new.dest.items ≡ [] = search rules in
     let added : c.begin_line.new.out.items ≡ c.args.reply.now.items ++ line = search rules in (
       line,

@@ -1,0 +1,81 @@
+//! The docket's rows of answered calls.
+ghost use Rattle.std.specs.Prelude.{◌≡◌, ◌+◌, ◌<◌, ◌^◌, ◌++◌, ◌∷◌, [], length, Result};
+ghost use Rattle.kfs_model.specs.Machine.{Row};
+ghost use Rattle.kfs_plan.specs.Judging.{submission_of};
+ghost use Rattle.kfs_desk.specs.Machine.{IsLeaseStep, IsStep, call_of, done_by};
+
+use crate::state::ShownState;
+use kfs_docket::{Docket, OneRow, RowRule};
+use kfs_lease::{Act, LeaseFault};
+use kfs_plan::Submission;
+use kfs_plan::answers::{Done, Reply};
+use std::alloc::Allocator;
+use std::snapshot::Snapshot;
+
+/// A submission with its answer, and the states before and after it.
+#[derive(Drop)]
+struct Answered<'a, A: Allocator> {
+    before: &'a ShownState<A>,
+    submission: &'a Snapshot<Submission<A>>,
+    reply: &'a Reply,
+    after: &'a ShownState<A>,
+}
+
+impl<A: Allocator> RowRule for Answered<'_, A> {
+    ghost is_row = { λ a row. IsStep a.before.now (submission_of a.submission.now.value) a.reply.now row a.after.now };
+}
+
+/// Adds the row of a submission's answer, which leads from the one state to the other.
+pub fn add_answer<A: Allocator>(
+    docket: &mut Docket,
+    before: &ShownState<A>,
+    submission: &Snapshot<Submission<A>>,
+    reply: &Reply,
+    after: &ShownState<A>,
+)
+    requires room { length docket.old + 1 < 2 ^ 32 }
+    requires step { (row : Row) × IsStep before.now (submission_of submission.now.value) reply.now row after.now }
+    ensures { (row : Row) × IsStep before.now (submission_of submission.now.value) reply.now row after.now × (docket.new ≡ docket.old ++ row ∷ []) }
+{
+    let row = OneRow::of(&Answered {
+        before,
+        submission,
+        reply,
+        after,
+    });
+    docket.push(row);
+}
+
+/// A call for the leases with its answer, and the states before and after it.
+#[derive(Drop)]
+struct Acted<'a, A: Allocator> {
+    before: &'a ShownState<A>,
+    act: &'a Act<'a>,
+    answer: &'a Result<Done, LeaseFault>,
+    after: &'a ShownState<A>,
+}
+
+impl<A: Allocator> RowRule for Acted<'_, A> {
+    ghost is_row = { λ a row. IsLeaseStep a.before.now (call_of a.act.now) (done_by a.act.now) a.answer.now row a.after.now };
+}
+
+/// Adds the row of such a call's answer, which leads from the one state to the other.
+pub fn add_act<A: Allocator>(
+    docket: &mut Docket,
+    before: &ShownState<A>,
+    act: &Act<'_>,
+    answer: &Result<Done, LeaseFault>,
+    after: &ShownState<A>,
+)
+    requires room { length docket.old + 1 < 2 ^ 32 }
+    requires step { (row : Row) × IsLeaseStep before.now (call_of act.now) (done_by act.now) answer.now row after.now }
+    ensures { (row : Row) × IsLeaseStep before.now (call_of act.now) (done_by act.now) answer.now row after.now × (docket.new ≡ docket.old ++ row ∷ []) }
+{
+    let row = OneRow::of(&Acted {
+        before,
+        act,
+        answer,
+        after,
+    });
+    docket.push(row);
+}

@@ -1,0 +1,62 @@
+//! Why a desk can't be begun with a list of clients, found by one look at each.
+ghost use Rattle.std.specs.Prelude.{◌≡◌, ◌↔◌, IfOk, IsTrue, None};
+ghost use Rattle.std.specs.List.{AllByRecursion};
+ghost use Rattle.kfs_model.specs.CleanStep.{IsClient};
+ghost use Rattle.kfs_mode.specs.Clients.{AreDistinct};
+ghost use Rattle.kfs_desk.specs.Opening.{begin_fault};
+ghost use Rattle.kfs_desk.specs.Grants.{AreUngranted, MarksGranted};
+
+use kfs_mode::Client;
+use kfs_plan::answers::BeginFault;
+use kfs_tier::Places;
+use kfs_value::GREATEST_NUMBER;
+use std::alloc::{AllocError, Allocator};
+use std::collections::BTreeSet;
+
+/// The fault of the first client that can't stand behind the earlier ones. These aren't looked at
+/// again: their numbers are kept in a set, and the numbers that no grant of theirs has as free places.
+/// `Err` where memory is refused.
+pub(crate) fn first_fault<A: Allocator + Copy>(
+    alloc: A,
+    clients: &[Client],
+) -> Result<Option<BeginFault>, AllocError>
+    ensures first { IfOk result (λ fault. fault ≡ begin_fault clients.now) }
+    ensures distinct { IfOk result (λ fault. fault ≡ None → AreDistinct clients.now) }
+    ensures in_range { IfOk result (λ fault. fault ≡ None → AllByRecursion IsClient clients.now) }
+{
+    let mut numbers = BTreeSet::new(alloc);
+    let mut ungranted = Places::new(alloc, GREATEST_NUMBER + 1)?;
+    for (index, client) in clients.iter().enumerate() {
+        if !numbers.insert(client.number())? {
+            return Ok(Some(BeginFault::ClientTwice(index)));
+        }
+        let (first, last) = client.grant();
+        if !are_ungranted(&ungranted, first, last) {
+            return Ok(Some(BeginFault::GrantOverlap(index)));
+        }
+        mark_granted(&mut ungranted, first, last);
+    }
+    Ok(None)
+}
+
+/// Whether no number from `first` to `last` is granted.
+fn are_ungranted<A: Allocator>(ungranted: &Places<A>, first: u32, last: u32) -> bool
+    ensures { IsTrue result ↔ AreUngranted ungranted.now first last }
+{
+    for number in first..=last {
+        if !ungranted.is_free(number) {
+            return false;
+        }
+    }
+    true
+}
+
+/// Marks the numbers from `first` to `last` as granted.
+fn mark_granted<A: Allocator>(ungranted: &mut Places<A>, first: u32, last: u32)
+    requires { AreUngranted ungranted.old first last }
+    ensures { MarksGranted ungranted.old first last ungranted.new }
+{
+    for number in first..=last {
+        ungranted.take(number);
+    }
+}
