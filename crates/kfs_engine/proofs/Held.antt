@@ -1,6 +1,7 @@
 -- Verdicts of the code as they are held, and hands.
 use Rattle.std.proofs.Common.{◌≡◌, ◌≢◌, ◌⊎◌, inl, inr, ℕ, ◌++◌, Bool, true, false, List, [], ◌∷◌, map, Option, Some, None, option_map, Result, Ok, Err, refl, sym, ap, subst, ◌∙◌}
-use Rattle.std.specs.Prelude.{get_or, set, codes, decimal, All, Contains, OnOk}
+use Rattle.std.specs.Prelude.{get_or, set, codes, decimal, All, Contains, IfErr, OnOk}
+use Rattle.std.specs.Option.{ok_or}
 use Rattle.std.specs.List.{AllByRecursion}
 use Rattle.std.proofs.Math.ListN.{get_or-map}
 use Rattle.std.proofs.lemmas.List.{map-set, set-get_or}
@@ -28,7 +29,11 @@ use Rattle.kfs_command.specs.Command as commands
 use Rattle.kfs_command.specs.Views.{act_of}
 use Rattle.kfs_engine.specs.Hands.{AreLookedAt, ComesTo, Hands, HeldVerdict, IsUpToDate, IsVerdictOn, held_by, with_held}
 use Rattle.kfs_engine.specs.Holding.{hands_of, verdict_of}
-use Rattle.kfs_engine.specs.Session.{After, DeskOutcome, IsCallAnswered, IsLandingAnswered, IsReplied, Judges, Lands, Serves, WithHands}
+use Rattle.kfs_engine.specs.Session.{After, DeskOutcome, Does, IsCallAnswered, IsLandingAnswered, IsReplied, IsSaid, Judges, Lands, LineOutcome, Serves, WithHands, opened}
+use Rattle.kfs_engine.specs.Views.{stage_in, start_of}
+use Rattle.kfs_engine.specs.declared.opening.Opening.{Opening}
+use Rattle.kfs_engine.specs.declared.session.Stage.{Stage as CodeStage}
+use Rattle.kfs_engine.specs.declared.session.Stage.TheVariants as stages
 use Rattle.kfs_text.specs.Parts.{line_of}
 
 -- ---- what a verdict of the code rests on
@@ -98,10 +103,13 @@ module _ {A : Type 0} (s : State) (in_order : IsInOrder s) (view : View A) (of :
     log = is.log;
     spelled = is.spelled;
     owner = is.owner;
-    among = All-map _ _ reads (subst (λ sight. IsAmong sight) (seen submission.client) is.among);
+    among = All-map IsCell (λ read. (cell_of read.0, answer_of read.1)) reads (subst IsAmong (seen submission.client) is.among);
   }
     where
-      IsAmong : ClientSight → Type 0
+      abbrev IsCell : Cell × Answer → Type 0
+      IsCell read = Contains (looked_cells is.client (client_sight_of s submission.client) is.log.entries) read.0
+
+      abbrev IsAmong : ClientSight → Type 0
       IsAmong sight = All (λ read. Contains (looked_cells is.client sight is.log.entries) (cell_of read.0)) reads
 
   looked_by : (submission : Submission) (outcome : Outcome A) (reads : List (Read × ReadAnswer)) → AreLooked view submission outcome reads → (cells_of reads ≡ []) ⊎ AreLookedAt s submission (cells_of reads)
@@ -177,11 +185,32 @@ module _ (desk : Desk) (old new : Hands) (worker : ℕ) where
   landed verdict is left said answered =
       subst (λ hand. Lands desk old worker hand (said.0, After said.1 new)) (sym is) (said, answered, ap (λ hands. (said.0, After said.1 hands)) left)
 
--- ---- what the desk answers, where the workers hold what they held
+-- ---- a landing
 
 on_ok : {T E P Q : Type 0} (result : Result T E) → (P → Q) → OnOk result P → OnOk result Q
 on_ok (Ok x) f p = f p
 on_ok (Err e) f p = tt
+
+undone_same : {T E D : Type 0} (result : Result T E) {fault other : E} {next desk : D} → IfErr result (λ why. (why ≡ fault) × (next ≡ desk)) → result ≡ Err other → next ≡ desk
+undone_same (Ok done) undone out = cc
+undone_same (Err why) undone out = undone.1
+
+pub taken_as : {A E : Type 0} {fault : E} (taken : Option (Judged A)) (judged : Judged A) {hand : Option HeldVerdict} → ok_or taken fault ≡ Ok judged → option_map verdict_of taken ≡ hand → hand ≡ Some (verdict_of judged)
+taken_as None judged is shown = cc
+taken_as {A} (Some other) judged is shown =
+    let same : other ≡ judged = cc in
+    sym shown ∙ ap (λ it. Some (verdict_of it)) same
+
+module _ {A T E : Type 0} (result : Result T E) (desk : Desk) (old new : Hands) (worker : ℕ) (judged : Judged A) (is : held_by old worker ≡ Some (verdict_of judged)) (left : new ≡ with_held old worker None) where
+  pub landed_as : (before after : List ℕ) (next : Desk) → OnOk result (IsReplied (IsLandingAnswered desk (verdict_of judged)) before after next) → OnOk result (IsReplied (Serves desk old (commands.Land worker)) before after (After next new))
+  landed_as before after next = on_ok result (λ said. (said.0, said.1, landed desk old new worker (verdict_of judged) is left (said.0, next) said.2))
+
+  pub landing_undone : {fault other : E} (next : Desk) → IfErr result (λ why. (why ≡ fault) × (next ≡ desk)) → result ≡ Err other → Serves desk old (commands.Land worker) (line_of (codes "memory"), After next new)
+  landing_undone next undone out =
+      let text = line_of (codes "memory") in
+      landed desk old new worker (verdict_of judged) is left (text, next) (inr (inr (ap (λ d. (text, d)) (undone_same result undone out))))
+
+-- ---- what the desk answers, where the workers hold what they held
 
 pub with_hands : {T E : Type 0} (result : Result T E) (hands : Hands) (Holds : DeskOutcome → Type 0) (before after : List ℕ) (desk : Desk) → OnOk result (IsReplied Holds before after desk) → OnOk result (IsReplied (WithHands hands Holds) before after (After desk hands))
 with_hands result hands Holds before after desk = on_ok result (λ is. (is.0, is.1, ((is.0, desk), is.2, refl)))
@@ -192,3 +221,12 @@ pub act_served : {T E : Type 0} (result : Result T E) (desk : Desk) (hands : Han
 act_served result desk hands (acts.Lease client path kind end) before after next is = with_hands result hands _ before after next is
 act_served result desk hands (acts.Drop client number) before after next is = with_hands result hands _ before after next is
 act_served result desk hands (acts.Tick moment) before after next is = with_hands result hands _ before after next is
+
+-- this line of the desk
+pub said_with_hands : (hands : Hands) (text : List ℕ) (before after : List ℕ) (desk : Desk) → after ≡ before ++ line_of text → IsReplied (WithHands hands (IsSaid text desk)) before after (After desk hands)
+said_with_hands hands text before after desk is = (line_of text, is, ((line_of text, desk), refl, refl))
+
+-- ---- before the beginning
+
+pub opened_at : {A : Type 0} (stage : CodeStage A) (opening : Opening A) (command : commands.OpeningCommand) (outcome : LineOutcome) → stage ≡ stages.Before opening → opened (start_of opening) command ≡ outcome → Does (stage_in stage) (commands.Setup command) outcome
+opened_at stage opening command outcome is opens = subst (λ it. Does (stage_in it) (commands.Setup command) outcome) (sym is) (sym opens)
