@@ -3,13 +3,13 @@ use Rattle.std.specs.Prelude.{ℕ, List, [], ◌∷◌, codes, None, Some}
 use Rattle.kfs_model.specs.Access.{Client}
 use Rattle.kfs_examples.specs.Example.{client_7}
 use Rattle.kfs_model.specs.Lease.{WriteLease}
-use Rattle.kfs_model.specs.Machine.{opening}
+use Rattle.kfs_model.specs.Machine.{Done, Lease, Row, opening}
 use Rattle.kfs_model.specs.Placement.{TierSizes}
 use Rattle.kfs_model.specs.Table.{empty, insert}
 use Rattle.kfs_model.specs.Tree.{NameTable}
 use Rattle.kfs_device.specs.ShownTree.{shown_tree}
 use Rattle.kfs_image.specs.Image.{fresh_image}
-use Rattle.kfs_desk.specs.Machine.{Desk}
+use Rattle.kfs_desk.specs.Machine.{Desk, opened_at}
 use Rattle.kfs_engine.specs.Hands.{Hands, no_verdict, with_held}
 use Rattle.kfs_engine.specs.Session.{Start}
 
@@ -23,17 +23,20 @@ opening_with clients = record { image = Some (fresh_image eight_blocks_each); cl
 
 -- the desk that opens with these
 abbrev pub desk_with : List Client → (limit : ℕ) → Desk
-desk_with clients limit = record { state = opening clients eight_blocks_each (shown_tree (fresh_image eight_blocks_each)) empty; rows = 0; limit = limit }
+desk_with clients limit = opened_at (opening clients eight_blocks_each (shown_tree (fresh_image eight_blocks_each)) empty) limit
 
 abbrev pub desk_of_7 : Desk
 desk_of_7 = desk_with (client_7 ∷ []) 100
 
--- client 7 holds the root until 100
+-- client 7 is given a lease on the root until 100
+abbrev pub root_row : Row
+root_row = record { call = Lease 7 (codes "/") WriteLease 100; answer = Done 1; places = [] }
+
+-- and holds it
 abbrev pub root_leased : Desk
-root_leased = record {
+root_leased = record desk_of_7 {
+  docket = root_row ∷ [];
   state = record desk_of_7.state { leases = record { rows = insert empty (7, 1) (record { kind = WriteLease; end = 100 }); moment = 0 } };
-  rows = 1;
-  limit = 100;
 }
 
 -- a docket without a row, and a worker who holds a verdict on no byte

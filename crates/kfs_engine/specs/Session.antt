@@ -1,5 +1,5 @@
 -- A session: what each line is answered, and what it leaves.
-use Rattle.std.specs.Prelude.{◌≡◌, ◌≢◌, ◌⊎◌, ◌↔◌, ℕ, Bool, List, [], ◌∷◌, ◌++◌, codes, decimal, false, IsFalse, Option, Some, None, Result, Ok, Err, if◌then◌else◌}
+use Rattle.std.specs.Prelude.{◌≡◌, ◌≢◌, ◌⊎◌, ◌↔◌, ℕ, Bool, List, [], ◌∷◌, ◌++◌, length, codes, decimal, false, IsFalse, Option, Some, None, Result, Ok, Err, if◌then◌else◌}
 use Rattle.kfs_model.specs.Access.{Client}
 use Rattle.kfs_model.specs.Table.{get}
 use Rattle.kfs_model.specs.Tree.{headers}
@@ -12,7 +12,7 @@ use Rattle.kfs_value.specs.Views.{header_of}
 use Rattle.kfs_value.specs.declared.header.Header.{Header as CodeHeader}
 use Rattle.kfs_device.specs.ShownTree.{DeviceImage, shown_tree}
 use Rattle.kfs_image.specs.Image.{fresh_image}
-use Rattle.kfs_desk.specs.Machine.{Desk, IsActed, IsAnswered}
+use Rattle.kfs_desk.specs.Machine.{Desk, IsActed, IsAnswered, opened_at}
 use Rattle.kfs_desk.specs.Opening.{begin_fault}
 use Rattle.kfs_plan.specs.declared.answers.ActReply.{ActReply}
 use Rattle.kfs_plan.specs.declared.answers.BeginFault.{BeginFault}
@@ -60,7 +60,7 @@ IsSaid text s outcome = outcome ≡ (line_of text, s)
 
 -- the desk, or the fault of the clients: the image stays then, and they are forgotten
 abbrev pub begun : DeviceImage → List Client → (limit : ℕ) → Option BeginFault → LineOutcome
-begun image clients limit None = (line_of (codes "ok"), After (record { state = opening clients image.sizes (shown_tree image) image.placement; rows = 0; limit = limit }) no_verdict)
+begun image clients limit None = (line_of (codes "ok"), After (opened_at (opening clients image.sizes (shown_tree image) image.placement) limit) no_verdict)
 begun image clients limit (Some fault) = (line_of (codes "begin " ++ begin_text fault), Before (record { image = Some image; clients = [] }))
 
 -- without an image there is no desk
@@ -81,13 +81,13 @@ opened start (Begin limit) = begun_over start.image start.clients limit
 
 -- the docket has as many rows as its limit
 abbrev pub IsFull : Desk → DeskOutcome → Type 0
-IsFull desk outcome = (desk.rows ≡ desk.limit) × IsSaid (codes "full") desk outcome
+IsFull desk outcome = (length desk.docket ≡ desk.limit) × IsSaid (codes "full") desk outcome
 
 -- the machine's step of the call, told in these words, with the docket's next row
 pub record IsCalled (desk : Desk) (call : machine.Call) (words : ℕ → Done) (outcome : DeskOutcome) : Type 0 where
   pub answer : ActReply
   pub next : Desk
-  pub below : desk.rows ≢ desk.limit
+  pub below : length desk.docket ≢ desk.limit
   pub acted : IsActed desk call words answer next
   pub is : outcome ≡ (line_of (act_text answer), next)
 
@@ -99,7 +99,7 @@ IsCallAnswered desk call words outcome = IsFull desk outcome ⊎ IsCalled desk c
 pub record IsSubmitted (desk : Desk) (submission : Submission) (again : Bool) (outcome : DeskOutcome) : Type 0 where
   pub answer : Reply
   pub next : Desk
-  pub below : desk.rows ≢ desk.limit
+  pub below : length desk.docket ≢ desk.limit
   pub answered : IsAnswered desk submission again answer next
   pub is : outcome ≡ (line_of (reply_text answer), next)
 
@@ -126,7 +126,7 @@ names_line desk directory = if is_directory (get (headers desk.state.tree) direc
 
 -- the line of how many rows the docket has
 abbrev pub docket_line : Desk → List ℕ
-docket_line desk = codes "docket " ++ decimal desk.rows
+docket_line desk = codes "docket " ++ decimal (length desk.docket)
 
 -- ---- verdicts that are held
 

@@ -209,7 +209,7 @@ fn show_docket<A: Allocator + Copy>(desk: &Desk<A>, reply: &mut Vec<u8, A>)
     ensures { reply.new.items ≡ reply.old.items ++ line_of (docket_line desk.now) }
 {
     text(reply, b"docket ");
-    number(reply, u64::from(desk.docket_len()));
+    number(reply, u64::from(desk.docket().len()));
     text(reply, b"\n");
 }
 

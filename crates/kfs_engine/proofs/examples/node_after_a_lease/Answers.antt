@@ -9,7 +9,7 @@ use Rattle.kfs_value.specs.declared.header.Kind.TheVariants.{Directory}
 use Rattle.kfs_plan.specs.declared.answers.Done.TheVariants.{Leased}
 use Rattle.kfs_text.specs.Cut.{cut}
 use Rattle.kfs_text.specs.Decimals.{decimals32}
-use Rattle.kfs_engine.specs.Example.{root_leased}
+use Rattle.kfs_engine.specs.Example.{root_leased, root_row}
 use Rattle.kfs_engine.specs.Hands.{no_verdict}
 use Rattle.kfs_engine.specs.Session.{After}
 use Rattle.kfs_engine.proofs.examples.node_after_a_lease.Goals as goal
@@ -29,7 +29,7 @@ returns c = (
       answer = record { position = 0; answer = Ok (Leased 1) };
       next = root_leased;
       below = λ full. cc;
-      acted = record { step = record { outcome = Ok 1; said = refl; fits = refl }; position = refl; rows = refl; limit = refl };
+      acted = record { row = root_row; step = record { outcome = Ok 1; said = refl; asked = refl; answered = refl; fits = refl }; position = refl; docket = refl; opening = refl; limit = refl };
       is = refl;
     }),
     refl,
