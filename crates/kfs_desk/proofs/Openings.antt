@@ -31,3 +31,8 @@ module _ (earlier : List Client) (client : Client) where
 pub at_none : {P : Type 0} (found : Result (Option BeginFault) AllocError) {fault : Option BeginFault} → IfOk found (λ none. none ≡ None → P) → fault ≡ result_unwrap_or found (Some OutOfMemory) → fault ≡ None → P
 at_none (Ok here) holds is none = holds (sym is ∙ none)
 at_none (Err refused) holds is none = cc (is, none)
+
+-- it is what the clients come to, then
+pub none_found : {said : Option BeginFault} (found : Result (Option BeginFault) AllocError) {fault : Option BeginFault} → IfOk found (λ none. none ≡ said) → fault ≡ result_unwrap_or found (Some OutOfMemory) → fault ≡ None → said ≡ None
+none_found (Ok here) holds is none = sym holds ∙ sym is ∙ none
+none_found (Err refused) holds is none = cc (is, none)

@@ -12,8 +12,9 @@ use Rattle.kfs_model.specs.Table.{Table, numbers, get}
 use Rattle.kfs_device.specs.ShownTree.{shown_tree}
 use Rattle.kfs_mode.specs.Clients.{AreDistinct}
 use Rattle.kfs_desk.specs.Machine.{state_at}
+use Rattle.kfs_desk.specs.Opening.{begin_fault}
 use Rattle.kfs_desk.proofs.Dockets.{desk_opened}
-use Rattle.kfs_desk.proofs.Openings.{at_none}
+use Rattle.kfs_desk.proofs.Openings.{at_none, none_found}
 use Rattle.kfs_desk.proofs.desk.Desk.begin.Goals as goal
 
 pub invariant_of-result : goal.invariant_of-result
@@ -34,3 +35,6 @@ invariant_of-result g c =
       placement = subst (λ (heads : Table numbers Header). IsPlacement image.sizes (get heads) image.placement) (sym lawful.tree.counted) lawful.placed;
     }) in
     desk_opened _ c.of.ensures c.new-in-Ok-new.ensures in_order
+
+pub returns-in-Ok-new-clause-fit : goal.returns-in-Ok-new-clause-fit
+returns-in-Ok-new-clause-fit g c = ap begin_fault (sym c.deref.ensures.value) ∙ none_found c.first_fault.result c.first_fault.ensures.first c.unwrap_or-fault.ensures c.in_default.is

@@ -3,9 +3,13 @@ use Rattle.std.proofs.Common.{false, ap, ◌<◌, length, sym, subst, refl, arit
 use Rattle.kfs_model.specs.Machine.{Row}
 use Rattle.kfs_plan.specs.Judging.{submission_of}
 use Rattle.kfs_desk.specs.Landing.{Answers, CanLand}
-use Rattle.kfs_desk.specs.Machine.{Desk, IsAnswered, IsStep, Parts, shown, state_of}
+use Rattle.kfs_desk.specs.Machine.{Desk, IsAnswered, IsStep, Parts, shown, state_at, state_of}
 use Rattle.kfs_desk.proofs.Answered.{IsAnswer, answered, answered_at, answered_desk, can_land, told_of}
+use Rattle.kfs_desk.proofs.desk.Desk.submit.Given as given
 use Rattle.kfs_desk.proofs.desk.Desk.submit.Goals as goal
+
+pub judged-requires : goal.judged-requires
+judged-requires g c = record { distinct = c.self.invariant.in_order.distinct }
 
 pub land-requires : goal.land-requires
 land-requires g c =
@@ -18,43 +22,49 @@ land-requires g c =
 pub add_answer-requires-clause-step : goal.add_answer-requires-clause-step
 add_answer-requires-clause-step g c =
     let inside = c.self.inside in
-    let desk : Parts = record { image = inside.image; clients = inside.clients.value.items; leases = inside.leases.value; opening = inside.opening; docket = inside.docket; limit = inside.limit } in
     let submission = submission_of c.args.submission in
     let outcome = c.in_ok-judged.judged.outcome in
     let reply = c.in_ok-reply.reply in
     let told = subst (λ handed_in. Answers inside.image handed_in.log.items c.len-position.result false outcome reply c.land.new.image) c.in_ok-judged.ensures.submission c.in_ok-reply.ensures.answer in
-    let new : Parts = record desk { image = c.land.new.image; leases = c.land.new.leases.value } in
-    let is : IsAnswer (state_of desk) submission false c.len-position.result reply (state_of new) =
+    let desk : Parts = record { image = inside.image; clients = inside.clients.value.items; leases = inside.leases.value; opening = inside.opening; docket = inside.docket; limit = inside.limit } in
+    let is : IsAnswer (state_of desk) submission false c.len-position.result reply (state_at c.land.new.image desk.clients c.land.new.leases.value) =
     answered desk c.self.invariant c.judged.ensures.lawful submission false c.len-position.result outcome reply c.land.new.image c.land.new.leases.value c.in_ok-judged.ensures.verdict told c.in_ok-reply.ensures.leases in
     told_of c.of-before.ensures (ap submission_of c.of-handed_in.ensures) c.of-after.ensures (λ s u t. (row : Row) × IsStep s u reply row t) is.step
+
+-- the desk before and after, the row of the step between them, and the answer
+module _ (g : given.Over) (c : goal.After-drop-before-inside-4 g) where
+  abbrev before : Parts
+  before = let inside = c.self.inside in record { image = inside.image; clients = inside.clients.value.items; leases = inside.leases.value; opening = inside.opening; docket = inside.docket; limit = inside.limit }
+
+  abbrev after : Parts
+  after = record before { image = c.land.new.image; leases = c.land.new.leases.value; docket = c.add_answer.new.docket }
+
+  abbrev row : Row
+  row = c.add_answer.ensures.0
+
+  step : IsStep (state_of before) (submission_of c.args.submission) c.in_ok-reply.reply row (state_of after)
+  step = told_of (sym c.of-before.ensures) (sym (ap submission_of c.of-handed_in.ensures)) (sym c.of-after.ensures) (λ s u t. IsStep s u c.in_ok-reply.reply row t) c.add_answer.ensures.1
+
+  is_answer : IsAnswer (state_of before) (submission_of c.args.submission) false c.len-position.result c.in_ok-reply.reply (state_of after)
+  is_answer =
+      let inside = c.self.inside in
+      let submission = submission_of c.args.submission in
+      let outcome = c.in_ok-judged.judged.outcome in
+      let reply = c.in_ok-reply.reply in
+      let told = subst (λ handed_in. Answers inside.image handed_in.log.items c.len-position.result false outcome reply c.land.new.image) c.in_ok-judged.ensures.submission c.in_ok-reply.ensures.answer in
+      answered before c.self.invariant c.judged.ensures.lawful submission false c.len-position.result outcome reply c.land.new.image c.land.new.leases.value c.in_ok-judged.ensures.verdict told c.in_ok-reply.ensures.leases
+
+  is_answered : IsAnswered (shown before) (submission_of c.args.submission) false c.in_ok-reply.reply (shown after)
+  is_answered = answered_at before after c.self.invariant (submission_of c.args.submission) c.in_ok-reply.reply row step refl c.add_answer.ensures.2 refl false c.len-position.result c.len-position.ensures is_answer
 
 pub invariant_of-self-2 : goal.invariant_of-self-2
 invariant_of-self-2 g c =
     let inside = c.self.inside in
-    let desk : Parts = record { image = inside.image; clients = inside.clients.value.items; leases = inside.leases.value; opening = inside.opening; docket = inside.docket; limit = inside.limit } in
-    let new : Parts = record desk { image = c.land.new.image; leases = c.land.new.leases.value; docket = c.add_answer.new.docket } in
-    let submission = submission_of c.args.submission in
-    let reply = c.in_ok-reply.reply in
-    let (row, row_is, added) = c.add_answer.ensures in
-    let step : IsStep (state_of desk) submission reply row (state_of new) = told_of (sym c.of-before.ensures) (sym (ap submission_of c.of-handed_in.ensures)) (sym c.of-after.ensures) (λ s u t. IsStep s u reply row t) row_is in
     let below = c.is_full.ensures.room c.if-is_full.false in
     let is_docket = ap (λ (d : Desk). length d.docket) c.self.view_is in
     let is_limit = ap (λ (d : Desk). d.limit) c.self.view_is in
     let room : length inside.docket < inside.limit = omega arith in
-    answered_desk desk new c.self.invariant submission reply row step refl added refl room
+    answered_desk (before g c) (after g c) c.self.invariant (submission_of c.args.submission) c.in_ok-reply.reply (row g c) (step g c) refl c.add_answer.ensures.2 refl room
 
 pub returns-clause-answered : goal.returns-clause-answered
-returns-clause-answered g c =
-    let inside = c.self.inside in
-    let desk : Parts = record { image = inside.image; clients = inside.clients.value.items; leases = inside.leases.value; opening = inside.opening; docket = inside.docket; limit = inside.limit } in
-    let submission = submission_of c.args.submission in
-    let outcome = c.in_ok-judged.judged.outcome in
-    let reply = c.in_ok-reply.reply in
-    let told = subst (λ handed_in. Answers inside.image handed_in.log.items c.len-position.result false outcome reply c.land.new.image) c.in_ok-judged.ensures.submission c.in_ok-reply.ensures.answer in
-    let new : Parts = record desk { image = c.land.new.image; leases = c.land.new.leases.value; docket = c.add_answer.new.docket } in
-    let is : IsAnswer (state_of desk) submission false c.len-position.result reply (state_of new) =
-    answered desk c.self.invariant c.judged.ensures.lawful submission false c.len-position.result outcome reply c.land.new.image c.land.new.leases.value c.in_ok-judged.ensures.verdict told c.in_ok-reply.ensures.leases in
-    let (row, row_is, added) = c.add_answer.ensures in
-    let step : IsStep (state_of desk) submission reply row (state_of new) = told_of (sym c.of-before.ensures) (sym (ap submission_of c.of-handed_in.ensures)) (sym c.of-after.ensures) (λ s u t. IsStep s u reply row t) row_is in
-    let at : IsAnswered (shown desk) submission false reply (shown new) = answered_at desk new c.self.invariant submission reply row step refl added refl false c.len-position.result c.len-position.ensures is in
-    subst (λ (d : Desk). IsAnswered d submission false reply (shown new)) c.self.view_is at
+returns-clause-answered g c = subst (λ (d : Desk). IsAnswered d (submission_of c.args.submission) false c.in_ok-reply.reply (shown (after g c))) c.self.view_is (is_answered g c)
