@@ -223,8 +223,8 @@ act_served result desk hands (acts.Drop client number) before after next is = wi
 act_served result desk hands (acts.Tick moment) before after next is = with_hands result hands _ before after next is
 
 -- this line of the desk
-pub said_with_hands : (hands : Hands) (text : List ℕ) (before after : List ℕ) (desk : Desk) → after ≡ before ++ line_of text → IsReplied (WithHands hands (IsSaid text desk)) before after (After desk hands)
-said_with_hands hands text before after desk is = (line_of text, is, ((line_of text, desk), refl, refl))
+pub said_with_hands : {T E : Type 0} (result : Result T E) (hands : Hands) (text : List ℕ) (before after : List ℕ) (desk : Desk) → OnOk result (after ≡ before ++ line_of text) → OnOk result (IsReplied (WithHands hands (IsSaid text desk)) before after (After desk hands))
+said_with_hands result hands text before after desk = on_ok result (λ is. (line_of text, is, ((line_of text, desk), refl, refl)))
 
 -- ---- before the beginning
 
