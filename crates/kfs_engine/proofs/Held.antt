@@ -103,14 +103,9 @@ module _ {A : Type 0} (s : State) (in_order : IsInOrder s) (view : View A) (of :
     log = is.log;
     spelled = is.spelled;
     owner = is.owner;
-    among = All-map IsCell (λ read. (cell_of read.0, answer_of read.1)) reads (subst IsAmong (seen submission.client) is.among);
+    among = All-map (λ (read : Cell × Answer). Contains (looked_cells is.client (client_sight_of s submission.client) is.log.entries) read.0) (λ read. (cell_of read.0, answer_of read.1)) reads
+        (subst (λ (sight : ClientSight). All (λ (read : Read × ReadAnswer). Contains (looked_cells is.client sight is.log.entries) (cell_of read.0)) reads) (seen submission.client) is.among);
   }
-    where
-      abbrev IsCell : Cell × Answer → Type 0
-      IsCell read = Contains (looked_cells is.client (client_sight_of s submission.client) is.log.entries) read.0
-
-      abbrev IsAmong : ClientSight → Type 0
-      IsAmong sight = All (λ read. Contains (looked_cells is.client sight is.log.entries) (cell_of read.0)) reads
 
   looked_by : (submission : Submission) (outcome : Outcome A) (reads : List (Read × ReadAnswer)) → AreLooked view submission outcome reads → (cells_of reads ≡ []) ⊎ AreLookedAt s submission (cells_of reads)
   looked_by submission outcome reads is = by (stops_before outcome) refl
