@@ -18,7 +18,7 @@ mod verdicts;
 
 use conversation::Conversation;
 pub use fault::EngineFault;
-use kfs_text::{HeldBack, flush, read_some};
+use kfs_text::read_some;
 use std::alloc::{AllocError, Allocator};
 use std::io::{Read, Write};
 
@@ -28,8 +28,8 @@ const MOST_READS: u64 = 1 << 32;
 /// How many bytes a reader is asked for at once.
 const CHUNK: usize = 65_536;
 
-/// Reads commands, a line each, and writes the replies to the lines of one read together, before the
-/// next bytes are read. The input is never kept whole.
+/// Reads commands, a line each, and writes the reply of each before the next bytes are read. The
+/// input is never kept whole.
 ///
 /// Where it stops early, the lines before were answered.
 pub fn engine<R, A, I, O>(
@@ -46,11 +46,7 @@ where
     ensures end { OnOk result (IsAtEnd (I.remaining reader.new)) }
 {
     let mut chunk = new_chunk(alloc)?;
-    let mut held = HeldBack::new(alloc, writer);
-    let ended = answer_all(alloc, reader, &mut chunk, &mut held);
-    let (_writer, closed) = held.close();
-    closed?;
-    ended
+    answer_all(alloc, reader, &mut chunk, writer)
 }
 
 fn new_chunk<A: Allocator>(alloc: A) -> Result<Vec<u8, A>, EngineFault>
@@ -60,7 +56,7 @@ fn new_chunk<A: Allocator>(alloc: A) -> Result<Vec<u8, A>, EngineFault>
     Ok(vec![in alloc; 0u8; CHUNK]?)
 }
 
-/// Reads all, a chunk at a time, answers each line, and flushes the writer before the next chunk.
+/// Reads all, a chunk at a time, and answers each line.
 fn answer_all<A, I, O>(
     alloc: A,
     reader: &mut I,
@@ -84,7 +80,6 @@ where
             return conversation.finish(writer);
         }
         conversation.take(&chunk[..count], writer)?;
-        flush(writer)?;
     }
     Err(EngineFault::ReadFault)
 }

@@ -1,6 +1,5 @@
 -- Lemmas on cuts, words and numbers.
 pub mod Cuts
-pub mod HeldBytes
 pub mod NumbersRead
 pub mod Numerals
 pub mod WordByWord

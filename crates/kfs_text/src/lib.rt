@@ -2,7 +2,6 @@
 #![tactic(auto)]
 
 mod fault;
-mod held;
 mod lines;
 pub mod parts;
 mod reading;
@@ -10,7 +9,6 @@ mod words;
 mod writing;
 
 pub use fault::{ReadFault, WriteFault};
-pub use held::HeldBack;
 pub use lines::first_line;
 pub use reading::read_some;
 pub use words::{Refusal, Words};

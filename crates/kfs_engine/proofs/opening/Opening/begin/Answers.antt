@@ -1,4 +1,4 @@
-use Rattle.std.proofs.Common.{rules, ◌≡◌, ◌≢◌, ◌⊎◌, ⊎_elim, ◌∙◌, ◌++◌, [], Some, ap, sym}
+use Rattle.std.proofs.Common.{rules, ◌≡◌, ◌≢◌, ◌⊎◌, ⊎_elim, ◌∙◌, ◌++◌, [], Some, ap, subst, sym}
 use Rattle.std.specs.Prelude.{codes}
 use Rattle.kfs_desk.specs.Opening.{begin_fault}
 use Rattle.kfs_plan.specs.declared.answers.BeginFault.TheVariants.{OutOfMemory}
@@ -13,7 +13,8 @@ returns-clause-ok g c =
     let clients = c.args.self.now.clients.items in
     let line = line_of (codes "begin " ++ begin_text back.why) in
     let image : c.args.self.now.image ≡ Some back.image = search rules in
-    let why : (back.why ≡ OutOfMemory) ⊎ (begin_fault clients ≡ Some back.why) = search rules in
+    let same : c.replace-clients.result.items ≡ clients = search rules in
+    let why : (back.why ≡ OutOfMemory) ⊎ (begin_fault clients ≡ Some back.why) = subst (λ cs. (back.why ≡ OutOfMemory) ⊎ (begin_fault cs ≡ Some back.why)) same c.in-Err.ensures.why in
     let other : back.why ≢ OutOfMemory = search rules in
     let found : begin_fault clients ≡ Some back.why = ⊎_elim (λ memory. absurd (other memory)) (λ named. named) why in
     let cleared : c.replace-clients.new.dest.items ≡ [] = search rules in
