@@ -1,5 +1,5 @@
 -- What is read of a file is what its line says.
-use Rattle.std.proofs.Common.{◌≡◌, ◌≢◌, ℕ, ◌++◌, false, true, List, length, take, drop, Option, Some, None, refl, sym, ap, subst, ◌∙◌, codes}
+use Rattle.std.proofs.Common.{◌≡◌, ◌≢◌, ℕ, ◌++◌, Bool, false, true, List, length, take, drop, Option, Some, None, refl, sym, ap, subst, ◌∙◌, codes, if◌then◌else◌}
 use Rattle.std.proofs.Math.Seq.{take-append_seam}
 use Rattle.kfs_model.specs.Header.{Header}
 use Rattle.kfs_model.specs.Sight.{is_directory}

@@ -26,10 +26,11 @@ use Rattle.kfs_lease.specs.declared.act.Act.{Act}
 use Rattle.kfs_lease.specs.declared.act.Act.TheVariants as acts
 use Rattle.kfs_desk.specs.Machine.{Desk, IsCurrent, IsViewOf, call_of, done_by}
 use Rattle.kfs_command.specs.Command as commands
-use Rattle.kfs_command.specs.Views.{act_of}
+use Rattle.kfs_command.specs.Views.{act_of, asked_of_desk}
+use Rattle.kfs_command.specs.declared.command.DeskCommand.{DeskCommand}
 use Rattle.kfs_engine.specs.Hands.{AreLookedAt, ComesTo, Hands, HeldVerdict, IsUpToDate, IsVerdictOn, held_by, with_held}
 use Rattle.kfs_engine.specs.Holding.{hands_of, verdict_of}
-use Rattle.kfs_engine.specs.Session.{After, DeskOutcome, Does, IsCallAnswered, IsLandingAnswered, IsReplied, IsSaid, Judges, Lands, LineOutcome, Serves, WithHands, opened}
+use Rattle.kfs_engine.specs.Session.{After, DeskOutcome, Does, IsCallAnswered, IsLandingAnswered, IsReplied, IsSaid, Judges, Lands, LineOutcome, Serves, Stage, WithHands, opened}
 use Rattle.kfs_engine.specs.Views.{stage_in, start_of}
 use Rattle.kfs_engine.specs.declared.opening.Opening.{Opening}
 use Rattle.kfs_engine.specs.declared.session.Stage.{Stage as CodeStage}
@@ -182,17 +183,17 @@ module _ (desk : Desk) (old new : Hands) (worker : ℕ) where
 
 -- ---- a landing
 
-on_ok : {T E P Q : Type 0} (result : Result T E) → (P → Q) → OnOk result P → OnOk result Q
+pub on_ok : {T E P Q : Type 0} (result : Result T E) → (P → Q) → OnOk result P → OnOk result Q
 on_ok (Ok x) f p = f p
 on_ok (Err e) f p = tt
 
-undone_same : {T E D : Type 0} (result : Result T E) {fault other : E} {next desk : D} → IfErr result (λ why. (why ≡ fault) × (next ≡ desk)) → result ≡ Err other → next ≡ desk
-undone_same (Ok done) undone out = cc
-undone_same (Err why) undone out = undone.1
+undone_same : {T E D : Type 0} (result : Result T E) (fault other : E) (next desk : D) → IfErr result (λ why. (why ≡ fault) × (next ≡ desk)) → result ≡ Err other → next ≡ desk
+undone_same (Ok done) fault other next desk undone out = cc
+undone_same (Err why) fault other next desk undone out = undone.1
 
-pub taken_as : {A E : Type 0} {fault : E} (taken : Option (Judged A)) (judged : Judged A) {hand : Option HeldVerdict} → ok_or taken fault ≡ Ok judged → option_map verdict_of taken ≡ hand → hand ≡ Some (verdict_of judged)
-taken_as None judged is shown = cc
-taken_as {A} (Some other) judged is shown =
+pub taken_as : {A E : Type 0} (fault : E) (taken : Option (Judged A)) (judged : Judged A) (hand : Option HeldVerdict) → ok_or taken fault ≡ Ok judged → option_map verdict_of taken ≡ hand → hand ≡ Some (verdict_of judged)
+taken_as fault None judged hand is shown = cc
+taken_as fault (Some other) judged hand is shown =
     let same : other ≡ judged = cc in
     sym shown ∙ ap (λ it. Some (verdict_of it)) same
 
@@ -200,10 +201,10 @@ module _ {A T E : Type 0} (result : Result T E) (desk : Desk) (old new : Hands) 
   pub landed_as : (before after : List ℕ) (next : Desk) → OnOk result (IsReplied (IsLandingAnswered desk (verdict_of judged)) before after next) → OnOk result (IsReplied (Serves desk old (commands.Land worker)) before after (After next new))
   landed_as before after next = on_ok result (λ said. (said.0, said.1, landed desk old new worker (verdict_of judged) is left (said.0, next) said.2))
 
-  pub landing_undone : {fault other : E} (next : Desk) → IfErr result (λ why. (why ≡ fault) × (next ≡ desk)) → result ≡ Err other → Serves desk old (commands.Land worker) (line_of (codes "memory"), After next new)
-  landing_undone next undone out =
+  pub landing_undone : (fault other : E) (next : Desk) → IfErr result (λ why. (why ≡ fault) × (next ≡ desk)) → result ≡ Err other → Serves desk old (commands.Land worker) (line_of (codes "memory"), After next new)
+  landing_undone fault other next undone out =
       let text = line_of (codes "memory") in
-      landed desk old new worker (verdict_of judged) is left (text, next) (inr (inr (ap (λ d. (text, d)) (undone_same result undone out))))
+      landed desk old new worker (verdict_of judged) is left (text, next) (inr (inr (ap (λ d. (text, d)) (undone_same result fault other next desk undone out))))
 
 -- ---- what the desk answers, where the workers hold what they held
 
@@ -218,8 +219,12 @@ act_served result desk hands (acts.Drop client number) before after next is = wi
 act_served result desk hands (acts.Tick moment) before after next is = with_hands result hands _ before after next is
 
 -- this line of the desk
-pub said_with_hands : {T E : Type 0} (result : Result T E) (hands : Hands) (text : List ℕ) (before after : List ℕ) (desk : Desk) → OnOk result (after ≡ before ++ line_of text) → OnOk result (IsReplied (WithHands hands (IsSaid text desk)) before after (After desk hands))
-said_with_hands result hands text before after desk = on_ok result (λ is. (line_of text, is, ((line_of text, desk), refl, refl)))
+pub said_with_hands : (hands : Hands) (text : List ℕ) (before after : List ℕ) (desk : Desk) → after ≡ before ++ line_of text → IsReplied (WithHands hands (IsSaid text desk)) before after (After desk hands)
+said_with_hands hands text before after desk is = (line_of text, is, ((line_of text, desk), refl, refl))
+
+-- of this command, which the line's is
+pub replied_as : {A : Type 0} (desk : Desk) (hands : Hands) (command known : DeskCommand A) (before after : List ℕ) (stage : Stage) → command ≡ known → IsReplied (Serves desk hands (asked_of_desk known)) before after stage → IsReplied (Serves desk hands (asked_of_desk command)) before after stage
+replied_as desk hands command known before after stage is = subst (λ it. IsReplied (Serves desk hands (asked_of_desk it)) before after stage) (sym is)
 
 -- ---- before the beginning
 
