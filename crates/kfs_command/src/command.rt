@@ -49,7 +49,11 @@ pub enum DeskCommand<'a, A: Allocator> {
     /// `list N`: the names of a directory.
     List(u32),
     /// `read N START LEN`: at most LEN bytes of a file from START on, of which LEN is at most 65,536.
-    Read { number: u32, start: u64, count: u32 },
+    Read {
+        number: u32,
+        start: u64,
+        count: u32,
+    },
     /// `docket`: how many rows the docket has.
     Docket,
     /// `judge W N LOG PLAN`: a log and its plan, whose verdict the worker holds.
@@ -58,7 +62,9 @@ pub enum DeskCommand<'a, A: Allocator> {
         submission: Submission<A>,
     },
     /// `land W`: the verdict that the worker holds.
-    Land { worker: Worker },
+    Land {
+        worker: Worker,
+    },
 }
 
 impl<'a, A: Allocator + Copy> Command<'a, A> {

@@ -19,7 +19,6 @@ pub struct Hands<A: Allocator> {
 
 impl<A: Allocator> Model for Hands<A> {
     ghost use Rattle.kfs_engine.specs.Hands.{Hands as HandsShown};
-
     ghost use Rattle.std.specs.Prelude.{◌≡◌, length};
 
     ghost Value = { HandsShown };

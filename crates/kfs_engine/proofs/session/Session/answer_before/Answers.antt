@@ -18,6 +18,9 @@ returns-in_err-desk-in-Before-clause-memory g c is =
 
 pub returns-in-Some-clause-ok : goal.returns-in-Some-clause-ok
 returns-in-Some-clause-ok g c =
-    let opened = c.in_ok-desk-in-Before.ensures.ok in
-    (opened.0, opened.1, opened_at c.args.self.now.stage c.in-Before.opening _ _ c.in-Before.is
-    (opened.2 ∙ ap (λ begun. (opened.0, stage_after begun (start_of c.answer.new.self))) c.in-Some.is ∙ ap (λ hands. (opened.0, After c.in-Some.desk hands)) (sym c.in_ok-hands-in-Before.ensures)))
+    let opened = c.in_ok-desk-in-Before.ensures.ok in (
+      opened.0,
+      opened.1,
+      opened_at c.args.self.now.stage c.in-Before.opening _ _ c.in-Before.is
+          (opened.2 ∙ ap (λ begun. (opened.0, stage_after begun (start_of c.answer.new.self))) c.in-Some.is ∙ ap (λ hands. (opened.0, After c.in-Some.desk hands)) (sym c.in_ok-hands-in-Before.ensures)),
+    )
