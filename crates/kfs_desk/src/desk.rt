@@ -43,7 +43,8 @@ use std::snapshot::Snapshot;
 use std::sync::Arc;
 
 /// The image, the clients, their leases, and the docket, which has a row for each call that was
-/// answered, refusals included. The docket leads from the state of the start to the state of now, which is in order.
+/// answered, refusals included. The docket leads from the state at the start to the state of now, which
+/// is in order.
 #[derive(Drop)]
 pub struct Desk<A: Allocator> {
     alloc: A,
@@ -115,7 +116,8 @@ impl<A: Allocator + Copy> Desk<A> {
         }
     }
 
-    /// The docket, which leads from the state that the desk began with to the state of now.
+    /// The docket, which leads from the state that the desk began with to the state of now. Takes no
+    /// memory.
     pub fn docket(&self) -> &Docket
         ensures shown { result.now ≡ self.now.docket }
         ensures legal { LeadsTo self.now.opening self.now.docket self.now.state }

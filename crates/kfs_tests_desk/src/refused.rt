@@ -55,7 +55,8 @@ const FILE_HELD: [Called<'static>; 1] = [(Call::Lease(8, b"/a"), Err(LeaseFault:
 /// File 5 gets the mode 0o600.
 pub const CHMOD_LOG: &[u8] = b"KLOG\x01\0\0\0\x07\0\x01\x07\0\0\0\x05\x01\x80";
 
-pub const CHMOD_PLAN: &[u8] = b"KPLN\x01\0\0\0\x01\0\0\0\0\0\0\0\x05\x01\x01\x80\0\0\x03\xe8\0\0\x03\
+pub const CHMOD_PLAN: &[u8] =
+    b"KPLN\x01\0\0\0\x01\0\0\0\0\0\0\0\x05\x01\x01\x80\0\0\x03\xe8\0\0\x03\
       \xe8\0\x01\0\0\0\0\0\0\0\0";
 
 /// The file is closed to all others.

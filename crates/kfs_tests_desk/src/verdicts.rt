@@ -2,7 +2,7 @@
 //! that don't.
 
 use crate::desks::{
-    AMPLE, Call, Called, FILE, NO_FILE, Shown, called, create, grown, is_answer, is_answered, opening,
+    AMPLE, Call, Called, FILE, NO_FILE, Shown, called, grown, is_answer, is_answered, opening,
     shows, submission, yes,
 };
 use crate::refused::{CHMOD_LOG, CHMOD_PLAN, FILE_LEASED, MANY, UNLINK_LOG, UNLINK_PLAN};
@@ -153,7 +153,7 @@ fn created(alloc: Global, all: &[Held<'_>]) -> Option<usize> {
 }
 
 /// The verdict on the Create of `a`.
-fn held<'a>(meanwhile: Meanwhile<'a>, reply: Reply, shown: &'a [Shown<'a>]) -> Held<'a> {
+fn create_held<'a>(meanwhile: Meanwhile<'a>, reply: Reply, shown: &'a [Shown<'a>]) -> Held<'a> {
     Held {
         log: CREATE_LOG,
         plan: CREATE_PLAN,
@@ -164,7 +164,7 @@ fn held<'a>(meanwhile: Meanwhile<'a>, reply: Reply, shown: &'a [Shown<'a>]) -> H
 }
 
 fn over_calls<'a>(calls: &'a [Called<'a>], reply: Reply, shown: &'a [Shown<'a>]) -> Held<'a> {
-    held(
+    create_held(
         Meanwhile {
             calls,
             landings: &[],
@@ -179,7 +179,7 @@ fn over_landings<'a>(
     reply: Reply,
     shown: &'a [Shown<'a>],
 ) -> Held<'a> {
-    held(
+    create_held(
         Meanwhile {
             calls: &[],
             landings,
@@ -206,7 +206,7 @@ const ENDED: [Called<'static>; 1] = [(Call::Tick(100), Ok(Done::Ticked(100)))];
 fn verdicts_held_over_calls_for_leases(rt: HostRuntime) {
     let unleased = Reason::NoLease(1);
     let all = [
-        held(NOTHING, yes(1), &FILE),
+        create_held(NOTHING, yes(1), &FILE),
         over_calls(&ROOT_DROPPED, rejudged_no(2, unleased), &NO_FILE),
         over_calls(&ROOT_TAKEN_AGAIN, yes(3), &FILE),
         over_calls(&LAST_MOMENT, yes(2), &FILE),
@@ -327,12 +327,13 @@ fn landing_with_one_refused(heap: &Refusing<Global>, growth: u64) -> Option<bool
 
 /// Whether the growth of this index is refused in a view, after which the desk is as it was.
 fn view_with_one_refused(heap: &Refusing<Global>, growth: u64) -> Option<bool> {
-    let mut desk = opening(heap, 100)?;
+    let mut desk = desk_with_file(heap)?;
     heap.refuse_after(growth);
     let is_made = desk.view().is_ok();
     let is_refused = heap.has_refused();
-    let created = is_answered(&mut desk, create(heap).ok()?, &Ok(yes(1)));
-    if created && is_made != is_refused && shows(desk.image().shape(), &FILE) {
+    heap.refuse_after(AMPLE);
+    landed_all(heap, &mut desk, 3, &OTHER_CREATED)?;
+    if is_made != is_refused && shows(desk.image().shape(), &BOTH) {
         Some(is_refused)
     } else {
         None
@@ -369,7 +370,7 @@ fn are_over(count: Result<u64, u64>, least: u64) -> bool {
 #[test]
 fn each_growth_of_a_view_and_of_a_landing_judged_again_refused(rt: HostRuntime) {
     let view = growths(rt.alloc(), true);
-    assert!(rt; are_over(view, 0), "{view:?}");
+    assert!(rt; view.is_ok(), "{view:?}");
     let landing = growths(rt.alloc(), false);
     assert!(rt; are_over(landing, 5), "{landing:?}");
 }
