@@ -1,5 +1,5 @@
 //! A writer in front of another, which holds texts back so that several are written together.
-ghost use Rattle.std.specs.Prelude.{◌≡◌, ℕ, List, [], OnOk, OnErr};
+ghost use Rattle.std.specs.Prelude.{◌≡◌, ◌++◌, ℕ, List, [], IsFalse, IsTrue, OnOk, OnErr};
 ghost use Rattle.std.specs.Io.KnownBytes.{Keeps, append_known};
 ghost use Rattle.kfs_text.specs.Held.{HasGrown, contents_with};
 ghost use Rattle.kfs_text.specs.Streams.{IsWritten, Writes};
@@ -56,8 +56,7 @@ impl<W: Write + Drop, A: Allocator> HeldBack<W, A> {
         ensures text { Writes (contents_with W.contents self.old) (contents_with W.contents self.new) (IsWritten result text.now) }
         ensures first { self.new.first ≡ self.old.first }
     {
-        let len = self.held.len().saturating_add(text.len());
-        if len <= MOST_HELD && self.held.extend_from_slice(text).is_ok() {
+        if self.hold(text) {
             return Ok(());
         }
         self.write_held()?;
@@ -87,6 +86,19 @@ impl<W: Write + Drop, A: Allocator> HeldBack<W, A> {
         } = self;
         let (_count, ended) = write_out(&mut inner, &held[taken..]);
         (inner, ended)
+    }
+
+    /// Holds the text back, where it fits and memory isn't refused.
+    fn hold(&mut self, text: &[u8]) -> bool
+        ensures held { IsTrue result → (self.new.held ≡ self.old.held ++ text.now) × (self.new.inner ≡ self.old.inner) }
+        ensures kept { IsFalse result → self.new ≡ self.old }
+        ensures first { self.new.first ≡ self.old.first }
+    {
+        let len = self.held.len().saturating_add(text.len());
+        if len > MOST_HELD {
+            return false;
+        }
+        self.held.extend_from_slice(text).is_ok()
     }
 
     /// Writes what is held. What a failure leaves unwritten stays held.
