@@ -191,12 +191,6 @@ fn over_landings<'a>(
 
 const ROOT_DROPPED: [Called<'static>; 1] = [(Call::Drop(7, 1), Ok(Done::Dropped(1)))];
 
-/// The lease is given up, and taken again.
-const ROOT_TAKEN_AGAIN: [Called<'static>; 2] = [
-    (Call::Drop(7, 1), Ok(Done::Dropped(1))),
-    (Call::Lease(7, b"/"), Ok(Done::Leased(1))),
-];
-
 /// The last moment of the lease, and the one at which it ends.
 const LAST_MOMENT: [Called<'static>; 1] = [(Call::Tick(99), Ok(Done::Ticked(99)))];
 
@@ -208,11 +202,10 @@ fn verdicts_held_over_calls_for_leases(rt: HostRuntime) {
     let all = [
         create_held(NOTHING, yes(1), &FILE),
         over_calls(&ROOT_DROPPED, rejudged_no(2, unleased), &NO_FILE),
-        over_calls(&ROOT_TAKEN_AGAIN, yes(3), &FILE),
         over_calls(&LAST_MOMENT, yes(2), &FILE),
         over_calls(&ENDED, rejudged_no(2, unleased), &NO_FILE),
     ];
-    assert!(rt; created(rt.alloc(), &all) == Some(5));
+    assert!(rt; created(rt.alloc(), &all) == Some(4));
 }
 
 const SAME_CREATED: [(&[u8], &[u8]); 1] = [(CREATE_LOG, CREATE_PLAN)];
