@@ -2,8 +2,8 @@
 use Rattle.std.proofs.Common.{◌≡◌, ℕ, nat_lt, ◌==◌, ◌&&◌, List, [], ◌∷◌, length, take, Option, Some, None, option_map, refl, sym, ap, ◌∙◌, Bool, true, false, if◌then◌else◌}
 use Rattle.kfs_plan.specs.Judging.{submission_with}
 use Rattle.kfs_model.specs.Steps.{◌>>=◌}
-use Rattle.kfs_command.specs.Command.{Command, Setup, Request, Row, Begin, Lease, Drop, Tick, Submit, Node, Listing, Bytes, DocketLength, asked_by, asked_in, client_of, client_row, command_of, drop_of, kind_named, lease_of, new_of, read_limit, read_of, submit_of, with_number}
-use Rattle.kfs_command.specs.Reading.{begin_of, command_named, docket_of, listing_of, named_by, node_of, tick_of}
+use Rattle.kfs_command.specs.Command.{Command, Setup, Request, Row, Begin, Lease, Drop, Tick, Submit, Node, Listing, Bytes, DocketLength, Judge, Land, asked_by, asked_in, client_of, client_row, command_of, drop_of, judge_of, kind_named, last_worker, lease_of, new_of, read_limit, read_of, submission_in, submit_of, with_number}
+use Rattle.kfs_command.specs.Reading.{begin_of, command_named, docket_of, land_of, listing_of, named_by, node_of, tick_of}
 use Rattle.kfs_text.specs.Cut.{cut, space}
 use Rattle.kfs_text.specs.Decimals.{decimal32, decimal64, decimal_within, decimals32, hexadecimal}
 use Rattle.kfs_text.specs.Reading.{are_words, checked, ended, first_by, only}
@@ -47,6 +47,10 @@ node_steps words = only_steps decimal32 (λ number. Request (Node number)) words
 pub listing_steps : (words : List (List ℕ)) → checked listing_of words ≡ option_map (λ directory. Request (Listing directory)) (only decimal32 words)
 unfolding listing_of
 listing_steps words = only_steps decimal32 (λ directory. Request (Listing directory)) words
+
+pub land_steps : (words : List (List ℕ)) → checked land_of words ≡ (first_by (decimal_within last_worker) words >>= λ x. ended x.1 >>= λ done. Some (Request (Land x.0)))
+unfolding land_of
+land_steps words = number_steps (decimal_within last_worker) (λ worker. Request (Land worker)) words
 
 -- ---- new
 
@@ -107,22 +111,44 @@ docket_then (a ∷ words) = refl
 pub docket_steps : (words : List (List ℕ)) → checked docket_of words ≡ (ended words >>= λ done. Some (Request DocketLength))
 docket_steps words = checked_same _ _ docket_then words ∙ checked_nothing _ words
 
--- ---- submit
+-- ---- submit and judge
 
-submit_then : (words : List (List ℕ)) → submit_of words ≡ word_then decimal32 (λ a. word_then hexadecimal (λ b. word_then hexadecimal (λ c. nothing_then (Some (Request (Submit (submission_with a b c))))))) words
+submission_then : (words : List (List ℕ)) → submission_in words ≡ word_then decimal32 (λ a. word_then hexadecimal (λ b. word_then hexadecimal (λ c. nothing_then (Some (submission_with a b c))))) words
 unfolding ended word_then nothing_then
-submit_then [] = refl
-submit_then (a ∷ []) = bind_none (decimal32 a) _ (λ x. refl)
-submit_then (a ∷ b ∷ []) = bind_none (decimal32 a) _ (λ x. sym (bind_none (hexadecimal b) _ (λ y. refl)))
-submit_then (a ∷ b ∷ c ∷ []) = refl
-submit_then (a ∷ b ∷ c ∷ d ∷ words) = bind_none (decimal32 a) _ (λ x. sym (bind_none (hexadecimal b) _ (λ y. sym (bind_none (hexadecimal c) _ (λ z. refl)))))
+submission_then [] = refl
+submission_then (a ∷ []) = bind_none (decimal32 a) _ (λ x. refl)
+submission_then (a ∷ b ∷ []) = bind_none (decimal32 a) _ (λ x. sym (bind_none (hexadecimal b) _ (λ y. refl)))
+submission_then (a ∷ b ∷ c ∷ []) = refl
+submission_then (a ∷ b ∷ c ∷ d ∷ words) = bind_none (decimal32 a) _ (λ x. sym (bind_none (hexadecimal b) _ (λ y. sym (bind_none (hexadecimal c) _ (λ z. refl)))))
 
-pub submit_steps : (words : List (List ℕ)) → checked submit_of words ≡ (first_by decimal32 words >>= λ x. first_by hexadecimal x.1 >>= λ y. first_by hexadecimal y.1 >>= λ z. ended z.1 >>= λ done. Some (Request (Submit (submission_with x.0 y.0 z.0))))
-submit_steps words =
-    checked_same _ _ submit_then words ∙ checked_then decimal32 _ words
+pub submission_steps : (words : List (List ℕ)) → checked submission_in words ≡ (first_by decimal32 words >>= λ x. first_by hexadecimal x.1 >>= λ y. first_by hexadecimal y.1 >>= λ z. ended z.1 >>= λ done. Some (submission_with x.0 y.0 z.0))
+submission_steps words =
+    checked_same _ _ submission_then words ∙ checked_then decimal32 _ words
     ∙ bind_all (first_by decimal32 words) _ _ (λ x. checked_then hexadecimal _ x.1
     ∙ bind_all (first_by hexadecimal x.1) _ _ (λ y. checked_then hexadecimal _ y.1
     ∙ bind_all (first_by hexadecimal y.1) _ _ (λ z. checked_nothing _ z.1)))
+
+next_if : {X T : Type 0} (are : Bool) (o : Option X) (next : X → Option T) → (if are then (o >>= next) else None) ≡ ((if are then o else None) >>= next)
+next_if true o next = refl
+next_if false o next = refl
+
+-- what is made of a reading of all words
+checked_next : {X T : Type 0} (read : List (List ℕ) → Option X) (next : X → Option T) (words : List (List ℕ)) → checked (λ left. read left >>= next) words ≡ (checked read words >>= next)
+unfolding checked
+checked_next read next words = next_if (are_words words) (read words) next
+
+pub submit_steps : (words : List (List ℕ)) → checked submit_of words ≡ (checked submission_in words >>= λ submission. Some (Request (Submit submission)))
+submit_steps words = checked_next submission_in (λ submission. Some (Request (Submit submission))) words
+
+judge_then : (words : List (List ℕ)) → judge_of words ≡ word_then (decimal_within last_worker) (λ worker left. submission_in left >>= λ submission. Some (Request (Judge worker submission))) words
+unfolding word_then
+judge_then [] = refl
+judge_then (a ∷ words) = refl
+
+pub judge_steps : (words : List (List ℕ)) → checked judge_of words ≡ (first_by (decimal_within last_worker) words >>= λ worker. checked submission_in worker.1 >>= λ submission. Some (Request (Judge worker.0 submission)))
+judge_steps words =
+    checked_same _ _ judge_then words ∙ checked_then (decimal_within last_worker) _ words
+    ∙ bind_all (first_by (decimal_within last_worker) words) _ _ (λ worker. checked_next submission_in (λ submission. Some (Request (Judge worker.0 submission))) worker.1)
 
 -- ---- lease
 
@@ -179,7 +205,7 @@ name_or false name others other words same = same
 
 -- a word's command is that of its name
 pub command_by_name : (word : List ℕ) (name : Option Name) → name ≡ named_by word → (words : List (List ℕ)) → command_of word words ≡ command_named name words
-unfolding begin_of tick_of node_of listing_of docket_of
+unfolding begin_of tick_of node_of listing_of docket_of land_of
 command_by_name word name is words =
     name_or (bytes_eq word (codes "new")) names.New _ _ words
     (name_or (bytes_eq word (codes "client")) names.Client _ _ words
@@ -191,7 +217,9 @@ command_by_name word name is words =
     (name_or (bytes_eq word (codes "node")) names.Node _ _ words
     (name_or (bytes_eq word (codes "list")) names.List _ _ words
     (name_or (bytes_eq word (codes "read")) names.Read _ _ words
-    (name_or (bytes_eq word (codes "docket")) names.Docket None None words refl))))))))))
+    (name_or (bytes_eq word (codes "docket")) names.Docket _ _ words
+    (name_or (bytes_eq word (codes "judge")) names.Judge _ _ words
+    (name_or (bytes_eq word (codes "land")) names.Land None None words refl))))))))))))
     ∙ ap (λ n. command_named n words) (sym is)
 
 -- a word that names nothing begins no command

@@ -29,6 +29,8 @@ pub data DeskCommand : Type 0 where
   Listing : (directory : ℕ) → DeskCommand
   Bytes : (number start count : ℕ) → DeskCommand
   DocketLength : DeskCommand
+  Judge : (worker : ℕ) (submission : Submission) → DeskCommand
+  Land : (worker : ℕ) → DeskCommand
 
 pub data Command : Type 0 where
   Setup : (command : OpeningCommand) → Command
@@ -83,13 +85,30 @@ drop_of (a ∷ b ∷ []) = do
   Some (Request (Drop client number))
 drop_of words = None
 
-abbrev pub submit_of : List (List ℕ) → Option Command
-submit_of (a ∷ b ∷ c ∷ []) = do
+-- a client's number, a log and a plan
+abbrev pub submission_in : List (List ℕ) → Option Submission
+submission_in (a ∷ b ∷ c ∷ []) = do
   client ← decimal32 a
   log ← hexadecimal b
   plan ← hexadecimal c
-  Some (Request (Submit (submission_with client log plan)))
-submit_of words = None
+  Some (submission_with client log plan)
+submission_in words = None
+
+abbrev pub submit_of : List (List ℕ) → Option Command
+submit_of words = do
+  submission ← submission_in words
+  Some (Request (Submit submission))
+
+-- workers are numbered from 0 to this
+abbrev pub last_worker : ℕ
+last_worker = 7
+
+abbrev pub judge_of : List (List ℕ) → Option Command
+judge_of [] = None
+judge_of (a ∷ words) = do
+  worker ← decimal_within last_worker a
+  submission ← submission_in words
+  Some (Request (Judge worker submission))
 
 -- at most this many bytes are asked for at once
 abbrev pub read_limit : ℕ
@@ -128,6 +147,8 @@ command_of name words =
     else if bytes_eq name (codes "list") then with_number decimal32 (λ directory. Request (Listing directory)) words
     else if bytes_eq name (codes "read") then read_of words
     else if bytes_eq name (codes "docket") then alone (Request DocketLength) words
+    else if bytes_eq name (codes "judge") then judge_of words
+    else if bytes_eq name (codes "land") then with_number (decimal_within last_worker) (λ worker. Request (Land worker)) words
     else None
 
 abbrev pub asked_in : List (List ℕ) → Option Command

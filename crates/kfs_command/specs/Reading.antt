@@ -1,9 +1,9 @@
 -- The commands by their names.
 use Rattle.std.specs.Prelude.{ℕ, List, codes, bytes_eq, Option, Some, None, if◌then◌else◌}
-use Rattle.kfs_command.specs.Command.{Command, Setup, Begin, Request, Tick, Node, Listing, DocketLength, alone, client_of, drop_of, lease_of, new_of, read_of, submit_of, with_number}
+use Rattle.kfs_command.specs.Command.{Command, Setup, Begin, Request, Tick, Node, Listing, DocketLength, Land, alone, client_of, drop_of, judge_of, last_worker, lease_of, new_of, read_of, submit_of, with_number}
 use Rattle.kfs_command.specs.declared.command.Name.{Name}
 use Rattle.kfs_command.specs.declared.command.Name.TheVariants as names
-use Rattle.kfs_text.specs.Decimals.{decimal32, decimal64}
+use Rattle.kfs_text.specs.Decimals.{decimal32, decimal64, decimal_within}
 
 -- ---- the commands with one number alone, and each command by its name
 
@@ -22,6 +22,9 @@ listing_of = with_number decimal32 (λ directory. Request (Listing directory))
 unfoldable pub docket_of : List (List ℕ) → Option Command
 docket_of = alone (Request DocketLength)
 
+unfoldable pub land_of : List (List ℕ) → Option Command
+land_of = with_number (decimal_within last_worker) (λ worker. Request (Land worker))
+
 -- the command that a word names
 abbrev pub named_by : (word : List ℕ) → Option Name
 named_by word =
@@ -36,6 +39,8 @@ named_by word =
     else if bytes_eq word (codes "list") then Some names.List
     else if bytes_eq word (codes "read") then Some names.Read
     else if bytes_eq word (codes "docket") then Some names.Docket
+    else if bytes_eq word (codes "judge") then Some names.Judge
+    else if bytes_eq word (codes "land") then Some names.Land
     else None
 
 abbrev pub command_named : Option Name → List (List ℕ) → Option Command
@@ -51,3 +56,5 @@ command_named (Some names.Node) words = node_of words
 command_named (Some names.List) words = listing_of words
 command_named (Some names.Read) words = read_of words
 command_named (Some names.Docket) words = docket_of words
+command_named (Some names.Judge) words = judge_of words
+command_named (Some names.Land) words = land_of words

@@ -29,6 +29,8 @@ module _ {A : Type 0} where
   asked_of_desk (desk.List number) = commands.Listing number
   asked_of_desk (desk.Read number start count) = commands.Bytes number start count
   asked_of_desk desk.Docket = commands.DocketLength
+  asked_of_desk (desk.Judge worker submission) = commands.Judge worker.number (submission_of submission)
+  asked_of_desk (desk.Land worker) = commands.Land worker.number
 
   abbrev pub asked_of : Command A → commands.Command
   asked_of (read.Opening command) = commands.Setup (opening_of command)

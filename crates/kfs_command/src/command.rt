@@ -2,11 +2,13 @@
 ghost use Rattle.std.specs.Prelude.{◌≡◌, ℕ, List, true, false, IfOk, IsErrOf, None, Some};
 ghost use Rattle.kfs_lease_rows.specs.Rows.{kind_of};
 ghost use Rattle.kfs_plan.specs.Judging.{submission_of};
-ghost use Rattle.kfs_command.specs.Command.{Listing as ListingLine, Node as NodeLine, Request, Setup, Submit as SubmitLine, asked_by, client_of, drop_of, kind_named, lease_of, new_of, read_of, submit_of};
-ghost use Rattle.kfs_command.specs.Reading.{begin_of, command_named, docket_of, listing_of, named_by, node_of, tick_of};
+ghost use Rattle.kfs_command.specs.Command.{Listing as ListingLine, Node as NodeLine, Request, Setup, Submit as SubmitLine, asked_by, client_of, drop_of, judge_of, kind_named, last_worker, lease_of, new_of, read_of, submission_in, submit_of};
+ghost use Rattle.kfs_command.specs.Reading.{begin_of, command_named, docket_of, land_of, listing_of, named_by, node_of, tick_of};
 ghost use Rattle.kfs_command.specs.Views.{act_of, asked_of, asked_of_desk, opening_of};
+ghost use Rattle.kfs_text.specs.Decimals.{decimal_within};
 ghost use Rattle.kfs_text.specs.Reading.{ReadsAs, checked, first_by, words_left};
 
+use crate::worker::{LAST_WORKER, Worker};
 use kfs_lease::{Act, LeaseKind};
 use kfs_mode::{Client, ClientFault};
 use kfs_nodes::TierSizes;
@@ -47,9 +49,22 @@ pub enum DeskCommand<'a, A: Allocator> {
     /// `list N`: the names of a directory.
     List(u32),
     /// `read N START LEN`: at most LEN bytes of a file from START on, of which LEN is at most 65,536.
-    Read { number: u32, start: u64, count: u32 },
+    Read {
+        number: u32,
+        start: u64,
+        count: u32,
+    },
     /// `docket`: how many rows the docket has.
     Docket,
+    /// `judge W N LOG PLAN`: a log and its plan, whose verdict the worker holds.
+    Judge {
+        worker: Worker,
+        submission: Submission<A>,
+    },
+    /// `land W`: the verdict that the worker holds.
+    Land {
+        worker: Worker,
+    },
 }
 
 impl<'a, A: Allocator + Copy> Command<'a, A> {
@@ -81,6 +96,8 @@ impl<'a, A: Allocator + Copy> Command<'a, A> {
             Name::List => Ok(Command::Desk(DeskCommand::List(read_list(words)?))),
             Name::Read => Ok(Command::Desk(read_bytes(words)?)),
             Name::Docket => Ok(Command::Desk(read_docket(words)?)),
+            Name::Judge => Ok(Command::Desk(read_judge(alloc, words)?)),
+            Name::Land => Ok(Command::Desk(read_land(words)?)),
         }
     }
 }
@@ -99,6 +116,8 @@ enum Name {
     List,
     Read,
     Docket,
+    Judge,
+    Land,
 }
 
 /// The command that the word names.
@@ -127,6 +146,10 @@ fn name_in(word: &[u8]) -> Option<Name>
         Some(Name::Read)
     } else if word == b"docket".as_slice() {
         Some(Name::Docket)
+    } else if word == b"judge".as_slice() {
+        Some(Name::Judge)
+    } else if word == b"land".as_slice() {
+        Some(Name::Land)
     } else {
         None
     }
@@ -257,9 +280,49 @@ fn read_submit<A: Allocator + Copy>(
 ) -> Result<Submission<A>, Refusal>
     ensures { ReadsAs (λ submission. Request (SubmitLine (submission_of submission))) (checked submit_of (words_left words.old)) result }
 {
+    read_submission(alloc, words)
+}
+
+/// A client's number, a log and a plan.
+#[tactic(auto, using(crate::proofs::Readings::submission_steps))]
+fn read_submission<A: Allocator + Copy>(
+    alloc: A,
+    words: &mut Words<'_>,
+) -> Result<Submission<A>, Refusal>
+    ensures { ReadsAs submission_of (checked submission_in (words_left words.old)) result }
+{
     let client = words.number32()?;
     let log = words.bytes(alloc)?;
     let plan = words.bytes(alloc)?;
     words.end()?;
     Ok(Submission { client, log, plan })
+}
+
+/// The number of a worker.
+fn read_worker(words: &mut Words<'_>) -> Result<Worker, Refusal>
+    ensures { ReadsAs (λ worker. (worker.number, words_left words.new)) (first_by (decimal_within last_worker) (words_left words.old)) result }
+{
+    let number = words.number(LAST_WORKER)?;
+    Ok(Worker::of(number as u8))
+}
+
+#[tactic(auto, using(crate::proofs::Readings::judge_steps))]
+fn read_judge<A: Allocator + Copy>(
+    alloc: A,
+    words: &mut Words<'_>,
+) -> Result<DeskCommand<'static, A>, Refusal>
+    ensures { ReadsAs (λ command. Request (asked_of_desk command)) (checked judge_of (words_left words.old)) result }
+{
+    let worker = read_worker(words)?;
+    let submission = read_submission(alloc, words)?;
+    Ok(DeskCommand::Judge { worker, submission })
+}
+
+#[tactic(auto, using(crate::proofs::Readings::land_steps))]
+fn read_land<A: Allocator>(words: &mut Words<'_>) -> Result<DeskCommand<'static, A>, Refusal>
+    ensures { ReadsAs (λ command. Request (asked_of_desk command)) (checked land_of (words_left words.old)) result }
+{
+    let worker = read_worker(words)?;
+    words.end()?;
+    Ok(DeskCommand::Land { worker })
 }

@@ -4,7 +4,7 @@ ghost use Rattle.std.specs.Prelude.{◌≡◌, [], ◌∷◌, codes, None, Some,
 ghost use Rattle.kfs_model.specs.Lease.{WriteLease};
 ghost use Rattle.kfs_mode.specs.declared.client.ClientFault.TheVariants.{BadGrant};
 ghost use Rattle.kfs_plan.specs.Judging.{submission_with};
-ghost use Rattle.kfs_command.specs.Command.{Begin, Bytes, DocketLength, Drop, Lease, Listing, New, Node, Request, Row, Setup, Submit, Tick, asked_by};
+ghost use Rattle.kfs_command.specs.Command.{Begin, Bytes, DocketLength, Drop, Judge, Land, Lease, Listing, New, Node, Request, Row, Setup, Submit, Tick, asked_by};
 ghost use Rattle.kfs_command.specs.Example.{client_twice_in_group_4};
 
 /// Each command by its words.
@@ -22,6 +22,8 @@ pub fn commands()
     ensures list { asked_by (codes "list 1") ≡ Some (Request (Listing 1)) }
     ensures read { asked_by (codes "read 5 0 65536") ≡ Some (Request (Bytes 5 0 65536)) }
     ensures docket { asked_by (codes "docket") ≡ Some (Request DocketLength) }
+    ensures judge { asked_by (codes "judge 7 8 0aFf -") ≡ Some (Request (Judge 7 (submission_with 8 (10 ∷ 255 ∷ []) []))) }
+    ensures land { asked_by (codes "land 00") ≡ Some (Request (Land 0)) }
 {}
 
 /// What is no command: an empty word, a word too many or too few, a number out of its range or with a sign, text that is not
@@ -41,4 +43,6 @@ pub fn bad_lines()
     ensures odd { asked_by (codes "submit 7 0 -") ≡ None }
     ensures name { asked_by (codes "nodes 5") ≡ None }
     ensures read_too_long { asked_by (codes "read 5 0 65537") ≡ None }
+    ensures no_such_worker { asked_by (codes "land 8") ≡ None }
+    ensures judge_without_a_worker { asked_by (codes "judge 7 - -") ≡ None }
 {}

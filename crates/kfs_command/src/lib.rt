@@ -3,5 +3,7 @@
 
 mod command;
 pub mod examples;
+mod worker;
 
 pub use command::{Command, DeskCommand, OpeningCommand};
+pub use worker::Worker;

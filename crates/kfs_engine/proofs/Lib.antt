@@ -1,3 +1,4 @@
 -- Lemmas on sessions.
 pub mod Conversations
+pub mod Held
 pub mod Listed

@@ -1,5 +1,5 @@
 -- The desk of the worked sessions: a new image of three tiers of eight blocks, and client 7.
-use Rattle.std.specs.Prelude.{ℕ, List, [], ◌∷◌, codes, Some}
+use Rattle.std.specs.Prelude.{ℕ, List, [], ◌∷◌, codes, None, Some}
 use Rattle.kfs_model.specs.Access.{Client}
 use Rattle.kfs_examples.specs.Example.{client_7}
 use Rattle.kfs_model.specs.Lease.{WriteLease}
@@ -10,6 +10,7 @@ use Rattle.kfs_model.specs.Tree.{NameTable}
 use Rattle.kfs_device.specs.ShownTree.{shown_tree}
 use Rattle.kfs_image.specs.Image.{fresh_image}
 use Rattle.kfs_desk.specs.Machine.{Desk, opened_at}
+use Rattle.kfs_engine.specs.Hands.{Hands, no_verdict, with_held}
 use Rattle.kfs_engine.specs.Session.{Start}
 
 -- the sizes of its tiers
@@ -37,6 +38,13 @@ root_leased = record desk_of_7 {
   docket = root_row ∷ [];
   state = record desk_of_7.state { leases = record { rows = insert empty (7, 1) (record { kind = WriteLease; end = 100 }); moment = 0 } };
 }
+
+-- a docket without a row, and a worker who holds a verdict on no byte
+abbrev pub full_docket : Desk
+full_docket = desk_with [] 0
+
+abbrev pub held_by_3 : Hands
+held_by_3 = with_held no_verdict 3 (Some (record { submission = record { client = 7; log = []; plan = [] }; client = None; reads = [] }))
 
 -- ---- values of single lines
 

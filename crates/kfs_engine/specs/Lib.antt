@@ -1,6 +1,8 @@
 pub mod Bytes
 pub mod Conversation
 pub mod Example
+pub mod Hands
+pub mod Holding
 pub mod Listing
 pub mod Progress
 pub mod Session

@@ -1,5 +1,5 @@
 -- A session: what each line is answered, and what it leaves.
-use Rattle.std.specs.Prelude.{◌≡◌, ◌≢◌, ◌⊎◌, ℕ, List, [], ◌∷◌, ◌++◌, length, codes, decimal, false, Option, Some, None, Result, Ok, Err, if◌then◌else◌}
+use Rattle.std.specs.Prelude.{◌≡◌, ◌≢◌, ◌⊎◌, ◌↔◌, ℕ, Bool, List, [], ◌∷◌, ◌++◌, length, codes, decimal, false, IsFalse, Option, Some, None, Result, Ok, Err, if◌then◌else◌}
 use Rattle.kfs_model.specs.Access.{Client}
 use Rattle.kfs_model.specs.Table.{get}
 use Rattle.kfs_model.specs.Tree.{headers}
@@ -19,8 +19,9 @@ use Rattle.kfs_plan.specs.declared.answers.BeginFault.{BeginFault}
 use Rattle.kfs_plan.specs.declared.answers.Done.{Done}
 use Rattle.kfs_plan.specs.declared.answers.Done.TheVariants.{Leased, Dropped, Ticked}
 use Rattle.kfs_plan.specs.declared.answers.Reply.{Reply}
-use Rattle.kfs_command.specs.Command.{Command, Setup, Request, OpeningCommand, New, Row, Begin, DeskCommand, Lease, Drop, Tick, Submit, Node, Listing, Bytes, DocketLength, asked_by}
+use Rattle.kfs_command.specs.Command.{Command, Setup, Request, OpeningCommand, New, Row, Begin, DeskCommand, Lease, Drop, Tick, Submit, Node, Listing, Bytes, DocketLength, Judge, Land, asked_by}
 use Rattle.kfs_engine.specs.Bytes.{read_text}
+use Rattle.kfs_engine.specs.Hands.{Hands, IsUpToDate, IsVerdictOn, HeldVerdict, held_by, no_verdict, with_held}
 use Rattle.kfs_engine.specs.Listing.{list_text}
 use Rattle.kfs_report.specs.Text.{act_text, begin_text, client_text, node_text, reply_text}
 use Rattle.kfs_text.specs.Parts.{line_of}
@@ -30,10 +31,10 @@ pub record Start : Type 0 where
   pub image : Option DeviceImage
   pub clients : List Client
 
--- before the desk is begun, and after
+-- before the desk is begun, and after: the desk, and what the workers hold
 pub data Stage : Type 0 where
   Before : (start : Start) → Stage
-  After : (desk : Desk) → Stage
+  After : (desk : Desk) (hands : Hands) → Stage
 
 -- neither an image nor a client
 abbrev pub fresh : Stage
@@ -43,19 +44,23 @@ fresh = Before (record { image = None; clients = [] })
 abbrev pub LineOutcome : Type 0
 LineOutcome = List ℕ × Stage
 
--- a text is appended that, with this stage, is such an outcome
-abbrev pub IsReplied : (LineOutcome → Type 0) → (before after : List ℕ) → Stage → Type 0
-IsReplied Holds before after stage = (text : List ℕ) × (after ≡ before ++ text) × Holds (text, stage)
+-- a reply of the desk, and the desk after it
+abbrev pub DeskOutcome : Type 0
+DeskOutcome = List ℕ × Desk
 
--- this line, and the stage as it was
-abbrev pub IsSaid : (text : List ℕ) → Stage → LineOutcome → Type 0
+-- a text is appended that, with what it leaves, is such an outcome
+abbrev pub IsReplied : {S : Type 0} → (List ℕ × S → Type 0) → (before after : List ℕ) → S → Type 0
+IsReplied Holds before after s = (text : List ℕ) × (after ≡ before ++ text) × Holds (text, s)
+
+-- this line, which leaves this
+abbrev pub IsSaid : {S : Type 0} → (text : List ℕ) → S → List ℕ × S → Type 0
 IsSaid text s outcome = outcome ≡ (line_of text, s)
 
 -- ---- before the desk is begun
 
 -- the desk, or the fault of the clients: the image stays then, and they are forgotten
 abbrev pub begun : DeviceImage → List Client → (limit : ℕ) → Option BeginFault → LineOutcome
-begun image clients limit None = (line_of (codes "ok"), After (opened_at (opening clients image.sizes (shown_tree image) image.placement) limit))
+begun image clients limit None = (line_of (codes "ok"), After (opened_at (opening clients image.sizes (shown_tree image) image.placement) limit) no_verdict)
 begun image clients limit (Some fault) = (line_of (codes "begin " ++ begin_text fault), Before (record { image = Some image; clients = [] }))
 
 -- without an image there is no desk
@@ -75,39 +80,45 @@ opened start (Begin limit) = begun_over start.image start.clients limit
 -- ---- calls of the desk
 
 -- the docket has as many rows as its limit
-abbrev pub IsFull : Desk → LineOutcome → Type 0
-IsFull desk outcome = (length desk.docket ≡ desk.limit) × IsSaid (codes "full") (After desk) outcome
+abbrev pub IsFull : Desk → DeskOutcome → Type 0
+IsFull desk outcome = (length desk.docket ≡ desk.limit) × IsSaid (codes "full") desk outcome
 
 -- the machine's step of the call, told in these words, with the docket's next row
-pub record IsCalled (desk : Desk) (call : machine.Call) (words : ℕ → Done) (outcome : LineOutcome) : Type 0 where
+pub record IsCalled (desk : Desk) (call : machine.Call) (words : ℕ → Done) (outcome : DeskOutcome) : Type 0 where
   pub answer : ActReply
   pub next : Desk
   pub below : length desk.docket ≢ desk.limit
   pub acted : IsActed desk call words answer next
-  pub is : outcome ≡ (line_of (act_text answer), After next)
+  pub is : outcome ≡ (line_of (act_text answer), next)
 
 -- a full docket answers no call
-abbrev pub IsCallAnswered : Desk → machine.Call → (ℕ → Done) → LineOutcome → Type 0
+abbrev pub IsCallAnswered : Desk → machine.Call → (ℕ → Done) → DeskOutcome → Type 0
 IsCallAnswered desk call words outcome = IsFull desk outcome ⊎ IsCalled desk call words outcome
 
--- the submission is answered: the desk's reply to it
-pub record IsSubmitted (desk : Desk) (submission : Submission) (outcome : LineOutcome) : Type 0 where
+-- the submission is answered, judged again or not: the desk's reply to it
+pub record IsSubmitted (desk : Desk) (submission : Submission) (again : Bool) (outcome : DeskOutcome) : Type 0 where
   pub answer : Reply
   pub next : Desk
   pub below : length desk.docket ≢ desk.limit
-  pub answered : IsAnswered desk submission false answer next
-  pub is : outcome ≡ (line_of (reply_text answer), After next)
+  pub answered : IsAnswered desk submission again answer next
+  pub is : outcome ≡ (line_of (reply_text answer), next)
+
+abbrev pub IsSubmissionAnswered : Desk → Submission → DeskOutcome → Type 0
+IsSubmissionAnswered desk submission outcome = IsFull desk outcome ⊎ IsSubmitted desk submission false outcome
 
 -- ---- looks
 
 -- the node's line
-pub record IsNode (desk : Desk) (number : ℕ) (outcome : LineOutcome) : Type 0 where
+pub record IsNode (desk : Desk) (number : ℕ) (outcome : DeskOutcome) : Type 0 where
   pub header : CodeHeader
   pub shown : get (headers desk.state.tree) number ≡ Some (header_of header)
-  pub is : IsSaid (node_text number header) (After desk) outcome
+  pub is : IsSaid (node_text number header) desk outcome
 
-abbrev pub IsNone : Desk → (number : ℕ) → LineOutcome → Type 0
-IsNone desk number outcome = (get (headers desk.state.tree) number ≡ None) × IsSaid (codes "none") (After desk) outcome
+abbrev pub IsNone : Desk → (number : ℕ) → DeskOutcome → Type 0
+IsNone desk number outcome = (get (headers desk.state.tree) number ≡ None) × IsSaid (codes "none") desk outcome
+
+abbrev pub IsNodeShown : Desk → (number : ℕ) → DeskOutcome → Type 0
+IsNodeShown desk number outcome = IsNone desk number outcome ⊎ IsNode desk number outcome
 
 -- the line of its names, where it is a directory
 abbrev pub names_line : Desk → (directory : ℕ) → List ℕ
@@ -117,25 +128,54 @@ names_line desk directory = if is_directory (get (headers desk.state.tree) direc
 abbrev pub docket_line : Desk → List ℕ
 docket_line desk = codes "docket " ++ decimal (length desk.docket)
 
+-- ---- verdicts that are held
+
+-- the desk's outcome, and then the workers hold this
+abbrev pub WithHands : Hands → (DeskOutcome → Type 0) → LineOutcome → Type 0
+WithHands hands Holds outcome = (said : DeskOutcome) × Holds said × (outcome ≡ (said.0, After said.1 hands))
+
+-- the worker, who holds no verdict, holds one on the submission then, and the desk is as it was; with a full hand it is a bad line
+abbrev pub Judges : Desk → Hands → (worker : ℕ) → (held : Option HeldVerdict) → Submission → LineOutcome → Type 0
+Judges desk hands worker (Some verdict) submission outcome = IsSaid (codes "bad line") (After desk hands) outcome
+Judges desk hands worker None submission outcome =
+    (verdict : HeldVerdict) × IsVerdictOn desk.state submission verdict × IsSaid (codes "judged " ++ decimal worker) (After desk (with_held hands worker (Some verdict))) outcome
+
+-- the verdict's submission is answered, judged again exactly where the verdict isn't up to date
+pub record IsLanded (desk : Desk) (verdict : HeldVerdict) (outcome : DeskOutcome) : Type 0 where
+  pub again : Bool
+  pub why : IsFalse again ↔ IsUpToDate desk.state verdict
+  pub submitted : IsSubmitted desk verdict.submission again outcome
+
+-- the docket is full, or the verdict is landed, or there is want of memory, which leaves the desk
+abbrev pub IsLandingAnswered : Desk → HeldVerdict → DeskOutcome → Type 0
+IsLandingAnswered desk verdict outcome = IsFull desk outcome ⊎ (IsLanded desk verdict outcome ⊎ IsSaid (codes "memory") desk outcome)
+
+-- whatever comes of the verdict that the worker holds, it holds none then; with an empty hand it is a bad line
+abbrev pub Lands : Desk → Hands → (worker : ℕ) → (held : Option HeldVerdict) → LineOutcome → Type 0
+Lands desk hands worker None outcome = IsSaid (codes "bad line") (After desk hands) outcome
+Lands desk hands worker (Some verdict) outcome = WithHands (with_held hands worker None) (IsLandingAnswered desk verdict) outcome
+
 -- ---- lines
 
--- a command to the desk
-abbrev pub Serves : Desk → DeskCommand → LineOutcome → Type 0
-Serves desk (Lease client path kind end) outcome = IsCallAnswered desk (machine.Lease client path kind end) Leased outcome
-Serves desk (Drop client number) outcome = IsCallAnswered desk (machine.Drop client number) Dropped outcome
-Serves desk (Tick moment) outcome = IsCallAnswered desk (machine.Tick moment) Ticked outcome
-Serves desk (Submit submission) outcome = IsFull desk outcome ⊎ IsSubmitted desk submission outcome
-Serves desk (Node number) outcome = IsNone desk number outcome ⊎ IsNode desk number outcome
-Serves desk (Listing directory) outcome = IsSaid (names_line desk directory) (After desk) outcome
-Serves desk (Bytes number start count) outcome = IsSaid (read_text desk.state.tree number start count) (After desk) outcome
-Serves desk DocketLength outcome = IsSaid (docket_line desk) (After desk) outcome
+-- a command after the desk is begun
+abbrev pub Serves : Desk → Hands → DeskCommand → LineOutcome → Type 0
+Serves desk hands (Lease client path kind end) outcome = WithHands hands (IsCallAnswered desk (machine.Lease client path kind end) Leased) outcome
+Serves desk hands (Drop client number) outcome = WithHands hands (IsCallAnswered desk (machine.Drop client number) Dropped) outcome
+Serves desk hands (Tick moment) outcome = WithHands hands (IsCallAnswered desk (machine.Tick moment) Ticked) outcome
+Serves desk hands (Submit submission) outcome = WithHands hands (IsSubmissionAnswered desk submission) outcome
+Serves desk hands (Node number) outcome = WithHands hands (IsNodeShown desk number) outcome
+Serves desk hands (Listing directory) outcome = WithHands hands (IsSaid (names_line desk directory) desk) outcome
+Serves desk hands (Bytes number start count) outcome = WithHands hands (IsSaid (read_text desk.state.tree number start count) desk) outcome
+Serves desk hands DocketLength outcome = WithHands hands (IsSaid (docket_line desk) desk) outcome
+Serves desk hands (Judge worker submission) outcome = Judges desk hands worker (held_by hands worker) submission outcome
+Serves desk hands (Land worker) outcome = Lands desk hands worker (held_by hands worker) outcome
 
 -- a command where it is due
 abbrev pub Does : Stage → Command → LineOutcome → Type 0
 Does (Before start) (Setup command) outcome = outcome ≡ opened start command
 Does (Before start) (Request command) outcome = IsSaid (codes "bad line") (Before start) outcome
-Does (After desk) (Setup command) outcome = IsSaid (codes "bad line") (After desk) outcome
-Does (After desk) (Request command) outcome = Serves desk command outcome
+Does (After desk hands) (Setup command) outcome = IsSaid (codes "bad line") (After desk hands) outcome
+Does (After desk hands) (Request command) outcome = Serves desk hands command outcome
 
 -- what the line asks for is done, where it is a command
 abbrev pub Obeys : Stage → Option Command → LineOutcome → Type 0

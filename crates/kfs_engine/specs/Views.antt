@@ -1,7 +1,8 @@
 -- What the parts of a session are in the definitions.
-use Rattle.std.specs.Prelude.{◌≡◌, ℕ, List, codes, Option, None, Some}
+use Rattle.std.specs.Prelude.{◌≡◌, ◌⊎◌, ℕ, List, codes, Option, None, Some}
 use Rattle.kfs_desk.specs.Machine.{Desk}
 use Rattle.kfs_command.specs.Command as commands
+use Rattle.kfs_engine.specs.Hands.{no_verdict}
 use Rattle.kfs_engine.specs.Session.{Does, IsReplied, LineOutcome, Stage, Start, Before, After, opened}
 use Rattle.kfs_text.specs.Parts.{line_of}
 use Rattle.kfs_engine.specs.declared.opening.Opening.{Opening}
@@ -19,15 +20,19 @@ module _ {A : Type 0} where
 
   abbrev pub stage_in : CodeStage A → Stage
   stage_in (stages.Before opening) = Before (start_of opening)
-  stage_in (stages.After desk) = After desk
+  stage_in (stages.After desk hands) = After desk hands
 
   abbrev pub stage_of : Session A → Stage
   stage_of session = stage_in session.stage
 
+-- for want of memory the stage is as it was, or what the command leaves then
+abbrev pub IsUndone : (before : Stage) → commands.Command → (after : Stage) → Type 0
+IsUndone before command after = (after ≡ before) ⊎ Does before command (line_of (codes "memory"), after)
+
 -- before the desk is begun, or at the desk that has come of it
 abbrev pub stage_after : Option Desk → Start → Stage
 stage_after None start = Before start
-stage_after (Some desk) start = After desk
+stage_after (Some desk) start = After desk no_verdict
 
 module _ {A : Type 0} where
   -- the command is done, with a reply behind this text and, where there is one, a desk

@@ -5,7 +5,8 @@ ghost use Rattle.kfs_examples.specs.Example.{client_7, client_8};
 ghost use Rattle.kfs_mode.specs.declared.client.ClientFault.TheVariants.{TooManyGroups};
 ghost use Rattle.kfs_command.specs.Command.{Begin, New, Row};
 ghost use Rattle.kfs_engine.specs.Conversation.{BreaksOff};
-ghost use Rattle.kfs_engine.specs.Example.{desk_of_7, desk_with, eight_blocks_each, names_of_two_directories, opening_with, root_leased};
+ghost use Rattle.kfs_engine.specs.Example.{desk_of_7, desk_with, eight_blocks_each, full_docket, held_by_3, names_of_two_directories, opening_with, root_leased};
+ghost use Rattle.kfs_engine.specs.Hands.{no_verdict};
 ghost use Rattle.kfs_engine.specs.Listing.{list_text};
 ghost use Rattle.kfs_engine.specs.Session.{After, Before, Runs, fresh, opened};
 ghost use Rattle.kfs_text.specs.Cut.{lines_of};
@@ -26,7 +27,7 @@ pub fn openings()
     ensures without_image { opened (record { image = None; clients = [] }) (Begin 100) ≡ (codes "bad line\n", fresh) }
     ensures refused { opened (record { image = None; clients = [] }) (Row (Err TooManyGroups)) ≡ (codes "client TooManyGroups\n", fresh) }
     ensures twice { opened (opening_with (client_7 ∷ client_8 ∷ client_7 ∷ client_7 ∷ [])) (Begin 3) ≡ (codes "begin ClientTwice(2)\n", Before (opening_with [])) }
-    ensures begun { opened (opening_with []) (Begin 3) ≡ (codes "ok\n", After (desk_with [] 3)) }
+    ensures begun { opened (opening_with []) (Begin 3) ≡ (codes "ok\n", After (desk_with [] 3) no_verdict) }
 {}
 
 /// The names of the root, and none of another directory.
@@ -37,7 +38,12 @@ pub fn lists()
 
 /// A lease on the root, and the root's line then: a directory has one link and size 0.
 pub fn node_after_a_lease()
-    ensures { Runs (After desk_of_7) (codes "lease 7 / w 100" ∷ codes "node 1" ∷ []) (codes "0 leased 1\nnode 1 dir 0777 0 0 1 0\n") (After root_leased) }
+    ensures { Runs (After desk_of_7 no_verdict) (codes "lease 7 / w 100" ∷ codes "node 1" ∷ []) (codes "0 leased 1\nnode 1 dir 0777 0 0 1 0\n") (After root_leased no_verdict) }
+{}
+
+/// At a full docket no verdict is landed, and the worker holds none then.
+pub fn verdict_at_a_full_docket()
+    ensures { Runs (After full_docket held_by_3) (codes "land 3" ∷ codes "land 3" ∷ []) (codes "full\nbad line\n") (After full_docket no_verdict) }
 {}
 
 /// A reader that gave one line with its end, and a writer that failed behind the reply: there is no further line.

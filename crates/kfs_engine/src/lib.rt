@@ -10,9 +10,11 @@ mod bytes;
 mod conversation;
 pub mod examples;
 mod fault;
+mod hands;
 mod listing;
 mod opening;
 mod session;
+mod verdicts;
 
 use conversation::Conversation;
 pub use fault::EngineFault;

@@ -6,15 +6,17 @@ ghost use Rattle.kfs_value.specs.Views.{header_of};
 ghost use Rattle.kfs_plan.specs.Judging.{submission_of};
 ghost use Rattle.kfs_desk.specs.Machine.{call_of, done_by};
 ghost use Rattle.kfs_command.specs.Command as commands;
-ghost use Rattle.kfs_engine.specs.Session.{After, Answers, IsCallAnswered, IsReplied, Serves, docket_line, fresh, names_line};
+ghost use Rattle.kfs_engine.specs.Session.{After, Answers, IsCallAnswered, IsNodeShown, IsReplied, IsSubmissionAnswered, Serves, docket_line, fresh, names_line};
 ghost use Rattle.kfs_command.specs.Views.{asked_of_desk, opening_of};
-ghost use Rattle.kfs_engine.specs.Views.{IsDone, IsOutOfPlace, stage_of};
+ghost use Rattle.kfs_engine.specs.Views.{IsDone, IsOutOfPlace, IsUndone, stage_of};
 ghost use Rattle.kfs_text.specs.Parts.{line_of};
 ghost use Rattle.kfs_value.specs.Room.{spare_of};
 
 use crate::bytes::bytes_line;
+use crate::hands::Hands;
 use crate::listing::list_line;
 use crate::opening::Opening;
+use crate::verdicts::{judge_for, land_for};
 use kfs_command::{Command, DeskCommand, OpeningCommand};
 use kfs_desk::Desk;
 use kfs_nodes::{Answer, Cell, Header, Kind, look};
@@ -25,7 +27,7 @@ use kfs_text::Refusal;
 use kfs_text::parts::{number, text};
 use std::alloc::Allocator;
 
-/// What lines were answered before: the desk, or what it is begun with.
+/// What lines were answered before: the desk and the workers' verdicts, or what a desk is begun with.
 #[derive(Drop)]
 pub struct Session<A: Allocator> {
     alloc: A,
@@ -35,7 +37,7 @@ pub struct Session<A: Allocator> {
 #[derive(Drop)]
 enum Stage<A: Allocator> {
     Before(Opening<A>),
-    After(Desk<A>),
+    After(Desk<A>, Hands<A>),
 }
 
 impl<A: Allocator + Copy> Session<A> {
@@ -50,12 +52,12 @@ impl<A: Allocator + Copy> Session<A> {
     }
 
     /// Answers a line: appends its reply, which has room for 128 bytes. A refusal leaves the state
-    /// as it was.
+    /// as it was, but for a verdict that was to be landed: without memory it is given up.
     pub fn answer(&mut self, line: &[u8], reply: &mut Vec<u8, A>) -> Result<(), Refusal>
         requires { 128 ≤ spare_of reply.old }
         ensures ok { OnOk result (IsReplied (Answers (stage_of self.old) line.now) reply.old.items reply.new.items (stage_of self.new)) }
         ensures bad { IsErrOf result Refusal.BadLine → Answers (stage_of self.old) line.now (line_of (codes "bad line"), stage_of self.new) }
-        ensures memory { IsErrOf result Refusal.OutOfMemory → stage_of self.new ≡ stage_of self.old }
+        ensures memory { IsErrOf result Refusal.OutOfMemory → Answers (stage_of self.old) line.now (line_of (codes "memory"), stage_of self.new) }
     {
         match Command::read(self.alloc, line)? {
             Command::Opening(command) => self.answer_before(command, reply),
@@ -76,12 +78,13 @@ impl<A: Allocator + Copy> Session<A> {
     {
         match &mut self.stage {
             Stage::Before(opening) => {
+                let hands = Hands::new(self.alloc)?;
                 if let Some(desk) = opening.answer(command, reply)? {
-                    self.stage = Stage::After(desk);
+                    self.stage = Stage::After(desk, hands);
                 }
                 Ok(())
             }
-            Stage::After(_) => Err(Refusal::BadLine),
+            Stage::After(_, _) => Err(Refusal::BadLine),
         }
     }
 
@@ -94,25 +97,27 @@ impl<A: Allocator + Copy> Session<A> {
         requires { 128 ≤ spare_of reply.old }
         ensures ok { OnOk result (IsDone self.old (commands.Request (asked_of_desk command.entry)) reply.old.items reply.new.items self.new) }
         ensures bad { IsErrOf result Refusal.BadLine → IsOutOfPlace self.old (commands.Request (asked_of_desk command.entry)) self.new }
-        ensures memory { IsErrOf result Refusal.OutOfMemory → stage_of self.new ≡ stage_of self.old }
+        ensures memory { IsErrOf result Refusal.OutOfMemory → IsUndone (stage_of self.old) (commands.Request (asked_of_desk command.entry)) (stage_of self.new) }
     {
         match &mut self.stage {
             Stage::Before(_) => Err(Refusal::BadLine),
-            Stage::After(desk) => answer_by_desk(self.alloc, desk, command, reply),
+            Stage::After(desk, hands) => answer_due(self.alloc, desk, hands, command, reply),
         }
     }
 }
 
-/// Answers a command to the desk.
-fn answer_by_desk<A: Allocator + Copy>(
+/// Answers a command after the desk is begun.
+fn answer_due<A: Allocator + Copy>(
     alloc: A,
     desk: &mut Desk<A>,
+    hands: &mut Hands<A>,
     command: DeskCommand<'_, A>,
     reply: &mut Vec<u8, A>,
 ) -> Result<(), Refusal>
     requires { 128 ≤ spare_of reply.old }
-    ensures ok { OnOk result (IsReplied (Serves desk.old (asked_of_desk command.entry)) reply.old.items reply.new.items (After desk.new)) }
-    ensures err { IfErr result (λ why. (why ≡ Refusal.OutOfMemory) × (desk.new ≡ desk.old)) }
+    ensures ok { OnOk result (IsReplied (Serves desk.old hands.old (asked_of_desk command.entry)) reply.old.items reply.new.items (After desk.new hands.new)) }
+    ensures bad { IsErrOf result Refusal.BadLine → Serves desk.old hands.old (asked_of_desk command.entry) (line_of (codes "bad line"), After desk.new hands.new) }
+    ensures memory { IsErrOf result Refusal.OutOfMemory → IsUndone (After desk.old hands.old) (commands.Request (asked_of_desk command.entry)) (After desk.new hands.new) }
 {
     match command {
         DeskCommand::Act(act) => make_call(desk, act, reply),
@@ -128,6 +133,10 @@ fn answer_by_desk<A: Allocator + Copy>(
             show_docket(desk, reply);
             Ok(())
         }
+        DeskCommand::Judge { worker, submission } => {
+            judge_for(alloc, desk, hands, worker, submission, reply)
+        }
+        DeskCommand::Land { worker } => land_for(desk, hands, worker, reply),
     }
 }
 
@@ -138,7 +147,7 @@ fn make_call<A: Allocator + Copy>(
     reply: &mut Vec<u8, A>,
 ) -> Result<(), Refusal>
     requires { 128 ≤ spare_of reply.old }
-    ensures ok { OnOk result (IsReplied (IsCallAnswered desk.old (call_of act.entry) (done_by act.entry)) reply.old.items reply.new.items (After desk.new)) }
+    ensures ok { OnOk result (IsReplied (IsCallAnswered desk.old (call_of act.entry) (done_by act.entry)) reply.old.items reply.new.items desk.new) }
     ensures err { IfErr result (λ why. (why ≡ Refusal.OutOfMemory) × (desk.new ≡ desk.old)) }
 {
     match desk.act(act) {
@@ -155,7 +164,7 @@ fn hand_in<A: Allocator + Copy>(
     reply: &mut Vec<u8, A>,
 ) -> Result<(), Refusal>
     requires { 128 ≤ spare_of reply.old }
-    ensures ok { OnOk result (IsReplied (Serves desk.old (commands.Submit (submission_of submission))) reply.old.items reply.new.items (After desk.new)) }
+    ensures ok { OnOk result (IsReplied (IsSubmissionAnswered desk.old (submission_of submission)) reply.old.items reply.new.items desk.new) }
     ensures err { IfErr result (λ why. (why ≡ Refusal.OutOfMemory) × (desk.new ≡ desk.old)) }
 {
     match desk.submit(submission) {
@@ -184,7 +193,7 @@ fn show_node<A: Allocator + Copy>(
     reply: &mut Vec<u8, A>,
 ) -> Result<(), Refusal>
     requires { 128 ≤ spare_of reply.old }
-    ensures ok { OnOk result (IsReplied (Serves desk.now (commands.Node number)) reply.old.items reply.new.items (After desk.now)) }
+    ensures ok { OnOk result (IsReplied (IsNodeShown desk.now number) reply.old.items reply.new.items desk.now) }
     ensures err { OnErr result ⊥ }
 {
     match header_of_node(desk, number) {

@@ -10,6 +10,7 @@ use Rattle.kfs_plan.specs.declared.answers.Done.TheVariants.{Leased}
 use Rattle.kfs_text.specs.Cut.{cut}
 use Rattle.kfs_text.specs.Decimals.{decimals32}
 use Rattle.kfs_engine.specs.Example.{root_leased, root_row}
+use Rattle.kfs_engine.specs.Hands.{no_verdict}
 use Rattle.kfs_engine.specs.Session.{After}
 use Rattle.kfs_engine.proofs.examples.node_after_a_lease.Goals as goal
 
@@ -20,20 +21,28 @@ pub returns : goal.returns
 unfolding shown_line computing changed ℕ_discrete digits cut decimals32
 returns c = (
   codes "0 leased 1\n",
-  After root_leased,
+  After root_leased no_verdict,
   shown_line,
-  inr (inl (inr (record {
-    answer = record { position = 0; answer = Ok (Leased 1) };
-    next = root_leased;
-    below = λ full. cc;
-    acted = record { row = root_row; step = record { outcome = Ok 1; said = refl; asked = refl; answered = refl; fits = refl }; position = refl; docket = refl; opening = refl; limit = refl };
-    is = refl;
-  }))),
+  inr (inl (
+    (codes "0 leased 1\n", root_leased),
+    inr (record {
+      answer = record { position = 0; answer = Ok (Leased 1) };
+      next = root_leased;
+      below = λ full. cc;
+      acted = record { row = root_row; step = record { outcome = Ok 1; said = refl; asked = refl; answered = refl; fits = refl }; position = refl; docket = refl; opening = refl; limit = refl };
+      is = refl;
+    }),
+    refl,
+  )),
   (
     shown_line,
-    After root_leased,
+    After root_leased no_verdict,
     [],
-    inr (inl (inr (record { header = record { kind = Directory; mode = 511; uid = 0; gid = 0; links = 1; size = 0 }; shown = refl; is = refl }))),
+    inr (inl (
+      (shown_line, root_leased),
+      inr (record { header = record { kind = Directory; mode = 511; uid = 0; gid = 0; links = 1; size = 0 }; shown = refl; is = refl }),
+      refl,
+    )),
     (refl, refl),
     refl,
   ),

@@ -1,0 +1,29 @@
+//! The workers, each with a hand for one verdict.
+ghost use Rattle.std.specs.Prelude.{◌≡◌, ◌≤◌};
+
+/// The number of the last worker.
+pub(crate) const LAST_WORKER: u64 = 7;
+
+/// The number of a worker: 0 to 7.
+#[derive(Clone, Copy)]
+pub struct Worker {
+    number: u8,
+    ghost within: { number ≤ 7 },
+}
+
+impl Worker {
+    /// The worker of this number.
+    pub(crate) fn of(number: u8) -> Worker
+        requires { number ≤ 7 }
+        ensures { result.number ≡ number }
+    {
+        Worker { number }
+    }
+
+    pub fn number(self) -> usize
+        ensures value { result ≡ self.number }
+        ensures within { result ≤ 7 }
+    {
+        usize::from(self.number)
+    }
+}

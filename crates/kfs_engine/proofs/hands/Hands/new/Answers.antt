@@ -1,0 +1,9 @@
+use Rattle.std.proofs.Common.{◌≡◌, ◌∙◌, ap, arith, length, replicate, None}
+use Rattle.kfs_engine.specs.Holding.{hands_of}
+use Rattle.kfs_engine.proofs.hands.Hands.new.Goals as goal
+
+pub invariant_of-result : goal.invariant_of-result
+invariant_of-result g c = ap length (c.loop.invariant ∙ ap (λ n. replicate n None) {x = c.loop.counter} {y = 8} (omega (arith, c.loop-test.false, c.loop.auto)))
+
+pub returns : goal.returns
+returns g c = ap hands_of (c.loop.invariant ∙ ap (λ n. replicate n None) {x = c.loop.counter} {y = 8} (omega (arith, c.loop-test.false, c.loop.auto)))
