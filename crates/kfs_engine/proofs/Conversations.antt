@@ -1,7 +1,7 @@
 -- How a conversation goes on.
 use Rattle.std.proofs.Common.{◌≡◌, ◌≢◌, ℕ, List, [], ◌∷◌, ◌++◌, refl, sym, ap, ◌∙◌, append_assoc, append-nil, subst, Result, Ok, Err, IfErr, MatchResult, arith}
 use Rattle.std.specs.List.{AllByRecursion}
-use Rattle.kfs_engine.specs.Conversation.{IsSession, IsShort}
+use Rattle.kfs_engine.specs.Conversation.{IsSession, IsShort, IsText}
 use Rattle.kfs_text.specs.Cut.{cut, line_end, lines_in, lines_of}
 use Rattle.kfs_engine.specs.Progress.{IsStopped, IsTaken, Stands}
 use Rattle.kfs_engine.specs.Session.{Answers, Runs, Stage, fresh}
@@ -197,3 +197,21 @@ unfolding cut
 nothing-read T fault is =
     let P : EngineFault → Type 0 = λ f. IsSession {T = T} (Err f) [] [] in
     subst P (sym is) ([], [], record { lines = []; parts = refl; answered = (fresh, (refl, refl), tt) })
+
+-- the writer fails behind all lines that were answered, before the bytes that are held
+pub Stands-unsent : (T : Type 0) (s : Stage) (held input text : List ℕ) → Stands s held [] input text → IsSession {T = T} (Err WriteFault) input text
+Stands-unsent T s held input text h =
+    let parts : cut line_end input ≡ h.lines ++ held ∷ [] = rw (append-nil held, h.endless) at h.parts in
+    Stands-unflushed T WriteFault s h.lines (lines_in (held ∷ [])) input text refl (ap lines_in parts ∙ lines_in-front h.lines held []) h.answered h.short
+
+-- of a session's text a first part is written, where the writer fails
+pub first_written : {T : Type 0} (U : Type 0) (ended : Result T EngineFault) (input text rest : List ℕ) → IsSession ended input (text ++ rest) → IsSession {T = U} (Err WriteFault) input text
+first_written U (Ok done) input text rest is = record { lines = lines_of input; later = []; unwritten = rest; first = sym (append-nil (lines_of input)); answered = is }
+first_written U (Err ReadFault) input text rest (next, is) =
+    record { lines = is.lines; later = lines_in (next ∷ []); unwritten = rest; first = ap lines_in is.parts ∙ lines_in-front is.lines next []; answered = is.answered }
+first_written U (Err WriteFault) input text rest is =
+    record { lines = is.lines; later = is.later; unwritten = rest ++ is.unwritten; first = is.first; answered = subst (IsText is.lines) (append_assoc text rest is.unwritten) is.answered }
+first_written U (Err LongLine) input text rest (long, later, over, is) =
+    record { lines = is.lines; later = lines_in (long ∷ later); unwritten = rest; first = ap lines_in is.parts ∙ lines_in-front is.lines long later; answered = is.answered }
+first_written U (Err OutOfMemory) input text rest (next, later, is) =
+    record { lines = is.lines; later = lines_in (next ∷ later); unwritten = rest; first = ap lines_in is.parts ∙ lines_in-front is.lines next later; answered = is.answered }

@@ -3,12 +3,13 @@ ghost use Rattle.std.specs.Prelude.{◌≡◌, ◌++◌, [], OnOk};
 ghost use Rattle.kfs_engine.specs.Progress.{Ends, IsHeldAnswered, IsKept, IsLineAnswered, StandsAt, Takes, said};
 ghost use Rattle.kfs_engine.specs.Session.{Answers};
 ghost use Rattle.kfs_engine.specs.Views.{stage_of};
+ghost use Rattle.kfs_text.specs.Held.{contents_with};
 ghost use Rattle.kfs_text.specs.Streams.{Writes};
 
 use crate::fault::EngineFault;
 use crate::session::Session;
 use kfs_report::LONGEST_LINE;
-use kfs_text::{Refusal, first_line, flush, write_whole};
+use kfs_text::{HeldBack, Refusal, first_line};
 use std::alloc::Allocator;
 use std::io::Write;
 
@@ -35,8 +36,9 @@ impl<A: Allocator + Copy> Conversation<A> {
     }
 
     /// Answers each line that ends in `bytes`, and keeps the bytes after the last end.
-    pub fn take<W: Write>(&mut self, bytes: &[u8], writer: &mut W) -> Result<(), EngineFault>
-        ensures { Writes (W.contents writer.old) (W.contents writer.new) (Takes self.old bytes.now result self.new) }
+    pub fn take<W: Write + Drop>(&mut self, bytes: &[u8], writer: &mut HeldBack<W, A>) -> Result<(), EngineFault>
+        ensures session { Writes (contents_with W.contents writer.old) (contents_with W.contents writer.new) (Takes self.old bytes.now result self.new) }
+        ensures first { writer.new.first ≡ writer.old.first }
     {
         let mut rest = bytes;
         'lines: while let Some((line, behind)) = first_line(rest) {
@@ -47,19 +49,21 @@ impl<A: Allocator + Copy> Conversation<A> {
     }
 
     /// Answers the last line, where it lacks its end.
-    pub fn finish<W: Write>(&mut self, writer: &mut W) -> Result<(), EngineFault>
-        ensures { Writes (W.contents writer.old) (W.contents writer.new) (Ends self.old result) }
+    pub fn finish<W: Write + Drop>(&mut self, writer: &mut HeldBack<W, A>) -> Result<(), EngineFault>
+        ensures session { Writes (contents_with W.contents writer.old) (contents_with W.contents writer.new) (Ends self.old result) }
+        ensures first { writer.new.first ≡ writer.old.first }
     {
         if self.line.is_empty() {
-            return Ok(flush(writer)?);
+            return Ok(writer.flush()?);
         }
         self.answer(writer)?;
-        Ok(flush(writer)?)
+        Ok(writer.flush()?)
     }
 
     /// Answers the line, of which `part` is the last bytes.
-    fn end_line<W: Write>(&mut self, part: &[u8], writer: &mut W) -> Result<(), EngineFault>
-        ensures session { Writes (W.contents writer.old) (W.contents writer.new) (IsLineAnswered result self.old (self.old.line.items ++ part.now) self.new) }
+    fn end_line<W: Write + Drop>(&mut self, part: &[u8], writer: &mut HeldBack<W, A>) -> Result<(), EngineFault>
+        ensures session { Writes (contents_with W.contents writer.old) (contents_with W.contents writer.new) (IsLineAnswered result self.old (self.old.line.items ++ part.now) self.new) }
+        ensures first { writer.new.first ≡ writer.old.first }
         ensures cleared { OnOk result (self.new.line.items ≡ []) }
     {
         self.keep(part)?;
@@ -77,12 +81,13 @@ impl<A: Allocator + Copy> Conversation<A> {
         Ok(())
     }
 
-    fn answer<W: Write>(&mut self, writer: &mut W) -> Result<(), EngineFault>
-        ensures session { Writes (W.contents writer.old) (W.contents writer.new) (IsHeldAnswered result self.old self.new) }
+    fn answer<W: Write + Drop>(&mut self, writer: &mut HeldBack<W, A>) -> Result<(), EngineFault>
+        ensures session { Writes (contents_with W.contents writer.old) (contents_with W.contents writer.new) (IsHeldAnswered result self.old self.new) }
+        ensures first { writer.new.first ≡ writer.old.first }
         ensures cleared { self.new.line.items ≡ [] }
     {
         let replied = self.reply();
-        let written = write_whole(writer, text_of(replied, &self.reply));
+        let written = writer.write(text_of(replied, &self.reply));
         self.line.clear();
         Ok(written?)
     }

@@ -4,6 +4,7 @@
 ghost use Rattle.std.specs.Prelude.{◌≡◌, ◌<◌, length, IfErr, IfOk, OnOk};
 ghost use Rattle.std.specs.Io.KnownBytes.{IsAtEnd};
 ghost use Rattle.kfs_engine.specs.Conversation.{IsSession};
+ghost use Rattle.kfs_text.specs.Held.{contents_with};
 ghost use Rattle.kfs_text.specs.Streams.{Exchanges};
 
 mod bytes;
@@ -18,7 +19,7 @@ mod verdicts;
 
 use conversation::Conversation;
 pub use fault::EngineFault;
-use kfs_text::read_some;
+use kfs_text::{HeldBack, read_some};
 use std::alloc::{AllocError, Allocator};
 use std::io::{Read, Write};
 
@@ -28,8 +29,8 @@ const MOST_READS: u64 = 1 << 32;
 /// How many bytes a reader is asked for at once.
 const CHUNK: usize = 65_536;
 
-/// Reads commands, a line each, and writes the reply of each before the next bytes are read. The
-/// input is never kept whole.
+/// Reads commands, a line each, and writes the replies to the lines of one read together, before the
+/// next bytes are read. The input is never kept whole.
 ///
 /// Where it stops early, the lines before were answered.
 pub fn engine<R, A, I, O>(
@@ -46,7 +47,11 @@ where
     ensures end { OnOk result (IsAtEnd (I.remaining reader.new)) }
 {
     let mut chunk = new_chunk(alloc)?;
-    answer_all(alloc, reader, &mut chunk, writer)
+    let mut held = HeldBack::new(alloc, writer);
+    let ended = answer_all(alloc, reader, &mut chunk, &mut held);
+    let (_writer, closed) = held.close();
+    closed?;
+    ended
 }
 
 fn new_chunk<A: Allocator>(alloc: A) -> Result<Vec<u8, A>, EngineFault>
@@ -56,19 +61,20 @@ fn new_chunk<A: Allocator>(alloc: A) -> Result<Vec<u8, A>, EngineFault>
     Ok(vec![in alloc; 0u8; CHUNK]?)
 }
 
-/// Reads all, a chunk at a time, and answers each line.
+/// Reads all, a chunk at a time, answers each line, and flushes the writer before the next chunk.
 fn answer_all<A, I, O>(
     alloc: A,
     reader: &mut I,
     chunk: &mut [u8],
-    writer: &mut O,
+    writer: &mut HeldBack<O, A>,
 ) -> Result<(), EngineFault>
 where
     A: Allocator + Copy,
     I: Read,
-    O: Write,
+    O: Write + Drop,
     requires { 0 < length chunk.old }
-    ensures session { Exchanges (I.remaining reader.old) (I.remaining reader.new) (O.contents writer.old) (O.contents writer.new) (IsSession result) }
+    ensures session { Exchanges (I.remaining reader.old) (I.remaining reader.new) (contents_with O.contents writer.old) (contents_with O.contents writer.new) (IsSession result) }
+    ensures first { writer.new.first ≡ writer.old.first }
     ensures end { OnOk result (IsAtEnd (I.remaining reader.new)) }
 {
     let mut conversation = Conversation::new(alloc);
@@ -80,6 +86,7 @@ where
             return conversation.finish(writer);
         }
         conversation.take(&chunk[..count], writer)?;
+        writer.flush()?;
     }
     Err(EngineFault::ReadFault)
 }

@@ -2,6 +2,7 @@
 #![tactic(auto)]
 
 mod fault;
+mod held;
 mod lines;
 pub mod parts;
 mod reading;
@@ -9,6 +10,7 @@ mod words;
 mod writing;
 
 pub use fault::{ReadFault, WriteFault};
+pub use held::HeldBack;
 pub use lines::first_line;
 pub use reading::read_some;
 pub use words::{Refusal, Words};

@@ -1,6 +1,6 @@
 //! Writes whole texts.
-ghost use Rattle.std.specs.Prelude.{◌≤◌, length, IfOk};
-ghost use Rattle.std.specs.Io.KnownBytes.{Keeps, WriteAppends};
+ghost use Rattle.std.specs.Prelude.{◌≡◌, ◌≤◌, length, take, IfOk, OnOk};
+ghost use Rattle.std.specs.Io.KnownBytes.{Appends, Keeps, WriteAppends};
 ghost use Rattle.kfs_text.specs.Streams.{IsWritten, Writes};
 
 use crate::fault::WriteFault;
@@ -13,15 +13,27 @@ const MOST_WRITES: u64 = 1 << 32;
 pub fn write_whole<W: Write>(writer: &mut W, bytes: &[u8]) -> Result<(), WriteFault>
     ensures { Writes (W.contents writer.old) (W.contents writer.new) (IsWritten result bytes.now) }
 {
-    let mut rest = bytes;
+    let (_count, ended) = write_out(writer, bytes);
+    ended
+}
+
+/// Writes the bytes, and tells how many of them the writer took: all but where it fails.
+pub(crate) fn write_out<W: Write>(writer: &mut W, bytes: &[u8]) -> (usize, Result<(), WriteFault>)
+    ensures bound { result.0 ≤ length bytes.now }
+    ensures all { OnOk result.1 (result.0 ≡ length bytes.now) }
+    ensures text { Appends (W.contents writer.old) (W.contents writer.new) (take result.0 bytes.now) }
+{
+    let mut count = 0;
     'writes: for _ in 0..MOST_WRITES {
-        if rest.is_empty() {
-            return Ok(());
+        if count == bytes.len() {
+            return (count, Ok(()));
         }
-        let count = write_some(writer, rest)?;
-        rest = &rest[count..];
+        match write_some(writer, &bytes[count..]) {
+            Ok(more) => count += more,
+            Err(fault) => return (count, Err(fault)),
+        }
     }
-    Err(WriteFault)
+    (count, Err(WriteFault))
 }
 
 pub fn flush<W: Write>(writer: &mut W) -> Result<(), WriteFault>

@@ -1,14 +1,16 @@
-use Rattle.std.proofs.Common.{◌≡◌, ◌++◌, take, drop, ap, sym, ◌∙◌, append_assoc, take-append-drop}
-use Rattle.std.proofs.KnownBytes.{Appends-trans}
-use Rattle.kfs_text.proofs.Cuts.{slice-back}
+use Rattle.std.proofs.Common.{◌≡◌, ℕ, List, ◌++◌, length, take, drop, Result, Ok, Err, sym, ap, ◌∙◌, take-append-drop}
+use Rattle.std.specs.Prelude.{OnOk}
+use Rattle.std.proofs.Common.{take_all, le_refl}
+use Rattle.kfs_text.specs.Streams.{IsWritten}
 use Rattle.kfs_text.proofs.writing.write_whole.Goals as goal
 
-pub writes-preserved : goal.writes-preserved
-writes-preserved g c =
-    let text = c.writes.invariant.0 in
-    let rest = c.writes.rest.now in
-    let front = take c.in_ok-count.count rest in
-    let back = drop c.in_ok-count.count rest in
-    let parts : rest ≡ front ++ back = sym (take-append-drop c.in_ok-count.count rest) in
-    let whole : c.args.bytes.now ≡ (text ++ front) ++ back = c.writes.invariant.1 ∙ ap (λ l. text ++ l) parts ∙ sym (append_assoc text front back) in
-    (text ++ front, whole ∙ ap (λ l. (text ++ front) ++ l) (sym (slice-back c.in_ok-count.count rest)), Appends-trans _ _ _ _ _ c.writes.invariant.2 c.in_ok-count.ensures.text)
+-- all was written, or a first part
+written : {T E : Type 0} (result : Result T E) (bytes : List ℕ) (count : ℕ) → OnOk result (count ≡ length bytes) → IsWritten result bytes (take count bytes)
+written (Ok x) bytes count all = ap (λ n. take n bytes) all ∙ take_all (length bytes) bytes (le_refl (length bytes))
+written (Err e) bytes count all = (drop count bytes, sym (take-append-drop count bytes))
+
+pub returns : goal.returns
+returns g c =
+    let bytes = c.args.bytes.now in
+    let wrote = c.write_out-count in
+    (take wrote.result.0 bytes, wrote.ensures.text, written wrote.result.1 bytes wrote.result.0 wrote.ensures.all)
