@@ -1,51 +1,6 @@
--- The verdicts that workers hold, and what they rest on.
-use Rattle.std.specs.Prelude.{◌≡◌, ◌⊎◌, ℕ, List, [], map, replicate, get_or, set, Option, Some, None, Result, Ok, Err, All, Contains}
-use Rattle.std.specs.List.{AllByRecursion}
-use Rattle.kfs_model.specs.Access.{Client}
-use Rattle.kfs_model.specs.Entry.{Log}
-use Rattle.kfs_model.specs.Judgement.{State, Submission, Fault, Yes, No, IsJudgement, client_sight_of}
-use Rattle.kfs_model.specs.Lease.{row_of}
-use Rattle.kfs_model.specs.Looked.{looked_cells}
-use Rattle.kfs_model.specs.Placement.{need}
-use Rattle.kfs_model.specs.Run.{Mark}
-use Rattle.kfs_model.specs.Sight.{Cell, Answer, answer}
-use Rattle.kfs_model.specs.Soundness.{IsSound}
-use Rattle.kfs_model.specs.Spelling.{LogAnswer}
-use Rattle.kfs_model.specs.Tree.{Tree}
-
--- what was handed in, and what its verdict rests on: the client's row, and what was answered at each cell that was read
-pub record HeldVerdict : Type 0 where
-  pub submission : Submission
-  pub client : Option Client
-  pub reads : List (Cell × Answer)
-
--- the state has that row, and these answers
-pub record IsUpToDate (s : State) (verdict : HeldVerdict) : Type 0 where
-  pub row : row_of s.clients verdict.submission.client ≡ verdict.client
-  pub answers : AllByRecursion (λ read. answer (client_sight_of s verdict.submission.client) read.0 ≡ read.1) verdict.reads
-
--- the state's judgement on the submission is a Yes that needs this many blocks, or a No for this fault
-abbrev pub ComesTo : State → Submission → Result ℕ Fault → Type 0
-ComesTo s submission (Ok blocks) = (after : Tree ℕ) × (marks : Tree Mark) × IsJudgement s submission (Yes after marks) × (blocks ≡ need marks)
-ComesTo s submission (Err fault) = IsJudgement s submission (No fault)
-
--- each read is at a cell that the client's log looks at
-pub record AreLookedAt (s : State) (submission : Submission) (reads : List (Cell × Answer)) : Type 0 where
-  pub client : Client
-  pub row : row_of s.clients submission.client ≡ Some client
-  pub log : Log
-  pub spelled : LogAnswer submission.log (Ok log)
-  pub owner : log.client ≡ submission.client
-  pub among : All (λ read. Contains (looked_cells client (client_sight_of s submission.client) log.entries) read.0) reads
-
--- A verdict of the state on the submission: it is up to date there, and rests on enough, for in each sound state in which it is up
--- to date the submission comes to the same; and it rests on nothing that the log doesn't look at.
-pub record IsVerdictOn (s : State) (submission : Submission) (verdict : HeldVerdict) : Type 0 where
-  pub submitted : verdict.submission ≡ submission
-  pub current : IsUpToDate s verdict
-  pub told : Result ℕ Fault
-  pub enough : (t : State) → IsSound t.tree → IsUpToDate t verdict → ComesTo t submission told
-  pub looked : (verdict.reads ≡ []) ⊎ AreLookedAt s submission verdict.reads
+-- The verdicts that the workers of a session hold.
+use Rattle.std.specs.Prelude.{ℕ, List, replicate, get_or, set, Option, None}
+use Rattle.kfs_workers.specs.Verdict.{HeldVerdict}
 
 -- what each worker holds, from worker 0 on
 abbrev pub Hands : Type 0

@@ -1,7 +1,7 @@
 //! What the workers hold: a verdict each, or none.
 ghost use Rattle.std.specs.Prelude.{◌≡◌, ◌↔◌, IfOk, IsTrue, None, Some, option_map};
 ghost use Rattle.kfs_engine.specs.Hands.{held_by, no_verdict, with_held};
-ghost use Rattle.kfs_engine.specs.Holding.{verdict_of};
+ghost use Rattle.kfs_workers.specs.Holding.{verdict_of};
 
 use kfs_command::Worker;
 use kfs_plan::Judged;

@@ -2,8 +2,8 @@
 ghost use Rattle.std.specs.Prelude.{◌≡◌, ◌≤◌, codes, IfErr, IfOk, IsErrOf, OnOk};
 ghost use Rattle.kfs_plan.specs.Judging.{submission_of};
 ghost use Rattle.kfs_command.specs.Command as commands;
-ghost use Rattle.kfs_engine.specs.Hands.{IsVerdictOn};
-ghost use Rattle.kfs_engine.specs.Holding.{verdict_of};
+ghost use Rattle.kfs_workers.specs.Holding.{verdict_of};
+ghost use Rattle.kfs_workers.specs.Verdict.{IsVerdictOn};
 ghost use Rattle.kfs_engine.specs.Session.{After, IsLandingAnswered, IsReplied, Serves};
 ghost use Rattle.kfs_text.specs.Parts.{line_of};
 ghost use Rattle.kfs_value.specs.Room.{spare_of};
@@ -11,10 +11,11 @@ ghost use Rattle.kfs_value.specs.Room.{spare_of};
 use crate::hands::Hands;
 use kfs_command::Worker;
 use kfs_desk::Desk;
-use kfs_plan::{Judged, Submission, Why, judge};
+use kfs_plan::{Judged, Submission, Why};
 use kfs_report::reply_line;
 use kfs_text::Refusal;
 use kfs_text::parts::{number, text};
+use kfs_workers::Look;
 use std::alloc::Allocator;
 
 /// Judges the submission for a worker who holds no verdict, and now holds this one.
@@ -42,7 +43,7 @@ pub fn judge_for<A: Allocator + Copy>(
     Ok(())
 }
 
-/// The verdict on the submission in the state of now. The view ends here, so that landing shares nothing.
+/// The verdict on the submission in the state of now. The look ends here, so that landing shares nothing.
 fn judged_now<A: Allocator + Copy>(
     alloc: A,
     desk: &Desk<A>,
@@ -51,10 +52,8 @@ fn judged_now<A: Allocator + Copy>(
     ensures verdict { IfOk result (λ judged. IsVerdictOn desk.now.state (submission_of submission) (verdict_of judged)) }
     ensures memory { IfErr result (λ why. why ≡ Refusal.OutOfMemory) }
 {
-    // The desk's state is in order.
-    let _image = desk.image();
-    let view = desk.view()?;
-    match judge(alloc, &view, submission) {
+    let look = Look::at(desk)?;
+    match look.judge(alloc, submission) {
         Ok(judged) => Ok(judged),
         Err(_) => Err(Refusal::OutOfMemory),
     }

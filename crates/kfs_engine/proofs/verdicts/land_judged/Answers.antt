@@ -2,7 +2,7 @@ use Rattle.std.proofs.Common.{inl, inr, refl}
 use Rattle.kfs_desk.specs.Docket.{is_rejudged}
 use Rattle.kfs_report.specs.Text.{reply_text}
 use Rattle.kfs_text.specs.Parts.{line_of}
-use Rattle.kfs_engine.proofs.Held.{current, up_to_date}
+use Rattle.kfs_workers.proofs.Verdicts.{current, up_to_date}
 use Rattle.kfs_engine.proofs.verdicts.land_judged.Goals as goal
 
 pub returns-in-Ok-clause-ok : goal.returns-in-Ok-clause-ok

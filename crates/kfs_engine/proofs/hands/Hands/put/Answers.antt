@@ -1,6 +1,7 @@
 use Rattle.std.proofs.Common.{◌≡◌, ◌∙◌, ap, Some}
 use Rattle.kfs_engine.specs.Hands.{with_held}
-use Rattle.kfs_engine.specs.Holding.{hands_of, verdict_of}
+use Rattle.kfs_engine.specs.Holding.{hands_of}
+use Rattle.kfs_workers.specs.Holding.{verdict_of}
 use Rattle.kfs_engine.proofs.Held.{shown_with}
 use Rattle.kfs_engine.proofs.hands.Hands.put.Goals as goal
 

@@ -1,0 +1,2 @@
+-- Lemmas on verdicts.
+pub mod Verdicts

@@ -1,0 +1,10 @@
+-- The code's verdicts as they are held.
+use Rattle.std.specs.Prelude.{map}
+use Rattle.kfs_check.specs.Reads.{answer_of, cell_of}
+use Rattle.kfs_plan.specs.Judged.{Judged}
+use Rattle.kfs_plan.specs.Judging.{submission_of}
+use Rattle.kfs_workers.specs.Verdict.{HeldVerdict}
+
+-- what is held of it
+abbrev pub verdict_of : {A : Type 0} → Judged A → HeldVerdict
+verdict_of judged = record { submission = submission_of judged.submission; client = judged.client; reads = map (λ read. (cell_of read.0, answer_of read.1)) judged.reads }

@@ -1,0 +1,2 @@
+pub mod Holding
+pub mod Verdict
