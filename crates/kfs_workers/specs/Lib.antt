@@ -1,2 +1,4 @@
+pub mod Claims
 pub mod Holding
+pub mod Script
 pub mod Verdict

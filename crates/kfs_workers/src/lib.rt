@@ -2,5 +2,8 @@
 #![tactic(auto)]
 
 mod look;
+mod scene;
+mod script;
 
 pub use look::Look;
+pub use script::{ScriptBack, ScriptEnd, Step, run_script};

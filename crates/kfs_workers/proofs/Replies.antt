@@ -1,0 +1,247 @@
+-- Each reply of a script stands in the docket at its position, and says what was done to the state there.
+use Rattle.std.proofs.Common.{◌≡◌, ◌≢◌, ℕ, zero, suc, ◌+◌, ◌≤◌, ◌<◌, List, [], ◌∷◌, ◌++◌, length, take, get_or, set, ◌⊎◌, inl, inr, Option, Some, None, refl, sym, ap, subst, ◌∙◌, arith, length-append, append-nil}
+use Rattle.std.specs.List.{slice_get}
+use Rattle.std.proofs.lemmas.List.{get_or-set_same, get_or-set_other}
+use Rattle.kfs_model.specs.Judgement.{State, Submission}
+use Rattle.kfs_model.specs.Machine.{Call, IsRead, Row, after, next}
+use Rattle.kfs_docket.specs.Legal.{LeadsTo}
+use Rattle.kfs_docket.proofs.Longer.{leads_on}
+use Rattle.kfs_lease.specs.declared.act.Act.{Act}
+use Rattle.kfs_lease.specs.declared.act.Act.TheVariants as acts
+use Rattle.kfs_plan.specs.declared.answers.ActReply.{ActReply}
+use Rattle.kfs_plan.specs.declared.answers.Reply.{Reply}
+use Rattle.kfs_desk.specs.Docket.{is_rejudged, position_of}
+use Rattle.kfs_desk.specs.Machine.{Desk, IsActed, IsAnswered, IsStep, Means, call_of, done_by}
+use Rattle.kfs_workers.specs.Claims.{StandsAt}
+use Rattle.kfs_workers.specs.Script.{Held, Taken, Decided, Scene, Asks, Does, Looks, Judges, Lands, Runs, begun}
+use Rattle.kfs_workers.specs.declared.script.Step.{Step}
+use Rattle.kfs_workers.specs.declared.script.Step.TheVariants as steps
+use Rattle.kfs_workers.proofs.Places.{AreInPlace, by_equal, got_within, none_each}
+use Rattle.kfs_workers.proofs.Settled.{step_in_place}
+
+-- ---- a docket with a row more
+
+take-front : {X : Type 0} (xs ys : List X) (count : ℕ) → count ≤ length xs → take count (xs ++ ys) ≡ take count xs
+take-front xs ys zero few = refl
+take-front [] ys (suc count) few = absurd (omega arith)
+take-front (x ∷ xs) ys (suc count) few = ap (λ l. x ∷ l) (take-front xs ys count (omega arith))
+
+get-front : {X : Type 0} (xs ys : List X) (i : ℕ) → i < length xs → slice_get (xs ++ ys) i ≡ slice_get xs i
+get-front [] ys i few = absurd (omega arith)
+get-front (x ∷ xs) ys zero few = refl
+get-front (x ∷ xs) ys (suc i) few = get-front xs ys i (omega arith)
+
+get-last : {X : Type 0} (xs : List X) (y : X) → slice_get (xs ++ y ∷ []) (length xs) ≡ Some y
+get-last [] y = refl
+get-last (x ∷ xs) y = get-last xs y
+
+take-all : {X : Type 0} (xs : List X) → take (length xs) xs ≡ xs
+take-all [] = refl
+take-all (x ∷ xs) = ap (λ l. x ∷ l) (take-all xs)
+
+-- ---- where a reply stands, and what it means
+
+-- the docket is legal, and its rows from before stand where they stood
+pub record Grows (old new : Desk) : Type 0 where
+  pub rows : List Row
+  pub docket : new.docket ≡ old.docket ++ rows
+  pub opening : new.opening ≡ old.opening
+  pub legal : LeadsTo new.opening new.docket new.state
+
+pub record Stands (desk : Desk) (submission : Submission) (reply : Reply) : Type 0 where
+  pub before : State
+  pub after_it : State
+  pub at : StandsAt desk submission reply before after_it
+  pub within : position_of reply < length desk.docket
+  pub means : Means before submission reply after_it
+
+-- the replies stand in the docket, which is legal, each at a row of its own
+pub record AreStanding (submissions : List Submission) (scene : Scene) : Type 0 where
+  pub legal : LeadsTo scene.desk.opening scene.desk.docket scene.desk.state
+  pub stands : (ticket : ℕ) (submission : Submission) (reply : Reply) → slice_get submissions ticket ≡ Some submission → get_or scene.replies ticket None ≡ Some reply → Stands scene.desk submission reply
+  pub within : (ticket : ℕ) (reply : Reply) → get_or scene.replies ticket None ≡ Some reply → position_of reply < length scene.desk.docket
+  pub apart : (one other : ℕ) (first second : Reply) → get_or scene.replies one None ≡ Some first → get_or scene.replies other None ≡ Some second → one ≢ other → position_of first ≢ position_of second
+
+module _ (old new : Desk) (grows : Grows old new) where
+  longer : length old.docket ≤ length new.docket
+  longer = let same = ap length grows.docket in let count = length-append old.docket grows.rows in omega arith
+
+  pub stands_on : (submission : Submission) (reply : Reply) → Stands old submission reply → Stands new submission reply
+  stands_on submission reply is =
+      let place = position_of reply in
+      let more = longer in
+      let within = is.within in
+      let front : (count : ℕ) → count ≤ length old.docket → after new.opening (take count new.docket) ≡ after old.opening (take count old.docket) =
+      λ count few. ap (λ o. after o (take count new.docket)) grows.opening ∙ ap (λ rows. after old.opening (take count rows)) grows.docket ∙ ap (after old.opening) (take-front old.docket grows.rows count few) in
+      record {
+        before = is.before;
+        after_it = is.after_it;
+        at = record {
+          row = is.at.row;
+          at = ap (λ rows. slice_get rows place) grows.docket ∙ get-front old.docket grows.rows place within ∙ is.at.at;
+          led = front place (omega arith) ∙ is.at.led;
+          leads = front (place + 1) (omega arith) ∙ is.at.leads;
+          step = is.at.step;
+        };
+        within = omega arith;
+        means = is.means;
+      }
+
+-- the row of an answer stands at the docket's end
+pub answer_stands : (old new : Desk) (legal : LeadsTo old.opening old.docket old.state) (submission : Submission) (again : _) (reply : Reply) → IsAnswered old submission again reply new → Grows old new × Stands new submission reply
+answer_stands old new legal submission again reply is =
+    let read : IsRead is.row = subst (λ (call : Call). IsRead (record is.row { call = call })) (sym is.step.asked) is.step.read in
+    let leads = leads_on is.row old.opening old.state new.state old.docket legal read is.step.fits in
+    let legal_now : LeadsTo new.opening new.docket new.state = subst (λ opening. LeadsTo opening new.docket new.state) (sym is.opening) (subst (λ rows. LeadsTo old.opening rows new.state) (sym is.docket) leads) in
+    let place = is.position in
+    let count = length-append old.docket (is.row ∷ []) in
+    let long = ap length is.docket in
+    let whole : take (length old.docket + 1) new.docket ≡ new.docket = ap (λ n. take n new.docket) (let n : length old.docket + 1 ≡ length new.docket = omega arith in n) ∙ take-all new.docket in (
+      record { rows = is.row ∷ []; docket = is.docket; opening = is.opening; legal = legal_now },
+      record {
+        before = old.state;
+        after_it = new.state;
+        at = record {
+          row = is.row;
+          at = ap (slice_get new.docket) place ∙ ap (λ rows. slice_get rows (length old.docket)) is.docket ∙ get-last old.docket is.row;
+          led = ap (λ n. after new.opening (take n new.docket)) place ∙ ap (λ o. after o (take (length old.docket) new.docket)) is.opening ∙ ap (λ rows. after old.opening (take (length old.docket) rows)) is.docket
+          ∙ ap (after old.opening) (take-front old.docket (is.row ∷ []) (length old.docket) (omega arith) ∙ take-all old.docket) ∙ legal.fit;
+          leads = ap (λ n. after new.opening (take (n + 1) new.docket)) place ∙ ap (after new.opening) whole ∙ legal_now.fit;
+          step = is.step;
+        };
+        within = omega arith;
+        means = is.meaning;
+      },
+    )
+
+-- ---- steps
+
+module _ (submissions : List Submission) (scene next_scene : Scene) (are : AreStanding submissions scene) where
+  -- the replies stay, in a docket that may have grown
+  pub replies_stay : next_scene.replies ≡ scene.replies → Grows scene.desk next_scene.desk → AreStanding submissions next_scene
+  replies_stay same grows =
+      let was : (ticket : ℕ) (reply : Reply) → get_or next_scene.replies ticket None ≡ Some reply → get_or scene.replies ticket None ≡ Some reply = λ ticket reply at. ap (λ l. get_or l ticket None) (sym same) ∙ at in
+      record {
+        legal = grows.legal;
+        stands = λ ticket submission reply of at. stands_on scene.desk next_scene.desk grows submission reply (are.stands ticket submission reply of (was ticket reply at));
+        within = λ ticket reply at. let before = are.within ticket reply (was ticket reply at) in let more = longer scene.desk next_scene.desk grows in omega arith;
+        apart = λ one other first second at also. are.apart one other first second (was one first at) (was other second also);
+      }
+
+  -- one more reply, which stands behind all others
+  pub reply_added : (ticket : ℕ) (submission : Submission) (reply : Reply) → slice_get submissions ticket ≡ Some submission → ticket < length scene.replies → next_scene.replies ≡ set scene.replies ticket (Some reply)
+      → position_of reply ≡ length scene.desk.docket → Grows scene.desk next_scene.desk → Stands next_scene.desk submission reply → AreStanding submissions next_scene
+  reply_added ticket submission reply of within added last grows stands =
+      let here : (t : ℕ) (r : Reply) → t ≡ ticket → get_or next_scene.replies t None ≡ Some r → r ≡ reply =
+      λ t r same at. one_reply (sym at ∙ ap (λ l. get_or l t None) added ∙ ap (λ n. get_or (set scene.replies ticket (Some reply)) n None) same ∙ get_or-set_same scene.replies ticket (Some reply) None within) in
+      let was : (t : ℕ) (r : Reply) → t ≢ ticket → get_or next_scene.replies t None ≡ Some r → get_or scene.replies t None ≡ Some r =
+      λ t r apart at. sym (get_or-set_other scene.replies ticket t (Some reply) None apart) ∙ ap (λ l. get_or l t None) (sym added) ∙ at in
+      let below : (t : ℕ) (r : Reply) → t ≢ ticket → get_or next_scene.replies t None ≡ Some r → position_of r ≢ position_of reply = λ t r apart at same. let before = are.within t r (was t r apart at) in let never : ⊥ = omega (arith, before, same, last) in never in
+      record {
+        legal = grows.legal;
+        stands = λ t s r is at. by_equal t ticket
+            (λ same. subst (Stands next_scene.desk s) (sym (here t r same at)) (subst (λ u. Stands next_scene.desk u reply) (one_submission (sym of ∙ ap (slice_get submissions) (sym same) ∙ is)) stands))
+            (λ apart. stands_on scene.desk next_scene.desk grows s r (are.stands t s r is (was t r apart at)));
+        within = λ t r at. by_equal t ticket
+            (λ same. subst (λ it. position_of it < length next_scene.desk.docket) (sym (here t r same at)) stands.within)
+            (λ apart. let before = are.within t r (was t r apart at) in let more = longer scene.desk next_scene.desk grows in omega arith);
+        apart = λ one other first second at also differ. by_equal one ticket
+            (λ same. by_equal other ticket
+                (λ too. absurd (differ (same ∙ sym too)))
+                (λ apart equal. below other second apart also (sym equal ∙ ap position_of (here one first same at))))
+            (λ apart. by_equal other ticket
+                (λ too equal. below one first apart at (equal ∙ ap position_of (here other second too also)))
+                (λ also_apart. are.apart one other first second (was one first apart at) (was other second also_apart also) differ));
+      }
+    where
+      one_reply : {a b : Reply} → Some a ≡ Some b → a ≡ b
+      one_reply e = cc
+
+      one_submission : {a b : Submission} → Some a ≡ Some b → a ≡ b
+      one_submission e = cc
+
+-- the desk as it is
+stays_legal : (desk new : Desk) → new ≡ desk → LeadsTo desk.opening desk.docket desk.state → Grows desk new
+stays_legal desk new same legal = record {
+  rows = [];
+  docket = ap (λ (d : Desk). d.docket) same ∙ sym (append-nil desk.docket);
+  opening = ap (λ (d : Desk). d.opening) same;
+  legal = subst (λ (d : Desk). LeadsTo d.opening d.docket d.state) (sym same) legal;
+}
+
+-- a row more, of a call for the leases
+call_grows : (old new : Desk) (act : Act) (reply : ActReply) → LeadsTo old.opening old.docket old.state → IsActed old (call_of act) (done_by act) reply new → Grows old new
+call_grows old new act reply legal is =
+    let leads = leads_on is.row old.opening old.state new.state old.docket legal (subst (λ (call : Call). IsRead (record is.row { call = call })) (sym is.step.asked) (read act)) is.step.fits in
+    record {
+      rows = is.row ∷ [];
+      docket = is.docket;
+      opening = is.opening;
+      legal = subst (λ opening. LeadsTo opening new.docket new.state) (sym is.opening) (subst (λ rows. LeadsTo old.opening rows new.state) (sym is.docket) leads);
+    }
+  where
+    read : (a : Act) → IsRead (record is.row { call = call_of a })
+    read (acts.Lease client path kind end) = tt
+    read (acts.Drop client number) = tt
+    read (acts.Tick moment) = tt
+
+module _ (submissions : List Submission) (scene next_scene : Scene) (in_place : AreInPlace submissions scene) (are : AreStanding submissions scene) where
+  same_scene : next_scene ≡ scene → AreStanding submissions next_scene
+  same_scene is = subst (AreStanding submissions) (sym is) are
+
+  -- the replies and the desk are the same
+  same_desk : next_scene.replies ≡ scene.replies → next_scene.desk ≡ scene.desk → AreStanding submissions next_scene
+  same_desk replies desk = replies_stay submissions scene next_scene are replies (stays_legal scene.desk next_scene.desk desk are.legal)
+
+  looks : (worker ticket : ℕ) (hand : Option (Option Held)) (waits : Option Submission) → Looks scene worker ticket hand waits next_scene → AreStanding submissions next_scene
+  looks worker ticket None waits is = same_scene is
+  looks worker ticket (Some (Some held)) waits is = same_scene is
+  looks worker ticket (Some None) None is = same_scene is
+  looks worker ticket (Some None) (Some submission) (inr is) = same_scene is
+  looks worker ticket (Some None) (Some submission) (inl is) = same_desk (ap (λ (s : Scene). s.replies) is) (ap (λ (s : Scene). s.desk) is)
+
+  judges : (worker : ℕ) (hand : Option Held) → Judges scene worker hand next_scene → AreStanding submissions next_scene
+  judges worker None is = same_scene is
+  judges worker (Some (Decided ticket verdict)) is = same_scene is
+  judges worker (Some (Taken ticket submission seen)) (inl (verdict, on, is)) = same_desk (ap (λ (s : Scene). s.replies) is) (ap (λ (s : Scene). s.desk) is)
+  judges worker (Some (Taken ticket submission seen)) (inr is) = same_desk (ap (λ (s : Scene). s.replies) is) (ap (λ (s : Scene). s.desk) is)
+
+  lands : (worker : ℕ) (hand : Option Held) → get_or scene.hands worker None ≡ hand → Lands scene worker hand next_scene → AreStanding submissions next_scene
+  lands worker None at is = same_scene is
+  lands worker (Some (Taken ticket submission seen)) at is = same_scene is
+  lands worker (Some (Decided ticket verdict)) at (inr is) = same_desk (ap (λ (s : Scene). s.replies) is) (ap (λ (s : Scene). s.desk) is)
+  lands worker (Some (Decided ticket verdict)) at (inl landed) =
+      let (there, of) = in_place.holds worker (Decided ticket verdict) at in
+      let within : ticket < length scene.replies = subst (λ n. ticket < n) (sym in_place.replies_length) (got_within submissions ticket verdict.submission of) in
+      let (grows, stands) = answer_stands scene.desk next_scene.desk are.legal verdict.submission (is_rejudged landed.answer) landed.answer landed.answered in
+      reply_added submissions scene next_scene are ticket verdict.submission landed.answer of within (ap (λ (s : Scene). s.replies) landed.is) landed.answered.position grows stands
+
+  asks : (act : Act) → Asks scene act next_scene → AreStanding submissions next_scene
+  asks act (inr is) = same_scene is
+  asks act (inl asked) =
+      replies_stay submissions scene next_scene are (ap (λ (s : Scene). s.replies) asked.is) (call_grows scene.desk next_scene.desk act asked.reply are.legal asked.acted)
+
+  pub step_stands : (step : Step) → Does scene step next_scene → AreStanding submissions next_scene
+  step_stands (steps.Look worker ticket) is = looks worker ticket (slice_get scene.hands worker) (get_or scene.waiting ticket None) is
+  step_stands (steps.Judge worker) is = judges worker (get_or scene.hands worker None) is
+  step_stands (steps.Land worker) is = lands worker (get_or scene.hands worker None) refl is
+  step_stands (steps.Act act) is = asks act is
+
+pub run_stands : (submissions : List Submission) (scene last : Scene) (script : List Step) → AreInPlace submissions scene → AreStanding submissions scene → Runs scene script last → AreInPlace submissions last × AreStanding submissions last
+run_stands submissions scene last [] in_place are is = (subst (AreInPlace submissions) (sym is) in_place, subst (AreStanding submissions) (sym is) are)
+run_stands submissions scene last (step ∷ script) in_place are (next_scene, does, runs) =
+    run_stands submissions next_scene last script (step_in_place submissions scene next_scene in_place step does) (step_stands submissions scene next_scene in_place are step does) runs
+
+pub stands_at_first : (desk : Desk) (submissions : List Submission) → LeadsTo desk.opening desk.docket desk.state → AreStanding submissions (begun desk submissions)
+stands_at_first desk submissions legal = record {
+  legal = legal;
+  stands = λ ticket submission reply of at. absurd (no_reply ticket reply at);
+  within = λ ticket reply at. absurd (no_reply ticket reply at);
+  apart = λ one other first second at also differ. absurd (no_reply one first at);
+}
+  where
+    no_reply : (ticket : ℕ) (reply : Reply) → get_or (begun desk submissions).replies ticket None ≡ Some reply → ⊥
+    no_reply ticket reply at = apart (sym (none_each {Y = Reply} submissions ticket) ∙ at)
+      where
+        apart : {x : Reply} → None ≡ Some x → ⊥
+        apart e = cc
