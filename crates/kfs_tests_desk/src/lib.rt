@@ -19,4 +19,6 @@ mod pages;
 #[cfg(test)]
 mod refused;
 #[cfg(test)]
+mod scripts;
+#[cfg(test)]
 mod submitting;

@@ -63,7 +63,7 @@ module _ (desk last : Desk) (submissions : List Submission) (script : List Step)
 
       by : (at : Place) → both.0.place ticket ≡ at → (reply : Option Reply) → get_or run.scene.replies ticket None ≡ reply → IsSettled last submission reply (get_or (all_returned run.scene.hands run.scene.waiting) ticket None)
       by Waits at None none = left_there (inl (both.0.waits ticket ∙ ap (λ p. waiting_at p (slice_get submissions ticket)) at ∙ of))
-      by (With worker) at None none = left_there (inr (worker, both.0.with ticket worker at))
+      by (With worker) at None none = let (held, at_hand, its) = both.0.with ticket worker at in left_there (inr (worker, held, at_hand, its))
       by Answered at None none = let yes : is_some (get_or run.scene.replies ticket None) ≡ true = both.0.replied ticket ∙ ap is_answered at in cc
       by Waits at (Some reply) is = let no : is_some (get_or run.scene.replies ticket None) ≡ false = both.0.replied ticket ∙ ap is_answered at in cc
       by (With worker) at (Some reply) is = let no : is_some (get_or run.scene.replies ticket None) ≡ false = both.0.replied ticket ∙ ap is_answered at in cc

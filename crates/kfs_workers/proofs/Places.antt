@@ -168,20 +168,20 @@ module _ (submissions : List Submission) (scene next : Scene) (are : AreInPlace 
         (λ apart. ap is_some (goes.other_replies other apart) ∙ are.replied other ∙ ap is_answered (sym (moved-other are.place ticket other new apart)));
     holds = λ other held at. by_equal other worker
         (λ same.
-            let (is, of, submission) = goes.holds held (subst (λ w. get_or next.hands w None ≡ Some held) same at) in (
-              ap now of ∙ moved-same are.place ticket new ∙ is ∙ ap With (sym same),
-              ap (slice_get submissions) of ∙ submission,
-            ))
+        let (is, of, submission) = goes.holds held (subst (λ w. get_or next.hands w None ≡ Some held) same at) in (
+          ap now of ∙ moved-same are.place ticket new ∙ is ∙ ap With (sym same),
+          ap (slice_get submissions) of ∙ submission,
+        ))
         (λ apart.
-            let (there, submission) = are.holds other held (sym (goes.other_hands other apart) ∙ at) in
-            let not_this : ticket_of held ≢ ticket = λ same. not_held other apart (ap are.place (sym same) ∙ there) in
-            (moved-other are.place ticket (ticket_of held) new not_this ∙ there, submission));
+        let (there, submission) = are.holds other held (sym (goes.other_hands other apart) ∙ at) in
+        let not_this : ticket_of held ≢ ticket = λ same. not_held other apart (ap are.place (sym same) ∙ there) in
+        (moved-other are.place ticket (ticket_of held) new not_this ∙ there, submission));
     with = λ of other at. by_equal of ticket
         (λ same.
-            let (is, held, at_hand, its) = goes.with other (sym (moved-same are.place ticket new) ∙ ap now (sym same) ∙ at) in
-            (held, subst (λ w. get_or next.hands w None ≡ Some held) (sym is) at_hand, its ∙ sym same))
+        let (is, held, at_hand, its) = goes.with other (sym (moved-same are.place ticket new) ∙ ap now (sym same) ∙ at) in
+        (held, subst (λ w. get_or next.hands w None ≡ Some held) (sym is) at_hand, its ∙ sym same))
         (λ apart.
-            let (held, at_hand, its) = are.with of other (sym (moved-other are.place ticket of new apart) ∙ at) in
-            let not_worker : other ≢ worker = λ same. apart (sym its ∙ goes.own held (subst (λ w. get_or scene.hands w None ≡ Some held) same at_hand)) in
-            (held, goes.other_hands other not_worker ∙ at_hand, its));
+        let (held, at_hand, its) = are.with of other (sym (moved-other are.place ticket of new apart) ∙ at) in
+        let not_worker : other ≢ worker = λ same. apart (sym its ∙ goes.own held (subst (λ w. get_or scene.hands w None ≡ Some held) same at_hand)) in
+        (held, goes.other_hands other not_worker ∙ at_hand, its));
   }

@@ -105,7 +105,7 @@ answer_stands old new legal submission again reply is =
           row = is.row;
           at = ap (slice_get new.docket) place ∙ ap (λ rows. slice_get rows (length old.docket)) is.docket ∙ get-last old.docket is.row;
           led = ap (λ n. after new.opening (take n new.docket)) place ∙ ap (λ o. after o (take (length old.docket) new.docket)) is.opening ∙ ap (λ rows. after old.opening (take (length old.docket) rows)) is.docket
-          ∙ ap (after old.opening) (take-front old.docket (is.row ∷ []) (length old.docket) (omega arith) ∙ take-all old.docket) ∙ legal.fit;
+              ∙ ap (after old.opening) (take-front old.docket (is.row ∷ []) (length old.docket) (omega arith) ∙ take-all old.docket) ∙ legal.fit;
           leads = ap (λ n. after new.opening (take (n + 1) new.docket)) place ∙ ap (after new.opening) whole ∙ legal_now.fit;
           step = is.step;
         };
@@ -147,11 +147,11 @@ module _ (submissions : List Submission) (scene next_scene : Scene) (are : AreSt
             (λ apart. let before = are.within t r (was t r apart at) in let more = longer scene.desk next_scene.desk grows in omega arith);
         apart = λ one other first second at also differ. by_equal one ticket
             (λ same. by_equal other ticket
-                (λ too. absurd (differ (same ∙ sym too)))
-                (λ apart equal. below other second apart also (sym equal ∙ ap position_of (here one first same at))))
+            (λ too. absurd (differ (same ∙ sym too)))
+            (λ apart equal. below other second apart also (sym equal ∙ ap position_of (here one first same at))))
             (λ apart. by_equal other ticket
-                (λ too equal. below one first apart at (equal ∙ ap position_of (here other second too also)))
-                (λ also_apart. are.apart one other first second (was one first apart at) (was other second also_apart also) differ));
+            (λ too equal. below one first apart at (equal ∙ ap position_of (here other second too also)))
+            (λ also_apart. are.apart one other first second (was one first apart at) (was other second also_apart also) differ));
       }
     where
       one_reply : {a b : Reply} → Some a ≡ Some b → a ≡ b

@@ -146,11 +146,13 @@ impl<A: Allocator + Copy> Scene<A> {
         ensures { Judges self.old worker (get_or self.old.hands worker None) self.new }
     {
         match take_at(&mut self.hands, worker) {
-            Some(Held::Taken {
-                ticket,
-                submission,
-                look,
-            }) => match look.judge(self.alloc, submission) {
+            Some(
+                Held::Taken {
+                    ticket,
+                    submission,
+                    look,
+                },
+            ) => match look.judge(self.alloc, submission) {
                 Ok(judged) => put_at(&mut self.hands, worker, Held::Decided { ticket, judged }),
                 Err(back) => put_at(&mut self.waiting, ticket, back.submission),
             },
@@ -258,11 +260,13 @@ fn put_back<A: Allocator>(waiting: &mut Vec<Option<Submission<A>>, A>, hand: Opt
     ensures { map (option_map submission_of) waiting.new.items ≡ returned (option_map held_of hand) (map (option_map submission_of) waiting.old.items) }
 {
     match hand {
-        Some(Held::Taken {
-            ticket,
-            submission,
-            look: _,
-        }) => put_at(waiting, ticket, submission),
+        Some(
+            Held::Taken {
+                ticket,
+                submission,
+                look: _,
+            },
+        ) => put_at(waiting, ticket, submission),
         Some(Held::Decided { ticket, judged }) => {
             let (submission, _outcome) = judged.into_parts();
             put_at(waiting, ticket, submission);

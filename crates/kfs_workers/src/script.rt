@@ -17,18 +17,11 @@ use std::alloc::Allocator;
 #[derive(Clone, Copy)]
 pub enum Step<'a> {
     /// The worker, from 0 to 7, takes the submission of the ticket and looks at the desk.
-    Look {
-        worker: usize,
-        ticket: usize,
-    },
+    Look { worker: usize, ticket: usize },
     /// The worker judges the submission that it holds, in the state that it saw.
-    Judge {
-        worker: usize,
-    },
+    Judge { worker: usize },
     /// The worker's verdict is landed.
-    Land {
-        worker: usize,
-    },
+    Land { worker: usize },
     /// A call for the leases.
     Act(Act<'a>),
 }

@@ -1,0 +1,224 @@
+//! Scripts of workers: steps in and out of their place, and each growth of a script refused in turn.
+
+use crate::desks::{AMPLE, FILE, NO_FILE, Shown, opening, shows, submission, yes};
+use crate::refused::MANY;
+use kfs_desk::Desk;
+use kfs_desk::answers::{Act, Reply};
+use kfs_judge::{EntryFault, Reason};
+use kfs_plan::{Fault, Submission};
+use kfs_tests::refusing::Refusing;
+use kfs_tests::vectors::{CREATE_LOG, CREATE_PLAN};
+use kfs_workers::{ScriptBack, ScriptEnd, Step, run_script};
+use std::alloc::{Allocator, Global};
+
+/// The Create of the file 5 under each of so many tickets.
+fn creates<A: Allocator + Copy>(alloc: A, count: usize) -> Option<Vec<Submission<A>, A>> {
+    let mut all = Vec::new(alloc);
+    for _ in 0..count {
+        let create = submission(alloc, CREATE_LOG, CREATE_PLAN).ok()?;
+        all.push(create).ok()?;
+    }
+    Some(all)
+}
+
+/// Whether each ticket has its reply, and is left where it has none.
+fn are_settled<A: Allocator>(end: &ScriptEnd<A>, replies: &[Option<Reply>]) -> bool {
+    if end.replies.as_slice() != replies || end.left.len() != replies.len() {
+        return false;
+    }
+    for (left, reply) in end.left.iter().zip(replies) {
+        if left.is_some() == reply.is_some() {
+            return false;
+        }
+    }
+    true
+}
+
+/// Whether the script over such Creates, at a desk whose docket takes `limit` rows, gives these replies, and
+/// its image shows this then.
+fn gives(
+    alloc: Global,
+    limit: u32,
+    steps: &[Step<'_>],
+    replies: &[Option<Reply>],
+    shown: &[Shown<'_>],
+) -> Option<bool> {
+    let desk = opening(alloc, limit)?;
+    let creates = creates(alloc, replies.len())?;
+    let end = run_script(alloc, desk, creates, steps).ok()?;
+    Some(are_settled(&end, replies) && shows(end.desk.image().shape(), shown))
+}
+
+const fn look(worker: usize, ticket: usize) -> Step<'static> {
+    Step::Look { worker, ticket }
+}
+
+const fn judge(worker: usize) -> Step<'static> {
+    Step::Judge { worker }
+}
+
+const fn land(worker: usize) -> Step<'static> {
+    Step::Land { worker }
+}
+
+#[test]
+fn a_submission_is_landed_by_its_worker(rt: HostRuntime) {
+    let steps = [land(0), look(0, 0), look(1, 0), land(0), judge(0), land(0)];
+    let given = gives(rt.alloc(), 100, &steps, &[Some(yes(1))], &FILE);
+    assert!(rt; given == Some(true));
+}
+
+#[test]
+fn steps_out_of_their_place_change_nothing(rt: HostRuntime) {
+    let steps = [
+        look(8, 0),
+        look(0, 2),
+        judge(0),
+        look(0, 0),
+        look(0, 1),
+        judge(0),
+        judge(0),
+        land(1),
+        land(8),
+        land(0),
+        land(0),
+        look(7, 0),
+        judge(7),
+        land(7),
+    ];
+    let given = gives(rt.alloc(), 100, &steps, &[Some(yes(1)), None], &FILE);
+    assert!(rt; given == Some(true));
+}
+
+/// The only entry is refused in a judgement that was made again.
+fn refused_again(position: u32, reason: Reason) -> Reply {
+    let fault = Fault::Entry(EntryFault { index: 0, reason });
+    Reply::No {
+        position,
+        rejudged: true,
+        fault,
+    }
+}
+
+#[test]
+fn verdicts_are_landed_after_what_they_read_has_changed(rt: HostRuntime) {
+    let steps = [
+        look(0, 0),
+        look(7, 1),
+        judge(7),
+        judge(0),
+        land(7),
+        land(0),
+        Step::Act(Act::Drop {
+            client: 7,
+            number: 1,
+        }),
+        look(3, 2),
+        judge(3),
+    ];
+    let replies = [
+        Some(refused_again(2, Reason::NameTaken)),
+        Some(yes(1)),
+        None,
+    ];
+    let given = gives(rt.alloc(), 100, &steps, &replies, &FILE);
+    assert!(rt; given == Some(true));
+}
+
+#[test]
+fn a_full_docket_leaves_the_submission(rt: HostRuntime) {
+    let steps = [look(0, 0), judge(0), land(0), look(1, 0), judge(1), land(1)];
+    let given = gives(rt.alloc(), 1, &steps, &[None], &NO_FILE);
+    assert!(rt; given == Some(true));
+}
+
+/// Whether it is the Create as it was handed in.
+fn is_create<A: Allocator>(submission: &Submission<A>) -> bool {
+    submission.client == 7
+        && submission.log.as_slice() == CREATE_LOG
+        && submission.plan.as_slice() == CREATE_PLAN
+}
+
+/// Whether the one ticket has a yes, or else is left as it was handed in, in the state that goes with it.
+fn is_lawful<A: Allocator>(end: &ScriptEnd<A>) -> bool {
+    let shape = end.desk.image().shape();
+    match (end.replies.as_slice(), end.left.as_slice()) {
+        ([Some(reply)], [None]) => *reply == yes(1) && shows(shape, &FILE),
+        ([None], [Some(left)]) => is_create(left) && shows(shape, &NO_FILE),
+        _ => false,
+    }
+}
+
+/// Whether all came back as it was handed in.
+fn is_back<A: Allocator>(back: &ScriptBack<A>) -> bool {
+    match back.submissions.as_slice() {
+        [submission] => is_create(submission) && shows(back.desk.image().shape(), &NO_FILE),
+        _ => false,
+    }
+}
+
+/// Looks, judges and lands, twice where the first time it came back.
+const TWICE: [Step<'static>; 6] = [
+    Step::Look {
+        worker: 0,
+        ticket: 0,
+    },
+    Step::Judge { worker: 0 },
+    Step::Land { worker: 0 },
+    Step::Look {
+        worker: 1,
+        ticket: 0,
+    },
+    Step::Judge { worker: 1 },
+    Step::Land { worker: 1 },
+];
+
+/// Runs the script with the growth of this index refused, one growth alone. Answers whether there was such a
+/// growth; none where what comes out isn't lawful.
+fn script_with_one_refused(
+    heap: &Refusing<Global>,
+    desk: Desk<&Refusing<Global>>,
+    growth: u64,
+) -> Option<bool> {
+    let creates = creates(heap, 1)?;
+    heap.refuse_after(growth);
+    let is_right = match run_script(heap, desk, creates, &TWICE) {
+        Ok(end) => is_lawful(&end),
+        Err(back) => is_back(&back),
+    };
+    if is_right {
+        Some(heap.has_refused())
+    } else {
+        None
+    }
+}
+
+/// The same on a heap of its own.
+fn script_on_a_heap(alloc: Global, growth: u64) -> Option<bool> {
+    let heap = Refusing::new(alloc, AMPLE);
+    let desk = opening(&heap, 100)?;
+    script_with_one_refused(&heap, desk, growth)
+}
+
+/// How many growths the script makes, each of which is refused in turn; or the index of one at which what comes out
+/// isn't lawful.
+fn growths(alloc: Global) -> Result<u64, u64> {
+    for growth in 0..MANY {
+        match script_on_a_heap(alloc, growth) {
+            Some(true) => {}
+            Some(false) => return Ok(growth),
+            None => return Err(growth),
+        }
+    }
+    Err(MANY)
+}
+
+#[test]
+fn each_growth_of_a_script_refused(rt: HostRuntime) {
+    let count = growths(rt.alloc());
+    let is_right = match count {
+        Ok(count) => 5 < count,
+        Err(_) => false,
+    };
+    assert!(rt; is_right, "{count:?}");
+}
