@@ -140,7 +140,7 @@ fn is_create<A: Allocator>(submission: &Submission<A>) -> bool {
 }
 
 /// Whether the one ticket has a yes, or else is left as it was handed in, in the state that goes with it.
-fn is_lawful<A: Allocator>(end: &ScriptEnd<A>) -> bool {
+fn is_lawful<A: Allocator + Copy>(end: &ScriptEnd<A>) -> bool {
     let shape = end.desk.image().shape();
     match (end.replies.as_slice(), end.left.as_slice()) {
         ([Some(reply)], [None]) => *reply == yes(1) && shows(shape, &FILE),
@@ -150,7 +150,7 @@ fn is_lawful<A: Allocator>(end: &ScriptEnd<A>) -> bool {
 }
 
 /// Whether all came back as it was handed in.
-fn is_back<A: Allocator>(back: &ScriptBack<A>) -> bool {
+fn is_back<A: Allocator + Copy>(back: &ScriptBack<A>) -> bool {
     match back.submissions.as_slice() {
         [submission] => is_create(submission) && shows(back.desk.image().shape(), &NO_FILE),
         _ => false,
