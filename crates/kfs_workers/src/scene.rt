@@ -264,7 +264,7 @@ fn put_back<A: Allocator>(waiting: &mut Vec<Option<Submission<A>>, A>, hand: Opt
             Held::Taken {
                 ticket,
                 submission,
-                look: _,
+                ..
             },
         ) => put_at(waiting, ticket, submission),
         Some(Held::Decided { ticket, judged }) => {
