@@ -1,6 +1,7 @@
 -- What the replies of a script's run say.
 use Rattle.std.proofs.Common.{◌≡◌, ◌≢◌, ℕ, ◌+◌, ◌<◌, List, [], ◌∷◌, length, take, get_or, ◌⊎◌, inl, inr, Option, Some, None, is_some, true, false, refl, sym, ap, subst, ◌∙◌}
 use Rattle.std.specs.List.{slice_get}
+use Rattle.std.proofs.lemmas.Option.{slice_get_within}
 use Rattle.kfs_model.specs.Access.{Client}
 use Rattle.kfs_model.specs.Effect.{effect}
 use Rattle.kfs_model.specs.Entry.{Entry}
@@ -17,7 +18,7 @@ use Rattle.kfs_desk.specs.Machine.{AreShown, Desk, IsDone, Means}
 use Rattle.kfs_workers.specs.Claims.{AreAllowed, AreSettled, AtReply, EachReply, ElseChangesNothing, Gives, HasAllowedEntries, IsSettled, ShowsItsEntries, StandsAt}
 use Rattle.kfs_workers.specs.Script.{Held, IsRun, Scene, all_returned, begun}
 use Rattle.kfs_workers.specs.declared.script.Step.{Step}
-use Rattle.kfs_workers.proofs.Places.{AreInPlace, Place, Waits, With, Answered, got_within, in_place_at_first, is_answered, submission_in, ticket_of, waiting_at}
+use Rattle.kfs_workers.proofs.Places.{AreInPlace, Place, Waits, With, Answered, in_place_at_first, is_answered, submission_in, ticket_of, waiting_at}
 use Rattle.kfs_workers.proofs.Replies.{AreStanding, run_stands, stands_at_first}
 use Rattle.kfs_workers.proofs.Settled.{given_at_end, kept_back}
 
@@ -55,7 +56,7 @@ module _ (desk last : Desk) (submissions : List Submission) (script : List Step)
           one e = cc
 
       within : ticket < length run.scene.waiting
-      within = subst (λ n. ticket < n) (sym both.0.waiting_length) (got_within submissions ticket submission of)
+      within = subst (λ n. ticket < n) (sym both.0.waiting_length) (slice_get_within submissions ticket submission of)
 
       left_there : (get_or run.scene.waiting ticket None ≡ Some submission) ⊎ ((worker : ℕ) × (held : Held) × (get_or run.scene.hands worker None ≡ Some held) × (ticket_of held ≡ ticket))
           → get_or (all_returned run.scene.hands run.scene.waiting) ticket None ≡ Some submission

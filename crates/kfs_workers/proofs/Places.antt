@@ -19,18 +19,6 @@ found_within [] i x is = cc
 found_within (y ∷ ys) zero x is = omega arith
 found_within (y ∷ ys) (suc i) x is = let before = found_within ys i x is in omega arith
 
-pub got_within : {X : Type 0} (xs : List X) (i : ℕ) (x : X) → slice_get xs i ≡ Some x → i < length xs
-got_within [] i x is = cc
-got_within (y ∷ ys) zero x is = omega arith
-got_within (y ∷ ys) (suc i) x is = let before = got_within ys i x is in omega arith
-
--- after a store, at the place stored and at others
-pub stored : {X : Type 0} (xs : List (Option X)) (i : ℕ) (x : Option X) → i < length xs → get_or (set xs i x) i None ≡ x
-stored xs i x within = get_or-set_same xs i x None within
-
-pub kept : {X : Type 0} (xs : List (Option X)) (i j : ℕ) (x : Option X) → j ≢ i → get_or (set xs i x) j None ≡ get_or xs j None
-kept xs i j x other = get_or-set_other xs i j x None other
-
 -- numbers are equal or not
 pub by_equal : {P : Type 0} (one other : ℕ) → (one ≡ other → P) → (one ≢ other → P) → P
 by_equal {P} one other same apart = by (ℕ_discrete one other)

@@ -1,7 +1,8 @@
 -- Each reply of a script stands in the docket at its position, and says what was done to the state there.
 use Rattle.std.proofs.Common.{◌≡◌, ◌≢◌, ℕ, zero, suc, ◌+◌, ◌≤◌, ◌<◌, List, [], ◌∷◌, ◌++◌, length, take, get_or, set, ◌⊎◌, inl, inr, Option, Some, None, refl, sym, ap, subst, ◌∙◌, arith, length-append, append-nil}
 use Rattle.std.specs.List.{slice_get}
-use Rattle.std.proofs.lemmas.List.{get_or-set_same, get_or-set_other}
+use Rattle.std.proofs.lemmas.List.{get_or-set_same, get_or-set_other, take-append-le, take_all}
+use Rattle.std.proofs.lemmas.Option.{slice_get_within}
 use Rattle.kfs_model.specs.Judgement.{State, Submission}
 use Rattle.kfs_model.specs.Machine.{Call, IsRead, Row, after, next}
 use Rattle.kfs_docket.specs.Legal.{LeadsTo}
@@ -16,15 +17,10 @@ use Rattle.kfs_workers.specs.Claims.{StandsAt}
 use Rattle.kfs_workers.specs.Script.{Held, Taken, Decided, Scene, Asks, Does, Looks, Judges, Lands, Runs, begun}
 use Rattle.kfs_workers.specs.declared.script.Step.{Step}
 use Rattle.kfs_workers.specs.declared.script.Step.TheVariants as steps
-use Rattle.kfs_workers.proofs.Places.{AreInPlace, by_equal, got_within, none_each}
+use Rattle.kfs_workers.proofs.Places.{AreInPlace, by_equal, none_each}
 use Rattle.kfs_workers.proofs.Settled.{step_in_place}
 
 -- ---- a docket with a row more
-
-take-front : {X : Type 0} (xs ys : List X) (count : ℕ) → count ≤ length xs → take count (xs ++ ys) ≡ take count xs
-take-front xs ys zero few = refl
-take-front [] ys (suc count) few = absurd (omega arith)
-take-front (x ∷ xs) ys (suc count) few = ap (λ l. x ∷ l) (take-front xs ys count (omega arith))
 
 get-front : {X : Type 0} (xs ys : List X) (i : ℕ) → i < length xs → slice_get (xs ++ ys) i ≡ slice_get xs i
 get-front [] ys i few = absurd (omega arith)
@@ -34,10 +30,6 @@ get-front (x ∷ xs) ys (suc i) few = get-front xs ys i (omega arith)
 get-last : {X : Type 0} (xs : List X) (y : X) → slice_get (xs ++ y ∷ []) (length xs) ≡ Some y
 get-last [] y = refl
 get-last (x ∷ xs) y = get-last xs y
-
-take-all : {X : Type 0} (xs : List X) → take (length xs) xs ≡ xs
-take-all [] = refl
-take-all (x ∷ xs) = ap (λ l. x ∷ l) (take-all xs)
 
 -- ---- where a reply stands, and what it means
 
@@ -72,7 +64,7 @@ module _ (old new : Desk) (grows : Grows old new) where
       let more = longer in
       let within = is.within in
       let front : (count : ℕ) → count ≤ length old.docket → after new.opening (take count new.docket) ≡ after old.opening (take count old.docket) =
-      λ count few. ap (λ o. after o (take count new.docket)) grows.opening ∙ ap (λ rows. after old.opening (take count rows)) grows.docket ∙ ap (after old.opening) (take-front old.docket grows.rows count few) in
+      λ count few. ap (λ o. after o (take count new.docket)) grows.opening ∙ ap (λ rows. after old.opening (take count rows)) grows.docket ∙ ap (after old.opening) (take-append-le count old.docket grows.rows few) in
       record {
         before = is.before;
         after_it = is.after_it;
@@ -96,7 +88,7 @@ answer_stands old new legal submission again reply is =
     let place = is.position in
     let count = length-append old.docket (is.row ∷ []) in
     let long = ap length is.docket in
-    let whole : take (length old.docket + 1) new.docket ≡ new.docket = ap (λ n. take n new.docket) (let n : length old.docket + 1 ≡ length new.docket = omega arith in n) ∙ take-all new.docket in (
+    let whole : take (length old.docket + 1) new.docket ≡ new.docket = ap (λ n. take n new.docket) (let n : length old.docket + 1 ≡ length new.docket = omega arith in n) ∙ take_all (length new.docket) new.docket (omega arith) in (
       record { rows = is.row ∷ []; docket = is.docket; opening = is.opening; legal = legal_now },
       record {
         before = old.state;
@@ -105,7 +97,7 @@ answer_stands old new legal submission again reply is =
           row = is.row;
           at = ap (slice_get new.docket) place ∙ ap (λ rows. slice_get rows (length old.docket)) is.docket ∙ get-last old.docket is.row;
           led = ap (λ n. after new.opening (take n new.docket)) place ∙ ap (λ o. after o (take (length old.docket) new.docket)) is.opening ∙ ap (λ rows. after old.opening (take (length old.docket) rows)) is.docket
-              ∙ ap (after old.opening) (take-front old.docket (is.row ∷ []) (length old.docket) (omega arith) ∙ take-all old.docket) ∙ legal.fit;
+              ∙ ap (after old.opening) (take-append-le (length old.docket) old.docket (is.row ∷ []) (omega arith) ∙ take_all (length old.docket) old.docket (omega arith)) ∙ legal.fit;
           leads = ap (λ n. after new.opening (take (n + 1) new.docket)) place ∙ ap (after new.opening) whole ∙ legal_now.fit;
           step = is.step;
         };
@@ -212,7 +204,7 @@ module _ (submissions : List Submission) (scene next_scene : Scene) (in_place : 
   lands worker (Some (Decided ticket verdict)) at (inr is) = same_desk (ap (λ (s : Scene). s.replies) is) (ap (λ (s : Scene). s.desk) is)
   lands worker (Some (Decided ticket verdict)) at (inl landed) =
       let (there, of) = in_place.holds worker (Decided ticket verdict) at in
-      let within : ticket < length scene.replies = subst (λ n. ticket < n) (sym in_place.replies_length) (got_within submissions ticket verdict.submission of) in
+      let within : ticket < length scene.replies = subst (λ n. ticket < n) (sym in_place.replies_length) (slice_get_within submissions ticket verdict.submission of) in
       let (grows, stands) = answer_stands scene.desk next_scene.desk are.legal verdict.submission (is_rejudged landed.answer) landed.answer landed.answered in
       reply_added submissions scene next_scene are ticket verdict.submission landed.answer of within (ap (λ (s : Scene). s.replies) landed.is) landed.answered.position grows stands
 

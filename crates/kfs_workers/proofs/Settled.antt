@@ -2,6 +2,7 @@
 use Rattle.std.proofs.Common.{◌≡◌, ◌≢◌, ℕ, zero, suc, ◌<◌, List, [], ◌∷◌, length, get_or, set, ◌⊎◌, inl, inr, Option, Some, None, is_some, true, false, refl, sym, ap, subst, ◌∙◌}
 use Rattle.std.specs.List.{slice_get}
 use Rattle.std.proofs.lemmas.List.{get_or-set_same, get_or-set_other, length-set}
+use Rattle.std.proofs.lemmas.Option.{get_or_from_slice_get, slice_get_within}
 use Rattle.kfs_model.specs.Judgement.{State, Submission}
 use Rattle.kfs_plan.specs.declared.answers.Reply.{Reply}
 use Rattle.kfs_desk.specs.Machine.{Desk}
@@ -9,16 +10,11 @@ use Rattle.kfs_workers.specs.Script.{Held, Taken, Decided, Scene, Does, Looks, J
 use Rattle.kfs_workers.specs.Verdict.{HeldVerdict, IsVerdictOn}
 use Rattle.kfs_workers.specs.declared.script.Step.{Step}
 use Rattle.kfs_workers.specs.declared.script.Step.TheVariants as steps
-use Rattle.kfs_workers.proofs.Places.{AreInPlace, Goes, Place, Waits, With, Answered, by_equal, found_within, gone_on, got_within, in_place_at_first, is_answered, submission_in, ticket_of, waiting_at}
+use Rattle.kfs_workers.proofs.Places.{AreInPlace, Goes, Place, Waits, With, Answered, by_equal, found_within, gone_on, in_place_at_first, is_answered, submission_in, ticket_of, waiting_at}
 
--- where a list has no place, nothing is stored
+-- an empty hand is one of the workers'
 hand_within : (hands : List (Option Held)) (worker : ℕ) → slice_get hands worker ≡ Some None → (worker < length hands) × (get_or hands worker None ≡ None)
-hand_within hands worker is = (got_within hands worker None is, empty hands worker is)
-  where
-    empty : (hands : List (Option Held)) (worker : ℕ) → slice_get hands worker ≡ Some None → get_or hands worker None ≡ None
-    empty [] worker is = refl
-    empty (hand ∷ hands) zero is = cc
-    empty (hand ∷ hands) (suc worker) is = empty hands worker is
+hand_within hands worker is = (slice_get_within hands worker None is, get_or_from_slice_get hands worker None None is)
 
 -- what is found in the hand is what is held
 same_held : {one other : Held} → Some one ≡ Some other → one ≡ other
@@ -114,7 +110,7 @@ module _ (submissions : List Submission) (scene : Scene) (are : AreInPlace submi
 
     pub back_in_place : (returned : Submission) → returned ≡ its_submission → AreInPlace submissions (given_back scene worker its_ticket returned)
     back_in_place returned same =
-        let within : its_ticket < length scene.waiting = subst (λ n. its_ticket < n) (sym are.waiting_length) (got_within submissions its_ticket its_submission its) in
+        let within : its_ticket < length scene.waiting = subst (λ n. its_ticket < n) (sym are.waiting_length) (slice_get_within submissions its_ticket its_submission its) in
         gone_on submissions scene (given_back scene worker its_ticket returned) are its_ticket worker Waits (record {
           from = inr there;
           waiting_length = length-set scene.waiting its_ticket (Some returned);
@@ -131,7 +127,7 @@ module _ (submissions : List Submission) (scene : Scene) (are : AreInPlace submi
 
     pub land_in_place : (desk : Desk) (reply : Reply) → AreInPlace submissions (record { desk = desk; waiting = scene.waiting; hands = set scene.hands worker None; replies = set scene.replies its_ticket (Some reply) })
     land_in_place desk reply =
-        let within : its_ticket < length scene.replies = subst (λ n. its_ticket < n) (sym are.replies_length) (got_within submissions its_ticket its_submission its) in
+        let within : its_ticket < length scene.replies = subst (λ n. its_ticket < n) (sym are.replies_length) (slice_get_within submissions its_ticket its_submission its) in
         gone_on submissions scene (record { desk = desk; waiting = scene.waiting; hands = set scene.hands worker None; replies = set scene.replies its_ticket (Some reply) }) are its_ticket worker Answered (record {
           from = inr there;
           waiting_length = refl;

@@ -69,13 +69,11 @@ impl<A: Allocator + Copy> Scene<A> {
             return Err(ScriptBack { desk, submissions });
         };
         let Room {
-            mut waiting,
+            waiting,
             hands,
             replies,
         } = room;
-        for submission in submissions {
-            push_within(&mut waiting, Some(submission));
-        }
+        let waiting = all_waiting(submissions, waiting);
         Ok(Scene {
             alloc,
             desk,
@@ -220,11 +218,27 @@ impl<A: Allocator + Copy> Room<A> {
 fn none_of<T: Drop, A: Allocator>(alloc: A, count: usize) -> Result<Vec<Option<T>, A>, AllocError>
     ensures { IfOk result (λ list. list.items ≡ replicate count None) }
 {
-    let mut list = Vec::with_capacity(alloc, count)?;
+    let mut list = Vec::new(alloc);
     for _ in 0..count {
-        push_within(&mut list, None);
+        list.push(None)?;
     }
     Ok(list)
+}
+
+/// Puts all down in this list, which has room for them.
+fn all_waiting<T: Drop, A: Allocator>(
+    submissions: Vec<T, A>,
+    room: Vec<Option<T>, A>,
+) -> Vec<Option<T>, A>
+    requires empty { room.items ≡ [] }
+    requires room { length submissions.items ≤ spare_of room }
+    ensures { result.items ≡ map Some submissions.items }
+{
+    let mut waiting = room;
+    for submission in submissions {
+        push_within(&mut waiting, Some(submission));
+    }
+    waiting
 }
 
 /// Appends an element, for which there is room.
