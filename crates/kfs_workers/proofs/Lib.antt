@@ -1,2 +1,6 @@
--- Lemmas on verdicts.
+-- Lemmas on verdicts, and on scripts.
+pub mod Claimed
+pub mod Places
+pub mod Replies
+pub mod Settled
 pub mod Verdicts

@@ -56,11 +56,24 @@ pub fn run_script<A: Allocator + Copy>(
     steps: &[Step<'_>],
 ) -> Result<ScriptEnd<A>, ScriptBack<A>>
     ensures run { IfOk result (λ end. IsRun desk (map submission_of submissions.items) steps.now end.replies.items (map (option_map submission_of) end.left.items) end.desk) }
+    ensures tickets { IfOk result (λ end. AreSettled end.desk (map submission_of submissions.items) end.replies.items (map (option_map submission_of) end.left.items)) }
+
+    // After a Yes a well formed image shows what the entries give one by one from the tree at the landing.
+    ensures yes { IfOk result (λ end. EachReply end.desk (map submission_of submissions.items) end.replies.items ShowsItsEntries) }
+
+    // Each of these entries is allowed at its own point, by mode bits and by leases held at the landing.
+    ensures allowed { IfOk result (λ end. EachReply end.desk (map submission_of submissions.items) end.replies.items HasAllowedEntries) }
+    ensures otherwise { IfOk result (λ end. EachReply end.desk (map submission_of submissions.items) end.replies.items ElseChangesNothing) }
+    ensures legal { IfOk result (λ end. LeadsTo end.desk.opening end.desk.docket end.desk.state) }
     ensures back { IfErr result (λ back. (back.desk ≡ desk) × (back.submissions ≡ submissions)) }
 {
+    // A desk's docket is legal, at first and at the end.
+    let _docket = desk.docket();
     let mut scene = Scene::begin(alloc, desk, submissions)?;
     make_all(&mut scene, steps);
-    Ok(scene.end())
+    let end = scene.end();
+    let _docket = end.desk.docket();
+    Ok(end)
 }
 
 /// Makes the steps.
