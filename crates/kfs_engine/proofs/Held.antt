@@ -1,30 +1,14 @@
 -- Hands of a session.
-use Rattle.std.proofs.Common.{◌≡◌, ◌≢◌, ◌⊎◌, inl, inr, ℕ, ◌++◌, Bool, true, false, List, [], ◌∷◌, map, Option, Some, None, option_map, Result, Ok, Err, refl, sym, ap, subst, ◌∙◌}
-use Rattle.std.specs.Prelude.{get_or, set, codes, decimal, All, Contains, IfErr, OnOk}
+use Rattle.std.proofs.Common.{◌≡◌, ◌≢◌, inr, ℕ, ◌++◌, List, Option, Some, None, option_map, Result, Ok, Err, refl, sym, ap, subst, ◌∙◌}
+use Rattle.std.specs.Prelude.{get_or, set, codes, decimal, IfErr, OnOk}
 use Rattle.std.specs.Option.{ok_or}
-use Rattle.std.specs.List.{AllByRecursion}
 use Rattle.std.proofs.Math.ListN.{get_or-map}
 use Rattle.std.proofs.lemmas.List.{map-set, set-get_or}
-use Rattle.std.proofs.lemmas.List.Elements.{All-map}
-use Rattle.kfs_model.specs.Judgement.{State, Submission, Fault, Verdict, Yes, No, IsJudgement, client_sight_of}
-use Rattle.kfs_model.specs.Lease.{holds, row_of}
-use Rattle.kfs_model.specs.Looked.{looked_cells}
-use Rattle.kfs_model.specs.Order.{IsInOrder}
-use Rattle.kfs_model.specs.Sight.{Cell, Answer, ClientSight, answer}
-use Rattle.kfs_check.specs.Reads.{Agrees, AgreesAlong, answer_of, cell_of}
-use Rattle.kfs_check.specs.View.{client_sight_in, clients_of}
-use Rattle.kfs_check.specs.declared.reads.Read.{Read}
-use Rattle.kfs_check.specs.declared.reads.ReadAnswer.{ReadAnswer}
-use Rattle.kfs_check.specs.declared.view.View.{View}
+use Rattle.kfs_model.specs.Judgement.{Submission}
 use Rattle.kfs_plan.specs.Judged.{Judged}
-use Rattle.kfs_plan.specs.Judging.{AreLooked, AreOfLog, IsAlike, IsVerdict, Tells, refusal_of, stops_before, submission_of}
-use Rattle.kfs_plan.specs.declared.submission.Fault.{Fault as CodeFault}
-use Rattle.kfs_plan.specs.declared.submission.Outcome.{Outcome}
-use Rattle.kfs_plan.specs.declared.submission.Outcome.TheVariants as outcomes
-use Rattle.kfs_plan.specs.declared.submission.Submission.{Submission as CodeSubmission}
 use Rattle.kfs_lease.specs.declared.act.Act.{Act}
 use Rattle.kfs_lease.specs.declared.act.Act.TheVariants as acts
-use Rattle.kfs_desk.specs.Machine.{Desk, IsCurrent, IsViewOf, call_of, done_by}
+use Rattle.kfs_desk.specs.Machine.{Desk, call_of, done_by}
 use Rattle.kfs_command.specs.Command as commands
 use Rattle.kfs_command.specs.Views.{act_of, asked_of_desk}
 use Rattle.kfs_command.specs.declared.command.DeskCommand.{DeskCommand}

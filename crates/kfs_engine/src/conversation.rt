@@ -36,7 +36,11 @@ impl<A: Allocator + Copy> Conversation<A> {
     }
 
     /// Answers each line that ends in `bytes`, and keeps the bytes after the last end.
-    pub fn take<W: Write + Drop>(&mut self, bytes: &[u8], writer: &mut HeldBack<W, A>) -> Result<(), EngineFault>
+    pub fn take<W: Write>(
+        &mut self,
+        bytes: &[u8],
+        writer: &mut HeldBack<'_, W, A>,
+    ) -> Result<(), EngineFault>
         ensures session { Writes (contents_with W.contents writer.old) (contents_with W.contents writer.new) (Takes self.old bytes.now result self.new) }
         ensures first { writer.new.first ≡ writer.old.first }
     {
@@ -49,7 +53,7 @@ impl<A: Allocator + Copy> Conversation<A> {
     }
 
     /// Answers the last line, where it lacks its end.
-    pub fn finish<W: Write + Drop>(&mut self, writer: &mut HeldBack<W, A>) -> Result<(), EngineFault>
+    pub fn finish<W: Write>(&mut self, writer: &mut HeldBack<'_, W, A>) -> Result<(), EngineFault>
         ensures session { Writes (contents_with W.contents writer.old) (contents_with W.contents writer.new) (Ends self.old result) }
         ensures first { writer.new.first ≡ writer.old.first }
     {
@@ -61,7 +65,11 @@ impl<A: Allocator + Copy> Conversation<A> {
     }
 
     /// Answers the line, of which `part` is the last bytes.
-    fn end_line<W: Write + Drop>(&mut self, part: &[u8], writer: &mut HeldBack<W, A>) -> Result<(), EngineFault>
+    fn end_line<W: Write>(
+        &mut self,
+        part: &[u8],
+        writer: &mut HeldBack<'_, W, A>,
+    ) -> Result<(), EngineFault>
         ensures session { Writes (contents_with W.contents writer.old) (contents_with W.contents writer.new) (IsLineAnswered result self.old (self.old.line.items ++ part.now) self.new) }
         ensures first { writer.new.first ≡ writer.old.first }
         ensures cleared { OnOk result (self.new.line.items ≡ []) }
@@ -81,7 +89,7 @@ impl<A: Allocator + Copy> Conversation<A> {
         Ok(())
     }
 
-    fn answer<W: Write + Drop>(&mut self, writer: &mut HeldBack<W, A>) -> Result<(), EngineFault>
+    fn answer<W: Write>(&mut self, writer: &mut HeldBack<'_, W, A>) -> Result<(), EngineFault>
         ensures session { Writes (contents_with W.contents writer.old) (contents_with W.contents writer.new) (IsHeldAnswered result self.old self.new) }
         ensures first { writer.new.first ≡ writer.old.first }
         ensures cleared { self.new.line.items ≡ [] }

@@ -47,10 +47,8 @@ where
     ensures end { OnOk result (IsAtEnd (I.remaining reader.new)) }
 {
     let mut chunk = new_chunk(alloc)?;
-    let mut held = HeldBack::new(alloc, writer);
-    let ended = answer_all(alloc, reader, &mut chunk, &mut held);
-    let (_writer, closed) = held.close();
-    closed?;
+    let (written, ended) = answer_together(alloc, reader, &mut chunk, writer);
+    let _writer = written;
     ended
 }
 
@@ -61,17 +59,42 @@ fn new_chunk<A: Allocator>(alloc: A) -> Result<Vec<u8, A>, EngineFault>
     Ok(vec![in alloc; 0u8; CHUNK]?)
 }
 
+/// Reads and answers all, with the replies held back, and gives the writer back.
+fn answer_together<'w, A, I, O>(
+    alloc: A,
+    reader: &mut I,
+    chunk: &mut [u8],
+    writer: &'w mut O,
+) -> (&'w mut O, Result<(), EngineFault>)
+where
+    A: Allocator + Copy,
+    I: Read,
+    O: Write,
+    requires { 0 < length chunk.old }
+    ensures session { Exchanges (I.remaining reader.old) (I.remaining reader.new) (O.contents writer.old) (O.contents result.0.now) (IsSession result.1) }
+    ensures reference { result.0.ghost_name ≡ writer.entry.ghost_name }
+    ensures end { OnOk result.1 (IsAtEnd (I.remaining reader.new)) }
+{
+    let mut held = HeldBack::new(alloc, writer);
+    let ended = answer_all(alloc, reader, chunk, &mut held);
+    let (writer, closed) = held.close();
+    match closed {
+        Ok(()) => (writer, ended),
+        Err(_) => (writer, Err(EngineFault::WriteFault)),
+    }
+}
+
 /// Reads all, a chunk at a time, answers each line, and flushes the writer before the next chunk.
 fn answer_all<A, I, O>(
     alloc: A,
     reader: &mut I,
     chunk: &mut [u8],
-    writer: &mut HeldBack<O, A>,
+    writer: &mut HeldBack<'_, O, A>,
 ) -> Result<(), EngineFault>
 where
     A: Allocator + Copy,
     I: Read,
-    O: Write + Drop,
+    O: Write,
     requires { 0 < length chunk.old }
     ensures session { Exchanges (I.remaining reader.old) (I.remaining reader.new) (contents_with O.contents writer.old) (contents_with O.contents writer.new) (IsSession result) }
     ensures first { writer.new.first ≡ writer.old.first }

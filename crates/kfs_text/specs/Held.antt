@@ -1,5 +1,6 @@
 -- A writer in front of another, which holds bytes back.
 use Rattle.std.specs.Prelude.{ℕ, List, Option}
+use Rattle.std.specs.Borrow.{MutBor}
 use Rattle.std.specs.Io.KnownBytes.{Appends, append_known}
 
 -- bytes were written behind what stood there
@@ -8,10 +9,10 @@ HasGrown before after = (text : List ℕ) × Appends before after text
 
 -- the inner writer as it was at first and as it is, and what is held
 pub record Held (W : Type 0) : Type 0 where
-  pub first : W
-  pub inner : W
+  pub first : MutBor W
+  pub inner : MutBor W
   pub held : List ℕ
 
 -- what the inner writer has, and behind it what is held
 abbrev pub contents_with : {W : Type 0} → (W → Option (List ℕ)) → Held W → Option (List ℕ)
-contents_with contents h = append_known (contents h.inner) h.held
+contents_with contents h = append_known (contents h.inner.now) h.held

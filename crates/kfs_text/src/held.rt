@@ -16,30 +16,31 @@ const MOST_HELD: usize = 65_536;
 
 /// Holds back what is written, up to 65,536 bytes, until it is flushed or closed.
 #[derive(Drop)]
-pub struct HeldBack<W: Write + Drop, A: Allocator> {
-    inner: W,
+pub struct HeldBack<'w, W: Write, A: Allocator> {
+    inner: &'w mut W,
     held: Vec<u8, A>,
     /// How many of these the inner writer took before it failed.
     taken: usize,
-    first: Snapshot<W>,
+    first: Snapshot<&'w mut W>,
 }
 
-impl<W: Write + Drop, A: Allocator> Model for HeldBack<W, A> {
-    ghost use Rattle.std.specs.Prelude.{◌≤◌, length, drop};
+impl<'w, W: Write, A: Allocator> Model for HeldBack<'w, W, A> {
+    ghost use Rattle.std.specs.Prelude.{◌≡◌, ◌≤◌, length, drop};
     ghost use Rattle.kfs_text.specs.Held.{HasGrown, Held};
 
     ghost Value = { Held W };
 
     ghost view = { λ h. record { first = h.first.value; inner = h.inner; held = drop h.taken h.held.items } };
 
-    ghost invariant = { λ h. HasGrown (W.contents h.first.value) (W.contents h.inner) × (h.taken ≤ length h.held.items) };
+    ghost invariant = { λ h. HasGrown (W.contents h.first.value.now) (W.contents h.inner.now) × (h.taken ≤ length h.held.items) × (h.inner.ghost_name ≡ h.first.value.ghost_name) };
 }
 
-impl<W: Write + Drop, A: Allocator> HeldBack<W, A> {
+impl<'w, W: Write, A: Allocator> HeldBack<'w, W, A> {
     /// In front of this writer. Takes no memory yet.
-    pub fn new(alloc: A, inner: W) -> HeldBack<W, A>
-        ensures first { result.first ≡ inner }
-        ensures contents { Keeps (W.contents inner) (contents_with W.contents result) }
+    pub fn new(alloc: A, inner: &'w mut W) -> HeldBack<'w, W, A>
+        ensures first { result.first.now ≡ inner.old }
+        ensures reference { result.first.ghost_name ≡ inner.entry.ghost_name }
+        ensures contents { Keeps (W.contents inner.old) (contents_with W.contents result) }
     {
         let first = Snapshot::of(&inner);
         HeldBack {
@@ -60,7 +61,7 @@ impl<W: Write + Drop, A: Allocator> HeldBack<W, A> {
             return Ok(());
         }
         self.write_held()?;
-        write_whole(&mut self.inner, text)
+        write_whole(self.inner, text)
     }
 
     /// Writes what is held, and flushes the inner writer.
@@ -69,22 +70,23 @@ impl<W: Write + Drop, A: Allocator> HeldBack<W, A> {
         ensures first { self.new.first ≡ self.old.first }
     {
         self.write_held()?;
-        flush(&mut self.inner)
+        flush(self.inner)
     }
 
     /// Writes what is held, and gives the inner writer back. Where that fails, a first part of all is written.
-    pub fn close(self) -> (W, Result<(), WriteFault>)
-        ensures grown { HasGrown (W.contents self.first) (W.contents result.0) }
-        ensures all { OnOk result.1 (Keeps (contents_with W.contents self) (W.contents result.0)) }
-        ensures part { OnErr result.1 ((rest : List ℕ) × Keeps (contents_with W.contents self) (append_known (W.contents result.0) rest)) }
+    pub fn close(self) -> (&'w mut W, Result<(), WriteFault>)
+        ensures reference { result.0.ghost_name ≡ self.entry.first.ghost_name }
+        ensures grown { HasGrown (W.contents self.entry.first.now) (W.contents result.0.now) }
+        ensures all { OnOk result.1 (Keeps (contents_with W.contents self.entry) (W.contents result.0.now)) }
+        ensures part { OnErr result.1 ((rest : List ℕ) × Keeps (contents_with W.contents self.entry) (append_known (W.contents result.0.now) rest)) }
     {
         let HeldBack {
-            mut inner,
+            inner,
             held,
             taken,
             first: _,
         } = self;
-        let (_count, ended) = write_out(&mut inner, &held[taken..]);
+        let (_count, ended) = write_out(inner, &held[taken..]);
         (inner, ended)
     }
 
@@ -107,7 +109,7 @@ impl<W: Write + Drop, A: Allocator> HeldBack<W, A> {
         ensures first { self.new.first ≡ self.old.first }
         ensures empty { OnOk result (self.new.held ≡ []) }
     {
-        let (count, ended) = write_out(&mut self.inner, &self.held[self.taken..]);
+        let (count, ended) = write_out(self.inner, &self.held[self.taken..]);
         self.taken += count;
         ended?;
         self.held.clear();

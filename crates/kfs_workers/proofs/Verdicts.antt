@@ -1,10 +1,7 @@
 -- Verdicts of the code as they are held.
-use Rattle.std.proofs.Common.{◌≡◌, ◌≢◌, ◌⊎◌, inl, inr, ℕ, ◌++◌, Bool, true, false, List, [], ◌∷◌, map, Option, Some, None, option_map, Result, Ok, Err, refl, sym, ap, subst, ◌∙◌}
-use Rattle.std.specs.Prelude.{get_or, set, codes, decimal, All, Contains, IfErr, OnOk}
-use Rattle.std.specs.Option.{ok_or}
+use Rattle.std.proofs.Common.{◌≡◌, ◌⊎◌, inl, inr, ℕ, Bool, true, false, List, [], ◌∷◌, map, Some, Result, Ok, Err, IfOk, refl, sym, ap, subst, ◌∙◌}
+use Rattle.std.specs.Prelude.{All, Contains}
 use Rattle.std.specs.List.{AllByRecursion}
-use Rattle.std.proofs.Math.ListN.{get_or-map}
-use Rattle.std.proofs.lemmas.List.{map-set, set-get_or}
 use Rattle.std.proofs.lemmas.List.Elements.{All-map}
 use Rattle.kfs_model.specs.Judgement.{State, Submission, Fault, Verdict, Yes, No, IsJudgement, client_sight_of}
 use Rattle.kfs_model.specs.Lease.{holds, row_of}
@@ -132,3 +129,12 @@ module _ {A : Type 0} (s : State) (in_order : IsInOrder s) (view : View A) (of :
       let P : CodeSubmission A → Type 0 = λ it. IsVerdictOn s (submission_of it) (verdict_of judged) in
       let Q : CodeSubmission A → Type 0 = λ it. Says it judged in
       subst P same (says_verdict judged (subst Q (sym same) says))
+
+  -- of whatever a judgement gave
+  pub judged_verdicts : {E : Type 0} (submission : CodeSubmission A) (result : Result (Judged A) E) → IfOk result (λ judged. judged.submission ≡ submission)
+      → IfOk result (λ judged. judged.client ≡ row_of (clients_of view) submission.client)
+      → IfOk result (λ judged. (t : State) → IsAlike t submission.client judged.client judged.reads → IsVerdict t (submission_of submission) judged.outcome)
+      → IfOk result (λ judged. Agrees judged.reads (client_sight_in view submission.client)) → IfOk result (λ judged. AreLooked view (submission_of submission) judged.outcome judged.reads)
+      → IfOk result (λ judged. IsVerdictOn s (submission_of submission) (verdict_of judged))
+  judged_verdicts submission (Ok judged) same client known agrees among = judged_verdict submission judged same (client, known, agrees, among)
+  judged_verdicts submission (Err back) same client known agrees among = tt

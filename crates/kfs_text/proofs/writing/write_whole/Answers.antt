@@ -1,4 +1,4 @@
-use Rattle.std.proofs.Common.{◌≡◌, ℕ, List, ◌++◌, length, take, drop, Result, Ok, Err, sym, ap, ◌∙◌, take-append-drop}
+use Rattle.std.proofs.Common.{◌≡◌, ℕ, List, length, take, drop, Result, Ok, Err, sym, ap, ◌∙◌, take-append-drop}
 use Rattle.std.specs.Prelude.{OnOk}
 use Rattle.std.proofs.Common.{take_all, le_refl}
 use Rattle.kfs_text.specs.Streams.{IsWritten}
