@@ -16,7 +16,7 @@ use Rattle.kfs_plan.specs.declared.submission.Outcome.TheVariants as outcomes
 use Rattle.kfs_plan.specs.declared.answers.Reply.{Reply}
 use Rattle.kfs_plan.specs.declared.answers.Reply.TheVariants as replies
 use Rattle.kfs_desk.specs.Landing.{Answers, CanLand, CanLandYes, HasLanded, ended_by, free_in, leases_left}
-use Rattle.kfs_desk.specs.Machine.{IsAnswered, IsDesk, IsStep, Means, Parts, shown, state_at, state_of}
+use Rattle.kfs_desk.specs.Machine.{IsAnswered, IsDesk, IsShown, IsStep, Means, Parts, shown, state_at, state_of}
 use Rattle.kfs_desk.specs.Docket.{is_rejudged, position_of}
 use Rattle.kfs_desk.proofs.Dockets.{desk_with}
 use Rattle.kfs_desk.proofs.LandedBytes.{can_land_with, done_landed, fits_full, plan_filled, plan_whole, step_landed}
@@ -154,8 +154,8 @@ told_of {s = s} {after = after} {said = said} {submission = submission} at_first
 module _ (desk new : Parts) (is_desk : IsDesk desk) (submission : Submission) (reply : Reply) (row : Row) (step : IsStep (state_of desk) submission reply row (state_of new)) (opened : new.opening ≡ desk.opening)
     (added : new.docket ≡ desk.docket ++ row ∷ []) (limited : new.limit ≡ desk.limit) where
   -- The desk stays one.
-  pub answered_desk : length desk.docket < desk.limit → IsDesk new
-  answered_desk room = desk_with desk new is_desk row (step_read (state_of desk) submission reply row (state_of new) step) step.fits opened added (let limit = limited in omega arith)
+  pub answered_desk : IsShown (state_of new) → length desk.docket < desk.limit → IsDesk new
+  answered_desk is room = desk_with desk new is_desk row (step_read (state_of desk) submission reply row (state_of new) step) step.fits is opened added (let limit = limited in omega arith)
 
   -- The answer has its row in the docket.
   pub answered_at : (again : Bool) (position : ℕ) → position ≡ length desk.docket → IsAnswer (state_of desk) submission again position reply (state_of new) → IsAnswered (shown desk) submission again reply (shown new)

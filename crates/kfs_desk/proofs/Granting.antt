@@ -14,7 +14,7 @@ use Rattle.kfs_image.proofs.ShownTrees.{sight_shown}
 use Rattle.kfs_lease.specs.declared.act.Act.{Act}
 use Rattle.kfs_lease.specs.declared.act.Act.TheVariants as acts
 use Rattle.kfs_plan.specs.declared.answers.Done.{Done}
-use Rattle.kfs_desk.specs.Machine.{Parts, IsActed, IsChange, IsDesk, IsLeaseStep, call_of, done_by, outcome_at, row_answer, shown, state_of}
+use Rattle.kfs_desk.specs.Machine.{Parts, IsActed, IsChange, IsDesk, IsLeaseStep, IsShown, call_of, done_by, outcome_at, row_answer, shown, state_of}
 use Rattle.kfs_desk.proofs.Dockets.{desk_with}
 
 abbrev pub with_leases : State → Leases → State
@@ -55,8 +55,8 @@ module _ (act : Act) (answer : Result Done CodeFault) where
   module _ (desk new : Parts) (row : Row) (step : IsLeaseStep (state_of desk) (call_of act) (done_by act) answer row (state_of new)) (opened : new.opening ≡ desk.opening) (added : new.docket ≡ desk.docket ++ row ∷ [])
       (limited : new.limit ≡ desk.limit) where
     -- The desk stays one.
-    pub acted_desk : IsDesk desk → length desk.docket < desk.limit → IsDesk new
-    acted_desk is_desk room = desk_with desk new is_desk row (act_read (state_of desk) (state_of new) row step) step.fits opened added (let limit = limited in omega arith)
+    pub acted_desk : IsDesk desk → IsShown (state_of new) → length desk.docket < desk.limit → IsDesk new
+    acted_desk is_desk is room = desk_with desk new is_desk row (act_read (state_of desk) (state_of new) row step) step.fits is opened added (let limit = limited in omega arith)
 
     -- The answer has its row in the docket.
     pub acted_at : (position : ℕ) → position ≡ length desk.docket → IsActed (shown desk) (call_of act) (done_by act) (record { position = position; answer = answer }) (shown new)

@@ -1,5 +1,5 @@
 -- The desk as a state of the machine, and its calls as rows that fit.
-use Rattle.std.specs.Prelude.{◌≡◌, ◌≢◌, ◌↔◌, ℕ, ◌≤◌, Bool, false, List, [], ◌∷◌, ◌++◌, length, Option, Some, option_map, Result, Ok, Err, IfOk, IsErrOf, OnErr}
+use Rattle.std.specs.Prelude.{◌≡◌, ◌≢◌, ◌↔◌, ℕ, ◌≤◌, Bool, false, List, [], ◌∷◌, ◌++◌, length, take, Option, Some, option_map, Result, Ok, Err, IfOk, IsErrOf, OnErr}
 use Rattle.kfs_model.specs.Access.{Client}
 use Rattle.kfs_model.specs.Entry.{Log}
 use Rattle.kfs_model.specs.Lease.{Leases, row_of}
@@ -8,14 +8,14 @@ use Rattle.kfs_model.specs.Sight.{Sight, sight}
 use Rattle.kfs_model.specs.Soundness.{IsSound}
 use Rattle.kfs_model.specs.Spelling.{LogAnswer}
 use Rattle.kfs_model.specs.Judgement.{State, Submission, Reading, IsReadAs, Reply, Accepted, NoRoom, Refused, client_sight_of}
-use Rattle.kfs_model.specs.Machine.{Call, Submit, Lease, Drop, Tick, CallAnswer, Replied, OneByOne, Row, next}
+use Rattle.kfs_model.specs.Machine.{Call, Submit, Lease, Drop, Tick, CallAnswer, Replied, OneByOne, Row, after, next}
 use Rattle.kfs_model.specs.Machine as machine
 use Rattle.kfs_model.specs.Order.{IsInOrder}
 use Rattle.kfs_docket.specs.Legal.{LeadsTo}
 use Rattle.kfs_lease.specs.Faults.{fault_of}
 use Rattle.kfs_lease_rows.specs.Rows.{kind_of}
 use Rattle.kfs_lease.specs.declared.leases.LeaseFault.{LeaseFault}
-use Rattle.kfs_device.specs.ShownTree.{DeviceImage, shown_tree}
+use Rattle.kfs_device.specs.ShownTree.{DeviceImage, IsLawful, shown_tree}
 use Rattle.kfs_plan.specs.Judging.{refusal_of, submission_of}
 use Rattle.kfs_plan.specs.declared.submission.Back.{Back}
 use Rattle.kfs_plan.specs.declared.submission.Submission.{Submission as CodeSubmission}
@@ -63,21 +63,33 @@ state_of desk = state_at desk.image desk.clients desk.leases
 abbrev pub shown : Parts → Desk
 shown desk = record { opening = desk.opening; docket = desk.docket; state = state_of desk; limit = desk.limit }
 
--- the docket keeps to its limit, and leads to the machine's state, which is in order
-pub record IsDesk (desk : Parts) : Type 0 where
-  pub within_limit : length desk.docket ≤ desk.limit
-  pub legal : LeadsTo desk.opening desk.docket (state_of desk)
-  pub in_order : IsInOrder (state_of desk)
-
--- the desk that begins with this state
-abbrev pub opened_at : State → (limit : ℕ) → Desk
-opened_at s limit = record { opening = s; docket = []; state = s; limit = limit }
-
 -- the image shows the state's tree, its tiers are the state's, and its blocks lie where the state says
 pub record IsImageOf (image : DeviceImage) (s : State) : Type 0 where
   pub tree : shown_tree image ≡ s.tree
   pub sizes : image.sizes ≡ s.sizes
   pub placement : image.placement ≡ s.placement
+
+-- a well formed image shows the state
+pub record IsShown (s : State) : Type 0 where
+  pub image : DeviceImage
+  pub lawful : IsLawful image
+  pub is : IsImageOf image s
+
+-- each state to which the docket's first rows lead is shown by a well formed image
+abbrev pub AreShown : (opening : State) → (docket : List Row) → Type 0
+AreShown opening docket = (count : ℕ) (s : State) → after opening (take count docket) ≡ Some s → IsShown s
+
+-- the docket keeps to its limit, and leads to the machine's state, which is in order; its states are shown by well formed
+-- images
+pub record IsDesk (desk : Parts) : Type 0 where
+  pub within_limit : length desk.docket ≤ desk.limit
+  pub legal : LeadsTo desk.opening desk.docket (state_of desk)
+  pub in_order : IsInOrder (state_of desk)
+  pub shown : AreShown desk.opening desk.docket
+
+-- the desk that begins with this state
+abbrev pub opened_at : State → (limit : ℕ) → Desk
+opened_at s limit = record { opening = s; docket = []; state = s; limit = limit }
 
 -- the view shares what the state's tree shows, its leases and its clients
 pub record IsViewOf {A : Type 0} (view : View A) (s : State) : Type 0 where
@@ -218,8 +230,10 @@ pub record IsActed (old : Desk) (call : Call) (words : ℕ → Done) (reply : Ac
   pub opening : new.opening ≡ old.opening
   pub limit : new.limit ≡ old.limit
 
--- the call is answered as such a step, or the desk stays as it is: for want of a row in the docket exactly where it is full
+-- the call is answered as such a step, or the desk stays as it is: for want of a row in the docket exactly where it is full;
+-- the docket is legal either way
 pub record IsCallOf (old : Desk) (call : Call) (words : ℕ → Done) (result : Result ActReply Unanswered) (new : Desk) : Type 0 where
   pub full : IsErrOf result unanswered.DocketFull ↔ (length old.docket ≡ old.limit)
   pub done : IfOk result (λ reply. IsActed old call words reply new)
   pub err : OnErr result (new ≡ old)
+  pub legal : LeadsTo new.opening new.docket new.state

@@ -19,7 +19,7 @@ ghost use Rattle.kfs_fill.specs.FillOf.{CanLandWith, HasLandedWith};
 ghost use Rattle.kfs_check.specs.View.{clients_of, contents_of, leases_of};
 ghost use Rattle.kfs_plan.specs.Judging.{IsVerdict, submission_of};
 ghost use Rattle.kfs_desk.specs.Landing.{Answers, CanLand, ended_by, ended_with, leases_left};
-ghost use Rattle.kfs_desk.specs.Machine.{IsAnswered, IsBackFor, IsCallOf, IsChangeOf, IsCurrent, IsImageOf, IsViewOf, RunsThrough, call_of, done_by, number_of, opened_at, outcome_at, state_at};
+ghost use Rattle.kfs_desk.specs.Machine.{AreShown, IsAnswered, IsBackFor, IsCallOf, IsChangeOf, IsCurrent, IsImageOf, IsViewOf, RunsThrough, call_of, done_by, number_of, opened_at, outcome_at, state_at};
 ghost use Rattle.kfs_desk.specs.Docket.{is_rejudged};
 ghost use Rattle.kfs_desk.specs.Opening.{begin_fault};
 ghost use Rattle.kfs_value.specs.Room.{Appends, spare_of};
@@ -44,7 +44,7 @@ use std::sync::Arc;
 
 /// The image, the clients, their leases, and the docket, which has a row for each call that was
 /// answered, refusals included. The docket leads from the state at the start to the state of now, which
-/// is in order.
+/// is in order, by states that well formed images show.
 #[derive(Drop)]
 pub struct Desk<A: Allocator> {
     alloc: A,
@@ -116,11 +116,12 @@ impl<A: Allocator + Copy> Desk<A> {
         }
     }
 
-    /// The docket, which leads from the state that the desk began with to the state of now. Takes no
-    /// memory.
+    /// The docket, which leads from the state that the desk began with to the state of now. Each state to
+    /// which its first rows lead is shown by a well formed image. Takes no memory.
     pub fn docket(&self) -> &Docket
         ensures shown { result.now ≡ self.now.docket }
         ensures legal { LeadsTo self.now.opening self.now.docket self.now.state }
+        ensures images { AreShown self.now.opening self.now.docket }
     {
         &self.docket
     }
@@ -187,6 +188,9 @@ impl<A: Allocator + Copy> Desk<A> {
         ensures full { IsBackFor result Why.DocketFull ↔ (length self.old.docket ≡ self.old.limit) }
         ensures answered { IfOk result (λ reply. IsAnswered self.old (submission_of submission) false reply self.new) }
         ensures back { IfErr result (λ back. (back.submission ≡ submission) × (self.new ≡ self.old)) }
+
+        // The docket is legal, whatever the answer.
+        ensures legal { LeadsTo self.new.opening self.new.docket self.new.state }
     {
         if self.is_full() {
             let why = Why::DocketFull;
@@ -230,6 +234,9 @@ impl<A: Allocator + Copy> Desk<A> {
         ensures answered { IfOk result (λ reply. IsAnswered self.old (submission_of judged.submission) (is_rejudged reply) reply self.new) }
         ensures rejudged { IfOk result (λ reply. IsFalse (is_rejudged reply) ↔ IsCurrent self.old.state judged) }
         ensures back { IfErr result (λ back. (back.submission ≡ judged.submission) × (self.new ≡ self.old)) }
+
+        // The docket is legal, whatever the answer.
+        ensures legal { LeadsTo self.new.opening self.new.docket self.new.state }
     {
         if self.is_full() {
             let (submission, _outcome) = judged.into_parts();
@@ -267,7 +274,11 @@ impl<A: Allocator + Copy> Desk<A> {
     ) -> Result<Vec<Result<Reply, Back<A>>, A>, SubmissionsBack<A>>
         ensures answers { IfOk result (λ answers. RunsThrough self.old submissions.items answers.items self.new) }
         ensures back { IfErr result (λ back. (back.submissions ≡ submissions) × (self.new ≡ self.old)) }
+        ensures opening { self.new.opening ≡ self.old.opening }
         ensures limit { self.new.limit ≡ self.old.limit }
+
+        // The docket is legal, whatever the answers.
+        ensures legal { LeadsTo self.new.opening self.new.docket self.new.state }
     {
         let Ok(mut answers) = Vec::with_capacity(self.alloc, submissions.len()) else {
             return Err(SubmissionsBack { submissions });

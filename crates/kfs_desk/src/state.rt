@@ -1,6 +1,6 @@
 //! A state of the machine, which only contracts read.
 ghost use Rattle.std.specs.Prelude.{◌≡◌};
-ghost use Rattle.kfs_desk.specs.Machine.{state_at};
+ghost use Rattle.kfs_desk.specs.Machine.{IsShown, state_at};
 
 use kfs_image::Image;
 use kfs_lease::Leases;
@@ -33,8 +33,11 @@ impl<A: Allocator> ShownState<A> {
         clients: &Arc<Vec<Client, A>, A>,
         leases: &Arc<Leases<A>, A>,
     ) -> ShownState<A>
-        ensures { result ≡ state_at image.now clients.now.value.items leases.now.value }
+        ensures state { result ≡ state_at image.now clients.now.value.items leases.now.value }
+        ensures shown { IsShown (state_at image.now clients.now.value.items leases.now.value) }
     {
+        // An image is lawful.
+        let _shape = image.shape();
         ShownState {
             image: Snapshot::of(image),
             clients: Snapshot::of(clients),

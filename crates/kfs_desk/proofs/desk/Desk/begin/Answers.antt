@@ -34,7 +34,7 @@ invariant_of-result g c =
       clients = opened.clients;
       placement = subst (λ (heads : Table numbers Header). IsPlacement image.sizes (get heads) image.placement) (sym lawful.tree.counted) lawful.placed;
     }) in
-    desk_opened _ c.of.ensures c.new-in-Ok-new.ensures in_order
+    desk_opened _ c.of.ensures.state c.new-in-Ok-new.ensures in_order c.of.ensures.shown
 
 pub returns-in-Ok-new-clause-fit : goal.returns-in-Ok-new-clause-fit
 returns-in-Ok-new-clause-fit g c = ap begin_fault (sym c.deref.ensures.value) ∙ none_found c.first_fault.result c.first_fault.ensures.first c.unwrap_or-fault.ensures c.in_default.is

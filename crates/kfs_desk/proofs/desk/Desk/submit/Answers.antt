@@ -3,7 +3,7 @@ use Rattle.std.proofs.Common.{false, ap, ◌<◌, length, sym, subst, refl, arit
 use Rattle.kfs_model.specs.Machine.{Row}
 use Rattle.kfs_plan.specs.Judging.{submission_of}
 use Rattle.kfs_desk.specs.Landing.{Answers, CanLand}
-use Rattle.kfs_desk.specs.Machine.{Desk, IsAnswered, IsStep, Parts, shown, state_at, state_of}
+use Rattle.kfs_desk.specs.Machine.{Desk, IsAnswered, IsDesk, IsStep, Parts, shown, state_at, state_of}
 use Rattle.kfs_desk.proofs.Answered.{IsAnswer, answered, answered_at, answered_desk, can_land, told_of}
 use Rattle.kfs_desk.proofs.desk.Desk.submit.Given as given
 use Rattle.kfs_desk.proofs.desk.Desk.submit.Goals as goal
@@ -29,7 +29,7 @@ add_answer-requires-clause-step g c =
     let desk : Parts = record { image = inside.image; clients = inside.clients.value.items; leases = inside.leases.value; opening = inside.opening; docket = inside.docket; limit = inside.limit } in
     let is : IsAnswer (state_of desk) submission false c.len-position.result reply (state_at c.land.new.image desk.clients c.land.new.leases.value) =
     answered desk c.self.invariant c.judged.ensures.lawful submission false c.len-position.result outcome reply c.land.new.image c.land.new.leases.value c.in_ok-judged.ensures.verdict told c.in_ok-reply.ensures.leases in
-    told_of c.of-before.ensures (ap submission_of c.of-handed_in.ensures) c.of-after.ensures (λ s u t. (row : Row) × IsStep s u reply row t) is.step
+    told_of c.of-before.ensures.state (ap submission_of c.of-handed_in.ensures) c.of-after.ensures.state (λ s u t. (row : Row) × IsStep s u reply row t) is.step
 
 -- the desk before and after, the row of the step between them, and the answer
 module _ (g : given.Over) (c : goal.After-drop-before-inside-4 g) where
@@ -43,7 +43,7 @@ module _ (g : given.Over) (c : goal.After-drop-before-inside-4 g) where
   row = c.add_answer.ensures.0
 
   step : IsStep (state_of before) (submission_of c.args.submission) c.in_ok-reply.reply row (state_of after)
-  step = told_of (sym c.of-before.ensures) (sym (ap submission_of c.of-handed_in.ensures)) (sym c.of-after.ensures) (λ s u t. IsStep s u c.in_ok-reply.reply row t) c.add_answer.ensures.1
+  step = told_of (sym c.of-before.ensures.state) (sym (ap submission_of c.of-handed_in.ensures)) (sym c.of-after.ensures.state) (λ s u t. IsStep s u c.in_ok-reply.reply row t) c.add_answer.ensures.1
 
   is_answer : IsAnswer (state_of before) (submission_of c.args.submission) false c.len-position.result c.in_ok-reply.reply (state_of after)
   is_answer =
@@ -57,14 +57,20 @@ module _ (g : given.Over) (c : goal.After-drop-before-inside-4 g) where
   is_answered : IsAnswered (shown before) (submission_of c.args.submission) false c.in_ok-reply.reply (shown after)
   is_answered = answered_at before after c.self.invariant (submission_of c.args.submission) c.in_ok-reply.reply row step refl c.add_answer.ensures.2 refl false c.len-position.result c.len-position.ensures is_answer
 
+  is_desk : IsDesk after
+  is_desk =
+      let inside = c.self.inside in
+      let below = c.is_full.ensures.room c.if-is_full.false in
+      let is_docket = ap (λ (d : Desk). length d.docket) c.self.view_is in
+      let is_limit = ap (λ (d : Desk). d.limit) c.self.view_is in
+      let room : length inside.docket < inside.limit = omega arith in
+      answered_desk before after c.self.invariant (submission_of c.args.submission) c.in_ok-reply.reply row step refl c.add_answer.ensures.2 refl c.of-after.ensures.shown room
+
 pub invariant_of-self-2 : goal.invariant_of-self-2
-invariant_of-self-2 g c =
-    let inside = c.self.inside in
-    let below = c.is_full.ensures.room c.if-is_full.false in
-    let is_docket = ap (λ (d : Desk). length d.docket) c.self.view_is in
-    let is_limit = ap (λ (d : Desk). d.limit) c.self.view_is in
-    let room : length inside.docket < inside.limit = omega arith in
-    answered_desk (before g c) (after g c) c.self.invariant (submission_of c.args.submission) c.in_ok-reply.reply (row g c) (step g c) refl c.add_answer.ensures.2 refl room
+invariant_of-self-2 g c = is_desk g c
+
+pub returns-clause-legal : goal.returns-clause-legal
+returns-clause-legal g c = (is_desk g c).legal
 
 pub returns-clause-answered : goal.returns-clause-answered
 returns-clause-answered g c = subst (λ (d : Desk). IsAnswered d (submission_of c.args.submission) false c.in_ok-reply.reply (shown (after g c))) c.self.view_is (is_answered g c)

@@ -13,10 +13,12 @@ nothing_left : {X : Type 0} (xs : List X) → length xs ≡ 0 → xs ≡ []
 nothing_left [] none = refl
 nothing_left (x ∷ xs) none = absurd (omega arith)
 
-same_limit : {A : Type 0} (submission : Submission A) (old new : Desk) (answer : Result Reply (Back A))
-    → IfOk answer (λ reply. IsAnswered old (submission_of submission) false reply new) → IfErr answer (λ back. (back.submission ≡ submission) × (new ≡ old)) → new.limit ≡ old.limit
-same_limit submission old new (Ok reply) answered same = answered.limit
-same_limit submission old new (Err back) answered same = ap (λ (d : Desk). d.limit) same.1
+-- an answer leaves the opening and the limit
+both_stay : {A : Type 0} (submission : Submission A) (old new : Desk) (answer : Result Reply (Back A))
+    → IfOk answer (λ reply. IsAnswered old (submission_of submission) false reply new) → IfErr answer (λ back. (back.submission ≡ submission) × (new ≡ old))
+    → (new.opening ≡ old.opening) × (new.limit ≡ old.limit)
+both_stay submission old new (Ok reply) answered same = (answered.opening, answered.limit)
+both_stay submission old new (Err back) answered same = (ap (λ (d : Desk). d.opening) same.1, ap (λ (d : Desk). d.limit) same.1)
 
 pub push_within-requires : goal.push_within-requires
 push_within-requires g c =
@@ -29,6 +31,7 @@ loop-submission-preserved g c =
     let at = c.loop-submission in
     let answer = c.submit-answer.result in
     let steps = c.in-Some.ensures.steps.0 in
+    let stay = both_stay c.in-Some.submission at.self c.submit-answer.new.self c.submit-answer.result c.submit-answer.ensures.answered c.submit-answer.ensures.back in
     record {
       runs = λ answers last rest.
           let told = c.submit-answer.ensures in
@@ -46,7 +49,9 @@ loop-submission-preserved g c =
           let gone = c.in-Some.ensures.steps.1 in
           let counted = ap length steps in
           omega arith;
-      limit = same_limit c.in-Some.submission at.self c.submit-answer.new.self c.submit-answer.result c.submit-answer.ensures.answered c.submit-answer.ensures.back ∙ at.invariant.limit;
+      opening = stay.0 ∙ at.invariant.opening;
+      limit = stay.1 ∙ at.invariant.limit;
+      legal = c.submit-answer.ensures.legal;
     }
 
 pub returns-clause-answers : goal.returns-clause-answers

@@ -1,6 +1,7 @@
 -- Whatever the rest comes to, the whole comes to that behind the answers so far.
 use Rattle.std.proofs.Common.{◌≡◌, ◌≤◌, ◌++◌, List, length, Result}
 use Rattle.std.specs.Vec.Iter.{into_iter_items, into_iter_len}
+use Rattle.kfs_docket.specs.Legal.{LeadsTo}
 use Rattle.kfs_plan.specs.declared.answers.Reply.{Reply}
 use Rattle.kfs_plan.specs.declared.submission.Back.{Back}
 use Rattle.kfs_desk.specs.Machine.{Desk, RunsThrough}
@@ -12,5 +13,7 @@ invariant-loop-submission g l = record {
   runs : (answers : List (Result Reply (Back g.row.A.Denot))) (last : Desk) → RunsThrough l.self (into_iter_items l.submission-iterator) answers last → RunsThrough l.initial.self (into_iter_items l.initial.submission-iterator) (l.answers.items ++ answers) last;
   room : length (into_iter_items l.submission-iterator) ≤ spare_of l.answers;
   count : into_iter_len l.submission-iterator ≡ length (into_iter_items l.submission-iterator);
+  opening : l.self.opening ≡ l.initial.self.opening;
   limit : l.self.limit ≡ l.initial.self.limit;
+  legal : LeadsTo l.self.opening l.self.docket l.self.state;
 }
