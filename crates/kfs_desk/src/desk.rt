@@ -22,11 +22,11 @@ ghost use Rattle.kfs_desk.specs.Landing.{Answers, CanLand, ended_by, ended_with,
 ghost use Rattle.kfs_desk.specs.Machine.{AreShown, IsAnswered, IsBackFor, IsCallOf, IsChangeOf, IsCurrent, IsImageOf, IsViewOf, RunsThrough, call_of, done_by, number_of, opened_at, outcome_at, state_at};
 ghost use Rattle.kfs_desk.specs.Docket.{is_rejudged};
 ghost use Rattle.kfs_desk.specs.Opening.{begin_fault};
-ghost use Rattle.kfs_value.specs.Room.{Appends, spare_of};
 
 use crate::back::BeginBack;
 use crate::docket::{add_act, add_answer};
 use crate::first_fault::first_fault;
+use crate::room::push_within;
 use crate::state::ShownState;
 use kfs_docket::Docket;
 use kfs_entry::NodeRow;
@@ -431,14 +431,6 @@ fn made<A: Allocator + Clone>(
             Ok(Done::Ticked(moment))
         }
     }
-}
-
-/// Appends an element, for which there is room.
-fn push_within<T: Drop, A: Allocator>(out: &mut Vec<T, A>, value: T)
-    requires { 1 ≤ spare_of out.old }
-    ensures { Appends out.old out.new 1 (value ∷ []) }
-{
-    out.push(value).unwrap();
 }
 
 /// Lands what a verdict came to, at its place in the docket. Leases on nodes that go end.

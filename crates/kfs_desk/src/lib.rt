@@ -5,6 +5,7 @@ mod back;
 mod desk;
 mod docket;
 mod first_fault;
+pub mod room;
 mod state;
 
 pub use back::BeginBack;

@@ -1,5 +1,5 @@
 -- What the replies of a script's run say.
-use Rattle.std.proofs.Common.{◌≡◌, ◌≢◌, ℕ, ◌+◌, ◌<◌, List, [], ◌∷◌, length, take, get_or, ◌⊎◌, inl, inr, Option, Some, None, is_some, true, false, refl, sym, ap, subst, ◌∙◌}
+use Rattle.std.proofs.Common.{◌≡◌, ℕ, ◌+◌, ◌<◌, List, [], ◌∷◌, length, take, get_or, ◌⊎◌, inl, inr, Option, Some, None, is_some, true, false, refl, sym, ap, subst, ◌∙◌}
 use Rattle.std.specs.List.{slice_get}
 use Rattle.std.proofs.lemmas.Option.{slice_get_within}
 use Rattle.kfs_model.specs.Access.{Client}
@@ -14,9 +14,9 @@ use Rattle.kfs_docket.specs.Legal.{LeadsTo}
 use Rattle.kfs_plan.specs.declared.answers.Reply.{Reply}
 use Rattle.kfs_plan.specs.declared.answers.Reply.TheVariants as answers
 use Rattle.kfs_desk.specs.Docket.{position_of}
-use Rattle.kfs_desk.specs.Machine.{AreShown, Desk, IsDone, Means}
+use Rattle.kfs_desk.specs.Machine.{AreShown, Desk, Means}
 use Rattle.kfs_workers.specs.Claims.{AreAllowed, AreSettled, AtReply, EachReply, ElseChangesNothing, Gives, HasAllowedEntries, IsSettled, ShowsItsEntries, StandsAt}
-use Rattle.kfs_workers.specs.Script.{Held, IsRun, Scene, all_returned, begun}
+use Rattle.kfs_workers.specs.Script.{Held, IsRun, all_returned, begun}
 use Rattle.kfs_workers.specs.declared.script.Step.{Step}
 use Rattle.kfs_workers.proofs.Places.{AreInPlace, Place, Waits, With, Answered, in_place_at_first, is_answered, submission_in, ticket_of, waiting_at}
 use Rattle.kfs_workers.proofs.Replies.{AreStanding, run_stands, stands_at_first}

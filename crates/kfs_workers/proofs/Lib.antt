@@ -2,5 +2,6 @@
 pub mod Claimed
 pub mod Places
 pub mod Replies
+pub mod Scenes
 pub mod Settled
 pub mod Verdicts

@@ -1,15 +1,13 @@
 -- Where each submission of a script is: it waits, a worker has it, or it is answered.
-use Rattle.std.proofs.Common.{◌≡◌, ◌≢◌, ℕ, zero, suc, ◌<◌, ◌==◌, Bool, true, false, cond, List, [], ◌∷◌, length, map, get_or, set, ◌⊎◌, inl, inr, Option, Some, None, is_some, refl, sym, ap, subst, ◌∙◌, arith}
+use Rattle.std.proofs.Common.{◌≡◌, ◌≢◌, ℕ, zero, suc, ◌<◌, ◌==◌, Bool, true, false, cond, List, [], ◌∷◌, length, map, get_or, ◌⊎◌, inl, inr, Option, Some, None, is_some, refl, sym, ap, subst, ◌∙◌, arith}
 use Rattle.std.specs.Prelude.{replicate}
 use native.Mathlib.Decide.{ℕ_discrete}
 use Rattle.std.specs.List.{slice_get}
 use Rattle.std.proofs.lemmas.Bool.{eqb-true, eq-eqb}
-use Rattle.std.proofs.lemmas.List.{get_or-set_same, get_or-set_other, length-map, length-set}
+use Rattle.std.proofs.lemmas.List.{length-map}
 use Rattle.kfs_model.specs.Judgement.{Submission}
-use Rattle.kfs_plan.specs.declared.answers.Reply.{Reply}
 use Rattle.kfs_desk.specs.Machine.{Desk}
-use Rattle.kfs_workers.specs.Script.{Held, Taken, Decided, Scene, all_returned, begun, given_back, returned, taken, with_hand}
-use Rattle.kfs_workers.specs.Verdict.{HeldVerdict}
+use Rattle.kfs_workers.specs.Script.{Held, Taken, Decided, Scene, begun}
 
 -- ---- lists of what there may be
 

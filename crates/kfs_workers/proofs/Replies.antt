@@ -1,10 +1,10 @@
 -- Each reply of a script stands in the docket at its position, and says what was done to the state there.
-use Rattle.std.proofs.Common.{◌≡◌, ◌≢◌, ℕ, zero, suc, ◌+◌, ◌≤◌, ◌<◌, List, [], ◌∷◌, ◌++◌, length, take, get_or, set, ◌⊎◌, inl, inr, Option, Some, None, refl, sym, ap, subst, ◌∙◌, arith, length-append, append-nil}
+use Rattle.std.proofs.Common.{◌≡◌, ◌≢◌, ℕ, zero, suc, ◌+◌, ◌≤◌, ◌<◌, List, [], ◌∷◌, ◌++◌, length, take, get_or, set, inl, inr, Option, Some, None, refl, sym, ap, subst, ◌∙◌, arith, length-append, append-nil}
 use Rattle.std.specs.List.{slice_get}
 use Rattle.std.proofs.lemmas.List.{get_or-set_same, get_or-set_other, take-append-le, take_all}
 use Rattle.std.proofs.lemmas.Option.{slice_get_within}
 use Rattle.kfs_model.specs.Judgement.{State, Submission}
-use Rattle.kfs_model.specs.Machine.{Call, IsRead, Row, after, next}
+use Rattle.kfs_model.specs.Machine.{Call, IsRead, Row, after}
 use Rattle.kfs_docket.specs.Legal.{LeadsTo}
 use Rattle.kfs_docket.proofs.Longer.{leads_on}
 use Rattle.kfs_lease.specs.declared.act.Act.{Act}
@@ -12,7 +12,7 @@ use Rattle.kfs_lease.specs.declared.act.Act.TheVariants as acts
 use Rattle.kfs_plan.specs.declared.answers.ActReply.{ActReply}
 use Rattle.kfs_plan.specs.declared.answers.Reply.{Reply}
 use Rattle.kfs_desk.specs.Docket.{is_rejudged, position_of}
-use Rattle.kfs_desk.specs.Machine.{Desk, IsActed, IsAnswered, IsStep, Means, call_of, done_by}
+use Rattle.kfs_desk.specs.Machine.{Desk, IsActed, IsAnswered, Means, call_of, done_by}
 use Rattle.kfs_workers.specs.Claims.{StandsAt}
 use Rattle.kfs_workers.specs.Script.{Held, Taken, Decided, Scene, Asks, Does, Looks, Judges, Lands, Runs, begun}
 use Rattle.kfs_workers.specs.declared.script.Step.{Step}

@@ -1,16 +1,16 @@
 -- Each step of a script moves one ticket at the most, so at the end each has a reply or is left.
-use Rattle.std.proofs.Common.{◌≡◌, ◌≢◌, ℕ, zero, suc, ◌<◌, List, [], ◌∷◌, length, get_or, set, ◌⊎◌, inl, inr, Option, Some, None, is_some, true, false, refl, sym, ap, subst, ◌∙◌}
+use Rattle.std.proofs.Common.{◌≡◌, ◌≢◌, ℕ, zero, suc, ◌<◌, List, [], ◌∷◌, length, get_or, set, ◌⊎◌, inl, inr, Option, Some, None, is_some, false, refl, sym, ap, subst, ◌∙◌}
 use Rattle.std.specs.List.{slice_get}
 use Rattle.std.proofs.lemmas.List.{get_or-set_same, get_or-set_other, length-set}
 use Rattle.std.proofs.lemmas.Option.{get_or_from_slice_get, slice_get_within}
-use Rattle.kfs_model.specs.Judgement.{State, Submission}
+use Rattle.kfs_model.specs.Judgement.{Submission}
 use Rattle.kfs_plan.specs.declared.answers.Reply.{Reply}
 use Rattle.kfs_desk.specs.Machine.{Desk}
-use Rattle.kfs_workers.specs.Script.{Held, Taken, Decided, Scene, Does, Looks, Judges, Lands, Runs, all_returned, begun, given_back, returned, taken, with_hand}
-use Rattle.kfs_workers.specs.Verdict.{HeldVerdict, IsVerdictOn}
+use Rattle.kfs_workers.specs.Script.{Held, Taken, Decided, Scene, Does, Looks, Judges, Lands, Runs, all_returned, given_back, returned, taken, with_hand}
+use Rattle.kfs_workers.specs.Verdict.{HeldVerdict}
 use Rattle.kfs_workers.specs.declared.script.Step.{Step}
 use Rattle.kfs_workers.specs.declared.script.Step.TheVariants as steps
-use Rattle.kfs_workers.proofs.Places.{AreInPlace, Goes, Place, Waits, With, Answered, by_equal, found_within, gone_on, in_place_at_first, is_answered, submission_in, ticket_of, waiting_at}
+use Rattle.kfs_workers.proofs.Places.{AreInPlace, Place, Waits, With, Answered, by_equal, found_within, gone_on, is_answered, submission_in, ticket_of, waiting_at}
 
 -- an empty hand is one of the workers'
 hand_within : (hands : List (Option Held)) (worker : ℕ) → slice_get hands worker ≡ Some None → (worker < length hands) × (get_or hands worker None ≡ None)

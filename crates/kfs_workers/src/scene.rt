@@ -1,14 +1,15 @@
 //! Where a script stands: the desk, what waits, what the workers hold, and the replies so far.
-ghost use Rattle.std.specs.Prelude.{◌≡◌, ℕ, ◌≤◌, ◌<◌, ◌∷◌, [], IfErr, IfOk, IsTrue, ◌↔◌, None, Some, OnOk, OnErr, get_or, length, map, option_map, replicate, set};
+ghost use Rattle.std.specs.Prelude.{◌≡◌, ◌≤◌, ◌<◌, [], IfErr, IfOk, IsTrue, ◌↔◌, None, Some, get_or, length, map, option_map, replicate, set};
 ghost use Rattle.std.specs.List.{slice_get};
 ghost use Rattle.kfs_plan.specs.Judging.{submission_of};
-ghost use Rattle.kfs_value.specs.Room.{Appends, spare_of};
+ghost use Rattle.kfs_value.specs.Room.{spare_of};
 ghost use Rattle.kfs_workers.specs.Holding.{held_of};
-ghost use Rattle.kfs_workers.specs.Script.{Asks, Does, IsRun, Judges, Lands, Looks, all_returned, begun, given_back, returned, with_hand};
+ghost use Rattle.kfs_workers.specs.Script.{Asks, Does, Judges, Lands, Looks, all_returned, begun, returned};
 
 use crate::look::Look;
 use crate::script::{ScriptBack, ScriptEnd, Step};
 use kfs_desk::Desk;
+use kfs_desk::room::push_within;
 use kfs_lease::Act;
 use kfs_plan::answers::Reply;
 use kfs_plan::{Judged, Submission};
@@ -154,7 +155,9 @@ impl<A: Allocator + Copy> Scene<A> {
                 Ok(judged) => put_at(&mut self.hands, worker, Held::Decided { ticket, judged }),
                 Err(back) => put_at(&mut self.waiting, ticket, back.submission),
             },
-            Some(held) => put_at(&mut self.hands, worker, held),
+            Some(Held::Decided { ticket, judged }) => {
+                put_at(&mut self.hands, worker, Held::Decided { ticket, judged });
+            }
             None => (),
         }
     }
@@ -168,7 +171,20 @@ impl<A: Allocator + Copy> Scene<A> {
                 Ok(reply) => put_at(&mut self.replies, ticket, reply),
                 Err(back) => put_at(&mut self.waiting, ticket, back.submission),
             },
-            Some(held) => put_at(&mut self.hands, worker, held),
+            Some(
+                Held::Taken {
+                    ticket,
+                    submission,
+                    look,
+                },
+            ) => {
+                let held = Held::Taken {
+                    ticket,
+                    submission,
+                    look,
+                };
+                put_at(&mut self.hands, worker, held);
+            }
             None => (),
         }
     }
@@ -182,12 +198,9 @@ impl<A: Allocator + Copy> Scene<A> {
 
     /// Whether this is one of the workers, who holds nothing.
     fn is_free(&self, worker: usize) -> bool
-        ensures { IsTrue result ↔ (slice_get self.now.hands worker ≡ Some None) }
+        ensures { IsTrue result ↔ (worker < length self.now.hands) × (get_or self.now.hands worker None ≡ None) }
     {
-        match self.hands.get(worker) {
-            Some(hand) => hand.is_none(),
-            None => false,
-        }
+        worker < self.hands.len() && self.hands[worker].is_none()
     }
 }
 
@@ -239,14 +252,6 @@ fn all_waiting<T: Drop, A: Allocator>(
         push_within(&mut waiting, Some(submission));
     }
     waiting
-}
-
-/// Appends an element, for which there is room.
-fn push_within<T: Drop, A: Allocator>(out: &mut Vec<T, A>, value: T)
-    requires { 1 ≤ spare_of out.old }
-    ensures { Appends out.old out.new 1 (value ∷ []) }
-{
-    out.push(value).unwrap();
 }
 
 /// Takes what stands at this place, and leaves none there.

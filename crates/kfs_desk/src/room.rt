@@ -1,0 +1,13 @@
+//! Lists for which room was made before.
+ghost use Rattle.std.specs.Prelude.{◌∷◌, [], ◌≤◌};
+ghost use Rattle.kfs_value.specs.Room.{Appends, spare_of};
+
+use std::alloc::Allocator;
+
+/// Appends an element, for which there is room.
+pub fn push_within<T: Drop, A: Allocator>(out: &mut Vec<T, A>, value: T)
+    requires { 1 ≤ spare_of out.old }
+    ensures { Appends out.old out.new 1 (value ∷ []) }
+{
+    out.push(value).unwrap();
+}
