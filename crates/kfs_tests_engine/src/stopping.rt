@@ -64,6 +64,23 @@ impl Write for Narrow {
     }
 }
 
+/// Takes all, and counts the writes.
+#[derive(Drop)]
+struct Counting {
+    writes: u32,
+}
+
+impl Write for Counting {
+    fn write(&mut self, buf: &[u8]) -> io::Result<usize> {
+        self.writes = self.writes.saturating_add(1);
+        Ok(buf.len())
+    }
+
+    fn flush(&mut self) -> io::Result<()> {
+        Ok(())
+    }
+}
+
 /// How the engine ends over this reader and this writer.
 fn ended<I: Read, O: Write>(
     rt: &impl AllocGlobal,
@@ -110,6 +127,22 @@ fn a_writer_that_takes_no_more(rt: HostRuntime) {
         let end = ended(&rt, &mut reader, &mut writer);
         assert_eq!(rt; end, Err(EngineFault::WriteFault), "{room}");
     }
+}
+
+#[test]
+fn the_replies_to_one_read_are_one_write(rt: HostRuntime) {
+    let lines = b"new 1 1 1\nnone\nbegin 1\n";
+    let mut at_once: &[u8] = lines;
+    let mut writer = Counting { writes: 0 };
+    assert_eq!(rt; ended(&rt, &mut at_once, &mut writer), Ok(()));
+    assert_eq!(rt; writer.writes, 1);
+    let mut one_by_one = Slow {
+        bytes: lines,
+        then: Then::Ends,
+    };
+    let mut writer = Counting { writes: 0 };
+    assert_eq!(rt; ended(&rt, &mut one_by_one, &mut writer), Ok(()));
+    assert_eq!(rt; writer.writes, 3);
 }
 
 #[test]

@@ -1,4 +1,4 @@
-use Rattle.std.proofs.Common.{◌≡◌, ◌∙◌, ap, arith, length, replicate, None}
+use Rattle.std.proofs.Common.{◌∙◌, ap, arith, length, replicate, None}
 use Rattle.kfs_engine.specs.Holding.{hands_of}
 use Rattle.kfs_engine.proofs.hands.Hands.new.Goals as goal
 

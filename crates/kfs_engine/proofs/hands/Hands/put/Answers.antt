@@ -1,4 +1,4 @@
-use Rattle.std.proofs.Common.{◌≡◌, ◌∙◌, ap, Some}
+use Rattle.std.proofs.Common.{◌∙◌, ap, Some}
 use Rattle.kfs_engine.specs.Hands.{with_held}
 use Rattle.kfs_engine.specs.Holding.{hands_of}
 use Rattle.kfs_workers.specs.Holding.{verdict_of}

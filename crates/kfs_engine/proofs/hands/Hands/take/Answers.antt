@@ -1,4 +1,4 @@
-use Rattle.std.proofs.Common.{◌≡◌, ◌∙◌, ap, None}
+use Rattle.std.proofs.Common.{◌∙◌, ap, None}
 use Rattle.std.specs.Prelude.{set}
 use Rattle.kfs_engine.specs.Hands.{with_held}
 use Rattle.kfs_engine.specs.Holding.{hands_of}
