@@ -17,13 +17,21 @@ pub fn client(number: u32, last: u32) -> Result<Client, ClientFault> {
     Client::new(number, 1000, 1000, &[], false, 2, last)
 }
 
-/// The desk of a fresh image with so many blocks on tier 0, and of the clients 7, which has the numbers
-/// from 2 on, and 8, which has none.
-fn begun<A: Allocator + Copy>(alloc: A, blocks: u32, limit: u32) -> Option<Desk<A>> {
-    let image = Image::fresh(alloc, TierSizes::new(blocks, 8, 8)?).ok()?;
+/// A fresh image with so many blocks on tier 0.
+pub fn fresh<A: Allocator + Copy>(alloc: A, blocks: u32) -> Option<Image<A>> {
+    Image::fresh(alloc, TierSizes::new(blocks, 8, 8)?).ok()
+}
+
+/// The clients 7, which has the numbers from 2 on, and 8, which has none.
+pub fn clients<A: Allocator + Copy>(alloc: A) -> Option<Vec<Client, A>> {
     let first = client(7, 65_536).ok()?;
     let second = client(8, 1).ok()?;
-    Desk::begin(alloc, image, vec![in alloc; first, second].ok()?, limit).ok()
+    vec![in alloc; first, second].ok()
+}
+
+/// The desk of such an image and of these clients.
+fn begun<A: Allocator + Copy>(alloc: A, blocks: u32, limit: u32) -> Option<Desk<A>> {
+    Desk::begin(alloc, fresh(alloc, blocks)?, clients(alloc)?, limit).ok()
 }
 
 /// A call of the desk for its leases.

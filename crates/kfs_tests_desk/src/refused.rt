@@ -18,19 +18,20 @@ use std::process::Abort;
 pub const MANY: u64 = 400;
 
 /// A change that client 7 hands in, with what stands before and behind it.
-struct Change<'a> {
+#[derive(Clone, Copy)]
+pub struct Change<'a> {
     /// A log that makes the nodes, and its plan.
-    nodes: (&'a [u8], &'a [u8]),
+    pub nodes: (&'a [u8], &'a [u8]),
     /// The leases that are then taken.
-    leases: &'a [Called<'a>],
-    log: &'a [u8],
-    plan: &'a [u8],
+    pub leases: &'a [Called<'a>],
+    pub log: &'a [u8],
+    pub plan: &'a [u8],
     /// How many blocks the log writes.
-    need: u64,
+    pub need: u64,
     /// What the image shows before the change, and calls that are then refused.
-    before: (&'a [Shown<'a>], &'a [Called<'a>]),
+    pub before: (&'a [Shown<'a>], &'a [Called<'a>]),
     /// The same after it.
-    after: (&'a [Shown<'a>], &'a [Called<'a>]),
+    pub after: (&'a [Shown<'a>], &'a [Called<'a>]),
 }
 
 /// The root is held by client 7.
@@ -50,7 +51,10 @@ const CREATE: Change<'static> = Change {
 /// Client 7 has a lease on the file.
 pub const FILE_LEASED: [Called<'static>; 1] = [(Call::Lease(7, b"/a"), Ok(Done::Leased(5)))];
 
-const FILE_HELD: [Called<'static>; 1] = [(Call::Lease(8, b"/a"), Err(LeaseFault::LeaseHeld(7)))];
+pub const FILE_HELD: [Called<'static>; 1] = [(
+    Call::Lease(8, b"/a"),
+    Err(LeaseFault::LeaseHeld(7)),
+)];
 
 /// File 5 gets the mode 0o600.
 pub const CHMOD_LOG: &[u8] = b"KLOG\x01\0\0\0\x07\0\x01\x07\0\0\0\x05\x01\x80";
@@ -71,7 +75,7 @@ const CHMOD: Change<'static> = Change {
 };
 
 /// Two bytes of the file are written.
-const WRITE: Change<'static> = Change {
+pub const WRITE: Change<'static> = Change {
     nodes: (CREATE_LOG, CREATE_PLAN),
     leases: &FILE_LEASED,
     log: b"KLOG\x01\0\0\0\x07\0\x01\x02\0\0\0\x05\0\0\0\0\0\0\0\0\0\0\0\x02hi",
@@ -182,7 +186,7 @@ const RENAME: Change<'static> = Change {
 };
 
 /// Whether the image shows this, and these calls are refused from this position on: the next one.
-fn stands<A: Allocator + Copy>(
+pub fn stands<A: Allocator + Copy>(
     desk: &mut Desk<A>,
     position: u32,
     state: (&[Shown<'_>], &[Called<'_>]),
@@ -196,7 +200,7 @@ fn stands<A: Allocator + Copy>(
 }
 
 /// The desk before the change, and the next position.
-fn desk_before<A: Allocator + Copy>(alloc: A, change: &Change<'_>) -> Option<(Desk<A>, u32)> {
+pub fn desk_before<A: Allocator + Copy>(alloc: A, change: &Change<'_>) -> Option<(Desk<A>, u32)> {
     let (log, plan) = change.nodes;
     let mut desk = grown(alloc, log, plan)?;
     let position = called(&mut desk, 2, change.leases)?;
