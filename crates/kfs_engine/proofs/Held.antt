@@ -4,6 +4,7 @@ use Rattle.std.specs.Prelude.{get_or, set, codes, decimal, IfErr, OnOk}
 use Rattle.std.specs.Option.{ok_or}
 use Rattle.std.proofs.Math.ListN.{get_or-map}
 use Rattle.std.proofs.lemmas.List.{map-set, set-get_or}
+use Rattle.std.proofs.lemmas.Result.{on_ok_weaker}
 use Rattle.kfs_model.specs.Judgement.{Submission}
 use Rattle.kfs_plan.specs.Judged.{Judged}
 use Rattle.kfs_lease.specs.declared.act.Act.{Act}
@@ -62,10 +63,6 @@ module _ (desk : Desk) (old new : Hands) (worker : ℕ) where
 
 -- ---- a landing
 
-pub on_ok : {T E P Q : Type 0} (result : Result T E) → (P → Q) → OnOk result P → OnOk result Q
-on_ok (Ok x) f p = f p
-on_ok (Err e) f p = tt
-
 undone_same : {T E D : Type 0} (result : Result T E) (fault other : E) (next desk : D) → IfErr result (λ why. (why ≡ fault) × (next ≡ desk)) → result ≡ Err other → next ≡ desk
 undone_same (Ok done) fault other next desk undone out = cc
 undone_same (Err why) fault other next desk undone out = undone.1
@@ -78,7 +75,7 @@ taken_as fault (Some other) judged hand is shown =
 
 module _ {A T E : Type 0} (result : Result T E) (desk : Desk) (old new : Hands) (worker : ℕ) (judged : Judged A) (is : held_by old worker ≡ Some (verdict_of judged)) (left : new ≡ with_held old worker None) where
   pub landed_as : (before after : List ℕ) (next : Desk) → OnOk result (IsReplied (IsLandingAnswered desk (verdict_of judged)) before after next) → OnOk result (IsReplied (Serves desk old (commands.Land worker)) before after (After next new))
-  landed_as before after next = on_ok result (λ said. (said.0, said.1, landed desk old new worker (verdict_of judged) is left (said.0, next) said.2))
+  landed_as before after next = on_ok_weaker result (λ said. (said.0, said.1, landed desk old new worker (verdict_of judged) is left (said.0, next) said.2))
 
   pub landing_undone : (fault other : E) (next : Desk) → IfErr result (λ why. (why ≡ fault) × (next ≡ desk)) → result ≡ Err other → Serves desk old (commands.Land worker) (line_of (codes "memory"), After next new)
   landing_undone fault other next undone out =
@@ -88,7 +85,7 @@ module _ {A T E : Type 0} (result : Result T E) (desk : Desk) (old new : Hands) 
 -- ---- what the desk answers, where the workers hold what they held
 
 pub with_hands : {T E : Type 0} (result : Result T E) (hands : Hands) (Holds : DeskOutcome → Type 0) (before after : List ℕ) (desk : Desk) → OnOk result (IsReplied Holds before after desk) → OnOk result (IsReplied (WithHands hands Holds) before after (After desk hands))
-with_hands result hands Holds before after desk = on_ok result (λ is. (is.0, is.1, ((is.0, desk), is.2, refl)))
+with_hands result hands Holds before after desk = on_ok_weaker result (λ is. (is.0, is.1, ((is.0, desk), is.2, refl)))
 
 -- a call for the leases
 pub act_served : {T E : Type 0} (result : Result T E) (desk : Desk) (hands : Hands) (act : Act) (before after : List ℕ) (next : Desk) → OnOk result (IsReplied (IsCallAnswered desk (call_of act) (done_by act)) before after next)

@@ -1,5 +1,5 @@
 -- What stands in a writer behind one that held replies back.
-use Rattle.std.proofs.Common.{◌≡◌, ℕ, List, [], ◌++◌, Option, Some, None, Result, Ok, Err, OnOk, OnErr, sym, ap, ◌∙◌, append_assoc, append-nil}
+use Rattle.std.proofs.Common.{◌≡◌, ℕ, List, [], ◌++◌, Option, Some, None, sym, ap, ◌∙◌, append_assoc, append-nil}
 use Rattle.std.proofs.lemmas.List.{append_cancel_left}
 use Rattle.std.specs.Io.KnownBytes.{Appends, Keeps, append_known}
 
@@ -24,11 +24,3 @@ all_written (Some x) None held_after after text p q r = absurd p
 all_written (Some x) (Some y) None after text p q r = absurd q
 all_written (Some x) (Some y) (Some z) None text p q r = absurd r
 all_written (Some x) (Some y) (Some z) (Some w) text p q r = r ∙ q ∙ ap (λ l. l ++ text) p
-
-pub when_err : {T E P : Type 0} (result : Result T E) {e : E} → OnErr result P → result ≡ Err e → P
-when_err (Ok x) holds is = cc
-when_err (Err e) holds is = holds
-
-pub when_ok : {T E P : Type 0} (result : Result T E) {x : T} → OnOk result P → result ≡ Ok x → P
-when_ok (Ok x) holds is = holds
-when_ok (Err e) holds is = cc

@@ -1,9 +1,13 @@
-use Rattle.std.proofs.Common.{◌++◌, [], refl, take, append-nil, ◌∙◌}
+use Rattle.std.proofs.Common.{◌++◌, [], Result, Ok, Err, OnOk, refl, take, append-nil, ◌∙◌}
 use Rattle.std.proofs.KnownBytes.{Appends-kept, Appends-nil, Appends-trans, Consumes-kept, Consumes-nil, Consumes-trans}
 use Rattle.std.proofs.lemmas.Result.{err_from_is_err_and}
 use Rattle.kfs_engine.specs.declared.fault.EngineFault.TheVariants.{ReadFault}
 use Rattle.kfs_engine.proofs.Conversations.{Stands-read, Stands-unread, Stands-unsent}
 use Rattle.kfs_engine.proofs.answer_all.Goals as goal
+
+on_ok : {T E P : Type 0} (result : Result T E) → P → OnOk result P
+on_ok (Ok x) holds = holds
+on_ok (Err e) holds = tt
 
 pub reads-init : goal.reads-init
 reads-init g c = ([], [], Consumes-nil _, Appends-nil _, c.new-conversation.ensures, refl)
@@ -20,6 +24,11 @@ returns-then-count-eq0-clause-session g c =
     let last = c.finish.ensures.session in
     let none = rw (c.in-Some.is, c.if-count-eq0.true) at c.in_ok-count.ensures.bytes in
     (done.0, done.1 ++ last.0, rw (append-nil done.0) at (Consumes-trans _ _ _ _ _ done.2 none), Appends-trans _ _ _ _ _ done.3 last.1, last.2 done.0 done.1 done.4)
+
+pub returns-then-count-eq0-clause-end : goal.returns-then-count-eq0-clause-end
+returns-then-count-eq0-clause-end g c =
+    let last = rw c.in-Some.is at c.in_ok-count.ensures.end in
+    on_ok c.finish.result (last c.if-count-eq0.true)
 
 pub returns-in_err-take-clause-session : goal.returns-in_err-take-clause-session
 returns-in_err-take-clause-session g c =
