@@ -173,16 +173,17 @@ const TWICE: [Step<'static>; 6] = [
     Step::Land { worker: 1 },
 ];
 
-/// Runs the script with the growth of this index refused, one growth alone. Answers whether there was such a
+/// Runs the script with the growth of this index refused, that one alone. Answers whether there was such a
 /// growth; none where what comes out isn't lawful.
-fn script_with_one_refused(
+fn script_from<A: Allocator + Copy>(
+    alloc: A,
     heap: &Refusing<Global>,
-    desk: Desk<&Refusing<Global>>,
+    desk: Desk<A>,
+    creates: Vec<Submission<A>, A>,
     growth: u64,
 ) -> Option<bool> {
-    let creates = creates(heap, 1)?;
     heap.refuse_after(growth);
-    let is_right = match run_script(heap, desk, creates, &TWICE) {
+    let is_right = match run_script(alloc, desk, creates, &TWICE) {
         Ok(end) => is_lawful(&end),
         Err(back) => is_back(&back),
     };
@@ -193,11 +194,17 @@ fn script_with_one_refused(
     }
 }
 
+/// The same from the desk on.
+fn script_with_one_refused(heap: &Refusing<Global>, growth: u64) -> Option<bool> {
+    let desk = opening(heap, 100)?;
+    let creates = creates(heap, 1)?;
+    script_from(heap, heap, desk, creates, growth)
+}
+
 /// The same on a heap of its own.
 fn script_on_a_heap(alloc: Global, growth: u64) -> Option<bool> {
     let heap = Refusing::new(alloc, AMPLE);
-    let desk = opening(&heap, 100)?;
-    script_with_one_refused(&heap, desk, growth)
+    script_with_one_refused(&heap, growth)
 }
 
 /// How many growths the script makes, each of which is refused in turn; or the index of one at which what comes out
