@@ -1,0 +1,4 @@
+//! What a row of the docket means, as a law of the definitions.
+#![tactic(auto)]
+
+pub mod laws;
