@@ -1,9 +1,13 @@
 //! Runs the scripts of its folder data/ through the program's entry and compares all that is written,
-//! byte by byte, and the exit status with what is expected. docs/EXAMPLES.md lists the scripts.
+//! byte by byte, and the exit status with what is expected; some in little memory, too. docs/EXAMPLES.md
+//! lists the scripts.
 #![tactic(auto)]
+
+mod memory;
 
 use kfs_program::run_words;
 use kfs_scripts::{Case, Fault, script_names};
+use memory::run_in_little_memory;
 use std::io;
 use std::process::ExitCode;
 use std::rt::Files;
@@ -32,5 +36,6 @@ fn run_script<R: Files + AllocGlobal>(rt: &R, name: &str) -> Result<(), Fault> {
     let mut script = case.script();
     let mut written = Vec::new(rt.alloc());
     let status = run_words(rt, rt.alloc(), &words, &mut script, &mut written);
-    case.compare(status, &written)
+    case.compare(status, &written)?;
+    run_in_little_memory(rt, &case, &words)
 }

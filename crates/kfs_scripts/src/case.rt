@@ -11,7 +11,7 @@ use std::rt::Files;
 use std::{fs, io};
 
 /// The exit status where no other one is expected.
-const DONE: u8 = 0;
+const DONE: u64 = 0;
 
 /// A script and what is expected of it.
 #[derive(Drop)]
@@ -21,6 +21,8 @@ pub struct Case {
     replies: Vec<u8>,
     status: u8,
     is_broken: bool,
+    growths: Option<u64>,
+    room: Option<u64>,
 }
 
 /// The names, without their endings, of the scripts and of the expected replies in a folder.
@@ -42,13 +44,17 @@ pub fn script_names<R: Files + AllocGlobal + Clone + Drop>(
 impl Case {
     /// Reads the files of a name: `.kfs`, the script; `.out`, the replies; and where they are there
     /// `.words`, the words behind the program's name, one a line, `run` without it; `.status`, the exit
-    /// status, 0 without it; and `.broken`, with which reading fails behind the script's last byte.
+    /// status, 0 without it; `.broken`, with which reading fails behind the script's last byte; `.growths`,
+    /// with which each growth of memory is refused in turn, at least so many; and `.room`, the bytes that
+    /// are enough for it.
     pub fn read<R: Files + AllocGlobal>(rt: &R, name: &str) -> Result<Case, Fault> {
         let script = needed_file(rt, name, ".kfs")?;
         let replies = needed_file(rt, name, ".out")?;
         let words = optional_file(rt, name, ".words")?;
-        let status = optional_file(rt, name, ".status")?;
-        let status = status_of(status.as_ref())?;
+        let status = optional_number(rt, name, ".status")?.unwrap_or(DONE);
+        let Ok(status) = u8::try_from(status) else {
+            return Err(Fault::Unreadable(".status"));
+        };
         let is_broken = optional_file(rt, name, ".broken")?.is_some();
         Ok(Case {
             script,
@@ -56,6 +62,8 @@ impl Case {
             replies,
             status,
             is_broken,
+            growths: optional_number(rt, name, ".growths")?,
+            room: optional_number(rt, name, ".room")?,
         })
     }
 
@@ -81,6 +89,26 @@ impl Case {
             bytes: self.script.as_slice(),
             is_broken: self.is_broken,
         }
+    }
+
+    /// The bytes of the script.
+    pub fn lines(&self) -> &[u8] {
+        &self.script
+    }
+
+    /// The replies that are expected.
+    pub fn replies(&self) -> &[u8] {
+        &self.replies
+    }
+
+    /// How many growths of memory the script makes at least, where each is to be refused in turn.
+    pub fn growths(&self) -> Option<u64> {
+        self.growths
+    }
+
+    /// The bytes of memory that are enough for the script, where that is to be seen.
+    pub fn room(&self) -> Option<u64> {
+        self.room
     }
 
     /// Compares what was written, and then the exit status, with what is expected.
@@ -123,14 +151,21 @@ fn optional_file<R: Files + AllocGlobal>(
     }
 }
 
-/// The exit status that the file has.
-fn status_of(text: Option<&Vec<u8>>) -> Result<u8, Fault> {
-    let Some(text) = text else {
-        return Ok(DONE);
+/// The number that a file has which a script may have.
+fn optional_number<R: Files + AllocGlobal>(
+    rt: &R,
+    name: &str,
+    ending: &'static str,
+) -> Result<Option<u64>, Fault> {
+    let Some(text) = optional_file(rt, name, ending)? else {
+        return Ok(None);
     };
-    let status = str::from_utf8(text).ok();
-    let status = status.and_then(|text| text.trim_ascii_end().parse::<u8>().ok());
-    status.ok_or(Fault::Unreadable(".status"))
+    let number = str::from_utf8(&text).ok();
+    let number = number.and_then(|text| text.trim_ascii_end().parse::<u64>().ok());
+    match number {
+        Some(number) => Ok(Some(number)),
+        None => Err(Fault::Unreadable(ending)),
+    }
 }
 
 /// Finds the first byte in which what was written differs from what is expected.

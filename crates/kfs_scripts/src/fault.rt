@@ -16,6 +16,14 @@ pub enum Fault {
     /// The file with this ending is there, but isn't what it has to be.
     #[error("its file {0} can't be read")]
     Unreadable(&'static str),
+    /// Where the growth of this index alone is refused, another line is answered otherwise.
+    #[error("isn't as it is due with growth {0} refused")]
+    Growth(u64),
+    #[error("makes {made} growths, not {least}")]
+    FewGrowths { made: u64, least: u64 },
+    /// The file `.room` has too small a number.
+    #[error("has too little room in {0} bytes")]
+    Room(u64),
     #[error("out of memory")]
     OutOfMemory,
 }

@@ -1,15 +1,14 @@
-//! Bytes that land: what is then read, where the blocks lie, and a landing for which tier 0 has no room.
+//! Bytes that land over others: what is then read, and where the blocks lie.
 
 use crate::desks::{
-    Call, called, create, is_accepted, is_answered, landed, opening_over, submission,
+    create, is_accepted, is_answered, is_leased, landed, opening_over, submission,
 };
 use kfs_desk::Desk;
-use kfs_desk::answers::{Done, Reply};
+use kfs_desk::answers::Reply;
 use kfs_image::{ReadFault, read_file};
 use kfs_plan::Submission;
 use kfs_tests::vectors::{EDITS_LOG, EDITS_PLAN};
 use std::alloc::{AllocError, Global};
-use std::process::Abort;
 
 /// Client 7 writes ten letters to file 5, from its first byte on.
 const LETTERS_LOG: &[u8] = b"KLOG\x01\0\0\0\x07\0\x01\x02\0\0\0\x05\0\0\0\0\0\0\0\0\
@@ -18,13 +17,6 @@ const LETTERS_LOG: &[u8] = b"KLOG\x01\0\0\0\x07\0\x01\x02\0\0\0\x05\0\0\0\0\0\0\
 const LETTERS_PLAN: &[u8] = b"KPLN\x01\0\0\0\x01\0\0\0\x01\0\0\0\x05\x01\x01\xa4\0\0\x03\
       \xe8\0\0\x03\xe8\0\x01\0\0\0\0\0\0\0\x0a\0\0\0\x05\0\0\0\0\0\0\0\0\0\0\0\0\0\
       \0\0\x0a\x01\0\0\0\0\0\0";
-
-/// Client 7 writes 4,097 bytes to file 5, which stand behind this.
-const LONG_LOG: &[u8] = b"KLOG\x01\0\0\0\x07\0\x01\x02\0\0\0\x05\0\0\0\0\0\0\0\0\0\0\x10\x01";
-
-const LONG_PLAN: &[u8] = b"KPLN\x01\0\0\0\x01\0\0\0\x01\0\0\0\x05\x01\x01\xa4\0\0\x03\
-      \xe8\0\0\x03\xe8\0\x01\0\0\0\0\0\0\x10\x01\0\0\0\x05\0\0\0\0\0\0\0\0\0\0\0\0\0\
-      \0\x10\x01\x01\0\0\0\0\0\0";
 
 /// What stands in a buffer where nothing is read.
 const UNREAD: u8 = 7;
@@ -40,9 +32,6 @@ struct Shown<'a> {
     free: u32,
 }
 
-/// Nothing is read.
-const NONE: [u8; 20] = [UNREAD; 20];
-
 /// The place on tier 0 of a block of file 5.
 fn place(desk: &Desk<Global>, block: u32) -> Option<u32> {
     let place = desk.image().place_of(5, block)?;
@@ -55,7 +44,7 @@ fn place(desk: &Desk<Global>, block: u32) -> Option<u32> {
 
 fn shows(desk: &Desk<Global>, shown: &Shown<'_>) -> bool {
     let (start, answer, after) = shown.read;
-    let mut buffer = NONE;
+    let mut buffer = [UNREAD; 20];
     let given = read_file(desk.image(), 5, start, &mut buffer);
     given == answer
         && buffer.as_slice() == after
@@ -65,11 +54,10 @@ fn shows(desk: &Desk<Global>, shown: &Shown<'_>) -> bool {
 
 /// A desk with so many blocks on tier 0, with the empty file 5, on which client 7 holds a write lease.
 /// The next row is 3.
-fn desk_with_file(alloc: Global, blocks: u32) -> Option<Desk<Global>> {
+pub fn desk_with_file(alloc: Global, blocks: u32) -> Option<Desk<Global>> {
     let mut desk = opening_over(alloc, blocks, 100)?;
     let create = create(alloc).ok()?;
-    let leased = [(Call::Lease(7, b"/a".as_slice()), Ok(Done::Leased(5)))];
-    if is_accepted(&mut desk, create, 1) && called(&mut desk, 2, &leased) == Some(3) {
+    if is_accepted(&mut desk, create, 1) && is_leased(&mut desk, b"/a", 5, 2) {
         Some(desk)
     } else {
         None
@@ -120,50 +108,4 @@ fn are_letters_landed(alloc: Global) -> Option<bool> {
 #[test]
 fn bytes_over_old_ones(rt: HostRuntime) {
     assert!(rt; are_letters_landed(rt.alloc()) == Some(true));
-}
-
-fn long_write(alloc: Global) -> Result<Submission<Global>, AllocError> {
-    let mut made = submission(alloc, LONG_LOG, LONG_PLAN)?;
-    for k in 0..4_097u32 {
-        made.log.push((k % 251) as u8)?;
-    }
-    Ok(made)
-}
-
-/// Tier 0 has room for one of the two blocks: nothing changes.
-fn is_room_wanted(alloc: Global) -> Option<bool> {
-    let mut desk = desk_with_file(alloc, 1)?;
-    let empty = Shown {
-        read: (0, Ok(0), &NONE),
-        places: (None, None),
-        free: 1,
-    };
-    let reply = Reply::NoRoom {
-        position: 3,
-        rejudged: false,
-        need: 2,
-        free: 1,
-    };
-    Some(lands(&mut desk, long_write(alloc), reply, &empty))
-}
-
-/// It has room for both.
-fn is_room_found(alloc: Global) -> Option<bool> {
-    let mut desk = desk_with_file(alloc, 2)?;
-    let written = Shown {
-        read: (
-            4_090,
-            Ok(7),
-            b"JKLMNOP\x07\x07\x07\x07\x07\x07\x07\x07\x07\x07\x07\x07\x07",
-        ),
-        places: (Some(0), Some(1)),
-        free: 0,
-    };
-    Some(lands(&mut desk, long_write(alloc), landed(3, 2), &written))
-}
-
-#[test]
-fn two_blocks_with_room_and_without(rt: HostRuntime) {
-    assert!(rt; is_room_wanted(rt.alloc()) == Some(true));
-    assert!(rt; is_room_found(rt.alloc()) == Some(true));
 }

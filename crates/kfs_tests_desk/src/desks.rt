@@ -3,7 +3,7 @@
 use kfs_desk::Desk;
 use kfs_desk::answers::{Act, ActReply, Done, Reply};
 use kfs_image::{Answer, Cell, Header, Image, Kind, Name, Shape, TierSizes, look};
-use kfs_lease::{LeaseFault, LeaseKind};
+use kfs_lease::LeaseKind;
 use kfs_mode::{Client, ClientFault};
 use kfs_plan::{Back, Submission, Why};
 use kfs_tests::vectors::{CREATE_LOG, CREATE_PLAN};
@@ -17,49 +17,11 @@ pub fn client(number: u32, last: u32) -> Result<Client, ClientFault> {
     Client::new(number, 1000, 1000, &[], false, 2, last)
 }
 
-/// A fresh image with so many blocks on tier 0.
-pub fn fresh<A: Allocator + Copy>(alloc: A, blocks: u32) -> Option<Image<A>> {
-    Image::fresh(alloc, TierSizes::new(blocks, 8, 8)?).ok()
-}
-
-/// The clients 7, which has the numbers from 2 on, and 8, which has none.
-pub fn clients<A: Allocator + Copy>(alloc: A) -> Option<Vec<Client, A>> {
-    let first = client(7, 65_536).ok()?;
-    let second = client(8, 1).ok()?;
-    vec![in alloc; first, second].ok()
-}
-
-/// The desk of such an image and of these clients.
+/// The desk of a fresh image with so many blocks on tier 0, and of client 7, which has the numbers from 2 on.
 fn begun<A: Allocator + Copy>(alloc: A, blocks: u32, limit: u32) -> Option<Desk<A>> {
-    Desk::begin(alloc, fresh(alloc, blocks)?, clients(alloc)?, limit).ok()
-}
-
-/// A call of the desk for its leases.
-#[derive(Clone, Copy)]
-pub enum Call<'a> {
-    /// A client asks for a write lease on the node of a path, until 100.
-    Lease(u32, &'a [u8]),
-    /// A client gives up its lease on a node.
-    Drop(u32, u32),
-    /// The moment goes on to this one.
-    Tick(u64),
-}
-
-/// Such a call, and what it is answered.
-pub type Called<'a> = (Call<'a>, Result<Done, LeaseFault>);
-
-/// The call in the desk's own words.
-fn act_of(call: Call<'_>) -> Act<'_> {
-    match call {
-        Call::Lease(client, path) => Act::Lease {
-            client,
-            path,
-            kind: LeaseKind::Write,
-            end: 100,
-        },
-        Call::Drop(client, number) => Act::Drop { client, number },
-        Call::Tick(moment) => Act::Tick { moment },
-    }
+    let image = Image::fresh(alloc, TierSizes::new(blocks, 8, 8)?).ok()?;
+    let clients = vec![in alloc; client(7, 65_536).ok()?].ok()?;
+    Desk::begin(alloc, image, clients, limit).ok()
 }
 
 /// Whether both are one.
@@ -67,29 +29,24 @@ fn is_reply(reply: &ActReply, wanted: &ActReply) -> bool {
     reply == wanted
 }
 
-/// Whether the desk answers the call so, at this position.
-fn is_called<A: Allocator + Copy>(desk: &mut Desk<A>, position: u32, called: &Called<'_>) -> bool {
-    let (call, answer) = *called;
-    match desk.act(act_of(call)) {
+/// Whether client 7 is given a write lease on the node of this number at the path, in the row of this position.
+pub fn is_leased<A: Allocator + Copy>(
+    desk: &mut Desk<A>,
+    path: &[u8],
+    number: u32,
+    position: u32,
+) -> bool {
+    let act = Act::Lease {
+        client: 7,
+        path,
+        kind: LeaseKind::Write,
+        end: 100,
+    };
+    let answer = Ok(Done::Leased(number));
+    match desk.act(act) {
         Ok(reply) => is_reply(&reply, &ActReply { position, answer }),
         Err(_) => false,
     }
-}
-
-/// Makes these calls from this position on. Answers the next position, where each is answered so.
-pub fn called<A: Allocator + Copy>(
-    desk: &mut Desk<A>,
-    position: u32,
-    calls: &[Called<'_>],
-) -> Option<u32> {
-    let mut next = position;
-    for call in calls {
-        if !is_called(desk, next, call) {
-            return None;
-        }
-        next = next.saturating_add(1);
-    }
-    Some(next)
 }
 
 /// Such a desk with 8 blocks, whose docket takes `limit` rows, and of which client 7 holds a write lease
@@ -101,7 +58,7 @@ pub fn opening<A: Allocator + Copy>(alloc: A, limit: u32) -> Option<Desk<A>> {
 /// The same with so many blocks on tier 0.
 pub fn opening_over<A: Allocator + Copy>(alloc: A, blocks: u32, limit: u32) -> Option<Desk<A>> {
     let mut desk = begun(alloc, blocks, limit)?;
-    if is_called(&mut desk, 0, &(Call::Lease(7, b"/"), Ok(Done::Leased(1)))) {
+    if is_leased(&mut desk, b"/", 1, 0) {
         Some(desk)
     } else {
         None
@@ -185,8 +142,6 @@ pub fn is_accepted<A: Allocator + Copy>(
 pub enum Shown<'a> {
     /// The node is of uid and gid 1000, of this kind and this mode, and has one name and no byte.
     Node(u32, Kind, u16),
-    /// The file is of uid and gid 1000 and mode 0o644, and has one name and so many bytes.
-    File(u32, u64),
     /// No node has this number.
     NoNode(u32),
     /// The name of a directory leads to this number, or to none.
@@ -197,15 +152,15 @@ pub enum Shown<'a> {
     Parent(u32, Option<u32>),
 }
 
-/// The cell of a header, and the header of uid and gid 1000 and of one name.
-fn header_cell(number: u32, kind: Kind, mode: u16, size: u64) -> (Cell, Answer) {
+/// The cell of a header, and the header of uid and gid 1000, of one name and no byte.
+fn header_cell(number: u32, kind: Kind, mode: u16) -> (Cell, Answer) {
     let header = Header {
         kind,
         mode,
         uid: 1000,
         gid: 1000,
         links: 1,
-        size,
+        size: 0,
     };
     (Cell::Header(number), Answer::Header(Some(header)))
 }
@@ -213,8 +168,7 @@ fn header_cell(number: u32, kind: Kind, mode: u16, size: u64) -> (Cell, Answer) 
 /// The cell, and what it shows.
 fn cell_of(shown: Shown<'_>) -> Option<(Cell, Answer)> {
     Some(match shown {
-        Shown::Node(number, kind, mode) => header_cell(number, kind, mode, 0),
-        Shown::File(number, size) => header_cell(number, Kind::File, 0o644, size),
+        Shown::Node(number, kind, mode) => header_cell(number, kind, mode),
         Shown::NoNode(number) => (Cell::Header(number), Answer::Header(None)),
         Shown::Name(dir, name, number) => (Cell::Name(dir, Name::new(name)?), Answer::Name(number)),
         Shown::Count(number, count) => (Cell::Count(number), Answer::Count(count)),

@@ -1,5 +1,5 @@
-//! Tests of what only calls of the desk can say: leases, submissions, verdicts that land, views from before, and what each
-//! does where a growth fails. What command lines can say stands in the scripts of kfs_rows. The expected values come from
+//! Tests of what only calls of the desk can say: leases, the places of blocks, views from before, as many nodes as there may
+//! be, and scripts of workers. What command lines can say stands in the scripts of kfs_rows, with each growth refused in turn. The expected values come from
 //! docs/FORMATS.md and from the worked examples of kfs_examples, never from the program's own output.
 //!
 //! A test is proved, too, and carries the clauses of all calls that it makes. So each call stands in a
@@ -17,10 +17,8 @@ mod leases;
 #[cfg(test)]
 mod pages;
 #[cfg(test)]
-mod refused;
-#[cfg(test)]
 mod scripts;
 #[cfg(test)]
 mod submitting;
 #[cfg(test)]
-mod verdicts;
+mod writes;

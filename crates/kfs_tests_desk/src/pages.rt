@@ -1,9 +1,10 @@
-//! Views from before a landing in the first and the second page of nodes.
+//! Views: from before a landing in the first and the second page of nodes, and made without a growth.
 
-use crate::desks::{Shown, is_accepted, opening, shows, submission};
+use crate::desks::{AMPLE, Shown, is_accepted, opening, shows, submission};
 use kfs_desk::Desk;
 use kfs_image::{Header, Kind, Shape};
-use std::alloc::{AllocError, Global};
+use kfs_tests::refusing::Refusing;
+use std::alloc::{AllocError, Allocator, Global};
 use std::process::Abort;
 use std::test::Fail;
 
@@ -69,4 +70,24 @@ fn a_view_from_before_a_page(rt: HostRuntime) -> Result<(), Fail> {
     let mut desk = opening(rt.alloc(), 100).ok_or("an opening")?;
     expect_pages(&rt, &mut desk)?;
     Ok(())
+}
+
+/// Whether a view is made where the next growth is refused.
+fn is_viewed<A: Allocator + Copy>(heap: &Refusing<Global>, desk: &Desk<A>) -> bool {
+    heap.refuse_after(0);
+    let is_viewed = desk.view().is_ok();
+    heap.refuse_after(AMPLE);
+    is_viewed
+}
+
+/// The same of a new desk.
+fn is_new_viewed(heap: &Refusing<Global>) -> Option<bool> {
+    let desk = opening(heap, 100)?;
+    Some(is_viewed(heap, &desk))
+}
+
+#[test]
+fn a_view_makes_no_growth(rt: HostRuntime) {
+    let heap = Refusing::new(rt.alloc(), AMPLE);
+    assert!(rt; is_new_viewed(&heap) == Some(true));
 }

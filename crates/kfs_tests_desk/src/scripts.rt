@@ -1,15 +1,18 @@
-//! Scripts of workers: steps in and out of their place, and each growth of a script refused in turn.
+//! Scripts of workers: steps in and out of their place, calls among them, and each growth of a script refused in turn.
 
 use crate::desks::{AMPLE, FILE, NO_FILE, Shown, opening, shows, submission, yes};
-use crate::refused::MANY;
 use kfs_desk::Desk;
 use kfs_desk::answers::{Act, Reply};
 use kfs_judge::{EntryFault, Reason};
+use kfs_lease::LeaseKind;
 use kfs_plan::{Fault, Submission};
 use kfs_tests::refusing::Refusing;
 use kfs_tests::vectors::{CREATE_LOG, CREATE_PLAN};
 use kfs_workers::{ScriptBack, ScriptEnd, Step, run_script};
 use std::alloc::{Allocator, Global};
+
+/// More growths than a script makes.
+const MANY: u64 = 400;
 
 /// The Create of the file 5 under each of so many tickets.
 fn creates<A: Allocator + Copy>(alloc: A, count: usize) -> Option<Vec<Submission<A>, A>> {
@@ -34,16 +37,14 @@ fn are_settled<A: Allocator>(end: &ScriptEnd<A>, replies: &[Option<Reply>]) -> b
     true
 }
 
-/// Whether the script over such Creates, at a desk whose docket takes `limit` rows, gives these replies, and
-/// its image shows this then.
+/// Whether the script over such Creates gives these replies, and its image shows this then.
 fn gives(
     alloc: Global,
-    limit: u32,
     steps: &[Step<'_>],
     replies: &[Option<Reply>],
     shown: &[Shown<'_>],
 ) -> Option<bool> {
-    let desk = opening(alloc, limit)?;
+    let desk = opening(alloc, 100)?;
     let creates = creates(alloc, replies.len())?;
     let end = run_script(alloc, desk, creates, steps).ok()?;
     Some(are_settled(&end, replies) && shows(end.desk.image().shape(), shown))
@@ -64,7 +65,7 @@ const fn land(worker: usize) -> Step<'static> {
 #[test]
 fn a_submission_is_landed_by_its_worker(rt: HostRuntime) {
     let steps = [land(0), look(0, 0), look(1, 0), land(0), judge(0), land(0)];
-    let given = gives(rt.alloc(), 100, &steps, &[Some(yes(1))], &FILE);
+    let given = gives(rt.alloc(), &steps, &[Some(yes(1))], &FILE);
     assert!(rt; given == Some(true));
 }
 
@@ -86,50 +87,46 @@ fn steps_out_of_their_place_change_nothing(rt: HostRuntime) {
         judge(7),
         land(7),
     ];
-    let given = gives(rt.alloc(), 100, &steps, &[Some(yes(1)), None], &FILE);
+    let given = gives(rt.alloc(), &steps, &[Some(yes(1)), None], &FILE);
     assert!(rt; given == Some(true));
 }
 
-/// The only entry is refused in a judgement that was made again.
-fn refused_again(position: u32, reason: Reason) -> Reply {
-    let fault = Fault::Entry(EntryFault { index: 0, reason });
+const ROOT_DROPPED: Step<'static> = Step::Act(Act::Drop {
+    client: 7,
+    number: 1,
+});
+
+const ROOT_LEASED: Step<'static> = Step::Act(Act::Lease {
+    client: 7,
+    path: b"/",
+    kind: LeaseKind::Write,
+    end: 100,
+});
+
+/// The only entry is refused, since no lease on the root is held.
+fn without_a_lease(position: u32) -> Reply {
+    let reason = Reason::NoLease(1);
     Reply::No {
         position,
-        rejudged: true,
-        fault,
+        rejudged: false,
+        fault: Fault::Entry(EntryFault { index: 0, reason }),
     }
 }
 
 #[test]
-fn verdicts_are_landed_after_what_they_read_has_changed(rt: HostRuntime) {
+fn calls_of_a_script_are_made_in_their_place(rt: HostRuntime) {
     let steps = [
+        ROOT_DROPPED,
         look(0, 0),
-        look(7, 1),
-        judge(7),
         judge(0),
-        land(7),
         land(0),
-        Step::Act(Act::Drop {
-            client: 7,
-            number: 1,
-        }),
-        look(3, 2),
-        judge(3),
+        ROOT_LEASED,
+        look(1, 1),
+        judge(1),
+        land(1),
     ];
-    let replies = [
-        Some(refused_again(2, Reason::NameTaken)),
-        Some(yes(1)),
-        None,
-    ];
-    let given = gives(rt.alloc(), 100, &steps, &replies, &FILE);
-    assert!(rt; given == Some(true));
-}
-
-#[test]
-fn a_full_docket_leaves_the_submission(rt: HostRuntime) {
-    let steps = [look(0, 0), judge(0), land(0), look(1, 0), judge(1), land(1)];
-    let given = gives(rt.alloc(), 1, &steps, &[None], &NO_FILE);
-    assert!(rt; given == Some(true));
+    let replies = [Some(without_a_lease(2)), Some(yes(4))];
+    assert!(rt; gives(rt.alloc(), &steps, &replies, &FILE) == Some(true));
 }
 
 /// Whether it is the Create as it was handed in.
@@ -143,7 +140,7 @@ fn is_create<A: Allocator>(submission: &Submission<A>) -> bool {
 fn is_lawful<A: Allocator + Copy>(end: &ScriptEnd<A>) -> bool {
     let shape = end.desk.image().shape();
     match (end.replies.as_slice(), end.left.as_slice()) {
-        ([Some(reply)], [None]) => *reply == yes(1) && shows(shape, &FILE),
+        ([Some(reply)], [None]) => (1..3).any(|at| *reply == yes(at)) && shows(shape, &FILE),
         ([None], [Some(left)]) => is_create(left) && shows(shape, &NO_FILE),
         _ => false,
     }
@@ -157,20 +154,15 @@ fn is_back<A: Allocator + Copy>(back: &ScriptBack<A>) -> bool {
     }
 }
 
-/// Looks, judges and lands, twice where the first time it came back.
-const TWICE: [Step<'static>; 6] = [
-    Step::Look {
-        worker: 0,
-        ticket: 0,
-    },
-    Step::Judge { worker: 0 },
-    Step::Land { worker: 0 },
-    Step::Look {
-        worker: 1,
-        ticket: 0,
-    },
-    Step::Judge { worker: 1 },
-    Step::Land { worker: 1 },
+/// Looks, judges and lands, twice where the first time it came back; the moment goes on while a view is held.
+const TWICE: [Step<'static>; 7] = [
+    look(0, 0),
+    Step::Act(Act::Tick { moment: 1 }),
+    judge(0),
+    land(0),
+    look(1, 0),
+    judge(1),
+    land(1),
 ];
 
 /// Runs the script with the growth of this index refused, that one alone. Answers whether there was such a

@@ -1,3 +1,3 @@
 mod EachEdit
-mod Loops
+mod LandedNets
 mod OneEdit

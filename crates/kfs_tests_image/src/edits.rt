@@ -4,10 +4,8 @@ ghost use Rattle.kfs_image.specs.Edit.{CanEdit};
 ghost use Rattle.kfs_tests_image.specs.Edits.{each_kind};
 
 use crate::fits::{block_count, is_place_free};
-use crate::landings::{Landing, Written, block_row, fresh, land};
-use kfs_image::{BlockRow, Edit, Header, Image, Name, Place, header};
-use kfs_tests_plan::spelling::PieceLine::Zero;
-use kfs_tests_plan::spelling::{FileLine, Rows, Step};
+use crate::landed::{Made, image_with};
+use kfs_image::{Edit, Header, Image, Name, Place, header};
 use std::alloc::{AllocError, Allocator, Global};
 use std::process::Abort;
 
@@ -17,19 +15,13 @@ const BLOCK_LEN: usize = 4_096;
 /// How many blocks a tier may have.
 const GREATEST: u32 = 65_536;
 
-/// File 5 at `/a`, as long as a tier.
-const LONG: Landing<'static> = Landing {
-    held: &[b"/"],
-    made: (
-        &[Step::Create(b"a", 5, 0o644), Step::Truncate(5, 268_435_456)],
-        Rows {
-            names: &[(b"a", 5)],
-            nodes: &[FileLine(5, 0o644, 1000, 1000, 268_435_456)],
-            pieces: &[Zero(5, 0, 268_435_456)],
-        },
-    ),
-    written: &[],
-    zero: &[],
+/// File 5 of mode 0o644 at `/a`, as long as a tier.
+const LONG: Made<'static> = Made {
+    log: b"KLOG\x01\0\0\0\x07\0\x02\x01\0\0\0\x01\x01a\0\0\0\x05\0\x01\xa4\
+          \x03\0\0\0\x05\0\0\0\0\x10\0\0\0",
+    plan: b"KPLN\x01\0\x01\0\x01\0\0\0\x01\0\0\0\x01\x01a\0\0\0\x05\0\0\0\x05\
+          \x01\x01\xa4\0\0\x03\xe8\0\0\x03\xe8\0\x01\0\0\0\0\x10\0\0\0\
+          \0\0\0\x05\0\0\0\0\0\0\0\0\0\0\0\0\x10\0\0\0\0",
 };
 
 /// The edit that lays a block of a file at a place, where the image is lawful after it.
@@ -83,7 +75,16 @@ fn of_each_kind<A: Allocator>(
     Ok(edits)
 }
 
-/// Such edits of place 2, with bytes from 128 on, where the image is lawful after them.
+/// The bytes of a block, each one more than the one before it, and every hundredth 128 again.
+fn block_bytes<A: Allocator>(alloc: A) -> Option<Vec<u8, A>> {
+    let mut bytes = Vec::new(alloc);
+    for k in 0..4_096u16 {
+        bytes.push(128u8.wrapping_add((k % 100) as u8)).ok()?;
+    }
+    Some(bytes)
+}
+
+/// Such edits of place 2, where the image is lawful after them.
 pub fn edits_of_each_kind<A: Allocator + Copy>(
     alloc: A,
     image: &Image<A>,
@@ -92,7 +93,7 @@ pub fn edits_of_each_kind<A: Allocator + Copy>(
 {
     let place = Place { tier: 0, place: 2 };
     let _shape = image.shape();
-    let BlockRow { bytes, .. } = block_row(alloc, Written(5, 1, 2, 128))?;
+    let bytes = block_bytes(alloc)?;
     let is_free = is_place_free(image, place);
     if !is_free || block_count(header(image, 5)) <= 1 || bytes.len() != BLOCK_LEN {
         return None;
@@ -103,7 +104,12 @@ pub fn edits_of_each_kind<A: Allocator + Copy>(
 }
 
 /// Lays the block of file 5 at the least free place of tier 0 that isn't below `from`, and answers it.
-fn lay(alloc: Global, image: &mut Image<Global>, block: u32, from: u32) -> Option<u32> {
+pub fn lay<A: Allocator + Copy>(
+    alloc: A,
+    image: &mut Image<A>,
+    block: u32,
+    from: u32,
+) -> Option<u32> {
     let place = image.next_free(0, from)?;
     let edit = mapping(image, 5, block, Place { tier: 0, place })?;
     make(alloc, image, edit)?;
@@ -112,8 +118,7 @@ fn lay(alloc: Global, image: &mut Image<Global>, block: u32, from: u32) -> Optio
 
 /// The image in which all blocks of file 5 lie on tier 0, each at the place of its own number.
 fn filled(alloc: Global) -> Option<Image<Global>> {
-    let mut image = fresh(alloc, (GREATEST, 0, 0))?;
-    land(alloc, &mut image, &LONG)?;
+    let mut image = image_with(alloc, GREATEST, LONG)?;
     for block in 0..GREATEST {
         if lay(alloc, &mut image, block, block)? != block {
             return None;
