@@ -19,7 +19,7 @@ const ENDED: u8 = 4;
 
 /// What a run comes to.
 #[derive(Drop)]
-struct Run {
+struct Outcome {
     status: u8,
     written: Vec<u8>,
 }
@@ -30,14 +30,14 @@ fn run<R: AllocGlobal, A: Allocator + Copy>(
     alloc: A,
     words: &[&str],
     lines: &[u8],
-) -> Run {
+) -> Outcome {
     let mut script = Script {
         bytes: lines,
         is_broken: false,
     };
     let mut written = Vec::new(rt.alloc());
     let status = run_words(rt, alloc, words, &mut script, &mut written);
-    Run { status, written }
+    Outcome { status, written }
 }
 
 /// The index of the line that was answered that memory was wanted.
@@ -63,7 +63,7 @@ fn is_as_without<R: AllocGlobal>(
     rt: &R,
     case: &Case,
     words: &[&str],
-    given: &Run,
+    given: &Outcome,
     index: usize,
 ) -> Result<bool, Fault> {
     let lines = without_line(rt.alloc(), case.lines(), index)?;
@@ -78,7 +78,7 @@ fn is_due<R: AllocGlobal>(
     rt: &R,
     case: &Case,
     words: &[&str],
-    given: &Run,
+    given: &Outcome,
 ) -> Result<bool, Fault> {
     if given.status == ENDED {
         return Ok(case.replies().starts_with(&given.written));
@@ -105,7 +105,7 @@ fn growths<R: AllocGlobal>(rt: &R, case: &Case, words: &[&str]) -> Result<u64, F
 }
 
 /// Runs the script where at most so many bytes are held at one time.
-fn run_within<R: AllocGlobal>(rt: &R, case: &Case, words: &[&str], bytes: u64) -> Run {
+fn run_within<R: AllocGlobal>(rt: &R, case: &Case, words: &[&str], bytes: u64) -> Outcome {
     let heap = Refusing::new(rt.alloc(), AMPLE);
     heap.leave(bytes);
     run(rt, &heap, words, case.lines())

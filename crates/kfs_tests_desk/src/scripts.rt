@@ -155,15 +155,17 @@ fn is_back<A: Allocator + Copy>(back: &ScriptBack<A>) -> bool {
 }
 
 /// Looks, judges and lands, twice where the first time it came back; the moment goes on while a view is held.
-const TWICE: [Step<'static>; 7] = [
-    look(0, 0),
-    Step::Act(Act::Tick { moment: 1 }),
-    judge(0),
-    land(0),
-    look(1, 0),
-    judge(1),
-    land(1),
-];
+fn twice() -> [Step<'static>; 7] {
+    [
+        look(0, 0),
+        Step::Act(Act::Tick { moment: 1 }),
+        judge(0),
+        land(0),
+        look(1, 0),
+        judge(1),
+        land(1),
+    ]
+}
 
 /// Runs the script with the growth of this index refused, that one alone. Answers whether there was such a
 /// growth; none where what comes out isn't lawful.
@@ -175,7 +177,7 @@ fn script_from<A: Allocator + Copy>(
     growth: u64,
 ) -> Option<bool> {
     heap.refuse_after(growth);
-    let is_right = match run_script(alloc, desk, creates, &TWICE) {
+    let is_right = match run_script(alloc, desk, creates, &twice()) {
         Ok(end) => is_lawful(&end),
         Err(back) => is_back(&back),
     };
