@@ -1,8 +1,6 @@
 //! Bytes that land over others: what is then read, and where the blocks lie.
 
-use crate::desks::{
-    create, is_accepted, is_answered, is_leased, landed, opening_over, submission,
-};
+use crate::desks::{create, is_accepted, is_answered, is_leased, landed, opening_over, submission};
 use kfs_desk::Desk;
 use kfs_desk::answers::Reply;
 use kfs_image::{ReadFault, read_file};
