@@ -12,7 +12,10 @@ const AMPLE: u64 = 1 << 40;
 const MANY: u64 = 1 << 20;
 
 /// The reply to a line for which memory was wanted.
-const REFUSED: &[u8] = b"memory\n";
+const REFUSED: &[u8] = b"memory";
+
+/// The exit status where the engine comes to the end of its input.
+const DONE: u8 = 0;
 
 /// The exit status where the engine ends for want of memory.
 const ENDED: u8 = 4;
@@ -40,10 +43,28 @@ fn run<R: AllocGlobal, A: Allocator + Copy>(
     Outcome { status, written }
 }
 
+/// The line of this index, without its end.
+fn line_at(text: &[u8], index: usize) -> Option<&[u8]> {
+    let mut lines = text.split(|byte| *byte == b'\n');
+    lines.nth(index)
+}
+
 /// The index of the line that was answered that memory was wanted.
 fn refused_line(written: &[u8]) -> Option<usize> {
-    let mut lines = written.split_inclusive(|byte| *byte == b'\n');
+    let mut lines = written.split(|byte| *byte == b'\n');
     lines.position(|line| line == REFUSED)
+}
+
+/// The index of the line before this one that was answered that this worker holds a verdict, the last of them.
+fn judged_line(written: &[u8], index: usize, worker: &[u8]) -> Option<usize> {
+    let mut judged = None;
+    let lines = written.split(|byte| *byte == b'\n');
+    for (at, line) in lines.enumerate() {
+        if at < index && line.strip_prefix(b"judged ") == Some(worker) {
+            judged = Some(at);
+        }
+    }
+    judged
 }
 
 /// The text but for the line of this index.
@@ -58,34 +79,73 @@ fn without_line(alloc: Global, text: &[u8], index: usize) -> Result<Vec<u8>, All
     Ok(left)
 }
 
-/// Whether the other lines are answered as in a run in which that line doesn't stand.
-fn is_as_without<R: AllocGlobal>(
+/// Lines, and what they were answered one by one.
+#[derive(Drop)]
+struct Session {
+    lines: Vec<u8>,
+    replies: Vec<u8>,
+}
+
+impl Session {
+    /// The session but for the line of this index and its reply.
+    fn without(
+        alloc: Global,
+        lines: &[u8],
+        replies: &[u8],
+        index: usize,
+    ) -> Result<Session, AllocError> {
+        Ok(Session {
+            lines: without_line(alloc, lines, index)?,
+            replies: without_line(alloc, replies, index)?,
+        })
+    }
+
+    /// Whether these are the replies with memory.
+    fn is_due<R: AllocGlobal>(&self, rt: &R, words: &[&str]) -> bool {
+        let due = run(rt, rt.alloc(), words, &self.lines);
+        due.status == DONE && due.written.as_slice() == self.replies.as_slice()
+    }
+}
+
+/// Whether the other lines are answered as though that of this index, which found no memory, didn't stand there; or, where
+/// it lands a verdict, as though that had never been made.
+fn is_due_without<R: AllocGlobal>(
     rt: &R,
-    case: &Case,
+    lines: &[u8],
     words: &[&str],
-    given: &Outcome,
+    written: &[u8],
     index: usize,
-) -> Result<bool, Fault> {
-    let lines = without_line(rt.alloc(), case.lines(), index)?;
-    let replies = without_line(rt.alloc(), &given.written, index)?;
-    let due = run(rt, rt.alloc(), words, &lines);
-    Ok(due.status == given.status && due.written.as_slice() == replies.as_slice())
+) -> Result<bool, AllocError> {
+    let left = Session::without(rt.alloc(), lines, written, index)?;
+    if left.is_due(rt, words) {
+        return Ok(true);
+    }
+    let Some(worker) = line_at(lines, index).and_then(|line| line.strip_prefix(b"land ")) else {
+        return Ok(false);
+    };
+    let Some(judged) = judged_line(written, index, worker) else {
+        return Ok(false);
+    };
+    let left = Session::without(rt.alloc(), &left.lines, &left.replies, judged)?;
+    Ok(left.is_due(rt, words))
 }
 
 /// Whether a run in which a growth was refused is as it is due: it is as with memory, or ended early with the first
-/// replies, or one line found no memory and has changed nothing.
+/// replies, or one line found no memory.
 fn is_due<R: AllocGlobal>(
     rt: &R,
     case: &Case,
     words: &[&str],
     given: &Outcome,
-) -> Result<bool, Fault> {
+) -> Result<bool, AllocError> {
     if given.status == ENDED {
         return Ok(case.replies().starts_with(&given.written));
     }
     match refused_line(&given.written) {
-        Some(index) => is_as_without(rt, case, words, given, index),
-        None => Ok(case.compare(given.status, &given.written).is_ok()),
+        Some(index) if given.status == DONE => {
+            is_due_without(rt, case.lines(), words, &given.written, index)
+        }
+        _ => Ok(case.compare(given.status, &given.written).is_ok()),
     }
 }
 

@@ -13,6 +13,9 @@ use std::{fs, io};
 /// The exit status where no other one is expected.
 const DONE: u64 = 0;
 
+/// How many bytes a script has at most of which each growth is refused without its being asked for.
+const SMALL: usize = 3_000;
+
 /// A script and what is expected of it.
 #[derive(Drop)]
 pub struct Case {
@@ -45,8 +48,7 @@ impl Case {
     /// Reads the files of a name: `.kfs`, the script; `.out`, the replies; and where they are there
     /// `.words`, the words behind the program's name, one a line, `run` without it; `.status`, the exit
     /// status, 0 without it; `.broken`, with which reading fails behind the script's last byte; `.growths`,
-    /// with which each growth of memory is refused in turn, at least so many; and `.room`, the bytes that
-    /// are enough for it.
+    /// how many growths of memory it makes at least; and `.room`, the bytes that are enough for it.
     pub fn read<R: Files + AllocGlobal>(rt: &R, name: &str) -> Result<Case, Fault> {
         let script = needed_file(rt, name, ".kfs")?;
         let replies = needed_file(rt, name, ".out")?;
@@ -92,22 +94,31 @@ impl Case {
     }
 
     /// The bytes of the script.
-    pub fn lines(&self) -> &[u8] {
+    pub fn lines(&self) -> &[u8]
+        ensures { result.now ≡ self.now.script.items }
+    {
         &self.script
     }
 
     /// The replies that are expected.
-    pub fn replies(&self) -> &[u8] {
+    pub fn replies(&self) -> &[u8]
+        ensures { result.now ≡ self.now.replies.items }
+    {
         &self.replies
     }
 
-    /// How many growths of memory the script makes at least, where each is to be refused in turn.
+    /// How many growths of memory the script makes at least, where each is to be refused in turn: where `.growths`
+    /// says so, and of each small script that runs to its end.
     pub fn growths(&self) -> Option<u64> {
-        self.growths
+        let is_whole = !self.is_broken && self.words.is_none();
+        let is_small = is_whole && self.script.len() <= SMALL;
+        self.growths.or(is_small.then_some(0))
     }
 
     /// The bytes of memory that are enough for the script, where that is to be seen.
-    pub fn room(&self) -> Option<u64> {
+    pub fn room(&self) -> Option<u64>
+        ensures { result ≡ self.now.room }
+    {
         self.room
     }
 
