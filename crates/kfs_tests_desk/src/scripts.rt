@@ -136,12 +136,17 @@ fn is_create<A: Allocator>(submission: &Submission<A>) -> bool {
         && submission.plan.as_slice() == CREATE_PLAN
 }
 
-/// Whether the one ticket has a yes, or else is left as it was handed in, in the state that goes with it.
+/// Whether the first ticket has a yes, or else is left as it was handed in, in the state that goes with it; the other one is
+/// left.
 fn is_lawful<A: Allocator + Copy>(end: &ScriptEnd<A>) -> bool {
     let shape = end.desk.image().shape();
     match (end.replies.as_slice(), end.left.as_slice()) {
-        ([Some(reply)], [None]) => (1..3).any(|at| *reply == yes(at)) && shows(shape, &FILE),
-        ([None], [Some(left)]) => is_create(left) && shows(shape, &NO_FILE),
+        ([Some(reply), None], [None, Some(other)]) => {
+            (1..3).any(|at| *reply == yes(at)) && is_create(other) && shows(shape, &FILE)
+        }
+        ([None, None], [Some(left), Some(other)]) => {
+            is_create(left) && is_create(other) && shows(shape, &NO_FILE)
+        }
         _ => false,
     }
 }
@@ -149,14 +154,18 @@ fn is_lawful<A: Allocator + Copy>(end: &ScriptEnd<A>) -> bool {
 /// Whether all came back as it was handed in.
 fn is_back<A: Allocator + Copy>(back: &ScriptBack<A>) -> bool {
     match back.submissions.as_slice() {
-        [submission] => is_create(submission) && shows(back.desk.image().shape(), &NO_FILE),
+        [first, second] => {
+            is_create(first) && is_create(second) && shows(back.desk.image().shape(), &NO_FILE)
+        }
         _ => false,
     }
 }
 
-/// Looks, judges and lands, twice where the first time it came back; the moment goes on while a view is held.
-fn twice() -> [Step<'static>; 7] {
+/// Looks, judges and lands, twice where the first time it came back, beside a view that is held to the end; the moment goes on
+/// while a view is held, too.
+fn twice() -> [Step<'static>; 8] {
     [
+        look(7, 1),
         look(0, 0),
         Step::Act(Act::Tick { moment: 1 }),
         judge(0),
@@ -191,7 +200,7 @@ fn script_from<A: Allocator + Copy>(
 /// The same from the desk on.
 fn script_with_one_refused(heap: &Refusing<Global>, growth: u64) -> Option<bool> {
     let desk = opening(heap, 100)?;
-    let creates = creates(heap, 1)?;
+    let creates = creates(heap, 2)?;
     script_from(heap, heap, desk, creates, growth)
 }
 
