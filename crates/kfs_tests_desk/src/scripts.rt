@@ -37,17 +37,29 @@ fn are_settled<A: Allocator>(end: &ScriptEnd<A>, replies: &[Option<Reply>]) -> b
     true
 }
 
-/// Whether the script over such Creates gives these replies, and its image shows this then.
+/// Whether the script over such Creates, at a desk whose docket takes `limit` rows, gives these replies, and
+/// its image shows this then.
+fn gives_within(
+    alloc: Global,
+    limit: u32,
+    steps: &[Step<'_>],
+    replies: &[Option<Reply>],
+    shown: &[Shown<'_>],
+) -> Option<bool> {
+    let desk = opening(alloc, limit)?;
+    let creates = creates(alloc, replies.len())?;
+    let end = run_script(alloc, desk, creates, steps).ok()?;
+    Some(are_settled(&end, replies) && shows(end.desk.image().shape(), shown))
+}
+
+/// The same at a desk whose docket doesn't become full.
 fn gives(
     alloc: Global,
     steps: &[Step<'_>],
     replies: &[Option<Reply>],
     shown: &[Shown<'_>],
 ) -> Option<bool> {
-    let desk = opening(alloc, 100)?;
-    let creates = creates(alloc, replies.len())?;
-    let end = run_script(alloc, desk, creates, steps).ok()?;
-    Some(are_settled(&end, replies) && shows(end.desk.image().shape(), shown))
+    gives_within(alloc, 100, steps, replies, shown)
 }
 
 const fn look(worker: usize, ticket: usize) -> Step<'static> {
@@ -88,6 +100,13 @@ fn steps_out_of_their_place_change_nothing(rt: HostRuntime) {
         land(7),
     ];
     let given = gives(rt.alloc(), &steps, &[Some(yes(1)), None], &FILE);
+    assert!(rt; given == Some(true));
+}
+
+#[test]
+fn a_full_docket_leaves_the_submission(rt: HostRuntime) {
+    let steps = [look(0, 0), judge(0), land(0), look(1, 0), judge(1), land(1)];
+    let given = gives_within(rt.alloc(), 1, &steps, &[None], &NO_FILE);
     assert!(rt; given == Some(true));
 }
 
