@@ -5,10 +5,10 @@ use Rattle.kfs_model.specs.Lease.{Leases}
 use Rattle.kfs_model.specs.Judgement.{IsJudgement, No, NoRoom, Refused, State, Submission, Verdict, Yes, reply_to}
 use Rattle.kfs_model.specs.Machine.{Call, IsRead, Replied, Row, Submit, outcome_of, replied}
 use Rattle.kfs_model.proofs.RowFits.{row_fits}
-use Rattle.kfs_value.specs.declared.entry.Log.{Log}
-use Rattle.kfs_value.specs.declared.plan.Plan.{Plan}
-use Rattle.kfs_nodes.specs.declared.net.Net.{Net}
-use Rattle.kfs_device.specs.ShownTree.{DeviceImage, IsLawful}
+use Rattle.kfs_entry_value.specs.declared.entry.Log.{Log}
+use Rattle.kfs_entry_value.specs.declared.plan.Plan.{Plan}
+use Rattle.kfs_image_nodes.specs.declared.net.Net.{Net}
+use Rattle.kfs_model_device.specs.ShownTree.{DeviceImage, IsLawful}
 use Rattle.kfs_plan.specs.Judging.{IsVerdict, Tells}
 use Rattle.kfs_plan.specs.declared.submission.Fault.{Fault}
 use Rattle.kfs_plan.specs.declared.submission.Outcome.{Outcome}

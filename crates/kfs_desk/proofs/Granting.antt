@@ -7,8 +7,8 @@ use Rattle.kfs_model.specs.Judgement.{State}
 use Rattle.kfs_model.specs.Machine.{Call, IsRead, Row, outcome_of, leased}
 use Rattle.kfs_model.proofs.RowFits.{row_fits}
 use Rattle.kfs_lease.specs.declared.leases.LeaseFault.{LeaseFault as CodeFault}
-use Rattle.kfs_nodes.specs.Contents.{Contents, sight_of}
-use Rattle.kfs_device.specs.ShownTree.{IsLawful, shown_tree}
+use Rattle.kfs_image_nodes.specs.Contents.{Contents, sight_of}
+use Rattle.kfs_model_device.specs.ShownTree.{IsLawful, shown_tree}
 use Rattle.kfs_image.specs.Image.{contents_of}
 use Rattle.kfs_image.proofs.ShownTrees.{sight_shown}
 use Rattle.kfs_lease.specs.declared.act.Act.{Act}

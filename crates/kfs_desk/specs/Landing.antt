@@ -3,18 +3,18 @@ use Rattle.std.specs.Prelude.{◌≡◌, ℕ, ◌≤◌, ◌<◌, ◌==◌, not,
 use Rattle.std.specs.List.{AllByRecursion}
 use Rattle.kfs_model.specs.Lease.{Leases, without_gone}
 use Rattle.kfs_model.specs.Plan.{Ascend}
-use Rattle.kfs_value.specs.declared.entry.Log.{Log}
-use Rattle.kfs_value.specs.declared.header.Header.{Header}
-use Rattle.kfs_value.specs.declared.plan.NodeRow.{NodeRow}
-use Rattle.kfs_value.specs.declared.plan.Plan.{Plan}
+use Rattle.kfs_entry_value.specs.declared.entry.Log.{Log}
+use Rattle.kfs_entry_value.specs.declared.header.Header.{Header}
+use Rattle.kfs_entry_value.specs.declared.plan.NodeRow.{NodeRow}
+use Rattle.kfs_entry_value.specs.declared.plan.Plan.{Plan}
 use Rattle.kfs_entry.specs.Answers.{SpansAreWithin, log_of, plan_of}
-use Rattle.kfs_sweep.specs.Lefts.{IsFilled, IsWhole}
-use Rattle.kfs_tier.specs.Unused.{unused_places}
-use Rattle.kfs_nodes.specs.declared.net.Net.{Net}
-use Rattle.kfs_device.specs.ShownTree.{DeviceImage}
-use Rattle.kfs_fill.specs.declared.bytes.LogBytes.{LogBytes}
-use Rattle.kfs_fill.specs.Bytes.{entries_of, pieces_of}
-use Rattle.kfs_fill.specs.FillOf.{CanLandWith, HasLandedWith}
+use Rattle.kfs_plan_sweep.specs.Lefts.{IsFilled, IsWhole}
+use Rattle.kfs_image_tier.specs.Unused.{unused_places}
+use Rattle.kfs_image_nodes.specs.declared.net.Net.{Net}
+use Rattle.kfs_model_device.specs.ShownTree.{DeviceImage}
+use Rattle.kfs_image_fill.specs.declared.bytes.LogBytes.{LogBytes}
+use Rattle.kfs_image_fill.specs.Bytes.{entries_of, pieces_of}
+use Rattle.kfs_image_fill.specs.FillOf.{CanLandWith, HasLandedWith}
 use Rattle.kfs_plan.specs.declared.submission.Outcome.{Outcome}
 use Rattle.kfs_plan.specs.declared.submission.Outcome.TheVariants as outcomes
 use Rattle.kfs_plan.specs.declared.answers.Reply.{Reply}

@@ -11,11 +11,11 @@ use Rattle.kfs_model.specs.Judgement.{State, Submission, Reading, IsReadAs, Repl
 use Rattle.kfs_model.specs.Machine.{Call, Submit, Lease, Drop, Tick, CallAnswer, Replied, OneByOne, Row, after, next}
 use Rattle.kfs_model.specs.Machine as machine
 use Rattle.kfs_model.specs.Order.{IsInOrder}
-use Rattle.kfs_docket.specs.Legal.{LeadsTo}
+use Rattle.kfs_desk_docket.specs.Legal.{LeadsTo}
 use Rattle.kfs_lease.specs.Faults.{fault_of}
 use Rattle.kfs_lease_rows.specs.Rows.{kind_of}
 use Rattle.kfs_lease.specs.declared.leases.LeaseFault.{LeaseFault}
-use Rattle.kfs_device.specs.ShownTree.{DeviceImage, IsLawful, shown_tree}
+use Rattle.kfs_model_device.specs.ShownTree.{DeviceImage, IsLawful, shown_tree}
 use Rattle.kfs_plan.specs.Judging.{refusal_of, submission_of}
 use Rattle.kfs_plan.specs.declared.submission.Back.{Back}
 use Rattle.kfs_plan.specs.declared.submission.Submission.{Submission as CodeSubmission}
@@ -30,10 +30,10 @@ use Rattle.kfs_plan.specs.declared.answers.Done.{Done}
 use Rattle.kfs_plan.specs.declared.answers.Done.TheVariants as dones
 use Rattle.kfs_plan.specs.declared.answers.Reply.{Reply as CodeReply}
 use Rattle.kfs_plan.specs.declared.answers.Reply.TheVariants as replies
-use Rattle.kfs_check.specs.Reads.{Agrees}
-use Rattle.kfs_check.specs.View.{clients_of, contents_of, leases_of}
-use Rattle.kfs_check.specs.declared.view.View.{View}
-use Rattle.kfs_nodes.specs.Contents.{sight_of}
+use Rattle.kfs_judge_check.specs.Reads.{Agrees}
+use Rattle.kfs_judge_check.specs.View.{clients_of, contents_of, leases_of}
+use Rattle.kfs_judge_check.specs.declared.view.View.{View}
+use Rattle.kfs_image_nodes.specs.Contents.{sight_of}
 use Rattle.kfs_plan.specs.Judged.{Judged}
 use Rattle.kfs_desk.specs.Docket.{position_of, is_rejudged}
 

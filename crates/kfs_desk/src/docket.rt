@@ -5,7 +5,7 @@ ghost use Rattle.kfs_plan.specs.Judging.{submission_of};
 ghost use Rattle.kfs_desk.specs.Machine.{IsLeaseStep, IsStep, call_of, done_by};
 
 use crate::state::ShownState;
-use kfs_docket::{Docket, OneRow, RowRule};
+use kfs_desk_docket::{Docket, OneRow, RowRule};
 use kfs_lease::{Act, LeaseFault};
 use kfs_plan::Submission;
 use kfs_plan::answers::{Done, Reply};

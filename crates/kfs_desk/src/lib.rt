@@ -10,5 +10,5 @@ mod state;
 
 pub use back::BeginBack;
 pub use desk::Desk;
-pub use kfs_docket::Docket;
+pub use kfs_desk_docket::Docket;
 pub use kfs_plan::answers;

@@ -1,6 +1,6 @@
 //! Lists for which room was made before.
 ghost use Rattle.std.specs.Prelude.{◌∷◌, [], ◌≤◌};
-ghost use Rattle.kfs_value.specs.Room.{Appends, spare_of};
+ghost use Rattle.kfs_entry_value.specs.Room.{Appends, spare_of};
 
 use std::alloc::Allocator;
 

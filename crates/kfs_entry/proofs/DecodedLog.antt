@@ -7,11 +7,11 @@ use Rattle.std.proofs.lemmas.List.{append-nil, drop_all, length-drop}
 use Rattle.kfs_model.specs.Entry.{Log}
 use Rattle.kfs_model.specs.Spelling.{AreRows, Begins, LogHeader, IsLogHeader, log_header, IsEntry, entry_bytes, IsLog, log_bytes, LogAnswer}
 use Rattle.kfs_model.proofs.AnswersExist.{spelled_log}
-use Rattle.kfs_value.specs.declared.entry.Entry.{Entry as CodeEntry}
-use Rattle.kfs_value.specs.declared.entry.Span.{Span}
+use Rattle.kfs_entry_value.specs.declared.entry.Entry.{Entry as CodeEntry}
+use Rattle.kfs_entry_value.specs.declared.entry.Span.{Span}
 use Rattle.kfs_entry.specs.declared.fault.SpellFault.{SpellFault}
 use Rattle.kfs_entry.specs.declared.fault.SpellFault.TheVariants as faults
-use Rattle.kfs_value.specs.Views.{entry_of, IsWithin}
+use Rattle.kfs_entry_value.specs.Views.{entry_of, IsWithin}
 use Rattle.kfs_entry.specs.Missing.{EntryMissing}
 use Rattle.kfs_entry.specs.Answers.{OnRefusal}
 use Rattle.kfs_entry.proofs.RowLaws.{both_hold, AllByRecursion-weaker, stand_from, stop_from}

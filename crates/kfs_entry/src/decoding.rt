@@ -3,13 +3,13 @@ ghost use Rattle.std.specs.Prelude.{◌≡◌, ◌≤◌, Result, length, drop, 
 ghost use Rattle.kfs_model.specs.Entry.{Log as LogValue};
 ghost use Rattle.kfs_model.specs.PlanRow.{Plan as PlanValue};
 ghost use Rattle.kfs_model.specs.Spelling.{SpellingFault, LogAnswer, PlanAnswer};
-ghost use Rattle.kfs_codec.specs.RowList.{AreRead};
+ghost use Rattle.kfs_entry_codec.specs.RowList.{AreRead};
 ghost use Rattle.kfs_entry.specs.Missing.{EntryMissing, PartRowMissing};
 ghost use Rattle.kfs_entry.specs.Answers.{OnAnswer, log_of, plan_of, SpansAreWithin};
 
 use crate::fault::SpellFault;
-use kfs_codec::{Row, RowsFault, headers, read_rows};
-use kfs_value::{Entry, Log, NameRow, NodeRow, Piece, Plan, Rows, Span};
+use kfs_entry_codec::{Row, RowsFault, headers, read_rows};
+use kfs_entry_value::{Entry, Log, NameRow, NodeRow, Piece, Plan, Rows, Span};
 use std::alloc::Allocator;
 
 /// The entries of a log.

@@ -3,9 +3,9 @@ ghost use Rattle.std.specs.Prelude.{◌≡◌, ◌<◌, ◌^◌, length, IfOk};
 ghost use Rattle.kfs_model.specs.Spelling.{IsLog, log_bytes, plan_bytes};
 ghost use Rattle.kfs_entry.specs.Answers.{log_of, plan_of, SpansAreWithin};
 
-use kfs_codec::headers::{LogCounts, PlanCounts};
-use kfs_codec::{headers, rows_len, write_rows};
-use kfs_value::{Log, Plan};
+use kfs_entry_codec::headers::{LogCounts, PlanCounts};
+use kfs_entry_codec::{headers, rows_len, write_rows};
+use kfs_entry_value::{Log, Plan};
 use std::alloc::{AllocError, Allocator};
 
 /// The spelling of a log whose payloads lie in `source`.

@@ -8,7 +8,7 @@ mod fault;
 pub use decoding::{decode_log, decode_plan};
 pub use encoding::{encode_log, encode_plan};
 pub use fault::SpellFault;
-pub use kfs_codec::{Row, RowsFault, entry_table, read_rows, write_rows};
-pub use kfs_value::{
+pub use kfs_entry_codec::{Row, RowsFault, entry_table, read_rows, write_rows};
+pub use kfs_entry_value::{
     Entry, Header, Kind, Log, Name, NameRow, NodeRow, Piece, Plan, Rows, Source, Span,
 };

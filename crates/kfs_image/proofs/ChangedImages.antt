@@ -2,18 +2,18 @@
 use Rattle.std.proofs.Common.{◌≡◌, List, Ok, Err, sym, ap, subst, ◌∙◌}
 use Rattle.std.specs.Prelude.{◌<◌, All, OnOk, OnErr, vec_len}
 use Rattle.std.specs.declared.result.Result.{Result}
-use Rattle.kfs_value.specs.declared.plan.NameRow.{NameRow}
-use Rattle.kfs_value.specs.declared.plan.NodeRow.{NodeRow}
+use Rattle.kfs_entry_value.specs.declared.plan.NameRow.{NameRow}
+use Rattle.kfs_entry_value.specs.declared.plan.NodeRow.{NodeRow}
 use Rattle.kfs_model.specs.Limits.{block_size}
 use Rattle.kfs_model.specs.Placement.{IsLaid, Placement, tier_size}
-use Rattle.kfs_device.specs.ShownTree.{DeviceImage, IsLawful}
-use Rattle.kfs_blocks.specs.declared.fill.BlockRow.{BlockRow}
-use Rattle.kfs_blocks.specs.declared.fill.BlockRun.{BlockRun}
-use Rattle.kfs_blocks.specs.Blocks.{BlocksShown}
-use Rattle.kfs_blocks.specs.Fill.{CanFill, filled, less, mapped_by, written_by}
-use Rattle.kfs_nodes.specs.declared.net.Net.{Net}
-use Rattle.kfs_nodes.specs.Contents.{Contents}
-use Rattle.kfs_nodes.specs.Change.{after_rows, renamed, reheaded}
+use Rattle.kfs_model_device.specs.ShownTree.{DeviceImage, IsLawful}
+use Rattle.kfs_image_blocks.specs.declared.fill.BlockRow.{BlockRow}
+use Rattle.kfs_image_blocks.specs.declared.fill.BlockRun.{BlockRun}
+use Rattle.kfs_image_blocks.specs.Blocks.{BlocksShown}
+use Rattle.kfs_image_blocks.specs.Fill.{CanFill, filled, less, mapped_by, written_by}
+use Rattle.kfs_image_nodes.specs.declared.net.Net.{Net}
+use Rattle.kfs_image_nodes.specs.Contents.{Contents}
+use Rattle.kfs_image_nodes.specs.Change.{after_rows, renamed, reheaded}
 use Rattle.kfs_image.specs.declared.net.Fill.{Fill}
 use Rattle.kfs_image.specs.Gone.{AreGone}
 use Rattle.kfs_image.specs.Image.{image_with}

@@ -9,23 +9,23 @@ use Rattle.kfs_model.specs.Placement.{Placement}
 use Rattle.kfs_model.specs.Table.{Table, pairs, numbers, get, changed, insert}
 use Rattle.kfs_model.specs.Tree.{NameTable, name_order}
 use Rattle.kfs_model.proofs.TableLaws.{same_table, get-changed}
-use Rattle.kfs_device.specs.Device.{Devices}
-use Rattle.kfs_device.specs.ShownTree.{DeviceImage, IsLawful, shown_tree}
-use Rattle.kfs_value.specs.declared.plan.NameRow.{NameRow}
-use Rattle.kfs_value.specs.declared.plan.NodeRow.{NodeRow}
-use Rattle.kfs_value.specs.Views.{header_of}
-use Rattle.kfs_chunks.specs.Edits.{Ascend}
-use Rattle.kfs_chunks.specs.Overlays.{Say, overlaid}
-use Rattle.kfs_chunks.specs.Tables.{table_after}
-use Rattle.kfs_chunks.proofs.Overlays.{overlaid_none, table_after_said}
-use Rattle.kfs_tier.specs.declared.change.NewBlock.{NewBlock}
-use Rattle.kfs_tier.specs.Tiers.{with_blocks}
-use Rattle.kfs_tier.proofs.TierLists.{rest_at}
-use Rattle.kfs_blocks.specs.Blocks.{BlocksShown, CanChange, changed as changed_blocks}
-use Rattle.kfs_blocks.specs.Moves.{BlockEdit}
-use Rattle.kfs_nodes.specs.Contents.{Contents}
-use Rattle.kfs_nodes.specs.Change.{after_rows, led_to, renamed, reheaded}
-use Rattle.kfs_nodes.specs.Rows.{FitPages}
+use Rattle.kfs_model_device.specs.Device.{Devices}
+use Rattle.kfs_model_device.specs.ShownTree.{DeviceImage, IsLawful, shown_tree}
+use Rattle.kfs_entry_value.specs.declared.plan.NameRow.{NameRow}
+use Rattle.kfs_entry_value.specs.declared.plan.NodeRow.{NodeRow}
+use Rattle.kfs_entry_value.specs.Views.{header_of}
+use Rattle.kfs_map_chunks.specs.Edits.{Ascend}
+use Rattle.kfs_map_chunks.specs.Overlays.{Say, overlaid}
+use Rattle.kfs_map_chunks.specs.Tables.{table_after}
+use Rattle.kfs_map_chunks.proofs.Overlays.{overlaid_none, table_after_said}
+use Rattle.kfs_image_tier.specs.declared.change.NewBlock.{NewBlock}
+use Rattle.kfs_image_tier.specs.Tiers.{with_blocks}
+use Rattle.kfs_image_tier.proofs.TierLists.{rest_at}
+use Rattle.kfs_image_blocks.specs.Blocks.{BlocksShown, CanChange, changed as changed_blocks}
+use Rattle.kfs_image_blocks.specs.Moves.{BlockEdit}
+use Rattle.kfs_image_nodes.specs.Contents.{Contents}
+use Rattle.kfs_image_nodes.specs.Change.{after_rows, led_to, renamed, reheaded}
+use Rattle.kfs_image_nodes.specs.Rows.{FitPages}
 use Rattle.kfs_image.specs.declared.edit.Edit.{Edit}
 use Rattle.kfs_image.specs.declared.edit.Edit.TheVariants as edits
 use Rattle.kfs_image.specs.declared.edit.Parts.{Parts}

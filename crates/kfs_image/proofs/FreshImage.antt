@@ -10,10 +10,10 @@ use Rattle.kfs_model.specs.Fresh.{fresh_tree}
 use Rattle.kfs_model.proofs.FreshTree.{fresh_is_sound}
 use Rattle.kfs_model.proofs.Heads.{get-headers}
 use Rattle.kfs_model.specs.Placement.{TierSizes, Place, Placement}
-use Rattle.kfs_device.specs.Device.{Devices}
-use Rattle.kfs_device.specs.ShownTree.{IsLawful, file_bytes, shown_tree}
-use Rattle.kfs_blocks.specs.Blocks.{BlocksShown}
-use Rattle.kfs_nodes.specs.Contents.{Contents, root_alone}
+use Rattle.kfs_model_device.specs.Device.{Devices}
+use Rattle.kfs_model_device.specs.ShownTree.{IsLawful, file_bytes, shown_tree}
+use Rattle.kfs_image_blocks.specs.Blocks.{BlocksShown}
+use Rattle.kfs_image_nodes.specs.Contents.{Contents, root_alone}
 use Rattle.kfs_image.specs.Image.{image_with, fresh_image}
 
 abbrev fresh : Tree ℕ

@@ -1,13 +1,13 @@
 -- The runs of blocks that a landing leaves nowhere.
 use Rattle.std.specs.Prelude.{◌≡◌, ◌-◌, ◌^◌, List, min, option_map}
-use Rattle.kfs_value.specs.declared.header.Header.{Header as CodeHeader}
-use Rattle.kfs_value.specs.declared.plan.NodeRow.{NodeRow}
-use Rattle.kfs_value.specs.Views.{header_of}
-use Rattle.kfs_pages.specs.declared.edit.Edit.{Edit}
-use Rattle.kfs_device.specs.ShownTree.{DeviceImage, IsLawful}
-use Rattle.kfs_blocks.specs.declared.fill.BlockRun.{BlockRun}
-use Rattle.kfs_blocks.specs.Fill.{less}
-use Rattle.kfs_nodes.specs.Change.{reheaded}
+use Rattle.kfs_entry_value.specs.declared.header.Header.{Header as CodeHeader}
+use Rattle.kfs_entry_value.specs.declared.plan.NodeRow.{NodeRow}
+use Rattle.kfs_entry_value.specs.Views.{header_of}
+use Rattle.kfs_map_pages.specs.declared.edit.Edit.{Edit}
+use Rattle.kfs_model_device.specs.ShownTree.{DeviceImage, IsLawful}
+use Rattle.kfs_image_blocks.specs.declared.fill.BlockRun.{BlockRun}
+use Rattle.kfs_image_blocks.specs.Fill.{less}
+use Rattle.kfs_image_nodes.specs.Change.{reheaded}
 use Rattle.kfs_image.specs.Net.{blocks_in, cut}
 
 -- the blocks of a node from the end of its file on

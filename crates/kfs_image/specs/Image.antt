@@ -1,9 +1,9 @@
 -- What contracts see of an image: its nodes and names, which views share, and its blocks.
 use Rattle.kfs_model.specs.Table.{empty}
 use Rattle.kfs_model.specs.Placement.{TierSizes}
-use Rattle.kfs_device.specs.ShownTree.{DeviceImage}
-use Rattle.kfs_blocks.specs.Blocks.{BlocksShown}
-use Rattle.kfs_nodes.specs.Contents.{Contents, root_alone}
+use Rattle.kfs_model_device.specs.ShownTree.{DeviceImage}
+use Rattle.kfs_image_blocks.specs.Blocks.{BlocksShown}
+use Rattle.kfs_image_nodes.specs.Contents.{Contents, root_alone}
 
 -- the image of these nodes and names, over these blocks
 abbrev pub image_with : Contents → BlocksShown → DeviceImage

@@ -1,13 +1,13 @@
 //! Changes of an image, one after the other.
 ghost use Rattle.std.specs.Prelude.{◌≡◌, [], IfOk, OnOk};
 ghost use Rattle.kfs_model.specs.Placement.{TierSizes};
-ghost use Rattle.kfs_device.specs.ShownTree.{DeviceImage};
+ghost use Rattle.kfs_model_device.specs.ShownTree.{DeviceImage};
 ghost use Rattle.kfs_image.specs.Edit.{edited, IsWhole};
 ghost use Rattle.kfs_image.specs.Parts.{plain, with_parts, AreOf, AreWhole};
 
-use kfs_blocks::{NewBlock, Place};
-use kfs_chunks::Overlay;
-use kfs_value::{Header, Name, NameRow, NodeRow};
+use kfs_entry_value::{Header, Name, NameRow, NodeRow};
+use kfs_image_blocks::{NewBlock, Place};
+use kfs_map_chunks::Overlay;
 use std::alloc::{AllocError, Allocator};
 
 /// A change of what an image has of one node, name or block. What a value of none says is gone.

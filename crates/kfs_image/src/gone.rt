@@ -1,13 +1,13 @@
 //! The blocks that a landing leaves nowhere.
 ghost use Rattle.std.specs.Prelude.{◌≡◌, ◌-◌, ◌^◌, map, min, option_map, IfOk};
-ghost use Rattle.kfs_value.specs.Views.{header_of};
+ghost use Rattle.kfs_entry_value.specs.Views.{header_of};
 ghost use Rattle.kfs_image.specs.Gone.{AreGone, behind};
 ghost use Rattle.kfs_image.specs.Net.{blocks_in};
 
-use kfs_blocks::BlockRun;
-use kfs_nodes::header_edits;
-use kfs_pages::Edit;
-use kfs_value::{BLOCK_SIZE, Header, Kind, NodeRow};
+use kfs_entry_value::{BLOCK_SIZE, Header, Kind, NodeRow};
+use kfs_image_blocks::BlockRun;
+use kfs_image_nodes::header_edits;
+use kfs_map_pages::Edit;
 use std::alloc::{AllocError, Allocator};
 
 /// The runs of blocks that go: of each node that changes, those behind the file's end, or all where it

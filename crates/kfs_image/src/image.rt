@@ -1,15 +1,15 @@
 //! An image: the shape that views share, and the blocks of files.
 ghost use Rattle.std.specs.Prelude.{◌≡◌, ◌↔◌, ℕ, ◌<◌, List, length, option_map, Err, Some, None, IsTrue, IfSome, IfNone, IfOk, OnOk, OnErr};
-ghost use Rattle.kfs_value.specs.Views.{header_of};
+ghost use Rattle.kfs_entry_value.specs.Views.{header_of};
 ghost use Rattle.kfs_model.specs.Table.{get};
 ghost use Rattle.kfs_model.specs.Tree.{target};
 ghost use Rattle.kfs_model.specs.Placement.{tier_size};
 ghost use Rattle.kfs_model.specs.Sight.{is_directory};
-ghost use Rattle.kfs_device.specs.ShownTree.{IsLawful};
-ghost use Rattle.kfs_tier.specs.Unused.{IsNextUnused, AreTakenFrom, unused_places};
-ghost use Rattle.kfs_nodes.specs.Change.{after_rows, renamed, reheaded};
-ghost use Rattle.kfs_nodes.specs.Look.{IsAfter, IsNext, IsNextNode};
-ghost use Rattle.kfs_nodes.specs.Rows.{FitPages};
+ghost use Rattle.kfs_model_device.specs.ShownTree.{IsLawful};
+ghost use Rattle.kfs_image_tier.specs.Unused.{IsNextUnused, AreTakenFrom, unused_places};
+ghost use Rattle.kfs_image_nodes.specs.Change.{after_rows, renamed, reheaded};
+ghost use Rattle.kfs_image_nodes.specs.Look.{IsAfter, IsNext, IsNextNode};
+ghost use Rattle.kfs_image_nodes.specs.Rows.{FitPages};
 ghost use Rattle.kfs_image.specs.Edit.{CanEdit, edited_all};
 ghost use Rattle.kfs_image.specs.Image.{contents_of, fresh_image};
 ghost use Rattle.kfs_image.specs.Net.{CanApply, applied};
@@ -19,11 +19,11 @@ use crate::edit::{Edit, Parts};
 use crate::gone::gone_blocks;
 use crate::net::Fill;
 use crate::read::ReadFault;
-use kfs_blocks::{Blocks, ChangeBlocks, FillBlocks, Place};
-use kfs_chunks::key_edits;
-use kfs_nodes::{Answer, Cell, Net, Shape, look};
-use kfs_pages::Change;
-use kfs_value::{Header, Kind, Name, NameRow, NodeRow, TierSizes};
+use kfs_entry_value::{Header, Kind, Name, NameRow, NodeRow, TierSizes};
+use kfs_image_blocks::{Blocks, ChangeBlocks, FillBlocks, Place};
+use kfs_image_nodes::{Answer, Cell, Net, Shape, look};
+use kfs_map_chunks::key_edits;
+use kfs_map_pages::Change;
 use std::alloc::{AllocError, Allocator};
 use std::marker::Model;
 use std::sync::Arc;
@@ -40,7 +40,7 @@ pub struct Image<A: Allocator> {
 }
 
 impl<A: Allocator> Model for Image<A> {
-    ghost use Rattle.kfs_device.specs.ShownTree.{DeviceImage, IsLawful};
+    ghost use Rattle.kfs_model_device.specs.ShownTree.{DeviceImage, IsLawful};
     ghost use Rattle.kfs_image.specs.Image.{image_with};
 
     ghost Value = { DeviceImage };

@@ -3,8 +3,8 @@ ghost use Rattle.std.specs.Prelude.{◌≡◌, [], IfOk, OnOk, OnErr};
 ghost use Rattle.kfs_image.specs.Net.{CanApply, applied};
 
 use crate::image::Image;
-use kfs_blocks::{BlockRow, BlockRun};
-use kfs_nodes::Net;
+use kfs_image_blocks::{BlockRow, BlockRun};
+use kfs_image_nodes::Net;
 use std::alloc::{AllocError, Allocator};
 
 /// The blocks that a landing writes, and those that it makes zero.

@@ -10,12 +10,12 @@ use Rattle.kfs_model.specs.Run.{EntryFault, run, over_bytes}
 use Rattle.kfs_model.specs.SeenAfter.{seen_run_from, shown_run}
 use Rattle.kfs_model.proofs.OneByOne.{run_is_one_by_one}
 use Rattle.kfs_model.proofs.SeenRun.{run_is_seen, run_keeps_sound, bytes_faithful}
-use Rattle.kfs_nodes.specs.declared.net.Net.{Net}
+use Rattle.kfs_image_nodes.specs.declared.net.Net.{Net}
 use Rattle.kfs_judge.specs.declared.walk.EntryFault.{EntryFault as CodeEntryFault}
 use Rattle.kfs_judge.specs.Walks.{ComesTo, ComesToTree, fault_of}
-use Rattle.kfs_step.specs.Nets.{IsNetOf}
-use Rattle.kfs_sweep.specs.declared.sizes.FileSize.{FileSize}
-use Rattle.kfs_sweep.specs.Sizes.{AreSizesBetween}
+use Rattle.kfs_judge_step.specs.Nets.{IsNetOf}
+use Rattle.kfs_plan_sweep.specs.declared.sizes.FileSize.{FileSize}
+use Rattle.kfs_plan_sweep.specs.Sizes.{AreSizesBetween}
 
 stopped : (fault : EntryFault) (ran : Result (Tree ℕ) EntryFault) → shown_run ran ≡ Err fault → ran ≡ Err fault
 stopped fault (Ok after) is = cc

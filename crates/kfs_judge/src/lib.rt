@@ -4,5 +4,5 @@
 pub mod laws;
 mod walk;
 
-pub use kfs_check::{Read, ReadAnswer, Reason, View};
+pub use kfs_judge_check::{Read, ReadAnswer, Reason, View};
 pub use walk::{EntryFault, Walk, judge_entries};

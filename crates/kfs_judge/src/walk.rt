@@ -5,18 +5,18 @@ ghost use Rattle.kfs_model.specs.Lease.{row_of};
 ghost use Rattle.kfs_model.specs.Limits.{entry_limit};
 ghost use Rattle.kfs_model.specs.Sight.{Sight};
 ghost use Rattle.kfs_judge.specs.EntriesEntered.{HasTheirFiles, StopsAt, ReadsTheirCells, WritesTheirCells};
-ghost use Rattle.kfs_draft.specs.Overlay.{has_created, over, ShiftsBy, IsWritten};
-ghost use Rattle.kfs_check.specs.Reads.{Agrees, AreOnce};
-ghost use Rattle.kfs_check.specs.Recorders.{GoesOn};
-ghost use Rattle.kfs_check.specs.View.{clients_of, client_sight_in};
+ghost use Rattle.kfs_judge_draft.specs.Overlay.{has_created, over, ShiftsBy, IsWritten};
+ghost use Rattle.kfs_judge_check.specs.Reads.{Agrees, AreOnce};
+ghost use Rattle.kfs_judge_check.specs.Recorders.{GoesOn};
+ghost use Rattle.kfs_judge_check.specs.View.{clients_of, client_sight_in};
 ghost use Rattle.kfs_judge.specs.Walks.{HasOrderedSizes, IsRowOf, IsWalkOf, IsCellWalkOf, ReadsLookedCells};
 
 use indexmap::IndexMap;
-use kfs_check::{Read, ReadAnswer, Reason, View};
 use kfs_entry::{Entry, Log, Span};
-use kfs_nodes::Net;
-use kfs_step::LogJudge;
-use kfs_sweep::FileSize;
+use kfs_image_nodes::Net;
+use kfs_judge_check::{Read, ReadAnswer, Reason, View};
+use kfs_judge_step::LogJudge;
+use kfs_plan_sweep::FileSize;
 use std::alloc::{AllocError, Allocator};
 use std::hash::{BuildHasherDefault, FoldHasher};
 

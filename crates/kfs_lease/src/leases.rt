@@ -2,15 +2,15 @@
 ghost use Rattle.std.specs.Prelude.{◌≡◌, ◌==◌, not, Ok, Err, IfOk, IfErr, OnOk, OnErr, IfSome, IsSomeAnd};
 ghost use Rattle.kfs_model.specs.Lease.{no_leases, holds, granted, dropped, ticked, without_gone};
 ghost use Rattle.kfs_mode.specs.Clients.{AreDistinct};
-ghost use Rattle.kfs_nodes.specs.Contents.{sight_of};
+ghost use Rattle.kfs_image_nodes.specs.Contents.{sight_of};
 ghost use Rattle.kfs_lease.specs.Faults.{fault_of, Refuses};
 ghost use Rattle.kfs_lease_rows.specs.Rows.{kind_of};
 ghost use Rattle.kfs_lease.specs.declared.leases.LeaseFault.TheVariants.{OutOfMemory};
 
 use crate::path::{names_of, walk};
+use kfs_image_nodes::Shape;
 use kfs_lease_rows::{Lease, LeaseKind, Rows};
 use kfs_mode::{Client, find_client};
-use kfs_nodes::Shape;
 use std::alloc::{AllocError, AllocFailed, Allocator};
 use std::marker::Model;
 

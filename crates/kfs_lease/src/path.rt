@@ -5,18 +5,18 @@ ghost use Rattle.std.specs.List.{list_all, position};
 ghost use Rattle.std.specs.Iterator.{at_most, YieldsFirstBy};
 ghost use Rattle.kfs_model.specs.Lease as model;
 ghost use Rattle.kfs_model.specs.Spelling as spelling;
-ghost use Rattle.kfs_nodes.specs.Contents.{sight_of};
+ghost use Rattle.kfs_image_nodes.specs.Contents.{sight_of};
 ghost use Rattle.kfs_model.specs.Table.{get};
 ghost use Rattle.kfs_model.specs.Tree.{target};
 ghost use Rattle.kfs_model.specs.Sight.{is_directory};
-ghost use Rattle.kfs_value.specs.Views.{header_of as header_shown};
+ghost use Rattle.kfs_entry_value.specs.Views.{header_of as header_shown};
 ghost use Rattle.kfs_lease.specs.Paths.{left_of, parts_left, walked_along, LeadsTo, StopsAt};
 ghost use Rattle.kfs_lease.specs.Faults.{fault_of};
 
 use crate::leases::LeaseFault;
+use kfs_entry_value::ROOT;
+use kfs_image_nodes::{Answer, Cell, Header, Kind, Name, Shape, look};
 use kfs_mode::{Client, Want, may};
-use kfs_nodes::{Answer, Cell, Header, Kind, Name, Shape, look};
-use kfs_value::ROOT;
 use std::alloc::Allocator;
 
 /// The parts of a path between its slashes, from first to last.

@@ -10,7 +10,7 @@ ghost use Rattle.kfs_model.specs.Lease.{row_of};
 ghost use Rattle.kfs_mode.specs.Clients.{AreDistinct, client_row};
 
 use arrayvec::ArrayVec;
-use kfs_value::GREATEST_NUMBER;
+use kfs_entry_value::GREATEST_NUMBER;
 use std::marker::Model;
 
 /// The greatest number of supplementary groups of a client.

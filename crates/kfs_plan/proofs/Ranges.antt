@@ -5,12 +5,12 @@ use Rattle.std.proofs.lemmas.List.{length-map, length-take-le}
 use Rattle.kfs_model.specs.Limits.{entry_limit, payload_limit}
 use Rattle.kfs_model.specs.Spelling.{IsEntry, IsLog}
 use Rattle.kfs_entry.specs.Answers.{SpansAreWithin, log_of}
-use Rattle.kfs_value.specs.Views.{entry_of, span_bytes, IsWithin}
-use Rattle.kfs_value.specs.declared.entry.Entry.{Entry as CodeEntry}
-use Rattle.kfs_value.specs.declared.entry.Entry.TheVariants as entries
-use Rattle.kfs_value.specs.declared.entry.Log.{Log as CodeLog}
-use Rattle.kfs_value.specs.declared.entry.Span.{Span}
-use Rattle.kfs_sweep.specs.Sizes.{IsSpanned}
+use Rattle.kfs_entry_value.specs.Views.{entry_of, span_bytes, IsWithin}
+use Rattle.kfs_entry_value.specs.declared.entry.Entry.{Entry as CodeEntry}
+use Rattle.kfs_entry_value.specs.declared.entry.Entry.TheVariants as entries
+use Rattle.kfs_entry_value.specs.declared.entry.Log.{Log as CodeLog}
+use Rattle.kfs_entry_value.specs.declared.entry.Span.{Span}
+use Rattle.kfs_plan_sweep.specs.Sizes.{IsSpanned}
 
 -- a span in the source has as many bytes as it is long
 span_length : (source : List ℕ) (p : Span) → p.start ≤ p.end → p.end ≤ length source → length (span_bytes source p) ≡ p.end - p.start

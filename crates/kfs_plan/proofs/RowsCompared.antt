@@ -12,21 +12,21 @@ use Rattle.kfs_model.specs.Plan.{ArePieces}
 use Rattle.kfs_model.specs.Run.{Mark}
 use Rattle.kfs_model.specs.Tree.{Tree}
 use Rattle.kfs_model.proofs.Compare.{first_wrong_is_apart}
-use Rattle.kfs_value.specs.Views.{header_of, kind_of, piece_of}
-use Rattle.kfs_value.specs.declared.header.Kind.{Kind as CodeKind}
-use Rattle.kfs_value.specs.declared.header.Kind.TheVariants as kinds
-use Rattle.kfs_value.specs.declared.header.Header.{Header as CodeHeader}
-use Rattle.kfs_value.specs.declared.plan.NameRow.{NameRow as CodeNameRow}
-use Rattle.kfs_value.specs.declared.plan.NodeRow.{NodeRow as CodeNodeRow}
-use Rattle.kfs_value.specs.declared.plan.Piece.{Piece as CodePiece}
-use Rattle.kfs_value.specs.declared.plan.Plan.{Plan as CodePlan}
-use Rattle.kfs_value.specs.contracts.plan.NameRowPartialEq.TheImpl as names
-use Rattle.kfs_value.specs.contracts.plan.NodeRowPartialEq.TheImpl as nodes
-use Rattle.kfs_value.specs.contracts.header.HeaderPartialEq.TheImpl as heads
-use Rattle.kfs_value.specs.contracts.header.KindPartialEq.TheImpl as kind_tests
-use Rattle.kfs_nodes.specs.declared.net.Net.{Net}
+use Rattle.kfs_entry_value.specs.Views.{header_of, kind_of, piece_of}
+use Rattle.kfs_entry_value.specs.declared.header.Kind.{Kind as CodeKind}
+use Rattle.kfs_entry_value.specs.declared.header.Kind.TheVariants as kinds
+use Rattle.kfs_entry_value.specs.declared.header.Header.{Header as CodeHeader}
+use Rattle.kfs_entry_value.specs.declared.plan.NameRow.{NameRow as CodeNameRow}
+use Rattle.kfs_entry_value.specs.declared.plan.NodeRow.{NodeRow as CodeNodeRow}
+use Rattle.kfs_entry_value.specs.declared.plan.Piece.{Piece as CodePiece}
+use Rattle.kfs_entry_value.specs.declared.plan.Plan.{Plan as CodePlan}
+use Rattle.kfs_entry_value.specs.contracts.plan.NameRowPartialEq.TheImpl as names
+use Rattle.kfs_entry_value.specs.contracts.plan.NodeRowPartialEq.TheImpl as nodes
+use Rattle.kfs_entry_value.specs.contracts.header.HeaderPartialEq.TheImpl as heads
+use Rattle.kfs_entry_value.specs.contracts.header.KindPartialEq.TheImpl as kind_tests
+use Rattle.kfs_image_nodes.specs.declared.net.Net.{Net}
 use Rattle.kfs_plan.specs.PlanCheck.{first_unlike}
-use Rattle.kfs_step.specs.Rows.{keyed_name_row, keyed_node_row}
+use Rattle.kfs_judge_step.specs.Rows.{keyed_name_row, keyed_node_row}
 
 -- ---- the first difference, by a search for a pair that differs
 

@@ -3,15 +3,15 @@ ghost use Rattle.std.specs.Prelude.{◌≡◌, ◌↔◌, IsTrue};
 ghost use Rattle.std.specs.Option.{option_map};
 ghost use Rattle.kfs_model.specs.Sight as sights;
 ghost use Rattle.kfs_model.specs.Lease.{row_of};
-ghost use Rattle.kfs_check.specs.Reads.{Agrees, answer_of, cell_of, look_answer_of};
-ghost use Rattle.kfs_check.specs.View.{clients_of, client_sight_in};
+ghost use Rattle.kfs_judge_check.specs.Reads.{Agrees, answer_of, cell_of, look_answer_of};
+ghost use Rattle.kfs_judge_check.specs.View.{clients_of, client_sight_in};
 ghost use Rattle.kfs_plan.specs.Judged.{HoldsIn, IsKnown};
 
 use crate::submission::{Outcome, Submission};
 use indexmap::IndexMap;
+use kfs_image_nodes::Answer;
 use kfs_judge::{Read, ReadAnswer, View};
 use kfs_mode::Client;
-use kfs_nodes::Answer;
 use std::alloc::Allocator;
 use std::hash::{BuildHasherDefault, FoldHasher};
 use std::marker::Model;

@@ -4,10 +4,10 @@ ghost use Rattle.std.specs.List.{AllByRecursion};
 ghost use Rattle.kfs_model.specs.Judgement.{State};
 ghost use Rattle.kfs_model.specs.Lease.{row_of};
 ghost use Rattle.kfs_model.specs.Limits.{entry_limit};
-ghost use Rattle.kfs_sweep.specs.Sizes.{IsSpanned};
-ghost use Rattle.kfs_check.specs.Reads.{Agrees};
+ghost use Rattle.kfs_plan_sweep.specs.Sizes.{IsSpanned};
+ghost use Rattle.kfs_judge_check.specs.Reads.{Agrees};
 ghost use Rattle.kfs_judge.specs.Walks.{HasOrderedSizes};
-ghost use Rattle.kfs_check.specs.View.{clients_of, client_sight_in};
+ghost use Rattle.kfs_judge_check.specs.View.{clients_of, client_sight_in};
 ghost use Rattle.kfs_plan.specs.Judging.{AreLooked, IsAlike, IsSettled, IsVerdict, submission_of, submission_with};
 
 use crate::judged::Judged;

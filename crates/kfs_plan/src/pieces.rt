@@ -3,8 +3,8 @@ ghost use Rattle.std.specs.Prelude.{◌≤◌, IfOk, IsOk, length, map};
 ghost use Rattle.std.specs.List.{AllByRecursion};
 ghost use Rattle.kfs_model.specs.Access.{Client as ClientRow};
 ghost use Rattle.kfs_model.specs.Limits.{entry_limit};
-ghost use Rattle.kfs_value.specs.Views.{piece_of};
-ghost use Rattle.kfs_sweep.specs.Sizes.{IsSpanned};
+ghost use Rattle.kfs_entry_value.specs.Views.{piece_of};
+ghost use Rattle.kfs_plan_sweep.specs.Sizes.{IsSpanned};
 ghost use Rattle.kfs_judge.specs.Walks.{HasOrderedSizes, IsWalkOf};
 ghost use Rattle.kfs_plan.specs.PlanCheck.{ArePiecesOf};
 
@@ -27,6 +27,6 @@ pub fn sweep<A: Allocator + Copy>(
     // At every sound tree and all leases that agree with the walk's reads, these are right pieces of the log.
     ensures right { IfOk result (λ out. (client : ClientRow) → IsWalkOf client log.now walk.now → ArePiecesOf client log.now walk.now (map piece_of out.items)) }
 {
-    let out = kfs_sweep::sweep(alloc, walk.sizes.as_slice(), log.entries.as_slice())?;
+    let out = kfs_plan_sweep::sweep(alloc, walk.sizes.as_slice(), log.entries.as_slice())?;
     Ok(out)
 }

@@ -4,15 +4,15 @@ ghost use Rattle.std.specs.List.{AllByRecursion};
 ghost use Rattle.kfs_model.specs.Access.{Client as ClientRow};
 ghost use Rattle.kfs_model.specs.FirstWrong.{first_difference};
 ghost use Rattle.kfs_model.specs.Limits.{entry_limit};
-ghost use Rattle.kfs_sweep.specs.Sizes.{Ascend, IsSize, IsSpanned};
+ghost use Rattle.kfs_plan_sweep.specs.Sizes.{Ascend, IsSize, IsSpanned};
 ghost use Rattle.kfs_judge.specs.Walks.{HasOrderedSizes, IsWalkOf};
 ghost use Rattle.kfs_plan.specs.PlanCheck.{TellsOfEachRun, TellsOfEachTree};
 ghost use Rattle.kfs_plan.specs.declared.rows.RowFault.TheVariants.{OutOfMemory};
 
 use kfs_entry::{Log, Plan};
+use kfs_image_nodes::Net;
 use kfs_judge::Walk;
-use kfs_nodes::Net;
-use kfs_sweep::{FileSize, first_piece_apart, need_of, sweep};
+use kfs_plan_sweep::{FileSize, first_piece_apart, need_of, sweep};
 use std::alloc::{AllocError, Allocator};
 
 /// Why a plan isn't the right one for its log.

@@ -4,8 +4,8 @@ ghost use Rattle.kfs_plan.specs.declared.submission.Why.TheVariants.{OutOfMemory
 
 use crate::rows::RowFault;
 use kfs_entry::{Log, Plan, SpellFault};
+use kfs_image_nodes::Net;
 use kfs_judge::EntryFault;
-use kfs_nodes::Net;
 use std::alloc::{AllocError, Allocator};
 
 /// What a client hands in: a log and a plan as bytes.

@@ -1,8 +1,8 @@
 -- The exit status of the program, and what a person is told of it.
 use Rattle.std.specs.Prelude.{◌≡◌, ◌⊎◌, ◌≤◌, ◌==◌, ℕ, List, [], codes, Option, Some, None, Result, Ok, Err, if◌then◌else◌}
-use Rattle.kfs_engine.specs.Conversation.{IsSession}
-use Rattle.kfs_engine.specs.declared.fault.EngineFault.{EngineFault}
-use Rattle.kfs_engine.specs.declared.fault.EngineFault.TheVariants.{ReadFault, WriteFault, LongLine, OutOfMemory}
+use Rattle.kfs_program_engine.specs.Conversation.{IsSession}
+use Rattle.kfs_program_engine.specs.declared.fault.EngineFault.{EngineFault}
+use Rattle.kfs_program_engine.specs.declared.fault.EngineFault.TheVariants.{ReadFault, WriteFault, LongLine, OutOfMemory}
 
 abbrev pub status_of : {T : Type 0} → Result T EngineFault → ℕ
 status_of (Ok done) = 0

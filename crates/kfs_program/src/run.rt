@@ -1,11 +1,11 @@
 //! The words of the command line, and the exit status.
 ghost use Rattle.std.specs.Prelude.{◌≡◌, ◌≤◌, length, MatchOption, None, OnOk, Some};
 ghost use Rattle.kfs_program.specs.Exit.{IsExit, message_of, status_of};
-ghost use Rattle.kfs_text.specs.Streams.{Exchanges};
+ghost use Rattle.kfs_program_text.specs.Streams.{Exchanges};
 
 use clap::Command;
 use clap::error::ErrorKind;
-use kfs_engine::{EngineFault, engine};
+use kfs_program_engine::{EngineFault, engine};
 use std::alloc::{Allocator, Global};
 use std::io::{Read, Write};
 

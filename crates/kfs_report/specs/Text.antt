@@ -3,11 +3,11 @@ use Rattle.std.specs.Prelude.{◌≡◌, ℕ, ◌≤◌, List, Vec, ◌++◌, Bo
 use Rattle.std.specs.declared.alloc.AllocError.{AllocError}
 use Rattle.kfs_entry.specs.declared.fault.SpellFault.{SpellFault}
 use Rattle.kfs_entry.specs.declared.fault.SpellFault.TheVariants as spell
-use Rattle.kfs_value.specs.declared.header.Header.{Header}
-use Rattle.kfs_value.specs.declared.header.Kind.{Kind}
-use Rattle.kfs_value.specs.declared.header.Kind.TheVariants.{File, Directory}
-use Rattle.kfs_check.specs.declared.check.Reason.{Reason}
-use Rattle.kfs_check.specs.declared.check.Reason.TheVariants as reason
+use Rattle.kfs_entry_value.specs.declared.header.Header.{Header}
+use Rattle.kfs_entry_value.specs.declared.header.Kind.{Kind}
+use Rattle.kfs_entry_value.specs.declared.header.Kind.TheVariants.{File, Directory}
+use Rattle.kfs_judge_check.specs.declared.check.Reason.{Reason}
+use Rattle.kfs_judge_check.specs.declared.check.Reason.TheVariants as reason
 use Rattle.kfs_lease.specs.declared.leases.LeaseFault.{LeaseFault}
 use Rattle.kfs_lease.specs.declared.leases.LeaseFault.TheVariants as lease
 use Rattle.kfs_mode.specs.declared.client.ClientFault.{ClientFault}
@@ -23,8 +23,8 @@ use Rattle.kfs_plan.specs.declared.answers.Done.{Done}
 use Rattle.kfs_plan.specs.declared.answers.Done.TheVariants as done
 use Rattle.kfs_plan.specs.declared.answers.Reply.{Reply}
 use Rattle.kfs_plan.specs.declared.answers.Reply.TheVariants.{Yes, No, NoRoom}
-use Rattle.kfs_text.specs.Parts.{field_text, flag_text, line_of, numbered_text, octal_text}
-use Rattle.kfs_value.specs.Room.{spare_of}
+use Rattle.kfs_program_text.specs.Parts.{field_text, flag_text, line_of, numbered_text, octal_text}
+use Rattle.kfs_entry_value.specs.Room.{spare_of}
 
 -- ---- refusals by name
 

@@ -3,14 +3,14 @@
 //! lines doesn't take.
 ghost use Rattle.std.specs.Prelude.{◌≡◌, ◌+◌, ◌≤◌, ◌++◌, length, codes};
 ghost use Rattle.kfs_report.specs.Text.{AddsLine, reply_text, head_text, act_text, done_text, node_text, header_text, kind_text, counts_text, client_text, begin_text};
-ghost use Rattle.kfs_value.specs.Room.{Appends, spare_of};
+ghost use Rattle.kfs_entry_value.specs.Room.{Appends, spare_of};
 
 mod names;
 
+use kfs_image_nodes::{Header, Kind};
 use kfs_mode::ClientFault;
-use kfs_nodes::{Header, Kind};
 use kfs_plan::answers::{ActReply, BeginFault, Done, Reply};
-use kfs_text::parts::{field, flag, number, octal, text};
+use kfs_program_text::parts::{field, flag, number, octal, text};
 use names::{begin_fault, client_fault, judgement_fault, lease_fault};
 use std::alloc::{AllocError, Allocator};
 

@@ -6,7 +6,7 @@
 mod memory;
 
 use kfs_program::run_words;
-use kfs_scripts::{Case, Fault, script_names};
+use kfs_test_scripts::{Case, Fault, script_names};
 use memory::run_in_little_memory;
 use std::io;
 use std::process::ExitCode;

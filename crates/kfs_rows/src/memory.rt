@@ -1,8 +1,8 @@
 //! Scripts in little memory: with each growth refused in turn, and with few bytes.
 
 use kfs_program::run_words;
-use kfs_scripts::{Case, Fault, Script};
-use kfs_tests::refusing::Refusing;
+use kfs_test_scripts::{Case, Fault, Script};
+use kfs_test_support::refusing::Refusing;
 use std::alloc::{AllocError, Allocator, Global};
 
 /// As many growths as no script makes.

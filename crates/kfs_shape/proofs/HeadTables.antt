@@ -3,12 +3,12 @@ use Rattle.std.proofs.Common.{◌≡◌, ℕ, ◌+◌, ◌<◌, ◌≤◌, Bool,
 use Rattle.std.specs.Option.{option_map}
 use Rattle.std.specs.Ordering.{eq_by_cmp, nat_cmp}
 use Rattle.std.proofs.lemmas.List.{drop_more, drop_all}
-use Rattle.kfs_value.specs.declared.header.Header.{Header as CodeHeader}
-use Rattle.kfs_value.specs.Views.{header_of}
+use Rattle.kfs_entry_value.specs.declared.header.Header.{Header as CodeHeader}
+use Rattle.kfs_entry_value.specs.Views.{header_of}
 use Rattle.kfs_model.specs.Header.{Header}
 use Rattle.kfs_model.specs.Table.{numbers, get, option_or}
 use Rattle.kfs_model.proofs.TableLaws.{get-insert}
-use Rattle.kfs_device.specs.RawImage.{table_of, node_entry}
+use Rattle.kfs_model_device.specs.RawImage.{table_of, node_entry}
 use Rattle.kfs_shape.specs.declared.raw.NodeRow.{NodeRow}
 use Rattle.kfs_shape.specs.Views.{node_row_of}
 

@@ -5,8 +5,8 @@ use Rattle.std.specs.BTreeMap.{BTreeMap, IsEmpty, is_at}
 use Rattle.std.specs.Map.{lookup}
 use Rattle.std.proofs.lemmas.List.{drop_more, drop_all}
 use Rattle.std.specs.Cmp.{unsigned_tied, nat_eq_equiv}
-use Rattle.kfs_value.specs.declared.plan.NameRow.{NameRow as CodeNameRow}
-use Rattle.kfs_value.specs.Views.{name_row_of}
+use Rattle.kfs_entry_value.specs.declared.plan.NameRow.{NameRow as CodeNameRow}
+use Rattle.kfs_entry_value.specs.Views.{name_row_of}
 use Rattle.kfs_model.specs.Header.{Header}
 use Rattle.kfs_model.specs.PlanRow.{NameRow}
 use Rattle.kfs_model.specs.Table.{Table, numbers}
@@ -14,11 +14,11 @@ use Rattle.kfs_model.specs.Tree.{name_order, name_count}
 use Rattle.kfs_model.proofs.CleanIsAllowed.{left}
 use Rattle.kfs_model.proofs.Counts.{tally, is_tally}
 use Rattle.kfs_model.specs.Plan.{keyed_name}
-use Rattle.kfs_device.specs.RawImage.{RawImage, heads_of, names_of}
-use Rattle.kfs_device.specs.Rules.{Test, with_previous, directory_test, rule_4}
-use Rattle.kfs_device.specs.Finding.{least_of, least_failed}
-use Rattle.kfs_device.proofs.RowTables.{AreAbove, sorted_entries, sorted_rows}
-use Rattle.kfs_device.proofs.RulesHold.{AllHold}
+use Rattle.kfs_model_device.specs.RawImage.{RawImage, heads_of, names_of}
+use Rattle.kfs_model_device.specs.Rules.{Test, with_previous, directory_test, rule_4}
+use Rattle.kfs_model_device.specs.Finding.{least_of, least_failed}
+use Rattle.kfs_model_device.proofs.RowTables.{AreAbove, sorted_entries, sorted_rows}
+use Rattle.kfs_model_device.proofs.RulesHold.{AllHold}
 use Rattle.kfs_shape.specs.Counts.{count_at, leads_to}
 
 -- ---- one row after another

@@ -4,18 +4,18 @@ use Rattle.std.specs.List.{AllByRecursion}
 use Rattle.std.proofs.lemmas.Bool.{and_right, ne_eqb}
 use Rattle.std.proofs.lemmas.List.{append-nil, drop_more, drop_all, get_or-replicate, length-replicate, take_all}
 use Rattle.std.proofs.lemmas.Option.{slice_get-get_or, slice_get_past}
-use Rattle.kfs_value.specs.declared.plan.NameRow.{NameRow as CodeNameRow}
-use Rattle.kfs_value.specs.Views.{name_row_of}
+use Rattle.kfs_entry_value.specs.declared.plan.NameRow.{NameRow as CodeNameRow}
+use Rattle.kfs_entry_value.specs.Views.{name_row_of}
 use Rattle.kfs_model.specs.Table.{get, option_or}
 use Rattle.kfs_model.specs.Sight.{is_directory, holder}
 use Rattle.kfs_model.proofs.CleanIsAllowed.{right}
 use Rattle.kfs_model.proofs.Heads.{has_parent}
 use Rattle.kfs_model.specs.Plan.{keyed_name}
-use Rattle.kfs_device.specs.RawImage.{NodeRow, RawImage, heads_of, names_of}
-use Rattle.kfs_device.specs.Rules.{with_previous, number_test, rule_1, rule_4, parent_of}
-use Rattle.kfs_device.specs.Finding.{least_failed}
-use Rattle.kfs_device.proofs.RulesHold.{AllHold}
-use Rattle.kfs_device.proofs.SoundImage.{some_directory, each_head}
+use Rattle.kfs_model_device.specs.RawImage.{NodeRow, RawImage, heads_of, names_of}
+use Rattle.kfs_model_device.specs.Rules.{with_previous, number_test, rule_1, rule_4, parent_of}
+use Rattle.kfs_model_device.specs.Finding.{least_failed}
+use Rattle.kfs_model_device.proofs.RulesHold.{AllHold}
+use Rattle.kfs_model_device.proofs.SoundImage.{some_directory, each_head}
 use Rattle.kfs_shape.specs.Climbs.{up_at}
 use Rattle.kfs_shape.proofs.HeadTables.{or_none}
 use Rattle.kfs_shape.proofs.NameCounts.{all_hold, names_listed}

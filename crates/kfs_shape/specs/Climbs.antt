@@ -1,8 +1,8 @@
 -- For each number of a node the one that a number of steps up from it leads to.
 use Rattle.std.specs.Prelude.{◌≡◌, ℕ, ◌<◌, ◌==◌, ◌&&◌, Bool, false, List, length, slice_get, Option, Some, None, if◌then◌else◌}
 use Rattle.kfs_model.specs.Table.{option_or}
-use Rattle.kfs_device.specs.RawImage.{RawImage}
-use Rattle.kfs_device.specs.Rules.{parent_of}
+use Rattle.kfs_model_device.specs.RawImage.{RawImage}
+use Rattle.kfs_model_device.specs.Rules.{parent_of}
 
 -- where the list leads from a number; nowhere from one past its end
 abbrev pub up_at : List (Option ℕ) → (number : ℕ) → Option ℕ

@@ -3,7 +3,7 @@ use Rattle.std.specs.Prelude.{ℕ, ◌==◌, Bool, unwrap_or}
 use Rattle.std.specs.Ordering.{nat_cmp}
 use Rattle.std.specs.BTreeMap as shown
 use Rattle.std.specs.BTreeMap.{BTreeMap}
-use Rattle.kfs_value.specs.declared.plan.NameRow.{NameRow}
+use Rattle.kfs_entry_value.specs.declared.plan.NameRow.{NameRow}
 
 -- how often the map has counted the number
 abbrev pub count_at : BTreeMap ℕ ℕ → (number : ℕ) → ℕ

@@ -4,11 +4,11 @@ use Rattle.std.specs.Option.{option_map}
 use Rattle.std.specs.Ordering.{eq_by_cmp, nat_cmp}
 use Rattle.std.specs.BTreeMap as shown
 use Rattle.std.specs.BTreeMap.{BTreeMap}
-use Rattle.kfs_value.specs.declared.header.Header.{Header as CodeHeader}
-use Rattle.kfs_value.specs.Views.{header_of}
+use Rattle.kfs_entry_value.specs.declared.header.Header.{Header as CodeHeader}
+use Rattle.kfs_entry_value.specs.Views.{header_of}
 use Rattle.kfs_model.specs.Header.{Header}
 use Rattle.kfs_model.specs.Table.{get, option_or}
-use Rattle.kfs_device.specs.RawImage.{heads_of}
+use Rattle.kfs_model_device.specs.RawImage.{heads_of}
 use Rattle.kfs_shape.specs.declared.raw.RawImage.{RawImage as CodeRawImage}
 use Rattle.kfs_shape.specs.Views.{raw_of}
 

@@ -1,6 +1,6 @@
 -- The least number of tests that are made one after another.
 use Rattle.std.specs.Prelude.{ℕ, ◌-◌, ◌==◌, if◌then◌else◌, List, Option, Some, None, slice_get}
-use Rattle.kfs_device.specs.Finding.{least_of}
+use Rattle.kfs_model_device.specs.Finding.{least_of}
 
 -- the lesser of two numbers, where both are there
 abbrev pub merged : Option ℕ → Option ℕ → Option ℕ

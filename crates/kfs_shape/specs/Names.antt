@@ -4,7 +4,7 @@ use Rattle.kfs_model.specs.Header.{Header}
 use Rattle.kfs_model.specs.PlanRow.{NameRow}
 use Rattle.kfs_model.specs.Sight.{is_directory}
 use Rattle.kfs_model.specs.Tree.{name_order}
-use Rattle.kfs_device.specs.Rules.{is_above}
+use Rattle.kfs_model_device.specs.Rules.{is_above}
 
 -- the name row, whose directory's number has this header, stands in a directory, above the row before
 abbrev pub is_in_place : Option Header → Option NameRow × NameRow → Bool

@@ -1,7 +1,7 @@
 -- The places of all tiers as positions one after another, and how many extents have one.
 use Rattle.std.specs.Prelude.{◌≡◌, ℕ, ◌+◌, ◌*◌, ◌<◌, ◌≤◌, ◌&&◌, nat_le, nat_lt, Bool, true, false}
 use Rattle.std.specs.BTreeMap.{BTreeMap}
-use Rattle.kfs_device.specs.RawImage.{ExtentRow}
+use Rattle.kfs_model_device.specs.RawImage.{ExtentRow}
 use Rattle.kfs_shape.specs.declared.raw.ExtentRow.{ExtentRow as CodeExtentRow}
 use Rattle.kfs_shape.specs.Counts.{count_at}
 use Rattle.kfs_shape.specs.Views.{extent_row_of}

@@ -3,8 +3,8 @@ use Rattle.std.specs.Prelude.{map}
 use Rattle.kfs_shape.specs.declared.raw.NodeRow.{NodeRow as CodeNodeRow}
 use Rattle.kfs_shape.specs.declared.raw.ExtentRow.{ExtentRow as CodeExtentRow}
 use Rattle.kfs_shape.specs.declared.raw.RawImage.{RawImage as CodeRawImage}
-use Rattle.kfs_value.specs.Views.{header_of, name_row_of}
-use Rattle.kfs_device.specs.RawImage.{NodeRow, ExtentRow, RawImage}
+use Rattle.kfs_entry_value.specs.Views.{header_of, name_row_of}
+use Rattle.kfs_model_device.specs.RawImage.{NodeRow, ExtentRow, RawImage}
 
 abbrev pub node_row_of : CodeNodeRow → NodeRow
 node_row_of row = record { number = row.number; header = header_of row.header }

@@ -1,7 +1,7 @@
 //! All ten rules of an image, one after another.
 ghost use Rattle.std.specs.Prelude.{◌≡◌, None, IfOk};
-ghost use Rattle.kfs_device.specs.Rules.{rule_1};
-ghost use Rattle.kfs_device.specs.Finding.{finding_from, finding_of, least_failed};
+ghost use Rattle.kfs_model_device.specs.Rules.{rule_1};
+ghost use Rattle.kfs_model_device.specs.Finding.{finding_from, finding_of, least_failed};
 ghost use Rattle.kfs_shape.specs.Findings.{found_at, node_rules, name_rules, extent_rules, Tells};
 ghost use Rattle.kfs_shape.specs.Heads.{ShowsHeads};
 ghost use Rattle.kfs_shape.specs.Views.{raw_of};
@@ -14,7 +14,7 @@ use crate::names::{least_lost_target, least_miscounted};
 use crate::places::least_shared;
 use crate::raw::RawImage;
 use crate::{names, nodes};
-use kfs_value::Header;
+use kfs_entry_value::Header;
 use std::alloc::Allocator;
 use std::collections::BTreeMap;
 

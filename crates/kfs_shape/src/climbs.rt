@@ -1,8 +1,8 @@
 //! The rule of the climbs: going up from each directory reaches the root.
 ghost use Rattle.std.specs.Prelude.{◌≡◌, ◌||◌, ◌<◌, ◌≤◌, ℕ, IfOk, None, length, Some, true};
 ghost use Rattle.kfs_model.specs.Sight.{is_directory, is_file};
-ghost use Rattle.kfs_device.specs.Rules.{rule_1, rule_4, rule_7, reaches_root};
-ghost use Rattle.kfs_device.specs.Finding.{least_failed};
+ghost use Rattle.kfs_model_device.specs.Rules.{rule_1, rule_4, rule_7, reaches_root};
+ghost use Rattle.kfs_model_device.specs.Finding.{least_failed};
 ghost use Rattle.kfs_shape.specs.Climbs.{up_at, up_from, is_root, LeadsFirst, ParentsOf};
 ghost use Rattle.kfs_shape.specs.Heads.{head_at, ShowsHeads};
 ghost use Rattle.kfs_shape.specs.Views.{node_row_of, raw_of};
@@ -10,7 +10,7 @@ ghost use Rattle.kfs_shape.specs.Views.{node_row_of, raw_of};
 use crate::heads::has_directory;
 use crate::least::noted;
 use crate::raw::{NodeRow, RawImage};
-use kfs_value::{Header, Kind, NameRow, ROOT};
+use kfs_entry_value::{Header, Kind, NameRow, ROOT};
 use std::alloc::{AllocError, Allocator};
 use std::collections::BTreeMap;
 

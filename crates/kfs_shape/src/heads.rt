@@ -5,15 +5,15 @@ ghost use Rattle.std.specs.Ordering.{eq_by_cmp, nat_cmp};
 ghost use Rattle.std.specs.BTreeMap as shown;
 ghost use Rattle.kfs_model.specs.Table.{option_or};
 ghost use Rattle.kfs_model.specs.Sight.{is_directory};
-ghost use Rattle.kfs_value.specs.Views.{header_of};
-ghost use Rattle.kfs_device.specs.Rules.{rule_2};
-ghost use Rattle.kfs_device.specs.Finding.{least_failed};
+ghost use Rattle.kfs_entry_value.specs.Views.{header_of};
+ghost use Rattle.kfs_model_device.specs.Rules.{rule_2};
+ghost use Rattle.kfs_model_device.specs.Finding.{least_failed};
 ghost use Rattle.kfs_shape.specs.Views.{raw_of};
 ghost use Rattle.kfs_shape.specs.Heads.{head_at, ShowsHeads, TakesFirst};
 
 use crate::least::noted;
 use crate::raw::RawImage;
-use kfs_value::{Header, Kind, ROOT};
+use kfs_entry_value::{Header, Kind, ROOT};
 use std::alloc::{AllocError, Allocator};
 use std::collections::BTreeMap;
 

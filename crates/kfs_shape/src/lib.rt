@@ -15,6 +15,6 @@ mod raw;
 
 pub use check::check_shape;
 pub use fault::{Finding, ShapeFault};
+pub use kfs_entry_value::{Header, Kind, Name, NameRow, TierSizes};
 pub use kfs_image::{Fill, Net, net_apply};
-pub use kfs_value::{Header, Kind, Name, NameRow, TierSizes};
 pub use raw::{ExtentRow, NodeRow, RawImage};

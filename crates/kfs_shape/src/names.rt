@@ -3,9 +3,9 @@ ghost use Rattle.std.specs.Prelude.{◌≡◌, ◌+◌, ◌<◌, ◌^◌, ℕ, I
 ghost use Rattle.std.specs.Option.{option_copied, option_map};
 ghost use Rattle.kfs_model.specs.Tree.{name_order};
 ghost use Rattle.std.specs.Ordering.{eq_by_cmp, nat_cmp};
-ghost use Rattle.kfs_value.specs.Views.{kind_of, name_row_of};
-ghost use Rattle.kfs_device.specs.Rules.{is_above, names_fit, rule_4, rule_5, rule_6};
-ghost use Rattle.kfs_device.specs.Finding.{least_failed};
+ghost use Rattle.kfs_entry_value.specs.Views.{kind_of, name_row_of};
+ghost use Rattle.kfs_model_device.specs.Rules.{is_above, names_fit, rule_4, rule_5, rule_6};
+ghost use Rattle.kfs_model_device.specs.Finding.{least_failed};
 ghost use Rattle.kfs_shape.specs.Names.{is_in_place};
 ghost use Rattle.kfs_shape.specs.Views.{raw_of};
 ghost use Rattle.kfs_shape.specs.Counts.{count_at, leads_to};
@@ -15,7 +15,7 @@ use crate::counts::{count_more, count_of};
 use crate::heads::{has_directory, has_node};
 use crate::least::{noted, previous};
 use crate::raw::{NodeRow, RawImage};
-use kfs_value::{Header, Kind, LINK_LIMIT, NameRow, ROOT};
+use kfs_entry_value::{Header, Kind, LINK_LIMIT, NameRow, ROOT};
 use std::alloc::{AllocError, Allocator};
 use std::collections::BTreeMap;
 

@@ -1,13 +1,13 @@
 //! The rules of the node rows by themselves.
 ghost use Rattle.std.specs.Prelude.{◌≡◌};
 ghost use Rattle.std.specs.Option.{option_copied, option_map};
-ghost use Rattle.kfs_device.specs.Rules.{number_test, header_test, rule_1, rule_3};
-ghost use Rattle.kfs_device.specs.Finding.{least_failed};
+ghost use Rattle.kfs_model_device.specs.Rules.{number_test, header_test, rule_1, rule_3};
+ghost use Rattle.kfs_model_device.specs.Finding.{least_failed};
 ghost use Rattle.kfs_shape.specs.Views.{node_row_of, raw_of};
 
 use crate::least::{noted, previous};
 use crate::raw::{NodeRow, RawImage};
-use kfs_value::{GREATEST_MODE, GREATEST_NUMBER, Kind, SIZE_LIMIT};
+use kfs_entry_value::{GREATEST_MODE, GREATEST_NUMBER, Kind, SIZE_LIMIT};
 use std::alloc::Allocator;
 
 /// Whether the number is in range and above that of the row before.

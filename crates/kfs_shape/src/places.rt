@@ -1,7 +1,7 @@
 //! The rule of the device blocks: no two extents have one in common.
 ghost use Rattle.std.specs.Prelude.{◌≡◌, ◌+◌, ◌<◌, ◌^◌, ℕ, IfOk, None, count_by, if◌then◌else◌};
-ghost use Rattle.kfs_device.specs.Rules.{rule_8, rule_9, rule_10};
-ghost use Rattle.kfs_device.specs.Finding.{least_failed};
+ghost use Rattle.kfs_model_device.specs.Rules.{rule_8, rule_9, rule_10};
+ghost use Rattle.kfs_model_device.specs.Finding.{least_failed};
 ghost use Rattle.kfs_shape.specs.Counts.{count_at};
 ghost use Rattle.kfs_shape.specs.Places.{first_position, has_position, lies_at, TellsWhetherAlone};
 ghost use Rattle.kfs_shape.specs.Views.{extent_row_of, raw_of};
@@ -9,7 +9,7 @@ ghost use Rattle.kfs_shape.specs.Views.{extent_row_of, raw_of};
 use crate::counts::{count_more, count_of};
 use crate::least::noted;
 use crate::raw::{ExtentRow, RawImage};
-use kfs_value::TIER_LIMIT;
+use kfs_entry_value::TIER_LIMIT;
 use std::alloc::{AllocError, Allocator};
 use std::collections::BTreeMap;
 

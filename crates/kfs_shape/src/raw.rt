@@ -1,6 +1,6 @@
 //! An image as its format lists it: rows of which nothing is known yet.
 
-use kfs_value::{Header, NameRow, TierSizes};
+use kfs_entry_value::{Header, NameRow, TierSizes};
 use std::alloc::Allocator;
 
 /// A node and what it shows of itself.

@@ -10,7 +10,7 @@ use Rattle.kfs_model.specs.Machine.{OneByOne, after}
 use Rattle.kfs_model.specs.Run.{created_by, over_bytes}
 use Rattle.kfs_model.specs.Sight.{ClientSight}
 use Rattle.kfs_model.specs.Tree.{Tree}
-use Rattle.kfs_docket.specs.Legal.{LeadsTo}
+use Rattle.kfs_desk_docket.specs.Legal.{LeadsTo}
 use Rattle.kfs_plan.specs.declared.answers.Reply.{Reply}
 use Rattle.kfs_plan.specs.declared.answers.Reply.TheVariants as answers
 use Rattle.kfs_desk.specs.Docket.{position_of}

@@ -5,8 +5,8 @@ use Rattle.std.proofs.lemmas.List.{get_or-set_same, get_or-set_other, take-appen
 use Rattle.std.proofs.lemmas.Option.{slice_get_within}
 use Rattle.kfs_model.specs.Judgement.{State, Submission}
 use Rattle.kfs_model.specs.Machine.{Call, IsRead, Row, after}
-use Rattle.kfs_docket.specs.Legal.{LeadsTo}
-use Rattle.kfs_docket.proofs.Longer.{leads_on}
+use Rattle.kfs_desk_docket.specs.Legal.{LeadsTo}
+use Rattle.kfs_desk_docket.proofs.Longer.{leads_on}
 use Rattle.kfs_lease.specs.declared.act.Act.{Act}
 use Rattle.kfs_lease.specs.declared.act.Act.TheVariants as acts
 use Rattle.kfs_plan.specs.declared.answers.ActReply.{ActReply}

@@ -8,11 +8,11 @@ use Rattle.kfs_model.specs.Lease.{holds, row_of}
 use Rattle.kfs_model.specs.Looked.{looked_cells}
 use Rattle.kfs_model.specs.Order.{IsInOrder}
 use Rattle.kfs_model.specs.Sight.{Cell, Answer, ClientSight, answer}
-use Rattle.kfs_check.specs.Reads.{Agrees, AgreesAlong, answer_of, cell_of}
-use Rattle.kfs_check.specs.View.{client_sight_in, clients_of}
-use Rattle.kfs_check.specs.declared.reads.Read.{Read}
-use Rattle.kfs_check.specs.declared.reads.ReadAnswer.{ReadAnswer}
-use Rattle.kfs_check.specs.declared.view.View.{View}
+use Rattle.kfs_judge_check.specs.Reads.{Agrees, AgreesAlong, answer_of, cell_of}
+use Rattle.kfs_judge_check.specs.View.{client_sight_in, clients_of}
+use Rattle.kfs_judge_check.specs.declared.reads.Read.{Read}
+use Rattle.kfs_judge_check.specs.declared.reads.ReadAnswer.{ReadAnswer}
+use Rattle.kfs_judge_check.specs.declared.view.View.{View}
 use Rattle.kfs_plan.specs.Judged.{Judged}
 use Rattle.kfs_plan.specs.Judging.{AreLooked, AreOfLog, IsAlike, IsVerdict, Tells, refusal_of, stops_before, submission_of}
 use Rattle.kfs_plan.specs.declared.submission.Fault.{Fault as CodeFault}

@@ -1,6 +1,6 @@
 -- The code's verdicts as they are held, and what workers hold.
 use Rattle.std.specs.Prelude.{map}
-use Rattle.kfs_check.specs.Reads.{answer_of, cell_of}
+use Rattle.kfs_judge_check.specs.Reads.{answer_of, cell_of}
 use Rattle.kfs_plan.specs.Judged.{Judged}
 use Rattle.kfs_plan.specs.Judging.{submission_of}
 use Rattle.kfs_workers.specs.Script.{Held, Taken, Decided}

@@ -4,8 +4,8 @@ ghost use Rattle.kfs_plan.specs.Judging.{submission_of};
 ghost use Rattle.kfs_workers.specs.Holding.{verdict_of};
 ghost use Rattle.kfs_workers.specs.Verdict.{IsVerdictOn};
 
-use kfs_check::View;
 use kfs_desk::Desk;
+use kfs_judge_check::View;
 use kfs_plan::{Back, Judged, Submission, Why, judge};
 use std::alloc::{AllocError, Allocator};
 use std::marker::Model;

@@ -2,7 +2,7 @@
 ghost use Rattle.std.specs.Prelude.{◌≡◌, ◌≤◌, ◌<◌, [], IfErr, IfOk, IsTrue, ◌↔◌, None, Some, get_or, length, map, option_map, replicate, set};
 ghost use Rattle.std.specs.List.{slice_get};
 ghost use Rattle.kfs_plan.specs.Judging.{submission_of};
-ghost use Rattle.kfs_value.specs.Room.{spare_of};
+ghost use Rattle.kfs_entry_value.specs.Room.{spare_of};
 ghost use Rattle.kfs_workers.specs.Holding.{held_of};
 ghost use Rattle.kfs_workers.specs.Script.{Asks, Does, Judges, Lands, Looks, all_returned, begun, returned};
 

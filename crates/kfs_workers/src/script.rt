@@ -1,6 +1,6 @@
 //! Scripts: the steps of eight workers and the calls for the leases, in one order.
 ghost use Rattle.std.specs.Prelude.{◌≡◌, IfErr, IfOk, map, option_map};
-ghost use Rattle.kfs_docket.specs.Legal.{LeadsTo};
+ghost use Rattle.kfs_desk_docket.specs.Legal.{LeadsTo};
 ghost use Rattle.kfs_plan.specs.Judging.{submission_of};
 ghost use Rattle.kfs_desk.specs.Machine.{};
 ghost use Rattle.kfs_workers.specs.Claims.{AreSettled, EachReply, ElseChangesNothing, HasAllowedEntries, ShowsItsEntries};

@@ -1,7 +1,7 @@
 //! The refusals by their names, with their numbers in brackets. The caller has made room for them.
 ghost use Rattle.std.specs.Prelude.{◌≡◌, ◌+◌, ◌≤◌, ◌++◌, length};
 ghost use Rattle.kfs_report.specs.Text.{fault_text, spell_text, row_text, reason_name, reason_text, lease_name, lease_text, client_text, begin_text};
-ghost use Rattle.kfs_value.specs.Room.{Appends, spare_of};
+ghost use Rattle.kfs_entry_value.specs.Room.{Appends, spare_of};
 
 use kfs_entry::SpellFault;
 use kfs_judge::Reason;
@@ -9,7 +9,7 @@ use kfs_lease::LeaseFault;
 use kfs_mode::ClientFault;
 use kfs_plan::answers::BeginFault;
 use kfs_plan::{Fault, RowFault};
-use kfs_text::parts::{number, numbered, text};
+use kfs_program_text::parts::{number, numbered, text};
 use std::alloc::Allocator;
 
 /// Appends why a submission was refused.

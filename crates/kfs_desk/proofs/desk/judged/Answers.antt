@@ -3,11 +3,11 @@ use Rattle.std.proofs.Common.{◌≡◌, Result, Ok, Err, sym, ap, subst, ◌∙
 use Rattle.std.specs.Prelude.{IfOk}
 use Rattle.kfs_model.specs.Lease.{holds, row_of}
 use Rattle.kfs_model.specs.Sight.{client_sight}
-use Rattle.kfs_nodes.specs.Contents.{sight_of}
-use Rattle.kfs_device.specs.ShownTree.{shown_tree}
+use Rattle.kfs_image_nodes.specs.Contents.{sight_of}
+use Rattle.kfs_model_device.specs.ShownTree.{shown_tree}
 use Rattle.kfs_image.proofs.ShownTrees.{sight_shown}
-use Rattle.kfs_check.specs.Reads.{Agrees}
-use Rattle.kfs_check.specs.View.{client_sight_in}
+use Rattle.kfs_judge_check.specs.Reads.{Agrees}
+use Rattle.kfs_judge_check.specs.View.{client_sight_in}
 use Rattle.kfs_desk.proofs.desk.judged.Goals as goal
 
 three : {X E : Type 0} {P Q R S : X → Type 0} (result : Result X E) → IfOk result P → IfOk result Q → IfOk result R → ((x : X) → P x → Q x → R x → S x) → IfOk result S

@@ -1,11 +1,11 @@
 -- What lands is the log of the verdict, where there is room for its blocks.
 use Rattle.std.proofs.Common.{◌≡◌, ◌≤◌, List, ℕ, map, refl, sym, ap, subst, ◌∙◌, Result, Ok, Err, false}
 use Rattle.std.specs.Prelude.{OnOk, is_err}
-use Rattle.kfs_value.specs.Views.{entry_of, piece_of}
-use Rattle.kfs_value.specs.declared.entry.Log.{Log}
-use Rattle.kfs_value.specs.declared.plan.Plan.{Plan}
-use Rattle.kfs_fill.specs.declared.bytes.LogBytes.{LogBytes}
-use Rattle.kfs_fill.specs.FillOf.{HasLandedWith}
+use Rattle.kfs_entry_value.specs.Views.{entry_of, piece_of}
+use Rattle.kfs_entry_value.specs.declared.entry.Log.{Log}
+use Rattle.kfs_entry_value.specs.declared.plan.Plan.{Plan}
+use Rattle.kfs_image_fill.specs.declared.bytes.LogBytes.{LogBytes}
+use Rattle.kfs_image_fill.specs.FillOf.{HasLandedWith}
 use Rattle.kfs_plan.specs.declared.answers.Reply.TheVariants as replies
 use Rattle.kfs_desk.specs.Landing.{Answers, AreOf, CanLand, CanLandYes, free_in}
 use Rattle.kfs_desk.proofs.desk.land.Goals as goal

@@ -1,7 +1,7 @@
 use Rattle.std.proofs.Common.{◌≡◌, take, option_map}
-use Rattle.kfs_value.specs.Views.{header_of}
+use Rattle.kfs_entry_value.specs.Views.{header_of}
 use Rattle.kfs_model.specs.Table.{get}
-use Rattle.kfs_nodes.specs.Change.{reheaded}
+use Rattle.kfs_image_nodes.specs.Change.{reheaded}
 use Rattle.kfs_image.proofs.headers.header_after.Given as goal
 
 abbrev pub invariant-loop-row : goal.invariant-loop-row

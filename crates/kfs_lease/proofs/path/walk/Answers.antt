@@ -3,7 +3,7 @@ use Rattle.std.specs.Prelude.{Result, IsSomeAnd, Err}
 use Rattle.std.proofs.lemmas.Result.{err_from_is_err_and}
 use Rattle.std.specs.Iterator.Adapters.{enumerate_source, enumerate_count}
 use Rattle.kfs_model.specs.Lease.{LeaseFault, walked}
-use Rattle.kfs_nodes.specs.Contents.{sight_of}
+use Rattle.kfs_image_nodes.specs.Contents.{sight_of}
 use Rattle.kfs_lease.specs.Faults.{fault_of}
 use Rattle.kfs_lease.specs.Paths.{parts_left}
 use Rattle.kfs_lease.proofs.path.walk.Goals as goal

@@ -4,7 +4,7 @@ use Rattle.std.specs.List.{list_all}
 use Rattle.std.specs.Iterator.Adapters.{enumerate_source, enumerate_count}
 use Rattle.kfs_model.specs.Lease.{walked}
 use Rattle.kfs_model.specs.Spelling.{is_name}
-use Rattle.kfs_nodes.specs.Contents.{sight_of}
+use Rattle.kfs_image_nodes.specs.Contents.{sight_of}
 use Rattle.kfs_lease.specs.Paths.{parts_left}
 use Rattle.kfs_lease.proofs.path.walk.Given as goal
 

@@ -4,9 +4,9 @@ use Rattle.kfs_model.specs.Compare.{first_apart}
 use Rattle.kfs_model.specs.Run.{run, over_marks, marked}
 use Rattle.kfs_model.specs.Placement.{need}
 use Rattle.kfs_model.proofs.Ends.{each_end}
-use Rattle.kfs_value.specs.Views.{entry_of, piece_of}
-use Rattle.kfs_sweep.specs.Sizes.{AreRightFrom, AreSizes, AreSwept}
-use Rattle.kfs_sweep.proofs.LogMade.{of_value}
+use Rattle.kfs_entry_value.specs.Views.{entry_of, piece_of}
+use Rattle.kfs_plan_sweep.specs.Sizes.{AreRightFrom, AreSizes, AreSwept}
+use Rattle.kfs_plan_sweep.proofs.LogMade.{of_value}
 use Rattle.kfs_plan.specs.PlanCheck.{TellsRow, first_unlike}
 use Rattle.kfs_plan.specs.declared.rows.RowFault.TheVariants as faults
 use Rattle.kfs_plan.proofs.RowsCompared.{name_found, node_found, piece_found, unlike-name, unlike-node, unlike-piece}

@@ -1,6 +1,6 @@
 use Rattle.std.proofs.Common.{subst, sym, ap, ◌∙◌}
 use Rattle.kfs_model.specs.Table.{option_or}
-use Rattle.kfs_device.specs.Finding.{finding_from}
+use Rattle.kfs_model_device.specs.Finding.{finding_from}
 use Rattle.kfs_shape.specs.Findings.{name_rules, extent_rules, Tells}
 use Rattle.kfs_shape.specs.Views.{raw_of}
 use Rattle.kfs_shape.proofs.OneFinding.{in_three_parts, told_before}

@@ -1,7 +1,7 @@
 use Rattle.std.proofs.Common.{◌+◌, ◌||◌, get_or, Some, ap, ◌∙◌}
-use Rattle.kfs_value.specs.declared.header.Kind.TheVariants as kinds
+use Rattle.kfs_entry_value.specs.declared.header.Kind.TheVariants as kinds
 use Rattle.kfs_model.specs.Sight.{is_file}
-use Rattle.kfs_device.specs.Rules.{climb_test}
+use Rattle.kfs_model_device.specs.Rules.{climb_test}
 use Rattle.kfs_shape.specs.Climbs.{up_at, is_root}
 use Rattle.kfs_shape.specs.declared.raw.NodeRow.{NodeRow}
 use Rattle.kfs_shape.specs.Views.{node_row_of, raw_of}

@@ -1,6 +1,6 @@
 use Rattle.std.proofs.Common.{◌+◌, length, map, sym, ap, ◌∙◌, ⊎_elim, arith}
 use Rattle.std.proofs.lemmas.Bool.{cases_lt}
-use Rattle.kfs_value.specs.Views.{name_row_of}
+use Rattle.kfs_entry_value.specs.Views.{name_row_of}
 use Rattle.kfs_model.specs.Sight.{is_directory}
 use Rattle.kfs_model.specs.Table.{option_or}
 use Rattle.kfs_shape.specs.Climbs.{up_at}

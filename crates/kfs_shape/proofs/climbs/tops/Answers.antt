@@ -2,9 +2,9 @@ use Rattle.std.proofs.Common.{◌≡◌, ◌+◌, ◌*◌, ◌^◌, ◌≤◌, a
 use Rattle.std.proofs.lemmas.Nat.{pow-add}
 use Rattle.kfs_model.specs.Table.{get}
 use Rattle.kfs_model.proofs.Heads.{root_has_none}
-use Rattle.kfs_device.specs.RawImage.{heads_of, names_of}
-use Rattle.kfs_device.specs.Rules.{parent_of, reaches_root}
-use Rattle.kfs_device.proofs.ClimbTest.{found_is_reach, reach_is_found}
+use Rattle.kfs_model_device.specs.RawImage.{heads_of, names_of}
+use Rattle.kfs_model_device.specs.Rules.{parent_of, reaches_root}
+use Rattle.kfs_model_device.proofs.ClimbTest.{found_is_reach, reach_is_found}
 use Rattle.kfs_shape.specs.Climbs.{up_at, up_from}
 use Rattle.kfs_shape.specs.Views.{raw_of}
 use Rattle.kfs_shape.proofs.Doubling.{LeadsBy, leads_by_one, leads_by_twice, root_tells}

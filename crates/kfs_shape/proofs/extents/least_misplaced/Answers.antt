@@ -1,8 +1,8 @@
 use Rattle.std.proofs.Common.{◌+◌, None, map, ap, ◌∙◌}
 use Rattle.std.specs.Option.{option_map}
-use Rattle.kfs_device.specs.RawImage.{heads_of}
-use Rattle.kfs_device.specs.Rules.{test, with_previous}
-use Rattle.kfs_device.specs.Finding.{least_failed}
+use Rattle.kfs_model_device.specs.RawImage.{heads_of}
+use Rattle.kfs_model_device.specs.Rules.{test, with_previous}
+use Rattle.kfs_model_device.specs.Finding.{least_failed}
 use Rattle.kfs_shape.specs.Extents.{is_in_place}
 use Rattle.kfs_shape.specs.Heads.{head_at}
 use Rattle.kfs_shape.specs.Least.{before}

@@ -2,7 +2,7 @@ use Rattle.std.proofs.Common.{◌+◌, sym, ap, ◌∙◌}
 use Rattle.std.specs.Option.{option_map}
 use Rattle.std.specs.Ordering.{nat_cmp}
 use Rattle.std.specs.BTreeMap as shown
-use Rattle.kfs_value.specs.Views.{header_of}
+use Rattle.kfs_entry_value.specs.Views.{header_of}
 use Rattle.kfs_model.specs.Table.{option_or}
 use Rattle.kfs_shape.proofs.HeadTables.{head_in, head_end, head_next, taken_first, or_none}
 use Rattle.kfs_shape.proofs.heads.headers.Goals as goal

@@ -2,9 +2,9 @@ use Rattle.std.proofs.Common.{◌≡◌, ℕ, map, drop}
 use Rattle.std.specs.Option.{option_map}
 use Rattle.std.specs.Ordering.{nat_cmp}
 use Rattle.std.specs.BTreeMap as shown
-use Rattle.kfs_value.specs.Views.{header_of}
+use Rattle.kfs_entry_value.specs.Views.{header_of}
 use Rattle.kfs_model.specs.Table.{numbers, option_or, get}
-use Rattle.kfs_device.specs.RawImage.{table_of, node_entry, heads_of}
+use Rattle.kfs_model_device.specs.RawImage.{table_of, node_entry, heads_of}
 use Rattle.kfs_shape.specs.Views.{node_row_of, raw_of}
 use Rattle.kfs_shape.proofs.heads.headers.Given as goal
 

@@ -1,8 +1,8 @@
 use Rattle.std.proofs.Common.{◌+◌, get_or, map, sym, ap, ◌∙◌}
-use Rattle.kfs_value.specs.declared.header.Kind.TheVariants as kinds
-use Rattle.kfs_value.specs.Views.{kind_of, name_row_of}
-use Rattle.kfs_device.specs.RawImage.{names_of}
-use Rattle.kfs_device.specs.Rules.{names_test, names_fit}
+use Rattle.kfs_entry_value.specs.declared.header.Kind.TheVariants as kinds
+use Rattle.kfs_entry_value.specs.Views.{kind_of, name_row_of}
+use Rattle.kfs_model_device.specs.RawImage.{names_of}
+use Rattle.kfs_model_device.specs.Rules.{names_test, names_fit}
 use Rattle.kfs_shape.specs.Counts.{count_at}
 use Rattle.kfs_shape.specs.declared.raw.NodeRow.{NodeRow}
 use Rattle.kfs_shape.specs.Views.{node_row_of, raw_of}

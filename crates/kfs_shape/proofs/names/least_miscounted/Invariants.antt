@@ -1,7 +1,7 @@
 use Rattle.std.proofs.Common.{◌≡◌}
-use Rattle.kfs_device.specs.RawImage.{names_of}
-use Rattle.kfs_device.specs.Rules.{names_test, rule_6}
-use Rattle.kfs_device.specs.Finding.{least_failed}
+use Rattle.kfs_model_device.specs.RawImage.{names_of}
+use Rattle.kfs_model_device.specs.Rules.{names_test, rule_6}
+use Rattle.kfs_model_device.specs.Finding.{least_failed}
 use Rattle.kfs_shape.specs.Least.{merged}
 use Rattle.kfs_shape.specs.Views.{node_row_of, raw_of}
 use Rattle.kfs_shape.proofs.Tests.{rest_failed}

@@ -1,8 +1,8 @@
 use Rattle.std.proofs.Common.{◌+◌, ap, ◌∙◌}
 use Rattle.std.specs.Option.{option_map}
-use Rattle.kfs_value.specs.Views.{name_row_of}
-use Rattle.kfs_device.specs.RawImage.{heads_of}
-use Rattle.kfs_device.specs.Rules.{directory_test}
+use Rattle.kfs_entry_value.specs.Views.{name_row_of}
+use Rattle.kfs_model_device.specs.RawImage.{heads_of}
+use Rattle.kfs_model_device.specs.Rules.{directory_test}
 use Rattle.kfs_shape.specs.Heads.{head_at}
 use Rattle.kfs_shape.specs.Least.{before}
 use Rattle.kfs_shape.specs.Names.{is_in_place}

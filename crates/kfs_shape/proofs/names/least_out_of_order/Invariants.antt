@@ -1,8 +1,8 @@
 use Rattle.std.proofs.Common.{◌≡◌}
-use Rattle.kfs_value.specs.Views.{name_row_of}
-use Rattle.kfs_device.specs.RawImage.{heads_of}
-use Rattle.kfs_device.specs.Rules.{directory_test, rule_4}
-use Rattle.kfs_device.specs.Finding.{least_failed}
+use Rattle.kfs_entry_value.specs.Views.{name_row_of}
+use Rattle.kfs_model_device.specs.RawImage.{heads_of}
+use Rattle.kfs_model_device.specs.Rules.{directory_test, rule_4}
+use Rattle.kfs_model_device.specs.Finding.{least_failed}
 use Rattle.kfs_shape.specs.Least.{merged}
 use Rattle.kfs_shape.specs.Views.{raw_of}
 use Rattle.kfs_shape.proofs.Tests.{rest_ordered}

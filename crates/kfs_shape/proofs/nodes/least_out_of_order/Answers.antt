@@ -1,7 +1,7 @@
 use Rattle.std.proofs.Common.{◌+◌, get_or, ap, ◌∙◌}
 use Rattle.std.specs.Option.{option_map}
-use Rattle.kfs_value.specs.declared.header.Kind.TheVariants as kinds
-use Rattle.kfs_device.specs.Rules.{number_test}
+use Rattle.kfs_entry_value.specs.declared.header.Kind.TheVariants as kinds
+use Rattle.kfs_model_device.specs.Rules.{number_test}
 use Rattle.kfs_shape.specs.declared.raw.NodeRow.{NodeRow}
 use Rattle.kfs_shape.specs.Views.{node_row_of}
 use Rattle.kfs_shape.proofs.Tests.{ordered_step, taken_in, rest_ordered}

@@ -1,6 +1,6 @@
 use Rattle.std.proofs.Common.{◌≡◌}
-use Rattle.kfs_device.specs.Rules.{number_test, rule_1}
-use Rattle.kfs_device.specs.Finding.{least_failed}
+use Rattle.kfs_model_device.specs.Rules.{number_test, rule_1}
+use Rattle.kfs_model_device.specs.Finding.{least_failed}
 use Rattle.kfs_shape.specs.Least.{merged}
 use Rattle.kfs_shape.specs.Views.{node_row_of, raw_of}
 use Rattle.kfs_shape.proofs.Tests.{rest_ordered}

@@ -1,7 +1,7 @@
 use Rattle.std.proofs.Common.{◌≡◌, ℕ, ◌+◌, ◌<◌, map, sym, ap, subst, ◌∙◌, arith}
 use Rattle.kfs_model.proofs.Counts.{tally, is_tally}
-use Rattle.kfs_device.specs.Rules.{place_test}
-use Rattle.kfs_device.proofs.Among.{Among, among_all, among_map}
+use Rattle.kfs_model_device.specs.Rules.{place_test}
+use Rattle.kfs_model_device.proofs.Among.{Among, among_all, among_map}
 use Rattle.kfs_shape.specs.Counts.{count_at}
 use Rattle.kfs_shape.specs.Places.{has_position, lies_at}
 use Rattle.kfs_shape.specs.Views.{extent_row_of, raw_of}

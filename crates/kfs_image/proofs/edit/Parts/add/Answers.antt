@@ -1,16 +1,16 @@
 use Rattle.std.proofs.Common.{sym, ap, subst, ◌∙◌}
 use Rattle.std.proofs.lemmas.List.Elements.{All-push}
 use Rattle.std.specs.Prelude.{◌≡◌, ◌<◌, vec_len}
-use Rattle.kfs_value.specs.declared.plan.NameRow.{NameRow}
-use Rattle.kfs_value.specs.declared.plan.NodeRow.{NodeRow}
+use Rattle.kfs_entry_value.specs.declared.plan.NameRow.{NameRow}
+use Rattle.kfs_entry_value.specs.declared.plan.NodeRow.{NodeRow}
 use Rattle.kfs_model.specs.Limits.{block_size}
 use Rattle.kfs_model.specs.Placement.{tier_size}
 use Rattle.kfs_model.specs.Table.{changed, insert}
-use Rattle.kfs_nodes.specs.Change.{led_to, renamed, reheaded}
-use Rattle.kfs_tier.specs.declared.change.NewBlock.{NewBlock}
-use Rattle.kfs_tier.specs.Tiers.{with_blocks}
-use Rattle.kfs_chunks.specs.Keys.{same_items}
-use Rattle.kfs_chunks.proofs.Overlays.{overlaid_set}
+use Rattle.kfs_image_nodes.specs.Change.{led_to, renamed, reheaded}
+use Rattle.kfs_image_tier.specs.declared.change.NewBlock.{NewBlock}
+use Rattle.kfs_image_tier.specs.Tiers.{with_blocks}
+use Rattle.kfs_map_chunks.specs.Keys.{same_items}
+use Rattle.kfs_map_chunks.proofs.Overlays.{overlaid_set}
 use Rattle.kfs_image.specs.Edit.{edited, IsWhole}
 use Rattle.kfs_image.specs.Parts.{plain, with_parts, AreWhole}
 use Rattle.kfs_image.proofs.EditedImages.{one_name, one_node, one_block, whole_copy}

@@ -1,7 +1,7 @@
 use Rattle.std.proofs.Common.{sym, subst}
-use Rattle.kfs_device.specs.ShownTree.{DeviceImage}
-use Rattle.kfs_nodes.specs.Change.{renamed, reheaded}
-use Rattle.kfs_nodes.specs.Rows.{FitPages}
+use Rattle.kfs_model_device.specs.ShownTree.{DeviceImage}
+use Rattle.kfs_image_nodes.specs.Change.{renamed, reheaded}
+use Rattle.kfs_image_nodes.specs.Rows.{FitPages}
 use Rattle.kfs_image.specs.Gone.{AreGone}
 use Rattle.kfs_image.specs.Image.{image_with}
 use Rattle.kfs_image.specs.Net.{CanApply, applied}

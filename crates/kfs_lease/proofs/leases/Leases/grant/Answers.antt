@@ -1,7 +1,7 @@
 use Rattle.std.proofs.Common.{◌≡◌, ◌≤◌, Ok, Err, sym, ap, subst, ◌∙◌}
 use Rattle.std.proofs.lemmas.Result.{err_from_is_err_and}
 use Rattle.kfs_model.specs.Lease.{Leases, LeaseHeld, walked, granted}
-use Rattle.kfs_nodes.specs.Contents.{sight_of}
+use Rattle.kfs_image_nodes.specs.Contents.{sight_of}
 use Rattle.kfs_lease.specs.Faults.{fault_of}
 use Rattle.kfs_lease_rows.specs.Rows.{kind_of, table_in}
 use Rattle.kfs_lease.specs.Paths.{parts_left}

@@ -1,0 +1,14 @@
+use Rattle.std.proofs.Common.{arith}
+use Rattle.kfs_entry_codec.specs.Headers.{log_header_of}
+use Rattle.kfs_model.proofs.HeaderLaws.{log_header_field}
+use Rattle.kfs_entry_codec.proofs.Found.{is_found, is_none}
+use Rattle.kfs_entry_codec.proofs.headers.read_log.Goals as goal
+
+pub returns-clause-found : goal.returns-clause-found
+returns-clause-found c =
+    is_found log_header_of log_header_field c.args.source.now 0 c.log_counts.result (λ i. omega (arith, c.type_inv.source i)) c.log_counts.ensures.value c.log_counts.ensures.within
+
+pub returns-clause-none : goal.returns-clause-none
+returns-clause-none c =
+    let source = c.args.source.now in
+    is_none log_header_of log_header_field source source c.log_counts.result c.log_counts.ensures.value

@@ -1,0 +1,117 @@
+//! An entry: its tag and its fields, as the table lists them.
+ghost use Rattle.std.specs.Prelude.{◌≡◌, ◌≤◌, length, drop, IfSome};
+ghost use Rattle.kfs_entry_value.specs.Views.{entry_of, IsWithin};
+ghost use Rattle.kfs_model.proofs.Reading.{tagged_read, entry_read};
+ghost use Rattle.kfs_entry_codec.specs.Reading.{seen};
+
+use crate::row::Row;
+use crate::{byte, entry_table, kind, mode, name, number32, number64, payload};
+use kfs_entry_value::{Entry, Span};
+use std::alloc::{AllocError, Allocator};
+
+/// The tags of the entries without names, as the table has them. Only the speed depends on them.
+const WRITE: u8 = 2;
+
+const TRUNCATE: u8 = 3;
+
+const CHMOD: u8 = 7;
+
+macro_rules! read_case {
+    ([$tag:ident, $source:ident, $at:ident] $($number:literal $variant:ident $call:ident { $($field:ident: $codec:ident),* })*) => {
+        match $tag {
+            $($number => {
+                $(let ($field, $at) = $codec::read($source, $at)?;)*
+                Some((Entry::$variant { $($field),* }, $at))
+            })*
+            _ => None,
+        }
+    };
+}
+
+macro_rules! write_case {
+    ([$out:ident, $source:ident, $entry:ident] $($number:literal $variant:ident $call:ident { $($field:ident: $codec:ident),* })*) => {
+        match $entry {
+            $(Entry::$variant { $($field),* } => {
+                $out.push($number)?;
+                $($codec::write($out, $source, $field)?;)*
+            })*
+        }
+    };
+}
+
+macro_rules! len_case {
+    ([$source:ident, $entry:ident] $($number:literal $variant:ident $call:ident { $($field:ident: $codec:ident),* })*) => {
+        match $entry {
+            $(Entry::$variant { $($field),* } => 1 $(+ $codec::len($source, $field))*,)*
+        }
+    };
+}
+
+/// The entry of this tag whose fields stand at `at`, and the place after it.
+#[inline(always)]
+fn read_fields(tag: u8, source: &[u8], at: usize) -> Option<(Entry<Span>, usize)>
+    requires { at ≤ length source.now }
+    ensures value { seen (entry_of source.now) source.now result ≡ tagged_read tag (drop at source.now) }
+    ensures within { IfSome result (λ x. IsWithin (length source.now) x.0 × (x.1 ≤ length source.now)) }
+{
+    entry_table!(read_case(tag, source, at))
+}
+
+/// The same in a frame of its own.
+#[inline(never)]
+fn read_fields_apart(tag: u8, source: &[u8], at: usize) -> Option<(Entry<Span>, usize)>
+    requires { at ≤ length source.now }
+    ensures value { seen (entry_of source.now) source.now result ≡ tagged_read tag (drop at source.now) }
+    ensures within { IfSome result (λ x. IsWithin (length source.now) x.0 × (x.1 ≤ length source.now)) }
+{
+    read_fields(tag, source, at)
+}
+
+// A frame is cleared at each call, and names are long, so an entry without any is read in a frame without.
+#[tactic(auto, unfolding(kfs_model::proofs::Reading::entry_read))]
+fn read_entry(source: &[u8], at: usize) -> Option<(Entry<Span>, usize)>
+    requires { at ≤ length source.now }
+    ensures value { seen (entry_of source.now) source.now result ≡ entry_read (drop at source.now) }
+    ensures within { IfSome result (λ x. IsWithin (length source.now) x.0 × (x.1 ≤ length source.now)) }
+{
+    let (tag, at) = byte::read(source, at)?;
+    match tag {
+        WRITE => read_fields(WRITE, source, at),
+        TRUNCATE => read_fields(TRUNCATE, source, at),
+        CHMOD => {
+            let (number, at) = number32::read(source, at)?;
+            let (mode, at) = mode::read(source, at)?;
+            Some((Entry::Chmod { number, mode }, at))
+        }
+        _ => read_fields_apart(tag, source, at),
+    }
+}
+
+impl Row for Entry<Span> {
+    ghost use Rattle.std.specs.Prelude.{length};
+    ghost use Rattle.kfs_model.specs.Spelling.{IsEntry, entry_bytes};
+    ghost use Rattle.kfs_entry_value.specs.Views.{entry_of, IsWithin};
+    ghost use Rattle.kfs_model.specs.Spelling.{Begins};
+
+    ghost spelling = { λ source entry. entry_bytes (entry_of source entry) };
+
+    ghost fits = { λ source entry. IsWithin (length source) entry × IsEntry (entry_of source entry) };
+
+    ghost can_write = { λ source entry. IsWithin (length source) entry × IsEntry (entry_of source entry) };
+
+    ghost begins = { Begins IsEntry entry_bytes };
+
+    fn read(source: &[u8], at: usize) -> Option<(Self, usize)> {
+        read_entry(source, at)
+    }
+
+    fn write<A: Allocator>(&self, out: &mut Vec<u8, A>, source: &[u8]) -> Result<(), AllocError> {
+        entry_table!(write_case(out, source, self));
+        Ok(())
+    }
+
+    #[tactic(auto, unfolding(kfs_model::specs::Spelling::number16, kfs_model::specs::Spelling::number32, kfs_model::specs::Spelling::number64))]
+    fn len(&self, source: &[u8]) -> usize {
+        entry_table!(len_case(source, self))
+    }
+}

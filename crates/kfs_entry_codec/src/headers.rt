@@ -1,0 +1,125 @@
+//! What stands before the rows of a log and of a plan.
+ghost use Rattle.std.specs.Prelude.{◌≡◌, ◌≤◌, ◌++◌, length, drop, option_map, IfSome, IfNone, OnOk};
+ghost use Rattle.kfs_model.specs.Spelling.{BeginsWithNo, IsLogHeader, log_header, AreCounts, plan_header};
+ghost use Rattle.kfs_entry_codec.specs.Headers.{log_header_of, counts_of};
+ghost use Rattle.kfs_model.proofs.Reading.{mark_read, count_read, log_header_read, plan_header_read};
+ghost use Rattle.kfs_entry_codec.specs.Reading.{StandsIn, seen};
+
+use crate::{number16, number32};
+use kfs_entry_value::ENTRY_LIMIT;
+use std::alloc::{AllocError, Allocator};
+
+/// The magic of a log, and version 1.
+const LOG_MARK: &[u8] = b"KLOG\x01";
+
+/// The magic of a plan, and version 1.
+const PLAN_MARK: &[u8] = b"KPLN\x01";
+
+/// The length of a log's header in bytes.
+pub const LOG_LEN: usize = 11;
+
+/// The length of a plan's header in bytes.
+pub const PLAN_LEN: usize = 13;
+
+/// A log's client and how many entries follow.
+#[derive(Clone, Copy)]
+pub struct LogCounts {
+    pub client: u32,
+    pub entries: u16,
+}
+
+/// How many rows each part of a plan has.
+#[derive(Clone, Copy)]
+pub struct PlanCounts {
+    pub names: u16,
+    pub nodes: u16,
+    pub pieces: u32,
+}
+
+#[tactic(auto, unfolding(kfs_model::proofs::Reading::mark_read))]
+fn read_mark(source: &[u8], at: usize, mark: &[u8]) -> Option<usize>
+    requires { at ≤ length source.now }
+    ensures value { option_map (λ next. (tt, drop next source.now)) result ≡ mark_read mark.now (drop at source.now) }
+    ensures within { IfSome result (λ next. next ≤ length source.now) }
+{
+    if !source[at..].starts_with(mark) {
+        return None;
+    }
+    Some(at + mark.len())
+}
+
+#[tactic(auto, unfolding(kfs_model::proofs::Reading::count_read))]
+fn read_count(source: &[u8], at: usize) -> Option<(u16, usize)>
+    requires { at ≤ length source.now }
+    ensures value { seen (λ n. n) source.now result ≡ count_read (drop at source.now) }
+    ensures within { IfSome result (λ x. x.1 ≤ length source.now) }
+{
+    let (count, at) = number16::read(source, at)?;
+    if count > ENTRY_LIMIT {
+        return None;
+    }
+    Some((count, at))
+}
+
+#[tactic(auto, unfolding(kfs_model::proofs::Reading::log_header_read))]
+fn log_counts(source: &[u8]) -> Option<(LogCounts, usize)>
+    ensures value { seen log_header_of source.now result ≡ log_header_read (drop 0 source.now) }
+    ensures within { IfSome result (λ x. x.1 ≤ length source.now) }
+{
+    let at = read_mark(source, 0, LOG_MARK)?;
+    let (client, at) = number32::read(source, at)?;
+    let (entries, at) = read_count(source, at)?;
+    Some((LogCounts { client, entries }, at))
+}
+
+#[tactic(auto, unfolding(kfs_model::proofs::Reading::plan_header_read))]
+fn plan_counts(source: &[u8]) -> Option<(PlanCounts, usize)>
+    ensures value { seen counts_of source.now result ≡ plan_header_read (drop 0 source.now) }
+    ensures within { IfSome result (λ x. x.1 ≤ length source.now) }
+{
+    let at = read_mark(source, 0, PLAN_MARK)?;
+    let (names, at) = number16::read(source, at)?;
+    let (nodes, at) = number16::read(source, at)?;
+    let (pieces, at) = number32::read(source, at)?;
+    let counts = PlanCounts {
+        names,
+        nodes,
+        pieces,
+    };
+    Some((counts, at))
+}
+
+/// The header that a log begins with, and the place after it.
+pub fn read_log(source: &[u8]) -> Option<(LogCounts, usize)>
+    ensures found { IfSome result (λ x. IsLogHeader (log_header_of x.0) × StandsIn source.now 0 x.1 (log_header (log_header_of x.0))) }
+    ensures none { IfNone result (BeginsWithNo IsLogHeader log_header source.now) }
+{
+    log_counts(source)
+}
+
+/// The header that a plan begins with, and the place after it.
+pub fn read_plan(source: &[u8]) -> Option<(PlanCounts, usize)>
+    ensures found { IfSome result (λ x. AreCounts (counts_of x.0) × StandsIn source.now 0 x.1 (plan_header (counts_of x.0))) }
+    ensures none { IfNone result (BeginsWithNo AreCounts plan_header source.now) }
+{
+    plan_counts(source)
+}
+
+/// Appends the spelling of a log's header.
+pub fn write_log<A: Allocator>(out: &mut Vec<u8, A>, header: LogCounts) -> Result<(), AllocError>
+    ensures { OnOk result (out.new.items ≡ out.old.items ++ log_header (log_header_of header)) }
+{
+    out.extend_from_slice(LOG_MARK)?;
+    number32::write(out, &[], &header.client)?;
+    number16::write(out, &[], &header.entries)
+}
+
+/// Appends the spelling of a plan's header.
+pub fn write_plan<A: Allocator>(out: &mut Vec<u8, A>, counts: PlanCounts) -> Result<(), AllocError>
+    ensures { OnOk result (out.new.items ≡ out.old.items ++ plan_header (counts_of counts)) }
+{
+    out.extend_from_slice(PLAN_MARK)?;
+    number16::write(out, &[], &counts.names)?;
+    number16::write(out, &[], &counts.nodes)?;
+    number32::write(out, &[], &counts.pieces)
+}

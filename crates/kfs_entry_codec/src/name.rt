@@ -1,0 +1,42 @@
+//! A name behind a byte of length.
+ghost use Rattle.std.specs.Prelude.{◌≡◌, ◌≤◌, ◌++◌, length, drop, IfSome, OnOk};
+ghost use Rattle.kfs_model.specs.Spelling.{name_bytes};
+ghost use Rattle.kfs_model.proofs.Reading.{name_read};
+ghost use Rattle.kfs_entry_codec.specs.Reading.{seen};
+
+use crate::{byte, bytes};
+use kfs_entry_value::Name;
+use std::alloc::{AllocError, Allocator};
+
+/// The field that stands at `at`, and the place after it.
+#[tactic(auto, using(kfs_model::proofs::NameTest::name_tests), unfolding(kfs_model::proofs::Reading::name_read))]
+pub fn read(source: &[u8], at: usize) -> Option<(Name, usize)>
+    requires { at ≤ length source.now }
+    ensures value { seen (λ n. n) source.now result ≡ name_read (drop at source.now) }
+    ensures within { IfSome result (λ x. x.1 ≤ length source.now) }
+{
+    let (len, at) = byte::read(source, at)?;
+    let (bytes, at) = bytes::run(source, at, len as usize)?;
+    Some((Name::new(bytes)?, at))
+}
+
+/// Appends the spelling of the value.
+pub fn write<A: Allocator>(
+    out: &mut Vec<u8, A>,
+    _source: &[u8],
+    value: &Name,
+) -> Result<(), AllocError>
+    ensures { OnOk result (out.new.items ≡ out.old.items ++ name_bytes value.now) }
+{
+    let bytes = value.as_bytes();
+    out.push(bytes.len() as u8)?;
+    out.extend_from_slice(bytes)
+}
+
+/// The length of the spelling in bytes.
+pub fn len(_source: &[u8], value: &Name) -> usize
+    ensures value { result ≡ length (name_bytes value.now) }
+    ensures bound { result ≤ 256 }
+{
+    1 + value.as_bytes().len()
+}

@@ -1,0 +1,50 @@
+//! A node row of a plan.
+ghost use Rattle.std.specs.Prelude.{◌≡◌, ◌≤◌, ◌++◌, length, drop, IfSome, OnOk};
+ghost use Rattle.kfs_model.specs.Spelling.{node_row_bytes};
+ghost use Rattle.kfs_entry_value.specs.Views.{node_row_of};
+ghost use Rattle.kfs_model.proofs.Reading.{node_row_read};
+ghost use Rattle.kfs_entry_codec.specs.Reading.{seen};
+
+use crate::row::Row;
+use crate::{header, number32};
+use kfs_entry_value::NodeRow;
+use std::alloc::{AllocError, Allocator};
+
+#[tactic(auto, unfolding(kfs_model::proofs::Reading::node_row_read))]
+fn read_row(source: &[u8], at: usize) -> Option<(NodeRow, usize)>
+    requires { at ≤ length source.now }
+    ensures value { seen node_row_of source.now result ≡ node_row_read (drop at source.now) }
+    ensures within { IfSome result (λ x. x.1 ≤ length source.now) }
+{
+    let (number, at) = number32::read(source, at)?;
+    let (now, at) = header::read(source, at)?;
+    Some((NodeRow { number, now }, at))
+}
+
+impl Row for NodeRow {
+    ghost use Rattle.kfs_model.specs.Spelling.{IsNodeRow, node_row_bytes};
+    ghost use Rattle.kfs_entry_value.specs.Views.{node_row_of};
+    ghost use Rattle.kfs_model.specs.Spelling.{Begins};
+
+    ghost spelling = { λ _ row. node_row_bytes (node_row_of row) };
+
+    ghost fits = { λ _ row. IsNodeRow (node_row_of row) };
+
+    ghost can_write = { λ _ _. Unit {0} };
+
+    ghost begins = { Begins IsNodeRow node_row_bytes };
+
+    fn read(source: &[u8], at: usize) -> Option<(Self, usize)> {
+        read_row(source, at)
+    }
+
+    fn write<A: Allocator>(&self, out: &mut Vec<u8, A>, source: &[u8]) -> Result<(), AllocError> {
+        number32::write(out, source, &self.number)?;
+        header::write(out, source, &self.now)
+    }
+
+    #[tactic(auto, unfolding(kfs_model::specs::Spelling::number16, kfs_model::specs::Spelling::number32, kfs_model::specs::Spelling::number64))]
+    fn len(&self, source: &[u8]) -> usize {
+        4 + header::len(source, &self.now)
+    }
+}

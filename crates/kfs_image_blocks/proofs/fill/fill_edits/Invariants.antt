@@ -1,0 +1,17 @@
+use Rattle.std.proofs.Common.{◌≡◌, drop}
+use Rattle.kfs_model.specs.Table.{pairs, numbers}
+use Rattle.kfs_map_chunks.specs.Tables.{table}
+use Rattle.kfs_image_blocks.specs.Fill.{less, mapped_by, placement_after}
+use Rattle.kfs_image_blocks.specs.Walks.{seen, SeesMapped}
+use Rattle.kfs_image_blocks.proofs.fill.fill_edits.Given as goal
+
+-- the runs that are left make of what is seen so far what all runs make
+abbrev pub invariant-loop-run : goal.invariant-loop-run
+invariant-loop-run g l = record {
+  less : less (drop l.run-index l.gone) (seen l.said l.placement) ≡ less l.gone (table (pairs numbers numbers) l.placement);
+  sees : SeesMapped l.placement l.said;
+}
+
+-- and so do the rows
+abbrev pub invariant-loop-row : goal.invariant-loop-row
+invariant-loop-row g l = mapped_by (drop l.row-index l.rows) (seen l.said l.placement) ≡ placement_after l.gone l.rows (table (pairs numbers numbers) l.placement)

@@ -1,0 +1,36 @@
+-- What contracts see of the blocks of files, and what a change of them makes of it.
+use Rattle.std.specs.Prelude.{◌≡◌, ◌<◌, All, List, vec_len}
+use Rattle.kfs_model.specs.Limits.{block_size}
+use Rattle.kfs_model.specs.Table.{numbers, pairs}
+use Rattle.kfs_model.specs.Placement.{TierSizes, Placement, tier_size, IsLaid}
+use Rattle.kfs_model_device.specs.Device.{Devices, AreBlocks}
+use Rattle.kfs_map_chunks.specs.Edits.{Ascend}
+use Rattle.kfs_map_chunks.specs.Tables.{table_after}
+use Rattle.kfs_image_tier.specs.declared.change.NewBlock.{NewBlock}
+use Rattle.kfs_image_tier.specs.Tiers.{TiersShown, with_blocks}
+use Rattle.kfs_image_tier.specs.Unused.{FreeIsUnused}
+use Rattle.kfs_image_blocks.specs.Moves.{BlockEdit}
+
+-- the sizes of the tiers, where the blocks of files lie, and the blocks that were written
+pub record BlocksShown : Type 0 where
+  pub sizes : TierSizes
+  pub placement : Placement
+  pub devices : Devices
+
+-- the tiers beside the placement: free are the places in which no block lies, and what was written lies in its tier and is whole
+pub record AreHeld (placement : Placement) (tiers : TiersShown) : Type 0 where
+  pub unused : FreeIsUnused placement tiers
+  pub laid : IsLaid tiers.sizes placement
+  pub blocks : AreBlocks tiers.sizes tiers.devices
+
+-- The edits ascend, and leave each place in its tier and with one block at the most. The blocks that are written lie in their tiers
+-- and are whole.
+pub record CanChange {A : Type 0} (blocks : BlocksShown) (edits : List BlockEdit) (written : List (NewBlock A)) : Type 0 where
+  pub ascend : Ascend (pairs numbers numbers).compare edits
+  pub laid : IsLaid blocks.sizes (table_after blocks.placement edits)
+  pub in_tier : All (λ b. b.place.place < tier_size blocks.sizes b.place.tier) written
+  pub whole : All (λ b. vec_len b.bytes ≡ block_size) written
+
+-- the blocks once the placement is edited, and these are written
+abbrev pub changed : {A : Type 0} → List BlockEdit → List (NewBlock A) → BlocksShown → BlocksShown
+changed edits written blocks = record { sizes = blocks.sizes; placement = table_after blocks.placement edits; devices = with_blocks written blocks.devices }

@@ -1,0 +1,24 @@
+-- A walk over the mapped blocks of a run, and what was said of blocks, laid over a placement.
+use Rattle.std.specs.Prelude.{◌≡◌, ℕ, ◌<◌, ◌≤◌, List, None}
+use Rattle.kfs_model.specs.Table.{pairs, numbers, get}
+use Rattle.kfs_model.specs.Placement.{Place, Placement}
+use Rattle.kfs_map_chunks.specs.Tables.{table}
+use Rattle.kfs_map_chunks.specs.declared.overlay.Overlay.{Overlay}
+use Rattle.kfs_map_chunks.specs.Overlays.{overlaid}
+
+-- no block of the file is mapped from the first on, below the end
+abbrev pub AreUnmapped : List ((ℕ × ℕ) × Place) → (number first end : ℕ) → Type 0
+AreUnmapped placement number first end = (block : ℕ) → first ≤ block → block < end → get (table (pairs numbers numbers) placement) (number, block) ≡ None
+
+-- the placement that these entries make
+abbrev pub placed : List ((ℕ × ℕ) × Place) → Placement
+placed entries = table (pairs numbers numbers) entries
+
+module _ {A : Type 0} where
+  -- the placement that shows with what was said of blocks
+  abbrev pub seen : Overlay (ℕ × ℕ) Place A → List ((ℕ × ℕ) × Place) → Placement
+  seen said placement = overlaid (table (pairs numbers numbers) placement) said.latest.entries
+
+  -- a block that isn't mapped isn't said to be either
+  abbrev pub SeesMapped : List ((ℕ × ℕ) × Place) → Overlay (ℕ × ℕ) Place A → Type 0
+  SeesMapped placement said = (block : ℕ × ℕ) → get (table (pairs numbers numbers) placement) block ≡ None → get (seen said placement) block ≡ None

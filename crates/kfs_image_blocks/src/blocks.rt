@@ -1,0 +1,150 @@
+//! The blocks of files.
+ghost use Rattle.std.specs.Prelude.{◌≡◌, ◌+◌, ◌*◌, ◌≤◌, length, slice_index, IfSome, IfNone, IfOk, OnOk, OnErr, EachIndex};
+ghost use Rattle.kfs_model.specs.Limits.{block_size};
+ghost use Rattle.kfs_model.specs.Placement.{tier_size, IsLaid};
+ghost use Rattle.kfs_model.specs.Table.{empty, get, pairs, numbers};
+ghost use Rattle.kfs_model_device.specs.Device.{AreBlocks};
+ghost use Rattle.kfs_model_device.specs.ShownTree.{file_byte};
+ghost use Rattle.kfs_image_tier.specs.Unused.{IsNextUnused, AreTakenFrom, unused_places};
+ghost use Rattle.kfs_map_chunks.specs.Edits.{Ascend};
+ghost use Rattle.kfs_map_chunks.specs.Tables.{table_after};
+ghost use Rattle.kfs_image_blocks.specs.Blocks.{CanChange, changed};
+ghost use Rattle.kfs_image_blocks.specs.Fill.{CanFill, filled, placement_after};
+
+use crate::fill::{BlockRow, BlockRun, copies, fill_edits};
+use crate::moves::Moves;
+use crate::staged::{StagedTiers, TiersChange};
+use kfs_entry_value::TierSizes;
+use kfs_image_tier::{NewBlock, Place, Tiers};
+use kfs_map_chunks::{Chunks, Edit};
+use std::alloc::{AllocError, Allocator};
+use std::marker::Model;
+
+/// Where the blocks of files lie, and the three tiers: a place is free where no block lies. A block of
+/// a file has a number of its own, from 0 on, and 4,096 bytes.
+#[derive(Drop)]
+pub struct Blocks<A: Allocator> {
+    placement: Chunks<(u32, u32), Place, A>,
+    tiers: StagedTiers<A>,
+}
+
+impl<A: Allocator> Model for Blocks<A> {
+    ghost use Rattle.kfs_model.specs.Table.{pairs, numbers};
+    ghost use Rattle.kfs_map_chunks.specs.Tables.{table};
+    ghost use Rattle.kfs_image_blocks.specs.Blocks.{BlocksShown, AreHeld};
+
+    ghost Value = { BlocksShown };
+
+    ghost view = { λ b. record { sizes = b.tiers.tiers.sizes; placement = table (pairs numbers numbers) b.placement; devices = b.tiers.tiers.devices } };
+
+    ghost invariant = { λ b. AreHeld (table (pairs numbers numbers) b.placement) b.tiers.tiers };
+}
+
+impl<A: Allocator> Blocks<A> {
+    /// Tiers of these sizes, in which no block lies and none was written. Takes a bit of memory for
+    /// each place; `Err` where it is refused.
+    pub fn new(alloc: A, sizes: TierSizes) -> Result<Blocks<A>, AllocError>
+    where
+        A: Clone,
+        ensures { IfOk result (λ blocks. blocks ≡ record { sizes = sizes; placement = empty; devices = empty }) }
+    {
+        let tiers = Tiers::new(alloc.clone()?, sizes)?;
+        Ok(Blocks {
+            placement: Chunks::new(alloc),
+            tiers: StagedTiers {
+                tiers,
+                change: None,
+            },
+        })
+    }
+
+    /// How many places the tier has: none where it is over 2. Takes no memory.
+    pub fn size(&self, tier: u8) -> u32
+        ensures size { result ≡ tier_size self.now.sizes tier }
+        ensures laid { IsLaid self.now.sizes self.now.placement }
+        ensures blocks { AreBlocks self.now.sizes self.now.devices }
+    {
+        self.tiers.tiers.size(tier)
+    }
+
+    /// In how many places of the tier no block lies: none where it is over 2. Takes no memory.
+    pub fn free(&self, tier: u8) -> u32
+        ensures { result ≡ length (unused_places self.now.sizes self.now.placement tier) }
+    {
+        self.tiers.tiers.free(tier)
+    }
+
+    /// The tier's least place that isn't below `from` and in which no block lies. Takes no memory.
+    pub fn next_free(&self, tier: u8, from: u32) -> Option<u32>
+        ensures found { IfSome result (λ place. IsNextUnused self.now.sizes self.now.placement tier from place) }
+        ensures none { IfNone result (AreTakenFrom self.now.sizes self.now.placement tier from) }
+    {
+        self.tiers.tiers.next_free(tier, from)
+    }
+
+    /// Where the block of the file with this number lies, or none where it isn't mapped. Takes no
+    /// memory.
+    pub fn place_of(&self, number: u32, block: u32) -> Option<Place>
+        ensures { result ≡ get self.now.placement (number, block) }
+    {
+        self.placement.get(&(number, block)).copied()
+    }
+
+    /// Fills the buffer with the bytes of a block of a file from the offset on, which are zero where
+    /// the block isn't mapped or was never written. The buffer ends within the block. Takes no memory.
+    pub fn read(&self, number: u32, block: u32, offset: usize, buffer: &mut [u8])
+        requires { offset + length buffer.old ≤ block_size }
+        ensures { EachIndex buffer.new (λ k. slice_index buffer.new k ≡ file_byte self.now.placement self.now.devices number (block * block_size + (offset + k))) }
+    {
+        match self.place_of(number, block) {
+            Some(place) => self.tiers.tiers.read(place, offset, buffer),
+            None => buffer.fill(0),
+        }
+    }
+}
+
+impl<A: Allocator + Clone> Blocks<A> {
+    /// Edits where blocks lie, and writes blocks, which each may lie at any place of a tier. A block
+    /// that moves leaves its bytes behind, and one keeps its bytes when its place is given back or
+    /// taken. `Err` where memory is refused leaves all as it is.
+    pub fn change(
+        &mut self,
+        edits: &[Edit<(u32, u32), Place>],
+        written: Vec<NewBlock<A>, A>,
+    ) -> Result<(), AllocError>
+        requires { CanChange self.old edits.now written.items }
+        ensures ok { OnOk result (self.new ≡ changed edits.now written.items self.old) }
+        ensures err { OnErr result (self.new ≡ self.old) }
+    {
+        let moves = Moves::of(written.allocator(), &self.placement, edits)?;
+        self.tiers.change = Some(TiersChange { moves, written });
+        let done = self.placement.change_then(edits, &mut self.tiers);
+        self.tiers.change = None;
+        done
+    }
+
+    /// Unmaps the blocks in these runs, and then maps each row's block to its place and writes its bytes
+    /// there, one row after the other. A block that is unmapped or moves leaves its bytes behind. A run
+    /// costs as many steps as it has mapped blocks. `Err` where memory is refused leaves all as it is.
+    pub fn fill(&mut self, gone: &[BlockRun], rows: &[BlockRow<A>]) -> Result<(), AllocError>
+        requires { CanFill self.old gone.now rows.now }
+        ensures ok { OnOk result (self.new ≡ filled gone.now rows.now self.old) }
+        ensures err { OnErr result (self.new ≡ self.old) }
+    {
+        let edits = self.edits_of(gone, rows)?;
+        let written = copies(edits.allocator(), rows)?;
+        self.change(edits.as_slice(), written)
+    }
+
+    /// The edits of the placement that a fill makes.
+    fn edits_of(
+        &self,
+        gone: &[BlockRun],
+        rows: &[BlockRow<A>],
+    ) -> Result<Vec<Edit<(u32, u32), Place>, A>, AllocError>
+        ensures ascend { IfOk result (λ edits. Ascend (pairs numbers numbers).compare edits.items) }
+        ensures placed { IfOk result (λ edits. table_after self.now.placement edits.items ≡ placement_after gone.now rows.now self.now.placement) }
+    {
+        fill_edits(&self.placement, gone, rows)
+    }
+}

@@ -1,0 +1,108 @@
+//! The blocks that a landing unmaps, and those that it maps and writes.
+ghost use Rattle.std.specs.Prelude.{◌≡◌, ◌∷◌, [], ◌≤◌, ◌<◌, map, IfSome, IfNone, IfOk, OnOk};
+ghost use Rattle.kfs_model.specs.Table.{pairs, numbers};
+ghost use Rattle.kfs_map_chunks.specs.Edits.{Ascend};
+ghost use Rattle.kfs_map_chunks.specs.Tables.{table_after};
+ghost use Rattle.kfs_image_blocks.specs.Fill.{less, placement_after, new_part, row_part};
+ghost use Rattle.kfs_image_blocks.specs.Walks.{AreUnmapped, placed, seen, SeesMapped};
+
+use kfs_image_tier::{NewBlock, Place};
+use kfs_map_chunks::{Chunks, Edit, Overlay, key_edits};
+use std::alloc::{AllocError, Allocator};
+use std::ops::Bound;
+
+/// Blocks of a file one behind the other: from `first` on, below `end`, and none where `end` isn't
+/// above `first`.
+#[derive(Clone, Copy, Debug, PartialEq, Eq)]
+pub struct BlockRun {
+    /// The number of the file.
+    pub number: u32,
+    pub first: u32,
+    pub end: u32,
+}
+
+/// A block of a file that a landing writes: where it comes to lie, and its 4,096 bytes.
+#[derive(Debug, Drop)]
+pub struct BlockRow<A: Allocator> {
+    /// The number of the file.
+    pub number: u32,
+    /// The block of the file, counted from 0.
+    pub block: u32,
+    pub place: Place,
+    pub bytes: Vec<u8, A>,
+}
+
+/// The edits of a placement that unmap the blocks in the runs, and then map the rows' blocks, ascending.
+pub(crate) fn fill_edits<A: Allocator + Clone>(
+    placement: &Chunks<(u32, u32), Place, A>,
+    gone: &[BlockRun],
+    rows: &[BlockRow<A>],
+) -> Result<Vec<Edit<(u32, u32), Place>, A>, AllocError>
+    ensures ascend { IfOk result (λ edits. Ascend (pairs numbers numbers).compare edits.items) }
+    ensures placed { IfOk result (λ edits. table_after (placed placement.now) edits.items ≡ placement_after gone.now rows.now (placed placement.now)) }
+{
+    let mut said = Overlay::new(placement.allocator().clone()?);
+    for run in gone {
+        unmap(&mut said, placement, run)?;
+    }
+    for row in rows {
+        said.set((row.number, row.block), Some(row.place))?;
+    }
+    let edits = key_edits(placement.allocator(), &said)?;
+    Ok(edits)
+}
+
+/// Says of each mapped block of the run that it is mapped no more.
+fn unmap<A: Allocator + Clone>(
+    said: &mut Overlay<(u32, u32), Place, A>,
+    placement: &Chunks<(u32, u32), Place, A>,
+    run: &BlockRun,
+) -> Result<(), AllocError>
+    requires { SeesMapped placement.now said.old }
+    ensures { OnOk result (seen said.new placement.now ≡ less (run.now ∷ []) (seen said.old placement.now)) }
+{
+    let mut from = run.first;
+    while let Some(block) = next_mapped(placement, run.number, from, run.end) {
+        said.set((run.number, block), None)?;
+        from = block + 1;
+    }
+    Ok(())
+}
+
+/// The file's least mapped block from `from` on, where it is below `end`.
+fn next_mapped<A: Allocator>(
+    placement: &Chunks<(u32, u32), Place, A>,
+    number: u32,
+    from: u32,
+    end: u32,
+) -> Option<u32>
+    ensures range { IfSome result (λ block. (from ≤ block) × (block < end)) }
+    ensures between { IfSome result (λ block. AreUnmapped placement.now number from block) }
+    ensures none { IfNone result (AreUnmapped placement.now number from end) }
+{
+    let (key, _) = placement.next(Bound::Included(&(number, from)))?;
+    if key.0 == number && key.1 < end {
+        Some(key.1)
+    } else {
+        None
+    }
+}
+
+/// The blocks that the rows write.
+pub(crate) fn copies<A: Allocator + Clone>(
+    alloc: &A,
+    rows: &[BlockRow<A>],
+) -> Result<Vec<NewBlock<A>, A>, AllocError>
+    ensures { IfOk result (λ written. map new_part written.items ≡ map row_part rows.now) }
+{
+    let mut written = Vec::new(alloc.clone()?);
+    for row in rows {
+        let mut bytes = Vec::new(alloc.clone()?);
+        bytes.extend_from_slice(row.bytes.as_slice())?;
+        written.push(NewBlock {
+            place: row.place,
+            bytes,
+        })?;
+    }
+    Ok(written)
+}

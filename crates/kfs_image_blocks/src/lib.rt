@@ -1,0 +1,15 @@
+//! Where the blocks of files lie, and the three tiers, changed together.
+#![tactic(auto)]
+
+mod blocks;
+mod fill;
+mod moves;
+mod nested;
+mod read;
+mod staged;
+
+pub use blocks::Blocks;
+pub use fill::{BlockRow, BlockRun};
+pub use kfs_image_tier::{NewBlock, Place};
+pub use kfs_map_chunks::Edit;
+pub use nested::{ChangeBlocks, FillBlocks};

@@ -1,0 +1,54 @@
+//! The places that blocks leave and those that they enter where their placement is edited.
+ghost use Rattle.std.specs.Prelude.{◌≡◌, ◌++◌, IfOk, OnOk};
+ghost use Rattle.kfs_model.specs.Table.{pairs, numbers};
+ghost use Rattle.kfs_map_chunks.specs.Tables.{table};
+ghost use Rattle.kfs_image_blocks.specs.Moves.{left_by, given_by, taken_by};
+
+use kfs_image_tier::Place;
+use kfs_map_chunks::{Chunks, Edit};
+use std::alloc::{AllocError, Allocator};
+
+/// The places that are given back, and those that are taken.
+#[derive(Drop)]
+pub(crate) struct Moves<A: Allocator> {
+    pub(crate) given: Vec<Place, A>,
+    pub(crate) taken: Vec<Place, A>,
+}
+
+impl<A: Allocator + Clone> Moves<A> {
+    /// The places that blocks leave by the edits, and those that they enter. A block that keeps its
+    /// place has no part in it.
+    pub(crate) fn of(
+        alloc: &A,
+        placement: &Chunks<(u32, u32), Place, A>,
+        edits: &[Edit<(u32, u32), Place>],
+    ) -> Result<Moves<A>, AllocError>
+        ensures given { IfOk result (λ moves. moves.given.items ≡ given_by (table (pairs numbers numbers) placement.now) edits.now) }
+        ensures taken { IfOk result (λ moves. moves.taken.items ≡ taken_by (table (pairs numbers numbers) placement.now) edits.now) }
+    {
+        let mut given = Vec::new(alloc.clone()?);
+        let mut taken = Vec::new(alloc.clone()?);
+        for edit in edits {
+            let was = placement.get(&edit.key).copied();
+            push_left(&mut given, was, edit.value)?;
+            push_left(&mut taken, edit.value, was)?;
+        }
+        Ok(Moves { given, taken })
+    }
+}
+
+/// Adds the place that a block leaves: where it was, and isn't any more.
+fn push_left<A: Allocator + Clone>(
+    places: &mut Vec<Place, A>,
+    was: Option<Place>,
+    is: Option<Place>,
+) -> Result<(), AllocError>
+    ensures { OnOk result (places.new.items ≡ places.old.items ++ left_by was is) }
+{
+    if let Some(place) = was
+        && is != was
+    {
+        places.push(place)?;
+    }
+    Ok(())
+}

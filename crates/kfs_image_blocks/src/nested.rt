@@ -1,0 +1,63 @@
+//! Changes of blocks that are made together with another change, or not at all.
+ghost use Rattle.std.proofs.Common.{rules};
+
+use crate::blocks::Blocks;
+use crate::fill::{BlockRow, BlockRun};
+use kfs_image_tier::{NewBlock, Place};
+use kfs_map_chunks::Edit;
+use kfs_map_pages::Change;
+use std::alloc::{AllocError, Allocator};
+use std::mem;
+
+/// The blocks of files, with the runs that they lose and the rows that are mapped and written.
+#[derive(Drop)]
+pub struct FillBlocks<'a, A: Allocator> {
+    pub blocks: &'a mut Blocks<A>,
+    pub gone: &'a [BlockRun],
+    pub rows: &'a [BlockRow<A>],
+}
+
+impl<'a, A: Allocator + Clone> Change for FillBlocks<'a, A> {
+    ghost use Rattle.kfs_map_pages.specs.Nested.{Becomes};
+    ghost use Rattle.kfs_image_blocks.specs.Fill.{CanFill, filled};
+
+    ghost can_make = { λ before. CanFill before.blocks.now before.gone.now before.rows.now };
+
+    ghost made = { λ before after. Becomes before.blocks after.blocks (filled before.gone.now before.rows.now before.blocks.now) };
+
+    ghost kept = { λ before after. Becomes before.blocks after.blocks before.blocks.now };
+
+    ghost not_tried = { λ before. Prim.search rules };
+
+    fn make(&mut self) -> Result<(), AllocError> {
+        self.blocks.fill(self.gone, self.rows)
+    }
+}
+
+/// The blocks of files, with the edits of where they lie, and the blocks to be written, which are taken
+/// out.
+#[derive(Drop)]
+pub struct ChangeBlocks<'a, A: Allocator> {
+    pub blocks: &'a mut Blocks<A>,
+    pub edits: &'a [Edit<(u32, u32), Place>],
+    pub written: &'a mut Vec<NewBlock<A>, A>,
+}
+
+impl<'a, A: Allocator + Clone> Change for ChangeBlocks<'a, A> {
+    ghost use Rattle.kfs_map_pages.specs.Nested.{Becomes};
+    ghost use Rattle.kfs_image_blocks.specs.Blocks.{CanChange, changed};
+
+    ghost can_make = { λ before. CanChange before.blocks.now before.edits.now before.written.now.items };
+
+    ghost made = { λ before after. Becomes before.blocks after.blocks (changed before.edits.now before.written.now.items before.blocks.now) };
+
+    ghost kept = { λ before after. Becomes before.blocks after.blocks before.blocks.now };
+
+    ghost not_tried = { λ before. Prim.search rules };
+
+    fn make(&mut self) -> Result<(), AllocError> {
+        let none = Vec::new(self.written.allocator().clone()?);
+        let written = mem::replace(self.written, none);
+        self.blocks.change(self.edits, written)
+    }
+}

@@ -1,0 +1,44 @@
+//! Changes that wait to be made together with another one.
+ghost use Rattle.std.specs.Prelude.{◌≡◌, OnOk, OnErr};
+
+use crate::blocks::Blocks;
+use crate::moves::Moves;
+use kfs_image_tier::{NewBlock, Place, Tiers};
+use kfs_map_chunks::Edit;
+use kfs_map_pages::Change;
+use std::alloc::{AllocError, Allocator};
+
+/// A change of the tiers: the places that are given back and taken, and the blocks that are written.
+#[derive(Drop)]
+pub(crate) struct TiersChange<A: Allocator> {
+    pub(crate) moves: Moves<A>,
+    pub(crate) written: Vec<NewBlock<A>, A>,
+}
+
+/// The tiers, and the change that they are to make, if any.
+#[derive(Drop)]
+pub(crate) struct StagedTiers<A: Allocator> {
+    pub(crate) tiers: Tiers<A>,
+    pub(crate) change: Option<TiersChange<A>>,
+}
+
+impl<A: Allocator + Clone> Change for StagedTiers<A> {
+    ghost use Rattle.std.specs.Prelude.{◌≡◌, refl};
+    ghost use Rattle.kfs_image_blocks.specs.Staged.{CanMake, IsMade};
+
+    ghost can_make = { λ before. CanMake before };
+
+    ghost made = { λ before after. IsMade before after };
+
+    ghost kept = { λ before after. after.tiers ≡ before.tiers };
+
+    ghost not_tried = { λ before. refl };
+
+    fn make(&mut self) -> Result<(), AllocError> {
+        let Some(TiersChange { moves, written }) = self.change.take() else {
+            unreachable!();
+        };
+        self.tiers
+            .change(moves.given.as_slice(), moves.taken.as_slice(), written)
+    }
+}

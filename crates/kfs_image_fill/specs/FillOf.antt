@@ -1,0 +1,70 @@
+-- The fill of a log: the blocks that its right pieces write and clear, by the headers after it, and their rows.
+use Rattle.std.specs.Prelude.{◌≡◌, ℕ, ◌≤◌, List, length, map, Some, None, true}
+use Rattle.kfs_model.specs.Entry.{Entry}
+use Rattle.kfs_model.specs.Header.{Header}
+use Rattle.kfs_model.specs.Judgement.{State}
+use Rattle.kfs_model.specs.Machine.{are_chosen}
+use Rattle.kfs_model.specs.Placement.{need, written_blocks}
+use Rattle.kfs_model.specs.Plan.{ArePieces}
+use Rattle.kfs_model.specs.PlanRow.{Piece}
+use Rattle.kfs_model.specs.Run.{Mark}
+use Rattle.kfs_model.specs.Table.{Table, numbers, get}
+use Rattle.kfs_model.specs.Tree.{Tree, headers}
+use Rattle.kfs_entry_value.specs.declared.plan.NodeRow.{NodeRow}
+use Rattle.kfs_plan_sweep.specs.declared.block_lists.BlockRange.{BlockRange}
+use Rattle.kfs_model_device.specs.ShownTree.{DeviceImage, shown_tree}
+use Rattle.kfs_image_tier.specs.Unused.{unused_places}
+use Rattle.kfs_image_blocks.specs.declared.fill.BlockRow.{BlockRow}
+use Rattle.kfs_image_blocks.specs.declared.fill.BlockRun.{BlockRun}
+use Rattle.kfs_image_nodes.specs.Change.{reheaded}
+use Rattle.kfs_image_nodes.specs.declared.net.Net.{Net}
+use Rattle.kfs_image.specs.declared.net.Fill.{Fill}
+use Rattle.kfs_image.specs.Net.{CanApply, applied}
+use Rattle.kfs_image_fill.specs.declared.bytes.LogBytes.{LogBytes}
+use Rattle.kfs_image_fill.specs.Bytes.{entries_of, pieces_of}
+use Rattle.kfs_image_fill.specs.Fill.{AreCleared, AreRowsOf}
+
+-- the size that the header of the number says, 0 of none
+abbrev pub size_among : Table numbers Header → (number : ℕ) → ℕ
+size_among heads number = elim (get heads number) [ None ↦ 0 | Some header ↦ header.size ]
+
+-- the range as a run of blocks of this file
+abbrev pub run_of : (number : ℕ) → BlockRange → BlockRun
+run_of number range = record { number = number; first = range.first; end = range.end }
+
+-- of each tree with these headers of which these are right pieces, the blocks are the written ones
+abbrev pub AreWritten : Table numbers Header → List Piece → List (ℕ × ℕ) → Type 0
+AreWritten heads pieces blocks = (marked_after : Tree Mark) → headers marked_after ≡ heads → ArePieces marked_after pieces → blocks ≡ written_blocks marked_after
+
+-- and of the blocks that its files have, exactly the cleared ones are in the runs
+abbrev pub AreMadeZero : Table numbers Header → List Piece → List BlockRun → Type 0
+AreMadeZero heads pieces zero =
+    (after : Tree ℕ) (marked_after : Tree Mark) → headers after ≡ heads → headers marked_after ≡ heads → ArePieces marked_after pieces → AreCleared after marked_after zero
+
+-- the places of rows, in their tiers
+abbrev pub places_of : {A : Type 0} → List (BlockRow A) → List ℕ
+places_of rows = map (λ r. r.place.place) rows
+
+-- the rows are those of the written blocks, at places that can be chosen for them, and the runs have the cleared ones
+pub record Fills {A : Type 0} (s : State) (entries : List Entry) (pieces : List Piece) (after : Tree ℕ) (marked_after : Tree Mark) (fill : Fill A) : Type 0 where
+  pub chosen : are_chosen s (written_blocks marked_after) (places_of fill.rows.items) ≡ true
+  pub rows : AreRowsOf s.tree entries pieces (written_blocks marked_after) (places_of fill.rows.items) fill.rows.items
+  pub cleared : AreCleared after marked_after fill.zero.items
+
+-- Whatever the log makes of the state that the image shows: where its pieces are right, the rows of nodes make the headers
+-- after it, and there is room for the written blocks, the fill is its fill.
+abbrev pub IsFillOf : {A : Type 0} → DeviceImage → LogBytes → List NodeRow → Fill A → Type 0
+IsFillOf image log nodes fill =
+    (s : State) (after : Tree ℕ) (marked_after : Tree Mark) → s.tree ≡ shown_tree image → s.placement ≡ image.placement → s.sizes ≡ image.sizes
+    → headers marked_after ≡ headers after → reheaded image.heads nodes ≡ headers after → ArePieces marked_after (pieces_of log)
+    → need marked_after ≤ length (unused_places image.sizes image.placement 0) → Fills s (entries_of log) (pieces_of log) after marked_after fill
+
+-- whatever fill of the log it is, the net can be applied with it
+abbrev pub CanLandWith : {A : Type 0} → DeviceImage → LogBytes → Net A → Type 0
+CanLandWith {A} image log net = (fill : Fill A) → IsFillOf image log net.nodes.items fill → CanApply net fill image
+
+-- the net has been applied with a fill of the log
+pub record HasLandedWith {A : Type 0} (old : DeviceImage) (log : LogBytes) (net : Net A) (new : DeviceImage) : Type 0 where
+  pub fill : Fill A
+  pub is : IsFillOf old log net.nodes.items fill
+  pub made : new ≡ applied net fill old

@@ -1,0 +1,45 @@
+//! A block of a file after a log.
+ghost use Rattle.std.specs.Prelude.{◌≡◌, IfOk, vec_len};
+ghost use Rattle.kfs_model_device.specs.ShownTree.{shown_tree};
+ghost use Rattle.kfs_image_fill.specs.Bytes.{entries_of, pieces_of, AreBytesOf, HasPayloads};
+ghost use Rattle.kfs_image_fill.specs.Fill.{block_after};
+
+use crate::bytes::{LogBytes, put_pieces};
+use kfs_entry_value::BLOCK_SIZE;
+use kfs_image::{Image, read_file};
+use std::alloc::{AllocError, Allocator};
+
+/// So many bytes of a file from `start` on, zero past its end and where there is no file.
+fn bytes_before<A: Allocator>(
+    alloc: A,
+    image: &Image<A>,
+    number: u32,
+    start: u64,
+    count: usize,
+) -> Result<Vec<u8, A>, AllocError>
+    ensures len { IfOk result (λ bytes. vec_len bytes ≡ count) }
+    ensures bytes { IfOk result (λ bytes. AreBytesOf (shown_tree image.now) number start bytes.items) }
+{
+    let mut bytes = Vec::new(alloc);
+    bytes.resize(count, 0)?;
+    // Bytes past the file's end stay zero, and all of them where there is no file yet.
+    let _ = read_file(image, number, start, bytes.as_mut_slice());
+    Ok(bytes)
+}
+
+/// The bytes of a block of a file after the log.
+pub(crate) fn block_bytes<A: Allocator + Copy>(
+    alloc: A,
+    image: &Image<A>,
+    log: &LogBytes<'_>,
+    number: u32,
+    block: u32,
+) -> Result<Vec<u8, A>, AllocError>
+    requires { HasPayloads log.now }
+    ensures { IfOk result (λ bytes. bytes.items ≡ block_after (shown_tree image.now) (entries_of log.now) (pieces_of log.now) number block) }
+{
+    let start = u64::from(block) * BLOCK_SIZE;
+    let mut bytes = bytes_before(alloc, image, number, start, BLOCK_SIZE as usize)?;
+    put_pieces(bytes.as_mut_slice(), log, number, start);
+    Ok(bytes)
+}

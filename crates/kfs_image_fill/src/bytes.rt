@@ -1,0 +1,94 @@
+//! A log's pieces put over the bytes of a file.
+ghost use Rattle.std.specs.Prelude.{◌≡◌, ◌∷◌, [], drop, slice_get, slice_index, EachIndex};
+ghost use Rattle.kfs_entry_value.specs.Views.{piece_of, source_of};
+ghost use Rattle.kfs_model.specs.Run.{byte_at, payload_of};
+ghost use Rattle.kfs_image_fill.specs.Bytes.{entries_of, pieces_of, HasPayloads, ArePut, AreGivenBy};
+
+use kfs_entry_value::{Entry, Piece, Source, Span};
+
+/// A log, and what its pieces say of the bytes that it changes.
+#[derive(Clone, Copy)]
+pub struct LogBytes<'a> {
+    /// The bytes that the log was read from.
+    pub source: &'a [u8],
+    pub entries: &'a [Entry<Span>],
+    /// Pieces in the order of number and place.
+    pub pieces: &'a [Piece],
+}
+
+/// The payload of the entry of this index, empty where that isn't a Write or there is none.
+fn payload<'a>(log: &LogBytes<'a>, entry: u16) -> &'a [u8]
+    requires { HasPayloads log.now }
+    ensures { result.now ≡ payload_of (slice_get (entries_of log.now) entry) }
+{
+    match log.entries.get(usize::from(entry)) {
+        Some(
+            Entry::Write {
+                number: _,
+                offset: _,
+                payload,
+            },
+        ) => &log.source[payload.start..payload.end],
+        _ => &[],
+    }
+}
+
+/// The bytes behind the first ones.
+fn behind(bytes: &[u8], count: usize) -> &[u8]
+    ensures { result.now ≡ drop count bytes.now }
+{
+    &bytes[count.min(bytes.len())..]
+}
+
+/// Fills the bytes with those of a payload, and with zero behind its end.
+fn put_bytes(bytes: &mut [u8], payload: &[u8])
+    ensures { EachIndex bytes.new (λ k. slice_index bytes.new k ≡ byte_at payload.now k) }
+{
+    let count = payload.len().min(bytes.len());
+    bytes[..count].copy_from_slice(&payload[..count]);
+    bytes[count..].fill(0);
+}
+
+/// Fills the bytes with what stands in the source of a piece from a distance to its start on.
+fn put_source(bytes: &mut [u8], log: &LogBytes<'_>, source: Source, distance: usize)
+    requires { HasPayloads log.now }
+    ensures { AreGivenBy (entries_of log.now) (source_of source) distance bytes.new }
+{
+    match source {
+        Source::Zero => bytes.fill(0),
+        Source::Payload { entry, place } => {
+            let from_place = behind(payload(log, entry), place as usize);
+            put_bytes(bytes, behind(from_place, distance));
+        }
+    }
+}
+
+/// Puts a piece over bytes of a file from `start` on.
+fn put_piece(bytes: &mut [u8], log: &LogBytes<'_>, piece: &Piece, number: u32, start: u64)
+    requires { HasPayloads log.now }
+    ensures { ArePut (entries_of log.now) (piece_of piece.now ∷ []) number start bytes.old bytes.new }
+{
+    let first = piece.start.saturating_sub(start) as usize;
+    if piece.number != number || first >= bytes.len() {
+        return;
+    }
+    let distance = start.saturating_sub(piece.start);
+    let left = piece.len.saturating_sub(distance) as usize;
+    let count = left.min(bytes.len() - first);
+    put_source(
+        &mut bytes[first..first + count],
+        log,
+        piece.source,
+        distance as usize,
+    );
+}
+
+/// Puts the pieces over bytes of a file from `start` on: each byte becomes that of the first piece that covers it.
+pub(crate) fn put_pieces(bytes: &mut [u8], log: &LogBytes<'_>, number: u32, start: u64)
+    requires { HasPayloads log.now }
+    ensures { ArePut (entries_of log.now) (pieces_of log.now) number start bytes.old bytes.new }
+{
+    for piece in log.pieces.iter().rev() {
+        put_piece(bytes, log, piece, number, start);
+    }
+}

@@ -1,0 +1,142 @@
+//! The fill of a landing.
+ghost use Rattle.std.specs.Prelude.{◌≡◌, ◌++◌, IfOk, map};
+ghost use Rattle.std.specs.List.{AllByRecursion};
+ghost use Rattle.kfs_entry_value.specs.Views.{piece_of};
+ghost use Rattle.kfs_model.specs.Blocks.{touches};
+ghost use Rattle.kfs_model.specs.Plan.{Ascend};
+ghost use Rattle.kfs_plan_sweep.specs.BlockLists.{cleared_runs, listed};
+ghost use Rattle.kfs_plan_sweep.specs.Lefts.{IsFilled, IsWhole};
+ghost use Rattle.kfs_plan_sweep.specs.Parts.{AreByNumber, front_len};
+ghost use Rattle.kfs_image_nodes.specs.Change.{reheaded};
+ghost use Rattle.kfs_image_fill.specs.Bytes.{pieces_of, BlocksAscend, HasPayloads};
+ghost use Rattle.kfs_image_fill.specs.FillOf.{AreMadeZero, AreWritten, IsFillOf, run_of, size_among};
+
+use crate::bytes::LogBytes;
+use crate::places::free_places;
+use crate::rows::block_rows;
+use kfs_entry_value::{NodeRow, Piece};
+use kfs_image::{BlockRun, Fill, Image, header_after};
+use kfs_plan_sweep::{cleared_in, written_in};
+use std::alloc::{AllocError, Allocator};
+
+/// The blocks that a log writes, ascending, and runs of those that it makes zero.
+#[derive(Drop)]
+struct FileBlocks<A: Allocator> {
+    written: Vec<(u32, u32), A>,
+    zero: Vec<BlockRun, A>,
+}
+
+/// The size of a file once the rows are made, 0 where there is none.
+fn size_after<A: Allocator>(image: &Image<A>, nodes: &[NodeRow], number: u32) -> u64
+    ensures { result ≡ size_among (reheaded image.now.heads nodes.now) number }
+{
+    match header_after(image, nodes, number) {
+        Some(header) => header.size,
+        None => 0,
+    }
+}
+
+/// How many pieces at the front are of this file.
+fn front_len(pieces: &[Piece], number: u32) -> usize
+    ensures { result ≡ front_len number pieces.now }
+{
+    let mut len = 0;
+    while len < pieces.len() && pieces[len].number == number {
+        len += 1;
+    }
+    len
+}
+
+/// Adds the blocks that the pieces of one file write, where the file has this size after the log.
+fn add_written<A: Allocator + Copy>(
+    alloc: A,
+    out: &mut Vec<(u32, u32), A>,
+    number: u32,
+    pieces: &[Piece],
+    size: u64,
+) -> Result<(), AllocError>
+    requires whole { AllByRecursion IsWhole pieces.now }
+    requires filled { AllByRecursion IsFilled pieces.now }
+    ensures { IfOk result (λ _. out.new.items ≡ out.old.items ++ map (λ block. (number, block)) (listed 0 (touches size 0 (map piece_of pieces.now)))) }
+{
+    let blocks = written_in(alloc, pieces, size)?;
+    for &block in blocks.iter() {
+        out.push((number, block))?;
+    }
+    Ok(())
+}
+
+/// Adds the runs of the blocks that the pieces of one file make zero, where the file has this size after the log.
+fn add_cleared<A: Allocator + Copy>(
+    alloc: A,
+    out: &mut Vec<BlockRun, A>,
+    number: u32,
+    pieces: &[Piece],
+    size: u64,
+) -> Result<(), AllocError>
+    requires { AllByRecursion IsWhole pieces.now }
+    ensures { IfOk result (λ _. out.new.items ≡ out.old.items ++ map (run_of number) (cleared_runs size (map piece_of pieces.now))) }
+{
+    let ranges = cleared_in(alloc, pieces, size)?;
+    for range in ranges.iter() {
+        out.push(BlockRun {
+            number,
+            first: range.first,
+            end: range.end,
+        })?;
+    }
+    Ok(())
+}
+
+/// The blocks of all files that right pieces write and make zero, where the nodes are changed by these rows.
+fn file_blocks<A: Allocator + Copy>(
+    alloc: A,
+    image: &Image<A>,
+    pieces: &[Piece],
+    nodes: &[NodeRow],
+) -> Result<FileBlocks<A>, AllocError>
+    requires order { AreByNumber 0 pieces.now }
+    requires whole { AllByRecursion IsWhole pieces.now }
+    requires filled { AllByRecursion IsFilled pieces.now }
+    ensures order { IfOk result (λ blocks. BlocksAscend blocks.written.items) }
+    ensures written { IfOk result (λ blocks. AreWritten (reheaded image.now.heads nodes.now) (map piece_of pieces.now) blocks.written.items) }
+    ensures zero { IfOk result (λ blocks. AreMadeZero (reheaded image.now.heads nodes.now) (map piece_of pieces.now) blocks.zero.items) }
+{
+    let mut written = Vec::new(alloc);
+    let mut zero = Vec::new(alloc);
+    let mut rest = pieces;
+    while let Some(first) = rest.first() {
+        let number = first.number;
+        let (part, behind) = rest.split_at(front_len(rest, number));
+        let size = size_after(image, nodes, number);
+        add_written(alloc, &mut written, number, part, size)?;
+        add_cleared(alloc, &mut zero, number, part, size)?;
+        rest = behind;
+    }
+    Ok(FileBlocks { written, zero })
+}
+
+/// The fill of a log whose pieces are right and whose net has these rows of nodes: the written blocks at the least free places
+/// of tier 0, and the runs of those made zero. Where there are fewer free places than written blocks, only the first of these
+/// have rows.
+pub fn fill_of<A: Allocator + Copy>(
+    alloc: A,
+    image: &Image<A>,
+    log: &LogBytes<'_>,
+    nodes: &[NodeRow],
+) -> Result<Fill<A>, AllocError>
+    requires payloads { HasPayloads log.now }
+    requires pieces { Ascend (pieces_of log.now) }
+    requires whole { AllByRecursion IsWhole log.now.pieces.now }
+    requires filled { AllByRecursion IsFilled log.now.pieces.now }
+    ensures { IfOk result (λ fill. IsFillOf image.now log.now nodes.now fill) }
+{
+    let blocks = file_blocks(alloc, image, log.pieces, nodes)?;
+    let places = free_places(alloc, image, blocks.written.len())?;
+    let placed = &blocks.written[..places.len()];
+    let rows = block_rows(alloc, image, log, placed, places.as_slice())?;
+    Ok(Fill {
+        rows,
+        zero: blocks.zero,
+    })
+}

@@ -1,0 +1,31 @@
+//! The change of a landing, with its bytes.
+ghost use Rattle.std.specs.Prelude.{◌≡◌, OnErr, OnOk};
+ghost use Rattle.std.specs.List.{AllByRecursion};
+ghost use Rattle.kfs_model.specs.Plan.{Ascend};
+ghost use Rattle.kfs_plan_sweep.specs.Lefts.{IsFilled, IsWhole};
+ghost use Rattle.kfs_image_fill.specs.Bytes.{pieces_of, HasPayloads};
+ghost use Rattle.kfs_image_fill.specs.FillOf.{CanLandWith, HasLandedWith};
+
+use crate::bytes::LogBytes;
+use crate::fill::fill_of;
+use kfs_image::{Image, Net, net_apply};
+use std::alloc::{AllocError, Allocator};
+
+/// Makes the change of a net, and with it that of the bytes of its log. `Err` leaves what the image shows as it is.
+pub fn land_bytes<A: Allocator + Copy>(
+    alloc: A,
+    image: &mut Image<A>,
+    log: &LogBytes<'_>,
+    net: &Net<A>,
+) -> Result<(), AllocError>
+    requires payloads { HasPayloads log.now }
+    requires pieces { Ascend (pieces_of log.now) }
+    requires whole { AllByRecursion IsWhole log.now.pieces.now }
+    requires filled { AllByRecursion IsFilled log.now.pieces.now }
+    requires fits { CanLandWith image.old log.now net.now }
+    ensures ok { OnOk result (HasLandedWith image.old log.now net.now image.new) }
+    ensures err { OnErr result (image.new ≡ image.old) }
+{
+    let fill = fill_of(alloc, image, log, net.nodes.as_slice())?;
+    net_apply(image, net, &fill)
+}

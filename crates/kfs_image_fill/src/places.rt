@@ -1,0 +1,29 @@
+//! The places that a landing takes.
+ghost use Rattle.std.specs.Prelude.{◌≡◌, IfOk, take};
+ghost use Rattle.kfs_image_tier.specs.Unused.{unused_places};
+ghost use Rattle.kfs_image_fill.specs.Places.{CanBeChosen};
+
+use kfs_image::Image;
+use std::alloc::{AllocError, Allocator};
+
+/// The least free places of tier 0, so many, or all of them where there are fewer.
+pub fn free_places<A: Allocator>(
+    alloc: A,
+    image: &Image<A>,
+    count: usize,
+) -> Result<Vec<u32, A>, AllocError>
+    ensures least { IfOk result (λ places. places.items ≡ take count (unused_places image.now.sizes image.now.placement 0)) }
+    ensures chosen { IfOk result (λ places. CanBeChosen image.now.sizes image.now.placement places.items) }
+{
+    let size = image.tier_size(0);
+    let mut places = Vec::new(alloc);
+    let mut from = 0;
+    while places.len() < count && from < size {
+        let Some(place) = image.next_free(0, from) else {
+            break;
+        };
+        places.push(place)?;
+        from = place + 1;
+    }
+    Ok(places)
+}

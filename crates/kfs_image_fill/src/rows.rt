@@ -1,0 +1,52 @@
+//! The blocks that a landing writes.
+ghost use Rattle.std.specs.Prelude.{◌≡◌, IfOk, length};
+ghost use Rattle.kfs_model.specs.Plan.{Ascend};
+ghost use Rattle.kfs_model_device.specs.ShownTree.{shown_tree};
+ghost use Rattle.kfs_image_fill.specs.Bytes.{entries_of, pieces_of, HasPayloads, BlocksAscend};
+ghost use Rattle.kfs_image_fill.specs.Fill.{AreRowsOf};
+
+use crate::block::block_bytes;
+use crate::bytes::LogBytes;
+use crate::parts::{beginning, reaching};
+use kfs_entry_value::BLOCK_SIZE;
+use kfs_image::{BlockRow, Image, Place};
+use std::alloc::{AllocError, Allocator};
+
+/// The rows of these blocks, each with its place of tier 0 and its bytes after the log. Pieces and blocks ascend, so
+/// pieces that end before a block aren't looked at again, nor for a block those that begin behind it.
+pub fn block_rows<A: Allocator + Copy>(
+    alloc: A,
+    image: &Image<A>,
+    log: &LogBytes<'_>,
+    blocks: &[(u32, u32)],
+    places: &[u32],
+) -> Result<Vec<BlockRow<A>, A>, AllocError>
+    requires payloads { HasPayloads log.now }
+    requires pieces { Ascend (pieces_of log.now) }
+    requires blocks { BlocksAscend blocks.now }
+    requires count { length blocks.now ≡ length places.now }
+    ensures { IfOk result (λ rows. AreRowsOf (shown_tree image.now) (entries_of log.now) (pieces_of log.now) blocks.now places.now rows.items) }
+{
+    let mut rows = Vec::new(alloc);
+    let mut pieces = log.pieces;
+    for (index, &(number, block)) in blocks.iter().enumerate() {
+        let start = u64::from(block) * BLOCK_SIZE;
+        pieces = reaching(pieces, number, start);
+        let part = LogBytes {
+            pieces: beginning(pieces, number, start + BLOCK_SIZE),
+            ..*log
+        };
+        let bytes = block_bytes(alloc, image, &part, number, block)?;
+        let place = Place {
+            tier: 0,
+            place: places[index],
+        };
+        rows.push(BlockRow {
+            number,
+            block,
+            place,
+            bytes,
+        })?;
+    }
+    Ok(rows)
+}

@@ -1,0 +1,11 @@
+use Rattle.std.proofs.Common.{sym, ◌∙◌}
+use Rattle.kfs_map_chunks.specs.Tables.{table}
+use Rattle.kfs_map_chunks.proofs.Tables.{get-table}
+use Rattle.kfs_image_nodes.specs.Indexes.{by_node}
+use Rattle.kfs_image_nodes.proofs.NameEdits.{read_seen}
+use Rattle.kfs_image_nodes.proofs.name_edits.Overlays.way_count.Goals as goal
+
+pub returns : goal.returns
+returns g c =
+    c.get_or.ensures
+    ∙ read_seen (table by_node c.args.uplinks.now) c.args.self.now.uplinks.latest c.args.way.now c.copied.result (c.copied.ensures ∙ c.get.ensures ∙ sym (get-table by_node c.args.uplinks.now c.args.way.now))

@@ -1,0 +1,15 @@
+use Rattle.std.proofs.Common.{◌≡◌, drop}
+use Rattle.kfs_model.specs.Tree.{name_order}
+use Rattle.kfs_map_chunks.specs.Tables.{table}
+use Rattle.kfs_image_nodes.specs.Change.{renamed}
+use Rattle.kfs_image_nodes.specs.Indexes.{AreNames}
+use Rattle.kfs_image_nodes.specs.NameEdits.{names_seen, IsCountedOver}
+use Rattle.kfs_image_nodes.proofs.name_edits.name_edits.Given as goal
+
+-- names are names, the counts fit, and the rows that are left make of the names seen what all rows make of the names
+abbrev pub invariant-loop-row : goal.invariant-loop-row
+invariant-loop-row g l = record {
+  named : AreNames (table name_order l.names) → AreNames (names_seen l.said l.names);
+  counted : IsCountedOver l.names l.counts l.uplinks l.said;
+  names : renamed (names_seen l.said l.names) (drop l.row-index l.rows) ≡ renamed (table name_order l.names) l.rows;
+}

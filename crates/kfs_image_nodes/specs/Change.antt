@@ -1,0 +1,26 @@
+-- What the rows of a net make of contents.
+use Rattle.std.specs.Prelude.{ℕ, ◌==◌, List, [], ◌∷◌, Option, Some, None, option_map, if◌then◌else◌}
+use Rattle.kfs_entry_value.specs.declared.plan.NameRow.{NameRow}
+use Rattle.kfs_entry_value.specs.declared.plan.NodeRow.{NodeRow}
+use Rattle.kfs_entry_value.specs.Views.{header_of}
+use Rattle.kfs_model.specs.Header.{Header}
+use Rattle.kfs_model.specs.Table.{Table, numbers, changed}
+use Rattle.kfs_model.specs.Tree.{NameTable}
+use Rattle.kfs_image_nodes.specs.Contents.{Contents}
+
+-- a row's number, where 0 stands for none
+abbrev pub led_to : ℕ → Option ℕ
+led_to number = if number == 0 then None else Some number
+
+-- the names after the rows, one after the other
+abbrev pub renamed : NameTable → List NameRow → NameTable
+renamed names [] = names
+renamed names (row ∷ rows) = renamed (changed names (row.dir, row.name) (led_to row.number)) rows
+
+-- the headers after the rows, one after the other
+abbrev pub reheaded : Table numbers Header → List NodeRow → Table numbers Header
+reheaded heads [] = heads
+reheaded heads (row ∷ rows) = reheaded (changed heads row.number (option_map header_of row.now)) rows
+
+abbrev pub after_rows : Contents → List NameRow → List NodeRow → Contents
+after_rows c names nodes = record { heads = reheaded c.heads nodes; names = renamed c.names names }

@@ -1,0 +1,40 @@
+//! The edits of headers that node rows make.
+ghost use Rattle.std.specs.Prelude.{◌≡◌, ℕ, Option, IfOk};
+ghost use Rattle.std.specs.Ordering.{nat_cmp};
+ghost use Rattle.std.specs.BTreeMap.{get};
+ghost use Rattle.kfs_map_pages.specs.Edits.{edited, AreEdits};
+ghost use Rattle.kfs_image_nodes.specs.NodeEdits.{left_by, IsNumber};
+ghost use Rattle.kfs_map_chunks.specs.Overlays.{said_or};
+
+use crate::overlay::number_edits;
+use kfs_entry_value::{Header, NodeRow};
+use kfs_map_chunks::Overlay;
+use kfs_map_pages::Edit;
+use std::alloc::{AllocError, Allocator};
+
+/// What the rows, one after the other, make of the headers, ascending. Rows of numbers that no node
+/// can have are left out. `Err` where memory is refused.
+pub fn header_edits<A: Allocator + Clone>(
+    alloc: &A,
+    nodes: &[NodeRow],
+) -> Result<Vec<Edit<Header>, A>, AllocError>
+    ensures edits { IfOk result (λ edits. AreEdits edits.items) }
+    ensures made { IfOk result (λ edits. (q : ℕ) (there : Option Header) → IsNumber q → edited edits.items q there ≡ left_by nodes.now q there) }
+{
+    let latest = latest_rows(alloc, nodes)?;
+    number_edits(alloc, &latest)
+}
+
+/// What was said last of each number.
+fn latest_rows<A: Allocator + Clone>(
+    alloc: &A,
+    nodes: &[NodeRow],
+) -> Result<Overlay<u32, Header, A>, AllocError>
+    ensures { IfOk result (λ overlay. (q : ℕ) (there : Option Header) → said_or (get nat_cmp overlay.latest q) there ≡ left_by nodes.now q there) }
+{
+    let mut overlay = Overlay::new(alloc.clone()?);
+    for row in nodes {
+        overlay.set(row.number, row.now)?;
+    }
+    Ok(overlay)
+}

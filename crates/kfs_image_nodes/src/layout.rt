@@ -1,0 +1,155 @@
+//! The nodes and names of an image, as views share them.
+ghost use Rattle.std.specs.Prelude.{◌≡◌, ℕ, ◌<◌, List, Some, None, option_map, IfSome, IfNone, IfOk, OnOk, OnErr};
+ghost use Rattle.kfs_entry_value.specs.Views.{header_of};
+ghost use Rattle.kfs_model.specs.Table.{empty, get};
+ghost use Rattle.kfs_map_pages.specs.Shown.{part};
+ghost use Rattle.kfs_model.specs.Tree.{entry_count, target};
+ghost use Rattle.kfs_model.specs.Sight.{parent_in};
+ghost use Rattle.kfs_image_nodes.specs.Contents.{root_alone};
+ghost use Rattle.kfs_image_nodes.specs.Look.{IsAnswer, IsAfter, IsNext, IsNextNode};
+ghost use Rattle.kfs_image_nodes.specs.Change.{after_rows, renamed, reheaded};
+ghost use Rattle.kfs_image_nodes.specs.Rows.{FitPages};
+
+use crate::cell::{Answer, Cell};
+use crate::rows::{Rows, name_key};
+use kfs_entry_value::{GREATEST_MODE, Header, Kind, Name, NameRow, NodeRow, ROOT};
+use kfs_map_pages::{Change, Page};
+use std::alloc::{AllocError, Allocator};
+use std::marker::Model;
+
+/// The nodes and the names of an image without its bytes.
+#[derive(Drop)]
+pub struct Shape<A: Allocator> {
+    rows: Rows<A>,
+}
+
+impl<A: Allocator> Model for Shape<A> {
+    ghost use Rattle.kfs_image_nodes.specs.Contents.{Contents};
+    ghost use Rattle.kfs_image_nodes.specs.Rows.{heads_in, names_in, IsIndexed};
+
+    ghost Value = { Contents };
+
+    ghost view = { λ s. record { heads = heads_in s.rows; names = names_in s.rows } };
+
+    ghost invariant = { λ s. IsIndexed s.rows };
+}
+
+impl<A: Allocator + Clone> Clone for Shape<A> {
+    ghost is_clone = { λ shape copy. copy ≡ shape };
+
+    fn clone(&self) -> Result<Shape<A>, AllocError> {
+        Ok(Shape {
+            rows: self.rows.clone()?,
+        })
+    }
+}
+
+/// What the shape shows at a cell. Takes no memory.
+pub fn look<A: Allocator>(shape: &Shape<A>, cell: &Cell) -> Answer
+    ensures { IsAnswer shape.now cell.now result }
+{
+    match cell {
+        Cell::Header(number) => Answer::Header(shape.header(*number)),
+        Cell::Name(dir, name) => Answer::Name(shape.target(&name_key(*dir, name))),
+        Cell::Count(dir) => Answer::Count(shape.count(*dir)),
+        Cell::Parent(number) => Answer::Parent(shape.parent(*number)),
+    }
+}
+
+impl<A: Allocator> Shape<A> {
+    fn header(&self, number: u32) -> Option<Header>
+        ensures { option_map header_of result ≡ get self.now.heads number }
+    {
+        self.rows.header(number)
+    }
+
+    /// Where a name of a directory leads: what `look` answers of it, without a copy of the name.
+    pub fn target(&self, key: &(u32, Name)) -> Option<u32>
+        ensures { result ≡ target self.now.names key.now.0 key.now.1 }
+    {
+        self.rows.target(key)
+    }
+
+    /// The page of this index, or none where none of its 64 numbers is a node. The number n belongs to
+    /// the page (n - 1) / 64. A page has the headers of the nodes that belong to it, and no others; it is
+    /// the same for all that share it. Takes no memory.
+    pub fn page(&self, index: u32) -> Option<&Page<Header, A>>
+        ensures index { IfSome result (λ page. page.now.index ≡ index) }
+        ensures headers { IfSome result (λ page. (n : ℕ) → option_map header_of (get page.now.values n) ≡ get (part index self.now.heads) n) }
+        ensures some { IfSome result (λ page. part index self.now.heads ≡ empty → ⊥) }
+        ensures none { IfNone result (part index self.now.heads ≡ empty) }
+    {
+        self.rows.headers.page(index)
+    }
+
+    fn count(&self, dir: u32) -> u64
+        ensures { result ≡ entry_count self.now.names dir }
+    {
+        self.rows.count(dir)
+    }
+
+    fn parent(&self, number: u32) -> Option<u32>
+        ensures { result ≡ parent_in (get self.now.heads) self.now.names number }
+    {
+        if number == ROOT || self.header(number)?.kind != Kind::Directory {
+            return None;
+        }
+        self.rows.holder(number)
+    }
+
+    /// The least number above `after` that a node has, or none where no node has one. Takes no memory.
+    pub fn next_node(&self, after: u32) -> Option<u32>
+        ensures found { IfSome result (IsNextNode self.now.heads after) }
+        ensures none { IfNone result ((m : ℕ) → after < m → get self.now.heads m ≡ None) }
+    {
+        self.rows.next_node(after)
+    }
+
+    /// The least name of the directory above `after`, or of all its names where `after` is none, and
+    /// the number that it leads to. Takes no memory.
+    pub fn next_name(&self, dir: u32, after: Option<&Name>) -> Option<(&Name, u32)>
+        ensures found { IfSome result (λ p. IsNext self.now.names dir after.entry p.0.now p.1) }
+        ensures none { IfNone result ((m : List ℕ) (n : ℕ) → target self.now.names dir m ≡ Some n → IsAfter after.entry m → ⊥) }
+    {
+        self.rows.next_name(dir, after)
+    }
+}
+
+impl<A: Allocator + Clone> Shape<A> {
+    /// The root directory alone, of mode 0o777, uid 0 and gid 0. `Err` where memory is refused.
+    pub fn with_root(alloc: A) -> Result<Shape<A>, AllocError>
+        ensures { IfOk result (λ shape. shape ≡ root_alone) }
+    {
+        let root = Header {
+            kind: Kind::Directory,
+            mode: GREATEST_MODE,
+            uid: 0,
+            gid: 0,
+            links: 1,
+            size: 0,
+        };
+        let rows = Rows::with_node(alloc, ROOT, root)?;
+        Ok(Shape { rows })
+    }
+
+    /// Makes the changes of a net, together with another change. Every copy and growth comes first:
+    /// where one is refused, neither is made, and the shape shows what it showed. Pages and chunks that
+    /// a copy of the shape shares are copied where they change, and the others stay shared.
+    pub fn apply<T: Change>(
+        &mut self,
+        alloc: &A,
+        names: &[NameRow],
+        nodes: &[NodeRow],
+        then: &mut T,
+    ) -> Result<(), AllocError>
+        requires before { FitPages self.old.heads self.old.names }
+        requires after { FitPages (reheaded self.old.heads nodes.now) (renamed self.old.names names.now) }
+        requires then { T.can_make then.old }
+        ensures ok { OnOk result (self.new ≡ after_rows self.old names.now nodes.now) }
+        ensures err { OnErr result (self.new ≡ self.old) }
+        ensures made { OnOk result (T.made then.old then.new) }
+        ensures kept { OnErr result (T.kept then.old then.new) }
+    {
+        self.rows.apply(alloc, names, nodes, then)
+    }
+}

@@ -1,0 +1,204 @@
+//! The edits of the names, of the counts beside them and of the ways up that name rows make.
+ghost use Rattle.std.specs.Prelude.{◌≡◌, ℕ, ◌+◌, ◌<◌, [], OnOk, IfOk, Option, Some, unwrap_or};
+ghost use Rattle.kfs_model.specs.Table.{get, changed};
+ghost use Rattle.kfs_model.specs.Tree.{name_order};
+ghost use Rattle.kfs_map_pages.specs.Edits.{AreEdits};
+ghost use Rattle.kfs_map_chunks.specs.Edits.{Ascend};
+ghost use Rattle.kfs_map_chunks.specs.Tables.{table};
+ghost use Rattle.kfs_image_nodes.specs.Change.{led_to, renamed};
+ghost use Rattle.kfs_image_nodes.specs.Indexes.{AreNames, CountsFewer, CountsMore, IsCounted, by_node, count_at, count_step, uplink_step, ArePositive};
+ghost use Rattle.kfs_image_nodes.specs.NameEdits.{names_seen, counts_seen, ways_seen, IsCountedOver, names_edited, IsCountedAfter};
+ghost use Rattle.kfs_map_chunks.specs.Overlays.{Say};
+ghost use Rattle.kfs_image_nodes.specs.Overlays.{SayOfNumbers};
+
+use crate::overlay::number_edits;
+use crate::rows::{name_key, target_of};
+use kfs_entry_value::{Name, NameRow};
+use kfs_map_chunks::{Chunks, Overlay, key_edits};
+use kfs_map_pages::Pages;
+use std::alloc::{AllocError, Allocator};
+
+/// What name rows make of the names, of the counts of each directory's names, and of the counts of the
+/// ways up. The edits of each ascend.
+#[derive(Drop)]
+pub(crate) struct NameEdits<A: Allocator> {
+    pub(crate) names: Vec<kfs_map_chunks::Edit<(u32, Name), u32>, A>,
+    pub(crate) counts: Vec<kfs_map_pages::Edit<u64>, A>,
+    pub(crate) uplinks: Vec<kfs_map_chunks::Edit<(u32, u32), u64>, A>,
+}
+
+/// The edits that the rows, one after the other, make. The maps stay as they are. Counts of directories
+/// whose numbers pages don't have are left out.
+pub(crate) fn name_edits<A: Allocator + Clone>(
+    alloc: &A,
+    names: &Chunks<(u32, Name), u32, A>,
+    counts: &Pages<u64, A>,
+    uplinks: &Chunks<(u32, u32), u64, A>,
+    rows: &[NameRow],
+) -> Result<NameEdits<A>, AllocError>
+    requires { IsCounted (table name_order names.now) counts.now (table by_node uplinks.now) }
+    ensures names { IfOk result (λ edits. Ascend name_order.compare edits.names.items) }
+    ensures counts { IfOk result (λ edits. AreEdits edits.counts.items) }
+    ensures uplinks { IfOk result (λ edits. Ascend by_node.compare edits.uplinks.items) }
+    ensures renamed { IfOk result (λ edits. names_edited names.now edits ≡ renamed (table name_order names.now) rows.now) }
+    ensures named { IfOk result (λ edits. AreNames (table name_order names.now) → AreNames (names_edited names.now edits)) }
+    ensures counted { IfOk result (IsCountedAfter names.now counts.now uplinks.now) }
+{
+    let mut said = Overlays::new(alloc)?;
+    for row in rows {
+        said.rename(names, counts, uplinks, row)?;
+    }
+    let edits = said.edits(alloc)?;
+    Ok(edits)
+}
+
+/// What was said of the names and of the counts beside them.
+#[derive(Drop)]
+struct Overlays<A: Allocator> {
+    names: Overlay<(u32, Name), u32, A>,
+    counts: Overlay<u32, u64, A>,
+    uplinks: Overlay<(u32, u32), u64, A>,
+}
+
+impl<A: Allocator + Clone> Overlays<A> {
+    fn new(alloc: &A) -> Result<Overlays<A>, AllocError>
+        ensures names { IfOk result (λ said. said.names.latest.entries ≡ []) }
+        ensures counts { IfOk result (λ said. said.counts.latest.entries ≡ []) }
+        ensures uplinks { IfOk result (λ said. said.uplinks.latest.entries ≡ []) }
+    {
+        Ok(Overlays {
+            names: Overlay::new(alloc.clone()?),
+            counts: Overlay::new(alloc.clone()?),
+            uplinks: Overlay::new(alloc.clone()?),
+        })
+    }
+
+    /// Where a name leads.
+    fn target(&self, names: &Chunks<(u32, Name), u32, A>, key: &(u32, Name)) -> Option<u32>
+        ensures { result ≡ get (names_seen self.now names.now) key.now }
+    {
+        self.names.get_or(key, names.get(key).copied())
+    }
+
+    /// How many names a directory has, where none is 0.
+    fn name_count(&self, counts: &Pages<u64, A>, dir: u32) -> Option<u64>
+        ensures { result ≡ get (counts_seen self.now counts.now) dir }
+    {
+        self.counts.get_or(&dir, counts.get(dir).copied())
+    }
+
+    /// How often a way up is counted, where none is 0.
+    fn way_count(&self, uplinks: &Chunks<(u32, u32), u64, A>, way: &(u32, u32)) -> Option<u64>
+        ensures { result ≡ get (ways_seen self.now uplinks.now) way.now }
+    {
+        self.uplinks.get_or(way, uplinks.get(way).copied())
+    }
+
+    /// Says where the row's name leads now, and moves the counts with it.
+    fn rename(
+        &mut self,
+        names: &Chunks<(u32, Name), u32, A>,
+        counts: &Pages<u64, A>,
+        uplinks: &Chunks<(u32, u32), u64, A>,
+        row: &NameRow,
+    ) -> Result<(), AllocError>
+        requires { IsCountedOver names.now counts.now uplinks.now self.old }
+        ensures names { OnOk result (names_seen self.new names.now ≡ changed (names_seen self.old names.now) (row.now.dir, row.now.name) (led_to row.now.number)) }
+        ensures named { OnOk result (AreNames (names_seen self.old names.now) → AreNames (names_seen self.new names.now)) }
+        ensures counted { OnOk result (IsCountedOver names.now counts.now uplinks.now self.new) }
+    {
+        let key = name_key(row.dir, &row.name);
+        let to = target_of(row);
+        let from = self.target(names, &key);
+        self.leave(counts, uplinks, row.dir, from)?;
+        self.enter(counts, uplinks, row.dir, to)?;
+        self.names.set(key, to)?;
+        Ok(())
+    }
+
+    /// Counts a name of the directory less, where it led to a node.
+    fn leave(
+        &mut self,
+        counts: &Pages<u64, A>,
+        uplinks: &Chunks<(u32, u32), u64, A>,
+        dir: u32,
+        from: Option<u32>,
+    ) -> Result<(), AllocError>
+        requires counts { (n : ℕ) → from ≡ Some n → 0 < count_at (counts_seen self.old counts.now) dir }
+        requires uplinks { (n : ℕ) → from ≡ Some n → 0 < count_at (ways_seen self.old uplinks.now) (n, dir) }
+        ensures names { self.new.names ≡ self.old.names }
+        ensures positive { OnOk result (ArePositive (ways_seen self.old uplinks.now) → ArePositive (ways_seen self.new uplinks.now)) }
+        ensures counts { OnOk result (CountsFewer (counts_seen self.old counts.now) (count_step dir from) (counts_seen self.new counts.now)) }
+        ensures uplinks { OnOk result (CountsFewer (ways_seen self.old uplinks.now) (uplink_step dir from) (ways_seen self.new uplinks.now)) }
+    {
+        if let Some(number) = from {
+            let way = (number, dir);
+            let names = self.name_count(counts, dir);
+            let ways = self.way_count(uplinks, &way);
+            self.counts.set(dir, one_less(names))?;
+            self.uplinks.set(way, one_less(ways))?;
+        }
+        Ok(())
+    }
+
+    /// Counts a name of the directory more, where it comes to lead to a node.
+    fn enter(
+        &mut self,
+        counts: &Pages<u64, A>,
+        uplinks: &Chunks<(u32, u32), u64, A>,
+        dir: u32,
+        to: Option<u32>,
+    ) -> Result<(), AllocError>
+        ensures names { self.new.names ≡ self.old.names }
+        ensures positive { OnOk result (ArePositive (ways_seen self.old uplinks.now) → ArePositive (ways_seen self.new uplinks.now)) }
+        ensures counts { OnOk result (CountsMore (counts_seen self.old counts.now) (count_step dir to) (counts_seen self.new counts.now)) }
+        ensures uplinks { OnOk result (CountsMore (ways_seen self.old uplinks.now) (uplink_step dir to) (ways_seen self.new uplinks.now)) }
+    {
+        if let Some(number) = to {
+            let way = (number, dir);
+            let names = self.name_count(counts, dir);
+            let ways = self.way_count(uplinks, &way);
+            self.counts.set(dir, one_more(names)?)?;
+            self.uplinks.set(way, one_more(ways)?)?;
+        }
+        Ok(())
+    }
+
+    /// The edits that say the same.
+    fn edits(&self, alloc: &A) -> Result<NameEdits<A>, AllocError>
+        ensures names_ascend { IfOk result (λ edits. Ascend name_order.compare edits.names.items) }
+        ensures counts_ascend { IfOk result (λ edits. AreEdits edits.counts.items) }
+        ensures uplinks_ascend { IfOk result (λ edits. Ascend by_node.compare edits.uplinks.items) }
+        ensures names { IfOk result (λ edits. Say name_order.compare edits.names.items self.now.names.latest) }
+        ensures counts { IfOk result (λ edits. SayOfNumbers edits.counts.items self.now.counts.latest) }
+        ensures uplinks { IfOk result (λ edits. Say by_node.compare edits.uplinks.items self.now.uplinks.latest) }
+    {
+        Ok(NameEdits {
+            names: key_edits(alloc, &self.names)?,
+            counts: number_edits(alloc, &self.counts)?,
+            uplinks: key_edits(alloc, &self.uplinks)?,
+        })
+    }
+}
+
+/// One less, where 0 is shown as none.
+fn one_less(count: Option<u64>) -> Option<u64>
+    requires { 0 < unwrap_or count 0 }
+    ensures less { unwrap_or result 0 + 1 ≡ unwrap_or count 0 }
+    ensures positive { (n : ℕ) → result ≡ Some n → 0 < n }
+{
+    let less = count.unwrap_or(0) - 1;
+    if less == 0 { None } else { Some(less) }
+}
+
+/// One more, where none stands for 0. A count that doesn't fit is refused as memory is: 2^64 names have
+/// no room in it.
+fn one_more(count: Option<u64>) -> Result<Option<u64>, AllocError>
+    ensures more { IfOk result (λ more. unwrap_or more 0 ≡ unwrap_or count 0 + 1) }
+    ensures positive { IfOk result (λ more. (n : ℕ) → more ≡ Some n → 0 < n) }
+{
+    match count.unwrap_or(0).checked_add(1) {
+        Some(more) => Ok(Some(more)),
+        None => Err(AllocError),
+    }
+}

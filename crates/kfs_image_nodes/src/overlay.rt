@@ -1,0 +1,46 @@
+//! The edits of pages that say what was said last of their numbers.
+ghost use Rattle.std.specs.Prelude.{◌≡◌, [], OnOk, IfOk};
+ghost use Rattle.std.specs.Ordering.{nat_cmp};
+ghost use Rattle.std.specs.BTreeMap.{IsOrdered};
+ghost use Rattle.kfs_map_pages.specs.Edits.{AreEdits};
+ghost use Rattle.kfs_image_nodes.specs.NodeEdits.{edits_from};
+ghost use Rattle.kfs_image_nodes.specs.Overlays.{SayOfNumbers};
+
+use kfs_entry_value::GREATEST_NUMBER;
+use kfs_map_chunks::Overlay;
+use kfs_map_pages::Edit;
+use std::alloc::{AllocError, Allocator};
+use std::collections::BTreeMap;
+
+/// The edits of pages that say the same, ascending. What was said of numbers that pages don't have is
+/// left out.
+pub(crate) fn number_edits<V: Copy, A: Allocator + Clone>(
+    alloc: &A,
+    overlay: &Overlay<u32, V, A>,
+) -> Result<Vec<Edit<V>, A>, AllocError>
+    ensures edits { IfOk result (λ edits. AreEdits edits.items) }
+    ensures said { IfOk result (λ edits. SayOfNumbers edits.items overlay.now.latest) }
+{
+    let mut edits = Vec::new(alloc.clone()?);
+    list_numbers(&overlay.latest, &mut edits)?;
+    Ok(edits)
+}
+
+fn list_numbers<V: Copy, A: Allocator + Clone>(
+    latest: &BTreeMap<u32, Option<V>, A>,
+    edits: &mut Vec<Edit<V>, A>,
+) -> Result<(), AllocError>
+    requires { edits.old.items ≡ [] }
+    ensures edits { OnOk result (edits.new.items ≡ edits_from latest.now.entries) }
+    ensures ordered { IsOrdered nat_cmp latest.now }
+{
+    for (number, now) in latest {
+        if 1 <= *number && *number <= GREATEST_NUMBER {
+            edits.push(Edit {
+                number: *number,
+                value: *now,
+            })?;
+        }
+    }
+    Ok(())
+}

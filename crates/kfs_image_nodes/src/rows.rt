@@ -1,0 +1,243 @@
+//! The maps that hold the nodes and names of a shape, and the counts beside them.
+ghost use Rattle.std.specs.Prelude.{◌≡◌, ℕ, ◌≤◌, ◌<◌, true, option_map, IfOk, IfSome, IfNone, OnOk, OnErr, Some, None, List, [], ◌∷◌};
+ghost use Rattle.kfs_entry_value.specs.Views.{header_of};
+ghost use Rattle.kfs_model.specs.Spelling.{IsName};
+ghost use Rattle.kfs_model.specs.Table.{get, empty, changed};
+ghost use Rattle.kfs_model.specs.Tree.{entry_count, name_order, target};
+ghost use Rattle.kfs_model.specs.Sight.{holder};
+ghost use Rattle.kfs_map_pages.specs.Edits.{rewritten, AreEdits};
+ghost use Rattle.kfs_map_chunks.specs.Edits as keyed;
+ghost use Rattle.kfs_map_chunks.specs.Starts.{is_from};
+ghost use Rattle.kfs_image_nodes.specs.Change.{led_to, renamed, reheaded};
+ghost use Rattle.kfs_image_nodes.specs.Indexes.{by_node};
+ghost use Rattle.kfs_image_nodes.specs.Look.{IsAfter, IsNext, IsNextNode};
+ghost use Rattle.kfs_image_nodes.specs.NodeEdits.{IsNumber};
+ghost use Rattle.kfs_image_nodes.specs.Rows.{heads_in, names_in, IsIndexed, FitPages};
+
+use crate::borrowed::Borrowed;
+use crate::edits::header_edits;
+use crate::name_edits::{NameEdits, name_edits};
+use kfs_entry_value::{Header, Name, NameRow, NodeRow};
+use kfs_map_chunks::{Chunks, EditChunks};
+use kfs_map_pages::{Change, Edit, EditPages, Nothing, Pages};
+use std::alloc::{AllocError, Allocator};
+use std::ops::Bound;
+
+/// Nodes by number, and names by directory and name, with counts of the names. Copies share the pages
+/// and chunks of all of them.
+pub(crate) struct Rows<A: Allocator> {
+    pub(crate) headers: Pages<Header, A>,
+    /// The number that a name leads to.
+    names: Chunks<(u32, Name), u32, A>,
+    /// How many names a directory has.
+    counts: Pages<u64, A>,
+    /// How many names of a directory lead to a node, by the node's number and then the directory's.
+    uplinks: Chunks<(u32, u32), u64, A>,
+}
+
+// Written out, so that the drop of the maps is proved once and not in each crate that drops a shape.
+impl<A: Allocator> Drop for Rows<A> {
+    fn drop(self) {
+        let Rows {
+            headers,
+            names,
+            counts,
+            uplinks,
+        } = self;
+        drop(headers);
+        drop(names);
+        drop(counts);
+        drop(uplinks);
+    }
+}
+
+impl<A: Allocator + Clone> Clone for Rows<A> {
+    ghost is_clone = { λ rows copy. copy ≡ rows };
+
+    fn clone(&self) -> Result<Rows<A>, AllocError> {
+        Ok(Rows {
+            headers: self.headers.clone()?,
+            names: self.names.clone()?,
+            counts: self.counts.clone()?,
+            uplinks: self.uplinks.clone()?,
+        })
+    }
+}
+
+impl<A: Allocator> Rows<A> {
+    pub(crate) fn header(&self, number: u32) -> Option<Header>
+        ensures { option_map header_of result ≡ get (heads_in self.now) number }
+    {
+        self.headers.get(number).copied()
+    }
+
+    pub(crate) fn target(&self, key: &(u32, Name)) -> Option<u32>
+        ensures { result ≡ get (names_in self.now) key.now }
+    {
+        self.names.get(key).copied()
+    }
+
+    pub(crate) fn count(&self, dir: u32) -> u64
+        requires { IsIndexed self.now }
+        ensures { result ≡ entry_count (names_in self.now) dir }
+    {
+        self.counts.get(dir).copied().unwrap_or(0)
+    }
+
+    /// The least directory with a name that leads to the node.
+    pub(crate) fn holder(&self, number: u32) -> Option<u32>
+        requires { IsIndexed self.now }
+        ensures { result ≡ holder (names_in self.now) number }
+    {
+        let (key, _) = self.uplinks.next(Bound::Included(&(number, 0)))?;
+        if key.0 == number { Some(key.1) } else { None }
+    }
+
+    /// The least number above `after` that a node has.
+    pub(crate) fn next_node(&self, after: u32) -> Option<u32>
+        ensures found { IfSome result (IsNextNode (heads_in self.now) after) }
+        ensures none { IfNone result ((m : ℕ) → after < m → get (heads_in self.now) m ≡ None) }
+    {
+        let (number, _) = self.headers.next(after)?;
+        Some(number)
+    }
+
+    /// The least name of the directory above `after`, or of all its names, and where it leads.
+    pub(crate) fn next_name(&self, dir: u32, after: Option<&Name>) -> Option<(&Name, u32)>
+        requires { IsIndexed self.now }
+        ensures found { IfSome result (λ p. IsNext (names_in self.now) dir after.entry p.0.now p.1) }
+        ensures none { IfNone result ((m : List ℕ) (n : ℕ) → target (names_in self.now) dir m ≡ Some n → IsAfter after.entry m → ⊥) }
+    {
+        let start = start_after(dir, after);
+        let (key, number) = self.names.next(start.as_ref())?;
+        if key.0 == dir {
+            Some((&key.1, *number))
+        } else {
+            None
+        }
+    }
+}
+
+/// Where the names of a directory begin that come after a name, or all of them.
+fn start_after(dir: u32, after: Option<&Name>) -> Bound<(u32, Name)>
+    ensures within { (m : List ℕ) → IsName m → IsAfter after.entry m → is_from name_order.compare result (dir, m) ≡ true }
+    ensures later { (m : List ℕ) → is_from name_order.compare result (dir, m) ≡ true → IsAfter after.entry m }
+    ensures directory { (key : ℕ × List ℕ) → is_from name_order.compare result key ≡ true → dir ≤ key.0 }
+{
+    match after {
+        Some(name) => Bound::Excluded(name_key(dir, name)),
+        None => Bound::Included((dir, least_name())),
+    }
+}
+
+/// The name that is least in the order of names.
+fn least_name() -> Name
+    ensures { result ≡ 1 ∷ [] }
+{
+    Name::new(&[1]).unwrap()
+}
+
+/// The key of a name.
+pub(crate) fn name_key(dir: u32, name: &Name) -> (u32, Name)
+    ensures key { result ≡ (dir, name.now) }
+    ensures name { IsName result.1 }
+{
+    prove!(!name.as_bytes().is_empty());
+    (dir, name.clone().unwrap())
+}
+
+/// The number of a row, where 0 stands for none.
+pub(crate) fn target_of(row: &NameRow) -> Option<u32>
+    ensures { result ≡ led_to row.now.number }
+{
+    if row.number == 0 {
+        None
+    } else {
+        Some(row.number)
+    }
+}
+
+impl<A: Allocator + Clone> Rows<A> {
+    /// One node, and no name.
+    pub(crate) fn with_node(alloc: A, number: u32, header: Header) -> Result<Rows<A>, AllocError>
+        requires { IsNumber number }
+        ensures heads { IfOk result (λ rows. heads_in rows ≡ changed empty number (Some (header_of header))) }
+        ensures names { IfOk result (λ rows. names_in rows ≡ empty) }
+        ensures indexed { IfOk result IsIndexed }
+    {
+        let mut headers = Pages::new(alloc.clone()?)?;
+        let edit = Edit {
+            number,
+            value: Some(header),
+        };
+        headers.change_then(&[edit], &mut Nothing)?;
+        Ok(Rows {
+            headers,
+            names: Chunks::new(alloc.clone()?),
+            counts: Pages::new(alloc.clone()?)?,
+            uplinks: Chunks::new(alloc),
+        })
+    }
+
+    /// Makes the edits of all four maps and a further change, or none of them. Every copy and growth
+    /// comes before the first edit.
+    fn change<T: Change>(
+        &mut self,
+        headers: &[Edit<Header>],
+        edits: &NameEdits<A>,
+        then: &mut T,
+    ) -> Result<(), AllocError>
+        requires headers { AreEdits headers.now }
+        requires names { keyed.Ascend name_order.compare edits.now.names.items }
+        requires counts { AreEdits edits.now.counts.items }
+        requires uplinks { keyed.Ascend by_node.compare edits.now.uplinks.items }
+        requires then { T.can_make then.old }
+        ensures headers { OnOk result (self.new.headers ≡ rewritten self.old.headers headers.now) }
+        ensures names { OnOk result (self.new.names ≡ keyed.rewritten name_order self.old.names edits.now.names.items) }
+        ensures counts { OnOk result (self.new.counts ≡ rewritten self.old.counts edits.now.counts.items) }
+        ensures uplinks { OnOk result (self.new.uplinks ≡ keyed.rewritten by_node self.old.uplinks edits.now.uplinks.items) }
+        ensures err { OnErr result (self.new ≡ self.old) }
+        ensures made { OnOk result (T.made then.old then.new) }
+        ensures kept { OnErr result (T.kept then.old then.new) }
+    {
+        let mut all = EditChunks {
+            chunks: &mut self.names,
+            edits: edits.names.as_slice(),
+            then: EditPages {
+                pages: &mut self.counts,
+                edits: edits.counts.as_slice(),
+                then: EditChunks {
+                    chunks: &mut self.uplinks,
+                    edits: edits.uplinks.as_slice(),
+                    then: Borrowed { change: then },
+                },
+            },
+        };
+        self.headers.change_then(headers, &mut all)
+    }
+
+    /// Makes the changes of the rows, together with another change. Every copy and growth comes first:
+    /// where one is refused, neither is made, and the rows stay as they are.
+    pub(crate) fn apply<T: Change>(
+        &mut self,
+        alloc: &A,
+        names: &[NameRow],
+        nodes: &[NodeRow],
+        then: &mut T,
+    ) -> Result<(), AllocError>
+        requires indexed { IsIndexed self.old }
+        requires before { FitPages (heads_in self.old) (names_in self.old) }
+        requires after { FitPages (reheaded (heads_in self.old) nodes.now) (renamed (names_in self.old) names.now) }
+        requires then { T.can_make then.old }
+        ensures indexed { IsIndexed self.new }
+        ensures headers { OnOk result (heads_in self.new ≡ reheaded (heads_in self.old) nodes.now) }
+        ensures names { OnOk result (names_in self.new ≡ renamed (names_in self.old) names.now) }
+        ensures err { OnErr result (self.new ≡ self.old) }
+        ensures made { OnOk result (T.made then.old then.new) }
+        ensures kept { OnErr result (T.kept then.old then.new) }
+    {
+        let headers = header_edits(alloc, nodes)?;
+        let edits = name_edits(alloc, &self.names, &self.counts, &self.uplinks, names)?;
+        self.change(headers.as_slice(), &edits, then)
+    }
+}

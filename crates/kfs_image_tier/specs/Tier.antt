@@ -1,0 +1,11 @@
+-- What contracts see of a tier: its places, and the blocks that lie there.
+use Rattle.std.specs.Prelude.{ℕ, ◌<◌, Bool, List, length}
+use Rattle.kfs_image_tier.specs.Blocks.{BlockTable, HasRoom}
+
+pub record TierShown : Type 0 where
+  pub places : List Bool
+  pub blocks : BlockTable
+
+-- only places of the tier have room for a block
+pub record AreInTier (tier : TierShown) : Type 0 where
+  pub in_tier : (place : ℕ) → HasRoom tier.blocks place → place < length tier.places

@@ -1,0 +1,64 @@
+-- The tiers beside a placement: free are exactly the places in which no block of a file lies.
+use Rattle.std.specs.Prelude.{◌≡◌, ℕ, ◌<◌, ◌≤◌, true, false, All, List, length, filter, Some}
+use Rattle.kfs_model.specs.Table.{get}
+use Rattle.kfs_model.specs.Placement.{TierSizes, Place, Placement, tier_size, is_free, below, IsLaid}
+use Rattle.kfs_model_device.specs.Device.{Devices}
+use Rattle.kfs_image_tier.specs.Places.{free_count, IsNextFree, AreUsedFrom}
+use Rattle.kfs_image_tier.specs.Tiers.{TiersShown, AreSized, places_in, is_free_at, is_among, AreDistinct, CanMove, moved}
+
+-- each place of a tier is free exactly where no block of a file lies there
+pub record FreeIsUnused (placement : Placement) (tiers : TiersShown) : Type 0 where
+  pub sized : AreSized tiers.sizes tiers.free
+  pub unused : (place : Place) → place.place < tier_size tiers.sizes place.tier → is_free_at tiers.free place ≡ is_free placement place
+
+-- the places of the tier in which no block lies, ascending
+abbrev pub unused_places : TierSizes → Placement → (tier : ℕ) → List ℕ
+unused_places sizes placement tier = filter (λ place. is_free placement (record { tier = tier; place = place })) (below (tier_size sizes tier))
+
+-- it is the tier's least place that isn't below `from` and in which no block lies
+pub record IsNextUnused (sizes : TierSizes) (placement : Placement) (tier from place : ℕ) : Type 0 where
+  pub reached : from ≤ place
+  pub in_tier : place < tier_size sizes tier
+  pub unused : is_free placement (record { tier = tier; place = place }) ≡ true
+  pub least : (other : ℕ) → from ≤ other → other < tier_size sizes tier → is_free placement (record { tier = tier; place = other }) ≡ true → place ≤ other
+
+-- a block lies at each place of the tier from this one on
+abbrev pub AreTakenFrom : TierSizes → Placement → (tier from : ℕ) → Type 0
+AreTakenFrom sizes placement tier from = (place : ℕ) → from ≤ place → place < tier_size sizes tier → is_free placement (record { tier = tier; place = place }) ≡ false
+
+-- a block lies at the place in the old placement, and not in the new one
+pub record IsLeft (old new : Placement) (place : Place) : Type 0 where
+  pub block : ℕ × ℕ
+  pub before : get old block ≡ Some place
+  pub after : get new block ≡ Some place → ⊥
+
+-- Given are the places that a block leaves, taken those that a block enters, and none stands twice among the ones or among the
+-- others. A place is both where one block leaves it and another one enters it.
+pub record AreMoved (old new : Placement) (given taken : List Place) : Type 0 where
+  pub each_left : All (IsLeft old new) given
+  pub all_left : (place : Place) → IsLeft old new place → is_among given place ≡ true
+  pub given_once : AreDistinct given
+  pub each_entered : All (IsLeft new old) taken
+  pub all_entered : (place : Place) → IsLeft new old place → is_among taken place ≡ true
+  pub taken_once : AreDistinct taken
+
+-- where free are the unused places: their count, the next one, and none left
+abbrev pub CountsUnused : Placement → TiersShown → Type 0
+CountsUnused placement tiers = FreeIsUnused placement tiers → (tier : ℕ) → free_count (places_in tiers.free tier) ≡ length (unused_places tiers.sizes placement tier)
+
+abbrev pub FindsUnused : Placement → TiersShown → Type 0
+FindsUnused placement tiers = FreeIsUnused placement tiers → (tier from place : ℕ) → IsNextFree (places_in tiers.free tier) from place → IsNextUnused tiers.sizes placement tier from place
+
+abbrev pub MissesNone : Placement → TiersShown → Type 0
+MissesNone placement tiers = FreeIsUnused placement tiers → (tier from : ℕ) → AreUsedFrom (places_in tiers.free tier) from → AreTakenFrom tiers.sizes placement tier from
+
+-- the places that blocks leave can be given back, and those that they enter taken
+abbrev pub CanFollow : (old new : Placement) → TiersShown → (given taken : List Place) → Type 0
+CanFollow old new tiers given taken =
+    FreeIsUnused old tiers → IsLaid tiers.sizes old → IsLaid tiers.sizes new → AreMoved old new given taken → CanMove tiers.free given taken
+
+-- and then free are the unused places again
+abbrev pub KeepsUnused : (old new : Placement) → TiersShown → (given taken : List Place) → Devices → Type 0
+KeepsUnused old new tiers given taken devices =
+    FreeIsUnused old tiers → IsLaid tiers.sizes old → IsLaid tiers.sizes new → AreMoved old new given taken
+    → FreeIsUnused new (record { sizes = tiers.sizes; free = moved given taken tiers.free; devices = devices })

@@ -1,0 +1,157 @@
+//! The bytes of the blocks of a tier. A block that was never written takes no memory.
+ghost use Rattle.std.specs.Prelude.{◌≡◌, ◌+◌, ◌≤◌, length, slice_index, vec_len, Some, None, IsSome, IfSome, OnOk, OnErr, EachIndex};
+ghost use Rattle.std.specs.Ordering.{nat_cmp};
+ghost use Rattle.std.specs.BTreeMap.{get};
+ghost use Rattle.std.specs.Option.{option_copied};
+ghost use Rattle.kfs_model.specs.Limits.{block_size};
+ghost use Rattle.kfs_model.specs.Table.{empty, insert, remove};
+ghost use Rattle.kfs_image_tier.specs.Blocks.{block_at, byte_at, HasRoom, KeepsBlocks, with_room, without_room};
+ghost use Rattle.kfs_image_tier.specs.Slots.{held_at, SetsSlot};
+
+use kfs_entry_value::Rows;
+use std::alloc::{AllocError, Allocator};
+use std::collections::BTreeMap;
+use std::marker::Model;
+
+/// The blocks of a tier, each of 4,096 bytes once it was written. Contracts see their table by place,
+/// in which a block that has room and was never written stands without bytes.
+#[derive(Drop)]
+pub struct Blocks<A: Allocator> {
+    slots: BTreeMap<u32, Option<Rows<u8, A>>, A>,
+}
+
+impl<A: Allocator> Model for Blocks<A> {
+    ghost use Rattle.kfs_image_tier.specs.Blocks.{BlockTable, AreWhole};
+    ghost use Rattle.kfs_image_tier.specs.Slots.{blocks_of};
+
+    ghost Value = { BlockTable };
+
+    ghost view = { λ b. blocks_of b.slots.entries };
+
+    ghost invariant = { λ b. AreWhole (blocks_of b.slots.entries) };
+}
+
+impl<A: Allocator> Blocks<A> {
+    /// No block was written, and none has room. Takes no memory.
+    pub fn new(alloc: A) -> Blocks<A>
+        ensures { result ≡ empty }
+    {
+        Blocks {
+            slots: BTreeMap::new(alloc),
+        }
+    }
+
+    /// The bytes of a block that was written. Takes no memory.
+    #[tactic(auto, using(crate::proofs::BlockTables::shown))]
+    pub fn block(&self, place: u32) -> Option<&[u8]>
+        ensures bytes { option_copied result ≡ block_at self.now place }
+        ensures whole { IfSome result (λ bytes. length bytes.now ≡ block_size) }
+    {
+        Some(written(&self.slots, place)?.as_slice())
+    }
+
+    /// Fills the buffer with the bytes of a block from the offset on, which are zero where the block
+    /// was never written. The buffer ends within the block. Takes no memory.
+    pub fn read(&self, place: u32, offset: usize, buffer: &mut [u8])
+        requires { offset + length buffer.old ≤ block_size }
+        ensures { EachIndex buffer.new (λ k. slice_index buffer.new k ≡ byte_at self.now place (offset + k)) }
+    {
+        match self.block(place) {
+            Some(bytes) => buffer.copy_from_slice(&bytes[offset..offset + buffer.len()]),
+            None => buffer.fill(0),
+        }
+    }
+
+    /// Makes room for the bytes of a block where there is none. The blocks stay as they are. `Err`
+    /// where memory is refused leaves all as it is.
+    pub fn reserve(&mut self, place: u32) -> Result<(), AllocError>
+    where
+        A: Clone,
+        ensures ok { OnOk result (self.new ≡ with_room self.old place) }
+        ensures err { OnErr result (self.new ≡ self.old) }
+        ensures blocks { KeepsBlocks self.old self.new }
+    {
+        make_slot(&mut self.slots, place)
+    }
+
+    /// Gives up the room of a block that was never written. The blocks stay as they are. Takes no
+    /// memory.
+    pub fn release(&mut self, place: u32)
+        ensures table { self.new ≡ without_room self.old place }
+        ensures blocks { KeepsBlocks self.old self.new }
+    {
+        remove_empty(&mut self.slots, place);
+    }
+
+    /// Writes a block that has room: 4,096 bytes in place of what was there. Takes no memory.
+    pub fn put(&mut self, place: u32, bytes: Vec<u8, A>)
+        requires room { HasRoom self.old place }
+        requires whole { vec_len bytes ≡ block_size }
+        ensures { self.new ≡ insert self.old place (Some bytes.items) }
+    {
+        set_slot(&mut self.slots, place, Rows::from_vec(bytes));
+    }
+
+    /// Gives up the bytes of a block, and its room. Takes no memory.
+    pub fn forget(&mut self, place: u32)
+        ensures { self.new ≡ remove self.old place }
+    {
+        remove_slot(&mut self.slots, place);
+    }
+}
+
+/// The bytes in the place's slot.
+fn written<A: Allocator>(
+    slots: &BTreeMap<u32, Option<Rows<u8, A>>, A>,
+    place: u32,
+) -> Option<&Rows<u8, A>>
+    ensures { option_copied result ≡ held_at slots.now place }
+{
+    slots.get(&place)?.as_ref()
+}
+
+/// Makes a slot for the place where there is none.
+fn make_slot<A: Allocator + Clone>(
+    slots: &mut BTreeMap<u32, Option<Rows<u8, A>>, A>,
+    place: u32,
+) -> Result<(), AllocError>
+    ensures ok { OnOk result (SetsSlot slots.old slots.new place (Some (held_at slots.old place))) }
+    ensures err { OnErr result (slots.new.entries ≡ slots.old.entries) }
+{
+    if slots.contains_key(&place) {
+        return Ok(());
+    }
+    slots.insert(place, None)?;
+    Ok(())
+}
+
+/// Takes the place's slot out where it has no bytes.
+fn remove_empty<A: Allocator>(slots: &mut BTreeMap<u32, Option<Rows<u8, A>>, A>, place: u32)
+    ensures empty { held_at slots.old place ≡ None → SetsSlot slots.old slots.new place None }
+    ensures full { IfSome (held_at slots.old place) (λ _. slots.new.entries ≡ slots.old.entries) }
+{
+    if let Some(None) = slots.get(&place) {
+        remove_slot(slots, place);
+    }
+}
+
+/// Takes the place's slot out.
+fn remove_slot<A: Allocator>(slots: &mut BTreeMap<u32, Option<Rows<u8, A>>, A>, place: u32)
+    ensures { SetsSlot slots.old slots.new place None }
+{
+    let _ = slots.remove(&place);
+}
+
+/// Sets the bytes in the place's slot. There is one.
+fn set_slot<A: Allocator>(
+    slots: &mut BTreeMap<u32, Option<Rows<u8, A>>, A>,
+    place: u32,
+    bytes: Rows<u8, A>,
+)
+    requires { IsSome (get nat_cmp slots.old place) }
+    ensures { SetsSlot slots.old slots.new place (Some (Some bytes)) }
+{
+    if let Some(slot) = slots.get_mut(&place) {
+        *slot = Some(bytes);
+    }
+}

@@ -1,0 +1,123 @@
+//! A tier: its places, and the blocks that lie there.
+ghost use Rattle.std.specs.Prelude.{◌≡◌, ◌<◌, true, false, IsTrue, IfOk, OnOk, OnErr, length, replicate, slice_set, vec_len, Some};
+ghost use Rattle.kfs_model.specs.Limits.{block_size};
+ghost use Rattle.kfs_model.specs.Table.{empty, insert, remove};
+ghost use Rattle.kfs_image_tier.specs.Places.{is_free_in};
+ghost use Rattle.kfs_image_tier.specs.Blocks.{HasRoom, KeepsBlocks, with_room, without_room};
+ghost use Rattle.kfs_image_tier.specs.Tier.{AreInTier};
+
+use crate::blocks::Blocks;
+use crate::places::Places;
+use std::alloc::{AllocError, Allocator};
+use std::marker::Model;
+
+/// A tier of blocks of 4,096 bytes. Its places are used or free whether or not their blocks were
+/// written.
+pub struct Tier<A: Allocator> {
+    places: Places<A>,
+    blocks: Blocks<A>,
+}
+
+impl<A: Allocator> Model for Tier<A> {
+    ghost use Rattle.kfs_image_tier.specs.Tier.{TierShown, AreInTier};
+
+    ghost Value = { TierShown };
+
+    ghost view = { λ t. record { places = t.places; blocks = t.blocks } };
+
+    ghost invariant = { λ t. AreInTier (record { places = t.places; blocks = t.blocks }) };
+}
+
+// Written out, so that the drop of both is proved once and not in each crate that drops a tier.
+impl<A: Allocator> Drop for Tier<A> {
+    fn drop(self) {
+        let Tier { places, blocks } = self;
+        drop(places);
+        drop(blocks);
+    }
+}
+
+impl<A: Allocator> Tier<A> {
+    /// A tier of so many places, all free and no block written. `Err` where memory is refused.
+    pub fn new(alloc: A, size: u32) -> Result<Tier<A>, AllocError>
+    where
+        A: Clone,
+        ensures { IfOk result (λ tier. tier ≡ record { places = replicate size true; blocks = empty }) }
+    {
+        let places = Places::new(alloc.clone()?, size)?;
+        Ok(Tier {
+            places,
+            blocks: Blocks::new(alloc),
+        })
+    }
+
+    /// The places, to be asked which are free. Takes no memory.
+    pub fn places(&self) -> &Places<A>
+        ensures { result.now ≡ self.now.places }
+    {
+        &self.places
+    }
+
+    /// The blocks, to be read. Takes no memory.
+    pub fn blocks(&self) -> &Blocks<A>
+        ensures blocks { result.now ≡ self.now.blocks }
+        ensures in_tier { AreInTier self.now }
+    {
+        &self.blocks
+    }
+
+    /// Makes a free place a used one. Takes no memory.
+    pub fn take(&mut self, place: u32)
+        requires { IsTrue (is_free_in self.old.places place) }
+        ensures { self.new ≡ record self.old { places = slice_set self.old.places place false } }
+    {
+        self.places.take(place);
+    }
+
+    /// Makes a used place a free one. Its block stays as it is. Takes no memory.
+    pub fn give_back(&mut self, place: u32)
+        requires in_tier { place < length self.old.places }
+        requires used { is_free_in self.old.places place ≡ false }
+        ensures { self.new ≡ record self.old { places = slice_set self.old.places place true } }
+    {
+        self.places.give_back(place);
+    }
+
+    /// Makes room for the bytes of a block where there is none. The blocks stay as they are. `Err`
+    /// where memory is refused leaves all as it is.
+    pub fn reserve(&mut self, place: u32) -> Result<(), AllocError>
+    where
+        A: Clone,
+        requires { place < length self.old.places }
+        ensures ok { OnOk result (self.new ≡ record self.old { blocks = with_room self.old.blocks place }) }
+        ensures err { OnErr result (self.new ≡ self.old) }
+        ensures blocks { KeepsBlocks self.old.blocks self.new.blocks }
+    {
+        self.blocks.reserve(place)
+    }
+
+    /// Gives up the room of a block that was never written. The blocks stay as they are. Takes no
+    /// memory.
+    pub fn release(&mut self, place: u32)
+        ensures table { self.new ≡ record self.old { blocks = without_room self.old.blocks place } }
+        ensures blocks { KeepsBlocks self.old.blocks self.new.blocks }
+    {
+        self.blocks.release(place);
+    }
+
+    /// Writes a block that has room: 4,096 bytes in place of what was there. Takes no memory.
+    pub fn write(&mut self, place: u32, bytes: Vec<u8, A>)
+        requires room { HasRoom self.old.blocks place }
+        requires whole { vec_len bytes ≡ block_size }
+        ensures { self.new ≡ record self.old { blocks = insert self.old.blocks place (Some bytes.items) } }
+    {
+        self.blocks.put(place, bytes);
+    }
+
+    /// Gives up the bytes of a block, and its room. Takes no memory.
+    pub fn forget(&mut self, place: u32)
+        ensures { self.new ≡ record self.old { blocks = remove self.old.blocks place } }
+    {
+        self.blocks.forget(place);
+    }
+}

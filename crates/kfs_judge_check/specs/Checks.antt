@@ -1,0 +1,105 @@
+-- The code's checks, reasons and entry contexts as those of the definitions.
+use Rattle.std.specs.Prelude.{◌≡◌, ℕ, Bool, List, map, Option, Result}
+use Rattle.std.specs.Option.{option_map}
+use Rattle.kfs_judge_check.specs.Recorders.{LooksAlong}
+use Rattle.kfs_model.specs.Check.{checks_of, first_failing, looked}
+use Rattle.kfs_model.specs.Entry.{Entry}
+use Rattle.kfs_model.specs.Check as checks
+use Rattle.kfs_model.specs.Sight.{Sight, ClientSight, Cell, ParentOf, climb_limit, climb_meets, climbed}
+use Rattle.kfs_judge_check.specs.declared.check.Reason.{Reason}
+use Rattle.kfs_judge_check.specs.declared.check.Reason.TheVariants as reasons
+use Rattle.kfs_judge_check.specs.declared.check.Check.{Check}
+use Rattle.kfs_judge_check.specs.declared.check.Check.TheVariants as variants
+use Rattle.kfs_judge_check.specs.declared.reads.Recorder.{Recorder}
+use Rattle.kfs_judge_check.specs.declared.entry_judge.EntryJudge.{EntryJudge}
+use Rattle.kfs_judge_draft.specs.Overlay.{entry_context_of}
+use Rattle.kfs_mode.specs.Mode.{want_shown}
+use Rattle.kfs_mode.specs.declared.class.Want.{Want}
+
+abbrev pub reason_of : Reason → checks.Reason
+reason_of reasons.NoSuchNode = checks.NoSuchNode
+reason_of reasons.NotDirectory = checks.NotDirectory
+reason_of reasons.IsDirectory = checks.IsDirectory
+reason_of reasons.NoSuchName = checks.NoSuchName
+reason_of reasons.NameTaken = checks.NameTaken
+reason_of reasons.NumberTaken = checks.NumberTaken
+reason_of reasons.NumberNotGranted = checks.NumberNotGranted
+reason_of reasons.NotEmpty = checks.NotEmpty
+reason_of reasons.BelowItself = checks.BelowItself
+reason_of reasons.TooManyLinks = checks.TooManyLinks
+reason_of reasons.TooBig = checks.TooBig
+reason_of reasons.NoSearch = checks.NoSearch
+reason_of reasons.NoWrite = checks.NoWrite
+reason_of reasons.NotOwner = checks.NotOwner
+reason_of (reasons.NoLease n) = checks.NoLease n
+
+abbrev pub check_of : Check → checks.Check
+check_of (variants.Exists n) = checks.Exists n
+check_of (variants.IsADirectory n) = checks.IsADirectory n
+check_of (variants.IsAFile n) = checks.IsAFile n
+check_of (variants.MaySearch n) = checks.MaySearch n
+check_of (variants.MayWrite n) = checks.MayWrite n
+check_of (variants.MayChangeMode n) = checks.MayChangeMode n
+check_of (variants.IsLeased n) = checks.IsLeased n
+check_of (variants.HasNoNames n) = checks.HasNoNames n
+check_of (variants.HasRoomForLink n) = checks.HasRoomForLink n
+check_of (variants.NameIsFree key) = checks.NameIsFree key.now.0 key.now.1
+check_of (variants.NumberIsGranted n) = checks.NumberIsGranted n
+check_of (variants.NumberIsFree n) = checks.NumberIsFree n
+check_of (variants.EndIsInRange end) = checks.EndIsInRange end
+check_of (variants.IsNotAbove n d) = checks.IsNotAbove n d
+
+-- the cells of the nodes that a climb passes
+abbrev pub climbed_cells : (ℕ → Option ℕ) → (fuel from : ℕ) → List Cell
+climbed_cells parent fuel from = map ParentOf (climbed parent fuel from)
+
+-- the check asks what the client may do, by a header
+abbrev pub IsOfRight : Check → Type 0
+IsOfRight (variants.MaySearch n) = Unit {0}
+IsOfRight (variants.MayWrite n) = Unit {0}
+IsOfRight (variants.MayChangeMode n) = Unit {0}
+IsOfRight _ = ⊥
+
+-- the check asks what a header says, whoever the client is
+abbrev pub IsOfHeader : Check → Type 0
+IsOfHeader (variants.Exists n) = Unit {0}
+IsOfHeader (variants.IsADirectory n) = Unit {0}
+IsOfHeader (variants.IsAFile n) = Unit {0}
+IsOfHeader (variants.HasRoomForLink n) = Unit {0}
+IsOfHeader _ = ⊥
+
+-- where the entry is judged, by what the client saw before the log
+abbrev pub entry_context_in : {A : Type 0} → EntryJudge A → ClientSight → checks.EntryContext
+entry_context_in judge before = entry_context_of judge.client.now judge.draft.now before
+
+module _ {A : Type 0} (judge : EntryJudge A) where
+  -- what the cells show now
+  abbrev pub sight_in : ClientSight → Sight
+  sight_in before = (entry_context_in judge before).now
+
+  -- the directory in which a directory stands now
+  abbrev pub parent_in : ClientSight → ℕ → Option ℕ
+  parent_in before = (sight_in before).parent
+
+  -- whether the client is granted this of the node now
+  abbrev pub is_granted_in : ClientSight → Want → (number : ℕ) → Bool
+  is_granted_in before want number = checks.is_permitted (entry_context_in judge before) (want_shown want) number
+
+  -- whether the climb from the directory meets the node, looked at the parents of those that it passes
+  abbrev pub Climbs : {E : Type 0} → (old new : Recorder A) → Result Bool E → (node directory : ℕ) → Type 0
+  Climbs old new result node directory =
+      LooksAlong old new result (λ before. climbed_cells (parent_in before) climb_limit directory) (λ meets before. climb_meets (parent_in before) climb_limit node directory ≡ meets)
+
+  -- what the check finds wrong, looked at its cells
+  abbrev pub JudgesCheck : {E : Type 0} → (old new : Recorder A) → Result (Option Reason) E → Check → Type 0
+  JudgesCheck old new result check =
+      LooksAlong old new result (λ before. checks.cells (entry_context_in judge before) (check_of check)) (λ reason before. checks.fault (entry_context_in judge before) (check_of check) ≡ option_map reason_of reason)
+
+  -- the first of the listed checks that fails, looked at the cells of the checks up to it
+  abbrev pub JudgesAll : {E : Type 0} → (old new : Recorder A) → Result (Option Reason) E → (checks.EntryContext → List checks.Check) → Type 0
+  JudgesAll old new result listed =
+      LooksAlong old new result (λ before. looked (entry_context_in judge before) (listed (entry_context_in judge before))) (λ reason before. first_failing (entry_context_in judge before) (listed (entry_context_in judge before)) ≡ option_map reason_of reason)
+
+-- the entry's first fault, looked at the cells of its checks
+abbrev pub Judges : {A E : Type 0} → EntryJudge A → (old new : Recorder A) → Result (Option Reason) E → Entry → Type 0
+Judges judge old new result entry = JudgesAll judge old new result (λ p. checks_of p entry)

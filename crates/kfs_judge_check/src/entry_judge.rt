@@ -1,0 +1,341 @@
+//! What judges one entry: the first of its checks that fails where it stands.
+ghost use Rattle.std.specs.Prelude.{◌≡◌, ◌+ℤ◌, pos, nat_lt, is_none, not, ◌&&◌, ◌||◌, map, [], ◌∷◌};
+ghost use Rattle.std.specs.Option.{option_map};
+ghost use Rattle.std.specs.Ordering.{int_eq};
+ghost use Rattle.kfs_model.specs.Limits.{link_limit};
+ghost use Rattle.kfs_entry_value.specs.Views.{header_of, kind_of};
+ghost use Rattle.kfs_model.specs.Access.{may_header, owns};
+ghost use Rattle.kfs_model.specs.Check as checks;
+ghost use Rattle.kfs_model.specs.Sight as sight;
+ghost use Rattle.kfs_model.specs.Sight.{CountOf, LeaseOn, ParentOf};
+ghost use Rattle.kfs_mode.specs.Mode.{want_shown};
+ghost use Rattle.kfs_judge_check.specs.Recorders.{Looks, LooksAtHeader, LooksAtName};
+ghost use Rattle.kfs_judge_check.specs.Checks.{check_of, reason_of, entry_context_in, Climbs, JudgesAll, JudgesCheck, IsOfHeader, IsOfRight, is_granted_in, parent_in, sight_in};
+
+use crate::check::{Check, Reason};
+use crate::reads::Recorder;
+use kfs_entry_value::{CLIMB_LIMIT, LINK_LIMIT, SIZE_LIMIT};
+use kfs_image_nodes::{Header, Kind, Name};
+use kfs_judge_draft::Draft;
+use kfs_mode::{Client, Want, may};
+use std::alloc::{AllocError, Allocator};
+
+/// What judges the next entry: the log's client, and the draft of the entries so far.
+#[derive(Clone, Copy)]
+pub struct EntryJudge<'a, A: Allocator> {
+    pub client: &'a Client,
+    pub draft: &'a Draft<A>,
+}
+
+impl<A: Allocator + Copy> EntryJudge<'_, A> {
+    /// The header of the node now.
+    pub fn header(
+        &self,
+        recorder: &mut Recorder<'_, A>,
+        number: u32,
+    ) -> Result<Option<Header>, AllocError>
+        ensures { LooksAtHeader recorder.old recorder.new result number (λ header before. (sight_in self.now before).head number ≡ option_map header_of header) }
+    {
+        match self.draft.header(number) {
+            Some(header) => Ok(header),
+            None => recorder.header(number),
+        }
+    }
+
+    /// The kind of the node now, and a file's where there is no node.
+    pub fn kind(&self, recorder: &mut Recorder<'_, A>, number: u32) -> Result<Kind, AllocError>
+        ensures { LooksAtHeader recorder.old recorder.new result number (λ kind before. sight.kind_shown ((sight_in self.now before).head number) ≡ kind_of kind) }
+    {
+        let header = self.header(recorder, number)?;
+        Ok(kind_in(header))
+    }
+
+    /// The number that the name leads to now.
+    pub fn target(
+        &self,
+        recorder: &mut Recorder<'_, A>,
+        key: &(u32, Name),
+    ) -> Result<Option<u32>, AllocError>
+        ensures { LooksAtName recorder.old recorder.new result key.now (λ number before. (sight_in self.now before).name key.now.0 key.now.1 ≡ number) }
+    {
+        match self.draft.target(key) {
+            Some(number) => Ok(number),
+            None => recorder.target(key),
+        }
+    }
+
+    fn is_permitted(
+        &self,
+        recorder: &mut Recorder<'_, A>,
+        number: u32,
+        want: Want,
+    ) -> Result<bool, AllocError>
+        ensures { LooksAtHeader recorder.old recorder.new result number (λ granted before. is_granted_in self.now before want number ≡ granted) }
+    {
+        let header = self.header(recorder, number)?;
+        Ok(may_want(self.client, header, want))
+    }
+
+    /// The reason of the first check that fails.
+    pub fn first_fault(
+        &self,
+        recorder: &mut Recorder<'_, A>,
+        checks: &[Check<'_>],
+    ) -> Result<Option<Reason>, AllocError>
+        ensures { JudgesAll self.now recorder.old recorder.new result (λ _. map check_of checks.now) }
+    {
+        for check in checks {
+            if let Some(reason) = self.fault(recorder, check)? {
+                return Ok(Some(reason));
+            }
+        }
+        Ok(None)
+    }
+
+    #[tactic(auto, unfolding(kfs_model::specs::Check::fault, kfs_model::specs::Check::cells))]
+    fn fault(
+        &self,
+        recorder: &mut Recorder<'_, A>,
+        check: &Check<'_>,
+    ) -> Result<Option<Reason>, AllocError>
+        ensures { JudgesCheck self.now recorder.old recorder.new result check.now }
+    {
+        match check {
+            Check::NameIsFree(key) => {
+                let number = self.target(recorder, key)?;
+                Ok(unless(number.is_none(), Reason::NameTaken))
+            }
+            Check::IsLeased(number) => {
+                let leased = self.is_leased(recorder, *number)?;
+                Ok(unless(leased, Reason::NoLease(*number)))
+            }
+            Check::HasNoNames(number) => {
+                let empty = self.has_no_names(recorder, *number)?;
+                Ok(unless(empty, Reason::NotEmpty))
+            }
+            Check::NumberIsGranted(number) => {
+                let granted = self.client.is_granted(*number);
+                Ok(unless(granted, Reason::NumberNotGranted))
+            }
+            Check::NumberIsFree(number) => {
+                let free = self.is_number_free(recorder, *number)?;
+                Ok(unless(free, Reason::NumberTaken))
+            }
+            Check::EndIsInRange(end) => Ok(unless(*end <= SIZE_LIMIT, Reason::TooBig)),
+            Check::IsNotAbove { node, dir } => {
+                let meets = self.climb_meets(recorder, *node, *dir)?;
+                Ok(unless(!meets, Reason::BelowItself))
+            }
+            Check::MaySearch(_) | Check::MayWrite(_) | Check::MayChangeMode(_) => {
+                self.right_fault(recorder, check)
+            }
+            _ => self.header_fault(recorder, check),
+        }
+    }
+
+    /// What a check of what the client may do finds wrong.
+    #[tactic(auto, unfolding(kfs_model::specs::Check::fault, kfs_model::specs::Check::cells))]
+    fn right_fault(
+        &self,
+        recorder: &mut Recorder<'_, A>,
+        check: &Check<'_>,
+    ) -> Result<Option<Reason>, AllocError>
+        requires { IsOfRight check.now }
+        ensures { JudgesCheck self.now recorder.old recorder.new result check.now }
+    {
+        match check {
+            Check::MaySearch(number) => {
+                let granted = self.is_permitted(recorder, *number, Want::Search)?;
+                Ok(unless(granted, Reason::NoSearch))
+            }
+            Check::MayWrite(number) => {
+                let granted = self.may_write(recorder, *number)?;
+                Ok(unless(granted, Reason::NoWrite))
+            }
+            Check::MayChangeMode(number) => {
+                let header = self.header(recorder, *number)?;
+                Ok(unless(owns(self.client, header), Reason::NotOwner))
+            }
+            _ => unreachable!(),
+        }
+    }
+
+    /// What a check of a header finds wrong.
+    #[tactic(auto, unfolding(kfs_model::specs::Check::fault, kfs_model::specs::Check::cells))]
+    fn header_fault(
+        &self,
+        recorder: &mut Recorder<'_, A>,
+        check: &Check<'_>,
+    ) -> Result<Option<Reason>, AllocError>
+        requires { IsOfHeader check.now }
+        ensures { JudgesCheck self.now recorder.old recorder.new result check.now }
+    {
+        match check {
+            Check::Exists(number) => {
+                let header = self.header(recorder, *number)?;
+                Ok(unless(header.is_some(), Reason::NoSuchNode))
+            }
+            Check::IsADirectory(number) => {
+                let header = self.header(recorder, *number)?;
+                Ok(unless(is_directory(header), Reason::NotDirectory))
+            }
+            Check::IsAFile(number) => {
+                let header = self.header(recorder, *number)?;
+                Ok(unless(!is_directory(header), Reason::IsDirectory))
+            }
+            Check::HasRoomForLink(number) => {
+                let header = self.header(recorder, *number)?;
+                Ok(unless(has_room_for_link(header), Reason::TooManyLinks))
+            }
+            _ => unreachable!(),
+        }
+    }
+
+    fn may_write(&self, recorder: &mut Recorder<'_, A>, number: u32) -> Result<bool, AllocError>
+        ensures { LooksAtHeader recorder.old recorder.new result number (λ granted before. checks.may_write (entry_context_in self.now before) number ≡ granted) }
+    {
+        let header = self.header(recorder, number)?;
+        let own_file = self.draft.has_created(number) && is_file(header);
+        Ok(own_file || may_want(self.client, header, Want::Write))
+    }
+
+    fn is_leased(&self, recorder: &mut Recorder<'_, A>, number: u32) -> Result<bool, AllocError>
+        ensures { Looks recorder.old recorder.new result (LeaseOn number ∷ []) (λ leased before. checks.is_leased (entry_context_in self.now before) number ≡ leased) }
+    {
+        if self.draft.has_created(number) {
+            return Ok(true);
+        }
+        recorder.is_held(number)
+    }
+
+    fn has_no_names(&self, recorder: &mut Recorder<'_, A>, dir: u32) -> Result<bool, AllocError>
+        ensures { Looks recorder.old recorder.new result (CountOf dir ∷ []) (λ empty before. int_eq ((sight_in self.now before).count dir) (pos 0) ≡ empty) }
+    {
+        let count = recorder.count(dir)?;
+        let shift = self.draft.shift(dir);
+        Ok(is_zero(count, shift))
+    }
+
+    /// The directory that the directory stands in now.
+    fn parent(&self, recorder: &mut Recorder<'_, A>, number: u32) -> Result<Option<u32>, AllocError>
+        ensures { Looks recorder.old recorder.new result (ParentOf number ∷ []) (λ parent before. parent_in self.now before number ≡ parent) }
+    {
+        match self.draft.parent(number) {
+            Some(parent) => Ok(parent),
+            None => recorder.parent(number),
+        }
+    }
+
+    /// Whether the climb along the parents from the directory on meets the node. It takes as many
+    /// steps as the directory lies deep.
+    fn climb_meets(
+        &self,
+        recorder: &mut Recorder<'_, A>,
+        node: u32,
+        dir: u32,
+    ) -> Result<bool, AllocError>
+        ensures { Climbs self.now recorder.old recorder.new result node dir }
+    {
+        let mut current = dir;
+        let mut left = CLIMB_LIMIT;
+        while left > 0 {
+            if current == node {
+                return Ok(true);
+            }
+            let Some(up) = self.parent(recorder, current)? else {
+                return Ok(false);
+            };
+            current = up;
+            left -= 1;
+        }
+        Ok(current == node)
+    }
+
+    fn is_number_free(
+        &self,
+        recorder: &mut Recorder<'_, A>,
+        number: u32,
+    ) -> Result<bool, AllocError>
+        ensures { LooksAtHeader recorder.old recorder.new result number (λ free before. checks.is_number_free (entry_context_in self.now before) number ≡ free) }
+    {
+        let before = recorder.header(number)?;
+        let now = self.header(recorder, number)?;
+        let created = self.draft.has_created(number);
+        Ok(is_free(before, now, created))
+    }
+}
+
+fn may_want(client: &Client, header: Option<Header>, want: Want) -> bool
+    ensures { result ≡ checks.is_some_and (option_map header_of header) (λ h. may_header client.now h (want_shown want)) }
+{
+    match header {
+        Some(header) => may(client, header.uid, header.gid, header.mode, want),
+        None => false,
+    }
+}
+
+/// Whether the client may change the node's mode: its owner may, and a privileged client.
+fn owns(client: &Client, header: Option<Header>) -> bool
+    ensures { result ≡ checks.is_some_and (option_map header_of header) (λ h. owns client.now h.uid) }
+{
+    match header {
+        Some(header) => client.uid() == header.uid || client.is_privileged(),
+        None => false,
+    }
+}
+
+/// Whether a file with this header may have one name more.
+fn has_room_for_link(header: Option<Header>) -> bool
+    ensures { result ≡ checks.is_some_and (option_map header_of header) (λ h. nat_lt h.links link_limit) }
+{
+    match header {
+        Some(header) => header.links < LINK_LIMIT,
+        None => false,
+    }
+}
+
+/// Whether a count with its change comes to zero.
+fn is_zero(count: u64, shift: i32) -> bool
+    ensures { result ≡ int_eq (pos count +ℤ shift) (pos 0) }
+{
+    i128::from(count) + i128::from(shift) == 0
+}
+
+fn is_free(before: Option<Header>, now: Option<Header>, created: bool) -> bool
+    ensures { result ≡ (is_none (option_map header_of before) && is_none (option_map header_of now) && not created) }
+{
+    before.is_none() && now.is_none() && !created
+}
+
+fn unless(holds: bool, reason: Reason) -> Option<Reason>
+    ensures { option_map reason_of result ≡ checks.unless holds (reason_of reason) }
+{
+    if holds { None } else { Some(reason) }
+}
+
+fn is_directory(header: Option<Header>) -> bool
+    ensures { result ≡ sight.is_directory (option_map header_of header) }
+{
+    match header {
+        Some(header) => header.kind == Kind::Directory,
+        None => false,
+    }
+}
+
+fn kind_in(header: Option<Header>) -> Kind
+    ensures { kind_of result ≡ sight.kind_shown (option_map header_of header) }
+{
+    match header {
+        Some(header) => header.kind,
+        None => Kind::File,
+    }
+}
+
+fn is_file(header: Option<Header>) -> bool
+    ensures { result ≡ sight.is_file (option_map header_of header) }
+{
+    match header {
+        Some(header) => header.kind == Kind::File,
+        None => false,
+    }
+}

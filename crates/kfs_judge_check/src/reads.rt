@@ -1,0 +1,175 @@
+//! What a judgement reads of its view, each recorded once, in the order of the first look.
+
+ghost use Rattle.std.specs.Prelude.{◌≡◌, ℕ, ℤ, pos, Bool, [], ◌∷◌, Option, IfOk, OnOk};
+ghost use Rattle.std.specs.Option.{option_map};
+ghost use Rattle.kfs_entry_value.specs.Views.{header_of};
+ghost use Rattle.kfs_model.specs.Header.{Header as HeaderShown};
+ghost use Rattle.kfs_model.specs.Sight.{answer, Head, Number, Count, Held, CountOf, ParentOf, LeaseOn};
+ghost use Rattle.kfs_judge_check.specs.Reads.{cell_of, answer_of};
+ghost use Rattle.kfs_judge_check.specs.Recorders.{seen_by, Looks, LooksAtHeader, LooksAtName};
+ghost use Rattle.kfs_judge_check.specs.View.{client_sight_in};
+
+use crate::view::View;
+use indexmap::IndexMap;
+use kfs_image_nodes::{Answer, Cell, Header, Name};
+use std::alloc::{AllocError, Allocator};
+use std::hash::{BuildHasherDefault, FoldHasher};
+
+/// A cell of a state, as one client sees it.
+#[derive(Clone, Debug, PartialEq, Eq, Hash, Drop)]
+pub enum Read {
+    /// A cell of the shape.
+    Look(Cell),
+    /// Whether the client holds a live write lease on the node.
+    Lease(u32),
+}
+
+/// What a state shows at a cell of the same case.
+#[derive(Clone, Copy, Debug, PartialEq, Eq)]
+pub enum ReadAnswer {
+    Look(Answer),
+    Lease(bool),
+}
+
+/// The recorded reads with their answers.
+pub type Reads<A> = IndexMap<Read, ReadAnswer, BuildHasherDefault<FoldHasher>, A>;
+
+/// Reads a view for one client, by numbers of nodes, and keeps what it read. Only a growth of what is
+/// kept, or of a name's copy, can fail, and then the read isn't kept.
+#[derive(Drop)]
+pub struct Recorder<'a, A: Allocator> {
+    view: &'a View<A>,
+    client: u32,
+    reads: IndexMap<Read, ReadAnswer, BuildHasherDefault<FoldHasher>, A>,
+}
+
+/// A copy of a name.
+fn copied(name: &Name) -> Result<Name, AllocError>
+    ensures { IfOk result (λ copy. copy ≡ name.now) }
+{
+    name.clone()
+}
+
+impl<'a, A: Allocator + Copy> Recorder<'a, A> {
+    /// Nothing read yet, for the client of this number. Takes no memory.
+    pub fn new(alloc: A, view: &'a View<A>, client: u32) -> Recorder<'a, A>
+        ensures none { result.reads.entries ≡ [] }
+        ensures seen { seen_by result ≡ client_sight_in view.now client }
+    {
+        Recorder {
+            view,
+            client,
+            reads: IndexMap::new(alloc),
+        }
+    }
+
+    /// The answer at a cell: the recorded one, or else the view's, which is recorded then.
+    fn read(&mut self, read: Read) -> Result<ReadAnswer, AllocError>
+        ensures { Looks self.old self.new result (cell_of read ∷ []) (λ told before. answer before (cell_of read) ≡ answer_of told) }
+    {
+        if let Some(answer) = self.reads.get(&read) {
+            return Ok(*answer);
+        }
+        let answer = self.view_answer(&read);
+        self.reads.insert(read, answer)?;
+        Ok(answer)
+    }
+
+    /// What the view shows at a cell.
+    fn view_answer(&self, read: &Read) -> ReadAnswer
+        ensures { answer (seen_by self.now) (cell_of read.now) ≡ answer_of result }
+    {
+        match read {
+            Read::Look(cell) => ReadAnswer::Look(self.view.look(cell)),
+            Read::Lease(number) => ReadAnswer::Lease(self.view.holds(self.client, *number)),
+        }
+    }
+
+    /// The header of a node.
+    pub fn header(&mut self, number: u32) -> Result<Option<Header>, AllocError>
+        ensures { LooksAtHeader self.old self.new result number (λ header before. before.sight.head number ≡ option_map header_of header) }
+    {
+        let answer = self.read(Read::Look(Cell::Header(number)))?;
+        Ok(header_in(answer))
+    }
+
+    /// The number that a name leads to.
+    pub fn target(&mut self, key: &(u32, Name)) -> Result<Option<u32>, AllocError>
+        ensures { LooksAtName self.old self.new result key.now (λ number before. before.sight.name key.now.0 key.now.1 ≡ number) }
+    {
+        let name = copied(&key.1)?;
+        let answer = self.read(Read::Look(Cell::Name(key.0, name)))?;
+        Ok(number_in(answer))
+    }
+
+    /// How many names a directory has.
+    pub fn count(&mut self, dir: u32) -> Result<u64, AllocError>
+        ensures { Looks self.old self.new result (CountOf dir ∷ []) (λ count before. before.sight.count dir ≡ pos count) }
+    {
+        let answer = self.read(Read::Look(Cell::Count(dir)))?;
+        Ok(count_in(answer))
+    }
+
+    /// The directory that a directory stands in.
+    pub fn parent(&mut self, number: u32) -> Result<Option<u32>, AllocError>
+        ensures { Looks self.old self.new result (ParentOf number ∷ []) (λ parent before. before.sight.parent number ≡ parent) }
+    {
+        let answer = self.read(Read::Look(Cell::Parent(number)))?;
+        Ok(number_in(answer))
+    }
+
+    /// Whether the client holds a live write lease on the node.
+    pub fn is_held(&mut self, number: u32) -> Result<bool, AllocError>
+        ensures { Looks self.old self.new result (LeaseOn number ∷ []) (λ held before. before.held number ≡ held) }
+    {
+        let answer = self.read(Read::Lease(number))?;
+        Ok(held_in(answer))
+    }
+
+    /// The recorded reads. Takes no memory.
+    pub fn into_reads(self) -> IndexMap<Read, ReadAnswer, BuildHasherDefault<FoldHasher>, A>
+        ensures { result.entries ≡ self.entry.reads.entries }
+    {
+        self.reads
+    }
+}
+
+/// The header that an answer tells.
+fn header_in(answer: ReadAnswer) -> Option<Header>
+    ensures { (header : Option HeaderShown) → Head header ≡ answer_of answer → header ≡ option_map header_of result }
+{
+    match answer {
+        ReadAnswer::Look(Answer::Header(header)) => header,
+        _ => None,
+    }
+}
+
+/// The number that an answer tells.
+fn number_in(answer: ReadAnswer) -> Option<u32>
+    ensures { (number : Option ℕ) → Number number ≡ answer_of answer → number ≡ result }
+{
+    match answer {
+        ReadAnswer::Look(Answer::Name(number)) | ReadAnswer::Look(Answer::Parent(number)) => number,
+        _ => None,
+    }
+}
+
+/// The count that an answer tells.
+fn count_in(answer: ReadAnswer) -> u64
+    ensures { (count : ℤ) → Count count ≡ answer_of answer → count ≡ pos result }
+{
+    match answer {
+        ReadAnswer::Look(Answer::Count(count)) => count,
+        _ => 0,
+    }
+}
+
+/// Whether an answer tells of a lease that is held.
+fn held_in(answer: ReadAnswer) -> bool
+    ensures { (held : Bool) → Held held ≡ answer_of answer → held ≡ result }
+{
+    match answer {
+        ReadAnswer::Lease(held) => held,
+        _ => false,
+    }
+}

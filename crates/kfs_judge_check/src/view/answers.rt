@@ -1,0 +1,56 @@
+//! What a view is made of, and what it shows.
+ghost use Rattle.std.specs.Prelude.{◌≡◌};
+ghost use Rattle.std.specs.Option.{option_map};
+ghost use Rattle.kfs_image_nodes.specs.Look.{IsAnswer};
+ghost use Rattle.kfs_model.specs.Lease.{holds, row_of};
+ghost use Rattle.kfs_mode.specs.Clients.{AreDistinct};
+ghost use Rattle.kfs_judge_check.specs.View.{contents_of, leases_of, clients_of};
+
+use crate::view::View;
+use kfs_image_nodes::{Answer, Cell, Shape, look};
+use kfs_lease::Leases;
+use kfs_mode::{Client, find_client};
+use std::alloc::Allocator;
+use std::sync::Arc;
+
+impl<A: Allocator> View<A> {
+    /// The view of exactly these. The clients' numbers are distinct, and a look-up of a client is
+    /// quick where they ascend. Takes no memory.
+    pub fn of(
+        shape: Arc<Shape<A>, A>,
+        leases: Arc<Leases<A>, A>,
+        clients: Arc<Vec<Client, A>, A>,
+    ) -> View<A>
+        requires distinct { AreDistinct clients.value.items }
+        ensures contents { contents_of result ≡ shape.value }
+        ensures leases { leases_of result ≡ leases.value }
+        ensures clients { clients_of result ≡ clients.value.items }
+    {
+        View {
+            shape,
+            leases,
+            clients,
+        }
+    }
+
+    /// The row of the client with this number. Takes no memory.
+    pub fn client(&self, number: u32) -> Option<&Client>
+        ensures { option_map (λ row. row.now) result ≡ row_of (clients_of self.now) number }
+    {
+        find_client(self.clients.as_slice(), number)
+    }
+
+    /// What the view shows at a cell. Takes no memory.
+    pub fn look(&self, cell: &Cell) -> Answer
+        ensures { IsAnswer (contents_of self.now) cell.now result }
+    {
+        look(&self.shape, cell)
+    }
+
+    /// Whether the client holds a live write lease on the node. Takes no memory.
+    pub fn holds(&self, client: u32, number: u32) -> bool
+        ensures { result ≡ holds (leases_of self.now) client number }
+    {
+        self.leases.holds(client, number)
+    }
+}

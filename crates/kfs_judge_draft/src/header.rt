@@ -1,0 +1,50 @@
+//! A node's header after a name more or fewer leads to the node.
+ghost use Rattle.std.specs.Prelude.{◌≡◌, ◌+◌, ◌<◌, None, option_and_then};
+ghost use Rattle.std.specs.Option.{option_map};
+ghost use Rattle.kfs_entry_value.specs.Views.{header_of};
+ghost use Rattle.kfs_model.specs.SeenAfter as seen;
+ghost use Rattle.kfs_judge_draft.specs.Overlay.{IsLinked};
+
+use kfs_entry_value::{Header, Kind};
+
+/// With one link fewer, or none: a directory goes, and a file with its last name.
+pub fn unlinked(header: Option<Header>) -> Option<Header>
+    ensures { option_map header_of result ≡ option_and_then seen.unlinked (option_map header_of header) }
+{
+    match header {
+        Some(header) => without_link(header),
+        None => None,
+    }
+}
+
+fn without_link(header: Header) -> Option<Header>
+    ensures { option_map header_of result ≡ seen.unlinked (header_of header) }
+{
+    match header.kind {
+        Kind::File if header.links > 1 => Some(Header {
+            links: header.links - 1,
+            ..header
+        }),
+        _ => None,
+    }
+}
+
+/// With one link more.
+pub fn linked(header: Option<Header>) -> Option<Header>
+    ensures linked { IsLinked (option_map header_of header) (option_map header_of result) }
+    ensures none { header ≡ None → result ≡ None }
+{
+    match header {
+        Some(header) => Some(with_link(header)),
+        None => None,
+    }
+}
+
+fn with_link(header: Header) -> Header
+    ensures { header.links < 65535 → header_of result ≡ record (header_of header) { links = header.links + 1 } }
+{
+    Header {
+        links: header.links.saturating_add(1),
+        ..header
+    }
+}

@@ -1,0 +1,84 @@
+-- What a log's judge has made of an entry, and of entries one after another.
+use Rattle.std.specs.Prelude.{◌≡◌, ◌==◌, ℕ, List, ◌∷◌, [], Contains, if◌then◌else◌, ◌++◌, Option, Some, None, Result, Ok, IfOk, OnOk}
+use Rattle.std.specs.Option.{option_map}
+use Rattle.std.specs.declared.alloc.AllocError.{AllocError}
+use Rattle.kfs_model.specs.Entry.{Entry}
+use Rattle.kfs_model.specs.Sight.{ClientSight, Cell, HeaderOf, NameIn}
+use Rattle.kfs_model.specs.Check.{EntryContext, first_fault, entry_cells}
+use Rattle.kfs_model.specs.Run.{created_by}
+use Rattle.kfs_model.specs.SeenAfter.{seen_after, seen_renamed, seen_unlinked}
+use Rattle.kfs_judge_check.specs.declared.check.Reason.{Reason}
+use Rattle.kfs_judge_step.specs.declared.log_judge.LogJudge.{LogJudge}
+use Rattle.kfs_judge_step.specs.FileSizes.{HasFileOf}
+use Rattle.kfs_judge_check.specs.Checks.{reason_of}
+use Rattle.kfs_judge_draft.specs.Overlay.{over, entry_context_of, AreCreated, IsWritten, KeepsHeaders, ShiftsFurther}
+use Rattle.kfs_judge_check.specs.Reads.{IsPart}
+use Rattle.kfs_judge_check.specs.Recorders.{GoesOn, Known, ReadsAt}
+
+-- where the next entry is judged, by what the client saw before the log
+abbrev pub next_context : {A : Type 0} → LogJudge A → ClientSight → EntryContext
+next_context judge before = entry_context_of judge.client.now judge.draft before
+
+-- the header of the node that loses a name
+abbrev pub headers_unlinked : (there : Option ℕ) → List Cell
+headers_unlinked None = []
+headers_unlinked (Some t) = HeaderOf t ∷ []
+
+-- the headers that a Rename looks at: of the node moved, and of the one that it replaces
+abbrev pub headers_renamed : (from to : Option ℕ) → List Cell
+headers_renamed None to = []
+headers_renamed (Some s) None = HeaderOf s ∷ []
+headers_renamed (Some s) (Some t) = if t == s then [] else HeaderOf s ∷ HeaderOf t ∷ []
+
+-- an entry, and the judge before it and behind it
+module _ {A : Type 0} (old new : LogJudge A) (entry : Entry) where
+  abbrev pub IsFirstFault : Option Reason → Type 0
+  IsFirstFault reason = Known new.recorder (λ before. first_fault (next_context old before) entry ≡ option_map reason_of reason)
+
+  abbrev pub ReadsItsCells : Type 0
+  ReadsItsCells = Known new.recorder (λ before. ReadsAt old.recorder new.recorder (entry_cells (next_context old before) entry))
+
+  abbrev pub ShowsItsChange : Type 0
+  ShowsItsChange = Known new.recorder (λ before. over new.draft before.sight ≡ seen_after old.client.now (over old.draft before.sight) entry)
+
+  -- what the draft has was there before, or the entry looked at it
+  abbrev pub WritesItsCells : Type 0
+  WritesItsCells = Known new.recorder (λ before. (among : List Cell) → IsWritten old.draft among → IsWritten new.draft (entry_cells (next_context old before) entry ++ among))
+
+  abbrev pub CreatesItsNumber : Type 0
+  CreatesItsNumber = (numbers : List ℕ) → AreCreated old.draft numbers → AreCreated new.draft (created_by entry numbers)
+
+-- an entry, the judge before it and behind it, and what is answered
+module _ {A : Type 0} (old new : LogJudge A) (entry : Entry) where
+  -- the draft has the entry's change, all of it at cells that were looked at, and the file that the entry reaches
+  pub record MakesItsChange : Type 0 where
+    pub shown : ShowsItsChange old new entry
+    pub written : WritesItsCells old new entry
+    pub created : CreatesItsNumber old new entry
+    pub kept : KeepsHeaders old.draft new.draft
+    pub reached : HasFileOf new.draft entry
+    pub shifts : ShiftsFurther 3 old.draft new.draft
+
+  -- the reason is the entry's first fault; where there is none, its change is made
+  pub record IsEntered (answer : Result (Option Reason) AllocError) : Type 0 where
+    pub goes : GoesOn old.recorder new.recorder
+    pub client : new.client.now ≡ old.client.now
+    pub known : IfOk answer (IsFirstFault old new entry)
+    pub among : OnOk answer (ReadsItsCells old new entry)
+    pub change : answer ≡ Ok None → MakesItsChange
+
+-- a name goes, which leads to this node
+module _ {A : Type 0} (old new : LogJudge A) (d : ℕ) (m : List ℕ) (there : Option ℕ) where
+  abbrev pub ShowsUnlink : Type 0
+  ShowsUnlink = Known new.recorder (λ before. over new.draft before.sight ≡ seen_unlinked d m there (over old.draft before.sight))
+
+  abbrev pub WritesUnlink : Type 0
+  WritesUnlink = (among : List Cell) → IsWritten old.draft among → Contains among (NameIn d m) → IsPart (headers_unlinked there) among → IsWritten new.draft among
+
+-- a name moves to a second one, where the two lead to these nodes
+module _ {A : Type 0} (old new : LogJudge A) (d : ℕ) (m : List ℕ) (e : ℕ) (k : List ℕ) (from to : Option ℕ) where
+  abbrev pub ShowsRename : Type 0
+  ShowsRename = Known new.recorder (λ before. over new.draft before.sight ≡ seen_renamed d m e k from to (over old.draft before.sight))
+
+  abbrev pub WritesRename : Type 0
+  WritesRename = (among : List Cell) → IsWritten old.draft among → Contains among (NameIn d m) → Contains among (NameIn e k) → IsPart (headers_renamed from to) among → IsWritten new.draft among

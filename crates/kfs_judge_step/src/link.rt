@@ -1,0 +1,61 @@
+//! The entry Link.
+ghost use Rattle.std.specs.Prelude.{◌≡◌, ℕ, ◌+◌, None, Ok, IfOk, OnOk};
+ghost use Rattle.kfs_model.specs.Check.{checks_of};
+ghost use Rattle.kfs_model.specs.Entry as entry;
+ghost use Rattle.kfs_judge_check.specs.Checks.{Judges};
+ghost use Rattle.kfs_judge_step.specs.Entered.{IsEntered};
+ghost use Rattle.kfs_judge_draft.specs.Overlay.{has_created, HasRoom, ShiftsBy};
+
+use crate::check::check;
+use crate::log_judge::LogJudge;
+use kfs_image_nodes::Name;
+use kfs_judge_check::{EntryJudge, Reason, Recorder};
+use kfs_judge_draft::linked;
+use std::alloc::{AllocError, Allocator};
+
+/// Why the node `number` can't have the name `key` too, if so.
+#[tactic(auto, unfolding(kfs_model::specs::Check::checks_of))]
+fn link_fault<A: Allocator + Copy>(
+    judge: &EntryJudge<'_, A>,
+    recorder: &mut Recorder<'_, A>,
+    number: u32,
+    key: &(u32, Name),
+) -> Result<Option<Reason>, AllocError>
+    ensures { Judges judge.now recorder.old recorder.new result (entry.Link number key.now.0 key.now.1) }
+{
+    let dir = key.0;
+    check!(judge, recorder;
+        Exists(number),
+        IsAFile(number),
+        Exists(dir),
+        IsADirectory(dir),
+        MaySearch(dir),
+        MayWrite(dir),
+        IsLeased(dir),
+        IsLeased(number),
+        NameIsFree(key),
+        HasRoomForLink(number),
+    );
+    Ok(None)
+}
+
+impl<A: Allocator + Copy> LogJudge<'_, A> {
+    /// Gives the file `number` the name `name` in `dir` too, or answers why not.
+    pub fn link(&mut self, number: u32, dir: u32, name: Name) -> Result<Option<Reason>, AllocError>
+        requires { HasRoom 3 self.old.draft }
+        ensures { IsEntered self.old self.new (entry.Link number dir name) result }
+    {
+        let key = (dir, name);
+        let judge = EntryJudge {
+            client: self.client,
+            draft: &self.draft,
+        };
+        let fault = link_fault(&judge, &mut self.recorder, number, &key)?;
+        if let Some(reason) = fault {
+            return Ok(Some(reason));
+        }
+        let header = judge.header(&mut self.recorder, number)?;
+        self.draft.add_name(key, number, linked(header))?;
+        Ok(None)
+    }
+}

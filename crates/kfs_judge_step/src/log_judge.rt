@@ -1,0 +1,120 @@
+//! Where an entry stands: its client, what the entries before it changed, and the state under that.
+ghost use Rattle.std.specs.Prelude.{◌≡◌, ℕ, ◌+◌, ◌==◌, List, length, None, Ok, IfOk, false, [], ◌++◌};
+ghost use Rattle.kfs_entry_value.specs.Views.{entry_of, IsWithin};
+ghost use Rattle.kfs_model.specs.Sight.{Sight};
+ghost use Rattle.kfs_judge_step.specs.Entered.{IsEntered};
+ghost use Rattle.kfs_judge_draft.specs.Overlay.{has_created, over, ShiftsBy, ShiftsFurther, HasRoom, IsWritten};
+ghost use Rattle.kfs_judge_check.specs.Recorders.{GoesOn, seen_by};
+ghost use Rattle.kfs_judge_step.specs.Nets.{IsNetOver, LooksOver};
+ghost use Rattle.kfs_judge_step.specs.FileSizes.{AreSizesOver};
+ghost use Rattle.kfs_plan_sweep.specs.Sizes.{Ascend, IsSize};
+ghost use Rattle.std.specs.List.{AllByRecursion};
+ghost use Rattle.kfs_judge_check.specs.View.{client_sight_in};
+
+use crate::net::{name_rows, node_rows};
+use crate::sizes::file_sizes;
+use indexmap::IndexMap;
+use kfs_entry::{Entry, Span, entry_table};
+use kfs_image_nodes::{Name, Net};
+use kfs_judge_check::{Read, ReadAnswer, Reason, Recorder, View};
+use kfs_judge_draft::Draft;
+use kfs_mode::Client;
+use kfs_plan_sweep::FileSize;
+use std::alloc::{AllocError, Allocator};
+use std::hash::{BuildHasherDefault, FoldHasher};
+
+/// A field of an entry as the call takes it; of a payload, how many bytes it has.
+macro_rules! taken {
+    (name $field:ident) => {
+        copied($field)?
+    };
+    (payload $field:ident) => {
+        $field.end.saturating_sub($field.start)
+    };
+    ($codec:ident $field:ident) => {
+        *$field
+    };
+}
+
+/// Calls the entry's own function.
+macro_rules! enter_case {
+    ([$judge:ident, $entry:ident] $($number:literal $variant:ident $call:ident { $($field:ident: $codec:ident),* })*) => {
+        match $entry {
+            $(Entry::$variant { $($field),* } => $judge.$call($(taken!($codec $field)),*),)*
+        }
+    };
+}
+
+fn copied(name: &Name) -> Result<Name, AllocError>
+    ensures { IfOk result (λ copy. copy ≡ name.now) }
+{
+    name.clone()
+}
+
+/// What judges the entries of a log one after another: the log's client, the draft of its entries so
+/// far, and the recorded view.
+#[derive(Drop)]
+pub struct LogJudge<'a, A: Allocator> {
+    pub client: &'a Client,
+    pub draft: Draft<A>,
+    pub recorder: Recorder<'a, A>,
+}
+
+impl<'a, A: Allocator + Copy> LogJudge<'a, A> {
+    /// Before the first entry of a log of this client.
+    pub fn new(alloc: A, view: &'a View<A>, client: &'a Client) -> LogJudge<'a, A>
+        ensures client { result.client.now ≡ client.now }
+        ensures none { result.recorder.reads.entries ≡ [] }
+        ensures seen { seen_by result.recorder ≡ client_sight_in view.now client.now.number }
+        ensures shown { (s : Sight) → over result.draft s ≡ s }
+        ensures written { IsWritten result.draft [] }
+        ensures created { (n : ℕ) → has_created result.draft n ≡ false }
+        ensures shifts { ShiftsBy 0 result.draft }
+    {
+        LogJudge {
+            client,
+            draft: Draft::new(alloc),
+            recorder: Recorder::new(alloc, view, client.number()),
+        }
+    }
+
+    /// Makes the change of an entry, or answers why not.
+    pub fn enter(&mut self, entry: &Entry<Span>) -> Result<Option<Reason>, AllocError>
+        requires { HasRoom 3 self.old.draft }
+        ensures goes { GoesOn self.old.recorder self.new.recorder }
+        ensures client { self.new.client.now ≡ self.old.client.now }
+        ensures shifts { result ≡ Ok None → ShiftsFurther 3 self.old.draft self.new.draft }
+        // Whatever bytes the payload's span is of.
+        ensures entered { (source : List ℕ) → IsWithin (length source) entry.now → IsEntered self.old self.new (entry_of source entry.now) result }
+    {
+        entry_table!(enter_case(self, entry))
+    }
+
+    /// What differs after the entries so far.
+    pub fn net(&mut self, alloc: A) -> Result<Net<A>, AllocError>
+        ensures draft { self.new.draft ≡ self.old.draft }
+        ensures looks { LooksOver self.old.draft self.old.recorder self.new.recorder result (λ net before. IsNetOver self.old.draft before.sight net) }
+    {
+        let names = name_rows(alloc, &self.draft, &mut self.recorder)?;
+        let nodes = node_rows(alloc, &self.draft, &mut self.recorder)?;
+        Ok(Net { names, nodes })
+    }
+
+    /// How long the files are that the entries so far changed or reached, by number: before the log and
+    /// now. A directory's size is 0.
+    pub fn sizes(&mut self, alloc: A) -> Result<Vec<FileSize, A>, AllocError>
+        ensures draft { self.new.draft ≡ self.old.draft }
+        ensures looks { LooksOver self.old.draft self.old.recorder self.new.recorder result (λ sizes before. AreSizesOver self.old.draft before.sight sizes.items) }
+        ensures ascending { IfOk result (λ sizes. Ascend 0 sizes.items) }
+        ensures short { IfOk result (λ sizes. AllByRecursion IsSize sizes.items) }
+    {
+        file_sizes(alloc, &self.draft, &mut self.recorder)
+    }
+
+    /// The recorded reads.
+    pub fn into_reads(self) -> IndexMap<Read, ReadAnswer, BuildHasherDefault<FoldHasher>, A>
+        ensures { result.entries ≡ self.entry.recorder.reads.entries }
+    {
+        self.recorder.into_reads()
+    }
+}

@@ -1,0 +1,82 @@
+//! What differs after a log.
+ghost use Rattle.std.specs.Option.{option_map};
+ghost use Rattle.kfs_entry_value.specs.Views.{header_of};
+ghost use Rattle.kfs_judge_check.specs.Recorders.{LooksAtHeader, LooksAtName};
+ghost use Rattle.kfs_judge_draft.specs.Overlay.{over};
+ghost use Rattle.kfs_judge_step.specs.Rows.{IsRowOfName, IsRowOfNode};
+ghost use Rattle.kfs_judge_step.specs.Nets.{AreNamesOf, AreNodesOf, LooksOver};
+
+use kfs_entry::{NameRow, NodeRow};
+use kfs_image_nodes::{Header, Name};
+use kfs_judge_check::Recorder;
+use kfs_judge_draft::Draft;
+use std::alloc::{AllocError, Allocator};
+
+/// The names whose numbers differ, ascending.
+pub fn name_rows<A: Allocator + Copy>(
+    alloc: A,
+    draft: &Draft<A>,
+    recorder: &mut Recorder<'_, A>,
+) -> Result<Vec<NameRow, A>, AllocError>
+    ensures { LooksOver draft.now recorder.old recorder.new result (λ rows before. AreNamesOf before.sight (over draft.now before.sight) rows.items) }
+{
+    let mut rows = Vec::new(alloc);
+    for (key, now) in draft.targets().iter() {
+        if let Some(row) = name_row(recorder, key, *now)? {
+            rows.push(row)?;
+        }
+    }
+    Ok(rows)
+}
+
+/// The row of a name that leads to `now`, where it led elsewhere before.
+fn name_row<A: Allocator + Copy>(
+    recorder: &mut Recorder<'_, A>,
+    key: &(u32, Name),
+    now: Option<u32>,
+) -> Result<Option<NameRow>, AllocError>
+    ensures { LooksAtName recorder.old recorder.new result key.now (λ row before. IsRowOfName before.sight key.now now row) }
+{
+    let before = recorder.target(key)?;
+    if before == now {
+        return Ok(None);
+    }
+    let row = NameRow {
+        dir: key.0,
+        name: key.1.clone()?,
+        number: now.unwrap_or(0),
+    };
+    Ok(Some(row))
+}
+
+/// The numbers whose headers differ, ascending.
+pub fn node_rows<A: Allocator + Copy>(
+    alloc: A,
+    draft: &Draft<A>,
+    recorder: &mut Recorder<'_, A>,
+) -> Result<Vec<NodeRow, A>, AllocError>
+    ensures { LooksOver draft.now recorder.old recorder.new result (λ rows before. AreNodesOf before.sight (over draft.now before.sight) rows.items) }
+{
+    let mut rows = Vec::new(alloc);
+    for (number, now) in draft.headers().iter() {
+        if let Some(row) = node_row(recorder, *number, *now)? {
+            rows.push(row)?;
+        }
+    }
+    Ok(rows)
+}
+
+/// The row of a number whose header is `now`, where it was another one before.
+fn node_row<A: Allocator + Copy>(
+    recorder: &mut Recorder<'_, A>,
+    number: u32,
+    now: Option<Header>,
+) -> Result<Option<NodeRow>, AllocError>
+    ensures { LooksAtHeader recorder.old recorder.new result number (λ row before. IsRowOfNode before.sight number (option_map header_of now) row) }
+{
+    let before = recorder.header(number)?;
+    if before == now {
+        return Ok(None);
+    }
+    Ok(Some(NodeRow { number, now }))
+}

@@ -1,0 +1,49 @@
+//! How long the files are that a log changes, before it and after it.
+ghost use Rattle.std.specs.Prelude.{◌≡◌, ℕ, IfOk};
+ghost use Rattle.std.specs.List.{AllByRecursion};
+ghost use Rattle.std.specs.Option.{option_map};
+ghost use Rattle.kfs_entry_value.specs.Views.{header_of};
+ghost use Rattle.kfs_model.specs.Sight.{Sight};
+ghost use Rattle.kfs_judge_step.specs.FileSizes.{AreSizesOver};
+ghost use Rattle.kfs_judge_step.specs.Nets.{LooksOver};
+ghost use Rattle.kfs_plan_sweep.specs.Sizes.{Ascend, IsSize, size_in};
+
+use kfs_entry_value::SIZE_LIMIT;
+use kfs_image_nodes::Header;
+use kfs_judge_check::Recorder;
+use kfs_judge_draft::Draft;
+use kfs_plan_sweep::FileSize;
+use std::alloc::{AllocError, Allocator};
+
+/// The sizes of each number whose header an entry wrote, ascending. No size after the log is over the
+/// greatest of a file.
+pub fn file_sizes<A: Allocator + Copy>(
+    alloc: A,
+    draft: &Draft<A>,
+    recorder: &mut Recorder<'_, A>,
+) -> Result<Vec<FileSize, A>, AllocError>
+    ensures looks { LooksOver draft.now recorder.old recorder.new result (λ sizes before. AreSizesOver draft.now before.sight sizes.items) }
+    ensures ascending { IfOk result (λ sizes. Ascend 0 sizes.items) }
+    ensures short { IfOk result (λ sizes. AllByRecursion IsSize sizes.items) }
+{
+    let mut sizes = Vec::new(alloc);
+    for (number, now) in draft.headers().iter() {
+        let before = recorder.header(*number)?;
+        sizes.push(FileSize {
+            number: *number,
+            before: header_size(before),
+            after: header_size(*now).min(SIZE_LIMIT as u64),
+        })?;
+    }
+    Ok(sizes)
+}
+
+/// The size in bytes that a header says, 0 of none.
+fn header_size(header: Option<Header>) -> u64
+    ensures { (s : Sight) (n : ℕ) → s.head n ≡ option_map header_of header → size_in s n ≡ result }
+{
+    match header {
+        Some(header) => header.size,
+        None => 0,
+    }
+}

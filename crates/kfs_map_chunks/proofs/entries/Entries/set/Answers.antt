@@ -1,0 +1,104 @@
+use Rattle.std.proofs.Common.{rules, ◌≡◌, T, true, length, slice_set, cond, ap, sym, subst, ◌∙◌, arith, Some, None}
+use Rattle.std.specs.Prelude.{is_ok}
+use Rattle.std.specs.List.{insert}
+use Rattle.std.specs.FinMap.Entries.{is_sorted}
+use Rattle.kfs_map_chunks.specs.Edits.{entered}
+use Rattle.kfs_map_chunks.proofs.Sorted.{order_by, searched, StandsAt, stands_where, FitsAt, fits_where, is_sorted-entered}
+use Rattle.kfs_map_chunks.proofs.entries.Entries.set.Goals as goal
+
+pub index_mut-requires : goal.index_mut-requires
+index_mut-requires g c =
+    let order = order_by g.K.Key.order g.K.Ord.cmp g.met.K.Key.compared in
+    let held : StandsAt order c.args.key.now c.self.inside.pairs.items c.in-Ok-Some.at =
+    stands_where order c.args.key.now c.self.inside.pairs.items c.in-Ok-Some.at c.self.invariant (ap (searched order c.args.key.now) (sym c.deref.ensures.value) ∙ sym c.search.ensures ∙ c.in-Ok-Some.is-0) in
+    omega (arith, held.within, c.deref.ensures.len, ap length c.deref.ensures.value)
+
+pub invariant_of-self : goal.invariant_of-self
+invariant_of-self g c =
+    let order = order_by g.K.Key.order g.K.Ord.cmp g.met.K.Key.compared in
+    let es = c.self.inside.pairs.items in
+    let held : StandsAt order c.args.key.now es c.in-Ok-Some.at =
+    stands_where order c.args.key.now es c.in-Ok-Some.at c.self.invariant (ap (searched order c.args.key.now) (sym c.deref.ensures.value) ∙ sym c.search.ensures ∙ c.in-Ok-Some.is-0) in
+    let same : slice_set es c.in-Ok-Some.at (c.index_mut.result.now.0, c.in-Ok-Some.value) ≡ entered g.K.Ord.cmp es c.args.key.now (Some c.in-Ok-Some.value) =
+    ap (λ e. slice_set es c.in-Ok-Some.at (e.0, c.in-Ok-Some.value)) c.index_mut.ensures.value ∙ sym (held.replaced c.in-Ok-Some.value c.index_mut.result.now) in
+    subst (λ es. T (is_sorted g.K.Ord.cmp es)) (sym same) (is_sorted-entered order es c.args.key.now (Some c.in-Ok-Some.value) c.self.invariant)
+
+pub returns-in-Ok-Some-clause-pairs : goal.returns-in-Ok-Some-clause-pairs
+returns-in-Ok-Some-clause-pairs g c =
+    let order = order_by g.K.Key.order g.K.Ord.cmp g.met.K.Key.compared in
+    let es = c.self.inside.pairs.items in
+    let held : StandsAt order c.args.key.now es c.in-Ok-Some.at =
+    stands_where order c.args.key.now es c.in-Ok-Some.at c.self.invariant (ap (searched order c.args.key.now) (sym c.deref.ensures.value) ∙ sym c.search.ensures ∙ c.in-Ok-Some.is-0) in
+    ap (λ e. slice_set es c.in-Ok-Some.at (e.0, c.in-Ok-Some.value)) c.index_mut.ensures.value
+    ∙ sym (held.replaced c.in-Ok-Some.value c.index_mut.result.now)
+    ∙ ap (entered g.K.Ord.cmp es c.args.key.now) (sym c.in-Ok-Some.is-1)
+    ∙ ap (λ s. entered g.K.Ord.cmp s.pairs c.args.key.now c.args.value) c.self.view_is
+
+pub remove-requires : goal.remove-requires
+remove-requires g c =
+    let order = order_by g.K.Key.order g.K.Ord.cmp g.met.K.Key.compared in
+    let held : StandsAt order c.args.key.now c.self.inside.pairs.items c.in-Ok-None.at =
+    stands_where order c.args.key.now c.self.inside.pairs.items c.in-Ok-None.at c.self.invariant (ap (searched order c.args.key.now) (sym c.deref.ensures.value) ∙ sym c.search.ensures ∙ c.in-Ok-None.is-0) in
+    omega (arith, held.within, c.deref.ensures.len, ap length c.deref.ensures.value)
+
+pub invariant_of-self-in-Ok-None : goal.invariant_of-self-in-Ok-None
+invariant_of-self-in-Ok-None g c =
+    let order = order_by g.K.Key.order g.K.Ord.cmp g.met.K.Key.compared in
+    let es = c.self.inside.pairs.items in
+    let held : StandsAt order c.args.key.now es c.in-Ok-None.at =
+    stands_where order c.args.key.now es c.in-Ok-None.at c.self.invariant (ap (searched order c.args.key.now) (sym c.deref.ensures.value) ∙ sym c.search.ensures ∙ c.in-Ok-None.is-0) in
+    subst (λ es. T (is_sorted g.K.Ord.cmp es)) (sym (c.remove.ensures.items ∙ sym held.removed)) (is_sorted-entered order es c.args.key.now None c.self.invariant)
+
+pub returns-in-Ok-None-clause-pairs : goal.returns-in-Ok-None-clause-pairs
+returns-in-Ok-None-clause-pairs g c =
+    let order = order_by g.K.Key.order g.K.Ord.cmp g.met.K.Key.compared in
+    let es = c.self.inside.pairs.items in
+    let held : StandsAt order c.args.key.now es c.in-Ok-None.at =
+    stands_where order c.args.key.now es c.in-Ok-None.at c.self.invariant (ap (searched order c.args.key.now) (sym c.deref.ensures.value) ∙ sym c.search.ensures ∙ c.in-Ok-None.is-0) in
+    c.remove.ensures.items
+    ∙ sym held.removed
+    ∙ ap (entered g.K.Ord.cmp es c.args.key.now) (sym c.in-Ok-None.is-1)
+    ∙ ap (λ s. entered g.K.Ord.cmp s.pairs c.args.key.now c.args.value) c.self.view_is
+
+pub insert-requires : goal.insert-requires
+insert-requires g c =
+    let order = order_by g.K.Key.order g.K.Ord.cmp g.met.K.Key.compared in
+    let out : FitsAt order c.args.key.now c.self.inside.pairs.items c.in-Err-Some.at =
+    fits_where order c.args.key.now c.self.inside.pairs.items c.in-Err-Some.at (ap (searched order c.args.key.now) (sym c.deref.ensures.value) ∙ sym c.search.ensures ∙ c.in-Err-Some.is-0) in
+    omega (arith, out.within, c.deref.ensures.len, ap length c.deref.ensures.value)
+
+pub invariant_of-self-in-Err-Some : goal.invariant_of-self-in-Err-Some
+invariant_of-self-in-Err-Some g c =
+    let order = order_by g.K.Key.order g.K.Ord.cmp g.met.K.Key.compared in
+    let es = c.self.inside.pairs.items in
+    let out : FitsAt order c.args.key.now es c.in-Err-Some.at = fits_where order c.args.key.now es c.in-Err-Some.at (ap (searched order c.args.key.now) (sym c.deref.ensures.value) ∙ sym c.search.ensures ∙ c.in-Err-Some.is-0) in
+    let done : is_ok c.insert.result ≡ true = search rules in
+    let same : c.insert.new.self.items ≡ entered g.K.Ord.cmp es c.args.key.now (Some c.in-Err-Some.value) =
+    c.insert.ensures.items
+    ∙ ap (λ b. cond b (insert es c.in-Err-Some.at (c.duplicate.result, c.in-Err-Some.value)) es) done
+    ∙ ap (λ k. insert es c.in-Err-Some.at (k, c.in-Err-Some.value)) c.duplicate.ensures
+    ∙ sym (out.put_there c.in-Err-Some.value) in
+    subst (λ es. T (is_sorted g.K.Ord.cmp es)) (sym same) (is_sorted-entered order es c.args.key.now (Some c.in-Err-Some.value) c.self.invariant)
+
+pub returns-in-Err-Some-clause-pairs : goal.returns-in-Err-Some-clause-pairs
+returns-in-Err-Some-clause-pairs g c =
+    let order = order_by g.K.Key.order g.K.Ord.cmp g.met.K.Key.compared in
+    let es = c.self.inside.pairs.items in
+    let out : FitsAt order c.args.key.now es c.in-Err-Some.at = fits_where order c.args.key.now es c.in-Err-Some.at (ap (searched order c.args.key.now) (sym c.deref.ensures.value) ∙ sym c.search.ensures ∙ c.in-Err-Some.is-0) in
+    let done : is_ok c.insert.result ≡ true = search rules in
+    c.insert.ensures.items
+    ∙ ap (λ b. cond b (insert es c.in-Err-Some.at (c.duplicate.result, c.in-Err-Some.value)) es) done
+    ∙ ap (λ k. insert es c.in-Err-Some.at (k, c.in-Err-Some.value)) c.duplicate.ensures
+    ∙ sym (out.put_there c.in-Err-Some.value)
+    ∙ ap (entered g.K.Ord.cmp es c.args.key.now) (sym c.in-Err-Some.is-1)
+    ∙ ap (λ s. entered g.K.Ord.cmp s.pairs c.args.key.now c.args.value) c.self.view_is
+
+pub returns-in-Err-None-clause-pairs : goal.returns-in-Err-None-clause-pairs
+returns-in-Err-None-clause-pairs g c =
+    let order = order_by g.K.Key.order g.K.Ord.cmp g.met.K.Key.compared in
+    let es = c.self.inside.pairs.items in
+    let out : FitsAt order c.args.key.now es c.in-Err-None.field-0-0 = fits_where order c.args.key.now es c.in-Err-None.field-0-0 (ap (searched order c.args.key.now) (sym c.deref.ensures.value) ∙ sym c.search.ensures ∙ c.in-Err-None.is-0) in
+    ap (λ s. s.pairs) (sym c.self.view_is)
+    ∙ sym out.kept
+    ∙ ap (entered g.K.Ord.cmp es c.args.key.now) (sym c.in-Err-None.is-1)
+    ∙ ap (λ s. entered g.K.Ord.cmp s.pairs c.args.key.now c.args.value) c.self.view_is

@@ -1,0 +1,29 @@
+-- What was said of the keys of a table, laid over it, and the edits that say so.
+use Rattle.std.specs.Prelude.{◌≡◌, List, [], ◌∷◌, Option, Some, None}
+use Rattle.std.specs.declared.cmp.Ordering.{Ordering}
+use Rattle.std.specs.BTreeMap.{BTreeMap, get}
+use Rattle.kfs_model.specs.Table.{Order, Table, changed}
+use Rattle.kfs_map_chunks.specs.declared.edit.Edit.{Edit}
+use Rattle.kfs_map_chunks.specs.Edits.{edited}
+
+module _ {X : Type 0} where
+  -- what was said last of a key, or else what stood there
+  abbrev pub said_or : Option (Option X) → Option X → Option X
+  said_or None there = there
+  said_or (Some now) there = now
+
+module _ {K X : Type 0} where
+  -- the edits make of each key what was said of it
+  abbrev pub Say : (K → K → Ordering) → List (Edit K X) → BTreeMap K (Option X) → Type 0
+  Say cmp edits latest = (q : K) (there : Option X) → edited cmp edits q there ≡ said_or (get cmp latest q) there
+
+  -- the edits to what was said
+  abbrev pub key_edits : List (K × Option X) → List (Edit K X)
+  key_edits [] = []
+  key_edits (e ∷ es) = record { key = e.0; value = e.1 } ∷ key_edits es
+
+module _ {K X : Type 0} {R : Order K} where
+  -- the table with what was said of each key in place of what stood there
+  unfoldable pub overlaid : Table R X → List (K × Option X) → Table R X
+  overlaid t [] = t
+  overlaid t (e ∷ es) = changed (overlaid t es) e.0 e.1

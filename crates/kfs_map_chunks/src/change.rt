@@ -1,0 +1,159 @@
+//! A change of parts and chunks as they are cut: every copy and growth on the way in, every value on the way out.
+ghost use Rattle.std.specs.Prelude.{◌≡◌, ◌++◌, T, All, Ok, None, true, false, OnErr};
+ghost use Rattle.std.specs.FinMap.Entries.{is_sorted, below_all};
+ghost use Rattle.std.specs.declared.ops.Bound.TheVariants.{Included};
+ghost use Rattle.kfs_map_chunks.specs.Edits.{entered_all, Ascend};
+ghost use Rattle.kfs_map_chunks.specs.Joined.{joined, were_made, if_made, IsSized, IsFilled, AreSized, AreFilled};
+ghost use Rattle.kfs_map_chunks.specs.Starts.{entry_from};
+
+use crate::edit::Edit;
+use crate::entries::Entries;
+use crate::key::Key;
+use crate::part::Part;
+use crate::place::{place, place_part, run_of, run_of_part};
+use kfs_map_pages::Change;
+use std::alloc::{AllocError, Allocator};
+use std::ops::Bound;
+use std::sync::Arc;
+
+/// How many entries a chunk has at most.
+pub(crate) const GREATEST_SIZE: usize = 256;
+
+/// Makes the edits and the other change, where each chunk has room for its own. Answers whether it
+/// has; where not, nothing was tried. Every copy and growth comes before the other change, and that
+/// before the first edit.
+#[cycle(change_chunks)]
+pub(crate) fn change_parts<K: Key, V: Copy, A: Allocator + Clone, C: Change>(
+    parts: &mut [Arc<Part<K, V, A>, A>],
+    edits: &[Edit<K, V>],
+    then: &mut C,
+) -> Result<bool, AllocError>
+    requires ascend { Ascend K.cmp edits.now }
+    requires sorted { T (is_sorted K.cmp (joined parts.old)) }
+    requires filled { AreFilled parts.old }
+    requires then { C.can_make then.old }
+    ensures filled { AreFilled parts.new }
+    ensures joined { joined parts.new ≡ if_made result (entered_all K.cmp (joined parts.old) edits.now) (joined parts.old) }
+    ensures made { were_made result ≡ true → C.made then.old then.new }
+    ensures not_tried { result ≡ Ok false → then.new ≡ then.old }
+    ensures kept { OnErr result (C.kept then.old then.new) }
+{
+    let Some(edit) = edits.first() else {
+        then.make()?;
+        return Ok(true);
+    };
+    let last = parts.len().saturating_sub(1);
+    let index = place_part(parts, &Bound::Included(&edit.key)).min(last);
+    let (_, rest) = parts.split_at_mut(index);
+    let Some((part, rest)) = rest.split_first_mut() else {
+        return Ok(false);
+    };
+    let (mine, later) = edits.split_at(run_of_part(edits, part, rest));
+    change_from_part(part, rest, mine, later, then)
+}
+
+/// Makes the edits of a part, those of the parts behind it, and the other change.
+#[cycle(change_chunks)]
+fn change_from_part<K: Key, V: Copy, A: Allocator + Clone, C: Change>(
+    part: &mut Arc<Part<K, V, A>, A>,
+    rest: &mut [Arc<Part<K, V, A>, A>],
+    mine: &[Edit<K, V>],
+    later: &[Edit<K, V>],
+    then: &mut C,
+) -> Result<bool, AllocError>
+    requires mine { Ascend K.cmp mine.now }
+    requires later { Ascend K.cmp later.now }
+    requires sorted { T (is_sorted K.cmp (joined rest.old)) }
+    requires part { IsFilled part.old.value.pairs }
+    requires filled { AreFilled rest.old }
+    requires then { C.can_make then.old }
+    ensures part_filled { IsFilled part.new.value.pairs }
+    ensures filled { AreFilled rest.new }
+    ensures part { part.new.value.pairs ≡ if_made result (entered_all K.cmp part.old.value.pairs mine.now) part.old.value.pairs }
+    ensures rest { joined rest.new ≡ if_made result (entered_all K.cmp (joined rest.old) later.now) (joined rest.old) }
+    ensures made { were_made result ≡ true → C.made then.old then.new }
+    ensures not_tried { result ≡ Ok false → then.new ≡ then.old }
+    ensures kept { OnErr result (C.kept then.old then.new) }
+{
+    let part = Arc::make_mut(part)?;
+    change_chunks(part.chunks.as_mut_slice(), mine, rest, later, then)
+}
+
+/// Makes the edits of chunks, those of the parts behind them, and the other change.
+#[cycle(change_chunks)]
+fn change_chunks<K: Key, V: Copy, A: Allocator + Clone, C: Change>(
+    chunks: &mut [Arc<Entries<K, V, A>, A>],
+    edits: &[Edit<K, V>],
+    parts: &mut [Arc<Part<K, V, A>, A>],
+    behind: &[Edit<K, V>],
+    then: &mut C,
+) -> Result<bool, AllocError>
+    requires ascend { Ascend K.cmp edits.now }
+    requires sorted { T (is_sorted K.cmp (joined chunks.old)) }
+    requires sized { AreSized chunks.old }
+    requires behind { Ascend K.cmp behind.now }
+    requires parts { T (is_sorted K.cmp (joined parts.old)) }
+    requires filled { AreFilled parts.old }
+    requires then { C.can_make then.old }
+    ensures sized { AreSized chunks.new }
+    ensures joined { joined chunks.new ≡ if_made result (entered_all K.cmp (joined chunks.old) edits.now) (joined chunks.old) }
+    ensures filled { AreFilled parts.new }
+    ensures parts { joined parts.new ≡ if_made result (entered_all K.cmp (joined parts.old) behind.now) (joined parts.old) }
+    ensures made { were_made result ≡ true → C.made then.old then.new }
+    ensures not_tried { result ≡ Ok false → then.new ≡ then.old }
+    ensures kept { OnErr result (C.kept then.old then.new) }
+{
+    let Some(edit) = edits.first() else {
+        return change_parts(parts, behind, then);
+    };
+    let last = chunks.len().saturating_sub(1);
+    let index = place(chunks, &Bound::Included(&edit.key)).min(last);
+    let (_, rest) = chunks.split_at_mut(index);
+    let Some((chunk, rest)) = rest.split_first_mut() else {
+        return Ok(false);
+    };
+    let (mine, later) = edits.split_at(run_of(edits, chunk, rest));
+    change_from(chunk, rest, mine, later, parts, behind, then)
+}
+
+/// Makes the edits of a chunk, those of the chunks and parts behind it, and the other change.
+#[cycle(change_chunks)]
+fn change_from<K: Key, V: Copy, A: Allocator + Clone, C: Change>(
+    chunk: &mut Arc<Entries<K, V, A>, A>,
+    rest: &mut [Arc<Entries<K, V, A>, A>],
+    mine: &[Edit<K, V>],
+    later: &[Edit<K, V>],
+    parts: &mut [Arc<Part<K, V, A>, A>],
+    behind: &[Edit<K, V>],
+    then: &mut C,
+) -> Result<bool, AllocError>
+    requires ascend { Ascend K.cmp later.now }
+    requires chunk { T (is_sorted K.cmp chunk.old.value.pairs) }
+    requires sorted { T (is_sorted K.cmp (joined rest.old)) }
+    requires size { IsSized chunk.old.value.pairs }
+    requires sized { AreSized rest.old }
+    requires behind { Ascend K.cmp behind.now }
+    requires parts { T (is_sorted K.cmp (joined parts.old)) }
+    requires filled { AreFilled parts.old }
+    requires then { C.can_make then.old }
+    ensures size { IsSized chunk.new.value.pairs }
+    ensures sized { AreSized rest.new }
+    ensures chunk { chunk.new.value.pairs ≡ if_made result (entered_all K.cmp chunk.old.value.pairs mine.now) chunk.old.value.pairs }
+    ensures rest { joined rest.new ≡ if_made result (entered_all K.cmp (joined rest.old) later.now) (joined rest.old) }
+    ensures filled { AreFilled parts.new }
+    ensures parts { joined parts.new ≡ if_made result (entered_all K.cmp (joined parts.old) behind.now) (joined parts.old) }
+    ensures made { were_made result ≡ true → C.made then.old then.new }
+    ensures not_tried { result ≡ Ok false → then.new ≡ then.old }
+    ensures kept { OnErr result (C.kept then.old then.new) }
+{
+    if chunk.len() <= mine.len() || mine.len() > GREATEST_SIZE - chunk.len() {
+        return Ok(false);
+    }
+    let chunk = Arc::make_mut(chunk)?;
+    chunk.reserve(mine.len())?;
+    let done = change_chunks(rest, later, parts, behind, then);
+    if let Ok(true) = done {
+        chunk.write(mine);
+    }
+    done
+}

@@ -1,0 +1,111 @@
+//! The parts of all keys, as one sorted map.
+ghost use Rattle.std.specs.Prelude.{◌≡◌, [], true, None, IfSome, IfNone, OnOk, OnErr};
+ghost use Rattle.std.specs.Option.{option_copied};
+ghost use Rattle.std.specs.FinMap.Entries.{find};
+ghost use Rattle.std.specs.Range.Bound.{bound_map};
+ghost use Rattle.kfs_map_chunks.specs.Edits.{rewritten, Ascend};
+ghost use Rattle.kfs_map_chunks.specs.Starts.{is_from, IsNext};
+
+use crate::change::change_parts;
+use crate::edit::Edit;
+use crate::key::Key;
+use crate::part::Part;
+use crate::place::place_part;
+use crate::rebuilt_parts::rebuilt_parts;
+use kfs_map_pages::Change;
+use std::alloc::{AllocError, Allocator};
+use std::marker::Model;
+use std::ops::Bound;
+use std::sync::Arc;
+
+/// A sorted map from keys to values. Copies share its chunks, and each sees the map as it was when it
+/// was made.
+#[derive(Drop)]
+pub struct Chunks<K: Key, V: Copy, A: Allocator> {
+    /// Each has an entry, and those of a part come before those of the next.
+    parts: Vec<Arc<Part<K, V, A>, A>, A>,
+}
+
+impl<K: Key, V: Copy, A: Allocator> Model for Chunks<K, V, A> {
+    ghost use Rattle.std.specs.Prelude.{List, T};
+    ghost use Rattle.std.specs.FinMap.Entries.{is_sorted};
+    ghost use Rattle.kfs_map_chunks.specs.Joined.{joined, AreFilled};
+
+    ghost Value = { List (K × V) };
+
+    ghost view = { λ s. joined s.parts.items };
+
+    ghost invariant = { λ s. T (is_sorted K.cmp (joined s.parts.items)) × AreFilled s.parts.items };
+}
+
+impl<K: Key, V: Copy, A: Allocator + Clone> Clone for Chunks<K, V, A> {
+    ghost is_clone = { λ chunks copy. copy ≡ chunks };
+
+    fn clone(&self) -> Result<Chunks<K, V, A>, AllocError> {
+        Ok(Chunks {
+            parts: self.parts.clone()?,
+        })
+    }
+}
+
+impl<K: Key, V: Copy, A: Allocator> Chunks<K, V, A> {
+    /// The map without a value. Takes no memory.
+    pub fn new(alloc: A) -> Chunks<K, V, A>
+        ensures { result ≡ [] }
+    {
+        Chunks {
+            parts: Vec::new(alloc),
+        }
+    }
+
+    /// The allocator of its chunks. Takes no memory.
+    pub fn allocator(&self) -> &A {
+        self.parts.allocator()
+    }
+
+    /// The value at a key. Takes no memory.
+    pub fn get(&self, key: &K) -> Option<&V>
+        ensures { option_copied result ≡ find K.order.compare key.now self.now }
+    {
+        let part = self
+            .parts
+            .get(place_part(&self.parts, &Bound::Included(key)))?;
+        part.get(key)
+    }
+
+    /// The first entry from the start on, and none where there is none. Takes no memory.
+    pub fn next(&self, start: Bound<&K>) -> Option<(&K, &V)>
+        ensures some { IfSome result (λ p. IsNext K.order.compare (bound_map (λ x. x.now) start.entry) self.now p.0.now p.1.now) }
+        ensures none { IfNone result ((q : K) → is_from K.order.compare (bound_map (λ x. x.now) start.entry) q ≡ true → find K.order.compare q self.now ≡ None) }
+    {
+        let part = self.parts.get(place_part(&self.parts, &start))?;
+        part.next(start)
+    }
+}
+
+impl<K: Key, V: Copy, A: Allocator + Clone> Chunks<K, V, A> {
+    /// Makes the edits and the other change, or neither. Every copy and growth of chunks comes first,
+    /// then the other change, and then the edits. A chunk that has no room for its edits, or that they
+    /// may empty, is cut anew, with its part, in a new list of parts. A copy that was made before shows
+    /// what it showed.
+    pub fn change_then<T: Change>(
+        &mut self,
+        edits: &[Edit<K, V>],
+        then: &mut T,
+    ) -> Result<(), AllocError>
+        requires edits { Ascend K.order.compare edits.now }
+        requires then { T.can_make then.old }
+        ensures ok { OnOk result (self.new ≡ rewritten K.order self.old edits.now) }
+        ensures err { OnErr result (self.new ≡ self.old) }
+        ensures made { OnOk result (T.made then.old then.new) }
+        ensures kept { OnErr result (T.kept then.old then.new) }
+    {
+        if change_parts(self.parts.as_mut_slice(), edits, then)? {
+            return Ok(());
+        }
+        let parts = rebuilt_parts(&self.parts, edits)?;
+        then.make()?;
+        self.parts = parts;
+        Ok(())
+    }
+}

@@ -1,0 +1,181 @@
+//! The entries of a chunk: keys with their values in one block of memory, the keys ascending.
+ghost use Rattle.std.specs.Prelude.{◌≡◌, ◌<◌, ◌≤◌, ◌+◌, [], T, is_some, IfSome, IfNone, IfOk, OnOk, length, take, drop, Some, None, Ok, Err, if◌then◌else◌};
+ghost use Rattle.std.specs.Option.{option_copied};
+ghost use Rattle.std.specs.FinMap.Entries.{find, is_sorted};
+ghost use Rattle.std.specs.Range.Bound.{bound_map};
+ghost use Rattle.std.specs.declared.ops.Bound.TheVariants.{Included};
+ghost use Rattle.kfs_map_chunks.specs.Edits.{entered, entered_all, Ascend};
+ghost use Rattle.kfs_map_chunks.specs.Starts.{is_from, first_from, entry_from, reaches};
+
+use crate::edit::Edit;
+use crate::key::Key;
+use crate::merge::{copy_to, merged};
+use std::alloc::{AllocError, Allocator};
+use std::marker::Model;
+use std::ops::Bound;
+
+/// Pairs of a key and its value, the keys ascending, none twice.
+#[derive(Drop)]
+pub(crate) struct Entries<K: Key, V: Copy, A: Allocator> {
+    pairs: Vec<(K, V), A>,
+}
+
+impl<K: Key, V: Copy, A: Allocator> Model for Entries<K, V, A> {
+    ghost use Rattle.std.specs.Prelude.{◌-◌, T};
+    ghost use Rattle.std.specs.Vec.{vec_len, vec_capacity};
+    ghost use Rattle.std.specs.FinMap.Entries.{is_sorted};
+    ghost use Rattle.kfs_map_chunks.specs.Held.{Held};
+
+    ghost Value = { Held K V };
+
+    ghost view = { λ s. record { pairs = s.pairs.items; room = vec_capacity s.pairs - vec_len s.pairs } };
+
+    ghost invariant = { λ s. T (is_sorted K.cmp s.pairs.items) };
+}
+
+impl<K: Key, V: Copy, A: Allocator + Clone> Clone for Entries<K, V, A> {
+    ghost is_clone = { λ entries copy. copy.pairs ≡ entries.pairs };
+
+    fn clone(&self) -> Result<Entries<K, V, A>, AllocError> {
+        let mut pairs = Vec::with_capacity(self.pairs.allocator().clone()?, self.pairs.len())?;
+        copy_to(&mut pairs, &self.pairs)?;
+        Ok(Entries { pairs })
+    }
+}
+
+impl<K: Key, V: Copy, A: Allocator> Entries<K, V, A> {
+    /// No entries. Takes no memory.
+    pub(crate) fn new(alloc: A) -> Entries<K, V, A>
+        ensures { result.pairs ≡ [] }
+    {
+        Entries {
+            pairs: Vec::new(alloc),
+        }
+    }
+
+    /// The value at a key. Takes no memory.
+    pub(crate) fn get(&self, key: &K) -> Option<&V>
+        ensures { option_copied result ≡ find K.cmp key.now self.now.pairs }
+    {
+        match search(&self.pairs, key) {
+            Ok(at) => Some(&self.pairs[at].1),
+            Err(_) => None,
+        }
+    }
+
+    /// Makes room for so many more entries. The entries stay as they are.
+    pub(crate) fn reserve(&mut self, more: usize) -> Result<(), AllocError>
+        ensures room { OnOk result (more ≤ self.new.room) }
+        ensures pairs { self.new.pairs ≡ self.old.pairs }
+    {
+        self.pairs.try_reserve(more)
+    }
+
+    /// Gives the key this value, or takes its entry out. Takes no memory.
+    pub(crate) fn set(&mut self, key: &K, value: Option<V>)
+        requires { 0 < self.old.room }
+        ensures room { self.old.room ≤ self.new.room + 1 }
+        ensures pairs { self.new.pairs ≡ entered K.cmp self.old.pairs key.now value }
+    {
+        match (search(&self.pairs, key), value) {
+            (Ok(at), Some(value)) => self.pairs[at].1 = value,
+            (Ok(at), None) => {
+                let _ = self.pairs.remove(at);
+            }
+            (Err(at), Some(value)) => self.pairs.insert(at, (key.duplicate(), value)).unwrap(),
+            (Err(_), None) => {}
+        }
+    }
+
+    /// Makes the edits, for which there is room. Takes no memory.
+    pub(crate) fn write(&mut self, edits: &[Edit<K, V>])
+        requires { length edits.now ≤ self.old.room }
+        ensures pairs { self.new.pairs ≡ entered_all K.cmp self.old.pairs edits.now }
+    {
+        for edit in edits {
+            self.set(&edit.key, edit.value);
+        }
+    }
+
+    /// How many there are.
+    pub(crate) fn len(&self) -> usize
+        ensures { result ≡ length self.now.pairs }
+    {
+        self.pairs.len()
+    }
+
+    /// Whether there is an entry from the start on. Looks at the last alone.
+    pub(crate) fn reaches(&self, start: &Bound<&K>) -> bool
+        ensures { result ≡ reaches K.cmp (bound_map (λ x. x.now) start.now) self.now.pairs }
+    {
+        match self.pairs.last() {
+            Some((last, _)) => is_from(start, last),
+            None => false,
+        }
+    }
+
+    /// The first entry from the start on.
+    pub(crate) fn next(&self, start: Bound<&K>) -> Option<(&K, &V)>
+        ensures some { IfSome result (λ p. entry_from K.cmp (bound_map (λ x. x.now) start.entry) self.now.pairs ≡ Some (p.0.now, p.1.now)) }
+        ensures none { IfNone result (entry_from K.cmp (bound_map (λ x. x.now) start.entry) self.now.pairs ≡ None) }
+    {
+        let (key, value) = self.pairs.get(first_from(&self.pairs, start))?;
+        Some((key, value))
+    }
+}
+
+impl<K: Key, V: Copy, A: Allocator + Clone> Entries<K, V, A> {
+    /// The entries after the edits, in memory of their own.
+    pub(crate) fn merged(&self, edits: &[Edit<K, V>]) -> Result<Entries<K, V, A>, AllocError>
+        requires { Ascend K.cmp edits.now }
+        ensures { IfOk result (λ merged. merged.pairs ≡ entered_all K.cmp self.now.pairs edits.now) }
+    {
+        let pairs = merged(self.pairs.allocator().clone()?, &self.pairs, edits)?;
+        Ok(Entries { pairs })
+    }
+
+    /// A copy of so many entries, from an index on.
+    pub(crate) fn part(&self, from: usize, count: usize) -> Result<Entries<K, V, A>, AllocError>
+        requires { from + count ≤ length self.now.pairs }
+        ensures { IfOk result (λ part. part.pairs ≡ take count (drop from self.now.pairs)) }
+    {
+        let mut pairs = Vec::with_capacity(self.pairs.allocator().clone()?, count)?;
+        copy_to(&mut pairs, &self.pairs[from..from + count])?;
+        Ok(Entries { pairs })
+    }
+}
+
+/// The index of the first entry from the start on, or else their number.
+pub(crate) fn first_from<K: Key, V: Copy>(pairs: &[(K, V)], start: Bound<&K>) -> usize
+    requires { T (is_sorted K.cmp pairs.now) }
+    ensures { result ≡ first_from K.cmp (bound_map (λ x. x.now) start.entry) pairs.now }
+{
+    pairs.partition_point(|pair| !is_from(&start, &pair.0))
+}
+
+/// The index of the key's entry, or else the one at which it would stand.
+fn search<K: Key, V: Copy>(pairs: &[(K, V)], key: &K) -> Result<usize, usize>
+    requires { T (is_sorted K.cmp pairs.now) }
+    ensures { result ≡ (let at = first_from K.cmp (Included key.now) pairs.now in if is_some (find K.cmp key.now pairs.now) then Ok at else Err at) }
+{
+    let at = first_from(pairs, Bound::Included(key));
+    let Some(pair) = pairs.get(at) else {
+        return Err(at);
+    };
+    if key.cmp(&pair.0).is_eq() {
+        Ok(at)
+    } else {
+        Err(at)
+    }
+}
+
+/// Whether a key is at the start or behind it.
+fn is_from<K: Ord>(start: &Bound<&K>, key: &K) -> bool
+    ensures { result ≡ is_from K.cmp (bound_map (λ x. x.now) start.now) key.now }
+{
+    match start {
+        Bound::Included(first) => !key.cmp(first).is_lt(),
+        Bound::Excluded(last) => key.cmp(last).is_gt(),
+        Bound::Unbounded => true,
+    }
+}

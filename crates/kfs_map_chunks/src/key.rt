@@ -1,0 +1,48 @@
+//! What a key of a map in chunks must offer.
+ghost use Rattle.std.specs.Prelude.{◌≡◌, refl};
+ghost use Rattle.std.proofs.Common.{rules, sym, ◌∙◌};
+ghost use Rattle.kfs_map_chunks.specs.Keys.{same_items};
+ghost use Rattle.kfs_model.specs.Table.{Order, pairs, numbers};
+ghost use Rattle.kfs_model.specs.Tree.{name_order};
+
+use kfs_entry_value::Name;
+
+/// A key of a map in chunks: it is ordered, only equal keys tie, and it takes no memory of its own.
+pub trait Key: Ord + Clone + Drop {
+    /// The order of the keys.
+    ghost order: { Order Self };
+
+    /// The same key again. Takes no memory.
+    fn duplicate(&self) -> Self
+        ensures { result ≡ self.now };
+
+    /// The order is the one that `cmp` answers.
+    ghost compared: { Self.cmp ≡ order.compare };
+
+    /// A clone is the key itself.
+    ghost cloned: { (key copy : Self) → Self.is_clone key copy → copy ≡ key };
+}
+
+impl Key for (u32, u32) {
+    ghost order = { pairs numbers numbers };
+
+    ghost compared = { refl };
+
+    ghost cloned = { λ key copy same. Prim.search rules };
+
+    fn duplicate(&self) -> (u32, u32) {
+        *self
+    }
+}
+
+impl Key for (u32, Name) {
+    ghost order = { name_order };
+
+    ghost compared = { refl };
+
+    ghost cloned = { λ key copy same i. (same.0 i, (sym same.1.3 ∙ same_items same.1.0.bytes.items same.1.1.bytes.items same.1.4 ∙ same.1.2) i) };
+
+    fn duplicate(&self) -> (u32, Name) {
+        (self.0, self.1.clone().unwrap())
+    }
+}

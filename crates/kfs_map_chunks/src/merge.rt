@@ -1,0 +1,79 @@
+//! Entries after edits, in memory of their own, by one walk over both.
+ghost use Rattle.std.specs.Prelude.{◌≡◌, ◌++◌, T, IfOk, OnOk, None};
+ghost use Rattle.std.specs.declared.ops.Bound.TheVariants.{Included};
+ghost use Rattle.std.specs.FinMap.Entries.{is_sorted};
+ghost use Rattle.kfs_map_chunks.specs.Edits.{entered, entered_all, Ascend, IsPassed};
+ghost use Rattle.kfs_map_chunks.specs.Starts.{first_from};
+
+use crate::edit::Edit;
+use crate::entries::first_from;
+use crate::key::Key;
+use std::alloc::{AllocError, Allocator};
+use std::ops::Bound;
+
+/// The entries after the edits.
+pub(crate) fn merged<K: Key, V: Copy, A: Allocator>(
+    alloc: A,
+    entries: &[(K, V)],
+    edits: &[Edit<K, V>],
+) -> Result<Vec<(K, V), A>, AllocError>
+    requires sorted { T (is_sorted K.cmp entries.now) }
+    requires ascend { Ascend K.cmp edits.now }
+    ensures { IfOk result (λ merged. merged.items ≡ entered_all K.cmp entries.now edits.now) }
+{
+    let mut merged = Vec::with_capacity(alloc, entries.len())?;
+    let mut left = entries;
+    for edit in edits {
+        left = enter(&mut merged, left, edit)?;
+    }
+    copy_to(&mut merged, left)?;
+    Ok(merged)
+}
+
+/// Adds the entries up to the edit's key, and what the edit makes of it. Gives the entries that are
+/// left.
+fn enter<'a, K: Key, V: Copy, A: Allocator>(
+    merged: &mut Vec<(K, V), A>,
+    left: &'a [(K, V)],
+    edit: &Edit<K, V>,
+) -> Result<&'a [(K, V)], AllocError>
+    requires { T (is_sorted K.cmp left.now) }
+    ensures sorted { IfOk result (λ rest. T (is_sorted K.cmp rest.now)) }
+    ensures passed { IfOk result (λ rest. IsPassed K.cmp edit.now merged.old.items left.now merged.new.items rest.now) }
+{
+    let (below, from) = left.split_at(first_from(left, Bound::Included(&edit.key)));
+    copy_to(merged, below)?;
+    if let Some(value) = edit.value {
+        merged.push((edit.key.duplicate(), value))?;
+    }
+    Ok(behind(from, &edit.key))
+}
+
+/// The entries without the first, where that has the key.
+fn behind<'a, K: Key, V: Copy>(entries: &'a [(K, V)], key: &K) -> &'a [(K, V)]
+    requires sorted { T (is_sorted K.cmp entries.now) }
+    requires from { first_from K.cmp (Included key.now) entries.now ≡ 0 }
+    ensures { result.now ≡ entered K.cmp entries.now key.now None }
+{
+    let Some((first, rest)) = entries.split_first() else {
+        return entries;
+    };
+    if first.0.cmp(key).is_eq() {
+        rest
+    } else {
+        entries
+    }
+}
+
+/// Adds the entries behind the others.
+pub(crate) fn copy_to<K: Key, V: Copy, A: Allocator>(
+    to: &mut Vec<(K, V), A>,
+    entries: &[(K, V)],
+) -> Result<(), AllocError>
+    ensures { OnOk result (to.new.items ≡ to.old.items ++ entries.now) }
+{
+    for (key, value) in entries {
+        to.push((key.duplicate(), *value))?;
+    }
+    Ok(())
+}

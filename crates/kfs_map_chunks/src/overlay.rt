@@ -1,0 +1,77 @@
+//! What was said last of the keys of a map, laid over the map without a change of it.
+ghost use Rattle.std.specs.Prelude.{◌≡◌, [], Some, OnOk, IfOk, if◌then◌else◌};
+ghost use Rattle.std.specs.Ordering.{eq_by_cmp};
+ghost use Rattle.std.specs.BTreeMap.{get, IsOrdered};
+ghost use Rattle.kfs_map_chunks.specs.Edits.{Ascend};
+ghost use Rattle.kfs_map_chunks.specs.Overlays.{said_or, key_edits, Say};
+
+use crate::edit::Edit;
+use crate::key::Key;
+use std::alloc::{AllocError, Allocator};
+use std::collections::BTreeMap;
+
+/// What was said last of the keys of a map: a value, or none. The map itself stays as it is.
+#[derive(Drop)]
+pub struct Overlay<K: Ord + Drop, V: Copy, A: Allocator> {
+    /// The keys of which something was said.
+    pub latest: BTreeMap<K, Option<V>, A>,
+}
+
+impl<K: Ord + Drop, V: Copy, A: Allocator + Clone> Overlay<K, V, A> {
+    /// Nothing was said. Takes no memory.
+    pub fn new(alloc: A) -> Overlay<K, V, A>
+        ensures { result.latest.entries ≡ [] }
+    {
+        Overlay {
+            latest: BTreeMap::new(alloc),
+        }
+    }
+
+    /// What was said last of the key, or else what stands there. Takes no memory.
+    pub fn get_or(&self, key: &K, there: Option<V>) -> Option<V>
+        ensures { result ≡ said_or (get K.cmp self.now.latest key.now) there }
+    {
+        match self.latest.get(key) {
+            Some(now) => *now,
+            None => there,
+        }
+    }
+
+    /// Says what the key comes to have. `Err` where memory is refused.
+    pub fn set(&mut self, key: K, now: Option<V>) -> Result<(), AllocError>
+        ensures { OnOk result ((q : K) → get K.cmp self.new.latest q ≡ (if eq_by_cmp K.cmp q key then Some now else get K.cmp self.old.latest q)) }
+    {
+        self.latest.insert(key, now)?;
+        Ok(())
+    }
+}
+
+/// The edits of chunks that say the same, ascending. `Err` where memory is refused.
+pub fn key_edits<K: Key, V: Copy, A: Allocator + Clone>(
+    alloc: &A,
+    overlay: &Overlay<K, V, A>,
+) -> Result<Vec<Edit<K, V>, A>, AllocError>
+    ensures ascend { IfOk result (λ edits. Ascend K.cmp edits.items) }
+    ensures said { IfOk result (λ edits. Say K.cmp edits.items overlay.now.latest) }
+{
+    let mut edits = Vec::new(alloc.clone()?);
+    list_keys(&overlay.latest, &mut edits)?;
+    Ok(edits)
+}
+
+fn list_keys<K: Key, V: Copy, A: Allocator + Clone>(
+    latest: &BTreeMap<K, Option<V>, A>,
+    edits: &mut Vec<Edit<K, V>, A>,
+) -> Result<(), AllocError>
+    requires { edits.old.items ≡ [] }
+    ensures edits { OnOk result (edits.new.items ≡ key_edits latest.now.entries) }
+    ensures ordered { IsOrdered K.cmp latest.now }
+{
+    for (key, now) in latest {
+        edits.push(Edit {
+            key: key.duplicate(),
+            value: *now,
+        })?;
+    }
+    Ok(())
+}

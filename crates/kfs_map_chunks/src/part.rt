@@ -1,0 +1,112 @@
+//! A part of a map: a list of chunks that copies share.
+ghost use Rattle.std.specs.Prelude.{◌≡◌, ◌≤◌, T, IfSome, IfNone, IfOk, Some, None, length};
+ghost use Rattle.std.specs.Option.{option_copied};
+ghost use Rattle.std.specs.FinMap.Entries.{find, is_sorted};
+ghost use Rattle.std.specs.Range.Bound.{bound_map};
+ghost use Rattle.kfs_map_chunks.specs.Edits.{entered_all, Ascend};
+ghost use Rattle.kfs_map_chunks.specs.Joined.{joined, AreSized};
+ghost use Rattle.kfs_map_chunks.specs.Starts.{entry_from, reaches};
+
+use crate::edit::Edit;
+use crate::entries::Entries;
+use crate::key::Key;
+use crate::place::place;
+use crate::rebuilt::rebuilt;
+use std::alloc::{AllocError, Allocator};
+use std::marker::Model;
+use std::ops::Bound;
+use std::sync::Arc;
+
+/// How many chunks a part has at most.
+pub(crate) const MOST_CHUNKS: usize = 64;
+
+/// Chunks that stand one behind the other. Copies share them.
+#[derive(Drop)]
+pub(crate) struct Part<K: Key, V: Copy, A: Allocator> {
+    /// 1 to 64 of them. Each has 1 to 256 entries, and those of a chunk come before those of the next.
+    pub(crate) chunks: Vec<Arc<Entries<K, V, A>, A>, A>,
+}
+
+impl<K: Key, V: Copy, A: Allocator> Model for Part<K, V, A> {
+    ghost use Rattle.std.specs.Prelude.{◌≤◌, T, length};
+    ghost use Rattle.std.specs.FinMap.Entries.{is_sorted};
+    ghost use Rattle.kfs_map_chunks.specs.Held.{Held};
+    ghost use Rattle.kfs_map_chunks.specs.Joined.{joined, AreSized};
+
+    ghost Value = { Held K V };
+
+    ghost view = { λ s. record { pairs = joined s.chunks.items; room = 0 } };
+
+    ghost invariant = { λ s. T (is_sorted K.cmp (joined s.chunks.items)) × AreSized s.chunks.items × (1 ≤ length s.chunks.items) × (length s.chunks.items ≤ 64) };
+}
+
+impl<K: Key, V: Copy, A: Allocator + Clone> Clone for Part<K, V, A> {
+    ghost is_clone = { λ part copy. copy.pairs ≡ part.pairs };
+
+    fn clone(&self) -> Result<Part<K, V, A>, AllocError> {
+        Ok(Part {
+            chunks: self.chunks.clone()?,
+        })
+    }
+}
+
+impl<K: Key, V: Copy, A: Allocator> Part<K, V, A> {
+    /// The value at a key. Takes no memory.
+    pub(crate) fn get(&self, key: &K) -> Option<&V>
+        ensures { option_copied result ≡ find K.cmp key.now self.now.pairs }
+    {
+        let chunk = self.chunks.get(place(&self.chunks, &Bound::Included(key)))?;
+        chunk.get(key)
+    }
+
+    /// The first entry from the start on. Takes no memory.
+    pub(crate) fn next(&self, start: Bound<&K>) -> Option<(&K, &V)>
+        ensures some { IfSome result (λ p. entry_from K.cmp (bound_map (λ x. x.now) start.entry) self.now.pairs ≡ Some (p.0.now, p.1.now)) }
+        ensures none { IfNone result (entry_from K.cmp (bound_map (λ x. x.now) start.entry) self.now.pairs ≡ None) }
+    {
+        let chunk = self.chunks.get(place(&self.chunks, &start))?;
+        chunk.next(start)
+    }
+
+    /// Whether there is an entry from the start on. Looks at the last alone.
+    pub(crate) fn reaches(&self, start: &Bound<&K>) -> bool
+        ensures { result ≡ reaches K.cmp (bound_map (λ x. x.now) start.now) self.now.pairs }
+    {
+        match self.chunks.last() {
+            Some(last) => last.reaches(start),
+            None => false,
+        }
+    }
+}
+
+impl<K: Key, V: Copy, A: Allocator + Clone> Part<K, V, A> {
+    /// The chunks as a part of their own, which shares them.
+    pub(crate) fn of(
+        alloc: A,
+        chunks: &[Arc<Entries<K, V, A>, A>],
+    ) -> Result<Part<K, V, A>, AllocError>
+        requires sorted { T (is_sorted K.cmp (joined chunks.now)) }
+        requires sized { AreSized chunks.now }
+        requires least { 1 ≤ length chunks.now }
+        requires most { length chunks.now ≤ 64 }
+        ensures { IfOk result (λ part. part.pairs ≡ joined chunks.now) }
+    {
+        let mut own = Vec::with_capacity(alloc, chunks.len())?;
+        for chunk in chunks {
+            own.push(chunk.clone()?)?;
+        }
+        Ok(Part { chunks: own })
+    }
+
+    /// The chunks after the edits, in a list of their own.
+    pub(crate) fn rebuilt(
+        &self,
+        edits: &[Edit<K, V>],
+    ) -> Result<Vec<Arc<Entries<K, V, A>, A>, A>, AllocError>
+        requires { Ascend K.cmp edits.now }
+        ensures joined { IfOk result (λ new. joined new.items ≡ entered_all K.cmp self.now.pairs edits.now) }
+        ensures sized { IfOk result (λ new. AreSized new.items) }
+    {
+        rebuilt(&self.chunks, edits)
+    }
+}

@@ -1,0 +1,78 @@
+//! The part that a key belongs to, and the chunk in it.
+ghost use Rattle.std.specs.Prelude.{◌≡◌, ◌≤◌, ◌++◌, T, All, None, length, take, drop};
+ghost use Rattle.std.specs.FinMap.Entries.{is_sorted, below_all};
+ghost use Rattle.std.specs.Range.Bound.{bound_map};
+ghost use Rattle.std.specs.declared.ops.Bound.TheVariants.{Included};
+ghost use Rattle.kfs_map_chunks.specs.Edits.{Ascend};
+ghost use Rattle.kfs_map_chunks.specs.Joined.{joined, place, AreSized, AreFilled};
+ghost use Rattle.kfs_map_chunks.specs.Starts.{entry_from};
+
+use crate::edit::Edit;
+use crate::entries::Entries;
+use crate::key::Key;
+use crate::part::Part;
+use std::alloc::Allocator;
+use std::ops::Bound;
+use std::sync::Arc;
+
+/// The index of the first chunk that has an entry from the start on, or else their number.
+pub(crate) fn place<K: Key, V: Copy, A: Allocator>(
+    chunks: &[Arc<Entries<K, V, A>, A>],
+    start: &Bound<&K>,
+) -> usize
+    requires sorted { T (is_sorted K.cmp (joined chunks.now)) }
+    requires sized { AreSized chunks.now }
+    ensures { result ≡ place K.cmp (bound_map (λ x. x.now) start.now) chunks.now }
+{
+    chunks.partition_point(|chunk| !chunk.reaches(start))
+}
+
+/// How many of the edits, from the first on, are of the chunk: those of keys up to its last, or all
+/// where no chunk is behind it.
+pub(crate) fn run_of<K: Key, V: Copy, A: Allocator>(
+    edits: &[Edit<K, V>],
+    chunk: &Entries<K, V, A>,
+    rest: &[Arc<Entries<K, V, A>, A>],
+) -> usize
+    requires ascend { Ascend K.cmp edits.now }
+    requires sorted { T (is_sorted K.cmp (chunk.now.pairs ++ joined rest.now)) }
+    ensures within { result ≤ length edits.now }
+    ensures run { All (λ e. T (below_all K.cmp e.key (joined rest.now))) (take result edits.now) }
+    ensures rest { All (λ e. entry_from K.cmp (Included e.key) chunk.now.pairs ≡ None) (drop result edits.now) }
+{
+    if rest.is_empty() {
+        return edits.len();
+    }
+    edits.partition_point(|edit| chunk.reaches(&Bound::Included(&edit.key)))
+}
+
+/// The index of the first part that has an entry from the start on, or else their number.
+pub(crate) fn place_part<K: Key, V: Copy, A: Allocator>(
+    parts: &[Arc<Part<K, V, A>, A>],
+    start: &Bound<&K>,
+) -> usize
+    requires sorted { T (is_sorted K.cmp (joined parts.now)) }
+    requires filled { AreFilled parts.now }
+    ensures { result ≡ place K.cmp (bound_map (λ x. x.now) start.now) parts.now }
+{
+    parts.partition_point(|part| !part.reaches(start))
+}
+
+/// How many of the edits, from the first on, are of the part: those of keys up to its last, or all
+/// where no part is behind it.
+pub(crate) fn run_of_part<K: Key, V: Copy, A: Allocator>(
+    edits: &[Edit<K, V>],
+    part: &Part<K, V, A>,
+    rest: &[Arc<Part<K, V, A>, A>],
+) -> usize
+    requires ascend { Ascend K.cmp edits.now }
+    requires sorted { T (is_sorted K.cmp (part.now.pairs ++ joined rest.now)) }
+    ensures within { result ≤ length edits.now }
+    ensures run { All (λ e. T (below_all K.cmp e.key (joined rest.now))) (take result edits.now) }
+    ensures rest { All (λ e. entry_from K.cmp (Included e.key) part.now.pairs ≡ None) (drop result edits.now) }
+{
+    if rest.is_empty() {
+        return edits.len();
+    }
+    edits.partition_point(|edit| part.reaches(&Bound::Included(&edit.key)))
+}

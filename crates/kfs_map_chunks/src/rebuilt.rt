@@ -1,0 +1,108 @@
+//! Chunks with their edits made, in a list of its own.
+ghost use Rattle.std.specs.Prelude.{◌≡◌, ◌≤◌, [], ◌++◌, T, IfOk, OnOk};
+ghost use Rattle.std.specs.FinMap.Entries.{is_sorted};
+ghost use Rattle.kfs_map_chunks.specs.Edits.{entered_all, Ascend};
+ghost use Rattle.kfs_map_chunks.specs.Joined.{joined, IsSized, AreSized};
+
+use crate::change::GREATEST_SIZE;
+use crate::edit::Edit;
+use crate::entries::Entries;
+use crate::key::Key;
+use crate::place::run_of;
+use std::alloc::{AllocError, Allocator};
+use std::sync::Arc;
+
+/// The chunks after the edits. Those without an edit are shared, and the others are cut anew.
+pub(crate) fn rebuilt<K: Key, V: Copy, A: Allocator + Clone>(
+    chunks: &Vec<Arc<Entries<K, V, A>, A>, A>,
+    edits: &[Edit<K, V>],
+) -> Result<Vec<Arc<Entries<K, V, A>, A>, A>, AllocError>
+    requires ascend { Ascend K.cmp edits.now }
+    requires sorted { T (is_sorted K.cmp (joined chunks.now.items)) }
+    requires sized { AreSized chunks.now.items }
+    ensures joined { IfOk result (λ new. joined new.items ≡ entered_all K.cmp (joined chunks.now.items) edits.now) }
+    ensures sized { IfOk result (λ new. AreSized new.items) }
+{
+    let mut new = Vec::with_capacity(chunks.allocator().clone()?, chunks.len())?;
+    let mut left = chunks.as_slice();
+    let mut later = edits;
+    while let Some((chunk, rest)) = left.split_first() {
+        let (mine, others) = later.split_at(run_of(later, chunk, rest));
+        push(&mut new, chunk, mine)?;
+        left = rest;
+        later = others;
+    }
+    let last = Entries::new(chunks.allocator().clone()?).merged(later)?;
+    cut(&mut new, &last)?;
+    Ok(new)
+}
+
+/// What the edits make where nothing stood, as chunks.
+pub(crate) fn fresh<K: Key, V: Copy, A: Allocator + Clone>(
+    alloc: &A,
+    edits: &[Edit<K, V>],
+) -> Result<Vec<Arc<Entries<K, V, A>, A>, A>, AllocError>
+    requires { Ascend K.cmp edits.now }
+    ensures joined { IfOk result (λ new. joined new.items ≡ entered_all K.cmp [] edits.now) }
+    ensures sized { IfOk result (λ new. AreSized new.items) }
+{
+    let mut new = Vec::new(alloc.clone()?);
+    cut(&mut new, &Entries::new(alloc.clone()?).merged(edits)?)?;
+    Ok(new)
+}
+
+/// Adds the chunk after its edits: the same chunk where there are none.
+fn push<K: Key, V: Copy, A: Allocator + Clone>(
+    new: &mut Vec<Arc<Entries<K, V, A>, A>, A>,
+    chunk: &Arc<Entries<K, V, A>, A>,
+    edits: &[Edit<K, V>],
+) -> Result<(), AllocError>
+    requires ascend { Ascend K.cmp edits.now }
+    requires sized { AreSized new.old.items }
+    requires size { IsSized chunk.now.value.pairs }
+    ensures joined { OnOk result (joined new.new.items ≡ joined new.old.items ++ entered_all K.cmp chunk.now.value.pairs edits.now) }
+    ensures sized { OnOk result (AreSized new.new.items) }
+{
+    if edits.is_empty() {
+        new.push(chunk.clone()?)?;
+        return Ok(());
+    }
+    cut(new, &chunk.merged(edits)?)
+}
+
+/// Adds the entries, cut into chunks of one size, the last of which may be smaller.
+fn cut<K: Key, V: Copy, A: Allocator + Clone>(
+    new: &mut Vec<Arc<Entries<K, V, A>, A>, A>,
+    entries: &Entries<K, V, A>,
+) -> Result<(), AllocError>
+    requires sized { AreSized new.old.items }
+    ensures joined { OnOk result (joined new.new.items ≡ joined new.old.items ++ entries.now.pairs) }
+    ensures sized { OnOk result (AreSized new.new.items) }
+{
+    let size = size_for(entries.len(), GREATEST_SIZE);
+    let mut from = 0;
+    while from < entries.len() {
+        let count = size.min(entries.len() - from);
+        let chunk = entries.part(from, count)?;
+        new.push(Arc::new(new.allocator().clone()?, chunk)?)?;
+        from += count;
+    }
+    Ok(())
+}
+
+/// How many stand in a block, of which one takes so many at most: all where they fit, one half where
+/// two halves fit, and else half of what fits, so that each block has room for more.
+pub(crate) fn size_for(len: usize, most: usize) -> usize
+    requires fits_two { 2 ≤ most }
+    requires most { most ≤ 256 }
+    ensures least { 1 ≤ result }
+    ensures most { result ≤ most }
+{
+    if len <= most {
+        most
+    } else if len <= 2 * most {
+        len - len / 2
+    } else {
+        most / 2
+    }
+}

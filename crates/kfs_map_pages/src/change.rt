@@ -1,0 +1,219 @@
+//! A change of pages: every copy and growth on the way in, every value on the way out.
+ghost use Rattle.std.specs.Prelude.{◌≡◌, ℕ, ◌+◌, ◌*◌, ◌≤◌, ◌<◌, ◌++◌, [], ◌∷◌, All, IsSome, OnOk, OnErr, length};
+ghost use Rattle.kfs_map_pages.specs.Edits.{edited, Ascends, IsWithin, IsOfPage};
+ghost use Rattle.kfs_map_pages.specs.Groups.{held, all_held, pages_of, laid_out, AreWhole};
+ghost use Rattle.kfs_map_pages.specs.Shown.{slot_shows, Stands, IsPlaced, Edited};
+
+use crate::edit::{Edit, page_of, run_of};
+use crate::group::{GROUP_LEN, Group};
+use crate::page::Page;
+use std::alloc::{AllocError, Allocator};
+use std::sync::Arc;
+
+/// A change that is made together with one of pages, or not at all.
+pub trait Change {
+    /// It can be made from this state.
+    ghost can_make: { Self → Type 0 };
+
+    /// Where it was made, it led from the first state to the second.
+    ghost made: { Self → Self → Type 0 };
+
+    /// Where it was refused, it led from the first state to the second.
+    ghost kept: { Self → Self → Type 0 };
+
+    /// The error is for memory alone.
+    fn make(&mut self) -> Result<(), AllocError>
+        requires { can_make self.old }
+        ensures made { OnOk result (made self.old self.new) }
+        ensures kept { OnErr result (kept self.old self.new) };
+
+    /// A change that wasn't tried counts as refused.
+    ghost not_tried: { (x : Self) → kept x x };
+}
+
+/// Makes a page without a value where there is none.
+fn found<V: Copy, A: Allocator + Clone>(
+    alloc: &A,
+    slot: &mut Option<Arc<Page<V, A>, A>>,
+    index: u32,
+) -> Result<(), AllocError>
+    requires index { index < 1024 }
+    requires stands { Stands index (held slot.old) }
+    ensures page { OnOk result (IsSome slot.new) }
+    ensures stands { Stands index (held slot.new) }
+    ensures shown { (n : ℕ) → slot_shows (held slot.new) n ≡ slot_shows (held slot.old) n }
+{
+    if slot.is_none() {
+        let page = Page::blank(alloc.clone()?, index)?;
+        *slot = Some(Arc::new(alloc.clone()?, page)?);
+    }
+    Ok(())
+}
+
+/// Makes a group without a page where there is none.
+fn found_group<V: Copy, A: Allocator + Clone>(
+    alloc: &A,
+    slot: &mut Option<Arc<Group<V, A>, A>>,
+) -> Result<(), AllocError>
+    ensures group { OnOk result (IsSome slot.new) }
+    ensures same { pages_of (held slot.new) ≡ pages_of (held slot.old) }
+{
+    if slot.is_none() {
+        let group = Group::blank(alloc.clone()?)?;
+        *slot = Some(Arc::new(alloc.clone()?, group)?);
+    }
+    Ok(())
+}
+
+/// Makes the edits, of pages of the groups from the first on, and the other change. Every copy and
+/// growth comes before the other change, and that before the first edit.
+#[cycle(change_groups)]
+pub(crate) fn change_groups<V: Copy, A: Allocator + Clone, T: Change>(
+    alloc: &A,
+    groups: &mut [Option<Arc<Group<V, A>, A>>],
+    first: u32,
+    edits: &[Edit<V>],
+    then: &mut T,
+) -> Result<(), AllocError>
+    requires ascends { Ascends edits.now }
+    requires within { IsWithin (32 * first) (32 * (first + length groups.old)) edits.now }
+    requires end { first + length groups.old ≤ 32 }
+    requires whole { AreWhole (all_held groups.old) }
+    requires placed { IsPlaced (32 * first) (laid_out groups.old) }
+    requires then { T.can_make then.old }
+    ensures whole { AreWhole (all_held groups.new) }
+    ensures placed { IsPlaced (32 * first) (laid_out groups.new) }
+    ensures ok { OnOk result (Edited (32 * first) edits.now (laid_out groups.old) (laid_out groups.new)) }
+    ensures err { OnErr result (Edited (32 * first) [] (laid_out groups.old) (laid_out groups.new)) }
+    ensures made { OnOk result (T.made then.old then.new) }
+    ensures kept { OnErr result (T.kept then.old then.new) }
+{
+    let Some(edit) = edits.first() else {
+        return then.make();
+    };
+    let index = page_of(edit.number) / GROUP_LEN;
+    let (_, rest) = groups.split_at_mut((index - first) as usize);
+    let Some((group, rest)) = rest.split_first_mut() else {
+        unreachable!();
+    };
+    change_group(alloc, group, rest, index, edits, then)
+}
+
+/// Makes the edits of a group and of those behind it, and the other change.
+#[cycle(change_groups)]
+fn change_group<V: Copy, A: Allocator + Clone, T: Change>(
+    alloc: &A,
+    slot: &mut Option<Arc<Group<V, A>, A>>,
+    rest: &mut [Option<Arc<Group<V, A>, A>>],
+    index: u32,
+    edits: &[Edit<V>],
+    then: &mut T,
+) -> Result<(), AllocError>
+    requires ascends { Ascends edits.now }
+    requires within { IsWithin (32 * index) (32 * (index + 1 + length rest.old)) edits.now }
+    requires end { index + 1 + length rest.old ≤ 32 }
+    requires group { length (pages_of (held slot.old)) ≡ 32 }
+    requires whole { AreWhole (all_held rest.old) }
+    requires placed { IsPlaced (32 * index) (laid_out (slot.old ∷ rest.old)) }
+    requires then { T.can_make then.old }
+    ensures group { length (pages_of (held slot.new)) ≡ 32 }
+    ensures whole { AreWhole (all_held rest.new) }
+    ensures placed { IsPlaced (32 * index) (laid_out (slot.new ∷ rest.new)) }
+    ensures ok { OnOk result (Edited (32 * index) edits.now (laid_out (slot.old ∷ rest.old)) (laid_out (slot.new ∷ rest.new))) }
+    ensures err { OnErr result (Edited (32 * index) [] (laid_out (slot.old ∷ rest.old)) (laid_out (slot.new ∷ rest.new))) }
+    ensures made { OnOk result (T.made then.old then.new) }
+    ensures kept { OnErr result (T.kept then.old then.new) }
+{
+    found_group(alloc, slot)?;
+    let Some(group) = slot else {
+        unreachable!();
+    };
+    let group = Arc::make_mut(group)?;
+    let pages = group.pages.as_mut_slice();
+    let first = GROUP_LEN * index;
+    change_pages(alloc, pages, first, rest, index + 1, edits, then)
+}
+
+/// Makes the edits of the pages from the first on and of the groups behind them, and the other change.
+#[cycle(change_groups)]
+fn change_pages<V: Copy, A: Allocator + Clone, T: Change>(
+    alloc: &A,
+    pages: &mut [Option<Arc<Page<V, A>, A>>],
+    first: u32,
+    groups: &mut [Option<Arc<Group<V, A>, A>>],
+    next: u32,
+    edits: &[Edit<V>],
+    then: &mut T,
+) -> Result<(), AllocError>
+    requires ascends { Ascends edits.now }
+    requires within { IsWithin first (32 * (next + length groups.old)) edits.now }
+    requires edge { first + length pages.old ≡ 32 * next }
+    requires end { next + length groups.old ≤ 32 }
+    requires whole { AreWhole (all_held groups.old) }
+    requires placed { IsPlaced first (all_held pages.old ++ laid_out groups.old) }
+    requires then { T.can_make then.old }
+    ensures whole { AreWhole (all_held groups.new) }
+    ensures placed { IsPlaced first (all_held pages.new ++ laid_out groups.new) }
+    ensures ok { OnOk result (Edited first edits.now (all_held pages.old ++ laid_out groups.old) (all_held pages.new ++ laid_out groups.new)) }
+    ensures err { OnErr result (Edited first [] (all_held pages.old ++ laid_out groups.old) (all_held pages.new ++ laid_out groups.new)) }
+    ensures made { OnOk result (T.made then.old then.new) }
+    ensures kept { OnErr result (T.kept then.old then.new) }
+{
+    let Some(edit) = edits.first() else {
+        return then.make();
+    };
+    let index = page_of(edit.number);
+    if index >= GROUP_LEN * next {
+        return change_groups(alloc, groups, next, edits, then);
+    }
+    let (mine, later) = edits.split_at(run_of(edits, index));
+    let (_, rest) = pages.split_at_mut((index - first) as usize);
+    let Some((page, rest)) = rest.split_first_mut() else {
+        unreachable!();
+    };
+    change_from(alloc, page, rest, index, groups, next, mine, later, then)
+}
+
+/// Makes the edits of a page, those of the pages and groups behind it, and the other change.
+#[cycle(change_groups)]
+fn change_from<V: Copy, A: Allocator + Clone, T: Change>(
+    alloc: &A,
+    slot: &mut Option<Arc<Page<V, A>, A>>,
+    rest: &mut [Option<Arc<Page<V, A>, A>>],
+    index: u32,
+    groups: &mut [Option<Arc<Group<V, A>, A>>],
+    next: u32,
+    mine: &[Edit<V>],
+    later: &[Edit<V>],
+    then: &mut T,
+) -> Result<(), AllocError>
+    requires mine { All (IsOfPage index) mine.now }
+    requires ascends { Ascends later.now }
+    requires within { IsWithin (index + 1) (32 * (next + length groups.old)) later.now }
+    requires edge { index + 1 + length rest.old ≡ 32 * next }
+    requires end { next + length groups.old ≤ 32 }
+    requires stands { Stands index (held slot.old) }
+    requires whole { AreWhole (all_held groups.old) }
+    requires placed { IsPlaced (index + 1) (all_held rest.old ++ laid_out groups.old) }
+    requires then { T.can_make then.old }
+    ensures stands { Stands index (held slot.new) }
+    ensures whole { AreWhole (all_held groups.new) }
+    ensures placed { IsPlaced (index + 1) (all_held rest.new ++ laid_out groups.new) }
+    ensures page { OnOk result ((n : ℕ) → slot_shows (held slot.new) n ≡ edited mine.now n (slot_shows (held slot.old) n)) }
+    ensures rest { OnOk result (Edited (index + 1) later.now (all_held rest.old ++ laid_out groups.old) (all_held rest.new ++ laid_out groups.new)) }
+    ensures page_err { OnErr result ((n : ℕ) → slot_shows (held slot.new) n ≡ slot_shows (held slot.old) n) }
+    ensures rest_err { OnErr result (Edited (index + 1) [] (all_held rest.old ++ laid_out groups.old) (all_held rest.new ++ laid_out groups.new)) }
+    ensures made { OnOk result (T.made then.old then.new) }
+    ensures kept { OnErr result (T.kept then.old then.new) }
+{
+    found(alloc, slot, index)?;
+    let Some(page) = slot else {
+        unreachable!();
+    };
+    let page = Arc::make_mut(page)?;
+    let done = change_pages(alloc, rest, index + 1, groups, next, later, then);
+    if done.is_ok() {
+        page.write(mine);
+    }
+    done
+}

@@ -1,0 +1,36 @@
+//! Edits of a map, and the pages that their numbers belong to.
+ghost use Rattle.std.specs.Prelude.{◌≡◌, ◌+◌, ◌≤◌, All, length, take, drop};
+ghost use Rattle.kfs_map_pages.specs.Edits.{page_of, Ascends};
+
+/// What a number comes to have: a value, or none.
+#[derive(Clone, Copy, Debug)]
+pub struct Edit<V: Copy> {
+    pub number: u32,
+    pub value: Option<V>,
+}
+
+/// The index of the page that a number belongs to.
+pub(crate) fn page_of(number: u32) -> u32
+    ensures { result ≡ page_of number }
+{
+    number.saturating_sub(1) / 64
+}
+
+/// How many of the edits, from the first on, are of this page.
+pub(crate) fn run_of<V: Copy>(edits: &[Edit<V>], index: u32) -> usize
+    requires ascends { Ascends edits.now }
+    requires from { All (λ e. index ≤ page_of e.number) edits.now }
+    ensures within { result ≤ length edits.now }
+    ensures run { All (λ e. page_of e.number ≡ index) (take result edits.now) }
+    ensures rest { All (λ e. index + 1 ≤ page_of e.number) (drop result edits.now) }
+    ensures ascends { Ascends (drop result edits.now) }
+{
+    let mut run = 0;
+    for edit in edits {
+        if page_of(edit.number) != index {
+            break;
+        }
+        run += 1;
+    }
+    run
+}

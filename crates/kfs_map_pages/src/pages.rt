@@ -1,0 +1,125 @@
+//! Pages of all numbers, as one map.
+ghost use Rattle.std.specs.Prelude.{◌≡◌, ℕ, ◌<◌, None, IfOk, IfSome, IfNone, OnOk, OnErr};
+ghost use Rattle.std.specs.Option.{option_copied};
+ghost use Rattle.kfs_model.specs.Table.{empty, get};
+ghost use Rattle.kfs_map_pages.specs.Values.{IsNext};
+ghost use Rattle.kfs_map_pages.specs.Edits.{rewritten, AreEdits};
+ghost use Rattle.kfs_map_pages.specs.Shown.{part};
+
+use crate::change::{Change, change_groups};
+use crate::edit::{Edit, page_of};
+use crate::group::{GROUP_LEN, Group, nothing, page_at};
+use crate::page::Page;
+use std::alloc::{AllocError, Allocator};
+use std::marker::Model;
+use std::sync::Arc;
+
+/// How many groups of pages there are.
+const GROUPS: u32 = 32;
+
+/// A map from the numbers 1 to 65,536 to values. Copies share its groups of pages, and each sees the
+/// map as it was when it was made. A change beside a copy copies the list of the groups, and of each
+/// group that it touches the list of its pages, and the pages that it touches.
+#[derive(Drop)]
+pub struct Pages<V: Copy, A: Allocator> {
+    groups: Vec<Option<Arc<Group<V, A>, A>>, A>,
+}
+
+impl<V: Copy, A: Allocator> Model for Pages<V, A> {
+    ghost use Rattle.std.specs.Prelude.{◌≡◌, length};
+    ghost use Rattle.kfs_model.specs.Table.{Table, numbers};
+    ghost use Rattle.kfs_map_pages.specs.Groups.{all_held, laid_out, AreWhole};
+    ghost use Rattle.kfs_map_pages.specs.Shown.{table_from, IsPlaced};
+
+    ghost Value = { Table numbers V };
+
+    ghost view = { λ s. table_from 0 (laid_out s.groups.items) };
+
+    ghost invariant = { λ s. (length s.groups.items ≡ 32) × AreWhole (all_held s.groups.items) × IsPlaced 0 (laid_out s.groups.items) };
+}
+
+impl<V: Copy, A: Allocator + Clone> Clone for Pages<V, A> {
+    ghost is_clone = { λ pages copy. copy ≡ pages };
+
+    fn clone(&self) -> Result<Pages<V, A>, AllocError> {
+        Ok(Pages {
+            groups: self.groups.clone()?,
+        })
+    }
+}
+
+impl<V: Copy, A: Allocator> Pages<V, A> {
+    /// The map without a value.
+    pub fn new(alloc: A) -> Result<Pages<V, A>, AllocError>
+        ensures { IfOk result (λ pages. pages ≡ empty) }
+    {
+        Ok(Pages {
+            groups: nothing(alloc, GROUPS)?,
+        })
+    }
+
+    /// The value at a number. Takes no memory.
+    pub fn get(&self, number: u32) -> Option<&V>
+        ensures { option_copied result ≡ get self.now number }
+    {
+        let page = page_at(&self.groups, page_of(number))?;
+        page.get(number)
+    }
+
+    /// The page of this index, or none where none of its 64 numbers has a value. The number n belongs
+    /// to the page (n - 1) / 64. Takes no memory.
+    pub fn page(&self, index: u32) -> Option<&Page<V, A>>
+        ensures page { IfSome result (λ page. page.now ≡ record { index = index; values = part index self.now }) }
+        ensures some { IfSome result (λ page. part index self.now ≡ empty → ⊥) }
+        ensures none { IfNone result (part index self.now ≡ empty) }
+    {
+        let page = page_at(&self.groups, index)?;
+        if page.is_blank() {
+            return None;
+        }
+        Some(page)
+    }
+
+    /// The least number above `after` that has a value, and the value. Takes no memory.
+    pub fn next(&self, after: u32) -> Option<(u32, &V)>
+        ensures found { IfSome result (λ p. IsNext self.now after p.0 p.1.now) }
+        ensures none { IfNone result ((m : ℕ) → after < m → get self.now m ≡ None) }
+    {
+        let pages = self.groups.len() as u32 * GROUP_LEN;
+        for index in after / 64..pages {
+            let found = self.next_in(index, after);
+            if found.is_some() {
+                return found;
+            }
+        }
+        None
+    }
+
+    /// The same of the numbers of one page.
+    fn next_in(&self, index: u32, after: u32) -> Option<(u32, &V)>
+        ensures found { IfSome result (λ p. IsNext (part index self.now) after p.0 p.1.now) }
+        ensures none { IfNone result ((m : ℕ) → after < m → get (part index self.now) m ≡ None) }
+    {
+        self.page(index)?.next(after)
+    }
+}
+
+impl<V: Copy, A: Allocator + Clone> Pages<V, A> {
+    /// Makes the edits and the other change, or neither. Every copy and growth of pages comes first,
+    /// then the other change, and then the edits. A copy that was made before shows what it showed.
+    pub fn change_then<T: Change>(
+        &mut self,
+        edits: &[Edit<V>],
+        then: &mut T,
+    ) -> Result<(), AllocError>
+        requires edits { AreEdits edits.now }
+        requires then { T.can_make then.old }
+        ensures ok { OnOk result (self.new ≡ rewritten self.old edits.now) }
+        ensures err { OnErr result (self.new ≡ self.old) }
+        ensures made { OnOk result (T.made then.old then.new) }
+        ensures kept { OnErr result (T.kept then.old then.new) }
+    {
+        let alloc = self.groups.allocator().clone()?;
+        change_groups(&alloc, self.groups.as_mut_slice(), 0, edits, then)
+    }
+}

@@ -1,0 +1,10 @@
+use Rattle.kfs_model_device.proofs.SoundImage.{heads_counted, tree_sound}
+use Rattle.kfs_model_device.proofs.LaidOut.{extents_placed, blocks_written}
+use Rattle.kfs_model_device.proofs.laws.well_formed_image_is_lawful.Goals as goal
+
+pub returns : goal.returns
+returns c raw spelled well_formed = record {
+  tree = record { sound = tree_sound raw well_formed spelled; counted = heads_counted raw well_formed };
+  placed = extents_placed raw well_formed;
+  blocks = blocks_written raw well_formed;
+}

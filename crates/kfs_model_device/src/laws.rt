@@ -1,0 +1,72 @@
+//! Laws of the definitions: each is the contract of a function without a body.
+
+ghost use Rattle.std.specs.Prelude.{◌≡◌, ℕ, not, true, false, List, map, Some};
+ghost use Rattle.std.specs.List.{list_any, AllByRecursion};
+ghost use Rattle.kfs_model.specs.Tree.{headers};
+ghost use Rattle.kfs_model.specs.Sight.{sight, sight_over};
+ghost use Rattle.kfs_model.specs.Soundness.{Climbs};
+ghost use Rattle.kfs_model.specs.Placement.{TierSizes, Place, Placement, is_free};
+ghost use Rattle.kfs_model_device.specs.Device.{Devices};
+ghost use Rattle.kfs_model_device.specs.ShownTree.{DeviceImage, IsLawful, shown_tree};
+ghost use Rattle.kfs_model_device.specs.FreeRuns.{AreApart, free_runs};
+ghost use Rattle.kfs_model.specs.Plan.{keyed_name};
+ghost use Rattle.kfs_model_device.specs.RawImage.{RawImage, IsSpelled, node_entry, heads_of, names_of, placement_of, image_of, has_place, IsLaidOut};
+ghost use Rattle.kfs_model_device.specs.Rules.{parent_of, reaches_root};
+ghost use Rattle.kfs_model_device.specs.Finding.{Finding, finding_of, is_broken_at, IsLeastBroken, IsWellFormed};
+ghost use Rattle.kfs_model_device.specs.Listed.{rows_of, AreRowsOf};
+ghost use Rattle.kfs_model_device.specs.Laws.{IsFreeInRuns, AreBytesOf};
+
+/// A file has as many bytes as its size; each is the byte of its block at the block's place, or 0 where the block isn't
+/// mapped.
+pub fn bytes_are_those_of_blocks()
+    ensures { (placement : Placement) (devices : Devices) (number size : ℕ) → AreBytesOf placement devices number size }
+{}
+
+/// A well formed image shows a sound tree whose headers are those of its rows, and its extents are a placement on devices
+/// of whole blocks.
+pub fn well_formed_image_is_lawful()
+    ensures { (raw : RawImage) → IsSpelled raw → IsWellFormed raw → IsLawful (image_of raw) }
+{}
+
+/// A lawful image has rows that are well formed, with an extent for each block: they make its tables again, and show its
+/// tree. So the ten rules refuse no lawful image.
+pub fn lawful_image_has_rows()
+    ensures { (image : DeviceImage) → IsLawful image → AreRowsOf image (rows_of image) }
+{}
+
+/// The node rows of a well formed image are the headers of its tree, its name rows the names; so its cells show what the
+/// rows say, counts of names and parents with them.
+pub fn rows_are_headers_and_names()
+    ensures nodes { (raw : RawImage) → IsWellFormed raw → (headers (shown_tree (image_of raw))).entries ≡ map node_entry raw.nodes }
+    ensures names { (raw : RawImage) → IsWellFormed raw → (shown_tree (image_of raw)).names.entries ≡ map keyed_name raw.names }
+    ensures cells { (raw : RawImage) → IsWellFormed raw → sight (shown_tree (image_of raw)) ≡ sight_over (heads_of raw) (names_of raw) }
+{}
+
+/// Each block of each extent of a well formed image lies where the extent says, and its bytes stand there.
+pub fn extents_lie_as_they_say()
+    ensures { (raw : RawImage) → IsWellFormed raw → AllByRecursion (IsLaidOut raw) raw.extents }
+{}
+
+/// The free runs are the places in which no block lies, each run apart from the next; in a well formed image these are the
+/// places that no extent has.
+pub fn free_runs_are_the_unused_places()
+    ensures unused { (sizes : TierSizes) (placement : Placement) (place : Place) → IsFreeInRuns sizes placement place }
+    ensures apart { (sizes : TierSizes) (placement : Placement) (tier : ℕ) → AreApart (free_runs sizes placement tier) }
+    ensures in_no_extent { (raw : RawImage) → IsWellFormed raw → (place : Place) → is_free (placement_of raw) place ≡ not (list_any (has_place place) raw.extents) }
+{}
+
+/// The finding is the least number of the least rule that is broken, and no other; and there is none exactly where no rule
+/// is broken anywhere.
+pub fn finding_is_the_least()
+    ensures least { (raw : RawImage) (finding : Finding) → finding_of raw ≡ Some finding → IsLeastBroken raw finding }
+    ensures found { (raw : RawImage) (finding : Finding) → IsLeastBroken raw finding → finding_of raw ≡ Some finding }
+    ensures one { (raw : RawImage) (finding other : Finding) → IsLeastBroken raw finding → IsLeastBroken raw other → finding ≡ other }
+    ensures unbroken { (raw : RawImage) → IsWellFormed raw → (rule number : ℕ) → is_broken_at raw rule number ≡ false }
+    ensures well_formed { (raw : RawImage) → ((rule number : ℕ) → is_broken_at raw rule number ≡ false) → IsWellFormed raw }
+{}
+
+/// The test of whether the parents lead to the root finds each climb there, however long it is, and no other.
+pub fn climb_test_is_exact()
+    ensures found { (raw : RawImage) (number : ℕ) → reaches_root raw number ≡ true → (steps : ℕ) × Climbs (parent_of raw) steps number 1 }
+    ensures only { (raw : RawImage) (number steps : ℕ) → Climbs (parent_of raw) steps number 1 → reaches_root raw number ≡ true }
+{}

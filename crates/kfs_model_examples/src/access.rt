@@ -1,0 +1,33 @@
+//! Which entries permissions, grants and limits refuse.
+
+ghost use Rattle.std.specs.Prelude.{◌≡◌, [], Some};
+ghost use Rattle.kfs_model.specs.Check.{NoWrite, NotOwner, NumberTaken, NumberNotGranted, TooManyLinks, first_fault};
+ghost use Rattle.kfs_model.specs.Judgement.{Accepted};
+ghost use Rattle.kfs_model_examples.specs.Example.{Replies, refused_at, no_plan};
+ghost use Rattle.kfs_model_examples.specs.Example.FileCases.{write_x, file_state};
+ghost use Rattle.kfs_model_examples.specs.Example.AccessCases.{with_mode, in_group, one_byte_plan, locked_first, both_held, create_z, chmod_root, with_many_names, one_more_name};
+
+/// Only the bits of the one class that holds count: with mode 0o077 the owner may not write; with mode 0o602 a member of the
+/// file's group may not, and another client may. The mode that counts is that of the entry's own moment.
+#[tactic(auto, unfolding(crate::specs::Example::computing))]
+pub fn one_class_counts()
+    ensures owner { Replies (with_mode 63 1000 1000) 7 (write_x 5) no_plan (refused_at 0 NoWrite) }
+    ensures group { Replies (in_group 50 (with_mode 386 1 50)) 7 (write_x 5) no_plan (refused_at 0 NoWrite) }
+    ensures other { Replies (with_mode 386 1 50) 7 (write_x 5) one_byte_plan (Accepted 1) }
+    ensures after_chmod { Replies (file_state []) 7 locked_first no_plan (refused_at 1 NoWrite) }
+{}
+
+/// Client 7 holds the root and file 5: numbers outside its grant and numbers in use are refused, and so is a Chmod of the root,
+/// whose owner it is not.
+#[tactic(auto, unfolding(crate::specs::Example::computing))]
+pub fn grants_and_owners()
+    ensures not_granted { Replies both_held 7 (create_z 200) no_plan (refused_at 0 NumberNotGranted) }
+    ensures taken { Replies both_held 7 (create_z 5) no_plan (refused_at 0 NumberTaken) }
+    ensures not_owner { Replies both_held 7 chmod_root no_plan (refused_at 0 NotOwner) }
+{}
+
+/// A file with 1,024 names gets no further one. (The tree with these names is a matter of tests; here its header says so.)
+#[tactic(auto, unfolding(crate::specs::Example::computing))]
+pub fn as_many_names_as_a_file_may_have()
+    ensures { first_fault with_many_names one_more_name ≡ Some TooManyLinks }
+{}

@@ -1,0 +1,52 @@
+//! What logs make of names, and which moves are refused.
+
+ghost use Rattle.std.specs.Prelude.{List, [], ◌∷◌};
+ghost use Rattle.kfs_model.specs.Check.{BelowItself, NotEmpty, IsDirectory, NotDirectory, NoLease};
+ghost use Rattle.kfs_model.specs.Judgement.{Accepted};
+ghost use Rattle.kfs_model_examples.specs.Example.{Replies, Leaves, refused_at, no_plan};
+ghost use Rattle.kfs_model_examples.specs.Example.NameCases.{two_names, rename_to_own_name, four_directories, moved_by_7, moved_by_8, move_7, move_8, plan_7, plan_8, removed_file, unlink_f, unlink_plan, create_f, create_plan, after_removal, after_creation, folder, unlink_p, link_directory, move_below, file_over_directory, directory_over_file, empty_folder, empty_folder_plan, emptied};
+ghost use Rattle.kfs_model_examples.specs.Example.FileCases.{write_x};
+ghost use Rattle.kfs_model.specs.Header.{File, Directory};
+
+/// File 5 has the names "a" and "b" in the root, which nobody may write, and client 7 holds no lease: a Rename from the one
+/// to the other changes nothing and is allowed.
+#[tactic(auto, unfolding(crate::specs::Example::computing))]
+pub fn rename_to_its_own_name()
+    ensures accepted { Replies two_names 7 rename_to_own_name no_plan (Accepted 0) }
+    ensures shows { Leaves two_names 7 rename_to_own_name no_plan two_names.tree }
+{}
+
+/// Directories 20 ("p") and 21 ("q") in the root, 10 ("x") in 20, 11 ("y") in 21, 12 ("c") in 11, 13 ("d") in 10. Client 7
+/// moves 10 into 12, client 8 moves 11 into 13: whichever lands first, the other one would go below itself.
+#[tactic(auto, unfolding(crate::specs::Example::computing))]
+pub fn two_moves()
+    ensures first_7 { Replies four_directories 7 move_7 plan_7 (Accepted 0) }
+    ensures shows_7 { Leaves four_directories 7 move_7 plan_7 moved_by_7.tree }
+    ensures then_8 { Replies moved_by_7 8 move_8 plan_8 (refused_at 0 BelowItself) }
+    ensures first_8 { Replies four_directories 8 move_8 plan_8 (Accepted 0) }
+    ensures shows_8 { Leaves four_directories 8 move_8 plan_8 moved_by_8.tree }
+    ensures then_7 { Replies moved_by_8 7 move_7 plan_7 (refused_at 0 BelowItself) }
+{}
+
+/// File 9 at "/f" of client 7, which holds 1 and 9: it is removed, its number is used again, and the old lease is gone.
+#[tactic(auto, unfolding(crate::specs::Example::computing))]
+pub fn number_used_again()
+    ensures removed { Replies removed_file 7 unlink_f unlink_plan (Accepted 0) }
+    ensures shows_removed { Leaves removed_file 7 unlink_f unlink_plan after_removal.tree }
+    ensures created { Replies after_removal 7 create_f create_plan (Accepted 0) }
+    ensures shows_created { Leaves after_removal 7 create_f create_plan after_creation.tree }
+    ensures no_lease { Replies after_creation 7 (write_x 9) no_plan (refused_at 0 (NoLease 9)) }
+{}
+
+/// Directory 20 at "/p" with directory 10 named "x" in it, file 5 at "/a", all of client 7, which holds 1, 20, 10 and 5.
+#[tactic(auto, unfolding(crate::specs::Example::computing))]
+pub fn directories_and_files()
+    ensures not_empty { Replies folder 7 (unlink_p Directory) no_plan (refused_at 0 NotEmpty) }
+    ensures as_a_file { Replies folder 7 (unlink_p File) no_plan (refused_at 0 IsDirectory) }
+    ensures link { Replies folder 7 link_directory no_plan (refused_at 0 IsDirectory) }
+    ensures below { Replies folder 7 move_below no_plan (refused_at 0 BelowItself) }
+    ensures over_directory { Replies folder 7 file_over_directory no_plan (refused_at 0 IsDirectory) }
+    ensures over_file { Replies folder 7 directory_over_file no_plan (refused_at 0 NotDirectory) }
+    ensures emptied_first { Replies folder 7 empty_folder empty_folder_plan (Accepted 0) }
+    ensures shows { Leaves folder 7 empty_folder empty_folder_plan emptied }
+{}

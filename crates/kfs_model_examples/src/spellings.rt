@@ -1,0 +1,53 @@
+//! Logs and plans beside the bytes that spell them.
+
+ghost use Rattle.std.specs.Prelude.{[], ◌∷◌, ◌++◌, take, Ok, Err};
+ghost use Rattle.kfs_model.specs.Spelling.{BadEntry, BadHeader, BadRow, LogAnswer, PlanAnswer, Trailing};
+ghost use Rattle.kfs_model_examples.specs.Example.{no_plan};
+ghost use Rattle.kfs_model_examples.specs.Example.FileCases.{create_a, create_a_plan, edits, edits_plan, first_piece, last_piece};
+ghost use Rattle.kfs_model_examples.specs.Example.NameCases.{move_7, plan_7};
+ghost use Rattle.kfs_model_examples.specs.Example.SpellingCases.{cut_log, cut_plan, log_of_7, create_a_log_bytes, create_a_plan_bytes, edits_log_bytes, edits_plan_bytes, move_7_log_bytes, plan_7_bytes, empty_log_bytes, empty_plan_bytes};
+
+/// Client 7 creates file 5 named "a" in the root: 25 bytes of log, 48 bytes of plan.
+#[tactic(auto, unfolding(kfs_model::specs::Spelling::number16, kfs_model::specs::Spelling::number32, kfs_model::specs::Spelling::number64))]
+pub fn create_in_the_root()
+    ensures log { LogAnswer create_a_log_bytes (Ok (log_of_7 create_a)) }
+    ensures plan { PlanAnswer create_a_plan_bytes (Ok (create_a_plan 5)) }
+{}
+
+/// Three writes and two truncations of file 5: 94 bytes of log, 140 bytes of plan with four pieces.
+#[tactic(auto, unfolding(kfs_model::specs::Spelling::number16, kfs_model::specs::Spelling::number32, kfs_model::specs::Spelling::number64))]
+pub fn overlapping_writes()
+    ensures log { LogAnswer edits_log_bytes (Ok (log_of_7 edits)) }
+    ensures plan { PlanAnswer edits_plan_bytes (Ok (edits_plan (first_piece 1) (last_piece ∷ []))) }
+{}
+
+/// Client 7 moves the name "x" of directory 20 into directory 12: 24 bytes of log, 33 bytes of plan.
+#[tactic(auto, unfolding(kfs_model::specs::Spelling::number16, kfs_model::specs::Spelling::number32, kfs_model::specs::Spelling::number64))]
+pub fn move_into_another_directory()
+    ensures log { LogAnswer move_7_log_bytes (Ok (log_of_7 move_7)) }
+    ensures plan { PlanAnswer plan_7_bytes (Ok plan_7) }
+{}
+
+/// No entry is 11 bytes, no row 13.
+#[tactic(auto, unfolding(kfs_model::specs::Spelling::number16, kfs_model::specs::Spelling::number32, kfs_model::specs::Spelling::number64))]
+pub fn nothing()
+    ensures log { LogAnswer empty_log_bytes (Ok (log_of_7 [])) }
+    ensures plan { PlanAnswer empty_plan_bytes (Ok no_plan) }
+{}
+
+/// The same log with too few bytes for a header, with its last byte missing, and with one byte more.
+pub fn no_logs()
+    ensures header { LogAnswer (cut_log 10) (Err BadHeader) }
+    ensures entry { LogAnswer (cut_log 24) (Err (BadEntry 0)) }
+    ensures trailing { LogAnswer (create_a_log_bytes ++ 0 ∷ []) (Err Trailing) }
+{}
+
+/// The same plan with too few bytes for a header, cut in its name row and in its node row, and with one byte more; and a plan
+/// of four pieces cut in the last one.
+pub fn no_plans()
+    ensures header { PlanAnswer (cut_plan 12) (Err BadHeader) }
+    ensures name_row { PlanAnswer (cut_plan 22) (Err (BadRow 0 0)) }
+    ensures node_row { PlanAnswer (cut_plan 47) (Err (BadRow 1 0)) }
+    ensures piece { PlanAnswer (take 139 edits_plan_bytes) (Err (BadRow 2 3)) }
+    ensures trailing { PlanAnswer (create_a_plan_bytes ++ 0 ∷ []) (Err Trailing) }
+{}

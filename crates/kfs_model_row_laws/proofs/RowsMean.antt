@@ -1,0 +1,130 @@
+-- What the machine's step of a row makes of the state.
+use Rattle.std.proofs.Common.{◌≡◌, ℕ, ◌==◌, Bool, true, false, cond, List, [], ◌∷◌, Option, Some, None, Result, Ok, Err, refl, sym, ap, subst, ◌∙◌}
+use Rattle.std.specs.Prelude.{length, nat_lt}
+use native.Mathlib.Decide.{ℕ_discrete}
+use Rattle.kfs_model.proofs.OneByOne.{run_is_one_by_one}
+use Rattle.kfs_model.specs.Access.{Client}
+use Rattle.kfs_model.specs.Entry.{Log}
+use Rattle.kfs_model.specs.FirstWrong.{RowFault, first_wrong_row}
+use Rattle.kfs_model.specs.Judgement.{State, Submission, Reading, IsReadAs, Verdict, Yes, No, AtRow, ClientUnknown, ClientWrong, Accepted, NoRoom, Refused, Reply-equality, is_yes, free_places, client_sight_of, judged, judged_log, judged_plan, judged_run, reply_to, verdict_on}
+use Rattle.kfs_model.specs.Lease.{Leases, LeaseFault, LeaseFault-discrete, dropped, granted, row_of, ticked}
+use Rattle.kfs_model.specs.Machine.{Call, Submit, Lease, Drop, Tick, CallAnswer, CallAnswer-discrete, CallOutcome, Done, NotDone, OneByOne, Replied, Row, IsRead, answered, are_chosen, landed, leased, next, outcome_of, replied, same_answer, unplaced}
+use Rattle.kfs_model.specs.Placement.{need, written_blocks}
+use Rattle.kfs_model.specs.PlanRow.{Plan}
+use Rattle.kfs_model.specs.Run.{EntryFault, Mark, marked, over_bytes, over_marks, run}
+use Rattle.kfs_model.specs.Sight.{sight}
+use Rattle.kfs_model.specs.Spelling.{LogAnswer, SpellingFault}
+use Rattle.kfs_model.specs.Tree.{Tree}
+use Rattle.kfs_model_row_laws.specs.Means.{DiffersInLeases, HasEntriesDone, Means, MeansOf}
+
+-- ---- what fits is what the call comes to
+
+module _ (s t : State) (row : Row) where
+  pub fitted : next s row ≡ Some t → (outcome : CallOutcome) × (outcome_of s row.call row.places ≡ Some outcome) × (outcome.0 ≡ row.answer) × (outcome.1 ≡ t)
+  unfolding next
+  fitted is = by (outcome_of s row.call row.places) refl is
+    where
+      alike : (a b : CallAnswer) (outcome : CallOutcome) → outcome.0 ≡ a → cond (same_answer a b) (Some outcome.1) None ≡ Some t → (outcome.0 ≡ b) × (outcome.1 ≡ t)
+      alike a b outcome first is = at (CallAnswer-discrete Reply-equality ℕ_discrete (LeaseFault-discrete ℕ_discrete) a b) is
+        where
+          at : (d : Dec (a ≡ b)) → cond (is_yes d) (Some outcome.1) None ≡ Some t → (outcome.0 ≡ b) × (outcome.1 ≡ t)
+          at (yes same) is = (first ∙ same, cc)
+          at (no differ) is = cc
+
+      by : (found : Option CallOutcome) → outcome_of s row.call row.places ≡ found → ◌≡◌ {A = Option State} (elim found [ None ↦ None | Some outcome ↦ answered row.answer outcome ]) (Some t)
+          → (outcome : CallOutcome) × (outcome_of s row.call row.places ≡ Some outcome) × (outcome.0 ≡ row.answer) × (outcome.1 ≡ t)
+      by None comes is = cc
+      by (Some outcome) comes is = let both = alike outcome.0 row.answer outcome refl is in (outcome, comes, both.0, both.1)
+
+unplaced_is : (places : List ℕ) (outcome other : CallOutcome) → unplaced places outcome ≡ Some other → outcome ≡ other
+unplaced_is [] outcome other is = cc
+unplaced_is (place ∷ places) outcome other is = cc
+
+-- ---- a Yes
+
+module _ (s : State) (submission : Submission) (reading : Reading) (read : IsReadAs submission reading) (after : Tree ℕ) (marks : Tree Mark) where
+  -- the run of the entries that the log spells ends at this tree
+  done : judged s submission.client reading.log reading.plan ≡ Yes after marks → (t : State) → t.tree ≡ after → HasEntriesDone s submission t
+  unfolding judged
+  done is t at = by_client (row_of s.clients submission.client) refl is
+    where
+      ran : (client : Client) (log : Log) → row_of s.clients submission.client ≡ Some client → reading.log ≡ Ok log → run over_bytes client (client_sight_of s client.number) s.tree log.entries ≡ Ok after → HasEntriesDone s submission t
+      ran client log row log_is ends = record {
+        client = client;
+        row = row;
+        log = log;
+        spelled = subst (LogAnswer submission.log) log_is read.log;
+        one_by_one = subst (OneByOne client (client_sight_of s client.number) 0 [] s.tree log.entries) (sym at) (run_is_one_by_one client (client_sight_of s client.number) 0 [] s.tree log.entries after ends);
+      }
+
+      by_rows : (client : Client) (log : Log) (v : Tree ℕ) (u : Tree Mark) → row_of s.clients submission.client ≡ Some client → reading.log ≡ Ok log → run over_bytes client (client_sight_of s client.number) s.tree log.entries ≡ Ok v
+          → (wrong : Option RowFault) → ◌≡◌ {A = Verdict} (elim wrong [ None ↦ Yes v u | Some fault ↦ No (AtRow fault) ]) (Yes after marks) → HasEntriesDone s submission t
+      by_rows client log v u row log_is ends None is = let same : v ≡ after = cc in ran client log row log_is (ends ∙ ap Ok same)
+      by_rows client log v u row log_is ends (Some fault) is = cc
+
+      by_run : (client : Client) (log : Log) (plan : Plan) → row_of s.clients submission.client ≡ Some client → reading.log ≡ Ok log
+          → (end : Result (Tree ℕ) EntryFault) (marked_end : Result (Tree Mark) EntryFault) → run over_bytes client (client_sight_of s client.number) s.tree log.entries ≡ end → judged_run s plan end marked_end ≡ Yes after marks → HasEntriesDone s submission t
+      by_run client log plan row log_is (Err fault) marked_end ends is = cc
+      by_run client log plan row log_is (Ok v) (Err fault) ends is = cc
+      by_run client log plan row log_is (Ok v) (Ok u) ends is = by_rows client log v u row log_is ends (first_wrong_row s.tree u plan) is
+
+      by_plan : (client : Client) (log : Log) (plan : Result Plan SpellingFault) → row_of s.clients submission.client ≡ Some client → reading.log ≡ Ok log → judged_plan s client log plan ≡ Yes after marks → HasEntriesDone s submission t
+      by_plan client log (Err fault) row log_is is = cc
+      by_plan client log (Ok plan) row log_is is =
+          by_run client log plan row log_is (run over_bytes client (client_sight_of s client.number) s.tree log.entries) (run over_marks client (client_sight_of s client.number) (marked s.tree) log.entries) refl is
+
+      by_owner : (client : Client) (log : Log) → row_of s.clients submission.client ≡ Some client → reading.log ≡ Ok log → (own : Bool) → cond own (judged_plan s client log reading.plan) (No ClientWrong) ≡ Yes after marks → HasEntriesDone s submission t
+      by_owner client log row log_is true is = by_plan client log reading.plan row log_is is
+      by_owner client log row log_is false is = cc
+
+      by_log : (client : Client) (log : Result Log SpellingFault) → row_of s.clients submission.client ≡ Some client → reading.log ≡ log → judged_log s client log reading.plan ≡ Yes after marks → HasEntriesDone s submission t
+      by_log client (Err fault) row log_is is = cc
+      by_log client (Ok log) row log_is is = by_owner client log row log_is (log.client == client.number) is
+
+      by_client : (found : Option Client) → row_of s.clients submission.client ≡ found → ◌≡◌ {A = Verdict} (elim found [ None ↦ No ClientUnknown | Some client ↦ judged_log s client reading.log reading.plan ]) (Yes after marks) → HasEntriesDone s submission t
+      by_client None row is = cc
+      by_client (Some client) row is = by_log client reading.log row refl is
+
+-- ---- each call
+
+-- the same of an equal answer and an equal state
+moved : (s : State) (call : Call) (outcome : CallOutcome) (answer : CallAnswer) (t : State) → outcome.0 ≡ answer → outcome.1 ≡ t → MeansOf s call outcome.0 outcome.1 → MeansOf s call answer t
+moved s call outcome answer t same also means = subst (λ a. MeansOf s call a t) same (subst (MeansOf s call outcome.0) also means)
+
+module _ (s : State) (places : List ℕ) where
+  replied_means : (submission : Submission) (reading : Reading) → IsReadAs submission reading → (verdict : Verdict) → verdict_on s submission.client reading ≡ verdict → (outcome : CallOutcome) → replied s places verdict (reply_to s verdict) ≡ Some outcome → MeansOf s (Submit submission reading) outcome.0 outcome.1
+  unfolding reply_to
+  replied_means submission reading read (No fault) judged_so outcome is =
+      let same = unplaced_is places (Replied (Refused fault), s) outcome is in
+      subst (λ (o : CallOutcome). MeansOf s (Submit submission reading) o.0 o.1) same refl
+  replied_means submission reading read (Yes after marks) judged_so outcome is = by_room (nat_lt (length (free_places s)) (need marks)) is
+    where
+      by_room : (full : Bool) → replied s places (Yes after marks) (cond full (NoRoom (need marks) (length (free_places s))) (Accepted (need marks))) ≡ Some outcome → MeansOf s (Submit submission reading) outcome.0 outcome.1
+      by_room true is =
+          let same = unplaced_is places (Replied (NoRoom (need marks) (length (free_places s))), s) outcome is in
+          subst (λ (o : CallOutcome). MeansOf s (Submit submission reading) o.0 o.1) same refl
+      by_room false is = by_places (are_chosen s (written_blocks marks) places) is
+        where
+          by_places : (chosen : Bool) → cond chosen (Some (Replied (Accepted (need marks)), landed s after marks places)) None ≡ Some outcome → MeansOf s (Submit submission reading) outcome.0 outcome.1
+          by_places true is =
+              let same : ◌≡◌ {A = CallOutcome} (Replied (Accepted (need marks)), landed s after marks places) outcome = cc in
+              subst (λ (o : CallOutcome). MeansOf s (Submit submission reading) o.0 o.1) same (done s submission reading read after marks judged_so (landed s after marks places) refl)
+          by_places false is = cc
+
+  leased_means : (told : Result ℕ LeaseFault) (leases : Leases) (outcome : CallOutcome) → leased s places (told, leases) ≡ Some outcome → DiffersInLeases s outcome.1
+  leased_means (Ok number) leases outcome is = let same = unplaced_is places (Done number, record s { leases = leases }) outcome is in (leases, ap (λ (o : CallOutcome). o.1) (sym same))
+  leased_means (Err fault) leases outcome is = let same = unplaced_is places (NotDone fault, record s { leases = leases }) outcome is in (leases, ap (λ (o : CallOutcome). o.1) (sym same))
+
+  outcome_means : (call : Call) (row : Row) → row.call ≡ call → IsRead row → (outcome : CallOutcome) → outcome_of s call places ≡ Some outcome → MeansOf s call outcome.0 outcome.1
+  unfolding outcome_of
+  outcome_means (Submit submission reading) row at read outcome is =
+      let read_as : IsReadAs submission reading = subst (λ (c : Call). IsRead (record row { call = c })) at read in
+      replied_means submission reading read_as (verdict_on s submission.client reading) refl outcome is
+  outcome_means (Lease client path kind end) row at read outcome is = let all = granted s.leases (sight s.tree) s.clients client path kind end in leased_means all.0 all.1 outcome is
+  outcome_means (Drop client number) row at read outcome is = let all = dropped s.leases s.clients client number in leased_means all.0 all.1 outcome is
+  outcome_means (Tick moment) row at read outcome is = let all = ticked s.leases moment in leased_means all.0 all.1 outcome is
+
+pub row_means : (s t : State) (row : Row) → IsRead row → next s row ≡ Some t → Means s row t
+row_means s t row read is =
+    let (outcome, comes, answer, state) = fitted s t row is in
+    moved s row.call outcome row.answer t answer state (outcome_means s row.places row.call row refl read outcome comes)

@@ -1,0 +1,18 @@
+use Rattle.std.proofs.Common.{◌++◌, map, sym, ap, ◌∙◌}
+use Rattle.std.proofs.lemmas.List.{append-nil, drop_all}
+use Rattle.kfs_entry_value.specs.Views.{piece_of}
+use Rattle.kfs_plan_sweep.specs.Made.{pieces_made}
+use Rattle.kfs_plan_sweep.proofs.Fits.{filled_at}
+use Rattle.kfs_plan_sweep.proofs.Made.{made_by_number}
+use Rattle.kfs_plan_sweep.proofs.pieces.pieces_from.Goals as goal
+
+pub piece_from-requires-clause-filled : goal.piece_from-requires-clause-filled
+piece_from-requires-clause-filled g c = filled_at c.args.stretches.now 0 0 c.loop-stretch.stretch-index _ c.loop-stretch-test.true c.requires.order
+
+pub returns-clause-order : goal.returns-clause-order
+returns-clause-order g c =
+    made_by_number c.args.stretches.now c.loop-stretch.out.items 0 0
+    (sym (append-nil (map piece_of c.loop-stretch.out.items))
+    ∙ ap (λ ss. map piece_of c.loop-stretch.out.items ++ pieces_made ss) (sym (drop_all c.loop-stretch.stretch-index c.args.stretches.now c.loop-stretch-test.false))
+    ∙ c.loop-stretch.invariant.made)
+    c.requires.order

@@ -1,0 +1,31 @@
+-- What is left of right pieces.
+use Rattle.std.specs.Prelude.{ℕ, ◌+◌, ◌<◌, ◌≤◌, ◌^◌, List, [], ◌∷◌, drop, map, Some, None}
+use Rattle.kfs_model.specs.Limits.{size_limit}
+use Rattle.kfs_model.specs.PlanRow.{Piece, Source, Zero, Payload}
+use Rattle.kfs_entry_value.specs.Views.{piece_of}
+use Rattle.kfs_entry_value.specs.declared.plan.Piece.{Piece as CodePiece}
+use Rattle.kfs_plan_sweep.specs.declared.compare.Left.{Left}
+
+-- the first piece, perhaps without its front, and those behind it
+abbrev pub left_of : List CodePiece → Left → List CodePiece
+left_of right left = elim left.front [ None ↦ [] | Some front ↦ front ∷ drop left.next right ]
+
+-- what they say
+abbrev pub pieces_left : List CodePiece → Left → List Piece
+pieces_left right left = map piece_of (left_of right left)
+
+abbrev pub IsPlaceShort : Source → ℕ → Type 0
+IsPlaceShort Zero distance = Unit {0}
+IsPlaceShort (Payload entry place) distance = place + distance < 2 ^ 32
+
+-- so many bytes of the piece end in range, in the file and in the payload
+pub record IsShort (p : Piece) (distance : ℕ) : Type 0 where
+  pub start : p.start + distance ≤ size_limit
+  pub place : IsPlaceShort p.source distance
+
+-- all of the piece ends in range
+abbrev pub IsWhole : CodePiece → Type 0
+IsWhole p = IsShort (piece_of p) p.len
+
+abbrev pub IsFilled : CodePiece → Type 0
+IsFilled p = 0 < p.len

@@ -1,0 +1,64 @@
+-- The stretches that a log makes, and the pieces that they are.
+use Rattle.std.specs.Prelude.{◌≡◌, ℕ, ◌+◌, ◌-◌, ◌<◌, ◌≤◌, ◌++◌, ◌==◌, min, List, [], ◌∷◌, length, IfOk, IsTrue}
+use Rattle.std.specs.List.{list_any}
+use Rattle.kfs_model.specs.Limits.{payload_limit, size_limit}
+use Rattle.kfs_model.specs.Entry.{Entry, Create, Write, Truncate, Link, Unlink, Rename, Chmod}
+use Rattle.kfs_model.specs.Laws.{EachRun}
+use Rattle.kfs_model.specs.LastCover.{extent}
+use Rattle.kfs_model.specs.Plan.{ArePieces}
+use Rattle.kfs_model.specs.Run.{Mark, run, over_marks, marked}
+use Rattle.kfs_model.specs.Sight.{sight}
+use Rattle.kfs_model.specs.Tree.{Tree}
+use Rattle.kfs_model.specs.PlanRow.{Piece, Source}
+use Rattle.kfs_plan_sweep.specs.declared.stretch.Origin.{Origin}
+use Rattle.kfs_plan_sweep.specs.declared.stretch.Origin.TheVariants.{Zero, Payload}
+use Rattle.kfs_plan_sweep.specs.declared.stretch.Stretch.{Stretch}
+
+-- what a piece that begins at this byte comes from
+abbrev pub source_at : Origin → (start : ℕ) → Source
+source_at Zero start = Source.Zero
+source_at (Payload entry offset) start = Source.Payload entry (start - offset)
+
+abbrev pub piece_made : Stretch → Piece
+piece_made s = record { number = s.number; start = s.start; length = s.end - s.start; source = source_at s.origin s.start }
+
+abbrev pub pieces_made : List Stretch → List Piece
+pieces_made [] = []
+pieces_made (s ∷ ss) = piece_made s ∷ pieces_made ss
+
+-- a payload stands at its offset, at most 65,536 bytes long
+abbrev pub IsPlaced : Origin → (start end : ℕ) → Type 0
+IsPlaced Zero start end = Unit {0}
+IsPlaced (Payload entry offset) start end = (offset ≤ start) × (end ≤ offset + payload_limit)
+
+-- the stretch lies in a file of the greatest size, and in its entry's payload
+pub record IsFit (s : Stretch) : Type 0 where
+  pub end : s.end ≤ size_limit
+  pub placed : IsPlaced s.origin s.start s.end
+
+-- what each Write and each Truncate reaches of its file, below the file's end after the log
+unfoldable pub made : (ends : ℕ → ℕ) → (index : ℕ) → List Entry → List Stretch
+made ends index [] = []
+made ends index (Create d m n kind mode ∷ entries) = made ends (index + 1) entries
+made ends index (Write n offset payload ∷ entries) = record { number = n; start = offset; end = min (offset + length payload) (ends n); origin = Payload index offset } ∷ made ends (index + 1) entries
+made ends index (Truncate n size ∷ entries) = record { number = n; start = size; end = ends n; origin = Zero } ∷ made ends (index + 1) entries
+made ends index (Link n d m ∷ entries) = made ends (index + 1) entries
+made ends index (Unlink d m kind ∷ entries) = made ends (index + 1) entries
+made ends index (Rename d m e k ∷ entries) = made ends (index + 1) entries
+made ends index (Chmod n mode ∷ entries) = made ends (index + 1) entries
+
+-- what files grew by, between their ends before and after the log
+unfoldable pub grown : (before ends : ℕ → ℕ) → (numbers : List ℕ) → List Stretch
+grown before ends [] = []
+grown before ends (n ∷ ns) = record { number = n; start = before n; end = ends n; origin = Zero } ∷ grown before ends ns
+
+-- what a run made: the growth of files, those that grew among them, and then what each entry reaches
+pub record AreMade (tree : Tree ℕ) (entries : List Entry) (after : Tree Mark) (stretches : List Stretch) : Type 0 where
+  pub numbers : List ℕ
+  pub grew : (n : ℕ) → extent tree n < extent after n → IsTrue (list_any (λ k. n == k) numbers)
+  pub are : stretches ≡ grown (extent tree) (extent after) numbers ++ made (extent after) 0 entries
+
+-- whichever run made the stretches, the pieces are right ones of its log
+abbrev pub AreRightOf : List Stretch → List Piece → Type 0
+AreRightOf stretches pieces = EachRun (λ client before tree entries. before.sight ≡ sight tree
+    → IfOk (run over_marks client before (marked tree) entries) (λ after. AreMade tree entries after stretches → ArePieces after pieces))

@@ -1,0 +1,110 @@
+-- The sizes of files before and after a log, and the stretches that its entries make below the sizes after.
+use Rattle.std.specs.Prelude.{◌≡◌, ℕ, ◌+◌, ◌-◌, ◌<◌, ◌≤◌, ◌==◌, min, Bool, false, List, [], ◌∷◌, length, map, Option, Some, None, IfOk, IsTrue, if◌then◌else◌}
+use Rattle.std.specs.List.{list_any, AllByRecursion}
+use Rattle.kfs_model.specs.Access.{Client}
+use Rattle.kfs_model.specs.Entry.{Entry, Create, Write, Truncate, Link, Unlink, Rename, Chmod}
+use Rattle.kfs_model.specs.LastCover.{extent}
+use Rattle.kfs_model.specs.Limits.{payload_limit, size_limit}
+use Rattle.kfs_model.specs.Plan.{ArePieces}
+use Rattle.kfs_model.specs.PlanRow.{Piece}
+use Rattle.kfs_model.specs.Run.{Mark, run, over_marks, marked}
+use Rattle.kfs_model.specs.Sight.{Sight, ClientSight, sight}
+use Rattle.kfs_model.specs.Tree.{Tree}
+use Rattle.kfs_entry_value.specs.Views.{entry_of, IsWithin}
+use Rattle.kfs_entry_value.specs.declared.entry.Span.{Span}
+use Rattle.kfs_entry_value.specs.declared.entry.Entry.{Entry as CodeEntry}
+use Rattle.kfs_entry_value.specs.declared.entry.Entry.TheVariants as entries
+use Rattle.kfs_plan_sweep.specs.declared.sizes.FileSize.{FileSize}
+use Rattle.kfs_plan_sweep.specs.declared.stretch.Origin.TheVariants.{Zero, Payload}
+use Rattle.kfs_plan_sweep.specs.declared.stretch.Stretch.{Stretch}
+
+-- by number, each of them at least this one, and no number twice
+abbrev pub Ascend : (least : ℕ) → List FileSize → Type 0
+Ascend least [] = Unit {0}
+Ascend least (s ∷ ss) = (least ≤ s.number) × Ascend (s.number + 1) ss
+
+-- the size after the log, 0 of a file that isn't listed
+abbrev pub length_after : List FileSize → (number : ℕ) → ℕ
+length_after [] number = 0
+length_after (s ∷ ss) number = if s.number == number then s.after else length_after ss number
+
+-- no file is longer
+abbrev pub IsSize : FileSize → Type 0
+IsSize s = s.after ≤ size_limit
+
+-- a payload's span isn't turned round, and no longer than a payload may be
+abbrev pub IsSpanned : CodeEntry Span → Type 0
+IsSpanned (entries.Write n offset p) = (p.start ≤ p.end) × (p.end ≤ p.start + payload_limit)
+IsSpanned (entries.Create d m n k mode) = Unit {0}
+IsSpanned (entries.Truncate n size) = Unit {0}
+IsSpanned (entries.Link n d m) = Unit {0}
+IsSpanned (entries.Unlink d m k) = Unit {0}
+IsSpanned (entries.Rename d m e k) = Unit {0}
+IsSpanned (entries.Chmod n mode) = Unit {0}
+
+-- what a file grew by
+abbrev pub growth_of : FileSize → Stretch
+growth_of s = record { number = s.number; start = s.before; end = s.after; origin = Zero }
+
+abbrev pub growths : List FileSize → List Stretch
+growths sizes = map growth_of sizes
+
+-- what an entry reaches of its file
+abbrev pub reach_of : List FileSize → (index : ℕ) → CodeEntry Span → Option Stretch
+reach_of sizes index (entries.Write n offset p) =
+    Some (record { number = n; start = offset; end = min (offset + (p.end - p.start)) (length_after sizes n); origin = Payload index offset })
+reach_of sizes index (entries.Truncate n size) = Some (record { number = n; start = size; end = length_after sizes n; origin = Zero })
+reach_of sizes index (entries.Create d m n k mode) = None
+reach_of sizes index (entries.Link n d m) = None
+reach_of sizes index (entries.Unlink d m k) = None
+reach_of sizes index (entries.Rename d m e k) = None
+reach_of sizes index (entries.Chmod n mode) = None
+
+abbrev pub put_before : Option Stretch → List Stretch → List Stretch
+put_before None stretches = stretches
+put_before (Some stretch) stretches = stretch ∷ stretches
+
+-- what the entries reach, the first of them having this index
+abbrev pub reaches : List FileSize → (index : ℕ) → List (CodeEntry Span) → List Stretch
+reaches sizes index [] = []
+reaches sizes index (entry ∷ rest) = put_before (reach_of sizes index entry) (reaches sizes (index + 1) rest)
+
+-- a Write or a Truncate of this file
+abbrev pub reaches_file : (number : ℕ) → Entry → Bool
+reaches_file number (Write n offset payload) = number == n
+reaches_file number (Truncate n size) = number == n
+reaches_file number (Create d m n kind mode) = false
+reaches_file number (Link n d m) = false
+reaches_file number (Unlink d m kind) = false
+reaches_file number (Rename d m e k) = false
+reaches_file number (Chmod n mode) = false
+
+-- the sizes are those of a run; each file that grew is listed, and each that an entry reaches, if it is there after the log
+pub record AreSizes (tree : Tree ℕ) (entries : List Entry) (after : Tree Mark) (sizes : List FileSize) : Type 0 where
+  pub own : AllByRecursion (λ (s : FileSize). (s.before ≡ extent tree s.number) × (s.after ≡ extent after s.number)) sizes
+  pub grew : (n : ℕ) → extent tree n < extent after n → IsTrue (list_any (λ k. n == k) (map (λ (s : FileSize). s.number) sizes))
+  pub reached : (n : ℕ) → IsTrue (list_any (reaches_file n) entries) → length_after sizes n ≡ extent after n
+
+-- the size that the header says, 0 of none
+abbrev pub size_in : Sight → ℕ → ℕ
+size_in sight n = elim (sight.head n) [ None ↦ 0 | Some header ↦ header.size ]
+
+-- the sizes are those of two sights, the later one cut off at the greatest of a file; each number whose size grew is listed, and each that an entry reaches
+pub record AreSizesBetween (before after : Sight) (entries : List Entry) (sizes : List FileSize) : Type 0 where
+  pub own : AllByRecursion (λ (s : FileSize). (s.before ≡ size_in before s.number) × (s.after ≡ min (size_in after s.number) size_limit)) sizes
+  pub grew : (n : ℕ) → size_in before n < size_in after n → IsTrue (list_any (λ k. n == k) (map (λ (s : FileSize). s.number) sizes))
+  pub reached : (n : ℕ) → IsTrue (list_any (reaches_file n) entries) → IsTrue (list_any (λ k. n == k) (map (λ (s : FileSize). s.number) sizes))
+
+-- right pieces, of files whose sizes are listed
+pub record AreSwept (sizes : List FileSize) (after : Tree Mark) (pieces : List Piece) : Type 0 where
+  pub right : ArePieces after pieces
+  pub listed : AllByRecursion (λ (p : Piece). length_after sizes p.number ≡ extent after p.number) pieces
+
+-- whichever run of the entries has these sizes, the pieces are right ones of it
+abbrev pub AreRightFor : List FileSize → List Entry → List Piece → Type 0
+AreRightFor sizes entries pieces = (client : Client) (before : ClientSight) (tree : Tree ℕ) → before.sight ≡ sight tree
+    → IfOk (run over_marks client before (marked tree) entries) (λ after. AreSizes tree entries after sizes → AreSwept sizes after pieces)
+
+-- whatever bytes the payloads' spans are of, the pieces are right ones for the entries
+abbrev pub AreRightFrom : List FileSize → List (CodeEntry Span) → List Piece → Type 0
+AreRightFrom sizes entries pieces = (source : List ℕ) → AllByRecursion (IsWithin (length source)) entries → AreRightFor sizes (map (entry_of source) entries) pieces

@@ -1,0 +1,134 @@
+//! The blocks of a file that its right pieces write, one by one, and the ranges of blocks that they make all zero.
+ghost use Rattle.std.specs.Prelude.{◌≡◌, ◌+◌, ◌++◌, ◌≤◌, ◌^◌, IfOk, map};
+ghost use Rattle.std.specs.List.{AllByRecursion};
+ghost use Rattle.kfs_model.specs.Blocks.{touches};
+ghost use Rattle.kfs_model.specs.Limits.{size_limit};
+ghost use Rattle.kfs_model.specs.Placement.{block_count};
+ghost use Rattle.kfs_entry_value.specs.Views.{piece_of};
+ghost use Rattle.kfs_plan_sweep.specs.BlockLists.{HasListed, blocks_between, cleared_runs, listed, zeros_start};
+ghost use Rattle.kfs_plan_sweep.specs.Lefts.{IsFilled, IsWhole};
+ghost use Rattle.kfs_plan_sweep.specs.PieceBlocks.{blocks_in};
+
+use crate::blocks::{goes_on_at, touched_by, zeros_end};
+use crate::touched::Touched;
+use kfs_entry_value::{BLOCK_SIZE, Piece, Source};
+use std::alloc::{AllocError, Allocator};
+
+/// Blocks of a file from the first on, without the end.
+#[derive(Clone, Copy, Debug, PartialEq, Eq)]
+pub struct BlockRange {
+    pub first: u32,
+    pub end: u32,
+}
+
+/// Lists the blocks of a stretch, if there is one, those before `next` left out, and answers the next block.
+fn list_blocks<A: Allocator>(
+    out: &mut Vec<u32, A>,
+    next: u64,
+    touched: Option<Touched>,
+) -> Result<u64, AllocError>
+    requires { next ≤ 2 ^ 20 + 1 }
+    ensures lists { IfOk result (λ later. HasListed out.old.items next (blocks_in touched) out.new.items later) }
+    ensures near { IfOk result (λ later. later ≤ 2 ^ 20 + 1) }
+{
+    let Some(blocks) = touched else {
+        return Ok(next);
+    };
+    for block in blocks.first.max(next)..blocks.last + 1 {
+        out.push(block as u32)?;
+    }
+    Ok(next.max(blocks.last + 1))
+}
+
+/// The blocks that the right pieces of one file write, ascending, where the file has this size after the log.
+pub fn written_in<A: Allocator>(
+    alloc: A,
+    pieces: &[Piece],
+    size: u64,
+) -> Result<Vec<u32, A>, AllocError>
+    requires whole { AllByRecursion IsWhole pieces.now }
+    requires filled { AllByRecursion IsFilled pieces.now }
+    ensures { IfOk result (λ blocks. blocks.items ≡ listed 0 (touches size 0 (map piece_of pieces.now))) }
+{
+    let mut out = Vec::new(alloc);
+    let mut next = 0;
+    let mut until = 0;
+    for (index, piece) in pieces.iter().enumerate() {
+        let goes_on = goes_on_at(pieces, index + 1, piece.start + piece.len);
+        let (front, back) = touched_by(until, piece, goes_on, size);
+        next = list_blocks(&mut out, next, front)?;
+        next = list_blocks(&mut out, next, back)?;
+        until = zeros_end(piece);
+    }
+    Ok(out)
+}
+
+/// How many blocks reach to this place.
+fn blocks_to(place: u64) -> u64
+    requires { place ≤ size_limit }
+    ensures { result ≡ block_count place }
+{
+    place.div_ceil(BLOCK_SIZE)
+}
+
+/// Adds the range of the blocks whose bytes all lie from one place to another of a file of this size, unless it is empty.
+fn add_between<A: Allocator>(
+    out: &mut Vec<BlockRange, A>,
+    size: u64,
+    start: u64,
+    end: u64,
+) -> Result<(), AllocError>
+    requires start { start ≤ size_limit }
+    requires end { end ≤ size_limit }
+    ensures { IfOk result (λ _. out.new.items ≡ out.old.items ++ blocks_between size start end) }
+{
+    let first = blocks_to(start);
+    let behind = if size <= end {
+        blocks_to(size)
+    } else {
+        end / BLOCK_SIZE
+    };
+    if first < behind {
+        out.push(BlockRange {
+            first: first as u32,
+            end: behind as u32,
+        })?;
+    }
+    Ok(())
+}
+
+/// Where the zero bytes of a piece begin, and its end for a payload's.
+fn zeros_start(piece: &Piece) -> u64
+    requires { IsWhole piece.now }
+    ensures value { result ≡ zeros_start (piece_of piece.now) }
+    ensures small { result ≤ size_limit }
+{
+    match piece.source {
+        Source::Zero => piece.start,
+        Source::Payload { entry: _, place: _ } => piece.start + piece.len,
+    }
+}
+
+/// The ranges of the blocks that the right pieces of one file make all zero, where the file has this size after the log: in
+/// their order, none of them empty.
+pub fn cleared_in<A: Allocator>(
+    alloc: A,
+    pieces: &[Piece],
+    size: u64,
+) -> Result<Vec<BlockRange, A>, AllocError>
+    requires { AllByRecursion IsWhole pieces.now }
+    ensures { IfOk result (λ ranges. ranges.items ≡ cleared_runs size (map piece_of pieces.now)) }
+{
+    let mut out = Vec::new(alloc);
+    let mut start = 0;
+    let mut end = 0;
+    for (index, piece) in pieces.iter().enumerate() {
+        if !goes_on_at(pieces, index, end) {
+            add_between(&mut out, size, start, end)?;
+            start = zeros_start(piece);
+        }
+        end = piece.start + piece.len;
+    }
+    add_between(&mut out, size, start, end)?;
+    Ok(out)
+}

@@ -1,0 +1,121 @@
+//! A plan's pieces followed along right ones.
+ghost use Rattle.std.specs.Prelude.{◌≡◌, ◌+◌, ◌<◌, ◌≤◌, ◌^◌, ℕ, List, drop, map, IfSome, MatchOption, Option, None, Some};
+ghost use Rattle.std.specs.Option.{option_map};
+ghost use Rattle.std.specs.List.{AllByRecursion};
+ghost use Rattle.kfs_entry_value.specs.Views.{piece_of};
+ghost use Rattle.kfs_model.specs.Compare.{begins_alike, behind_piece, first_apart, without_front};
+ghost use Rattle.kfs_plan_sweep.specs.Lefts.{IsShort, IsWhole, left_of, pieces_left};
+
+use kfs_entry_value::{Piece, Source};
+
+/// What is left of right pieces: a first one, perhaps without its front, and those from `next` on.
+#[derive(Clone, Copy)]
+pub(crate) struct Left {
+    pub front: Option<Piece>,
+    pub next: usize,
+}
+
+fn left_from(right: &[Piece], next: usize) -> Left
+    ensures { left_of right.now result ≡ drop next right.now }
+{
+    if next < right.len() {
+        Left {
+            front: Some(right[next]),
+            next: next + 1,
+        }
+    } else {
+        Left { front: None, next }
+    }
+}
+
+/// Whether both begin at the same byte and say the same of it.
+fn begin_alike(piece: &Piece, right: &Piece) -> bool
+    ensures { result ≡ begins_alike (piece_of piece.now) (piece_of right.now) }
+{
+    if piece.number != right.number || piece.start != right.start {
+        return false;
+    }
+    match (piece.source, right.source) {
+        (Source::Zero, Source::Zero) => true,
+        (
+            Source::Payload { entry, place },
+            Source::Payload {
+                entry: other,
+                place: there,
+            },
+        ) => entry == other && place == there,
+        _ => false,
+    }
+}
+
+/// The piece without its first bytes.
+fn cut_front(piece: Piece, distance: u64) -> Piece
+    requires within { distance ≤ piece.len }
+    requires short { IsShort (piece_of piece) distance }
+    ensures { piece_of result ≡ without_front distance (piece_of piece) }
+{
+    let source = match piece.source {
+        Source::Zero => Source::Zero,
+        Source::Payload { entry, place } => Source::Payload {
+            entry,
+            place: place + distance as u32,
+        },
+    };
+    Piece {
+        number: piece.number,
+        start: piece.start + distance,
+        len: piece.len - distance,
+        source,
+    }
+}
+
+/// What is left behind a piece, if the piece says what the right pieces say from their first byte on.
+fn left_behind(right: &[Piece], left: Left, piece: &Piece) -> Option<Left>
+    requires short { AllByRecursion IsWhole (left_of right.now left) }
+    ensures behind { option_map (λ after. pieces_left right.now after) result ≡ behind_piece (piece_of piece.now) (pieces_left right.now left) }
+    ensures short { IfSome result (λ after. AllByRecursion IsWhole (left_of right.now after)) }
+{
+    let mut wanted = *piece;
+    let mut left = left;
+    while let Some(front) = left.front {
+        if !begin_alike(&wanted, &front) {
+            return None;
+        }
+        if wanted.len < front.len {
+            let back = cut_front(front, wanted.len);
+            return Some(Left {
+                front: Some(back),
+                next: left.next,
+            });
+        }
+        if wanted.len == front.len {
+            return Some(left_from(right, left.next));
+        }
+        wanted = cut_front(wanted, front.len);
+        left = left_from(right, left.next);
+    }
+    None
+}
+
+/// The first piece that is empty or isn't what is left of the right pieces begins with, or the count of pieces where some of
+/// the right ones are left.
+pub fn first_piece_apart(pieces: &[Piece], right: &[Piece]) -> Option<usize>
+    requires { AllByRecursion IsWhole right.now }
+    ensures { result ≡ first_apart 0 (map piece_of pieces.now) (map piece_of right.now) }
+{
+    let mut left = left_from(right, 0);
+    for (index, piece) in pieces.iter().enumerate() {
+        if piece.len == 0 {
+            return Some(index);
+        }
+        match left_behind(right, left, piece) {
+            Some(behind) => left = behind,
+            None => return Some(index),
+        }
+    }
+    if left.front.is_some() {
+        Some(pieces.len())
+    } else {
+        None
+    }
+}

@@ -1,0 +1,19 @@
+//! Laws of the lists of blocks: each is the contract of a function without a body.
+
+ghost use Rattle.std.specs.Prelude.{◌≡◌, ℕ, List, flat_map};
+ghost use Rattle.kfs_model.specs.Placement.{written_blocks};
+ghost use Rattle.kfs_model.specs.Plan.{ArePieces};
+ghost use Rattle.kfs_model.specs.PlanRow.{Piece};
+ghost use Rattle.kfs_model.specs.Run.{Mark};
+ghost use Rattle.kfs_model.specs.Tree.{Tree};
+ghost use Rattle.kfs_plan_sweep.specs.BlockLists.{IsClearedInRanges, node_written};
+
+/// The blocks that a log writes are those that right pieces list, file by file, however they are cut.
+pub fn written_blocks_are_listed()
+    ensures { (after : Tree Mark) (pieces : List Piece) → ArePieces after pieces → written_blocks after ≡ flat_map (node_written pieces) after.nodes.entries }
+{}
+
+/// The blocks of a file that a log makes all zero are those in the ranges that right pieces clear, however they are cut.
+pub fn cleared_blocks_are_in_ranges()
+    ensures { (after : Tree Mark) (pieces : List Piece) → ArePieces after pieces → (number : ℕ) → IsClearedInRanges after pieces number }
+{}

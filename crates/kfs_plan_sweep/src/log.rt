@@ -1,0 +1,112 @@
+//! What the entries of a log make of the bytes of files.
+ghost use Rattle.std.specs.Prelude.{◌≡◌, ◌≤◌, ◌++◌, IfOk, IfSome, length, map};
+ghost use Rattle.std.specs.List.{AllByRecursion};
+ghost use Rattle.kfs_model.specs.Limits.{entry_limit};
+ghost use Rattle.kfs_entry_value.specs.Views.{piece_of};
+ghost use Rattle.kfs_plan_sweep.specs.Lefts.{IsFilled, IsWhole};
+ghost use Rattle.kfs_plan_sweep.specs.Made.{IsFit};
+ghost use Rattle.kfs_plan_sweep.specs.Parts.{AreByNumber};
+ghost use Rattle.kfs_plan_sweep.specs.Sizes.{AreRightFrom, Ascend, IsSize, IsSpanned, growth_of, growths, reach_of, reaches};
+
+use crate::pieces::right_pieces;
+use crate::sizes::{FileSize, size_after};
+use crate::stretch::{Origin, Stretch};
+use kfs_entry_value::{Entry, Piece, Span};
+use std::alloc::{AllocError, Allocator};
+
+/// What a file grew by; empty where it didn't grow.
+fn growth(size: &FileSize) -> Stretch
+    requires { IsSize size.now }
+    ensures made { result ≡ growth_of size.now }
+    ensures fit { IsFit result }
+{
+    Stretch {
+        number: size.number,
+        start: size.before,
+        end: size.after,
+        origin: Origin::Zero,
+    }
+}
+
+/// What the entry of this index reaches of its file, below the file's size after the log; none for an entry that is neither
+/// a Write nor a Truncate.
+fn reach(sizes: &[FileSize], index: u16, entry: &Entry<Span>) -> Option<Stretch>
+    requires ascending { Ascend 0 sizes.now }
+    requires sizes { AllByRecursion IsSize sizes.now }
+    requires span { IsSpanned entry.now }
+    ensures made { result ≡ reach_of sizes.now index entry.now }
+    ensures fit { IfSome result IsFit }
+{
+    match entry {
+        Entry::Write {
+            number,
+            offset,
+            payload,
+        } => {
+            let end = offset.saturating_add((payload.end - payload.start) as u64);
+            Some(Stretch {
+                number: *number,
+                start: *offset,
+                end: end.min(size_after(sizes, *number)),
+                origin: Origin::Payload {
+                    entry: index,
+                    offset: *offset,
+                },
+            })
+        }
+        Entry::Truncate { number, size } => Some(Stretch {
+            number: *number,
+            start: *size,
+            end: size_after(sizes, *number),
+            origin: Origin::Zero,
+        }),
+        _ => None,
+    }
+}
+
+/// What a log made: what each listed file grew by, and then what each Write and each Truncate reaches of its file.
+fn stretches_of<A: Allocator>(
+    alloc: A,
+    sizes: &[FileSize],
+    entries: &[Entry<Span>],
+) -> Result<Vec<Stretch, A>, AllocError>
+    requires ascending { Ascend 0 sizes.now }
+    requires sizes { AllByRecursion IsSize sizes.now }
+    requires spans { AllByRecursion IsSpanned entries.now }
+    requires count { length entries.now ≤ entry_limit }
+    ensures made { IfOk result (λ out. out.items ≡ growths sizes.now ++ reaches sizes.now 0 entries.now) }
+    ensures fit { IfOk result (λ out. AllByRecursion IsFit out.items) }
+{
+    let mut out = Vec::new(alloc);
+    for size in sizes {
+        out.push(growth(size))?;
+    }
+    for (index, entry) in entries.iter().enumerate() {
+        if let Some(stretch) = reach(sizes, index as u16, entry) {
+            out.push(stretch)?;
+        }
+    }
+    Ok(out)
+}
+
+/// Right pieces of a log, from its entries and the sizes of files: of each file that grew, and of each that a Write or a
+/// Truncate names and that is there after the log. The numbers of `sizes` ascend, the log has at most 4,096 entries, and
+/// payloads and sizes are in their ranges. Refused growths are the only error.
+pub fn sweep<A: Allocator + Copy>(
+    alloc: A,
+    sizes: &[FileSize],
+    entries: &[Entry<Span>],
+) -> Result<Vec<Piece, A>, AllocError>
+    requires ascending { Ascend 0 sizes.now }
+    requires sizes { AllByRecursion IsSize sizes.now }
+    requires spans { AllByRecursion IsSpanned entries.now }
+    requires count { length entries.now ≤ entry_limit }
+    ensures right { IfOk result (λ out. AreRightFrom sizes.now entries.now (map piece_of out.items)) }
+    ensures whole { IfOk result (λ out. AllByRecursion IsWhole out.items) }
+    ensures filled { IfOk result (λ out. AllByRecursion IsFilled out.items) }
+    ensures order { IfOk result (λ out. AreByNumber 0 out.items) }
+{
+    let stretches = stretches_of(alloc, sizes, entries)?;
+    let out = right_pieces(alloc, stretches.as_slice())?;
+    Ok(out)
+}

@@ -1,0 +1,174 @@
+//! Lists of stretches, one laid over another.
+ghost use Rattle.std.specs.Prelude.{◌≡◌, ◌++◌, IfOk, ℕ, List, [], ◌∷◌, drop};
+ghost use Rattle.kfs_plan_sweep.specs.Stretches.{AreFrom, begins_before, cut_below, cut_from, ends_by, last_origin, merged, origin_at};
+ghost use Rattle.std.specs.List.{AllByRecursion};
+ghost use Rattle.kfs_plan_sweep.specs.Made.{IsFit};
+ghost use Rattle.kfs_plan_sweep.specs.Rests.{rest_of};
+
+use crate::stretch::Stretch;
+use std::alloc::{AllocError, Allocator};
+
+/// What is left of a list: a first stretch, perhaps without its front, and those of the list from `next` on.
+#[derive(Clone, Copy)]
+pub(crate) struct Rest {
+    pub front: Option<Stretch>,
+    pub next: usize,
+}
+
+/// The list from `next` on.
+fn from_next(list: &[Stretch], next: usize) -> Rest
+    ensures { rest_of list.now result ≡ drop next list.now }
+{
+    if next < list.len() {
+        Rest {
+            front: Some(list[next]),
+            next: next + 1,
+        }
+    } else {
+        Rest { front: None, next }
+    }
+}
+
+/// Whether the stretch ends at this byte or before it.
+fn is_over(stretch: &Stretch, number: u32, place: u64) -> bool
+    ensures { result ≡ ends_by number place stretch.now }
+{
+    stretch.number < number || stretch.number == number && stretch.end <= place
+}
+
+/// Whether the stretch begins before this byte of its file.
+fn has_begun(stretch: &Stretch, number: u32, place: u64) -> bool
+    ensures { result ≡ begins_before number place stretch.now }
+{
+    stretch.number == number && stretch.start < place
+}
+
+/// Moves what lies before the byte to `out`, and answers what is left.
+fn take_below<A: Allocator>(
+    out: &mut Vec<Stretch, A>,
+    list: &[Stretch],
+    rest: Rest,
+    number: u32,
+    place: u64,
+) -> Result<Rest, AllocError>
+    ensures taken { IfOk result (λ _. out.new.items ≡ out.old.items ++ cut_below number place (rest_of list.now rest)) }
+    ensures left { IfOk result (λ left. rest_of list.now left ≡ cut_from number place (rest_of list.now rest)) }
+{
+    let mut left = rest;
+    while let Some(stretch) = left.front {
+        if is_over(&stretch, number, place) {
+            out.push(stretch)?;
+            left = from_next(list, left.next);
+        } else if has_begun(&stretch, number, place) {
+            out.push(Stretch {
+                end: place,
+                ..stretch
+            })?;
+            let back = Stretch {
+                start: place,
+                ..stretch
+            };
+            return Ok(Rest {
+                front: Some(back),
+                next: left.next,
+            });
+        } else {
+            return Ok(left);
+        }
+    }
+    Ok(left)
+}
+
+/// What is left without what lies before the byte.
+fn skip_below(list: &[Stretch], rest: Rest, number: u32, place: u64) -> Rest
+    ensures { rest_of list.now result ≡ cut_from number place (rest_of list.now rest) }
+{
+    let mut left = rest;
+    while let Some(stretch) = left.front {
+        if is_over(&stretch, number, place) {
+            left = from_next(list, left.next);
+        } else if has_begun(&stretch, number, place) {
+            let back = Stretch {
+                start: place,
+                ..stretch
+            };
+            return Rest {
+                front: Some(back),
+                next: left.next,
+            };
+        } else {
+            return left;
+        }
+    }
+    left
+}
+
+/// Moves all that is left to `out`.
+fn take_all<A: Allocator>(
+    out: &mut Vec<Stretch, A>,
+    list: &[Stretch],
+    rest: Rest,
+) -> Result<(), AllocError>
+    ensures { IfOk result (λ _. out.new.items ≡ out.old.items ++ rest_of list.now rest) }
+{
+    let mut left = rest;
+    while let Some(stretch) = left.front {
+        out.push(stretch)?;
+        left = from_next(list, left.next);
+    }
+    Ok(())
+}
+
+/// The upper list laid over the lower one: all of the upper list, and what the lower one has beside it.
+pub fn laid_over<A: Allocator>(
+    alloc: A,
+    lower: &[Stretch],
+    upper: &[Stretch],
+) -> Result<Vec<Stretch, A>, AllocError>
+    ensures { IfOk result (λ out. out.items ≡ merged lower.now upper.now) }
+{
+    let mut out = Vec::new(alloc);
+    let mut rest = from_next(lower, 0);
+    for stretch in upper {
+        let left = take_below(&mut out, lower, rest, stretch.number, stretch.start)?;
+        out.push(*stretch)?;
+        rest = skip_below(lower, left, stretch.number, stretch.end);
+    }
+    take_all(&mut out, lower, rest)?;
+    Ok(out)
+}
+
+/// For each byte the last of the stretches that has it. Stretches may overlap and be empty; a later one hides an earlier one.
+pub fn last_of_all<A: Allocator + Copy>(
+    alloc: A,
+    stretches: &[Stretch],
+) -> Result<Vec<Stretch, A>, AllocError>
+    ensures order { IfOk result (λ out. AreFrom 0 0 out.items) }
+    ensures says { IfOk result (λ out. (number place : ℕ) → origin_at out.items number place ≡ last_origin stretches.now number place) }
+    ensures fit { IfOk result (λ out. AllByRecursion IsFit stretches.now → AllByRecursion IsFit out.items) }
+{
+    match stretches {
+        [] => Ok(Vec::new(alloc)),
+        [stretch] => alone(alloc, stretch),
+        _ => {
+            let middle = stretches.len() / 2;
+            let earlier = last_of_all(alloc, &stretches[..middle])?;
+            let later = last_of_all(alloc, &stretches[middle..])?;
+            let out = laid_over(alloc, earlier.as_slice(), later.as_slice())?;
+            Ok(out)
+        }
+    }
+}
+
+/// The stretch, or nothing where it is empty.
+fn alone<A: Allocator>(alloc: A, stretch: &Stretch) -> Result<Vec<Stretch, A>, AllocError>
+    ensures order { IfOk result (λ out. AreFrom 0 0 out.items) }
+    ensures says { IfOk result (λ out. (number place : ℕ) → origin_at out.items number place ≡ last_origin (stretch.now ∷ []) number place) }
+    ensures fit { IfOk result (λ out. IsFit stretch.now → AllByRecursion IsFit out.items) }
+{
+    let mut out = Vec::new(alloc);
+    if stretch.start < stretch.end {
+        out.push(*stretch)?;
+    }
+    Ok(out)
+}

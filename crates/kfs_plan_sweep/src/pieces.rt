@@ -1,0 +1,68 @@
+//! Right pieces of a log, made of stretches.
+ghost use Rattle.std.specs.Prelude.{◌≡◌, ◌<◌, ℕ, IfOk, map};
+ghost use Rattle.std.specs.List.{AllByRecursion};
+ghost use Rattle.kfs_entry_value.specs.Views.{piece_of};
+ghost use Rattle.kfs_plan_sweep.specs.Lefts.{IsFilled, IsWhole};
+ghost use Rattle.kfs_plan_sweep.specs.Made.{AreRightOf, IsFit, piece_made, pieces_made};
+ghost use Rattle.kfs_plan_sweep.specs.Parts.{AreByNumber};
+ghost use Rattle.kfs_plan_sweep.specs.Stretches.{AreFrom};
+
+use crate::merge::last_of_all;
+use crate::stretch::{Origin, Stretch};
+use kfs_entry_value::{Piece, Source};
+use std::alloc::{AllocError, Allocator};
+
+/// The stretch as a row of a plan.
+fn piece_from(stretch: &Stretch) -> Piece
+    requires fit { IsFit stretch.now }
+    requires filled { stretch.now.start < stretch.now.end }
+    ensures made { piece_of result ≡ piece_made stretch.now }
+    ensures whole { IsWhole result }
+    ensures filled { IsFilled result }
+{
+    let source = match stretch.origin {
+        Origin::Zero => Source::Zero,
+        Origin::Payload { entry, offset } => Source::Payload {
+            entry,
+            place: (stretch.start - offset) as u32,
+        },
+    };
+    Piece {
+        number: stretch.number,
+        start: stretch.start,
+        len: stretch.end - stretch.start,
+        source,
+    }
+}
+
+/// The stretches as rows of a plan.
+fn pieces_from<A: Allocator>(alloc: A, stretches: &[Stretch]) -> Result<Vec<Piece, A>, AllocError>
+    requires fit { AllByRecursion IsFit stretches.now }
+    requires order { AreFrom 0 0 stretches.now }
+    ensures made { IfOk result (λ out. map piece_of out.items ≡ pieces_made stretches.now) }
+    ensures whole { IfOk result (λ out. AllByRecursion IsWhole out.items) }
+    ensures filled { IfOk result (λ out. AllByRecursion IsFilled out.items) }
+    ensures order { IfOk result (λ out. AreByNumber 0 out.items) }
+{
+    let mut out = Vec::new(alloc);
+    for stretch in stretches {
+        out.push(piece_from(stretch))?;
+    }
+    Ok(out)
+}
+
+/// Right pieces of a log, from what it made: what each file grew by, and then what each of its entries reaches of its file.
+pub fn right_pieces<A: Allocator + Copy>(
+    alloc: A,
+    stretches: &[Stretch],
+) -> Result<Vec<Piece, A>, AllocError>
+    requires fit { AllByRecursion IsFit stretches.now }
+    ensures right { IfOk result (λ out. AreRightOf stretches.now (map piece_of out.items)) }
+    ensures whole { IfOk result (λ out. AllByRecursion IsWhole out.items) }
+    ensures filled { IfOk result (λ out. AllByRecursion IsFilled out.items) }
+    ensures order { IfOk result (λ out. AreByNumber 0 out.items) }
+{
+    let laid = last_of_all(alloc, stretches)?;
+    let out = pieces_from(alloc, laid.as_slice())?;
+    Ok(out)
+}

@@ -1,0 +1,60 @@
+-- The commands by their names.
+use Rattle.std.specs.Prelude.{ℕ, List, codes, bytes_eq, Option, Some, None, if◌then◌else◌}
+use Rattle.kfs_program_command.specs.Command.{Command, Setup, Begin, Request, Tick, Node, Listing, DocketLength, Land, alone, client_of, drop_of, judge_of, last_worker, lease_of, new_of, read_of, submit_of, with_number}
+use Rattle.kfs_program_command.specs.declared.command.Name.{Name}
+use Rattle.kfs_program_command.specs.declared.command.Name.TheVariants as names
+use Rattle.kfs_program_text.specs.Decimals.{decimal32, decimal64, decimal_within}
+
+-- ---- the commands with one number alone, and each command by its name
+
+unfoldable pub begin_of : List (List ℕ) → Option Command
+begin_of = with_number decimal32 (λ limit. Setup (Begin limit))
+
+unfoldable pub tick_of : List (List ℕ) → Option Command
+tick_of = with_number decimal64 (λ moment. Request (Tick moment))
+
+unfoldable pub node_of : List (List ℕ) → Option Command
+node_of = with_number decimal32 (λ number. Request (Node number))
+
+unfoldable pub listing_of : List (List ℕ) → Option Command
+listing_of = with_number decimal32 (λ directory. Request (Listing directory))
+
+unfoldable pub docket_of : List (List ℕ) → Option Command
+docket_of = alone (Request DocketLength)
+
+unfoldable pub land_of : List (List ℕ) → Option Command
+land_of = with_number (decimal_within last_worker) (λ worker. Request (Land worker))
+
+-- the command that a word names
+abbrev pub named_by : (word : List ℕ) → Option Name
+named_by word =
+    if bytes_eq word (codes "new") then Some names.New
+    else if bytes_eq word (codes "client") then Some names.Client
+    else if bytes_eq word (codes "begin") then Some names.Begin
+    else if bytes_eq word (codes "lease") then Some names.Lease
+    else if bytes_eq word (codes "drop") then Some names.Drop
+    else if bytes_eq word (codes "tick") then Some names.Tick
+    else if bytes_eq word (codes "submit") then Some names.Submit
+    else if bytes_eq word (codes "node") then Some names.Node
+    else if bytes_eq word (codes "list") then Some names.List
+    else if bytes_eq word (codes "read") then Some names.Read
+    else if bytes_eq word (codes "docket") then Some names.Docket
+    else if bytes_eq word (codes "judge") then Some names.Judge
+    else if bytes_eq word (codes "land") then Some names.Land
+    else None
+
+abbrev pub command_named : Option Name → List (List ℕ) → Option Command
+command_named None words = None
+command_named (Some names.New) words = new_of words
+command_named (Some names.Client) words = client_of words
+command_named (Some names.Begin) words = begin_of words
+command_named (Some names.Lease) words = lease_of words
+command_named (Some names.Drop) words = drop_of words
+command_named (Some names.Tick) words = tick_of words
+command_named (Some names.Submit) words = submit_of words
+command_named (Some names.Node) words = node_of words
+command_named (Some names.List) words = listing_of words
+command_named (Some names.Read) words = read_of words
+command_named (Some names.Docket) words = docket_of words
+command_named (Some names.Judge) words = judge_of words
+command_named (Some names.Land) words = land_of words

@@ -1,0 +1,328 @@
+//! The command lines that a session answers.
+ghost use Rattle.std.specs.Prelude.{◌≡◌, ℕ, List, true, false, IfOk, IsErrOf, None, Some};
+ghost use Rattle.kfs_lease_rows.specs.Rows.{kind_of};
+ghost use Rattle.kfs_plan.specs.Judging.{submission_of};
+ghost use Rattle.kfs_program_command.specs.Command.{Listing as ListingLine, Node as NodeLine, Request, Setup, Submit as SubmitLine, asked_by, client_of, drop_of, judge_of, kind_named, last_worker, lease_of, new_of, read_of, submission_in, submit_of};
+ghost use Rattle.kfs_program_command.specs.Reading.{begin_of, command_named, docket_of, land_of, listing_of, named_by, node_of, tick_of};
+ghost use Rattle.kfs_program_command.specs.Views.{act_of, asked_of, asked_of_desk, opening_of};
+ghost use Rattle.kfs_program_text.specs.Decimals.{decimal_within};
+ghost use Rattle.kfs_program_text.specs.Reading.{ReadsAs, checked, first_by, words_left};
+
+use crate::worker::{LAST_WORKER, Worker};
+use kfs_image_nodes::TierSizes;
+use kfs_lease::{Act, LeaseKind};
+use kfs_mode::{Client, ClientFault};
+use kfs_plan::Submission;
+use kfs_program_text::{Refusal, Words};
+use std::alloc::Allocator;
+
+/// The most bytes that a line may ask for.
+const READ_LIMIT: u64 = 65_536;
+
+/// A command with its words read.
+#[derive(Drop)]
+pub enum Command<'a, A: Allocator> {
+    Opening(OpeningCommand),
+    Desk(DeskCommand<'a, A>),
+}
+
+/// A command that comes before the desk is begun.
+#[derive(Drop)]
+pub enum OpeningCommand {
+    /// `new A B C`: a fresh image over tiers of these sizes.
+    New(TierSizes),
+    /// `client N UID GID PRIV FIRST LAST [GROUP ..]`: one client more, where its row is right.
+    Client(Result<Client, ClientFault>),
+    /// `begin LIMIT`: the desk, whose docket has at most this many rows.
+    Begin(u32),
+}
+
+/// A command to the desk.
+#[derive(Drop)]
+pub enum DeskCommand<'a, A: Allocator> {
+    /// `lease N PATH K END`, `drop N NUMBER` or `tick M`: a call for the leases.
+    Act(Act<'a>),
+    /// `submit N LOG PLAN`: a log and its plan.
+    Submit(Submission<A>),
+    /// `node N`: the header of a node.
+    Node(u32),
+    /// `list N`: the names of a directory.
+    List(u32),
+    /// `read N START LEN`: at most LEN bytes of a file from START on, of which LEN is at most 65,536.
+    Read {
+        number: u32,
+        start: u64,
+        count: u32,
+    },
+    /// `docket`: how many rows the docket has.
+    Docket,
+    /// `judge W N LOG PLAN`: a log and its plan, whose verdict the worker holds.
+    Judge {
+        worker: Worker,
+        submission: Submission<A>,
+    },
+    /// `land W`: the verdict that the worker holds.
+    Land {
+        worker: Worker,
+    },
+}
+
+impl<'a, A: Allocator + Copy> Command<'a, A> {
+    /// Reads a line, which comes without its end. What is no command, or has a number out of its
+    /// range, is a bad line.
+    pub fn read(alloc: A, line: &'a [u8]) -> Result<Command<'a, A>, Refusal>
+        ensures ok { IfOk result (λ command. asked_by line.now ≡ Some (asked_of command)) }
+        ensures bad { IsErrOf result Refusal.BadLine → asked_by line.now ≡ None }
+    {
+        let mut words = Words::new(line);
+        let name = name_in(words.word()?);
+        Command::named(alloc, name, &mut words)
+    }
+
+    /// The command of this name with the words behind it.
+    #[tactic(auto, using(crate::proofs::Readings::nameless))]
+    fn named(alloc: A, name: Option<Name>, words: &mut Words<'a>) -> Result<Command<'a, A>, Refusal>
+        ensures { ReadsAs asked_of (checked (command_named name) (words_left words.old)) result }
+    {
+        match name.ok_or(Refusal::BadLine)? {
+            Name::New => Ok(Command::Opening(read_new(words)?)),
+            Name::Client => Ok(Command::Opening(read_client(words)?)),
+            Name::Begin => Ok(Command::Opening(read_begin(words)?)),
+            Name::Lease => Ok(Command::Desk(DeskCommand::Act(read_lease(words)?))),
+            Name::Drop => Ok(Command::Desk(DeskCommand::Act(read_drop(words)?))),
+            Name::Tick => Ok(Command::Desk(DeskCommand::Act(read_tick(words)?))),
+            Name::Submit => Ok(Command::Desk(DeskCommand::Submit(read_submit(alloc, words)?))),
+            Name::Node => Ok(Command::Desk(DeskCommand::Node(read_node(words)?))),
+            Name::List => Ok(Command::Desk(DeskCommand::List(read_list(words)?))),
+            Name::Read => Ok(Command::Desk(read_bytes(words)?)),
+            Name::Docket => Ok(Command::Desk(read_docket(words)?)),
+            Name::Judge => Ok(Command::Desk(read_judge(alloc, words)?)),
+            Name::Land => Ok(Command::Desk(read_land(words)?)),
+        }
+    }
+}
+
+/// The name of a command.
+#[derive(Clone, Copy)]
+enum Name {
+    New,
+    Client,
+    Begin,
+    Lease,
+    Drop,
+    Tick,
+    Submit,
+    Node,
+    List,
+    Read,
+    Docket,
+    Judge,
+    Land,
+}
+
+/// The command that the word names.
+fn name_in(word: &[u8]) -> Option<Name>
+    ensures { result ≡ named_by word.now }
+{
+    if word == b"new".as_slice() {
+        Some(Name::New)
+    } else if word == b"client".as_slice() {
+        Some(Name::Client)
+    } else if word == b"begin".as_slice() {
+        Some(Name::Begin)
+    } else if word == b"lease".as_slice() {
+        Some(Name::Lease)
+    } else if word == b"drop".as_slice() {
+        Some(Name::Drop)
+    } else if word == b"tick".as_slice() {
+        Some(Name::Tick)
+    } else if word == b"submit".as_slice() {
+        Some(Name::Submit)
+    } else if word == b"node".as_slice() {
+        Some(Name::Node)
+    } else if word == b"list".as_slice() {
+        Some(Name::List)
+    } else if word == b"read".as_slice() {
+        Some(Name::Read)
+    } else if word == b"docket".as_slice() {
+        Some(Name::Docket)
+    } else if word == b"judge".as_slice() {
+        Some(Name::Judge)
+    } else if word == b"land".as_slice() {
+        Some(Name::Land)
+    } else {
+        None
+    }
+}
+
+#[tactic(auto, using(crate::proofs::Readings::begin_steps))]
+fn read_begin(words: &mut Words<'_>) -> Result<OpeningCommand, Refusal>
+    ensures { ReadsAs (λ command. Setup (opening_of command)) (checked begin_of (words_left words.old)) result }
+{
+    Ok(OpeningCommand::Begin(words.only_number32()?))
+}
+
+#[tactic(auto, using(crate::proofs::Readings::tick_steps))]
+fn read_tick<'a>(words: &mut Words<'_>) -> Result<Act<'a>, Refusal>
+    ensures { ReadsAs (λ act. Request (act_of act)) (checked tick_of (words_left words.old)) result }
+{
+    let moment = words.only_number64()?;
+    Ok(Act::Tick { moment })
+}
+
+#[tactic(auto, using(crate::proofs::Readings::new_steps))]
+fn read_new(words: &mut Words<'_>) -> Result<OpeningCommand, Refusal>
+    ensures { ReadsAs (λ command. Setup (opening_of command)) (checked new_of (words_left words.old)) result }
+{
+    let first = words.number32()?;
+    let second = words.number32()?;
+    let third = words.number32()?;
+    words.end()?;
+    let sizes = TierSizes::new(first, second, third).ok_or(Refusal::BadLine)?;
+    Ok(OpeningCommand::New(sizes))
+}
+
+#[tactic(auto, using(crate::proofs::Readings::client_steps))]
+fn read_client(words: &mut Words<'_>) -> Result<OpeningCommand, Refusal>
+    ensures { ReadsAs (λ command. Setup (opening_of command)) (checked client_of (words_left words.old)) result }
+{
+    let number = words.number32()?;
+    let uid = words.number32()?;
+    let gid = words.number32()?;
+    let privileged = words.number(1)? == 1;
+    let first = words.number32()?;
+    let last = words.number32()?;
+    // One more than a client can have, so that too many are seen.
+    let groups = words.numbers::<17>()?;
+    let client = Client::new(number, uid, gid, groups.as_slice(), privileged, first, last);
+    Ok(OpeningCommand::Client(client))
+}
+
+#[tactic(auto, using(crate::proofs::Readings::lease_steps))]
+fn read_lease<'a>(words: &mut Words<'a>) -> Result<Act<'a>, Refusal>
+    ensures { ReadsAs (λ act. Request (act_of act)) (checked lease_of (words_left words.old)) result }
+{
+    let client = words.number32()?;
+    let path = words.word()?;
+    let kind = lease_kind(words)?;
+    let end = words.number64()?;
+    words.end()?;
+    Ok(Act::Lease {
+        client,
+        path,
+        kind,
+        end,
+    })
+}
+
+#[tactic(auto, unfolding(kfs_program_text::specs::Reading::first_by))]
+fn lease_kind(words: &mut Words<'_>) -> Result<LeaseKind, Refusal>
+    ensures { ReadsAs (λ kind. (kind_of kind, words_left words.new)) (first_by kind_named (words_left words.old)) result }
+{
+    match words.word()? {
+        b"r" => Ok(LeaseKind::Read),
+        b"w" => Ok(LeaseKind::Write),
+        _ => Err(Refusal::BadLine),
+    }
+}
+
+#[tactic(auto, using(crate::proofs::Readings::drop_steps))]
+fn read_drop<'a>(words: &mut Words<'_>) -> Result<Act<'a>, Refusal>
+    ensures { ReadsAs (λ act. Request (act_of act)) (checked drop_of (words_left words.old)) result }
+{
+    let client = words.number32()?;
+    let number = words.number32()?;
+    words.end()?;
+    Ok(Act::Drop { client, number })
+}
+
+#[tactic(auto, using(crate::proofs::Readings::node_steps))]
+fn read_node(words: &mut Words<'_>) -> Result<u32, Refusal>
+    ensures { ReadsAs (λ number. Request (NodeLine number)) (checked node_of (words_left words.old)) result }
+{
+    words.only_number32()
+}
+
+#[tactic(auto, using(crate::proofs::Readings::listing_steps))]
+fn read_list(words: &mut Words<'_>) -> Result<u32, Refusal>
+    ensures { ReadsAs (λ directory. Request (ListingLine directory)) (checked listing_of (words_left words.old)) result }
+{
+    words.only_number32()
+}
+
+#[tactic(auto, using(crate::proofs::Readings::read_steps))]
+fn read_bytes<A: Allocator>(words: &mut Words<'_>) -> Result<DeskCommand<'static, A>, Refusal>
+    ensures { ReadsAs (λ command. Request (asked_of_desk command)) (checked read_of (words_left words.old)) result }
+{
+    let number = words.number32()?;
+    let start = words.number64()?;
+    let count = words.number(READ_LIMIT)? as u32;
+    words.end()?;
+    Ok(DeskCommand::Read {
+        number,
+        start,
+        count,
+    })
+}
+
+#[tactic(auto, using(crate::proofs::Readings::docket_steps))]
+fn read_docket<A: Allocator>(words: &mut Words<'_>) -> Result<DeskCommand<'static, A>, Refusal>
+    ensures { ReadsAs (λ command. Request (asked_of_desk command)) (checked docket_of (words_left words.old)) result }
+{
+    words.end()?;
+    Ok(DeskCommand::Docket)
+}
+
+#[tactic(auto, using(crate::proofs::Readings::submit_steps))]
+fn read_submit<A: Allocator + Copy>(
+    alloc: A,
+    words: &mut Words<'_>,
+) -> Result<Submission<A>, Refusal>
+    ensures { ReadsAs (λ submission. Request (SubmitLine (submission_of submission))) (checked submit_of (words_left words.old)) result }
+{
+    read_submission(alloc, words)
+}
+
+/// A client's number, a log and a plan.
+#[tactic(auto, using(crate::proofs::Readings::submission_steps))]
+fn read_submission<A: Allocator + Copy>(
+    alloc: A,
+    words: &mut Words<'_>,
+) -> Result<Submission<A>, Refusal>
+    ensures { ReadsAs submission_of (checked submission_in (words_left words.old)) result }
+{
+    let client = words.number32()?;
+    let log = words.bytes(alloc)?;
+    let plan = words.bytes(alloc)?;
+    words.end()?;
+    Ok(Submission { client, log, plan })
+}
+
+/// The number of a worker.
+fn read_worker(words: &mut Words<'_>) -> Result<Worker, Refusal>
+    ensures { ReadsAs (λ worker. (worker.number, words_left words.new)) (first_by (decimal_within last_worker) (words_left words.old)) result }
+{
+    let number = words.number(LAST_WORKER)?;
+    Ok(Worker::of(number as u8))
+}
+
+#[tactic(auto, using(crate::proofs::Readings::judge_steps))]
+fn read_judge<A: Allocator + Copy>(
+    alloc: A,
+    words: &mut Words<'_>,
+) -> Result<DeskCommand<'static, A>, Refusal>
+    ensures { ReadsAs (λ command. Request (asked_of_desk command)) (checked judge_of (words_left words.old)) result }
+{
+    let worker = read_worker(words)?;
+    let submission = read_submission(alloc, words)?;
+    Ok(DeskCommand::Judge { worker, submission })
+}
+
+#[tactic(auto, using(crate::proofs::Readings::land_steps))]
+fn read_land<A: Allocator>(words: &mut Words<'_>) -> Result<DeskCommand<'static, A>, Refusal>
+    ensures { ReadsAs (λ command. Request (asked_of_desk command)) (checked land_of (words_left words.old)) result }
+{
+    let worker = read_worker(words)?;
+    words.end()?;
+    Ok(DeskCommand::Land { worker })
+}

@@ -1,0 +1,195 @@
+-- A session: what each line is answered, and what it leaves.
+use Rattle.std.specs.Prelude.{◌≡◌, ◌≢◌, ◌⊎◌, ◌↔◌, ℕ, Bool, List, [], ◌∷◌, ◌++◌, length, codes, decimal, false, IsFalse, Option, Some, None, Result, Ok, Err, if◌then◌else◌}
+use Rattle.kfs_model.specs.Access.{Client}
+use Rattle.kfs_model.specs.Table.{get}
+use Rattle.kfs_model.specs.Tree.{headers}
+use Rattle.kfs_model.specs.Sight.{is_directory}
+use Rattle.kfs_model.specs.Judgement.{Submission}
+use Rattle.kfs_model.specs.Machine as machine
+use Rattle.kfs_model.specs.Machine.{opening}
+use Rattle.kfs_mode.specs.declared.client.ClientFault.{ClientFault}
+use Rattle.kfs_entry_value.specs.Views.{header_of}
+use Rattle.kfs_entry_value.specs.declared.header.Header.{Header as CodeHeader}
+use Rattle.kfs_model_device.specs.ShownTree.{DeviceImage, shown_tree}
+use Rattle.kfs_image.specs.Image.{fresh_image}
+use Rattle.kfs_desk.specs.Machine.{Desk, IsActed, IsAnswered, opened_at}
+use Rattle.kfs_desk.specs.Opening.{begin_fault}
+use Rattle.kfs_plan.specs.declared.answers.ActReply.{ActReply}
+use Rattle.kfs_plan.specs.declared.answers.BeginFault.{BeginFault}
+use Rattle.kfs_plan.specs.declared.answers.Done.{Done}
+use Rattle.kfs_plan.specs.declared.answers.Done.TheVariants.{Leased, Dropped, Ticked}
+use Rattle.kfs_plan.specs.declared.answers.Reply.{Reply}
+use Rattle.kfs_program_command.specs.Command.{Command, Setup, Request, OpeningCommand, New, Row, Begin, DeskCommand, Lease, Drop, Tick, Submit, Node, Listing, Bytes, DocketLength, Judge, Land, asked_by}
+use Rattle.kfs_program_engine.specs.Bytes.{read_text}
+use Rattle.kfs_program_engine.specs.Hands.{Hands, held_by, no_verdict, with_held}
+use Rattle.kfs_workers.specs.Verdict.{IsUpToDate, IsVerdictOn, HeldVerdict}
+use Rattle.kfs_program_engine.specs.Listing.{list_text}
+use Rattle.kfs_report.specs.Text.{act_text, begin_text, client_text, node_text, reply_text}
+use Rattle.kfs_program_text.specs.Parts.{line_of}
+
+-- what a desk is begun with: the image, where one was made, and the clients
+pub record Start : Type 0 where
+  pub image : Option DeviceImage
+  pub clients : List Client
+
+-- before the desk is begun, and after: the desk, and what the workers hold
+pub data Stage : Type 0 where
+  Before : (start : Start) → Stage
+  After : (desk : Desk) (hands : Hands) → Stage
+
+-- neither an image nor a client
+abbrev pub fresh : Stage
+fresh = Before (record { image = None; clients = [] })
+
+-- a reply, and the stage that it leaves
+abbrev pub LineOutcome : Type 0
+LineOutcome = List ℕ × Stage
+
+-- a reply of the desk, and the desk after it
+abbrev pub DeskOutcome : Type 0
+DeskOutcome = List ℕ × Desk
+
+-- a text is appended that, with what it leaves, is such an outcome
+abbrev pub IsReplied : {S : Type 0} → (List ℕ × S → Type 0) → (before after : List ℕ) → S → Type 0
+IsReplied Holds before after s = (text : List ℕ) × (after ≡ before ++ text) × Holds (text, s)
+
+-- this line, which leaves this
+abbrev pub IsSaid : {S : Type 0} → (text : List ℕ) → S → List ℕ × S → Type 0
+IsSaid text s outcome = outcome ≡ (line_of text, s)
+
+-- ---- before the desk is begun
+
+-- the desk, or the fault of the clients: the image stays then, and they are forgotten
+abbrev pub begun : DeviceImage → List Client → (limit : ℕ) → Option BeginFault → LineOutcome
+begun image clients limit None = (line_of (codes "ok"), After (opened_at (opening clients image.sizes (shown_tree image) image.placement) limit) no_verdict)
+begun image clients limit (Some fault) = (line_of (codes "begin " ++ begin_text fault), Before (record { image = Some image; clients = [] }))
+
+-- without an image there is no desk
+abbrev pub begun_over : Option DeviceImage → List Client → (limit : ℕ) → LineOutcome
+begun_over None clients limit = (line_of (codes "bad line"), Before (record { image = None; clients = clients }))
+begun_over (Some image) clients limit = begun image clients limit (begin_fault clients)
+
+abbrev pub admitted : Start → Result Client ClientFault → LineOutcome
+admitted start (Ok client) = (line_of (codes "ok"), Before (record start { clients = start.clients ++ client ∷ [] }))
+admitted start (Err fault) = (line_of (codes "client " ++ client_text fault), Before start)
+
+abbrev pub opened : Start → OpeningCommand → LineOutcome
+opened start (New sizes) = (line_of (codes "ok"), Before (record start { image = Some (fresh_image sizes) }))
+opened start (Row client) = admitted start client
+opened start (Begin limit) = begun_over start.image start.clients limit
+
+-- ---- calls of the desk
+
+-- the docket has as many rows as its limit
+abbrev pub IsFull : Desk → DeskOutcome → Type 0
+IsFull desk outcome = (length desk.docket ≡ desk.limit) × IsSaid (codes "full") desk outcome
+
+-- the machine's step of the call, told in these words, with the docket's next row
+pub record IsCalled (desk : Desk) (call : machine.Call) (words : ℕ → Done) (outcome : DeskOutcome) : Type 0 where
+  pub answer : ActReply
+  pub next : Desk
+  pub below : length desk.docket ≢ desk.limit
+  pub acted : IsActed desk call words answer next
+  pub is : outcome ≡ (line_of (act_text answer), next)
+
+-- a full docket answers no call
+abbrev pub IsCallAnswered : Desk → machine.Call → (ℕ → Done) → DeskOutcome → Type 0
+IsCallAnswered desk call words outcome = IsFull desk outcome ⊎ IsCalled desk call words outcome
+
+-- the submission is answered, judged again or not: the desk's reply to it
+pub record IsSubmitted (desk : Desk) (submission : Submission) (again : Bool) (outcome : DeskOutcome) : Type 0 where
+  pub answer : Reply
+  pub next : Desk
+  pub below : length desk.docket ≢ desk.limit
+  pub answered : IsAnswered desk submission again answer next
+  pub is : outcome ≡ (line_of (reply_text answer), next)
+
+abbrev pub IsSubmissionAnswered : Desk → Submission → DeskOutcome → Type 0
+IsSubmissionAnswered desk submission outcome = IsFull desk outcome ⊎ IsSubmitted desk submission false outcome
+
+-- ---- looks
+
+-- the node's line
+pub record IsNode (desk : Desk) (number : ℕ) (outcome : DeskOutcome) : Type 0 where
+  pub header : CodeHeader
+  pub shown : get (headers desk.state.tree) number ≡ Some (header_of header)
+  pub is : IsSaid (node_text number header) desk outcome
+
+abbrev pub IsNone : Desk → (number : ℕ) → DeskOutcome → Type 0
+IsNone desk number outcome = (get (headers desk.state.tree) number ≡ None) × IsSaid (codes "none") desk outcome
+
+abbrev pub IsNodeShown : Desk → (number : ℕ) → DeskOutcome → Type 0
+IsNodeShown desk number outcome = IsNone desk number outcome ⊎ IsNode desk number outcome
+
+-- the line of its names, where it is a directory
+abbrev pub names_line : Desk → (directory : ℕ) → List ℕ
+names_line desk directory = if is_directory (get (headers desk.state.tree) directory) then list_text directory desk.state.tree.names else codes "none"
+
+-- the line of how many rows the docket has
+abbrev pub docket_line : Desk → List ℕ
+docket_line desk = codes "docket " ++ decimal (length desk.docket)
+
+-- ---- verdicts that are held
+
+-- the desk's outcome, and then the workers hold this
+abbrev pub WithHands : Hands → (DeskOutcome → Type 0) → LineOutcome → Type 0
+WithHands hands Holds outcome = (said : DeskOutcome) × Holds said × (outcome ≡ (said.0, After said.1 hands))
+
+-- the worker, who holds no verdict, holds one on the submission then, and the desk is as it was; with a full hand it is a bad line
+abbrev pub Judges : Desk → Hands → (worker : ℕ) → (held : Option HeldVerdict) → Submission → LineOutcome → Type 0
+Judges desk hands worker (Some verdict) submission outcome = IsSaid (codes "bad line") (After desk hands) outcome
+Judges desk hands worker None submission outcome =
+    (verdict : HeldVerdict) × IsVerdictOn desk.state submission verdict × IsSaid (codes "judged " ++ decimal worker) (After desk (with_held hands worker (Some verdict))) outcome
+
+-- the verdict's submission is answered, judged again exactly where the verdict isn't up to date
+pub record IsLanded (desk : Desk) (verdict : HeldVerdict) (outcome : DeskOutcome) : Type 0 where
+  pub again : Bool
+  pub why : IsFalse again ↔ IsUpToDate desk.state verdict
+  pub submitted : IsSubmitted desk verdict.submission again outcome
+
+-- the docket is full, or the verdict is landed, or there is want of memory, which leaves the desk
+abbrev pub IsLandingAnswered : Desk → HeldVerdict → DeskOutcome → Type 0
+IsLandingAnswered desk verdict outcome = IsFull desk outcome ⊎ (IsLanded desk verdict outcome ⊎ IsSaid (codes "memory") desk outcome)
+
+-- whatever comes of the verdict that the worker holds, it holds none then; with an empty hand it is a bad line
+abbrev pub Lands : Desk → Hands → (worker : ℕ) → (held : Option HeldVerdict) → LineOutcome → Type 0
+Lands desk hands worker None outcome = IsSaid (codes "bad line") (After desk hands) outcome
+Lands desk hands worker (Some verdict) outcome = WithHands (with_held hands worker None) (IsLandingAnswered desk verdict) outcome
+
+-- ---- lines
+
+-- a command after the desk is begun
+abbrev pub Serves : Desk → Hands → DeskCommand → LineOutcome → Type 0
+Serves desk hands (Lease client path kind end) outcome = WithHands hands (IsCallAnswered desk (machine.Lease client path kind end) Leased) outcome
+Serves desk hands (Drop client number) outcome = WithHands hands (IsCallAnswered desk (machine.Drop client number) Dropped) outcome
+Serves desk hands (Tick moment) outcome = WithHands hands (IsCallAnswered desk (machine.Tick moment) Ticked) outcome
+Serves desk hands (Submit submission) outcome = WithHands hands (IsSubmissionAnswered desk submission) outcome
+Serves desk hands (Node number) outcome = WithHands hands (IsNodeShown desk number) outcome
+Serves desk hands (Listing directory) outcome = WithHands hands (IsSaid (names_line desk directory) desk) outcome
+Serves desk hands (Bytes number start count) outcome = WithHands hands (IsSaid (read_text desk.state.tree number start count) desk) outcome
+Serves desk hands DocketLength outcome = WithHands hands (IsSaid (docket_line desk) desk) outcome
+Serves desk hands (Judge worker submission) outcome = Judges desk hands worker (held_by hands worker) submission outcome
+Serves desk hands (Land worker) outcome = Lands desk hands worker (held_by hands worker) outcome
+
+-- a command where it is due
+abbrev pub Does : Stage → Command → LineOutcome → Type 0
+Does (Before start) (Setup command) outcome = outcome ≡ opened start command
+Does (Before start) (Request command) outcome = IsSaid (codes "bad line") (Before start) outcome
+Does (After desk hands) (Setup command) outcome = IsSaid (codes "bad line") (After desk hands) outcome
+Does (After desk hands) (Request command) outcome = Serves desk hands command outcome
+
+-- what the line asks for is done, where it is a command
+abbrev pub Obeys : Stage → Option Command → LineOutcome → Type 0
+Obeys s None outcome = ⊥
+Obeys s (Some command) outcome = Does s command outcome
+
+-- a line that is no command, or what it asks for, or want of memory, which may come at any line and leaves the stage
+abbrev pub Answers : Stage → (line : List ℕ) → LineOutcome → Type 0
+Answers s line outcome =
+    ((asked_by line ≡ None) × IsSaid (codes "bad line") s outcome)
+    ⊎ (Obeys s (asked_by line) outcome ⊎ IsSaid (codes "memory") s outcome)
+
+-- the text that the lines are answered one after another, and the last stage
+abbrev pub Runs : Stage → (lines : List (List ℕ)) → (text : List ℕ) → Stage → Type 0
+Runs s [] text last = (text ≡ []) × (last ≡ s)
+Runs s (line ∷ lines) text last = (reply : List ℕ) × (next : Stage) × (rest : List ℕ) × Answers s line (reply, next) × Runs next lines rest last × (text ≡ reply ++ rest)

@@ -1,0 +1,123 @@
+//! Cuts the input into lines and writes the reply of each.
+ghost use Rattle.std.specs.Prelude.{◌≡◌, ◌++◌, [], OnOk};
+ghost use Rattle.kfs_program_engine.specs.Progress.{Ends, IsHeldAnswered, IsKept, IsLineAnswered, StandsAt, Takes, said};
+ghost use Rattle.kfs_program_engine.specs.Session.{Answers};
+ghost use Rattle.kfs_program_engine.specs.Views.{stage_of};
+ghost use Rattle.kfs_program_text.specs.Held.{contents_with};
+ghost use Rattle.kfs_program_text.specs.Streams.{Writes};
+
+use crate::fault::EngineFault;
+use crate::session::Session;
+use kfs_program_text::{HeldBack, Refusal, first_line};
+use kfs_report::LONGEST_LINE;
+use std::alloc::Allocator;
+use std::io::Write;
+
+/// The most bytes of a line without its end.
+const LONGEST_INPUT_LINE: usize = 16_777_216;
+
+/// A session, and the line of it whose end has not been read.
+#[derive(Drop)]
+pub struct Conversation<A: Allocator> {
+    session: Session<A>,
+    line: Vec<u8, A>,
+    reply: Vec<u8, A>,
+}
+
+impl<A: Allocator + Copy> Conversation<A> {
+    pub fn new(alloc: A) -> Conversation<A>
+        ensures { StandsAt result [] [] [] }
+    {
+        Conversation {
+            session: Session::new(alloc),
+            line: Vec::new(alloc),
+            reply: Vec::new(alloc),
+        }
+    }
+
+    /// Answers each line that ends in `bytes`, and keeps the bytes after the last end.
+    pub fn take<W: Write>(
+        &mut self,
+        bytes: &[u8],
+        writer: &mut HeldBack<'_, W, A>,
+    ) -> Result<(), EngineFault>
+        ensures session { Writes (contents_with W.contents writer.old) (contents_with W.contents writer.new) (Takes self.old bytes.now result self.new) }
+        ensures first { writer.new.first ≡ writer.old.first }
+    {
+        let mut rest = bytes;
+        'lines: while let Some((line, behind)) = first_line(rest) {
+            self.end_line(line, writer)?;
+            rest = behind;
+        }
+        self.keep(rest)
+    }
+
+    /// Answers the last line, where it lacks its end.
+    pub fn finish<W: Write>(&mut self, writer: &mut HeldBack<'_, W, A>) -> Result<(), EngineFault>
+        ensures session { Writes (contents_with W.contents writer.old) (contents_with W.contents writer.new) (Ends self.old result) }
+        ensures first { writer.new.first ≡ writer.old.first }
+    {
+        if self.line.is_empty() {
+            return Ok(writer.flush()?);
+        }
+        self.answer(writer)?;
+        Ok(writer.flush()?)
+    }
+
+    /// Answers the line, of which `part` is the last bytes.
+    fn end_line<W: Write>(
+        &mut self,
+        part: &[u8],
+        writer: &mut HeldBack<'_, W, A>,
+    ) -> Result<(), EngineFault>
+        ensures session { Writes (contents_with W.contents writer.old) (contents_with W.contents writer.new) (IsLineAnswered result self.old (self.old.line.items ++ part.now) self.new) }
+        ensures first { writer.new.first ≡ writer.old.first }
+        ensures cleared { OnOk result (self.new.line.items ≡ []) }
+    {
+        self.keep(part)?;
+        self.answer(writer)
+    }
+
+    fn keep(&mut self, part: &[u8]) -> Result<(), EngineFault>
+        ensures line { IsKept result (stage_of self.old.session) (self.old.line.items ++ part.now) self.new.line.items }
+        ensures session { self.new.session ≡ self.old.session }
+    {
+        if self.line.len().saturating_add(part.len()) > LONGEST_INPUT_LINE {
+            return Err(EngineFault::LongLine);
+        }
+        self.line.extend_from_slice(part)?;
+        Ok(())
+    }
+
+    fn answer<W: Write>(&mut self, writer: &mut HeldBack<'_, W, A>) -> Result<(), EngineFault>
+        ensures session { Writes (contents_with W.contents writer.old) (contents_with W.contents writer.new) (IsHeldAnswered result self.old self.new) }
+        ensures first { writer.new.first ≡ writer.old.first }
+        ensures cleared { self.new.line.items ≡ [] }
+    {
+        let replied = self.reply();
+        let written = writer.write(text_of(replied, &self.reply));
+        self.line.clear();
+        Ok(written?)
+    }
+
+    /// Makes room for the reply before anything changes.
+    fn reply(&mut self) -> Result<(), Refusal>
+        ensures session { Answers (stage_of self.old.session) self.old.line.items (said result self.new.reply.items, stage_of self.new.session) }
+        ensures line { self.new.line ≡ self.old.line }
+    {
+        self.reply.clear();
+        self.reply.try_reserve(LONGEST_LINE)?;
+        self.session.answer(&self.line, &mut self.reply)
+    }
+}
+
+/// What is written of a reply.
+fn text_of(replied: Result<(), Refusal>, reply: &[u8]) -> &[u8]
+    ensures { result.now ≡ said replied reply.now }
+{
+    match replied {
+        Ok(()) => reply,
+        Err(Refusal::BadLine) => b"bad line\n",
+        Err(Refusal::OutOfMemory) => b"memory\n",
+    }
+}

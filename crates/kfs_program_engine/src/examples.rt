@@ -1,0 +1,52 @@
+//! The lines of an input, and a session line by line, by computation.
+
+ghost use Rattle.std.specs.Prelude.{◌≡◌, [], ◌∷◌, codes, None, Err};
+ghost use Rattle.kfs_model_examples.specs.Example.{client_7, client_8};
+ghost use Rattle.kfs_mode.specs.declared.client.ClientFault.TheVariants.{TooManyGroups};
+ghost use Rattle.kfs_program_command.specs.Command.{Begin, New, Row};
+ghost use Rattle.kfs_program_engine.specs.Conversation.{BreaksOff};
+ghost use Rattle.kfs_program_engine.specs.Example.{desk_of_7, desk_with, eight_blocks_each, full_docket, held_by_3, names_of_two_directories, opening_with, root_leased};
+ghost use Rattle.kfs_program_engine.specs.Hands.{no_verdict};
+ghost use Rattle.kfs_program_engine.specs.Listing.{list_text};
+ghost use Rattle.kfs_program_engine.specs.Session.{After, Before, Runs, fresh, opened};
+ghost use Rattle.kfs_program_text.specs.Cut.{lines_of};
+
+/// The lines of an input, and a last line that lacks its end; an input that ends with a line's end has no further line.
+#[tactic(auto, unfolding(kfs_program_text::specs::Cut::cut))]
+pub fn lines_of_an_input()
+    ensures ended { lines_of (codes "tick 1\nnode 5\n") ≡ codes "tick 1" ∷ codes "node 5" ∷ [] }
+    ensures unended { lines_of (codes "tick 1\nnode 5") ≡ codes "tick 1" ∷ codes "node 5" ∷ [] }
+    ensures empty_line { lines_of (codes "\n") ≡ [] ∷ [] }
+    ensures no_line { lines_of [] ≡ [] }
+{}
+
+/// Before the desk is begun: an image, a client that is refused, clients of which two later ones have the number of the first,
+/// and a desk.
+pub fn openings()
+    ensures image { opened (record { image = None; clients = [] }) (New eight_blocks_each) ≡ (codes "ok\n", Before (opening_with [])) }
+    ensures without_image { opened (record { image = None; clients = [] }) (Begin 100) ≡ (codes "bad line\n", fresh) }
+    ensures refused { opened (record { image = None; clients = [] }) (Row (Err TooManyGroups)) ≡ (codes "client TooManyGroups\n", fresh) }
+    ensures twice { opened (opening_with (client_7 ∷ client_8 ∷ client_7 ∷ client_7 ∷ [])) (Begin 3) ≡ (codes "begin ClientTwice(2)\n", Before (opening_with [])) }
+    ensures begun { opened (opening_with []) (Begin 3) ≡ (codes "ok\n", After (desk_with [] 3) no_verdict) }
+{}
+
+/// The names of the root, and none of another directory.
+pub fn lists()
+    ensures of_root { list_text 1 names_of_two_directories ≡ codes "list 1 61:5 62:9" }
+    ensures of_another { list_text 6 (record { entries = ((1, codes "a"), 5) ∷ []; sorted = tt }) ≡ codes "list 6" }
+{}
+
+/// A lease on the root, and the root's line then: a directory has one link and size 0.
+pub fn node_after_a_lease()
+    ensures { Runs (After desk_of_7 no_verdict) (codes "lease 7 / w 100" ∷ codes "node 1" ∷ []) (codes "0 leased 1\nnode 1 dir 0777 0 0 1 0\n") (After root_leased no_verdict) }
+{}
+
+/// At a full docket no verdict is landed, and the worker holds none then.
+pub fn verdict_at_a_full_docket()
+    ensures { Runs (After full_docket held_by_3) (codes "land 3" ∷ codes "land 3" ∷ []) (codes "full\nbad line\n") (After full_docket no_verdict) }
+{}
+
+/// A reader that gave one line with its end, and a writer that failed behind the reply: there is no further line.
+pub fn write_broken_off()
+    ensures { BreaksOff (codes "x\n") (codes "bad line\n") }
+{}

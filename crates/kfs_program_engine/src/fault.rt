@@ -1,0 +1,48 @@
+//! Why the engine stops before the end of its input.
+ghost use Rattle.std.specs.Prelude.{◌≡◌};
+ghost use Rattle.kfs_program_engine.specs.declared.fault.EngineFault.TheVariants.{OutOfMemory, ReadFault as Unread, WriteFault as Unwritten};
+
+use kfs_program_text::{ReadFault, WriteFault};
+use std::alloc::AllocError;
+use thiserror::Error;
+
+/// Why the engine stopped. The lines before were answered.
+#[derive(Clone, Copy, Debug, PartialEq, Eq, Error)]
+pub enum EngineFault {
+    /// 1: the reader failed, or was read 2^32 times and gave no end.
+    #[error("the input can't be read")]
+    ReadFault,
+    /// 2: the writer failed or took no byte.
+    #[error("the output can't be written")]
+    WriteFault,
+    /// 3: a line has more than 16,777,216 bytes without its end.
+    #[error("a line of the input is too long")]
+    LongLine,
+    /// There is no memory for a line of the input.
+    #[error("out of memory")]
+    OutOfMemory,
+}
+
+impl From<AllocError> for EngineFault {
+    ghost from_gives = { λ _ fault. fault ≡ OutOfMemory };
+
+    fn from(_error: AllocError) -> EngineFault {
+        EngineFault::OutOfMemory
+    }
+}
+
+impl From<ReadFault> for EngineFault {
+    ghost from_gives = { λ _ fault. fault ≡ Unread };
+
+    fn from(_fault: ReadFault) -> EngineFault {
+        EngineFault::ReadFault
+    }
+}
+
+impl From<WriteFault> for EngineFault {
+    ghost from_gives = { λ _ fault. fault ≡ Unwritten };
+
+    fn from(_fault: WriteFault) -> EngineFault {
+        EngineFault::WriteFault
+    }
+}

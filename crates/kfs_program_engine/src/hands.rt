@@ -1,0 +1,66 @@
+//! What the workers hold: a verdict each, or none.
+ghost use Rattle.std.specs.Prelude.{◌≡◌, ◌↔◌, IfOk, IsTrue, None, Some, option_map};
+ghost use Rattle.kfs_program_engine.specs.Hands.{held_by, no_verdict, with_held};
+ghost use Rattle.kfs_workers.specs.Holding.{verdict_of};
+
+use kfs_plan::Judged;
+use kfs_program_command::Worker;
+use std::alloc::{AllocError, Allocator};
+use std::marker::Model;
+
+/// How many workers there are.
+const WORKERS: usize = 8;
+
+/// A hand for each worker, in their order.
+#[derive(Drop)]
+pub struct Hands<A: Allocator> {
+    held: Vec<Option<Judged<A>>, A>,
+}
+
+impl<A: Allocator> Model for Hands<A> {
+    ghost use Rattle.kfs_program_engine.specs.Hands.{Hands as HandsShown};
+    ghost use Rattle.std.specs.Prelude.{◌≡◌, length};
+
+    ghost Value = { HandsShown };
+
+    ghost use Rattle.kfs_program_engine.specs.Holding.{hands_of};
+
+    ghost view = { λ h. hands_of h.held.items };
+
+    ghost invariant = { λ h. length h.held.items ≡ 8 };
+}
+
+impl<A: Allocator> Hands<A> {
+    /// All are empty.
+    pub fn new(alloc: A) -> Result<Hands<A>, AllocError>
+        ensures { IfOk result (λ hands. hands ≡ no_verdict) }
+    {
+        let mut held = Vec::new(alloc);
+        for _ in 0..WORKERS {
+            held.push(None)?;
+        }
+        Ok(Hands { held })
+    }
+
+    /// Whether the worker holds no verdict.
+    pub fn is_empty(&self, worker: Worker) -> bool
+        ensures { IsTrue result ↔ (held_by self.now worker.number ≡ None) }
+    {
+        self.held[worker.number()].is_none()
+    }
+
+    /// Gives the verdict to the worker.
+    pub fn put(&mut self, worker: Worker, judged: Judged<A>)
+        ensures { self.new ≡ with_held self.old worker.number (Some (verdict_of judged)) }
+    {
+        self.held[worker.number()] = Some(judged);
+    }
+
+    /// Takes the verdict that the worker holds.
+    pub fn take(&mut self, worker: Worker) -> Option<Judged<A>>
+        ensures taken { option_map verdict_of result ≡ held_by self.old worker.number }
+        ensures left { self.new ≡ with_held self.old worker.number None }
+    {
+        self.held[worker.number()].take()
+    }
+}

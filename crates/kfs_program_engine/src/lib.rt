@@ -1,0 +1,115 @@
+//! The engine: command lines in, and the replies of the desk out.
+#![tactic(auto)]
+
+ghost use Rattle.std.specs.Prelude.{◌≡◌, ◌<◌, length, IfErr, IfOk, OnOk};
+ghost use Rattle.std.specs.Io.KnownBytes.{IsAtEnd};
+ghost use Rattle.kfs_program_engine.specs.Conversation.{IsSession};
+ghost use Rattle.kfs_program_text.specs.Held.{contents_with};
+ghost use Rattle.kfs_program_text.specs.Streams.{Exchanges};
+
+mod bytes;
+mod conversation;
+pub mod examples;
+mod fault;
+mod hands;
+mod listing;
+mod opening;
+mod session;
+mod verdicts;
+
+use conversation::Conversation;
+pub use fault::EngineFault;
+use kfs_program_text::{HeldBack, read_some};
+use std::alloc::{AllocError, Allocator};
+use std::io::{Read, Write};
+
+/// How often a reader is asked for bytes before it is taken never to end.
+const MOST_READS: u64 = 1 << 32;
+
+/// How many bytes a reader is asked for at once.
+const CHUNK: usize = 65_536;
+
+/// Reads commands, a line each, and writes the replies to the lines of one read together, before the
+/// next bytes are read. The input is never kept whole.
+///
+/// Where it stops early, the lines before were answered.
+pub fn engine<R, A, I, O>(
+    _rt: &R,
+    alloc: A,
+    reader: &mut I,
+    writer: &mut O,
+) -> Result<(), EngineFault>
+where
+    A: Allocator + Copy,
+    I: Read,
+    O: Write,
+    ensures session { Exchanges (I.remaining reader.old) (I.remaining reader.new) (O.contents writer.old) (O.contents writer.new) (IsSession result) }
+    ensures end { OnOk result (IsAtEnd (I.remaining reader.new)) }
+{
+    let mut chunk = new_chunk(alloc)?;
+    let (written, ended) = answer_together(alloc, reader, &mut chunk, writer);
+    let _writer = written;
+    ended
+}
+
+fn new_chunk<A: Allocator>(alloc: A) -> Result<Vec<u8, A>, EngineFault>
+    ensures length { IfOk result (λ chunk. 0 < length chunk.items) }
+    ensures fault { IfErr result (λ fault. fault ≡ EngineFault.OutOfMemory) }
+{
+    Ok(vec![in alloc; 0u8; CHUNK]?)
+}
+
+/// Reads and answers all, with the replies held back, and gives the writer back.
+fn answer_together<'w, A, I, O>(
+    alloc: A,
+    reader: &mut I,
+    chunk: &mut [u8],
+    writer: &'w mut O,
+) -> (&'w mut O, Result<(), EngineFault>)
+where
+    A: Allocator + Copy,
+    I: Read,
+    O: Write,
+    requires { 0 < length chunk.old }
+    ensures session { Exchanges (I.remaining reader.old) (I.remaining reader.new) (O.contents writer.old) (O.contents result.0.now) (IsSession result.1) }
+    ensures reference { result.0.ghost_name ≡ writer.entry.ghost_name }
+    ensures end { OnOk result.1 (IsAtEnd (I.remaining reader.new)) }
+{
+    let mut held = HeldBack::new(alloc, writer);
+    let ended = answer_all(alloc, reader, chunk, &mut held);
+    let (writer, closed) = held.close();
+    match closed {
+        Ok(()) => (writer, ended),
+        Err(_) => (writer, Err(EngineFault::WriteFault)),
+    }
+}
+
+/// Reads all, a chunk at a time, answers each line, and flushes the writer before the next chunk.
+fn answer_all<A, I, O>(
+    alloc: A,
+    reader: &mut I,
+    chunk: &mut [u8],
+    writer: &mut HeldBack<'_, O, A>,
+) -> Result<(), EngineFault>
+where
+    A: Allocator + Copy,
+    I: Read,
+    O: Write,
+    requires { 0 < length chunk.old }
+    ensures session { Exchanges (I.remaining reader.old) (I.remaining reader.new) (contents_with O.contents writer.old) (contents_with O.contents writer.new) (IsSession result) }
+    ensures first { writer.new.first ≡ writer.old.first }
+    ensures end { OnOk result (IsAtEnd (I.remaining reader.new)) }
+{
+    let mut conversation = Conversation::new(alloc);
+    'reads: for _ in 0..MOST_READS {
+        let Some(count) = read_some(reader, chunk)? else {
+            continue;
+        };
+        if count == 0 {
+            return conversation.finish(writer);
+        }
+        conversation.take(&chunk[..count], writer)?;
+        writer.flush()?;
+    }
+    Err(EngineFault::ReadFault)
+}

@@ -1,0 +1,234 @@
+//! A session: what each command does, and its reply.
+ghost use Rattle.std.specs.Prelude.{◌≡◌, ◌≤◌, ◌++◌, codes, Some, IfErr, OnErr, OnOk, IsErrOf, option_map};
+ghost use Rattle.kfs_model.specs.Table.{get};
+ghost use Rattle.kfs_model.specs.Tree.{headers};
+ghost use Rattle.kfs_entry_value.specs.Views.{header_of};
+ghost use Rattle.kfs_plan.specs.Judging.{submission_of};
+ghost use Rattle.kfs_desk.specs.Machine.{call_of, done_by};
+ghost use Rattle.kfs_program_command.specs.Command as commands;
+ghost use Rattle.kfs_program_engine.specs.Session.{After, Answers, IsCallAnswered, IsNodeShown, IsReplied, IsSubmissionAnswered, Serves, docket_line, fresh, names_line};
+ghost use Rattle.kfs_program_command.specs.Views.{asked_of_desk, opening_of};
+ghost use Rattle.kfs_program_engine.specs.Views.{IsDone, IsOutOfPlace, IsUndone, stage_of};
+ghost use Rattle.kfs_program_text.specs.Parts.{line_of};
+ghost use Rattle.kfs_entry_value.specs.Room.{spare_of};
+
+use crate::bytes::bytes_line;
+use crate::hands::Hands;
+use crate::listing::list_line;
+use crate::opening::Opening;
+use crate::verdicts::{judge_for, land_for};
+use kfs_desk::Desk;
+use kfs_image_nodes::{Answer, Cell, Header, Kind, look};
+use kfs_plan::answers::{Act, Unanswered};
+use kfs_plan::{Submission, Why};
+use kfs_program_command::{Command, DeskCommand, OpeningCommand};
+use kfs_program_text::Refusal;
+use kfs_program_text::parts::{number, text};
+use kfs_report::{act_line, node_line, reply_line};
+use std::alloc::Allocator;
+
+/// What lines were answered before: the desk and the workers' verdicts, or what a desk is begun with.
+#[derive(Drop)]
+pub struct Session<A: Allocator> {
+    alloc: A,
+    stage: Stage<A>,
+}
+
+#[derive(Drop)]
+enum Stage<A: Allocator> {
+    Before(Opening<A>),
+    After(Desk<A>, Hands<A>),
+}
+
+impl<A: Allocator + Copy> Session<A> {
+    /// No image and no client.
+    pub fn new(alloc: A) -> Session<A>
+        ensures { stage_of result ≡ fresh }
+    {
+        Session {
+            alloc,
+            stage: Stage::Before(Opening::new(alloc)),
+        }
+    }
+
+    /// Answers a line: appends its reply, which has room for 128 bytes. A refusal leaves the state
+    /// as it was, but for a verdict that was to be landed: without memory it is given up.
+    pub fn answer(&mut self, line: &[u8], reply: &mut Vec<u8, A>) -> Result<(), Refusal>
+        requires { 128 ≤ spare_of reply.old }
+        ensures ok { OnOk result (IsReplied (Answers (stage_of self.old) line.now) reply.old.items reply.new.items (stage_of self.new)) }
+        ensures bad { IsErrOf result Refusal.BadLine → Answers (stage_of self.old) line.now (line_of (codes "bad line"), stage_of self.new) }
+        ensures memory { IsErrOf result Refusal.OutOfMemory → Answers (stage_of self.old) line.now (line_of (codes "memory"), stage_of self.new) }
+    {
+        match Command::read(self.alloc, line)? {
+            Command::Opening(command) => self.answer_before(command, reply),
+            Command::Desk(command) => self.answer_after(command, reply),
+        }
+    }
+
+    /// Answers a command that comes before the desk is begun. Afterwards it is a bad line.
+    fn answer_before(
+        &mut self,
+        command: OpeningCommand,
+        reply: &mut Vec<u8, A>,
+    ) -> Result<(), Refusal>
+        requires { 128 ≤ spare_of reply.old }
+        ensures ok { OnOk result (IsDone self.old (commands.Setup (opening_of command)) reply.old.items reply.new.items self.new) }
+        ensures bad { IsErrOf result Refusal.BadLine → IsOutOfPlace self.old (commands.Setup (opening_of command)) self.new }
+        ensures memory { IsErrOf result Refusal.OutOfMemory → stage_of self.new ≡ stage_of self.old }
+    {
+        match &mut self.stage {
+            Stage::Before(opening) => {
+                let hands = Hands::new(self.alloc)?;
+                if let Some(desk) = opening.answer(command, reply)? {
+                    self.stage = Stage::After(desk, hands);
+                }
+                Ok(())
+            }
+            Stage::After(_, _) => Err(Refusal::BadLine),
+        }
+    }
+
+    /// Answers a command to the desk. Before the desk is begun it is a bad line.
+    fn answer_after(
+        &mut self,
+        command: DeskCommand<'_, A>,
+        reply: &mut Vec<u8, A>,
+    ) -> Result<(), Refusal>
+        requires { 128 ≤ spare_of reply.old }
+        ensures ok { OnOk result (IsDone self.old (commands.Request (asked_of_desk command.entry)) reply.old.items reply.new.items self.new) }
+        ensures bad { IsErrOf result Refusal.BadLine → IsOutOfPlace self.old (commands.Request (asked_of_desk command.entry)) self.new }
+        ensures memory { IsErrOf result Refusal.OutOfMemory → IsUndone (stage_of self.old) (commands.Request (asked_of_desk command.entry)) (stage_of self.new) }
+    {
+        match &mut self.stage {
+            Stage::Before(_) => Err(Refusal::BadLine),
+            Stage::After(desk, hands) => answer_due(self.alloc, desk, hands, command, reply),
+        }
+    }
+}
+
+/// Answers a command after the desk is begun.
+fn answer_due<A: Allocator + Copy>(
+    alloc: A,
+    desk: &mut Desk<A>,
+    hands: &mut Hands<A>,
+    command: DeskCommand<'_, A>,
+    reply: &mut Vec<u8, A>,
+) -> Result<(), Refusal>
+    requires { 128 ≤ spare_of reply.old }
+    ensures ok { OnOk result (IsReplied (Serves desk.old hands.old (asked_of_desk command.entry)) reply.old.items reply.new.items (After desk.new hands.new)) }
+    ensures bad { IsErrOf result Refusal.BadLine → Serves desk.old hands.old (asked_of_desk command.entry) (line_of (codes "bad line"), After desk.new hands.new) }
+    ensures memory { IsErrOf result Refusal.OutOfMemory → IsUndone (After desk.old hands.old) (commands.Request (asked_of_desk command.entry)) (After desk.new hands.new) }
+{
+    match command {
+        DeskCommand::Act(act) => make_call(desk, act, reply),
+        DeskCommand::Submit(submission) => hand_in(desk, submission, reply),
+        DeskCommand::Node(number) => show_node(desk, number, reply),
+        DeskCommand::List(number) => show_names(alloc, desk, number, reply),
+        DeskCommand::Read {
+            number,
+            start,
+            count,
+        } => Ok(bytes_line(alloc, reply, desk.image(), number, start, count)?),
+        DeskCommand::Docket => {
+            show_docket(desk, reply);
+            Ok(())
+        }
+        DeskCommand::Judge { worker, submission } => {
+            judge_for(alloc, desk, hands, worker, submission, reply)
+        }
+        DeskCommand::Land { worker } => land_for(desk, hands, worker, reply),
+    }
+}
+
+/// Makes a call for the leases.
+fn make_call<A: Allocator + Copy>(
+    desk: &mut Desk<A>,
+    act: Act<'_>,
+    reply: &mut Vec<u8, A>,
+) -> Result<(), Refusal>
+    requires { 128 ≤ spare_of reply.old }
+    ensures ok { OnOk result (IsReplied (IsCallAnswered desk.old (call_of act.entry) (done_by act.entry)) reply.old.items reply.new.items desk.new) }
+    ensures err { IfErr result (λ why. (why ≡ Refusal.OutOfMemory) × (desk.new ≡ desk.old)) }
+{
+    match desk.act(act) {
+        Ok(answer) => Ok(act_line(reply, &answer)?),
+        Err(Unanswered::DocketFull) => Ok(text(reply, b"full\n")),
+        Err(Unanswered::OutOfMemory) => Err(Refusal::OutOfMemory),
+    }
+}
+
+/// Hands in a log and its plan.
+fn hand_in<A: Allocator + Copy>(
+    desk: &mut Desk<A>,
+    submission: Submission<A>,
+    reply: &mut Vec<u8, A>,
+) -> Result<(), Refusal>
+    requires { 128 ≤ spare_of reply.old }
+    ensures ok { OnOk result (IsReplied (IsSubmissionAnswered desk.old (submission_of submission)) reply.old.items reply.new.items desk.new) }
+    ensures err { IfErr result (λ why. (why ≡ Refusal.OutOfMemory) × (desk.new ≡ desk.old)) }
+{
+    match desk.submit(submission) {
+        Ok(answer) => Ok(reply_line(reply, &answer)?),
+        Err(back) => match back.why {
+            Why::DocketFull => Ok(text(reply, b"full\n")),
+            Why::OutOfMemory => Err(Refusal::OutOfMemory),
+        },
+    }
+}
+
+/// The header of a node, none where the number is no node's.
+fn header_of_node<A: Allocator + Copy>(desk: &Desk<A>, number: u32) -> Option<Header>
+    ensures { option_map header_of result ≡ get (headers desk.now.state.tree) number }
+{
+    match look(desk.image().shape(), &Cell::Header(number)) {
+        Answer::Header(header) => header,
+        _ => None,
+    }
+}
+
+/// Appends the line of a node, or `none` where the number is no node's.
+fn show_node<A: Allocator + Copy>(
+    desk: &Desk<A>,
+    number: u32,
+    reply: &mut Vec<u8, A>,
+) -> Result<(), Refusal>
+    requires { 128 ≤ spare_of reply.old }
+    ensures ok { OnOk result (IsReplied (IsNodeShown desk.now number) reply.old.items reply.new.items desk.now) }
+    ensures err { OnErr result ⊥ }
+{
+    match header_of_node(desk, number) {
+        Some(header) => node_line(reply, number, &header)?,
+        None => text(reply, b"none\n"),
+    }
+    Ok(())
+}
+
+/// Appends the line of how many rows the docket has.
+fn show_docket<A: Allocator + Copy>(desk: &Desk<A>, reply: &mut Vec<u8, A>)
+    requires { 128 ≤ spare_of reply.old }
+    ensures { reply.new.items ≡ reply.old.items ++ line_of (docket_line desk.now) }
+{
+    text(reply, b"docket ");
+    number(reply, u64::from(desk.docket().len()));
+    text(reply, b"\n");
+}
+
+/// Appends the line of a directory's names, or `none` where the number is no directory's.
+fn show_names<A: Allocator + Copy>(
+    alloc: A,
+    desk: &Desk<A>,
+    number: u32,
+    reply: &mut Vec<u8, A>,
+) -> Result<(), Refusal>
+    requires { 128 ≤ spare_of reply.old }
+    ensures ok { OnOk result (reply.new.items ≡ reply.old.items ++ line_of (names_line desk.now number)) }
+    ensures err { IfErr result (λ why. why ≡ Refusal.OutOfMemory) }
+{
+    match header_of_node(desk, number) {
+        Some(header) if header.kind == Kind::Directory => {
+            list_line(alloc, reply, desk.image(), number)?;
+        }
+        _ => text(reply, b"none\n"),
+    }
+    Ok(())
+}

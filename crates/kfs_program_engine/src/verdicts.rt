@@ -1,0 +1,95 @@
+//! The commands `judge` and `land`: a verdict is made against a view of now, held by a worker, and landed later.
+ghost use Rattle.std.specs.Prelude.{◌≡◌, ◌≤◌, codes, IfErr, IfOk, IsErrOf, OnOk};
+ghost use Rattle.kfs_plan.specs.Judging.{submission_of};
+ghost use Rattle.kfs_program_command.specs.Command as commands;
+ghost use Rattle.kfs_workers.specs.Holding.{verdict_of};
+ghost use Rattle.kfs_workers.specs.Verdict.{IsVerdictOn};
+ghost use Rattle.kfs_program_engine.specs.Session.{After, IsLandingAnswered, IsReplied, Serves};
+ghost use Rattle.kfs_program_text.specs.Parts.{line_of};
+ghost use Rattle.kfs_entry_value.specs.Room.{spare_of};
+
+use crate::hands::Hands;
+use kfs_desk::Desk;
+use kfs_plan::{Judged, Submission, Why};
+use kfs_program_command::Worker;
+use kfs_program_text::Refusal;
+use kfs_program_text::parts::{number, text};
+use kfs_report::reply_line;
+use kfs_workers::Look;
+use std::alloc::Allocator;
+
+/// Judges the submission for a worker who holds no verdict, and now holds this one.
+pub fn judge_for<A: Allocator + Copy>(
+    alloc: A,
+    desk: &Desk<A>,
+    hands: &mut Hands<A>,
+    worker: Worker,
+    submission: Submission<A>,
+    reply: &mut Vec<u8, A>,
+) -> Result<(), Refusal>
+    requires { 128 ≤ spare_of reply.old }
+    ensures ok { OnOk result (IsReplied (Serves desk.now hands.old (commands.Judge worker.number (submission_of submission))) reply.old.items reply.new.items (After desk.now hands.new)) }
+    ensures bad { IsErrOf result Refusal.BadLine → Serves desk.now hands.old (commands.Judge worker.number (submission_of submission)) (line_of (codes "bad line"), After desk.now hands.new) }
+    ensures memory { IsErrOf result Refusal.OutOfMemory → hands.new ≡ hands.old }
+{
+    if !hands.is_empty(worker) {
+        return Err(Refusal::BadLine);
+    }
+    let judged = judged_now(alloc, desk, submission)?;
+    hands.put(worker, judged);
+    text(reply, b"judged ");
+    number(reply, worker.number() as u64);
+    text(reply, b"\n");
+    Ok(())
+}
+
+/// The verdict on the submission in the state of now. The look ends here, so that landing shares nothing.
+fn judged_now<A: Allocator + Copy>(
+    alloc: A,
+    desk: &Desk<A>,
+    submission: Submission<A>,
+) -> Result<Judged<A>, Refusal>
+    ensures verdict { IfOk result (λ judged. IsVerdictOn desk.now.state (submission_of submission) (verdict_of judged)) }
+    ensures memory { IfErr result (λ why. why ≡ Refusal.OutOfMemory) }
+{
+    let look = Look::at(desk)?;
+    match look.judge(alloc, submission) {
+        Ok(judged) => Ok(judged),
+        Err(_) => Err(Refusal::OutOfMemory),
+    }
+}
+
+/// Lands the verdict that the worker holds, who holds none then, whatever comes of it.
+pub fn land_for<A: Allocator + Copy>(
+    desk: &mut Desk<A>,
+    hands: &mut Hands<A>,
+    worker: Worker,
+    reply: &mut Vec<u8, A>,
+) -> Result<(), Refusal>
+    requires { 128 ≤ spare_of reply.old }
+    ensures ok { OnOk result (IsReplied (Serves desk.old hands.old (commands.Land worker.number)) reply.old.items reply.new.items (After desk.new hands.new)) }
+    ensures bad { IsErrOf result Refusal.BadLine → Serves desk.old hands.old (commands.Land worker.number) (line_of (codes "bad line"), After desk.new hands.new) }
+    ensures memory { IsErrOf result Refusal.OutOfMemory → Serves desk.old hands.old (commands.Land worker.number) (line_of (codes "memory"), After desk.new hands.new) }
+{
+    let judged = hands.take(worker).ok_or(Refusal::BadLine)?;
+    land_judged(desk, judged, reply)
+}
+
+/// Lands the verdict.
+fn land_judged<A: Allocator + Copy>(
+    desk: &mut Desk<A>,
+    judged: Judged<A>,
+    reply: &mut Vec<u8, A>,
+) -> Result<(), Refusal>
+    requires { 128 ≤ spare_of reply.old }
+    ensures ok { OnOk result (IsReplied (IsLandingAnswered desk.old (verdict_of judged)) reply.old.items reply.new.items desk.new) }
+    ensures err { IfErr result (λ why. (why ≡ Refusal.OutOfMemory) × (desk.new ≡ desk.old)) }
+{
+    match desk.land(judged) {
+        Ok(answer) => Ok(reply_line(reply, &answer)?),
+        Err(back) => match back.why {
+            Why::DocketFull => Ok(text(reply, b"full\n")),
+            Why::OutOfMemory => Err(Refusal::OutOfMemory),
+        },
+    }
+}

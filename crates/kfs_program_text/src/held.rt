@@ -1,0 +1,119 @@
+//! A writer in front of another, which holds texts back so that several are written together.
+ghost use Rattle.std.specs.Prelude.{◌≡◌, ◌++◌, ℕ, List, [], IsFalse, IsTrue, OnOk, OnErr};
+ghost use Rattle.std.specs.Io.KnownBytes.{Keeps, append_known};
+ghost use Rattle.kfs_program_text.specs.Held.{HasGrown, contents_with};
+ghost use Rattle.kfs_program_text.specs.Streams.{IsWritten, Writes};
+
+use crate::fault::WriteFault;
+use crate::writing::{flush, write_out, write_whole};
+use std::alloc::Allocator;
+use std::io::Write;
+use std::marker::Model;
+use std::snapshot::Snapshot;
+
+/// The most bytes that are held back.
+const MOST_HELD: usize = 65_536;
+
+/// Holds back what is written, up to 65,536 bytes, until it is flushed or closed.
+#[derive(Drop)]
+pub struct HeldBack<'w, W: Write, A: Allocator> {
+    inner: &'w mut W,
+    held: Vec<u8, A>,
+    /// How many of these the inner writer took before it failed.
+    taken: usize,
+    first: Snapshot<&'w mut W>,
+}
+
+impl<'w, W: Write, A: Allocator> Model for HeldBack<'w, W, A> {
+    ghost use Rattle.std.specs.Prelude.{◌≡◌, ◌≤◌, length, drop};
+    ghost use Rattle.kfs_program_text.specs.Held.{HasGrown, Held};
+
+    ghost Value = { Held W };
+
+    ghost view = { λ h. record { first = h.first.value; inner = h.inner; held = drop h.taken h.held.items } };
+
+    ghost invariant = { λ h. HasGrown (W.contents h.first.value.now) (W.contents h.inner.now) × (h.taken ≤ length h.held.items) × (h.inner.ghost_name ≡ h.first.value.ghost_name) };
+}
+
+impl<'w, W: Write, A: Allocator> HeldBack<'w, W, A> {
+    /// In front of this writer. Takes no memory yet.
+    pub fn new(alloc: A, inner: &'w mut W) -> HeldBack<'w, W, A>
+        ensures first { result.first.now ≡ inner.old }
+        ensures reference { result.first.ghost_name ≡ inner.entry.ghost_name }
+        ensures contents { Keeps (W.contents inner.old) (contents_with W.contents result) }
+    {
+        let first = Snapshot::of(&inner);
+        HeldBack {
+            inner,
+            held: Vec::new(alloc),
+            taken: 0,
+            first,
+        }
+    }
+
+    /// Writes the text behind all that was written so far, or holds it back. Where the inner writer
+    /// fails, a first part of all is written or held.
+    pub fn write(&mut self, text: &[u8]) -> Result<(), WriteFault>
+        ensures text { Writes (contents_with W.contents self.old) (contents_with W.contents self.new) (IsWritten result text.now) }
+        ensures first { self.new.first ≡ self.old.first }
+    {
+        if self.hold(text) {
+            return Ok(());
+        }
+        self.write_held()?;
+        write_whole(self.inner, text)
+    }
+
+    /// Writes what is held, and flushes the inner writer.
+    pub fn flush(&mut self) -> Result<(), WriteFault>
+        ensures bytes { Keeps (contents_with W.contents self.old) (contents_with W.contents self.new) }
+        ensures first { self.new.first ≡ self.old.first }
+    {
+        self.write_held()?;
+        flush(self.inner)
+    }
+
+    /// Writes what is held, and gives the inner writer back. Where that fails, a first part of all is written.
+    pub fn close(self) -> (&'w mut W, Result<(), WriteFault>)
+        ensures reference { result.0.ghost_name ≡ self.entry.first.ghost_name }
+        ensures grown { HasGrown (W.contents self.entry.first.now) (W.contents result.0.now) }
+        ensures all { OnOk result.1 (Keeps (contents_with W.contents self.entry) (W.contents result.0.now)) }
+        ensures part { OnErr result.1 ((rest : List ℕ) × Keeps (contents_with W.contents self.entry) (append_known (W.contents result.0.now) rest)) }
+    {
+        let HeldBack {
+            inner,
+            held,
+            taken,
+            first: _,
+        } = self;
+        let (_count, ended) = write_out(inner, &held[taken..]);
+        (inner, ended)
+    }
+
+    /// Holds the text back, where it fits and memory isn't refused.
+    fn hold(&mut self, text: &[u8]) -> bool
+        ensures held { IsTrue result → (self.new.held ≡ self.old.held ++ text.now) × (self.new.inner ≡ self.old.inner) }
+        ensures kept { IsFalse result → self.new ≡ self.old }
+        ensures first { self.new.first ≡ self.old.first }
+    {
+        let len = self.held.len().saturating_add(text.len());
+        if len > MOST_HELD {
+            return false;
+        }
+        self.held.extend_from_slice(text).is_ok()
+    }
+
+    /// Writes what is held. What a failure leaves unwritten stays held.
+    fn write_held(&mut self) -> Result<(), WriteFault>
+        ensures bytes { Keeps (contents_with W.contents self.old) (contents_with W.contents self.new) }
+        ensures first { self.new.first ≡ self.old.first }
+        ensures empty { OnOk result (self.new.held ≡ []) }
+    {
+        let (count, ended) = write_out(self.inner, &self.held[self.taken..]);
+        self.taken += count;
+        ended?;
+        self.held.clear();
+        self.taken = 0;
+        Ok(())
+    }
+}

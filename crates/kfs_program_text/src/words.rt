@@ -1,0 +1,201 @@
+//! The words of a command line: names, decimal numbers and hexadecimal text.
+
+ghost use Rattle.std.specs.Prelude.{◌≡◌, ◌==◌, ◌≤◌, [], ◌∷◌, ◌++◌, Some, option_map, position, take, IfOk};
+ghost use Rattle.std.specs.List.{list_all};
+ghost use Rattle.kfs_program_text.specs.Cut.{cut, space};
+ghost use Rattle.kfs_program_text.specs.Decimals.{decimal32, decimal64, decimal_within, decimals32, hexadecimal, is_digit};
+ghost use Rattle.kfs_program_text.specs.Reading.{ReadsAs, ended, first_by, only, words_left};
+
+use arrayvec::ArrayVec;
+use std::alloc::{AllocError, AllocFailed, Allocator};
+
+/// Why a line has no other answer. The state is as it was before the line.
+#[derive(Clone, Copy, Debug, PartialEq, Eq)]
+pub enum Refusal {
+    /// The line is no command, stands at the wrong time, or has a number out of its range.
+    BadLine,
+    /// A growth of memory was refused.
+    OutOfMemory,
+}
+
+impl From<AllocError> for Refusal {
+    ghost use Rattle.kfs_program_text.specs.declared.words.Refusal.TheVariants.{OutOfMemory};
+    ghost use Rattle.std.specs.Prelude.{◌≡◌};
+
+    ghost from_gives = { λ _ refusal. refusal ≡ OutOfMemory };
+
+    fn from(_error: AllocError) -> Refusal {
+        Refusal::OutOfMemory
+    }
+}
+
+impl<T: Drop> From<AllocFailed<T>> for Refusal {
+    ghost use Rattle.kfs_program_text.specs.declared.words.Refusal.TheVariants.{OutOfMemory};
+    ghost use Rattle.std.specs.Prelude.{◌≡◌};
+
+    ghost from_gives = { λ _ refusal. refusal ≡ OutOfMemory };
+
+    fn from(_error: AllocFailed<T>) -> Refusal {
+        Refusal::OutOfMemory
+    }
+}
+
+/// The words of a line that are still to be read. A word has at least one byte, and one space
+/// stands between two words.
+#[derive(Clone, Copy, Debug)]
+pub struct Words<'a> {
+    rest: Option<&'a [u8]>,
+}
+
+impl<'a> Words<'a> {
+    /// All words of `line`, which comes without its end.
+    pub fn new(line: &'a [u8]) -> Words<'a>
+        ensures { words_left result ≡ cut space line.now }
+    {
+        Words { rest: Some(line) }
+    }
+
+    /// The next word.
+    #[tactic(auto, unfolding(crate::specs::Reading::first_by))]
+    pub fn word(&mut self) -> Result<&'a [u8], Refusal>
+        ensures { ReadsAs (λ word. (word.now, words_left self.new)) (first_by (λ word. Some word) (words_left self.old)) result }
+    {
+        let rest = self.rest.ok_or(Refusal::BadLine)?;
+        let (word, behind) = first_part(rest);
+        self.rest = behind;
+        if word.is_empty() {
+            return Err(Refusal::BadLine);
+        }
+        Ok(word)
+    }
+
+    /// The next word as a decimal number that is at most `most`: digits alone, with any count of
+    /// leading zeros.
+    #[tactic(auto, unfolding(crate::specs::Reading::first_by))]
+    pub fn number(&mut self, most: u64) -> Result<u64, Refusal>
+        ensures range { IfOk result (λ n. n ≤ most) }
+        ensures read { ReadsAs (λ n. (n, words_left self.new)) (first_by (decimal_within most) (words_left self.old)) result }
+    {
+        number_in(self.word()?, most).ok_or(Refusal::BadLine)
+    }
+
+    /// The next word as a decimal number of 32 bits.
+    pub fn number32(&mut self) -> Result<u32, Refusal>
+        ensures { ReadsAs (λ n. (n, words_left self.new)) (first_by decimal32 (words_left self.old)) result }
+    {
+        Ok(self.number(u64::from(u32::MAX))? as u32)
+    }
+
+    /// The next word as a decimal number of 64 bits.
+    pub fn number64(&mut self) -> Result<u64, Refusal>
+        ensures { ReadsAs (λ n. (n, words_left self.new)) (first_by decimal64 (words_left self.old)) result }
+    {
+        self.number(u64::MAX)
+    }
+
+    /// The only word that is left as a decimal number of 32 bits.
+    pub fn only_number32(&mut self) -> Result<u32, Refusal>
+        ensures { ReadsAs (λ n. n) (only decimal32 (words_left self.old)) result }
+    {
+        let number = self.number32()?;
+        self.end()?;
+        Ok(number)
+    }
+
+    /// The only word that is left as a decimal number of 64 bits.
+    pub fn only_number64(&mut self) -> Result<u64, Refusal>
+        ensures { ReadsAs (λ n. n) (only decimal64 (words_left self.old)) result }
+    {
+        let number = self.number64()?;
+        self.end()?;
+        Ok(number)
+    }
+
+    /// All words that are left as decimal numbers. The first `N` are kept.
+    pub fn numbers<const N: usize>(&mut self) -> Result<ArrayVec<u32, N>, Refusal>
+        ensures { ReadsAs (λ numbers. numbers.items) (option_map (λ ns. take N ns) (decimals32 (words_left self.old))) result }
+    {
+        let mut numbers = ArrayVec::new();
+        while self.rest.is_some() {
+            keep(&mut numbers, self.number32()?);
+        }
+        Ok(numbers)
+    }
+
+    /// The next word as hexadecimal text, in either case; `-` stands for no bytes.
+    #[tactic(auto, unfolding(crate::specs::Reading::first_by))]
+    pub fn bytes<A: Allocator>(&mut self, alloc: A) -> Result<Vec<u8, A>, Refusal>
+        ensures { ReadsAs (λ bytes. (bytes.items, words_left self.new)) (first_by hexadecimal (words_left self.old)) result }
+    {
+        bytes_in(alloc, self.word()?)
+    }
+
+    /// No word is left.
+    #[tactic(auto, using(crate::proofs::WordsCut::cut_not_ended), unfolding(crate::specs::Reading::ended))]
+    pub fn end(&self) -> Result<(), Refusal>
+        ensures { ReadsAs (λ done. done) (ended (words_left self.now)) result }
+    {
+        match self.rest {
+            Some(_) => Err(Refusal::BadLine),
+            None => Ok(()),
+        }
+    }
+}
+
+/// What stands before the first space of the text, and what behind it where there is one.
+fn first_part(text: &[u8]) -> (&[u8], Option<&[u8]>)
+    ensures { cut space text.now ≡ result.0.now ∷ words_left (record { rest = result.1 }) }
+{
+    match first_space(text) {
+        Some(place) => (&text[..place], Some(&text[place + 1..])),
+        None => (text, None),
+    }
+}
+
+fn first_space(text: &[u8]) -> Option<usize>
+    ensures { result ≡ position (λ byte. byte == space) text.now }
+{
+    text.iter().position(|byte| *byte == b' ')
+}
+
+/// The word as a decimal number that is at most `most`.
+fn number_in(word: &[u8], most: u64) -> Option<u64>
+    ensures { result ≡ decimal_within most word.now }
+{
+    if !are_digits(word) {
+        return None;
+    }
+    let Ok(digits) = str::from_utf8(word) else {
+        return None;
+    };
+    let Ok(number) = digits.parse::<u64>() else {
+        return None;
+    };
+    if number > most { None } else { Some(number) }
+}
+
+fn are_digits(word: &[u8]) -> bool
+    ensures { result ≡ list_all is_digit word.now }
+{
+    word.iter().all(|byte| byte.is_ascii_digit())
+}
+
+/// Appends the number where there is room.
+fn keep<const N: usize>(numbers: &mut ArrayVec<u32, N>, number: u32)
+    ensures { numbers.new.items ≡ take N (numbers.old.items ++ number ∷ []) }
+{
+    let _ = numbers.try_push(number);
+}
+
+/// The word as hexadecimal text, in either case; `-` stands for no bytes.
+fn bytes_in<A: Allocator>(alloc: A, word: &[u8]) -> Result<Vec<u8, A>, Refusal>
+    ensures { ReadsAs (λ bytes. bytes.items) (hexadecimal word.now) result }
+{
+    if word == b"-".as_slice() {
+        return Ok(Vec::new(alloc));
+    }
+    hex::decode(alloc, word).map_err(|fault| match fault {
+        hex::FromHexError::OutOfMemory => Refusal::OutOfMemory,
+        _ => Refusal::BadLine,
+    })
+}

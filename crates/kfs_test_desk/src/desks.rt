@@ -1,0 +1,208 @@
+//! The calls of the desk and of the image, each in a function without clauses.
+
+use kfs_desk::Desk;
+use kfs_desk::answers::{Act, ActReply, Done, Reply};
+use kfs_image::{Answer, Cell, Header, Image, Kind, Name, Shape, TierSizes, look};
+use kfs_lease::LeaseKind;
+use kfs_mode::{Client, ClientFault};
+use kfs_plan::{Back, Submission, Why};
+use kfs_test_support::vectors::{CREATE_LOG, CREATE_PLAN};
+use std::alloc::{AllocError, Allocator};
+
+/// As many growths as nothing here makes.
+pub const AMPLE: u64 = 1 << 40;
+
+/// A client of uid and gid 1000, which has the numbers from 2 to `last`.
+pub fn client(number: u32, last: u32) -> Result<Client, ClientFault> {
+    Client::new(number, 1000, 1000, &[], false, 2, last)
+}
+
+/// The desk of a fresh image with so many blocks on tier 0, and of client 7, which has the numbers from 2 on.
+fn begun<A: Allocator + Copy>(alloc: A, blocks: u32, limit: u32) -> Option<Desk<A>> {
+    let image = Image::fresh(alloc, TierSizes::new(blocks, 8, 8)?).ok()?;
+    let clients = vec![in alloc; client(7, 65_536).ok()?].ok()?;
+    Desk::begin(alloc, image, clients, limit).ok()
+}
+
+/// Whether both are one.
+fn is_reply(reply: &ActReply, wanted: &ActReply) -> bool {
+    reply == wanted
+}
+
+/// Whether client 7 is given a write lease on the node of this number at the path, in the row of this position.
+pub fn is_leased<A: Allocator + Copy>(
+    desk: &mut Desk<A>,
+    path: &[u8],
+    number: u32,
+    position: u32,
+) -> bool {
+    let act = Act::Lease {
+        client: 7,
+        path,
+        kind: LeaseKind::Write,
+        end: 100,
+    };
+    let answer = Ok(Done::Leased(number));
+    match desk.act(act) {
+        Ok(reply) => is_reply(&reply, &ActReply { position, answer }),
+        Err(_) => false,
+    }
+}
+
+/// Such a desk with 8 blocks, whose docket takes `limit` rows, and of which client 7 holds a write lease
+/// on the root. The lease is row 0.
+pub fn opening<A: Allocator + Copy>(alloc: A, limit: u32) -> Option<Desk<A>> {
+    opening_over(alloc, 8, limit)
+}
+
+/// The same with so many blocks on tier 0.
+pub fn opening_over<A: Allocator + Copy>(alloc: A, blocks: u32, limit: u32) -> Option<Desk<A>> {
+    let mut desk = begun(alloc, blocks, limit)?;
+    if is_leased(&mut desk, b"/", 1, 0) {
+        Some(desk)
+    } else {
+        None
+    }
+}
+
+/// Such a desk of 100 rows, which has answered yes to this log and this plan. That is row 1.
+pub fn grown<A: Allocator + Copy>(alloc: A, log: &[u8], plan: &[u8]) -> Option<Desk<A>> {
+    let mut desk = opening(alloc, 100)?;
+    let submission = submission(alloc, log, plan).ok()?;
+    if is_accepted(&mut desk, submission, 1) {
+        Some(desk)
+    } else {
+        None
+    }
+}
+
+/// What client 7 hands in.
+pub fn submission<A: Allocator + Copy>(
+    alloc: A,
+    log: &[u8],
+    plan: &[u8],
+) -> Result<Submission<A>, AllocError> {
+    Ok(Submission {
+        client: 7,
+        log: Vec::from_slice(alloc, log)?,
+        plan: Vec::from_slice(alloc, plan)?,
+    })
+}
+
+/// The Create of the file 5, named `a`, in the root.
+pub fn create<A: Allocator + Copy>(alloc: A) -> Result<Submission<A>, AllocError> {
+    submission(alloc, CREATE_LOG, CREATE_PLAN)
+}
+
+/// Whether the submission was answered so, or came back for this reason.
+pub fn is_answer<A: Allocator>(
+    given: &Result<Reply, Back<A>>,
+    wanted: &Result<Reply, Why>,
+) -> bool {
+    match (given, wanted) {
+        (Ok(reply), Ok(wanted)) => reply == wanted,
+        (Err(back), Err(why)) => back.why == *why,
+        _ => false,
+    }
+}
+
+/// Hands the submission in. Answers whether it is answered so.
+pub fn is_answered<A: Allocator + Copy>(
+    desk: &mut Desk<A>,
+    submission: Submission<A>,
+    wanted: &Result<Reply, Why>,
+) -> bool {
+    is_answer(&desk.submit(submission), wanted)
+}
+
+pub fn yes(position: u32) -> Reply {
+    landed(position, 0)
+}
+
+/// A yes to a log that writes so many blocks.
+pub fn landed(position: u32, need: u64) -> Reply {
+    Reply::Yes {
+        position,
+        rejudged: false,
+        need,
+    }
+}
+
+/// Hands the submission in. Answers whether this is accepted, at this position.
+pub fn is_accepted<A: Allocator + Copy>(
+    desk: &mut Desk<A>,
+    submission: Submission<A>,
+    position: u32,
+) -> bool {
+    is_answered(desk, submission, &Ok(yes(position)))
+}
+
+/// What an image shows at a place.
+#[derive(Clone, Copy)]
+pub enum Shown<'a> {
+    /// The node is of uid and gid 1000, of this kind and this mode, and has one name and no byte.
+    Node(u32, Kind, u16),
+    /// No node has this number.
+    NoNode(u32),
+    /// The name of a directory leads to this number, or to none.
+    Name(u32, &'a [u8], Option<u32>),
+    /// A directory has so many names.
+    Count(u32, u64),
+    /// The directory that a directory stands in.
+    Parent(u32, Option<u32>),
+}
+
+/// The cell of a header, and the header of uid and gid 1000, of one name and no byte.
+fn header_cell(number: u32, kind: Kind, mode: u16) -> (Cell, Answer) {
+    let header = Header {
+        kind,
+        mode,
+        uid: 1000,
+        gid: 1000,
+        links: 1,
+        size: 0,
+    };
+    (Cell::Header(number), Answer::Header(Some(header)))
+}
+
+/// The cell, and what it shows.
+fn cell_of(shown: Shown<'_>) -> Option<(Cell, Answer)> {
+    Some(match shown {
+        Shown::Node(number, kind, mode) => header_cell(number, kind, mode),
+        Shown::NoNode(number) => (Cell::Header(number), Answer::Header(None)),
+        Shown::Name(dir, name, number) => (Cell::Name(dir, Name::new(name)?), Answer::Name(number)),
+        Shown::Count(number, count) => (Cell::Count(number), Answer::Count(count)),
+        Shown::Parent(number, parent) => (Cell::Parent(number), Answer::Parent(parent)),
+    })
+}
+
+fn is_shown<A: Allocator>(shape: &Shape<A>, shown: Shown<'_>) -> bool {
+    match cell_of(shown) {
+        Some((cell, answer)) => look(shape, &cell) == answer,
+        None => false,
+    }
+}
+
+/// Whether the image shows all this.
+pub fn shows<A: Allocator>(shape: &Shape<A>, all: &[Shown<'_>]) -> bool {
+    for shown in all {
+        if !is_shown(shape, *shown) {
+            return false;
+        }
+    }
+    true
+}
+
+/// No file 5, and no name in the root.
+pub const NO_FILE: [Shown<'static>; 3] = [
+    Shown::NoNode(5),
+    Shown::Name(1, b"a", None),
+    Shown::Count(1, 0),
+];
+
+/// The file 5 of the first Create, the only name of the root.
+pub const FILE: [Shown<'static>; 3] = [
+    Shown::Node(5, Kind::File, 0o644),
+    Shown::Name(1, b"a", Some(5)),
+    Shown::Count(1, 1),
+];

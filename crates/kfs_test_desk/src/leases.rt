@@ -1,0 +1,217 @@
+//! Leases by calls: paths that no line can say, a node that goes, and copies. All clients here have uid and gid 1000, as all
+//! nodes below the root.
+
+use crate::desks::{client, grown};
+use kfs_desk::Desk;
+use kfs_image_nodes::Shape;
+use kfs_lease::LeaseKind::{Read, Write};
+use kfs_lease::{LeaseFault, LeaseKind, Leases};
+use std::alloc::{Allocator, Global};
+use std::process::Abort;
+
+/// Client 7 makes the file 5 at `/a`, the directories 20, 30, 31 and 120 at `/d`, `/m`, `/n` and `/p`, the
+/// directory 121 at `/d/e` and the file 122 at `/d/e/f`.
+const TREE_LOG: &[u8] =
+    b"KLOG\x01\0\0\0\x07\0\x07\x01\0\0\0\x01\x01a\0\0\0\x05\0\x01\xa4\x01\0\0\0\x01\
+      \x01d\0\0\0\x14\x01\x01\xed\x01\0\0\0\x01\x01m\0\0\0\x1e\x01\x01\xb6\x01\0\0\0\
+      \x01\x01n\0\0\0\x1f\x01\0I\x01\0\0\0\x01\x01p\0\0\0x\x01\x01\xc0\x01\0\0\0\x14\
+      \x01e\0\0\0y\x01\x01\xc9\x01\0\0\0y\x01f\0\0\0z\0\0\0";
+
+/// The right plan of that log.
+const TREE_PLAN: &[u8] =
+    b"KPLN\x01\0\x07\0\x07\0\0\0\0\0\0\0\x01\x01a\0\0\0\x05\0\0\0\x01\x01d\0\0\0\x14\0\
+      \0\0\x01\x01m\0\0\0\x1e\0\0\0\x01\x01n\0\0\0\x1f\0\0\0\x01\x01p\0\0\0x\0\0\0\x14\
+      \x01e\0\0\0y\0\0\0y\x01f\0\0\0z\0\0\0\x05\x01\x01\xa4\0\0\x03\xe8\0\0\x03\xe8\0\
+      \x01\0\0\0\0\0\0\0\0\0\0\0\x14\x02\x01\xed\0\0\x03\xe8\0\0\x03\xe8\0\x01\0\0\0\0\
+      \0\0\0\0\0\0\0\x1e\x02\x01\xb6\0\0\x03\xe8\0\0\x03\xe8\0\x01\0\0\0\0\0\0\0\0\0\0\
+      \0\x1f\x02\0I\0\0\x03\xe8\0\0\x03\xe8\0\x01\0\0\0\0\0\0\0\0\0\0\0x\x02\x01\xc0\0\
+      \0\x03\xe8\0\0\x03\xe8\0\x01\0\0\0\0\0\0\0\0\0\0\0y\x02\x01\xc9\0\0\x03\xe8\0\0\
+      \x03\xe8\0\x01\0\0\0\0\0\0\0\0\0\0\0z\x01\0\0\0\0\x03\xe8\0\0\x03\xe8\0\x01\0\0\
+      \0\0\0\0\0\0";
+
+/// A desk with these nodes, where there is memory.
+fn tree<A: Allocator + Copy>(alloc: A) -> Option<Desk<A>> {
+    grown(alloc, TREE_LOG, TREE_PLAN)
+}
+
+/// Asks for a lease, of a client that is known.
+fn grant<A: Allocator + Clone>(
+    leases: &mut Leases<A>,
+    shape: &Shape<A>,
+    number: u32,
+    path: &str,
+    kind: LeaseKind,
+    end: u64,
+) -> Result<u32, LeaseFault> {
+    let Ok(client) = client(number, 1) else {
+        return Err(LeaseFault::UnknownClient);
+    };
+    leases.grant(shape, &[client], number, path.as_bytes(), kind, end)
+}
+
+/// Gives up a lease, of a client that is known.
+fn drop_lease<A: Allocator>(
+    leases: &mut Leases<A>,
+    number: u32,
+    node: u32,
+) -> Result<(), LeaseFault> {
+    let Ok(client) = client(number, 1) else {
+        return Err(LeaseFault::UnknownClient);
+    };
+    leases.drop_lease(&[client], number, node)
+}
+
+/// A call of the leases, and what it answers where it answers.
+#[derive(Clone, Copy)]
+enum Call<'a> {
+    Grant(u32, &'a str, LeaseKind, u64, Result<u32, LeaseFault>),
+    Drop(u32, u32, Result<(), LeaseFault>),
+    Tick(u64, Result<(), LeaseFault>),
+    Holds(u32, u32, bool),
+    Moment(u64),
+    RemoveNode(u32),
+}
+
+/// Makes the call, and answers whether it is answered as it says.
+fn is_answered<A: Allocator + Clone>(
+    leases: &mut Leases<A>,
+    shape: &Shape<A>,
+    call: Call<'_>,
+) -> bool {
+    match call {
+        Call::Grant(client, path, kind, end, wanted) => {
+            grant(leases, shape, client, path, kind, end) == wanted
+        }
+        Call::Drop(client, number, wanted) => drop_lease(leases, client, number) == wanted,
+        Call::Tick(moment, wanted) => leases.tick(moment) == wanted,
+        Call::Holds(client, number, wanted) => leases.holds(client, number) == wanted,
+        Call::Moment(wanted) => leases.moment() == wanted,
+        Call::RemoveNode(number) => {
+            leases.remove_node(number);
+            true
+        }
+    }
+}
+
+/// Makes the calls one after another. Answers how many stand before the first that isn't answered as it says.
+fn make_calls<A: Allocator + Clone>(
+    leases: &mut Leases<A>,
+    shape: &Shape<A>,
+    calls: &[Call<'_>],
+) -> usize {
+    let mut count = 0usize;
+    for call in calls {
+        if !is_answered(leases, shape, *call) {
+            return count;
+        }
+        count = count.saturating_add(1);
+    }
+    count
+}
+
+/// Makes the calls on the tree of this module, from no leases on. Answers how many are answered as they say.
+fn answered(alloc: Global, calls: &[Call<'_>]) -> Option<usize> {
+    let desk = tree(alloc)?;
+    let mut leases = Leases::new(alloc);
+    Some(make_calls(&mut leases, desk.image().shape(), calls))
+}
+
+/// Each of the calls is answered as it says.
+fn expect_calls(rt: &(impl Abort + AllocGlobal), calls: &[Call<'_>]) {
+    let count = answered(rt.alloc(), calls);
+    assert!(rt; count == Some(calls.len()), "{count:?}");
+}
+
+const PATHS_THAT_NO_LINE_CAN_SAY: [Call<'static>; 3] = [
+    Call::Grant(7, "", Write, 1, Err(LeaseFault::BadPath)),
+    Call::Grant(7, "/\0", Write, 1, Err(LeaseFault::BadPath)),
+    Call::Grant(7, "/a\0", Write, 1, Err(LeaseFault::BadPath)),
+];
+
+const CALLS_AND_NODES_THAT_GO: [Call<'static>; 14] = [
+    Call::Grant(7, "/a", Read, 100, Ok(5)),
+    Call::Grant(9, "/a", Read, 100, Ok(5)),
+    Call::Grant(7, "/", Write, 100, Ok(1)),
+    Call::Grant(8, "/d", Write, 100, Ok(20)),
+    Call::RemoveNode(5),
+    Call::Drop(7, 5, Err(LeaseFault::NoLeaseHeld)),
+    Call::Drop(9, 5, Err(LeaseFault::NoLeaseHeld)),
+    Call::Holds(7, 1, true),
+    Call::Holds(8, 20, true),
+    Call::RemoveNode(6),
+    Call::RemoveNode(20),
+    Call::Holds(7, 1, true),
+    Call::Holds(8, 20, false),
+    Call::Grant(9, "/d", Write, 100, Ok(20)),
+];
+
+#[test]
+fn paths_that_no_line_can_say(rt: HostRuntime) {
+    expect_calls(&rt, &PATHS_THAT_NO_LINE_CAN_SAY);
+}
+
+#[test]
+fn calls_and_nodes_that_go(rt: HostRuntime) {
+    expect_calls(&rt, &CALLS_AND_NODES_THAT_GO);
+}
+
+const BEFORE_THE_COPY: [Call<'static>; 6] = [
+    Call::Grant(7, "/m", Read, 20, Ok(30)),
+    Call::Drop(7, 30, Ok(())),
+    Call::Grant(7, "/a", Write, 10, Ok(5)),
+    Call::Grant(8, "/d", Read, 20, Ok(20)),
+    Call::Tick(3, Ok(())),
+    Call::Moment(3),
+];
+
+const ON_THE_COPY: [Call<'static>; 6] = [
+    Call::Holds(7, 5, true),
+    Call::Tick(2, Err(LeaseFault::Backwards)),
+    Call::Moment(3),
+    Call::Tick(10, Ok(())),
+    Call::Holds(7, 5, false),
+    Call::Drop(8, 20, Ok(())),
+];
+
+const ON_THE_TABLE: [Call<'static>; 7] = [
+    Call::Tick(4, Ok(())),
+    Call::Holds(7, 5, true),
+    Call::Grant(7, "/d", Write, 20, Err(LeaseFault::LeaseHeld(8))),
+    Call::Drop(7, 5, Ok(())),
+    Call::Drop(8, 20, Ok(())),
+    Call::Grant(8, "/m", Write, 100, Ok(30)),
+    Call::Holds(8, 30, true),
+];
+
+const ON_THE_COPY_THEN: [Call<'static>; 3] = [
+    Call::Moment(10),
+    Call::Holds(8, 30, false),
+    Call::Grant(7, "/m", Write, 20, Ok(30)),
+];
+
+/// Makes these calls on the table and on a copy of it, one table after the other. Answers how many calls of each list are
+/// answered as they say.
+fn answered_apart<A: Allocator + Clone>(
+    leases: &mut Leases<A>,
+    shape: &Shape<A>,
+) -> Option<[usize; 4]> {
+    let before = make_calls(leases, shape, &BEFORE_THE_COPY);
+    let mut copied = leases.copy().ok()?;
+    let on_the_copy = make_calls(&mut copied, shape, &ON_THE_COPY);
+    let on_the_table = make_calls(leases, shape, &ON_THE_TABLE);
+    let then = make_calls(&mut copied, shape, &ON_THE_COPY_THEN);
+    Some([before, on_the_copy, on_the_table, then])
+}
+
+/// The same on the tree of this module, from no leases on.
+fn answered_on_both(alloc: Global) -> Option<[usize; 4]> {
+    let desk = tree(alloc)?;
+    let mut leases = Leases::new(alloc);
+    answered_apart(&mut leases, desk.image().shape())
+}
+
+#[test]
+fn a_copy_and_the_table_go_on_apart(rt: HostRuntime) {
+    let counts = answered_on_both(rt.alloc());
+    assert!(rt; counts == Some([6, 6, 7, 3]), "{counts:?}");
+}

@@ -1,0 +1,28 @@
+-- One edit of where a block lies leaves a lawful image lawful.
+use Rattle.std.proofs.Common.{◌≡◌, ℕ, ◌<◌, true, [], ◌∷◌, Option, Some, None}
+use Rattle.std.proofs.lemmas.List.Elements.{All-cons, All-nil}
+use Rattle.kfs_model.specs.Table.{changed}
+use Rattle.kfs_model.specs.Placement.{Place, tier_size, is_free}
+use Rattle.kfs_model_device.specs.ShownTree.{DeviceImage, IsLawful}
+use Rattle.kfs_image.specs.declared.edit.Edit.{Edit}
+use Rattle.kfs_image.specs.declared.edit.Edit.TheVariants.{Map}
+use Rattle.kfs_image.specs.Edit.{CanEdit, IsWhole, edited_all}
+use Rattle.kfs_image.specs.Net.{is_block}
+use Rattle.kfs_image.proofs.FilledImages.{mapped_is_lawful, unmapped_is_lawful}
+
+module _ {A : Type 0} (image : DeviceImage) (lawful : IsLawful image) (number block : ℕ) where
+  abbrev pub moved : Option Place → Edit A
+  moved place = Map number block place
+
+  can_move : (place : Option Place) → IsLawful (record image { placement = changed image.placement (number, block) place }) → CanEdit (moved place ∷ []) image
+  unfolding edited_all
+  can_move place after = record {
+    lawful = after;
+    whole = All-cons (IsWhole image.sizes) (moved place) [] tt (All-nil (IsWhole {A = A} image.sizes));
+  }
+
+  pub can_lay : (place : Place) → place.place < tier_size image.sizes place.tier → is_free image.placement place ≡ true → is_block image.heads (number, block) ≡ true → CanEdit (moved (Some place) ∷ []) image
+  can_lay place inside free of_file = can_move (Some place) (mapped_is_lawful image lawful (number, block) place inside free of_file)
+
+  pub can_take_up : CanEdit (moved None ∷ []) image
+  can_take_up = can_move None (unmapped_is_lawful image lawful (number, block))

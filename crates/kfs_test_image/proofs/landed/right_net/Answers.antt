@@ -1,0 +1,27 @@
+-- The image's own state agrees with the reads, so the verdict is its own, and its net keeps the image lawful.
+use Rattle.std.proofs.Common.{◌≡◌, refl, sym, ap, subst, ◌∙◌}
+use Rattle.kfs_model.specs.Lease.{holds}
+use Rattle.kfs_model.specs.Sight.{client_sight}
+use Rattle.kfs_model.specs.Judgement.{State}
+use Rattle.kfs_image_nodes.specs.Contents.{sight_of}
+use Rattle.kfs_model_device.specs.ShownTree.{shown_tree}
+use Rattle.kfs_image.proofs.ShownTrees.{sight_shown}
+use Rattle.kfs_judge_check.specs.Reads.{Agrees}
+use Rattle.kfs_judge_check.specs.View.{client_sight_in, clients_of, leases_of}
+use Rattle.kfs_plan.specs.Judging.{IsVerdict, submission_of}
+use Rattle.kfs_test_image.proofs.LandedNets.{net_is_lawful}
+use Rattle.kfs_test_image.proofs.landed.right_net.Goals as goal
+
+pub returns-in-Yes : goal.returns-in-Yes
+returns-in-Yes g c =
+    let image = c.args.image.now in
+    let lawful = c.shape-shape.ensures.lawful in
+    let leases = leases_of c.args.view.now in
+    let number = c.args.submission.client in
+    let s : State = record { clients = clients_of c.args.view.now; sizes = image.sizes; tree = shown_tree image; leases = leases; placement = image.placement } in
+    let sights = ap sight_of c.requires.contents ∙ sight_shown image lawful in
+    let seen : client_sight_in c.args.view.now number ≡ client_sight (shown_tree image) (holds leases number) = λ i. record { sight = sights i; held = holds leases number } in
+    let agrees = subst (Agrees c.in-Ok.judged.reads) seen c.in-Ok.ensures.view_agrees in
+    let verdict = c.in-Ok.ensures.known s (record { sound = lawful.tree.sound; row = sym c.in-Ok.ensures.client; agrees = agrees }) in
+    let told = subst (λ o. IsVerdict s (submission_of c.args.submission) o) (sym c.into_parts-submission.ensures.outcome ∙ c.in-Yes.is) verdict in
+    record { lawful = net_is_lawful image lawful s refl (submission_of c.args.submission) _ _ c.in-Yes.net _ told }

@@ -1,0 +1,160 @@
+//! Edits of an image: as many blocks of a tier as there may be, and edits of which each growth is refused in turn.
+ghost use Rattle.std.specs.Prelude.{◌≡◌, [], ◌∷◌, IfOk, IfSome};
+ghost use Rattle.kfs_image.specs.Edit.{CanEdit};
+ghost use Rattle.kfs_test_image.specs.Edits.{each_kind};
+
+use crate::fits::{block_count, is_place_free};
+use crate::landed::{Made, image_with};
+use kfs_image::{Edit, Header, Image, Name, Place, header};
+use std::alloc::{AllocError, Allocator, Global};
+use std::process::Abort;
+
+/// How many bytes a block has.
+const BLOCK_LEN: usize = 4_096;
+
+/// How many blocks a tier may have.
+const GREATEST: u32 = 65_536;
+
+/// File 5 of mode 0o644 at `/a`, as long as a tier.
+const LONG: Made<'static> = Made {
+    log: b"KLOG\x01\0\0\0\x07\0\x02\x01\0\0\0\x01\x01a\0\0\0\x05\0\x01\xa4\
+          \x03\0\0\0\x05\0\0\0\0\x10\0\0\0",
+    plan: b"KPLN\x01\0\x01\0\x01\0\0\0\x01\0\0\0\x01\x01a\0\0\0\x05\0\0\0\x05\
+          \x01\x01\xa4\0\0\x03\xe8\0\0\x03\xe8\0\x01\0\0\0\0\x10\0\0\0\
+          \0\0\0\x05\0\0\0\0\0\0\0\0\0\0\0\0\x10\0\0\0\0",
+};
+
+/// The edit that lays a block of a file at a place, where the image is lawful after it.
+fn mapping<A: Allocator>(image: &Image<A>, number: u32, block: u32, place: Place) -> Option<Edit<A>>
+    ensures { IfSome result (λ edit. CanEdit (edit ∷ []) image.now) }
+{
+    let _shape = image.shape();
+    let is_free = is_place_free(image, place);
+    if is_free && u64::from(block) < block_count(header(image, number)) {
+        Some(Edit::Map(number, block, Some(place)))
+    } else {
+        None
+    }
+}
+
+/// The edit after which the block lies nowhere.
+fn unmapping<A: Allocator>(image: &Image<A>, number: u32, block: u32) -> Edit<A>
+    ensures { CanEdit (result ∷ []) image.now }
+{
+    let _shape = image.shape();
+    Edit::Map(number, block, None)
+}
+
+/// Makes the one edit.
+fn make<A: Allocator + Copy>(alloc: A, image: &mut Image<A>, edit: Edit<A>) -> Option<()>
+    requires { CanEdit (edit ∷ []) image.old }
+{
+    let mut edits = Vec::new(alloc);
+    edits.push(edit).ok()?;
+    image.edit(edits.as_slice()).ok()
+}
+
+/// An edit of each kind: the header of the root and its name `a` as they are, block 1 of file 5 at a place with these bytes,
+/// and block 0 nowhere.
+fn of_each_kind<A: Allocator>(
+    alloc: A,
+    header: Option<Header>,
+    name: Name,
+    target: Option<u32>,
+    place: Place,
+    bytes: Vec<u8, A>,
+) -> Result<Vec<Edit<A>, A>, AllocError>
+    ensures { IfOk result (λ edits. edits.items ≡ each_kind header name target place bytes) }
+{
+    let mut edits = Vec::new(alloc);
+    edits.push(Edit::Header(1, header))?;
+    edits.push(Edit::Name(1, name, target))?;
+    edits.push(Edit::Map(5, 1, Some(place)))?;
+    edits.push(Edit::Bytes(place, bytes))?;
+    edits.push(Edit::Map(5, 0, None))?;
+    Ok(edits)
+}
+
+/// The bytes of a block, each one more than the one before it, and every hundredth 128 again.
+fn block_bytes<A: Allocator>(alloc: A) -> Option<Vec<u8, A>> {
+    let mut bytes = Vec::new(alloc);
+    for k in 0..4_096u16 {
+        bytes.push(128u8.wrapping_add((k % 100) as u8)).ok()?;
+    }
+    Some(bytes)
+}
+
+/// Such edits of place 2, where the image is lawful after them.
+pub fn edits_of_each_kind<A: Allocator + Copy>(
+    alloc: A,
+    image: &Image<A>,
+) -> Option<Vec<Edit<A>, A>>
+    ensures { IfSome result (λ edits. CanEdit edits.items image.now) }
+{
+    let place = Place { tier: 0, place: 2 };
+    let _shape = image.shape();
+    let bytes = block_bytes(alloc)?;
+    let is_free = is_place_free(image, place);
+    if !is_free || block_count(header(image, 5)) <= 1 || bytes.len() != BLOCK_LEN {
+        return None;
+    }
+    let name = (1, Name::new(b"a")?);
+    let target = image.shape().target(&name);
+    of_each_kind(alloc, header(image, 1), name.1, target, place, bytes).ok()
+}
+
+/// Lays the block of file 5 at the least free place of tier 0 that isn't below `from`, and answers it.
+pub fn lay<A: Allocator + Copy>(
+    alloc: A,
+    image: &mut Image<A>,
+    block: u32,
+    from: u32,
+) -> Option<u32> {
+    let place = image.next_free(0, from)?;
+    let edit = mapping(image, 5, block, Place { tier: 0, place })?;
+    make(alloc, image, edit)?;
+    Some(place)
+}
+
+/// The image in which all blocks of file 5 lie on tier 0, each at the place of its own number.
+fn filled(alloc: Global) -> Option<Image<Global>> {
+    let mut image = image_with(alloc, GREATEST, LONG)?;
+    for block in 0..GREATEST {
+        if lay(alloc, &mut image, block, block)? != block {
+            return None;
+        }
+    }
+    Some(image)
+}
+
+/// How many places of tier 0 are free, the least of them, and the place of a block of file 5.
+fn found(image: &Image<Global>, block: u32) -> (u32, Option<u32>, Option<u32>) {
+    let place = image.place_of(5, block);
+    (
+        image.free(0),
+        image.next_free(0, 0),
+        place.map(|place| place.place),
+    )
+}
+
+#[test]
+fn a_tier_of_which_each_place_is_used(rt: HostRuntime) {
+    let image = filled(rt.alloc());
+    assert!(rt; image.is_some());
+    if let Some(mut image) = image {
+        expect_one_freed(&rt, &mut image);
+    }
+}
+
+/// A block that is freed is the one that is found, and is used again.
+fn expect_one_freed(rt: &(impl Abort + AllocGlobal), image: &mut Image<Global>) {
+    assert!(rt; found(image, 40_000) == (0, None, Some(40_000)));
+    let edit = unmapping(image, 5, 40_000);
+    let is_made = make(rt.alloc(), image, edit).is_some();
+    assert!(rt; is_made);
+    assert!(rt; found(image, 40_000) == (1, Some(40_000), None));
+    assert!(rt; image.next_free(0, 40_001) == None);
+    let place = lay(rt.alloc(), image, 40_000, 0);
+    assert!(rt; place == Some(40_000));
+    assert!(rt; found(image, 40_000) == (0, None, Some(40_000)));
+}

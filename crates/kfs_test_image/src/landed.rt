@@ -1,0 +1,109 @@
+//! Images with the nodes that a log of client 7 makes.
+ghost use Rattle.std.specs.Prelude.{◌≡◌, IfSome};
+ghost use Rattle.kfs_mode.specs.Clients.{AreDistinct};
+ghost use Rattle.kfs_model_device.specs.ShownTree.{IsLawful};
+ghost use Rattle.kfs_image.specs.Image as images;
+ghost use Rattle.kfs_image.specs.Net.{after_net};
+ghost use Rattle.kfs_judge_check.specs.View.{contents_of};
+
+use kfs_image::{Fill, Image, Net, TierSizes, net_apply};
+use kfs_judge::View;
+use kfs_lease::{LeaseKind, Leases};
+use kfs_mode::Client;
+use kfs_plan::{Outcome, Submission, judge};
+use std::alloc::{AllocError, Allocator};
+use std::sync::Arc;
+
+/// What client 7 hands in where the root is alone: a log, and its right plan.
+#[derive(Clone, Copy)]
+pub struct Made<'a> {
+    pub log: &'a [u8],
+    pub plan: &'a [u8],
+}
+
+/// Client 7, with the numbers from 2 to 99.
+fn clients<A: Allocator>(alloc: A) -> Option<Vec<Client, A>>
+    ensures { IfSome result (λ clients. AreDistinct clients.items) }
+{
+    let client = Client::new(7, 1000, 1000, &[], false, 2, 99).ok()?;
+    vec![in alloc; client].ok()
+}
+
+/// The view of the image of now, with a write lease of client 7 on the root.
+fn view_of<A: Allocator + Copy>(
+    alloc: A,
+    image: &Image<A>,
+    clients: Vec<Client, A>,
+) -> Option<View<A>>
+    requires distinct { AreDistinct clients.items }
+    ensures contents { IfSome result (λ view. contents_of view ≡ images.contents_of image.now) }
+{
+    let mut leases = Leases::new(alloc);
+    leases
+        .grant(
+            image.shape(),
+            clients.as_slice(),
+            7,
+            b"/",
+            LeaseKind::Write,
+            100,
+        )
+        .ok()?;
+    let shape = image.shape().clone().ok()?;
+    let leases = Arc::new(alloc, leases).ok()?;
+    let clients = Arc::new(alloc, clients).ok()?;
+    Some(View::of(shape, leases, clients))
+}
+
+/// The net of what is judged right. A view of an image shows its tree, so the net keeps that sound.
+fn right_net<A: Allocator + Copy>(
+    alloc: A,
+    image: &Image<A>,
+    view: &View<A>,
+    submission: Submission<A>,
+) -> Option<Net<A>>
+    requires contents { contents_of view.now ≡ images.contents_of image.now }
+    ensures lawful { IfSome result (λ net. IsLawful (after_net net image.now)) }
+{
+    let _shape = image.shape();
+    let Ok(judged) = judge(alloc, view, submission) else {
+        return None;
+    };
+    let (_submission, outcome) = judged.into_parts();
+    match outcome {
+        Outcome::Yes { net, .. } => Some(net),
+        Outcome::No(_) => None,
+    }
+}
+
+fn net_of<A: Allocator + Copy>(alloc: A, image: &Image<A>, made: Made<'_>) -> Option<Net<A>>
+    ensures { IfSome result (λ net. IsLawful (after_net net image.now)) }
+{
+    let view = view_of(alloc, image, clients(alloc)?)?;
+    let submission = Submission {
+        client: 7,
+        log: Vec::from_slice(alloc, made.log).ok()?,
+        plan: Vec::from_slice(alloc, made.plan).ok()?,
+    };
+    right_net(alloc, image, &view, submission)
+}
+
+/// Makes the change of the net, with no block written.
+fn apply_alone<A: Allocator + Clone>(
+    alloc: &A,
+    image: &mut Image<A>,
+    net: &Net<A>,
+) -> Result<(), AllocError>
+    requires { IsLawful (after_net net.now image.old) }
+{
+    let fill = Fill::empty(alloc)?;
+    net_apply(image, net, &fill)
+}
+
+/// A new image with so many blocks on tier 0, and the nodes that are made.
+pub fn image_with<A: Allocator + Copy>(alloc: A, blocks: u32, made: Made<'_>) -> Option<Image<A>> {
+    let mut image = Image::fresh(alloc, TierSizes::new(blocks, 0, 0)?).ok()?;
+    let net = net_of(alloc, &image, made)?;
+    apply_alone(&alloc, &mut image, &net).ok()?;
+    Some(image)
+}

@@ -1,0 +1,139 @@
+//! Edits of which each growth is refused in turn: the image shows what it showed, and then the same edits are made.
+ghost use Rattle.kfs_image.specs.Edit.{CanEdit};
+
+use crate::edits::{edits_of_each_kind, lay};
+use crate::landed::{Made, image_with};
+use kfs_image::{Answer, Cell, Edit, Image, Shape, look, read_file};
+use kfs_test_support::refusing::Refusing;
+use std::alloc::{Allocator, Global};
+use std::process::Abort;
+
+/// As many growths as nothing here makes.
+const AMPLE: u64 = 1 << 40;
+
+/// More growths than edits make.
+const MANY: u64 = 400;
+
+/// File 5 of two blocks at `/a`.
+const TWO_BLOCKS: Made<'static> = Made {
+    log: b"KLOG\x01\0\0\0\x07\0\x02\x01\0\0\0\x01\x01a\0\0\0\x05\0\x01\xa4\
+          \x03\0\0\0\x05\0\0\0\0\0\0\x20\0",
+    plan: b"KPLN\x01\0\x01\0\x01\0\0\0\x01\0\0\0\x01\x01a\0\0\0\x05\0\0\0\x05\
+          \x01\x01\xa4\0\0\x03\xe8\0\0\x03\xe8\0\x01\0\0\0\0\0\0\x20\0\
+          \0\0\0\x05\0\0\0\0\0\0\0\0\0\0\0\0\0\0\x20\0\0",
+};
+
+/// The places on tier 0 of the two blocks, the bytes of the file from 4,090 on, and how many places are free.
+type Shown = ((Option<u32>, Option<u32>), [u8; 20], u32);
+
+/// The first block lies somewhere.
+const BEFORE: Shown = ((Some(0), None), [0; 20], 2);
+
+/// After the edits of each kind: block 1 lies at place 2, and block 0 nowhere.
+const EDITED: Shown = (
+    (None, Some(2)),
+    [
+        0, 0, 0, 0, 0, 0, 128, 129, 130, 131, 132, 133, 134, 135, 136, 137, 138, 139, 140, 141,
+    ],
+    2,
+);
+
+fn place<A: Allocator>(image: &Image<A>, block: u32) -> Option<u32> {
+    let place = image.place_of(5, block)?;
+    Some(place.place)
+}
+
+fn shown_by<A: Allocator>(image: &Image<A>) -> Option<Shown> {
+    let mut buffer = [7; 20];
+    let count = read_file(image, 5, 4_090, &mut buffer).ok()?;
+    let places = (place(image, 0), place(image, 1));
+    (count == 20).then_some((places, buffer, image.free(0)))
+}
+
+/// Whether the image shows this.
+fn shows<A: Allocator>(image: &Image<A>, wanted: &Shown) -> bool {
+    match shown_by(image) {
+        Some(shown) => shown == *wanted,
+        None => false,
+    }
+}
+
+/// Whether a growth was refused, and the image shows what it showed. The heap then refuses none.
+fn is_kept<A: Allocator>(heap: &Refusing<Global>, image: &Image<A>) -> bool {
+    let has_refused = heap.has_refused();
+    heap.refuse_after(AMPLE);
+    has_refused && shows(image, &BEFORE)
+}
+
+/// Whether there was a growth that was refused in these edits; none where an answer isn't due.
+fn is_edit_refused<A: Allocator + Clone>(
+    heap: &Refusing<Global>,
+    image: &mut Image<A>,
+    edits: &[Edit<A>],
+) -> Option<bool>
+    requires { CanEdit edits.now image.old }
+{
+    match image.edit(edits) {
+        Ok(()) => return (!heap.has_refused() && shows(image, &EDITED)).then_some(false),
+        Err(_) => {}
+    }
+    if !is_kept(heap, image) {
+        return None;
+    }
+    image.edit(edits).ok()?;
+    shows(image, &EDITED).then_some(true)
+}
+
+/// The same of the edits of each kind, of which the heap refuses the growth of this index.
+fn are_edits_refused<'a>(
+    heap: &'a Refusing<Global>,
+    image: &mut Image<&'a Refusing<Global>>,
+    growth: u64,
+) -> Option<bool> {
+    let edits = edits_of_each_kind(heap, image)?;
+    heap.refuse_after(growth);
+    is_edit_refused(heap, image, edits.as_slice())
+}
+
+/// Whether there is a file 5.
+fn has_file<A: Allocator>(shape: &Shape<A>) -> bool {
+    matches!(look(shape, &Cell::Header(5)), Answer::Header(Some(_)))
+}
+
+/// The same, while a view may share the shape, and shows what it showed.
+fn is_refused(alloc: Global, is_shared: bool, growth: u64) -> Option<bool> {
+    let heap = Refusing::new(alloc, AMPLE);
+    let mut image = image_with(&heap, 3, TWO_BLOCKS)?;
+    lay(&heap, &mut image, 0, 0)?;
+    let view = image.shape().clone().ok()?;
+    if !is_shared {
+        drop(view);
+        return are_edits_refused(&heap, &mut image, growth);
+    }
+    let has_refused = are_edits_refused(&heap, &mut image, growth)?;
+    has_file(&view).then_some(has_refused)
+}
+
+/// How many growths the edits make, each of which is refused in turn; or the index of one at which an answer isn't due.
+fn growths(alloc: Global, is_shared: bool) -> Result<u64, u64> {
+    for growth in 0..MANY {
+        match is_refused(alloc, is_shared, growth) {
+            Some(true) => {}
+            Some(false) => return Ok(growth),
+            None => return Err(growth),
+        }
+    }
+    Err(MANY)
+}
+
+#[test]
+fn each_growth_of_edits_refused(rt: HostRuntime) {
+    for is_shared in [false, true] {
+        let count = growths(rt.alloc(), is_shared);
+        let is_right = match count {
+            Ok(count) => 3 < count,
+            Err(_) => false,
+        };
+        assert!(rt; is_right, "{count:?}");
+    }
+}

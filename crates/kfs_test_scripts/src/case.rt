@@ -1,0 +1,209 @@
+//! A script, the words and the status that go with it, and the replies that are expected.
+ghost use Rattle.std.specs.Prelude.{◌≡◌, ◌≤◌, length, OnOk};
+ghost use Rattle.kfs_test_scripts.specs.Differences.{line_behind};
+
+use crate::fault::Fault;
+use crate::script::Script;
+use std::alloc::Global;
+use std::collections::BTreeSet;
+use std::io::ErrorKind;
+use std::rt::Files;
+use std::{fs, io};
+
+/// The exit status where no other one is expected.
+const DONE: u64 = 0;
+
+/// How many bytes a script has at most of which each growth is refused without its being asked for.
+const SMALL: usize = 3_000;
+
+/// A script and what is expected of it.
+#[derive(Drop)]
+pub struct Case {
+    script: Vec<u8>,
+    words: Option<Vec<u8>>,
+    replies: Vec<u8>,
+    status: u8,
+    is_broken: bool,
+    growths: Option<u64>,
+    room: Option<u64>,
+}
+
+/// The names, without their endings, of the scripts and of the expected replies in a folder.
+pub fn script_names<R: Files + AllocGlobal + Clone + Drop>(
+    rt: &R,
+    folder: &str,
+) -> io::Result<BTreeSet<String>> {
+    let mut names = BTreeSet::new(rt.alloc());
+    for entry in fs::read_dir(rt, folder)? {
+        let entry = entry?;
+        let file = entry.file_name();
+        if let Some(name) = file.strip_suffix(".kfs").or(file.strip_suffix(".out")) {
+            names.insert(String::from_str(rt.alloc(), name)?)?;
+        }
+    }
+    Ok(names)
+}
+
+impl Case {
+    /// Reads the files of a name: `.kfs`, the script; `.out`, the replies; and where they are there
+    /// `.words`, the words behind the program's name, one a line, `run` without it; `.status`, the exit
+    /// status, 0 without it; `.broken`, with which reading fails behind the script's last byte; `.growths`,
+    /// how many growths of memory it makes at least; and `.room`, the bytes that are enough for it.
+    pub fn read<R: Files + AllocGlobal>(rt: &R, name: &str) -> Result<Case, Fault> {
+        let script = needed_file(rt, name, ".kfs")?;
+        let replies = needed_file(rt, name, ".out")?;
+        let words = optional_file(rt, name, ".words")?;
+        let status = optional_number(rt, name, ".status")?.unwrap_or(DONE);
+        let Ok(status) = u8::try_from(status) else {
+            return Err(Fault::Unreadable(".status"));
+        };
+        let is_broken = optional_file(rt, name, ".broken")?.is_some();
+        Ok(Case {
+            script,
+            words,
+            replies,
+            status,
+            is_broken,
+            growths: optional_number(rt, name, ".growths")?,
+            room: optional_number(rt, name, ".room")?,
+        })
+    }
+
+    /// The program's name and its words.
+    pub fn words(&self, alloc: Global) -> Result<Vec<&str>, Fault> {
+        let mut words = vec![in alloc; "kfs"]?;
+        let Some(text) = &self.words else {
+            words.push("run")?;
+            return Ok(words);
+        };
+        let Ok(text) = str::from_utf8(text) else {
+            return Err(Fault::Unreadable(".words"));
+        };
+        for word in text.lines() {
+            words.push(word)?;
+        }
+        Ok(words)
+    }
+
+    /// The script, as the program reads it.
+    pub fn script(&self) -> Script<'_> {
+        Script {
+            bytes: self.script.as_slice(),
+            is_broken: self.is_broken,
+        }
+    }
+
+    /// The bytes of the script.
+    pub fn lines(&self) -> &[u8]
+        ensures { result.now ≡ self.now.script.items }
+    {
+        &self.script
+    }
+
+    /// The replies that are expected.
+    pub fn replies(&self) -> &[u8]
+        ensures { result.now ≡ self.now.replies.items }
+    {
+        &self.replies
+    }
+
+    /// How many growths of memory the script makes at least, where each is to be refused in turn: where `.growths`
+    /// says so, and of each small script that runs to its end.
+    pub fn growths(&self) -> Option<u64> {
+        let is_whole = !self.is_broken && self.words.is_none();
+        let is_small = is_whole && self.script.len() <= SMALL;
+        self.growths.or(is_small.then_some(0))
+    }
+
+    /// The bytes of memory that are enough for the script, where that is to be seen.
+    pub fn room(&self) -> Option<u64>
+        ensures { result ≡ self.now.room }
+    {
+        self.room
+    }
+
+    /// Compares what was written, and then the exit status, with what is expected.
+    pub fn compare(&self, ended: u8, written: &[u8]) -> Result<(), Fault>
+        ensures replies { OnOk result (written.now ≡ self.now.replies.items) }
+        ensures status { OnOk result (ended ≡ self.now.status) }
+    {
+        compare_replies(written, &self.replies)?;
+        if ended == self.status {
+            Ok(())
+        } else {
+            Err(Fault::Status {
+                ended,
+                status: self.status,
+            })
+        }
+    }
+}
+
+/// The bytes of a file that each script has.
+fn needed_file<R: Files + AllocGlobal>(
+    rt: &R,
+    name: &str,
+    ending: &'static str,
+) -> Result<Vec<u8>, Fault> {
+    optional_file(rt, name, ending)?.ok_or(Fault::Missing(ending))
+}
+
+/// The bytes of a file that a script may have.
+fn optional_file<R: Files + AllocGlobal>(
+    rt: &R,
+    name: &str,
+    ending: &'static str,
+) -> Result<Option<Vec<u8>>, Fault> {
+    let path = format!(in rt.alloc(); "{name}{ending}")?;
+    match fs::read(rt, path.as_str()) {
+        Ok(bytes) => Ok(Some(bytes)),
+        Err(error) if error.kind() == ErrorKind::NotFound => Ok(None),
+        Err(_) => Err(Fault::Unreadable(ending)),
+    }
+}
+
+/// The number that a file has which a script may have.
+fn optional_number<R: Files + AllocGlobal>(
+    rt: &R,
+    name: &str,
+    ending: &'static str,
+) -> Result<Option<u64>, Fault> {
+    let Some(text) = optional_file(rt, name, ending)? else {
+        return Ok(None);
+    };
+    let number = str::from_utf8(&text).ok();
+    let number = number.and_then(|text| text.trim_ascii_end().parse::<u64>().ok());
+    match number {
+        Some(number) => Ok(Some(number)),
+        None => Err(Fault::Unreadable(ending)),
+    }
+}
+
+/// Finds the first byte in which what was written differs from what is expected.
+fn compare_replies(written: &[u8], expected: &[u8]) -> Result<(), Fault>
+    ensures { OnOk result (written.now ≡ expected.now) }
+{
+    if written == expected {
+        return Ok(());
+    }
+    let same = alike(written, expected);
+    Err(Fault::Differs {
+        line: line_behind(expected, same),
+        byte: same.saturating_add(1),
+    })
+}
+
+/// How many bytes are alike before the first that differs.
+fn alike(written: &[u8], expected: &[u8]) -> usize {
+    let pairs = written.iter().zip(expected.iter());
+    pairs.take_while(|(left, right)| left == right).count()
+}
+
+/// The line, from 1, in which the byte behind the first ones stands.
+fn line_behind(expected: &[u8], same: usize) -> usize
+    ensures { same ≤ length expected.now → result ≡ line_behind expected.now same }
+{
+    let before = expected.get(..same).unwrap_or(expected);
+    let ends = before.iter().filter(|byte| **byte == b'\n').count();
+    ends.saturating_add(1)
+}

@@ -1,0 +1,214 @@
+//! Bytes that are logs and plans, what they say, and that this encodes to the same bytes.
+
+use crate::codec::memory::is_same_again;
+use kfs_entry::{
+    Entry, Header, Kind, Name, NameRow, NodeRow, Piece, Plan, Source, Span, SpellFault, decode_log,
+    decode_plan,
+};
+use kfs_test_support::vectors::{
+    CREATE_LOG, CREATE_PLAN, EDITS_LOG, EDITS_PLAN, EMPTY_LOG, EMPTY_PLAN, GONE_PLAN, MOVE_LOG,
+    MOVE_PLAN, OTHERS_LOG,
+};
+use std::alloc::{AllocError, Global};
+use std::process::Abort;
+
+/// Whether the bytes are a log of this client with these entries.
+fn is_log(alloc: Global, bytes: &[u8], client: u32, entries: &[Entry<Span>]) -> bool {
+    match decode_log(alloc, bytes) {
+        Ok(log) => log.client == client && log.entries.as_slice() == entries,
+        Err(_) => false,
+    }
+}
+
+/// Whether the plan has these rows.
+fn has_rows(plan: &Plan<Global>, names: &[NameRow], nodes: &[NodeRow], pieces: &[Piece]) -> bool {
+    plan.names.as_slice() == names
+        && plan.nodes.as_slice() == nodes
+        && plan.pieces.as_slice() == pieces
+}
+
+/// Whether the bytes are a plan with these rows.
+fn is_plan(
+    alloc: Global,
+    bytes: &[u8],
+    names: &[NameRow],
+    nodes: &[NodeRow],
+    pieces: &[Piece],
+) -> bool {
+    match decode_plan(alloc, bytes) {
+        Ok(plan) => has_rows(&plan, names, nodes, pieces),
+        Err(_) => false,
+    }
+}
+
+/// Each of these is the same after it is decoded and encoded.
+fn expect_same_again(rt: &(impl Abort + AllocGlobal), all: &[&[u8]]) {
+    for bytes in all {
+        assert!(rt; is_same_again(rt.alloc(), bytes) == Ok(true), "{bytes:?}");
+    }
+}
+
+/// A Write to file 5 of the bytes at this place of the log.
+fn write(offset: u64, start: usize, end: usize) -> Entry<Span> {
+    Entry::Write {
+        number: 5,
+        offset,
+        payload: Span { start, end },
+    }
+}
+
+fn is_the_create(alloc: Global) -> Option<bool> {
+    let create = Entry::Create {
+        dir: 1,
+        name: Name::new(b"a")?,
+        number: 5,
+        kind: Kind::File,
+        mode: 0o644,
+    };
+    Some(is_log(alloc, CREATE_LOG, 7, &[create]))
+}
+
+fn are_the_edits(alloc: Global) -> bool {
+    let edits = [
+        write(2, 28, 30),
+        write(3, 47, 50),
+        Entry::Truncate { number: 5, size: 4 },
+        Entry::Truncate { number: 5, size: 8 },
+        write(12, 93, 94),
+    ];
+    is_log(alloc, EDITS_LOG, 7, &edits)
+}
+
+fn is_the_move(alloc: Global) -> Option<bool> {
+    let rename = Entry::Rename {
+        dir: 20,
+        name: Name::new(b"x")?,
+        new_dir: 12,
+        new_name: Name::new(b"x")?,
+    };
+    Some(is_log(alloc, MOVE_LOG, 7, &[rename]))
+}
+
+fn are_the_others(alloc: Global) -> Option<bool> {
+    let others = [
+        Entry::Link {
+            number: 5,
+            dir: 1,
+            name: Name::new(b"bb")?,
+        },
+        Entry::Unlink {
+            dir: 1,
+            name: Name::new(b"c")?,
+            kind: Kind::Directory,
+        },
+        Entry::Chmod {
+            number: 5,
+            mode: 0o777,
+        },
+    ];
+    Some(is_log(alloc, OTHERS_LOG, 9, &others))
+}
+
+#[test]
+fn logs(rt: HostRuntime) {
+    assert!(rt; is_the_create(rt.alloc()) == Some(true));
+    assert!(rt; are_the_edits(rt.alloc()));
+    assert!(rt; is_the_move(rt.alloc()) == Some(true));
+    assert!(rt; are_the_others(rt.alloc()) == Some(true));
+    assert!(rt; is_log(rt.alloc(), EMPTY_LOG, 7, &[]));
+    expect_same_again(
+        &rt,
+        &[CREATE_LOG, EDITS_LOG, MOVE_LOG, OTHERS_LOG, EMPTY_LOG],
+    );
+}
+
+/// The header of file 5 of client 7, with mode 0o644 and one name.
+fn file_row(size: u64) -> NodeRow {
+    NodeRow {
+        number: 5,
+        now: Some(Header {
+            kind: Kind::File,
+            mode: 0o644,
+            uid: 1000,
+            gid: 1000,
+            links: 1,
+            size,
+        }),
+    }
+}
+
+fn name_row(dir: u32, bytes: &[u8], number: u32) -> Option<NameRow> {
+    Some(NameRow {
+        dir,
+        name: Name::new(bytes)?,
+        number,
+    })
+}
+
+/// A piece of file 5.
+fn piece(start: u64, len: u64, source: Source) -> Piece {
+    Piece {
+        number: 5,
+        start,
+        len,
+        source,
+    }
+}
+
+fn is_of_the_create(alloc: Global) -> Option<bool> {
+    let names = [name_row(1, b"a", 5)?];
+    Some(is_plan(alloc, CREATE_PLAN, &names, &[file_row(0)], &[]))
+}
+
+fn is_of_the_edits(alloc: Global) -> bool {
+    let pieces = [
+        piece(2, 1, Source::Payload { entry: 0, place: 0 }),
+        piece(3, 1, Source::Payload { entry: 1, place: 0 }),
+        piece(4, 8, Source::Zero),
+        piece(12, 1, Source::Payload { entry: 4, place: 0 }),
+    ];
+    is_plan(alloc, EDITS_PLAN, &[], &[file_row(13)], &pieces)
+}
+
+fn is_of_the_move(alloc: Global) -> Option<bool> {
+    let names = [name_row(12, b"x", 10)?, name_row(20, b"x", 0)?];
+    Some(is_plan(alloc, MOVE_PLAN, &names, &[], &[]))
+}
+
+fn is_of_a_node_that_is_gone(alloc: Global) -> bool {
+    let gone = NodeRow {
+        number: 20,
+        now: None,
+    };
+    is_plan(alloc, GONE_PLAN, &[], &[gone], &[])
+}
+
+#[test]
+fn plans(rt: HostRuntime) {
+    assert!(rt; is_of_the_create(rt.alloc()) == Some(true));
+    assert!(rt; is_of_the_edits(rt.alloc()));
+    assert!(rt; is_of_the_move(rt.alloc()) == Some(true));
+    assert!(rt; is_of_a_node_that_is_gone(rt.alloc()));
+    assert!(rt; is_plan(rt.alloc(), EMPTY_PLAN, &[], &[], &[]));
+    expect_same_again(
+        &rt,
+        &[CREATE_PLAN, EDITS_PLAN, MOVE_PLAN, GONE_PLAN, EMPTY_PLAN],
+    );
+}
+
+/// What a log of one Write with a payload of `len` zero bytes is refused with.
+fn write_fault(rt: &impl AllocGlobal, len: u32) -> Result<Option<SpellFault>, AllocError> {
+    let head = b"KLOG\x01\0\0\0\x07\0\x01\x02\0\0\0\x05\0\0\0\0\0\0\0\0";
+    let mut bytes = Vec::from_slice(rt.alloc(), head)?;
+    bytes.extend_from_slice(&len.to_be_bytes())?;
+    for _ in 0..len {
+        bytes.push(0)?;
+    }
+    Ok(decode_log(rt.alloc(), &bytes).err())
+}
+
+#[test]
+fn greatest_payload(rt: HostRuntime) {
+    assert!(rt; write_fault(&rt, 65_536) == Ok(None));
+    assert!(rt; write_fault(&rt, 65_537) == Ok(Some(SpellFault::BadEntry(0))));
+}
