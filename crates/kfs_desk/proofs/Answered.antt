@@ -9,14 +9,14 @@ use Rattle.kfs_entry_value.specs.declared.entry.Log.{Log}
 use Rattle.kfs_entry_value.specs.declared.plan.Plan.{Plan}
 use Rattle.kfs_image_nodes.specs.declared.net.Net.{Net}
 use Rattle.kfs_model_device.specs.ShownTree.{DeviceImage, IsLawful}
-use Rattle.kfs_plan.specs.Judging.{IsVerdict, Tells}
+use Rattle.kfs_plan.specs.Judging.{IsVerdict, TellsVerdict}
 use Rattle.kfs_plan.specs.declared.submission.Fault.{Fault}
 use Rattle.kfs_plan.specs.declared.submission.Outcome.{Outcome}
 use Rattle.kfs_plan.specs.declared.submission.Outcome.TheVariants as outcomes
 use Rattle.kfs_plan.specs.declared.answers.Reply.{Reply}
 use Rattle.kfs_plan.specs.declared.answers.Reply.TheVariants as replies
-use Rattle.kfs_desk.specs.Landing.{Answers, CanLand, CanLandYes, HasLanded, ended_by, free_in, leases_left}
-use Rattle.kfs_desk.specs.Machine.{IsAnswered, IsDesk, IsShown, IsStep, Means, Parts, shown, state_at, state_of}
+use Rattle.kfs_desk.specs.Landing.{AnswersOutcome, CanLand, CanLandYes, HasLanded, ended_by, free_in, leases_left}
+use Rattle.kfs_desk.specs.Machine.{IsAnswered, IsDesk, IsShown, IsStep, AnswerMeans, Parts, shown, state_at, state_of}
 use Rattle.kfs_desk.specs.Docket.{is_rejudged, position_of}
 use Rattle.kfs_desk.proofs.Dockets.{desk_with}
 use Rattle.kfs_desk.proofs.LandedBytes.{can_land_with, done_landed, fits_full, plan_filled, plan_whole, step_landed}
@@ -25,7 +25,7 @@ use Rattle.kfs_desk.proofs.LandedBytes.{can_land_with, done_landed, fits_full, p
 pub record IsAnswer (s : State) (submission : Submission) (again : Bool) (place : ℕ) (answer : Reply) (t : State) : Type 0 where
   pub step : (row : Row) × IsStep s submission answer row t
   pub judged : is_rejudged answer ≡ again
-  pub meaning : Means s submission answer t
+  pub meaning : AnswerMeans s submission answer t
   pub position : position_of answer ≡ place
 
 module _ (desk : Parts) (is_desk : IsDesk desk) (lawful : IsLawful desk.image) (submission : Submission) (again : Bool) where
@@ -47,7 +47,7 @@ module _ (desk : Parts) (is_desk : IsDesk desk) (lawful : IsLawful desk.image) (
     can_land (outcomes.No fault) is = tt
     can_land (outcomes.Yes log plan net told) is = by is.verdict is.told
       where
-        by : (verdict : Verdict) → Tells s submission (outcomes.Yes log plan net told) verdict → CanLandYes desk.image submission.log log plan net told
+        by : (verdict : Verdict) → TellsVerdict s submission (outcomes.Yes log plan net told) verdict → CanLandYes desk.image submission.log log plan net told
         by (Yes after marked_after) told_so = record {
           within = told_so.spelled.within;
           ascend = told_so.right.pieces.ascending;
@@ -62,7 +62,7 @@ module _ (desk : Parts) (is_desk : IsDesk desk) (lawful : IsLawful desk.image) (
       unfolding outcome_of reply_to
       refused fault is = by is.verdict is.judgement is.told
         where
-          by : (verdict : Verdict) → IsJudgement s submission verdict → Tells {A = A} s submission (outcomes.No fault) verdict → IsAnswer s submission again position (replies.No position again fault) s
+          by : (verdict : Verdict) → IsJudgement s submission verdict → TellsVerdict {A = A} s submission (outcomes.No fault) verdict → IsAnswer s submission again position (replies.No position again fault) s
           by (Yes after marked_after) judgement told = absurd told
           by (No refusal) judgement told = record {
             step = (
@@ -86,7 +86,7 @@ module _ (desk : Parts) (is_desk : IsDesk desk) (lawful : IsLawful desk.image) (
         without_room : free_in desk.image < told → IsAnswer s submission again position (replies.NoRoom position again told (free_in desk.image)) s
         without_room full = by is.verdict is.judgement is.told
           where
-            by : (verdict : Verdict) → IsJudgement s submission verdict → Tells s submission (outcomes.Yes log plan net told) verdict
+            by : (verdict : Verdict) → IsJudgement s submission verdict → TellsVerdict s submission (outcomes.Yes log plan net told) verdict
                 → IsAnswer s submission again position (replies.NoRoom position again told (free_in desk.image)) s
             by (Yes after marked_after) judgement told_so = record {
               step = (
@@ -111,7 +111,7 @@ module _ (desk : Parts) (is_desk : IsDesk desk) (lawful : IsLawful desk.image) (
             → IsAnswer s submission again position (replies.Yes position again told) (at new (ended_by desk.leases net.nodes.items))
         landed room new has = by is.verdict is.judgement is.told
           where
-            by : (verdict : Verdict) → IsJudgement s submission verdict → Tells s submission (outcomes.Yes log plan net told) verdict
+            by : (verdict : Verdict) → IsJudgement s submission verdict → TellsVerdict s submission (outcomes.Yes log plan net told) verdict
                 → IsAnswer s submission again position (replies.Yes position again told) (at new (ended_by desk.leases net.nodes.items))
             by (Yes after marked_after) judgement told_so = record {
               step = step_landed desk is_desk lawful submission log plan net told after marked_after told_so has.bytes has.are.entries has.are.pieces room new has.landed judgement position again;
@@ -121,7 +121,7 @@ module _ (desk : Parts) (is_desk : IsDesk desk) (lawful : IsLawful desk.image) (
             }
             by (No refusal) judgement none = absurd none
 
-      answers : (outcome : Outcome A) (reply : Reply) (new : DeviceImage) → IsVerdict s submission outcome → Answers desk.image submission.log position again outcome reply new
+      answers : (outcome : Outcome A) (reply : Reply) (new : DeviceImage) → IsVerdict s submission outcome → AnswersOutcome desk.image submission.log position again outcome reply new
           → IsAnswer s submission again position reply (at new (leases_left desk.leases outcome reply))
       answers (outcomes.No fault) reply new is told =
           let (said, same) = told in
@@ -135,7 +135,7 @@ module _ (desk : Parts) (is_desk : IsDesk desk) (lawful : IsLawful desk.image) (
           subst (λ r. IsAnswer s submission again position r (at new (ended_by desk.leases net.nodes.items))) (sym said) (landed log plan net need is room new has)
 
       -- The answer is the machine's step, and says what it means.
-      pub answered : (outcome : Outcome A) (reply : Reply) (new : DeviceImage) (left : Leases) → IsVerdict s submission outcome → Answers desk.image submission.log position again outcome reply new
+      pub answered : (outcome : Outcome A) (reply : Reply) (new : DeviceImage) (left : Leases) → IsVerdict s submission outcome → AnswersOutcome desk.image submission.log position again outcome reply new
           → left ≡ leases_left desk.leases outcome reply → IsAnswer s submission again position reply (at new left)
       answered outcome reply new left is told ended =
           subst (λ leases. IsAnswer s submission again position reply (at new leases)) (sym ended) (answers outcome reply new is told)

@@ -5,7 +5,7 @@ use Rattle.std.proofs.lemmas.Bool.{eqb-true, eq-eqb, and_from, not_from_false, o
 use Rattle.kfs_model.specs.Access.{Client}
 use Rattle.kfs_model.specs.CleanStep.{IsClient}
 use Rattle.kfs_model.proofs.ClientNumbers.{numbers_of, first_alone, rest_distinct}
-use Rattle.kfs_mode.specs.Clients.{AreDistinct}
+use Rattle.kfs_mode.specs.Clients.{ClientsAreDistinct}
 
 turned : (a b : ℕ) → (a == b) ≡ false → (b == a) ≡ false
 turned a b other = by (b == a) refl
@@ -20,7 +20,7 @@ none_more (row ∷ rows) last number none other =
     let parts = or_parts (row.number == number) (list_any (λ other. other == number) (numbers_of rows)) none in
     or_from _ _ parts.0 (none_more rows last number parts.1 other)
 
-pub distinct_more : (rows : List Client) (last : Client) → AreDistinct rows → list_any (λ (row : Client). row.number == last.number) rows ≡ false → AreDistinct (rows ++ last ∷ [])
+pub distinct_more : (rows : List Client) (last : Client) → ClientsAreDistinct rows → list_any (λ (row : Client). row.number == last.number) rows ≡ false → ClientsAreDistinct (rows ++ last ∷ [])
 distinct_more [] last distinct none = refl
 distinct_more (row ∷ rows) last distinct none =
     let parts = or_parts (row.number == last.number) (list_any (λ (row : Client). row.number == last.number) rows) none in

@@ -7,7 +7,7 @@ use Rattle.kfs_model.specs.Access.{Client}
 use Rattle.kfs_model.specs.Machine.{IsRead, Row, after, next}
 use Rattle.kfs_model.specs.Order.{IsInOrder}
 use Rattle.kfs_model.proofs.OrderKept.{step_keeps_order}
-use Rattle.kfs_desk_docket.specs.Legal.{LeadsTo}
+use Rattle.kfs_desk_docket.specs.Legal.{IsLegalDocket}
 use Rattle.kfs_desk_docket.proofs.Longer.{leads_nowhere, leads_on}
 use Rattle.kfs_model_device.specs.ShownTree.{DeviceImage, IsLawful}
 use Rattle.kfs_desk.specs.Machine.{AreShown, IsDesk, IsShown, Parts, state_at, state_of}
@@ -45,7 +45,7 @@ shown_with row opening s docket earlier whole is count t leads = by (leb count (
 pub desk_opened : (new : Parts) → new.opening ≡ state_of new → new.docket ≡ [] → IsInOrder (state_of new) → IsShown (state_of new) → IsDesk new
 desk_opened new opened empty in_order is = record {
   within_limit = subst (λ rows. length rows ≤ new.limit) (sym empty) (omega arith);
-  legal = subst (λ opening. LeadsTo opening new.docket (state_of new)) (sym opened) (subst (λ rows. LeadsTo (state_of new) rows (state_of new)) (sym empty) (leads_nowhere (state_of new)));
+  legal = subst (λ opening. IsLegalDocket opening new.docket (state_of new)) (sym opened) (subst (λ rows. IsLegalDocket (state_of new) rows (state_of new)) (sym empty) (leads_nowhere (state_of new)));
   in_order = in_order;
   shown = subst (λ opening. AreShown opening new.docket) (sym opened) (subst (AreShown (state_of new)) (sym empty) (opening_shown (state_of new) is));
 }
@@ -58,7 +58,7 @@ desk_with desk new is_desk row read fits is opened added within =
     let shown = shown_with row desk.opening (state_of new) desk.docket is_desk.shown leads.fit is in
     record {
       within_limit = subst (λ rows. length rows ≤ new.limit) (sym added) (let count = length-append desk.docket (row ∷ []) in omega arith);
-      legal = subst (λ opening. LeadsTo opening new.docket (state_of new)) (sym opened) (subst (λ rows. LeadsTo desk.opening rows (state_of new)) (sym added) leads);
+      legal = subst (λ opening. IsLegalDocket opening new.docket (state_of new)) (sym opened) (subst (λ rows. IsLegalDocket desk.opening rows (state_of new)) (sym added) leads);
       in_order = step_keeps_order (state_of desk) (state_of new) row is_desk.in_order read fits;
       shown = subst (λ opening. AreShown opening new.docket) (sym opened) (subst (AreShown desk.opening) (sym added) shown);
     }

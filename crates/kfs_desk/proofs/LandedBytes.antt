@@ -28,7 +28,7 @@ use Rattle.kfs_image_fill.specs.declared.bytes.LogBytes.{LogBytes}
 use Rattle.kfs_image_fill.specs.Bytes.{entries_of, pieces_of}
 use Rattle.kfs_image_fill.specs.FillOf.{CanLandWith, Fills, HasLandedWith, IsFillOf, places_of}
 use Rattle.kfs_image_fill.proofs.LandedImages.{IsLanding, landed_lawful, landed_placement, landed_tree}
-use Rattle.kfs_plan_sweep.specs.Lefts.{IsFilled, IsWhole}
+use Rattle.kfs_plan_sweep.specs.Lefts.{IsFilled, PieceIsInRange}
 use Rattle.kfs_plan.specs.Judging.{TellsYes}
 use Rattle.kfs_plan.specs.declared.answers.Reply.TheVariants as replies
 use Rattle.kfs_desk.specs.Landing.{ended_by}
@@ -69,7 +69,7 @@ module _ (desk : Parts) (is_desk : IsDesk desk) (lawful : IsLawful desk.image) (
   names_are = ap (λ (c : Contents). c.names) (contents_are desk is_desk lawful submission log plan net told after marked_after yes)
 
   -- the plan's pieces can be cut into blocks
-  pub plan_whole : AllByRecursion IsWhole plan.pieces
+  pub plan_whole : AllByRecursion PieceIsInRange plan.pieces
   plan_whole = whole.pieces_whole yes.client sight_before s.tree entries marked_after refl yes.comes.ran_marked yes.spelled.log_read.0.1 after yes.comes.sound heads_alike plan.pieces yes.right.pieces.said
 
   pub plan_filled : AllByRecursion IsFilled plan.pieces

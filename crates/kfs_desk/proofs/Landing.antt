@@ -6,7 +6,7 @@ use Rattle.std.proofs.lemmas.Bool.{and_parts, and_from, both_ways, false_from_ne
 use Rattle.kfs_model.specs.Header.{Header}
 use Rattle.kfs_model.specs.Table.{get, retain, numbers}
 use Rattle.kfs_model.proofs.TableLaws.{same_table, get-retain}
-use Rattle.kfs_model.specs.Tree.{Tree, Node, headers, header_of}
+use Rattle.kfs_model.specs.Tree.{Tree, Node, headers, node_header}
 use Rattle.kfs_model.specs.Run.{Mark}
 use Rattle.kfs_model.specs.Plan.{header_now, AreDifferences}
 use Rattle.kfs_model.specs.Lease.{Lease, Leases, on_those, without_gone}
@@ -14,7 +14,7 @@ use Rattle.kfs_model.specs.Judgement.{State, Submission}
 use Rattle.kfs_model.specs.Machine.{leases_after}
 use Rattle.kfs_model.proofs.Tables.{found_from_any, any_from_found}
 use Rattle.kfs_model.proofs.Heads.{get-headers}
-use Rattle.kfs_entry_value.specs.Views.{header_of as shown_header}
+use Rattle.kfs_entry_value.specs.Views.{node_header as shown_header}
 use Rattle.kfs_entry_value.specs.declared.header.Header.{Header as CodeHeader}
 use Rattle.kfs_entry_value.specs.declared.plan.NodeRow.{NodeRow}
 use Rattle.kfs_entry_value.specs.declared.entry.Log.{Log as CodeLog}
@@ -35,7 +35,7 @@ use Rattle.kfs_desk.specs.Machine.{Parts, IsDesk, state_of}
 is_some_node : (t : Tree ℕ) (k : ℕ) → is_some (get (headers t) k) ≡ is_some (get t.nodes k)
 is_some_node t k = ap is_some (get-headers t k) ∙ by (get t.nodes k)
   where
-    by : (o : Option (Node ℕ)) → is_some (option_map (header_of t.names k) o) ≡ is_some o
+    by : (o : Option (Node ℕ)) → is_some (option_map (node_header t.names k) o) ≡ is_some o
     by None = refl
     by (Some node) = refl
 

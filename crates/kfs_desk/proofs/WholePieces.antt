@@ -6,9 +6,9 @@ use Rattle.std.proofs.lemmas.Option.{slice_get_within}
 use Rattle.kfs_model.specs.Access.{Client}
 use Rattle.kfs_model.specs.Entry.{Entry, Create, Write, Truncate, Link, Unlink, Rename, Chmod}
 use Rattle.kfs_model.specs.Header.{Header}
-use Rattle.kfs_model.specs.LastCover.{covered_by, extent, last_cover, start_mark}
+use Rattle.kfs_model.specs.LastCover.{covered_by, file_size, last_cover, start_mark}
 use Rattle.kfs_model.specs.Limits.{payload_limit, size_limit}
-use Rattle.kfs_model.specs.Plan.{IsTrueOf, mark_at, said_by}
+use Rattle.kfs_model.specs.Plan.{IsTrueOf, mark_at, mark_of_source}
 use Rattle.kfs_model.specs.Run.{Mark, Payload, marked, over_marks, run}
 use Rattle.kfs_model.specs.Sight.{ClientSight, sight}
 use Rattle.kfs_model.specs.Soundness.{IsSound}
@@ -21,7 +21,7 @@ use Rattle.kfs_entry_value.specs.Views.{piece_of, source_of}
 use Rattle.kfs_entry_value.specs.declared.plan.Piece.{Piece as CodePiece}
 use Rattle.kfs_entry_value.specs.declared.plan.Source.{Source as CodeSource}
 use Rattle.kfs_entry_value.specs.declared.plan.Source.TheVariants as sources
-use Rattle.kfs_plan_sweep.specs.Lefts.{IsFilled, IsPlaceShort, IsWhole}
+use Rattle.kfs_plan_sweep.specs.Lefts.{IsFilled, IsPlaceShort, PieceIsInRange}
 
 -- ---- marks of payloads
 
@@ -62,14 +62,14 @@ last_short index (entry ∷ entries) number place e q fit is = at (last_cover (i
 module _ (client : Client) (seen : ClientSight) (before : Tree ℕ) (entries : List Entry) (marked_after : Tree Mark) (opens : seen.sight ≡ sight before)
     (ran : run over_marks client seen (marked before) entries ≡ Ok marked_after) (fit : AllByRecursion IsEntry entries) where
   payload_short : (number place e q : ℕ) → mark_at marked_after number place ≡ Some (Payload e q) → q < payload_limit
-  payload_short number place e q there = at (ltb place (extent marked_after number)) (sym (mark_is client seen before entries marked_after opens ran number place) ∙ there)
+  payload_short number place e q there = at (ltb place (file_size marked_after number)) (sym (mark_is client seen before entries marked_after opens ran number place) ∙ there)
     where
       from_start : (b : Bool) → ◌≡◌ {A = Mark} (cond b (Mark.Base number place) Mark.Zero) (Payload e q) → q < payload_limit
       from_start true is = cc
       from_start false is = cc
 
       of_cover : (found : Option Mark) → last_cover 0 entries number place ≡ found → unwrap_or found (start_mark before number place) ≡ Payload e q → q < payload_limit
-      of_cover None is same = from_start (ltb place (extent before number)) same
+      of_cover None is same = from_start (ltb place (file_size before number)) same
       of_cover (Some mark) is same = last_short 0 entries number place e q fit (is ∙ ap Some same)
 
       at : (b : Bool) → ◌≡◌ {A = Option Mark} (cond b (Some (unwrap_or (last_cover 0 entries number place) (start_mark before number place))) None) (Some (Payload e q)) → q < payload_limit
@@ -79,29 +79,29 @@ module _ (client : Client) (seen : ClientSight) (before : Tree ℕ) (entries : L
   -- ---- pieces
 
   module _ (after : Tree ℕ) (sound : IsSound after) (alike : headers marked_after ≡ headers after) where
-    file_short : (number : ℕ) → extent marked_after number ≤ size_limit
+    file_short : (number : ℕ) → file_size marked_after number ≤ size_limit
     file_short number = subst (λ n. n ≤ size_limit) (ap (λ heads. size_said (get heads number)) (sym alike) ∙ size_is_extent marked_after number) (by (get (headers after) number) refl)
       where
         by : (found : Option Header) → get (headers after) number ≡ found → size_said found ≤ size_limit
         by None is = let none : 0 ≤ size_limit = omega arith in none
         by (Some header) is = (sound.ranges number header is).size
 
-    piece_whole : (p : CodePiece) → IsTrueOf marked_after (piece_of p) → IsWhole p
+    piece_whole : (p : CodePiece) → IsTrueOf marked_after (piece_of p) → PieceIsInRange p
     piece_whole p right =
         let filled = right.filled in
         let last = right.said (p.len - 1) (omega (arith, filled)) in
-        let inside = slice_get_within (content_of (get marked_after.nodes p.number)) (p.start + (p.len - 1)) (said_by (source_of p.source) (p.len - 1)) last in
+        let inside = slice_get_within (content_of (get marked_after.nodes p.number)) (p.start + (p.len - 1)) (mark_of_source (source_of p.source) (p.len - 1)) last in
         let long = file_short p.number in
         record {
           start = omega (arith, filled, inside, long);
           place = by p.source last;
         }
       where
-        by : (source : CodeSource) → mark_at marked_after p.number (p.start + (p.len - 1)) ≡ Some (said_by (source_of source) (p.len - 1)) → IsPlaceShort (source_of source) p.len
+        by : (source : CodeSource) → mark_at marked_after p.number (p.start + (p.len - 1)) ≡ Some (mark_of_source (source_of source) (p.len - 1)) → IsPlaceShort (source_of source) p.len
         by sources.Zero last = tt
         by (sources.Payload entry place) last = let short = payload_short p.number (p.start + (p.len - 1)) entry (place + (p.len - 1)) last in omega (arith, short)
 
-    pub pieces_whole : (pieces : List CodePiece) → AllByRecursion (IsTrueOf marked_after) (map piece_of pieces) → AllByRecursion IsWhole pieces
+    pub pieces_whole : (pieces : List CodePiece) → AllByRecursion (IsTrueOf marked_after) (map piece_of pieces) → AllByRecursion PieceIsInRange pieces
     pieces_whole [] right = tt
     pieces_whole (p ∷ pieces) right = (piece_whole p right.0, pieces_whole pieces right.1)
 

@@ -2,13 +2,13 @@
 use Rattle.std.specs.Prelude.{◌≡◌, ℕ, ◌≤◌, ◌<◌, ◌==◌, not, Bool, List, [], ◌∷◌, length, Option, None, Some}
 use Rattle.std.specs.List.{AllByRecursion}
 use Rattle.kfs_model.specs.Lease.{Leases, without_gone}
-use Rattle.kfs_model.specs.Plan.{Ascend}
+use Rattle.kfs_model.specs.Plan.{PiecesAscend}
 use Rattle.kfs_entry_value.specs.declared.entry.Log.{Log}
 use Rattle.kfs_entry_value.specs.declared.header.Header.{Header}
 use Rattle.kfs_entry_value.specs.declared.plan.NodeRow.{NodeRow}
 use Rattle.kfs_entry_value.specs.declared.plan.Plan.{Plan}
 use Rattle.kfs_entry.specs.Answers.{SpansAreWithin, log_of, plan_of}
-use Rattle.kfs_plan_sweep.specs.Lefts.{IsFilled, IsWhole}
+use Rattle.kfs_plan_sweep.specs.Lefts.{IsFilled, PieceIsInRange}
 use Rattle.kfs_image_tier.specs.Unused.{unused_places}
 use Rattle.kfs_image_nodes.specs.declared.net.Net.{Net}
 use Rattle.kfs_model_device.specs.ShownTree.{DeviceImage}
@@ -36,17 +36,17 @@ free_in image = length (unused_places image.sizes image.placement 0)
 
 module _ {A : Type 0} where
   -- the log read from these bytes, and the pieces of the plan
-  pub record AreOf (source : List ℕ) (log : Log A) (plan : Plan A) (bytes : LogBytes) : Type 0 where
+  pub record AreReadFrom (source : List ℕ) (log : Log A) (plan : Plan A) (bytes : LogBytes) : Type 0 where
     pub entries : entries_of bytes ≡ (log_of source log).entries
     pub pieces : pieces_of bytes ≡ (plan_of plan).pieces
 
   -- payloads lie in the bytes, pieces are in order and can be cut into blocks, and where there is room the net can be applied
   pub record CanLandYes (image : DeviceImage) (source : List ℕ) (log : Log A) (plan : Plan A) (net : Net A) (need : ℕ) : Type 0 where
     pub within : SpansAreWithin (length source) log
-    pub ascend : Ascend (plan_of plan).pieces
-    pub whole : AllByRecursion IsWhole plan.pieces
+    pub ascend : PiecesAscend (plan_of plan).pieces
+    pub whole : AllByRecursion PieceIsInRange plan.pieces
     pub filled : AllByRecursion IsFilled plan.pieces
-    pub fits : need ≤ free_in image → (bytes : LogBytes) → AreOf source log plan bytes → CanLandWith image bytes net
+    pub fits : need ≤ free_in image → (bytes : LogBytes) → AreReadFrom source log plan bytes → CanLandWith image bytes net
 
   abbrev pub CanLand : DeviceImage → (source : List ℕ) → Outcome A → Type 0
   CanLand image source (outcomes.No fault) = Unit {0}
@@ -55,17 +55,17 @@ module _ {A : Type 0} where
   -- the net has been applied, with a fill of its log
   pub record HasLanded (old : DeviceImage) (source : List ℕ) (log : Log A) (plan : Plan A) (net : Net A) (new : DeviceImage) : Type 0 where
     pub bytes : LogBytes
-    pub are : AreOf source log plan bytes
+    pub are : AreReadFrom source log plan bytes
     pub landed : HasLandedWith old bytes net new
 
   -- The answer to an outcome at this place in the docket: a No is told; a Yes needs more places than there are, or its log has
   -- landed.
-  abbrev pub Answers : (old : DeviceImage) → (source : List ℕ) → (position : ℕ) → (again : Bool) → Outcome A → Reply → (new : DeviceImage) → Type 0
-  Answers old source position again (outcomes.No fault) reply new = (reply ≡ replies.No position again fault) × (new ≡ old)
-  Answers old source position again (outcomes.Yes log plan net need) (replies.No p rejudged fault) new = ⊥
-  Answers old source position again (outcomes.Yes log plan net need) (replies.NoRoom p rejudged n free) new =
+  abbrev pub AnswersOutcome : (old : DeviceImage) → (source : List ℕ) → (position : ℕ) → (again : Bool) → Outcome A → Reply → (new : DeviceImage) → Type 0
+  AnswersOutcome old source position again (outcomes.No fault) reply new = (reply ≡ replies.No position again fault) × (new ≡ old)
+  AnswersOutcome old source position again (outcomes.Yes log plan net need) (replies.No p rejudged fault) new = ⊥
+  AnswersOutcome old source position again (outcomes.Yes log plan net need) (replies.NoRoom p rejudged n free) new =
       (replies.NoRoom p rejudged n free ≡ replies.NoRoom position again need (free_in old)) × (free_in old < need) × (new ≡ old)
-  Answers old source position again (outcomes.Yes log plan net need) (replies.Yes p rejudged n) new =
+  AnswersOutcome old source position again (outcomes.Yes log plan net need) (replies.Yes p rejudged n) new =
       (replies.Yes p rejudged n ≡ replies.Yes position again need) × (need ≤ free_in old) × HasLanded old source log plan net new
 
   -- the leases after the answer to a net: after a Yes those on nodes that went have ended

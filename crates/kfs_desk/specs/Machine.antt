@@ -11,7 +11,7 @@ use Rattle.kfs_model.specs.Judgement.{State, Submission, Reading, IsReadAs, Repl
 use Rattle.kfs_model.specs.Machine.{Call, Submit, Lease, Drop, Tick, CallAnswer, Replied, OneByOne, Row, after, next}
 use Rattle.kfs_model.specs.Machine as machine
 use Rattle.kfs_model.specs.Order.{IsInOrder}
-use Rattle.kfs_desk_docket.specs.Legal.{LeadsTo}
+use Rattle.kfs_desk_docket.specs.Legal.{IsLegalDocket}
 use Rattle.kfs_lease.specs.Faults.{fault_of}
 use Rattle.kfs_lease_rows.specs.Rows.{kind_of}
 use Rattle.kfs_lease.specs.declared.leases.LeaseFault.{LeaseFault}
@@ -83,7 +83,7 @@ AreShown opening docket = (count : ℕ) (s : State) → after opening (take coun
 -- images
 pub record IsDesk (desk : Parts) : Type 0 where
   pub within_limit : length desk.docket ≤ desk.limit
-  pub legal : LeadsTo desk.opening desk.docket (state_of desk)
+  pub legal : IsLegalDocket desk.opening desk.docket (state_of desk)
   pub in_order : IsInOrder (state_of desk)
   pub shown : AreShown desk.opening desk.docket
 
@@ -130,10 +130,10 @@ pub record IsDone (s : State) (submission : Submission) (t : State) : Type 0 whe
   pub sound : IsSound t.tree
 
 -- a Yes says that it is done, and any other answer leaves the state as it is
-abbrev pub Means : (s : State) → Submission → CodeReply → (t : State) → Type 0
-Means s submission (replies.Yes position rejudged need) t = IsDone s submission t
-Means s submission (replies.No position rejudged fault) t = t ≡ s
-Means s submission (replies.NoRoom position rejudged need free) t = t ≡ s
+abbrev pub AnswerMeans : (s : State) → Submission → CodeReply → (t : State) → Type 0
+AnswerMeans s submission (replies.Yes position rejudged need) t = IsDone s submission t
+AnswerMeans s submission (replies.No position rejudged fault) t = t ≡ s
+AnswerMeans s submission (replies.NoRoom position rejudged need free) t = t ≡ s
 
 -- the answer is such a step, tells whether the submission was judged again, means what it says, and adds the step's row to
 -- the docket, at its position
@@ -141,7 +141,7 @@ pub record IsAnswered (old : Desk) (submission : Submission) (again : Bool) (ans
   pub row : Row
   pub step : IsStep old.state submission answer row new.state
   pub judged : is_rejudged answer ≡ again
-  pub meaning : Means old.state submission answer new.state
+  pub meaning : AnswerMeans old.state submission answer new.state
   pub position : position_of answer ≡ length old.docket
   pub docket : new.docket ≡ old.docket ++ row ∷ []
   pub opening : new.opening ≡ old.opening
@@ -236,4 +236,4 @@ pub record IsCallOf (old : Desk) (call : Call) (words : ℕ → Done) (result : 
   pub full : IsErrOf result unanswered.DocketFull ↔ (length old.docket ≡ old.limit)
   pub done : IfOk result (λ reply. IsActed old call words reply new)
   pub err : OnErr result (new ≡ old)
-  pub legal : LeadsTo new.opening new.docket new.state
+  pub legal : IsLegalDocket new.opening new.docket new.state

@@ -2,23 +2,23 @@
 ghost use Rattle.std.specs.Prelude.{◌≡◌, ◌↔◌, ◌⊎◌, false, ◌+◌, ◌≤◌, ◌<◌, ◌++◌, ◌∷◌, [], IfOk, IfErr, OnErr, OnOk, IsErrOf, IsFalse, IsTrue, Ok, Err, None, Some, length};
 ghost use Rattle.std.specs.List.{AllByRecursion};
 ghost use Rattle.kfs_model.specs.Order.{IsInOrder};
-ghost use Rattle.kfs_model.specs.Plan.{Ascend};
+ghost use Rattle.kfs_model.specs.Plan.{PiecesAscend};
 ghost use Rattle.kfs_model.specs.Machine as machine;
 ghost use Rattle.kfs_model.specs.Machine.{opening};
 ghost use Rattle.kfs_model.specs.Table.{empty};
-ghost use Rattle.kfs_desk_docket.specs.Legal.{LeadsTo};
-ghost use Rattle.kfs_mode.specs.Clients.{AreDistinct};
+ghost use Rattle.kfs_desk_docket.specs.Legal.{IsLegalDocket};
+ghost use Rattle.kfs_mode.specs.Clients.{ClientsAreDistinct};
 ghost use Rattle.kfs_lease.specs.Faults as refusals;
 ghost use Rattle.kfs_lease_rows.specs.Rows.{kind_of};
 ghost use Rattle.kfs_image_nodes.specs.Contents.{sight_of};
 ghost use Rattle.kfs_model_device.specs.ShownTree.{IsLawful, shown_tree};
 ghost use Rattle.kfs_image.specs.Image as images;
-ghost use Rattle.kfs_plan_sweep.specs.Lefts.{IsFilled, IsWhole};
+ghost use Rattle.kfs_plan_sweep.specs.Lefts.{IsFilled, PieceIsInRange};
 ghost use Rattle.kfs_image_fill.specs.Bytes.{HasPayloads, pieces_of};
 ghost use Rattle.kfs_image_fill.specs.FillOf.{CanLandWith, HasLandedWith};
 ghost use Rattle.kfs_judge_check.specs.View.{clients_of, contents_of, leases_of};
 ghost use Rattle.kfs_plan.specs.Judging.{IsVerdict, submission_of};
-ghost use Rattle.kfs_desk.specs.Landing.{Answers, CanLand, ended_by, ended_with, leases_left};
+ghost use Rattle.kfs_desk.specs.Landing.{AnswersOutcome, CanLand, ended_by, ended_with, leases_left};
 ghost use Rattle.kfs_desk.specs.Machine.{AreShown, IsAnswered, IsBackFor, IsCallOf, IsChangeOf, IsCurrent, IsImageOf, IsViewOf, RunsThrough, call_of, done_by, number_of, opened_at, outcome_at, state_at};
 ghost use Rattle.kfs_desk.specs.Docket.{is_rejudged};
 ghost use Rattle.kfs_desk.specs.Opening.{begin_fault};
@@ -120,7 +120,7 @@ impl<A: Allocator + Copy> Desk<A> {
     /// which its first rows lead is shown by a well formed image. Takes no memory.
     pub fn docket(&self) -> &Docket
         ensures shown { result.now ≡ self.now.docket }
-        ensures legal { LeadsTo self.now.opening self.now.docket self.now.state }
+        ensures legal { IsLegalDocket self.now.opening self.now.docket self.now.state }
         ensures images { AreShown self.now.opening self.now.docket }
     {
         &self.docket
@@ -190,7 +190,7 @@ impl<A: Allocator + Copy> Desk<A> {
         ensures back { IfErr result (λ back. (back.submission ≡ submission) × (self.new ≡ self.old)) }
 
         // The docket is legal, whatever the answer.
-        ensures legal { LeadsTo self.new.opening self.new.docket self.new.state }
+        ensures legal { IsLegalDocket self.new.opening self.new.docket self.new.state }
     {
         if self.is_full() {
             let why = Why::DocketFull;
@@ -236,7 +236,7 @@ impl<A: Allocator + Copy> Desk<A> {
         ensures back { IfErr result (λ back. (back.submission ≡ judged.submission) × (self.new ≡ self.old)) }
 
         // The docket is legal, whatever the answer.
-        ensures legal { LeadsTo self.new.opening self.new.docket self.new.state }
+        ensures legal { IsLegalDocket self.new.opening self.new.docket self.new.state }
     {
         if self.is_full() {
             let (submission, _outcome) = judged.into_parts();
@@ -278,7 +278,7 @@ impl<A: Allocator + Copy> Desk<A> {
         ensures limit { self.new.limit ≡ self.old.limit }
 
         // The docket is legal, whatever the answers.
-        ensures legal { LeadsTo self.new.opening self.new.docket self.new.state }
+        ensures legal { IsLegalDocket self.new.opening self.new.docket self.new.state }
     {
         let Ok(mut answers) = Vec::with_capacity(self.alloc, submissions.len()) else {
             return Err(SubmissionsBack { submissions });
@@ -320,7 +320,7 @@ fn judged<A: Allocator + Copy>(
     clients: &Arc<Vec<Client, A>, A>,
     submission: Submission<A>,
 ) -> Result<Judged<A>, Back<A>>
-    requires distinct { AreDistinct clients.now.value.items }
+    requires distinct { ClientsAreDistinct clients.now.value.items }
     ensures verdict { IfOk result (λ judged. IsVerdict (state_at image.now clients.now.value.items leases.now.value) (submission_of submission) judged.outcome) }
     ensures submission { IfOk result (λ judged. judged.submission ≡ submission) }
     ensures back { IfErr result (λ back. back.submission ≡ submission) }
@@ -343,7 +343,7 @@ fn current<A: Allocator + Copy>(
     clients: &Arc<Vec<Client, A>, A>,
     judged: Judged<A>,
 ) -> Result<(Judged<A>, bool), Back<A>>
-    requires distinct { AreDistinct clients.now.value.items }
+    requires distinct { ClientsAreDistinct clients.now.value.items }
     ensures verdict { IfOk result (λ p. IsVerdict (state_at image.now clients.now.value.items leases.now.value) (submission_of judged.submission) p.0.outcome) }
     ensures submission { IfOk result (λ p. p.0.submission ≡ judged.submission) }
     ensures again { IfOk result (λ p. IsFalse p.1 ↔ IsCurrent (state_at image.now clients.now.value.items leases.now.value) judged) }
@@ -369,7 +369,7 @@ fn view_of<A: Allocator + Copy>(
     leases: &Arc<Leases<A>, A>,
     clients: &Arc<Vec<Client, A>, A>,
 ) -> Result<View<A>, AllocError>
-    requires distinct { AreDistinct clients.now.value.items }
+    requires distinct { ClientsAreDistinct clients.now.value.items }
     ensures contents { IfOk result (λ view. contents_of view ≡ images.contents_of image.now) }
     ensures leases { IfOk result (λ view. leases_of view ≡ leases.now.value) }
     ensures clients { IfOk result (λ view. clients_of view ≡ clients.now.value.items) }
@@ -386,7 +386,7 @@ fn change<A: Allocator + Clone>(
     clients: &[Client],
     act: Act<'_>,
 ) -> Result<Result<Done, LeaseFault>, Unanswered>
-    requires distinct { AreDistinct clients.now }
+    requires distinct { ClientsAreDistinct clients.now }
     ensures ok { IfOk result (λ answer. IsChangeOf leases.old.value (sight_of shape.now) clients.now act.entry answer leases.new.value) }
     ensures err { OnErr result (leases.new.value ≡ leases.old.value) }
     ensures not_full { IfErr result (λ why. why ≡ Unanswered.OutOfMemory) }
@@ -406,7 +406,7 @@ fn made<A: Allocator + Clone>(
     clients: &[Client],
     act: Act<'_>,
 ) -> Result<Done, LeaseFault>
-    requires distinct { AreDistinct clients.now }
+    requires distinct { ClientsAreDistinct clients.now }
     ensures ok { IfOk result (λ done. outcome_at leases.old (sight_of shape.now) clients.now act.entry ≡ (Ok (number_of done), leases.new)) }
     ensures words { IfOk result (λ done. done ≡ done_by act.entry (number_of done)) }
     ensures err { IfErr result (λ fault. refusals.Refuses (outcome_at leases.old (sight_of shape.now) clients.now act.entry) fault leases.new) }
@@ -443,7 +443,7 @@ fn land<A: Allocator + Copy>(
     judged: Judged<A>,
 ) -> Result<Reply, Back<A>>
     requires { CanLand image.old judged.submission.log.items judged.outcome }
-    ensures answer { IfOk result (λ reply. Answers image.old judged.submission.log.items position rejudged judged.outcome reply image.new) }
+    ensures answer { IfOk result (λ reply. AnswersOutcome image.old judged.submission.log.items position rejudged judged.outcome reply image.new) }
     ensures leases { IfOk result (λ reply. leases.new.value ≡ leases_left leases.old.value judged.outcome reply) }
     ensures back { IfErr result (λ back. (back.submission ≡ judged.submission) × (back.why ≡ Why.OutOfMemory)) }
     ensures err { OnErr result ((image.new ≡ image.old) × (leases.new.value ≡ leases.old.value)) }
@@ -499,8 +499,8 @@ fn change_state<A: Allocator + Copy>(
     net: &Net<A>,
 ) -> Result<(), AllocError>
     requires payloads { HasPayloads bytes.now }
-    requires pieces { Ascend (pieces_of bytes.now) }
-    requires whole { AllByRecursion IsWhole bytes.now.pieces.now }
+    requires pieces { PiecesAscend (pieces_of bytes.now) }
+    requires whole { AllByRecursion PieceIsInRange bytes.now.pieces.now }
     requires filled { AllByRecursion IsFilled bytes.now.pieces.now }
     requires fits { CanLandWith image.old bytes.now net.now }
     ensures image { OnOk result (HasLandedWith image.old bytes.now net.now image.new) }

@@ -2,7 +2,7 @@
 ghost use Rattle.std.specs.Prelude.{◌≡◌, ◌↔◌, IfOk, IsTrue, None};
 ghost use Rattle.std.specs.List.{AllByRecursion};
 ghost use Rattle.kfs_model.specs.CleanStep.{IsClient};
-ghost use Rattle.kfs_mode.specs.Clients.{AreDistinct};
+ghost use Rattle.kfs_mode.specs.Clients.{ClientsAreDistinct};
 ghost use Rattle.kfs_desk.specs.Opening.{begin_fault};
 ghost use Rattle.kfs_desk.specs.Grants.{AreUngranted, MarksGranted};
 
@@ -21,7 +21,7 @@ pub(crate) fn first_fault<A: Allocator + Copy>(
     clients: &[Client],
 ) -> Result<Option<BeginFault>, AllocError>
     ensures first { IfOk result (λ fault. fault ≡ begin_fault clients.now) }
-    ensures distinct { IfOk result (λ fault. fault ≡ None → AreDistinct clients.now) }
+    ensures distinct { IfOk result (λ fault. fault ≡ None → ClientsAreDistinct clients.now) }
     ensures in_range { IfOk result (λ fault. fault ≡ None → AllByRecursion IsClient clients.now) }
 {
     let mut numbers = BTreeSet::new(alloc);

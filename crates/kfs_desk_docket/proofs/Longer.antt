@@ -3,10 +3,10 @@ use Rattle.std.proofs.Common.{◌≡◌, List, [], ◌∷◌, ◌++◌, Option, 
 use Rattle.std.specs.List.{AllByRecursion}
 use Rattle.kfs_model.specs.Judgement.{State}
 use Rattle.kfs_model.specs.Machine.{IsRead, Row, after, next}
-use Rattle.kfs_desk_docket.specs.Legal.{LeadsTo}
+use Rattle.kfs_desk_docket.specs.Legal.{IsLegalDocket}
 
 -- The empty docket leads nowhere else.
-pub leads_nowhere : (opening : State) → LeadsTo opening [] opening
+pub leads_nowhere : (opening : State) → IsLegalDocket opening [] opening
 unfolding after
 leads_nowhere opening = record { read = tt; fit = refl }
 
@@ -30,5 +30,5 @@ module _ (row : Row) where
       by (Some u) later is = later u is
 
   -- With the row it leads to the state after the row.
-  pub leads_on : (opening s t : State) (docket : List Row) → LeadsTo opening docket s → IsRead row → next s row ≡ Some t → LeadsTo opening (docket ++ row ∷ []) t
+  pub leads_on : (opening s t : State) (docket : List Row) → IsLegalDocket opening docket s → IsRead row → next s row ≡ Some t → IsLegalDocket opening (docket ++ row ∷ []) t
   leads_on opening s t docket leads read fits = record { read = read_with docket leads.read read; fit = after_with opening s t docket leads.fit fits }

@@ -1,7 +1,7 @@
 -- A plan that was decoded, and why one was not, as the definitions say it.
 use Rattle.std.proofs.Common.{◌≡◌, ℕ, List, ◌++◌, length, drop, map, sym, subst, ◌∙◌}
 use Rattle.kfs_model.specs.PlanRow.{Plan}
-use Rattle.kfs_model.specs.Spelling.{AreRows, Begins, Stand, Stop, Counts, AreCounts, plan_header, PartStops, PlanAnswer, name_row_bytes, IsNameRow, node_row_bytes, IsNodeRow, piece_bytes, IsPiece, plan_bytes, IsPlan}
+use Rattle.kfs_model.specs.Spelling.{AreRows, Begins, BeginsWithRows, LacksRow, Counts, AreCounts, plan_header, PartLacksRow, PlanAnswer, name_row_bytes, IsNameRow, node_row_bytes, IsNodeRow, piece_bytes, IsPiece, plan_bytes, IsPlan}
 use Rattle.kfs_model.proofs.AnswersExist.{plan_is_spelled}
 use Rattle.kfs_entry_value.specs.declared.plan.NameRow.{NameRow}
 use Rattle.kfs_entry_value.specs.declared.plan.NodeRow.{NodeRow}
@@ -16,7 +16,7 @@ use Rattle.kfs_entry.proofs.RowLaws.{stand_from, stop_from}
 
 -- the rows of a part that were read stand there
 abbrev pub part_stands : {R V : Type 0} (view : R → V) (F : V → Type 0) (s : V → List ℕ) (rows : List R) (count : ℕ) (bytes rest : List ℕ)
-    → length rows ≡ count → AreRows (λ r. F (view r)) (λ r. s (view r)) rows bytes rest → Stand F s count bytes rest
+    → length rows ≡ count → AreRows (λ r. F (view r)) (λ r. s (view r)) rows bytes rest → BeginsWithRows F s count bytes rest
 part_stands view F s rows count bytes rest number are = stand_from view (λ r. F (view r)) F s (λ r f. f) rows count bytes rest number are
 
 -- the plan of these rows
@@ -37,11 +37,11 @@ plan_was_read source at b d end given_names given_nodes c names nodes pieces fit
 
 -- a part of a plan whose row is missing: what stands before it makes the answer
 pub part_is_missing : {R V : Type 0} (view : R → V) (F : V → Type 0) (s : V → List ℕ) (source bytes : List ℕ) (c : Counts) (rows : List ℕ) (number given count : ℕ) (fault : SpellFault)
-    → given ≡ count → AreCounts c → source ≡ plan_header c ++ rows → ((k : ℕ) → Stop F s count k bytes → PartStops c number k rows)
+    → given ≡ count → AreCounts c → source ≡ plan_header c ++ rows → ((k : ℕ) → LacksRow F s count k bytes → PartLacksRow c number k rows)
     → PartRowMissing (λ r. F (view r)) (λ r. s (view r)) (Begins F s) given number bytes fault → OnRefusal (PlanAnswer source) fault
 part_is_missing view F s source bytes c rows number given count (faults.BadRow part k) same fits front stops missing =
-    let stop : Stop F s count k bytes = subst (λ (n : ℕ). Stop F s n k bytes) same (stop_from view (λ r. F (view r)) F s (λ r f. f) given k bytes missing.1) in
-    (c, rows, fits, front, subst (λ (n : ℕ). PartStops c n k rows) (sym missing.0) (stops k stop))
+    let stop : LacksRow F s count k bytes = subst (λ (n : ℕ). LacksRow F s n k bytes) same (stop_from view (λ r. F (view r)) F s (λ r f. f) given k bytes missing.1) in
+    (c, rows, fits, front, subst (λ (n : ℕ). PartLacksRow c n k rows) (sym missing.0) (stops k stop))
 part_is_missing view F s source bytes c rows number given count faults.OutOfMemory same fits front stops missing = tt
 part_is_missing view F s source bytes c rows number given count faults.BadHeader same fits front stops missing = absurd missing
 part_is_missing view F s source bytes c rows number given count faults.Trailing same fits front stops missing = absurd missing

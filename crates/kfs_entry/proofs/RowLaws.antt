@@ -3,7 +3,7 @@ use Rattle.std.proofs.Common.{◌≡◌, ℕ, List, [], ◌∷◌, ◌++◌, len
 use Rattle.std.specs.List.{flat_map, AllByRecursion}
 use Rattle.std.proofs.lemmas.List.{length-map}
 use Rattle.std.specs.Prelude.{map}
-use Rattle.kfs_model.specs.Spelling.{AreRows, Begins, Stand, Stop, Stops}
+use Rattle.kfs_model.specs.Spelling.{AreRows, Begins, BeginsWithRows, LacksRow, LacksRowBy}
 
 -- what is spelled of the values that the rows stand for
 pub flat_map-map : {R V : Type 0} (view : R → V) (spelling : V → List ℕ) (rows : List R) → flat_map spelling (map view rows) ≡ flat_map (λ r. spelling (view r)) rows
@@ -25,7 +25,7 @@ AllByRecursion-weaker P Q f (row ∷ rows) all = (f row all.0, AllByRecursion-we
 
 -- rows of the code, as rows of the definitions
 module _ {R V : Type 0} (view : R → V) (fits : R → Type 0) (F : V → Type 0) (s : V → List ℕ) (fit_too : (r : R) → fits r → F (view r)) where
-  abbrev pub stand_from : (rows : List R) (count : ℕ) (bytes rest : List ℕ) → length rows ≡ count → AreRows fits (λ r. s (view r)) rows bytes rest → Stand F s count bytes rest
+  abbrev pub stand_from : (rows : List R) (count : ℕ) (bytes rest : List ℕ) → length rows ≡ count → AreRows fits (λ r. s (view r)) rows bytes rest → BeginsWithRows F s count bytes rest
   stand_from rows count bytes rest number are = record {
     rows = map view rows;
     number = length-map rows view ∙ number;
@@ -35,7 +35,7 @@ module _ {R V : Type 0} (view : R → V) (fits : R → Type 0) (F : V → Type 0
     };
   }
 
-  pub stop_from : (count k : ℕ) (bytes : List ℕ) → Stops fits (λ r. s (view r)) (Begins F s) count k bytes → Stop F s count k bytes
+  pub stop_from : (count k : ℕ) (bytes : List ℕ) → LacksRowBy fits (λ r. s (view r)) (Begins F s) count k bytes → LacksRow F s count k bytes
   stop_from count k bytes stops = record {
     rest = stops.rest;
     before = stand_from stops.before.rows k bytes stops.rest stops.before.number stops.before.are;

@@ -1,6 +1,6 @@
 -- Rows that the code read, and where they stop, by the code's fault.
 use Rattle.std.specs.Prelude.{◌≡◌, ◌≤◌, ℕ, List, length, drop}
-use Rattle.kfs_model.specs.Spelling.{AreRows, Stops}
+use Rattle.kfs_model.specs.Spelling.{AreRows, LacksRowBy}
 use Rattle.kfs_entry_codec.specs.declared.row.RowsFault.{RowsFault}
 use Rattle.kfs_entry_codec.specs.declared.row.RowsFault.TheVariants.{BadRow, OutOfMemory}
 
@@ -12,5 +12,5 @@ pub record AreRead {R : Type 0} (fits : R → Type 0) (spelling : R → List ℕ
 
 -- where a row is missing, the rows stop there
 abbrev pub RowMissing : {R : Type 0} → (R → Type 0) → (R → List ℕ) → (List ℕ → Type 0) → ℕ → List ℕ → RowsFault → Type 0
-RowMissing fits spelling begins count bytes (BadRow k) = Stops fits spelling begins count k bytes
+RowMissing fits spelling begins count bytes (BadRow k) = LacksRowBy fits spelling begins count k bytes
 RowMissing fits spelling begins count bytes OutOfMemory = Unit {0}

@@ -14,7 +14,7 @@ use Rattle.kfs_model_device.specs.ShownTree.{DeviceImage, IsLawful, shown_tree}
 use Rattle.kfs_entry_value.specs.declared.plan.NameRow.{NameRow}
 use Rattle.kfs_entry_value.specs.declared.plan.NodeRow.{NodeRow}
 use Rattle.kfs_entry_value.specs.Views.{header_of}
-use Rattle.kfs_map_chunks.specs.Edits.{Ascend}
+use Rattle.kfs_map_chunks.specs.Edits.{KeysAscend}
 use Rattle.kfs_map_chunks.specs.Overlays.{Say, overlaid}
 use Rattle.kfs_map_chunks.specs.Tables.{table_after}
 use Rattle.kfs_map_chunks.proofs.Overlays.{overlaid_none, table_after_said}
@@ -31,7 +31,7 @@ use Rattle.kfs_image.specs.declared.edit.Edit.TheVariants as edits
 use Rattle.kfs_image.specs.declared.edit.Parts.{Parts}
 use Rattle.kfs_image.specs.Edit.{CanEdit, edited, edited_all}
 use Rattle.kfs_image.specs.Image.{image_with}
-use Rattle.kfs_image.specs.Parts.{AreOf, AreWhole, above_zero, plain, with_parts}
+use Rattle.kfs_image.specs.Parts.{PartsAreOf, BlocksAreWhole, above_zero, plain, with_parts}
 use Rattle.kfs_image.proofs.NetTables.{led_back}
 use Rattle.kfs_image.proofs.ShownTrees.{lawful_fits}
 
@@ -66,12 +66,12 @@ above_either false x y = refl
 
 module _ {A : Type 0} where
   -- without an edit the parts say nothing
-  pub none_said : (parts : Parts A) → AreOf [] parts → (image : DeviceImage) → with_parts parts image ≡ image
+  pub none_said : (parts : Parts A) → PartsAreOf [] parts → (image : DeviceImage) → with_parts parts image ≡ image
   unfolding edited_all
   none_said parts of = of.make
 
   -- and parts that say nothing are those of no edit
-  pub nothing_said : (parts : Parts A) → parts.names.items ≡ [] → parts.nodes.items ≡ [] → parts.said.latest.entries ≡ [] → parts.written.items ≡ [] → AreOf [] parts
+  pub nothing_said : (parts : Parts A) → parts.names.items ≡ [] → parts.nodes.items ≡ [] → parts.said.latest.entries ≡ [] → parts.written.items ≡ [] → PartsAreOf [] parts
   unfolding edited_all with_blocks
   nothing_said parts names nodes said written = record {
     make = λ image i. record {
@@ -81,7 +81,7 @@ module _ {A : Type 0} where
       placement = overlaid_none image.placement parts.said.latest.entries said i;
       devices = with_blocks (written i) image.devices;
     };
-    whole = λ sizes whole. subst (AreWhole sizes) (sym written) (λ k d below. absurd (omega (arith, below)));
+    whole = λ sizes whole. subst (BlocksAreWhole sizes) (sym written) (λ k d below. absurd (omega (arith, below)));
   }
 
   pub edit_made : (edits : List (Edit A)) (i : ℕ) (edit : Edit A) (image : DeviceImage) → i < length edits → edit ≡ get_or edits i edit
@@ -150,11 +150,11 @@ module _ {A : Type 0} where
 
 -- these are the rows of edits and the edits of the placement
 pub record AreMade {A : Type 0} (edits : List (Edit A)) (parts : Parts A) (names : List NameRow) (nodes : List NodeRow) (made places : List BlockEdit) : Type 0 where
-  pub of : AreOf edits parts
+  pub of : PartsAreOf edits parts
   pub names_are : names ≡ parts.names.items
   pub nodes_are : nodes ≡ parts.nodes.items
   pub places_are : places ≡ made
-  pub ascend : Ascend (pairs numbers numbers).compare made
+  pub ascend : KeysAscend (pairs numbers numbers).compare made
   pub said : Say (pairs numbers numbers).compare made parts.said.latest
 
 module _ {A : Type 0} (edits : List (Edit A)) (parts : Parts A) (names : List NameRow) (nodes : List NodeRow) (made places : List BlockEdit) (are : AreMade edits parts names nodes made places)
@@ -186,7 +186,7 @@ module _ {A : Type 0} (edits : List (Edit A)) (parts : Parts A) (names : List Na
 
   pub can_change : CanChange blocks places parts.written.items
   can_change = record {
-    ascend = subst (Ascend (pairs numbers numbers).compare) (sym are.places_are) are.ascend;
+    ascend = subst (KeysAscend (pairs numbers numbers).compare) (sym are.places_are) are.ascend;
     laid = lawful_after.placed.laid;
     in_tier = λ k d below. (are.of.whole blocks.sizes can.whole k d below).0;
     whole = λ k d below. (are.of.whole blocks.sizes can.whole k d below).1;

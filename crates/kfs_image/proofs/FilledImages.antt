@@ -9,7 +9,7 @@ use Rattle.std.proofs.lemmas.Bool.{both_ways, cases_Bool}
 use Rattle.kfs_model.specs.Header.{Kind, File, Directory, Header}
 use Rattle.kfs_model.specs.Limits.{block_size}
 use Rattle.kfs_model.specs.Table.{Order, Table, numbers, pairs, get, insert, retain, changed}
-use Rattle.kfs_model.specs.Tree.{headers, header_of, node_over}
+use Rattle.kfs_model.specs.Tree.{headers, node_header, node_over}
 use Rattle.kfs_model.specs.Soundness.{AreSound}
 use Rattle.kfs_model.specs.Placement.{TierSizes, Place, Placement, IsBlock, IsPlacement, is_free, tier_size}
 use Rattle.kfs_model.proofs.Heads.{get-headers}
@@ -47,16 +47,16 @@ pub record Fit {A : Type 0} (image : DeviceImage) (rows : List (BlockRow A)) : T
 
 -- ---- the tree is sound whatever bytes the files have
 
-shown_header : (image : DeviceImage) (number : ℕ) → get (headers (shown_tree image)) number ≡ option_map (header_of image.names number) (option_map (node_over (file_bytes image.placement image.devices) number) (get image.heads number))
-shown_header image number = get-headers (shown_tree image) number ∙ ap (option_map (header_of image.names number)) (get-mapped (node_over (file_bytes image.placement image.devices)) image.heads number)
+shown_header : (image : DeviceImage) (number : ℕ) → get (headers (shown_tree image)) number ≡ option_map (node_header image.names number) (option_map (node_over (file_bytes image.placement image.devices) number) (get image.heads number))
+shown_header image number = get-headers (shown_tree image) number ∙ ap (option_map (node_header image.names number)) (get-mapped (node_over (file_bytes image.placement image.devices)) image.heads number)
 
 module _ (image : DeviceImage) (placement : Placement) (devices : Devices) where
   -- the header that a node has over the blocks of now, and over these
   abbrev header_now : ℕ → Header → Header
-  header_now number h = header_of image.names number (node_over (file_bytes image.placement image.devices) number h)
+  header_now number h = node_header image.names number (node_over (file_bytes image.placement image.devices) number h)
 
   abbrev header_then : ℕ → Header → Header
-  header_then number h = header_of image.names number (node_over (file_bytes placement devices) number h)
+  header_then number h = node_header image.names number (node_over (file_bytes placement devices) number h)
 
   header_alike : (number : ℕ) (h : Header) → header_then number h ≡ header_now number h
   header_alike number h = by h.kind
@@ -68,8 +68,8 @@ module _ (image : DeviceImage) (placement : Placement) (devices : Devices) where
   heads_alike : headers (shown_tree (record image { placement = placement; devices = devices })) ≡ headers (shown_tree image)
   heads_alike = same_table _ _ (λ number. shown_header (record image { placement = placement; devices = devices }) number ∙ by number (get image.heads number) ∙ sym (shown_header image number))
     where
-      by : (number : ℕ) (o : Option Header) → option_map (header_of image.names number) (option_map (node_over (file_bytes placement devices) number) o)
-          ≡ option_map (header_of image.names number) (option_map (node_over (file_bytes image.placement image.devices) number) o)
+      by : (number : ℕ) (o : Option Header) → option_map (node_header image.names number) (option_map (node_over (file_bytes placement devices) number) o)
+          ≡ option_map (node_header image.names number) (option_map (node_over (file_bytes image.placement image.devices) number) o)
       by number None = refl
       by number (Some h) = ap Some (header_alike number h)
 

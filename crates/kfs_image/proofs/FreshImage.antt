@@ -4,7 +4,7 @@ use Rattle.std.specs.Ordering.{eq_by_cmp}
 use Rattle.kfs_model.specs.Limits.{greatest_mode}
 use Rattle.kfs_model.specs.Table.{numbers, empty, get}
 use Rattle.kfs_model.proofs.TableLaws.{same_table, get-mapped}
-use Rattle.kfs_model.specs.Tree.{Tree, Node, DirectoryBody, headers, header_of, node_over}
+use Rattle.kfs_model.specs.Tree.{Tree, Node, DirectoryBody, headers, node_header, node_over}
 use Rattle.kfs_model.specs.Soundness.{IsSound}
 use Rattle.kfs_model.specs.Fresh.{fresh_tree}
 use Rattle.kfs_model.proofs.FreshTree.{fresh_is_sound}
@@ -26,14 +26,14 @@ abbrev none_written : Devices
 none_written = empty
 
 -- a directory has no bytes, whatever stands in blocks
-node_back : (content : ℕ → ℕ → List ℕ) (number : ℕ) → option_map (node_over content number) (option_map (header_of fresh.names number) (get fresh.nodes number)) ≡ get fresh.nodes number
+node_back : (content : ℕ → ℕ → List ℕ) (number : ℕ) → option_map (node_over content number) (option_map (node_header fresh.names number) (get fresh.nodes number)) ≡ get fresh.nodes number
 unfolding get
 node_back content number = by (eq_by_cmp numbers.compare number 1)
   where
     root : Option (Node ℕ)
     root = Some (record { mode = greatest_mode; uid = 0; gid = 0; body = DirectoryBody })
 
-    by : (at_root : Bool) → option_map (node_over content number) (option_map (header_of fresh.names number) (cond at_root root None)) ≡ cond at_root root None
+    by : (at_root : Bool) → option_map (node_over content number) (option_map (node_header fresh.names number) (cond at_root root None)) ≡ cond at_root root None
     by true = refl
     by false = refl
 

@@ -4,7 +4,7 @@ use Rattle.kfs_model.specs.Header.{Kind, File, Directory, Header}
 use Rattle.kfs_model.specs.Limits.{block_size}
 use Rattle.kfs_model.specs.Table.{Table, numbers, get}
 use Rattle.kfs_model.proofs.TableLaws.{same_table, get-mapped, get-retain}
-use Rattle.kfs_model.specs.Tree.{Tree, Node, Body, FileBody, DirectoryBody, NameTable, headers, header_of, kind_of, size_of, content_of, body_over, node_over, tree_over}
+use Rattle.kfs_model.specs.Tree.{Tree, Node, Body, FileBody, DirectoryBody, NameTable, headers, node_header, kind_of, size_of, content_of, body_over, node_over, tree_over}
 use Rattle.kfs_model.specs.Sight.{is_file}
 use Rattle.kfs_model.specs.Soundness.{AreSound, IsSound}
 use Rattle.kfs_model.specs.Placement.{Place, Placement, IsBlock, block_count, numbers_from, tier_size}
@@ -94,16 +94,16 @@ module _ (image : DeviceImage) (after : Tree ℕ) (kept : AreKept (shown_tree im
           ∙ sym bytes
 
   body_kept : (number : ℕ) (node : Node ℕ) → get after.nodes number ≡ Some node → body_over shown_bytes number (kind_of node.body) (size_of node.body) ≡ node.body
-  body_kept number node is = by node.body (ap content_of is) (ap blocks_in (get-headers after number ∙ ap (option_map (header_of after.names number)) is))
+  body_kept number node is = by node.body (ap content_of is) (ap blocks_in (get-headers after number ∙ ap (option_map (node_header after.names number)) is))
     where
       with_body : Body ℕ → Node ℕ
       with_body body = record { mode = node.mode; uid = node.uid; gid = node.gid; body = body }
 
-      by : (body : Body ℕ) → content_of (get after.nodes number) ≡ content_of (Some (with_body body)) → blocks_in (get (headers after) number) ≡ blocks_in (Some (header_of after.names number (with_body body))) → body_over shown_bytes number (kind_of body) (size_of body) ≡ body
+      by : (body : Body ℕ) → content_of (get after.nodes number) ≡ content_of (Some (with_body body)) → blocks_in (get (headers after) number) ≡ blocks_in (Some (node_header after.names number (with_body body))) → body_over shown_bytes number (kind_of body) (size_of body) ≡ body
       by (FileBody cells) is many = ap FileBody (file_kept number cells is many)
       by DirectoryBody is many = refl
 
-  node_kept : (number : ℕ) (found : Option (Node ℕ)) → get after.nodes number ≡ found → option_map (node_over shown_bytes number) (option_map (header_of after.names number) found) ≡ found
+  node_kept : (number : ℕ) (found : Option (Node ℕ)) → get after.nodes number ≡ found → option_map (node_over shown_bytes number) (option_map (node_header after.names number) found) ≡ found
   node_kept number None is = refl
   node_kept number (Some node) is = λ i. Some (record { mode = node.mode; uid = node.uid; gid = node.gid; body = body_kept number node is i })
 
@@ -132,11 +132,11 @@ block_of_file heads number block is =
 -- ---- headers, whatever bytes a file has
 
 module _ (placement : Placement) (devices : Devices) where
-  header_again : (names : NameTable) (number : ℕ) (node : Node ℕ) → header_of names number (node_over (file_bytes placement devices) number (header_of names number node)) ≡ header_of names number node
+  header_again : (names : NameTable) (number : ℕ) (node : Node ℕ) → node_header names number (node_over (file_bytes placement devices) number (node_header names number node)) ≡ node_header names number node
   header_again names number node = by node.body
     where
-      by : (body : Body ℕ) → header_of names number (node_over (file_bytes placement devices) number (header_of names number (record node { body = body }))) ≡ header_of names number (record node { body = body })
-      by (FileBody cells) = λ i. record (header_of names number (record node { body = FileBody cells })) { size = length-file_bytes placement devices number (length cells) i }
+      by : (body : Body ℕ) → node_header names number (node_over (file_bytes placement devices) number (node_header names number (record node { body = body }))) ≡ node_header names number (record node { body = body })
+      by (FileBody cells) = λ i. record (node_header names number (record node { body = FileBody cells })) { size = length-file_bytes placement devices number (length cells) i }
       by DirectoryBody = refl
 
   -- the tree of a tree's headers and names has these headers
@@ -144,11 +144,11 @@ module _ (placement : Placement) (devices : Devices) where
   headers_again t =
       same_table _ _ (λ key.
       get-headers (tree_over (file_bytes placement devices) (headers t) t.names) key
-      ∙ ap (option_map (header_of t.names key)) (get-mapped (node_over (file_bytes placement devices)) (headers t) key ∙ ap (option_map (node_over (file_bytes placement devices) key)) (get-headers t key))
+      ∙ ap (option_map (node_header t.names key)) (get-mapped (node_over (file_bytes placement devices)) (headers t) key ∙ ap (option_map (node_over (file_bytes placement devices) key)) (get-headers t key))
       ∙ by key (get t.nodes key)
       ∙ sym (get-headers t key))
     where
-      by : (key : ℕ) (o : Option (Node ℕ)) → option_map (header_of t.names key) (option_map (node_over (file_bytes placement devices) key) (option_map (header_of t.names key) o)) ≡ option_map (header_of t.names key) o
+      by : (key : ℕ) (o : Option (Node ℕ)) → option_map (node_header t.names key) (option_map (node_over (file_bytes placement devices) key) (option_map (node_header t.names key) o)) ≡ option_map (node_header t.names key) o
       by key None = refl
       by key (Some node) = ap Some (header_again t.names key node)
 

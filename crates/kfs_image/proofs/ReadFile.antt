@@ -11,7 +11,7 @@ use Rattle.kfs_model.specs.Tree.{content_of, node_over}
 use Rattle.kfs_model.specs.Sight.{is_directory}
 use Rattle.kfs_model_device.specs.ShownTree.{DeviceImage, file_byte, file_bytes, shown_tree}
 use Rattle.kfs_model_device.proofs.ShownHeads.{length-file_bytes, bytes_shown}
-use Rattle.kfs_image.specs.Read.{bytes_from, IsRead}
+use Rattle.kfs_image.specs.Read.{bytes_from, FileIsRead}
 
 nothing : (room : ℕ) → ◌≡◌ {A = List ℕ} (take room []) []
 nothing zero = refl
@@ -41,7 +41,7 @@ module _ (image : DeviceImage) (number : ℕ) (h : Header) (there : get image.he
   from_is start room = ap (λ content. take room (drop start content)) content_is
 
   -- nothing is read behind the end
-  pub read_past : (start : ℕ) (old : List ℕ) → h.size ≤ start → IsRead image number start old old 0
+  pub read_past : (start : ℕ) (old : List ℕ) → h.size ≤ start → FileIsRead image number start old old 0
   read_past start old past = record { count_is = sym (ap length none); bytes = sym (ap (λ bytes. bytes ++ old) none) }
     where
       none : bytes_from image number start (length old) ≡ []
@@ -50,7 +50,7 @@ module _ (image : DeviceImage) (number : ℕ) (h : Header) (there : get image.he
   -- the part read is as long as there is room and the file has bytes, and its bytes are those of the blocks
   pub read_part : (start count : ℕ) (old part : List ℕ) → count ≡ min (h.size - start) (length old) → length part ≡ count
       → ((k : ℕ) → k < length part → slice_index part k ≡ file_byte image.placement image.devices number (start + k))
-      → IsRead image number start old (part ++ drop count old) count
+      → FileIsRead image number start old (part ++ drop count old) count
   read_part start count old part least many each = record { count_is = sym many ∙ ap length part_is; bytes = ap (λ bytes. bytes ++ drop count old) part_is }
     where
       many_there : length (take (length old) (drop start cells)) ≡ min (length old) (h.size - start)

@@ -22,13 +22,13 @@ module _ {A : Type 0} where
   edited_all (e ∷ es) image = edited_all es (edited e image)
 
   -- what is written lies in its tier, and is a whole block
-  abbrev pub IsWhole : TierSizes → Edit A → Type 0
-  IsWhole sizes (Header number header) = Unit
-  IsWhole sizes (Name dir name number) = Unit
-  IsWhole sizes (Map number block place) = Unit
-  IsWhole sizes (Bytes place bytes) = (place.place < tier_size sizes place.tier) × (vec_len bytes ≡ block_size)
+  abbrev pub WritesWholeBlocks : TierSizes → Edit A → Type 0
+  WritesWholeBlocks sizes (Header number header) = Unit
+  WritesWholeBlocks sizes (Name dir name number) = Unit
+  WritesWholeBlocks sizes (Map number block place) = Unit
+  WritesWholeBlocks sizes (Bytes place bytes) = (place.place < tier_size sizes place.tier) × (vec_len bytes ≡ block_size)
 
   -- the image after is lawful, and each block that is written lies in its tier and is whole
   pub record CanEdit (edits : List (Edit A)) (image : DeviceImage) : Type 0 where
     pub lawful : IsLawful (edited_all edits image)
-    pub whole : All (IsWhole image.sizes) edits
+    pub whole : All (WritesWholeBlocks image.sizes) edits

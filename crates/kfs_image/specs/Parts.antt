@@ -11,7 +11,7 @@ use Rattle.kfs_image_nodes.specs.Change.{led_to, renamed, reheaded}
 use Rattle.kfs_image.specs.declared.edit.Edit.{Edit}
 use Rattle.kfs_image.specs.declared.edit.Edit.TheVariants.{Header, Name, Map, Bytes}
 use Rattle.kfs_image.specs.declared.edit.Parts.{Parts}
-use Rattle.kfs_image.specs.Edit.{edited_all, IsWhole}
+use Rattle.kfs_image.specs.Edit.{edited_all, WritesWholeBlocks}
 
 -- the number, where 0 is none too
 abbrev pub above_zero : Option ℕ → Option ℕ
@@ -36,10 +36,10 @@ module _ {A : Type 0} where
   }
 
   -- the blocks lie in their tiers, and are whole
-  abbrev pub AreWhole : TierSizes → List (NewBlock A) → Type 0
-  AreWhole sizes written = All (λ b. (b.place.place < tier_size sizes b.place.tier) × (vec_len b.bytes ≡ block_size)) written
+  abbrev pub BlocksAreWhole : TierSizes → List (NewBlock A) → Type 0
+  BlocksAreWhole sizes written = All (λ b. (b.place.place < tier_size sizes b.place.tier) × (vec_len b.bytes ≡ block_size)) written
 
   -- the parts make of each image what the edits do, one after the other; and what they write is whole where the edits are
-  pub record AreOf (edits : List (Edit A)) (parts : Parts A) : Type 0 where
+  pub record PartsAreOf (edits : List (Edit A)) (parts : Parts A) : Type 0 where
     pub make : (image : DeviceImage) → with_parts parts image ≡ edited_all (map plain edits) image
-    pub whole : (sizes : TierSizes) → All (IsWhole sizes) edits → AreWhole sizes parts.written.items
+    pub whole : (sizes : TierSizes) → All (WritesWholeBlocks sizes) edits → BlocksAreWhole sizes parts.written.items

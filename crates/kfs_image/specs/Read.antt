@@ -9,6 +9,6 @@ abbrev pub bytes_from : DeviceImage → (number start room : ℕ) → List ℕ
 bytes_from image number start room = take room (drop start (content_of (get (shown_tree image).nodes number)))
 
 -- so many bytes were read to the front of the buffer, and the others stay as they were
-pub record IsRead (image : DeviceImage) (number start : ℕ) (old new : List ℕ) (count : ℕ) : Type 0 where
+pub record FileIsRead (image : DeviceImage) (number start : ℕ) (old new : List ℕ) (count : ℕ) : Type 0 where
   pub count_is : count ≡ length (bytes_from image number start (length old))
   pub bytes : new ≡ bytes_from image number start (length old) ++ drop count old

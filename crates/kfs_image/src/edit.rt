@@ -2,8 +2,8 @@
 ghost use Rattle.std.specs.Prelude.{◌≡◌, [], IfOk, OnOk};
 ghost use Rattle.kfs_model.specs.Placement.{TierSizes};
 ghost use Rattle.kfs_model_device.specs.ShownTree.{DeviceImage};
-ghost use Rattle.kfs_image.specs.Edit.{edited, IsWhole};
-ghost use Rattle.kfs_image.specs.Parts.{plain, with_parts, AreOf, AreWhole};
+ghost use Rattle.kfs_image.specs.Edit.{edited, WritesWholeBlocks};
+ghost use Rattle.kfs_image.specs.Parts.{plain, with_parts, PartsAreOf, BlocksAreWhole};
 
 use kfs_entry_value::{Header, Name, NameRow, NodeRow};
 use kfs_image_blocks::{NewBlock, Place};
@@ -35,7 +35,7 @@ pub(crate) struct Parts<A: Allocator> {
 impl<A: Allocator + Clone> Parts<A> {
     /// What the edits say, one after the other.
     pub(crate) fn of(alloc: &A, edits: &[Edit<A>]) -> Result<Parts<A>, AllocError>
-        ensures { IfOk result (AreOf edits.now) }
+        ensures { IfOk result (PartsAreOf edits.now) }
     {
         let mut parts = Parts::empty(alloc)?;
         for edit in edits {
@@ -46,7 +46,7 @@ impl<A: Allocator + Clone> Parts<A> {
 
     /// Nothing is said.
     fn empty(alloc: &A) -> Result<Parts<A>, AllocError>
-        ensures { IfOk result (AreOf []) }
+        ensures { IfOk result (PartsAreOf []) }
     {
         Ok(Parts {
             names: Vec::new(alloc.clone()?),
@@ -59,7 +59,7 @@ impl<A: Allocator + Clone> Parts<A> {
     /// Says also what the edit does, after what was said.
     fn add(&mut self, edit: &Edit<A>) -> Result<(), AllocError>
         ensures made { OnOk result ((image : DeviceImage) → with_parts self.new image ≡ edited (plain edit.now) (with_parts self.old image)) }
-        ensures whole { OnOk result ((sizes : TierSizes) → IsWhole sizes edit.now → AreWhole sizes self.old.written.items → AreWhole sizes self.new.written.items) }
+        ensures whole { OnOk result ((sizes : TierSizes) → WritesWholeBlocks sizes edit.now → BlocksAreWhole sizes self.old.written.items → BlocksAreWhole sizes self.new.written.items) }
     {
         match edit {
             Edit::Header(number, now) => self.nodes.push(NodeRow {

@@ -13,7 +13,7 @@ ghost use Rattle.kfs_image_nodes.specs.Rows.{FitPages};
 ghost use Rattle.kfs_image.specs.Edit.{CanEdit, edited_all};
 ghost use Rattle.kfs_image.specs.Image.{contents_of, fresh_image};
 ghost use Rattle.kfs_image.specs.Net.{CanApply, applied};
-ghost use Rattle.kfs_image.specs.Read.{IsRead};
+ghost use Rattle.kfs_image.specs.Read.{FileIsRead};
 
 use crate::edit::{Edit, Parts};
 use crate::gone::gone_blocks;
@@ -200,7 +200,7 @@ impl<A: Allocator> Image<A> {
         start: u64,
         buffer: &mut [u8],
     ) -> Result<usize, ReadFault>
-        ensures read { IfOk result (IsRead self.now number start buffer.old buffer.new) }
+        ensures read { IfOk result (FileIsRead self.now number start buffer.old buffer.new) }
         ensures no_node { (result ≡ Err ReadFault.NoSuchNode) ↔ (get self.now.heads number ≡ None) }
         ensures directory { (result ≡ Err ReadFault.IsDirectory) ↔ IsTrue (is_directory (get self.now.heads number)) }
         ensures kept { OnErr result (buffer.new ≡ buffer.old) }

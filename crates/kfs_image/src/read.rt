@@ -2,7 +2,7 @@
 ghost use Rattle.std.specs.Prelude.{◌≡◌, ◌↔◌, Err, None, IsTrue, IfOk, OnErr};
 ghost use Rattle.kfs_model.specs.Table.{get};
 ghost use Rattle.kfs_model.specs.Sight.{is_directory};
-ghost use Rattle.kfs_image.specs.Read.{IsRead};
+ghost use Rattle.kfs_image.specs.Read.{FileIsRead};
 
 use crate::image::Image;
 use std::alloc::Allocator;
@@ -25,7 +25,7 @@ pub fn read_file<A: Allocator>(
     start: u64,
     buffer: &mut [u8],
 ) -> Result<usize, ReadFault>
-    ensures read { IfOk result (IsRead image.now number start buffer.old buffer.new) }
+    ensures read { IfOk result (FileIsRead image.now number start buffer.old buffer.new) }
     ensures no_node { (result ≡ Err ReadFault.NoSuchNode) ↔ (get image.now.heads number ≡ None) }
     ensures directory { (result ≡ Err ReadFault.IsDirectory) ↔ IsTrue (is_directory (get image.now.heads number)) }
     ensures kept { OnErr result (buffer.new ≡ buffer.old) }

@@ -13,7 +13,7 @@ use Rattle.std.proofs.lemmas.Map.Keys.{ge_from_not_lt}
 use Rattle.kfs_model.specs.Table.{pairs, numbers, get, changed}
 use Rattle.kfs_model.specs.Placement.{Place, Placement}
 use Rattle.kfs_model.proofs.TableLaws.{same_table, get-retain, get-changed}
-use Rattle.kfs_map_chunks.specs.Starts.{is_from, IsNext}
+use Rattle.kfs_map_chunks.specs.Starts.{is_from, IsNextEntry}
 use Rattle.kfs_map_chunks.specs.Tables.{table}
 use Rattle.kfs_map_chunks.proofs.Tables.{get-table}
 use Rattle.kfs_image_blocks.specs.declared.fill.BlockRun.{BlockRun}
@@ -46,7 +46,7 @@ of_file number first block key within least = at (nat_cmp number key.0) refl lea
         let less : key.0 < number = ranked number key.0 Greater is in
         absurd (never (ap (λ r. not (is_lt (ordering_then r (nat_cmp key.1 first)))) (nat_cmp_is key.0 number Less less) ∙ within))
 
-module _ (placement : List ((ℕ × ℕ) × Place)) (number first : ℕ) (key : ℕ × ℕ) (place : Place) (next : IsNext cmp (Included (number, first)) placement key place) where
+module _ (placement : List ((ℕ × ℕ) × Place)) (number first : ℕ) (key : ℕ × ℕ) (place : Place) (next : IsNextEntry cmp (Included (number, first)) placement key place) where
   -- a block of the file before the next one isn't mapped
   pub unmapped_before : (block : ℕ) → first ≤ block → (key.0 ≡ number → key.1 ≤ block → ⊥) → get (table (pairs numbers numbers) placement) (number, block) ≡ None
   unmapped_before block above other = get-table (pairs numbers numbers) placement (number, block) ∙ at (find cmp (number, block) placement) refl

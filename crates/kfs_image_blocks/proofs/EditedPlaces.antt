@@ -8,10 +8,10 @@ use Rattle.std.proofs.lemmas.Bool.{both_ways, cases_Bool, or_cases, or_left}
 use Rattle.std.proofs.lemmas.List.{drop_all}
 use Rattle.kfs_model.specs.Table.{numbers, pairs, get}
 use Rattle.kfs_model.specs.Placement.{TierSizes, Place, Placement, IsLaid}
-use Rattle.kfs_map_chunks.specs.Edits.{edited, Ascend}
+use Rattle.kfs_map_chunks.specs.Edits.{edited, KeysAscend}
 use Rattle.kfs_map_chunks.specs.Tables.{table_after}
 use Rattle.kfs_map_chunks.proofs.Tables.{get-table_after}
-use Rattle.kfs_image_tier.specs.Tiers.{is_place, is_among, AreDistinct}
+use Rattle.kfs_image_tier.specs.Tiers.{is_place, is_among, PlacesAreDistinct}
 use Rattle.kfs_image_tier.specs.Unused.{IsLeft, AreMoved}
 use Rattle.kfs_image_tier.proofs.MovedPlaces.{is_place-is, is_place-same, among_at}
 use Rattle.kfs_image_tier.proofs.TierLists.{rest_at}
@@ -67,12 +67,12 @@ one_more (Some a) (Some b) rest p = at (is_place a b)
     at true = refl
     at false = or_none (is_place a p)
 
-distinct_more : (was is : Option Place) (rest : List Place) → ((p : Place) → was ≡ Some p → is_among rest p ≡ false) → AreDistinct rest → AreDistinct (left_by was is ++ rest)
+distinct_more : (was is : Option Place) (rest : List Place) → ((p : Place) → was ≡ Some p → is_among rest p ≡ false) → PlacesAreDistinct rest → PlacesAreDistinct (left_by was is ++ rest)
 distinct_more None is rest none once = once
 distinct_more (Some a) None rest none once = (none a refl, once)
 distinct_more (Some a) (Some b) rest none once = at (is_place a b)
   where
-    at : (t : Bool) → AreDistinct (cond t [] (a ∷ []) ++ rest)
+    at : (t : Bool) → PlacesAreDistinct (cond t [] (a ∷ []) ++ rest)
     at true = once
     at false = (none a refl, once)
 
@@ -87,11 +87,11 @@ has_at : (es : List BlockEdit) (e : BlockEdit) → Has es e → (k : ℕ) × (k 
 has_at [] e has = absurd has
 has_at (x ∷ xs) e has = ⊎_elim (λ here. (0, omega arith, here)) (λ later. let (k, below, at) = has_at xs e later in (suc k, omega (arith, below), at)) has
 
-ascend_rest : (e : BlockEdit) (es : List BlockEdit) → Ascend cmp (e ∷ es) → Ascend cmp es
+ascend_rest : (e : BlockEdit) (es : List BlockEdit) → KeysAscend cmp (e ∷ es) → KeysAscend cmp es
 ascend_rest e es ascend i j d less below = ascend (suc i) (suc j) d (omega (arith, less)) (omega (arith, below))
 
 -- the key of the first edit is not that of a later one
-first_key : (e x : BlockEdit) (es : List BlockEdit) → Ascend cmp (e ∷ es) → Has es x → x.key ≡ e.key → ⊥
+first_key : (e x : BlockEdit) (es : List BlockEdit) → KeysAscend cmp (e ∷ es) → Has es x → x.key ≡ e.key → ⊥
 first_key e x es ascend has same =
     let (k, below, at) = has_at es x has in
     let less : cmp e.key x.key ≡ Less = ap (λ (y : BlockEdit). cmp e.key y.key) (sym at) ∙ ascend 0 (suc k) x (omega arith) (omega (arith, below)) in
@@ -117,7 +117,7 @@ found_or_same (e ∷ es) q v = at (found_or_same es q (cond (is_eq (cmp q e.key)
     at rest Greater is = later rest (ap (λ r. cond (is_eq r) e.value v) is)
 
 -- a key comes to have what its edit says
-edited_here : (es : List BlockEdit) (e : BlockEdit) (v : Option Place) → Ascend cmp es → Has es e → edited cmp es e.key v ≡ e.value
+edited_here : (es : List BlockEdit) (e : BlockEdit) (v : Option Place) → KeysAscend cmp es → Has es e → edited cmp es e.key v ≡ e.value
 edited_here [] e v ascend has = absurd has
 edited_here (x ∷ xs) e v ascend has =
     ⊎_elim
@@ -153,7 +153,7 @@ module _ (was is : BlockEdit → Option Place) where
       neither true b e = cc
       neither false b e = (refl, e)
 
-  left_once : (es : List BlockEdit) → Ascend cmp es → ((e x : BlockEdit) (p : Place) → Has es e → Has es x → was e ≡ Some p → was x ≡ Some p → x.key ≡ e.key) → AreDistinct (left_in was is es)
+  left_once : (es : List BlockEdit) → KeysAscend cmp es → ((e x : BlockEdit) (p : Place) → Has es e → Has es x → was e ≡ Some p → was x ≡ Some p → x.key ≡ e.key) → PlacesAreDistinct (left_in was is es)
   unfolding left_in
   left_once [] ascend apart = tt
   left_once (e ∷ es) ascend apart =
@@ -181,7 +181,7 @@ module _ (was is : BlockEdit → Option Place) (es : List BlockEdit) (i : ℕ) w
   unfolding left_in
   left_end places all past so_far = sym (ap (λ rest. places ++ left_in was is rest) (drop_all i es past) ∙ append-nil places) ∙ so_far
 
-module _ (sizes : TierSizes) (old : Placement) (es : List BlockEdit) (ascend : Ascend cmp es) (before : IsLaid sizes old) (after : IsLaid sizes (table_after old es)) where
+module _ (sizes : TierSizes) (old : Placement) (es : List BlockEdit) (ascend : KeysAscend cmp es) (before : IsLaid sizes old) (after : IsLaid sizes (table_after old es)) where
   abbrev new : Placement
   new = table_after old es
 

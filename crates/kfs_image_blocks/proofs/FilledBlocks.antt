@@ -7,7 +7,7 @@ use Rattle.kfs_model.specs.Table.{pairs, numbers, get, changed, insert}
 use Rattle.kfs_model.specs.Placement.{Place, Placement, tier_size, IsLaid}
 use Rattle.kfs_model.proofs.TableLaws.{same_table, get-retain}
 use Rattle.kfs_model_device.specs.Device.{Devices}
-use Rattle.kfs_map_chunks.specs.Edits.{Ascend}
+use Rattle.kfs_map_chunks.specs.Edits.{KeysAscend}
 use Rattle.kfs_map_chunks.specs.Tables.{table_after}
 use Rattle.kfs_image_tier.specs.declared.change.NewBlock.{NewBlock}
 use Rattle.kfs_image_tier.specs.Tiers.{with_blocks}
@@ -124,9 +124,9 @@ module _ {A : Type 0} where
       rows_whole k d below = let row : BlockRow A = get_or rows k d in omega (arith, row.bytes.ok.0, whole k d below)
 
   module _ (gone : List BlockRun) (rows : List (BlockRow A)) (old : BlocksShown) (made edits : List BlockEdit) (blocks : List (NewBlock A)) (same : edits ≡ made) where
-    pub can_change : Ascend (pairs numbers numbers).compare made → table_after old.placement made ≡ placement_after gone rows old.placement → map new_part blocks ≡ map row_part rows → CanFill old gone rows → CanChange old edits blocks
+    pub can_change : KeysAscend (pairs numbers numbers).compare made → table_after old.placement made ≡ placement_after gone rows old.placement → map new_part blocks ≡ map row_part rows → CanFill old gone rows → CanChange old edits blocks
     can_change ascend placed alike can = record {
-      ascend = subst (Ascend (pairs numbers numbers).compare) (sym same) ascend;
+      ascend = subst (KeysAscend (pairs numbers numbers).compare) (sym same) ascend;
       laid = subst (IsLaid old.sizes) (sym (ap (table_after old.placement) same ∙ placed)) can.laid;
       in_tier = of_parts (λ part. part.0.place < tier_size old.sizes part.0.tier) blocks rows alike can.in_tier;
       whole = whole_blocks blocks rows alike can.whole;

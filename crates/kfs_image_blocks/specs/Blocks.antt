@@ -4,7 +4,7 @@ use Rattle.kfs_model.specs.Limits.{block_size}
 use Rattle.kfs_model.specs.Table.{numbers, pairs}
 use Rattle.kfs_model.specs.Placement.{TierSizes, Placement, tier_size, IsLaid}
 use Rattle.kfs_model_device.specs.Device.{Devices, AreBlocks}
-use Rattle.kfs_map_chunks.specs.Edits.{Ascend}
+use Rattle.kfs_map_chunks.specs.Edits.{KeysAscend}
 use Rattle.kfs_map_chunks.specs.Tables.{table_after}
 use Rattle.kfs_image_tier.specs.declared.change.NewBlock.{NewBlock}
 use Rattle.kfs_image_tier.specs.Tiers.{TiersShown, with_blocks}
@@ -26,7 +26,7 @@ pub record AreHeld (placement : Placement) (tiers : TiersShown) : Type 0 where
 -- The edits ascend, and leave each place in its tier and with one block at the most. The blocks that are written lie in their tiers
 -- and are whole.
 pub record CanChange {A : Type 0} (blocks : BlocksShown) (edits : List BlockEdit) (written : List (NewBlock A)) : Type 0 where
-  pub ascend : Ascend (pairs numbers numbers).compare edits
+  pub ascend : KeysAscend (pairs numbers numbers).compare edits
   pub laid : IsLaid blocks.sizes (table_after blocks.placement edits)
   pub in_tier : All (λ b. b.place.place < tier_size blocks.sizes b.place.tier) written
   pub whole : All (λ b. vec_len b.bytes ≡ block_size) written

@@ -6,7 +6,7 @@ ghost use Rattle.kfs_model.specs.Table.{empty, get, pairs, numbers};
 ghost use Rattle.kfs_model_device.specs.Device.{AreBlocks};
 ghost use Rattle.kfs_model_device.specs.ShownTree.{file_byte};
 ghost use Rattle.kfs_image_tier.specs.Unused.{IsNextUnused, AreTakenFrom, unused_places};
-ghost use Rattle.kfs_map_chunks.specs.Edits.{Ascend};
+ghost use Rattle.kfs_map_chunks.specs.Edits.{KeysAscend};
 ghost use Rattle.kfs_map_chunks.specs.Tables.{table_after};
 ghost use Rattle.kfs_image_blocks.specs.Blocks.{CanChange, changed};
 ghost use Rattle.kfs_image_blocks.specs.Fill.{CanFill, filled, placement_after};
@@ -142,7 +142,7 @@ impl<A: Allocator + Clone> Blocks<A> {
         gone: &[BlockRun],
         rows: &[BlockRow<A>],
     ) -> Result<Vec<Edit<(u32, u32), Place>, A>, AllocError>
-        ensures ascend { IfOk result (λ edits. Ascend (pairs numbers numbers).compare edits.items) }
+        ensures ascend { IfOk result (λ edits. KeysAscend (pairs numbers numbers).compare edits.items) }
         ensures placed { IfOk result (λ edits. table_after self.now.placement edits.items ≡ placement_after gone.now rows.now self.now.placement) }
     {
         fill_edits(&self.placement, gone, rows)

@@ -1,7 +1,7 @@
 //! The blocks that a landing unmaps, and those that it maps and writes.
 ghost use Rattle.std.specs.Prelude.{◌≡◌, ◌∷◌, [], ◌≤◌, ◌<◌, map, IfSome, IfNone, IfOk, OnOk};
 ghost use Rattle.kfs_model.specs.Table.{pairs, numbers};
-ghost use Rattle.kfs_map_chunks.specs.Edits.{Ascend};
+ghost use Rattle.kfs_map_chunks.specs.Edits.{KeysAscend};
 ghost use Rattle.kfs_map_chunks.specs.Tables.{table_after};
 ghost use Rattle.kfs_image_blocks.specs.Fill.{less, placement_after, new_part, row_part};
 ghost use Rattle.kfs_image_blocks.specs.Walks.{AreUnmapped, placed, seen, SeesMapped};
@@ -38,7 +38,7 @@ pub(crate) fn fill_edits<A: Allocator + Clone>(
     gone: &[BlockRun],
     rows: &[BlockRow<A>],
 ) -> Result<Vec<Edit<(u32, u32), Place>, A>, AllocError>
-    ensures ascend { IfOk result (λ edits. Ascend (pairs numbers numbers).compare edits.items) }
+    ensures ascend { IfOk result (λ edits. KeysAscend (pairs numbers numbers).compare edits.items) }
     ensures placed { IfOk result (λ edits. table_after (placed placement.now) edits.items ≡ placement_after gone.now rows.now (placed placement.now)) }
 {
     let mut said = Overlay::new(placement.allocator().clone()?);

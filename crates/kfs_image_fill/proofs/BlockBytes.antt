@@ -17,7 +17,7 @@ use Rattle.kfs_model.proofs.TableLaws.{get-mapped}
 use Rattle.kfs_model_device.specs.ShownTree.{DeviceImage, file_bytes, shown_tree}
 use Rattle.kfs_image_fill.specs.Bytes.{byte_over, ArePut}
 use Rattle.kfs_image_fill.specs.Fill.{byte_after}
-use Rattle.kfs_image.specs.Read.{IsRead}
+use Rattle.kfs_image.specs.Read.{FileIsRead}
 use Rattle.kfs_image.specs.declared.read.ReadFault.{ReadFault}
 use Rattle.kfs_image.specs.declared.read.ReadFault.TheVariants as faults
 
@@ -97,7 +97,7 @@ module _ (image : DeviceImage) (number start : ℕ) where
     part_long : length part ≡ min (length old) (length content - start)
     part_long = length-take (length old) (drop start content) ∙ ap (min (length old)) (length-drop start content)
 
-    read_there : (count : ℕ) → IsRead image number start old new count → (k : ℕ) → k < length old → get_or new k 0 ≡ byte_at content (start + k)
+    read_there : (count : ℕ) → FileIsRead image number start old new count → (k : ℕ) → k < length old → get_or new k 0 ≡ byte_at content (start + k)
     read_there count is k below = ap (λ bytes. get_or bytes k 0) is.bytes ∙ ⊎_elim
         (λ (less : k < length part).
         get_or-append part (drop count old) 0 k less ∙ get_or-take (length old) (drop start content) k 0 below ∙ get_or-drop start content k 0 ∙ sym (byte_is k))
@@ -109,7 +109,7 @@ module _ (image : DeviceImage) (number start : ℕ) where
         ∙ sym (byte_is k ∙ get_or_past content (start + k) 0 (omega (arith, past, below, part_long))))
         (cases_lt k (length part))
 
-    pub read_or_zero : (r : Result ℕ ReadFault) → IfOk r (IsRead image number start old new)
+    pub read_or_zero : (r : Result ℕ ReadFault) → IfOk r (FileIsRead image number start old new)
         → ((r ≡ Err faults.NoSuchNode) ↔ (get image.heads number ≡ None))
         → ((r ≡ Err faults.IsDirectory) ↔ IsTrue (is_directory (get image.heads number)))
         → OnErr r (new ≡ old)

@@ -10,11 +10,11 @@ use Rattle.std.proofs.lemmas.Bool.{both_ways, eq-eqb, eqb-false, ne_eqb}
 use Rattle.std.proofs.lemmas.Cmp.{ranked}
 use Rattle.std.proofs.lemmas.List.{append-nil, append_assoc}
 use Rattle.std.proofs.lemmas.List.Folds.{list_any-append}
-use Rattle.kfs_model.specs.Blocks.{Blocks, of_file, touches}
+use Rattle.kfs_model.specs.Blocks.{BlockRange, of_file, touches}
 use Rattle.kfs_model.specs.Header.{Header}
-use Rattle.kfs_model.specs.LastCover.{extent}
+use Rattle.kfs_model.specs.LastCover.{file_size}
 use Rattle.kfs_model.specs.Placement.{block_count, numbers_from}
-use Rattle.kfs_model.specs.Plan.{ArePieces, Ascend, IsTrueOf, said_by}
+use Rattle.kfs_model.specs.Plan.{ArePieces, PiecesAscend, IsTrueOf, mark_of_source}
 use Rattle.kfs_model.specs.PlanRow.{Piece}
 use Rattle.kfs_model.specs.Run.{Mark}
 use Rattle.kfs_model.specs.Sight.{is_file}
@@ -67,11 +67,11 @@ none_behind : (n : ℕ) (ps : List CodePiece) → AreByNumber n ps → of_file n
 none_behind n ps order = not_of n (n + 1) (drop (front_len n ps) ps) (omega arith) (behind_front n ps order)
 
 -- ascending pieces stand in the order of their files' numbers
-by_number_from : (least : ℕ) (p : CodePiece) (ps : List CodePiece) → least ≤ p.number → Ascend (map piece_of (p ∷ ps)) → AreByNumber least (p ∷ ps)
+by_number_from : (least : ℕ) (p : CodePiece) (ps : List CodePiece) → least ≤ p.number → PiecesAscend (map piece_of (p ∷ ps)) → AreByNumber least (p ∷ ps)
 by_number_from least p [] low ascend = (low, tt)
 by_number_from least p (q ∷ ps) low ascend = (low, by_number_from p.number q ps (⊎_elim (λ (less : p.number < q.number). omega arith) (λ same. let number = same.0 in omega arith) ascend.0) ascend.1)
 
-pub by_number : (ps : List CodePiece) → Ascend (map piece_of ps) → AreByNumber 0 ps
+pub by_number : (ps : List CodePiece) → PiecesAscend (map piece_of ps) → AreByNumber 0 ps
 by_number [] ascend = tt
 by_number (p ∷ ps) ascend = by_number_from 0 p ps (omega arith) ascend
 
@@ -159,7 +159,7 @@ all_right after (p ∷ ps) said = (said.0, all_right after ps said.1)
 node_there : (after : Tree Mark) (p : CodePiece) → IsTrueOf after (piece_of p) → (node : Node Mark) × (get after.nodes p.number ≡ Some node)
 node_there after p right = at (get after.nodes p.number) refl (right.said 0 right.filled)
   where
-    at : (found : Option (Node Mark)) → get after.nodes p.number ≡ found → slice_get (content_of found) (p.start + 0) ≡ Some (said_by (piece_of p).source 0) → (node : Node Mark) × (get after.nodes p.number ≡ Some node)
+    at : (found : Option (Node Mark)) → get after.nodes p.number ≡ found → slice_get (content_of found) (p.start + 0) ≡ Some (mark_of_source (piece_of p).source 0) → (node : Node Mark) × (get after.nodes p.number ≡ Some node)
     at None is stands = cc
     at (Some node) is stands = (node, is)
 
@@ -197,7 +197,7 @@ rises_run (suc count) least m later xs low behind far rises =
     let end = far (omega arith) in
     (low, rises_run count m (m + 1) later xs (omega arith) (omega arith) (λ some. omega arith) rises)
 
-listed_rises : (next : ℕ) (rs : List Blocks) → Rises next (listed next rs)
+listed_rises : (next : ℕ) (rs : List BlockRange) → Rises next (listed next rs)
 unfolding listed
 listed_rises next [] = tt
 listed_rises next (r ∷ rs) =
@@ -377,7 +377,7 @@ module _ (heads : Table numbers Header) where
   all_zeroed pieces old (p ∷ rest) empty so_far after marked_after same marked_same right block is = absurd (omega arith)
   all_zeroed pieces old [] empty so_far after marked_after same marked_same right block is =
       let number = block.0 in
-      let size : extent marked_after number ≡ size_among heads number = sym (size_is_extent marked_after number) ∙ ap (λ (t : Table numbers Header). size_among t number) marked_same in
+      let size : file_size marked_after number ≡ size_among heads number = sym (size_is_extent marked_after number) ∙ ap (λ (t : Table numbers Header). size_among t number) marked_same in
       let below = below_size block.1 (get heads number) (ltb-true _ _ (ap (λ (t : Table numbers Header). is_block t block) (sym same) ∙ is)) in
       sym (or-false (is_in_one old block))
       ∙ ap (λ rs. is_in_one old block || list_any (is_in_range block.1) rs) (sym (no_ranges (size_among heads number)))

@@ -19,7 +19,7 @@ use Rattle.kfs_model.specs.Run.{EntryFault, Mark, Zero, byte_at, byte_of, looked
 use Rattle.kfs_model.specs.Sight.{ClientSight}
 use Rattle.kfs_model.specs.Soundness.{IsSound}
 use Rattle.kfs_model.specs.Table.{Table, get, numbers, pairs, retain}
-use Rattle.kfs_model.specs.Tree.{Body, DirectoryBody, FileBody, Node, Tree, content_of, header_of, headers, tree_over}
+use Rattle.kfs_model.specs.Tree.{Body, DirectoryBody, FileBody, Node, Tree, content_of, node_header, headers, tree_over}
 use Rattle.kfs_model.proofs.Cells.{headers-recut, recut}
 use Rattle.kfs_model.proofs.Heads.{get-headers}
 use Rattle.kfs_model.proofs.Marks.{marks_give_bytes}
@@ -75,11 +75,11 @@ block_there : (t : Tree ℕ) (number place : ℕ) → place < length (content_of
 block_there t number place below = lt-ltb _ _ (subst (λ found. place / block_size < blocks_in found) (sym (get-headers t number)) (at (get t.nodes number) below))
   where
     of_body : (mode uid gid : ℕ) (body : Body ℕ) → place < length (content_of (Some (record { mode = mode; uid = uid; gid = gid; body = body })))
-        → place / block_size < blocks_in (Some (header_of t.names number (record { mode = mode; uid = uid; gid = gid; body = body })))
+        → place / block_size < blocks_in (Some (node_header t.names number (record { mode = mode; uid = uid; gid = gid; body = body })))
     of_body mode uid gid (FileBody cells) below = omega (arith, below)
     of_body mode uid gid DirectoryBody below = absurd (omega (arith, below))
 
-    at : (found : Option (Node ℕ)) → place < length (content_of found) → place / block_size < blocks_in (option_map (header_of t.names number) found)
+    at : (found : Option (Node ℕ)) → place < length (content_of found) → place / block_size < blocks_in (option_map (node_header t.names number) found)
     at None below = absurd (omega (arith, below))
     at (Some node) below = of_body node.mode node.uid node.gid node.body below
 

@@ -3,8 +3,8 @@ use Rattle.std.proofs.Common.{◌≡◌, ℕ, length, drop, subst, zero, suc, ma
 use Rattle.std.proofs.Math.ListN.{get_or}
 use Rattle.std.proofs.lemmas.Bool.Decides.{nat_tests}
 use Rattle.std.proofs.lemmas.List.{drop_more}
-use Rattle.kfs_model.specs.Plan.{said_by, covers, end_of, ComesBy, Ascend}
-use Rattle.kfs_model.specs.PlanCut.{said_at}
+use Rattle.kfs_model.specs.Plan.{mark_of_source, covers, end_of, ComesBy, PiecesAscend}
+use Rattle.kfs_model.specs.PlanCut.{mark_in_pieces}
 use Rattle.kfs_model.specs.PlanRow.{Piece}
 use Rattle.kfs_model.specs.Run.{byte_at, byte_of}
 use Rattle.kfs_model.specs.Entry.{Entry}
@@ -31,46 +31,46 @@ before_next k s l j t m r before behind = grind arith
 
 -- ---- what pieces say
 
-said_past : (p : Piece) (ps : List Piece) (m r : ℕ) → covers m r p ≡ false → said_at (p ∷ ps) m r ≡ said_at ps m r
-said_past p ps m r is = ap (λ b. cond b (Some (said_by p.source (r - p.start))) (said_at ps m r)) is
+said_past : (p : Piece) (ps : List Piece) (m r : ℕ) → covers m r p ≡ false → mark_in_pieces (p ∷ ps) m r ≡ mark_in_pieces ps m r
+said_past p ps m r is = ap (λ b. cond b (Some (mark_of_source p.source (r - p.start))) (mark_in_pieces ps m r)) is
 
 -- what is left of pieces says the same of each byte from that place on
-pub said_reaching : (n q m r : ℕ) (ps : List Piece) → ComesBy n q m r → said_at (reaching n q ps) m r ≡ said_at ps m r
+pub said_reaching : (n q m r : ℕ) (ps : List Piece) → ComesBy n q m r → mark_in_pieces (reaching n q ps) m r ≡ mark_in_pieces ps m r
 unfolding reaching
 said_reaching n q m r [] comes = refl
 said_reaching n q m r (p ∷ ps) comes = at (ends_by n q p) refl (said_reaching n q m r ps comes)
   where
-    at : (b : Bool) → ends_by n q p ≡ b → said_at (reaching n q ps) m r ≡ said_at ps m r → said_at (cond b (reaching n q ps) (p ∷ ps)) m r ≡ said_at (p ∷ ps) m r
+    at : (b : Bool) → ends_by n q p ≡ b → mark_in_pieces (reaching n q ps) m r ≡ mark_in_pieces ps m r → mark_in_pieces (cond b (reaching n q ps) (p ∷ ps)) m r ≡ mark_in_pieces (p ∷ ps) m r
     at true over later = later ∙ sym (said_past p ps m r (over_by p.number p.start (end_of p) n q m r over comes))
     at false over later = refl
 
-ascend_behind : (p : Piece) (ps : List Piece) → Ascend (p ∷ ps) → Ascend ps
+ascend_behind : (p : Piece) (ps : List Piece) → PiecesAscend (p ∷ ps) → PiecesAscend ps
 ascend_behind p [] ascending = tt
 ascend_behind p (o ∷ ps) ascending = ascending.1
 
-pub ascend_reaching : (n q : ℕ) (ps : List Piece) → Ascend ps → Ascend (reaching n q ps)
+pub ascend_reaching : (n q : ℕ) (ps : List Piece) → PiecesAscend ps → PiecesAscend (reaching n q ps)
 unfolding reaching
 ascend_reaching n q [] ascending = tt
 ascend_reaching n q (p ∷ ps) ascending = at (ends_by n q p) (ascend_reaching n q ps (ascend_behind p ps ascending))
   where
-    at : (b : Bool) → Ascend (reaching n q ps) → Ascend (cond b (reaching n q ps) (p ∷ ps))
+    at : (b : Bool) → PiecesAscend (reaching n q ps) → PiecesAscend (cond b (reaching n q ps) (p ∷ ps))
     at true later = later
     at false later = ascending
 
-none_yet : (m r : ℕ) (p : Piece) (ps : List Piece) → Ascend (p ∷ ps) → (m < p.number) ⊎ ((m ≡ p.number) × (r < p.start)) → said_at (p ∷ ps) m r ≡ None
+none_yet : (m r : ℕ) (p : Piece) (ps : List Piece) → PiecesAscend (p ∷ ps) → (m < p.number) ⊎ ((m ≡ p.number) × (r < p.start)) → mark_in_pieces (p ∷ ps) m r ≡ None
 none_yet m r p [] ascending before = said_past p [] m r (not_yet p.number p.start (end_of p) m r before)
 none_yet m r p (o ∷ ps) ascending before =
     said_past p (o ∷ ps) m r (not_yet p.number p.start (end_of p) m r before)
     ∙ none_yet m r o ps ascending.1 (before_next p.number p.start p.length o.number o.start m r before ascending.0)
 
 -- the front of pieces says the same of each byte before that place
-pub said_beginning : (n q m r : ℕ) (ps : List Piece) → Ascend ps → (m < n) ⊎ ((m ≡ n) × (r < q)) → said_at (beginning n q ps) m r ≡ said_at ps m r
+pub said_beginning : (n q m r : ℕ) (ps : List Piece) → PiecesAscend ps → (m < n) ⊎ ((m ≡ n) × (r < q)) → mark_in_pieces (beginning n q ps) m r ≡ mark_in_pieces ps m r
 unfolding beginning
 said_beginning n q m r [] ascending before = refl
 said_beginning n q m r (p ∷ ps) ascending before = at (begins_before n q p) refl (said_beginning n q m r ps (ascend_behind p ps ascending) before)
   where
-    at : (b : Bool) → begins_before n q p ≡ b → said_at (beginning n q ps) m r ≡ said_at ps m r → said_at (cond b (p ∷ beginning n q ps) []) m r ≡ said_at (p ∷ ps) m r
-    at true begins later = ap (λ said. cond (covers m r p) (Some (said_by p.source (r - p.start))) said) later
+    at : (b : Bool) → begins_before n q p ≡ b → mark_in_pieces (beginning n q ps) m r ≡ mark_in_pieces ps m r → mark_in_pieces (cond b (p ∷ beginning n q ps) []) m r ≡ mark_in_pieces (p ∷ ps) m r
+    at true begins later = ap (λ said. cond (covers m r p) (Some (mark_of_source p.source (r - p.start))) said) later
     at false begins later = sym (none_yet m r p ps ascending (not_before p.number p.start n q m r begins before))
 
 -- ---- blocks one after another
@@ -83,7 +83,7 @@ map_numbers f g first (suc count) same =
     λ i. here i ∷ later i
 
 -- the bytes of a block by what pieces say of each
-block_same : (before : Tree ℕ) (entries : List Entry) (pieces others : List Piece) (n b size : ℕ) → ((k : ℕ) → k < size → said_at pieces n (b * size + k) ≡ said_at others n (b * size + k))
+block_same : (before : Tree ℕ) (entries : List Entry) (pieces others : List Piece) (n b size : ℕ) → ((k : ℕ) → k < size → mark_in_pieces pieces n (b * size + k) ≡ mark_in_pieces others n (b * size + k))
     → map (λ k. byte_after before entries pieces n (b * size + k)) (below size) ≡ map (λ k. byte_after before entries others n (b * size + k)) (below size)
 block_same before entries pieces others n b size same =
     map_numbers (λ k. byte_after before entries pieces n (b * size + k)) (λ k. byte_after before entries others n (b * size + k)) 0 size
@@ -92,15 +92,15 @@ block_same before entries pieces others n b size same =
 -- what is left of pieces says of each byte from the first block on what all of them say
 abbrev pub ReachesFrom : List (ℕ × ℕ) → (pieces left : List Piece) → Type 0
 ReachesFrom [] pieces left = Unit {0}
-ReachesFrom (b ∷ blocks) pieces left = (m r : ℕ) → ComesBy b.0 (b.1 * block_size) m r → said_at left m r ≡ said_at pieces m r
+ReachesFrom (b ∷ blocks) pieces left = (m r : ℕ) → ComesBy b.0 (b.1 * block_size) m r → mark_in_pieces left m r ≡ mark_in_pieces pieces m r
 
 -- blocks that are left, and what is left of pieces for them
 pub record AreLeft (blocks : List (ℕ × ℕ)) (pieces left : List Piece) : Type 0 where
   pub blocks_ascend : BlocksAscend blocks
-  pub ascend : Ascend left
+  pub ascend : PiecesAscend left
   pub same : ReachesFrom blocks pieces left
 
-pub all_left : (blocks : List (ℕ × ℕ)) (pieces : List Piece) → BlocksAscend blocks → Ascend pieces → AreLeft blocks pieces pieces
+pub all_left : (blocks : List (ℕ × ℕ)) (pieces : List Piece) → BlocksAscend blocks → PiecesAscend pieces → AreLeft blocks pieces pieces
 all_left blocks pieces blocks_ascend ascend = record { blocks_ascend = blocks_ascend; ascend = ascend; same = all blocks }
   where
     all : (blocks : List (ℕ × ℕ)) → ReachesFrom blocks pieces pieces
@@ -114,7 +114,7 @@ module _ (n b : ℕ) (blocks : List (ℕ × ℕ)) (pieces left : List Piece) (so
   abbrev pub left_now : List Piece
   left_now = reaching n (b * block_size) left
 
-  said_now : (m r : ℕ) → ComesBy n (b * block_size) m r → said_at left_now m r ≡ said_at pieces m r
+  said_now : (m r : ℕ) → ComesBy n (b * block_size) m r → mark_in_pieces left_now m r ≡ mark_in_pieces pieces m r
   said_now m r comes = said_reaching n (b * block_size) m r left comes ∙ so_far.same m r comes
 
   pub left_next : AreLeft blocks pieces left_now
@@ -129,7 +129,7 @@ module _ (n b : ℕ) (blocks : List (ℕ × ℕ)) (pieces left : List Piece) (so
       }
 
   -- the block's own bytes
-  said_within : (k : ℕ) → k < block_size → said_at (beginning n (b * block_size + block_size) left_now) n (b * block_size + k) ≡ said_at pieces n (b * block_size + k)
+  said_within : (k : ℕ) → k < block_size → mark_in_pieces (beginning n (b * block_size + block_size) left_now) n (b * block_size + k) ≡ mark_in_pieces pieces n (b * block_size + k)
   said_within k below =
       said_beginning n (b * block_size + block_size) n (b * block_size + k) left_now (ascend_reaching n (b * block_size) left so_far.ascend) (inr (refl, (let e : b * 4096 + k < b * 4096 + 4096 = omega (arith, below) in e)))
       ∙ said_now n (b * block_size + k) (inr (refl, (let e : b * 4096 ≤ b * 4096 + k = omega arith in e)))

@@ -7,8 +7,8 @@ use Rattle.std.proofs.lemmas.Bool.Decides.{nat_tests}
 use Rattle.std.proofs.lemmas.List.{get_or-take, get_or-drop, get_or-append_right, length-take-le, append-nil}
 use borrow.Rule.Slice.PartMut.{put_mid}
 use Rattle.kfs_model.specs.Entry.{Entry}
-use Rattle.kfs_model.specs.Plan.{covers, end_of, said_by}
-use Rattle.kfs_model.specs.PlanCut.{said_at}
+use Rattle.kfs_model.specs.Plan.{covers, end_of, mark_of_source}
+use Rattle.kfs_model.specs.PlanCut.{mark_in_pieces}
 use Rattle.kfs_model.specs.PlanRow.{Piece}
 use Rattle.kfs_model.specs.Run.{Mark, byte_of}
 use Rattle.kfs_model.specs.Tree.{Tree}
@@ -26,13 +26,13 @@ module _ (before : Tree ℕ) (entries : List Entry) where
 
   -- the first piece goes over what the others made
   over_first : (p : Piece) (ps : List Piece) (n q old : ℕ) → byte_over before entries (p ∷ ps) n q old ≡ byte_over before entries (p ∷ []) n q (byte_over before entries ps n q old)
-  over_first p ps n q old = over_two (covers n q p) (said_by p.source (q - p.start)) (said_at ps n q) old
+  over_first p ps n q old = over_two (covers n q p) (mark_of_source p.source (q - p.start)) (mark_in_pieces ps n q) old
 
-  over_covered : (p : Piece) (n q old distance : ℕ) → covers n q p ≡ true → q - p.start ≡ distance → byte_over before entries (p ∷ []) n q old ≡ byte_of before entries (said_by p.source distance)
-  over_covered p n q old distance is far = λ i. byte_said old (cond (is i) (Some (said_by p.source (far i))) None)
+  over_covered : (p : Piece) (n q old distance : ℕ) → covers n q p ≡ true → q - p.start ≡ distance → byte_over before entries (p ∷ []) n q old ≡ byte_of before entries (mark_of_source p.source distance)
+  over_covered p n q old distance is far = λ i. byte_said old (cond (is i) (Some (mark_of_source p.source (far i))) None)
 
   over_other : (p : Piece) (n q old : ℕ) → covers n q p ≡ false → byte_over before entries (p ∷ []) n q old ≡ old
-  over_other p n q old is = λ i. byte_said old (cond (is i) (Some (said_by p.source (q - p.start))) None)
+  over_other p n q old is = λ i. byte_said old (cond (is i) (Some (mark_of_source p.source (q - p.start))) None)
 
 pub put_nothing : (entries : List Entry) (n start : ℕ) (bytes : List ℕ) → ArePut entries [] n start bytes bytes
 put_nothing entries n start bytes before k below = refl
@@ -99,7 +99,7 @@ apart m s e n q beside = grind (arith, nat_tests)
 pub put_part : (entries : List Entry) (p : Piece) (n start : ℕ) (old part : List ℕ) (first distance count width : ℕ)
     → p.number ≡ n → first ≡ p.start - start → distance ≡ start - p.start → first < length old → count ≡ min (p.length - distance) (length old - first)
     → width ≡ count → length part ≡ count
-    → ((before : Tree ℕ) (k : ℕ) → k < length part → slice_index part k ≡ byte_of before entries (said_by p.source (distance + k)))
+    → ((before : Tree ℕ) (k : ℕ) → k < length part → slice_index part k ≡ byte_of before entries (mark_of_source p.source (distance + k)))
     → ArePut entries (p ∷ []) n start old (put_mid first width old part)
 put_part entries p n start old part first distance count width number begins far room many wide full each before k below = ⊎_elim
     (λ (less : k < first).

@@ -2,7 +2,7 @@
 use Rattle.std.proofs.Common.{◌≡◌, ℕ, zero, suc, ◌+◌, ◌<◌, List, [], ◌∷◌, length, map, get_or, Option, Some, None, option_map, refl, ap, subst, ◌∙◌, arith}
 use Rattle.kfs_model.specs.Table.{get}
 use Rattle.kfs_model.proofs.TableLaws.{same_table, get-mapped}
-use Rattle.kfs_model.specs.Tree.{Tree, Node, Body, FileBody, DirectoryBody, body_over, content_of, header_of, headers, kind_of, node_over, size_of, tree_over}
+use Rattle.kfs_model.specs.Tree.{Tree, Node, Body, FileBody, DirectoryBody, body_over, content_of, node_header, headers, kind_of, node_over, size_of, tree_over}
 use Rattle.kfs_model.specs.Placement.{below, numbers_from}
 use Rattle.kfs_model.proofs.Heads.{get-headers}
 
@@ -39,7 +39,7 @@ module _ (content : (number size : ℕ) → List ℕ) (t : Tree ℕ) (each : (nu
       by (FileBody cells) same = ap FileBody same
       by DirectoryBody same = refl
 
-  node_again : (number : ℕ) (found : Option (Node ℕ)) → get t.nodes number ≡ found → option_map (node_over content number) (option_map (header_of t.names number) found) ≡ found
+  node_again : (number : ℕ) (found : Option (Node ℕ)) → get t.nodes number ≡ found → option_map (node_over content number) (option_map (node_header t.names number) found) ≡ found
   node_again number None is = refl
   node_again number (Some node) is = λ i. Some (record { mode = node.mode; uid = node.uid; gid = node.gid; body = body_again number node is i })
 

@@ -3,8 +3,8 @@
 use Rattle.std.specs.Prelude.{◌≡◌, ℕ, ◌+◌, ◌<◌, ◌==◌, ◌&&◌, ◌||◌, nat_lt, nat_le, Bool, List, [], ◌∷◌, length, map, Some, None, slice_index, EachIndex, if◌then◌else◌}
 use Rattle.std.specs.List.{AllByRecursion}
 use Rattle.kfs_model.specs.Entry.{Entry}
-use Rattle.kfs_model.specs.Plan.{said_by, end_of, ComesBy}
-use Rattle.kfs_model.specs.PlanCut.{said_at}
+use Rattle.kfs_model.specs.Plan.{mark_of_source, end_of, ComesBy}
+use Rattle.kfs_model.specs.PlanCut.{mark_in_pieces}
 use Rattle.kfs_model.specs.PlanRow.{Piece, Source}
 use Rattle.kfs_model.specs.Run.{byte_at, byte_of}
 use Rattle.kfs_model.specs.Table.{get}
@@ -30,11 +30,11 @@ AreBytesOf t number start bytes = EachIndex bytes (λ k. slice_index bytes k ≡
 -- bytes that a source gives from a distance to its piece's start on
 abbrev pub AreGivenBy : List Entry → Source → (distance : ℕ) → List ℕ → Type 0
 AreGivenBy entries source distance bytes =
-    (before : Tree ℕ) → EachIndex bytes (λ k. slice_index bytes k ≡ byte_of before entries (said_by source (distance + k)))
+    (before : Tree ℕ) → EachIndex bytes (λ k. slice_index bytes k ≡ byte_of before entries (mark_of_source source (distance + k)))
 
 -- a byte of a file with the pieces put over the one that stood there
 abbrev pub byte_over : Tree ℕ → List Entry → List Piece → (number position old : ℕ) → ℕ
-byte_over before entries pieces number position old = elim (said_at pieces number position) [ None ↦ old | Some mark ↦ byte_of before entries mark ]
+byte_over before entries pieces number position old = elim (mark_in_pieces pieces number position) [ None ↦ old | Some mark ↦ byte_of before entries mark ]
 
 -- bytes of a file from `start` on, with the pieces put over the old ones
 abbrev pub ArePut : List Entry → List Piece → (number start : ℕ) → (old new : List ℕ) → Type 0

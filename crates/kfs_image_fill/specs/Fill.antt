@@ -4,7 +4,7 @@ use Rattle.std.specs.List.{list_any}
 use Rattle.kfs_model.specs.Entry.{Entry}
 use Rattle.kfs_model.specs.Limits.{block_size}
 use Rattle.kfs_model.specs.PlanRow.{Piece}
-use Rattle.kfs_model.specs.PlanCut.{said_at}
+use Rattle.kfs_model.specs.PlanCut.{mark_in_pieces}
 use Rattle.kfs_model.specs.Placement.{below, in_first_tier, cleared_blocks}
 use Rattle.kfs_model.specs.Run.{Mark, byte_at, byte_of}
 use Rattle.kfs_model.specs.Table.{get}
@@ -17,7 +17,7 @@ use Rattle.kfs_image.specs.Net.{is_block}
 -- the byte of a file at a position after a log: what the log's pieces say of it, or else what stood there, 0 past its end
 abbrev pub byte_after : Tree ℕ → List Entry → List Piece → (number position : ℕ) → ℕ
 byte_after before entries pieces number position =
-    elim (said_at pieces number position) [ None ↦ byte_at (content_of (get before.nodes number)) position | Some mark ↦ byte_of before entries mark ]
+    elim (mark_in_pieces pieces number position) [ None ↦ byte_at (content_of (get before.nodes number)) position | Some mark ↦ byte_of before entries mark ]
 
 -- the bytes of one of its blocks
 abbrev pub block_after : Tree ℕ → List Entry → List Piece → (number block : ℕ) → List ℕ

@@ -3,9 +3,9 @@ ghost use Rattle.std.specs.Prelude.{◌≡◌, ◌++◌, IfOk, map};
 ghost use Rattle.std.specs.List.{AllByRecursion};
 ghost use Rattle.kfs_entry_value.specs.Views.{piece_of};
 ghost use Rattle.kfs_model.specs.Blocks.{touches};
-ghost use Rattle.kfs_model.specs.Plan.{Ascend};
+ghost use Rattle.kfs_model.specs.Plan.{PiecesAscend};
 ghost use Rattle.kfs_plan_sweep.specs.BlockLists.{cleared_runs, listed};
-ghost use Rattle.kfs_plan_sweep.specs.Lefts.{IsFilled, IsWhole};
+ghost use Rattle.kfs_plan_sweep.specs.Lefts.{IsFilled, PieceIsInRange};
 ghost use Rattle.kfs_plan_sweep.specs.Parts.{AreByNumber, front_len};
 ghost use Rattle.kfs_image_nodes.specs.Change.{reheaded};
 ghost use Rattle.kfs_image_fill.specs.Bytes.{pieces_of, BlocksAscend, HasPayloads};
@@ -55,7 +55,7 @@ fn add_written<A: Allocator + Copy>(
     pieces: &[Piece],
     size: u64,
 ) -> Result<(), AllocError>
-    requires whole { AllByRecursion IsWhole pieces.now }
+    requires whole { AllByRecursion PieceIsInRange pieces.now }
     requires filled { AllByRecursion IsFilled pieces.now }
     ensures { IfOk result (λ _. out.new.items ≡ out.old.items ++ map (λ block. (number, block)) (listed 0 (touches size 0 (map piece_of pieces.now)))) }
 {
@@ -74,7 +74,7 @@ fn add_cleared<A: Allocator + Copy>(
     pieces: &[Piece],
     size: u64,
 ) -> Result<(), AllocError>
-    requires { AllByRecursion IsWhole pieces.now }
+    requires { AllByRecursion PieceIsInRange pieces.now }
     ensures { IfOk result (λ _. out.new.items ≡ out.old.items ++ map (run_of number) (cleared_runs size (map piece_of pieces.now))) }
 {
     let ranges = cleared_in(alloc, pieces, size)?;
@@ -96,7 +96,7 @@ fn file_blocks<A: Allocator + Copy>(
     nodes: &[NodeRow],
 ) -> Result<FileBlocks<A>, AllocError>
     requires order { AreByNumber 0 pieces.now }
-    requires whole { AllByRecursion IsWhole pieces.now }
+    requires whole { AllByRecursion PieceIsInRange pieces.now }
     requires filled { AllByRecursion IsFilled pieces.now }
     ensures order { IfOk result (λ blocks. BlocksAscend blocks.written.items) }
     ensures written { IfOk result (λ blocks. AreWritten (reheaded image.now.heads nodes.now) (map piece_of pieces.now) blocks.written.items) }
@@ -126,8 +126,8 @@ pub fn fill_of<A: Allocator + Copy>(
     nodes: &[NodeRow],
 ) -> Result<Fill<A>, AllocError>
     requires payloads { HasPayloads log.now }
-    requires pieces { Ascend (pieces_of log.now) }
-    requires whole { AllByRecursion IsWhole log.now.pieces.now }
+    requires pieces { PiecesAscend (pieces_of log.now) }
+    requires whole { AllByRecursion PieceIsInRange log.now.pieces.now }
     requires filled { AllByRecursion IsFilled log.now.pieces.now }
     ensures { IfOk result (λ fill. IsFillOf image.now log.now nodes.now fill) }
 {

@@ -1,8 +1,8 @@
 //! The change of a landing, with its bytes.
 ghost use Rattle.std.specs.Prelude.{◌≡◌, OnErr, OnOk};
 ghost use Rattle.std.specs.List.{AllByRecursion};
-ghost use Rattle.kfs_model.specs.Plan.{Ascend};
-ghost use Rattle.kfs_plan_sweep.specs.Lefts.{IsFilled, IsWhole};
+ghost use Rattle.kfs_model.specs.Plan.{PiecesAscend};
+ghost use Rattle.kfs_plan_sweep.specs.Lefts.{IsFilled, PieceIsInRange};
 ghost use Rattle.kfs_image_fill.specs.Bytes.{pieces_of, HasPayloads};
 ghost use Rattle.kfs_image_fill.specs.FillOf.{CanLandWith, HasLandedWith};
 
@@ -19,8 +19,8 @@ pub fn land_bytes<A: Allocator + Copy>(
     net: &Net<A>,
 ) -> Result<(), AllocError>
     requires payloads { HasPayloads log.now }
-    requires pieces { Ascend (pieces_of log.now) }
-    requires whole { AllByRecursion IsWhole log.now.pieces.now }
+    requires pieces { PiecesAscend (pieces_of log.now) }
+    requires whole { AllByRecursion PieceIsInRange log.now.pieces.now }
     requires filled { AllByRecursion IsFilled log.now.pieces.now }
     requires fits { CanLandWith image.old log.now net.now }
     ensures ok { OnOk result (HasLandedWith image.old log.now net.now image.new) }

@@ -1,6 +1,6 @@
 //! The blocks that a landing writes.
 ghost use Rattle.std.specs.Prelude.{◌≡◌, IfOk, length};
-ghost use Rattle.kfs_model.specs.Plan.{Ascend};
+ghost use Rattle.kfs_model.specs.Plan.{PiecesAscend};
 ghost use Rattle.kfs_model_device.specs.ShownTree.{shown_tree};
 ghost use Rattle.kfs_image_fill.specs.Bytes.{entries_of, pieces_of, HasPayloads, BlocksAscend};
 ghost use Rattle.kfs_image_fill.specs.Fill.{AreRowsOf};
@@ -22,7 +22,7 @@ pub fn block_rows<A: Allocator + Copy>(
     places: &[u32],
 ) -> Result<Vec<BlockRow<A>, A>, AllocError>
     requires payloads { HasPayloads log.now }
-    requires pieces { Ascend (pieces_of log.now) }
+    requires pieces { PiecesAscend (pieces_of log.now) }
     requires blocks { BlocksAscend blocks.now }
     requires count { length blocks.now ≡ length places.now }
     ensures { IfOk result (λ rows. AreRowsOf (shown_tree image.now) (entries_of log.now) (pieces_of log.now) blocks.now places.now rows.items) }

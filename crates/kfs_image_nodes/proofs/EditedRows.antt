@@ -7,18 +7,18 @@ use Rattle.kfs_image_nodes.specs.declared.name_edits.NameEdits.{NameEdits}
 use Rattle.kfs_image_nodes.specs.declared.rows.Rows.{Rows}
 use Rattle.kfs_image_nodes.specs.Indexes.{by_node, AreNames, IsCounted}
 use Rattle.kfs_image_nodes.specs.NameEdits.{names_edited, counts_edited, ways_edited}
-use Rattle.kfs_image_nodes.specs.Rows.{names_in, IsIndexed}
+use Rattle.kfs_image_nodes.specs.Rows.{names_in, CountsAreExact}
 use Rattle.kfs_map_chunks.specs.Edits.{rewritten}
 use Rattle.kfs_map_pages.specs.Edits as numbered
 
 module _ {A : Type 0} where
-  pub edited_indexed : (old new : Rows A) (edits : NameEdits A) → IsIndexed old
+  pub edited_indexed : (old new : Rows A) (edits : NameEdits A) → CountsAreExact old
       → (AreNames (names_in old) → AreNames (names_edited old.names edits))
       → IsCounted (names_edited old.names edits) (counts_edited old.counts edits) (ways_edited old.uplinks edits)
       → new.names ≡ rewritten name_order old.names edits.names.items
       → new.counts ≡ numbered.rewritten old.counts edits.counts.items
       → new.uplinks ≡ rewritten by_node old.uplinks edits.uplinks.items
-      → IsIndexed new
+      → CountsAreExact new
   edited_indexed old new edits indexed named counted names counts uplinks =
       let names_are = ap (table name_order) names in
       let ways_are = ap (table by_node) uplinks in

@@ -5,7 +5,7 @@ use Rattle.kfs_entry_value.specs.declared.header.Header.{Header as CodeHeader}
 use Rattle.kfs_entry_value.specs.Views.{header_of}
 use Rattle.kfs_map_pages.specs.Edits.{page_of}
 use Rattle.kfs_map_pages.specs.Shown.{part}
-use Rattle.kfs_map_pages.specs.Values.{IsNext}
+use Rattle.kfs_map_pages.specs.Values.{IsNextNumber}
 use Rattle.kfs_model.specs.Table.{Table, numbers, empty, get}
 use Rattle.kfs_model.proofs.TableLaws.{same_table, get-mapped, get-retain}
 use Rattle.kfs_image_nodes.specs.Look.{IsNextNode}
@@ -35,7 +35,7 @@ unfolding get
 no_heads_in_page index headers none = same_table _ _ (λ n. get-heads_in_page index headers n ∙ ap (λ t. option_map header_of (get t n)) none)
 
 -- the next number that has a header is the next that a node has
-pub next_header : (headers : Table numbers CodeHeader) (after number : ℕ) {header : CodeHeader} → IsNext headers after number header → IsNextNode (heads_of headers) after number
+pub next_header : (headers : Table numbers CodeHeader) (after number : ℕ) {header : CodeHeader} → IsNextNumber headers after number header → IsNextNode (heads_of headers) after number
 next_header headers after number {header} next = record {
   node = subst IsSome (sym (get-mapped (λ number header. header_of header) headers number ∙ ap (option_map header_of) next.here)) refl;
   later = next.above;

@@ -14,7 +14,7 @@ use Rattle.std.proofs.lemmas.Bool.Decides.{nat_tests}
 use Rattle.kfs_model.specs.Table.{Table, numbers, get}
 use Rattle.kfs_model.specs.Tree.{NameTable, name_order}
 use Rattle.kfs_model.specs.Sight.{holder}
-use Rattle.kfs_map_chunks.specs.Starts.{is_from, IsNext}
+use Rattle.kfs_map_chunks.specs.Starts.{is_from, IsNextEntry}
 use Rattle.kfs_map_chunks.specs.Tables.{table}
 use Rattle.kfs_map_chunks.proofs.Tables.{get-table}
 use Rattle.kfs_image_nodes.specs.Indexes.{by_node, ways_count, IsCounted}
@@ -150,7 +150,7 @@ module _ {names : NameTable} {counts : Table numbers ℕ} (uplinks : List ((ℕ 
   pub nowhere : ((q : ℕ × ℕ) → is_from by_node.compare (Included (n, 0)) q ≡ true → find_key by_node.compare q uplinks ≡ None) → holder names n ≡ None
   nowhere none = nothing_holds names n (λ c. no_ways c (none (n, c) (from_first n c)))
 
-  module _ (key : ℕ × ℕ) (count : ℕ) (next : IsNext by_node.compare (Included (n, 0)) uplinks key count) where
+  module _ (key : ℕ × ℕ) (count : ℕ) (next : IsNextEntry by_node.compare (Included (n, 0)) uplinks key count) where
     none_before : (c : ℕ) → is_lt (by_node.compare (n, c) key) ≡ true → ways_count names n c ≡ 0
     none_before c before = no_ways c (none_found _ (λ some. let differ : true ≡ false = sym before ∙ next.least (n, c) (from_first n c) some in cc))
 

@@ -30,6 +30,6 @@ module _ {A : Type 0} where
   ways_in rows = table by_node rows.uplinks
 
   -- each name is one, and the counts are those of the names
-  pub record IsIndexed (rows : Rows A) : Type 0 where
+  pub record CountsAreExact (rows : Rows A) : Type 0 where
     pub names : AreNames (names_in rows)
     pub counted : IsCounted (names_in rows) rows.counts (ways_in rows)

@@ -25,13 +25,13 @@ pub struct Shape<A: Allocator> {
 
 impl<A: Allocator> Model for Shape<A> {
     ghost use Rattle.kfs_image_nodes.specs.Contents.{Contents};
-    ghost use Rattle.kfs_image_nodes.specs.Rows.{heads_in, names_in, IsIndexed};
+    ghost use Rattle.kfs_image_nodes.specs.Rows.{heads_in, names_in, CountsAreExact};
 
     ghost Value = { Contents };
 
     ghost view = { λ s. record { heads = heads_in s.rows; names = names_in s.rows } };
 
-    ghost invariant = { λ s. IsIndexed s.rows };
+    ghost invariant = { λ s. CountsAreExact s.rows };
 }
 
 impl<A: Allocator + Clone> Clone for Shape<A> {

@@ -3,7 +3,7 @@ ghost use Rattle.std.specs.Prelude.{◌≡◌, ℕ, ◌+◌, ◌<◌, [], OnOk, 
 ghost use Rattle.kfs_model.specs.Table.{get, changed};
 ghost use Rattle.kfs_model.specs.Tree.{name_order};
 ghost use Rattle.kfs_map_pages.specs.Edits.{AreEdits};
-ghost use Rattle.kfs_map_chunks.specs.Edits.{Ascend};
+ghost use Rattle.kfs_map_chunks.specs.Edits.{KeysAscend};
 ghost use Rattle.kfs_map_chunks.specs.Tables.{table};
 ghost use Rattle.kfs_image_nodes.specs.Change.{led_to, renamed};
 ghost use Rattle.kfs_image_nodes.specs.Indexes.{AreNames, CountsFewer, CountsMore, IsCounted, by_node, count_at, count_step, uplink_step, ArePositive};
@@ -37,9 +37,9 @@ pub(crate) fn name_edits<A: Allocator + Clone>(
     rows: &[NameRow],
 ) -> Result<NameEdits<A>, AllocError>
     requires { IsCounted (table name_order names.now) counts.now (table by_node uplinks.now) }
-    ensures names { IfOk result (λ edits. Ascend name_order.compare edits.names.items) }
+    ensures names { IfOk result (λ edits. KeysAscend name_order.compare edits.names.items) }
     ensures counts { IfOk result (λ edits. AreEdits edits.counts.items) }
-    ensures uplinks { IfOk result (λ edits. Ascend by_node.compare edits.uplinks.items) }
+    ensures uplinks { IfOk result (λ edits. KeysAscend by_node.compare edits.uplinks.items) }
     ensures renamed { IfOk result (λ edits. names_edited names.now edits ≡ renamed (table name_order names.now) rows.now) }
     ensures named { IfOk result (λ edits. AreNames (table name_order names.now) → AreNames (names_edited names.now edits)) }
     ensures counted { IfOk result (IsCountedAfter names.now counts.now uplinks.now) }
@@ -166,9 +166,9 @@ impl<A: Allocator + Clone> Overlays<A> {
 
     /// The edits that say the same.
     fn edits(&self, alloc: &A) -> Result<NameEdits<A>, AllocError>
-        ensures names_ascend { IfOk result (λ edits. Ascend name_order.compare edits.names.items) }
+        ensures names_ascend { IfOk result (λ edits. KeysAscend name_order.compare edits.names.items) }
         ensures counts_ascend { IfOk result (λ edits. AreEdits edits.counts.items) }
-        ensures uplinks_ascend { IfOk result (λ edits. Ascend by_node.compare edits.uplinks.items) }
+        ensures uplinks_ascend { IfOk result (λ edits. KeysAscend by_node.compare edits.uplinks.items) }
         ensures names { IfOk result (λ edits. Say name_order.compare edits.names.items self.now.names.latest) }
         ensures counts { IfOk result (λ edits. SayOfNumbers edits.counts.items self.now.counts.latest) }
         ensures uplinks { IfOk result (λ edits. Say by_node.compare edits.uplinks.items self.now.uplinks.latest) }

@@ -12,7 +12,7 @@ ghost use Rattle.kfs_image_nodes.specs.Change.{led_to, renamed, reheaded};
 ghost use Rattle.kfs_image_nodes.specs.Indexes.{by_node};
 ghost use Rattle.kfs_image_nodes.specs.Look.{IsAfter, IsNext, IsNextNode};
 ghost use Rattle.kfs_image_nodes.specs.NodeEdits.{IsNumber};
-ghost use Rattle.kfs_image_nodes.specs.Rows.{heads_in, names_in, IsIndexed, FitPages};
+ghost use Rattle.kfs_image_nodes.specs.Rows.{heads_in, names_in, CountsAreExact, FitPages};
 
 use crate::borrowed::Borrowed;
 use crate::edits::header_edits;
@@ -78,7 +78,7 @@ impl<A: Allocator> Rows<A> {
     }
 
     pub(crate) fn count(&self, dir: u32) -> u64
-        requires { IsIndexed self.now }
+        requires { CountsAreExact self.now }
         ensures { result ≡ entry_count (names_in self.now) dir }
     {
         self.counts.get(dir).copied().unwrap_or(0)
@@ -86,7 +86,7 @@ impl<A: Allocator> Rows<A> {
 
     /// The least directory with a name that leads to the node.
     pub(crate) fn holder(&self, number: u32) -> Option<u32>
-        requires { IsIndexed self.now }
+        requires { CountsAreExact self.now }
         ensures { result ≡ holder (names_in self.now) number }
     {
         let (key, _) = self.uplinks.next(Bound::Included(&(number, 0)))?;
@@ -104,7 +104,7 @@ impl<A: Allocator> Rows<A> {
 
     /// The least name of the directory above `after`, or of all its names, and where it leads.
     pub(crate) fn next_name(&self, dir: u32, after: Option<&Name>) -> Option<(&Name, u32)>
-        requires { IsIndexed self.now }
+        requires { CountsAreExact self.now }
         ensures found { IfSome result (λ p. IsNext (names_in self.now) dir after.entry p.0.now p.1) }
         ensures none { IfNone result ((m : List ℕ) (n : ℕ) → target (names_in self.now) dir m ≡ Some n → IsAfter after.entry m → ⊥) }
     {
@@ -163,7 +163,7 @@ impl<A: Allocator + Clone> Rows<A> {
         requires { IsNumber number }
         ensures heads { IfOk result (λ rows. heads_in rows ≡ changed empty number (Some (header_of header))) }
         ensures names { IfOk result (λ rows. names_in rows ≡ empty) }
-        ensures indexed { IfOk result IsIndexed }
+        ensures indexed { IfOk result CountsAreExact }
     {
         let mut headers = Pages::new(alloc.clone()?)?;
         let edit = Edit {
@@ -188,9 +188,9 @@ impl<A: Allocator + Clone> Rows<A> {
         then: &mut T,
     ) -> Result<(), AllocError>
         requires headers { AreEdits headers.now }
-        requires names { keyed.Ascend name_order.compare edits.now.names.items }
+        requires names { keyed.KeysAscend name_order.compare edits.now.names.items }
         requires counts { AreEdits edits.now.counts.items }
-        requires uplinks { keyed.Ascend by_node.compare edits.now.uplinks.items }
+        requires uplinks { keyed.KeysAscend by_node.compare edits.now.uplinks.items }
         requires then { T.can_make then.old }
         ensures headers { OnOk result (self.new.headers ≡ rewritten self.old.headers headers.now) }
         ensures names { OnOk result (self.new.names ≡ keyed.rewritten name_order self.old.names edits.now.names.items) }
@@ -225,11 +225,11 @@ impl<A: Allocator + Clone> Rows<A> {
         nodes: &[NodeRow],
         then: &mut T,
     ) -> Result<(), AllocError>
-        requires indexed { IsIndexed self.old }
+        requires indexed { CountsAreExact self.old }
         requires before { FitPages (heads_in self.old) (names_in self.old) }
         requires after { FitPages (reheaded (heads_in self.old) nodes.now) (renamed (names_in self.old) names.now) }
         requires then { T.can_make then.old }
-        ensures indexed { IsIndexed self.new }
+        ensures indexed { CountsAreExact self.new }
         ensures headers { OnOk result (heads_in self.new ≡ reheaded (heads_in self.old) nodes.now) }
         ensures names { OnOk result (names_in self.new ≡ renamed (names_in self.old) names.now) }
         ensures err { OnErr result (self.new ≡ self.old) }

@@ -7,8 +7,8 @@ use Rattle.kfs_model.specs.Table.{empty}
 use Rattle.kfs_model.specs.Placement.{Place, TierSizes, tier_size}
 use Rattle.kfs_image_tier.specs.Places.{is_free_in}
 use Rattle.kfs_image_tier.specs.Tier.{TierShown}
-use Rattle.kfs_image_tier.specs.Tiers.{TiersShown, new_tiers, places_in, is_free_at, IsInTier, is_place, is_among, AreDistinct, with_place, with_places, CanMove, AreSized}
-use Rattle.kfs_image_tier.specs.TierViews.{free_of, with_slots, devices_from, devices_of, CanTurn}
+use Rattle.kfs_image_tier.specs.Tiers.{TiersShown, new_tiers, places_in, is_free_at, IsInTier, is_place, is_among, PlacesAreDistinct, with_place, with_places, CanMove, TiersAreSized}
+use Rattle.kfs_image_tier.specs.TierViews.{free_of, with_slots, devices_from, devices_of, CanTurnPlaces}
 
 in_free : (free : List (List Bool)) (t p : ℕ) → p < length (places_in free t) → t < length free
 in_free free t p inside = elim (cases_lt t (length free)) [
@@ -62,9 +62,9 @@ module _ (q : Place) where
   is_among-rest place places = refl
 
   -- which places are free once these have turned
-  pub is_free_at-with_places : (value : Bool) (places : List Place) (free : List (List Bool)) → CanTurn value places free
+  pub is_free_at-with_places : (value : Bool) (places : List Place) (free : List (List Bool)) → CanTurnPlaces value places free
       → is_free_at (with_places value places free) q ≡ cond (is_among places q) value (is_free_at free q)
-  unfolding with_places CanTurn
+  unfolding with_places CanTurnPlaces
   is_free_at-with_places value [] free can = refl
   is_free_at-with_places value (place ∷ places) free can =
       is_free_at-with_places value places (with_place value place free) can.2
@@ -100,8 +100,8 @@ is_place-turned p q is = ap (λ b. b && (q.place == p.place)) (eqb_turned q.tier
     ]
 
 -- distinct places that are all used, or all free, can turn one after another
-pub can_turn : (value : Bool) (places : List Place) (free : List (List Bool)) → All (λ p. IsInTier free p × (is_free_at free p ≡ not value)) places → AreDistinct places → CanTurn value places free
-unfolding CanTurn
+pub can_turn : (value : Bool) (places : List Place) (free : List (List Bool)) → All (λ p. IsInTier free p × (is_free_at free p ≡ not value)) places → PlacesAreDistinct places → CanTurnPlaces value places free
+unfolding CanTurnPlaces
 can_turn value [] free each once = tt
 can_turn value (place ∷ places) free each once =
     let (inside, other) = All-head (λ (p : Place). IsInTier free p × (is_free_at free p ≡ not value)) place places each in
@@ -129,8 +129,8 @@ unfolding with_places
 length-free value [] free = refl
 length-free value (place ∷ places) free = length-free value places (with_place value place free) ∙ length-set free place.tier (set (places_in free place.tier) place.place value)
 
-pub AreSized-with_places : (sizes : TierSizes) (value : Bool) (places : List Place) (free : List (List Bool)) → AreSized sizes free → AreSized sizes (with_places value places free)
-AreSized-with_places sizes value places free sized = record {
+pub TiersAreSized-with_places : (sizes : TierSizes) (value : Bool) (places : List Place) (free : List (List Bool)) → TiersAreSized sizes free → TiersAreSized sizes (with_places value places free)
+TiersAreSized-with_places sizes value places free sized = record {
   tiers = length-free value places free ∙ sized.tiers;
   places = λ t. length-with_places value places free t ∙ sized.places t;
 }
@@ -148,8 +148,8 @@ past_last sizes tier past =
     ∙ ap (λ b. cond b sizes.second (cond (tier == 2) sizes.third 0)) (ne_eqb tier 1 (λ e. omega arith))
     ∙ ap (λ b. cond b sizes.third 0) (ne_eqb tier 2 (λ e. omega arith))
 
-pub AreSized-three : (sizes : TierSizes) (a b c : List Bool) → length a ≡ sizes.first → length b ≡ sizes.second → length c ≡ sizes.third → AreSized sizes (a ∷ b ∷ c ∷ [])
-AreSized-three sizes a b c first second third = record {
+pub TiersAreSized-three : (sizes : TierSizes) (a b c : List Bool) → length a ≡ sizes.first → length b ≡ sizes.second → length c ≡ sizes.third → TiersAreSized sizes (a ∷ b ∷ c ∷ [])
+TiersAreSized-three sizes a b c first second third = record {
   tiers = refl;
   places = λ tier.
       elim (cases_eq tier 0) [

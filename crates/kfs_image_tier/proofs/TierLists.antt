@@ -13,11 +13,11 @@ use Rattle.kfs_model.specs.Placement.{Place}
 use Rattle.kfs_model.proofs.TableLaws.{get-insert, get-remove, same_table}
 use Rattle.kfs_model_device.specs.Device.{Devices}
 use Rattle.kfs_image_tier.specs.declared.change.NewBlock.{NewBlock}
-use Rattle.kfs_image_tier.specs.Blocks.{BlockTable, block_at, HasRoom, KeepsBlocks, with_room}
+use Rattle.kfs_image_tier.specs.Blocks.{BlockTable, block_at, HasRoomForBlock, KeepsBlocks, with_room}
 use Rattle.kfs_image_tier.specs.Places.{is_free_in}
 use Rattle.kfs_image_tier.specs.Tier.{TierShown}
 use Rattle.kfs_image_tier.specs.Tiers.{places_in, is_free_at, IsInTier, with_place, with_places, with_blocks}
-use Rattle.kfs_image_tier.specs.TierViews.{free_of, no_tier, tier_of, with_slot, with_slots, devices_from, devices_of, HasRoomAt, CanTurn}
+use Rattle.kfs_image_tier.specs.TierViews.{free_of, no_tier, tier_of, with_slot, with_slots, devices_from, devices_of, HasRoomAt, CanTurnPlaces}
 use Rattle.kfs_image_tier.proofs.BlockTables.{eq_by_cmp-same, eq_by_cmp-other}
 
 -- ---- the devices
@@ -169,14 +169,14 @@ module _ (tiers : List TierShown) (place : Place) (t p : ℕ) (seen : TierShown)
     pub devices_of-turned : devices_of (set tiers t new) ≡ devices_of tiers
     devices_of-turned = devices_of-kept tiers t new (in_list tiers t p inside_here) (λ q. ap (λ s. block_at s.blocks q) is ∙ ap (λ s. block_at s.blocks q) as_read)
 
-pub room_insert : (blocks : BlockTable) (place : ℕ) (slot : Option (List ℕ)) (q : ℕ) → HasRoom blocks q → HasRoom (insert blocks place slot) q
+pub room_insert : (blocks : BlockTable) (place : ℕ) (slot : Option (List ℕ)) (q : ℕ) → HasRoomForBlock blocks q → HasRoomForBlock (insert blocks place slot) q
 room_insert blocks place slot q room = subst IsSome (sym (get-insert blocks place slot q)) (at (eq_by_cmp nat_cmp q place))
   where
     at : (b : Bool) → IsSome (cond b (Some slot) (get blocks q))
     at true = refl
     at false = room
 
-pub room_here : (blocks : BlockTable) (place : ℕ) (slot : Option (List ℕ)) → HasRoom (insert blocks place slot) place
+pub room_here : (blocks : BlockTable) (place : ℕ) (slot : Option (List ℕ)) → HasRoomForBlock (insert blocks place slot) place
 room_here blocks place slot =
     subst IsSome (sym (get-insert blocks place slot place ∙ ap (λ b. cond b (Some slot) (get blocks place)) (eq_by_cmp-same place place refl))) (let e : IsSome (Some slot) = refl in e)
 
@@ -186,9 +186,9 @@ module _ {E : Type 0} (new seen : TierShown) (place : ℕ) where
   places_after (Err error) made kept = ap (λ s. s.places) kept
 
   pub rooms_after : (result : Result (Unit {0}) E) → OnOk result (new ≡ record seen { blocks = with_room seen.blocks place }) → OnErr result (new ≡ seen)
-      → (q : ℕ) → HasRoom seen.blocks q → HasRoom new.blocks q
-  rooms_after (Ok done) made kept q room = subst (λ (s : TierShown). HasRoom s.blocks q) (sym made) (room_insert seen.blocks place (block_at seen.blocks place) q room)
-  rooms_after (Err error) made kept q room = subst (λ (s : TierShown). HasRoom s.blocks q) (sym kept) room
+      → (q : ℕ) → HasRoomForBlock seen.blocks q → HasRoomForBlock new.blocks q
+  rooms_after (Ok done) made kept q room = subst (λ (s : TierShown). HasRoomForBlock s.blocks q) (sym made) (room_insert seen.blocks place (block_at seen.blocks place) q room)
+  rooms_after (Err error) made kept q room = subst (λ (s : TierShown). HasRoomForBlock s.blocks q) (sym kept) room
 
 -- a tier whose places stay as they are, where the code reads it with some default
 module _ (tiers : List TierShown) (place : Place) (t p : ℕ) (seen new : TierShown) (view : ◌≡◌ {A = Place} (record { tier = t; place = p }) place) (inside : IsInTier (free_of tiers) place) where
@@ -209,20 +209,20 @@ module _ (tiers : List TierShown) (place : Place) (t p : ℕ) (seen new : TierSh
   devices_of-put bytes written =
       devices_of-written tiers t new in_list_here p bytes (written ∙ ap (λ s. insert s.blocks p (Some bytes)) read_is) ∙ ap (λ q. insert (devices_of tiers) (q.tier, q.place) bytes) view
 
-  pub room_read : HasRoomAt tiers place → HasRoom (get_or tiers t seen).blocks p
-  room_read room = subst (λ (s : TierShown). HasRoom s.blocks p) (sym read_is) (subst (HasRoomAt tiers) (sym view) room)
+  pub room_read : HasRoomAt tiers place → HasRoomForBlock (get_or tiers t seen).blocks p
+  room_read room = subst (λ (s : TierShown). HasRoomForBlock s.blocks p) (sym read_is) (subst (HasRoomAt tiers) (sym view) room)
 
-  pub rooms_kept : ((q : ℕ) → HasRoom (get_or tiers t seen).blocks q → HasRoom new.blocks q) → (other : Place) → HasRoomAt tiers other → HasRoomAt (set tiers t new) other
+  pub rooms_kept : ((q : ℕ) → HasRoomForBlock (get_or tiers t seen).blocks q → HasRoomForBlock new.blocks q) → (other : Place) → HasRoomAt tiers other → HasRoomAt (set tiers t new) other
   rooms_kept more other room = elim (cases_eq other.tier t) [
     | inl same ↦
-        subst (λ n. HasRoom (tier_of (set tiers t new) n).blocks other.place) (sym same)
-        (subst (λ (s : TierShown). HasRoom s.blocks other.place) (sym (tier_of-set tiers t new in_list_here))
-        (more other.place (subst (λ (s : TierShown). HasRoom s.blocks other.place) (sym read_is) (subst (λ n. HasRoom (tier_of tiers n).blocks other.place) same room))))
-    | inr differs ↦ subst (λ (s : TierShown). HasRoom s.blocks other.place) (sym (tier_of-other tiers t other.tier new differs)) room
+        subst (λ n. HasRoomForBlock (tier_of (set tiers t new) n).blocks other.place) (sym same)
+        (subst (λ (s : TierShown). HasRoomForBlock s.blocks other.place) (sym (tier_of-set tiers t new in_list_here))
+        (more other.place (subst (λ (s : TierShown). HasRoomForBlock s.blocks other.place) (sym read_is) (subst (λ n. HasRoomForBlock (tier_of tiers n).blocks other.place) same room))))
+    | inr differs ↦ subst (λ (s : TierShown). HasRoomForBlock s.blocks other.place) (sym (tier_of-other tiers t other.tier new differs)) room
   ]
 
-  pub room_made : HasRoom new.blocks p → HasRoomAt (set tiers t new) place
-  room_made room = subst (HasRoomAt (set tiers t new)) view (subst (λ (s : TierShown). HasRoom s.blocks p) (sym (tier_of-set tiers t new in_list_here)) room)
+  pub room_made : HasRoomForBlock new.blocks p → HasRoomAt (set tiers t new) place
+  room_made room = subst (HasRoomAt (set tiers t new)) view (subst (λ (s : TierShown). HasRoomForBlock s.blocks p) (sym (tier_of-set tiers t new in_list_here)) room)
 
 -- ---- what is left of a list, and the conditions of its places
 
@@ -230,9 +230,9 @@ pub rest_at : {X : Type 0} (xs : List X) (i : ℕ) (x : X) → i < length xs →
 rest_at xs i x below is = at_drop_more (λ rest. rest) xs i x below ∙ ap (λ y. y ∷ drop (i + 1) xs) (sym is)
 
 module _ (value : Bool) (places : List Place) (i : ℕ) (place : Place) (free : List (List Bool)) (below : i < length places) (is : place ≡ get_or places i place) where
-  pub can_turn-here : CanTurn value (drop i places) free → IsInTier free place × (is_free_at free place ≡ not value) × CanTurn value (drop (i + 1) places) (with_place value place free)
-  unfolding CanTurn
-  can_turn-here can = subst (λ rest. CanTurn value rest free) (rest_at places i place below is) can
+  pub can_turn-here : CanTurnPlaces value (drop i places) free → IsInTier free place × (is_free_at free place ≡ not value) × CanTurnPlaces value (drop (i + 1) places) (with_place value place free)
+  unfolding CanTurnPlaces
+  can_turn-here can = subst (λ rest. CanTurnPlaces value rest free) (rest_at places i place below is) can
 
   pub with_places-here : with_places value (drop i places) free ≡ with_places value (drop (i + 1) places) (with_place value place free)
   unfolding with_places

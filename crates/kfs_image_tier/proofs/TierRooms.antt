@@ -5,7 +5,7 @@ use Rattle.std.specs.Ordering.{nat_cmp, eq_by_cmp}
 use Rattle.std.proofs.lemmas.Bool.{cases_eq}
 use Rattle.kfs_model.specs.Table.{empty, get, insert, remove}
 use Rattle.kfs_model.proofs.TableLaws.{get-insert, get-remove}
-use Rattle.kfs_image_tier.specs.Blocks.{BlockTable, block_at, HasRoom, with_room, without_room}
+use Rattle.kfs_image_tier.specs.Blocks.{BlockTable, block_at, HasRoomForBlock, with_room, without_room}
 use Rattle.kfs_image_tier.specs.Tier.{AreInTier}
 use Rattle.kfs_image_tier.proofs.BlockTables.{eq_by_cmp-other}
 
@@ -19,7 +19,7 @@ module _ (places : List Bool) where
     as_left : (left : BlockTable) → new ≡ left → AreInTier (record { places = places; blocks = left }) → AreInTier (record { places = places; blocks = new })
     as_left left same = subst (λ t. AreInTier (record { places = places; blocks = t })) (sym same)
 
-    room_before : (slot : Option (List ℕ)) (q : ℕ) → (q ≡ place → ⊥) → HasRoom (insert blocks place slot) q → HasRoom blocks q
+    room_before : (slot : Option (List ℕ)) (q : ℕ) → (q ≡ place → ⊥) → HasRoomForBlock (insert blocks place slot) q → HasRoomForBlock blocks q
     room_before slot q other room = subst (λ b. IsSome (cond b (Some slot) (get blocks q))) (eq_by_cmp-other q place other) (subst IsSome (get-insert blocks place slot q) room)
 
     pub AreInTier-insert : (slot : Option (List ℕ)) → new ≡ insert blocks place slot → place < length places → AreInTier (record { places = places; blocks = new })
@@ -34,7 +34,7 @@ module _ (places : List Bool) where
     removed : AreInTier (record { places = places; blocks = remove blocks place })
     removed = record { in_tier = λ q room. are.in_tier q (at q (not (eq_by_cmp nat_cmp place q)) (subst IsSome (get-remove blocks place q) room)) }
       where
-        at : (q : ℕ) (b : Bool) → IsSome (cond b (get blocks q) None) → HasRoom blocks q
+        at : (q : ℕ) (b : Bool) → IsSome (cond b (get blocks q) None) → HasRoomForBlock blocks q
         at q true room = room
         at q false room = cc
 

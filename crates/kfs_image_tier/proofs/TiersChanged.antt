@@ -9,10 +9,10 @@ use Rattle.kfs_model_device.specs.Device.{byte_on}
 use Rattle.kfs_image_tier.specs.declared.change.NewBlock.{NewBlock}
 use Rattle.kfs_image_tier.specs.Blocks.{block_at, byte_at}
 use Rattle.kfs_image_tier.specs.Tier.{TierShown}
-use Rattle.kfs_image_tier.specs.Tiers.{TiersShown, with_places, with_blocks, AreSized, changed}
+use Rattle.kfs_image_tier.specs.Tiers.{TiersShown, with_places, with_blocks, TiersAreSized, changed}
 use Rattle.kfs_image_tier.specs.TierViews.{free_of, no_tier, tier_of, devices_of}
 use Rattle.kfs_image_tier.proofs.TierLists.{get-devices_of}
-use Rattle.kfs_image_tier.proofs.TierChanges.{AreSized-with_places}
+use Rattle.kfs_image_tier.proofs.TierChanges.{TiersAreSized-with_places}
 
 abbrev pub shown_of : TierSizes → List TierShown → TiersShown
 shown_of sizes tiers = record { sizes = sizes; free = free_of tiers; devices = devices_of tiers }
@@ -38,11 +38,11 @@ module _ {A : Type 0} (sizes : TierSizes) (inside seen new : List TierShown) (ol
   changed_err (Err error) free devices = as_shown old (ap (λ t. t.sizes) view) (free ∙ free_seen) (devices ∙ devices_seen)
 
   pub changed_sized : {E : Type 0} (result : Result (Unit {0}) E) → OnOk result (free_of new ≡ with_places false taken (with_places true given (free_of seen))) → OnErr result (free_of new ≡ free_of seen)
-      → AreSized sizes (free_of inside) → AreSized sizes (free_of new)
+      → TiersAreSized sizes (free_of inside) → TiersAreSized sizes (free_of new)
   changed_sized (Ok done) made kept sized =
-      subst (AreSized sizes) (sym (made ∙ ap (λ ts. with_places false taken (with_places true given (free_of ts))) value))
-      (AreSized-with_places sizes false taken (with_places true given (free_of inside)) (AreSized-with_places sizes true given (free_of inside) sized))
-  changed_sized (Err error) made kept sized = subst (AreSized sizes) (sym (kept ∙ ap free_of value)) sized
+      subst (TiersAreSized sizes) (sym (made ∙ ap (λ ts. with_places false taken (with_places true given (free_of ts))) value))
+      (TiersAreSized-with_places sizes false taken (with_places true given (free_of inside)) (TiersAreSized-with_places sizes true given (free_of inside) sized))
+  changed_sized (Err error) made kept sized = subst (TiersAreSized sizes) (sym (kept ∙ ap free_of value)) sized
 
 -- a byte of the devices is that of the tier's block
 pub byte_there : (sizes : TierSizes) (tiers : List TierShown) (shown : TiersShown) (t p : ℕ) (place : Place) (offset : ℕ) → shown_of sizes tiers ≡ shown → ◌≡◌ {A = Place} (record { tier = t; place = p }) place

@@ -7,9 +7,9 @@ use Rattle.kfs_model.specs.Table.{empty}
 use Rattle.kfs_model_device.specs.Device.{Devices}
 use Rattle.kfs_model.specs.Placement.{TierSizes, Place, Placement, tier_size, is_free, numbers_from, below}
 use Rattle.kfs_image_tier.specs.Places.{free_count, is_free_in}
-use Rattle.kfs_image_tier.specs.Tiers.{TiersShown, AreSized, places_in}
+use Rattle.kfs_image_tier.specs.Tiers.{TiersShown, TiersAreSized, places_in}
 use Rattle.kfs_image_tier.specs.Unused.{FreeIsUnused, CountsUnused, FindsUnused, MissesNone}
-use Rattle.kfs_image_tier.proofs.TierChanges.{free_in_tier, AreSized-three}
+use Rattle.kfs_image_tier.proofs.TierChanges.{free_in_tier, TiersAreSized-three}
 
 count_same : (f : ℕ → Bool) (places : List Bool) (first : ℕ) → ((i : ℕ) → i < length places → get_or places i false ≡ f (first + i))
     → count_by (λ free. free) places ≡ length (filter f (numbers_from first (length places)))
@@ -62,8 +62,8 @@ module _ (sizes : TierSizes) where
   abbrev all_free : List (List Bool)
   all_free = replicate sizes.first true ∷ replicate sizes.second true ∷ replicate sizes.third true ∷ []
 
-  all_sized : AreSized sizes all_free
-  all_sized = AreSized-three sizes _ _ _ (length-replicate sizes.first true) (length-replicate sizes.second true) (length-replicate sizes.third true)
+  all_sized : TiersAreSized sizes all_free
+  all_sized = TiersAreSized-three sizes _ _ _ (length-replicate sizes.first true) (length-replicate sizes.second true) (length-replicate sizes.third true)
 
   one_free : (n p : ℕ) → p < length (replicate n true) → is_free_in (replicate n true) p ≡ true
   one_free n p below = get_or-replicate n p true false (omega (arith, below, length-replicate n true))

@@ -16,8 +16,8 @@ abbrev pub byte_at : BlockTable → (place offset : ℕ) → ℕ
 byte_at blocks place offset = slice_index (unwrap_or (block_at blocks place) []) offset
 
 -- bytes can be put there without memory
-abbrev pub HasRoom : BlockTable → (place : ℕ) → Type 0
-HasRoom blocks place = IsSome (get blocks place)
+abbrev pub HasRoomForBlock : BlockTable → (place : ℕ) → Type 0
+HasRoomForBlock blocks place = IsSome (get blocks place)
 
 -- the same blocks, and room at the place
 abbrev pub with_room : BlockTable → (place : ℕ) → BlockTable

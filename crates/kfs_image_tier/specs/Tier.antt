@@ -1,6 +1,6 @@
 -- What contracts see of a tier: its places, and the blocks that lie there.
 use Rattle.std.specs.Prelude.{ℕ, ◌<◌, Bool, List, length}
-use Rattle.kfs_image_tier.specs.Blocks.{BlockTable, HasRoom}
+use Rattle.kfs_image_tier.specs.Blocks.{BlockTable, HasRoomForBlock}
 
 pub record TierShown : Type 0 where
   pub places : List Bool
@@ -8,4 +8,4 @@ pub record TierShown : Type 0 where
 
 -- only places of the tier have room for a block
 pub record AreInTier (tier : TierShown) : Type 0 where
-  pub in_tier : (place : ℕ) → HasRoom tier.blocks place → place < length tier.places
+  pub in_tier : (place : ℕ) → HasRoomForBlock tier.blocks place → place < length tier.places

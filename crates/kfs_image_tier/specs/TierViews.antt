@@ -3,7 +3,7 @@ use Rattle.std.specs.Prelude.{◌≡◌, ℕ, ◌+◌, Bool, not, List, [], ◌�
 use Rattle.kfs_model.specs.Table.{empty, insert, remove}
 use Rattle.kfs_model.specs.Placement.{Place}
 use Rattle.kfs_model_device.specs.Device.{Devices}
-use Rattle.kfs_image_tier.specs.Blocks.{HasRoom}
+use Rattle.kfs_image_tier.specs.Blocks.{HasRoomForBlock}
 use Rattle.kfs_image_tier.specs.Tier.{TierShown}
 use Rattle.kfs_image_tier.specs.Tiers.{IsInTier, is_free_at, with_place}
 
@@ -35,9 +35,9 @@ abbrev pub devices_of : List TierShown → Devices
 devices_of tiers = devices_from 0 tiers
 
 abbrev pub HasRoomAt : List TierShown → Place → Type 0
-HasRoomAt tiers place = HasRoom (tier_of tiers place.tier).blocks place.place
+HasRoomAt tiers place = HasRoomForBlock (tier_of tiers place.tier).blocks place.place
 
 -- each place is one of its tier's and has the other state when its turn comes
-unfoldable pub CanTurn : (value : Bool) → List Place → List (List Bool) → Type 0
-CanTurn value [] free = Unit {0}
-CanTurn value (place ∷ places) free = IsInTier free place × (is_free_at free place ≡ not value) × CanTurn value places (with_place value place free)
+unfoldable pub CanTurnPlaces : (value : Bool) → List Place → List (List Bool) → Type 0
+CanTurnPlaces value [] free = Unit {0}
+CanTurnPlaces value (place ∷ places) free = IsInTier free place × (is_free_at free place ≡ not value) × CanTurnPlaces value places (with_place value place free)

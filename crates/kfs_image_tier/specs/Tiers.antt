@@ -41,9 +41,9 @@ abbrev pub is_among : List Place → Place → Bool
 is_among places place = list_any (λ p. is_place p place) places
 
 -- no place stands twice
-abbrev pub AreDistinct : List Place → Type 0
-AreDistinct [] = Unit {0}
-AreDistinct (place ∷ places) = (is_among places place ≡ false) × AreDistinct places
+abbrev pub PlacesAreDistinct : List Place → Type 0
+PlacesAreDistinct [] = Unit {0}
+PlacesAreDistinct (place ∷ places) = (is_among places place ≡ false) × PlacesAreDistinct places
 
 -- the same, and this place is free, or is used
 abbrev pub with_place : (value : Bool) → Place → List (List Bool) → List (List Bool)
@@ -60,7 +60,7 @@ with_blocks [] devices = devices
 with_blocks (block ∷ blocks) devices = with_blocks blocks (insert devices (block.place.tier, block.place.place) block.bytes.items)
 
 -- there are three tiers, each with as many places as its size
-pub record AreSized (sizes : TierSizes) (free : List (List Bool)) : Type 0 where
+pub record TiersAreSized (sizes : TierSizes) (free : List (List Bool)) : Type 0 where
   pub tiers : length free ≡ 3
   pub places : (tier : ℕ) → length (places_in free tier) ≡ tier_size sizes tier
 
@@ -68,9 +68,9 @@ pub record AreSized (sizes : TierSizes) (free : List (List Bool)) : Type 0 where
 -- and none stands twice among the ones or among the others.
 pub record CanMove (free : List (List Bool)) (given taken : List Place) : Type 0 where
   pub given_used : All (λ p. IsInTier free p × (is_free_at free p ≡ false)) given
-  pub given_once : AreDistinct given
+  pub given_once : PlacesAreDistinct given
   pub taken_free : All (λ p. IsTrue (is_free_at (with_places true given free) p)) taken
-  pub taken_once : AreDistinct taken
+  pub taken_once : PlacesAreDistinct taken
 
 -- the places once these are given back and those taken
 abbrev pub moved : (given taken : List Place) → List (List Bool) → List (List Bool)

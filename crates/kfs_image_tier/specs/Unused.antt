@@ -4,11 +4,11 @@ use Rattle.kfs_model.specs.Table.{get}
 use Rattle.kfs_model.specs.Placement.{TierSizes, Place, Placement, tier_size, is_free, below, IsLaid}
 use Rattle.kfs_model_device.specs.Device.{Devices}
 use Rattle.kfs_image_tier.specs.Places.{free_count, IsNextFree, AreUsedFrom}
-use Rattle.kfs_image_tier.specs.Tiers.{TiersShown, AreSized, places_in, is_free_at, is_among, AreDistinct, CanMove, moved}
+use Rattle.kfs_image_tier.specs.Tiers.{TiersShown, TiersAreSized, places_in, is_free_at, is_among, PlacesAreDistinct, CanMove, moved}
 
 -- each place of a tier is free exactly where no block of a file lies there
 pub record FreeIsUnused (placement : Placement) (tiers : TiersShown) : Type 0 where
-  pub sized : AreSized tiers.sizes tiers.free
+  pub sized : TiersAreSized tiers.sizes tiers.free
   pub unused : (place : Place) → place.place < tier_size tiers.sizes place.tier → is_free_at tiers.free place ≡ is_free placement place
 
 -- the places of the tier in which no block lies, ascending
@@ -37,10 +37,10 @@ pub record IsLeft (old new : Placement) (place : Place) : Type 0 where
 pub record AreMoved (old new : Placement) (given taken : List Place) : Type 0 where
   pub each_left : All (IsLeft old new) given
   pub all_left : (place : Place) → IsLeft old new place → is_among given place ≡ true
-  pub given_once : AreDistinct given
+  pub given_once : PlacesAreDistinct given
   pub each_entered : All (IsLeft new old) taken
   pub all_entered : (place : Place) → IsLeft new old place → is_among taken place ≡ true
-  pub taken_once : AreDistinct taken
+  pub taken_once : PlacesAreDistinct taken
 
 -- where free are the unused places: their count, the next one, and none left
 abbrev pub CountsUnused : Placement → TiersShown → Type 0

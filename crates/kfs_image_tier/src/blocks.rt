@@ -5,7 +5,7 @@ ghost use Rattle.std.specs.BTreeMap.{get};
 ghost use Rattle.std.specs.Option.{option_copied};
 ghost use Rattle.kfs_model.specs.Limits.{block_size};
 ghost use Rattle.kfs_model.specs.Table.{empty, insert, remove};
-ghost use Rattle.kfs_image_tier.specs.Blocks.{block_at, byte_at, HasRoom, KeepsBlocks, with_room, without_room};
+ghost use Rattle.kfs_image_tier.specs.Blocks.{block_at, byte_at, HasRoomForBlock, KeepsBlocks, with_room, without_room};
 ghost use Rattle.kfs_image_tier.specs.Slots.{held_at, SetsSlot};
 
 use kfs_entry_value::Rows;
@@ -85,7 +85,7 @@ impl<A: Allocator> Blocks<A> {
 
     /// Writes a block that has room: 4,096 bytes in place of what was there. Takes no memory.
     pub fn put(&mut self, place: u32, bytes: Vec<u8, A>)
-        requires room { HasRoom self.old place }
+        requires room { HasRoomForBlock self.old place }
         requires whole { vec_len bytes ≡ block_size }
         ensures { self.new ≡ insert self.old place (Some bytes.items) }
     {

@@ -4,7 +4,7 @@ ghost use Rattle.kfs_model.specs.Limits.{block_size};
 ghost use Rattle.kfs_model.specs.Placement.{Place as ModelPlace};
 ghost use Rattle.kfs_model.specs.Table.{insert};
 ghost use Rattle.kfs_image_tier.specs.Tiers.{IsInTier, is_free_at, with_place, with_places, with_blocks};
-ghost use Rattle.kfs_image_tier.specs.TierViews.{free_of, devices_of, HasRoomAt, CanTurn};
+ghost use Rattle.kfs_image_tier.specs.TierViews.{free_of, devices_of, HasRoomAt, CanTurnPlaces};
 
 use crate::place::Place;
 use crate::tier::Tier;
@@ -34,7 +34,7 @@ fn turn<A: Allocator>(tiers: &mut [Tier<A>], place: Place, free: bool)
 
 /// Makes used places free, or free ones used. Takes no memory.
 pub(crate) fn turn_all<A: Allocator>(tiers: &mut [Tier<A>], places: &[Place], free: bool)
-    requires { CanTurn free places.now (free_of tiers.old) }
+    requires { CanTurnPlaces free places.now (free_of tiers.old) }
     ensures free { free_of tiers.new ≡ with_places free places.now (free_of tiers.old) }
     ensures devices { devices_of tiers.new ≡ devices_of tiers.old }
 {
@@ -124,8 +124,8 @@ pub(crate) fn change_all<A: Allocator + Clone>(
     taken: &[Place],
     written: Vec<NewBlock<A>, A>,
 ) -> Result<(), AllocError>
-    requires given { CanTurn true given.now (free_of tiers.old) }
-    requires taken { CanTurn false taken.now (with_places true given.now (free_of tiers.old)) }
+    requires given { CanTurnPlaces true given.now (free_of tiers.old) }
+    requires taken { CanTurnPlaces false taken.now (with_places true given.now (free_of tiers.old)) }
     requires in_tier { All (λ b. IsInTier (free_of tiers.old) b.place) written.items }
     requires whole { All (λ b. vec_len b.bytes ≡ block_size) written.items }
     ensures ok_free { OnOk result (free_of tiers.new ≡ with_places false taken.now (with_places true given.now (free_of tiers.old))) }

@@ -3,7 +3,7 @@ ghost use Rattle.std.specs.Prelude.{◌≡◌, ◌<◌, true, false, IsTrue, IfO
 ghost use Rattle.kfs_model.specs.Limits.{block_size};
 ghost use Rattle.kfs_model.specs.Table.{empty, insert, remove};
 ghost use Rattle.kfs_image_tier.specs.Places.{is_free_in};
-ghost use Rattle.kfs_image_tier.specs.Blocks.{HasRoom, KeepsBlocks, with_room, without_room};
+ghost use Rattle.kfs_image_tier.specs.Blocks.{HasRoomForBlock, KeepsBlocks, with_room, without_room};
 ghost use Rattle.kfs_image_tier.specs.Tier.{AreInTier};
 
 use crate::blocks::Blocks;
@@ -107,7 +107,7 @@ impl<A: Allocator> Tier<A> {
 
     /// Writes a block that has room: 4,096 bytes in place of what was there. Takes no memory.
     pub fn write(&mut self, place: u32, bytes: Vec<u8, A>)
-        requires room { HasRoom self.old.blocks place }
+        requires room { HasRoomForBlock self.old.blocks place }
         requires whole { vec_len bytes ≡ block_size }
         ensures { self.new ≡ record self.old { blocks = insert self.old.blocks place (Some bytes.items) } }
     {

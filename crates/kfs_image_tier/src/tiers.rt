@@ -4,7 +4,7 @@ ghost use Rattle.kfs_model.specs.Limits.{block_size};
 ghost use Rattle.kfs_model.specs.Placement.{tier_size};
 ghost use Rattle.kfs_model_device.specs.Device.{byte_on};
 ghost use Rattle.kfs_image_tier.specs.Places.{free_count, IsNextFree, AreUsedFrom};
-ghost use Rattle.kfs_image_tier.specs.Tiers.{new_tiers, places_in, is_free_at, AreSized, IsInTier, CanMove, changed};
+ghost use Rattle.kfs_image_tier.specs.Tiers.{new_tiers, places_in, is_free_at, TiersAreSized, IsInTier, CanMove, changed};
 
 use crate::change::{NewBlock, change_all};
 use crate::place::Place;
@@ -22,14 +22,14 @@ pub struct Tiers<A: Allocator> {
 }
 
 impl<A: Allocator> Model for Tiers<A> {
-    ghost use Rattle.kfs_image_tier.specs.Tiers.{TiersShown, AreSized};
+    ghost use Rattle.kfs_image_tier.specs.Tiers.{TiersShown, TiersAreSized};
     ghost use Rattle.kfs_image_tier.specs.TierViews.{free_of, devices_of};
 
     ghost Value = { TiersShown };
 
     ghost view = { λ t. record { sizes = t.sizes; free = free_of t.tiers.items; devices = devices_of t.tiers.items } };
 
-    ghost invariant = { λ t. AreSized t.sizes (free_of t.tiers.items) };
+    ghost invariant = { λ t. TiersAreSized t.sizes (free_of t.tiers.items) };
 }
 
 // Written out, so that the drop of the three is proved once and not in each crate that drops them.
@@ -64,7 +64,7 @@ impl<A: Allocator> Tiers<A> {
     /// How many places the tier has: none where it is over 2. Takes no memory.
     pub fn size(&self, tier: u8) -> u32
         ensures size { result ≡ tier_size self.now.sizes tier }
-        ensures sized { AreSized self.now.sizes self.now.free }
+        ensures sized { TiersAreSized self.now.sizes self.now.free }
     {
         self.sizes.size(tier)
     }
@@ -125,7 +125,7 @@ impl<A: Allocator> Tiers<A> {
         requires whole { All (λ b. vec_len b.bytes ≡ block_size) written.items }
         ensures ok { OnOk result (self.new ≡ changed given.now taken.now written.items self.old) }
         ensures err { OnErr result (self.new ≡ self.old) }
-        ensures sized { AreSized self.new.sizes self.new.free }
+        ensures sized { TiersAreSized self.new.sizes self.new.free }
     {
         change_all(self.tiers.as_mut_slice(), given, taken, written)
     }

@@ -7,7 +7,7 @@ use Rattle.kfs_entry_value.specs.declared.entry.Entry.{Entry as CodeEntry}
 use Rattle.kfs_entry_value.specs.declared.entry.Span.{Span}
 use Rattle.kfs_judge_step.specs.declared.log_judge.LogJudge.{LogJudge}
 use Rattle.kfs_judge.specs.declared.walk.EntryFault.{EntryFault}
-use Rattle.kfs_judge_draft.specs.Overlay.{IsWritten}
+use Rattle.kfs_judge_draft.specs.Overlay.{ChangesAreAmong}
 use Rattle.kfs_judge_check.specs.Recorders.{Known, ReadsAt}
 use Rattle.kfs_judge_step.specs.FileSizes.{HasFilesOf}
 use Rattle.kfs_judge.specs.Walks.{EndsAt}
@@ -23,11 +23,11 @@ HasTheirFiles judge entries = (source : List ℕ) → AreWithin source entries �
 -- entries, from a judge that has entered none
 module _ {A : Type 0} (old new : LogJudge A) (entries : List (CodeEntry Span)) where
   -- the run over the cells stops at this fault, or ends at what the draft shows
-  abbrev pub StopsAt : Option EntryFault → Type 0
-  StopsAt fault = Known new.recorder (λ before. (source : List ℕ) → AreWithin source entries → EndsAt old.client.now new.draft before (map (entry_of source) entries) fault)
+  abbrev pub RunStopsAt : Option EntryFault → Type 0
+  RunStopsAt fault = Known new.recorder (λ before. (source : List ℕ) → AreWithin source entries → EndsAt old.client.now new.draft before (map (entry_of source) entries) fault)
 
   abbrev pub ReadsTheirCells : Type 0
   ReadsTheirCells = Known new.recorder (λ before. (source : List ℕ) → AreWithin source entries → ReadsAt old.recorder new.recorder (looked_cells old.client.now before (map (entry_of source) entries)))
 
   abbrev pub WritesTheirCells : Type 0
-  WritesTheirCells = Known new.recorder (λ before. (source : List ℕ) → AreWithin source entries → IsWritten new.draft (looked_cells old.client.now before (map (entry_of source) entries)))
+  WritesTheirCells = Known new.recorder (λ before. (source : List ℕ) → AreWithin source entries → ChangesAreAmong new.draft (looked_cells old.client.now before (map (entry_of source) entries)))

@@ -17,7 +17,7 @@ use Rattle.kfs_image_nodes.specs.declared.net.Net.{Net}
 use Rattle.kfs_judge.specs.declared.walk.EntryFault.{EntryFault as CodeEntryFault}
 use Rattle.kfs_judge_step.specs.Nets.{IsNetOf}
 use Rattle.kfs_plan_sweep.specs.declared.sizes.FileSize.{FileSize}
-use Rattle.kfs_plan_sweep.specs.Sizes.{AreSizesBetween, Ascend, IsSize}
+use Rattle.kfs_plan_sweep.specs.Sizes.{AreSizesBetween, SizesAscend, IsSize}
 use Rattle.kfs_judge_check.specs.Checks.{reason_of}
 use Rattle.kfs_judge_draft.specs.declared.draft.Draft.{Draft}
 use Rattle.kfs_judge.specs.declared.walk.Walk.{Walk}
@@ -37,9 +37,9 @@ module _ {A : Type 0} where
   EndsAt client draft before entries (Some fault) = seen_run client before entries ≡ Err (fault_of fault)
 
   -- the run over the cells stops at this fault, or shows what differs, and sizes of the files that are changed or reached
-  abbrev pub ComesTo : Client → ClientSight → List Entry → Result (Net A) CodeEntryFault → List FileSize → Type 0
-  ComesTo client before entries (Err fault) sizes = seen_run client before entries ≡ Err (fault_of fault)
-  ComesTo client before entries (Ok net) sizes = (after : Sight) × (seen_run client before entries ≡ Ok after) × IsNetOf before.sight after net × AreSizesBetween before.sight after entries sizes
+  abbrev pub WalkEndsIn : Client → ClientSight → List Entry → Result (Net A) CodeEntryFault → List FileSize → Type 0
+  WalkEndsIn client before entries (Err fault) sizes = seen_run client before entries ≡ Err (fault_of fault)
+  WalkEndsIn client before entries (Ok net) sizes = (after : Sight) × (seen_run client before entries ≡ Ok after) × IsNetOf before.sight after net × AreSizesBetween before.sight after entries sizes
 
   -- the entries one by one stop at this fault, or leave a sound tree of which this is the net, each of them allowed; the sizes
   -- are those of the files that they change or reach
@@ -60,11 +60,11 @@ IsWalkOf client log walk =
 
 -- the same over cells: in every state that agrees with the reads, the run over its cells comes to the outcome
 abbrev pub IsCellWalkOf : {A : Type 0} → Client → CodeLog A → Walk A → Type 0
-IsCellWalkOf client log walk = Always walk.reads.entries (λ before. (source : List ℕ) → SpansAreWithin (length source) log → ComesTo client before (map (entry_of source) log.entries) walk.outcome walk.sizes.items)
+IsCellWalkOf client log walk = Always walk.reads.entries (λ before. (source : List ℕ) → SpansAreWithin (length source) log → WalkEndsIn client before (map (entry_of source) log.entries) walk.outcome walk.sizes.items)
 
 -- the walk's sizes ascend by number, and none is over the greatest of a file; where an entry is bad there are none
 pub record HasOrderedSizes {A : Type 0} (walk : Walk A) : Type 0 where
-  pub ascending : Ascend 0 walk.sizes.items
+  pub ascending : SizesAscend 0 walk.sizes.items
   pub short : AllByRecursion IsSize walk.sizes.items
   pub none : IsErr walk.outcome → walk.sizes.items ≡ []
 

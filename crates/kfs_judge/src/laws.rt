@@ -1,9 +1,9 @@
 //! What the judgement of a log rests on: laws of the definitions, each the contract of a function without a body.
 
 ghost use Rattle.std.specs.Prelude.{◌≡◌};
-ghost use Rattle.kfs_model.specs.Alike.{MarksAlike, MarksEnd};
+ghost use Rattle.kfs_model.specs.MarkedRuns.{HaveSameNewMarks, MarksEnd};
 ghost use Rattle.kfs_model.specs.Laws.{CellsDecide, CleanIsAllowed, EachTwoTrees, MarksGiveBytes};
-ghost use Rattle.kfs_model.specs.Looked.{TreesEndAlike};
+ghost use Rattle.kfs_model.specs.Looked.{TreesEndInAgreement};
 ghost use Rattle.kfs_model.specs.Placement.{need};
 
 /// An entry of which no check fails is allowed to its client, by mode bits and leases, whichever of the seven it is.
@@ -22,7 +22,7 @@ pub fn marks_give_bytes()
 /// room.
 pub fn cells_decide()
     ensures decides { CellsDecide }
-    ensures of_trees { EachTwoTrees TreesEndAlike }
-    ensures marks { EachTwoTrees (MarksEnd MarksAlike) }
+    ensures of_trees { EachTwoTrees TreesEndInAgreement }
+    ensures marks { EachTwoTrees (MarksEnd HaveSameNewMarks) }
     ensures need { EachTwoTrees (MarksEnd (λ after other_after. need after ≡ need other_after)) }
 {}

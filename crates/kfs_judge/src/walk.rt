@@ -4,8 +4,8 @@ ghost use Rattle.kfs_model.specs.Access.{Client as ClientRow};
 ghost use Rattle.kfs_model.specs.Lease.{row_of};
 ghost use Rattle.kfs_model.specs.Limits.{entry_limit};
 ghost use Rattle.kfs_model.specs.Sight.{Sight};
-ghost use Rattle.kfs_judge.specs.EntriesEntered.{HasTheirFiles, StopsAt, ReadsTheirCells, WritesTheirCells};
-ghost use Rattle.kfs_judge_draft.specs.Overlay.{has_created, over, ShiftsBy, IsWritten};
+ghost use Rattle.kfs_judge.specs.EntriesEntered.{HasTheirFiles, RunStopsAt, ReadsTheirCells, WritesTheirCells};
+ghost use Rattle.kfs_judge_draft.specs.Overlay.{has_created, over, ShiftsBy, ChangesAreAmong};
 ghost use Rattle.kfs_judge_check.specs.Reads.{Agrees, AreOnce};
 ghost use Rattle.kfs_judge_check.specs.Recorders.{GoesOn};
 ghost use Rattle.kfs_judge_check.specs.View.{clients_of, client_sight_in};
@@ -99,11 +99,11 @@ fn enter_all<A: Allocator + Copy>(
     requires count { length entries.now ≤ entry_limit }
     requires shown { (s : Sight) → over judge.old.draft s ≡ s }
     requires created { (n : ℕ) → has_created judge.old.draft n ≡ false }
-    requires written { IsWritten judge.old.draft [] }
+    requires written { ChangesAreAmong judge.old.draft [] }
     requires shifts { ShiftsBy 0 judge.old.draft }
     ensures goes { GoesOn judge.old.recorder judge.new.recorder }
     ensures client { judge.new.client.now ≡ judge.old.client.now }
-    ensures known { IfOk result (StopsAt judge.old judge.new entries.now) }
+    ensures known { IfOk result (RunStopsAt judge.old judge.new entries.now) }
     ensures among { OnOk result (ReadsTheirCells judge.old judge.new entries.now) }
     ensures written { result ≡ Ok None → WritesTheirCells judge.old judge.new entries.now }
     ensures reached { result ≡ Ok None → HasTheirFiles judge.new entries.now }

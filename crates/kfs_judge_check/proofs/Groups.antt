@@ -11,7 +11,7 @@ use Rattle.kfs_judge_check.specs.declared.check.Reason.TheVariants.{NoSuchName}
 use Rattle.kfs_judge_check.specs.declared.entry_judge.EntryJudge.{EntryJudge}
 use Rattle.kfs_judge_check.specs.declared.reads.Recorder.{Recorder}
 use Rattle.kfs_judge_check.specs.Checks.{reason_of, entry_context_in, JudgesAll}
-use Rattle.kfs_judge_check.specs.Recorders.{Known, Looks, ReadsAt}
+use Rattle.kfs_judge_check.specs.Recorders.{Known, AnswersLook, ReadsAt}
 use Rattle.kfs_judge_check.proofs.Failing.{failing-in_front, failing-in_back, failing-passes, failing-fails, failing-none}
 use Rattle.kfs_judge_check.proofs.Looking.{front_is_looked, back_is_looked, looks_here}
 use Rattle.kfs_judge_check.proofs.Recording.{goes_then, within_then, within_wider}
@@ -57,7 +57,7 @@ module _ {A : Type 0} (judge : EntryJudge A) where
 
   -- ---- a look at one cell, as a group of its own
 
-  module _ {X : Type 0} {old new : Recorder A} (cell : Cell) (says : X → ClientSight → Type 0) (x : X) (look : Looks {E = AllocError} old new (Ok x) (cell ∷ []) says) (check : Check) (at_cell : (p : EntryContext) → checks.cells p check ≡ cell ∷ []) where
+  module _ {X : Type 0} {old new : Recorder A} (cell : Cell) (says : X → ClientSight → Type 0) (x : X) (look : AnswersLook {E = AllocError} old new (Ok x) (cell ∷ []) says) (check : Check) (at_cell : (p : EntryContext) → checks.cells p check ≡ cell ∷ []) where
     read_alone : Known new (λ before. ReadsAt old new (looked (entry_context_in judge before) (check ∷ [])))
     read_alone state agrees =
         let p = entry_context_in judge state in
@@ -80,7 +80,7 @@ module _ {A : Type 0} (judge : EntryJudge A) where
   -- ---- a look at a cell, and the checks behind it
 
   module _ {X : Type 0} {old then new : Recorder A} (cell : Cell) (says : X → ClientSight → Type 0) (x : X) where
-    pub behind_cell : (back : EntryContext → List Check) (found : Option Reason) → Looks {E = AllocError} old then (Ok x) (cell ∷ []) says → Finds then new found back → Finds old new found (λ p. checks.Sees cell ∷ back p)
+    pub behind_cell : (back : EntryContext → List Check) (found : Option Reason) → AnswersLook {E = AllocError} old then (Ok x) (cell ∷ []) says → Finds then new found back → Finds old new found (λ p. checks.Sees cell ∷ back p)
     unfolding fault checks.cells
     behind_cell back found look last = then_back (λ _. checks.Sees cell ∷ []) back found (passes_alone cell says x look (checks.Sees cell) (λ p. refl) (λ state agrees. refl)) last
 
@@ -94,13 +94,13 @@ module _ {A : Type 0} (judge : EntryJudge A) where
     behind : EntryContext → List Check
     behind p = more (p.now.name d m) p
 
-    pub no_name : {old new : Recorder A} (number : Option ℕ) → number ≡ None → Looks {E = AllocError} old new (Ok number) (NameIn d m ∷ []) leads → Finds old new (Some NoSuchName) (λ p. checks.NameIsThere d m ∷ more (p.now.name d m) p)
+    pub no_name : {old new : Recorder A} (number : Option ℕ) → number ≡ None → AnswersLook {E = AllocError} old new (Ok number) (NameIn d m ∷ []) leads → Finds old new (Some NoSuchName) (λ p. checks.NameIsThere d m ∷ more (p.now.name d m) p)
     unfolding fault checks.cells behind
     no_name number is look =
         front_fails (λ _. checks.NameIsThere d m ∷ []) behind NoSuchName
         (fails_alone (NameIn d m) leads number look (checks.NameIsThere d m) (λ p. refl) NoSuchName (λ state agrees. ap (λ (o : Option ℕ). checks.unless (is_some o) checks.NoSuchName) (look.known state agrees ∙ is)))
 
-    pub behind_name : {old then new : Recorder A} (n : ℕ) (number : Option ℕ) (found : Option Reason) → number ≡ Some n → Looks {E = AllocError} old then (Ok number) (NameIn d m ∷ []) leads → Finds then new found (more (Some n))
+    pub behind_name : {old then new : Recorder A} (n : ℕ) (number : Option ℕ) (found : Option Reason) → number ≡ Some n → AnswersLook {E = AllocError} old then (Ok number) (NameIn d m ∷ []) leads → Finds then new found (more (Some n))
         → Finds old new found (λ p. checks.NameIsThere d m ∷ more (p.now.name d m) p)
     unfolding fault checks.cells behind
     behind_name n number found is look last =

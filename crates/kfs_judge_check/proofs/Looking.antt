@@ -12,7 +12,7 @@ use Rattle.kfs_model.proofs.CleanIsAllowed.{AllPass}
 use Rattle.kfs_judge_draft.specs.declared.draft.Draft.{Draft}
 use Rattle.kfs_judge_check.specs.declared.reads.Read.{Read}
 use Rattle.kfs_judge_check.specs.declared.reads.ReadAnswer.{ReadAnswer}
-use Rattle.kfs_judge_draft.specs.Overlay.{over, has_created, entry_context_of, IsWritten, AreCreated}
+use Rattle.kfs_judge_draft.specs.Overlay.{over, has_created, entry_context_of, ChangesAreAmong, AreCreated}
 use Rattle.kfs_judge_check.specs.Reads.{Always, Grows, IsPart, Within}
 use Rattle.kfs_judge_check.proofs.Entering.{same_context}
 use Rattle.kfs_judge_check.proofs.Failing.{failing-passes, failing-fails}
@@ -66,7 +66,7 @@ module _ (p : EntryContext) where
 
 module _ {A : Type 0} where
   -- what the draft has written stays among more cells
-  pub written_wider : (draft : Draft A) (few many : List Cell) → IsPart few many → IsWritten draft few → IsWritten draft many
+  pub written_wider : (draft : Draft A) (few many : List Cell) → IsPart few many → ChangesAreAmong draft few → ChangesAreAmong draft many
   written_wider draft few many part written = record {
     names = λ key value is. part (NameIn key.0 key.1) (written.names key value is);
     heads = λ n value is. part (HeaderOf n) (written.heads n value is);
@@ -77,7 +77,7 @@ module _ {A : Type 0} (client : Client) where
   pub record LooksAt (first reads : List (Read × ReadAnswer)) (draft : Draft A) (rest all : List Cell) : Type 0 where
     pub rest_among : IsPart rest all
     pub reads_among : Within first reads all
-    pub written_among : IsWritten draft all
+    pub written_among : ChangesAreAmong draft all
 
   pub record LooksOn (draft : Draft A) (first reads : List (Read × ReadAnswer)) (entries rest : List Entry) : Type 0 where
     pub numbers : List ℕ
@@ -97,7 +97,7 @@ module _ {A : Type 0} (client : Client) where
     entry_among : (entry : Entry) (entries : List Entry) → IsPart (looked (entry_context_of client draft state) (checks_of (entry_context_of client draft state) entry)) (looked_from client state numbers (over draft state.sight) (entry ∷ entries))
     entry_among entry entries = subst (IsPart (looked (entry_context_of client draft state) (checks_of (entry_context_of client draft state) entry))) (sym (by_first entry entries (first_fault (entry_context_of client draft state) entry) refl)) (left_is_part _ _)
 
-  pub looks_first : (draft : Draft A) (reads : List (Read × ReadAnswer)) (entries : List Entry) → ((s : Sight) → over draft s ≡ s) → ((n : ℕ) → has_created draft n ≡ false) → IsWritten draft [] → LooksOn draft reads reads entries entries
+  pub looks_first : (draft : Draft A) (reads : List (Read × ReadAnswer)) (entries : List Entry) → ((s : Sight) → over draft s ≡ s) → ((n : ℕ) → has_created draft n ≡ false) → ChangesAreAmong draft [] → LooksOn draft reads reads entries entries
   looks_first draft reads entries shown created written = record {
     numbers = [];
     created = created;
@@ -116,7 +116,7 @@ module _ {A : Type 0} (client : Client) where
       → Always after (λ state. Within before after (looked (entry_context_of client old state) (checks_of (entry_context_of client old state) entry)))
       → Always after (λ state. over new state.sight ≡ seen_after client (over old state.sight) entry)
       → ((numbers : List ℕ) → AreCreated old numbers → AreCreated new (created_by entry numbers))
-      → Always after (λ state. (among : List Cell) → IsWritten old among → IsWritten new (looked (entry_context_of client old state) (checks_of (entry_context_of client old state) entry) ++ among))
+      → Always after (λ state. (among : List Cell) → ChangesAreAmong old among → ChangesAreAmong new (looked (entry_context_of client old state) (checks_of (entry_context_of client old state) entry) ++ among))
       → LooksOn new first after entries rest
   looks_next old new first before after entries rest entry on grows clean read shown created written = record {
     numbers = created_by entry on.numbers;

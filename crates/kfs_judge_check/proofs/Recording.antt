@@ -7,7 +7,7 @@ use Rattle.kfs_judge_check.specs.declared.reads.Read.{Read}
 use Rattle.kfs_judge_check.specs.declared.reads.ReadAnswer.{ReadAnswer}
 use Rattle.kfs_judge_check.specs.declared.reads.Recorder.{Recorder}
 use Rattle.kfs_judge_check.specs.Reads.{cell_of, Agrees, AreAmong, AreOnce, IsPart, Within}
-use Rattle.kfs_judge_check.specs.Recorders.{GoesOn, Looks, LooksAlong, seen_by}
+use Rattle.kfs_judge_check.specs.Recorders.{GoesOn, AnswersLook, LooksAlong, seen_by}
 
 -- ---- the reads that agree with the view
 
@@ -25,7 +25,7 @@ module _ {A : Type 0} where
 
   -- memory is refused
   module _ {X E : Type 0} {old new : Recorder A} (goes : GoesOn old new) where
-    pub look_cut_short : (cells : List Cell) (says : X → ClientSight → Type 0) (result : Result X E) → IsErr result → Looks old new result cells says
+    pub look_cut_short : (cells : List Cell) (says : X → ClientSight → Type 0) (result : Result X E) → IsErr result → AnswersLook old new result cells says
     look_cut_short cells says (Err error) is = record { goes = goes; known = tt; among = tt }
     look_cut_short cells says (Ok found) is = cc
 

@@ -86,8 +86,8 @@ module _ {A : Type 0} (judge : EntryJudge A) where
   is_granted_in before want number = checks.is_permitted (entry_context_in judge before) (want_shown want) number
 
   -- whether the climb from the directory meets the node, looked at the parents of those that it passes
-  abbrev pub Climbs : {E : Type 0} → (old new : Recorder A) → Result Bool E → (node directory : ℕ) → Type 0
-  Climbs old new result node directory =
+  abbrev pub AnswersClimb : {E : Type 0} → (old new : Recorder A) → Result Bool E → (node directory : ℕ) → Type 0
+  AnswersClimb old new result node directory =
       LooksAlong old new result (λ before. climbed_cells (parent_in before) climb_limit directory) (λ meets before. climb_meets (parent_in before) climb_limit node directory ≡ meets)
 
   -- what the check finds wrong, looked at its cells
@@ -101,5 +101,5 @@ module _ {A : Type 0} (judge : EntryJudge A) where
       LooksAlong old new result (λ before. looked (entry_context_in judge before) (listed (entry_context_in judge before))) (λ reason before. first_failing (entry_context_in judge before) (listed (entry_context_in judge before)) ≡ option_map reason_of reason)
 
 -- the entry's first fault, looked at the cells of its checks
-abbrev pub Judges : {A E : Type 0} → EntryJudge A → (old new : Recorder A) → Result (Option Reason) E → Entry → Type 0
-Judges judge old new result entry = JudgesAll judge old new result (λ p. checks_of p entry)
+abbrev pub AnswersEntry : {A E : Type 0} → EntryJudge A → (old new : Recorder A) → Result (Option Reason) E → Entry → Type 0
+AnswersEntry judge old new result entry = JudgesAll judge old new result (λ p. checks_of p entry)

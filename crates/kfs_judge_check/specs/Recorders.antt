@@ -27,7 +27,7 @@ module _ {A : Type 0} where
 
   -- a look that answers so, or memory is refused: the reads go on, the answer is true of each state that agrees with
   -- what was read, and the further reads are at these cells
-  pub record Looks {X E : Type 0} (old new : Recorder A) (result : Result X E) (cells : List Cell) (says : X → ClientSight → Type 0) : Type 0 where
+  pub record AnswersLook {X E : Type 0} (old new : Recorder A) (result : Result X E) (cells : List Cell) (says : X → ClientSight → Type 0) : Type 0 where
     pub goes : GoesOn old new
     pub known : IfOk result (λ x. Known new (says x))
     pub among : OnOk result (ReadsAt old new cells)
@@ -41,8 +41,8 @@ module _ {A : Type 0} where
 module _ {A X E : Type 0} (old new : Recorder A) (result : Result X E) where
   -- a look at one header
   abbrev pub LooksAtHeader : (number : ℕ) → (X → ClientSight → Type 0) → Type 0
-  LooksAtHeader number says = Looks old new result (HeaderOf number ∷ []) says
+  LooksAtHeader number says = AnswersLook old new result (HeaderOf number ∷ []) says
 
   -- a look at one name
   abbrev pub LooksAtName : (key : ℕ × List ℕ) → (X → ClientSight → Type 0) → Type 0
-  LooksAtName key says = Looks old new result (NameIn key.0 key.1 ∷ []) says
+  LooksAtName key says = AnswersLook old new result (NameIn key.0 key.1 ∷ []) says

@@ -9,8 +9,8 @@ ghost use Rattle.kfs_model.specs.Check as checks;
 ghost use Rattle.kfs_model.specs.Sight as sight;
 ghost use Rattle.kfs_model.specs.Sight.{CountOf, LeaseOn, ParentOf};
 ghost use Rattle.kfs_mode.specs.Mode.{want_shown};
-ghost use Rattle.kfs_judge_check.specs.Recorders.{Looks, LooksAtHeader, LooksAtName};
-ghost use Rattle.kfs_judge_check.specs.Checks.{check_of, reason_of, entry_context_in, Climbs, JudgesAll, JudgesCheck, IsOfHeader, IsOfRight, is_granted_in, parent_in, sight_in};
+ghost use Rattle.kfs_judge_check.specs.Recorders.{AnswersLook, LooksAtHeader, LooksAtName};
+ghost use Rattle.kfs_judge_check.specs.Checks.{check_of, reason_of, entry_context_in, AnswersClimb, JudgesAll, JudgesCheck, IsOfHeader, IsOfRight, is_granted_in, parent_in, sight_in};
 
 use crate::check::{Check, Reason};
 use crate::reads::Recorder;
@@ -200,7 +200,7 @@ impl<A: Allocator + Copy> EntryJudge<'_, A> {
     }
 
     fn is_leased(&self, recorder: &mut Recorder<'_, A>, number: u32) -> Result<bool, AllocError>
-        ensures { Looks recorder.old recorder.new result (LeaseOn number ∷ []) (λ leased before. checks.is_leased (entry_context_in self.now before) number ≡ leased) }
+        ensures { AnswersLook recorder.old recorder.new result (LeaseOn number ∷ []) (λ leased before. checks.is_leased (entry_context_in self.now before) number ≡ leased) }
     {
         if self.draft.has_created(number) {
             return Ok(true);
@@ -209,7 +209,7 @@ impl<A: Allocator + Copy> EntryJudge<'_, A> {
     }
 
     fn has_no_names(&self, recorder: &mut Recorder<'_, A>, dir: u32) -> Result<bool, AllocError>
-        ensures { Looks recorder.old recorder.new result (CountOf dir ∷ []) (λ empty before. int_eq ((sight_in self.now before).count dir) (pos 0) ≡ empty) }
+        ensures { AnswersLook recorder.old recorder.new result (CountOf dir ∷ []) (λ empty before. int_eq ((sight_in self.now before).count dir) (pos 0) ≡ empty) }
     {
         let count = recorder.count(dir)?;
         let shift = self.draft.shift(dir);
@@ -218,7 +218,7 @@ impl<A: Allocator + Copy> EntryJudge<'_, A> {
 
     /// The directory that the directory stands in now.
     fn parent(&self, recorder: &mut Recorder<'_, A>, number: u32) -> Result<Option<u32>, AllocError>
-        ensures { Looks recorder.old recorder.new result (ParentOf number ∷ []) (λ parent before. parent_in self.now before number ≡ parent) }
+        ensures { AnswersLook recorder.old recorder.new result (ParentOf number ∷ []) (λ parent before. parent_in self.now before number ≡ parent) }
     {
         match self.draft.parent(number) {
             Some(parent) => Ok(parent),
@@ -234,7 +234,7 @@ impl<A: Allocator + Copy> EntryJudge<'_, A> {
         node: u32,
         dir: u32,
     ) -> Result<bool, AllocError>
-        ensures { Climbs self.now recorder.old recorder.new result node dir }
+        ensures { AnswersClimb self.now recorder.old recorder.new result node dir }
     {
         let mut current = dir;
         let mut left = CLIMB_LIMIT;

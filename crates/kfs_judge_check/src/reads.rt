@@ -6,7 +6,7 @@ ghost use Rattle.kfs_entry_value.specs.Views.{header_of};
 ghost use Rattle.kfs_model.specs.Header.{Header as HeaderShown};
 ghost use Rattle.kfs_model.specs.Sight.{answer, Head, Number, Count, Held, CountOf, ParentOf, LeaseOn};
 ghost use Rattle.kfs_judge_check.specs.Reads.{cell_of, answer_of};
-ghost use Rattle.kfs_judge_check.specs.Recorders.{seen_by, Looks, LooksAtHeader, LooksAtName};
+ghost use Rattle.kfs_judge_check.specs.Recorders.{seen_by, AnswersLook, LooksAtHeader, LooksAtName};
 ghost use Rattle.kfs_judge_check.specs.View.{client_sight_in};
 
 use crate::view::View;
@@ -65,7 +65,7 @@ impl<'a, A: Allocator + Copy> Recorder<'a, A> {
 
     /// The answer at a cell: the recorded one, or else the view's, which is recorded then.
     fn read(&mut self, read: Read) -> Result<ReadAnswer, AllocError>
-        ensures { Looks self.old self.new result (cell_of read ∷ []) (λ told before. answer before (cell_of read) ≡ answer_of told) }
+        ensures { AnswersLook self.old self.new result (cell_of read ∷ []) (λ told before. answer before (cell_of read) ≡ answer_of told) }
     {
         if let Some(answer) = self.reads.get(&read) {
             return Ok(*answer);
@@ -104,7 +104,7 @@ impl<'a, A: Allocator + Copy> Recorder<'a, A> {
 
     /// How many names a directory has.
     pub fn count(&mut self, dir: u32) -> Result<u64, AllocError>
-        ensures { Looks self.old self.new result (CountOf dir ∷ []) (λ count before. before.sight.count dir ≡ pos count) }
+        ensures { AnswersLook self.old self.new result (CountOf dir ∷ []) (λ count before. before.sight.count dir ≡ pos count) }
     {
         let answer = self.read(Read::Look(Cell::Count(dir)))?;
         Ok(count_in(answer))
@@ -112,7 +112,7 @@ impl<'a, A: Allocator + Copy> Recorder<'a, A> {
 
     /// The directory that a directory stands in.
     pub fn parent(&mut self, number: u32) -> Result<Option<u32>, AllocError>
-        ensures { Looks self.old self.new result (ParentOf number ∷ []) (λ parent before. before.sight.parent number ≡ parent) }
+        ensures { AnswersLook self.old self.new result (ParentOf number ∷ []) (λ parent before. before.sight.parent number ≡ parent) }
     {
         let answer = self.read(Read::Look(Cell::Parent(number)))?;
         Ok(number_in(answer))
@@ -120,7 +120,7 @@ impl<'a, A: Allocator + Copy> Recorder<'a, A> {
 
     /// Whether the client holds a live write lease on the node.
     pub fn is_held(&mut self, number: u32) -> Result<bool, AllocError>
-        ensures { Looks self.old self.new result (LeaseOn number ∷ []) (λ held before. before.held number ≡ held) }
+        ensures { AnswersLook self.old self.new result (LeaseOn number ∷ []) (λ held before. before.held number ≡ held) }
     {
         let answer = self.read(Read::Lease(number))?;
         Ok(held_in(answer))

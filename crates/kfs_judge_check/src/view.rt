@@ -1,5 +1,5 @@
 //! What a judgement looks at: the image, the leases and the clients as they were at one moment.
-ghost use Rattle.kfs_mode.specs.Clients.{AreDistinct};
+ghost use Rattle.kfs_mode.specs.Clients.{ClientsAreDistinct};
 
 mod answers;
 
@@ -16,5 +16,5 @@ pub struct View<A: Allocator> {
     shape: Arc<Shape<A>, A>,
     leases: Arc<Leases<A>, A>,
     clients: Arc<Vec<Client, A>, A>,
-    ghost distinct: { AreDistinct clients.value.items },
+    ghost distinct: { ClientsAreDistinct clients.value.items },
 }

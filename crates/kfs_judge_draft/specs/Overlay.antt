@@ -143,14 +143,14 @@ module _ {A : Type 0} where
   ShiftsFurther names old new = (most : ℕ) → ShiftsBy most old → ShiftsBy (most + names) new
 
   -- the names and headers that the draft has are among these cells
-  pub record IsWritten (draft : Draft A) (among : List Cell) : Type 0 where
+  pub record ChangesAreAmong (draft : Draft A) (among : List Cell) : Type 0 where
     pub names : (key : ℕ × List ℕ) (value : Option ℕ) → get name_order.compare draft.names key ≡ Some value → Contains among (NameIn key.0 key.1)
     pub heads : (n : ℕ) (value : Option CodeHeader) → get nat_cmp draft.heads n ≡ Some value → Contains among (HeaderOf n)
 
   -- the draft's names and headers were there before, or are this name and this header
   abbrev pub WritesNameAndHeader : (old new : Draft A) (directory : ℕ) (name : List ℕ) (number : ℕ) → Type 0
-  WritesNameAndHeader old new d m n = (among : List Cell) → IsWritten old among → Contains among (NameIn d m) → Contains among (HeaderOf n) → IsWritten new among
+  WritesNameAndHeader old new d m n = (among : List Cell) → ChangesAreAmong old among → Contains among (NameIn d m) → Contains among (HeaderOf n) → ChangesAreAmong new among
 
   -- the draft's names and headers were there before, or are these two names
   abbrev pub WritesTwoNames : (old new : Draft A) (d : ℕ) (m : List ℕ) (e : ℕ) (k : List ℕ) → Type 0
-  WritesTwoNames old new d m e k = (among : List Cell) → IsWritten old among → Contains among (NameIn d m) → Contains among (NameIn e k) → IsWritten new among
+  WritesTwoNames old new d m e k = (among : List Cell) → ChangesAreAmong old among → Contains among (NameIn d m) → Contains among (NameIn e k) → ChangesAreAmong new among

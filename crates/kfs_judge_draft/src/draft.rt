@@ -8,7 +8,7 @@ ghost use Rattle.kfs_model.specs.Sight.{Sight, Cell, HeaderOf, NameIn};
 ghost use Rattle.std.specs.Ordering.{nat_cmp};
 ghost use Rattle.std.specs.BTreeMap.{get};
 ghost use Rattle.kfs_model.specs.Tree.{name_order};
-ghost use Rattle.kfs_judge_draft.specs.Overlay.{has_created, has_header, over, KeepsCreated, KeepsHeaders, KeepsShifts, ShiftsBy, ShiftsFurther, HasRoom, PutsAt, IsWritten, WritesNameAndHeader, WritesTwoNames, shift_of};
+ghost use Rattle.kfs_judge_draft.specs.Overlay.{has_created, has_header, over, KeepsCreated, KeepsHeaders, KeepsShifts, ShiftsBy, ShiftsFurther, HasRoom, PutsAt, ChangesAreAmong, WritesNameAndHeader, WritesTwoNames, shift_of};
 ghost use Rattle.kfs_judge_draft.specs.Overlay.{with_header, with_target, with_more_names, with_parent, with_directory_in, with_node, with_name, without_name, with_name_moved, shift_of};
 
 use kfs_entry_value::{Header, Kind, Name};
@@ -32,7 +32,7 @@ impl<A: Allocator + Copy> Draft<A> {
     /// Nothing changed yet. Takes no memory.
     pub fn new(alloc: A) -> Draft<A>
         ensures shown { (s : Sight) → over result s ≡ s }
-        ensures written { IsWritten result [] }
+        ensures written { ChangesAreAmong result [] }
         ensures created { (n : ℕ) → has_created result n ≡ false }
         ensures shifts { ShiftsBy 0 result }
     {
@@ -135,7 +135,7 @@ impl<A: Allocator + Copy> Draft<A> {
     /// Another header of a node.
     pub fn set_header(&mut self, number: u32, header: Option<Header>) -> Result<(), AllocError>
         ensures shown { OnOk result ((s : Sight) → over self.new s ≡ with_header number (option_map header_of header) (over self.old s)) }
-        ensures written { OnOk result ((among : List Cell) → IsWritten self.old among → Contains among (HeaderOf number) → IsWritten self.new among) }
+        ensures written { OnOk result ((among : List Cell) → ChangesAreAmong self.old among → Contains among (HeaderOf number) → ChangesAreAmong self.new among) }
         ensures created { OnOk result (KeepsCreated self.old self.new) }
         ensures put { OnOk result (IsTrue (has_header self.new number)) }
         ensures kept { OnOk result (KeepsHeaders self.old self.new) }
@@ -148,7 +148,7 @@ impl<A: Allocator + Copy> Draft<A> {
     /// The name leads to this number, or to none.
     fn set_target(&mut self, key: (u32, Name), target: Option<u32>) -> Result<(), AllocError>
         ensures shown { OnOk result ((s : Sight) → over self.new s ≡ with_target key.0 key.1 target (over self.old s)) }
-        ensures written { OnOk result ((among : List Cell) → IsWritten self.old among → Contains among (NameIn key.0 key.1) → IsWritten self.new among) }
+        ensures written { OnOk result ((among : List Cell) → ChangesAreAmong self.old among → Contains among (NameIn key.0 key.1) → ChangesAreAmong self.new among) }
         ensures created { OnOk result (KeepsCreated self.old self.new) }
         ensures kept { OnOk result (KeepsHeaders self.old self.new) }
         ensures shifts { OnOk result (KeepsShifts self.old self.new) }
@@ -160,7 +160,7 @@ impl<A: Allocator + Copy> Draft<A> {
     /// The node stands in this directory, or in none.
     fn set_parent(&mut self, number: u32, parent: Option<u32>) -> Result<(), AllocError>
         ensures shown { OnOk result ((s : Sight) → over self.new s ≡ with_parent number parent (over self.old s)) }
-        ensures written { OnOk result ((among : List Cell) → IsWritten self.old among → IsWritten self.new among) }
+        ensures written { OnOk result ((among : List Cell) → ChangesAreAmong self.old among → ChangesAreAmong self.new among) }
         ensures created { OnOk result (KeepsCreated self.old self.new) }
         ensures kept { OnOk result (KeepsHeaders self.old self.new) }
         ensures shifts { OnOk result (KeepsShifts self.old self.new) }
@@ -172,7 +172,7 @@ impl<A: Allocator + Copy> Draft<A> {
     /// Where the node is a directory it now stands in `dir`.
     fn set_directory_in(&mut self, kind: Kind, number: u32, dir: u32) -> Result<(), AllocError>
         ensures shown { OnOk result ((s : Sight) → over self.new s ≡ with_directory_in (kind_of kind) number dir (over self.old s)) }
-        ensures written { OnOk result ((among : List Cell) → IsWritten self.old among → IsWritten self.new among) }
+        ensures written { OnOk result ((among : List Cell) → ChangesAreAmong self.old among → ChangesAreAmong self.new among) }
         ensures created { OnOk result (KeepsCreated self.old self.new) }
         ensures kept { OnOk result (KeepsHeaders self.old self.new) }
         ensures shifts { OnOk result (KeepsShifts self.old self.new) }
@@ -192,7 +192,7 @@ impl<A: Allocator + Copy> Draft<A> {
         requires greatest { by ≤ℤ pos 1 }
         requires room { HasRoom 1 self.old }
         ensures shown { OnOk result ((s : Sight) → over self.new s ≡ with_more_names dir by (over self.old s)) }
-        ensures written { OnOk result ((among : List Cell) → IsWritten self.old among → IsWritten self.new among) }
+        ensures written { OnOk result ((among : List Cell) → ChangesAreAmong self.old among → ChangesAreAmong self.new among) }
         ensures created { OnOk result (KeepsCreated self.old self.new) }
         ensures kept { OnOk result (KeepsHeaders self.old self.new) }
         ensures shifts { OnOk result (ShiftsFurther 1 self.old self.new) }

@@ -8,7 +8,7 @@ use Rattle.kfs_model.specs.Check.{EntryContext, entry_cells, first_fault}
 use Rattle.kfs_model.specs.Sight.{Cell, ClientSight, HeaderOf}
 use Rattle.kfs_judge_check.specs.declared.check.Reason.{Reason}
 use Rattle.kfs_judge_check.proofs.Looking.{written_wider}
-use Rattle.kfs_judge_draft.specs.Overlay.{has_header, IsWritten, KeepsHeaders, ShiftsBy}
+use Rattle.kfs_judge_draft.specs.Overlay.{has_header, ChangesAreAmong, KeepsHeaders, ShiftsBy}
 use Rattle.kfs_judge_draft.specs.declared.draft.Draft.{Draft}
 use Rattle.kfs_judge_draft.proofs.Overlays.{shifts_wider}
 use Rattle.kfs_judge_step.specs.declared.log_judge.LogJudge.{LogJudge}
@@ -44,7 +44,7 @@ module _ {A : Type 0} (old new : LogJudge A) (then : Recorder A) (entry : Entry)
       → ReadsAt then new.recorder (HeaderOf n ∷ [])
       → ((p : EntryContext) → IsPart (HeaderOf n ∷ []) (entry_cells p entry))
       → ShowsItsChange old new entry
-      → ((among : List Cell) → IsWritten old.draft among → Contains among (HeaderOf n) → IsWritten new.draft among)
+      → ((among : List Cell) → ChangesAreAmong old.draft among → Contains among (HeaderOf n) → ChangesAreAmong new.draft among)
       → CreatesItsNumber old new entry
       → KeepsHeaders old.draft new.draft
       → HasFileOf new.draft entry

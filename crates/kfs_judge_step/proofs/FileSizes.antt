@@ -19,7 +19,7 @@ use Rattle.kfs_judge_draft.specs.declared.draft.Draft.{Draft}
 use Rattle.kfs_judge_draft.specs.Overlay.{over, has_header}
 use Rattle.kfs_judge_step.specs.FileSizes.{AreSizesOver}
 use Rattle.kfs_plan_sweep.specs.declared.sizes.FileSize.{FileSize}
-use Rattle.kfs_plan_sweep.specs.Sizes.{Ascend, size_in}
+use Rattle.kfs_plan_sweep.specs.Sizes.{SizesAscend, size_in}
 
 -- ---- numbers in order
 
@@ -35,7 +35,7 @@ above : (least : ℕ) (ns : List ℕ) → AllByRecursion (λ n. nat_cmp least n 
 above least [] all = tt
 above least (n ∷ ns) all = (let less = less_is least n all.0 in omega arith, above least ns all.1)
 
-ascend-above : (least : ℕ) (sizes : List FileSize) → AllByRecursion (λ n. least ≤ n) (map (λ (s : FileSize). s.number) sizes) → IsStrictlySortedBy nat_cmp (map (λ (s : FileSize). s.number) sizes) → Ascend least sizes
+ascend-above : (least : ℕ) (sizes : List FileSize) → AllByRecursion (λ n. least ≤ n) (map (λ (s : FileSize). s.number) sizes) → IsStrictlySortedBy nat_cmp (map (λ (s : FileSize). s.number) sizes) → SizesAscend least sizes
 unfolding IsStrictlySortedBy
 ascend-above least [] all sorted = tt
 ascend-above least (s ∷ ss) all sorted = (all.0, ascend-above (s.number + 1) ss (above s.number (map (λ (s : FileSize). s.number) ss) sorted.0) sorted.1)
@@ -44,7 +44,7 @@ from_zero : (ns : List ℕ) → AllByRecursion (λ n. 0 ≤ n) ns
 from_zero [] = tt
 from_zero (n ∷ ns) = (let low : 0 ≤ n = omega arith in low, from_zero ns)
 
-pub sorted-ascend : (sizes : List FileSize) (keys : List ℕ) → map (λ (s : FileSize). s.number) sizes ≡ keys → IsStrictlySortedBy nat_cmp keys → Ascend 0 sizes
+pub sorted-ascend : (sizes : List FileSize) (keys : List ℕ) → map (λ (s : FileSize). s.number) sizes ≡ keys → IsStrictlySortedBy nat_cmp keys → SizesAscend 0 sizes
 sorted-ascend sizes keys are sorted = ascend-above 0 sizes (from_zero _) (subst (IsStrictlySortedBy nat_cmp) (sym are) sorted)
 
 -- ---- one header more

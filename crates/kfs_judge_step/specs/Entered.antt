@@ -11,7 +11,7 @@ use Rattle.kfs_judge_check.specs.declared.check.Reason.{Reason}
 use Rattle.kfs_judge_step.specs.declared.log_judge.LogJudge.{LogJudge}
 use Rattle.kfs_judge_step.specs.FileSizes.{HasFileOf}
 use Rattle.kfs_judge_check.specs.Checks.{reason_of}
-use Rattle.kfs_judge_draft.specs.Overlay.{over, entry_context_of, AreCreated, IsWritten, KeepsHeaders, ShiftsFurther}
+use Rattle.kfs_judge_draft.specs.Overlay.{over, entry_context_of, AreCreated, ChangesAreAmong, KeepsHeaders, ShiftsFurther}
 use Rattle.kfs_judge_check.specs.Reads.{IsPart}
 use Rattle.kfs_judge_check.specs.Recorders.{GoesOn, Known, ReadsAt}
 
@@ -43,7 +43,7 @@ module _ {A : Type 0} (old new : LogJudge A) (entry : Entry) where
 
   -- what the draft has was there before, or the entry looked at it
   abbrev pub WritesItsCells : Type 0
-  WritesItsCells = Known new.recorder (λ before. (among : List Cell) → IsWritten old.draft among → IsWritten new.draft (entry_cells (next_context old before) entry ++ among))
+  WritesItsCells = Known new.recorder (λ before. (among : List Cell) → ChangesAreAmong old.draft among → ChangesAreAmong new.draft (entry_cells (next_context old before) entry ++ among))
 
   abbrev pub CreatesItsNumber : Type 0
   CreatesItsNumber = (numbers : List ℕ) → AreCreated old.draft numbers → AreCreated new.draft (created_by entry numbers)
@@ -73,7 +73,7 @@ module _ {A : Type 0} (old new : LogJudge A) (d : ℕ) (m : List ℕ) (there : O
   ShowsUnlink = Known new.recorder (λ before. over new.draft before.sight ≡ seen_unlinked d m there (over old.draft before.sight))
 
   abbrev pub WritesUnlink : Type 0
-  WritesUnlink = (among : List Cell) → IsWritten old.draft among → Contains among (NameIn d m) → IsPart (headers_unlinked there) among → IsWritten new.draft among
+  WritesUnlink = (among : List Cell) → ChangesAreAmong old.draft among → Contains among (NameIn d m) → IsPart (headers_unlinked there) among → ChangesAreAmong new.draft among
 
 -- a name moves to a second one, where the two lead to these nodes
 module _ {A : Type 0} (old new : LogJudge A) (d : ℕ) (m : List ℕ) (e : ℕ) (k : List ℕ) (from to : Option ℕ) where
@@ -81,4 +81,4 @@ module _ {A : Type 0} (old new : LogJudge A) (d : ℕ) (m : List ℕ) (e : ℕ) 
   ShowsRename = Known new.recorder (λ before. over new.draft before.sight ≡ seen_renamed d m e k from to (over old.draft before.sight))
 
   abbrev pub WritesRename : Type 0
-  WritesRename = (among : List Cell) → IsWritten old.draft among → Contains among (NameIn d m) → Contains among (NameIn e k) → IsPart (headers_renamed from to) among → IsWritten new.draft among
+  WritesRename = (among : List Cell) → ChangesAreAmong old.draft among → Contains among (NameIn d m) → Contains among (NameIn e k) → IsPart (headers_renamed from to) among → ChangesAreAmong new.draft among

@@ -5,7 +5,7 @@ use Rattle.kfs_model.specs.Tree.{name_order}
 use Rattle.kfs_model.specs.Sight.{Cell, ClientSight, Sight}
 use Rattle.kfs_model.specs.Plan.{AreDifferences, number_now, header_now}
 use Rattle.kfs_judge_draft.specs.declared.draft.Draft.{Draft}
-use Rattle.kfs_judge_draft.specs.Overlay.{IsWritten, over}
+use Rattle.kfs_judge_draft.specs.Overlay.{ChangesAreAmong, over}
 use Rattle.kfs_judge_check.specs.declared.reads.Recorder.{Recorder}
 use Rattle.kfs_judge_check.specs.Recorders.{GoesOn, Known, ReadsAt}
 use Rattle.kfs_judge_step.specs.Rows.{keyed_name_row, keyed_node_row}
@@ -33,4 +33,4 @@ IsNetOver draft s net = IsNetOf s (over draft s) net
 pub record LooksOver {A X E : Type 0} (draft : Draft A) (old new : Recorder A) (result : Result X E) (says : X → ClientSight → Type 0) : Type 0 where
   pub goes : GoesOn old new
   pub known : IfOk result (λ x. Known new (says x))
-  pub among : OnOk result ((among : List Cell) → IsWritten draft among → ReadsAt old new among)
+  pub among : OnOk result ((among : List Cell) → ChangesAreAmong draft among → ReadsAt old new among)

@@ -7,7 +7,7 @@ ghost use Rattle.kfs_model.specs.Entry as entry;
 ghost use Rattle.kfs_model.specs.Header.{Header as HeaderShown};
 ghost use Rattle.kfs_judge_step.specs.Entered.{IsEntered};
 ghost use Rattle.kfs_judge_draft.specs.Overlay.{has_created, ShiftsBy};
-ghost use Rattle.kfs_judge_check.specs.Checks.{Judges};
+ghost use Rattle.kfs_judge_check.specs.Checks.{AnswersEntry};
 
 use crate::check::check;
 use crate::log_judge::LogJudge;
@@ -22,7 +22,7 @@ fn chmod_fault<A: Allocator + Copy>(
     recorder: &mut Recorder<'_, A>,
     number: u32,
 ) -> Result<Option<Reason>, AllocError>
-    ensures { (mode : ℕ) → Judges judge.now recorder.old recorder.new result (entry.Chmod number mode) }
+    ensures { (mode : ℕ) → AnswersEntry judge.now recorder.old recorder.new result (entry.Chmod number mode) }
 {
     check!(judge, recorder;
         Exists(number),

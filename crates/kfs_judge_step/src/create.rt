@@ -9,7 +9,7 @@ ghost use Rattle.kfs_model.specs.SeenAfter.{seen_after};
 ghost use Rattle.kfs_model.specs.Sight.{Sight};
 ghost use Rattle.kfs_judge_step.specs.Entered.{IsEntered};
 ghost use Rattle.kfs_judge_draft.specs.Overlay.{has_created, over, ShiftsBy, HasRoom};
-ghost use Rattle.kfs_judge_check.specs.Checks.{Judges};
+ghost use Rattle.kfs_judge_check.specs.Checks.{AnswersEntry};
 
 use crate::check::check;
 use crate::log_judge::LogJudge;
@@ -25,7 +25,7 @@ fn create_fault<A: Allocator + Copy>(
     key: &(u32, Name),
     number: u32,
 ) -> Result<Option<Reason>, AllocError>
-    ensures { (kind : KindShown) (mode : ℕ) → Judges judge.now recorder.old recorder.new result (entry.Create key.now.0 key.now.1 number kind mode) }
+    ensures { (kind : KindShown) (mode : ℕ) → AnswersEntry judge.now recorder.old recorder.new result (entry.Create key.now.0 key.now.1 number kind mode) }
 {
     let dir = key.0;
     check!(judge, recorder;

@@ -2,7 +2,7 @@
 ghost use Rattle.std.specs.Prelude.{◌≡◌, ℕ, ◌+◌, None, Ok, IfOk, OnOk};
 ghost use Rattle.kfs_model.specs.Check.{checks_of};
 ghost use Rattle.kfs_model.specs.Entry as entry;
-ghost use Rattle.kfs_judge_check.specs.Checks.{Judges};
+ghost use Rattle.kfs_judge_check.specs.Checks.{AnswersEntry};
 ghost use Rattle.kfs_judge_step.specs.Entered.{IsEntered};
 ghost use Rattle.kfs_judge_draft.specs.Overlay.{has_created, HasRoom, ShiftsBy};
 
@@ -21,7 +21,7 @@ fn link_fault<A: Allocator + Copy>(
     number: u32,
     key: &(u32, Name),
 ) -> Result<Option<Reason>, AllocError>
-    ensures { Judges judge.now recorder.old recorder.new result (entry.Link number key.now.0 key.now.1) }
+    ensures { AnswersEntry judge.now recorder.old recorder.new result (entry.Link number key.now.0 key.now.1) }
 {
     let dir = key.0;
     check!(judge, recorder;

@@ -3,11 +3,11 @@ ghost use Rattle.std.specs.Prelude.{◌≡◌, ℕ, ◌+◌, ◌==◌, List, len
 ghost use Rattle.kfs_entry_value.specs.Views.{entry_of, IsWithin};
 ghost use Rattle.kfs_model.specs.Sight.{Sight};
 ghost use Rattle.kfs_judge_step.specs.Entered.{IsEntered};
-ghost use Rattle.kfs_judge_draft.specs.Overlay.{has_created, over, ShiftsBy, ShiftsFurther, HasRoom, IsWritten};
+ghost use Rattle.kfs_judge_draft.specs.Overlay.{has_created, over, ShiftsBy, ShiftsFurther, HasRoom, ChangesAreAmong};
 ghost use Rattle.kfs_judge_check.specs.Recorders.{GoesOn, seen_by};
 ghost use Rattle.kfs_judge_step.specs.Nets.{IsNetOver, LooksOver};
 ghost use Rattle.kfs_judge_step.specs.FileSizes.{AreSizesOver};
-ghost use Rattle.kfs_plan_sweep.specs.Sizes.{Ascend, IsSize};
+ghost use Rattle.kfs_plan_sweep.specs.Sizes.{SizesAscend, IsSize};
 ghost use Rattle.std.specs.List.{AllByRecursion};
 ghost use Rattle.kfs_judge_check.specs.View.{client_sight_in};
 
@@ -67,7 +67,7 @@ impl<'a, A: Allocator + Copy> LogJudge<'a, A> {
         ensures none { result.recorder.reads.entries ≡ [] }
         ensures seen { seen_by result.recorder ≡ client_sight_in view.now client.now.number }
         ensures shown { (s : Sight) → over result.draft s ≡ s }
-        ensures written { IsWritten result.draft [] }
+        ensures written { ChangesAreAmong result.draft [] }
         ensures created { (n : ℕ) → has_created result.draft n ≡ false }
         ensures shifts { ShiftsBy 0 result.draft }
     {
@@ -105,7 +105,7 @@ impl<'a, A: Allocator + Copy> LogJudge<'a, A> {
     pub fn sizes(&mut self, alloc: A) -> Result<Vec<FileSize, A>, AllocError>
         ensures draft { self.new.draft ≡ self.old.draft }
         ensures looks { LooksOver self.old.draft self.old.recorder self.new.recorder result (λ sizes before. AreSizesOver self.old.draft before.sight sizes.items) }
-        ensures ascending { IfOk result (λ sizes. Ascend 0 sizes.items) }
+        ensures ascending { IfOk result (λ sizes. SizesAscend 0 sizes.items) }
         ensures short { IfOk result (λ sizes. AllByRecursion IsSize sizes.items) }
     {
         file_sizes(alloc, &self.draft, &mut self.recorder)

@@ -2,7 +2,7 @@
 ghost use Rattle.std.specs.Prelude.{◌≡◌, true, false, ℕ, ◌+◌, Some, None, Ok, IfOk, OnOk};
 ghost use Rattle.kfs_model.specs.Check.{checks_of, arrival_checks, may_go, on_number, rename_checks};
 ghost use Rattle.kfs_model.specs.Entry as entry;
-ghost use Rattle.kfs_judge_check.specs.Checks.{Judges, JudgesAll};
+ghost use Rattle.kfs_judge_check.specs.Checks.{AnswersEntry, JudgesAll};
 ghost use Rattle.kfs_judge_step.specs.Entered.{IsEntered, headers_renamed, ShowsRename, WritesRename};
 ghost use Rattle.kfs_judge_draft.specs.Overlay.{HasRoom, KeepsCreated, KeepsHeaders, ShiftsFurther};
 ghost use Rattle.kfs_judge_check.specs.Recorders.{GoesOn, ReadsAt};
@@ -23,7 +23,7 @@ fn rename_fault<A: Allocator + Copy>(
     key: &(u32, Name),
     new_key: &(u32, Name),
 ) -> Result<Option<Reason>, AllocError>
-    ensures { Judges judge.now recorder.old recorder.new result (entry.Rename key.now.0 key.now.1 new_key.now.0 new_key.now.1) }
+    ensures { AnswersEntry judge.now recorder.old recorder.new result (entry.Rename key.now.0 key.now.1 new_key.now.0 new_key.now.1) }
 {
     let (dir, new_dir) = (key.0, new_key.0);
     check!(judge, recorder;

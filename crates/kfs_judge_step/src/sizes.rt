@@ -6,7 +6,7 @@ ghost use Rattle.kfs_entry_value.specs.Views.{header_of};
 ghost use Rattle.kfs_model.specs.Sight.{Sight};
 ghost use Rattle.kfs_judge_step.specs.FileSizes.{AreSizesOver};
 ghost use Rattle.kfs_judge_step.specs.Nets.{LooksOver};
-ghost use Rattle.kfs_plan_sweep.specs.Sizes.{Ascend, IsSize, size_in};
+ghost use Rattle.kfs_plan_sweep.specs.Sizes.{SizesAscend, IsSize, size_in};
 
 use kfs_entry_value::SIZE_LIMIT;
 use kfs_image_nodes::Header;
@@ -23,7 +23,7 @@ pub fn file_sizes<A: Allocator + Copy>(
     recorder: &mut Recorder<'_, A>,
 ) -> Result<Vec<FileSize, A>, AllocError>
     ensures looks { LooksOver draft.now recorder.old recorder.new result (λ sizes before. AreSizesOver draft.now before.sight sizes.items) }
-    ensures ascending { IfOk result (λ sizes. Ascend 0 sizes.items) }
+    ensures ascending { IfOk result (λ sizes. SizesAscend 0 sizes.items) }
     ensures short { IfOk result (λ sizes. AllByRecursion IsSize sizes.items) }
 {
     let mut sizes = Vec::new(alloc);

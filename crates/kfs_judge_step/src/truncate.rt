@@ -7,7 +7,7 @@ ghost use Rattle.kfs_model.specs.Entry as entry;
 ghost use Rattle.kfs_model.specs.Header.{Header as HeaderShown};
 ghost use Rattle.kfs_judge_step.specs.Entered.{IsEntered};
 ghost use Rattle.kfs_judge_draft.specs.Overlay.{has_created, ShiftsBy};
-ghost use Rattle.kfs_judge_check.specs.Checks.{Judges};
+ghost use Rattle.kfs_judge_check.specs.Checks.{AnswersEntry};
 
 use crate::check::check;
 use crate::log_judge::LogJudge;
@@ -23,7 +23,7 @@ fn truncate_fault<A: Allocator + Copy>(
     number: u32,
     size: u64,
 ) -> Result<Option<Reason>, AllocError>
-    ensures { Judges judge.now recorder.old recorder.new result (entry.Truncate number size) }
+    ensures { AnswersEntry judge.now recorder.old recorder.new result (entry.Truncate number size) }
 {
     let end = u128::from(size);
     check!(judge, recorder;

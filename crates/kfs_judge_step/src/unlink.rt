@@ -2,7 +2,7 @@
 ghost use Rattle.std.specs.Prelude.{◌≡◌, ℕ, ◌+◌, None, Ok, IfOk, OnOk};
 ghost use Rattle.kfs_model.specs.Check.{checks_of, may_go};
 ghost use Rattle.kfs_model.specs.Entry as entry;
-ghost use Rattle.kfs_judge_check.specs.Checks.{Judges, JudgesAll};
+ghost use Rattle.kfs_judge_check.specs.Checks.{AnswersEntry, JudgesAll};
 ghost use Rattle.kfs_judge_step.specs.Entered.{IsEntered, headers_unlinked, ShowsUnlink, WritesUnlink};
 ghost use Rattle.kfs_judge_draft.specs.Overlay.{HasRoom, KeepsCreated, KeepsHeaders, ShiftsFurther};
 ghost use Rattle.kfs_judge_check.specs.Recorders.{GoesOn, ReadsAt};
@@ -23,7 +23,7 @@ fn unlink_fault<A: Allocator + Copy>(
     key: &(u32, Name),
     kind: Kind,
 ) -> Result<Option<Reason>, AllocError>
-    ensures { Judges judge.now recorder.old recorder.new result (entry.Unlink key.now.0 key.now.1 (kind_of kind)) }
+    ensures { AnswersEntry judge.now recorder.old recorder.new result (entry.Unlink key.now.0 key.now.1 (kind_of kind)) }
 {
     let dir = key.0;
     check!(judge, recorder;

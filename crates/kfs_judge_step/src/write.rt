@@ -8,7 +8,7 @@ ghost use Rattle.kfs_model.specs.SeenAfter as seen;
 ghost use Rattle.kfs_judge_step.specs.Entered.{IsEntered};
 ghost use Rattle.kfs_judge_step.specs.Written.{IsWrittenAt};
 ghost use Rattle.kfs_judge_draft.specs.Overlay.{has_created, ShiftsBy};
-ghost use Rattle.kfs_judge_check.specs.Checks.{Judges, JudgesAll};
+ghost use Rattle.kfs_judge_check.specs.Checks.{AnswersEntry, JudgesAll};
 
 use crate::check::check;
 use crate::log_judge::LogJudge;
@@ -25,7 +25,7 @@ fn write_fault<A: Allocator + Copy>(
     offset: u64,
     len: usize,
 ) -> Result<Option<Reason>, AllocError>
-    ensures { (p : List ℕ) → length p ≡ len → Judges judge.now recorder.old recorder.new result (entry.Write number offset p) }
+    ensures { (p : List ℕ) → length p ≡ len → AnswersEntry judge.now recorder.old recorder.new result (entry.Write number offset p) }
 {
     check!(judge, recorder;
         Exists(number),

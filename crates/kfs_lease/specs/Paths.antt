@@ -24,9 +24,9 @@ walked_along sight client parts = walked sight client root_number 0 (parts_left 
 
 module _ (sight : Sight) (client : Client) (directory index : ℕ) (name : List ℕ) where
   -- the name leads from the directory to the next node, where the walk goes on
-  abbrev pub LeadsTo : (next : ℕ) → Type 0
-  LeadsTo next = (names : List (List ℕ)) → walked sight client directory index (name ∷ names) ≡ walked sight client next (index + 1) names
+  abbrev pub WalkGoesOn : (next : ℕ) → Type 0
+  WalkGoesOn next = (names : List (List ℕ)) → walked sight client directory index (name ∷ names) ≡ walked sight client next (index + 1) names
 
   -- the walk stops at the name
-  abbrev pub StopsAt : LeaseFault → Type 0
-  StopsAt fault = (names : List (List ℕ)) → IsSomeAnd (fault_of fault) (λ refusal. walked sight client directory index (name ∷ names) ≡ Err refusal)
+  abbrev pub WalkStops : LeaseFault → Type 0
+  WalkStops fault = (names : List (List ℕ)) → IsSomeAnd (fault_of fault) (λ refusal. walked sight client directory index (name ∷ names) ≡ Err refusal)

@@ -1,7 +1,7 @@
 //! Leases of clients on nodes, up to an end moment: read leases are shared, write leases exclusive.
 ghost use Rattle.std.specs.Prelude.{◌≡◌, ◌==◌, not, Ok, Err, IfOk, IfErr, OnOk, OnErr, IfSome, IsSomeAnd};
 ghost use Rattle.kfs_model.specs.Lease.{no_leases, holds, granted, dropped, ticked, without_gone};
-ghost use Rattle.kfs_mode.specs.Clients.{AreDistinct};
+ghost use Rattle.kfs_mode.specs.Clients.{ClientsAreDistinct};
 ghost use Rattle.kfs_image_nodes.specs.Contents.{sight_of};
 ghost use Rattle.kfs_lease.specs.Faults.{fault_of, Refuses};
 ghost use Rattle.kfs_lease_rows.specs.Rows.{kind_of};
@@ -23,13 +23,13 @@ pub struct Leases<A: Allocator> {
 
 impl<A: Allocator> Model for Leases<A> {
     ghost use Rattle.kfs_model.specs.Lease.{Leases as LeaseTable};
-    ghost use Rattle.kfs_lease_rows.specs.Rows.{table_in, IsIndexed};
+    ghost use Rattle.kfs_lease_rows.specs.Rows.{table_in, EndsAreExact};
 
     ghost Value = { LeaseTable };
 
     ghost view = { λ l. record { rows = table_in l.rows; moment = l.moment } };
 
-    ghost invariant = { λ l. IsIndexed l.rows };
+    ghost invariant = { λ l. EndsAreExact l.rows };
 }
 
 impl<A: Allocator + Clone> Clone for Leases<A> {
@@ -121,7 +121,7 @@ impl<A: Allocator> Leases<A> {
         client: u32,
         number: u32,
     ) -> Result<(), LeaseFault>
-        requires distinct { AreDistinct clients.now }
+        requires distinct { ClientsAreDistinct clients.now }
         ensures ok { OnOk result (dropped self.old clients.now client number ≡ (Ok number, self.new)) }
         ensures err { IfErr result (λ fault. IsSomeAnd (fault_of fault) (λ f. dropped self.old clients.now client number ≡ (Err f, self.new))) }
     {
@@ -175,7 +175,7 @@ impl<A: Allocator + Clone> Leases<A> {
         kind: LeaseKind,
         end: u64,
     ) -> Result<u32, LeaseFault>
-        requires distinct { AreDistinct clients.now }
+        requires distinct { ClientsAreDistinct clients.now }
         ensures ok { IfOk result (λ number. granted self.old (sight_of shape.now) clients.now client path.now (kind_of kind) end ≡ (Ok number, self.new)) }
         ensures err { IfErr result (λ fault. Refuses (granted self.old (sight_of shape.now) clients.now client path.now (kind_of kind) end) fault self.new) }
         ensures unchanged { OnErr result (self.new ≡ self.old) }

@@ -10,7 +10,7 @@ ghost use Rattle.kfs_model.specs.Table.{get};
 ghost use Rattle.kfs_model.specs.Tree.{target};
 ghost use Rattle.kfs_model.specs.Sight.{is_directory};
 ghost use Rattle.kfs_entry_value.specs.Views.{header_of as header_shown};
-ghost use Rattle.kfs_lease.specs.Paths.{left_of, parts_left, walked_along, LeadsTo, StopsAt};
+ghost use Rattle.kfs_lease.specs.Paths.{left_of, parts_left, walked_along, WalkGoesOn, WalkStops};
 ghost use Rattle.kfs_lease.specs.Faults.{fault_of};
 
 use crate::leases::LeaseFault;
@@ -115,8 +115,8 @@ fn step<A: Allocator>(
     index: usize,
 ) -> Result<u32, LeaseFault>
     requires { IsTrue (spelling.is_name component.now) }
-    ensures ok { IfOk result (λ next. LeadsTo (sight_of shape.now) client.now dir index component.now next) }
-    ensures err { IfErr result (λ fault. StopsAt (sight_of shape.now) client.now dir index component.now fault) }
+    ensures ok { IfOk result (λ next. WalkGoesOn (sight_of shape.now) client.now dir index component.now next) }
+    ensures err { IfErr result (λ fault. WalkStops (sight_of shape.now) client.now dir index component.now fault) }
 {
     let Some(header) = directory(shape, dir) else {
         return Err(LeaseFault::NotDirectory(index));

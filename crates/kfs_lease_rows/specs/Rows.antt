@@ -47,5 +47,5 @@ module _ {A : Type 0} where
   table_in rows = table_of rows.leases.entries
 
   -- the ends are those of the rows
-  pub record IsIndexed (rows : Rows A) : Type 0 where
+  pub record EndsAreExact (rows : Rows A) : Type 0 where
     pub ends : (end : ℕ) (key : ℕ × ℕ) → set.contains by_end.compare rows.ends (end, key) ≡ ends_at (slots_of.get by_node.compare rows.leases key) end

@@ -5,7 +5,7 @@ ghost use Rattle.std.specs.BTreeMap as slots_of;
 ghost use Rattle.std.specs.BTreeSet as set;
 ghost use Rattle.kfs_model.specs.Table.{empty, get, insert, remove};
 ghost use Rattle.kfs_model.specs.Lease as model;
-ghost use Rattle.kfs_lease_rows.specs.Rows.{kind_of, lease_of, by_node, by_end, table_in, ends_at, has_end, row_count, IsIndexed};
+ghost use Rattle.kfs_lease_rows.specs.Rows.{kind_of, lease_of, by_node, by_end, table_in, ends_at, has_end, row_count, EndsAreExact};
 
 use std::alloc::{AllocError, Allocator};
 use std::collections::{BTreeMap, BTreeSet};
@@ -67,7 +67,7 @@ impl<A: Allocator + Copy> Rows<A> {
     #[tactic(auto, unfolding(crate::specs::Rows::table_of))]
     pub fn empty(alloc: A) -> Rows<A>
         ensures table { table_in result ≡ empty }
-        ensures indexed { IsIndexed result }
+        ensures indexed { EndsAreExact result }
     {
         Rows {
             leases: BTreeMap::new(alloc),
@@ -109,8 +109,8 @@ impl<A: Allocator> Rows<A> {
 
     /// Takes the client's lease on the node out, and answers whether there was one.
     pub fn take(&mut self, client: u32, number: u32) -> bool
-        requires { IsIndexed self.old }
-        ensures indexed { IsIndexed self.new }
+        requires { EndsAreExact self.old }
+        ensures indexed { EndsAreExact self.new }
         ensures found { result ≡ is_some (get (table_in self.old) (client, number)) }
         ensures table { table_in self.new ≡ remove (table_in self.old) (client, number) }
         ensures kept { result ≡ false → table_in self.new ≡ table_in self.old }
@@ -128,8 +128,8 @@ impl<A: Allocator> Rows<A> {
 
     /// Takes out the leases that end at the moment or before.
     pub fn end_until(&mut self, moment: u64)
-        requires { IsIndexed self.old }
-        ensures indexed { IsIndexed self.new }
+        requires { EndsAreExact self.old }
+        ensures indexed { EndsAreExact self.new }
         ensures table { table_in self.new ≡ model.live_at moment (table_in self.old) }
     {
         while let Some((_, key)) = take_ended(&mut self.ends, moment) {
@@ -139,8 +139,8 @@ impl<A: Allocator> Rows<A> {
 
     /// Takes out the leases on the node.
     pub fn remove_node(&mut self, number: u32)
-        requires { IsIndexed self.old }
-        ensures indexed { IsIndexed self.new }
+        requires { EndsAreExact self.old }
+        ensures indexed { EndsAreExact self.new }
         ensures table { table_in self.new ≡ model.on_those (λ node. not (node == number)) (table_in self.old) }
     {
         while let Some(client) = first_client(&self.leases, number) {
@@ -193,8 +193,8 @@ impl<A: Allocator + Clone> Rows<A> {
 
     /// Puts a lease in place of the one of the same client and node.
     pub fn put(&mut self, client: u32, number: u32, lease: Lease) -> Result<(), AllocError>
-        requires { IsIndexed self.old }
-        ensures indexed { IsIndexed self.new }
+        requires { EndsAreExact self.old }
+        ensures indexed { EndsAreExact self.new }
         ensures table { OnOk result (table_in self.new ≡ insert (table_in self.old) (client, number) (lease_of lease)) }
         ensures err { OnErr result (table_in self.new ≡ table_in self.old) }
     {

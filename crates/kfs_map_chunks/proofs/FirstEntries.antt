@@ -9,7 +9,7 @@ use Rattle.std.specs.Ordering.{is_eq, is_lt, is_gt, eq_by_cmp}
 use Rattle.std.specs.FinMap.Entries.{find, is_sorted}
 use Rattle.kfs_model.specs.Table.{Order}
 use Rattle.kfs_model.proofs.Tables.{left_part, right_part, find_head, find_behind}
-use Rattle.kfs_map_chunks.specs.Starts.{is_from, first_from, entry_from, reaches, IsNext}
+use Rattle.kfs_map_chunks.specs.Starts.{is_from, first_from, entry_from, reaches, IsNextEntry}
 use Rattle.kfs_map_chunks.proofs.Order.{true_or_false, flipped}
 use Rattle.kfs_map_chunks.proofs.Sorted.{from_itself, passed_over, none_lower}
 
@@ -83,7 +83,7 @@ module _ {K V : Type 0} (R : Order K) where
       at rest false here none = passed_over R start q e es from here ∙ rest none from
 
   -- the first entry from the start on is the next one
-  pub next_is : (start : Bound K) (es : List (K × V)) (k : K) (v : V) → T (is_sorted R.compare es) → entry_from R.compare start es ≡ Some (k, v) → IsNext R.compare start es k v
+  pub next_is : (start : Bound K) (es : List (K × V)) (k : K) (v : V) → T (is_sorted R.compare es) → entry_from R.compare start es ≡ Some (k, v) → IsNextEntry R.compare start es k v
   next_is start [] k v sorted found = absurd (let e : None ≡ Some (k, v) = found in cc)
   next_is start (e ∷ es) k v sorted found = at (next_is start es k v (right_part _ _ sorted)) (is_from R.compare start e.0) refl found
     where
@@ -92,8 +92,8 @@ module _ {K V : Type 0} (R : Order K) where
       not_lower q Equal p some = ap is_lt p
       not_lower q Greater p some = ap is_lt p
 
-      at : (entry_from R.compare start es ≡ Some (k, v) → IsNext R.compare start es k v)
-          → (b : Bool) → is_from R.compare start e.0 ≡ b → cond b (Some e) (entry_from R.compare start es) ≡ Some (k, v) → IsNext R.compare start (e ∷ es) k v
+      at : (entry_from R.compare start es ≡ Some (k, v) → IsNextEntry R.compare start es k v)
+          → (b : Bool) → is_from R.compare start e.0 ≡ b → cond b (Some e) (entry_from R.compare start es) ≡ Some (k, v) → IsNextEntry R.compare start (e ∷ es) k v
       at rest true here found =
           let same : e ≡ (k, v) = cc found in
           record {

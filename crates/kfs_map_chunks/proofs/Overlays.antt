@@ -13,7 +13,7 @@ use Rattle.std.specs.BTreeMap.{BTreeMap, get as get_slot, is_at}
 use Rattle.kfs_model.specs.Table.{Order, Table, get, changed}
 use Rattle.kfs_model.proofs.TableLaws.{same_table, get-changed}
 use Rattle.kfs_map_chunks.specs.declared.edit.Edit.{Edit}
-use Rattle.kfs_map_chunks.specs.Edits.{edited, Ascend}
+use Rattle.kfs_map_chunks.specs.Edits.{edited, KeysAscend}
 use Rattle.kfs_map_chunks.specs.Tables.{table_after}
 use Rattle.kfs_map_chunks.specs.Overlays.{said_or, key_edits, overlaid, Say}
 use Rattle.kfs_map_chunks.proofs.Tables.{get-table_after}
@@ -44,7 +44,7 @@ module _ {K X : Type 0} where
   keys_kept [] = refl
   keys_kept (e ∷ es) = ap (λ keys. e.0 ∷ keys) (keys_kept es)
 
-  pub key_edits_ascend : (cmp : K → K → Ordering) (es : List (K × Option X)) → IsStrictlySortedBy cmp (keys_of es) → Ascend cmp (key_edits es)
+  pub key_edits_ascend : (cmp : K → K → Ordering) (es : List (K × Option X)) → IsStrictlySortedBy cmp (keys_of es) → KeysAscend cmp (key_edits es)
   key_edits_ascend cmp es sorted i j d less below =
       let key : Edit K X → K = λ e. e.key in
       let edits = key_edits es in

@@ -14,9 +14,9 @@ use Rattle.std.specs.FinMap.Entries.{find, is_sorted, below_all}
 use Rattle.kfs_model.specs.Table.{Order}
 use Rattle.kfs_model.proofs.Tables.{left_part, right_part}
 use Rattle.kfs_map_chunks.specs.declared.edit.Edit.{Edit}
-use Rattle.kfs_map_chunks.specs.Edits.{Ascend}
-use Rattle.kfs_map_chunks.specs.Held.{Held}
-use Rattle.kfs_map_chunks.specs.Joined.{joined, place, Each, IsFilled, AreSized, AreFilled}
+use Rattle.kfs_map_chunks.specs.Edits.{KeysAscend}
+use Rattle.kfs_map_chunks.specs.Buffer.{Buffer}
+use Rattle.kfs_map_chunks.specs.Joined.{joined, first_chunk_from, Each, IsNotEmpty, AreSized, AreFilled}
 use Rattle.kfs_map_chunks.specs.Starts.{is_from, entry_from, reaches}
 use Rattle.kfs_map_chunks.proofs.Order.{true_or_false, un_not, flipped, not_below, not_earlier}
 use Rattle.kfs_map_chunks.proofs.Sorted.{earlier, as_less, less_from, below_lower, first_below, not_some}
@@ -84,7 +84,7 @@ module _ {K V : Type 0} (R : Order K) where
 
 module _ {K V : Type 0} (R : Order K) where
   -- the edits that reach into the entries stand before the others
-  pub parted_edits : (xs : List (K × V)) (es : List (Edit K V)) → Ascend R.compare es → IsPartitionedBy (λ (e : Edit K V). reaches R.compare (Included e.key) xs) es
+  pub parted_edits : (xs : List (K × V)) (es : List (Edit K V)) → KeysAscend R.compare es → IsPartitionedBy (λ (e : Edit K V). reaches R.compare (Included e.key) xs) es
   parted_edits xs es ascend i j d le below reached = at (reaches R.compare (Included (slice_index_or es i d).key) xs) refl
     where
       later : is_lt (R.compare (slice_index_or es j d).key (slice_index_or es i d).key) ≡ false
@@ -108,72 +108,72 @@ module _ {K V : Type 0} (R : Order K) where
       ap (λ (e : Edit K V). entry_from R.compare (Included e.key) xs) (get_or-drop run es k d) ∙ not_some _ (past (run + k) d (omega arith) (omega (arith, below, length-drop run es)))
 
 module _ {K V A : Type 0} where
-  pub joined-append : (xs ys : List (Arc (Held K V) A)) → joined (xs ++ ys) ≡ joined xs ++ joined ys
+  pub joined-append : (xs ys : List (Arc (Buffer K V) A)) → joined (xs ++ ys) ≡ joined xs ++ joined ys
   joined-append [] ys = refl
   joined-append (x ∷ xs) ys = ap (λ es. x.value.pairs ++ es) (joined-append xs ys) ∙ sym (append_assoc x.value.pairs (joined xs) (joined ys))
 
-  pub each-append : (P : List (K × V) → Type 0) (xs ys : List (Arc (Held K V) A)) → Each P xs → Each P ys → Each P (xs ++ ys)
+  pub each-append : (P : List (K × V) → Type 0) (xs ys : List (Arc (Buffer K V) A)) → Each P xs → Each P ys → Each P (xs ++ ys)
   each-append P [] ys left right = right
   each-append P (x ∷ xs) ys left right = (left.0, each-append P xs ys left.1 right)
 
-  pub each_left : (P : List (K × V) → Type 0) (xs ys : List (Arc (Held K V) A)) → Each P (xs ++ ys) → Each P xs
+  pub each_left : (P : List (K × V) → Type 0) (xs ys : List (Arc (Buffer K V) A)) → Each P (xs ++ ys) → Each P xs
   each_left P [] ys all = tt
   each_left P (x ∷ xs) ys all = (all.0, each_left P xs ys all.1)
 
-  pub each_right : (P : List (K × V) → Type 0) (xs ys : List (Arc (Held K V) A)) → Each P (xs ++ ys) → Each P ys
+  pub each_right : (P : List (K × V) → Type 0) (xs ys : List (Arc (Buffer K V) A)) → Each P (xs ++ ys) → Each P ys
   each_right P [] ys all = all
   each_right P (x ∷ xs) ys all = each_right P xs ys all.1
 
-  pub each_at : (P : List (K × V) → Type 0) (cs : List (Arc (Held K V) A)) (i : ℕ) (d : Arc (Held K V) A) → Each P cs → i < length cs → P (get_or cs i d).value.pairs
+  pub each_at : (P : List (K × V) → Type 0) (cs : List (Arc (Buffer K V) A)) (i : ℕ) (d : Arc (Buffer K V) A) → Each P cs → i < length cs → P (get_or cs i d).value.pairs
   each_at P [] i d all within = absurd (omega (arith, within))
   each_at P (c ∷ cs) zero d all within = all.0
   each_at P (c ∷ cs) (suc i) d all within = each_at P cs i d all.1 (omega (arith, within))
 
   -- chunks of the right size have an entry each
-  pub sized_filled : (cs : List (Arc (Held K V) A)) → AreSized cs → AreFilled cs
+  pub sized_filled : (cs : List (Arc (Buffer K V) A)) → AreSized cs → AreFilled cs
   sized_filled [] sized = tt
   sized_filled (c ∷ cs) sized = (sized.0.0, sized_filled cs sized.1)
 
   -- where there is one, so have all together
-  pub joined_filled : (cs : List (Arc (Held K V) A)) → AreFilled cs → 1 ≤ length cs → IsFilled (joined cs)
+  pub joined_filled : (cs : List (Arc (Buffer K V) A)) → AreFilled cs → 1 ≤ length cs → IsNotEmpty (joined cs)
   joined_filled [] filled some = some
   joined_filled (c ∷ cs) filled some = omega (arith, filled.0, length-append c.value.pairs (joined cs))
 
 module _ {K V A : Type 0} (cmp : K → K → Ordering) (start : Bound K) where
-  -- the first entry of all stands in the chunk at the place
-  pub in_place : (cs : List (Arc (Held K V) A)) (d : Arc (Held K V) A) → place cmp start cs < length cs → entry_from cmp start (joined cs) ≡ entry_from cmp start (get_or cs (place cmp start cs) d).value.pairs
+  -- the first entry of all stands in the chunk at the first_chunk_from
+  pub in_place : (cs : List (Arc (Buffer K V) A)) (d : Arc (Buffer K V) A) → first_chunk_from cmp start cs < length cs → entry_from cmp start (joined cs) ≡ entry_from cmp start (get_or cs (first_chunk_from cmp start cs) d).value.pairs
   in_place [] d within = absurd (omega (arith, within))
   in_place (c ∷ cs) d within = entry-append cmp start c.value.pairs (joined cs) ∙ at (in_place cs d) (reaches cmp start c.value.pairs) within
     where
-      at : (place cmp start cs < length cs → entry_from cmp start (joined cs) ≡ entry_from cmp start (get_or cs (place cmp start cs) d).value.pairs)
-          → (b : Bool) → cond b 0 (suc (place cmp start cs)) < suc (length cs)
-          → cond b (entry_from cmp start c.value.pairs) (entry_from cmp start (joined cs)) ≡ entry_from cmp start (get_or (c ∷ cs) (cond b 0 (suc (place cmp start cs))) d).value.pairs
+      at : (first_chunk_from cmp start cs < length cs → entry_from cmp start (joined cs) ≡ entry_from cmp start (get_or cs (first_chunk_from cmp start cs) d).value.pairs)
+          → (b : Bool) → cond b 0 (suc (first_chunk_from cmp start cs)) < suc (length cs)
+          → cond b (entry_from cmp start c.value.pairs) (entry_from cmp start (joined cs)) ≡ entry_from cmp start (get_or (c ∷ cs) (cond b 0 (suc (first_chunk_from cmp start cs))) d).value.pairs
       at rest true within = refl
       at rest false within = rest (omega (arith, within))
 
-  -- where there is no place, there is no entry
-  pub past_place : (cs : List (Arc (Held K V) A)) → length cs ≤ place cmp start cs → entry_from cmp start (joined cs) ≡ None
+  -- where there is no first_chunk_from, there is no entry
+  pub past_place : (cs : List (Arc (Buffer K V) A)) → length cs ≤ first_chunk_from cmp start cs → entry_from cmp start (joined cs) ≡ None
   past_place [] past = refl
   past_place (c ∷ cs) past = entry-append cmp start c.value.pairs (joined cs) ∙ at (past_place cs) (reaches cmp start c.value.pairs) past
     where
-      at : (length cs ≤ place cmp start cs → entry_from cmp start (joined cs) ≡ None)
-          → (b : Bool) → suc (length cs) ≤ cond b 0 (suc (place cmp start cs)) → cond b (entry_from cmp start c.value.pairs) (entry_from cmp start (joined cs)) ≡ None
+      at : (length cs ≤ first_chunk_from cmp start cs → entry_from cmp start (joined cs) ≡ None)
+          → (b : Bool) → suc (length cs) ≤ cond b 0 (suc (first_chunk_from cmp start cs)) → cond b (entry_from cmp start c.value.pairs) (entry_from cmp start (joined cs)) ≡ None
       at rest true past = absurd (omega (arith, past))
       at rest false past = rest (omega (arith, past))
 
-  -- no chunk in front of the place has an entry from the start on
-  pub none_in_front : (front back : List (Arc (Held K V) A)) → length front ≤ place cmp start (front ++ back) → entry_from cmp start (joined front) ≡ None
+  -- no chunk in front of the first_chunk_from has an entry from the start on
+  pub none_in_front : (front back : List (Arc (Buffer K V) A)) → length front ≤ first_chunk_from cmp start (front ++ back) → entry_from cmp start (joined front) ≡ None
   none_in_front [] back before_place = refl
   none_in_front (c ∷ front) back before_place = entry-append cmp start c.value.pairs (joined front) ∙ at (none_in_front front back) (reaches cmp start c.value.pairs) before_place
     where
-      at : (length front ≤ place cmp start (front ++ back) → entry_from cmp start (joined front) ≡ None)
-          → (b : Bool) → suc (length front) ≤ cond b 0 (suc (place cmp start (front ++ back))) → cond b (entry_from cmp start c.value.pairs) (entry_from cmp start (joined front)) ≡ None
+      at : (length front ≤ first_chunk_from cmp start (front ++ back) → entry_from cmp start (joined front) ≡ None)
+          → (b : Bool) → suc (length front) ≤ cond b 0 (suc (first_chunk_from cmp start (front ++ back))) → cond b (entry_from cmp start c.value.pairs) (entry_from cmp start (joined front)) ≡ None
       at rest true past = absurd (omega (arith, past))
       at rest false past = rest (omega (arith, past))
 
 module _ {K V : Type 0} (R : Order K) (start : Bound K) where
   -- where some entries end before the start, so do those in front of them
-  front_ends : (xs es ys : List (K × V)) → T (is_sorted R.compare (xs ++ (es ++ ys))) → IsFilled es → not (reaches R.compare start es) ≡ true → not (reaches R.compare start xs) ≡ true
+  front_ends : (xs es ys : List (K × V)) → T (is_sorted R.compare (xs ++ (es ++ ys))) → IsNotEmpty es → not (reaches R.compare start es) ≡ true → not (reaches R.compare start xs) ≡ true
   front_ends xs [] ys sorted some past = absurd (omega (arith, some))
   front_ends xs (e ∷ es) ys sorted some past = ap (λ (o : Option (K × V)). not (is_some o)) (none_before R start xs e (es ++ ys) sorted (at (is_from R.compare start e.0) past))
     where
@@ -183,7 +183,7 @@ module _ {K V : Type 0} (R : Order K) (start : Bound K) where
 
 module _ {K V A : Type 0} (R : Order K) (start : Bound K) where
   -- chunks without an entry from the start on stand before those with one
-  pub parted_chunks : (cs : List (Arc (Held K V) A)) → T (is_sorted R.compare (joined cs)) → AreFilled cs → IsPartitionedBy (λ (c : Arc (Held K V) A). not (reaches R.compare start c.value.pairs)) cs
+  pub parted_chunks : (cs : List (Arc (Buffer K V) A)) → T (is_sorted R.compare (joined cs)) → AreFilled cs → IsPartitionedBy (λ (c : Arc (Buffer K V) A). not (reaches R.compare start c.value.pairs)) cs
   parted_chunks [] sorted filled i j d le below past = absurd (omega (arith, below))
   parted_chunks (c ∷ cs) sorted filled zero zero d le below past = past
   parted_chunks (c ∷ []) sorted filled zero (suc j) d le below past = absurd (omega (arith, below))
@@ -195,7 +195,7 @@ module _ {K V A : Type 0} (R : Order K) (start : Bound K) where
 
 module _ {K V A : Type 0} (R : Order K) (start : Bound K) where
   -- chunks together reach as far as the last
-  pub reaches_behind : (cs : List (Arc (Held K V) A)) (i : ℕ) (d : Arc (Held K V) A) → T (is_sorted R.compare (joined cs)) → AreFilled cs → i + 1 ≡ length cs
+  pub reaches_behind : (cs : List (Arc (Buffer K V) A)) (i : ℕ) (d : Arc (Buffer K V) A) → T (is_sorted R.compare (joined cs)) → AreFilled cs → i + 1 ≡ length cs
       → reaches R.compare start (joined cs) ≡ reaches R.compare start (get_or cs i d).value.pairs
   reaches_behind [] i d sorted filled last = absurd (omega (arith, last))
   reaches_behind (c ∷ []) zero d sorted filled last = ap (λ es. reaches R.compare start es) (append-nil c.value.pairs)
@@ -218,15 +218,15 @@ module _ {K V A : Type 0} (R : Order K) (start : Bound K) where
       at true here false e = absurd (true_or_false _ here (un_not _ (ahead e)))
 
 module _ {K V A : Type 0} (R : Order K) where
-  sorted_at : (cs : List (Arc (Held K V) A)) (i : ℕ) (d : Arc (Held K V) A) → T (is_sorted R.compare (joined cs)) → i < length cs → T (is_sorted R.compare (get_or cs i d).value.pairs)
+  sorted_at : (cs : List (Arc (Buffer K V) A)) (i : ℕ) (d : Arc (Buffer K V) A) → T (is_sorted R.compare (joined cs)) → i < length cs → T (is_sorted R.compare (get_or cs i d).value.pairs)
   sorted_at [] i d sorted within = absurd (omega (arith, within))
   sorted_at (c ∷ cs) zero d sorted within = sorted_left R.compare c.value.pairs (joined cs) sorted
   sorted_at (c ∷ cs) (suc i) d sorted within = sorted_at cs i d (sorted_right R.compare c.value.pairs (joined cs) sorted) (omega (arith, within))
 
-  -- what is found at a key is found in the chunk at its place
-  pub found_in_place : (q : K) (cs : List (Arc (Held K V) A)) (d : Arc (Held K V) A) → T (is_sorted R.compare (joined cs)) → place R.compare (Included q) cs < length cs
-      → find R.compare q (joined cs) ≡ find R.compare q (get_or cs (place R.compare (Included q) cs) d).value.pairs
-  found_in_place q cs d sorted within = find_same R q (joined cs) _ sorted (sorted_at cs (place R.compare (Included q) cs) d sorted within) (in_place R.compare (Included q) cs d within)
+  -- what is found at a key is found in the chunk at its first_chunk_from
+  pub found_in_place : (q : K) (cs : List (Arc (Buffer K V) A)) (d : Arc (Buffer K V) A) → T (is_sorted R.compare (joined cs)) → first_chunk_from R.compare (Included q) cs < length cs
+      → find R.compare q (joined cs) ≡ find R.compare q (get_or cs (first_chunk_from R.compare (Included q) cs) d).value.pairs
+  found_in_place q cs d sorted within = find_same R q (joined cs) _ sorted (sorted_at cs (first_chunk_from R.compare (Included q) cs) d sorted within) (in_place R.compare (Included q) cs d within)
 
 module _ {K V : Type 0} (R : Order K) where
   -- sorted entries reach as far as the last
@@ -251,33 +251,33 @@ module _ {K V : Type 0} (R : Order K) where
 
 module _ {K V A : Type 0} (cmp : K → K → Ordering) where
   -- a chunk and those behind it
-  pub sorted_behind : (front : List (Arc (Held K V) A)) (c : Arc (Held K V) A) (cs : List (Arc (Held K V) A)) → T (is_sorted cmp (joined (front ++ c ∷ cs))) → T (is_sorted cmp (c.value.pairs ++ joined cs))
+  pub sorted_behind : (front : List (Arc (Buffer K V) A)) (c : Arc (Buffer K V) A) (cs : List (Arc (Buffer K V) A)) → T (is_sorted cmp (joined (front ++ c ∷ cs))) → T (is_sorted cmp (c.value.pairs ++ joined cs))
   sorted_behind front c cs sorted = sorted_right cmp (joined front) (joined (c ∷ cs)) (subst (λ es. T (is_sorted cmp es)) (joined-append front (c ∷ cs)) sorted)
 
 module _ {K V A : Type 0} (R : Order K) where
-  -- no chunk in front of the first edit's place has an entry from an edit's key on
-  pub front_past : (front back : List (Arc (Held K V) A)) (es : List (Edit K V)) (k : K) → Ascend R.compare es → ((d : Edit K V) → k ≡ (slice_index_or es 0 d).key) → length front ≤ place R.compare (Included k) (front ++ back)
+  -- no chunk in front of the first edit's first_chunk_from has an entry from an edit's key on
+  pub front_past : (front back : List (Arc (Buffer K V) A)) (es : List (Edit K V)) (k : K) → KeysAscend R.compare es → ((d : Edit K V) → k ≡ (slice_index_or es 0 d).key) → length front ≤ first_chunk_from R.compare (Included k) (front ++ back)
       → All (λ e. entry_from R.compare (Included e.key) (joined front) ≡ None) es
   front_past front back es k ascend first before_place i d below =
       none_later R k (slice_index_or es i d).key (joined front)
       (ap (λ l. is_lt (R.compare (slice_index_or es i d).key l)) (first d) ∙ ap (λ n. is_lt (R.compare (slice_index_or es n d).key (slice_index_or es 0 d).key)) {x = i} {y = 0 + i} (omega arith) ∙ not_earlier R.total es 0 i d ascend (omega (arith, below)))
       (none_in_front R.compare (Included k) front back before_place)
 
-module _ {K V A : Type 0} (P : Arc (Held K V) A → Arc (Held K V) A → Type 0) (both : (a b : Arc (Held K V) A) → P a b → b.value ≡ a.value) where
+module _ {K V A : Type 0} (P : Arc (Buffer K V) A → Arc (Buffer K V) A → Type 0) (both : (a b : Arc (Buffer K V) A) → P a b → b.value ≡ a.value) where
   -- chunks that are those of others, one by one
-  pub copied_joined : (xs ys : List (Arc (Held K V) A)) → AllZip P xs ys → joined ys ≡ joined xs
+  pub copied_joined : (xs ys : List (Arc (Buffer K V) A)) → AllZip P xs ys → joined ys ≡ joined xs
   copied_joined [] [] same = refl
   copied_joined [] (y ∷ ys) same = absurd same
   copied_joined (x ∷ xs) [] same = absurd same
   copied_joined (x ∷ xs) (y ∷ ys) same = λ i. (both x y same.0 i).pairs ++ copied_joined xs ys same.1 i
 
-  pub copied_each : (Q : List (K × V) → Type 0) (xs ys : List (Arc (Held K V) A)) → AllZip P xs ys → Each Q xs → Each Q ys
+  pub copied_each : (Q : List (K × V) → Type 0) (xs ys : List (Arc (Buffer K V) A)) → AllZip P xs ys → Each Q xs → Each Q ys
   copied_each Q [] [] same all = tt
   copied_each Q [] (y ∷ ys) same all = absurd same
   copied_each Q (x ∷ xs) [] same all = absurd same
-  copied_each Q (x ∷ xs) (y ∷ ys) same all = (subst (λ (v : Held K V). Q v.pairs) (sym (both x y same.0)) all.0, copied_each Q xs ys same.1 all.1)
+  copied_each Q (x ∷ xs) (y ∷ ys) same all = (subst (λ (v : Buffer K V). Q v.pairs) (sym (both x y same.0)) all.0, copied_each Q xs ys same.1 all.1)
 
-  pub copied_length : (xs ys : List (Arc (Held K V) A)) → AllZip P xs ys → length ys ≡ length xs
+  pub copied_length : (xs ys : List (Arc (Buffer K V) A)) → AllZip P xs ys → length ys ≡ length xs
   copied_length [] [] same = refl
   copied_length [] (y ∷ ys) same = absurd same
   copied_length (x ∷ xs) [] same = absurd same

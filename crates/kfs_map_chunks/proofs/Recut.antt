@@ -14,8 +14,8 @@ use Rattle.std.specs.FinMap.Entries.{put, by_order, is_sorted}
 use Rattle.kfs_model.specs.Table.{Order}
 use Rattle.kfs_model.proofs.Tables.{left_part}
 use Rattle.kfs_map_chunks.specs.declared.edit.Edit.{Edit}
-use Rattle.kfs_map_chunks.specs.Edits.{entered, entered_all, Ascend}
-use Rattle.kfs_map_chunks.specs.Held.{Held}
+use Rattle.kfs_map_chunks.specs.Edits.{entered, entered_all, KeysAscend}
+use Rattle.kfs_map_chunks.specs.Buffer.{Buffer}
 use Rattle.kfs_map_chunks.specs.Joined.{joined, Each}
 use Rattle.kfs_map_chunks.specs.Starts.{before, is_from, first_from, entry_from}
 use Rattle.kfs_map_chunks.proofs.Order.{true_or_false, flipped, ascend_drop}
@@ -122,18 +122,18 @@ module _ {K V : Type 0} (R : Order K) where
 
 module _ {K V : Type 0} (cmp : K → K → Ordering) where
   -- an edit is below those behind it
-  pub ascend-behind : (es : List (Edit K V)) (i : ℕ) (d : Edit K V) → i < length es → Ascend cmp es → All (λ l. cmp (get_or es i d).key l.key ≡ Less) (drop (i + 1) es)
-  ascend-behind es i d within ascend = ascend-head cmp (get_or es i d) (drop (i + 1) es) (subst (λ xs. Ascend cmp xs) (drop_more es i d within) (ascend_drop cmp es i ascend))
+  pub ascend-behind : (es : List (Edit K V)) (i : ℕ) (d : Edit K V) → i < length es → KeysAscend cmp es → All (λ l. cmp (get_or es i d).key l.key ≡ Less) (drop (i + 1) es)
+  ascend-behind es i d within ascend = ascend-head cmp (get_or es i d) (drop (i + 1) es) (subst (λ xs. KeysAscend cmp xs) (drop_more es i d within) (ascend_drop cmp es i ascend))
 
 module _ {K V A : Type 0} where
-  pub joined-push : (chunks : List (Arc (Held K V) A)) (chunk : Arc (Held K V) A) → joined (chunks ++ chunk ∷ []) ≡ joined chunks ++ chunk.value.pairs
+  pub joined-push : (chunks : List (Arc (Buffer K V) A)) (chunk : Arc (Buffer K V) A) → joined (chunks ++ chunk ∷ []) ≡ joined chunks ++ chunk.value.pairs
   joined-push chunks chunk = joined-append chunks (chunk ∷ []) ∙ ap (λ es. joined chunks ++ es) (append-nil chunk.value.pairs)
 
-  pub each-push : (P : List (K × V) → Type 0) (chunks : List (Arc (Held K V) A)) (chunk : Arc (Held K V) A) → Each P chunks → P chunk.value.pairs → Each P (chunks ++ chunk ∷ [])
+  pub each-push : (P : List (K × V) → Type 0) (chunks : List (Arc (Buffer K V) A)) (chunk : Arc (Buffer K V) A) → Each P chunks → P chunk.value.pairs → Each P (chunks ++ chunk ∷ [])
   each-push P chunks chunk all this = each-append P chunks (chunk ∷ []) all (this, tt)
 
   -- a chunk of the next entries goes on with them
-  pub joined_cut : (chunks : List (Arc (Held K V) A)) (chunk : Arc (Held K V) A) (done es : List (K × V)) (from count : ℕ) → joined chunks ≡ done ++ take from es → chunk.value.pairs ≡ take count (drop from es)
+  pub joined_cut : (chunks : List (Arc (Buffer K V) A)) (chunk : Arc (Buffer K V) A) (done es : List (K × V)) (from count : ℕ) → joined chunks ≡ done ++ take from es → chunk.value.pairs ≡ take count (drop from es)
       → joined (chunks ++ chunk ∷ []) ≡ done ++ take (from + count) es
   joined_cut chunks chunk done es from count so_far next =
       joined-push chunks chunk ∙ (λ i. so_far i ++ next i) ∙ append_assoc done (take from es) (take count (drop from es)) ∙ ap (λ xs. done ++ xs) (sym (take-add from count es))

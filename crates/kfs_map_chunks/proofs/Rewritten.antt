@@ -10,7 +10,7 @@ use Rattle.std.specs.FinMap.Entries.{put, where_key, by_order, is_sorted, below_
 use Rattle.kfs_model.specs.Table.{Order}
 use Rattle.kfs_model.proofs.Tables.{left_part, right_part, find_below}
 use Rattle.kfs_map_chunks.specs.declared.edit.Edit.{Edit}
-use Rattle.kfs_map_chunks.specs.Edits.{entered, entered_all, Ascend}
+use Rattle.kfs_map_chunks.specs.Edits.{entered, entered_all, KeysAscend}
 use Rattle.kfs_map_chunks.specs.Joined.{IsSized}
 use Rattle.kfs_map_chunks.specs.Starts.{is_from, entry_from}
 use Rattle.kfs_map_chunks.proofs.Sorted.{as_less, less_from, kept_without, is_sorted-entered}
@@ -25,11 +25,11 @@ All-right P [] ys all = all
 All-right P (x ∷ xs) ys all = All-right P xs ys (All-tail P x (xs ++ ys) all)
 
 module _ {K V : Type 0} (cmp : K → K → Ordering) where
-  pub ascend-tail : (e : Edit K V) (es : List (Edit K V)) → Ascend cmp (e ∷ es) → Ascend cmp es
+  pub ascend-tail : (e : Edit K V) (es : List (Edit K V)) → KeysAscend cmp (e ∷ es) → KeysAscend cmp es
   ascend-tail e es ascend i j d less below = ascend (suc i) (suc j) d (omega (arith, less)) (omega (arith, below))
 
   -- the first edit is below the others
-  pub ascend-head : (e : Edit K V) (es : List (Edit K V)) → Ascend cmp (e ∷ es) → All (λ l. cmp e.key l.key ≡ Less) es
+  pub ascend-head : (e : Edit K V) (es : List (Edit K V)) → KeysAscend cmp (e ∷ es) → All (λ l. cmp e.key l.key ≡ Less) es
   ascend-head e es ascend j d below = ascend 0 (suc j) d (omega arith) (omega (arith, below))
 
   pub entered_all-append : (es : List (K × V)) (mine later : List (Edit K V)) → entered_all cmp es (mine ++ later) ≡ entered_all cmp (entered_all cmp es mine) later
@@ -115,7 +115,7 @@ module _ {K V : Type 0} (R : Order K) where
   none_still xs j w es less none i d below = none_after_entry xs j (slice_index_or es i d).key w (less i d below) (none i d below)
 
   -- edits of both parts, each made there, are made of both
-  pub parts_edited : (xs ys : List (K × V)) (mine later : List (Edit K V)) → Ascend R.compare (mine ++ later) → All (λ e. T (below_all R.compare e.key ys)) mine
+  pub parts_edited : (xs ys : List (K × V)) (mine later : List (Edit K V)) → KeysAscend R.compare (mine ++ later) → All (λ e. T (below_all R.compare e.key ys)) mine
       → All (λ e. entry_from R.compare (Included e.key) xs ≡ None) later → entered_all R.compare (xs ++ ys) (mine ++ later) ≡ entered_all R.compare xs mine ++ entered_all R.compare ys later
   parts_edited xs ys [] later ascend below none = all_behind xs ys later none
   parts_edited xs ys (e ∷ mine) later ascend below none =

@@ -6,8 +6,8 @@ use Rattle.std.specs.declared.sync.Arc.{Arc}
 use Rattle.std.specs.FinMap.Entries.{below_all}
 use Rattle.kfs_model.specs.Table.{Order}
 use Rattle.kfs_map_chunks.specs.declared.edit.Edit.{Edit}
-use Rattle.kfs_map_chunks.specs.Edits.{entered_all, Ascend}
-use Rattle.kfs_map_chunks.specs.Held.{Held}
+use Rattle.kfs_map_chunks.specs.Edits.{entered_all, KeysAscend}
+use Rattle.kfs_map_chunks.specs.Buffer.{Buffer}
 use Rattle.kfs_map_chunks.specs.Joined.{joined}
 use Rattle.kfs_map_chunks.specs.Starts.{entry_from}
 use Rattle.kfs_map_chunks.proofs.Order.{true_or_false}
@@ -16,8 +16,8 @@ use Rattle.kfs_map_chunks.proofs.Rewritten.{all_behind, parts_edited}
 
 module _ {K V A : Type 0} (R : Order K) where
   -- the edits of one chunk and of those behind it, made there or not, are made of all or not
-  pub edited_chunks : (made : Bool) (front : List (Arc (Held K V) A)) (old new : Arc (Held K V) A) (olds news : List (Arc (Held K V) A)) (mine later : List (Edit K V))
-      → Ascend R.compare (mine ++ later)
+  pub edited_chunks : (made : Bool) (front : List (Arc (Buffer K V) A)) (old new : Arc (Buffer K V) A) (olds news : List (Arc (Buffer K V) A)) (mine later : List (Edit K V))
+      → KeysAscend R.compare (mine ++ later)
       → All (λ e. entry_from R.compare (Included e.key) (joined front) ≡ None) (mine ++ later)
       → All (λ e. T (below_all R.compare e.key (joined olds))) mine
       → All (λ e. entry_from R.compare (Included e.key) old.value.pairs ≡ None) later
@@ -35,8 +35,8 @@ module _ {K V A : Type 0} (R : Order K) where
 
 module _ {K V : Type 0} where
   -- a chunk of one's own has the entries of the one that was shared
-  pub same_pairs : (old new : Held K V) → (new ≡ old) ⊎ (new.pairs ≡ old.pairs) → new.pairs ≡ old.pairs
-  same_pairs old new (inl same) = ap (λ (x : Held K V). x.pairs) same
+  pub same_pairs : (old new : Buffer K V) → (new ≡ old) ⊎ (new.pairs ≡ old.pairs) → new.pairs ≡ old.pairs
+  same_pairs old new (inl same) = ap (λ (x : Buffer K V). x.pairs) same
   same_pairs old new (inr same) = same
 
 -- what a choice took

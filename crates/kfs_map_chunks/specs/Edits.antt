@@ -35,5 +35,5 @@ module _ {K V : Type 0} (cmp : K → K → Ordering) where
   edited (e ∷ es) q v = edited es q (if eq_by_cmp cmp q e.key then e.value else v)
 
   -- the keys ascend, none twice
-  abbrev pub Ascend : List (Edit K V) → Type 0
-  Ascend edits = (i j : ℕ) (d : Edit K V) → i < j → j < length edits → cmp (slice_index_or edits i d).key (slice_index_or edits j d).key ≡ Less
+  abbrev pub KeysAscend : List (Edit K V) → Type 0
+  KeysAscend edits = (i j : ℕ) (d : Edit K V) → i < j → j < length edits → cmp (slice_index_or edits i d).key (slice_index_or edits j d).key ≡ Less

@@ -3,7 +3,7 @@ use Rattle.std.specs.Prelude.{ℕ, ◌≤◌, Bool, false, Result, Ok, Err, List
 use Rattle.std.specs.declared.cmp.Ordering.{Ordering}
 use Rattle.std.specs.declared.ops.Bound.{Bound}
 use Rattle.std.specs.declared.sync.Arc.{Arc}
-use Rattle.kfs_map_chunks.specs.Held.{Held}
+use Rattle.kfs_map_chunks.specs.Buffer.{Buffer}
 use Rattle.kfs_map_chunks.specs.Starts.{before, reaches}
 
 -- as many entries as a chunk may have: one at least, and at most 256
@@ -11,32 +11,32 @@ abbrev pub IsSized : {X : Type 0} → List X → Type 0
 IsSized entries = (1 ≤ length entries) × (length entries ≤ 256)
 
 -- one at least
-abbrev pub IsFilled : {X : Type 0} → List X → Type 0
-IsFilled entries = 1 ≤ length entries
+abbrev pub IsNotEmpty : {X : Type 0} → List X → Type 0
+IsNotEmpty entries = 1 ≤ length entries
 
 module _ {K V A : Type 0} where
   -- the entries of all chunks
-  abbrev pub joined : List (Arc (Held K V) A) → List (K × V)
+  abbrev pub joined : List (Arc (Buffer K V) A) → List (K × V)
   joined [] = []
   joined (chunk ∷ chunks) = chunk.value.pairs ++ joined chunks
 
   -- the entries of each are so
-  abbrev pub Each : (List (K × V) → Type 0) → List (Arc (Held K V) A) → Type 0
+  abbrev pub Each : (List (K × V) → Type 0) → List (Arc (Buffer K V) A) → Type 0
   Each P [] = Unit {0}
   Each P (chunk ∷ chunks) = P chunk.value.pairs × Each P chunks
 
   -- each chunk has as many entries as it may have
-  abbrev pub AreSized : List (Arc (Held K V) A) → Type 0
+  abbrev pub AreSized : List (Arc (Buffer K V) A) → Type 0
   AreSized chunks = Each IsSized chunks
 
   -- each part has an entry
-  abbrev pub AreFilled : List (Arc (Held K V) A) → Type 0
-  AreFilled parts = Each IsFilled parts
+  abbrev pub AreFilled : List (Arc (Buffer K V) A) → Type 0
+  AreFilled parts = Each IsNotEmpty parts
 
 module _ {K V A : Type 0} (cmp : K → K → Ordering) where
   -- the index of the first chunk that has an entry from the start on, or else their number
-  abbrev pub place : Bound K → List (Arc (Held K V) A) → ℕ
-  place start chunks = before (λ chunk. reaches cmp start chunk.value.pairs) chunks
+  abbrev pub first_chunk_from : Bound K → List (Arc (Buffer K V) A) → ℕ
+  first_chunk_from start chunks = before (λ chunk. reaches cmp start chunk.value.pairs) chunks
 
 -- whether edits were made in the chunks as they are cut
 abbrev pub were_made : {E : Type 0} → Result Bool E → Bool

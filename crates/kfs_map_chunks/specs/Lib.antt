@@ -1,5 +1,5 @@
 pub mod Keys
-pub mod Held
+pub mod Buffer
 pub mod Starts
 pub mod Edits
 pub mod Tables

@@ -33,7 +33,7 @@ module _ {K : Type 0} (cmp : K → K → Ordering) where
   reaches start entries = is_some (entry_from start entries)
 
   -- the entry is the first from the start on
-  pub record IsNext {V : Type 0} (start : Bound K) (entries : List (K × V)) (key : K) (value : V) : Type 0 where
+  pub record IsNextEntry {V : Type 0} (start : Bound K) (entries : List (K × V)) (key : K) (value : V) : Type 0 where
     pub found : find cmp key entries ≡ Some value
     pub within : is_from start key ≡ true
     pub least : (q : K) → is_from start q ≡ true → IsSome (find cmp q entries) → is_lt (cmp q key) ≡ false

@@ -2,8 +2,8 @@
 ghost use Rattle.std.specs.Prelude.{◌≡◌, ◌++◌, T, All, Ok, None, true, false, OnErr};
 ghost use Rattle.std.specs.FinMap.Entries.{is_sorted, below_all};
 ghost use Rattle.std.specs.declared.ops.Bound.TheVariants.{Included};
-ghost use Rattle.kfs_map_chunks.specs.Edits.{entered_all, Ascend};
-ghost use Rattle.kfs_map_chunks.specs.Joined.{joined, were_made, if_made, IsSized, IsFilled, AreSized, AreFilled};
+ghost use Rattle.kfs_map_chunks.specs.Edits.{entered_all, KeysAscend};
+ghost use Rattle.kfs_map_chunks.specs.Joined.{joined, were_made, if_made, IsSized, IsNotEmpty, AreSized, AreFilled};
 ghost use Rattle.kfs_map_chunks.specs.Starts.{entry_from};
 
 use crate::edit::Edit;
@@ -28,7 +28,7 @@ pub(crate) fn change_parts<K: Key, V: Copy, A: Allocator + Clone, C: Change>(
     edits: &[Edit<K, V>],
     then: &mut C,
 ) -> Result<bool, AllocError>
-    requires ascend { Ascend K.cmp edits.now }
+    requires ascend { KeysAscend K.cmp edits.now }
     requires sorted { T (is_sorted K.cmp (joined parts.old)) }
     requires filled { AreFilled parts.old }
     requires then { C.can_make then.old }
@@ -61,13 +61,13 @@ fn change_from_part<K: Key, V: Copy, A: Allocator + Clone, C: Change>(
     later: &[Edit<K, V>],
     then: &mut C,
 ) -> Result<bool, AllocError>
-    requires mine { Ascend K.cmp mine.now }
-    requires later { Ascend K.cmp later.now }
+    requires mine { KeysAscend K.cmp mine.now }
+    requires later { KeysAscend K.cmp later.now }
     requires sorted { T (is_sorted K.cmp (joined rest.old)) }
-    requires part { IsFilled part.old.value.pairs }
+    requires part { IsNotEmpty part.old.value.pairs }
     requires filled { AreFilled rest.old }
     requires then { C.can_make then.old }
-    ensures part_filled { IsFilled part.new.value.pairs }
+    ensures part_filled { IsNotEmpty part.new.value.pairs }
     ensures filled { AreFilled rest.new }
     ensures part { part.new.value.pairs ≡ if_made result (entered_all K.cmp part.old.value.pairs mine.now) part.old.value.pairs }
     ensures rest { joined rest.new ≡ if_made result (entered_all K.cmp (joined rest.old) later.now) (joined rest.old) }
@@ -88,10 +88,10 @@ fn change_chunks<K: Key, V: Copy, A: Allocator + Clone, C: Change>(
     behind: &[Edit<K, V>],
     then: &mut C,
 ) -> Result<bool, AllocError>
-    requires ascend { Ascend K.cmp edits.now }
+    requires ascend { KeysAscend K.cmp edits.now }
     requires sorted { T (is_sorted K.cmp (joined chunks.old)) }
     requires sized { AreSized chunks.old }
-    requires behind { Ascend K.cmp behind.now }
+    requires behind { KeysAscend K.cmp behind.now }
     requires parts { T (is_sorted K.cmp (joined parts.old)) }
     requires filled { AreFilled parts.old }
     requires then { C.can_make then.old }
@@ -127,12 +127,12 @@ fn change_from<K: Key, V: Copy, A: Allocator + Clone, C: Change>(
     behind: &[Edit<K, V>],
     then: &mut C,
 ) -> Result<bool, AllocError>
-    requires ascend { Ascend K.cmp later.now }
+    requires ascend { KeysAscend K.cmp later.now }
     requires chunk { T (is_sorted K.cmp chunk.old.value.pairs) }
     requires sorted { T (is_sorted K.cmp (joined rest.old)) }
     requires size { IsSized chunk.old.value.pairs }
     requires sized { AreSized rest.old }
-    requires behind { Ascend K.cmp behind.now }
+    requires behind { KeysAscend K.cmp behind.now }
     requires parts { T (is_sorted K.cmp (joined parts.old)) }
     requires filled { AreFilled parts.old }
     requires then { C.can_make then.old }

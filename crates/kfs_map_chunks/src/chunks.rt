@@ -3,8 +3,8 @@ ghost use Rattle.std.specs.Prelude.{◌≡◌, [], true, None, IfSome, IfNone, O
 ghost use Rattle.std.specs.Option.{option_copied};
 ghost use Rattle.std.specs.FinMap.Entries.{find};
 ghost use Rattle.std.specs.Range.Bound.{bound_map};
-ghost use Rattle.kfs_map_chunks.specs.Edits.{rewritten, Ascend};
-ghost use Rattle.kfs_map_chunks.specs.Starts.{is_from, IsNext};
+ghost use Rattle.kfs_map_chunks.specs.Edits.{rewritten, KeysAscend};
+ghost use Rattle.kfs_map_chunks.specs.Starts.{is_from, IsNextEntry};
 
 use crate::change::change_parts;
 use crate::edit::Edit;
@@ -75,7 +75,7 @@ impl<K: Key, V: Copy, A: Allocator> Chunks<K, V, A> {
 
     /// The first entry from the start on, and none where there is none. Takes no memory.
     pub fn next(&self, start: Bound<&K>) -> Option<(&K, &V)>
-        ensures some { IfSome result (λ p. IsNext K.order.compare (bound_map (λ x. x.now) start.entry) self.now p.0.now p.1.now) }
+        ensures some { IfSome result (λ p. IsNextEntry K.order.compare (bound_map (λ x. x.now) start.entry) self.now p.0.now p.1.now) }
         ensures none { IfNone result ((q : K) → is_from K.order.compare (bound_map (λ x. x.now) start.entry) q ≡ true → find K.order.compare q self.now ≡ None) }
     {
         let part = self.parts.get(place_part(&self.parts, &start))?;
@@ -93,7 +93,7 @@ impl<K: Key, V: Copy, A: Allocator + Clone> Chunks<K, V, A> {
         edits: &[Edit<K, V>],
         then: &mut T,
     ) -> Result<(), AllocError>
-        requires edits { Ascend K.order.compare edits.now }
+        requires edits { KeysAscend K.order.compare edits.now }
         requires then { T.can_make then.old }
         ensures ok { OnOk result (self.new ≡ rewritten K.order self.old edits.now) }
         ensures err { OnErr result (self.new ≡ self.old) }

@@ -4,7 +4,7 @@ ghost use Rattle.std.specs.Option.{option_copied};
 ghost use Rattle.std.specs.FinMap.Entries.{find, is_sorted};
 ghost use Rattle.std.specs.Range.Bound.{bound_map};
 ghost use Rattle.std.specs.declared.ops.Bound.TheVariants.{Included};
-ghost use Rattle.kfs_map_chunks.specs.Edits.{entered, entered_all, Ascend};
+ghost use Rattle.kfs_map_chunks.specs.Edits.{entered, entered_all, KeysAscend};
 ghost use Rattle.kfs_map_chunks.specs.Starts.{is_from, first_from, entry_from, reaches};
 
 use crate::edit::Edit;
@@ -24,9 +24,9 @@ impl<K: Key, V: Copy, A: Allocator> Model for Entries<K, V, A> {
     ghost use Rattle.std.specs.Prelude.{◌-◌, T};
     ghost use Rattle.std.specs.Vec.{vec_len, vec_capacity};
     ghost use Rattle.std.specs.FinMap.Entries.{is_sorted};
-    ghost use Rattle.kfs_map_chunks.specs.Held.{Held};
+    ghost use Rattle.kfs_map_chunks.specs.Buffer.{Buffer};
 
-    ghost Value = { Held K V };
+    ghost Value = { Buffer K V };
 
     ghost view = { λ s. record { pairs = s.pairs.items; room = vec_capacity s.pairs - vec_len s.pairs } };
 
@@ -127,7 +127,7 @@ impl<K: Key, V: Copy, A: Allocator> Entries<K, V, A> {
 impl<K: Key, V: Copy, A: Allocator + Clone> Entries<K, V, A> {
     /// The entries after the edits, in memory of their own.
     pub(crate) fn merged(&self, edits: &[Edit<K, V>]) -> Result<Entries<K, V, A>, AllocError>
-        requires { Ascend K.cmp edits.now }
+        requires { KeysAscend K.cmp edits.now }
         ensures { IfOk result (λ merged. merged.pairs ≡ entered_all K.cmp self.now.pairs edits.now) }
     {
         let pairs = merged(self.pairs.allocator().clone()?, &self.pairs, edits)?;

@@ -2,7 +2,7 @@
 ghost use Rattle.std.specs.Prelude.{◌≡◌, ◌++◌, T, IfOk, OnOk, None};
 ghost use Rattle.std.specs.declared.ops.Bound.TheVariants.{Included};
 ghost use Rattle.std.specs.FinMap.Entries.{is_sorted};
-ghost use Rattle.kfs_map_chunks.specs.Edits.{entered, entered_all, Ascend, IsPassed};
+ghost use Rattle.kfs_map_chunks.specs.Edits.{entered, entered_all, KeysAscend, IsPassed};
 ghost use Rattle.kfs_map_chunks.specs.Starts.{first_from};
 
 use crate::edit::Edit;
@@ -18,7 +18,7 @@ pub(crate) fn merged<K: Key, V: Copy, A: Allocator>(
     edits: &[Edit<K, V>],
 ) -> Result<Vec<(K, V), A>, AllocError>
     requires sorted { T (is_sorted K.cmp entries.now) }
-    requires ascend { Ascend K.cmp edits.now }
+    requires ascend { KeysAscend K.cmp edits.now }
     ensures { IfOk result (λ merged. merged.items ≡ entered_all K.cmp entries.now edits.now) }
 {
     let mut merged = Vec::with_capacity(alloc, entries.len())?;

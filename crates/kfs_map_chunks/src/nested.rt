@@ -17,9 +17,9 @@ pub struct EditChunks<'a, K: Key, V: Copy, A: Allocator, T> {
 
 impl<'a, K: Key, V: Copy, A: Allocator + Clone, T: Change> Change for EditChunks<'a, K, V, A, T> {
     ghost use Rattle.kfs_map_pages.specs.Nested.{Becomes};
-    ghost use Rattle.kfs_map_chunks.specs.Edits.{rewritten, Ascend};
+    ghost use Rattle.kfs_map_chunks.specs.Edits.{rewritten, KeysAscend};
 
-    ghost can_make = { λ before. Ascend K.order.compare before.edits.now × T.can_make before.then };
+    ghost can_make = { λ before. KeysAscend K.order.compare before.edits.now × T.can_make before.then };
 
     ghost made = { λ before after. Becomes before.chunks after.chunks (rewritten K.order before.chunks.now before.edits.now) × T.made before.then after.then };
 

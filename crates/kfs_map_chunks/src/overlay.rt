@@ -2,7 +2,7 @@
 ghost use Rattle.std.specs.Prelude.{◌≡◌, [], Some, OnOk, IfOk, if◌then◌else◌};
 ghost use Rattle.std.specs.Ordering.{eq_by_cmp};
 ghost use Rattle.std.specs.BTreeMap.{get, IsOrdered};
-ghost use Rattle.kfs_map_chunks.specs.Edits.{Ascend};
+ghost use Rattle.kfs_map_chunks.specs.Edits.{KeysAscend};
 ghost use Rattle.kfs_map_chunks.specs.Overlays.{said_or, key_edits, Say};
 
 use crate::edit::Edit;
@@ -51,7 +51,7 @@ pub fn key_edits<K: Key, V: Copy, A: Allocator + Clone>(
     alloc: &A,
     overlay: &Overlay<K, V, A>,
 ) -> Result<Vec<Edit<K, V>, A>, AllocError>
-    ensures ascend { IfOk result (λ edits. Ascend K.cmp edits.items) }
+    ensures ascend { IfOk result (λ edits. KeysAscend K.cmp edits.items) }
     ensures said { IfOk result (λ edits. Say K.cmp edits.items overlay.now.latest) }
 {
     let mut edits = Vec::new(alloc.clone()?);

@@ -3,7 +3,7 @@ ghost use Rattle.std.specs.Prelude.{◌≡◌, ◌≤◌, T, IfSome, IfNone, IfO
 ghost use Rattle.std.specs.Option.{option_copied};
 ghost use Rattle.std.specs.FinMap.Entries.{find, is_sorted};
 ghost use Rattle.std.specs.Range.Bound.{bound_map};
-ghost use Rattle.kfs_map_chunks.specs.Edits.{entered_all, Ascend};
+ghost use Rattle.kfs_map_chunks.specs.Edits.{entered_all, KeysAscend};
 ghost use Rattle.kfs_map_chunks.specs.Joined.{joined, AreSized};
 ghost use Rattle.kfs_map_chunks.specs.Starts.{entry_from, reaches};
 
@@ -30,10 +30,10 @@ pub(crate) struct Part<K: Key, V: Copy, A: Allocator> {
 impl<K: Key, V: Copy, A: Allocator> Model for Part<K, V, A> {
     ghost use Rattle.std.specs.Prelude.{◌≤◌, T, length};
     ghost use Rattle.std.specs.FinMap.Entries.{is_sorted};
-    ghost use Rattle.kfs_map_chunks.specs.Held.{Held};
+    ghost use Rattle.kfs_map_chunks.specs.Buffer.{Buffer};
     ghost use Rattle.kfs_map_chunks.specs.Joined.{joined, AreSized};
 
-    ghost Value = { Held K V };
+    ghost Value = { Buffer K V };
 
     ghost view = { λ s. record { pairs = joined s.chunks.items; room = 0 } };
 
@@ -103,7 +103,7 @@ impl<K: Key, V: Copy, A: Allocator + Clone> Part<K, V, A> {
         &self,
         edits: &[Edit<K, V>],
     ) -> Result<Vec<Arc<Entries<K, V, A>, A>, A>, AllocError>
-        requires { Ascend K.cmp edits.now }
+        requires { KeysAscend K.cmp edits.now }
         ensures joined { IfOk result (λ new. joined new.items ≡ entered_all K.cmp self.now.pairs edits.now) }
         ensures sized { IfOk result (λ new. AreSized new.items) }
     {

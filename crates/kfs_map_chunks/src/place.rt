@@ -3,8 +3,8 @@ ghost use Rattle.std.specs.Prelude.{◌≡◌, ◌≤◌, ◌++◌, T, All, None
 ghost use Rattle.std.specs.FinMap.Entries.{is_sorted, below_all};
 ghost use Rattle.std.specs.Range.Bound.{bound_map};
 ghost use Rattle.std.specs.declared.ops.Bound.TheVariants.{Included};
-ghost use Rattle.kfs_map_chunks.specs.Edits.{Ascend};
-ghost use Rattle.kfs_map_chunks.specs.Joined.{joined, place, AreSized, AreFilled};
+ghost use Rattle.kfs_map_chunks.specs.Edits.{KeysAscend};
+ghost use Rattle.kfs_map_chunks.specs.Joined.{joined, first_chunk_from, AreSized, AreFilled};
 ghost use Rattle.kfs_map_chunks.specs.Starts.{entry_from};
 
 use crate::edit::Edit;
@@ -22,7 +22,7 @@ pub(crate) fn place<K: Key, V: Copy, A: Allocator>(
 ) -> usize
     requires sorted { T (is_sorted K.cmp (joined chunks.now)) }
     requires sized { AreSized chunks.now }
-    ensures { result ≡ place K.cmp (bound_map (λ x. x.now) start.now) chunks.now }
+    ensures { result ≡ first_chunk_from K.cmp (bound_map (λ x. x.now) start.now) chunks.now }
 {
     chunks.partition_point(|chunk| !chunk.reaches(start))
 }
@@ -34,7 +34,7 @@ pub(crate) fn run_of<K: Key, V: Copy, A: Allocator>(
     chunk: &Entries<K, V, A>,
     rest: &[Arc<Entries<K, V, A>, A>],
 ) -> usize
-    requires ascend { Ascend K.cmp edits.now }
+    requires ascend { KeysAscend K.cmp edits.now }
     requires sorted { T (is_sorted K.cmp (chunk.now.pairs ++ joined rest.now)) }
     ensures within { result ≤ length edits.now }
     ensures run { All (λ e. T (below_all K.cmp e.key (joined rest.now))) (take result edits.now) }
@@ -53,7 +53,7 @@ pub(crate) fn place_part<K: Key, V: Copy, A: Allocator>(
 ) -> usize
     requires sorted { T (is_sorted K.cmp (joined parts.now)) }
     requires filled { AreFilled parts.now }
-    ensures { result ≡ place K.cmp (bound_map (λ x. x.now) start.now) parts.now }
+    ensures { result ≡ first_chunk_from K.cmp (bound_map (λ x. x.now) start.now) parts.now }
 {
     parts.partition_point(|part| !part.reaches(start))
 }
@@ -65,7 +65,7 @@ pub(crate) fn run_of_part<K: Key, V: Copy, A: Allocator>(
     part: &Part<K, V, A>,
     rest: &[Arc<Part<K, V, A>, A>],
 ) -> usize
-    requires ascend { Ascend K.cmp edits.now }
+    requires ascend { KeysAscend K.cmp edits.now }
     requires sorted { T (is_sorted K.cmp (part.now.pairs ++ joined rest.now)) }
     ensures within { result ≤ length edits.now }
     ensures run { All (λ e. T (below_all K.cmp e.key (joined rest.now))) (take result edits.now) }

@@ -1,7 +1,7 @@
 //! Chunks with their edits made, in a list of its own.
 ghost use Rattle.std.specs.Prelude.{◌≡◌, ◌≤◌, [], ◌++◌, T, IfOk, OnOk};
 ghost use Rattle.std.specs.FinMap.Entries.{is_sorted};
-ghost use Rattle.kfs_map_chunks.specs.Edits.{entered_all, Ascend};
+ghost use Rattle.kfs_map_chunks.specs.Edits.{entered_all, KeysAscend};
 ghost use Rattle.kfs_map_chunks.specs.Joined.{joined, IsSized, AreSized};
 
 use crate::change::GREATEST_SIZE;
@@ -17,7 +17,7 @@ pub(crate) fn rebuilt<K: Key, V: Copy, A: Allocator + Clone>(
     chunks: &Vec<Arc<Entries<K, V, A>, A>, A>,
     edits: &[Edit<K, V>],
 ) -> Result<Vec<Arc<Entries<K, V, A>, A>, A>, AllocError>
-    requires ascend { Ascend K.cmp edits.now }
+    requires ascend { KeysAscend K.cmp edits.now }
     requires sorted { T (is_sorted K.cmp (joined chunks.now.items)) }
     requires sized { AreSized chunks.now.items }
     ensures joined { IfOk result (λ new. joined new.items ≡ entered_all K.cmp (joined chunks.now.items) edits.now) }
@@ -42,7 +42,7 @@ pub(crate) fn fresh<K: Key, V: Copy, A: Allocator + Clone>(
     alloc: &A,
     edits: &[Edit<K, V>],
 ) -> Result<Vec<Arc<Entries<K, V, A>, A>, A>, AllocError>
-    requires { Ascend K.cmp edits.now }
+    requires { KeysAscend K.cmp edits.now }
     ensures joined { IfOk result (λ new. joined new.items ≡ entered_all K.cmp [] edits.now) }
     ensures sized { IfOk result (λ new. AreSized new.items) }
 {
@@ -57,7 +57,7 @@ fn push<K: Key, V: Copy, A: Allocator + Clone>(
     chunk: &Arc<Entries<K, V, A>, A>,
     edits: &[Edit<K, V>],
 ) -> Result<(), AllocError>
-    requires ascend { Ascend K.cmp edits.now }
+    requires ascend { KeysAscend K.cmp edits.now }
     requires sized { AreSized new.old.items }
     requires size { IsSized chunk.now.value.pairs }
     ensures joined { OnOk result (joined new.new.items ≡ joined new.old.items ++ entered_all K.cmp chunk.now.value.pairs edits.now) }

@@ -1,8 +1,8 @@
 //! Parts with their edits made, in a list of its own.
 ghost use Rattle.std.specs.Prelude.{◌≡◌, ◌++◌, T, IfOk, OnOk};
 ghost use Rattle.std.specs.FinMap.Entries.{is_sorted};
-ghost use Rattle.kfs_map_chunks.specs.Edits.{entered_all, Ascend};
-ghost use Rattle.kfs_map_chunks.specs.Joined.{joined, IsFilled, AreFilled, AreSized};
+ghost use Rattle.kfs_map_chunks.specs.Edits.{entered_all, KeysAscend};
+ghost use Rattle.kfs_map_chunks.specs.Joined.{joined, IsNotEmpty, AreFilled, AreSized};
 
 use crate::edit::Edit;
 use crate::entries::Entries;
@@ -18,7 +18,7 @@ pub(crate) fn rebuilt_parts<K: Key, V: Copy, A: Allocator + Clone>(
     parts: &Vec<Arc<Part<K, V, A>, A>, A>,
     edits: &[Edit<K, V>],
 ) -> Result<Vec<Arc<Part<K, V, A>, A>, A>, AllocError>
-    requires ascend { Ascend K.cmp edits.now }
+    requires ascend { KeysAscend K.cmp edits.now }
     requires sorted { T (is_sorted K.cmp (joined parts.now.items)) }
     requires filled { AreFilled parts.now.items }
     ensures joined { IfOk result (λ new. joined new.items ≡ entered_all K.cmp (joined parts.now.items) edits.now) }
@@ -44,10 +44,10 @@ fn push_part<K: Key, V: Copy, A: Allocator + Clone>(
     part: &Arc<Part<K, V, A>, A>,
     edits: &[Edit<K, V>],
 ) -> Result<(), AllocError>
-    requires ascend { Ascend K.cmp edits.now }
+    requires ascend { KeysAscend K.cmp edits.now }
     requires sorted { T (is_sorted K.cmp part.now.value.pairs) }
     requires filled { AreFilled new.old.items }
-    requires part { IsFilled part.now.value.pairs }
+    requires part { IsNotEmpty part.now.value.pairs }
     ensures joined { OnOk result (joined new.new.items ≡ joined new.old.items ++ entered_all K.cmp part.now.value.pairs edits.now) }
     ensures filled { OnOk result (AreFilled new.new.items) }
 {

@@ -6,7 +6,7 @@ use Rattle.std.specs.List.{AllZip}
 use Rattle.std.specs.Option.{is_some}
 use Rattle.kfs_map_pages.specs.declared.group.Group.{Group}
 use Rattle.kfs_map_pages.specs.Values.{Sheet}
-use Rattle.kfs_map_pages.specs.Groups.{held, all_held, no_pages, page_in, pages_of, flat, AreWhole}
+use Rattle.kfs_map_pages.specs.Groups.{held, all_held, no_pages, page_in, pages_of, flat, GroupsAreWhole}
 
 module _ {X A : Type 0} where
   pub is_some-held : (place : Option (Arc X A)) → is_some (held place) ≡ is_some place
@@ -65,19 +65,19 @@ module _ {V A : Type 0} where
   flat_append [] ys = refl
   flat_append (x ∷ xs) ys = ap (λ rest. pages_of x ++ rest) (flat_append xs ys) ∙ sym (append_assoc (pages_of x) (flat xs) (flat ys))
 
-  pub length-flat : (groups : List (Option (Group V A))) → AreWhole groups → length (flat groups) ≡ 32 * length groups
+  pub length-flat : (groups : List (Option (Group V A))) → GroupsAreWhole groups → length (flat groups) ≡ 32 * length groups
   length-flat [] whole = refl
   length-flat (group ∷ groups) whole = length-append (pages_of group) (flat groups) ∙ omega (arith, whole.0, length-flat groups whole.1)
 
-  pub whole_front : (xs ys : List (Option (Group V A))) → AreWhole (xs ++ ys) → AreWhole xs
+  pub whole_front : (xs ys : List (Option (Group V A))) → GroupsAreWhole (xs ++ ys) → GroupsAreWhole xs
   whole_front [] ys whole = tt
   whole_front (x ∷ xs) ys whole = (whole.0, whole_front xs ys whole.1)
 
-  pub whole_back : (xs ys : List (Option (Group V A))) → AreWhole (xs ++ ys) → AreWhole ys
+  pub whole_back : (xs ys : List (Option (Group V A))) → GroupsAreWhole (xs ++ ys) → GroupsAreWhole ys
   whole_back [] ys whole = whole
   whole_back (x ∷ xs) ys whole = whole_back xs ys whole.1
 
-  pub whole_both : (xs ys : List (Option (Group V A))) → AreWhole xs → AreWhole ys → AreWhole (xs ++ ys)
+  pub whole_both : (xs ys : List (Option (Group V A))) → GroupsAreWhole xs → GroupsAreWhole ys → GroupsAreWhole (xs ++ ys)
   whole_both [] ys front back = back
   whole_both (x ∷ xs) ys front back = (front.0, whole_both xs ys front.1 back)
 
@@ -85,18 +85,18 @@ module _ {V A : Type 0} where
   flat_both front back = ap flat (held_append front back) ∙ flat_append (all_held front) (all_held back)
 
   -- a page of all is one of its group
-  page_in-flat : (groups : List (Option (Group V A))) (group place index : ℕ) → AreWhole groups → place < 32 → index ≡ 32 * group + place → page_in (flat groups) index ≡ page_in (pages_of (get_or groups group None)) place
+  page_in-flat : (groups : List (Option (Group V A))) (group place index : ℕ) → GroupsAreWhole groups → place < 32 → index ≡ 32 * group + place → page_in (flat groups) index ≡ page_in (pages_of (get_or groups group None)) place
   page_in-flat [] group place index whole inside at = sym (none_in V place)
   page_in-flat (g ∷ groups) zero place index whole inside at =
       get_or_append_left (pages_of g) (flat groups) None index (omega (arith, at, inside, whole.0)) ∙ ap (λ k. get_or (pages_of g) k None) {x = index} {y = place} (omega (arith, at))
   page_in-flat (g ∷ groups) (suc group) place index whole inside at =
       get_or-append_right (pages_of g) (flat groups) 32 index None whole.0 (omega (arith, at)) ∙ page_in-flat groups group place (index - 32) whole.1 inside (omega (arith, at))
 
-  pub page_in-group : (groups : List (Option (Arc (Group V A) A))) (index : ℕ) → AreWhole (all_held groups) → page_in (flat (all_held groups)) index ≡ page_in (pages_of (held (get_or groups (index / 32) None))) (index % 32)
+  pub page_in-group : (groups : List (Option (Arc (Group V A) A))) (index : ℕ) → GroupsAreWhole (all_held groups) → page_in (flat (all_held groups)) index ≡ page_in (pages_of (held (get_or groups (index / 32) None))) (index % 32)
   page_in-group groups index whole =
       page_in-flat (all_held groups) (index / 32) (index % 32) index whole (omega arith) (omega arith) ∙ ap (λ group. page_in (pages_of group) (index % 32)) (get_or-held groups (index / 32))
 
-whole_none : (V A : Type 0) (count : ℕ) → AreWhole {V = V} {A = A} (replicate count None)
+whole_none : (V A : Type 0) (count : ℕ) → GroupsAreWhole {V = V} {A = A} (replicate count None)
 unfolding no_pages
 whole_none V A zero = tt
 whole_none V A (suc count) = (length-replicate {A = Option (Sheet V)} 32 None, whole_none V A count)
@@ -115,8 +115,8 @@ module _ {V A : Type 0} where
   pub blank_count : (groups : List (Option (Arc (Group V A) A))) (count : ℕ) → groups ≡ replicate count None → length groups ≡ count
   blank_count groups count none = ap length none ∙ length-replicate {A = Option (Arc (Group V A) A)} count None
 
-  pub blank_whole : (groups : List (Option (Arc (Group V A) A))) (count : ℕ) → groups ≡ replicate count None → AreWhole (all_held groups)
-  blank_whole groups count none = subst AreWhole (sym (ap all_held none ∙ held_none (Group V A) A count)) (whole_none V A count)
+  pub blank_whole : (groups : List (Option (Arc (Group V A) A))) (count : ℕ) → groups ≡ replicate count None → GroupsAreWhole (all_held groups)
+  blank_whole groups count none = subst GroupsAreWhole (sym (ap all_held none ∙ held_none (Group V A) A count)) (whole_none V A count)
 
   pub blank_groups : (groups : List (Option (Arc (Group V A) A))) (count : ℕ) → groups ≡ replicate count None → flat (all_held groups) ≡ replicate (32 * count) None
   blank_groups groups count none = ap flat (ap all_held none ∙ held_none (Group V A) A count) ∙ flat_none V A count

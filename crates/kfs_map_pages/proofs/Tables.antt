@@ -8,9 +8,9 @@ use Rattle.std.specs.Option.{is_some}
 use Rattle.kfs_model.specs.Table.{Table, numbers, get, empty, option_or, changed}
 use Rattle.kfs_model.proofs.TableLaws.{get-united, get-retain, same_table, get-changed}
 use Rattle.kfs_map_pages.specs.declared.edit.Edit.{Edit}
-use Rattle.kfs_map_pages.specs.Values.{Sheet, IsNext}
+use Rattle.kfs_map_pages.specs.Values.{Sheet, IsNextNumber}
 use Rattle.kfs_map_pages.specs.Edits.{page_of, rewritten, edited}
-use Rattle.kfs_map_pages.specs.Shown.{part, slot_shows, shown, Edited, Stands, IsPlaced, page_table, table_from}
+use Rattle.kfs_map_pages.specs.Shown.{part, slot_shows, shown, Edited, HasIndex, AreIndexedFrom, page_table, table_from}
 use Rattle.kfs_map_pages.proofs.Numbers.{by_less}
 
 or_none : {Y : Type 0} (o rest : Option Y) → rest ≡ None → option_or o rest ≡ o
@@ -60,7 +60,7 @@ module _ {V : Type 0} where
       at_page false is = rest n ∙ ap (edited later n) (sym (edited-away mine n _ (λ k d below same. eqb-false (page_of n) index is (omega (arith, in_page k d below, same)))))
 
   -- pages in their places are those in front, one, and those behind
-  pub placed_front : (front back : List (Option (Sheet V))) (first : ℕ) → IsPlaced first (front ++ back) → IsPlaced (first + length front) back
+  pub placed_front : (front back : List (Option (Sheet V))) (first : ℕ) → AreIndexedFrom first (front ++ back) → AreIndexedFrom (first + length front) back
   placed_front [] back first placed = rw (sum_zero first) placed
     where
       sum_zero : (n : ℕ) → n + 0 ≡ n
@@ -70,16 +70,16 @@ module _ {V : Type 0} where
       sum_more : (n m : ℕ) → n + suc m ≡ n + 1 + m
       sum_more n m = omega arith
 
-  pub placed_again : (front back others : List (Option (Sheet V))) (first : ℕ) → IsPlaced first (front ++ back) → IsPlaced (first + length front) others → IsPlaced first (front ++ others)
-  placed_again [] back others first placed again = subst (λ k. IsPlaced k others) (omega arith) again
-  placed_again (page ∷ front) back others first placed again = (placed.0, placed_again front back others (first + 1) placed.1 (subst (λ k. IsPlaced k others) (omega arith) again))
+  pub placed_again : (front back others : List (Option (Sheet V))) (first : ℕ) → AreIndexedFrom first (front ++ back) → AreIndexedFrom (first + length front) others → AreIndexedFrom first (front ++ others)
+  placed_again [] back others first placed again = subst (λ k. AreIndexedFrom k others) (omega arith) again
+  placed_again (page ∷ front) back others first placed again = (placed.0, placed_again front back others (first + 1) placed.1 (subst (λ k. AreIndexedFrom k others) (omega arith) again))
 
-  pub stands_at : (pages : List (Option (Sheet V))) (first k : ℕ) (page : Sheet V) → IsPlaced first pages → get_or pages k None ≡ Some page → page.index ≡ first + k
+  pub stands_at : (pages : List (Option (Sheet V))) (first k : ℕ) (page : Sheet V) → AreIndexedFrom first pages → get_or pages k None ≡ Some page → page.index ≡ first + k
   stands_at [] first k page placed here = absurd (differ here)
     where
       differ : None ≡ Some page → ⊥
       differ e = cc
-  stands_at (p ∷ pages) first zero page placed here = subst (Stands first) here placed.0 ∙ omega arith
+  stands_at (p ∷ pages) first zero page placed here = subst (HasIndex first) here placed.0 ∙ omega arith
   stands_at (p ∷ pages) first (suc k) page placed here = stands_at pages (first + 1) k page placed.1 here ∙ omega arith
 
   get-page_table : (page : Option (Sheet V)) (q : ℕ) → get (page_table page) q ≡ slot_shows page q
@@ -155,7 +155,7 @@ module _ {V : Type 0} where
   blank_shows None sheet index none blank n = ap (λ (s : Sheet V). get s.values n) blank
   blank_shows (Some page) sheet index none blank n = cc
 
-placed_none : (V : Type 0) (first count : ℕ) → IsPlaced {V = V} first (replicate count None)
+placed_none : (V : Type 0) (first count : ℕ) → AreIndexedFrom {V = V} first (replicate count None)
 placed_none V first zero = tt
 placed_none V first (suc count) = (tt, placed_none V (first + 1) count)
 
@@ -168,8 +168,8 @@ shown_none V first (suc count) n = at (page_of n == first) (shown_none V (first 
     at false rest = rest
 
 module _ {V : Type 0} where
-  pub placed_blank : (pages : List (Option (Sheet V))) (count : ℕ) → pages ≡ replicate count None → IsPlaced 0 pages
-  placed_blank pages count none = subst (IsPlaced 0) (sym none) (placed_none V 0 count)
+  pub placed_blank : (pages : List (Option (Sheet V))) (count : ℕ) → pages ≡ replicate count None → AreIndexedFrom 0 pages
+  placed_blank pages count none = subst (AreIndexedFrom 0) (sym none) (placed_none V 0 count)
 
   pub table_none : (pages : List (Option (Sheet V))) (count : ℕ) → pages ≡ replicate count None → table_from 0 pages ≡ empty
   unfolding get
@@ -184,7 +184,7 @@ module _ {V : Type 0} where
       at false e here = cc
 
   -- the next number of a page is the next of all, where no page before has one
-  pub next_whole : (index : ℕ) (t : Table numbers V) (after number : ℕ) (value : V) → ((m : ℕ) → after < m → page_of m < index → get t m ≡ None) → IsNext (part index t) after number value → IsNext t after number value
+  pub next_whole : (index : ℕ) (t : Table numbers V) (after number : ℕ) (value : V) → ((m : ℕ) → after < m → page_of m < index → get t m ≡ None) → IsNextNumber (part index t) after number value → IsNextNumber t after number value
   unfolding page_of
   next_whole index t after number value before next =
       let here = part-some index t number value next.here in

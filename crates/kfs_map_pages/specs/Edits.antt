@@ -34,5 +34,5 @@ module _ {V : Type 0} where
   IsOfPage index e = (1 ≤ e.number) × (page_of e.number ≡ index)
 
   -- the edits are of numbers of the pages from the first on, before the end
-  abbrev pub IsWithin : ℕ → ℕ → List (Edit V) → Type 0
-  IsWithin first end edits = All (λ e. (1 ≤ e.number) × (first ≤ page_of e.number) × (page_of e.number < end)) edits
+  abbrev pub EditsAreWithin : ℕ → ℕ → List (Edit V) → Type 0
+  EditsAreWithin first end edits = All (λ e. (1 ≤ e.number) × (first ≤ page_of e.number) × (page_of e.number < end)) edits

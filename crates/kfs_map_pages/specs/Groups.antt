@@ -40,6 +40,6 @@ module _ {V A : Type 0} where
   laid_out groups = flat (all_held groups)
 
   -- each group has 32 places
-  abbrev pub AreWhole : List (Option (Group V A)) → Type 0
-  AreWhole [] = Unit {0}
-  AreWhole (group ∷ groups) = (length (pages_of group) ≡ 32) × AreWhole groups
+  abbrev pub GroupsAreWhole : List (Option (Group V A)) → Type 0
+  GroupsAreWhole [] = Unit {0}
+  GroupsAreWhole (group ∷ groups) = (length (pages_of group) ≡ 32) × GroupsAreWhole groups

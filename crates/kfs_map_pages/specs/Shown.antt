@@ -25,14 +25,14 @@ module _ {V : Type 0} where
   Edited first edits before after = (n : ℕ) → shown first after n ≡ edited edits n (shown first before n)
 
   -- a page has this index
-  abbrev pub Stands : (index : ℕ) → Option (Sheet V) → Type 0
-  Stands index None = Unit {0}
-  Stands index (Some page) = page.index ≡ index
+  abbrev pub HasIndex : (index : ℕ) → Option (Sheet V) → Type 0
+  HasIndex index None = Unit {0}
+  HasIndex index (Some page) = page.index ≡ index
 
   -- the pages have the indices from the first on
-  abbrev pub IsPlaced : (first : ℕ) → List (Option (Sheet V)) → Type 0
-  IsPlaced first [] = Unit {0}
-  IsPlaced first (page ∷ pages) = Stands first page × IsPlaced (first + 1) pages
+  abbrev pub AreIndexedFrom : (first : ℕ) → List (Option (Sheet V)) → Type 0
+  AreIndexedFrom first [] = Unit {0}
+  AreIndexedFrom first (page ∷ pages) = HasIndex first page × AreIndexedFrom (first + 1) pages
 
   -- what a page has at its own numbers
   unfoldable pub page_table : Option (Sheet V) → Table numbers V

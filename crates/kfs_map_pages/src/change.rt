@@ -1,8 +1,8 @@
 //! A change of pages: every copy and growth on the way in, every value on the way out.
 ghost use Rattle.std.specs.Prelude.{◌≡◌, ℕ, ◌+◌, ◌*◌, ◌≤◌, ◌<◌, ◌++◌, [], ◌∷◌, All, IsSome, OnOk, OnErr, length};
-ghost use Rattle.kfs_map_pages.specs.Edits.{edited, Ascends, IsWithin, IsOfPage};
-ghost use Rattle.kfs_map_pages.specs.Groups.{held, all_held, pages_of, laid_out, AreWhole};
-ghost use Rattle.kfs_map_pages.specs.Shown.{slot_shows, Stands, IsPlaced, Edited};
+ghost use Rattle.kfs_map_pages.specs.Edits.{edited, Ascends, EditsAreWithin, IsOfPage};
+ghost use Rattle.kfs_map_pages.specs.Groups.{held, all_held, pages_of, laid_out, GroupsAreWhole};
+ghost use Rattle.kfs_map_pages.specs.Shown.{slot_shows, HasIndex, AreIndexedFrom, Edited};
 
 use crate::edit::{Edit, page_of, run_of};
 use crate::group::{GROUP_LEN, Group};
@@ -38,9 +38,9 @@ fn found<V: Copy, A: Allocator + Clone>(
     index: u32,
 ) -> Result<(), AllocError>
     requires index { index < 1024 }
-    requires stands { Stands index (held slot.old) }
+    requires stands { HasIndex index (held slot.old) }
     ensures page { OnOk result (IsSome slot.new) }
-    ensures stands { Stands index (held slot.new) }
+    ensures stands { HasIndex index (held slot.new) }
     ensures shown { (n : ℕ) → slot_shows (held slot.new) n ≡ slot_shows (held slot.old) n }
 {
     if slot.is_none() {
@@ -76,13 +76,13 @@ pub(crate) fn change_groups<V: Copy, A: Allocator + Clone, T: Change>(
     then: &mut T,
 ) -> Result<(), AllocError>
     requires ascends { Ascends edits.now }
-    requires within { IsWithin (32 * first) (32 * (first + length groups.old)) edits.now }
+    requires within { EditsAreWithin (32 * first) (32 * (first + length groups.old)) edits.now }
     requires end { first + length groups.old ≤ 32 }
-    requires whole { AreWhole (all_held groups.old) }
-    requires placed { IsPlaced (32 * first) (laid_out groups.old) }
+    requires whole { GroupsAreWhole (all_held groups.old) }
+    requires placed { AreIndexedFrom (32 * first) (laid_out groups.old) }
     requires then { T.can_make then.old }
-    ensures whole { AreWhole (all_held groups.new) }
-    ensures placed { IsPlaced (32 * first) (laid_out groups.new) }
+    ensures whole { GroupsAreWhole (all_held groups.new) }
+    ensures placed { AreIndexedFrom (32 * first) (laid_out groups.new) }
     ensures ok { OnOk result (Edited (32 * first) edits.now (laid_out groups.old) (laid_out groups.new)) }
     ensures err { OnErr result (Edited (32 * first) [] (laid_out groups.old) (laid_out groups.new)) }
     ensures made { OnOk result (T.made then.old then.new) }
@@ -110,15 +110,15 @@ fn change_group<V: Copy, A: Allocator + Clone, T: Change>(
     then: &mut T,
 ) -> Result<(), AllocError>
     requires ascends { Ascends edits.now }
-    requires within { IsWithin (32 * index) (32 * (index + 1 + length rest.old)) edits.now }
+    requires within { EditsAreWithin (32 * index) (32 * (index + 1 + length rest.old)) edits.now }
     requires end { index + 1 + length rest.old ≤ 32 }
     requires group { length (pages_of (held slot.old)) ≡ 32 }
-    requires whole { AreWhole (all_held rest.old) }
-    requires placed { IsPlaced (32 * index) (laid_out (slot.old ∷ rest.old)) }
+    requires whole { GroupsAreWhole (all_held rest.old) }
+    requires placed { AreIndexedFrom (32 * index) (laid_out (slot.old ∷ rest.old)) }
     requires then { T.can_make then.old }
     ensures group { length (pages_of (held slot.new)) ≡ 32 }
-    ensures whole { AreWhole (all_held rest.new) }
-    ensures placed { IsPlaced (32 * index) (laid_out (slot.new ∷ rest.new)) }
+    ensures whole { GroupsAreWhole (all_held rest.new) }
+    ensures placed { AreIndexedFrom (32 * index) (laid_out (slot.new ∷ rest.new)) }
     ensures ok { OnOk result (Edited (32 * index) edits.now (laid_out (slot.old ∷ rest.old)) (laid_out (slot.new ∷ rest.new))) }
     ensures err { OnErr result (Edited (32 * index) [] (laid_out (slot.old ∷ rest.old)) (laid_out (slot.new ∷ rest.new))) }
     ensures made { OnOk result (T.made then.old then.new) }
@@ -146,14 +146,14 @@ fn change_pages<V: Copy, A: Allocator + Clone, T: Change>(
     then: &mut T,
 ) -> Result<(), AllocError>
     requires ascends { Ascends edits.now }
-    requires within { IsWithin first (32 * (next + length groups.old)) edits.now }
+    requires within { EditsAreWithin first (32 * (next + length groups.old)) edits.now }
     requires edge { first + length pages.old ≡ 32 * next }
     requires end { next + length groups.old ≤ 32 }
-    requires whole { AreWhole (all_held groups.old) }
-    requires placed { IsPlaced first (all_held pages.old ++ laid_out groups.old) }
+    requires whole { GroupsAreWhole (all_held groups.old) }
+    requires placed { AreIndexedFrom first (all_held pages.old ++ laid_out groups.old) }
     requires then { T.can_make then.old }
-    ensures whole { AreWhole (all_held groups.new) }
-    ensures placed { IsPlaced first (all_held pages.new ++ laid_out groups.new) }
+    ensures whole { GroupsAreWhole (all_held groups.new) }
+    ensures placed { AreIndexedFrom first (all_held pages.new ++ laid_out groups.new) }
     ensures ok { OnOk result (Edited first edits.now (all_held pages.old ++ laid_out groups.old) (all_held pages.new ++ laid_out groups.new)) }
     ensures err { OnErr result (Edited first [] (all_held pages.old ++ laid_out groups.old) (all_held pages.new ++ laid_out groups.new)) }
     ensures made { OnOk result (T.made then.old then.new) }
@@ -189,16 +189,16 @@ fn change_from<V: Copy, A: Allocator + Clone, T: Change>(
 ) -> Result<(), AllocError>
     requires mine { All (IsOfPage index) mine.now }
     requires ascends { Ascends later.now }
-    requires within { IsWithin (index + 1) (32 * (next + length groups.old)) later.now }
+    requires within { EditsAreWithin (index + 1) (32 * (next + length groups.old)) later.now }
     requires edge { index + 1 + length rest.old ≡ 32 * next }
     requires end { next + length groups.old ≤ 32 }
-    requires stands { Stands index (held slot.old) }
-    requires whole { AreWhole (all_held groups.old) }
-    requires placed { IsPlaced (index + 1) (all_held rest.old ++ laid_out groups.old) }
+    requires stands { HasIndex index (held slot.old) }
+    requires whole { GroupsAreWhole (all_held groups.old) }
+    requires placed { AreIndexedFrom (index + 1) (all_held rest.old ++ laid_out groups.old) }
     requires then { T.can_make then.old }
-    ensures stands { Stands index (held slot.new) }
-    ensures whole { AreWhole (all_held groups.new) }
-    ensures placed { IsPlaced (index + 1) (all_held rest.new ++ laid_out groups.new) }
+    ensures stands { HasIndex index (held slot.new) }
+    ensures whole { GroupsAreWhole (all_held groups.new) }
+    ensures placed { AreIndexedFrom (index + 1) (all_held rest.new ++ laid_out groups.new) }
     ensures page { OnOk result ((n : ℕ) → slot_shows (held slot.new) n ≡ edited mine.now n (slot_shows (held slot.old) n)) }
     ensures rest { OnOk result (Edited (index + 1) later.now (all_held rest.old ++ laid_out groups.old) (all_held rest.new ++ laid_out groups.new)) }
     ensures page_err { OnErr result ((n : ℕ) → slot_shows (held slot.new) n ≡ slot_shows (held slot.old) n) }

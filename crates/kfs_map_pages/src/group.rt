@@ -1,7 +1,7 @@
 //! Groups: 32 pages next to each other, which copies of a map share as one.
 ghost use Rattle.std.specs.Prelude.{◌≡◌, IfOk, None, replicate};
 ghost use Rattle.std.specs.Option.{option_copied};
-ghost use Rattle.kfs_map_pages.specs.Groups.{all_held, no_pages, laid_out, AreWhole, page_in};
+ghost use Rattle.kfs_map_pages.specs.Groups.{all_held, no_pages, laid_out, GroupsAreWhole, page_in};
 
 use crate::page::Page;
 use std::alloc::{AllocError, Allocator};
@@ -58,7 +58,7 @@ pub(crate) fn page_at<V: Copy, A: Allocator>(
     groups: &[Option<Arc<Group<V, A>, A>>],
     index: u32,
 ) -> Option<&Page<V, A>>
-    requires { AreWhole (all_held groups.now) }
+    requires { GroupsAreWhole (all_held groups.now) }
     ensures { option_copied result ≡ page_in (laid_out groups.now) index }
 {
     let group = groups.get((index / GROUP_LEN) as usize)?.as_ref()?;

@@ -2,7 +2,7 @@
 ghost use Rattle.std.specs.Prelude.{◌≡◌, ℕ, ◌+◌, ◌*◌, ◌<◌, All, Some, None, true, false, IfOk, IfSome, IfNone};
 ghost use Rattle.std.specs.Option.{option_copied};
 ghost use Rattle.kfs_model.specs.Table.{empty, get, changed};
-ghost use Rattle.kfs_map_pages.specs.Values.{IsNext};
+ghost use Rattle.kfs_map_pages.specs.Values.{IsNextNumber};
 ghost use Rattle.kfs_map_pages.specs.Edits.{page_of, edited, rewritten, IsOfPage};
 
 use crate::edit::Edit;
@@ -80,7 +80,7 @@ impl<V: Copy, A: Allocator> Page<V, A> {
 
     /// The least number of the page above `after` that has a value, and the value.
     pub(crate) fn next(&self, after: u32) -> Option<(u32, &V)>
-        ensures found { IfSome result (λ p. IsNext self.now.values after p.0 p.1.now) }
+        ensures found { IfSome result (λ p. IsNextNumber self.now.values after p.0 p.1.now) }
         ensures none { IfNone result ((m : ℕ) → after < m → get self.now.values m ≡ None) }
     {
         for place in after.saturating_sub(self.index * PAGE_LEN)..PAGE_LEN {

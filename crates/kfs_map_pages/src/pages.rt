@@ -2,7 +2,7 @@
 ghost use Rattle.std.specs.Prelude.{◌≡◌, ℕ, ◌<◌, None, IfOk, IfSome, IfNone, OnOk, OnErr};
 ghost use Rattle.std.specs.Option.{option_copied};
 ghost use Rattle.kfs_model.specs.Table.{empty, get};
-ghost use Rattle.kfs_map_pages.specs.Values.{IsNext};
+ghost use Rattle.kfs_map_pages.specs.Values.{IsNextNumber};
 ghost use Rattle.kfs_map_pages.specs.Edits.{rewritten, AreEdits};
 ghost use Rattle.kfs_map_pages.specs.Shown.{part};
 
@@ -28,14 +28,14 @@ pub struct Pages<V: Copy, A: Allocator> {
 impl<V: Copy, A: Allocator> Model for Pages<V, A> {
     ghost use Rattle.std.specs.Prelude.{◌≡◌, length};
     ghost use Rattle.kfs_model.specs.Table.{Table, numbers};
-    ghost use Rattle.kfs_map_pages.specs.Groups.{all_held, laid_out, AreWhole};
-    ghost use Rattle.kfs_map_pages.specs.Shown.{table_from, IsPlaced};
+    ghost use Rattle.kfs_map_pages.specs.Groups.{all_held, laid_out, GroupsAreWhole};
+    ghost use Rattle.kfs_map_pages.specs.Shown.{table_from, AreIndexedFrom};
 
     ghost Value = { Table numbers V };
 
     ghost view = { λ s. table_from 0 (laid_out s.groups.items) };
 
-    ghost invariant = { λ s. (length s.groups.items ≡ 32) × AreWhole (all_held s.groups.items) × IsPlaced 0 (laid_out s.groups.items) };
+    ghost invariant = { λ s. (length s.groups.items ≡ 32) × GroupsAreWhole (all_held s.groups.items) × AreIndexedFrom 0 (laid_out s.groups.items) };
 }
 
 impl<V: Copy, A: Allocator + Clone> Clone for Pages<V, A> {
@@ -82,7 +82,7 @@ impl<V: Copy, A: Allocator> Pages<V, A> {
 
     /// The least number above `after` that has a value, and the value. Takes no memory.
     pub fn next(&self, after: u32) -> Option<(u32, &V)>
-        ensures found { IfSome result (λ p. IsNext self.now after p.0 p.1.now) }
+        ensures found { IfSome result (λ p. IsNextNumber self.now after p.0 p.1.now) }
         ensures none { IfNone result ((m : ℕ) → after < m → get self.now m ≡ None) }
     {
         let pages = self.groups.len() as u32 * GROUP_LEN;
@@ -97,7 +97,7 @@ impl<V: Copy, A: Allocator> Pages<V, A> {
 
     /// The same of the numbers of one page.
     fn next_in(&self, index: u32, after: u32) -> Option<(u32, &V)>
-        ensures found { IfSome result (λ p. IsNext (part index self.now) after p.0 p.1.now) }
+        ensures found { IfSome result (λ p. IsNextNumber (part index self.now) after p.0 p.1.now) }
         ensures none { IfNone result ((m : ℕ) → after < m → get (part index self.now) m ≡ None) }
     {
         self.page(index)?.next(after)

@@ -6,12 +6,12 @@ use native.Mathlib.Omega.{arith}
 use Rattle.kfs_model.specs.Access.{Client}
 use Rattle.kfs_model.specs.Lease.{row_of}
 use Rattle.kfs_model.proofs.ClientNumbers.{none_with_number, rest_distinct}
-use Rattle.kfs_mode.specs.Clients.{AreDistinct}
+use Rattle.kfs_mode.specs.Clients.{ClientsAreDistinct}
 
 below_rest : (k n : ℕ) → suc k < suc n → k < n
 below_rest k n below = omega arith
 
-found_at : (rows : List Client) (row : Client) (k : ℕ) → AreDistinct rows → k < length rows → slice_index_or rows k row ≡ row → row_of rows row.number ≡ Some row
+found_at : (rows : List Client) (row : Client) (k : ℕ) → ClientsAreDistinct rows → k < length rows → slice_index_or rows k row ≡ row → row_of rows row.number ≡ Some row
 found_at [] row k distinct below is = absurd (no_place k below)
   where
     no_place : (k : ℕ) → k < 0 → ⊥
@@ -30,5 +30,5 @@ found_at (r ∷ rows) row (suc k) distinct below is = by_test (found_at rows row
     by_test later false same = later
 
 -- the row with this number
-pub row_is_found : (rows : List Client) (row : Client) (number : ℕ) → AreDistinct rows → Contains rows row → row.number ≡ number → row_of rows number ≡ Some row
+pub row_is_found : (rows : List Client) (row : Client) (number : ℕ) → ClientsAreDistinct rows → Contains rows row → row.number ≡ number → row_of rows number ≡ Some row
 row_is_found rows row number distinct among is = subst (λ n. row_of rows n ≡ Some row) is (found_at rows row among.0 distinct among.1 among.2)

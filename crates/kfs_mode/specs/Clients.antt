@@ -1,7 +1,7 @@
 -- The rows of clients: what one is made of, and that no two have one number.
 use Rattle.std.specs.Prelude.{ℕ, Bool, List}
 use Rattle.kfs_model.specs.Access.{Client}
-pub use Rattle.kfs_model.specs.Access.{AreDistinct}
+pub use Rattle.kfs_model.specs.Access.{ClientsAreDistinct}
 
 -- the row of what a client is made of
 abbrev pub client_row : (number uid gid : ℕ) (groups : List ℕ) (privileged : Bool) (first last : ℕ) → Client

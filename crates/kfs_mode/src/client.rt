@@ -7,7 +7,7 @@ ghost use Rattle.kfs_model.specs.Access as access;
 ghost use Rattle.kfs_model.specs.Access.{is_grant};
 ghost use Rattle.kfs_model.specs.CleanStep.{IsClient};
 ghost use Rattle.kfs_model.specs.Lease.{row_of};
-ghost use Rattle.kfs_mode.specs.Clients.{AreDistinct, client_row};
+ghost use Rattle.kfs_mode.specs.Clients.{ClientsAreDistinct, client_row};
 
 use arrayvec::ArrayVec;
 use kfs_entry_value::GREATEST_NUMBER;
@@ -138,7 +138,7 @@ impl Client {
 /// The client of this number; no two have one number. Where the numbers ascend it is found in the time
 /// of a logarithm, else by a scan.
 pub fn find_client(clients: &[Client], number: u32) -> Option<&Client>
-    requires distinct { AreDistinct clients.now }
+    requires distinct { ClientsAreDistinct clients.now }
     ensures { option_map (λ row. row.now) result ≡ row_of clients.now number }
 {
     let near = clients.binary_search_by_key(&number, |client| client.number);

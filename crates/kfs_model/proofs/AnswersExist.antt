@@ -4,7 +4,7 @@ use Rattle.std.specs.List.{flat_map}
 use Rattle.std.proofs.lemmas.List.{append-nil}
 use Rattle.kfs_model.specs.Entry.{Log}
 use Rattle.kfs_model.specs.PlanRow.{Plan}
-use Rattle.kfs_model.specs.Spelling.{IsBytes, BeginsWithNo, Stand, Stop, LogHeader, IsLogHeader, log_header, header_of, IsEntry, entry_bytes, IsLog, log_bytes, LogAnswer, Counts, AreCounts, plan_header, counts_of, IsPlan, plan_bytes, IsNameRow, name_row_bytes, IsNodeRow, node_row_bytes, IsPiece, piece_bytes, PlanAnswer, SpellingFault, BadHeader, BadEntry, Trailing, BadRow}
+use Rattle.kfs_model.specs.Spelling.{IsBytes, BeginsWithNo, BeginsWithRows, LacksRow, LogHeader, IsLogHeader, log_header, log_header_of, IsEntry, entry_bytes, IsLog, log_bytes, LogAnswer, Counts, AreCounts, plan_header, counts_of, IsPlan, plan_bytes, IsNameRow, name_row_bytes, IsNodeRow, node_row_bytes, IsPiece, piece_bytes, PlanAnswer, SpellingFault, BadHeader, BadEntry, Trailing, BadRow}
 use Rattle.kfs_model.proofs.Reading.{log_header_read, plan_header_read}
 use Rattle.kfs_model.proofs.Fields.{IsField}
 use Rattle.kfs_model.proofs.EntryLaws.{entry_field}
@@ -24,12 +24,12 @@ module _ {V : Type 0} {F : V → Type 0} {s : V → List ℕ} {r : List ℕ → 
   begins_with_none bytes is = λ begins. let again : r bytes ≡ Some (begins.0, begins.1) = ap r begins.3 ∙ field.again begins.0 begins.1 begins.2 in cc
 
   abbrev RowsOrStop : ℕ → List ℕ → Type 0
-  RowsOrStop count bytes = ((rest : List ℕ) × Stand F s count bytes rest) ⊎ ((k : ℕ) × Stop F s count k bytes)
+  RowsOrStop count bytes = ((rest : List ℕ) × BeginsWithRows F s count bytes rest) ⊎ ((k : ℕ) × LacksRow F s count k bytes)
 
-  no_row : (bytes : List ℕ) → Stand F s 0 bytes bytes
+  no_row : (bytes : List ℕ) → BeginsWithRows F s 0 bytes bytes
   no_row bytes = record { rows = []; number = refl; are = record { fit = tt; spelled = refl } }
 
-  row_before : (count : ℕ) (row : V) (bytes rest end : List ℕ) → F row → bytes ≡ s row ++ rest → Stand F s count rest end → Stand F s (suc count) bytes end
+  row_before : (count : ℕ) (row : V) (bytes rest end : List ℕ) → F row → bytes ≡ s row ++ rest → BeginsWithRows F s count rest end → BeginsWithRows F s (suc count) bytes end
   row_before count row bytes rest end fits parts stand = record {
     rows = row ∷ stand.rows;
     number = ap suc stand.number;
@@ -59,18 +59,18 @@ module _ {V : Type 0} {F : V → Type 0} {s : V → List ℕ} {r : List ℕ → 
 -- ---- logs
 
 -- a header and entries that stand behind it are a log
-pub spelled_log : (bytes rest more : List ℕ) (h : LogHeader) → IsLogHeader h → bytes ≡ log_header h ++ rest → (stand : Stand IsEntry entry_bytes h.count rest more)
+pub spelled_log : (bytes rest more : List ℕ) (h : LogHeader) → IsLogHeader h → bytes ≡ log_header h ++ rest → (stand : BeginsWithRows IsEntry entry_bytes h.count rest more)
     → let l : Log = record { client = h.client; entries = stand.rows } in IsLog l × (bytes ≡ log_bytes l ++ more)
 spelled_log bytes rest more h fits parts stand =
     let l : Log = record { client = h.client; entries = stand.rows } in
-    let same : header_of l ≡ h = ap (λ (n : ℕ). record { client = h.client; count = n }) stand.number in
+    let same : log_header_of l ≡ h = ap (λ (n : ℕ). record { client = h.client; count = n }) stand.number in
     let whole : bytes ≡ log_header h ++ (flat_map entry_bytes l.entries ++ more) = parts ∙ ap (λ (b : List ℕ). log_header h ++ b) stand.are.spelled in
     let joined : bytes ≡ log_header h ++ flat_map entry_bytes l.entries ++ more = whole ∙ sym (append_assoc (log_header h) (flat_map entry_bytes l.entries) more) in (
       (subst IsLogHeader (sym same) fits, stand.are.fit),
       joined ∙ ap (λ (g : LogHeader). log_header g ++ flat_map entry_bytes l.entries ++ more) (sym same),
     )
 
-log_behind : (bytes rest more : List ℕ) (h : LogHeader) → IsLogHeader h → bytes ≡ log_header h ++ rest → Stand IsEntry entry_bytes h.count rest more → HasLogAnswer bytes
+log_behind : (bytes rest more : List ℕ) (h : LogHeader) → IsLogHeader h → bytes ≡ log_header h ++ rest → BeginsWithRows IsEntry entry_bytes h.count rest more → HasLogAnswer bytes
 log_behind bytes rest [] h fits parts stand =
     let l = spelled_log bytes rest [] h fits parts stand in
     (Ok (record { client = h.client; entries = stand.rows }), (l.0, l.1 ∙ append-nil _))
@@ -95,7 +95,7 @@ log_has_answer bytes are = by_header (log_header_read bytes) refl
 
 -- three parts that stand are a plan
 pub plan_is_spelled : (source a b d rest : List ℕ) (c : Counts) → AreCounts c → source ≡ plan_header c ++ a
-    → (names : Stand IsNameRow name_row_bytes c.names a b) (nodes : Stand IsNodeRow node_row_bytes c.nodes b d) (pieces : Stand IsPiece piece_bytes c.pieces d rest)
+    → (names : BeginsWithRows IsNameRow name_row_bytes c.names a b) (nodes : BeginsWithRows IsNodeRow node_row_bytes c.nodes b d) (pieces : BeginsWithRows IsPiece piece_bytes c.pieces d rest)
     → let p : Plan = record { names = names.rows; nodes = nodes.rows; pieces = pieces.rows } in IsPlan p × (source ≡ plan_bytes p ++ rest)
 plan_is_spelled source a b d rest c fits front names nodes pieces =
     let p : Plan = record { names = names.rows; nodes = nodes.rows; pieces = pieces.rows } in
@@ -112,7 +112,7 @@ plan_is_spelled source a b d rest c fits front names nodes pieces =
     )
 
 plan_behind : (bytes a b d rest : List ℕ) (c : Counts) → AreCounts c → bytes ≡ plan_header c ++ a
-    → (names : Stand IsNameRow name_row_bytes c.names a b) (nodes : Stand IsNodeRow node_row_bytes c.nodes b d) (pieces : Stand IsPiece piece_bytes c.pieces d rest) → HasPlanAnswer bytes
+    → (names : BeginsWithRows IsNameRow name_row_bytes c.names a b) (nodes : BeginsWithRows IsNodeRow node_row_bytes c.nodes b d) (pieces : BeginsWithRows IsPiece piece_bytes c.pieces d rest) → HasPlanAnswer bytes
 plan_behind bytes a b d [] c fits parts names nodes pieces =
     let p = plan_is_spelled bytes a b d [] c fits parts names nodes pieces in
     (Ok (record { names = names.rows; nodes = nodes.rows; pieces = pieces.rows }), (p.0, p.1 ∙ append-nil _))
@@ -121,18 +121,18 @@ plan_behind bytes a b d (byte ∷ more) c fits parts names nodes pieces =
     let some : byte ∷ more ≢ [] = λ e. cc in
     (Err Trailing, (record { names = names.rows; nodes = nodes.rows; pieces = pieces.rows }, byte ∷ more, p.0, some, p.1))
 
-bytes_behind : {V : Type 0} {F : V → Type 0} {s : V → List ℕ} {count : ℕ} {bytes rest : List ℕ} → IsBytes bytes → Stand F s count bytes rest → IsBytes rest
+bytes_behind : {V : Type 0} {F : V → Type 0} {s : V → List ℕ} {count : ℕ} {bytes rest : List ℕ} → IsBytes bytes → BeginsWithRows F s count bytes rest → IsBytes rest
 bytes_behind {V} {F} {s} {count} {bytes} {rest} are stand = IsBytes-behind (flat_map s stand.rows) rest (subst IsBytes stand.are.spelled are)
 
 module _ (bytes a : List ℕ) (c : Counts) (fits : AreCounts c) (parts : bytes ≡ plan_header c ++ a) where
-  pieces_behind : (b d : List ℕ) → IsBytes d → Stand IsNameRow name_row_bytes c.names a b → Stand IsNodeRow node_row_bytes c.nodes b d → HasPlanAnswer bytes
+  pieces_behind : (b d : List ℕ) → IsBytes d → BeginsWithRows IsNameRow name_row_bytes c.names a b → BeginsWithRows IsNodeRow node_row_bytes c.nodes b d → HasPlanAnswer bytes
   pieces_behind b d are names nodes =
       elim (rows_or_stop piece_field c.pieces d are) [
         | inl stand ↦ plan_behind bytes a b d stand.0 c fits parts names nodes stand.1
         | inr stop ↦ (Err (BadRow 2 stop.0), (c, a, fits, parts, (b, d, names, nodes, stop.1)))
       ]
 
-  nodes_behind : (b : List ℕ) → IsBytes b → Stand IsNameRow name_row_bytes c.names a b → HasPlanAnswer bytes
+  nodes_behind : (b : List ℕ) → IsBytes b → BeginsWithRows IsNameRow name_row_bytes c.names a b → HasPlanAnswer bytes
   nodes_behind b are names =
       elim (rows_or_stop node_row_field c.nodes b are) [
         | inl stand ↦ pieces_behind b stand.0 (bytes_behind are stand.1) names stand.1

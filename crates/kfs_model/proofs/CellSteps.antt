@@ -4,14 +4,14 @@ use Rattle.std.proofs.lemmas.List.{length-take-le, length-replicate}
 use Rattle.std.proofs.lemmas.Bool.{leb-true, not-true}
 use Rattle.kfs_model.specs.Header.{File}
 use Rattle.kfs_model.specs.Table.{get}
-use Rattle.kfs_model.specs.Tree.{Tree, Node, Body, FileBody, DirectoryBody, NameTable, headers, header_of, size_of, name_count}
+use Rattle.kfs_model.specs.Tree.{Tree, Node, Body, FileBody, DirectoryBody, NameTable, headers, node_header, size_of, name_count}
 use Rattle.kfs_model.specs.Entry.{Write, Truncate, Chmod}
 use Rattle.kfs_model.specs.Sight.{is_directory}
 use Rattle.kfs_model.specs.Limits.{size_limit}
 use Rattle.kfs_model.specs.Check.{EntryContext, fault, checks_of, payload_fits}
 use Rattle.kfs_model.specs.Effect.{Filling, change_of, overwritten, resized, lengthened, on_content}
 use Rattle.kfs_model.specs.SeenAfter.{written_size, seen_after}
-use Rattle.kfs_model.specs.CleanStep.{IsClean, IsKept}
+use Rattle.kfs_model.specs.CleanStep.{IsClean, StaysSound}
 use Rattle.kfs_model.proofs.CleanIsAllowed.{AllPass, all_pass, passed}
 use Rattle.kfs_model.proofs.CleanFacts.{some_is, at_tree, clean_at}
 use Rattle.kfs_model.proofs.Heads.{get-headers}
@@ -22,7 +22,7 @@ module _ {B : Type 0} (t : Tree B) (n : ℕ) where
   pub node_there : IsTrue (is_some (get (headers t) n)) → (node : Node B) × (get t.nodes n ≡ Some node)
   node_there some = some_is (get t.nodes n) (at (get t.nodes n) (sym (ap is_some (get-headers t n)) ∙ some))
     where
-      at : (o : Option (Node B)) → is_some (option_map (header_of t.names n) o) ≡ true → is_some o ≡ true
+      at : (o : Option (Node B)) → is_some (option_map (node_header t.names n) o) ≡ true → is_some o ≡ true
       at None e = e
       at (Some node) e = refl
 
@@ -52,12 +52,12 @@ module _ {B : Type 0} (filling : Filling B) where
 
 -- a file whose cells change and its size alone
 file_shown : {B : Type 0} (filling : Filling B) (names : NameTable) (n : ℕ) (node : Node B) (change : List B → List B) (size : ℕ → ℕ)
-    → is_directory (Some (header_of names n node)) ≡ false → ((cells : List B) → length (change cells) ≡ size (length cells))
-    → header_of names n (record node { body = on_content filling change node.body }) ≡ record (header_of names n node) { size = size (size_of node.body) }
+    → is_directory (Some (node_header names n node)) ≡ false → ((cells : List B) → length (change cells) ≡ size (length cells))
+    → node_header names n (record node { body = on_content filling change node.body }) ≡ record (node_header names n node) { size = size (size_of node.body) }
 file_shown {B} filling names n node change size file long = at node.body file
   where
-    at : (body : Body B) → is_directory (Some (header_of names n (record node { body = body }))) ≡ false
-        → header_of names n (record node { body = on_content filling change body }) ≡ record (header_of names n (record node { body = body })) { size = size (size_of body) }
+    at : (body : Body B) → is_directory (Some (node_header names n (record node { body = body }))) ≡ false
+        → node_header names n (record node { body = on_content filling change body }) ≡ record (node_header names n (record node { body = body })) { size = size (size_of body) }
     at (FileBody cells) file = λ i. record { kind = File; mode = node.mode; uid = node.uid; gid = node.gid; links = name_count names n; size = long cells i }
     at DirectoryBody file = cc
 
@@ -66,7 +66,7 @@ pub record IsFaithful {B : Type 0} (filling : Filling B) : Type 0 where
   pub long : (index : ℕ) (payload : List ℕ) → length (filling.payload index payload) ≡ length payload
 
 module _ {B : Type 0} (filling : Filling B) (context : EntryContext) (index : ℕ) (t : Tree B) where
-  pub chmod_kept : (n mode : ℕ) → IsClean context t (Chmod n mode) → IsKept filling context.client index t (Chmod n mode)
+  pub chmod_kept : (n mode : ℕ) → IsClean context t (Chmod n mode) → StaysSound filling context.client index t (Chmod n mode)
   unfolding checks_of fault change_of seen_after
   chmod_kept n mode h =
       let pass = all_pass (at_tree context t) _ (clean_at context t h) in
@@ -77,10 +77,10 @@ module _ {B : Type 0} (filling : Filling B) (context : EntryContext) (index : �
         seen = node_seen t h.sound n node there (λ node. record node { mode = mode }) (λ h. record h { mode = mode }) (λ h. refl) refl;
       }
 
-  shown_as_file : (n : ℕ) (node : Node B) → get t.nodes n ≡ Some node → is_directory (get (headers t) n) ≡ false → is_directory (Some (header_of t.names n node)) ≡ false
-  shown_as_file n node there file = sym (ap is_directory (get-headers t n ∙ ap (option_map (header_of t.names n)) there)) ∙ file
+  shown_as_file : (n : ℕ) (node : Node B) → get t.nodes n ≡ Some node → is_directory (get (headers t) n) ≡ false → is_directory (Some (node_header t.names n node)) ≡ false
+  shown_as_file n node there file = sym (ap is_directory (get-headers t n ∙ ap (option_map (node_header t.names n)) there)) ∙ file
 
-  pub truncate_kept : (n size : ℕ) → IsClean context t (Truncate n size) → IsKept filling context.client index t (Truncate n size)
+  pub truncate_kept : (n size : ℕ) → IsClean context t (Truncate n size) → StaysSound filling context.client index t (Truncate n size)
   unfolding checks_of fault change_of seen_after
   truncate_kept n size h =
       let pass = all_pass (at_tree context t) _ (clean_at context t h) in
@@ -99,7 +99,7 @@ module _ {B : Type 0} (filling : Filling B) (context : EntryContext) (index : �
   written_fits p offset [] size pass fits = fits
   written_fits p offset (b ∷ bs) size pass fits = let ends = leb-true (offset + length (b ∷ bs)) size_limit (passed _ _ pass.0) in omega arith
 
-  pub write_kept : IsFaithful filling → (n offset : ℕ) (payload : List ℕ) → IsClean context t (Write n offset payload) → IsKept filling context.client index t (Write n offset payload)
+  pub write_kept : IsFaithful filling → (n offset : ℕ) (payload : List ℕ) → IsClean context t (Write n offset payload) → StaysSound filling context.client index t (Write n offset payload)
   unfolding checks_of fault change_of seen_after
   write_kept faithful n offset payload h =
       let pass = all_pass (at_tree context t) _ (clean_at context t h) in

@@ -10,10 +10,10 @@ use Rattle.kfs_model.specs.Header.{Kind, File, Directory}
 use Rattle.kfs_model.specs.Access.{Client}
 use Rattle.kfs_model.specs.Table.{Order, Table, get, insert, retain, mapped, changed_entries}
 use Rattle.kfs_model.proofs.TableLaws.{same_table, same_entries_table, get-insert, get-retain, get-mapped}
-use Rattle.kfs_model.specs.Tree.{Tree, Node, Body, FileBody, DirectoryBody, NameTable, headers, header_of, name_count, entry_count, target, is_named}
+use Rattle.kfs_model.specs.Tree.{Tree, Node, Body, FileBody, DirectoryBody, NameTable, headers, node_header, name_count, entry_count, target, is_named}
 use Rattle.kfs_model.specs.Sight.{sight, parent_in, ClientSight}
 use Rattle.kfs_model.specs.Entry.{Entry, Create, Write, Truncate, Link, Unlink, Rename, Chmod}
-use Rattle.kfs_model.specs.Effect.{Filling, lengthened, overwritten, resized, change_of, effect, swept, new_body, on_content, changed_node}
+use Rattle.kfs_model.specs.Effect.{Filling, lengthened, overwritten, resized, change_of, effect, without_unnamed, new_body, on_content, changed_node}
 use Rattle.kfs_model.specs.Run.{EntryFault, mapped_tree, mapped_body, payload_of, run_from, created_by, entry_context}
 use Rattle.kfs_model.specs.Check.{Reason, first_fault}
 
@@ -51,14 +51,14 @@ module _ {B C : Type 0} (f : B → C) where
   abbrev pub recut : Tree B → Tree C
   recut t = mapped_tree (λ n cells. map f cells) t
 
-  header-on_node : (names : NameTable) (n : ℕ) (node : Node B) → header_of names n (on_node n node) ≡ header_of names n node
+  header-on_node : (names : NameTable) (n : ℕ) (node : Node B) → node_header names n (on_node n node) ≡ node_header names n node
   header-on_node names n node = by_body node.body
     where
-      by_body : (body : Body B) → header_of names n (record { mode = node.mode; uid = node.uid; gid = node.gid; body = mapped_body (map f) body }) ≡ header_of names n (record node { body = body })
+      by_body : (body : Body B) → node_header names n (record { mode = node.mode; uid = node.uid; gid = node.gid; body = mapped_body (map f) body }) ≡ node_header names n (record node { body = body })
       by_body (FileBody cells) = λ i. record { kind = File; mode = node.mode; uid = node.uid; gid = node.gid; links = name_count names n; size = length-map cells f i }
       by_body DirectoryBody = refl
 
-  header_entries : (names : NameTable) (es : List (ℕ × Node B)) → changed_entries (header_of names) (changed_entries on_node es) ≡ changed_entries (header_of names) es
+  header_entries : (names : NameTable) (es : List (ℕ × Node B)) → changed_entries (node_header names) (changed_entries on_node es) ≡ changed_entries (node_header names) es
   header_entries names [] = refl
   header_entries names (e ∷ es) = λ i. (e.0, header-on_node names e.0 e.1 i) ∷ header_entries names es i
 
@@ -75,9 +75,9 @@ module _ {B C : Type 0} (f : B → C) where
     parent = parent_in (get (headers-recut t i)) t.names;
   }
 
-  swept-recut : (t : Tree B) → recut (swept t) ≡ swept (recut t)
-  unfolding swept
-  swept-recut t = λ i. record { nodes = mapped-retain on_node (λ n. (n == 1) || is_named t.names n) t.nodes i; names = t.names }
+  without_unnamed-recut : (t : Tree B) → recut (without_unnamed t) ≡ without_unnamed (recut t)
+  unfolding without_unnamed
+  without_unnamed-recut t = λ i. record { nodes = mapped-retain on_node (λ n. (n == 1) || is_named t.names n) t.nodes i; names = t.names }
 
   -- a node changed alike on both sides
   changed_node-recut : (change : Node B → Node B) (change' : Node C → Node C) → ((n : ℕ) (node : Node B) → on_node n (change node) ≡ change' (on_node n node)) → (n : ℕ) (t : Tree B) → recut (changed_node change n t) ≡ changed_node change' n (recut t)
@@ -145,7 +145,7 @@ module _ {B C : Type 0} (f : B → C) (from : Filling B) (to : Filling C) (gap :
   change_of-recut client index (Chmod n mode) same t = changed_node-recut f _ _ (λ n node. refl) n t
 
   effect-recut : (client : Client) (index : ℕ) (entry : Entry) → SamePayload index entry → (t : Tree B) → recut f (effect from client index entry t) ≡ effect to client index entry (recut f t)
-  effect-recut client index entry same t = swept-recut f (change_of from client index entry t) ∙ ap swept (change_of-recut client index entry same t)
+  effect-recut client index entry same t = without_unnamed-recut f (change_of from client index entry t) ∙ ap without_unnamed (change_of-recut client index entry same t)
 
   abbrev pub SamePayloads : (index : ℕ) → List Entry → Type 0
   SamePayloads index [] = Unit {0}

@@ -8,7 +8,7 @@ use Rattle.kfs_model.specs.Access.{Want, Search, may_header, owns}
 use Rattle.kfs_model.specs.Entry.{Entry, Create, Write, Truncate, Link, Unlink, Rename, Chmod}
 use Rattle.kfs_model.specs.Sight.{is_directory, is_file, kind_shown}
 use Rattle.kfs_model.specs.Check.{EntryContext, Reason, Check, MaySearch, MayWrite, IsLeased, IsADirectory, NumberIsGranted, NoSuchName, unless, fault, is_some_and, on_number, may_go, arrival_checks, move_checks, rename_checks, checks_of, first_failing, first_fault}
-use Rattle.kfs_model.specs.Allowed.{IsGrantedBit, IsLeasedTo, MayChangeDirectory, MayChangeFile, LeadsTo, MayMove, IsAllowed}
+use Rattle.kfs_model.specs.Allowed.{IsGrantedBit, IsLeasedTo, MayChangeDirectory, MayChangeFile, NameLeadsTo, MayMove, IsAllowed}
 
 -- none of the checks fails
 abbrev pub AllPass : EntryContext → List Check → Type 0
@@ -146,7 +146,7 @@ clean_unlink p d m kind clean =
       leased = by_target (p.now.name d m) refl pass.1.1.1.1.1.0 pass.1.1.1.1.1.1;
     }
   where
-    by_target : (target : Option ℕ) → p.now.name d m ≡ target → unless (is_some target) NoSuchName ≡ None → AllPass p (on_number target (may_go kind)) → (number : ℕ) × LeadsTo p d m number × IsLeasedTo p number
+    by_target : (target : Option ℕ) → p.now.name d m ≡ target → unless (is_some target) NoSuchName ≡ None → AllPass p (on_number target (may_go kind)) → (number : ℕ) × NameLeadsTo p d m number × IsLeasedTo p number
     by_target None is there pass = cc
     by_target (Some t) is there pass = (t, is, goes_leased p kind t pass)
 
@@ -161,13 +161,13 @@ module _ (p : EntryContext) (d : ℕ) (m : List ℕ) (e : ℕ) (k : List ℕ) wh
   abbrev Replaced : (s : ℕ) (to : Option ℕ) → Type 0
   Replaced s to = AllPass p (on_number to (may_go (kind_shown (p.now.head s))))
 
-  replaced_leased : (s : ℕ) (to : Option ℕ) → p.now.name e k ≡ to → Replaced s to → (number : ℕ) → LeadsTo p e k number → IsLeasedTo p number
+  replaced_leased : (s : ℕ) (to : Option ℕ) → p.now.name e k ≡ to → Replaced s to → (number : ℕ) → NameLeadsTo p e k number → IsLeasedTo p number
   replaced_leased s None is pass number leads = cc
   replaced_leased s (Some t) is pass number leads =
       let same : t ≡ number = cc in
       subst (IsLeasedTo p) same (goes_leased p (kind_shown (p.now.head s)) t pass)
 
-  moves : IsTrue (is_directory (p.now.head d)) → IsTrue (is_directory (p.now.head e)) → IsGrantedBit p Search d → IsGrantedBit p Search e → (s : ℕ) → LeadsTo p d m s → (to : Option ℕ) → p.now.name e k ≡ to → AllPass p (move_checks p d e s to) → MayMove p d m e k
+  moves : IsTrue (is_directory (p.now.head d)) → IsTrue (is_directory (p.now.head e)) → IsGrantedBit p Search d → IsGrantedBit p Search e → (s : ℕ) → NameLeadsTo p d m s → (to : Option ℕ) → p.now.name e k ≡ to → AllPass p (move_checks p d e s to) → MayMove p d m e k
   moves directory_d directory_e search_d search_e s from to is pass = record {
     from = record { search = search_d; write = bit d directory_d (writes p d pass.0); leased = leased p d pass.1.1.0 };
     to = record { search = search_e; write = bit e directory_e (writes p e pass.1.0); leased = leased p e pass.1.1.1.0 };
@@ -186,7 +186,7 @@ module _ (p : EntryContext) (d : ℕ) (m : List ℕ) (e : ℕ) (k : List ℕ) wh
       pass : AllPass p (checks_of p (Rename d m e k))
       pass = all_pass p _ clean
 
-      moved : (s : ℕ) → LeadsTo p d m s → (to : Option ℕ) → p.now.name e k ≡ to → AllPass p (move_checks p d e s to) → IsAllowed p (Rename d m e k)
+      moved : (s : ℕ) → NameLeadsTo p d m s → (to : Option ℕ) → p.now.name e k ≡ to → AllPass p (move_checks p d e s to) → IsAllowed p (Rename d m e k)
       moved s from to is rest = inr (moves (passed _ _ pass.1.0) (passed _ _ pass.1.1.1.0) (searches p d pass.1.1.1.1.0) (searches p e pass.1.1.1.1.1.0) s from to is rest)
 
       by_names : (from to : Option ℕ) → p.now.name d m ≡ from → p.now.name e k ≡ to → unless (is_some from) NoSuchName ≡ None → AllPass p (rename_checks p d e from to) → IsAllowed p (Rename d m e k)

@@ -2,7 +2,7 @@
 use Rattle.std.proofs.Common.{◌≡◌, ℕ, ◌==◌, true, false, cond, not, ◌||◌, List, [], ◌∷◌, map, Option, Some, None, is_some, refl, sym, ◌∙◌}
 use Rattle.std.specs.List.{list_any}
 use Rattle.std.proofs.lemmas.Bool.{and_parts, not-true}
-use Rattle.kfs_model.specs.Access.{Client, AreDistinct}
+use Rattle.kfs_model.specs.Access.{Client, ClientsAreDistinct}
 use Rattle.kfs_model.specs.Distinct.{are_distinct}
 use Rattle.kfs_model.specs.Lease.{row_of}
 
@@ -18,12 +18,12 @@ has_number (row ∷ rows) number =
       | false ↦ has_number rows number
     ]
 
-module _ (row : Client) (rows : List Client) (distinct : AreDistinct (row ∷ rows)) where
+module _ (row : Client) (rows : List Client) (distinct : ClientsAreDistinct (row ∷ rows)) where
   -- the others are distinct, and none of them has its number
   pub first_alone : list_any (λ other. other == row.number) (numbers_of rows) ≡ false
   first_alone = not-true _ (and_parts (not (list_any (λ other. other == row.number) (numbers_of rows))) (are_distinct (numbers_of rows)) distinct).0
 
-  pub rest_distinct : AreDistinct rows
+  pub rest_distinct : ClientsAreDistinct rows
   rest_distinct = (and_parts (not (list_any (λ other. other == row.number) (numbers_of rows))) (are_distinct (numbers_of rows)) distinct).1
 
   pub none_with_number : row_of rows row.number ≡ None

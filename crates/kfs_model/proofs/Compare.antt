@@ -8,8 +8,8 @@ use Rattle.std.proofs.lemmas.List.Folds.{list_any-append}
 use Rattle.kfs_model.specs.Tree.{Tree}
 use Rattle.kfs_model.specs.Run.{Mark}
 use Rattle.kfs_model.specs.PlanRow.{Piece}
-use Rattle.kfs_model.specs.Plan.{mark_at, said_by, is_base, end_of, covers, ComesBy, Ascend, IsTrueOf, ArePieces}
-use Rattle.kfs_model.specs.PlanCut.{said_at}
+use Rattle.kfs_model.specs.Plan.{mark_at, mark_of_source, is_base, end_of, covers, ComesBy, PiecesAscend, IsTrueOf, ArePieces}
+use Rattle.kfs_model.specs.PlanCut.{mark_in_pieces}
 use Rattle.kfs_model.specs.FirstWrong.{begins_early, is_missed, is_wrong, lies_before, changed_bytes, missed_by, wrong_below, first_wrong_piece}
 use Rattle.kfs_model.specs.Compare.{behind_piece, first_apart}
 use Rattle.kfs_model.proofs.ChangedBytes.{IsChanged, none_changed, none_from_changed}
@@ -54,7 +54,7 @@ module _ (after : Tree Mark) where
   record Stands (above : List Piece) (n e : ℕ) (right : List Piece) : Type 0 where
     early : (q : Piece) → begins_early above q ≡ (ltb q.number n || (eqb q.number n && ltb q.start e))
     ordered : AreFrom n e right
-    says : (m q : ℕ) → ComesBy n e m q → said_at right m q ≡ changed_mark (mark_at after m q)
+    says : (m q : ℕ) → ComesBy n e m q → mark_in_pieces right m q ≡ changed_mark (mark_at after m q)
     covered : (m q : ℕ) → IsBefore m q n e → IsChanged after m q → list_any (covers m q) above ≡ true
     free : (m q : ℕ) → ComesBy n e m q → list_any (covers m q) above ≡ false
 
@@ -74,7 +74,7 @@ module _ (after : Tree Mark) where
       comes = ⊎_elim
           (λ (h : IsBefore p.number p.start n e).
           let place : p.start + 0 ≡ p.start = omega arith in
-          let both : ◌≡◌ {A = Option Mark} None (Some (said_by p.source 0)) = sym (none_said p.number p.start n e right h stands.ordered) ∙ ap (said_at right p.number) (sym place) ∙ follow.said 0 filled in
+          let both : ◌≡◌ {A = Option Mark} None (Some (mark_of_source p.source 0)) = sym (none_said p.number p.start n e right h stands.ordered) ∙ ap (mark_in_pieces right p.number) (sym place) ∙ follow.said 0 filled in
           cc)
           (λ (h : ComesBy n e p.number p.start). h)
           (either_side p.number p.start n e)
@@ -111,7 +111,7 @@ module _ (after : Tree Mark) where
 
       has_mark : (d : ℕ) → d < p.length → HasMark after p d
       unfolding HasMark
-      has_mark d h = is_changed after (mark_at after p.number (p.start + d)) (said_by p.source d) (sym (stands.says p.number (p.start + d) (at_start n e p.number p.start d comes)) ∙ follow.said d h)
+      has_mark d h = is_changed after (mark_at after p.number (p.start + d)) (mark_of_source p.source d) (sym (stands.says p.number (p.start + d) (at_start n e p.number p.start d comes)) ∙ follow.said d h)
 
       missed_none : (m q : ℕ) → IsChanged after m q → (lies_before (m, q) p.number p.start && not (list_any (covers m q) above)) ≡ false
       missed_none m q is = at (lies_before (m, q) p.number p.start) refl
@@ -137,12 +137,12 @@ module _ (after : Tree Mark) where
         let begins = early_parts n p.number p.start e (sym (stands.early p) ∙ is.begins) in
         ⊎_elim (other_mark is begins) (missed_byte is) (differs right p n e filled stands.ordered none))
       where
-        other_mark : IsWell after above p → ComesBy n e p.number p.start → ((d : ℕ) × (d < p.length) × (said_at right p.number (p.start + d) ≡ Some (said_by p.source d) → ⊥)) → ⊥
+        other_mark : IsWell after above p → ComesBy n e p.number p.start → ((d : ℕ) × (d < p.length) × (mark_in_pieces right p.number (p.start + d) ≡ Some (mark_of_source p.source d) → ⊥)) → ⊥
         other_mark is begins one =
             let (d, below, other) = one in
             other (stands.says p.number (p.start + d) (at_start n e p.number p.start d begins) ∙ ap changed_mark (all_along after p p.length 0 is.holds d (omega arith) (omega arith)) ∙ changed_mark-said p.source d)
 
-        missed_byte : IsWell after above p → ((m : ℕ) × (q : ℕ) × (mark : Mark) × ComesBy n e m q × IsBefore m q p.number p.start × (said_at right m q ≡ Some mark)) → ⊥
+        missed_byte : IsWell after above p → ((m : ℕ) × (q : ℕ) × (mark : Mark) × ComesBy n e m q × IsBefore m q p.number p.start × (mark_in_pieces right m q ≡ Some mark)) → ⊥
         missed_byte is two =
             let (m, q, mark, behind, before, said) = two in
             let changed = changed_from_said m q mark (sym (stands.says m q behind) ∙ said) in
@@ -165,7 +165,7 @@ module _ (after : Tree Mark) where
   some_left above n e r rs stands = true_from_ne_false _ (λ none.
       let behind = stands.ordered.0 in
       let said = first_said r rs stands.ordered.1 in
-      let changed = changed_from_said r.number r.start (said_by r.source (r.start - r.start)) (sym (stands.says r.number r.start behind) ∙ said) in
+      let changed = changed_from_said r.number r.start (mark_of_source r.source (r.start - r.start)) (sym (stands.says r.number r.start behind) ∙ said) in
       both_ways (not (list_any (covers r.number r.start) above)) (none_changed after (λ byte. not (list_any (covers byte.0 byte.1) above)) none r.number r.start changed)
       (ap not (stands.free r.number r.start behind)))
 
@@ -215,7 +215,7 @@ module _ (after : Tree Mark) where
 
   -- ---- from right pieces
 
-  from_ascend : (n e : ℕ) (r : Piece) (rs : List Piece) → ComesBy n e r.number r.start → Ascend (r ∷ rs) → AllByRecursion (IsTrueOf after) (r ∷ rs) → AreFrom n e (r ∷ rs)
+  from_ascend : (n e : ℕ) (r : Piece) (rs : List Piece) → ComesBy n e r.number r.start → PiecesAscend (r ∷ rs) → AllByRecursion (IsTrueOf after) (r ∷ rs) → AreFrom n e (r ∷ rs)
   from_ascend n e r [] first ascend said = (first, said.0.filled, tt)
   from_ascend n e r (s ∷ ss) first ascend said = (first, said.0.filled, from_ascend r.number (end_of r) s ss ascend.0 ascend.1 said.1)
 

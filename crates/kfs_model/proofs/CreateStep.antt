@@ -5,15 +5,15 @@ use Rattle.std.proofs.lemmas.Bool.Decides.{nat_tests}
 use Rattle.kfs_model.specs.Header.{Kind, File, Directory, Header}
 use Rattle.kfs_model.specs.Access.{Client, is_grant}
 use Rattle.kfs_model.specs.Table.{get, insert}
-use Rattle.kfs_model.specs.Tree.{Tree, Node, NameTable, headers, header_of, target, name_count}
+use Rattle.kfs_model.specs.Tree.{Tree, Node, NameTable, headers, node_header, target, name_count}
 use Rattle.kfs_model.specs.Entry.{Entry, Create}
 use Rattle.kfs_model.specs.Sight.{sight, is_directory, is_file, parent_in}
-use Rattle.kfs_model.specs.Effect.{Filling, change_of, effect, swept, new_body}
+use Rattle.kfs_model.specs.Effect.{Filling, change_of, effect, without_unnamed, new_body}
 use Rattle.kfs_model.specs.Check.{EntryContext}
 use Rattle.kfs_model.specs.Soundness.{Climbs, InRange, NameIsSound, AreSound, IsSound}
 use Rattle.kfs_model.specs.Spelling.{IsEntry, IsName}
 use Rattle.kfs_model.specs.SeenAfter.{put_at, put_parent, new_header, seen_after}
-use Rattle.kfs_model.specs.CleanStep.{IsClient, IsClean, IsKept}
+use Rattle.kfs_model.specs.CleanStep.{IsClient, IsClean, StaysSound}
 use Rattle.kfs_model.proofs.CleanFacts.{at_tree, clean_at, CreateFacts, create_facts}
 use Rattle.kfs_model.proofs.NameTable.{at_number-insert, target-insert}
 use Rattle.kfs_model.proofs.NameAdded.{new_target, kept_target, new_or_old, others_count, own_count, count_shifted}
@@ -43,27 +43,27 @@ module _ {B : Type 0} (filling : Filling B) (client : Client) (index : ℕ) (t :
   new_is_named_once : name_count after n ≡ 1
   new_is_named_once = own_count t.names d m n facts.free_name ∙ ap (λ c. c + 1) (unnamed head t.names sound n facts.free_number)
 
-  new_shown : header_of after n node ≡ new_header client kind mode
+  new_shown : node_header after n node ≡ new_header client kind mode
   new_shown = at kind
     where
-      at : (kind : Kind) → header_of after n (record { mode = mode; uid = client.uid; gid = client.gid; body = new_body filling kind }) ≡ new_header client kind mode
+      at : (kind : Kind) → node_header after n (record { mode = mode; uid = client.uid; gid = client.gid; body = new_body filling kind }) ≡ new_header client kind mode
       at File = λ i. record { kind = File; mode = mode; uid = client.uid; gid = client.gid; links = new_is_named_once i; size = 0 }
       at Directory = refl
 
   new_stays : stays after n ≡ true
   new_stays = named_stays after n (omega (arith, new_is_named_once))
 
-  shown_at : (k : ℕ) (b : Bool) → (k == n) ≡ b → option_map (header_of after k) (cond (stays after k) (cond b (Some node) (get t.nodes k)) None) ≡ cond b (Some (new_header client kind mode)) (head k)
+  shown_at : (k : ℕ) (b : Bool) → (k == n) ≡ b → option_map (node_header after k) (cond (stays after k) (cond b (Some node) (get t.nodes k)) None) ≡ cond b (Some (new_header client kind mode)) (head k)
   shown_at k true same =
-      subst (λ k. option_map (header_of after k) (cond (stays after k) (Some node) None) ≡ Some (new_header client kind mode)) (sym (eqb-true k n same))
-      (ap (λ b. option_map (header_of after n) (cond b (Some node) None)) new_stays ∙ ap Some new_shown)
+      subst (λ k. option_map (node_header after k) (cond (stays after k) (Some node) None) ≡ Some (new_header client kind mode)) (sym (eqb-true k n same))
+      (ap (λ b. option_map (node_header after n) (cond b (Some node) None)) new_stays ∙ ap Some new_shown)
   shown_at k false other = kept_head t sound after k (others_count t.names d m n facts.free_name k other)
 
   head_after : (k : ℕ) → get (headers (effect filling client index entry t)) k ≡ heads k
   unfolding change_of
   head_after k =
       get-swept_headers (change_of filling client index entry t) k
-      ∙ ap (λ o. option_map (header_of after k) (cond (stays after k) o None)) (at_number-insert t.nodes n node k)
+      ∙ ap (λ o. option_map (node_header after k) (cond (stays after k) o None)) (at_number-insert t.nodes n node k)
       ∙ shown_at k (k == n) refl
 
   head_new : (k : ℕ) → k ≡ n → heads k ≡ Some (new_header client kind mode)
@@ -89,7 +89,7 @@ module _ {B : Type 0} (filling : Filling B) (client : Client) (index : ℕ) (t :
       at false other = parent_other k other ∙ sym (put_parent_elsewhere kind n d (parent_in head t.names) k other)
 
   pub create_seen : sight (effect filling client index entry t) ≡ seen_after client (sight t) entry
-  unfolding change_of swept seen_after
+  unfolding change_of without_unnamed seen_after
   create_seen = λ i. record {
     head = λ k. head_after k i;
     name = λ e k. target-insert t.names d m n e k i;
@@ -179,10 +179,10 @@ module _ {B : Type 0} (filling : Filling B) (client : Client) (index : ℕ) (t :
       range_at k h false other shown = sound.ranges k h (sym (head_other k other) ∙ shown)
 
   pub create_sound : IsClient client → IsEntry entry → IsSound (effect filling client index entry t)
-  unfolding change_of swept
+  unfolding change_of without_unnamed
   create_sound fits entry_fits = subst (λ heads. AreSound heads after) (λ i k. sym (head_after k) i) (heads_sound fits entry_fits)
 
-pub create_kept : {B : Type 0} (filling : Filling B) (context : EntryContext) (index : ℕ) (t : Tree B) (d : ℕ) (m : List ℕ) (n : ℕ) (kind : Kind) (mode : ℕ) → IsClean context t (Create d m n kind mode) → IsKept filling context.client index t (Create d m n kind mode)
+pub create_kept : {B : Type 0} (filling : Filling B) (context : EntryContext) (index : ℕ) (t : Tree B) (d : ℕ) (m : List ℕ) (n : ℕ) (kind : Kind) (mode : ℕ) → IsClean context t (Create d m n kind mode) → StaysSound filling context.client index t (Create d m n kind mode)
 create_kept filling context index t d m n kind mode h =
     let facts = create_facts (at_tree context t) d m n kind mode (clean_at context t h) in
     record {

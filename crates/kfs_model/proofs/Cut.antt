@@ -6,8 +6,8 @@ use Rattle.std.proofs.lemmas.Bool.Decides.{nat_tests}
 use Rattle.kfs_model.specs.Tree.{Tree, headers}
 use Rattle.kfs_model.specs.Run.{Mark}
 use Rattle.kfs_model.specs.PlanRow.{NameRow, NodeRow, Piece, Source, Plan}
-use Rattle.kfs_model.specs.Plan.{mark_at, said_by, is_base, end_of, covers, Ascend, IsTrueOf, ArePieces, IsRight, keyed_name, keyed_node, number_now, header_now}
-use Rattle.kfs_model.specs.PlanCut.{said_at, SaySame, AreInOrder}
+use Rattle.kfs_model.specs.Plan.{mark_at, mark_of_source, is_base, end_of, covers, PiecesAscend, IsTrueOf, ArePieces, IsRight, keyed_name, keyed_node, number_now, header_now}
+use Rattle.kfs_model.specs.PlanCut.{mark_in_pieces, SaySame, AreInOrder}
 use Rattle.kfs_model.specs.FirstWrong.{same_header}
 use Rattle.kfs_model.proofs.Exact.{numbers-exact, headers-exact}
 use Rattle.kfs_model.proofs.Differences.{differences_only}
@@ -20,7 +20,7 @@ changed_mark (Some (Mark.Base number place)) = None
 changed_mark (Some Mark.Zero) = Some Mark.Zero
 changed_mark (Some (Mark.Payload entry place)) = Some (Mark.Payload entry place)
 
-pub changed_mark-said : (source : Source) (distance : ℕ) → changed_mark (Some (said_by source distance)) ≡ Some (said_by source distance)
+pub changed_mark-said : (source : Source) (distance : ℕ) → changed_mark (Some (mark_of_source source distance)) ≡ Some (mark_of_source source distance)
 changed_mark-said Source.Zero distance = refl
 changed_mark-said (Source.Payload entry place) distance = refl
 
@@ -30,16 +30,16 @@ covers_parts m s e n i h = grind (arith, nat_tests)
 within : (n s e d : ℕ) → s + d < e → (eqb n n && leb s (s + d) && ltb (s + d) e) ≡ true
 within n s e d h = grind (arith, nat_tests)
 
-ascend_tail : (p : Piece) (ps : List Piece) → Ascend (p ∷ ps) → Ascend ps
+ascend_tail : (p : Piece) (ps : List Piece) → PiecesAscend (p ∷ ps) → PiecesAscend ps
 ascend_tail p [] ascending = tt
 ascend_tail p (q ∷ rest) ascending = ascending.1
 
 -- the pieces around a byte say its mark
-said_inside : (n i : ℕ) (ps : List Piece) (mark : Mark) → said_at ps n i ≡ Some mark → list_any (covers n i) ps ≡ true
+said_inside : (n i : ℕ) (ps : List Piece) (mark : Mark) → mark_in_pieces ps n i ≡ Some mark → list_any (covers n i) ps ≡ true
 said_inside n i [] mark said = cc
 said_inside n i (p ∷ ps) mark said = at (covers n i p) said (said_inside n i ps mark)
   where
-    at : (b : Bool) → cond b (Some (said_by p.source (i - p.start))) (said_at ps n i) ≡ Some mark → (said_at ps n i ≡ Some mark → list_any (covers n i) ps ≡ true) → (b || list_any (covers n i) ps) ≡ true
+    at : (b : Bool) → cond b (Some (mark_of_source p.source (i - p.start))) (mark_in_pieces ps n i) ≡ Some mark → (mark_in_pieces ps n i ≡ Some mark → list_any (covers n i) ps ≡ true) → (b || list_any (covers n i) ps) ≡ true
     at true said rest = refl
     at false said rest = rest said
 
@@ -47,18 +47,18 @@ inside_is_before : (m s e n i r q : ℕ) → (eqb m n && leb s i && ltb i e) ≡
 inside_is_before m s e n i r q h behind = grind (arith, nat_tests)
 
 -- a byte of a piece is in none behind it
-behind_apart : (n i : ℕ) (p : Piece) (ps : List Piece) → Ascend (p ∷ ps) → covers n i p ≡ true → list_any (covers n i) ps ≡ false
+behind_apart : (n i : ℕ) (p : Piece) (ps : List Piece) → PiecesAscend (p ∷ ps) → covers n i p ≡ true → list_any (covers n i) ps ≡ false
 behind_apart n i p [] ascending inside = refl
 behind_apart n i p (q ∷ rest) ascending inside = none_before n i q rest ascending.1 (inside_is_before p.number p.start (end_of p) n i q.number q.start inside ascending.0)
 
 module _ (after : Tree Mark) where
   -- a piece that is true gives a byte in it the byte's mark
-  said_is : (n i : ℕ) (p : Piece) → IsTrueOf after p → covers n i p ≡ true → mark_at after n i ≡ Some (said_by p.source (i - p.start))
+  said_is : (n i : ℕ) (p : Piece) → IsTrueOf after p → covers n i p ≡ true → mark_at after n i ≡ Some (mark_of_source p.source (i - p.start))
   said_is n i p true_of inside =
       let (number, (low, high)) = covers_parts p.number p.start (end_of p) n i inside in
       let place : p.start + (i - p.start) ≡ i = omega arith in
-      subst (λ n. mark_at after n i ≡ Some (said_by p.source (i - p.start))) number
-      (subst (λ j. mark_at after p.number j ≡ Some (said_by p.source (i - p.start))) place (true_of.said (i - p.start) (omega arith)))
+      subst (λ n. mark_at after n i ≡ Some (mark_of_source p.source (i - p.start))) number
+      (subst (λ j. mark_at after p.number j ≡ Some (mark_of_source p.source (i - p.start))) place (true_of.said (i - p.start) (omega arith)))
 
   not_covered : (o : Option Mark) → ((mark : Mark) → o ≡ Some mark → is_base mark ≡ false → false ≡ true) → None ≡ changed_mark o
   not_covered None h = refl
@@ -66,23 +66,23 @@ module _ (after : Tree Mark) where
   not_covered (Some Mark.Zero) h = cc (h Mark.Zero refl refl)
   not_covered (Some (Mark.Payload entry place)) h = cc (h (Mark.Payload entry place) refl refl)
 
-  said_is_changed : (n i : ℕ) (ps : List Piece) → AllByRecursion (IsTrueOf after) ps → ((mark : Mark) → mark_at after n i ≡ Some mark → is_base mark ≡ false → list_any (covers n i) ps ≡ true) → said_at ps n i ≡ changed_mark (mark_at after n i)
+  said_is_changed : (n i : ℕ) (ps : List Piece) → AllByRecursion (IsTrueOf after) ps → ((mark : Mark) → mark_at after n i ≡ Some mark → is_base mark ≡ false → list_any (covers n i) ps ≡ true) → mark_in_pieces ps n i ≡ changed_mark (mark_at after n i)
   said_is_changed n i [] said covered = not_covered (mark_at after n i) covered
   said_is_changed n i (p ∷ ps) said covered = at (covers n i p) refl (said_is_changed n i ps said.1) covered
     where
-      at : (b : Bool) → covers n i p ≡ b → (((mark : Mark) → mark_at after n i ≡ Some mark → is_base mark ≡ false → list_any (covers n i) ps ≡ true) → said_at ps n i ≡ changed_mark (mark_at after n i))
+      at : (b : Bool) → covers n i p ≡ b → (((mark : Mark) → mark_at after n i ≡ Some mark → is_base mark ≡ false → list_any (covers n i) ps ≡ true) → mark_in_pieces ps n i ≡ changed_mark (mark_at after n i))
           → ((mark : Mark) → mark_at after n i ≡ Some mark → is_base mark ≡ false → (b || list_any (covers n i) ps) ≡ true)
-          → cond b (Some (said_by p.source (i - p.start))) (said_at ps n i) ≡ changed_mark (mark_at after n i)
+          → cond b (Some (mark_of_source p.source (i - p.start))) (mark_in_pieces ps n i) ≡ changed_mark (mark_at after n i)
       at true e rest covered = sym (ap changed_mark (said_is n i p said.0 e) ∙ changed_mark-said p.source (i - p.start))
       at false e rest covered = rest covered
 
-  pub said_of_pieces : (ps : List Piece) → ArePieces after ps → (n i : ℕ) → said_at ps n i ≡ changed_mark (mark_at after n i)
+  pub said_of_pieces : (ps : List Piece) → ArePieces after ps → (n i : ℕ) → mark_in_pieces ps n i ≡ changed_mark (mark_at after n i)
   said_of_pieces ps h n i = said_is_changed n i ps h.said (h.covered n i)
 
   -- ---- pieces that say the same in order
 
   SaysOnlyTrue : List Piece → Type 0
-  SaysOnlyTrue ps = (n i : ℕ) (mark : Mark) → said_at ps n i ≡ Some mark → mark_at after n i ≡ Some mark
+  SaysOnlyTrue ps = (n i : ℕ) (mark : Mark) → mark_in_pieces ps n i ≡ Some mark → mark_at after n i ≡ Some mark
 
   head_is_true : (p : Piece) (ps : List Piece) → SaysOnlyTrue (p ∷ ps) → 0 < p.length → IsTrueOf after p
   unfolding SaysOnlyTrue
@@ -91,18 +91,18 @@ module _ (after : Tree Mark) where
     said = λ d below.
         let inside : covers p.number (p.start + d) p ≡ true = within p.number p.start (end_of p) d (omega arith) in
         let back : p.start + d - p.start ≡ d = omega arith in
-        only p.number (p.start + d) (said_by p.source d) (ap (λ b. cond b (Some (said_by p.source (p.start + d - p.start))) (said_at ps p.number (p.start + d))) inside ∙ ap (λ d. Some (said_by p.source d)) back);
+        only p.number (p.start + d) (mark_of_source p.source d) (ap (λ b. cond b (Some (mark_of_source p.source (p.start + d - p.start))) (mark_in_pieces ps p.number (p.start + d))) inside ∙ ap (λ d. Some (mark_of_source p.source d)) back);
   }
 
-  tail_says_true : (p : Piece) (ps : List Piece) → Ascend (p ∷ ps) → SaysOnlyTrue (p ∷ ps) → SaysOnlyTrue ps
+  tail_says_true : (p : Piece) (ps : List Piece) → PiecesAscend (p ∷ ps) → SaysOnlyTrue (p ∷ ps) → SaysOnlyTrue ps
   unfolding SaysOnlyTrue
   tail_says_true p ps ascending only n i mark said = at (covers n i p) refl
     where
       at : (b : Bool) → covers n i p ≡ b → mark_at after n i ≡ Some mark
       at true e = absurd (both_ways (list_any (covers n i) ps) (behind_apart n i p ps ascending e) (said_inside n i ps mark said))
-      at false e = only n i mark (ap (λ b. cond b (Some (said_by p.source (i - p.start))) (said_at ps n i)) e ∙ said)
+      at false e = only n i mark (ap (λ b. cond b (Some (mark_of_source p.source (i - p.start))) (mark_in_pieces ps n i)) e ∙ said)
 
-  all_true : (ps : List Piece) → Ascend ps → AllByRecursion (λ (p : Piece). 0 < p.length) ps → SaysOnlyTrue ps → AllByRecursion (IsTrueOf after) ps
+  all_true : (ps : List Piece) → PiecesAscend ps → AllByRecursion (λ (p : Piece). 0 < p.length) ps → SaysOnlyTrue ps → AllByRecursion (IsTrueOf after) ps
   all_true [] ascending filled only = tt
   all_true (p ∷ ps) ascending filled only =
       (head_is_true p ps only filled.0, all_true ps (ascend_tail p ps ascending) filled.1 (tail_says_true p ps ascending only))
@@ -119,7 +119,7 @@ module _ (after : Tree Mark) where
   stays_changed (Mark.Payload entry place) e = refl
 
   -- pieces in order that say the mark of each changed byte, and of no other one, are right
-  pub pieces_from_said : (others : List Piece) → AreInOrder others → ((n i : ℕ) → said_at others n i ≡ changed_mark (mark_at after n i)) → ArePieces after others
+  pub pieces_from_said : (others : List Piece) → AreInOrder others → ((n i : ℕ) → mark_in_pieces others n i ≡ changed_mark (mark_at after n i)) → ArePieces after others
   unfolding SaysOnlyTrue
   pieces_from_said others order marks = record {
     ascending = order.ascending;
@@ -127,7 +127,7 @@ module _ (after : Tree Mark) where
     covered = λ n i mark stands changed. said_inside n i others mark (marks n i ∙ ap changed_mark stands ∙ stays_changed mark changed);
   }
 
-  pub pieces_cut_anew : (ps others : List Piece) → ArePieces after ps → ((n i : ℕ) → said_at ps n i ≡ said_at others n i) → AreInOrder others → ArePieces after others
+  pub pieces_cut_anew : (ps others : List Piece) → ArePieces after ps → ((n i : ℕ) → mark_in_pieces ps n i ≡ mark_in_pieces others n i) → AreInOrder others → ArePieces after others
   pieces_cut_anew ps others right same order = pieces_from_said others order (λ n i. sym (same n i) ∙ said_of_pieces ps right n i)
 
 -- ---- the rows of a list, by their keys

@@ -2,12 +2,12 @@
 use Rattle.std.proofs.Common.{◌≡◌, ◌≢◌, ℕ, zero, suc, ◌≤◌, Bool, true, false, cond, not, ◌&&◌, ◌||◌, ◌==◌, ltb, List, length, Option, Some, None, option_map, IsTrue, refl, sym, ap, subst, ◌∙◌, arith, lt-ltb, eqb-true, eq-eqb, ne_eqb}
 use Rattle.std.proofs.lemmas.Bool.{or_left, or_right, eqb-false, false≢true}
 use Rattle.kfs_model.specs.Header.{Kind, File, Directory, Header}
-use Rattle.kfs_model.specs.LastCover.{extent}
+use Rattle.kfs_model.specs.LastCover.{file_size}
 use Rattle.kfs_model.specs.Table.{get}
 use Rattle.kfs_model.proofs.TableLaws.{same_table, get-mapped, get-retain}
-use Rattle.kfs_model.specs.Tree.{Tree, Node, Body, FileBody, DirectoryBody, NameTable, headers, header_of, links_of, kind_of, size_of, content_of, target, name_count, is_named}
+use Rattle.kfs_model.specs.Tree.{Tree, Node, Body, FileBody, DirectoryBody, NameTable, headers, node_header, links_of, kind_of, size_of, content_of, target, name_count, is_named}
 use Rattle.kfs_model.specs.Sight.{is_directory, is_file, holder, parent_in}
-use Rattle.kfs_model.specs.Effect.{swept}
+use Rattle.kfs_model.specs.Effect.{without_unnamed}
 use Rattle.kfs_model.specs.SeenAfter.{put_parent}
 use Rattle.kfs_model.specs.Soundness.{Climbs, AreSound, IsSound}
 use Rattle.kfs_model.proofs.NameTable.{is_named_counts, named_has_target, holder_of_only}
@@ -23,10 +23,10 @@ abbrev pub size_said : Option Header → ℕ
 size_said found = elim found [ None ↦ 0 | Some header ↦ header.size ]
 
 module _ {B : Type 0} where
-  pub get-headers : (t : Tree B) (k : ℕ) → get (headers t) k ≡ option_map (header_of t.names k) (get t.nodes k)
-  get-headers t k = get-mapped (header_of t.names) t.nodes k
+  pub get-headers : (t : Tree B) (k : ℕ) → get (headers t) k ≡ option_map (node_header t.names k) (get t.nodes k)
+  get-headers t k = get-mapped (node_header t.names) t.nodes k
 
-  size_of_node : (names : NameTable) (n : ℕ) (found : Option (Node B)) → size_said (option_map (header_of names n) found) ≡ length (content_of found)
+  size_of_node : (names : NameTable) (n : ℕ) (found : Option (Node B)) → size_said (option_map (node_header names n) found) ≡ length (content_of found)
   size_of_node names n None = refl
   size_of_node names n (Some node) = by node.body
     where
@@ -35,15 +35,15 @@ module _ {B : Type 0} where
       by DirectoryBody = refl
 
   -- the size in a header is the length of the file's cells, 0 of a directory
-  pub size_is_extent : (t : Tree B) (n : ℕ) → size_said (get (headers t) n) ≡ extent t n
+  pub size_is_extent : (t : Tree B) (n : ℕ) → size_said (get (headers t) n) ≡ file_size t n
   size_is_extent t n = ap size_said (get-headers t n) ∙ size_of_node t.names n (get t.nodes n)
 
-  pub get-swept_headers : (t : Tree B) (k : ℕ) → get (headers (swept t)) k ≡ option_map (header_of t.names k) (cond (stays t.names k) (get t.nodes k) None)
-  unfolding swept
-  get-swept_headers t k = get-headers (swept t) k ∙ ap (option_map (header_of t.names k)) (get-retain (λ n. (n == 1) || is_named t.names n) t.nodes k)
+  pub get-swept_headers : (t : Tree B) (k : ℕ) → get (headers (without_unnamed t)) k ≡ option_map (node_header t.names k) (cond (stays t.names k) (get t.nodes k) None)
+  unfolding without_unnamed
+  get-swept_headers t k = get-headers (without_unnamed t) k ∙ ap (option_map (node_header t.names k)) (get-retain (λ n. (n == 1) || is_named t.names n) t.nodes k)
 
   -- a header counts the names of a file alone
-  pub same_count_header : (names others : NameTable) (k : ℕ) (node : Node B) → name_count others k ≡ name_count names k → header_of others k node ≡ header_of names k node
+  pub same_count_header : (names others : NameTable) (k : ℕ) (node : Node B) → name_count others k ≡ name_count names k → node_header others k node ≡ node_header names k node
   same_count_header names others k node same = λ i. record {
     kind = kind_of node.body;
     mode = node.mode;
@@ -77,16 +77,16 @@ module _ {B : Type 0} (t : Tree B) (sound : IsSound t) where
   pub node_stays : (k : ℕ) (node : Node B) → get t.nodes k ≡ Some node → stays t.names k ≡ true
   node_stays k node there = at node.body refl
     where
-      shown : get (headers t) k ≡ Some (header_of t.names k node)
-      shown = get-headers t k ∙ ap (option_map (header_of t.names k)) there
+      shown : get (headers t) k ≡ Some (node_header t.names k node)
+      shown = get-headers t k ∙ ap (option_map (node_header t.names k)) there
 
       at : (body : Body B) → node.body ≡ body → stays t.names k ≡ true
-      at (FileBody cells) e = named_stays t.names k (sound.files k (ap is_file shown ∙ ap (λ b. is_file (Some (header_of t.names k (record node { body = b })))) e)).0
-      at DirectoryBody e = directory_stays k (ap is_directory shown ∙ ap (λ b. is_directory (Some (header_of t.names k (record node { body = b })))) e)
+      at (FileBody cells) e = named_stays t.names k (sound.files k (ap is_file shown ∙ ap (λ b. is_file (Some (node_header t.names k (record node { body = b })))) e)).0
+      at DirectoryBody e = directory_stays k (ap is_directory shown ∙ ap (λ b. is_directory (Some (node_header t.names k (record node { body = b })))) e)
 
   -- a sound tree is its own sweep
-  pub own_sweep : swept t ≡ t
-  unfolding swept
+  pub own_sweep : without_unnamed t ≡ t
+  unfolding without_unnamed
   own_sweep = λ i. record { nodes = same_table _ t.nodes (λ k. get-retain (λ n. (n == 1) || is_named t.names n) t.nodes k ∙ at k (get t.nodes k) refl) i; names = t.names }
     where
       at : (k : ℕ) (o : Option (Node B)) → get t.nodes k ≡ o → cond (stays t.names k) (get t.nodes k) None ≡ get t.nodes k
@@ -98,19 +98,19 @@ module _ {B : Type 0} (t : Tree B) (sound : IsSound t) where
       at k (Some node) is = ap (λ b. cond b (get t.nodes k) None) (node_stays k node is)
 
   -- what a node shows stays where as many names lead to it as before
-  pub kept_head : (others : NameTable) (k : ℕ) → name_count others k ≡ name_count t.names k → option_map (header_of others k) (cond (stays others k) (get t.nodes k) None) ≡ get (headers t) k
+  pub kept_head : (others : NameTable) (k : ℕ) → name_count others k ≡ name_count t.names k → option_map (node_header others k) (cond (stays others k) (get t.nodes k) None) ≡ get (headers t) k
   kept_head others k same = at (get t.nodes k) refl ∙ sym (get-headers t k)
     where
       as_before : stays others k ≡ stays t.names k
       as_before = ap (λ b. (k == 1) || b) (is_named_counts others k ∙ ap (ltb 0) same ∙ sym (is_named_counts t.names k))
 
-      nothing : (b : Bool) → option_map (header_of {B = B} others k) (cond b None None) ≡ None
+      nothing : (b : Bool) → option_map (node_header {B = B} others k) (cond b None None) ≡ None
       nothing true = refl
       nothing false = refl
 
-      at : (o : Option (Node B)) → get t.nodes k ≡ o → option_map (header_of others k) (cond (stays others k) o None) ≡ option_map (header_of t.names k) o
+      at : (o : Option (Node B)) → get t.nodes k ≡ o → option_map (node_header others k) (cond (stays others k) o None) ≡ option_map (node_header t.names k) o
       at None is = nothing (stays others k)
-      at (Some node) is = ap (λ b. option_map (header_of others k) (cond b (Some node) None)) (as_before ∙ node_stays k node is) ∙ ap Some (same_count_header t.names others k node same)
+      at (Some node) is = ap (λ b. option_map (node_header others k) (cond b (Some node) None)) (as_before ∙ node_stays k node is) ∙ ap Some (same_count_header t.names others k node same)
 
 -- ---- parents
 

@@ -7,12 +7,12 @@ use Rattle.std.proofs.lemmas.Bool.Decides.{nat_tests}
 use Rattle.kfs_model.specs.Header.{Kind, File, Directory}
 use Rattle.kfs_model.specs.Table.{get, insert, option_or}
 use Rattle.kfs_model.proofs.TableLaws.{get-mapped, get-retain}
-use Rattle.kfs_model.specs.Tree.{Tree, Node, Body, FileBody, DirectoryBody, headers, header_of, content_of, is_named}
+use Rattle.kfs_model.specs.Tree.{Tree, Node, Body, FileBody, DirectoryBody, headers, node_header, content_of, is_named}
 use Rattle.kfs_model.specs.Sight.{Sight, ClientSight, sight, is_directory}
 use Rattle.kfs_model.specs.Access.{Client}
 use Rattle.kfs_model.specs.Entry.{Entry, Create, Write, Truncate, Link, Unlink, Rename, Chmod}
 use Rattle.kfs_model.specs.Check.{Reason, first_fault, checks_of, fault}
-use Rattle.kfs_model.specs.Effect.{effect, change_of, swept, changed_node, new_body, on_content, overwritten, resized}
+use Rattle.kfs_model.specs.Effect.{effect, change_of, without_unnamed, changed_node, new_body, on_content, overwritten, resized}
 use Rattle.kfs_model.specs.Run.{Mark, Base, Zero, Payload, places_from, over_marks, marked, base_marks, mapped_body, EntryFault, entry_context, created_by, run_from, run}
 use Rattle.kfs_model.specs.LastCover.{covered_by, last_cover, start_mark, LastEntryDecides}
 use Rattle.kfs_model.proofs.CleanIsAllowed.{all_pass, passed, left, right}
@@ -80,7 +80,7 @@ module _ (client : Client) (index : ℕ) (t : Tree Mark) (k : ℕ) where
   get-change_of (Chmod n mode) = get-changed_node (with_mode mode) n t k
 
   get-effect : (entry : Entry) → get (effect over_marks client index entry t).nodes k ≡ cond (stays (change_of over_marks client index entry t).names k) (changed_at client index entry k (get t.nodes k)) None
-  unfolding swept
+  unfolding without_unnamed
   get-effect entry =
       get-retain (λ n. (n == 1) || stays_named n) (change_of over_marks client index entry t).nodes k
       ∙ ap (λ o. cond (stays (change_of over_marks client index entry t).names k) o None) (get-change_of entry)
@@ -166,7 +166,7 @@ module _ (client : Client) (index : ℕ) (t : Tree Mark) (k place : ℕ) where
 no_node : (t : Tree Mark) (n : ℕ) → get (headers t) n ≡ None → get t.nodes n ≡ None
 no_node t n shown = at (get t.nodes n) (sym (get-headers t n) ∙ shown)
   where
-    at : (o : Option (Node Mark)) → option_map (header_of t.names n) o ≡ None → o ≡ None
+    at : (o : Option (Node Mark)) → option_map (node_header t.names n) o ≡ None → o ≡ None
     at None e = refl
     at (Some node) e = cc
 
@@ -179,10 +179,10 @@ module _ (client : Client) (seen : ClientSight) (created : List ℕ) (t : Tree M
   clean_meets (Write n offset payload) clean =
       let pass = all_pass (entry_context client seen (sight t) created) _ clean in
       let (node, there) = node_there t n (passed _ _ pass.0) in
-      let file : is_directory (Some (header_of t.names n node)) ≡ false = sym (ap is_directory (get-headers t n ∙ ap (option_map (header_of t.names n)) there)) ∙ not-true _ (passed _ _ pass.1.0) in
+      let file : is_directory (Some (node_header t.names n node)) ≡ false = sym (ap is_directory (get-headers t n ∙ ap (option_map (node_header t.names n)) there)) ∙ not-true _ (passed _ _ pass.1.0) in
       at node.mode node.uid node.gid node.body there file
     where
-      at : (mode uid gid : ℕ) (body : Body Mark) → get t.nodes n ≡ Some (record { mode = mode; uid = uid; gid = gid; body = body }) → is_directory (Some (header_of t.names n (record { mode = mode; uid = uid; gid = gid; body = body }))) ≡ false
+      at : (mode uid gid : ℕ) (body : Body Mark) → get t.nodes n ≡ Some (record { mode = mode; uid = uid; gid = gid; body = body }) → is_directory (Some (node_header t.names n (record { mode = mode; uid = uid; gid = gid; body = body }))) ≡ false
           → (cells : List Mark) × (mode uid gid : ℕ) × (get t.nodes n ≡ Some (record { mode = mode; uid = uid; gid = gid; body = FileBody cells }))
       at mode uid gid (FileBody cells) there file = (cells, mode, uid, gid, there)
       at mode uid gid DirectoryBody there file = cc
@@ -380,7 +380,7 @@ start_reads before k place = ap (λ o. reads o place) (get-mapped _ before.nodes
 shows_node : (before : Tree ℕ) (k : ℕ) (old : Node Mark) → get (marked before).nodes k ≡ Some old → is_some (get (headers before) k) ≡ true
 shows_node before k old is = ap is_some (get-headers before k) ∙ at (get before.nodes k) (sym (get-mapped _ before.nodes k) ∙ is)
   where
-    at : (o : Option (Node ℕ)) → option_map (λ (node : Node ℕ). record { mode = node.mode; uid = node.uid; gid = node.gid; body = mapped_body (base_marks k 0) node.body }) o ≡ Some old → is_some (option_map (header_of before.names k) o) ≡ true
+    at : (o : Option (Node ℕ)) → option_map (λ (node : Node ℕ). record { mode = node.mode; uid = node.uid; gid = node.gid; body = mapped_body (base_marks k 0) node.body }) o ≡ Some old → is_some (option_map (node_header before.names k) o) ≡ true
     at None e = cc
     at (Some node) e = refl
 

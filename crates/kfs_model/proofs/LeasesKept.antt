@@ -10,7 +10,7 @@ use Rattle.kfs_model.specs.Access.{Client}
 use Rattle.kfs_model.specs.Check.{is_some_and}
 use Rattle.kfs_model.specs.Table.{numbers, pairs, get, insert, remove, retain}
 use Rattle.kfs_model.proofs.TableLaws.{get-insert, get-retain}
-use Rattle.kfs_model.specs.Tree.{Tree, Node, headers, header_of}
+use Rattle.kfs_model.specs.Tree.{Tree, Node, headers, node_header}
 use Rattle.kfs_model.specs.Sight.{Sight}
 use Rattle.kfs_model.specs.Lease.{Lease, LeaseKind, ReadLease, WriteLease, LeaseFault, LeaseTable, Leases, LeaseOutcome, live_at, on_those, row_of, names_of, walked, conflicts, in_conflict, is_live, is_write, refused, granted, granted_on, granted_by_walk, dropped, ticked, without_gone, HasLive, AreCompatible, KeepsCompatible, Past, LeaseHeld, UnknownClient, NoLeaseHeld, Backwards}
 use Rattle.kfs_model.proofs.Heads.{get-headers}
@@ -195,7 +195,7 @@ ticked_compatible moment leases compatible = ticked_keeps leases AreCompatible c
 header_there : (t : Tree ℕ) (n : ℕ) → is_some (get t.nodes n) ≡ true → IsNode t n
 header_there t n some = ap is_some (get-headers t n) ∙ by (get t.nodes n) some
   where
-    by : (found : Option (Node ℕ)) → is_some found ≡ true → is_some (option_map (header_of t.names n) found) ≡ true
+    by : (found : Option (Node ℕ)) → is_some found ≡ true → is_some (option_map (node_header t.names n) found) ≡ true
     by None some = cc
     by (Some node) some = refl
 

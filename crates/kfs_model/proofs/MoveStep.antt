@@ -6,7 +6,7 @@ use Rattle.kfs_model.specs.Header.{Kind, File, Directory, Header}
 use Rattle.kfs_model.specs.Table.{get, insert, remove}
 use Rattle.kfs_model.specs.Tree.{Tree, NameTable, headers, target, name_count, entry_count}
 use Rattle.kfs_model.specs.Sight.{sight, is_directory, parent_in, climb_limit, climb_meets, kind_shown}
-use Rattle.kfs_model.specs.Effect.{swept, with_names}
+use Rattle.kfs_model.specs.Effect.{without_unnamed, with_names}
 use Rattle.kfs_model.specs.Soundness.{Climbs, NameIsSound, IsSound}
 use Rattle.kfs_model.specs.Spelling.{IsName}
 use Rattle.kfs_model.specs.FirstWrong.{same_place}
@@ -79,8 +79,8 @@ module _ {B : Type 0} (t : Tree B) (sound : IsSound t) (d : ℕ) (m : List ℕ) 
   parent_left : (x : ℕ) → parent_in (left_head t after) after x ≡ put_parent (kind_shown (head n)) n e (parent_in head t.names) x
   parent_left x = ap (λ heads. parent_in heads after x) (λ i x. head_after x i) ∙ parent_after x
 
-  pub move_seen : sight (swept (with_names after t)) ≡ seen_moved d m e k n (sight t)
-  unfolding swept
+  pub move_seen : sight (without_unnamed (with_names after t)) ≡ seen_moved d m e k n (sight t)
+  unfolding without_unnamed
   move_seen = λ i. record {
     head = λ x. head_after x i;
     name = λ f l. name_after f l i;
@@ -143,5 +143,5 @@ module _ {B : Type 0} (t : Tree B) (sound : IsSound t) (d : ℕ) (m : List ℕ) 
       reaches = λ x is stay. let (steps, climb) = sound.reaches x is in climb_after steps x climb;
     }
 
-    pub move_sound : IsSound (swept (with_names after t))
+    pub move_sound : IsSound (without_unnamed (with_names after t))
     move_sound = names_kept_sound t after sound names_kept

@@ -3,9 +3,9 @@ use Rattle.std.proofs.Common.{◌≡◌, ◌≢◌, ℕ, ◌≤◌, Bool, true, 
 use Rattle.std.proofs.lemmas.Bool.{or_cases, false≢true}
 use Rattle.kfs_model.specs.Header.{Kind, File, Directory, Header}
 use Rattle.kfs_model.specs.Table.{get}
-use Rattle.kfs_model.specs.Tree.{Tree, Node, NameTable, headers, header_of, target, name_count}
+use Rattle.kfs_model.specs.Tree.{Tree, Node, NameTable, headers, node_header, target, name_count}
 use Rattle.kfs_model.specs.Sight.{is_directory, is_file, parent_in}
-use Rattle.kfs_model.specs.Effect.{swept, with_names}
+use Rattle.kfs_model.specs.Effect.{without_unnamed, with_names}
 use Rattle.kfs_model.specs.Soundness.{Climbs, InRange, IsSound}
 use Rattle.kfs_model.specs.Spelling.{IsName}
 use Rattle.kfs_model.proofs.NameTable.{is_named_counts}
@@ -22,9 +22,9 @@ module _ {B : Type 0} (t : Tree B) (after : NameTable) where
 
   -- what a node shows after the change
   abbrev pub left_head : ℕ → Option Header
-  left_head = get (headers (swept (with_names after t)))
+  left_head = get (headers (without_unnamed (with_names after t)))
 
-  pub left_head_is : (k : ℕ) → left_head k ≡ option_map (header_of after k) (cond (stays after k) (get t.nodes k) None)
+  pub left_head_is : (k : ℕ) → left_head k ≡ option_map (node_header after k) (cond (stays after k) (get t.nodes k) None)
   left_head_is k = get-swept_headers (with_names after t) k
 
   -- a node of the tree before, of the same kind and in the same ranges
@@ -39,15 +39,15 @@ module _ {B : Type 0} (t : Tree B) (after : NameTable) where
   pub was_there : (k : ℕ) (h : Header) → left_head k ≡ Some h → WasThere k h
   was_there k h there = at (stays after k) (get t.nodes k) refl refl (sym (left_head_is k) ∙ there)
     where
-      at : (b : Bool) (o : Option (Node B)) → stays after k ≡ b → get t.nodes k ≡ o → option_map (header_of after k) (cond b o None) ≡ Some h → WasThere k h
+      at : (b : Bool) (o : Option (Node B)) → stays after k ≡ b → get t.nodes k ≡ o → option_map (node_header after k) (cond b o None) ≡ Some h → WasThere k h
       at false o stay is there = cc
       at true None stay is there = cc
       at true (Some node) stay is there =
-          let same : header_of after k node ≡ h = cc in
+          let same : node_header after k node ≡ h = cc in
           subst (WasThere k) same (record {
             stay = stay;
-            old = header_of t.names k node;
-            was = get-headers t k ∙ ap (option_map (header_of t.names k)) is;
+            old = node_header t.names k node;
+            was = get-headers t k ∙ ap (option_map (node_header t.names k)) is;
             directory = refl;
             file = refl;
             ranges = λ r. record { least = r.least; greatest = r.greatest; mode = r.mode; uid = r.uid; gid = r.gid; size = r.size };
@@ -62,13 +62,13 @@ module _ {B : Type 0} (t : Tree B) (after : NameTable) where
   pub still_there : (k : ℕ) (old : Header) → head k ≡ Some old → stays after k ≡ true → StillThere k old
   still_there k old was stay = at (get t.nodes k) refl (sym (get-headers t k) ∙ was)
     where
-      at : (o : Option (Node B)) → get t.nodes k ≡ o → option_map (header_of t.names k) o ≡ Some old → StillThere k old
+      at : (o : Option (Node B)) → get t.nodes k ≡ o → option_map (node_header t.names k) o ≡ Some old → StillThere k old
       at None is was = cc
       at (Some node) is was =
-          let same : header_of t.names k node ≡ old = cc in
+          let same : node_header t.names k node ≡ old = cc in
           subst (StillThere k) same (record {
-            new = header_of after k node;
-            is = left_head_is k ∙ ap (λ b. option_map (header_of after k) (cond b (get t.nodes k) None)) stay ∙ ap (option_map (header_of after k)) is;
+            new = node_header after k node;
+            is = left_head_is k ∙ ap (λ b. option_map (node_header after k) (cond b (get t.nodes k) None)) stay ∙ ap (option_map (node_header after k)) is;
             directory = refl;
           })
 
@@ -114,8 +114,8 @@ module _ {B : Type 0} (t : Tree B) (after : NameTable) where
   file_is_no_root : IsSound t → (k : ℕ) → IsTrue (is_file (head k)) → k ≢ 1
   file_is_no_root sound k file same = no_file (head 1) sound.root (ap is_file (ap head (sym same)) ∙ file)
 
-  pub names_kept_sound : IsSound t → NamesKept → IsSound (swept (with_names after t))
-  unfolding swept
+  pub names_kept_sound : IsSound t → NamesKept → IsSound (without_unnamed (with_names after t))
+  unfolding without_unnamed
   names_kept_sound sound kept = record {
     root = directory_still 1 sound.root refl;
     names_sound = λ d m n there.

@@ -6,8 +6,8 @@ use Rattle.kfs_model.specs.Table.{numbers, get}
 use Rattle.kfs_model.specs.Tree.{Tree, Node, content_of}
 use Rattle.kfs_model.specs.Run.{Mark}
 use Rattle.kfs_model.specs.PlanRow.{Piece, Source}
-use Rattle.kfs_model.specs.Plan.{mark_at, said_by, end_of, ComesBy, IsTrueOf, ArePieces}
-use Rattle.kfs_model.specs.PlanCut.{said_at}
+use Rattle.kfs_model.specs.Plan.{mark_at, mark_of_source, end_of, ComesBy, IsTrueOf, ArePieces}
+use Rattle.kfs_model.specs.PlanCut.{mark_in_pieces}
 use Rattle.kfs_model.specs.Placement.{is_zero, is_payload, is_written, blocks_that, written_blocks, need}
 use Rattle.kfs_model.specs.Blocks.{is_zero_source, of_file, counted_files}
 use Rattle.kfs_model.proofs.WrittenBlocks.{all_found}
@@ -36,46 +36,46 @@ payload_changed (Mark.Base n p) = refl
 payload_changed Mark.Zero = refl
 payload_changed (Mark.Payload e p) = refl
 
-zero_source : (source : Source) (d : ℕ) → is_zero_source source ≡ is_zero (said_by source d)
+zero_source : (source : Source) (d : ℕ) → is_zero_source source ≡ is_zero (mark_of_source source d)
 zero_source Source.Zero d = refl
 zero_source (Source.Payload e p) d = refl
 
-payload_source : (source : Source) (d : ℕ) → not (is_zero_source source) ≡ is_payload (said_by source d)
+payload_source : (source : Source) (d : ℕ) → not (is_zero_source source) ≡ is_payload (mark_of_source source d)
 payload_source Source.Zero d = refl
 payload_source (Source.Payload e p) d = refl
 
 module _ (n : ℕ) where
-  zero_part : (rs : List Piece) (q : ℕ) → is_zero_part (part_at (of_file n rs) q) ≡ is_zero_said (said_at rs n q)
+  zero_part : (rs : List Piece) (q : ℕ) → is_zero_part (part_at (of_file n rs) q) ≡ is_zero_said (mark_in_pieces rs n q)
   zero_part [] q = refl
-  zero_part (r ∷ rs) q = at (r.number == n) (leb r.start q && ltb q (end_of r)) (zero_part rs q) ∙ ap (λ b. is_zero_said (cond b (Some (said_by r.source (q - r.start))) (said_at rs n q))) (grouped (r.number == n) (leb r.start q) (ltb q (end_of r)))
+  zero_part (r ∷ rs) q = at (r.number == n) (leb r.start q && ltb q (end_of r)) (zero_part rs q) ∙ ap (λ b. is_zero_said (cond b (Some (mark_of_source r.source (q - r.start))) (mark_in_pieces rs n q))) (grouped (r.number == n) (leb r.start q) (ltb q (end_of r)))
     where
       grouped : (a b c : Bool) → (a && (b && c)) ≡ (a && b && c)
       grouped true b c = refl
       grouped false b c = refl
 
-      at : (a b : Bool) → is_zero_part (part_at (of_file n rs) q) ≡ is_zero_said (said_at rs n q)
-          → is_zero_part (part_at (cond a (r ∷ of_file n rs) (of_file n rs)) q) ≡ is_zero_said (cond (a && (leb r.start q && ltb q (end_of r))) (Some (said_by r.source (q - r.start))) (said_at rs n q))
+      at : (a b : Bool) → is_zero_part (part_at (of_file n rs) q) ≡ is_zero_said (mark_in_pieces rs n q)
+          → is_zero_part (part_at (cond a (r ∷ of_file n rs) (of_file n rs)) q) ≡ is_zero_said (cond (a && (leb r.start q && ltb q (end_of r))) (Some (mark_of_source r.source (q - r.start))) (mark_in_pieces rs n q))
       at false b more = more
       at true b more = inner (leb r.start q && ltb q (end_of r)) more
         where
-          inner : (b : Bool) → is_zero_part (part_at (of_file n rs) q) ≡ is_zero_said (said_at rs n q) → is_zero_part (cond b (Some r.source) (part_at (of_file n rs) q)) ≡ is_zero_said (cond b (Some (said_by r.source (q - r.start))) (said_at rs n q))
+          inner : (b : Bool) → is_zero_part (part_at (of_file n rs) q) ≡ is_zero_said (mark_in_pieces rs n q) → is_zero_part (cond b (Some r.source) (part_at (of_file n rs) q)) ≡ is_zero_said (cond b (Some (mark_of_source r.source (q - r.start))) (mark_in_pieces rs n q))
           inner true more = zero_source r.source (q - r.start)
           inner false more = more
 
-  payload_part : (rs : List Piece) (q : ℕ) → is_payload_part (part_at (of_file n rs) q) ≡ is_payload_said (said_at rs n q)
+  payload_part : (rs : List Piece) (q : ℕ) → is_payload_part (part_at (of_file n rs) q) ≡ is_payload_said (mark_in_pieces rs n q)
   payload_part [] q = refl
-  payload_part (r ∷ rs) q = at (r.number == n) (payload_part rs q) ∙ ap (λ b. is_payload_said (cond b (Some (said_by r.source (q - r.start))) (said_at rs n q))) (grouped (r.number == n) (leb r.start q) (ltb q (end_of r)))
+  payload_part (r ∷ rs) q = at (r.number == n) (payload_part rs q) ∙ ap (λ b. is_payload_said (cond b (Some (mark_of_source r.source (q - r.start))) (mark_in_pieces rs n q))) (grouped (r.number == n) (leb r.start q) (ltb q (end_of r)))
     where
       grouped : (a b c : Bool) → (a && (b && c)) ≡ (a && b && c)
       grouped true b c = refl
       grouped false b c = refl
 
-      inner : (b : Bool) → is_payload_part (part_at (of_file n rs) q) ≡ is_payload_said (said_at rs n q) → is_payload_part (cond b (Some r.source) (part_at (of_file n rs) q)) ≡ is_payload_said (cond b (Some (said_by r.source (q - r.start))) (said_at rs n q))
+      inner : (b : Bool) → is_payload_part (part_at (of_file n rs) q) ≡ is_payload_said (mark_in_pieces rs n q) → is_payload_part (cond b (Some r.source) (part_at (of_file n rs) q)) ≡ is_payload_said (cond b (Some (mark_of_source r.source (q - r.start))) (mark_in_pieces rs n q))
       inner true more = payload_source r.source (q - r.start)
       inner false more = more
 
-      at : (a : Bool) → is_payload_part (part_at (of_file n rs) q) ≡ is_payload_said (said_at rs n q)
-          → is_payload_part (part_at (cond a (r ∷ of_file n rs) (of_file n rs)) q) ≡ is_payload_said (cond (a && (leb r.start q && ltb q (end_of r))) (Some (said_by r.source (q - r.start))) (said_at rs n q))
+      at : (a : Bool) → is_payload_part (part_at (of_file n rs) q) ≡ is_payload_said (mark_in_pieces rs n q)
+          → is_payload_part (part_at (cond a (r ∷ of_file n rs) (of_file n rs)) q) ≡ is_payload_said (cond (a && (leb r.start q && ltb q (end_of r))) (Some (mark_of_source r.source (q - r.start))) (mark_in_pieces rs n q))
       at false more = more
       at true more = inner (leb r.start q && ltb q (end_of r)) more
 

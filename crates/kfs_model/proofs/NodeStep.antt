@@ -2,9 +2,9 @@
 use Rattle.std.proofs.Common.{◌≡◌, ℕ, Bool, true, false, cond, not, ◌&&◌, ◌==◌, Option, Some, None, option_map, refl, sym, ap, subst, ◌∙◌, eqb-true}
 use Rattle.kfs_model.specs.Header.{Header}
 use Rattle.kfs_model.specs.Table.{get, insert}
-use Rattle.kfs_model.specs.Tree.{Tree, Node, NameTable, headers, header_of, target}
+use Rattle.kfs_model.specs.Tree.{Tree, Node, NameTable, headers, node_header, target}
 use Rattle.kfs_model.specs.Sight.{sight, is_directory, is_file, holder, parent_in}
-use Rattle.kfs_model.specs.Effect.{swept, changed_node}
+use Rattle.kfs_model.specs.Effect.{without_unnamed, changed_node}
 use Rattle.kfs_model.specs.Soundness.{InRange, AreSound, IsSound}
 use Rattle.kfs_model.specs.SeenAfter.{put_header}
 use Rattle.kfs_model.proofs.NameTable.{at_number-insert}
@@ -79,7 +79,7 @@ module _ (head : ℕ → Option Header) (n : ℕ) (change : Header → Header) (
 -- ---- one node changed in a sound tree
 
 module _ {B : Type 0} (t : Tree B) (sound : IsSound t) (n : ℕ) (node : Node B) (there : get t.nodes n ≡ Some node) (change : Node B → Node B) (header_change : Header → Header)
-    (kinds : (h : Header) → (header_change h).kind ≡ h.kind) (shown : header_of t.names n (change node) ≡ header_change (header_of t.names n node)) where
+    (kinds : (h : Header) → (header_change h).kind ≡ h.kind) (shown : node_header t.names n (change node) ≡ header_change (node_header t.names n node)) where
   abbrev changed : Tree B
   changed = record { nodes = insert t.nodes n (change node); names = t.names }
 
@@ -89,21 +89,21 @@ module _ {B : Type 0} (t : Tree B) (sound : IsSound t) (n : ℕ) (node : Node B)
   abbrev heads : ℕ → Option Header
   heads = put_header n header_change (get (headers t))
 
-  head_is : get (headers t) n ≡ Some (header_of t.names n node)
-  head_is = get-headers t n ∙ ap (option_map (header_of t.names n)) there
+  head_is : get (headers t) n ≡ Some (node_header t.names n node)
+  head_is = get-headers t n ∙ ap (option_map (node_header t.names n)) there
 
-  shown_at : (k : ℕ) (b : Bool) → (k == n) ≡ b → option_map (header_of t.names k) (cond (stays t.names k) (cond b (Some (change node)) (get t.nodes k)) None) ≡ cond b (option_map header_change (get (headers t) n)) (get (headers t) k)
+  shown_at : (k : ℕ) (b : Bool) → (k == n) ≡ b → option_map (node_header t.names k) (cond (stays t.names k) (cond b (Some (change node)) (get t.nodes k)) None) ≡ cond b (option_map header_change (get (headers t) n)) (get (headers t) k)
   shown_at k true same =
-      subst (λ k. option_map (header_of t.names k) (cond (stays t.names k) (Some (change node)) None) ≡ option_map header_change (get (headers t) n)) (sym (eqb-true k n same))
-      (ap (λ b. option_map (header_of t.names n) (cond b (Some (change node)) None)) (node_stays t sound n node there) ∙ ap Some shown ∙ sym (ap (option_map header_change) head_is))
+      subst (λ k. option_map (node_header t.names k) (cond (stays t.names k) (Some (change node)) None) ≡ option_map header_change (get (headers t) n)) (sym (eqb-true k n same))
+      (ap (λ b. option_map (node_header t.names n) (cond b (Some (change node)) None)) (node_stays t sound n node there) ∙ ap Some shown ∙ sym (ap (option_map header_change) head_is))
   shown_at k false other = kept_head t sound t.names k refl
 
-  head_after : (k : ℕ) → get (headers (swept changed)) k ≡ heads k
+  head_after : (k : ℕ) → get (headers (without_unnamed changed)) k ≡ heads k
   head_after k =
-      get-swept_headers changed k ∙ ap (λ o. option_map (header_of t.names k) (cond (stays t.names k) o None)) (at_number-insert t.nodes n (change node) k) ∙ shown_at k (k == n) refl
+      get-swept_headers changed k ∙ ap (λ o. option_map (node_header t.names k) (cond (stays t.names k) o None)) (at_number-insert t.nodes n (change node) k) ∙ shown_at k (k == n) refl
 
-  changed_seen : sight (swept changed) ≡ record (sight t) { head = heads }
-  unfolding swept
+  changed_seen : sight (without_unnamed changed) ≡ record (sight t) { head = heads }
+  unfolding without_unnamed
   changed_seen = λ i. record {
     head = λ k. head_after k i;
     name = target t.names;
@@ -111,14 +111,14 @@ module _ {B : Type 0} (t : Tree B) (sound : IsSound t) (n : ℕ) (node : Node B)
     parent = λ k. (ap (λ heads. parent_in heads t.names k) (λ i k. head_after k i) ∙ same_parent (get (headers t)) heads t.names (put_header_kinds (get (headers t)) n header_change kinds) k) i;
   }
 
-  changed_sound : ((h : Header) → get (headers t) n ≡ Some h → InRange n (header_change h)) → IsSound (swept changed)
-  unfolding swept
+  changed_sound : ((h : Header) → get (headers t) n ≡ Some h → InRange n (header_change h)) → IsSound (without_unnamed changed)
+  unfolding without_unnamed
   changed_sound range =
       subst (λ heads. AreSound heads t.names) (λ i k. sym (head_after k) i)
       (same_kinds_sound (get (headers t)) heads t.names (put_header_kinds (get (headers t)) n header_change kinds) sound (put_header_ranges (get (headers t)) n header_change kinds sound.ranges range))
 
-  pub node_seen : sight (swept (changed_node change n t)) ≡ record (sight t) { head = heads }
-  node_seen = ap (λ u. sight (swept u)) changed_is ∙ changed_seen
+  pub node_seen : sight (without_unnamed (changed_node change n t)) ≡ record (sight t) { head = heads }
+  node_seen = ap (λ u. sight (without_unnamed u)) changed_is ∙ changed_seen
 
-  pub node_sound : ((h : Header) → get (headers t) n ≡ Some h → InRange n (header_change h)) → IsSound (swept (changed_node change n t))
-  node_sound range = subst (λ u. IsSound (swept u)) (sym changed_is) (changed_sound range)
+  pub node_sound : ((h : Header) → get (headers t) n ≡ Some h → InRange n (header_change h)) → IsSound (without_unnamed (changed_node change n t))
+  node_sound range = subst (λ u. IsSound (without_unnamed u)) (sym changed_is) (changed_sound range)

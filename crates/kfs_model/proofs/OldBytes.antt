@@ -10,7 +10,7 @@ use Rattle.kfs_model.specs.Sight.{sight, ClientSight}
 use Rattle.kfs_model.specs.Access.{Client}
 use Rattle.kfs_model.specs.Entry.{Entry, Create, Write, Truncate, Link, Unlink, Rename, Chmod}
 use Rattle.kfs_model.specs.Check.{Reason, first_fault}
-use Rattle.kfs_model.specs.Effect.{effect, change_of, swept, changed_node, new_body, on_content, overwritten, resized}
+use Rattle.kfs_model.specs.Effect.{effect, change_of, without_unnamed, changed_node, new_body, on_content, overwritten, resized}
 use Rattle.kfs_model.specs.Run.{Mark, Base, Zero, Payload, over_marks, marked, base_marks, mapped_body, EntryFault, entry_context, created_by, run_from, run}
 use Rattle.kfs_model.specs.Plan.{OldBytesStay}
 use Rattle.kfs_model.proofs.Heads.{stays}
@@ -68,8 +68,8 @@ marked_own before = record { each = λ n. subst (NodeOwn n) (sym (get-mapped _ b
     at n None = none_own n
     at n (Some node) = at_body n node.mode node.uid node.gid node.body
 
-swept_own : (t : Tree Mark) → TreeOwn t → TreeOwn (swept t)
-unfolding swept
+swept_own : (t : Tree Mark) → TreeOwn t → TreeOwn (without_unnamed t)
+unfolding without_unnamed
 swept_own t own = record { each = λ k. subst (NodeOwn k) (sym (get-retain (λ n. (n == 1) || is_named t.names n) t.nodes k)) (at k (stays t.names k)) }
   where
     at : (k : ℕ) (b : Bool) → NodeOwn k (cond b (get t.nodes k) None)

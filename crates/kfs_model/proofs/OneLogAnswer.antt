@@ -3,7 +3,7 @@ use Rattle.std.proofs.Common.{◌≡◌, ◌≢◌, ℕ, List, [], ◌∷◌, �
 use Rattle.std.specs.List.{flat_map}
 use Rattle.std.proofs.lemmas.List.{append-nil}
 use Rattle.kfs_model.specs.Entry.{Entry, Log}
-use Rattle.kfs_model.specs.Spelling.{IsBytes, BeginsWithNo, LogHeader, IsLogHeader, log_header, IsEntry, entry_bytes, header_of, IsLog, log_bytes, LogAnswer, SpellingFault, BadHeader, BadEntry, Trailing, BadRow}
+use Rattle.kfs_model.specs.Spelling.{IsBytes, BeginsWithNo, LogHeader, IsLogHeader, log_header, IsEntry, entry_bytes, log_header_of, IsLog, log_bytes, LogAnswer, SpellingFault, BadHeader, BadEntry, Trailing, BadRow}
 use Rattle.kfs_model.proofs.Reading.{log_header_read, entry_read}
 use Rattle.kfs_model.proofs.EntryLaws.{entry_field}
 use Rattle.kfs_model.proofs.HeaderLaws.{log_header_field}
@@ -37,8 +37,8 @@ no_header bytes fits never =
 
 whole_log : (l : Log) (more : List ℕ) → IsLog l → log_reading (log_bytes l ++ more) ≡ log_rest l.client l.entries more
 whole_log l more fits =
-    ap log_reading (append_assoc (log_header (header_of l)) (flat_map entry_bytes l.entries) more)
-    ∙ behind_header (header_of l) (flat_map entry_bytes l.entries ++ more) fits.0
+    ap log_reading (append_assoc (log_header (log_header_of l)) (flat_map entry_bytes l.entries) more)
+    ∙ behind_header (log_header_of l) (flat_map entry_bytes l.entries ++ more) fits.0
     ∙ ap (log_rows l.client) (rows_stand IsEntry entry_bytes entry_read entry_field l.entries more fits.1)
 
 pub log_is_read : (bytes : List ℕ) → IsBytes bytes → (answer : Result Log SpellingFault) → LogAnswer bytes answer → log_reading bytes ≡ answer

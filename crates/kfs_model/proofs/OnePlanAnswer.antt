@@ -3,7 +3,7 @@ use Rattle.std.proofs.Common.{◌≡◌, ◌≢◌, ℕ, zero, suc, List, [], �
 use Rattle.std.specs.List.{flat_map}
 use Rattle.std.proofs.lemmas.List.{append-nil}
 use Rattle.kfs_model.specs.PlanRow.{NameRow, NodeRow, Piece, Plan}
-use Rattle.kfs_model.specs.Spelling.{IsBytes, BeginsWithNo, Stand, Counts, AreCounts, plan_header, counts_of, name_row_bytes, IsNameRow, node_row_bytes, IsNodeRow, piece_bytes, IsPiece, IsPlan, plan_bytes, PartStops, PlanAnswer, SpellingFault, BadHeader, BadEntry, Trailing, BadRow}
+use Rattle.kfs_model.specs.Spelling.{IsBytes, BeginsWithNo, BeginsWithRows, Counts, AreCounts, plan_header, counts_of, name_row_bytes, IsNameRow, node_row_bytes, IsNodeRow, piece_bytes, IsPiece, IsPlan, plan_bytes, PartLacksRow, PlanAnswer, SpellingFault, BadHeader, BadEntry, Trailing, BadRow}
 use Rattle.kfs_model.proofs.Reading.{plan_header_read, name_row_read, node_row_read, piece_read}
 use Rattle.kfs_model.proofs.PlanLaws.{name_row_field, node_row_field, piece_field}
 use Rattle.kfs_model.proofs.HeaderLaws.{plan_header_field}
@@ -44,19 +44,19 @@ unfolding plan_reading
 no_header bytes fits never = ap (λ o. with_option o (Err BadHeader) (λ x. names_reading x.0 x.1)) (none_read AreCounts plan_header plan_header_read plan_header_field bytes fits never)
 
 -- behind a part that stands, the next is read
-behind_names : (c : Counts) (bytes rest : List ℕ) (stand : Stand IsNameRow name_row_bytes c.names bytes rest) → names_reading c bytes ≡ nodes_reading c stand.rows rest
+behind_names : (c : Counts) (bytes rest : List ℕ) (stand : BeginsWithRows IsNameRow name_row_bytes c.names bytes rest) → names_reading c bytes ≡ nodes_reading c stand.rows rest
 behind_names c bytes rest stand = ap (λ x. part_then 0 x (λ names rest. nodes_reading c names rest)) (stand_is_read IsNameRow name_row_bytes name_row_read name_row_field c.names bytes rest stand)
 
-behind_nodes : (c : Counts) (names : List NameRow) (bytes rest : List ℕ) (stand : Stand IsNodeRow node_row_bytes c.nodes bytes rest) → nodes_reading c names bytes ≡ pieces_reading c names stand.rows rest
+behind_nodes : (c : Counts) (names : List NameRow) (bytes rest : List ℕ) (stand : BeginsWithRows IsNodeRow node_row_bytes c.nodes bytes rest) → nodes_reading c names bytes ≡ pieces_reading c names stand.rows rest
 behind_nodes c names bytes rest stand = ap (λ x. part_then 1 x (λ nodes rest. pieces_reading c names nodes rest)) (stand_is_read IsNodeRow node_row_bytes node_row_read node_row_field c.nodes bytes rest stand)
 
-behind_pieces : (c : Counts) (names : List NameRow) (nodes : List NodeRow) (bytes rest : List ℕ) (stand : Stand IsPiece piece_bytes c.pieces bytes rest) → pieces_reading c names nodes bytes ≡ plan_rest names nodes stand.rows rest
+behind_pieces : (c : Counts) (names : List NameRow) (nodes : List NodeRow) (bytes rest : List ℕ) (stand : BeginsWithRows IsPiece piece_bytes c.pieces bytes rest) → pieces_reading c names nodes bytes ≡ plan_rest names nodes stand.rows rest
 behind_pieces c names nodes bytes rest stand = ap (λ x. part_then 2 x (λ pieces rest. plan_rest names nodes pieces rest)) (stand_is_read IsPiece piece_bytes piece_read piece_field c.pieces bytes rest stand)
 
-stand_bytes : {V : Type 0} {F : V → Type 0} {s : V → List ℕ} {count : ℕ} {bytes rest : List ℕ} → IsBytes bytes → Stand F s count bytes rest → IsBytes rest
+stand_bytes : {V : Type 0} {F : V → Type 0} {s : V → List ℕ} {count : ℕ} {bytes rest : List ℕ} → IsBytes bytes → BeginsWithRows F s count bytes rest → IsBytes rest
 stand_bytes {V} {F} {s} {count} {bytes} {rest} fits stand = IsBytes-behind (flat_map s stand.rows) rest (subst IsBytes stand.are.spelled fits)
 
-row_is_missing : (c : Counts) (part k : ℕ) (bytes : List ℕ) → IsBytes bytes → PartStops c part k bytes → names_reading c bytes ≡ Err (BadRow part k)
+row_is_missing : (c : Counts) (part k : ℕ) (bytes : List ℕ) → IsBytes bytes → PartLacksRow c part k bytes → names_reading c bytes ≡ Err (BadRow part k)
 row_is_missing c zero k bytes fits stop =
     ap (λ x. part_then 0 x (λ names rest. nodes_reading c names rest)) (stop_is_read IsNameRow name_row_bytes name_row_read name_row_field c.names k bytes fits stop)
 row_is_missing c (suc zero) k bytes fits stop =

@@ -1,7 +1,7 @@
 -- Each step of the machine keeps its state in order.
 use Rattle.std.proofs.Common.{◌≡◌, ℕ, ◌==◌, Bool, true, false, cond, List, [], ◌∷◌, Option, Some, None, is_some, Result, Ok, Err, refl, sym, ap, subst, ◌∙◌}
 use Rattle.std.specs.List.{AllByRecursion}
-use Rattle.kfs_model.specs.Access.{Client, AreDistinct}
+use Rattle.kfs_model.specs.Access.{Client, ClientsAreDistinct}
 use Rattle.kfs_model.specs.Table.{get, insert, empty}
 use Rattle.kfs_model.specs.Tree.{Tree, headers}
 use Rattle.kfs_model.specs.Sight.{sight, ClientSight}
@@ -191,7 +191,7 @@ docket_keeps_order s last (row ∷ rows) order read is = by (next s row) refl (�
 
 -- ---- the state at the start
 
-pub opens_in_order : (clients : List Client) (sizes : TierSizes) (tree : Tree ℕ) → AreDistinct clients → AllByRecursion IsClient clients → IsSound tree → IsInOrder (opening clients sizes tree empty)
+pub opens_in_order : (clients : List Client) (sizes : TierSizes) (tree : Tree ℕ) → ClientsAreDistinct clients → AllByRecursion IsClient clients → IsSound tree → IsInOrder (opening clients sizes tree empty)
 unfolding get
 opens_in_order clients sizes tree distinct in_range sound = record {
   sound = sound;
@@ -205,5 +205,5 @@ opens_in_order clients sizes tree distinct in_range sound = record {
   };
 }
 
-pub fresh_in_order : (clients : List Client) (sizes : TierSizes) → AreDistinct clients → AllByRecursion IsClient clients → IsInOrder (opening clients sizes (fresh_tree {B = ℕ}) empty)
+pub fresh_in_order : (clients : List Client) (sizes : TierSizes) → ClientsAreDistinct clients → AllByRecursion IsClient clients → IsInOrder (opening clients sizes (fresh_tree {B = ℕ}) empty)
 fresh_in_order clients sizes distinct in_range = opens_in_order clients sizes (fresh_tree {B = ℕ}) distinct in_range (fresh_is_sound ℕ)

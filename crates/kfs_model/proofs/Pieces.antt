@@ -7,7 +7,7 @@ use Rattle.std.proofs.lemmas.Bool.Decides.{nat_tests}
 use Rattle.kfs_model.specs.Tree.{Tree}
 use Rattle.kfs_model.specs.Run.{Mark}
 use Rattle.kfs_model.specs.PlanRow.{Piece}
-use Rattle.kfs_model.specs.Plan.{mark_at, said_by, end_of, covers, IsBehind, Ascend, IsTrueOf, ArePieces}
+use Rattle.kfs_model.specs.Plan.{mark_at, mark_of_source, end_of, covers, IsBehind, PiecesAscend, IsTrueOf, ArePieces}
 use Rattle.kfs_model.specs.FirstWrong.{same_option, same_mark, holds_along, begins_early, is_missed, lies_before, is_wrong, changed_bytes, wrong_below, missed_by, first_wrong_piece}
 use Rattle.kfs_model.specs.FirstAnswer.{first_answer}
 use Rattle.kfs_model.specs.Check.{is_some_and}
@@ -23,15 +23,15 @@ here_or_later a d h = grind arith
 
 module _ (t : Tree Mark) (p : Piece) where
   unfoldable pub HasMark : ℕ → Type 0
-  HasMark distance = mark_at t p.number (p.start + distance) ≡ Some (said_by p.source distance)
+  HasMark distance = mark_at t p.number (p.start + distance) ≡ Some (mark_of_source p.source distance)
 
-  mark_decides : (distance : ℕ) → Decides (same_option same_mark (mark_at t p.number (p.start + distance)) (Some (said_by p.source distance))) (HasMark distance)
+  mark_decides : (distance : ℕ) → Decides (same_option same_mark (mark_at t p.number (p.start + distance)) (Some (mark_of_source p.source distance))) (HasMark distance)
   unfolding HasMark
   mark_decides distance = (options-exact same_mark marks-exact).decides _ _
 
   pub all_along : (count distance : ℕ) → holds_along t p distance count ≡ true → (d : ℕ) → distance ≤ d → d < distance + count → HasMark d
   all_along zero distance holds d low high = absurd (omega arith)
-  all_along (suc count) distance holds d low high = at (same_option same_mark (mark_at t p.number (p.start + distance)) (Some (said_by p.source distance))) (mark_decides distance).0 (all_along count (distance + 1)) holds
+  all_along (suc count) distance holds d low high = at (same_option same_mark (mark_at t p.number (p.start + distance)) (Some (mark_of_source p.source distance))) (mark_decides distance).0 (all_along count (distance + 1)) holds
     where
       at : (b : Bool) → (b ≡ true → HasMark distance) → (holds_along t p (distance + 1) count ≡ true → (d : ℕ) → distance + 1 ≤ d → d < distance + 1 + count → HasMark d)
           → elim b [ true ↦ holds_along t p (distance + 1) count | false ↦ false ] ≡ true → HasMark d
@@ -40,7 +40,7 @@ module _ (t : Tree Mark) (p : Piece) where
 
   pub along_all : (count distance : ℕ) → ((d : ℕ) → distance ≤ d → d < distance + count → HasMark d) → holds_along t p distance count ≡ true
   along_all zero distance each = refl
-  along_all (suc count) distance each = at (same_option same_mark (mark_at t p.number (p.start + distance)) (Some (said_by p.source distance))) ((mark_decides distance).1 (each distance (omega arith) (omega arith))) (along_all count (distance + 1) (λ d low high. each d (omega arith) (omega arith)))
+  along_all (suc count) distance each = at (same_option same_mark (mark_at t p.number (p.start + distance)) (Some (mark_of_source p.source distance))) ((mark_decides distance).1 (each distance (omega arith) (omega arith))) (along_all count (distance + 1) (λ d low high. each d (omega arith) (omega arith)))
     where
       at : (b : Bool) → b ≡ true → holds_along t p (distance + 1) count ≡ true → elim b [ true ↦ holds_along t p (distance + 1) count | false ↦ false ] ≡ true
       at true e rest = rest
@@ -64,14 +64,14 @@ further : (n i a s e b q : ℕ) → s ≤ e → (a < b) ⊎ ((a ≡ b) × (e ≤
 further n i a s e b q k behind h = grind arith
 
 -- a byte that lies before a piece is in none of the pieces from there on
-pub none_before : (n i : ℕ) (p : Piece) (ps : List Piece) → Ascend (p ∷ ps) → (n < p.number) ⊎ ((n ≡ p.number) × (i < p.start)) → list_any (covers n i) (p ∷ ps) ≡ false
+pub none_before : (n i : ℕ) (p : Piece) (ps : List Piece) → PiecesAscend (p ∷ ps) → (n < p.number) ⊎ ((n ≡ p.number) × (i < p.start)) → list_any (covers n i) (p ∷ ps) ≡ false
 none_before n i p [] ascending before = or_from _ _ (covers_apart n i p.number p.start (end_of p) before) refl
 none_before n i p (q ∷ rest) ascending before =
     or_from _ _ (covers_apart n i p.number p.start (end_of p) before)
     (none_before n i q rest ascending.1 (further n i p.number p.start (end_of p) q.number q.start (omega arith) ascending.0 before))
 
 -- those that stand behind some ascend too
-ascend_behind : (above ps : List Piece) → Ascend (above ++ ps) → Ascend ps
+ascend_behind : (above ps : List Piece) → PiecesAscend (above ++ ps) → PiecesAscend ps
 ascend_behind [] ps ascending = ascending
 ascend_behind (p ∷ []) [] ascending = tt
 ascend_behind (p ∷ []) (q ∷ rest) ascending = ascending.1
@@ -81,7 +81,7 @@ all_behind : (P : Piece → Type 0) (above ps : List Piece) → AllByRecursion P
 all_behind P [] ps all = all
 all_behind P (p ∷ above) ps all = all_behind P above ps all.1
 
-begins_behind : (above : List Piece) (p : Piece) (ps : List Piece) → Ascend (above ++ p ∷ ps) → begins_early above p ≡ false
+begins_behind : (above : List Piece) (p : Piece) (ps : List Piece) → PiecesAscend (above ++ p ∷ ps) → begins_early above p ≡ false
 begins_behind [] p ps ascending = refl
 begins_behind (q ∷ []) p ps ascending = early_from q.number p.number p.start (end_of q) ascending.0
 begins_behind (q ∷ r ∷ above) p ps ascending = begins_behind (r ∷ above) p ps ascending.1
@@ -159,7 +159,7 @@ module _ (t : Tree Mark) where
     behind_last above p q begins =
         early_parts p.number q.number q.start (end_of p) (sym (ap (λ o. is_some_and o (λ r. lies_before (q.number, q.start) r.number (end_of r))) (last_is None above p)) ∙ begins)
 
-    all_ascend : (above ps : List Piece) → pieces ≡ above ++ ps → Ascend ps
+    all_ascend : (above ps : List Piece) → pieces ≡ above ++ ps → PiecesAscend ps
     all_ascend above [] is = tt
     all_ascend above (p ∷ []) is = tt
     all_ascend above (p ∷ q ∷ rest) is =

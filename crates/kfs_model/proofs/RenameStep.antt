@@ -7,13 +7,13 @@ use Rattle.kfs_model.proofs.TableLaws.{same_table, get-retain}
 use Rattle.kfs_model.specs.Tree.{Tree, Node, NameTable, headers, target, entry_count, is_named}
 use Rattle.kfs_model.specs.Entry.{Unlink, Rename}
 use Rattle.kfs_model.specs.Sight.{Sight, sight, is_directory, climb_limit, climb_meets}
-use Rattle.kfs_model.specs.Effect.{Filling, change_of, effect, swept, with_names, moved_name}
+use Rattle.kfs_model.specs.Effect.{Filling, change_of, effect, without_unnamed, with_names, moved_name}
 use Rattle.kfs_model.specs.Check.{EntryContext}
 use Rattle.kfs_model.specs.Soundness.{IsSound}
 use Rattle.kfs_model.specs.Spelling.{IsName}
 use Rattle.kfs_model.specs.FirstWrong.{same_place}
 use Rattle.kfs_model.specs.SeenAfter.{unlinked, seen_without, seen_moved, seen_renamed, seen_unlinked, seen_after}
-use Rattle.kfs_model.specs.CleanStep.{IsClean, IsKept}
+use Rattle.kfs_model.specs.CleanStep.{IsClean, StaysSound}
 use Rattle.kfs_model.proofs.CleanFacts.{at_tree, clean_at, unlink_facts, RenameFacts, RenameCase, Same, ToNone, Over, rename_facts}
 use Rattle.kfs_model.proofs.NameTable.{target-insert, target-remove, is_named_counts}
 use Rattle.kfs_model.proofs.NameRemoved as Removed
@@ -48,7 +48,7 @@ module _ {B : Type 0} (t : Tree B) (sound : IsSound t) (d : ℕ) (m : List ℕ) 
 
   -- the tree without the name that is replaced
   abbrev between : Tree B
-  between = swept (with_names without t)
+  between = without_unnamed (with_names without t)
 
   between_names : NameTable
   between_names = without
@@ -84,29 +84,29 @@ module _ {B : Type 0} (t : Tree B) (sound : IsSound t) (d : ℕ) (m : List ℕ) 
 
   -- what stays in the end stays at the first step too
   same_stays : (x : ℕ) → stays in_two x ≡ stays without x
-  unfolding swept
+  unfolding without_unnamed
   same_stays x = ap (λ b. (x == 1) || b) (is_named_counts in_two x ∙ ap (ltb 0) (same_count between between_sound d m e k n there_still free_now x) ∙ sym (is_named_counts without x))
 
-  same_tree : swept (with_names in_two t) ≡ swept (with_names in_two between)
-  unfolding swept
-  same_tree = λ i. record { nodes = same_table (swept (with_names in_two t)).nodes (swept (with_names in_two between)).nodes same_node i; names = in_two }
+  same_tree : without_unnamed (with_names in_two t) ≡ without_unnamed (with_names in_two between)
+  unfolding without_unnamed
+  same_tree = λ i. record { nodes = same_table (without_unnamed (with_names in_two t)).nodes (without_unnamed (with_names in_two between)).nodes same_node i; names = in_two }
     where
       twice : (b c : Bool) (o : Option (Node B)) → b ≡ c → cond b o None ≡ cond b (cond c o None) None
       twice true true o same = refl
       twice true false o same = cc
       twice false c o same = refl
 
-      same_node : (x : ℕ) → get (swept (with_names in_two t)).nodes x ≡ get (swept (with_names in_two between)).nodes x
+      same_node : (x : ℕ) → get (without_unnamed (with_names in_two t)).nodes x ≡ get (without_unnamed (with_names in_two between)).nodes x
       same_node x =
           get-retain (λ n. (n == 1) || is_named in_two n) t.nodes x
           ∙ twice (stays in_two x) (stays without x) (get t.nodes x) (same_stays x)
           ∙ sym (get-retain (λ n. (n == 1) || is_named in_two n) between.nodes x ∙ ap (λ o. cond (stays in_two x) o None) (get-retain (λ n. (n == 1) || is_named without n) t.nodes x))
 
-  over_is : swept (with_names at_once t) ≡ swept (with_names in_two between)
-  over_is = ap (λ names. swept (with_names names t)) same_names ∙ same_tree
+  over_is : without_unnamed (with_names at_once t) ≡ without_unnamed (with_names in_two between)
+  over_is = ap (λ names. without_unnamed (with_names names t)) same_names ∙ same_tree
 
-  pub over_seen : sight (swept (with_names at_once t)) ≡ seen_moved d m e k n (seen_without e k over (sight t))
-  unfolding swept
+  pub over_seen : sight (without_unnamed (with_names at_once t)) ≡ seen_moved d m e k n (seen_without e k over (sight t))
+  unfolding without_unnamed
   over_seen = ap sight over_is ∙ move_seen between between_sound d m e k n there_still free_now ∙ ap (seen_moved d m e k n) (unlink_seen t sound e k over also empty)
 
   between_seen : sight between ≡ seen_without e k over (sight t)
@@ -122,8 +122,8 @@ module _ {B : Type 0} (t : Tree B) (sound : IsSound t) (d : ℕ) (m : List ℕ) 
       at true is = inl is
       at false is = inr is
 
-  pub over_sound : IsName k → IsTrue (is_directory (get (headers t) e)) → (IsTrue (is_directory (get (headers t) n)) → climb_meets (sight t).parent climb_limit n e ≡ false) → IsSound (swept (with_names at_once t))
-  unfolding swept
+  pub over_sound : IsName k → IsTrue (is_directory (get (headers t) e)) → (IsTrue (is_directory (get (headers t) n)) → climb_meets (sight t).parent climb_limit n e ≡ false) → IsSound (without_unnamed (with_names at_once t))
+  unfolding without_unnamed
   over_sound spelled directory apart =
       subst IsSound (sym over_is)
       (move_sound between between_sound d m e k n there_still free_now spelled
@@ -148,7 +148,7 @@ module _ (names : NameTable) (d : ℕ) (m : List ℕ) (e : ℕ) (k : List ℕ) (
   moved_nowhere also = let same : (n == n) ≡ true = eq-eqb n n refl in rw (there, moved_name) (rw (also, moved_name) (ap unless same))
 
 module _ {B : Type 0} (filling : Filling B) (context : EntryContext) (index : ℕ) (t : Tree B) where
-  pub unlink_kept : (d : ℕ) (m : List ℕ) (kind : Kind) → IsClean context t (Unlink d m kind) → IsKept filling context.client index t (Unlink d m kind)
+  pub unlink_kept : (d : ℕ) (m : List ℕ) (kind : Kind) → IsClean context t (Unlink d m kind) → StaysSound filling context.client index t (Unlink d m kind)
   unfolding change_of seen_after
   unlink_kept d m kind h =
       let facts = unlink_facts (at_tree context t) d m kind (clean_at context t h) in
@@ -159,19 +159,19 @@ module _ {B : Type 0} (filling : Filling B) (context : EntryContext) (index : �
       }
 
   -- the entry's change, where the names are left so
-  with_names_left : (d : ℕ) (m : List ℕ) (e : ℕ) (k : List ℕ) (left : NameTable) → moved_name t.names d m e k ≡ left → effect filling context.client index (Rename d m e k) t ≡ swept (with_names left t)
+  with_names_left : (d : ℕ) (m : List ℕ) (e : ℕ) (k : List ℕ) (left : NameTable) → moved_name t.names d m e k ≡ left → effect filling context.client index (Rename d m e k) t ≡ without_unnamed (with_names left t)
   unfolding change_of
-  with_names_left d m e k left is = ap (λ names. swept (with_names names t)) is
+  with_names_left d m e k left is = ap (λ names. without_unnamed (with_names names t)) is
 
   renamed_as : (d : ℕ) (m : List ℕ) (e : ℕ) (k : List ℕ) (left : NameTable) (there also : Option ℕ) → moved_name t.names d m e k ≡ left → target t.names d m ≡ there → target t.names e k ≡ also
-      → IsSound (swept (with_names left t)) → sight (swept (with_names left t)) ≡ seen_renamed d m e k there also (sight t) → IsKept filling context.client index t (Rename d m e k)
+      → IsSound (without_unnamed (with_names left t)) → sight (without_unnamed (with_names left t)) ≡ seen_renamed d m e k there also (sight t) → StaysSound filling context.client index t (Rename d m e k)
   unfolding seen_after
   renamed_as d m e k left there also is there_is also_is sound seen = record {
     sound = subst IsSound (sym (with_names_left d m e k left is)) sound;
     seen = ap sight (with_names_left d m e k left is) ∙ seen ∙ ap₂ (λ there also. seen_renamed d m e k there also (sight t)) (sym there_is) (sym also_is);
   }
 
-  pub rename_kept : (d : ℕ) (m : List ℕ) (e : ℕ) (k : List ℕ) → IsClean context t (Rename d m e k) → IsKept filling context.client index t (Rename d m e k)
+  pub rename_kept : (d : ℕ) (m : List ℕ) (e : ℕ) (k : List ℕ) → IsClean context t (Rename d m e k) → StaysSound filling context.client index t (Rename d m e k)
   rename_kept d m e k h = by_way facts.way
     where
       facts : RenameFacts (sight t) d m e k
@@ -180,7 +180,7 @@ module _ {B : Type 0} (filling : Filling B) (context : EntryContext) (index : �
       n : ℕ
       n = facts.number
 
-      by_way : RenameCase (sight t) d m e k n → IsKept filling context.client index t (Rename d m e k)
+      by_way : RenameCase (sight t) d m e k n → StaysSound filling context.client index t (Rename d m e k)
       by_way (Same over also same) =
           let also_n = also ∙ ap Some same in
           renamed_as d m e k t.names (Some n) (Some n) (moved_nowhere t.names d m e k n facts.there also_n) facts.there also_n

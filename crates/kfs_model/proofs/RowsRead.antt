@@ -2,7 +2,7 @@
 use Rattle.std.proofs.Common.{◌≡◌, ℕ, zero, suc, ◌+◌, ◌-◌, ◌<◌, List, [], ◌∷◌, ◌++◌, length, Option, Some, None, Result, Ok, Err, refl, ap, subst, ◌∙◌, append_assoc, arith}
 use Rattle.std.specs.List.{flat_map, AllByRecursion}
 use Rattle.std.proofs.lemmas.List.{get_or-append-add}
-use Rattle.kfs_model.specs.Spelling.{IsBytes, BeginsWithNo, Stand, Stop}
+use Rattle.kfs_model.specs.Spelling.{IsBytes, BeginsWithNo, BeginsWithRows, LacksRow}
 use Rattle.kfs_model.proofs.Fields.{IsField}
 
 pub IsBytes-behind : (front rest : List ℕ) → IsBytes (front ++ rest) → IsBytes rest
@@ -51,11 +51,11 @@ module _ {V : Type 0} (F : V → Type 0) (s : V → List ℕ) (r : List ℕ → 
       ∙ rw (field.again row (flat_map s rows ++ rest) fits.0) (rw (rows_stop rows more rest fits.1 bytes never) refl))
 
   -- what is read where rows stand, and where they stop
-  pub stand_is_read : (count : ℕ) (bytes rest : List ℕ) (stand : Stand F s count bytes rest) → rows_read r count bytes ≡ Ok (stand.rows, rest)
+  pub stand_is_read : (count : ℕ) (bytes rest : List ℕ) (stand : BeginsWithRows F s count bytes rest) → rows_read r count bytes ≡ Ok (stand.rows, rest)
   stand_is_read count bytes rest stand =
       rw (← stand.number, stand.are.spelled) (rows_stand stand.rows rest stand.are.fit)
 
-  pub stop_is_read : (count k : ℕ) (bytes : List ℕ) → IsBytes bytes → Stop F s count k bytes → rows_read r count bytes ≡ Err k
+  pub stop_is_read : (count k : ℕ) (bytes : List ℕ) → IsBytes bytes → LacksRow F s count k bytes → rows_read r count bytes ≡ Err k
   stop_is_read count k bytes fits stop =
       let before = stop.before in
       let behind : IsBytes stop.rest = IsBytes-behind (flat_map s before.rows) stop.rest (subst IsBytes before.are.spelled fits) in

@@ -6,7 +6,7 @@ use Rattle.kfs_model.specs.Sight.{Sight, Cell, ClientSight, answer}
 use Rattle.kfs_model.specs.Check.{EntryContext, Reason, checks_of, first_fault, looked}
 use Rattle.kfs_model.specs.Run.{EntryFault, entry_context, created_by}
 use Rattle.kfs_model.specs.SeenAfter.{seen_after, seen_run_from}
-use Rattle.kfs_model.specs.Looked.{looked_from, looked_cells, seen_run, AnswerAlike, EndAlike}
+use Rattle.kfs_model.specs.Looked.{looked_from, looked_cells, seen_run, AgreeAt, EndInAgreement}
 use Rattle.kfs_model.proofs.SameChecks.{SameAtAll, same_end, reads_alike}
 use Rattle.kfs_model.proofs.SameSteps.{follows_cells, entry_follows}
 
@@ -16,7 +16,7 @@ module _ (client : Client) (s u : ClientSight) where
   StillAlike now other = (cell : Cell) → answer s cell ≡ answer u cell → answer (record s { sight = now }) cell ≡ answer (record u { sight = other }) cell
 
   record RunAlike (index : ℕ) (created : List ℕ) (now other : Sight) (entries : List Entry) : Type 0 where
-    ends : EndAlike s u (seen_run_from client s index created now entries) (seen_run_from client u index created other entries)
+    ends : EndInAgreement s u (seen_run_from client s index created now entries) (seen_run_from client u index created other entries)
     looks : looked_from client s created now entries ≡ looked_from client u created other entries
 
   abbrev here : Sight → List ℕ → EntryContext
@@ -25,16 +25,16 @@ module _ (client : Client) (s u : ClientSight) where
   abbrev there : Sight → List ℕ → EntryContext
   there other created = entry_context client u other created
 
-  parts : (front back : List Cell) → AnswerAlike s u (front ++ back) → AnswerAlike s u front × AnswerAlike s u back
+  parts : (front back : List Cell) → AgreeAt s u (front ++ back) → AgreeAt s u front × AgreeAt s u back
   parts [] back same = (tt, same)
   parts (cell ∷ front) back same = let rest = parts front back same.1 in ((same.0, rest.0), rest.1)
 
-  same_at : (created : ℕ → Bool) (now other : Sight) → StillAlike now other → (cells : List Cell) → AnswerAlike s u cells → SameAtAll client created s now u other cells
+  same_at : (created : ℕ → Bool) (now other : Sight) → StillAlike now other → (cells : List Cell) → AgreeAt s u cells → SameAtAll client created s now u other cells
   unfolding StillAlike
   same_at created now other still [] alike = tt
   same_at created now other still (cell ∷ cells) alike = (record { at_now = still cell alike.0; at_first = alike.0 }, same_at created now other still cells alike.1)
 
-  run_alike : (index : ℕ) (created : List ℕ) (now other : Sight) (entries : List Entry) → StillAlike now other → AnswerAlike s u (looked_from client s created now entries) → RunAlike index created now other entries
+  run_alike : (index : ℕ) (created : List ℕ) (now other : Sight) (entries : List Entry) → StillAlike now other → AgreeAt s u (looked_from client s created now entries) → RunAlike index created now other entries
   unfolding looked_from seen_run_from StillAlike
   run_alike index created now other [] still alike = record { ends = still; looks = refl }
   run_alike index created now other (entry ∷ entries) still alike =
@@ -66,10 +66,10 @@ module _ (client : Client) (s u : ClientSight) where
       other_front : List Cell
       other_front = looked (there other created) (checks_of (there other created) entry)
 
-      at : (o o' : Option Reason) → o ≡ o' → front_looked ≡ other_front → AnswerAlike s u (rest_looked o)
-          → (first_fault (here now created) entry ≡ None → AnswerAlike s u (rest_looked None) → RunAlike (index + 1) (created_by entry created) (seen_after client now entry) (seen_after client other entry) entries)
+      at : (o o' : Option Reason) → o ≡ o' → front_looked ≡ other_front → AgreeAt s u (rest_looked o)
+          → (first_fault (here now created) entry ≡ None → AgreeAt s u (rest_looked None) → RunAlike (index + 1) (created_by entry created) (seen_after client now entry) (seen_after client other entry) entries)
           → first_fault (here now created) entry ≡ o
-          → EndAlike s u (ran o) (other_ran o') × (front_looked ++ rest_looked o ≡ other_front ++ other_looked o')
+          → EndInAgreement s u (ran o) (other_ran o') × (front_looked ++ rest_looked o ≡ other_front ++ other_looked o')
       at None None same fronts alike rest is = let run = rest is alike in (run.ends, ap₂ (λ front back. front ++ back) fronts run.looks)
       at None (Some reason) same fronts alike rest is = cc
       at (Some reason) None same fronts alike rest is = cc
@@ -78,8 +78,8 @@ module _ (client : Client) (s u : ClientSight) where
           (ap (λ reason. record { entry = index; reason = reason }) same_reason, ap (λ front. front ++ []) fronts)
 
 -- the first fault, and the cells that are looked at
-pub same_looked : (client : Client) (s u : ClientSight) (entries : List Entry) → AnswerAlike s u (looked_cells client s entries)
-    → EndAlike s u (seen_run client s entries) (seen_run client u entries) × (looked_cells client s entries ≡ looked_cells client u entries)
+pub same_looked : (client : Client) (s u : ClientSight) (entries : List Entry) → AgreeAt s u (looked_cells client s entries)
+    → EndInAgreement s u (seen_run client s entries) (seen_run client u entries) × (looked_cells client s entries ≡ looked_cells client u entries)
 unfolding StillAlike
 same_looked client s u entries alike =
     let run = run_alike client s u 0 [] s.sight u.sight entries (λ cell same. same) alike in

@@ -4,13 +4,13 @@ use Rattle.std.proofs.lemmas.Bool.{both_ways}
 use Rattle.std.proofs.lemmas.List.{same_lists}
 use Rattle.std.proofs.lemmas.Option.{unwrap_or-slice_get}
 use Rattle.kfs_model.specs.Access.{Client}
-use Rattle.kfs_model.specs.Alike.{MarksAlike, BothEnd, MarksEnd}
+use Rattle.kfs_model.specs.MarkedRuns.{HaveSameNewMarks, BothEnd, MarksEnd}
 use Rattle.kfs_model.specs.Check.{EntryContext, Reason, Check, checks_of, cells, first_fault, looked}
 use Rattle.kfs_model.specs.CleanStep.{Fits}
 use Rattle.kfs_model.specs.Entry.{Entry, Create, Write, Truncate, Link, Unlink, Rename, Chmod}
-use Rattle.kfs_model.specs.LastCover.{extent, covered_by, last_cover, start_mark}
+use Rattle.kfs_model.specs.LastCover.{file_size, covered_by, last_cover, start_mark}
 use Rattle.kfs_model.specs.Laws.{BothFit}
-use Rattle.kfs_model.specs.Looked.{looked_from, looked_cells, seen_run, LooksAlike, EndAlike, NetAlike}
+use Rattle.kfs_model.specs.Looked.{looked_from, looked_cells, seen_run, AgreeWhereLooked, EndInAgreement, HaveSameNet}
 use Rattle.kfs_model.specs.Plan.{mark_at, is_base}
 use Rattle.kfs_model.specs.Run.{Mark, Base, Zero, Payload, EntryFault, entry_context, created_by, run, over_bytes, over_marks, marked, byte_of, looked_up}
 use Rattle.kfs_model.specs.SeenAfter.{seen_after, seen_run_from, shown_run}
@@ -27,7 +27,7 @@ use Rattle.kfs_model.proofs.SameNet.{alike_at, same_net}
 use Rattle.kfs_model.proofs.SeenRun.{run_is_seen, bytes_faithful}
 use Rattle.kfs_model.proofs.Unlooked.{Among, among_front, among_back, among_at}
 
-extents_alike : {B C : Type 0} (t : Tree B) (v : Tree C) (n : ℕ) → get (headers t) n ≡ get (headers v) n → extent t n ≡ extent v n
+extents_alike : {B C : Type 0} (t : Tree B) (v : Tree C) (n : ℕ) → get (headers t) n ≡ get (headers v) n → file_size t n ≡ file_size v n
 extents_alike t v n same = sym (size_is_extent t n) ∙ ap size_said same ∙ size_is_extent v n
 
 -- ---- an entry reaches only bytes of files that it looks at
@@ -102,43 +102,43 @@ IsSameOrOld one other n = (content_of (get one.nodes n) ≡ content_of (get othe
 
 module _ (client : Client) (tree : Tree ℕ) (entries : List Entry) (held : ℕ → Bool) (after : Tree Mark) (ran : run over_marks client (client_sight tree held) (marked tree) entries ≡ Ok after) (n place : ℕ) where
   -- a byte of a file that the log leaves alone is from before
-  untouched : last_cover 0 entries n place ≡ None → extent after n ≡ extent tree n → (mark : Mark) → mark_at after n place ≡ Some mark → is_base mark ≡ true
+  untouched : last_cover 0 entries n place ≡ None → file_size after n ≡ file_size tree n → (mark : Mark) → mark_at after n place ≡ Some mark → is_base mark ≡ true
   untouched free long mark is =
-      at (ltb place (extent tree n))
+      at (ltb place (file_size tree n))
       (sym (mark_is client (client_sight tree held) tree entries after refl ran n place
       ∙ ap (λ long. cond (ltb place long) (Some (unwrap_or (last_cover 0 entries n place) (start_mark tree n place))) None) long
-      ∙ ap (λ o. cond (ltb place (extent tree n)) (Some (unwrap_or o (start_mark tree n place))) None) free)
+      ∙ ap (λ o. cond (ltb place (file_size tree n)) (Some (unwrap_or o (start_mark tree n place))) None) free)
       ∙ is)
     where
       at : (b : Bool) → cond b (Some (cond b (Base n place) Zero)) None ≡ Some mark → is_base mark ≡ true
       at true is = let same : Base n place ≡ mark = cc in ap is_base (sym same)
       at false is = cc
 
-module _ (client : Client) (one other : Tree ℕ) (entries : List Entry) (fits : BothFit client one other entries) (held other_held : ℕ → Bool) (alike : LooksAlike client (client_sight one held) (client_sight other other_held) entries) where
-  ends_alike : EndAlike (client_sight one held) (client_sight other other_held) (shown_run (run over_marks client (client_sight one held) (marked one) entries)) (shown_run (run over_marks client (client_sight other other_held) (marked other) entries))
+module _ (client : Client) (one other : Tree ℕ) (entries : List Entry) (fits : BothFit client one other entries) (held other_held : ℕ → Bool) (alike : AgreeWhereLooked client (client_sight one held) (client_sight other other_held) entries) where
+  ends_alike : EndInAgreement (client_sight one held) (client_sight other other_held) (shown_run (run over_marks client (client_sight one held) (marked one) entries)) (shown_run (run over_marks client (client_sight other other_held) (marked other) entries))
   ends_alike =
       let s = client_sight one held in
       let u = client_sight other other_held in
-      subst (λ end. EndAlike s u end (shown_run (run over_marks client u (marked other) entries))) (sym (marks_seen client one entries held fits.first))
-      (subst (λ end. EndAlike s u (seen_run client s entries) end) (sym (marks_seen client other entries other_held fits.second)) (same_looked client s u entries alike).0)
+      subst (λ end. EndInAgreement s u end (shown_run (run over_marks client u (marked other) entries))) (sym (marks_seen client one entries held fits.first))
+      (subst (λ end. EndInAgreement s u (seen_run client s entries) end) (sym (marks_seen client other entries other_held fits.second)) (same_looked client s u entries alike).0)
 
-  nets_alike : NetAlike (client_sight one held) (client_sight other other_held) (shown_run (run over_marks client (client_sight one held) (marked one) entries)) (shown_run (run over_marks client (client_sight other other_held) (marked other) entries))
+  nets_alike : HaveSameNet (client_sight one held) (client_sight other other_held) (shown_run (run over_marks client (client_sight one held) (marked one) entries)) (shown_run (run over_marks client (client_sight other other_held) (marked other) entries))
   nets_alike =
       let s = client_sight one held in
       let u = client_sight other other_held in
-      subst (λ end. NetAlike s u end (shown_run (run over_marks client u (marked other) entries))) (sym (marks_seen client one entries held fits.first))
-      (subst (λ end. NetAlike s u (seen_run client s entries) end) (sym (marks_seen client other entries other_held fits.second)) (same_net client s u entries alike))
+      subst (λ end. HaveSameNet s u end (shown_run (run over_marks client u (marked other) entries))) (sym (marks_seen client one entries held fits.first))
+      (subst (λ end. HaveSameNet s u (seen_run client s entries) end) (sym (marks_seen client other entries other_held fits.second)) (same_net client s u entries alike))
 
   module _ (after other_after : Tree Mark) (ran : run over_marks client (client_sight one held) (marked one) entries ≡ Ok after) (also : run over_marks client (client_sight other other_held) (marked other) entries ≡ Ok other_after) (n : ℕ) where
     -- the file is as long before and as long after in both, or the log leaves it alone in both
     record LongAlike : Type 0 where
-      before : extent one n ≡ extent other n
-      now : extent after n ≡ extent other_after n
+      before : file_size one n ≡ file_size other n
+      now : file_size after n ≡ file_size other_after n
 
     record LeftAlone : Type 0 where
       free : (place : ℕ) → last_cover 0 entries n place ≡ None
-      here : extent after n ≡ extent one n
-      there : extent other_after n ≡ extent other n
+      here : file_size after n ≡ file_size one n
+      there : file_size other_after n ≡ file_size other n
 
     long_alike : get (headers one) n ≡ get (headers other) n → get (headers after) n ≡ get (headers other_after) n → LongAlike
     long_alike before now = record { before = extents_alike one other n before; now = extents_alike after other_after n now }
@@ -148,8 +148,8 @@ module _ (client : Client) (one other : Tree ℕ) (entries : List Entry) (fits :
         let s = client_sight one held in
         let u = client_sight other other_held in
         let seen : seen_run client s entries ≡ Ok (sight after) = sym (marks_seen client one entries held fits.first) ∙ ap shown_run ran in
-        let ends : EndAlike s u (Ok (sight after)) (Ok (sight other_after)) = subst (λ end. EndAlike s u (Ok (sight after)) (shown_run end)) also (subst (λ end. EndAlike s u (shown_run end) (shown_run (run over_marks client u (marked other) entries))) ran ends_alike) in
-        let nets : NetAlike s u (Ok (sight after)) (Ok (sight other_after)) = subst (λ end. NetAlike s u (Ok (sight after)) (shown_run end)) also (subst (λ end. NetAlike s u (shown_run end) (shown_run (run over_marks client u (marked other) entries))) ran nets_alike) in
+        let ends : EndInAgreement s u (Ok (sight after)) (Ok (sight other_after)) = subst (λ end. EndInAgreement s u (Ok (sight after)) (shown_run end)) also (subst (λ end. EndInAgreement s u (shown_run end) (shown_run (run over_marks client u (marked other) entries))) ran ends_alike) in
+        let nets : HaveSameNet s u (Ok (sight after)) (Ok (sight other_after)) = subst (λ end. HaveSameNet s u (Ok (sight after)) (shown_run end)) also (subst (λ end. HaveSameNet s u (shown_run end) (shown_run (run over_marks client u (marked other) entries))) ran nets_alike) in
         ⊎_elim
         (λ looks.
         let same = alike_at client s u entries alike (HeaderOf n) (looked_cells client s entries) looks alike in
@@ -167,7 +167,7 @@ module _ (client : Client) (one other : Tree ℕ) (entries : List Entry) (fits :
     same_mark long place =
         mark_is client (client_sight one held) one entries after refl ran n place
         ∙ ap (λ end. cond (ltb place end) (Some (unwrap_or (last_cover 0 entries n place) (start_mark one n place))) None) long.now
-        ∙ ap (λ end. cond (ltb place (extent other_after n)) (Some (unwrap_or (last_cover 0 entries n place) (cond (ltb place end) (Base n place) Zero))) None) long.before
+        ∙ ap (λ end. cond (ltb place (file_size other_after n)) (Some (unwrap_or (last_cover 0 entries n place) (cond (ltb place end) (Base n place) Zero))) None) long.before
         ∙ sym (mark_is client (client_sight other other_held) other entries other_after refl also n place)
 
     same_cells : LongAlike → content_of (get after.nodes n) ≡ content_of (get other_after.nodes n)
@@ -191,7 +191,7 @@ module _ (client : Client) (one other : Tree ℕ) (entries : List Entry) (fits :
   runs_end P each = at (run over_marks client (client_sight one held) (marked one) entries) (run over_marks client (client_sight other other_held) (marked other) entries) refl refl ends_alike
     where
       at : (end last : Result (Tree Mark) EntryFault) → run over_marks client (client_sight one held) (marked one) entries ≡ end → run over_marks client (client_sight other other_held) (marked other) entries ≡ last
-          → EndAlike (client_sight one held) (client_sight other other_held) (shown_run end) (shown_run last) → BothEnd P end last
+          → EndInAgreement (client_sight one held) (client_sight other other_held) (shown_run end) (shown_run last) → BothEnd P end last
       at (Ok after) (Ok other_after) is also ends = each after other_after (λ n. same_or_old after other_after is also n)
       at (Ok after) (Err fault) is also ends = ends
       at (Err fault) (Ok other_after) is also ends = ends
@@ -208,8 +208,8 @@ marks_stand one other n file place mark changed is = ⊎_elim
 turned_round : (one other : Tree Mark) (n : ℕ) → IsSameOrOld one other n → IsSameOrOld other one n
 turned_round one other n file = ⊎_elim (λ same. inl (sym same)) (λ old. inr (old.1, old.0)) file
 
-pub same_marks : (client : Client) (one other : Tree ℕ) (entries : List Entry) → BothFit client one other entries → MarksEnd MarksAlike client one other entries
-same_marks client one other entries fits held other_held alike = runs_end client one other entries fits held other_held alike MarksAlike
+pub same_marks : (client : Client) (one other : Tree ℕ) (entries : List Entry) → BothFit client one other entries → MarksEnd HaveSameNewMarks client one other entries
+same_marks client one other entries fits held other_held alike = runs_end client one other entries fits held other_held alike HaveSameNewMarks
     (λ after other_after files. record {
       there = λ n. marks_stand after other_after n (files n);
       back = λ n. marks_stand other_after after n (turned_round after other_after n (files n));

@@ -5,7 +5,7 @@ use Rattle.std.specs.FinMap.Entries.{find, where_key}
 use Rattle.std.proofs.lemmas.List.{nil_from_length}
 use Rattle.std.proofs.lemmas.Option.{slice_get-get_or}
 use Rattle.kfs_model.specs.Access.{Client}
-use Rattle.kfs_model.specs.Alike.{MarksEnd}
+use Rattle.kfs_model.specs.MarkedRuns.{MarksEnd}
 use Rattle.kfs_model.specs.Blocks.{counted, touches}
 use Rattle.kfs_model.specs.Entry.{Entry}
 use Rattle.kfs_model.specs.Laws.{BothFit}

@@ -6,7 +6,7 @@ use Rattle.kfs_model.specs.Sight.{Sight, Cell, HeaderOf, NameIn, ClientSight, an
 use Rattle.kfs_model.specs.Check.{Reason, checks_of, first_fault, looked}
 use Rattle.kfs_model.specs.Run.{EntryFault, entry_context, created_by}
 use Rattle.kfs_model.specs.SeenAfter.{seen_after, seen_run_from}
-use Rattle.kfs_model.specs.Looked.{looked_from, looked_cells, seen_run, AnswerAlike, LooksAlike, EndAlike, ChangeAlike, NetAlike, GoesAlike}
+use Rattle.kfs_model.specs.Looked.{looked_from, looked_cells, seen_run, AgreeAt, AgreeWhereLooked, EndInAgreement, IsSameChange, HaveSameNet, HaveSameRun}
 use Rattle.kfs_model.proofs.SameLooked.{same_looked}
 use Rattle.kfs_model.proofs.Unlooked.{Among, among_front, among_back, Touches, touches_nothing, touches_then, touches_wider, entry_touches}
 
@@ -36,14 +36,14 @@ module _ (client : Client) (before : ClientSight) where
           (touches_wider back (front ++ back) next after (λ cell h. among_back cell front back h) (rest is))
       at (Some reason) clean rest is = cc
 
-module _ (client : Client) (s u : ClientSight) (entries : List Entry) (alike : AnswerAlike s u (looked_cells client s entries)) where
-  pub alike_at : (cell : Cell) (cells : List Cell) → Among cell cells → AnswerAlike s u cells → answer s cell ≡ answer u cell
+module _ (client : Client) (s u : ClientSight) (entries : List Entry) (alike : AgreeAt s u (looked_cells client s entries)) where
+  pub alike_at : (cell : Cell) (cells : List Cell) → Among cell cells → AgreeAt s u cells → answer s cell ≡ answer u cell
   alike_at cell [] h alike = absurd h
   alike_at cell (c ∷ cells) h alike = ⊎_elim (λ same. subst (λ c. answer s c ≡ answer u c) (sym same) alike.0) (λ later. alike_at cell cells later alike.1) h
 
   -- changed on neither side, or looked at and so alike before and after
   change_alike : {X : Type 0} (cell : Cell) (before after other_before other_after : X) → (answer s cell ≡ answer u cell → (before ≡ other_before) × (after ≡ other_after))
-      → Among cell (looked_cells client s entries) ⊎ (after ≡ before) → Among cell (looked_cells client u entries) ⊎ (other_after ≡ other_before) → ChangeAlike before after other_before other_after
+      → Among cell (looked_cells client s entries) ⊎ (after ≡ before) → Among cell (looked_cells client u entries) ⊎ (other_after ≡ other_before) → IsSameChange before after other_before other_after
   change_alike cell before after other_before other_after same here there =
       ⊎_elim
       (λ looks. inl (same (alike_at cell (looked_cells client s entries) looks alike)))
@@ -53,10 +53,10 @@ module _ (client : Client) (s u : ClientSight) (entries : List Entry) (alike : A
       there)
       here
 
-  pub same_net : NetAlike s u (seen_run client s entries) (seen_run client u entries)
+  pub same_net : HaveSameNet s u (seen_run client s entries) (seen_run client u entries)
   same_net = at (seen_run client s entries) (seen_run client u entries) refl refl (same_looked client s u entries alike).0
     where
-      at : (end other : Result Sight EntryFault) → seen_run client s entries ≡ end → seen_run client u entries ≡ other → EndAlike s u end other → NetAlike s u end other
+      at : (end other : Result Sight EntryFault) → seen_run client s entries ≡ end → seen_run client u entries ≡ other → EndInAgreement s u end other → HaveSameNet s u end other
       at (Ok now) (Ok other) is also ends =
           let here = run_touches client s 0 [] s.sight entries now is in
           let there = run_touches client u 0 [] u.sight entries other also in
@@ -67,7 +67,7 @@ module _ (client : Client) (s u : ClientSight) (entries : List Entry) (alike : A
       at (Ok now) (Err fault) is also ends = ends
       at (Err fault) end is also ends = tt
 
-pub goes_alike : (client : Client) (s u : ClientSight) (entries : List Entry) → LooksAlike client s u entries → GoesAlike client s u entries
+pub goes_alike : (client : Client) (s u : ClientSight) (entries : List Entry) → AgreeWhereLooked client s u entries → HaveSameRun client s u entries
 goes_alike client s u entries alike =
     let run = same_looked client s u entries alike in
     record { ends = run.0; changes = same_net client s u entries alike; looks = run.1 }

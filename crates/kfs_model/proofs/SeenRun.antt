@@ -10,9 +10,9 @@ use Rattle.kfs_model.specs.Run.{EntryFault, Mark, entry_context, created_by, run
 use Rattle.kfs_model.specs.Soundness.{IsSound}
 use Rattle.kfs_model.specs.Spelling.{IsEntry}
 use Rattle.kfs_model.specs.SeenAfter.{seen_after, seen_run_from, shown_run}
-use Rattle.kfs_model.specs.CleanStep.{IsClient, IsClean, IsKept, Fits}
+use Rattle.kfs_model.specs.CleanStep.{IsClient, IsClean, StaysSound, Fits}
 use Rattle.kfs_model.specs.Access.{Client}
-use Rattle.kfs_model.specs.Looked.{seen_run, EndAlike, TreesEndAlike}
+use Rattle.kfs_model.specs.Looked.{seen_run, EndInAgreement, TreesEndInAgreement}
 use Rattle.kfs_model.proofs.SameLooked.{same_looked}
 use Rattle.kfs_model.proofs.CreateStep.{create_kept}
 use Rattle.kfs_model.proofs.CellSteps.{IsFaithful, chmod_kept, truncate_kept, write_kept}
@@ -31,7 +31,7 @@ marks_faithful = record { long = λ index payload. places_long (Mark.Payload ind
 
 module _ {B : Type 0} (filling : Filling B) (faithful : IsFaithful filling) where
   -- a clean entry keeps a sound tree sound, and moves what its cells show
-  pub clean_step : (context : EntryContext) (index : ℕ) (t : Tree B) (entry : Entry) → IsClean context t entry → IsKept filling context.client index t entry
+  pub clean_step : (context : EntryContext) (index : ℕ) (t : Tree B) (entry : Entry) → IsClean context t entry → StaysSound filling context.client index t entry
   clean_step context index t (Create d m n kind mode) h = create_kept filling context index t d m n kind mode h
   clean_step context index t (Write n offset payload) h = write_kept filling context index t faithful n offset payload h
   clean_step context index t (Truncate n size) h = truncate_kept filling context index t n size h
@@ -77,11 +77,11 @@ module _ {B : Type 0} (filling : Filling B) (faithful : IsFaithful filling) (cli
 
 -- ---- two sound trees that answer alike at the looked cells
 
-pub same_looked_trees : (client : Client) (one other : Tree ℕ) (entries : List Entry) → Fits client one entries → Fits client other entries → TreesEndAlike client one other entries
+pub same_looked_trees : (client : Client) (one other : Tree ℕ) (entries : List Entry) → Fits client one entries → Fits client other entries → TreesEndInAgreement client one other entries
 same_looked_trees client one other entries fits also held other_held alike =
     let s = client_sight one held in
     let u = client_sight other other_held in
     let here = run_is_seen over_bytes bytes_faithful client s fits.in_range 0 [] one entries fits.sound fits.fitting in
     let there = run_is_seen over_bytes bytes_faithful client u also.in_range 0 [] other entries also.sound also.fitting in
-    subst (λ end. EndAlike s u end (shown_run (run over_bytes client u other entries))) (sym here)
-    (subst (λ end. EndAlike s u (seen_run client s entries) end) (sym there) (same_looked client s u entries alike).0)
+    subst (λ end. EndInAgreement s u end (shown_run (run over_bytes client u other entries))) (sym here)
+    (subst (λ end. EndInAgreement s u (seen_run client s entries) end) (sym there) (same_looked client s u entries alike).0)

@@ -3,9 +3,9 @@ use Rattle.std.proofs.Common.{◌≡◌, ◌≢◌, ℕ, zero, suc, ◌+◌, ◌
 use Rattle.std.proofs.lemmas.Bool.{eqb-false, le-leb, lt-leb}
 use Rattle.kfs_model.specs.Header.{Kind, File, Directory, Header}
 use Rattle.kfs_model.specs.Table.{get, remove}
-use Rattle.kfs_model.specs.Tree.{Tree, Node, Body, FileBody, DirectoryBody, NameTable, headers, header_of, target, name_count, entry_count, is_named}
+use Rattle.kfs_model.specs.Tree.{Tree, Node, Body, FileBody, DirectoryBody, NameTable, headers, node_header, target, name_count, entry_count, is_named}
 use Rattle.kfs_model.specs.Sight.{sight, is_directory, parent_in}
-use Rattle.kfs_model.specs.Effect.{swept, with_names}
+use Rattle.kfs_model.specs.Effect.{without_unnamed, with_names}
 use Rattle.kfs_model.specs.Soundness.{Climbs, IsSound}
 use Rattle.kfs_model.specs.SeenAfter.{put_at, unlinked, seen_without}
 use Rattle.kfs_model.proofs.NameTable.{target-remove, target_is_named, target_is_entry, is_named_counts}
@@ -31,7 +31,7 @@ module _ {B : Type 0} (t : Tree B) (sound : IsSound t) (d : ℕ) (m : List ℕ) 
   node_found = at (get t.nodes n) refl (sound.names_sound d m n there).node
     where
       at : (o : Option (Node B)) → get t.nodes n ≡ o → (h : Header) × (head n ≡ Some h) → (node : Node B) × (get t.nodes n ≡ Some node)
-      at None is shown = let none : head n ≡ None = get-headers t n ∙ ap (option_map (header_of t.names n)) is in cc (shown.1, none)
+      at None is shown = let none : head n ≡ None = get-headers t n ∙ ap (option_map (node_header t.names n)) is in cc (shown.1, none)
       at (Some node) is shown = (node, is)
 
   stays_if_named : stays after n ≡ ltb 0 (name_count after n)
@@ -46,22 +46,22 @@ module _ {B : Type 0} (t : Tree B) (sound : IsSound t) (d : ℕ) (m : List ℕ) 
       ∙ ap (λ links. Some (record h { links = links })) (let e : suc fewer ≡ all - 1 = omega arith in e)
       ∙ ap (λ b. cond b None (Some (record h { links = all - 1 }))) (sym (lt-leb all 1 (omega arith)))
 
-  unlinked_node : (node : Node B) → get t.nodes n ≡ Some node → option_map (header_of after n) (cond (stays after n) (Some node) None) ≡ unlinked (header_of t.names n node)
-  unlinked_node node is = ap (λ b. option_map (header_of after n) (cond b (Some node) None)) stays_if_named ∙ at node.body (get-headers t n ∙ ap (option_map (header_of t.names n)) is)
+  unlinked_node : (node : Node B) → get t.nodes n ≡ Some node → option_map (node_header after n) (cond (stays after n) (Some node) None) ≡ unlinked (node_header t.names n node)
+  unlinked_node node is = ap (λ b. option_map (node_header after n) (cond b (Some node) None)) stays_if_named ∙ at node.body (get-headers t n ∙ ap (option_map (node_header t.names n)) is)
     where
-      at : (body : Body B) → head n ≡ Some (header_of t.names n (record node { body = body }))
-          → option_map (header_of after n) (cond (ltb 0 (name_count after n)) (Some (record node { body = body })) None) ≡ unlinked (header_of t.names n (record node { body = body }))
-      at (FileBody cells) shown = last_or_not (header_of after n) (record node { body = FileBody cells }) (name_count after n) (name_count t.names n) (header_of t.names n (record node { body = FileBody cells })) (own_count t.names d m n there) refl
+      at : (body : Body B) → head n ≡ Some (node_header t.names n (record node { body = body }))
+          → option_map (node_header after n) (cond (ltb 0 (name_count after n)) (Some (record node { body = body })) None) ≡ unlinked (node_header t.names n (record node { body = body }))
+      at (FileBody cells) shown = last_or_not (node_header after n) (record node { body = FileBody cells }) (name_count after n) (name_count t.names n) (node_header t.names n (record node { body = FileBody cells })) (own_count t.names d m n there) refl
       at DirectoryBody shown =
           let one = sound.directories n (ap is_directory shown) no_root in
           let none : name_count after n ≤ 0 = omega (arith, own_count t.names d m n there) in
-          ap (λ b. option_map (header_of after n) (cond b (Some (record node { body = DirectoryBody })) None)) (le-ltb 0 (name_count after n) none)
+          ap (λ b. option_map (node_header after n) (cond b (Some (record node { body = DirectoryBody })) None)) (le-ltb 0 (name_count after n) none)
 
-  shown_at : (k : ℕ) (b : Bool) → (k == n) ≡ b → option_map (header_of after k) (cond (stays after k) (get t.nodes k) None) ≡ cond b (option_and_then unlinked (head n)) (head k)
+  shown_at : (k : ℕ) (b : Bool) → (k == n) ≡ b → option_map (node_header after k) (cond (stays after k) (get t.nodes k) None) ≡ cond b (option_and_then unlinked (head n)) (head k)
   shown_at k true same =
       let (node, is) = node_found in
-      subst (λ k. option_map (header_of after k) (cond (stays after k) (get t.nodes k) None) ≡ option_and_then unlinked (head n)) (sym (eqb-true k n same))
-      (ap (λ o. option_map (header_of after n) (cond (stays after n) o None)) is ∙ unlinked_node node is ∙ sym (ap (option_and_then unlinked) (get-headers t n ∙ ap (option_map (header_of t.names n)) is)))
+      subst (λ k. option_map (node_header after k) (cond (stays after k) (get t.nodes k) None) ≡ option_and_then unlinked (head n)) (sym (eqb-true k n same))
+      (ap (λ o. option_map (node_header after n) (cond (stays after n) o None)) is ∙ unlinked_node node is ∙ sym (ap (option_and_then unlinked) (get-headers t n ∙ ap (option_map (node_header t.names n)) is)))
   shown_at k false other = kept_head t sound after k (others_count t.names d m n there k other)
 
   head_after : (k : ℕ) → left_head t after k ≡ heads k
@@ -92,8 +92,8 @@ module _ {B : Type 0} (t : Tree B) (sound : IsSound t) (d : ℕ) (m : List ℕ) 
   parent_left : (k : ℕ) → parent_in (left_head t after) after k ≡ put_at n None (parent_in head t.names) k
   parent_left k = ap (λ heads. parent_in heads after k) (λ i k. head_after k i) ∙ parent_after k
 
-  pub unlink_seen : sight (swept (with_names after t)) ≡ seen_without d m n (sight t)
-  unfolding swept
+  pub unlink_seen : sight (without_unnamed (with_names after t)) ≡ seen_without d m n (sight t)
+  unfolding without_unnamed
   unlink_seen = λ i. record {
     head = λ k. head_after k i;
     name = λ e k. target-remove t.names d m e k i;
@@ -159,5 +159,5 @@ module _ {B : Type 0} (t : Tree B) (sound : IsSound t) (d : ℕ) (m : List ℕ) 
         (steps, climb_apart steps k (stays_apart k directory stay) climb);
   }
 
-  pub unlink_sound : IsSound (swept (with_names after t))
+  pub unlink_sound : IsSound (without_unnamed (with_names after t))
   unlink_sound = names_kept_sound t after sound names_kept

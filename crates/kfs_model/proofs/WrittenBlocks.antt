@@ -3,7 +3,7 @@ use Rattle.std.proofs.Common.{◌≡◌, ℕ, zero, suc, ◌+◌, ◌*◌, ◌<�
 use Rattle.std.specs.List.{AllByRecursion, flat_map}
 use Rattle.std.specs.FinMap.Entries.{find, is_sorted}
 use Rattle.kfs_model.specs.Table.{Order, numbers, get}
-use Rattle.kfs_model.specs.Tree.{Tree, Node, Body, FileBody, DirectoryBody, headers, header_of}
+use Rattle.kfs_model.specs.Tree.{Tree, Node, Body, FileBody, DirectoryBody, headers, node_header}
 use Rattle.kfs_model.specs.Run.{Mark}
 use Rattle.kfs_model.specs.Limits.{block_size}
 use Rattle.kfs_model.specs.Placement.{IsBlock, block_count, blocks_from, blocks_that, is_written, written_blocks}
@@ -72,8 +72,8 @@ module _ (t : Tree Mark) where
           let count = block_count (length cells) in
           all_more (IsBelow test n count) IsOfTree
           (λ block is. record {
-            header = header_of t.names block.0 node;
-            shown = get-headers t block.0 ∙ ap (option_map (header_of t.names block.0)) (ap (get t.nodes) is.0 ∙ there);
+            header = node_header t.names block.0 node;
+            shown = get-headers t block.0 ∙ ap (option_map (node_header t.names block.0)) (ap (get t.nodes) is.0 ∙ there);
             file = refl;
             begins = begins_below block.1 (length cells) is.1;
           })

@@ -16,8 +16,8 @@ pub record Client : Type 0 where
   pub last : ℕ
 
 -- no two rows have one number
-abbrev pub AreDistinct : List Client → Type 0
-AreDistinct rows = IsTrue (are_distinct (map (λ (row : Client). row.number) rows))
+abbrev pub ClientsAreDistinct : List Client → Type 0
+ClientsAreDistinct rows = IsTrue (are_distinct (map (λ (row : Client). row.number) rows))
 
 pub data Class : Type 0 where
   Owner Group Other : Class

@@ -23,8 +23,8 @@ pub record MayChangeFile (context : EntryContext) (number : ℕ) : Type 0 where
   pub leased : IsLeasedTo context number
 
 -- the node that a name leads to
-abbrev pub LeadsTo : EntryContext → ℕ → List ℕ → ℕ → Type 0
-LeadsTo context directory name number = context.now.name directory name ≡ Some number
+abbrev pub NameLeadsTo : EntryContext → ℕ → List ℕ → ℕ → Type 0
+NameLeadsTo context directory name number = context.now.name directory name ≡ Some number
 
 pub record MayCreate (context : EntryContext) (directory number : ℕ) : Type 0 where
   pub place : MayChangeDirectory context directory
@@ -37,17 +37,17 @@ pub record MayLink (context : EntryContext) (number directory : ℕ) : Type 0 wh
 
 pub record MayUnlink (context : EntryContext) (directory : ℕ) (name : List ℕ) : Type 0 where
   pub place : MayChangeDirectory context directory
-  pub leased : (number : ℕ) × LeadsTo context directory name number × IsLeasedTo context number
+  pub leased : (number : ℕ) × NameLeadsTo context directory name number × IsLeasedTo context number
 
 pub record MayMove (context : EntryContext) (d : ℕ) (m : List ℕ) (e : ℕ) (k : List ℕ) : Type 0 where
   pub from : MayChangeDirectory context d
   pub to : MayChangeDirectory context e
-  pub moved : (number : ℕ) × LeadsTo context d m number × IsLeasedTo context number
-  pub replaced : (number : ℕ) → LeadsTo context e k number → IsLeasedTo context number
+  pub moved : (number : ℕ) × NameLeadsTo context d m number × IsLeasedTo context number
+  pub replaced : (number : ℕ) → NameLeadsTo context e k number → IsLeasedTo context number
 
 -- both names lead to one node, so that nothing changes
 pub record MayKeep (context : EntryContext) (d : ℕ) (m : List ℕ) (e : ℕ) (k : List ℕ) : Type 0 where
-  pub same : (number : ℕ) × LeadsTo context d m number × LeadsTo context e k number
+  pub same : (number : ℕ) × NameLeadsTo context d m number × NameLeadsTo context e k number
   pub from : IsGrantedBit context Search d
   pub to : IsGrantedBit context Search e
 

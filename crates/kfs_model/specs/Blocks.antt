@@ -7,12 +7,12 @@ use Rattle.kfs_model.specs.PlanRow.{Piece, Source}
 use Rattle.kfs_model.specs.Plan.{end_of}
 
 -- blocks from the first to the last, both included
-pub record Blocks : Type 0 where
+pub record BlockRange : Type 0 where
   pub first : ℕ
   pub last : ℕ
 
 -- how many blocks are in one of them at least, from a block on: each block is counted once
-unfoldable pub counted : (next : ℕ) → List Blocks → ℕ
+unfoldable pub counted : (next : ℕ) → List BlockRange → ℕ
 counted next [] = 0
 counted next (r ∷ rs) = (r.last + 1 - max r.first next) + counted (max next (r.last + 1)) rs
 
@@ -26,12 +26,12 @@ goes_on place [] = false
 goes_on place (r ∷ rs) = is_zero_source r.source && (r.start == place)
 
 -- the block that has this byte
-abbrev pub block_of : (place : ℕ) → Blocks
+abbrev pub block_of : (place : ℕ) → BlockRange
 block_of place = record { first = place / block_size; last = place / block_size }
 
 -- The blocks that the pieces of a file of this size write, where the last zero bytes ended at `until`: those of payloads, and
 -- those in which zero bytes begin or end beside other bytes.
-unfoldable pub touches : (size until : ℕ) → List Piece → List Blocks
+unfoldable pub touches : (size until : ℕ) → List Piece → List BlockRange
 touches size until [] = []
 touches size until (r ∷ rs) =
     if is_zero_source r.source

@@ -28,7 +28,7 @@ pub record IsClean {B : Type 0} (context : EntryContext) (t : Tree B) (entry : E
   pub clean : first_fault context entry ≡ None
 
 -- the entry with this number in its log leaves the tree sound
-pub record IsKept {B : Type 0} (filling : Filling B) (client : Client) (index : ℕ) (t : Tree B) (entry : Entry) : Type 0 where
+pub record StaysSound {B : Type 0} (filling : Filling B) (client : Client) (index : ℕ) (t : Tree B) (entry : Entry) : Type 0 where
   pub sound : IsSound (effect filling client index entry t)
   pub seen : sight (effect filling client index entry t) ≡ seen_after client (sight t) entry
 

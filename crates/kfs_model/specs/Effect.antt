@@ -43,8 +43,8 @@ module _ {B : Type 0} where
   with_names names t = record { nodes = t.nodes; names = names }
 
   -- a node that no name leads to goes, the root stays
-  unfoldable pub swept : Tree B → Tree B
-  swept t = record { nodes = retain (λ n. (n == root_number) || is_named t.names n) t.nodes; names = t.names }
+  unfoldable pub without_unnamed : Tree B → Tree B
+  without_unnamed t = record { nodes = retain (λ n. (n == root_number) || is_named t.names n) t.nodes; names = t.names }
 
 -- the old name is gone and the new one leads to the node; nothing changes where both lead to one node
 abbrev pub moved_name : NameTable → (d : ℕ) → (m : List ℕ) → (e : ℕ) → (k : List ℕ) → NameTable
@@ -72,4 +72,4 @@ module _ {B : Type 0} (filling : Filling B) (client : Client) where
   change_of index (Chmod n mode) t = changed_node (λ node. record node { mode = mode }) n t
 
   abbrev pub effect : (index : ℕ) → Entry → Tree B → Tree B
-  effect index entry t = swept (change_of index entry t)
+  effect index entry t = without_unnamed (change_of index entry t)

@@ -9,7 +9,7 @@ use Rattle.kfs_model.specs.Check.{is_some_and}
 use Rattle.kfs_model.specs.Run.{Mark}
 use Rattle.kfs_model.specs.FirstAnswer.{first_answer}
 use Rattle.kfs_model.specs.PlanRow.{NameRow, NodeRow, Piece, Plan}
-use Rattle.kfs_model.specs.Plan.{number_now, header_now, keyed_name, keyed_node, mark_at, said_by, is_base, end_of, covers}
+use Rattle.kfs_model.specs.Plan.{number_now, header_now, keyed_name, keyed_node, mark_at, mark_of_source, is_base, end_of, covers}
 
 pub data RowFault : Type 0 where
   Names Nodes Pieces : (index : ℕ) → RowFault
@@ -97,7 +97,7 @@ is_missed pieces bytes = list_any (λ byte. not (list_any (covers byte.0 byte.1)
 abbrev pub holds_along : Tree Mark → Piece → (distance count : ℕ) → Bool
 holds_along t p distance zero = true
 holds_along t p distance (suc count) =
-    elim (same_option same_mark (mark_at t p.number (p.start + distance)) (Some (said_by p.source distance))) [ true ↦ holds_along t p (distance + 1) count | false ↦ false ]
+    elim (same_option same_mark (mark_at t p.number (p.start + distance)) (Some (mark_of_source p.source distance))) [ true ↦ holds_along t p (distance + 1) count | false ↦ false ]
 
 -- whether the piece begins before the last of those above it ends
 abbrev pub begins_early : (above : List Piece) → Piece → Bool

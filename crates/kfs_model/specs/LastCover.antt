@@ -9,8 +9,8 @@ use Rattle.kfs_model.specs.Run.{Mark, Base, Zero, Payload}
 use Rattle.kfs_model.specs.Plan.{mark_at}
 
 -- how many bytes a file has, none where there is no file
-abbrev pub extent : {B : Type 0} → Tree B → (number : ℕ) → ℕ
-extent t number = length (content_of (get t.nodes number))
+abbrev pub file_size : {B : Type 0} → Tree B → (number : ℕ) → ℕ
+file_size t number = length (content_of (get t.nodes number))
 
 -- the mark that the entry with this index in its log gives a byte, none where it doesn't reach the byte
 unfoldable pub covered_by : (index : ℕ) → Entry → (number place : ℕ) → Option Mark
@@ -30,9 +30,9 @@ last_cover index (entry ∷ entries) number place = option_or (last_cover (index
 
 -- the mark of a byte before the log, zero behind the end
 abbrev pub start_mark : {B : Type 0} → Tree B → (number place : ℕ) → Mark
-start_mark before number place = if nat_lt place (extent before number) then Base number place else Zero
+start_mark before number place = if nat_lt place (file_size before number) then Base number place else Zero
 
 -- each byte below its file's end has the mark of the last entry that covers it, and else the one that it had before
 abbrev pub LastEntryDecides : {B : Type 0} → (before : Tree B) → List Entry → (after : Tree Mark) → Type 0
 LastEntryDecides before entries after =
-    (number place : ℕ) → mark_at after number place ≡ (if nat_lt place (extent after number) then Some (unwrap_or (last_cover 0 entries number place) (start_mark before number place)) else None)
+    (number place : ℕ) → mark_at after number place ≡ (if nat_lt place (file_size after number) then Some (unwrap_or (last_cover 0 entries number place) (start_mark before number place)) else None)

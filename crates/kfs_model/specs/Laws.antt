@@ -3,14 +3,14 @@ use Rattle.std.specs.Prelude.{◌≡◌, ℕ, List, Option, Some, None}
 use Rattle.kfs_model.specs.Access.{Client}
 use Rattle.kfs_model.specs.Allowed.{IsAllowed}
 use Rattle.kfs_model.specs.Check.{EntryContext, first_fault}
-use Rattle.kfs_model.specs.CleanStep.{Fits, IsClean, IsKept}
+use Rattle.kfs_model.specs.CleanStep.{Fits, IsClean, StaysSound}
 use Rattle.kfs_model.specs.Effect.{Filling}
 use Rattle.kfs_model.specs.Entry.{Entry}
 use Rattle.kfs_model.specs.Fresh.{fresh_tree}
 use Rattle.kfs_model.specs.Judgement.{State}
 use Rattle.kfs_model.specs.Lease.{LeaseKind, LeaseOutcome, Leases, granted}
 use Rattle.kfs_model.specs.Machine.{opening}
-use Rattle.kfs_model.specs.Looked.{LooksAlike, GoesAlike}
+use Rattle.kfs_model.specs.Looked.{AgreeWhereLooked, HaveSameRun}
 use Rattle.kfs_model.specs.Order.{IsInOrder}
 use Rattle.kfs_model.specs.Placement.{TierSizes}
 use Rattle.kfs_model.specs.Run.{run, over_bytes, run_by_marks}
@@ -32,7 +32,7 @@ MarksGiveBytes = EachRun (λ client before tree entries. run_by_marks client bef
 
 -- clean entries keep trees of files so filled sound
 abbrev pub KeepsSound : {B : Type 0} → Filling B → Type 0
-KeepsSound {B} filling = (context : EntryContext) (index : ℕ) (tree : Tree B) (entry : Entry) → IsClean context tree entry → IsKept filling context.client index tree entry
+KeepsSound {B} filling = (context : EntryContext) (index : ℕ) (tree : Tree B) (entry : Entry) → IsClean context tree entry → StaysSound filling context.client index tree entry
 
 -- two sound trees, each with the client and the entries in their ranges
 pub record BothFit (client : Client) (one other : Tree ℕ) (entries : List Entry) : Type 0 where
@@ -41,7 +41,7 @@ pub record BothFit (client : Client) (one other : Tree ℕ) (entries : List Entr
 
 -- states that answer alike at the cells that a log looks at in the one go alike
 abbrev pub CellsDecide : Type 0
-CellsDecide = (client : Client) (one other : ClientSight) (entries : List Entry) → LooksAlike client one other entries → GoesAlike client one other entries
+CellsDecide = (client : Client) (one other : ClientSight) (entries : List Entry) → AgreeWhereLooked client one other entries → HaveSameRun client one other entries
 
 -- P of each two sound trees, with a client and entries in range
 abbrev pub EachTwoTrees : (P : Client → (one other : Tree ℕ) → List Entry → Type 0) → Type 0

@@ -24,7 +24,7 @@ pub mod SeenAfter
 pub mod CleanStep
 pub mod Limits
 pub mod Looked
-pub mod Alike
+pub mod MarkedRuns
 pub mod Placement
 pub mod Blocks
 pub mod Spelling

@@ -23,44 +23,44 @@ module _ (client : Client) (before : ClientSight) where
   abbrev pub seen_run : List Entry → Result Sight EntryFault
   seen_run entries = seen_run_from client before 0 [] before.sight entries
 
-abbrev pub AnswerAlike : ClientSight → ClientSight → List Cell → Type 0
-AnswerAlike s u cells = AllByRecursion (λ cell. answer s cell ≡ answer u cell) cells
+abbrev pub AgreeAt : ClientSight → ClientSight → List Cell → Type 0
+AgreeAt s u cells = AllByRecursion (λ cell. answer s cell ≡ answer u cell) cells
 
 -- the cells that the log looks at in the one answer alike in the other
-abbrev pub LooksAlike : Client → (one other : ClientSight) → List Entry → Type 0
-LooksAlike client one other entries = AnswerAlike one other (looked_cells client one entries)
+abbrev pub AgreeWhereLooked : Client → (one other : ClientSight) → List Entry → Type 0
+AgreeWhereLooked client one other entries = AgreeAt one other (looked_cells client one entries)
 
 -- the same first fault, or no fault and alike answers wherever they were alike before
-abbrev pub EndAlike : ClientSight → ClientSight → Result Sight EntryFault → Result Sight EntryFault → Type 0
-EndAlike s u (Ok now) (Ok other) = (cell : Cell) → answer s cell ≡ answer u cell → answer (record s { sight = now }) cell ≡ answer (record u { sight = other }) cell
-EndAlike s u (Ok now) (Err fault) = ⊥
-EndAlike s u (Err fault) (Ok other) = ⊥
-EndAlike s u (Err fault) (Err other) = fault ≡ other
+abbrev pub EndInAgreement : ClientSight → ClientSight → Result Sight EntryFault → Result Sight EntryFault → Type 0
+EndInAgreement s u (Ok now) (Ok other) = (cell : Cell) → answer s cell ≡ answer u cell → answer (record s { sight = now }) cell ≡ answer (record u { sight = other }) cell
+EndInAgreement s u (Ok now) (Err fault) = ⊥
+EndInAgreement s u (Err fault) (Ok other) = ⊥
+EndInAgreement s u (Err fault) (Err other) = fault ≡ other
 
 -- whatever the client holds in each: where the looked cells answer alike, the runs over the two trees end alike
-abbrev pub TreesEndAlike : Client → (one other : Tree ℕ) → List Entry → Type 0
-TreesEndAlike client one other entries = (held other_held : ℕ → Bool) → LooksAlike client (client_sight one held) (client_sight other other_held) entries
-    → EndAlike (client_sight one held) (client_sight other other_held)
+abbrev pub TreesEndInAgreement : Client → (one other : Tree ℕ) → List Entry → Type 0
+TreesEndInAgreement client one other entries = (held other_held : ℕ → Bool) → AgreeWhereLooked client (client_sight one held) (client_sight other other_held) entries
+    → EndInAgreement (client_sight one held) (client_sight other other_held)
     (shown_run (run over_bytes client (client_sight one held) one entries)) (shown_run (run over_bytes client (client_sight other other_held) other entries))
 
 -- ---- what a log changes
 
 -- alike before and after, or changed on neither side
-abbrev pub ChangeAlike : {X : Type 0} → (before after other_before other_after : X) → Type 0
-ChangeAlike before after other_before other_after = ((before ≡ other_before) × (after ≡ other_after)) ⊎ ((after ≡ before) × (other_after ≡ other_before))
+abbrev pub IsSameChange : {X : Type 0} → (before after other_before other_after : X) → Type 0
+IsSameChange before after other_before other_after = ((before ≡ other_before) × (after ≡ other_after)) ⊎ ((after ≡ before) × (other_after ≡ other_before))
 
 -- the names and headers that the log changes, and what they were and are
-pub record ChangesAlike (s u : ClientSight) (now other : Sight) : Type 0 where
-  pub heads : (n : ℕ) → ChangeAlike (s.sight.head n) (now.head n) (u.sight.head n) (other.head n)
-  pub names : (d : ℕ) (m : List ℕ) → ChangeAlike (s.sight.name d m) (now.name d m) (u.sight.name d m) (other.name d m)
+pub record HaveSameChanges (s u : ClientSight) (now other : Sight) : Type 0 where
+  pub heads : (n : ℕ) → IsSameChange (s.sight.head n) (now.head n) (u.sight.head n) (other.head n)
+  pub names : (d : ℕ) (m : List ℕ) → IsSameChange (s.sight.name d m) (now.name d m) (u.sight.name d m) (other.name d m)
 
-abbrev pub NetAlike : ClientSight → ClientSight → Result Sight EntryFault → Result Sight EntryFault → Type 0
-NetAlike s u (Ok now) (Ok other) = ChangesAlike s u now other
-NetAlike s u (Ok now) (Err fault) = ⊥
-NetAlike s u (Err fault) end = Unit {0}
+abbrev pub HaveSameNet : ClientSight → ClientSight → Result Sight EntryFault → Result Sight EntryFault → Type 0
+HaveSameNet s u (Ok now) (Ok other) = HaveSameChanges s u now other
+HaveSameNet s u (Ok now) (Err fault) = ⊥
+HaveSameNet s u (Err fault) end = Unit {0}
 
 -- the log ends alike in both, changes the same, and looks at the same cells
-pub record GoesAlike (client : Client) (one other : ClientSight) (entries : List Entry) : Type 0 where
-  pub ends : EndAlike one other (seen_run client one entries) (seen_run client other entries)
-  pub changes : NetAlike one other (seen_run client one entries) (seen_run client other entries)
+pub record HaveSameRun (client : Client) (one other : ClientSight) (entries : List Entry) : Type 0 where
+  pub ends : EndInAgreement one other (seen_run client one entries) (seen_run client other entries)
+  pub changes : HaveSameNet one other (seen_run client one entries) (seen_run client other entries)
   pub looks : looked_cells client one entries ≡ looked_cells client other entries

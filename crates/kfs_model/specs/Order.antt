@@ -1,7 +1,7 @@
 -- When a state is in order: what each step of the machine keeps.
 use Rattle.std.specs.Prelude.{ℕ, is_some, IsTrue}
 use Rattle.std.specs.List.{AllByRecursion}
-use Rattle.kfs_model.specs.Access.{AreDistinct}
+use Rattle.kfs_model.specs.Access.{ClientsAreDistinct}
 use Rattle.kfs_model.specs.Table.{get}
 use Rattle.kfs_model.specs.Lease.{AreCompatible}
 use Rattle.kfs_model.specs.Tree.{headers}
@@ -16,6 +16,6 @@ pub record IsInOrder (s : State) : Type 0 where
   pub sound : IsSound s.tree
   pub on_nodes : (client number : ℕ) → IsTrue (is_some (get s.leases.rows (client, number))) → IsTrue (is_some (get (headers s.tree) number))
   pub compatible : AreCompatible s.leases
-  pub distinct : AreDistinct s.clients
+  pub distinct : ClientsAreDistinct s.clients
   pub clients : AllByRecursion IsClient s.clients
   pub placement : IsPlacement s.sizes (get (headers s.tree)) s.placement

@@ -44,9 +44,9 @@ abbrev pub OldBytesStay : Tree Mark → Type 0
 OldBytesStay after = (number place n p : ℕ) → mark_at after number place ≡ Some (Mark.Base n p) → (n ≡ number) × (p ≡ place)
 
 -- the mark that a source gives its byte at this distance from the piece's start
-abbrev pub said_by : Source → (distance : ℕ) → Mark
-said_by Zero distance = Mark.Zero
-said_by (Payload entry place) distance = Mark.Payload entry (place + distance)
+abbrev pub mark_of_source : Source → (distance : ℕ) → Mark
+mark_of_source Zero distance = Mark.Zero
+mark_of_source (Payload entry place) distance = Mark.Payload entry (place + distance)
 
 -- whether the byte is as it was before the log
 abbrev pub is_base : Mark → Bool
@@ -68,18 +68,18 @@ ComesBy n p m q = (n < m) ⊎ ((n ≡ m) × (p ≤ q))
 abbrev pub IsBehind : Piece → Piece → Type 0
 IsBehind p q = ComesBy p.number (end_of p) q.number q.start
 
-abbrev pub Ascend : List Piece → Type 0
-Ascend [] = Unit {0}
-Ascend (p ∷ []) = Unit {0}
-Ascend (p ∷ q ∷ rest) = IsBehind p q × Ascend (q ∷ rest)
+abbrev pub PiecesAscend : List Piece → Type 0
+PiecesAscend [] = Unit {0}
+PiecesAscend (p ∷ []) = Unit {0}
+PiecesAscend (p ∷ q ∷ rest) = IsBehind p q × PiecesAscend (q ∷ rest)
 
 -- not empty, and each of its bytes lies in the file and has the mark that the piece says
 pub record IsTrueOf (after : Tree Mark) (p : Piece) : Type 0 where
   pub filled : 0 < p.length
-  pub said : (distance : ℕ) → distance < p.length → mark_at after p.number (p.start + distance) ≡ Some (said_by p.source distance)
+  pub said : (distance : ℕ) → distance < p.length → mark_at after p.number (p.start + distance) ≡ Some (mark_of_source p.source distance)
 
 pub record ArePieces (after : Tree Mark) (pieces : List Piece) : Type 0 where
-  pub ascending : Ascend pieces
+  pub ascending : PiecesAscend pieces
   pub said : AllByRecursion (IsTrueOf after) pieces
   pub covered : (number place : ℕ) (mark : Mark) → mark_at after number place ≡ Some mark → is_base mark ≡ false → IsTrue (list_any (covers number place) pieces)
 

@@ -3,22 +3,22 @@ use Rattle.std.specs.Prelude.{◌≡◌, ℕ, ◌-◌, ◌<◌, List, [], ◌∷
 use Rattle.std.specs.List.{AllByRecursion}
 use Rattle.kfs_model.specs.Run.{Mark}
 use Rattle.kfs_model.specs.PlanRow.{Piece, Plan}
-use Rattle.kfs_model.specs.Plan.{said_by, covers, Ascend}
+use Rattle.kfs_model.specs.Plan.{mark_of_source, covers, PiecesAscend}
 
 -- the mark that the pieces give a byte, none where it is in no piece
-abbrev pub said_at : List Piece → (number place : ℕ) → Option Mark
-said_at [] number place = None
-said_at (p ∷ ps) number place = if covers number place p then Some (said_by p.source (place - p.start)) else said_at ps number place
+abbrev pub mark_in_pieces : List Piece → (number place : ℕ) → Option Mark
+mark_in_pieces [] number place = None
+mark_in_pieces (p ∷ ps) number place = if covers number place p then Some (mark_of_source p.source (place - p.start)) else mark_in_pieces ps number place
 
 -- the same rows, and the same mark for each byte
 pub record SaySame (plan other : Plan) : Type 0 where
   pub names : plan.names ≡ other.names
   pub nodes : plan.nodes ≡ other.nodes
-  pub bytes : (number place : ℕ) → said_at plan.pieces number place ≡ said_at other.pieces number place
+  pub bytes : (number place : ℕ) → mark_in_pieces plan.pieces number place ≡ mark_in_pieces other.pieces number place
 
 -- one piece behind another, none of them empty
 pub record AreInOrder (pieces : List Piece) : Type 0 where
-  pub ascending : Ascend pieces
+  pub ascending : PiecesAscend pieces
   pub filled : AllByRecursion (λ (p : Piece). 0 < p.length) pieces
 
 -- the same said, in pieces that are in order

@@ -84,20 +84,20 @@ pub record AreRows {V : Type 0} (Fits : V → Type 0) (spelling : V → List ℕ
   pub spelled : bytes ≡ flat_map spelling rows ++ rest
 
 -- the bytes are this many rows, and then the rest
-pub record Stand {V : Type 0} (Fits : V → Type 0) (spelling : V → List ℕ) (count : ℕ) (bytes rest : List ℕ) : Type 0 where
+pub record BeginsWithRows {V : Type 0} (Fits : V → Type 0) (spelling : V → List ℕ) (count : ℕ) (bytes rest : List ℕ) : Type 0 where
   pub rows : List V
   pub number : length rows ≡ count
   pub are : AreRows Fits spelling rows bytes rest
 
 -- the bytes are k rows, fewer than the count, and what follows doesn't begin as a row does
-pub record Stops {V : Type 0} (Fits : V → Type 0) (spelling : V → List ℕ) (begins : List ℕ → Type 0) (count k : ℕ) (bytes : List ℕ) : Type 0 where
+pub record LacksRowBy {V : Type 0} (Fits : V → Type 0) (spelling : V → List ℕ) (begins : List ℕ → Type 0) (count k : ℕ) (bytes : List ℕ) : Type 0 where
   pub rest : List ℕ
-  pub before : Stand Fits spelling k bytes rest
+  pub before : BeginsWithRows Fits spelling k bytes rest
   pub fewer : k < count
   pub none : begins rest → ⊥
 
-abbrev pub Stop : {V : Type 0} → (V → Type 0) → (V → List ℕ) → (count k : ℕ) → List ℕ → Type 0
-Stop Fits spelling count k bytes = Stops Fits spelling (Begins Fits spelling) count k bytes
+abbrev pub LacksRow : {V : Type 0} → (V → Type 0) → (V → List ℕ) → (count k : ℕ) → List ℕ → Type 0
+LacksRow Fits spelling count k bytes = LacksRowBy Fits spelling (Begins Fits spelling) count k bytes
 
 -- ---- logs
 
@@ -132,14 +132,14 @@ log_header h = 75 ∷ 76 ∷ 79 ∷ 71 ∷ 1 ∷ number32 h.client ++ number16 h
 abbrev pub IsLogHeader : LogHeader → Type 0
 IsLogHeader h = (h.client < 2 ^ 32) × (h.count ≤ entry_limit)
 
-abbrev pub header_of : Log → LogHeader
-header_of l = record { client = l.client; count = length l.entries }
+abbrev pub log_header_of : Log → LogHeader
+log_header_of l = record { client = l.client; count = length l.entries }
 
 abbrev pub log_bytes : Log → List ℕ
-log_bytes l = log_header (header_of l) ++ flat_map entry_bytes l.entries
+log_bytes l = log_header (log_header_of l) ++ flat_map entry_bytes l.entries
 
 abbrev pub IsLog : Log → Type 0
-IsLog l = IsLogHeader (header_of l) × AllByRecursion IsEntry l.entries
+IsLog l = IsLogHeader (log_header_of l) × AllByRecursion IsEntry l.entries
 
 -- ---- plans
 
@@ -221,19 +221,19 @@ abbrev pub LogAnswer : List ℕ → Result Log SpellingFault → Type 0
 LogAnswer bytes (Ok l) = IsLog l × (bytes ≡ log_bytes l)
 LogAnswer bytes (Err Trailing) = (l : Log) × (more : List ℕ) × IsLog l × (more ≢ []) × (bytes ≡ log_bytes l ++ more)
 LogAnswer bytes (Err BadHeader) = BeginsWithNo IsLogHeader log_header bytes
-LogAnswer bytes (Err (BadEntry k)) = (h : LogHeader) × (rest : List ℕ) × IsLogHeader h × (bytes ≡ log_header h ++ rest) × Stop IsEntry entry_bytes h.count k rest
+LogAnswer bytes (Err (BadEntry k)) = (h : LogHeader) × (rest : List ℕ) × IsLogHeader h × (bytes ≡ log_header h ++ rest) × LacksRow IsEntry entry_bytes h.count k rest
 LogAnswer bytes (Err (BadRow part k)) = ⊥
 
 -- after the header, so many rows stand of this part, behind all the rows of the parts before it
-abbrev pub PartStops : Counts → ℕ → ℕ → List ℕ → Type 0
-PartStops c zero k rows = Stop IsNameRow name_row_bytes c.names k rows
-PartStops c (suc zero) k rows = (nodes : List ℕ) × Stand IsNameRow name_row_bytes c.names rows nodes × Stop IsNodeRow node_row_bytes c.nodes k nodes
-PartStops c (suc (suc zero)) k rows = (nodes pieces : List ℕ) × Stand IsNameRow name_row_bytes c.names rows nodes × Stand IsNodeRow node_row_bytes c.nodes nodes pieces × Stop IsPiece piece_bytes c.pieces k pieces
-PartStops c (suc (suc (suc part))) k rows = ⊥
+abbrev pub PartLacksRow : Counts → ℕ → ℕ → List ℕ → Type 0
+PartLacksRow c zero k rows = LacksRow IsNameRow name_row_bytes c.names k rows
+PartLacksRow c (suc zero) k rows = (nodes : List ℕ) × BeginsWithRows IsNameRow name_row_bytes c.names rows nodes × LacksRow IsNodeRow node_row_bytes c.nodes k nodes
+PartLacksRow c (suc (suc zero)) k rows = (nodes pieces : List ℕ) × BeginsWithRows IsNameRow name_row_bytes c.names rows nodes × BeginsWithRows IsNodeRow node_row_bytes c.nodes nodes pieces × LacksRow IsPiece piece_bytes c.pieces k pieces
+PartLacksRow c (suc (suc (suc part))) k rows = ⊥
 
 abbrev pub PlanAnswer : List ℕ → Result Plan SpellingFault → Type 0
 PlanAnswer bytes (Ok p) = IsPlan p × (bytes ≡ plan_bytes p)
 PlanAnswer bytes (Err Trailing) = (p : Plan) × (more : List ℕ) × IsPlan p × (more ≢ []) × (bytes ≡ plan_bytes p ++ more)
 PlanAnswer bytes (Err BadHeader) = BeginsWithNo AreCounts plan_header bytes
-PlanAnswer bytes (Err (BadRow part k)) = (c : Counts) × (rows : List ℕ) × AreCounts c × (bytes ≡ plan_header c ++ rows) × PartStops c part k rows
+PlanAnswer bytes (Err (BadRow part k)) = (c : Counts) × (rows : List ℕ) × AreCounts c × (bytes ≡ plan_header c ++ rows) × PartLacksRow c part k rows
 PlanAnswer bytes (Err (BadEntry k)) = ⊥

@@ -59,8 +59,8 @@ module _ {B : Type 0} where
   links_of names number (FileBody content) = name_count names number
   links_of names number DirectoryBody = 1
 
-  abbrev pub header_of : NameTable → ℕ → Node B → Header
-  header_of names number node = record {
+  abbrev pub node_header : NameTable → ℕ → Node B → Header
+  node_header names number node = record {
     kind = kind_of node.body;
     mode = node.mode;
     uid = node.uid;
@@ -70,7 +70,7 @@ module _ {B : Type 0} where
   }
 
   abbrev pub headers : Tree B → Table numbers Header
-  headers t = mapped (header_of t.names) t.nodes
+  headers t = mapped (node_header t.names) t.nodes
 
   -- the content of a file, none for a directory and for what is no node
   abbrev pub content_of : Option (Node B) → List B

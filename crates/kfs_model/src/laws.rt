@@ -17,9 +17,9 @@ ghost use Rattle.kfs_model.specs.Order.{IsInOrder};
 ghost use Rattle.std.specs.List.{AllByRecursion};
 ghost use Rattle.kfs_model.specs.Sight.{sight};
 ghost use Rattle.kfs_model.specs.LastCover.{LastEntryDecides};
-ghost use Rattle.kfs_model.specs.Access.{Client, AreDistinct};
-ghost use Rattle.kfs_model.specs.Looked.{TreesEndAlike};
-ghost use Rattle.kfs_model.specs.Alike.{MarksAlike, MarksEnd};
+ghost use Rattle.kfs_model.specs.Access.{Client, ClientsAreDistinct};
+ghost use Rattle.kfs_model.specs.Looked.{TreesEndInAgreement};
+ghost use Rattle.kfs_model.specs.MarkedRuns.{HaveSameNewMarks, MarksEnd};
 ghost use Rattle.kfs_model.specs.Soundness.{IsSound};
 ghost use Rattle.kfs_model.specs.Fresh.{fresh_tree};
 ghost use Rattle.kfs_model.specs.Spelling.{IsName, is_name, IsBytes, SpellingFault, LogAnswer, PlanAnswer};
@@ -101,8 +101,8 @@ pub fn run_is_seen_in_cells()
 /// sound trees end alike too, whatever their bytes; the log changes the same bytes of both, and needs as much room.
 pub fn looked_cells_decide()
     ensures decides { CellsDecide }
-    ensures of_trees { EachTwoTrees TreesEndAlike }
-    ensures marks { EachTwoTrees (MarksEnd MarksAlike) }
+    ensures of_trees { EachTwoTrees TreesEndInAgreement }
+    ensures marks { EachTwoTrees (MarksEnd HaveSameNewMarks) }
     ensures need { EachTwoTrees (MarksEnd (λ after other_after. need after ≡ need other_after)) }
 {}
 
@@ -128,7 +128,7 @@ pub fn a_step_keeps_order()
 
 /// A state that opens on a new image is in order, where no two clients have one number and each is in range.
 pub fn new_image_opens_in_order()
-    ensures { (clients : List Client) (sizes : TierSizes) → AreDistinct clients → AllByRecursion IsClient clients → IsInOrder (opening_of_new clients sizes) }
+    ensures { (clients : List Client) (sizes : TierSizes) → ClientsAreDistinct clients → AllByRecursion IsClient clients → IsInOrder (opening_of_new clients sizes) }
 {}
 
 /// All bytes have one reading as a log, and one as a plan: an answer of the decoder, and no other.

@@ -5,7 +5,7 @@ use Rattle.std.proofs.lemmas.Bool.{and_from, or_left, or_right, cases_eq, cases_
 use Rattle.kfs_model.specs.Header.{Kind, File, Directory, Header}
 use Rattle.kfs_model.specs.Table.{Table, numbers, pairs, get}
 use Rattle.kfs_model.proofs.TableLaws.{get-mapped}
-use Rattle.kfs_model.specs.Tree.{NameTable, headers, header_of, links_of, size_of, name_order, name_count, body_over, node_over}
+use Rattle.kfs_model.specs.Tree.{NameTable, headers, node_header, links_of, size_of, name_order, name_count, body_over, node_over}
 use Rattle.kfs_model.specs.Sight.{is_directory, is_file, parent_in}
 use Rattle.kfs_model.specs.Soundness.{Climbs, AreSound}
 use Rattle.kfs_model.specs.Spelling.{IsName}
@@ -77,17 +77,17 @@ module _ (image : DeviceImage) (lawful : IsLawful image) where
 
   -- ---- headers
 
-  own_header : (number : ℕ) (h : Header) → head number ≡ Some h → header_of image.names number (node_over (file_bytes image.placement image.devices) number h) ≡ h
+  own_header : (number : ℕ) (h : Header) → head number ≡ Some h → node_header image.names number (node_over (file_bytes image.placement image.devices) number h) ≡ h
   own_header number h is =
-      let shown : get (headers (shown_tree image)) number ≡ Some (header_of image.names number (node_over (file_bytes image.placement image.devices) number h)) =
-      get-headers (shown_tree image) number ∙ ap (option_map (header_of image.names number)) (get-mapped (node_over (file_bytes image.placement image.devices)) image.heads number ∙ ap (option_map (node_over (file_bytes image.placement image.devices) number)) is) in
+      let shown : get (headers (shown_tree image)) number ≡ Some (node_header image.names number (node_over (file_bytes image.placement image.devices) number h)) =
+      get-headers (shown_tree image) number ∙ ap (option_map (node_header image.names number)) (get-mapped (node_over (file_bytes image.placement image.devices)) image.heads number ∙ ap (option_map (node_over (file_bytes image.placement image.devices) number)) is) in
       let counted : get (headers (shown_tree image)) number ≡ Some h = ap (λ (heads : Table numbers Header). get heads number) lawful.tree.counted ∙ is in
       cc
 
   fits : (number : ℕ) (h : Header) → head number ≡ Some h → HeaderFits image.names number h
   fits number h is = by h.kind refl (ap (λ (x : Header). x.links) own) (ap (λ (x : Header). x.size) own)
     where
-      own : header_of image.names number (node_over (file_bytes image.placement image.devices) number h) ≡ h
+      own : node_header image.names number (node_over (file_bytes image.placement image.devices) number h) ≡ h
       own = own_header number h is
 
       as_file : h.kind ≡ File → IsTrue (is_file (head number))

@@ -13,7 +13,7 @@ use Rattle.kfs_model.specs.Placement.{Place, numbers_from, below}
 use Rattle.kfs_model_device.specs.Device.{Devices, byte_on}
 use Rattle.kfs_model_device.specs.ShownTree.{DeviceImage, file_byte, file_bytes, shown_tree, IsLawful}
 use Rattle.kfs_model_device.specs.RawImage.{devices_of, placement_of, image_of}
-use Rattle.kfs_model_device.specs.Listed.{block_bytes, extent_row, rows_of, AreRowsOf}
+use Rattle.kfs_model_device.specs.Listed.{block_bytes, extent_row, rows_of, AreRowsOfImage}
 use Rattle.kfs_model_device.proofs.Among.{Among, among_map}
 use Rattle.kfs_model_device.proofs.LaidOut.{written_there}
 use Rattle.kfs_model_device.proofs.ListedTables.{heads_back, names_back, placement_back}
@@ -104,7 +104,7 @@ module _ (image : DeviceImage) (lawful : IsLawful image) where
   tree_back : shown_tree (image_of (rows_of image)) ≡ shown_tree image
   tree_back = λ i. record { nodes = nodes_back i; names = names_back image i }
 
-  pub rows_are : AreRowsOf image (rows_of image)
+  pub rows_are : AreRowsOfImage image (rows_of image)
   rows_are = record {
     spelled = rows_spelled image lawful;
     well_formed = rows_well_formed image lawful;

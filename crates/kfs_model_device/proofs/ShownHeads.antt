@@ -4,14 +4,14 @@ use Rattle.std.proofs.lemmas.List.{length-map}
 use Rattle.kfs_model.specs.Header.{Kind, File, Directory, Header}
 use Rattle.kfs_model.specs.Table.{get}
 use Rattle.kfs_model.proofs.TableLaws.{get-mapped, same_table}
-use Rattle.kfs_model.specs.Tree.{Node, NameTable, headers, header_of, name_count, body_over, node_over}
+use Rattle.kfs_model.specs.Tree.{Node, NameTable, headers, node_header, name_count, body_over, node_over}
 use Rattle.kfs_model.specs.Placement.{Placement, numbers_from, below}
 use Rattle.kfs_model.proofs.CleanIsAllowed.{left, right}
 use Rattle.kfs_model.proofs.Heads.{get-headers}
 use Rattle.kfs_model_device.specs.Device.{Devices}
 use Rattle.kfs_model_device.specs.ShownTree.{DeviceImage, file_byte, file_bytes, shown_tree}
 use Rattle.kfs_model_device.specs.Rules.{kind_fits, names_fit}
-use Rattle.kfs_model_device.specs.Laws.{AreBytesOf}
+use Rattle.kfs_model_device.specs.Laws.{AreBytesOfBlocks}
 
 length-numbers_from : (first count : ℕ) → length (numbers_from first count) ≡ count
 length-numbers_from first zero = refl
@@ -30,7 +30,7 @@ module _ (placement : Placement) (devices : Devices) (names : NameTable) (number
   abbrev node_with : Kind → Node ℕ
   node_with kind = record { mode = h.mode; uid = h.uid; gid = h.gid; body = body_over (file_bytes placement devices) number kind h.size }
 
-  own_header : (kind : Kind) → h.kind ≡ kind → kind_fits kind h.links h.size ≡ true → names_fit kind number h.links (name_count names number) ≡ true → header_of names number (node_with kind) ≡ h
+  own_header : (kind : Kind) → h.kind ≡ kind → kind_fits kind h.links h.size ≡ true → names_fit kind number h.links (name_count names number) ≡ true → node_header names number (node_with kind) ≡ h
   own_header File is fits named =
       let links : h.links ≡ name_count names number = eqb-true _ _ (right _ _ named) in
       let size = length-file_bytes placement devices number h.size in
@@ -40,20 +40,20 @@ module _ (placement : Placement) (devices : Devices) (names : NameTable) (number
       let size : h.size ≡ 0 = eqb-true _ _ (right _ _ fits) in
       λ i. record { kind = sym is i; mode = h.mode; uid = h.uid; gid = h.gid; links = sym links i; size = sym size i }
 
-  pub header_back : HeaderFits names number h → header_of names number (node_over (file_bytes placement devices) number h) ≡ h
+  pub header_back : HeaderFits names number h → node_header names number (node_over (file_bytes placement devices) number h) ≡ h
   header_back fits = own_header h.kind refl fits.as_kind fits.as_named
 
 pub heads_shown : (image : DeviceImage) → ((number : ℕ) (h : Header) → get image.heads number ≡ Some h → HeaderFits image.names number h) → headers (shown_tree image) ≡ image.heads
 heads_shown image fit = same_table _ _ each
   where
-    at : (k : ℕ) (o : Option Header) → get image.heads k ≡ o → option_map (header_of image.names k) (option_map (node_over (file_bytes image.placement image.devices) k) o) ≡ o
+    at : (k : ℕ) (o : Option Header) → get image.heads k ≡ o → option_map (node_header image.names k) (option_map (node_over (file_bytes image.placement image.devices) k) o) ≡ o
     at k None is = refl
     at k (Some h) is = ap Some (header_back image.placement image.devices image.names k h (fit k h is))
 
     each : (k : ℕ) → get (headers (shown_tree image)) k ≡ get image.heads k
     each k =
         get-headers (shown_tree image) k
-        ∙ ap (option_map (header_of image.names k)) (get-mapped (node_over (file_bytes image.placement image.devices)) image.heads k)
+        ∙ ap (option_map (node_header image.names k)) (get-mapped (node_over (file_bytes image.placement image.devices)) image.heads k)
         ∙ at k (get image.heads k) refl
 
 -- ---- bytes
@@ -68,7 +68,7 @@ slice_get-map f [] place x is = cc
 slice_get-map f (y ∷ ys) zero x is = let same : y ≡ x = cc in ap (λ z. Some (f z)) same
 slice_get-map f (y ∷ ys) (suc place) x is = slice_get-map f ys place x is
 
-pub bytes_shown : (placement : Placement) (devices : Devices) (number size : ℕ) → AreBytesOf placement devices number size
+pub bytes_shown : (placement : Placement) (devices : Devices) (number size : ℕ) → AreBytesOfBlocks placement devices number size
 bytes_shown placement devices number size = record {
   many = length-file_bytes placement devices number size;
   each = λ position less. slice_get-map (file_byte placement devices number) (below size) position position (number_there 0 size position less ∙ ap Some (omega arith));

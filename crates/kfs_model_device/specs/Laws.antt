@@ -10,6 +10,6 @@ abbrev pub IsFreeInRuns : TierSizes → Placement → Place → Type 0
 IsFreeInRuns sizes placement place = is_in_one (free_runs sizes placement place.tier) place.place ≡ (nat_lt place.place (tier_size sizes place.tier) && is_free placement place)
 
 -- a file has as many bytes as its size, each that of its block
-pub record AreBytesOf (placement : Placement) (devices : Devices) (number size : ℕ) : Type 0 where
+pub record AreBytesOfBlocks (placement : Placement) (devices : Devices) (number size : ℕ) : Type 0 where
   pub many : length (file_bytes placement devices number size) ≡ size
   pub each : (position : ℕ) → position < size → slice_get (file_bytes placement devices number size) position ≡ Some (file_byte placement devices number position)

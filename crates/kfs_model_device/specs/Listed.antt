@@ -32,7 +32,7 @@ rows_of image = record {
 }
 
 -- the rows are spelled and well formed, and make the image again, but for blocks on which no file's block lies
-pub record AreRowsOf (image : DeviceImage) (raw : RawImage) : Type 0 where
+pub record AreRowsOfImage (image : DeviceImage) (raw : RawImage) : Type 0 where
   pub spelled : IsSpelled raw
   pub well_formed : IsWellFormed raw
   pub heads : heads_of raw ≡ image.heads

@@ -13,13 +13,13 @@ ghost use Rattle.kfs_model.specs.Plan.{keyed_name};
 ghost use Rattle.kfs_model_device.specs.RawImage.{RawImage, IsSpelled, node_entry, heads_of, names_of, placement_of, image_of, has_place, IsLaidOut};
 ghost use Rattle.kfs_model_device.specs.Rules.{parent_of, reaches_root};
 ghost use Rattle.kfs_model_device.specs.Finding.{Finding, finding_of, is_broken_at, IsLeastBroken, IsWellFormed};
-ghost use Rattle.kfs_model_device.specs.Listed.{rows_of, AreRowsOf};
-ghost use Rattle.kfs_model_device.specs.Laws.{IsFreeInRuns, AreBytesOf};
+ghost use Rattle.kfs_model_device.specs.Listed.{rows_of, AreRowsOfImage};
+ghost use Rattle.kfs_model_device.specs.Laws.{IsFreeInRuns, AreBytesOfBlocks};
 
 /// A file has as many bytes as its size; each is the byte of its block at the block's place, or 0 where the block isn't
 /// mapped.
 pub fn bytes_are_those_of_blocks()
-    ensures { (placement : Placement) (devices : Devices) (number size : ℕ) → AreBytesOf placement devices number size }
+    ensures { (placement : Placement) (devices : Devices) (number size : ℕ) → AreBytesOfBlocks placement devices number size }
 {}
 
 /// A well formed image shows a sound tree whose headers are those of its rows, and its extents are a placement on devices
@@ -31,7 +31,7 @@ pub fn well_formed_image_is_lawful()
 /// A lawful image has rows that are well formed, with an extent for each block: they make its tables again, and show its
 /// tree. So the ten rules refuse no lawful image.
 pub fn lawful_image_has_rows()
-    ensures { (image : DeviceImage) → IsLawful image → AreRowsOf image (rows_of image) }
+    ensures { (image : DeviceImage) → IsLawful image → AreRowsOfImage image (rows_of image) }
 {}
 
 /// The node rows of a well formed image are the headers of its tree, its name rows the names; so its cells show what the

@@ -18,7 +18,7 @@ use Rattle.kfs_model.specs.Spelling.{is_name}
 use Rattle.kfs_model.specs.Check.{Reason, fault, checks_of, first_failing}
 use Rattle.kfs_model.specs.Entry.{Entry, Log}
 use Rattle.kfs_model.specs.PlanRow.{NameRow, NodeRow, Piece, Source, Plan, Zero, Payload}
-use Rattle.kfs_model.specs.Effect.{overwritten, resized, swept, change_of}
+use Rattle.kfs_model.specs.Effect.{overwritten, resized, without_unnamed, change_of}
 use Rattle.kfs_model.specs.Run.{EntryFault, run_from}
 use Rattle.kfs_model.specs.Plan.{mark_at}
 use Rattle.kfs_model.specs.FirstWrong.{changed_bytes, is_wrong, first_wrong_row}
@@ -28,7 +28,7 @@ use Rattle.kfs_model.specs.Machine.{outcome_of, next}
 
 -- an example's proof computes: it unfolds this, and with it all that a judgement uses
 unfoldable pub computing : Unit {0}
-unfolding get insert retain remove mapped united climb_meets climbed granted dropped live_at on_those ticked without_gone walked is_name fault checks_of first_failing overwritten resized swept change_of run_from changed_bytes is_wrong first_wrong_row written_blocks cleared_blocks judged free_places reply_to outcome_of next
+unfolding get insert retain remove mapped united climb_meets climbed granted dropped live_at on_those ticked without_gone walked is_name fault checks_of first_failing overwritten resized without_unnamed change_of run_from changed_bytes is_wrong first_wrong_row written_blocks cleared_blocks judged free_places reply_to outcome_of next
 computing = tt
 
 -- a table of some entries, in any order

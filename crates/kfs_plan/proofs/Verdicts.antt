@@ -32,7 +32,7 @@ use Rattle.kfs_plan.specs.declared.submission.Fault.TheVariants as faults
 use Rattle.kfs_plan.specs.declared.submission.Outcome.{Outcome}
 use Rattle.kfs_plan.specs.declared.submission.Outcome.TheVariants as outcomes
 use Rattle.kfs_judge.specs.declared.walk.EntryFault.{EntryFault as CodeEntryFault}
-use Rattle.kfs_plan.specs.Judging.{row_fault_of, refusal_of, is_before_entries, stops_before, AreOfLog, AreLooked, AreSpelled, IsAlike, IsVerdict, IsSettled}
+use Rattle.kfs_plan.specs.Judging.{row_fault_of, refusal_of, is_before_entries, stops_before, AreOfLog, AreLooked, AreSpelled, AgreesWithReads, IsVerdict, OutcomeIsSettled}
 use Rattle.kfs_judge.specs.declared.walk.Walk.{Walk}
 use Rattle.kfs_judge_check.specs.declared.reads.Read.{Read}
 use Rattle.kfs_judge_check.specs.declared.reads.ReadAnswer.{ReadAnswer}
@@ -205,7 +205,7 @@ module _ (A : Type 0) (s : State) (submission : Submission) where
               };
             }
 
-      pub settled : (sizes : List FileSize) (walked : Result (Net A) CodeEntryFault) (outcome : Outcome A) → ComesToTree client (holds s.leases submission.client) s.tree the_log.entries walked sizes → IsSettled log plan sizes walked outcome → IsVerdict s submission outcome
+      pub settled : (sizes : List FileSize) (walked : Result (Net A) CodeEntryFault) (outcome : Outcome A) → ComesToTree client (holds s.leases submission.client) s.tree the_log.entries walked sizes → OutcomeIsSettled log plan sizes walked outcome → IsVerdict s submission outcome
       settled sizes (Err fault) (outcomes.No refusal) comes is = subst (λ (f : CodeFault). IsVerdict {A = A} s submission (outcomes.No f)) (sym is) (bad_entry sizes fault comes)
       settled sizes (Err fault) (outcomes.Yes l p n told) comes is = absurd is
       settled sizes (Ok net) (outcomes.No (faults.Row fault)) comes is = bad_row sizes net comes fault is.0 (told_of sizes net comes (Err fault) is.1)
@@ -220,8 +220,8 @@ module _ (A : Type 0) (s : State) (submission : Submission) where
 
 -- a finding on a log that was walked
 pub walked_verdict : (A : Type 0) (s : State) (submission : Submission) (client : Client) (found : Option Client) (log : CodeLog A) (plan : CodePlan A) (walk : Walk A) (reads : List (Read × ReadAnswer)) (outcome : Outcome A)
-    → AreSpelled submission log plan → IsClient client → found ≡ Some client → reads ≡ walk.reads.entries → IsWalkOf client log walk → IsSettled log plan walk.sizes.items walk.outcome outcome
-    → IsAlike s submission.client found reads → IsVerdict s submission outcome
+    → AreSpelled submission log plan → IsClient client → found ≡ Some client → reads ≡ walk.reads.entries → IsWalkOf client log walk → OutcomeIsSettled log plan walk.sizes.items walk.outcome outcome
+    → AgreesWithReads s submission.client found reads → IsVerdict s submission outcome
 walked_verdict A s submission client found log plan walk reads outcome spelled in_range is same_reads walks is_settled alike =
     let agrees = subst (λ es. Agrees es (client_sight_of s submission.client)) same_reads alike.agrees in
     let fits : Fits client s.tree (log_of submission.log log).entries = record { in_range = in_range; sound = alike.sound; fitting = spelled.log_read.0.1 } in
@@ -246,7 +246,7 @@ module _ {A : Type 0} (view : View A) (submission : Submission) where
     looked = λ _. of;
   }
 
-  pub settled_looked : (log : CodeLog A) (plan : CodePlan A) (sizes : List FileSize) (walked : Result (Net A) CodeEntryFault) (outcome : Outcome A) (reads : List (Read × ReadAnswer)) → IsSettled log plan sizes walked outcome → AreOfLog view submission reads → AreLooked view submission outcome reads
+  pub settled_looked : (log : CodeLog A) (plan : CodePlan A) (sizes : List FileSize) (walked : Result (Net A) CodeEntryFault) (outcome : Outcome A) (reads : List (Read × ReadAnswer)) → OutcomeIsSettled log plan sizes walked outcome → AreOfLog view submission reads → AreLooked view submission outcome reads
   settled_looked log plan sizes (Err fault) (outcomes.No refusal) reads is of = of_log (outcomes.No refusal) reads (ap is_before_entries is) of
   settled_looked log plan sizes (Err fault) (outcomes.Yes l p n told) reads is of = absurd is
   settled_looked log plan sizes (Ok net) (outcomes.No (faults.Row fault)) reads is of = of_log (outcomes.No (faults.Row fault)) reads refl of

@@ -10,7 +10,7 @@ use Rattle.kfs_judge_check.specs.Reads.{Agrees}
 use Rattle.kfs_judge_check.specs.View.{clients_of, client_sight_in}
 use Rattle.kfs_plan.specs.declared.submission.Submission.{Submission as CodeSubmission}
 use Rattle.kfs_plan.specs.declared.submission.Outcome.{Outcome}
-use Rattle.kfs_plan.specs.Judging.{IsAlike, IsVerdict, submission_of}
+use Rattle.kfs_plan.specs.Judging.{AgreesWithReads, IsVerdict, submission_of}
 
 -- what was handed in, the client's row and the recorded reads on which the verdict rests, and what it comes to
 pub record Judged (A : Type 0) : Type 0 where
@@ -21,7 +21,7 @@ pub record Judged (A : Type 0) : Type 0 where
 
 -- in every state that is alike, this is the verdict
 abbrev pub IsKnown : {A : Type 0} → Judged A → Type 0
-IsKnown judged = (s : State) → IsAlike s judged.submission.client judged.client judged.reads → IsVerdict s (submission_of judged.submission) judged.outcome
+IsKnown judged = (s : State) → AgreesWithReads s judged.submission.client judged.client judged.reads → IsVerdict s (submission_of judged.submission) judged.outcome
 
 -- the view has the client's row as the verdict has it, and answers each recorded read as recorded
 pub record HoldsIn {A : Type 0} (view : View A) (judged : Judged A) : Type 0 where

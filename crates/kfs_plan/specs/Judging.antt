@@ -82,7 +82,7 @@ pub record AreSpelled {A : Type 0} (submission : Submission) (log : CodeLog A) (
 -- ---- verdicts
 
 -- a sound state in which the client has this row, and which agrees with the reads of a judgement
-pub record IsAlike (s : State) (number : ℕ) (client : Option Client) (reads : List (Read × ReadAnswer)) : Type 0 where
+pub record AgreesWithReads (s : State) (number : ℕ) (client : Option Client) (reads : List (Read × ReadAnswer)) : Type 0 where
   pub sound : IsSound s.tree
   pub row : row_of s.clients number ≡ client
   pub agrees : Agrees reads (client_sight_of s number)
@@ -132,17 +132,17 @@ pub record TellsYes {A : Type 0} (s : State) (submission : Submission) (log : Co
   pub need_told : told ≡ need marked_after
 
 -- the outcome is the verdict
-abbrev pub Tells : {A : Type 0} → State → Submission → Outcome A → Verdict → Type 0
-Tells s submission (outcomes.No fault) (No refusal) = refusal_of fault ≡ Some refusal
-Tells s submission (outcomes.No fault) (Yes after marked_after) = ⊥
-Tells s submission (outcomes.Yes log plan net told) (Yes after marked_after) = TellsYes s submission log plan net told after marked_after
-Tells s submission (outcomes.Yes log plan net told) (No refusal) = ⊥
+abbrev pub TellsVerdict : {A : Type 0} → State → Submission → Outcome A → Verdict → Type 0
+TellsVerdict s submission (outcomes.No fault) (No refusal) = refusal_of fault ≡ Some refusal
+TellsVerdict s submission (outcomes.No fault) (Yes after marked_after) = ⊥
+TellsVerdict s submission (outcomes.Yes log plan net told) (Yes after marked_after) = TellsYes s submission log plan net told after marked_after
+TellsVerdict s submission (outcomes.Yes log plan net told) (No refusal) = ⊥
 
 -- the state's verdict on the submission is the outcome
 pub record IsVerdict {A : Type 0} (s : State) (submission : Submission) (outcome : Outcome A) : Type 0 where
   pub verdict : Verdict
   pub judgement : IsJudgement s submission verdict
-  pub told : Tells s submission outcome verdict
+  pub told : TellsVerdict s submission outcome verdict
 
 -- what was read is what the bytes spell; a fault is the verdict in all states that have the client
 abbrev pub IsReading : {A : Type 0} → Submission → Spelled A → Type 0
@@ -154,13 +154,13 @@ IsEarly (readings.Yes log plan) = Unit {0}
 IsEarly (readings.No fault) = is_before_entries fault ≡ true
 
 -- a bad entry is the outcome, or else what is told of the net and of the marks of each run with these sizes
-abbrev pub IsSettled : {A : Type 0} → CodeLog A → CodePlan A → List FileSize → Result (Net A) CodeEntryFault → Outcome A → Type 0
-IsSettled log plan sizes (Err fault) (outcomes.No refusal) = refusal ≡ faults.Entry fault
-IsSettled log plan sizes (Err fault) (outcomes.Yes l p n told) = ⊥
-IsSettled log plan sizes (Ok net) (outcomes.No (faults.Row fault)) = (fault ≢ rows.OutOfMemory) × TellsOfEachRun sizes log net plan (Err fault)
-IsSettled log plan sizes (Ok net) (outcomes.Yes l p n told) = (l ≡ log) × (p ≡ plan) × (n ≡ net) × TellsOfEachRun sizes log net plan (Ok told)
-IsSettled log plan sizes (Ok net) (outcomes.No faults.UnknownClient) = ⊥
-IsSettled log plan sizes (Ok net) (outcomes.No (faults.BadLog fault)) = ⊥
-IsSettled log plan sizes (Ok net) (outcomes.No faults.WrongClient) = ⊥
-IsSettled log plan sizes (Ok net) (outcomes.No (faults.BadPlan fault)) = ⊥
-IsSettled log plan sizes (Ok net) (outcomes.No (faults.Entry fault)) = ⊥
+abbrev pub OutcomeIsSettled : {A : Type 0} → CodeLog A → CodePlan A → List FileSize → Result (Net A) CodeEntryFault → Outcome A → Type 0
+OutcomeIsSettled log plan sizes (Err fault) (outcomes.No refusal) = refusal ≡ faults.Entry fault
+OutcomeIsSettled log plan sizes (Err fault) (outcomes.Yes l p n told) = ⊥
+OutcomeIsSettled log plan sizes (Ok net) (outcomes.No (faults.Row fault)) = (fault ≢ rows.OutOfMemory) × TellsOfEachRun sizes log net plan (Err fault)
+OutcomeIsSettled log plan sizes (Ok net) (outcomes.Yes l p n told) = (l ≡ log) × (p ≡ plan) × (n ≡ net) × TellsOfEachRun sizes log net plan (Ok told)
+OutcomeIsSettled log plan sizes (Ok net) (outcomes.No faults.UnknownClient) = ⊥
+OutcomeIsSettled log plan sizes (Ok net) (outcomes.No (faults.BadLog fault)) = ⊥
+OutcomeIsSettled log plan sizes (Ok net) (outcomes.No faults.WrongClient) = ⊥
+OutcomeIsSettled log plan sizes (Ok net) (outcomes.No (faults.BadPlan fault)) = ⊥
+OutcomeIsSettled log plan sizes (Ok net) (outcomes.No (faults.Entry fault)) = ⊥

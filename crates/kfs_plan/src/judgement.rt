@@ -8,7 +8,7 @@ ghost use Rattle.kfs_plan_sweep.specs.Sizes.{IsSpanned};
 ghost use Rattle.kfs_judge_check.specs.Reads.{Agrees};
 ghost use Rattle.kfs_judge.specs.Walks.{HasOrderedSizes};
 ghost use Rattle.kfs_judge_check.specs.View.{clients_of, client_sight_in};
-ghost use Rattle.kfs_plan.specs.Judging.{AreLooked, IsAlike, IsSettled, IsVerdict, submission_of, submission_with};
+ghost use Rattle.kfs_plan.specs.Judging.{AreLooked, AgreesWithReads, OutcomeIsSettled, IsVerdict, submission_of, submission_with};
 
 use crate::judged::Judged;
 use crate::rows::{RowFault, check_rows};
@@ -34,7 +34,7 @@ pub fn judge<A: Allocator + Copy>(
     ensures client { IfOk result (λ j. j.client ≡ row_of (clients_of view.now) submission.client) }
 
     // In every state that is alike, this is the verdict.
-    ensures known { IfOk result (λ j. (s : State) → IsAlike s submission.client j.client j.reads → IsVerdict s (submission_of submission) j.outcome) }
+    ensures known { IfOk result (λ j. (s : State) → AgreesWithReads s submission.client j.client j.reads → IsVerdict s (submission_of submission) j.outcome) }
     ensures view_agrees { IfOk result (λ j. Agrees j.reads (client_sight_in view.now submission.client)) }
     ensures among { IfOk result (λ j. AreLooked view.now (submission_of submission) j.outcome j.reads) }
     ensures memory { IfErr result (λ b. b.why ≡ Why.OutOfMemory) }
@@ -84,7 +84,7 @@ fn find<A: Allocator + Copy>(
     plan: &[u8],
 ) -> Result<Finding<A>, Why>
     ensures client { IfOk result (λ f. f.client ≡ row_of (clients_of view.now) number) }
-    ensures known { IfOk result (λ f. (s : State) → IsAlike s number f.client f.reads.entries → IsVerdict s (submission_with number log.now plan.now) f.outcome) }
+    ensures known { IfOk result (λ f. (s : State) → AgreesWithReads s number f.client f.reads.entries → IsVerdict s (submission_with number log.now plan.now) f.outcome) }
     ensures view_agrees { IfOk result (λ f. Agrees f.reads.entries (client_sight_in view.now number)) }
     ensures among { IfOk result (λ f. AreLooked view.now (submission_with number log.now plan.now) f.outcome f.reads.entries) }
     ensures memory { IfErr result (λ why. why ≡ Why.OutOfMemory) }
@@ -122,7 +122,7 @@ fn settle<A: Allocator + Copy>(
     requires count { length log.entries ≤ entry_limit }
     ensures client { IfOk result (λ f. f.client ≡ client) }
     ensures reads { IfOk result (λ f. f.reads ≡ walk.reads) }
-    ensures outcome { IfOk result (λ f. IsSettled log plan walk.sizes.items walk.outcome f.outcome) }
+    ensures outcome { IfOk result (λ f. OutcomeIsSettled log plan walk.sizes.items walk.outcome f.outcome) }
     ensures memory { IfErr result (λ why. why ≡ Why.OutOfMemory) }
 {
     let Walk {

@@ -4,7 +4,7 @@ ghost use Rattle.std.specs.List.{AllByRecursion};
 ghost use Rattle.kfs_model.specs.Access.{Client as ClientRow};
 ghost use Rattle.kfs_model.specs.FirstWrong.{first_difference};
 ghost use Rattle.kfs_model.specs.Limits.{entry_limit};
-ghost use Rattle.kfs_plan_sweep.specs.Sizes.{Ascend, IsSize, IsSpanned};
+ghost use Rattle.kfs_plan_sweep.specs.Sizes.{SizesAscend, IsSize, IsSpanned};
 ghost use Rattle.kfs_judge.specs.Walks.{HasOrderedSizes, IsWalkOf};
 ghost use Rattle.kfs_plan.specs.PlanCheck.{TellsOfEachRun, TellsOfEachTree};
 ghost use Rattle.kfs_plan.specs.declared.rows.RowFault.TheVariants.{OutOfMemory};
@@ -68,7 +68,7 @@ pub fn check_rows<A: Allocator + Copy>(
     net: &Net<A>,
     plan: &Plan<A>,
 ) -> Result<u64, RowFault>
-    requires ascending { Ascend 0 sizes.now }
+    requires ascending { SizesAscend 0 sizes.now }
     requires sizes { AllByRecursion IsSize sizes.now }
     requires spans { AllByRecursion IsSpanned log.now.entries }
     requires count { length log.now.entries ≤ entry_limit }

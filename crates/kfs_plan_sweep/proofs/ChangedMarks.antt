@@ -2,7 +2,7 @@
 use Rattle.std.proofs.Common.{◌≡◌, ℕ, ◌+◌, ◌-◌, Bool, true, false, cond, ◌==◌, ◌&&◌, ltb, leb, List, [], ◌∷◌, length, Option, Some, None, unwrap_or, Ok, refl, ap, subst, ◌∙◌}
 use Rattle.kfs_model.specs.Access.{Client}
 use Rattle.kfs_model.specs.Entry.{Entry, Create, Write, Truncate, Link, Unlink, Rename, Chmod}
-use Rattle.kfs_model.specs.LastCover.{extent, covered_by, last_cover, start_mark}
+use Rattle.kfs_model.specs.LastCover.{file_size, covered_by, last_cover, start_mark}
 use Rattle.kfs_model.specs.Plan.{mark_at}
 use Rattle.kfs_model.specs.Run.{Mark, Base, Zero, Payload, over_marks, marked, run}
 use Rattle.kfs_model.specs.Sight.{ClientSight, sight}
@@ -13,7 +13,7 @@ use Rattle.kfs_model.proofs.LastCover.{mark_is}
 
 -- what the growth of a file makes of a byte: it is zero behind the file's old end
 abbrev pub growth_mark : {B : Type 0} → Tree B → (number place : ℕ) → Option Mark
-growth_mark before number place = cond (ltb place (extent before number)) None (Some Zero)
+growth_mark before number place = cond (ltb place (file_size before number)) None (Some Zero)
 
 -- what an entry makes of a byte isn't as before
 changed_of : (o : Option Mark) → Type 0
@@ -49,16 +49,16 @@ changed_last index (entry ∷ entries) k place = changed_or (last_cover (index +
 
 module _ (client : Client) (seen : ClientSight) (before : Tree ℕ) (entries : List Entry) (after : Tree Mark) (opens : seen.sight ≡ sight before) (ran : run over_marks client seen (marked before) entries ≡ Ok after) where
   -- the mark of a byte that the log changed: that of the last entry which covers it, and else what the growth of its file made
-  pub changed_mark_is : (k place : ℕ) → changed_mark (mark_at after k place) ≡ cond (ltb place (extent after k)) (option_or (last_cover 0 entries k place) (growth_mark before k place)) None
+  pub changed_mark_is : (k place : ℕ) → changed_mark (mark_at after k place) ≡ cond (ltb place (file_size after k)) (option_or (last_cover 0 entries k place) (growth_mark before k place)) None
   unfolding changed_of
-  changed_mark_is k place = ap changed_mark (mark_is client seen before entries after opens ran k place) ∙ at_end (ltb place (extent after k))
+  changed_mark_is k place = ap changed_mark (mark_is client seen before entries after opens ran k place) ∙ at_end (ltb place (file_size after k))
     where
       at_start : (c : Bool) → changed_mark (Some (cond c (Base k place) Zero)) ≡ cond c None (Some Zero)
       at_start true = refl
       at_start false = refl
 
       at_cover : (o : Option Mark) → ((m : Mark) → o ≡ Some m → changed_mark (Some m) ≡ Some m) → changed_mark (Some (unwrap_or o (start_mark before k place))) ≡ option_or o (growth_mark before k place)
-      at_cover None changed = at_start (ltb place (extent before k))
+      at_cover None changed = at_start (ltb place (file_size before k))
       at_cover (Some m) changed = changed m refl
 
       at_end : (b : Bool) → changed_mark (cond b (Some (unwrap_or (last_cover 0 entries k place) (start_mark before k place))) None) ≡ cond b (option_or (last_cover 0 entries k place) (growth_mark before k place)) None

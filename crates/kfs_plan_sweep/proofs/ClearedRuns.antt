@@ -6,7 +6,7 @@ use Rattle.std.proofs.lemmas.Bool.{and_from, and_parts, both_ways, eq-eqb, leb-t
 use Rattle.std.proofs.lemmas.List.{get_or-take, get_or-drop, length-take}
 use Rattle.std.proofs.lemmas.List.Folds.{list_all_at, list_any-append}
 use Rattle.kfs_model.specs.Blocks.{goes_on, is_zero_source, of_file}
-use Rattle.kfs_model.specs.LastCover.{extent}
+use Rattle.kfs_model.specs.LastCover.{file_size}
 use Rattle.kfs_model.specs.Placement.{is_cleared, is_zero, block_count, blocks_that, cleared_blocks, numbers_from}
 use Rattle.kfs_model.specs.Plan.{ArePieces, end_of}
 use Rattle.kfs_model.specs.PlanRow.{Piece}
@@ -267,7 +267,7 @@ module _ (number block : ℕ) where
         (and_from (is_cleared (block_at marks_of block)) (is_same (n, block)) cleared (and_from (n == number) (block == block) (eq-eqb n number same) (eq-eqb block block refl)))
 
   module _ (after : Tree Mark) where
-    tree_cleared : block < block_count (extent after number) → list_any is_same (cleared_blocks after) ≡ is_cleared (block_at (content_of (get after.nodes number)) block)
+    tree_cleared : block < block_count (file_size after number) → list_any is_same (cleared_blocks after) ≡ is_cleared (block_at (content_of (get after.nodes number)) block)
     unfolding cleared_blocks get
     tree_cleared below = any_flat is_same (blocks_that is_cleared) after.nodes.entries ∙ same_bools _ _ to (from (get after.nodes number) refl below)
       where
@@ -282,6 +282,6 @@ module _ (number block : ℕ) where
         from None there below cleared = absurd (omega arith)
         from (Some node) there below cleared = any_from_found numbers (λ e. list_any is_same (blocks_that is_cleared e)) after.nodes.entries number node there (node_from number node refl below cleared)
 
-    pub cleared_are_in_ranges : (pieces : List Piece) → ArePieces after pieces → block < block_count (extent after number)
-        → list_any is_same (cleared_blocks after) ≡ list_any (is_in_range block) (cleared_runs (extent after number) (of_file number pieces))
+    pub cleared_are_in_ranges : (pieces : List Piece) → ArePieces after pieces → block < block_count (file_size after number)
+        → list_any is_same (cleared_blocks after) ≡ list_any (is_in_range block) (cleared_runs (file_size after number) (of_file number pieces))
     cleared_are_in_ranges pieces are below = tree_cleared below ∙ file_cleared (content_of (get after.nodes number)) (of_file number pieces) block (classes number after pieces are) below

@@ -8,9 +8,9 @@ use Rattle.std.proofs.lemmas.List.{append-nil, map-append, take-append-drop}
 use Rattle.std.proofs.lemmas.List.Elements.{filter-append}
 use Rattle.kfs_plan_sweep.proofs.Lists.{all_at, all_drop}
 use Rattle.kfs_model.specs.Blocks.{counted, touches, of_file, node_blocks, counted_files}
-use Rattle.kfs_model.specs.LastCover.{extent}
+use Rattle.kfs_model.specs.LastCover.{file_size}
 use Rattle.kfs_model.specs.Placement.{need}
-use Rattle.kfs_model.specs.Plan.{said_by, ArePieces, IsTrueOf}
+use Rattle.kfs_model.specs.Plan.{mark_of_source, ArePieces, IsTrueOf}
 use Rattle.kfs_model.specs.PlanRow.{Piece}
 use Rattle.kfs_model.specs.Run.{Mark}
 use Rattle.kfs_model.specs.Table.{numbers, get}
@@ -139,11 +139,11 @@ module _ (after : Tree Mark) (sizes : List FileSize) where
   abbrev pub IsListed : CodePiece → Type 0
   IsListed p = (node : Node Mark) × (get after.nodes p.number ≡ Some node) × (length_after sizes p.number ≡ length (content_of (Some node)))
 
-  pieces_listed : (ps : List CodePiece) → AllByRecursion (IsTrueOf after) (map piece_of ps) → AllByRecursion (λ (p : Piece). length_after sizes p.number ≡ extent after p.number) (map piece_of ps) → AllByRecursion IsListed ps
+  pieces_listed : (ps : List CodePiece) → AllByRecursion (IsTrueOf after) (map piece_of ps) → AllByRecursion (λ (p : Piece). length_after sizes p.number ≡ file_size after p.number) (map piece_of ps) → AllByRecursion IsListed ps
   pieces_listed [] true_of long = tt
   pieces_listed (p ∷ ps) true_of long = (at (get after.nodes p.number) refl (true_of.0.said 0 true_of.0.filled) long.0, pieces_listed ps true_of.1 long.1)
     where
-      at : (o : Option (Node Mark)) → get after.nodes p.number ≡ o → slice_get (content_of o) (p.start + 0) ≡ Some (said_by (piece_of p).source 0) → length_after sizes p.number ≡ length (content_of o) → IsListed p
+      at : (o : Option (Node Mark)) → get after.nodes p.number ≡ o → slice_get (content_of o) (p.start + 0) ≡ Some (mark_of_source (piece_of p).source 0) → length_after sizes p.number ≡ length (content_of o) → IsListed p
       at None is stands size = cc
       at (Some node) is stands size = (node, is, size)
 
@@ -156,7 +156,7 @@ nothing_counted (e ∷ es) = ap (λ n. 0 + n) (nothing_counted es)
 
 -- so much is counted, and the rest is what is left to count
 abbrev pub Counts : (sizes : List FileSize) (pieces : List CodePiece) (total : ℕ) (rest : List CodePiece) → Type 0
-Counts sizes pieces total rest = (after : Tree Mark) → ArePieces after (map piece_of pieces) → AllByRecursion (λ (p : Piece). length_after sizes p.number ≡ extent after p.number) (map piece_of pieces)
+Counts sizes pieces total rest = (after : Tree Mark) → ArePieces after (map piece_of pieces) → AllByRecursion (λ (p : Piece). length_after sizes p.number ≡ file_size after p.number) (map piece_of pieces)
     → (total + counted_files (map piece_of rest) after.nodes.entries ≡ counted_files (map piece_of pieces) after.nodes.entries) × AllByRecursion (IsListed after sizes) rest
 
 -- the numbers of the rest are at least one above which so much isn't counted
@@ -169,7 +169,7 @@ counts_first sizes pieces after are long =
     (none, pieces_listed after sizes pieces are.said long)
 
 pub counts_last : (sizes : List FileSize) (pieces : List CodePiece) (total : ℕ) (rest : List CodePiece) → rest ≡ [] → Counts sizes pieces total rest
-    → (after : Tree Mark) → ArePieces after (map piece_of pieces) → AllByRecursion (λ (p : Piece). length_after sizes p.number ≡ extent after p.number) (map piece_of pieces) → total ≡ need after
+    → (after : Tree Mark) → ArePieces after (map piece_of pieces) → AllByRecursion (λ (p : Piece). length_after sizes p.number ≡ file_size after p.number) (map piece_of pieces) → total ≡ need after
 counts_last sizes pieces total rest empty counts after are long =
     let none : total ≡ total + 0 = omega arith in
     none

@@ -7,16 +7,16 @@ use Rattle.kfs_plan_sweep.specs.declared.stretch.Origin.{Origin}
 use Rattle.kfs_plan_sweep.specs.declared.stretch.Origin.TheVariants.{Zero, Payload}
 use Rattle.kfs_plan_sweep.specs.declared.stretch.Stretch.{Stretch}
 use Rattle.kfs_plan_sweep.specs.Stretches.{AreFrom, ends_by, begins_before, cut_below, cut_from, merged}
-use Rattle.kfs_plan_sweep.specs.Made.{IsPlaced, IsFit}
+use Rattle.kfs_plan_sweep.specs.Made.{IsPlacedAt, IsFit}
 
 within_cut : (k s e n p : ℕ) → (ltb k n || (eqb k n && leb e p)) ≡ false → (eqb k n && ltb s p) ≡ true → (s < p) × (p < e)
 within_cut k s e n p h i = grind (arith, nat_tests)
 
-front_placed : (o : Origin) (s e p : ℕ) → IsPlaced o s e → s < p → p < e → IsPlaced o s p
+front_placed : (o : Origin) (s e p : ℕ) → IsPlacedAt o s e → s < p → p < e → IsPlacedAt o s p
 front_placed Zero s e p placed h k = tt
 front_placed (Payload entry offset) s e p placed h k = let high = placed.1 in (placed.0, omega arith)
 
-back_placed : (o : Origin) (s e p : ℕ) → IsPlaced o s e → s < p → p < e → IsPlaced o p e
+back_placed : (o : Origin) (s e p : ℕ) → IsPlacedAt o s e → s < p → p < e → IsPlacedAt o p e
 back_placed Zero s e p placed h k = tt
 back_placed (Payload entry offset) s e p placed h k = let low = placed.0 in (omega arith, placed.1)
 

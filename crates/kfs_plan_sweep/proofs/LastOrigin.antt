@@ -5,7 +5,7 @@ use Rattle.std.proofs.Math.ListN.{take-append-drop}
 use Rattle.kfs_model.specs.Table.{option_or}
 use Rattle.kfs_plan_sweep.specs.declared.stretch.Origin.{Origin}
 use Rattle.kfs_plan_sweep.specs.declared.stretch.Stretch.{Stretch}
-use Rattle.kfs_plan_sweep.specs.Stretches.{holds, origin_at, last_origin, AreFrom, merged}
+use Rattle.kfs_plan_sweep.specs.Stretches.{has_byte, origin_at, last_origin, AreFrom, merged}
 use Rattle.kfs_plan_sweep.proofs.Merging.{merged_from, merged_says}
 
 option_or_assoc : (a b c : Option Origin) → option_or (option_or a b) c ≡ option_or a (option_or b c)
@@ -19,8 +19,8 @@ option_or_none (Some x) = refl
 pub last_origin-append : (xs ys : List Stretch) (n p : ℕ) → last_origin (xs ++ ys) n p ≡ option_or (last_origin ys n p) (last_origin xs n p)
 last_origin-append [] ys n p = sym (option_or_none (last_origin ys n p))
 last_origin-append (x ∷ xs) ys n p =
-    ap (λ o. option_or o (cond (holds n p x) (Some x.origin) None)) (last_origin-append xs ys n p)
-    ∙ option_or_assoc (last_origin ys n p) (last_origin xs n p) (cond (holds n p x) (Some x.origin) None)
+    ap (λ o. option_or o (cond (has_byte n p x) (Some x.origin) None)) (last_origin-append xs ys n p)
+    ∙ option_or_assoc (last_origin ys n p) (last_origin xs n p) (cond (has_byte n p x) (Some x.origin) None)
 
 -- both halves laid out, the later one laid over the earlier one
 module _ (all earlier later out : List Stretch) (middle : ℕ) (is : out ≡ merged earlier later) (first : AreFrom 0 0 earlier) (second : AreFrom 0 0 later) where

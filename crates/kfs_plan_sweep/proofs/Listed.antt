@@ -4,8 +4,8 @@ use Rattle.std.specs.List.{AllByRecursion, list_any}
 use Rattle.std.proofs.lemmas.Bool.{eqb-false, ne_eqb, ltb-true, ltb-false, or_left, or_right}
 use Rattle.kfs_model.specs.Access.{Client}
 use Rattle.kfs_model.specs.Entry.{Entry, Create, Write, Truncate, Link, Unlink, Rename, Chmod}
-use Rattle.kfs_model.specs.LastCover.{extent, covered_by, last_cover}
-use Rattle.kfs_model.specs.Plan.{mark_at, said_by, IsTrueOf}
+use Rattle.kfs_model.specs.LastCover.{file_size, covered_by, last_cover}
+use Rattle.kfs_model.specs.Plan.{mark_at, mark_of_source, IsTrueOf}
 use Rattle.kfs_model.specs.PlanRow.{Piece}
 use Rattle.kfs_model.specs.Run.{Mark, Payload, Zero, run, over_marks, marked}
 use Rattle.kfs_model.specs.Sight.{ClientSight, sight}
@@ -60,28 +60,28 @@ own_size before ends n (s ∷ ss) own listed = at (s.number == n) refl (own_size
 module _ (client : Client) (seen : ClientSight) (before : Tree ℕ) (entries : List Entry) (after : Tree Mark) (opens : seen.sight ≡ sight before) (ran : run over_marks client seen (marked before) entries ≡ Ok after)
     (sizes : List FileSize) (all : AreSizes before entries after sizes) where
   -- the file of a byte that the log changed
-  changed_listed : (n p : ℕ) (mark : Mark) → changed_mark (mark_at after n p) ≡ Some mark → length_after sizes n ≡ extent after n
-  changed_listed n p mark is = at_end (ltb p (extent after n)) refl (sym (changed_mark_is client seen before entries after opens ran n p) ∙ is)
+  changed_listed : (n p : ℕ) (mark : Mark) → changed_mark (mark_at after n p) ≡ Some mark → length_after sizes n ≡ file_size after n
+  changed_listed n p mark is = at_end (ltb p (file_size after n)) refl (sym (changed_mark_is client seen before entries after opens ran n p) ∙ is)
     where
-      grew : ltb p (extent after n) ≡ true → ltb p (extent before n) ≡ false → extent before n < extent after n
+      grew : ltb p (file_size after n) ≡ true → ltb p (file_size before n) ≡ false → file_size before n < file_size after n
       grew high low =
-          let end = ltb-true p (extent after n) high in
-          let start = ltb-false p (extent before n) low in
+          let end = ltb-true p (file_size after n) high in
+          let start = ltb-false p (file_size before n) low in
           omega arith
 
-      at_start : (b : Bool) → ltb p (extent before n) ≡ b → ltb p (extent after n) ≡ true → cond b None (Some Zero) ≡ Some mark → length_after sizes n ≡ extent after n
+      at_start : (b : Bool) → ltb p (file_size before n) ≡ b → ltb p (file_size after n) ≡ true → cond b None (Some Zero) ≡ Some mark → length_after sizes n ≡ file_size after n
       at_start true low high is = cc
-      at_start false low high is = own_size (extent before) (extent after) n sizes all.own (all.grew n (grew high low))
+      at_start false low high is = own_size (file_size before) (file_size after) n sizes all.own (all.grew n (grew high low))
 
-      at_cover : (o : Option Mark) → last_cover 0 entries n p ≡ o → ltb p (extent after n) ≡ true → option_or o (growth_mark before n p) ≡ Some mark → length_after sizes n ≡ extent after n
-      at_cover None none high is = at_start (ltb p (extent before n)) refl high is
+      at_cover : (o : Option Mark) → last_cover 0 entries n p ≡ o → ltb p (file_size after n) ≡ true → option_or o (growth_mark before n p) ≡ Some mark → length_after sizes n ≡ file_size after n
+      at_cover None none high is = at_start (ltb p (file_size before n)) refl high is
       at_cover (Some m) some high is = all.reached n (last_reaches 0 entries n p m some)
 
-      at_end : (b : Bool) → ltb p (extent after n) ≡ b → cond b (option_or (last_cover 0 entries n p) (growth_mark before n p)) None ≡ Some mark → length_after sizes n ≡ extent after n
+      at_end : (b : Bool) → ltb p (file_size after n) ≡ b → cond b (option_or (last_cover 0 entries n p) (growth_mark before n p)) None ≡ Some mark → length_after sizes n ≡ file_size after n
       at_end true high is = at_cover (last_cover 0 entries n p) refl high is
       at_end false high is = cc
 
-  pub pieces_are_listed : (ps : List Piece) → AllByRecursion (IsTrueOf after) ps → AllByRecursion (λ (p : Piece). length_after sizes p.number ≡ extent after p.number) ps
+  pub pieces_are_listed : (ps : List Piece) → AllByRecursion (IsTrueOf after) ps → AllByRecursion (λ (p : Piece). length_after sizes p.number ≡ file_size after p.number) ps
   pieces_are_listed [] said = tt
   pieces_are_listed (p ∷ ps) said =
-      (changed_listed p.number (p.start + 0) (said_by p.source 0) (ap changed_mark (said.0.said 0 said.0.filled) ∙ changed_mark-said p.source 0), pieces_are_listed ps said.1)
+      (changed_listed p.number (p.start + 0) (mark_of_source p.source 0) (ap changed_mark (said.0.said 0 said.0.filled) ∙ changed_mark-said p.source 0), pieces_are_listed ps said.1)

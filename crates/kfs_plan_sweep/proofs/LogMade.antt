@@ -4,7 +4,7 @@ use Rattle.std.specs.Prelude.{IfOk}
 use Rattle.std.specs.List.{AllByRecursion, list_any}
 use Rattle.std.proofs.lemmas.List.{length-take-le}
 use Rattle.std.proofs.lemmas.Bool.{eq-eqb, or_left, or_right}
-use Rattle.kfs_model.specs.LastCover.{extent}
+use Rattle.kfs_model.specs.LastCover.{file_size}
 use Rattle.kfs_model.specs.Run.{Mark}
 use Rattle.kfs_model.specs.Tree.{Tree}
 use Rattle.kfs_entry_value.specs.Views.{entry_of, span_bytes, IsWithin}
@@ -58,7 +58,7 @@ pub log_made : (source : List ℕ) (sizes : List FileSize) (es : List (CodeEntry
 log_made source sizes es tree after stretches within all is = record {
   numbers = map (λ (s : FileSize). s.number) sizes;
   grew = all.grew;
-  are = is ∙ (λ i. growths_are (extent tree) (extent after) sizes all.own i ++ reaches_are source sizes (extent after) 0 es within all.reached i);
+  are = is ∙ (λ i. growths_are (file_size tree) (file_size after) sizes all.own i ++ reaches_are source sizes (file_size after) 0 es within all.reached i);
 }
 
 -- what is said of a result's value

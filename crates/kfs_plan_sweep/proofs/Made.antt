@@ -10,9 +10,9 @@ use Rattle.kfs_model.specs.Entry.{Entry, Create, Write, Truncate, Link, Unlink, 
 use Rattle.kfs_model.specs.Access.{Client}
 use Rattle.kfs_model.specs.Run.{Mark, run, over_marks, marked}
 use Rattle.kfs_model.specs.PlanRow.{Piece}
-use Rattle.kfs_model.specs.Plan.{mark_at, said_by, Ascend, ArePieces}
-use Rattle.kfs_model.specs.PlanCut.{said_at, AreInOrder}
-use Rattle.kfs_model.specs.LastCover.{extent, covered_by, last_cover}
+use Rattle.kfs_model.specs.Plan.{mark_at, mark_of_source, PiecesAscend, ArePieces}
+use Rattle.kfs_model.specs.PlanCut.{mark_in_pieces, AreInOrder}
+use Rattle.kfs_model.specs.LastCover.{file_size, covered_by, last_cover}
 use Rattle.kfs_model.proofs.Cut.{changed_mark, pieces_from_said}
 use Rattle.kfs_plan_sweep.proofs.ChangedMarks.{growth_mark, changed_mark_is}
 use Rattle.kfs_plan_sweep.specs.declared.stretch.Origin.{Origin}
@@ -21,8 +21,8 @@ use Rattle.kfs_plan_sweep.specs.declared.stretch.Stretch.{Stretch}
 use Rattle.kfs_entry_value.specs.Views.{piece_of}
 use Rattle.kfs_entry_value.specs.declared.plan.Piece.{Piece as CodePiece}
 use Rattle.kfs_plan_sweep.specs.Parts.{AreByNumber}
-use Rattle.kfs_plan_sweep.specs.Stretches.{holds, origin_at, last_origin, AreFrom}
-use Rattle.kfs_plan_sweep.specs.Made.{source_at, piece_made, pieces_made, IsPlaced, IsFit, made, grown}
+use Rattle.kfs_plan_sweep.specs.Stretches.{has_byte, origin_at, last_origin, AreFrom}
+use Rattle.kfs_plan_sweep.specs.Made.{source_at, piece_made, pieces_made, IsPlacedAt, IsFit, made, grown}
 use Rattle.kfs_plan_sweep.proofs.LastOrigin.{last_origin-append, option_or_none}
 
 -- ---- the mark of a byte
@@ -163,10 +163,10 @@ module _ (before ends : ℕ → ℕ) (n p : ℕ) where
 -- ---- the whole log
 
 module _ (client : Client) (seen : ClientSight) (before : Tree ℕ) (entries : List Entry) (after : Tree Mark) (opens : seen.sight ≡ sight before) (ran : run over_marks client seen (marked before) entries ≡ Ok after)
-    (numbers : List ℕ) (all : (n : ℕ) → extent before n < extent after n → list_any (λ k. n == k) numbers ≡ true) where
+    (numbers : List ℕ) (all : (n : ℕ) → file_size before n < file_size after n → list_any (λ k. n == k) numbers ≡ true) where
   -- what the log made, the growth of files below all
   abbrev pub all_made : List Stretch
-  all_made = grown (extent before) (extent after) numbers ++ made (extent after) 0 entries
+  all_made = grown (file_size before) (file_size after) numbers ++ made (file_size after) 0 entries
 
   both_conds : (b : Bool) (a c : Option Mark) → option_or (cond b a None) (cond b c None) ≡ cond b (option_or a c) None
   both_conds true a c = refl
@@ -175,10 +175,10 @@ module _ (client : Client) (seen : ClientSight) (before : Tree ℕ) (entries : L
   -- the last of the stretches that has a byte says its mark, and it is in none exactly where the log didn't change it
   pub stretches_say : (n p : ℕ) → option_map (λ o. mark_of o p) (last_origin all_made n p) ≡ changed_mark (mark_at after n p)
   stretches_say n p =
-      ap (option_map (λ o. mark_of o p)) (last_origin-append (grown (extent before) (extent after) numbers) (made (extent after) 0 entries) n p)
-      ∙ marked_or p (last_origin (made (extent after) 0 entries) n p) (last_origin (grown (extent before) (extent after) numbers) n p)
-      ∙ (λ i. option_or (made_marks (extent after) n p 0 entries i) (grown_marks (extent before) (extent after) n p numbers (all n) i))
-      ∙ both_conds (ltb p (extent after n)) (last_cover 0 entries n p) (growth_mark before n p)
+      ap (option_map (λ o. mark_of o p)) (last_origin-append (grown (file_size before) (file_size after) numbers) (made (file_size after) 0 entries) n p)
+      ∙ marked_or p (last_origin (made (file_size after) 0 entries) n p) (last_origin (grown (file_size before) (file_size after) numbers) n p)
+      ∙ (λ i. option_or (made_marks (file_size after) n p 0 entries i) (grown_marks (file_size before) (file_size after) n p numbers (all n) i))
+      ∙ both_conds (ltb p (file_size after n)) (last_cover 0 entries n p) (growth_mark before n p)
       ∙ sym (changed_mark_is client seen before entries after opens ran n p)
 
 -- ---- pieces
@@ -186,21 +186,21 @@ module _ (client : Client) (seen : ClientSight) (before : Tree ℕ) (entries : L
 holds_piece : (k s e n p : ℕ) → s < e → (eqb k n && leb s p && ltb p (s + (e - s))) ≡ (eqb k n && leb s p && ltb p e)
 holds_piece k s e n p h = let ends : s + (e - s) ≡ e = omega arith in ap (λ e. eqb k n && leb s p && ltb p e) ends
 
-said_mark : (o : Origin) (s e p : ℕ) → IsPlaced o s e → s ≤ p → said_by (source_at o s) (p - s) ≡ mark_of o p
+said_mark : (o : Origin) (s e p : ℕ) → IsPlacedAt o s e → s ≤ p → mark_of_source (source_at o s) (p - s) ≡ mark_of o p
 said_mark Zero s e p placed h = refl
 said_mark (Payload entry offset) s e p placed h = let sum : s - offset + (p - s) ≡ p - offset = (let low = placed.0 in omega arith) in ap (Mark.Payload entry) sum
 
 low_end : (k s e n p : ℕ) → (eqb k n && leb s p && ltb p e) ≡ true → s ≤ p
 low_end k s e n p h = grind (arith, nat_tests)
 
-pub pieces_say : (ss : List Stretch) (k i : ℕ) → AreFrom k i ss → AllByRecursion IsFit ss → (n p : ℕ) → said_at (pieces_made ss) n p ≡ option_map (λ o. mark_of o p) (origin_at ss n p)
+pub pieces_say : (ss : List Stretch) (k i : ℕ) → AreFrom k i ss → AllByRecursion IsFit ss → (n p : ℕ) → mark_in_pieces (pieces_made ss) n p ≡ option_map (λ o. mark_of o p) (origin_at ss n p)
 pieces_say [] k i from fit n p = refl
 pieces_say (s ∷ ss) k i from fit n p =
-    ap (λ b. cond b (Some (said_by (source_at s.origin s.start) (p - s.start))) (said_at (pieces_made ss) n p)) (holds_piece s.number s.start s.end n p from.1)
-    ∙ at (holds n p s) refl (pieces_say ss s.number s.end from.2 fit.1 n p)
+    ap (λ b. cond b (Some (mark_of_source (source_at s.origin s.start) (p - s.start))) (mark_in_pieces (pieces_made ss) n p)) (holds_piece s.number s.start s.end n p from.1)
+    ∙ at (has_byte n p s) refl (pieces_say ss s.number s.end from.2 fit.1 n p)
   where
-    at : (b : Bool) → holds n p s ≡ b → said_at (pieces_made ss) n p ≡ option_map (λ o. mark_of o p) (origin_at ss n p)
-        → cond b (Some (said_by (source_at s.origin s.start) (p - s.start))) (said_at (pieces_made ss) n p) ≡ option_map (λ o. mark_of o p) (cond b (Some s.origin) (origin_at ss n p))
+    at : (b : Bool) → has_byte n p s ≡ b → mark_in_pieces (pieces_made ss) n p ≡ option_map (λ o. mark_of o p) (origin_at ss n p)
+        → cond b (Some (mark_of_source (source_at s.origin s.start) (p - s.start))) (mark_in_pieces (pieces_made ss) n p) ≡ option_map (λ o. mark_of o p) (cond b (Some s.origin) (origin_at ss n p))
     at true e more = ap Some (said_mark s.origin s.start s.end p fit.0.placed (low_end s.number s.start s.end n p e))
     at false e more = more
 
@@ -208,7 +208,7 @@ filled_pieces : (ss : List Stretch) (k i : ℕ) → AreFrom k i ss → AllByRecu
 filled_pieces [] k i from = tt
 filled_pieces (s ∷ ss) k i from = ((let filled = from.1 in let f : 0 < s.end - s.start = omega arith in f), filled_pieces ss s.number s.end from.2)
 
-ascending_pieces : (ss : List Stretch) (k i : ℕ) → AreFrom k i ss → Ascend (pieces_made ss)
+ascending_pieces : (ss : List Stretch) (k i : ℕ) → AreFrom k i ss → PiecesAscend (pieces_made ss)
 ascending_pieces [] k i from = tt
 ascending_pieces (s ∷ []) k i from = tt
 ascending_pieces (s ∷ t ∷ rest) k i from =
@@ -221,9 +221,9 @@ pieces_in_order ss from = record { ascending = ascending_pieces ss 0 0 from; fil
 
 -- stretches in order that say what the last of all says are right pieces
 module _ (client : Client) (seen : ClientSight) (before : Tree ℕ) (entries : List Entry) (after : Tree Mark) (opens : seen.sight ≡ sight before) (ran : run over_marks client seen (marked before) entries ≡ Ok after)
-    (numbers : List ℕ) (all : (n : ℕ) → extent before n < extent after n → list_any (λ k. n == k) numbers ≡ true) where
+    (numbers : List ℕ) (all : (n : ℕ) → file_size before n < file_size after n → list_any (λ k. n == k) numbers ≡ true) where
   pub laid_pieces_are_right : (ss : List Stretch) → AreFrom 0 0 ss → AllByRecursion IsFit ss
-      → ((n p : ℕ) → origin_at ss n p ≡ last_origin (grown (extent before) (extent after) numbers ++ made (extent after) 0 entries) n p) → ArePieces after (pieces_made ss)
+      → ((n p : ℕ) → origin_at ss n p ≡ last_origin (grown (file_size before) (file_size after) numbers ++ made (file_size after) 0 entries) n p) → ArePieces after (pieces_made ss)
   laid_pieces_are_right ss from fit says = pieces_from_said after (pieces_made ss) (pieces_in_order ss from) (λ n p.
       pieces_say ss 0 0 from fit n p ∙ ap (option_map (λ o. mark_of o p)) (says n p) ∙ stretches_say client seen before entries after opens ran numbers all n p)
 

@@ -5,7 +5,7 @@ use Rattle.kfs_model.specs.Table.{option_or}
 use Rattle.kfs_model.specs.Plan.{ComesBy}
 use Rattle.kfs_model.proofs.Follow.{comes_then, before_then, either_side, not_yet, no_more}
 use Rattle.kfs_plan_sweep.specs.declared.stretch.Stretch.{Stretch}
-use Rattle.kfs_plan_sweep.specs.Stretches.{holds, origin_at, AreFrom, ends_by, begins_before, cut_below, cut_from, merged}
+use Rattle.kfs_plan_sweep.specs.Stretches.{has_byte, origin_at, AreFrom, ends_by, begins_before, cut_below, cut_from, merged}
 
 -- ---- over plain numbers
 
@@ -87,14 +87,14 @@ module _ (n p : ℕ) where
 
         at : (a : Bool) → ends_by n p s ≡ a → (b : Bool) → begins_before n p s ≡ b → origin_at (cut_below n p ss ++ rest) m q ≡ origin_at ss m q
             → origin_at (cond a (s ∷ cut_below n p ss) (cond b (record s { end = p } ∷ []) []) ++ rest) m q ≡ origin_at (s ∷ ss) m q
-        at true ends b begins more = ap (cond (holds m q s) (Some s.origin)) more
+        at true ends b begins more = ap (cond (has_byte m q s) (Some s.origin)) more
         at false ends true begins more =
             let parts = begins_from s.number s.start n p begins in
             let past = goes_past s.number s.end n p ends parts.0 in
             let number = parts.0 in
             let further : (m < s.number) ⊎ ((m ≡ s.number) × (q < s.end)) = grind arith in
             ap (λ b. cond b (Some s.origin) (origin_at rest m q)) (front_holds s.number s.start s.end n p m q parts.0 past h)
-            ∙ after (holds m q s) (none_before m q n p rest h behind) (none_before m q s.number s.end ss further from.2)
+            ∙ after (has_byte m q s) (none_before m q n p rest h behind) (none_before m q s.number s.end ss further from.2)
         at false ends false begins more =
             none_before m q n p rest h behind
             ∙ sym (none_before m q n p (s ∷ ss) h (lies_behind s.number s.start s.end n p ends begins, from.1, from.2))
@@ -156,9 +156,9 @@ module _ (u : Stretch) (us ls : List Stretch) (n p : ℕ) (lower : AreFrom n p l
       ∙ ap (λ o. option_or o (origin_at ls m q)) (sym (none_before m q u.number u.start (u ∷ us) h (inr (refl, same), upper.1, upper.2)))
 
   says_behind : origin_at (merged rest us) m q ≡ option_or (origin_at us m q) (origin_at rest m q) → ComesBy u.number u.start m q → origin_at (cut_below u.number u.start ls ++ u ∷ merged rest us) m q ≡ option_or (origin_at (u ∷ us) m q) (origin_at ls m q)
-  says_behind more h = front_ends u.number u.start m q ls (u ∷ merged rest us) h ∙ at (holds m q u) refl
+  says_behind more h = front_ends u.number u.start m q ls (u ∷ merged rest us) h ∙ at (has_byte m q u) refl
     where
-      at : (b : Bool) → holds m q u ≡ b → cond b (Some u.origin) (origin_at (merged rest us) m q) ≡ option_or (cond b (Some u.origin) (origin_at us m q)) (origin_at ls m q)
+      at : (b : Bool) → has_byte m q u ≡ b → cond b (Some u.origin) (origin_at (merged rest us) m q) ≡ option_or (cond b (Some u.origin) (origin_at us m q)) (origin_at ls m q)
       at true e = refl
       at false e =
           let past = past_end u.number u.start u.end m q h e in

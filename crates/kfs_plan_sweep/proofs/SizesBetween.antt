@@ -3,7 +3,7 @@ use Rattle.std.proofs.Common.{◌≡◌, ℕ, ◌≤◌, min, List, [], ◌∷�
 use Rattle.std.specs.List.{AllByRecursion}
 use Rattle.kfs_model.specs.Entry.{Entry}
 use Rattle.kfs_model.specs.Header.{Header}
-use Rattle.kfs_model.specs.LastCover.{extent}
+use Rattle.kfs_model.specs.LastCover.{file_size}
 use Rattle.kfs_model.specs.Limits.{size_limit}
 use Rattle.kfs_model.specs.Run.{Mark}
 use Rattle.kfs_model.specs.Sight.{sight}
@@ -24,17 +24,17 @@ module _ {B : Type 0} where
       by (Some header) is = (sound.ranges n header is).size
 
 module _ (tree after : Tree ℕ) (marked_after : Tree Mark) (sound : IsSound after) (heads : headers after ≡ headers marked_after) where
-  size_marked : (n : ℕ) → size_in (sight after) n ≡ extent marked_after n
+  size_marked : (n : ℕ) → size_in (sight after) n ≡ file_size marked_after n
   size_marked n = ap (λ table. size_said (get table n)) heads ∙ size_is_extent marked_after n
 
-  size_after : (n : ℕ) → min (size_in (sight after) n) size_limit ≡ extent marked_after n
+  size_after : (n : ℕ) → min (size_in (sight after) n) size_limit ≡ file_size marked_after n
   size_after n =
       let short = sound_size after n sound in
       let same : min (size_in (sight after) n) size_limit ≡ size_in (sight after) n = omega (arith, short) in
       same ∙ size_marked n
 
   own_sizes : (sizes : List FileSize) → AllByRecursion (λ (s : FileSize). (s.before ≡ size_in (sight tree) s.number) × (s.after ≡ min (size_in (sight after) s.number) size_limit)) sizes
-      → AllByRecursion (λ (s : FileSize). (s.before ≡ extent tree s.number) × (s.after ≡ extent marked_after s.number)) sizes
+      → AllByRecursion (λ (s : FileSize). (s.before ≡ file_size tree s.number) × (s.after ≡ file_size marked_after s.number)) sizes
   own_sizes [] own = tt
   own_sizes (s ∷ ss) own = ((own.0.0 ∙ size_is_extent tree s.number, own.0.1 ∙ size_after s.number), own_sizes ss own.1)
 
@@ -45,5 +45,5 @@ module _ (tree after : Tree ℕ) (marked_after : Tree Mark) (sound : IsSound aft
       record {
         own = own;
         grew = λ n grows. all.grew n (let before = size_is_extent tree n in let end = size_marked n in omega arith);
-        reached = λ n is. own_size (extent tree) (extent marked_after) n sizes own (all.reached n is);
+        reached = λ n is. own_size (file_size tree) (file_size marked_after) n sizes own (all.reached n is);
       }

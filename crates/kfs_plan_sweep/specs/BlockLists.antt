@@ -1,8 +1,8 @@
 -- Lists of blocks: those that the pieces of a file write, and the ranges of those that they make all zero.
 use Rattle.std.specs.Prelude.{◌≡◌, ℕ, ◌+◌, ◌-◌, ◌/◌, ◌<◌, ◌++◌, ◌==◌, ◌&&◌, max, nat_le, nat_lt, Bool, List, [], ◌∷◌, length, map, Some, if◌then◌else◌}
 use Rattle.std.specs.List.{list_any}
-use Rattle.kfs_model.specs.Blocks.{Blocks, goes_on, is_zero_source, of_file, touches}
-use Rattle.kfs_model.specs.LastCover.{extent}
+use Rattle.kfs_model.specs.Blocks.{BlockRange, goes_on, is_zero_source, of_file, touches}
+use Rattle.kfs_model.specs.LastCover.{file_size}
 use Rattle.kfs_model.specs.Limits.{block_size}
 use Rattle.kfs_model.specs.Placement.{block_count, cleared_blocks, numbers_from}
 use Rattle.kfs_model.specs.Plan.{end_of}
@@ -12,13 +12,13 @@ use Rattle.kfs_model.specs.Tree.{Tree, Node, content_of}
 use Rattle.kfs_plan_sweep.specs.declared.block_lists.BlockRange.{BlockRange}
 
 -- the blocks that are in one of the stretches at least, from a block on: each block once
-unfoldable pub listed : (next : ℕ) → List Blocks → List ℕ
+unfoldable pub listed : (next : ℕ) → List BlockRange → List ℕ
 listed next [] = []
 listed next (r ∷ rs) = numbers_from (max r.first next) (r.last + 1 - max r.first next) ++ listed (max next (r.last + 1)) rs
 
 -- The later list has these blocks listed: whatever comes behind them, both come to the same.
-abbrev pub HasListed : (before : List ℕ) (next : ℕ) → List Blocks → (after : List ℕ) (later : ℕ) → Type 0
-HasListed before next blocks after later = (rest : List Blocks) → after ++ listed later rest ≡ before ++ listed next (blocks ++ rest)
+abbrev pub HasListed : (before : List ℕ) (next : ℕ) → List BlockRange → (after : List ℕ) (later : ℕ) → Type 0
+HasListed before next blocks after later = (rest : List BlockRange) → after ++ listed later rest ≡ before ++ listed next (blocks ++ rest)
 
 abbrev pub is_in_range : (block : ℕ) → BlockRange → Bool
 is_in_range block range = nat_le range.first block && nat_lt block range.end
@@ -55,5 +55,5 @@ node_written pieces entry = map (λ block. (entry.0, block)) (listed 0 (touches 
 
 -- a block of this file is one that the log makes all zero exactly where it is in a range that the file's pieces clear
 abbrev pub IsClearedInRanges : (after : Tree Mark) → List Piece → (number : ℕ) → Type 0
-IsClearedInRanges after pieces number = (block : ℕ) → block < block_count (extent after number)
-    → list_any (λ other. (other.0 == number) && (other.1 == block)) (cleared_blocks after) ≡ list_any (is_in_range block) (cleared_runs (extent after number) (of_file number pieces))
+IsClearedInRanges after pieces number = (block : ℕ) → block < block_count (file_size after number)
+    → list_any (λ other. (other.0 == number) && (other.1 == block)) (cleared_blocks after) ≡ list_any (is_in_range block) (cleared_runs (file_size after number) (of_file number pieces))

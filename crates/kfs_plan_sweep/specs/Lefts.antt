@@ -19,13 +19,13 @@ IsPlaceShort Zero distance = Unit {0}
 IsPlaceShort (Payload entry place) distance = place + distance < 2 ^ 32
 
 -- so many bytes of the piece end in range, in the file and in the payload
-pub record IsShort (p : Piece) (distance : ℕ) : Type 0 where
+pub record FrontIsInRange (p : Piece) (distance : ℕ) : Type 0 where
   pub start : p.start + distance ≤ size_limit
   pub place : IsPlaceShort p.source distance
 
 -- all of the piece ends in range
-abbrev pub IsWhole : CodePiece → Type 0
-IsWhole p = IsShort (piece_of p) p.len
+abbrev pub PieceIsInRange : CodePiece → Type 0
+PieceIsInRange p = FrontIsInRange (piece_of p) p.len
 
 abbrev pub IsFilled : CodePiece → Type 0
 IsFilled p = 0 < p.len

@@ -4,7 +4,7 @@ use Rattle.std.specs.List.{list_any}
 use Rattle.kfs_model.specs.Limits.{payload_limit, size_limit}
 use Rattle.kfs_model.specs.Entry.{Entry, Create, Write, Truncate, Link, Unlink, Rename, Chmod}
 use Rattle.kfs_model.specs.Laws.{EachRun}
-use Rattle.kfs_model.specs.LastCover.{extent}
+use Rattle.kfs_model.specs.LastCover.{file_size}
 use Rattle.kfs_model.specs.Plan.{ArePieces}
 use Rattle.kfs_model.specs.Run.{Mark, run, over_marks, marked}
 use Rattle.kfs_model.specs.Sight.{sight}
@@ -27,14 +27,14 @@ pieces_made [] = []
 pieces_made (s ∷ ss) = piece_made s ∷ pieces_made ss
 
 -- a payload stands at its offset, at most 65,536 bytes long
-abbrev pub IsPlaced : Origin → (start end : ℕ) → Type 0
-IsPlaced Zero start end = Unit {0}
-IsPlaced (Payload entry offset) start end = (offset ≤ start) × (end ≤ offset + payload_limit)
+abbrev pub IsPlacedAt : Origin → (start end : ℕ) → Type 0
+IsPlacedAt Zero start end = Unit {0}
+IsPlacedAt (Payload entry offset) start end = (offset ≤ start) × (end ≤ offset + payload_limit)
 
 -- the stretch lies in a file of the greatest size, and in its entry's payload
 pub record IsFit (s : Stretch) : Type 0 where
   pub end : s.end ≤ size_limit
-  pub placed : IsPlaced s.origin s.start s.end
+  pub placed : IsPlacedAt s.origin s.start s.end
 
 -- what each Write and each Truncate reaches of its file, below the file's end after the log
 unfoldable pub made : (ends : ℕ → ℕ) → (index : ℕ) → List Entry → List Stretch
@@ -55,8 +55,8 @@ grown before ends (n ∷ ns) = record { number = n; start = before n; end = ends
 -- what a run made: the growth of files, those that grew among them, and then what each entry reaches
 pub record AreMade (tree : Tree ℕ) (entries : List Entry) (after : Tree Mark) (stretches : List Stretch) : Type 0 where
   pub numbers : List ℕ
-  pub grew : (n : ℕ) → extent tree n < extent after n → IsTrue (list_any (λ k. n == k) numbers)
-  pub are : stretches ≡ grown (extent tree) (extent after) numbers ++ made (extent after) 0 entries
+  pub grew : (n : ℕ) → file_size tree n < file_size after n → IsTrue (list_any (λ k. n == k) numbers)
+  pub are : stretches ≡ grown (file_size tree) (file_size after) numbers ++ made (file_size after) 0 entries
 
 -- whichever run made the stretches, the pieces are right ones of its log
 abbrev pub AreRightOf : List Stretch → List Piece → Type 0

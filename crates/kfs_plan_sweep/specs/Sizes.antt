@@ -3,7 +3,7 @@ use Rattle.std.specs.Prelude.{◌≡◌, ℕ, ◌+◌, ◌-◌, ◌<◌, ◌≤�
 use Rattle.std.specs.List.{list_any, AllByRecursion}
 use Rattle.kfs_model.specs.Access.{Client}
 use Rattle.kfs_model.specs.Entry.{Entry, Create, Write, Truncate, Link, Unlink, Rename, Chmod}
-use Rattle.kfs_model.specs.LastCover.{extent}
+use Rattle.kfs_model.specs.LastCover.{file_size}
 use Rattle.kfs_model.specs.Limits.{payload_limit, size_limit}
 use Rattle.kfs_model.specs.Plan.{ArePieces}
 use Rattle.kfs_model.specs.PlanRow.{Piece}
@@ -19,9 +19,9 @@ use Rattle.kfs_plan_sweep.specs.declared.stretch.Origin.TheVariants.{Zero, Paylo
 use Rattle.kfs_plan_sweep.specs.declared.stretch.Stretch.{Stretch}
 
 -- by number, each of them at least this one, and no number twice
-abbrev pub Ascend : (least : ℕ) → List FileSize → Type 0
-Ascend least [] = Unit {0}
-Ascend least (s ∷ ss) = (least ≤ s.number) × Ascend (s.number + 1) ss
+abbrev pub SizesAscend : (least : ℕ) → List FileSize → Type 0
+SizesAscend least [] = Unit {0}
+SizesAscend least (s ∷ ss) = (least ≤ s.number) × SizesAscend (s.number + 1) ss
 
 -- the size after the log, 0 of a file that isn't listed
 abbrev pub length_after : List FileSize → (number : ℕ) → ℕ
@@ -81,9 +81,9 @@ reaches_file number (Chmod n mode) = false
 
 -- the sizes are those of a run; each file that grew is listed, and each that an entry reaches, if it is there after the log
 pub record AreSizes (tree : Tree ℕ) (entries : List Entry) (after : Tree Mark) (sizes : List FileSize) : Type 0 where
-  pub own : AllByRecursion (λ (s : FileSize). (s.before ≡ extent tree s.number) × (s.after ≡ extent after s.number)) sizes
-  pub grew : (n : ℕ) → extent tree n < extent after n → IsTrue (list_any (λ k. n == k) (map (λ (s : FileSize). s.number) sizes))
-  pub reached : (n : ℕ) → IsTrue (list_any (reaches_file n) entries) → length_after sizes n ≡ extent after n
+  pub own : AllByRecursion (λ (s : FileSize). (s.before ≡ file_size tree s.number) × (s.after ≡ file_size after s.number)) sizes
+  pub grew : (n : ℕ) → file_size tree n < file_size after n → IsTrue (list_any (λ k. n == k) (map (λ (s : FileSize). s.number) sizes))
+  pub reached : (n : ℕ) → IsTrue (list_any (reaches_file n) entries) → length_after sizes n ≡ file_size after n
 
 -- the size that the header says, 0 of none
 abbrev pub size_in : Sight → ℕ → ℕ
@@ -98,7 +98,7 @@ pub record AreSizesBetween (before after : Sight) (entries : List Entry) (sizes 
 -- right pieces, of files whose sizes are listed
 pub record AreSwept (sizes : List FileSize) (after : Tree Mark) (pieces : List Piece) : Type 0 where
   pub right : ArePieces after pieces
-  pub listed : AllByRecursion (λ (p : Piece). length_after sizes p.number ≡ extent after p.number) pieces
+  pub listed : AllByRecursion (λ (p : Piece). length_after sizes p.number ≡ file_size after p.number) pieces
 
 -- whichever run of the entries has these sizes, the pieces are right ones of it
 abbrev pub AreRightFor : List FileSize → List Entry → List Piece → Type 0

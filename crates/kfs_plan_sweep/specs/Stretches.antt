@@ -5,13 +5,13 @@ use Rattle.kfs_model.specs.Plan.{ComesBy}
 use Rattle.kfs_plan_sweep.specs.declared.stretch.Origin.{Origin}
 use Rattle.kfs_plan_sweep.specs.declared.stretch.Stretch.{Stretch}
 
-abbrev pub holds : (number place : ℕ) → Stretch → Bool
-holds n p s = (s.number == n) && nat_le s.start p && nat_lt p s.end
+abbrev pub has_byte : (number place : ℕ) → Stretch → Bool
+has_byte n p s = (s.number == n) && nat_le s.start p && nat_lt p s.end
 
 -- what made the byte, none where it is in no stretch
 abbrev pub origin_at : List Stretch → (number place : ℕ) → Option Origin
 origin_at [] n p = None
-origin_at (s ∷ ss) n p = if holds n p s then Some s.origin else origin_at ss n p
+origin_at (s ∷ ss) n p = if has_byte n p s then Some s.origin else origin_at ss n p
 
 -- one behind another, from this byte on, none of them empty
 abbrev pub AreFrom : (number place : ℕ) → List Stretch → Type 0
@@ -44,4 +44,4 @@ merged lower (u ∷ us) = cut_below u.number u.start lower ++ u ∷ merged (cut_
 -- what the last of the stretches that has the byte made it of
 abbrev pub last_origin : List Stretch → (number place : ℕ) → Option Origin
 last_origin [] n p = None
-last_origin (s ∷ ss) n p = option_or (last_origin ss n p) (if holds n p s then Some s.origin else None)
+last_origin (s ∷ ss) n p = option_or (last_origin ss n p) (if has_byte n p s then Some s.origin else None)

@@ -6,7 +6,7 @@ ghost use Rattle.kfs_model.specs.Limits.{size_limit};
 ghost use Rattle.kfs_model.specs.Placement.{block_count};
 ghost use Rattle.kfs_entry_value.specs.Views.{piece_of};
 ghost use Rattle.kfs_plan_sweep.specs.BlockLists.{HasListed, blocks_between, cleared_runs, listed, zeros_start};
-ghost use Rattle.kfs_plan_sweep.specs.Lefts.{IsFilled, IsWhole};
+ghost use Rattle.kfs_plan_sweep.specs.Lefts.{IsFilled, PieceIsInRange};
 ghost use Rattle.kfs_plan_sweep.specs.PieceBlocks.{blocks_in};
 
 use crate::blocks::{goes_on_at, touched_by, zeros_end};
@@ -46,7 +46,7 @@ pub fn written_in<A: Allocator>(
     pieces: &[Piece],
     size: u64,
 ) -> Result<Vec<u32, A>, AllocError>
-    requires whole { AllByRecursion IsWhole pieces.now }
+    requires whole { AllByRecursion PieceIsInRange pieces.now }
     requires filled { AllByRecursion IsFilled pieces.now }
     ensures { IfOk result (λ blocks. blocks.items ≡ listed 0 (touches size 0 (map piece_of pieces.now))) }
 {
@@ -99,7 +99,7 @@ fn add_between<A: Allocator>(
 
 /// Where the zero bytes of a piece begin, and its end for a payload's.
 fn zeros_start(piece: &Piece) -> u64
-    requires { IsWhole piece.now }
+    requires { PieceIsInRange piece.now }
     ensures value { result ≡ zeros_start (piece_of piece.now) }
     ensures small { result ≤ size_limit }
 {
@@ -116,7 +116,7 @@ pub fn cleared_in<A: Allocator>(
     pieces: &[Piece],
     size: u64,
 ) -> Result<Vec<BlockRange, A>, AllocError>
-    requires { AllByRecursion IsWhole pieces.now }
+    requires { AllByRecursion PieceIsInRange pieces.now }
     ensures { IfOk result (λ ranges. ranges.items ≡ cleared_runs size (map piece_of pieces.now)) }
 {
     let mut out = Vec::new(alloc);

@@ -4,7 +4,7 @@ ghost use Rattle.std.specs.List.{AllByRecursion};
 ghost use Rattle.kfs_entry_value.specs.Views.{piece_of};
 ghost use Rattle.kfs_model.specs.Blocks.{block_of, counted, goes_on, touches};
 ghost use Rattle.kfs_model.specs.Limits.{size_limit};
-ghost use Rattle.kfs_plan_sweep.specs.Lefts.{IsFilled, IsWhole};
+ghost use Rattle.kfs_plan_sweep.specs.Lefts.{IsFilled, PieceIsInRange};
 ghost use Rattle.kfs_plan_sweep.specs.PieceBlocks.{HasCounted, blocks_in, piece_blocks, zeros_until};
 
 use crate::touched::Touched;
@@ -39,7 +39,7 @@ pub(crate) fn touched_by(
     goes_on: bool,
     size: u64,
 ) -> (Option<Touched>, Option<Touched>)
-    requires whole { IsWhole piece.now }
+    requires whole { PieceIsInRange piece.now }
     requires filled { 0 < piece.now.len }
     ensures { blocks_in result.0 ++ blocks_in result.1 ≡ piece_blocks size until goes_on (piece_of piece.now) }
 {
@@ -83,7 +83,7 @@ fn with_blocks(count: Count, touched: Option<Touched>) -> Count
 
 /// Counts the blocks that a piece writes.
 fn with_piece(count: Count, until: u64, piece: &Piece, goes_on: bool, size: u64) -> Count
-    requires whole { IsWhole piece.now }
+    requires whole { PieceIsInRange piece.now }
     requires filled { 0 < piece.now.len }
     requires low { count.total ≤ count.next }
     requires near { count.next ≤ 2 ^ 20 + 1 }
@@ -108,7 +108,7 @@ pub(crate) fn goes_on_at(pieces: &[Piece], index: usize, place: u64) -> bool
 
 /// Where the zero bytes of a piece end, and 0 for a payload's.
 pub(crate) fn zeros_end(piece: &Piece) -> u64
-    requires { IsWhole piece.now }
+    requires { PieceIsInRange piece.now }
     ensures { result ≡ zeros_until (piece_of piece.now) }
 {
     match piece.source {
@@ -119,7 +119,7 @@ pub(crate) fn zeros_end(piece: &Piece) -> u64
 
 /// How many blocks the right pieces of one file write, where the file has this size after the log.
 pub fn blocks_written(pieces: &[Piece], size: u64) -> u64
-    requires whole { AllByRecursion IsWhole pieces.now }
+    requires whole { AllByRecursion PieceIsInRange pieces.now }
     requires filled { AllByRecursion IsFilled pieces.now }
     ensures counts { result ≡ counted 0 (touches size 0 (map piece_of pieces.now)) }
     ensures few { result ≤ 2 ^ 21 }

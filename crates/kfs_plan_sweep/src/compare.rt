@@ -4,7 +4,7 @@ ghost use Rattle.std.specs.Option.{option_map};
 ghost use Rattle.std.specs.List.{AllByRecursion};
 ghost use Rattle.kfs_entry_value.specs.Views.{piece_of};
 ghost use Rattle.kfs_model.specs.Compare.{begins_alike, behind_piece, first_apart, without_front};
-ghost use Rattle.kfs_plan_sweep.specs.Lefts.{IsShort, IsWhole, left_of, pieces_left};
+ghost use Rattle.kfs_plan_sweep.specs.Lefts.{FrontIsInRange, PieceIsInRange, left_of, pieces_left};
 
 use kfs_entry_value::{Piece, Source};
 
@@ -51,7 +51,7 @@ fn begin_alike(piece: &Piece, right: &Piece) -> bool
 /// The piece without its first bytes.
 fn cut_front(piece: Piece, distance: u64) -> Piece
     requires within { distance ≤ piece.len }
-    requires short { IsShort (piece_of piece) distance }
+    requires short { FrontIsInRange (piece_of piece) distance }
     ensures { piece_of result ≡ without_front distance (piece_of piece) }
 {
     let source = match piece.source {
@@ -71,9 +71,9 @@ fn cut_front(piece: Piece, distance: u64) -> Piece
 
 /// What is left behind a piece, if the piece says what the right pieces say from their first byte on.
 fn left_behind(right: &[Piece], left: Left, piece: &Piece) -> Option<Left>
-    requires short { AllByRecursion IsWhole (left_of right.now left) }
+    requires short { AllByRecursion PieceIsInRange (left_of right.now left) }
     ensures behind { option_map (λ after. pieces_left right.now after) result ≡ behind_piece (piece_of piece.now) (pieces_left right.now left) }
-    ensures short { IfSome result (λ after. AllByRecursion IsWhole (left_of right.now after)) }
+    ensures short { IfSome result (λ after. AllByRecursion PieceIsInRange (left_of right.now after)) }
 {
     let mut wanted = *piece;
     let mut left = left;
@@ -100,7 +100,7 @@ fn left_behind(right: &[Piece], left: Left, piece: &Piece) -> Option<Left>
 /// The first piece that is empty or isn't what is left of the right pieces begins with, or the count of pieces where some of
 /// the right ones are left.
 pub fn first_piece_apart(pieces: &[Piece], right: &[Piece]) -> Option<usize>
-    requires { AllByRecursion IsWhole right.now }
+    requires { AllByRecursion PieceIsInRange right.now }
     ensures { result ≡ first_apart 0 (map piece_of pieces.now) (map piece_of right.now) }
 {
     let mut left = left_from(right, 0);

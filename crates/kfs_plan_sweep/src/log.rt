@@ -3,10 +3,10 @@ ghost use Rattle.std.specs.Prelude.{◌≡◌, ◌≤◌, ◌++◌, IfOk, IfSome
 ghost use Rattle.std.specs.List.{AllByRecursion};
 ghost use Rattle.kfs_model.specs.Limits.{entry_limit};
 ghost use Rattle.kfs_entry_value.specs.Views.{piece_of};
-ghost use Rattle.kfs_plan_sweep.specs.Lefts.{IsFilled, IsWhole};
+ghost use Rattle.kfs_plan_sweep.specs.Lefts.{IsFilled, PieceIsInRange};
 ghost use Rattle.kfs_plan_sweep.specs.Made.{IsFit};
 ghost use Rattle.kfs_plan_sweep.specs.Parts.{AreByNumber};
-ghost use Rattle.kfs_plan_sweep.specs.Sizes.{AreRightFrom, Ascend, IsSize, IsSpanned, growth_of, growths, reach_of, reaches};
+ghost use Rattle.kfs_plan_sweep.specs.Sizes.{AreRightFrom, SizesAscend, IsSize, IsSpanned, growth_of, growths, reach_of, reaches};
 
 use crate::pieces::right_pieces;
 use crate::sizes::{FileSize, size_after};
@@ -31,7 +31,7 @@ fn growth(size: &FileSize) -> Stretch
 /// What the entry of this index reaches of its file, below the file's size after the log; none for an entry that is neither
 /// a Write nor a Truncate.
 fn reach(sizes: &[FileSize], index: u16, entry: &Entry<Span>) -> Option<Stretch>
-    requires ascending { Ascend 0 sizes.now }
+    requires ascending { SizesAscend 0 sizes.now }
     requires sizes { AllByRecursion IsSize sizes.now }
     requires span { IsSpanned entry.now }
     ensures made { result ≡ reach_of sizes.now index entry.now }
@@ -70,7 +70,7 @@ fn stretches_of<A: Allocator>(
     sizes: &[FileSize],
     entries: &[Entry<Span>],
 ) -> Result<Vec<Stretch, A>, AllocError>
-    requires ascending { Ascend 0 sizes.now }
+    requires ascending { SizesAscend 0 sizes.now }
     requires sizes { AllByRecursion IsSize sizes.now }
     requires spans { AllByRecursion IsSpanned entries.now }
     requires count { length entries.now ≤ entry_limit }
@@ -97,12 +97,12 @@ pub fn sweep<A: Allocator + Copy>(
     sizes: &[FileSize],
     entries: &[Entry<Span>],
 ) -> Result<Vec<Piece, A>, AllocError>
-    requires ascending { Ascend 0 sizes.now }
+    requires ascending { SizesAscend 0 sizes.now }
     requires sizes { AllByRecursion IsSize sizes.now }
     requires spans { AllByRecursion IsSpanned entries.now }
     requires count { length entries.now ≤ entry_limit }
     ensures right { IfOk result (λ out. AreRightFrom sizes.now entries.now (map piece_of out.items)) }
-    ensures whole { IfOk result (λ out. AllByRecursion IsWhole out.items) }
+    ensures whole { IfOk result (λ out. AllByRecursion PieceIsInRange out.items) }
     ensures filled { IfOk result (λ out. AllByRecursion IsFilled out.items) }
     ensures order { IfOk result (λ out. AreByNumber 0 out.items) }
 {

@@ -2,9 +2,9 @@
 ghost use Rattle.std.specs.Prelude.{◌≡◌, map};
 ghost use Rattle.std.specs.List.{AllByRecursion};
 ghost use Rattle.kfs_entry_value.specs.Views.{piece_of};
-ghost use Rattle.kfs_plan_sweep.specs.Lefts.{IsFilled, IsWhole};
+ghost use Rattle.kfs_plan_sweep.specs.Lefts.{IsFilled, PieceIsInRange};
 ghost use Rattle.kfs_plan_sweep.specs.Parts.{AreByNumber, IsNeedOf, front_len};
-ghost use Rattle.kfs_plan_sweep.specs.Sizes.{Ascend};
+ghost use Rattle.kfs_plan_sweep.specs.Sizes.{SizesAscend};
 
 use crate::blocks::blocks_written;
 use crate::sizes::{FileSize, size_after};
@@ -24,9 +24,9 @@ fn front_len(pieces: &[Piece], number: u32) -> usize
 /// How many blocks right pieces write, over all files, by the files' sizes after the log: so many free places a landing takes.
 /// The pieces stand in the order of their files' numbers, and those of `sizes` ascend.
 pub fn need_of(pieces: &[Piece], sizes: &[FileSize]) -> u64
-    requires ascending { Ascend 0 sizes.now }
+    requires ascending { SizesAscend 0 sizes.now }
     requires order { AreByNumber 0 pieces.now }
-    requires whole { AllByRecursion IsWhole pieces.now }
+    requires whole { AllByRecursion PieceIsInRange pieces.now }
     requires filled { AllByRecursion IsFilled pieces.now }
     ensures { IsNeedOf sizes.now (map piece_of pieces.now) result }
 {

@@ -2,7 +2,7 @@
 ghost use Rattle.std.specs.Prelude.{◌≡◌, ◌<◌, ℕ, IfOk, map};
 ghost use Rattle.std.specs.List.{AllByRecursion};
 ghost use Rattle.kfs_entry_value.specs.Views.{piece_of};
-ghost use Rattle.kfs_plan_sweep.specs.Lefts.{IsFilled, IsWhole};
+ghost use Rattle.kfs_plan_sweep.specs.Lefts.{IsFilled, PieceIsInRange};
 ghost use Rattle.kfs_plan_sweep.specs.Made.{AreRightOf, IsFit, piece_made, pieces_made};
 ghost use Rattle.kfs_plan_sweep.specs.Parts.{AreByNumber};
 ghost use Rattle.kfs_plan_sweep.specs.Stretches.{AreFrom};
@@ -17,7 +17,7 @@ fn piece_from(stretch: &Stretch) -> Piece
     requires fit { IsFit stretch.now }
     requires filled { stretch.now.start < stretch.now.end }
     ensures made { piece_of result ≡ piece_made stretch.now }
-    ensures whole { IsWhole result }
+    ensures whole { PieceIsInRange result }
     ensures filled { IsFilled result }
 {
     let source = match stretch.origin {
@@ -40,7 +40,7 @@ fn pieces_from<A: Allocator>(alloc: A, stretches: &[Stretch]) -> Result<Vec<Piec
     requires fit { AllByRecursion IsFit stretches.now }
     requires order { AreFrom 0 0 stretches.now }
     ensures made { IfOk result (λ out. map piece_of out.items ≡ pieces_made stretches.now) }
-    ensures whole { IfOk result (λ out. AllByRecursion IsWhole out.items) }
+    ensures whole { IfOk result (λ out. AllByRecursion PieceIsInRange out.items) }
     ensures filled { IfOk result (λ out. AllByRecursion IsFilled out.items) }
     ensures order { IfOk result (λ out. AreByNumber 0 out.items) }
 {
@@ -58,7 +58,7 @@ pub fn right_pieces<A: Allocator + Copy>(
 ) -> Result<Vec<Piece, A>, AllocError>
     requires fit { AllByRecursion IsFit stretches.now }
     ensures right { IfOk result (λ out. AreRightOf stretches.now (map piece_of out.items)) }
-    ensures whole { IfOk result (λ out. AllByRecursion IsWhole out.items) }
+    ensures whole { IfOk result (λ out. AllByRecursion PieceIsInRange out.items) }
     ensures filled { IfOk result (λ out. AllByRecursion IsFilled out.items) }
     ensures order { IfOk result (λ out. AreByNumber 0 out.items) }
 {

@@ -1,6 +1,6 @@
 //! How long the files are that a log changes.
 ghost use Rattle.std.specs.Prelude.{◌≡◌};
-ghost use Rattle.kfs_plan_sweep.specs.Sizes.{Ascend, length_after};
+ghost use Rattle.kfs_plan_sweep.specs.Sizes.{SizesAscend, length_after};
 
 /// The sizes of a file in bytes, before and after a log; 0 where it isn't there.
 #[derive(Clone, Copy, Debug, PartialEq, Eq)]
@@ -13,7 +13,7 @@ pub struct FileSize {
 /// The size after the log of the file with this number, 0 where it isn't listed. The numbers ascend, so it is found in the
 /// time of a logarithm.
 pub(crate) fn size_after(sizes: &[FileSize], number: u32) -> u64
-    requires { Ascend 0 sizes.now }
+    requires { SizesAscend 0 sizes.now }
     ensures { result ≡ length_after sizes.now number }
 {
     let place = sizes.partition_point(|size| size.number < number);

@@ -1,6 +1,6 @@
 -- The exit status of the program, and what a person is told of it.
 use Rattle.std.specs.Prelude.{◌≡◌, ◌⊎◌, ◌≤◌, ◌==◌, ℕ, List, [], codes, Option, Some, None, Result, Ok, Err, if◌then◌else◌}
-use Rattle.kfs_program_engine.specs.Conversation.{IsSession}
+use Rattle.kfs_program_engine.specs.Transcript.{IsSession}
 use Rattle.kfs_program_engine.specs.declared.fault.EngineFault.{EngineFault}
 use Rattle.kfs_program_engine.specs.declared.fault.EngineFault.TheVariants.{ReadFault, WriteFault, LongLine, OutOfMemory}
 

@@ -1,10 +1,10 @@
 -- How a conversation goes on.
 use Rattle.std.proofs.Common.{◌≡◌, ◌≢◌, ℕ, List, [], ◌∷◌, ◌++◌, refl, sym, ap, ◌∙◌, append_assoc, append-nil, subst, Result, Ok, Err, IfErr, MatchResult, arith}
 use Rattle.std.specs.List.{AllByRecursion}
-use Rattle.kfs_program_engine.specs.Conversation.{IsSession, IsShort, IsText}
+use Rattle.kfs_program_engine.specs.Transcript.{IsSession, LineIsShort, IsText}
 use Rattle.kfs_program_text.specs.Cut.{cut, line_end, lines_in, lines_of}
-use Rattle.kfs_program_engine.specs.Progress.{IsStopped, IsTaken, Stands}
-use Rattle.kfs_program_engine.specs.Session.{Answers, Runs, Stage, fresh}
+use Rattle.kfs_program_engine.specs.Progress.{IsStopped, IsTaken, HasAnswered}
+use Rattle.kfs_program_engine.specs.Session.{AnswersLine, AnswersLines, Stage, fresh}
 use Rattle.kfs_program_engine.specs.Views.{stage_of}
 use Rattle.kfs_program_engine.specs.declared.conversation.Conversation.{Conversation}
 use Rattle.kfs_program_engine.specs.declared.fault.EngineFault.{EngineFault}
@@ -12,40 +12,40 @@ use Rattle.kfs_program_engine.specs.declared.fault.EngineFault.TheVariants.{Read
 use Rattle.kfs_program_text.proofs.Cuts.{cut-joined, cut-more, cut-some}
 
 -- one more line
-pub Runs-more : (s : Stage) (lines : List (List ℕ)) (text : List ℕ) (mid : Stage) (line reply : List ℕ) (next : Stage)
-    → Runs s lines text mid → Answers mid line (reply, next) → Runs s (lines ++ line ∷ []) (text ++ reply) next
-Runs-more s [] text mid line reply next run answer =
-    let P : Stage → Type 0 = λ t. Answers t line (reply, next) in
+pub AnswersLines-more : (s : Stage) (lines : List (List ℕ)) (text : List ℕ) (mid : Stage) (line reply : List ℕ) (next : Stage)
+    → AnswersLines s lines text mid → AnswersLine mid line (reply, next) → AnswersLines s (lines ++ line ∷ []) (text ++ reply) next
+AnswersLines-more s [] text mid line reply next run answer =
+    let P : Stage → Type 0 = λ t. AnswersLine t line (reply, next) in
     (reply, next, [], subst P run.1 answer, (refl, refl), ap (λ t. t ++ reply) run.0 ∙ sym (append-nil reply))
-Runs-more s (first ∷ lines) text mid line reply next run answer =
-    let later = Runs-more run.1 lines run.2 mid line reply next run.4 answer in
+AnswersLines-more s (first ∷ lines) text mid line reply next run answer =
+    let later = AnswersLines-more run.1 lines run.2 mid line reply next run.4 answer in
     (run.0, run.1, run.2 ++ reply, run.3, later, ap (λ t. t ++ reply) run.5 ∙ append_assoc run.0 run.2 reply)
 
-short-more : (lines : List (List ℕ)) (line : List ℕ) → AllByRecursion IsShort lines → IsShort line → AllByRecursion IsShort (lines ++ line ∷ [])
+short-more : (lines : List (List ℕ)) (line : List ℕ) → AllByRecursion LineIsShort lines → LineIsShort line → AllByRecursion LineIsShort (lines ++ line ∷ [])
 short-more [] line all last = (last, tt)
 short-more (first ∷ lines) line all last = (all.0, short-more lines line all.1 last)
 
 -- nothing is read
-pub Stands-new : (s : Stage) (held : List ℕ) → s ≡ fresh → held ≡ [] → Stands s held [] [] []
+pub HasAnswered-new : (s : Stage) (held : List ℕ) → s ≡ fresh → held ≡ [] → HasAnswered s held [] [] []
 unfolding cut
-Stands-new s held new none = record { lines = []; parts = rw none refl; endless = rw none refl; answered = (refl, new); short = tt; held_short = rw none (omega arith) }
+HasAnswered-new s held new none = record { lines = []; parts = rw none refl; endless = rw none refl; answered = (refl, new); short = tt; held_short = rw none (omega arith) }
 
 -- the same stage and bytes
-Stands-same : (s next : Stage) (held line rest input text : List ℕ) → next ≡ s → line ≡ held → Stands s held rest input text → Stands next line rest input text
-Stands-same s next held line rest input text stage is h =
-    let P : Stage → Type 0 = λ t. Stands t line rest input text in
-    let Q : List ℕ → Type 0 = λ l. Stands s l rest input text in
+HasAnswered-same : (s next : Stage) (held line rest input text : List ℕ) → next ≡ s → line ≡ held → HasAnswered s held rest input text → HasAnswered next line rest input text
+HasAnswered-same s next held line rest input text stage is h =
+    let P : Stage → Type 0 = λ t. HasAnswered t line rest input text in
+    let Q : List ℕ → Type 0 = λ l. HasAnswered s l rest input text in
     subst P (sym stage) (subst Q (sym is) h)
 
 -- more bytes are read
-pub Stands-read : (s : Stage) (held bytes input text : List ℕ) → Stands s held [] input text → Stands s held bytes (input ++ bytes) text
-Stands-read s held bytes input text h =
+pub HasAnswered-read : (s : Stage) (held bytes input text : List ℕ) → HasAnswered s held [] input text → HasAnswered s held bytes (input ++ bytes) text
+HasAnswered-read s held bytes input text h =
     let now : cut line_end input ≡ h.lines ++ held ∷ [] = rw (append-nil held, h.endless) at h.parts in
     record { lines = h.lines; parts = cut-more line_end input bytes h.lines held now; endless = h.endless; answered = h.answered; short = h.short; held_short = h.held_short }
 
 -- bytes without a line's end are kept
-Stands-kept : (s : Stage) (held rest input text : List ℕ) → cut line_end rest ≡ rest ∷ [] → IsShort (held ++ rest) → Stands s held rest input text → Stands s (held ++ rest) [] input text
-Stands-kept s held rest input text none within h = record {
+HasAnswered-kept : (s : Stage) (held rest input text : List ℕ) → cut line_end rest ≡ rest ∷ [] → LineIsShort (held ++ rest) → HasAnswered s held rest input text → HasAnswered s (held ++ rest) [] input text
+HasAnswered-kept s held rest input text none within h = record {
   lines = h.lines;
   parts = rw (append-nil (held ++ rest)) h.parts;
   endless = cut-joined line_end held rest rest [] h.endless none;
@@ -55,27 +55,27 @@ Stands-kept s held rest input text none within h = record {
 }
 
 -- the first line of the rest is answered
-Stands-answered : (s next : Stage) (held rest front back input text reply : List ℕ) → cut line_end rest ≡ front ∷ cut line_end back → Answers s (held ++ front) (reply, next) × IsShort (held ++ front)
-    → Stands s held rest input text → Stands next [] back input (text ++ reply)
+HasAnswered-answered : (s next : Stage) (held rest front back input text reply : List ℕ) → cut line_end rest ≡ front ∷ cut line_end back → AnswersLine s (held ++ front) (reply, next) × LineIsShort (held ++ front)
+    → HasAnswered s held rest input text → HasAnswered next [] back input (text ++ reply)
 unfolding cut
-Stands-answered s next held rest front back input text reply first answer h = record {
+HasAnswered-answered s next held rest front back input text reply first answer h = record {
   lines = h.lines ++ (held ++ front) ∷ [];
   parts =
       h.parts
       ∙ ap (λ parts. h.lines ++ parts) (cut-joined line_end held rest front (cut line_end back) h.endless first)
       ∙ sym (append_assoc h.lines ((held ++ front) ∷ []) (cut line_end back));
   endless = refl;
-  answered = Runs-more fresh h.lines text s (held ++ front) reply next h.answered answer.0;
+  answered = AnswersLines-more fresh h.lines text s (held ++ front) reply next h.answered answer.0;
   short = short-more h.lines (held ++ front) h.short answer.1;
   held_short = omega arith;
 }
 
 -- the same, where more is written before
-pub Stands-line : (s next : Stage) (held line rest front back input text more reply : List ℕ) → line ≡ [] → cut line_end rest ≡ front ∷ cut line_end back → Answers s (held ++ front) (reply, next) × IsShort (held ++ front)
-    → Stands s held rest input (text ++ more) → Stands next line back input (text ++ (more ++ reply))
-Stands-line s next held line rest front back input text more reply cleared first answer h =
-    let P : List ℕ → Type 0 = λ t. Stands next line back input t in
-    subst P (append_assoc text more reply) (Stands-same next next [] line back input _ refl cleared (Stands-answered s next held rest front back input (text ++ more) reply first answer h))
+pub HasAnswered-line : (s next : Stage) (held line rest front back input text more reply : List ℕ) → line ≡ [] → cut line_end rest ≡ front ∷ cut line_end back → AnswersLine s (held ++ front) (reply, next) × LineIsShort (held ++ front)
+    → HasAnswered s held rest input (text ++ more) → HasAnswered next line back input (text ++ (more ++ reply))
+HasAnswered-line s next held line rest front back input text more reply cleared first answer h =
+    let P : List ℕ → Type 0 = λ t. HasAnswered next line back input t in
+    subst P (append_assoc text more reply) (HasAnswered-same next next [] line back input _ refl cleared (HasAnswered-answered s next held rest front back input (text ++ more) reply first answer h))
 
 -- ---- the lines of parts
 
@@ -99,69 +99,69 @@ first_lines lines line [] some = lines_in-front lines line [] ∙ ap (λ rest. l
 first_lines lines line (part ∷ parts) some = lines_in-front lines line (part ∷ parts) ∙ sym (append_assoc lines (line ∷ []) (lines_in (part ∷ parts)))
 
 -- the session ends at a line
-Stands-stopped : (T : Type 0) (fault : EngineFault) (s : Stage) (held rest line input text more : List ℕ) (later : List (List ℕ)) → cut line_end (held ++ rest) ≡ line ∷ later
-    → (fault ≡ WriteFault → HasLine line later) → IsStopped fault s line more → Stands s held rest input text → IsSession {T = T} (Err fault) input (text ++ more)
-Stands-stopped T ReadFault s held rest line input text more later parts some stop h = absurd stop
-Stands-stopped T WriteFault s held rest line input text more later parts some stop h = record {
+HasAnswered-stopped : (T : Type 0) (fault : EngineFault) (s : Stage) (held rest line input text more : List ℕ) (later : List (List ℕ)) → cut line_end (held ++ rest) ≡ line ∷ later
+    → (fault ≡ WriteFault → HasLine line later) → IsStopped fault s line more → HasAnswered s held rest input text → IsSession {T = T} (Err fault) input (text ++ more)
+HasAnswered-stopped T ReadFault s held rest line input text more later parts some stop h = absurd stop
+HasAnswered-stopped T WriteFault s held rest line input text more later parts some stop h = record {
   lines = h.lines ++ line ∷ [];
   later = lines_in later;
   unwritten = stop.0;
   first = ap lines_in (h.parts ∙ ap (λ parts. h.lines ++ parts) parts) ∙ first_lines h.lines line later (some refl);
-  answered = (stop.1, rw (append_assoc text more stop.0) (Runs-more fresh h.lines text s line (more ++ stop.0) stop.1 h.answered stop.2), short-more h.lines line h.short stop.3);
+  answered = (stop.1, rw (append_assoc text more stop.0) (AnswersLines-more fresh h.lines text s line (more ++ stop.0) stop.1 h.answered stop.2), short-more h.lines line h.short stop.3);
 }
-Stands-stopped T LongLine s held rest line input text more later parts some stop h =
+HasAnswered-stopped T LongLine s held rest line input text more later parts some stop h =
     (line, later, stop.0, record { lines = h.lines; parts = h.parts ∙ ap (λ parts. h.lines ++ parts) parts; answered = (s, rw (stop.1, append-nil text) h.answered, h.short) })
-Stands-stopped T OutOfMemory s held rest line input text more later parts some stop h =
+HasAnswered-stopped T OutOfMemory s held rest line input text more later parts some stop h =
     (line, later, record { lines = h.lines; parts = h.parts ∙ ap (λ parts. h.lines ++ parts) parts; answered = (s, rw (stop, append-nil text) h.answered, h.short) })
 
 -- the session ends at the first line of the rest
-pub Stands-stopped_line : (T : Type 0) (fault : EngineFault) (s : Stage) (held rest front back input text more last : List ℕ) → cut line_end rest ≡ front ∷ cut line_end back
-    → IsStopped fault s (held ++ front) last → Stands s held rest input (text ++ more) → IsSession {T = T} (Err fault) input (text ++ (more ++ last))
+pub HasAnswered-stopped_line : (T : Type 0) (fault : EngineFault) (s : Stage) (held rest front back input text more last : List ℕ) → cut line_end rest ≡ front ∷ cut line_end back
+    → IsStopped fault s (held ++ front) last → HasAnswered s held rest input (text ++ more) → IsSession {T = T} (Err fault) input (text ++ (more ++ last))
 unfolding HasLine
-Stands-stopped_line T fault s held rest front back input text more last first stop h =
+HasAnswered-stopped_line T fault s held rest front back input text more last first stop h =
     let P : List ℕ → Type 0 = λ t. IsSession {T = T} (Err fault) input t in
     let joined = cut-joined line_end held rest front (cut line_end back) h.endless first in
-    subst P (append_assoc text more last) (Stands-stopped T fault s held rest (held ++ front) input (text ++ more) last (cut line_end back) joined (λ _. before (cut line_end back) (cut-some line_end back)) stop h)
+    subst P (append_assoc text more last) (HasAnswered-stopped T fault s held rest (held ++ front) input (text ++ more) last (cut line_end back) joined (λ _. before (cut line_end back) (cut-some line_end back)) stop h)
   where
     before : (parts : List (List ℕ)) → parts ≢ [] → HasLine (held ++ front) parts
     before [] some = absurd (some refl)
     before (part ∷ parts) some = tt
 
 -- the session ends at the line that is held
-pub Stands-stopped_last : (T : Type 0) (fault : EngineFault) (s : Stage) (held input text more : List ℕ) → held ≢ [] → IsStopped fault s held more → Stands s held [] input text
+pub HasAnswered-stopped_last : (T : Type 0) (fault : EngineFault) (s : Stage) (held input text more : List ℕ) → held ≢ [] → IsStopped fault s held more → HasAnswered s held [] input text
     → IsSession {T = T} (Err fault) input (text ++ more)
 unfolding HasLine
-Stands-stopped_last T fault s held input text more some stop h =
-    Stands-stopped T fault s held [] held input text more [] (rw (append-nil held) h.endless) (λ _. some) stop h
+HasAnswered-stopped_last T fault s held input text more some stop h =
+    HasAnswered-stopped T fault s held [] held input text more [] (rw (append-nil held) h.endless) (λ _. some) stop h
 
 -- the rest without a line's end is kept, or the session ends at it
-pub Stands-rest : {A T : Type 0} (ended : Result T EngineFault) (conversation : Conversation A) (s : Stage) (held rest input text : List ℕ) → stage_of conversation.session ≡ s
-    → cut line_end rest ≡ rest ∷ [] → MatchResult ended (λ _. (conversation.line.items ≡ held ++ rest) × IsShort (held ++ rest)) (λ fault. IsStopped fault s (held ++ rest) [] × (fault ≢ WriteFault))
-    → Stands s held rest input text → IsTaken ended conversation input text
-Stands-rest (Ok done) conversation s held rest input text stage none kept h =
-    Stands-same s _ (held ++ rest) _ [] input text stage kept.0 (Stands-kept s held rest input text none kept.1 h)
-Stands-rest {T} (Err fault) conversation s held rest input text stage none stop h =
+pub HasAnswered-rest : {A T : Type 0} (ended : Result T EngineFault) (conversation : Conversation A) (s : Stage) (held rest input text : List ℕ) → stage_of conversation.session ≡ s
+    → cut line_end rest ≡ rest ∷ [] → MatchResult ended (λ _. (conversation.line.items ≡ held ++ rest) × LineIsShort (held ++ rest)) (λ fault. IsStopped fault s (held ++ rest) [] × (fault ≢ WriteFault))
+    → HasAnswered s held rest input text → IsTaken ended conversation input text
+HasAnswered-rest (Ok done) conversation s held rest input text stage none kept h =
+    HasAnswered-same s _ (held ++ rest) _ [] input text stage kept.0 (HasAnswered-kept s held rest input text none kept.1 h)
+HasAnswered-rest {T} (Err fault) conversation s held rest input text stage none stop h =
     let P : List ℕ → Type 0 = λ t. IsSession {T = T} (Err fault) input t in
-    subst P (append-nil text) (Stands-stopped T fault s held rest (held ++ rest) input text [] [] (cut-joined line_end held rest rest [] h.endless none) (λ is. absurd (stop.1 is)) stop.0 h)
+    subst P (append-nil text) (HasAnswered-stopped T fault s held rest (held ++ rest) input text [] [] (cut-joined line_end held rest rest [] h.endless none) (λ is. absurd (stop.1 is)) stop.0 h)
 
 -- the reader fails
-pub Stands-unread : (T : Type 0) (fault : EngineFault) (s : Stage) (held input text : List ℕ) → fault ≡ ReadFault → Stands s held [] input text → IsSession {T = T} (Err fault) input text
-Stands-unread T fault s held input text is h =
+pub HasAnswered-unread : (T : Type 0) (fault : EngineFault) (s : Stage) (held input text : List ℕ) → fault ≡ ReadFault → HasAnswered s held [] input text → IsSession {T = T} (Err fault) input text
+HasAnswered-unread T fault s held input text is h =
     let P : EngineFault → Type 0 = λ f. IsSession {T = T} (Err f) input text in
     let parts : cut line_end input ≡ h.lines ++ held ∷ [] = rw (append-nil held, h.endless) at h.parts in
     subst P (sym is) (held, record { lines = h.lines; parts = parts; answered = (s, h.answered, h.short) })
 
 -- the writer fails behind all that was answered
-Stands-unflushed : (T : Type 0) (fault : EngineFault) (s : Stage) (lines later : List (List ℕ)) (input text : List ℕ) → fault ≡ WriteFault → lines_of input ≡ lines ++ later
-    → Runs fresh lines text s → AllByRecursion IsShort lines → IsSession {T = T} (Err fault) input text
-Stands-unflushed T fault s lines later input text is parts run short =
+HasAnswered-unflushed : (T : Type 0) (fault : EngineFault) (s : Stage) (lines later : List (List ℕ)) (input text : List ℕ) → fault ≡ WriteFault → lines_of input ≡ lines ++ later
+    → AnswersLines fresh lines text s → AllByRecursion LineIsShort lines → IsSession {T = T} (Err fault) input text
+HasAnswered-unflushed T fault s lines later input text is parts run short =
     let P : EngineFault → Type 0 = λ f. IsSession {T = T} (Err f) input text in
     subst P (sym is) (record { lines = lines; later = later; unwritten = []; first = parts; answered = (s, rw (append-nil text) run, short) })
 
 -- the input ends at a line's end
-pub Stands-ended : {T : Type 0} (ended : Result T EngineFault) (s : Stage) (held input text : List ℕ) → held ≡ [] → IfErr ended (λ fault. fault ≡ WriteFault)
-    → Stands s held [] input text → IsSession ended input (text ++ [])
-Stands-ended ended s held input text none flushed h = by ended flushed
+pub HasAnswered-ended : {T : Type 0} (ended : Result T EngineFault) (s : Stage) (held input text : List ℕ) → held ≡ [] → IfErr ended (λ fault. fault ≡ WriteFault)
+    → HasAnswered s held [] input text → IsSession ended input (text ++ [])
+HasAnswered-ended ended s held input text none flushed h = by ended flushed
   where
     parts : cut line_end input ≡ h.lines ++ [] ∷ []
     parts = rw none at (rw (append-nil held, h.endless) at h.parts)
@@ -171,25 +171,25 @@ Stands-ended ended s held input text none flushed h = by ended flushed
 
     by : {T : Type 0} (ended : Result T EngineFault) → IfErr ended (λ fault. fault ≡ WriteFault) → IsSession ended input (text ++ [])
     by (Ok done) flushed = (s, rw (lines, append-nil text) h.answered, rw lines h.short)
-    by {T} (Err fault) flushed = Stands-unflushed T fault s h.lines [] input (text ++ []) flushed (lines ∙ sym (append-nil h.lines)) (rw (append-nil text) h.answered) h.short
+    by {T} (Err fault) flushed = HasAnswered-unflushed T fault s h.lines [] input (text ++ []) flushed (lines ∙ sym (append-nil h.lines)) (rw (append-nil text) h.answered) h.short
 
 -- the last line lacks its end
-pub Stands-last : {T : Type 0} (ended : Result T EngineFault) (s next : Stage) (held input text reply : List ℕ) → held ≢ [] → Answers s held (reply, next) × IsShort held
-    → IfErr ended (λ fault. fault ≡ WriteFault) → Stands s held [] input text → IsSession ended input (text ++ reply)
-Stands-last ended s next held input text reply some answer flushed h = by ended flushed
+pub HasAnswered-last : {T : Type 0} (ended : Result T EngineFault) (s next : Stage) (held input text reply : List ℕ) → held ≢ [] → AnswersLine s held (reply, next) × LineIsShort held
+    → IfErr ended (λ fault. fault ≡ WriteFault) → HasAnswered s held [] input text → IsSession ended input (text ++ reply)
+HasAnswered-last ended s next held input text reply some answer flushed h = by ended flushed
   where
     lines : lines_of input ≡ h.lines ++ held ∷ []
     lines = ap lines_in (rw (append-nil held, h.endless) at h.parts) ∙ lines_in-front h.lines held [] ∙ ap (λ rest. h.lines ++ rest) (lines_in-line held some)
 
-    run : Runs fresh (h.lines ++ held ∷ []) (text ++ reply) next
-    run = Runs-more fresh h.lines text s held reply next h.answered answer.0
+    run : AnswersLines fresh (h.lines ++ held ∷ []) (text ++ reply) next
+    run = AnswersLines-more fresh h.lines text s held reply next h.answered answer.0
 
-    short : AllByRecursion IsShort (h.lines ++ held ∷ [])
+    short : AllByRecursion LineIsShort (h.lines ++ held ∷ [])
     short = short-more h.lines held h.short answer.1
 
     by : {T : Type 0} (ended : Result T EngineFault) → IfErr ended (λ fault. fault ≡ WriteFault) → IsSession ended input (text ++ reply)
     by (Ok done) flushed = (next, rw lines run, rw lines short)
-    by {T} (Err fault) flushed = Stands-unflushed T fault next (h.lines ++ held ∷ []) [] input (text ++ reply) flushed (lines ∙ sym (append-nil (h.lines ++ held ∷ []))) run short
+    by {T} (Err fault) flushed = HasAnswered-unflushed T fault next (h.lines ++ held ∷ []) [] input (text ++ reply) flushed (lines ∙ sym (append-nil (h.lines ++ held ∷ []))) run short
 
 -- there is no memory to read anything
 pub nothing-read : (T : Type 0) (fault : EngineFault) → fault ≡ OutOfMemory → IsSession {T = T} (Err fault) [] []
@@ -199,10 +199,10 @@ nothing-read T fault is =
     subst P (sym is) ([], [], record { lines = []; parts = refl; answered = (fresh, (refl, refl), tt) })
 
 -- the writer fails behind all lines that were answered, before the bytes that are held
-pub Stands-unsent : (T : Type 0) (s : Stage) (held input text : List ℕ) → Stands s held [] input text → IsSession {T = T} (Err WriteFault) input text
-Stands-unsent T s held input text h =
+pub HasAnswered-unsent : (T : Type 0) (s : Stage) (held input text : List ℕ) → HasAnswered s held [] input text → IsSession {T = T} (Err WriteFault) input text
+HasAnswered-unsent T s held input text h =
     let parts : cut line_end input ≡ h.lines ++ held ∷ [] = rw (append-nil held, h.endless) at h.parts in
-    Stands-unflushed T WriteFault s h.lines (lines_in (held ∷ [])) input text refl (ap lines_in parts ∙ lines_in-front h.lines held []) h.answered h.short
+    HasAnswered-unflushed T WriteFault s h.lines (lines_in (held ∷ [])) input text refl (ap lines_in parts ∙ lines_in-front h.lines held []) h.answered h.short
 
 -- of a session's text a first part is written, where the writer fails
 pub first_written : {T : Type 0} (U : Type 0) (ended : Result T EngineFault) (input text rest : List ℕ) → IsSession ended input (text ++ rest) → IsSession {T = U} (Err WriteFault) input text

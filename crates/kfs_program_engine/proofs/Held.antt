@@ -1,4 +1,4 @@
--- Hands of a session.
+-- HeldVerdicts of a session.
 use Rattle.std.proofs.Common.{◌≡◌, ◌≢◌, inr, ℕ, ◌++◌, List, Option, Some, None, option_map, Result, Ok, Err, refl, sym, ap, subst, ◌∙◌}
 use Rattle.std.specs.Prelude.{get_or, set, codes, decimal, IfErr, OnOk}
 use Rattle.std.specs.Option.{ok_or}
@@ -13,9 +13,9 @@ use Rattle.kfs_desk.specs.Machine.{Desk, call_of, done_by}
 use Rattle.kfs_program_command.specs.Command as commands
 use Rattle.kfs_program_command.specs.Views.{act_of, asked_of_desk}
 use Rattle.kfs_program_command.specs.declared.command.DeskCommand.{DeskCommand}
-use Rattle.kfs_program_engine.specs.Hands.{Hands, held_by, with_held}
+use Rattle.kfs_program_engine.specs.HeldVerdicts.{HeldVerdicts, held_by, with_held}
 use Rattle.kfs_program_engine.specs.Holding.{hands_of}
-use Rattle.kfs_program_engine.specs.Session.{After, DeskOutcome, Does, IsCallAnswered, IsLandingAnswered, IsReplied, IsSaid, Judges, Lands, LineOutcome, Serves, Stage, WithHands, opened}
+use Rattle.kfs_program_engine.specs.Session.{After, DeskOutcome, AnswersCommand, IsCallAnswered, IsLandingAnswered, IsReplied, IsSaid, AnswersJudge, AnswersLand, LineOutcome, AnswersDeskCommand, Stage, WithHands, opened}
 use Rattle.kfs_program_engine.specs.Views.{stage_in, start_of}
 use Rattle.kfs_program_engine.specs.declared.opening.Opening.{Opening}
 use Rattle.kfs_program_engine.specs.declared.session.Stage.{Stage as CodeStage}
@@ -37,29 +37,29 @@ pub none_shown : {A : Type 0} (hand : Option (Judged A)) → option_map verdict_
 none_shown None is = refl
 none_shown (Some judged) is = cc
 
-module _ (desk : Desk) (old new : Hands) (worker : ℕ) where
+module _ (desk : Desk) (old new : HeldVerdicts) (worker : ℕ) where
   pub judged_held : (submission : Submission) (verdict : HeldVerdict) → held_by old worker ≡ None → new ≡ with_held old worker (Some verdict) → IsVerdictOn desk.state submission verdict
-      → Serves desk old (commands.Judge worker submission) (line_of (codes "judged " ++ decimal worker), After desk new)
+      → AnswersDeskCommand desk old (commands.Judge worker submission) (line_of (codes "judged " ++ decimal worker), After desk new)
   judged_held submission verdict empty put is =
       let text = line_of (codes "judged " ++ decimal worker) in
-      subst (λ hand. Judges desk old worker hand submission (text, After desk new)) (sym empty) (verdict, is, ap (λ hands. (text, After desk hands)) put)
+      subst (λ hand. AnswersJudge desk old worker hand submission (text, After desk new)) (sym empty) (verdict, is, ap (λ hands. (text, After desk hands)) put)
 
-  pub full_hand : (submission : Submission) → held_by old worker ≢ None → new ≡ old → Serves desk old (commands.Judge worker submission) (line_of (codes "bad line"), After desk new)
+  pub full_hand : (submission : Submission) → held_by old worker ≢ None → new ≡ old → AnswersDeskCommand desk old (commands.Judge worker submission) (line_of (codes "bad line"), After desk new)
   full_hand submission full same = by (held_by old worker) full
     where
-      by : (hand : Option HeldVerdict) → hand ≢ None → Judges desk old worker hand submission (line_of (codes "bad line"), After desk new)
+      by : (hand : Option HeldVerdict) → hand ≢ None → AnswersJudge desk old worker hand submission (line_of (codes "bad line"), After desk new)
       by None some = absurd (some refl)
       by (Some verdict) some = ap (λ hands. (line_of (codes "bad line"), After desk hands)) same
 
-  pub empty_hand : held_by old worker ≡ None → new ≡ with_held old worker None → Serves desk old (commands.Land worker) (line_of (codes "bad line"), After desk new)
+  pub empty_hand : held_by old worker ≡ None → new ≡ with_held old worker None → AnswersDeskCommand desk old (commands.Land worker) (line_of (codes "bad line"), After desk new)
   empty_hand empty left =
       let text = line_of (codes "bad line") in
       let same : new ≡ old = left ∙ ap (set old worker) (sym empty) ∙ set-get_or old worker None in
-      subst (λ hand. Lands desk old worker hand (text, After desk new)) (sym empty) (ap (λ hands. (text, After desk hands)) same)
+      subst (λ hand. AnswersLand desk old worker hand (text, After desk new)) (sym empty) (ap (λ hands. (text, After desk hands)) same)
 
-  pub landed : (verdict : HeldVerdict) → held_by old worker ≡ Some verdict → new ≡ with_held old worker None → (said : DeskOutcome) → IsLandingAnswered desk verdict said → Serves desk old (commands.Land worker) (said.0, After said.1 new)
+  pub landed : (verdict : HeldVerdict) → held_by old worker ≡ Some verdict → new ≡ with_held old worker None → (said : DeskOutcome) → IsLandingAnswered desk verdict said → AnswersDeskCommand desk old (commands.Land worker) (said.0, After said.1 new)
   landed verdict is left said answered =
-      subst (λ hand. Lands desk old worker hand (said.0, After said.1 new)) (sym is) (said, answered, ap (λ hands. (said.0, After said.1 hands)) left)
+      subst (λ hand. AnswersLand desk old worker hand (said.0, After said.1 new)) (sym is) (said, answered, ap (λ hands. (said.0, After said.1 hands)) left)
 
 -- ---- a landing
 
@@ -73,36 +73,36 @@ taken_as fault (Some other) judged hand is shown =
     let same : other ≡ judged = cc in
     sym shown ∙ ap (λ it. Some (verdict_of it)) same
 
-module _ {A T E : Type 0} (result : Result T E) (desk : Desk) (old new : Hands) (worker : ℕ) (judged : Judged A) (is : held_by old worker ≡ Some (verdict_of judged)) (left : new ≡ with_held old worker None) where
-  pub landed_as : (before after : List ℕ) (next : Desk) → OnOk result (IsReplied (IsLandingAnswered desk (verdict_of judged)) before after next) → OnOk result (IsReplied (Serves desk old (commands.Land worker)) before after (After next new))
+module _ {A T E : Type 0} (result : Result T E) (desk : Desk) (old new : HeldVerdicts) (worker : ℕ) (judged : Judged A) (is : held_by old worker ≡ Some (verdict_of judged)) (left : new ≡ with_held old worker None) where
+  pub landed_as : (before after : List ℕ) (next : Desk) → OnOk result (IsReplied (IsLandingAnswered desk (verdict_of judged)) before after next) → OnOk result (IsReplied (AnswersDeskCommand desk old (commands.Land worker)) before after (After next new))
   landed_as before after next = on_ok_weaker result (λ said. (said.0, said.1, landed desk old new worker (verdict_of judged) is left (said.0, next) said.2))
 
-  pub landing_undone : (fault other : E) (next : Desk) → IfErr result (λ why. (why ≡ fault) × (next ≡ desk)) → result ≡ Err other → Serves desk old (commands.Land worker) (line_of (codes "memory"), After next new)
+  pub landing_undone : (fault other : E) (next : Desk) → IfErr result (λ why. (why ≡ fault) × (next ≡ desk)) → result ≡ Err other → AnswersDeskCommand desk old (commands.Land worker) (line_of (codes "memory"), After next new)
   landing_undone fault other next undone out =
       let text = line_of (codes "memory") in
       landed desk old new worker (verdict_of judged) is left (text, next) (inr (inr (ap (λ d. (text, d)) (undone_same result fault other next desk undone out))))
 
 -- ---- what the desk answers, where the workers hold what they held
 
-pub with_hands : {T E : Type 0} (result : Result T E) (hands : Hands) (Holds : DeskOutcome → Type 0) (before after : List ℕ) (desk : Desk) → OnOk result (IsReplied Holds before after desk) → OnOk result (IsReplied (WithHands hands Holds) before after (After desk hands))
+pub with_hands : {T E : Type 0} (result : Result T E) (hands : HeldVerdicts) (Holds : DeskOutcome → Type 0) (before after : List ℕ) (desk : Desk) → OnOk result (IsReplied Holds before after desk) → OnOk result (IsReplied (WithHands hands Holds) before after (After desk hands))
 with_hands result hands Holds before after desk = on_ok_weaker result (λ is. (is.0, is.1, ((is.0, desk), is.2, refl)))
 
 -- a call for the leases
-pub act_served : {T E : Type 0} (result : Result T E) (desk : Desk) (hands : Hands) (act : Act) (before after : List ℕ) (next : Desk) → OnOk result (IsReplied (IsCallAnswered desk (call_of act) (done_by act)) before after next)
-    → OnOk result (IsReplied (Serves desk hands (act_of act)) before after (After next hands))
+pub act_served : {T E : Type 0} (result : Result T E) (desk : Desk) (hands : HeldVerdicts) (act : Act) (before after : List ℕ) (next : Desk) → OnOk result (IsReplied (IsCallAnswered desk (call_of act) (done_by act)) before after next)
+    → OnOk result (IsReplied (AnswersDeskCommand desk hands (act_of act)) before after (After next hands))
 act_served result desk hands (acts.Lease client path kind end) before after next is = with_hands result hands _ before after next is
 act_served result desk hands (acts.Drop client number) before after next is = with_hands result hands _ before after next is
 act_served result desk hands (acts.Tick moment) before after next is = with_hands result hands _ before after next is
 
 -- this line of the desk
-pub said_with_hands : (hands : Hands) (text : List ℕ) (before after : List ℕ) (desk : Desk) → after ≡ before ++ line_of text → IsReplied (WithHands hands (IsSaid text desk)) before after (After desk hands)
+pub said_with_hands : (hands : HeldVerdicts) (text : List ℕ) (before after : List ℕ) (desk : Desk) → after ≡ before ++ line_of text → IsReplied (WithHands hands (IsSaid text desk)) before after (After desk hands)
 said_with_hands hands text before after desk is = (line_of text, is, ((line_of text, desk), refl, refl))
 
 -- of this command, which the line's is
-pub replied_as : {A : Type 0} (desk : Desk) (hands : Hands) (command known : DeskCommand A) (before after : List ℕ) (stage : Stage) → command ≡ known → IsReplied (Serves desk hands (asked_of_desk known)) before after stage → IsReplied (Serves desk hands (asked_of_desk command)) before after stage
-replied_as desk hands command known before after stage is = subst (λ it. IsReplied (Serves desk hands (asked_of_desk it)) before after stage) (sym is)
+pub replied_as : {A : Type 0} (desk : Desk) (hands : HeldVerdicts) (command known : DeskCommand A) (before after : List ℕ) (stage : Stage) → command ≡ known → IsReplied (AnswersDeskCommand desk hands (asked_of_desk known)) before after stage → IsReplied (AnswersDeskCommand desk hands (asked_of_desk command)) before after stage
+replied_as desk hands command known before after stage is = subst (λ it. IsReplied (AnswersDeskCommand desk hands (asked_of_desk it)) before after stage) (sym is)
 
 -- ---- before the beginning
 
-pub opened_at : {A : Type 0} (stage : CodeStage A) (opening : Opening A) (command : commands.OpeningCommand) (outcome : LineOutcome) → stage ≡ stages.Before opening → opened (start_of opening) command ≡ outcome → Does (stage_in stage) (commands.Setup command) outcome
-opened_at stage opening command outcome is opens = subst (λ it. Does (stage_in it) (commands.Setup command) outcome) (sym is) (sym opens)
+pub opened_at : {A : Type 0} (stage : CodeStage A) (opening : Opening A) (command : commands.OpeningCommand) (outcome : LineOutcome) → stage ≡ stages.Before opening → opened (start_of opening) command ≡ outcome → AnswersCommand (stage_in stage) (commands.Setup command) outcome
+opened_at stage opening command outcome is opens = subst (λ it. AnswersCommand (stage_in it) (commands.Setup command) outcome) (sym is) (sym opens)

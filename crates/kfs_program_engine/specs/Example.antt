@@ -10,7 +10,7 @@ use Rattle.kfs_model.specs.Tree.{NameTable}
 use Rattle.kfs_model_device.specs.ShownTree.{shown_tree}
 use Rattle.kfs_image.specs.Image.{fresh_image}
 use Rattle.kfs_desk.specs.Machine.{Desk, opened_at}
-use Rattle.kfs_program_engine.specs.Hands.{Hands, no_verdict, with_held}
+use Rattle.kfs_program_engine.specs.HeldVerdicts.{HeldVerdicts, no_verdict, with_held}
 use Rattle.kfs_program_engine.specs.Session.{Start}
 
 -- the sizes of its tiers
@@ -43,7 +43,7 @@ root_leased = record desk_of_7 {
 abbrev pub full_docket : Desk
 full_docket = desk_with [] 0
 
-abbrev pub held_by_3 : Hands
+abbrev pub held_by_3 : HeldVerdicts
 held_by_3 = with_held no_verdict 3 (Some (record { submission = record { client = 7; log = []; plan = [] }; client = None; reads = [] }))
 
 -- ---- values of single lines

@@ -1,7 +1,7 @@
 pub mod Bytes
-pub mod Conversation
+pub mod Transcript
 pub mod Example
-pub mod Hands
+pub mod HeldVerdicts
 pub mod Holding
 pub mod Listing
 pub mod Progress

@@ -1,9 +1,9 @@
 -- How far a conversation has come in its input.
 use Rattle.std.specs.Prelude.{◌≡◌, ◌≢◌, ◌<◌, ℕ, List, [], ◌∷◌, ◌++◌, length, codes, Result, Ok, Err, MatchResult}
 use Rattle.std.specs.List.{AllByRecursion}
-use Rattle.kfs_program_engine.specs.Conversation.{IsSession, IsShort, longest_line}
+use Rattle.kfs_program_engine.specs.Transcript.{IsSession, LineIsShort, longest_line}
 use Rattle.kfs_program_text.specs.Cut.{cut, line_end}
-use Rattle.kfs_program_engine.specs.Session.{Answers, Runs, Stage, fresh}
+use Rattle.kfs_program_engine.specs.Session.{AnswersLine, AnswersLines, Stage, fresh}
 use Rattle.kfs_program_text.specs.Parts.{line_of}
 use Rattle.kfs_program_engine.specs.Views.{stage_of}
 use Rattle.kfs_program_engine.specs.declared.conversation.Conversation.{Conversation}
@@ -14,55 +14,55 @@ use Rattle.kfs_program_text.specs.declared.words.Refusal.TheVariants as refusal
 
 -- The input is lines that are answered with this text, and then the held bytes, which have no line's end, and the bytes that
 -- are not looked at yet.
-pub record Stands (stage : Stage) (held rest input text : List ℕ) : Type 0 where
+pub record HasAnswered (stage : Stage) (held rest input text : List ℕ) : Type 0 where
   pub lines : List (List ℕ)
   pub parts : cut line_end input ≡ lines ++ cut line_end (held ++ rest)
   pub endless : cut line_end held ≡ held ∷ []
-  pub answered : Runs fresh lines text stage
-  pub short : AllByRecursion IsShort lines
-  pub held_short : IsShort held
+  pub answered : AnswersLines fresh lines text stage
+  pub short : AllByRecursion LineIsShort lines
+  pub held_short : LineIsShort held
 
 -- why the line has no whole answer, where this much of one is written
 abbrev pub IsStopped : EngineFault → Stage → (line text : List ℕ) → Type 0
 IsStopped ReadFault stage line text = ⊥
-IsStopped WriteFault stage line text = (unwritten : List ℕ) × (next : Stage) × Answers stage line (text ++ unwritten, next) × IsShort line
+IsStopped WriteFault stage line text = (unwritten : List ℕ) × (next : Stage) × AnswersLine stage line (text ++ unwritten, next) × LineIsShort line
 IsStopped LongLine stage line text = (longest_line < length line) × (text ≡ [])
 IsStopped OutOfMemory stage line text = text ≡ []
 
 -- the line is kept, or the session ends at it, and not by the writer's fault
-abbrev pub IsKept : {T : Type 0} → Result T EngineFault → Stage → (line kept : List ℕ) → Type 0
-IsKept result stage line kept =
-    MatchResult result (λ done. (kept ≡ line) × IsShort line) (λ fault. IsStopped fault stage line [] × (fault ≢ WriteFault))
+abbrev pub LineIsKept : {T : Type 0} → Result T EngineFault → Stage → (line kept : List ℕ) → Type 0
+LineIsKept result stage line kept =
+    MatchResult result (λ done. (kept ≡ line) × LineIsShort line) (λ fault. IsStopped fault stage line [] × (fault ≢ WriteFault))
 
 module _ {A : Type 0} where
   -- the conversation stands there, with the line that it holds
-  abbrev pub StandsAt : Conversation A → (rest input text : List ℕ) → Type 0
-  StandsAt conversation rest input text = Stands (stage_of conversation.session) conversation.line.items rest input text
+  abbrev pub HasAnsweredSoFar : Conversation A → (rest input text : List ℕ) → Type 0
+  HasAnsweredSoFar conversation rest input text = HasAnswered (stage_of conversation.session) conversation.line.items rest input text
 
   -- all is looked at, or the session has ended
   abbrev pub IsTaken : {T : Type 0} → Result T EngineFault → Conversation A → (input text : List ℕ) → Type 0
-  IsTaken (Ok done) conversation input text = StandsAt conversation [] input text
+  IsTaken (Ok done) conversation input text = HasAnsweredSoFar conversation [] input text
   IsTaken {T} (Err fault) conversation input text = IsSession {T = T} (Err fault) input text
 
   -- wherever it stood before these bytes, all of them are looked at, or the session has ended
   abbrev pub Takes : {T : Type 0} → Conversation A → (bytes : List ℕ) → Result T EngineFault → Conversation A → (more : List ℕ) → Type 0
-  Takes before bytes result after more = (input text : List ℕ) → StandsAt before bytes input text → IsTaken result after input (text ++ more)
+  Takes before bytes result after more = (input text : List ℕ) → HasAnsweredSoFar before bytes input text → IsTaken result after input (text ++ more)
 
   -- wherever it stood, the session has ended
   abbrev pub Ends : {T : Type 0} → Conversation A → Result T EngineFault → (more : List ℕ) → Type 0
-  Ends before result more = (input text : List ℕ) → StandsAt before [] input text → IsSession result input (text ++ more)
+  Ends before result more = (input text : List ℕ) → HasAnsweredSoFar before [] input text → IsSession result input (text ++ more)
 
   -- the line is answered with this text, or stopped
   abbrev pub IsLineAnswered : {T : Type 0} → Result T EngineFault → Conversation A → (line : List ℕ) → Conversation A → (text : List ℕ) → Type 0
-  IsLineAnswered (Ok done) before line after text = Answers (stage_of before.session) line (text, stage_of after.session) × IsShort line
+  IsLineAnswered (Ok done) before line after text = AnswersLine (stage_of before.session) line (text, stage_of after.session) × LineIsShort line
   IsLineAnswered (Err fault) before line after text = IsStopped fault (stage_of before.session) line text
 
   -- so is the line that it holds, where that is short
   abbrev pub IsHeldAnswered : {T : Type 0} → Result T EngineFault → (before after : Conversation A) → (text : List ℕ) → Type 0
-  IsHeldAnswered result before after text = IsShort before.line.items → IsLineAnswered result before before.line.items after text
+  IsHeldAnswered result before after text = LineIsShort before.line.items → IsLineAnswered result before before.line.items after text
 
 -- what is written of a reply
-abbrev pub said : {T : Type 0} → Result T Refusal → (reply : List ℕ) → List ℕ
-said (Ok done) reply = reply
-said (Err refusal.BadLine) reply = line_of (codes "bad line")
-said (Err refusal.OutOfMemory) reply = line_of (codes "memory")
+abbrev pub reply_written : {T : Type 0} → Result T Refusal → (reply : List ℕ) → List ℕ
+reply_written (Ok done) reply = reply
+reply_written (Err refusal.BadLine) reply = line_of (codes "bad line")
+reply_written (Err refusal.OutOfMemory) reply = line_of (codes "memory")

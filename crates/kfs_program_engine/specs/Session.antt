@@ -21,21 +21,21 @@ use Rattle.kfs_plan.specs.declared.answers.Done.TheVariants.{Leased, Dropped, Ti
 use Rattle.kfs_plan.specs.declared.answers.Reply.{Reply}
 use Rattle.kfs_program_command.specs.Command.{Command, Setup, Request, OpeningCommand, New, Row, Begin, DeskCommand, Lease, Drop, Tick, Submit, Node, Listing, Bytes, DocketLength, Judge, Land, asked_by}
 use Rattle.kfs_program_engine.specs.Bytes.{read_text}
-use Rattle.kfs_program_engine.specs.Hands.{Hands, held_by, no_verdict, with_held}
+use Rattle.kfs_program_engine.specs.HeldVerdicts.{HeldVerdicts, held_by, no_verdict, with_held}
 use Rattle.kfs_workers.specs.Verdict.{IsUpToDate, IsVerdictOn, HeldVerdict}
 use Rattle.kfs_program_engine.specs.Listing.{list_text}
 use Rattle.kfs_report.specs.Text.{act_text, begin_text, client_text, node_text, reply_text}
 use Rattle.kfs_program_text.specs.Parts.{line_of}
 
--- what a desk is begun with: the image, where one was made, and the clients
+-- what a desk is begun_with with: the image, where one was made, and the clients
 pub record Start : Type 0 where
   pub image : Option DeviceImage
   pub clients : List Client
 
--- before the desk is begun, and after: the desk, and what the workers hold
+-- before the desk is begun_with, and after: the desk, and what the workers hold
 pub data Stage : Type 0 where
   Before : (start : Start) → Stage
-  After : (desk : Desk) (hands : Hands) → Stage
+  After : (desk : Desk) (hands : HeldVerdicts) → Stage
 
 -- neither an image nor a client
 abbrev pub fresh : Stage
@@ -57,17 +57,17 @@ IsReplied Holds before after s = (text : List ℕ) × (after ≡ before ++ text)
 abbrev pub IsSaid : {S : Type 0} → (text : List ℕ) → S → List ℕ × S → Type 0
 IsSaid text s outcome = outcome ≡ (line_of text, s)
 
--- ---- before the desk is begun
+-- ---- before the desk is begun_with
 
 -- the desk, or the fault of the clients: the image stays then, and they are forgotten
-abbrev pub begun : DeviceImage → List Client → (limit : ℕ) → Option BeginFault → LineOutcome
-begun image clients limit None = (line_of (codes "ok"), After (opened_at (opening clients image.sizes (shown_tree image) image.placement) limit) no_verdict)
-begun image clients limit (Some fault) = (line_of (codes "begin " ++ begin_text fault), Before (record { image = Some image; clients = [] }))
+abbrev pub begun_with : DeviceImage → List Client → (limit : ℕ) → Option BeginFault → LineOutcome
+begun_with image clients limit None = (line_of (codes "ok"), After (opened_at (opening clients image.sizes (shown_tree image) image.placement) limit) no_verdict)
+begun_with image clients limit (Some fault) = (line_of (codes "begin " ++ begin_text fault), Before (record { image = Some image; clients = [] }))
 
 -- without an image there is no desk
 abbrev pub begun_over : Option DeviceImage → List Client → (limit : ℕ) → LineOutcome
 begun_over None clients limit = (line_of (codes "bad line"), Before (record { image = None; clients = clients }))
-begun_over (Some image) clients limit = begun image clients limit (begin_fault clients)
+begun_over (Some image) clients limit = begun_with image clients limit (begin_fault clients)
 
 abbrev pub admitted : Start → Result Client ClientFault → LineOutcome
 admitted start (Ok client) = (line_of (codes "ok"), Before (record start { clients = start.clients ++ client ∷ [] }))
@@ -132,13 +132,13 @@ docket_line desk = codes "docket " ++ decimal (length desk.docket)
 -- ---- verdicts that are held
 
 -- the desk's outcome, and then the workers hold this
-abbrev pub WithHands : Hands → (DeskOutcome → Type 0) → LineOutcome → Type 0
+abbrev pub WithHands : HeldVerdicts → (DeskOutcome → Type 0) → LineOutcome → Type 0
 WithHands hands Holds outcome = (said : DeskOutcome) × Holds said × (outcome ≡ (said.0, After said.1 hands))
 
 -- the worker, who holds no verdict, holds one on the submission then, and the desk is as it was; with a full hand it is a bad line
-abbrev pub Judges : Desk → Hands → (worker : ℕ) → (held : Option HeldVerdict) → Submission → LineOutcome → Type 0
-Judges desk hands worker (Some verdict) submission outcome = IsSaid (codes "bad line") (After desk hands) outcome
-Judges desk hands worker None submission outcome =
+abbrev pub AnswersJudge : Desk → HeldVerdicts → (worker : ℕ) → (held : Option HeldVerdict) → Submission → LineOutcome → Type 0
+AnswersJudge desk hands worker (Some verdict) submission outcome = IsSaid (codes "bad line") (After desk hands) outcome
+AnswersJudge desk hands worker None submission outcome =
     (verdict : HeldVerdict) × IsVerdictOn desk.state submission verdict × IsSaid (codes "judged " ++ decimal worker) (After desk (with_held hands worker (Some verdict))) outcome
 
 -- the verdict's submission is answered, judged again exactly where the verdict isn't up to date
@@ -152,44 +152,44 @@ abbrev pub IsLandingAnswered : Desk → HeldVerdict → DeskOutcome → Type 0
 IsLandingAnswered desk verdict outcome = IsFull desk outcome ⊎ (IsLanded desk verdict outcome ⊎ IsSaid (codes "memory") desk outcome)
 
 -- whatever comes of the verdict that the worker holds, it holds none then; with an empty hand it is a bad line
-abbrev pub Lands : Desk → Hands → (worker : ℕ) → (held : Option HeldVerdict) → LineOutcome → Type 0
-Lands desk hands worker None outcome = IsSaid (codes "bad line") (After desk hands) outcome
-Lands desk hands worker (Some verdict) outcome = WithHands (with_held hands worker None) (IsLandingAnswered desk verdict) outcome
+abbrev pub AnswersLand : Desk → HeldVerdicts → (worker : ℕ) → (held : Option HeldVerdict) → LineOutcome → Type 0
+AnswersLand desk hands worker None outcome = IsSaid (codes "bad line") (After desk hands) outcome
+AnswersLand desk hands worker (Some verdict) outcome = WithHands (with_held hands worker None) (IsLandingAnswered desk verdict) outcome
 
 -- ---- lines
 
--- a command after the desk is begun
-abbrev pub Serves : Desk → Hands → DeskCommand → LineOutcome → Type 0
-Serves desk hands (Lease client path kind end) outcome = WithHands hands (IsCallAnswered desk (machine.Lease client path kind end) Leased) outcome
-Serves desk hands (Drop client number) outcome = WithHands hands (IsCallAnswered desk (machine.Drop client number) Dropped) outcome
-Serves desk hands (Tick moment) outcome = WithHands hands (IsCallAnswered desk (machine.Tick moment) Ticked) outcome
-Serves desk hands (Submit submission) outcome = WithHands hands (IsSubmissionAnswered desk submission) outcome
-Serves desk hands (Node number) outcome = WithHands hands (IsNodeShown desk number) outcome
-Serves desk hands (Listing directory) outcome = WithHands hands (IsSaid (names_line desk directory) desk) outcome
-Serves desk hands (Bytes number start count) outcome = WithHands hands (IsSaid (read_text desk.state.tree number start count) desk) outcome
-Serves desk hands DocketLength outcome = WithHands hands (IsSaid (docket_line desk) desk) outcome
-Serves desk hands (Judge worker submission) outcome = Judges desk hands worker (held_by hands worker) submission outcome
-Serves desk hands (Land worker) outcome = Lands desk hands worker (held_by hands worker) outcome
+-- a command after the desk is begun_with
+abbrev pub AnswersDeskCommand : Desk → HeldVerdicts → DeskCommand → LineOutcome → Type 0
+AnswersDeskCommand desk hands (Lease client path kind end) outcome = WithHands hands (IsCallAnswered desk (machine.Lease client path kind end) Leased) outcome
+AnswersDeskCommand desk hands (Drop client number) outcome = WithHands hands (IsCallAnswered desk (machine.Drop client number) Dropped) outcome
+AnswersDeskCommand desk hands (Tick moment) outcome = WithHands hands (IsCallAnswered desk (machine.Tick moment) Ticked) outcome
+AnswersDeskCommand desk hands (Submit submission) outcome = WithHands hands (IsSubmissionAnswered desk submission) outcome
+AnswersDeskCommand desk hands (Node number) outcome = WithHands hands (IsNodeShown desk number) outcome
+AnswersDeskCommand desk hands (Listing directory) outcome = WithHands hands (IsSaid (names_line desk directory) desk) outcome
+AnswersDeskCommand desk hands (Bytes number start count) outcome = WithHands hands (IsSaid (read_text desk.state.tree number start count) desk) outcome
+AnswersDeskCommand desk hands DocketLength outcome = WithHands hands (IsSaid (docket_line desk) desk) outcome
+AnswersDeskCommand desk hands (Judge worker submission) outcome = AnswersJudge desk hands worker (held_by hands worker) submission outcome
+AnswersDeskCommand desk hands (Land worker) outcome = AnswersLand desk hands worker (held_by hands worker) outcome
 
 -- a command where it is due
-abbrev pub Does : Stage → Command → LineOutcome → Type 0
-Does (Before start) (Setup command) outcome = outcome ≡ opened start command
-Does (Before start) (Request command) outcome = IsSaid (codes "bad line") (Before start) outcome
-Does (After desk hands) (Setup command) outcome = IsSaid (codes "bad line") (After desk hands) outcome
-Does (After desk hands) (Request command) outcome = Serves desk hands command outcome
+abbrev pub AnswersCommand : Stage → Command → LineOutcome → Type 0
+AnswersCommand (Before start) (Setup command) outcome = outcome ≡ opened start command
+AnswersCommand (Before start) (Request command) outcome = IsSaid (codes "bad line") (Before start) outcome
+AnswersCommand (After desk hands) (Setup command) outcome = IsSaid (codes "bad line") (After desk hands) outcome
+AnswersCommand (After desk hands) (Request command) outcome = AnswersDeskCommand desk hands command outcome
 
 -- what the line asks for is done, where it is a command
 abbrev pub Obeys : Stage → Option Command → LineOutcome → Type 0
 Obeys s None outcome = ⊥
-Obeys s (Some command) outcome = Does s command outcome
+Obeys s (Some command) outcome = AnswersCommand s command outcome
 
 -- a line that is no command, or what it asks for, or want of memory, which may come at any line and leaves the stage
-abbrev pub Answers : Stage → (line : List ℕ) → LineOutcome → Type 0
-Answers s line outcome =
+abbrev pub AnswersLine : Stage → (line : List ℕ) → LineOutcome → Type 0
+AnswersLine s line outcome =
     ((asked_by line ≡ None) × IsSaid (codes "bad line") s outcome)
     ⊎ (Obeys s (asked_by line) outcome ⊎ IsSaid (codes "memory") s outcome)
 
 -- the text that the lines are answered one after another, and the last stage
-abbrev pub Runs : Stage → (lines : List (List ℕ)) → (text : List ℕ) → Stage → Type 0
-Runs s [] text last = (text ≡ []) × (last ≡ s)
-Runs s (line ∷ lines) text last = (reply : List ℕ) × (next : Stage) × (rest : List ℕ) × Answers s line (reply, next) × Runs next lines rest last × (text ≡ reply ++ rest)
+abbrev pub AnswersLines : Stage → (lines : List (List ℕ)) → (text : List ℕ) → Stage → Type 0
+AnswersLines s [] text last = (text ≡ []) × (last ≡ s)
+AnswersLines s (line ∷ lines) text last = (reply : List ℕ) × (next : Stage) × (rest : List ℕ) × AnswersLine s line (reply, next) × AnswersLines next lines rest last × (text ≡ reply ++ rest)

@@ -2,8 +2,8 @@
 use Rattle.std.specs.Prelude.{◌≡◌, ◌⊎◌, ℕ, List, codes, Option, None, Some}
 use Rattle.kfs_desk.specs.Machine.{Desk}
 use Rattle.kfs_program_command.specs.Command as commands
-use Rattle.kfs_program_engine.specs.Hands.{no_verdict}
-use Rattle.kfs_program_engine.specs.Session.{Does, IsReplied, LineOutcome, Stage, Start, Before, After, opened}
+use Rattle.kfs_program_engine.specs.HeldVerdicts.{no_verdict}
+use Rattle.kfs_program_engine.specs.Session.{AnswersCommand, IsReplied, LineOutcome, Stage, Start, Before, After, opened}
 use Rattle.kfs_program_text.specs.Parts.{line_of}
 use Rattle.kfs_program_engine.specs.declared.opening.Opening.{Opening}
 use Rattle.kfs_program_engine.specs.declared.session.Session.{Session}
@@ -27,7 +27,7 @@ module _ {A : Type 0} where
 
 -- for want of memory the stage is as it was, or what the command leaves then
 abbrev pub IsUndone : (before : Stage) → commands.Command → (after : Stage) → Type 0
-IsUndone before command after = (after ≡ before) ⊎ Does before command (line_of (codes "memory"), after)
+IsUndone before command after = (after ≡ before) ⊎ AnswersCommand before command (line_of (codes "memory"), after)
 
 -- before the desk is begun, or at the desk that has come of it
 abbrev pub stage_after : Option Desk → Start → Stage
@@ -44,9 +44,9 @@ module _ {A : Type 0} where
   IsWithoutImage opening command next = Opens opening command (line_of (codes "bad line"), Before (start_of next))
 
   -- the command is done where it is due, with a reply behind this text
-  abbrev pub IsDone : Session A → commands.Command → (before after : List ℕ) → Session A → Type 0
-  IsDone session command before after next = IsReplied (Does (stage_of session) command) before after (stage_of next)
+  abbrev pub CommandIsDone : Session A → commands.Command → (before after : List ℕ) → Session A → Type 0
+  CommandIsDone session command before after next = IsReplied (AnswersCommand (stage_of session) command) before after (stage_of next)
 
   -- a bad line, since the command isn't due
   abbrev pub IsOutOfPlace : Session A → commands.Command → Session A → Type 0
-  IsOutOfPlace session command next = Does (stage_of session) command (line_of (codes "bad line"), stage_of next)
+  IsOutOfPlace session command next = AnswersCommand (stage_of session) command (line_of (codes "bad line"), stage_of next)

@@ -1,9 +1,9 @@
 //! Cuts the input into lines and writes the reply of each.
 ghost use Rattle.std.specs.Prelude.{◌≡◌, ◌++◌, [], OnOk};
-ghost use Rattle.kfs_program_engine.specs.Progress.{Ends, IsHeldAnswered, IsKept, IsLineAnswered, StandsAt, Takes, said};
-ghost use Rattle.kfs_program_engine.specs.Session.{Answers};
+ghost use Rattle.kfs_program_engine.specs.Progress.{Ends, IsHeldAnswered, LineIsKept, IsLineAnswered, HasAnsweredSoFar, Takes, reply_written};
+ghost use Rattle.kfs_program_engine.specs.Session.{AnswersLine};
 ghost use Rattle.kfs_program_engine.specs.Views.{stage_of};
-ghost use Rattle.kfs_program_text.specs.Held.{contents_with};
+ghost use Rattle.kfs_program_text.specs.HeldOutput.{contents_with};
 ghost use Rattle.kfs_program_text.specs.Streams.{Writes};
 
 use crate::fault::EngineFault;
@@ -26,7 +26,7 @@ pub struct Conversation<A: Allocator> {
 
 impl<A: Allocator + Copy> Conversation<A> {
     pub fn new(alloc: A) -> Conversation<A>
-        ensures { StandsAt result [] [] [] }
+        ensures { HasAnsweredSoFar result [] [] [] }
     {
         Conversation {
             session: Session::new(alloc),
@@ -79,7 +79,7 @@ impl<A: Allocator + Copy> Conversation<A> {
     }
 
     fn keep(&mut self, part: &[u8]) -> Result<(), EngineFault>
-        ensures line { IsKept result (stage_of self.old.session) (self.old.line.items ++ part.now) self.new.line.items }
+        ensures line { LineIsKept result (stage_of self.old.session) (self.old.line.items ++ part.now) self.new.line.items }
         ensures session { self.new.session ≡ self.old.session }
     {
         if self.line.len().saturating_add(part.len()) > LONGEST_INPUT_LINE {
@@ -102,7 +102,7 @@ impl<A: Allocator + Copy> Conversation<A> {
 
     /// Makes room for the reply before anything changes.
     fn reply(&mut self) -> Result<(), Refusal>
-        ensures session { Answers (stage_of self.old.session) self.old.line.items (said result self.new.reply.items, stage_of self.new.session) }
+        ensures session { AnswersLine (stage_of self.old.session) self.old.line.items (reply_written result self.new.reply.items, stage_of self.new.session) }
         ensures line { self.new.line ≡ self.old.line }
     {
         self.reply.clear();
@@ -113,7 +113,7 @@ impl<A: Allocator + Copy> Conversation<A> {
 
 /// What is written of a reply.
 fn text_of(replied: Result<(), Refusal>, reply: &[u8]) -> &[u8]
-    ensures { result.now ≡ said replied reply.now }
+    ensures { result.now ≡ reply_written replied reply.now }
 {
     match replied {
         Ok(()) => reply,

@@ -4,11 +4,11 @@ ghost use Rattle.std.specs.Prelude.{◌≡◌, [], ◌∷◌, codes, None, Err};
 ghost use Rattle.kfs_model_examples.specs.Example.{client_7, client_8};
 ghost use Rattle.kfs_mode.specs.declared.client.ClientFault.TheVariants.{TooManyGroups};
 ghost use Rattle.kfs_program_command.specs.Command.{Begin, New, Row};
-ghost use Rattle.kfs_program_engine.specs.Conversation.{BreaksOff};
+ghost use Rattle.kfs_program_engine.specs.Transcript.{BreaksOff};
 ghost use Rattle.kfs_program_engine.specs.Example.{desk_of_7, desk_with, eight_blocks_each, full_docket, held_by_3, names_of_two_directories, opening_with, root_leased};
-ghost use Rattle.kfs_program_engine.specs.Hands.{no_verdict};
+ghost use Rattle.kfs_program_engine.specs.HeldVerdicts.{no_verdict};
 ghost use Rattle.kfs_program_engine.specs.Listing.{list_text};
-ghost use Rattle.kfs_program_engine.specs.Session.{After, Before, Runs, fresh, opened};
+ghost use Rattle.kfs_program_engine.specs.Session.{After, Before, AnswersLines, fresh, opened};
 ghost use Rattle.kfs_program_text.specs.Cut.{lines_of};
 
 /// The lines of an input, and a last line that lacks its end; an input that ends with a line's end has no further line.
@@ -38,12 +38,12 @@ pub fn lists()
 
 /// A lease on the root, and the root's line then: a directory has one link and size 0.
 pub fn node_after_a_lease()
-    ensures { Runs (After desk_of_7 no_verdict) (codes "lease 7 / w 100" ∷ codes "node 1" ∷ []) (codes "0 leased 1\nnode 1 dir 0777 0 0 1 0\n") (After root_leased no_verdict) }
+    ensures { AnswersLines (After desk_of_7 no_verdict) (codes "lease 7 / w 100" ∷ codes "node 1" ∷ []) (codes "0 leased 1\nnode 1 dir 0777 0 0 1 0\n") (After root_leased no_verdict) }
 {}
 
 /// At a full docket no verdict is landed, and the worker holds none then.
 pub fn verdict_at_a_full_docket()
-    ensures { Runs (After full_docket held_by_3) (codes "land 3" ∷ codes "land 3" ∷ []) (codes "full\nbad line\n") (After full_docket no_verdict) }
+    ensures { AnswersLines (After full_docket held_by_3) (codes "land 3" ∷ codes "land 3" ∷ []) (codes "full\nbad line\n") (After full_docket no_verdict) }
 {}
 
 /// A reader that gave one line with its end, and a writer that failed behind the reply: there is no further line.

@@ -1,6 +1,6 @@
 //! What the workers hold: a verdict each, or none.
 ghost use Rattle.std.specs.Prelude.{◌≡◌, ◌↔◌, IfOk, IsTrue, None, Some, option_map};
-ghost use Rattle.kfs_program_engine.specs.Hands.{held_by, no_verdict, with_held};
+ghost use Rattle.kfs_program_engine.specs.HeldVerdicts.{held_by, no_verdict, with_held};
 ghost use Rattle.kfs_workers.specs.Holding.{verdict_of};
 
 use kfs_plan::Judged;
@@ -18,7 +18,7 @@ pub struct Hands<A: Allocator> {
 }
 
 impl<A: Allocator> Model for Hands<A> {
-    ghost use Rattle.kfs_program_engine.specs.Hands.{Hands as HandsShown};
+    ghost use Rattle.kfs_program_engine.specs.HeldVerdicts.{HeldVerdicts as HandsShown};
     ghost use Rattle.std.specs.Prelude.{◌≡◌, length};
 
     ghost Value = { HandsShown };

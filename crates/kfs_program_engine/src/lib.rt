@@ -3,8 +3,8 @@
 
 ghost use Rattle.std.specs.Prelude.{◌≡◌, ◌<◌, length, IfErr, IfOk, OnOk};
 ghost use Rattle.std.specs.Io.KnownBytes.{IsAtEnd};
-ghost use Rattle.kfs_program_engine.specs.Conversation.{IsSession};
-ghost use Rattle.kfs_program_text.specs.Held.{contents_with};
+ghost use Rattle.kfs_program_engine.specs.Transcript.{IsSession};
+ghost use Rattle.kfs_program_text.specs.HeldOutput.{contents_with};
 ghost use Rattle.kfs_program_text.specs.Streams.{Exchanges};
 
 mod bytes;

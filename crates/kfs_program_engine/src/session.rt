@@ -6,9 +6,9 @@ ghost use Rattle.kfs_entry_value.specs.Views.{header_of};
 ghost use Rattle.kfs_plan.specs.Judging.{submission_of};
 ghost use Rattle.kfs_desk.specs.Machine.{call_of, done_by};
 ghost use Rattle.kfs_program_command.specs.Command as commands;
-ghost use Rattle.kfs_program_engine.specs.Session.{After, Answers, IsCallAnswered, IsNodeShown, IsReplied, IsSubmissionAnswered, Serves, docket_line, fresh, names_line};
+ghost use Rattle.kfs_program_engine.specs.Session.{After, AnswersLine, IsCallAnswered, IsNodeShown, IsReplied, IsSubmissionAnswered, AnswersDeskCommand, docket_line, fresh, names_line};
 ghost use Rattle.kfs_program_command.specs.Views.{asked_of_desk, opening_of};
-ghost use Rattle.kfs_program_engine.specs.Views.{IsDone, IsOutOfPlace, IsUndone, stage_of};
+ghost use Rattle.kfs_program_engine.specs.Views.{CommandIsDone, IsOutOfPlace, IsUndone, stage_of};
 ghost use Rattle.kfs_program_text.specs.Parts.{line_of};
 ghost use Rattle.kfs_entry_value.specs.Room.{spare_of};
 
@@ -55,9 +55,9 @@ impl<A: Allocator + Copy> Session<A> {
     /// as it was, but for a verdict that was to be landed: without memory it is given up.
     pub fn answer(&mut self, line: &[u8], reply: &mut Vec<u8, A>) -> Result<(), Refusal>
         requires { 128 ≤ spare_of reply.old }
-        ensures ok { OnOk result (IsReplied (Answers (stage_of self.old) line.now) reply.old.items reply.new.items (stage_of self.new)) }
-        ensures bad { IsErrOf result Refusal.BadLine → Answers (stage_of self.old) line.now (line_of (codes "bad line"), stage_of self.new) }
-        ensures memory { IsErrOf result Refusal.OutOfMemory → Answers (stage_of self.old) line.now (line_of (codes "memory"), stage_of self.new) }
+        ensures ok { OnOk result (IsReplied (AnswersLine (stage_of self.old) line.now) reply.old.items reply.new.items (stage_of self.new)) }
+        ensures bad { IsErrOf result Refusal.BadLine → AnswersLine (stage_of self.old) line.now (line_of (codes "bad line"), stage_of self.new) }
+        ensures memory { IsErrOf result Refusal.OutOfMemory → AnswersLine (stage_of self.old) line.now (line_of (codes "memory"), stage_of self.new) }
     {
         match Command::read(self.alloc, line)? {
             Command::Opening(command) => self.answer_before(command, reply),
@@ -72,7 +72,7 @@ impl<A: Allocator + Copy> Session<A> {
         reply: &mut Vec<u8, A>,
     ) -> Result<(), Refusal>
         requires { 128 ≤ spare_of reply.old }
-        ensures ok { OnOk result (IsDone self.old (commands.Setup (opening_of command)) reply.old.items reply.new.items self.new) }
+        ensures ok { OnOk result (CommandIsDone self.old (commands.Setup (opening_of command)) reply.old.items reply.new.items self.new) }
         ensures bad { IsErrOf result Refusal.BadLine → IsOutOfPlace self.old (commands.Setup (opening_of command)) self.new }
         ensures memory { IsErrOf result Refusal.OutOfMemory → stage_of self.new ≡ stage_of self.old }
     {
@@ -95,7 +95,7 @@ impl<A: Allocator + Copy> Session<A> {
         reply: &mut Vec<u8, A>,
     ) -> Result<(), Refusal>
         requires { 128 ≤ spare_of reply.old }
-        ensures ok { OnOk result (IsDone self.old (commands.Request (asked_of_desk command.entry)) reply.old.items reply.new.items self.new) }
+        ensures ok { OnOk result (CommandIsDone self.old (commands.Request (asked_of_desk command.entry)) reply.old.items reply.new.items self.new) }
         ensures bad { IsErrOf result Refusal.BadLine → IsOutOfPlace self.old (commands.Request (asked_of_desk command.entry)) self.new }
         ensures memory { IsErrOf result Refusal.OutOfMemory → IsUndone (stage_of self.old) (commands.Request (asked_of_desk command.entry)) (stage_of self.new) }
     {
@@ -115,8 +115,8 @@ fn answer_due<A: Allocator + Copy>(
     reply: &mut Vec<u8, A>,
 ) -> Result<(), Refusal>
     requires { 128 ≤ spare_of reply.old }
-    ensures ok { OnOk result (IsReplied (Serves desk.old hands.old (asked_of_desk command.entry)) reply.old.items reply.new.items (After desk.new hands.new)) }
-    ensures bad { IsErrOf result Refusal.BadLine → Serves desk.old hands.old (asked_of_desk command.entry) (line_of (codes "bad line"), After desk.new hands.new) }
+    ensures ok { OnOk result (IsReplied (AnswersDeskCommand desk.old hands.old (asked_of_desk command.entry)) reply.old.items reply.new.items (After desk.new hands.new)) }
+    ensures bad { IsErrOf result Refusal.BadLine → AnswersDeskCommand desk.old hands.old (asked_of_desk command.entry) (line_of (codes "bad line"), After desk.new hands.new) }
     ensures memory { IsErrOf result Refusal.OutOfMemory → IsUndone (After desk.old hands.old) (commands.Request (asked_of_desk command.entry)) (After desk.new hands.new) }
 {
     match command {

@@ -4,7 +4,7 @@ use Rattle.std.proofs.Math.Seq.{drop-nil}
 use Rattle.std.proofs.lemmas.List.{take_rest}
 use Rattle.std.proofs.KnownBytes.{Appends-kept, Appends-trans, append_known-moved}
 use Rattle.std.specs.Io.KnownBytes.{Appends, Keeps, WriteAppends, append_known}
-use Rattle.kfs_program_text.specs.Held.{HasGrown}
+use Rattle.kfs_program_text.specs.HeldOutput.{HasGrown}
 
 drop-again : (count taken : ℕ) (items : List ℕ) → drop (taken + count) items ≡ drop count (drop taken items)
 drop-again count zero items = let none : 0 + count ≡ count = omega arith in ap (λ n. drop n items) none

@@ -1,6 +1,6 @@
 pub mod Cut
 pub mod Decimals
-pub mod Held
+pub mod HeldOutput
 pub mod Parts
 pub mod Reading
 pub mod Streams

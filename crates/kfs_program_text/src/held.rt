@@ -1,7 +1,7 @@
 //! A writer in front of another, which holds texts back so that several are written together.
 ghost use Rattle.std.specs.Prelude.{◌≡◌, ◌++◌, ℕ, List, [], IsFalse, IsTrue, OnOk, OnErr};
 ghost use Rattle.std.specs.Io.KnownBytes.{Keeps, append_known};
-ghost use Rattle.kfs_program_text.specs.Held.{HasGrown, contents_with};
+ghost use Rattle.kfs_program_text.specs.HeldOutput.{HasGrown, contents_with};
 ghost use Rattle.kfs_program_text.specs.Streams.{IsWritten, Writes};
 
 use crate::fault::WriteFault;
@@ -26,9 +26,9 @@ pub struct HeldBack<'w, W: Write, A: Allocator> {
 
 impl<'w, W: Write, A: Allocator> Model for HeldBack<'w, W, A> {
     ghost use Rattle.std.specs.Prelude.{◌≡◌, ◌≤◌, length, drop};
-    ghost use Rattle.kfs_program_text.specs.Held.{HasGrown, Held};
+    ghost use Rattle.kfs_program_text.specs.HeldOutput.{HasGrown, HeldOutput};
 
-    ghost Value = { Held W };
+    ghost Value = { HeldOutput W };
 
     ghost view = { λ h. record { first = h.first.value; inner = h.inner; held = drop h.taken h.held.items } };
 

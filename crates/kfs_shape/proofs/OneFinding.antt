@@ -7,13 +7,13 @@ use Rattle.kfs_model_device.specs.Rules.{Test}
 use Rattle.kfs_model_device.specs.Finding.{Finding, least_failed, finding_from, finding_of}
 use Rattle.kfs_shape.specs.declared.fault.ShapeFault.{ShapeFault}
 use Rattle.kfs_shape.specs.declared.fault.ShapeFault.TheVariants.{Found, OutOfMemory}
-use Rattle.kfs_shape.specs.Findings.{finding_shown, node_rules, name_rules, extent_rules, Names, Tells}
+use Rattle.kfs_shape.specs.Findings.{finding_shown, node_rules, name_rules, extent_rules, Names, FindsNoneWhere}
 
 abbrev Rules : Type 0
 Rules = List (ℕ × (RawImage → List Test))
 
 -- what is told of the first of two findings is told of both, where a fault tells it
-pub told_before : {T : Type 0} (fault : ShapeFault) (result : Result T ShapeFault) (first later : Option Finding) → IsErrAnd result (λ other. other ≡ fault) → Names fault first → Tells result (option_or first later)
+pub told_before : {T : Type 0} (fault : ShapeFault) (result : Result T ShapeFault) (first later : Option Finding) → IsErrAnd result (λ other. other ≡ fault) → Names fault first → FindsNoneWhere result (option_or first later)
 told_before fault (Ok value) first later is told = absurd is
 told_before OutOfMemory (Err OutOfMemory) first later is told = tt
 told_before OutOfMemory (Err (Found other)) first later is told = cc

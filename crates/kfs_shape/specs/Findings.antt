@@ -21,9 +21,9 @@ Names (Found found) finding = finding ≡ Some (finding_shown found)
 Names OutOfMemory finding = Unit {0}
 
 -- a value is there only where nothing is found
-abbrev pub Tells : {T : Type 0} → Result T ShapeFault → Option Finding → Type 0
-Tells (Ok value) finding = finding ≡ None
-Tells (Err fault) finding = Names fault finding
+abbrev pub FindsNoneWhere : {T : Type 0} → Result T ShapeFault → Option Finding → Type 0
+FindsNoneWhere (Ok value) finding = finding ≡ None
+FindsNoneWhere (Err fault) finding = Names fault finding
 
 abbrev pub node_rules : List (ℕ × (RawImage → List Test))
 node_rules = (1, rule_1) ∷ (2, rule_2) ∷ (3, rule_3) ∷ []

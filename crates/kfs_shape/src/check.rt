@@ -2,7 +2,7 @@
 ghost use Rattle.std.specs.Prelude.{◌≡◌, None, IfOk};
 ghost use Rattle.kfs_model_device.specs.Rules.{rule_1};
 ghost use Rattle.kfs_model_device.specs.Finding.{finding_from, finding_of, least_failed};
-ghost use Rattle.kfs_shape.specs.Findings.{found_at, node_rules, name_rules, extent_rules, Tells};
+ghost use Rattle.kfs_shape.specs.Findings.{found_at, node_rules, name_rules, extent_rules, FindsNoneWhere};
 ghost use Rattle.kfs_shape.specs.Heads.{ShowsHeads};
 ghost use Rattle.kfs_shape.specs.Views.{raw_of};
 
@@ -20,7 +20,7 @@ use std::collections::BTreeMap;
 
 /// A finding where there is a least number.
 fn no_failure(rule: u8, least: Option<u32>) -> Result<(), ShapeFault>
-    ensures { Tells result (found_at rule least) }
+    ensures { FindsNoneWhere result (found_at rule least) }
 {
     match least {
         Some(number) => Err(ShapeFault::Found(Finding { rule, number })),
@@ -34,7 +34,7 @@ fn check_nodes<A: Allocator + Copy>(
     raw: &RawImage<A>,
 ) -> Result<BTreeMap<u32, Header, A>, ShapeFault>
     ensures shown { IfOk result (λ headers. ShowsHeads headers raw.now) }
-    ensures told { Tells result (finding_from (raw_of raw.now) node_rules) }
+    ensures told { FindsNoneWhere result (finding_from (raw_of raw.now) node_rules) }
 {
     no_failure(1, nodes::least_out_of_order(raw))?;
     let headers = headers(alloc, raw)?;
@@ -51,7 +51,7 @@ fn check_names<A: Allocator + Copy>(
 ) -> Result<(), ShapeFault>
     requires shown { ShowsHeads headers.now raw.now }
     requires in_range { least_failed (rule_1 (raw_of raw.now)) ≡ None }
-    ensures { Tells result (finding_from (raw_of raw.now) name_rules) }
+    ensures { FindsNoneWhere result (finding_from (raw_of raw.now) name_rules) }
 {
     no_failure(4, names::least_out_of_order(raw, headers))?;
     no_failure(5, least_lost_target(raw, headers))?;
@@ -66,7 +66,7 @@ fn check_extents<A: Allocator + Copy>(
     headers: &BTreeMap<u32, Header, A>,
 ) -> Result<(), ShapeFault>
     requires { ShowsHeads headers.now raw.now }
-    ensures { Tells result (finding_from (raw_of raw.now) extent_rules) }
+    ensures { FindsNoneWhere result (finding_from (raw_of raw.now) extent_rules) }
 {
     no_failure(8, least_misplaced(raw, headers))?;
     no_failure(9, least_past_tier(raw))?;
@@ -76,7 +76,7 @@ fn check_extents<A: Allocator + Copy>(
 /// Whether the image is well formed. If not, the error has the least rule that is broken, with the least
 /// number at which it is, unless a growth was refused.
 pub fn check_shape<A: Allocator + Copy>(alloc: A, raw: &RawImage<A>) -> Result<(), ShapeFault>
-    ensures { Tells result (finding_of (raw_of raw.now)) }
+    ensures { FindsNoneWhere result (finding_of (raw_of raw.now)) }
 {
     let headers = check_nodes(alloc, raw)?;
     check_names(alloc, raw, &headers)?;

@@ -15,7 +15,7 @@ use Rattle.kfs_model.specs.Placement.{Place, tier_size, is_free}
 use Rattle.kfs_model_device.specs.ShownTree.{DeviceImage, IsLawful}
 use Rattle.kfs_image.specs.declared.edit.Edit.{Edit}
 use Rattle.kfs_image.specs.declared.edit.Edit.TheVariants.{Header, Name, Map, Bytes}
-use Rattle.kfs_image.specs.Edit.{CanEdit, IsWhole, edited_all}
+use Rattle.kfs_image.specs.Edit.{CanEdit, WritesWholeBlocks, edited_all}
 use Rattle.kfs_image.specs.Net.{is_block}
 use Rattle.kfs_test_image.specs.Edits.{each_kind}
 use Rattle.kfs_image.proofs.FilledImages.{mapped_is_lawful, unmapped_is_lawful, written_is_lawful}
@@ -46,7 +46,7 @@ module _ {A : Type 0} (image : DeviceImage) (lawful : IsLawful image) (header : 
   can_edit = record {
     lawful = subst (λ (i : DeviceImage). IsLawful (record i { placement = changed (changed i.placement (5, 1) (Some place)) (5, 0) None; devices = insert i.devices (place.tier, place.place) bytes.items })) (sym base) after_all;
     whole =
-        let is_whole : Edit A → Type 0 = IsWhole image.sizes in
+        let is_whole : Edit A → Type 0 = WritesWholeBlocks image.sizes in
         let last = All-cons is_whole (Map 5 0 None) [] tt (All-nil is_whole) in
         let written = All-cons is_whole (Bytes place bytes) (Map 5 0 None ∷ []) (inside, whole) last in
         let mapped = All-cons is_whole (Map 5 1 (Some place)) (Bytes place bytes ∷ Map 5 0 None ∷ []) tt written in

@@ -13,7 +13,7 @@ use Rattle.kfs_image.proofs.KeptTrees.{image_kept, kept_is_lawful}
 use Rattle.kfs_image.proofs.NetTables.{net_makes}
 use Rattle.kfs_image_nodes.specs.declared.net.Net.{Net}
 use Rattle.kfs_judge_step.specs.Rows.{keyed_name_row, keyed_node_row}
-use Rattle.kfs_plan.specs.Judging.{IsVerdict, Tells}
+use Rattle.kfs_plan.specs.Judging.{IsVerdict, TellsVerdict}
 use Rattle.kfs_plan.specs.declared.submission.Outcome.TheVariants as outcomes
 use Rattle.kfs_entry_value.specs.declared.entry.Log.{Log as CodeLog}
 use Rattle.kfs_entry_value.specs.declared.plan.Plan.{Plan as CodePlan}
@@ -22,7 +22,7 @@ module _ {A : Type 0} (image : DeviceImage) (lawful : IsLawful image) (s : State
   pub net_is_lawful : IsVerdict s submission (outcomes.Yes log plan net told) → IsLawful (after_net net image)
   net_is_lawful is = by is.verdict is.told
     where
-      by : (verdict : Verdict) → Tells s submission (outcomes.Yes log plan net told) verdict → IsLawful (after_net net image)
+      by : (verdict : Verdict) → TellsVerdict s submission (outcomes.Yes log plan net told) verdict → IsLawful (after_net net image)
       by (No refusal) told = absurd told
       by (Yes after marked_after) tells =
           let heads : headers s.tree ≡ image.heads = ap (λ (t : Tree ℕ). headers t) shown ∙ lawful.tree.counted in

@@ -6,7 +6,7 @@ use Rattle.kfs_model.specs.Placement.{Place, tier_size, is_free}
 use Rattle.kfs_model_device.specs.ShownTree.{DeviceImage, IsLawful}
 use Rattle.kfs_image.specs.declared.edit.Edit.{Edit}
 use Rattle.kfs_image.specs.declared.edit.Edit.TheVariants.{Map}
-use Rattle.kfs_image.specs.Edit.{CanEdit, IsWhole, edited_all}
+use Rattle.kfs_image.specs.Edit.{CanEdit, WritesWholeBlocks, edited_all}
 use Rattle.kfs_image.specs.Net.{is_block}
 use Rattle.kfs_image.proofs.FilledImages.{mapped_is_lawful, unmapped_is_lawful}
 
@@ -18,7 +18,7 @@ module _ {A : Type 0} (image : DeviceImage) (lawful : IsLawful image) (number bl
   unfolding edited_all
   can_move place after = record {
     lawful = after;
-    whole = All-cons (IsWhole image.sizes) (moved place) [] tt (All-nil (IsWhole {A = A} image.sizes));
+    whole = All-cons (WritesWholeBlocks image.sizes) (moved place) [] tt (All-nil (WritesWholeBlocks {A = A} image.sizes));
   }
 
   pub can_lay : (place : Place) → place.place < tier_size image.sizes place.tier → is_free image.placement place ≡ true → is_block image.heads (number, block) ≡ true → CanEdit (moved (Some place) ∷ []) image

@@ -1,6 +1,6 @@
 //! Images with the nodes that a log of client 7 makes.
 ghost use Rattle.std.specs.Prelude.{◌≡◌, IfSome};
-ghost use Rattle.kfs_mode.specs.Clients.{AreDistinct};
+ghost use Rattle.kfs_mode.specs.Clients.{ClientsAreDistinct};
 ghost use Rattle.kfs_model_device.specs.ShownTree.{IsLawful};
 ghost use Rattle.kfs_image.specs.Image as images;
 ghost use Rattle.kfs_image.specs.Net.{after_net};
@@ -23,7 +23,7 @@ pub struct Made<'a> {
 
 /// Client 7, with the numbers from 2 to 99.
 fn clients<A: Allocator>(alloc: A) -> Option<Vec<Client, A>>
-    ensures { IfSome result (λ clients. AreDistinct clients.items) }
+    ensures { IfSome result (λ clients. ClientsAreDistinct clients.items) }
 {
     let client = Client::new(7, 1000, 1000, &[], false, 2, 99).ok()?;
     vec![in alloc; client].ok()
@@ -35,7 +35,7 @@ fn view_of<A: Allocator + Copy>(
     image: &Image<A>,
     clients: Vec<Client, A>,
 ) -> Option<View<A>>
-    requires distinct { AreDistinct clients.items }
+    requires distinct { ClientsAreDistinct clients.items }
     ensures contents { IfSome result (λ view. contents_of view ≡ images.contents_of image.now) }
 {
     let mut leases = Leases::new(alloc);

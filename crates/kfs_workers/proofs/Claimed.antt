@@ -10,13 +10,13 @@ use Rattle.kfs_model.specs.Machine.{OneByOne, after}
 use Rattle.kfs_model.specs.Run.{created_by, over_bytes}
 use Rattle.kfs_model.specs.Sight.{ClientSight}
 use Rattle.kfs_model.specs.Tree.{Tree}
-use Rattle.kfs_desk_docket.specs.Legal.{LeadsTo}
+use Rattle.kfs_desk_docket.specs.Legal.{IsLegalDocket}
 use Rattle.kfs_plan.specs.declared.answers.Reply.{Reply}
 use Rattle.kfs_plan.specs.declared.answers.Reply.TheVariants as answers
 use Rattle.kfs_desk.specs.Docket.{position_of}
-use Rattle.kfs_desk.specs.Machine.{AreShown, Desk, Means}
+use Rattle.kfs_desk.specs.Machine.{AreShown, Desk, AnswerMeans}
 use Rattle.kfs_workers.specs.Claims.{AreAllowed, AreSettled, AtReply, EachReply, ElseChangesNothing, Gives, HasAllowedEntries, IsSettled, ShowsItsEntries, StandsAt}
-use Rattle.kfs_workers.specs.Script.{Held, IsRun, all_returned, begun}
+use Rattle.kfs_workers.specs.Script.{Holding, IsRun, all_returned, begun}
 use Rattle.kfs_workers.specs.declared.script.Step.{Step}
 use Rattle.kfs_workers.proofs.Places.{AreInPlace, Place, Waits, With, Answered, in_place_at_first, is_answered, submission_in, ticket_of, waiting_at}
 use Rattle.kfs_workers.proofs.Replies.{AreStanding, run_stands, stands_at_first}
@@ -33,7 +33,7 @@ allowed client before index created t [] after_it is = tt
 allowed client before index created t (entry ∷ entries) after_it is = (is.0, allowed client before (index + 1) (created_by entry created) (effect over_bytes client index entry t) entries after_it is.1)
 
 module _ (desk last : Desk) (submissions : List Submission) (script : List Step) (replies : List (Option Reply)) (left : List (Option Submission)) (run : IsRun desk submissions script replies left last)
-    (legal : LeadsTo desk.opening desk.docket desk.state) where
+    (legal : IsLegalDocket desk.opening desk.docket desk.state) where
   both : AreInPlace submissions run.scene × AreStanding submissions run.scene
   both = run_stands submissions (begun desk submissions) run.scene script (in_place_at_first desk submissions) (stands_at_first desk submissions legal) run.runs
 
@@ -49,7 +49,7 @@ module _ (desk last : Desk) (submissions : List Submission) (script : List Step)
   settled_at : (ticket : ℕ) (submission : Submission) → slice_get submissions ticket ≡ Some submission → IsSettled last submission (get_or run.scene.replies ticket None) (get_or (all_returned run.scene.hands run.scene.waiting) ticket None)
   settled_at ticket submission of = by (both.0.place ticket) refl (get_or run.scene.replies ticket None) refl
     where
-      own : (worker : ℕ) (held : Held) → get_or run.scene.hands worker None ≡ Some held → ticket_of held ≡ ticket → submission_in held ≡ submission
+      own : (worker : ℕ) (held : Holding) → get_or run.scene.hands worker None ≡ Some held → ticket_of held ≡ ticket → submission_in held ≡ submission
       own worker held at its = one (sym (both.0.holds worker held at).1 ∙ ap (slice_get submissions) its ∙ of)
         where
           one : {a b : Submission} → Some a ≡ Some b → a ≡ b
@@ -58,7 +58,7 @@ module _ (desk last : Desk) (submissions : List Submission) (script : List Step)
       within : ticket < length run.scene.waiting
       within = subst (λ n. ticket < n) (sym both.0.waiting_length) (slice_get_within submissions ticket submission of)
 
-      left_there : (get_or run.scene.waiting ticket None ≡ Some submission) ⊎ ((worker : ℕ) × (held : Held) × (get_or run.scene.hands worker None ≡ Some held) × (ticket_of held ≡ ticket))
+      left_there : (get_or run.scene.waiting ticket None ≡ Some submission) ⊎ ((worker : ℕ) × (held : Holding) × (get_or run.scene.hands worker None ≡ Some held) × (ticket_of held ≡ ticket))
           → get_or (all_returned run.scene.hands run.scene.waiting) ticket None ≡ Some submission
       left_there = given_at_end run.scene.hands run.scene.waiting ticket submission within own
 
@@ -87,7 +87,7 @@ module _ (desk last : Desk) (submissions : List Submission) (script : List Step)
 
   -- what follows from a reply's meaning, and from where the docket leads with its row
   each_by : (P : Submission → Reply → (before after_it : State) → Type 0)
-      → ((submission : Submission) (reply : Reply) (before after_it : State) → after last.opening (take (position_of reply + 1) last.docket) ≡ Some after_it → Means before submission reply after_it → P submission reply before after_it)
+      → ((submission : Submission) (reply : Reply) (before after_it : State) → after last.opening (take (position_of reply + 1) last.docket) ≡ Some after_it → AnswerMeans before submission reply after_it → P submission reply before after_it)
       → EachReply last submissions replies P
   each_by P follows ticket submission reply of at =
       let stands = both.1.stands ticket submission reply of (sym (replies_are ticket) ∙ at) in
@@ -97,7 +97,7 @@ module _ (desk last : Desk) (submissions : List Submission) (script : List Step)
   pub shows : AreShown last.opening last.docket → EachReply last submissions replies ShowsItsEntries
   shows shown = each_by ShowsItsEntries by
     where
-      by : (submission : Submission) (reply : Reply) (before after_it : State) → after last.opening (take (position_of reply + 1) last.docket) ≡ Some after_it → Means before submission reply after_it → ShowsItsEntries submission reply before after_it
+      by : (submission : Submission) (reply : Reply) (before after_it : State) → after last.opening (take (position_of reply + 1) last.docket) ≡ Some after_it → AnswerMeans before submission reply after_it → ShowsItsEntries submission reply before after_it
       by submission (answers.Yes position rejudged need) before after_it leads is =
           (shown (position + 1) after_it leads, record { client = is.client; row = is.row; log = is.log; spelled = is.spelled; holds = gives is.client (client_sight_of before is.client.number) 0 [] before.tree is.log.entries after_it.tree is.one_by_one })
       by submission (answers.No position rejudged fault) before after_it leads is = tt
@@ -106,7 +106,7 @@ module _ (desk last : Desk) (submissions : List Submission) (script : List Step)
   pub all_allowed : EachReply last submissions replies HasAllowedEntries
   all_allowed = each_by HasAllowedEntries by
     where
-      by : (submission : Submission) (reply : Reply) (before after_it : State) → after last.opening (take (position_of reply + 1) last.docket) ≡ Some after_it → Means before submission reply after_it → HasAllowedEntries submission reply before after_it
+      by : (submission : Submission) (reply : Reply) (before after_it : State) → after last.opening (take (position_of reply + 1) last.docket) ≡ Some after_it → AnswerMeans before submission reply after_it → HasAllowedEntries submission reply before after_it
       by submission (answers.Yes position rejudged need) before after_it leads is =
           record { client = is.client; row = is.row; log = is.log; spelled = is.spelled; holds = allowed is.client (client_sight_of before is.client.number) 0 [] before.tree is.log.entries after_it.tree is.one_by_one }
       by submission (answers.No position rejudged fault) before after_it leads is = tt
@@ -115,7 +115,7 @@ module _ (desk last : Desk) (submissions : List Submission) (script : List Step)
   pub else_nothing : EachReply last submissions replies ElseChangesNothing
   else_nothing = each_by ElseChangesNothing by
     where
-      by : (submission : Submission) (reply : Reply) (before after_it : State) → after last.opening (take (position_of reply + 1) last.docket) ≡ Some after_it → Means before submission reply after_it → ElseChangesNothing submission reply before after_it
+      by : (submission : Submission) (reply : Reply) (before after_it : State) → after last.opening (take (position_of reply + 1) last.docket) ≡ Some after_it → AnswerMeans before submission reply after_it → ElseChangesNothing submission reply before after_it
       by submission (answers.Yes position rejudged need) before after_it leads is = tt
       by submission (answers.No position rejudged fault) before after_it leads is = is
       by submission (answers.NoRoom position rejudged need free) before after_it leads is = is

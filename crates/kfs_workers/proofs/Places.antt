@@ -7,7 +7,7 @@ use Rattle.std.proofs.lemmas.Bool.{eqb-true, eq-eqb}
 use Rattle.std.proofs.lemmas.List.{length-map}
 use Rattle.kfs_model.specs.Judgement.{Submission}
 use Rattle.kfs_desk.specs.Machine.{Desk}
-use Rattle.kfs_workers.specs.Script.{Held, Taken, Decided, Scene, begun}
+use Rattle.kfs_workers.specs.Script.{Holding, Taken, Decided, ScriptState, begun}
 
 -- ---- lists of what there may be
 
@@ -52,11 +52,11 @@ moved-other place ticket other new apart = by (other == ticket) refl
     by true is = absurd (apart (eqb-true other ticket is))
     by false is = refl
 
-abbrev pub ticket_of : Held → ℕ
+abbrev pub ticket_of : Holding → ℕ
 ticket_of (Taken ticket submission seen) = ticket
 ticket_of (Decided ticket verdict) = ticket
 
-abbrev pub submission_in : Held → Submission
+abbrev pub submission_in : Holding → Submission
 submission_in (Taken ticket submission seen) = submission
 submission_in (Decided ticket verdict) = verdict.submission
 
@@ -72,14 +72,14 @@ is_answered (With worker) = false
 is_answered Answered = true
 
 -- each submission has one place, and stands just there
-pub record AreInPlace (submissions : List Submission) (scene : Scene) : Type 0 where
+pub record AreInPlace (submissions : List Submission) (scene : ScriptState) : Type 0 where
   pub place : ℕ → Place
   pub waiting_length : length scene.waiting ≡ length submissions
   pub replies_length : length scene.replies ≡ length submissions
   pub waits : (ticket : ℕ) → get_or scene.waiting ticket None ≡ waiting_at (place ticket) (slice_get submissions ticket)
   pub replied : (ticket : ℕ) → is_some (get_or scene.replies ticket None) ≡ is_answered (place ticket)
-  pub holds : (worker : ℕ) (held : Held) → get_or scene.hands worker None ≡ Some held → (place (ticket_of held) ≡ With worker) × (slice_get submissions (ticket_of held) ≡ Some (submission_in held))
-  pub with : (ticket worker : ℕ) → place ticket ≡ With worker → (held : Held) × (get_or scene.hands worker None ≡ Some held) × (ticket_of held ≡ ticket)
+  pub holds : (worker : ℕ) (held : Holding) → get_or scene.hands worker None ≡ Some held → (place (ticket_of held) ≡ With worker) × (slice_get submissions (ticket_of held) ≡ Some (submission_in held))
+  pub with : (ticket worker : ℕ) → place ticket ≡ With worker → (held : Holding) × (get_or scene.hands worker None ≡ Some held) × (ticket_of held ≡ ticket)
 
 -- ---- at first
 
@@ -105,27 +105,27 @@ in_place_at_first desk submissions = record {
   replies_length = length-map submissions (λ submission. None);
   waits = λ ticket. some_each submissions ticket;
   replied = λ ticket. ap is_some (none_each submissions ticket);
-  holds = λ worker held at. let none = none_of {X = Held} 8 worker in cc;
+  holds = λ worker held at. let none = none_of {X = Holding} 8 worker in cc;
   with = λ ticket worker at. cc;
 }
 
 -- ---- a ticket goes on to another place
 
 -- the ticket of a worker's hand goes to this place, and all else stands where it stood
-pub record Goes (submissions : List Submission) (scene next : Scene) (place : ℕ → Place) (ticket worker : ℕ) (new : Place) : Type 0 where
+pub record Goes (submissions : List Submission) (scene next : ScriptState) (place : ℕ → Place) (ticket worker : ℕ) (new : Place) : Type 0 where
   pub from : (place ticket ≡ Waits) ⊎ (place ticket ≡ With worker)
   pub waiting_length : length next.waiting ≡ length scene.waiting
   pub replies_length : length next.replies ≡ length scene.replies
   pub other_waiting : (other : ℕ) → other ≢ ticket → get_or next.waiting other None ≡ get_or scene.waiting other None
   pub other_replies : (other : ℕ) → other ≢ ticket → get_or next.replies other None ≡ get_or scene.replies other None
   pub other_hands : (other : ℕ) → other ≢ worker → get_or next.hands other None ≡ get_or scene.hands other None
-  pub own : (held : Held) → get_or scene.hands worker None ≡ Some held → ticket_of held ≡ ticket
+  pub own : (held : Holding) → get_or scene.hands worker None ≡ Some held → ticket_of held ≡ ticket
   pub waiting : get_or next.waiting ticket None ≡ waiting_at new (slice_get submissions ticket)
   pub replied : is_some (get_or next.replies ticket None) ≡ is_answered new
-  pub holds : (held : Held) → get_or next.hands worker None ≡ Some held → (new ≡ With worker) × (ticket_of held ≡ ticket) × (slice_get submissions ticket ≡ Some (submission_in held))
-  pub with : (other : ℕ) → new ≡ With other → (other ≡ worker) × (held : Held) × (get_or next.hands worker None ≡ Some held) × (ticket_of held ≡ ticket)
+  pub holds : (held : Holding) → get_or next.hands worker None ≡ Some held → (new ≡ With worker) × (ticket_of held ≡ ticket) × (slice_get submissions ticket ≡ Some (submission_in held))
+  pub with : (other : ℕ) → new ≡ With other → (other ≡ worker) × (held : Holding) × (get_or next.hands worker None ≡ Some held) × (ticket_of held ≡ ticket)
 
-module _ (submissions : List Submission) (scene next : Scene) (are : AreInPlace submissions scene) (ticket worker : ℕ) (new : Place) (goes : Goes submissions scene next are.place ticket worker new) where
+module _ (submissions : List Submission) (scene next : ScriptState) (are : AreInPlace submissions scene) (ticket worker : ℕ) (new : Place) (goes : Goes submissions scene next are.place ticket worker new) where
   -- another worker doesn't hold it
   not_held : (other : ℕ) → other ≢ worker → are.place ticket ≢ With other
   not_held other apart there = by goes.from

@@ -5,16 +5,16 @@ use Rattle.std.proofs.lemmas.List.{get_or-set_same, get_or-set_other, take-appen
 use Rattle.std.proofs.lemmas.Option.{slice_get_within}
 use Rattle.kfs_model.specs.Judgement.{State, Submission}
 use Rattle.kfs_model.specs.Machine.{Call, IsRead, Row, after}
-use Rattle.kfs_desk_docket.specs.Legal.{LeadsTo}
+use Rattle.kfs_desk_docket.specs.Legal.{IsLegalDocket}
 use Rattle.kfs_desk_docket.proofs.Longer.{leads_on}
 use Rattle.kfs_lease.specs.declared.act.Act.{Act}
 use Rattle.kfs_lease.specs.declared.act.Act.TheVariants as acts
 use Rattle.kfs_plan.specs.declared.answers.ActReply.{ActReply}
 use Rattle.kfs_plan.specs.declared.answers.Reply.{Reply}
 use Rattle.kfs_desk.specs.Docket.{is_rejudged, position_of}
-use Rattle.kfs_desk.specs.Machine.{Desk, IsActed, IsAnswered, Means, call_of, done_by}
+use Rattle.kfs_desk.specs.Machine.{Desk, IsActed, IsAnswered, AnswerMeans, call_of, done_by}
 use Rattle.kfs_workers.specs.Claims.{StandsAt}
-use Rattle.kfs_workers.specs.Script.{Held, Taken, Decided, Scene, Asks, Does, Looks, Judges, Lands, Runs, begun}
+use Rattle.kfs_workers.specs.Script.{Holding, Taken, Decided, ScriptState, DoesAct, DoesStep, DoesLook, DoesJudge, DoesLand, DoesSteps, begun}
 use Rattle.kfs_workers.specs.declared.script.Step.{Step}
 use Rattle.kfs_workers.specs.declared.script.Step.TheVariants as steps
 use Rattle.kfs_workers.proofs.Places.{AreInPlace, by_equal, none_each}
@@ -38,18 +38,18 @@ pub record Grows (old new : Desk) : Type 0 where
   pub rows : List Row
   pub docket : new.docket ≡ old.docket ++ rows
   pub opening : new.opening ≡ old.opening
-  pub legal : LeadsTo new.opening new.docket new.state
+  pub legal : IsLegalDocket new.opening new.docket new.state
 
 pub record Stands (desk : Desk) (submission : Submission) (reply : Reply) : Type 0 where
   pub before : State
   pub after_it : State
   pub at : StandsAt desk submission reply before after_it
   pub within : position_of reply < length desk.docket
-  pub means : Means before submission reply after_it
+  pub means : AnswerMeans before submission reply after_it
 
 -- the replies stand in the docket, which is legal, each at a row of its own
-pub record AreStanding (submissions : List Submission) (scene : Scene) : Type 0 where
-  pub legal : LeadsTo scene.desk.opening scene.desk.docket scene.desk.state
+pub record AreStanding (submissions : List Submission) (scene : ScriptState) : Type 0 where
+  pub legal : IsLegalDocket scene.desk.opening scene.desk.docket scene.desk.state
   pub stands : (ticket : ℕ) (submission : Submission) (reply : Reply) → slice_get submissions ticket ≡ Some submission → get_or scene.replies ticket None ≡ Some reply → Stands scene.desk submission reply
   pub within : (ticket : ℕ) (reply : Reply) → get_or scene.replies ticket None ≡ Some reply → position_of reply < length scene.desk.docket
   pub apart : (one other : ℕ) (first second : Reply) → get_or scene.replies one None ≡ Some first → get_or scene.replies other None ≡ Some second → one ≢ other → position_of first ≢ position_of second
@@ -80,11 +80,11 @@ module _ (old new : Desk) (grows : Grows old new) where
       }
 
 -- the row of an answer stands at the docket's end
-pub answer_stands : (old new : Desk) (legal : LeadsTo old.opening old.docket old.state) (submission : Submission) (again : _) (reply : Reply) → IsAnswered old submission again reply new → Grows old new × Stands new submission reply
+pub answer_stands : (old new : Desk) (legal : IsLegalDocket old.opening old.docket old.state) (submission : Submission) (again : _) (reply : Reply) → IsAnswered old submission again reply new → Grows old new × Stands new submission reply
 answer_stands old new legal submission again reply is =
     let read : IsRead is.row = subst (λ (call : Call). IsRead (record is.row { call = call })) (sym is.step.asked) is.step.read in
     let leads = leads_on is.row old.opening old.state new.state old.docket legal read is.step.fits in
-    let legal_now : LeadsTo new.opening new.docket new.state = subst (λ opening. LeadsTo opening new.docket new.state) (sym is.opening) (subst (λ rows. LeadsTo old.opening rows new.state) (sym is.docket) leads) in
+    let legal_now : IsLegalDocket new.opening new.docket new.state = subst (λ opening. IsLegalDocket opening new.docket new.state) (sym is.opening) (subst (λ rows. IsLegalDocket old.opening rows new.state) (sym is.docket) leads) in
     let place = is.position in
     let count = length-append old.docket (is.row ∷ []) in
     let long = ap length is.docket in
@@ -108,7 +108,7 @@ answer_stands old new legal submission again reply is =
 
 -- ---- steps
 
-module _ (submissions : List Submission) (scene next_scene : Scene) (are : AreStanding submissions scene) where
+module _ (submissions : List Submission) (scene next_scene : ScriptState) (are : AreStanding submissions scene) where
   -- the replies stay, in a docket that may have grown
   pub replies_stay : next_scene.replies ≡ scene.replies → Grows scene.desk next_scene.desk → AreStanding submissions next_scene
   replies_stay same grows =
@@ -153,23 +153,23 @@ module _ (submissions : List Submission) (scene next_scene : Scene) (are : AreSt
       one_submission e = cc
 
 -- the desk as it is
-stays_legal : (desk new : Desk) → new ≡ desk → LeadsTo desk.opening desk.docket desk.state → Grows desk new
+stays_legal : (desk new : Desk) → new ≡ desk → IsLegalDocket desk.opening desk.docket desk.state → Grows desk new
 stays_legal desk new same legal = record {
   rows = [];
   docket = ap (λ (d : Desk). d.docket) same ∙ sym (append-nil desk.docket);
   opening = ap (λ (d : Desk). d.opening) same;
-  legal = subst (λ (d : Desk). LeadsTo d.opening d.docket d.state) (sym same) legal;
+  legal = subst (λ (d : Desk). IsLegalDocket d.opening d.docket d.state) (sym same) legal;
 }
 
 -- a row more, of a call for the leases
-call_grows : (old new : Desk) (act : Act) (reply : ActReply) → LeadsTo old.opening old.docket old.state → IsActed old (call_of act) (done_by act) reply new → Grows old new
+call_grows : (old new : Desk) (act : Act) (reply : ActReply) → IsLegalDocket old.opening old.docket old.state → IsActed old (call_of act) (done_by act) reply new → Grows old new
 call_grows old new act reply legal is =
     let leads = leads_on is.row old.opening old.state new.state old.docket legal (subst (λ (call : Call). IsRead (record is.row { call = call })) (sym is.step.asked) (read act)) is.step.fits in
     record {
       rows = is.row ∷ [];
       docket = is.docket;
       opening = is.opening;
-      legal = subst (λ opening. LeadsTo opening new.docket new.state) (sym is.opening) (subst (λ rows. LeadsTo old.opening rows new.state) (sym is.docket) leads);
+      legal = subst (λ opening. IsLegalDocket opening new.docket new.state) (sym is.opening) (subst (λ rows. IsLegalDocket old.opening rows new.state) (sym is.docket) leads);
     }
   where
     read : (a : Act) → IsRead (record is.row { call = call_of a })
@@ -177,7 +177,7 @@ call_grows old new act reply legal is =
     read (acts.Drop client number) = tt
     read (acts.Tick moment) = tt
 
-module _ (submissions : List Submission) (scene next_scene : Scene) (in_place : AreInPlace submissions scene) (are : AreStanding submissions scene) where
+module _ (submissions : List Submission) (scene next_scene : ScriptState) (in_place : AreInPlace submissions scene) (are : AreStanding submissions scene) where
   same_scene : next_scene ≡ scene → AreStanding submissions next_scene
   same_scene is = subst (AreStanding submissions) (sym is) are
 
@@ -185,46 +185,46 @@ module _ (submissions : List Submission) (scene next_scene : Scene) (in_place : 
   same_desk : next_scene.replies ≡ scene.replies → next_scene.desk ≡ scene.desk → AreStanding submissions next_scene
   same_desk replies desk = replies_stay submissions scene next_scene are replies (stays_legal scene.desk next_scene.desk desk are.legal)
 
-  looks : (worker ticket : ℕ) (hand : Option (Option Held)) (waits : Option Submission) → Looks scene worker ticket hand waits next_scene → AreStanding submissions next_scene
+  looks : (worker ticket : ℕ) (hand : Option (Option Holding)) (waits : Option Submission) → DoesLook scene worker ticket hand waits next_scene → AreStanding submissions next_scene
   looks worker ticket None waits is = same_scene is
   looks worker ticket (Some (Some held)) waits is = same_scene is
   looks worker ticket (Some None) None is = same_scene is
   looks worker ticket (Some None) (Some submission) (inr is) = same_scene is
-  looks worker ticket (Some None) (Some submission) (inl is) = same_desk (ap (λ (s : Scene). s.replies) is) (ap (λ (s : Scene). s.desk) is)
+  looks worker ticket (Some None) (Some submission) (inl is) = same_desk (ap (λ (s : ScriptState). s.replies) is) (ap (λ (s : ScriptState). s.desk) is)
 
-  judges : (worker : ℕ) (hand : Option Held) → Judges scene worker hand next_scene → AreStanding submissions next_scene
+  judges : (worker : ℕ) (hand : Option Holding) → DoesJudge scene worker hand next_scene → AreStanding submissions next_scene
   judges worker None is = same_scene is
   judges worker (Some (Decided ticket verdict)) is = same_scene is
-  judges worker (Some (Taken ticket submission seen)) (inl (verdict, on, is)) = same_desk (ap (λ (s : Scene). s.replies) is) (ap (λ (s : Scene). s.desk) is)
-  judges worker (Some (Taken ticket submission seen)) (inr is) = same_desk (ap (λ (s : Scene). s.replies) is) (ap (λ (s : Scene). s.desk) is)
+  judges worker (Some (Taken ticket submission seen)) (inl (verdict, on, is)) = same_desk (ap (λ (s : ScriptState). s.replies) is) (ap (λ (s : ScriptState). s.desk) is)
+  judges worker (Some (Taken ticket submission seen)) (inr is) = same_desk (ap (λ (s : ScriptState). s.replies) is) (ap (λ (s : ScriptState). s.desk) is)
 
-  lands : (worker : ℕ) (hand : Option Held) → get_or scene.hands worker None ≡ hand → Lands scene worker hand next_scene → AreStanding submissions next_scene
+  lands : (worker : ℕ) (hand : Option Holding) → get_or scene.hands worker None ≡ hand → DoesLand scene worker hand next_scene → AreStanding submissions next_scene
   lands worker None at is = same_scene is
   lands worker (Some (Taken ticket submission seen)) at is = same_scene is
-  lands worker (Some (Decided ticket verdict)) at (inr is) = same_desk (ap (λ (s : Scene). s.replies) is) (ap (λ (s : Scene). s.desk) is)
+  lands worker (Some (Decided ticket verdict)) at (inr is) = same_desk (ap (λ (s : ScriptState). s.replies) is) (ap (λ (s : ScriptState). s.desk) is)
   lands worker (Some (Decided ticket verdict)) at (inl landed) =
       let (there, of) = in_place.holds worker (Decided ticket verdict) at in
       let within : ticket < length scene.replies = subst (λ n. ticket < n) (sym in_place.replies_length) (slice_get_within submissions ticket verdict.submission of) in
       let (grows, stands) = answer_stands scene.desk next_scene.desk are.legal verdict.submission (is_rejudged landed.answer) landed.answer landed.answered in
-      reply_added submissions scene next_scene are ticket verdict.submission landed.answer of within (ap (λ (s : Scene). s.replies) landed.is) landed.answered.position grows stands
+      reply_added submissions scene next_scene are ticket verdict.submission landed.answer of within (ap (λ (s : ScriptState). s.replies) landed.is) landed.answered.position grows stands
 
-  asks : (act : Act) → Asks scene act next_scene → AreStanding submissions next_scene
+  asks : (act : Act) → DoesAct scene act next_scene → AreStanding submissions next_scene
   asks act (inr is) = same_scene is
   asks act (inl asked) =
-      replies_stay submissions scene next_scene are (ap (λ (s : Scene). s.replies) asked.is) (call_grows scene.desk next_scene.desk act asked.reply are.legal asked.acted)
+      replies_stay submissions scene next_scene are (ap (λ (s : ScriptState). s.replies) asked.is) (call_grows scene.desk next_scene.desk act asked.reply are.legal asked.acted)
 
-  pub step_stands : (step : Step) → Does scene step next_scene → AreStanding submissions next_scene
+  pub step_stands : (step : Step) → DoesStep scene step next_scene → AreStanding submissions next_scene
   step_stands (steps.Look worker ticket) is = looks worker ticket (slice_get scene.hands worker) (get_or scene.waiting ticket None) is
   step_stands (steps.Judge worker) is = judges worker (get_or scene.hands worker None) is
   step_stands (steps.Land worker) is = lands worker (get_or scene.hands worker None) refl is
   step_stands (steps.Act act) is = asks act is
 
-pub run_stands : (submissions : List Submission) (scene last : Scene) (script : List Step) → AreInPlace submissions scene → AreStanding submissions scene → Runs scene script last → AreInPlace submissions last × AreStanding submissions last
+pub run_stands : (submissions : List Submission) (scene last : ScriptState) (script : List Step) → AreInPlace submissions scene → AreStanding submissions scene → DoesSteps scene script last → AreInPlace submissions last × AreStanding submissions last
 run_stands submissions scene last [] in_place are is = (subst (AreInPlace submissions) (sym is) in_place, subst (AreStanding submissions) (sym is) are)
 run_stands submissions scene last (step ∷ script) in_place are (next_scene, does, runs) =
     run_stands submissions next_scene last script (step_in_place submissions scene next_scene in_place step does) (step_stands submissions scene next_scene in_place are step does) runs
 
-pub stands_at_first : (desk : Desk) (submissions : List Submission) → LeadsTo desk.opening desk.docket desk.state → AreStanding submissions (begun desk submissions)
+pub stands_at_first : (desk : Desk) (submissions : List Submission) → IsLegalDocket desk.opening desk.docket desk.state → AreStanding submissions (begun desk submissions)
 stands_at_first desk submissions legal = record {
   legal = legal;
   stands = λ ticket submission reply of at. absurd (no_reply ticket reply at);

@@ -13,7 +13,7 @@ use Rattle.kfs_plan.specs.declared.submission.Submission.{Submission as CodeSubm
 use Rattle.kfs_desk.specs.Docket.{is_rejudged}
 use Rattle.kfs_desk.specs.Machine.{Desk, IsAnswered, IsCurrent}
 use Rattle.kfs_workers.specs.Holding.{held_of, verdict_of}
-use Rattle.kfs_workers.specs.Script.{Judges, Lands, Looks, Scene, Taken, Decided, begun, returned}
+use Rattle.kfs_workers.specs.Script.{DoesJudge, DoesLand, DoesLook, ScriptState, Taken, Decided, begun, returned}
 use Rattle.kfs_workers.specs.Verdict.{IsVerdictOn}
 use Rattle.kfs_workers.specs.declared.scene.Held.{Held as CodeHeld}
 use Rattle.kfs_workers.specs.declared.scene.Held.TheVariants as holdings
@@ -27,7 +27,7 @@ set-twice (z ∷ xs) (suc i) x y = ap (λ l. z ∷ l) (set-twice xs i x y)
 
 module _ {A : Type 0} (desk : Desk) (waiting : List (Option (CodeSubmission A))) (hands : List (Option (CodeHeld A))) (replies : List (Option Reply)) where
   -- these lists in the definitions
-  abbrev pub scene_of : Scene
+  abbrev pub scene_of : ScriptState
   scene_of = record { desk = desk; waiting = map (option_map submission_of) waiting; hands = map (option_map held_of) hands; replies = replies }
 
   module _ (worker : ℕ) (hand : Option (CodeHeld A)) (at : hand ≡ get_or hands worker None) where
@@ -61,21 +61,21 @@ module _ {A : Type 0} (desk : Desk) (waiting : List (Option (CodeSubmission A)))
         in_hand = ap (option_map held_of) (sym taken_is) ∙ shown_hand
 
         pub judged_so : (judged : Judged A) (left_hands new_hands : List (Option (CodeHeld A))) → IsVerdictOn seen (submission_of submission) (verdict_of judged) → left_hands ≡ set hands worker None → new_hands ≡ set left_hands worker (Some (holdings.Decided ticket judged))
-            → Judges scene_of worker (get_or scene_of.hands worker None) (record scene_of { hands = map (option_map held_of) new_hands })
+            → DoesJudge scene_of worker (get_or scene_of.hands worker None) (record scene_of { hands = map (option_map held_of) new_hands })
         judged_so judged left_hands new_hands on left put =
-            subst (λ h. Judges scene_of worker h (record scene_of { hands = map (option_map held_of) new_hands })) in_hand
+            subst (λ h. DoesJudge scene_of worker h (record scene_of { hands = map (option_map held_of) new_hands })) in_hand
             (inl (verdict_of judged, on, ap (λ h. record scene_of { hands = h }) (shown_put new_hands left_hands (Some (holdings.Decided ticket judged)) left put)))
 
         pub not_judged : (back : CodeSubmission A) (new_hands : List (Option (CodeHeld A))) (new_waiting : List (Option (CodeSubmission A))) → back ≡ submission → new_hands ≡ set hands worker None → new_waiting ≡ set waiting ticket (Some back)
-            → Judges scene_of worker (get_or scene_of.hands worker None) (record scene_of { waiting = map (option_map submission_of) new_waiting; hands = map (option_map held_of) new_hands })
+            → DoesJudge scene_of worker (get_or scene_of.hands worker None) (record scene_of { waiting = map (option_map submission_of) new_waiting; hands = map (option_map held_of) new_hands })
         not_judged back new_hands new_waiting same left put =
-            subst (λ h. Judges scene_of worker h (record scene_of { waiting = map (option_map submission_of) new_waiting; hands = map (option_map held_of) new_hands })) in_hand
+            subst (λ h. DoesJudge scene_of worker h (record scene_of { waiting = map (option_map submission_of) new_waiting; hands = map (option_map held_of) new_hands })) in_hand
             (inr (ap (λ w. record scene_of { waiting = w; hands = map (option_map held_of) new_hands }) (shown_back new_waiting submission (put ∙ ap (λ b. set waiting ticket (Some b)) same))
             ∙ ap (λ h. record scene_of { waiting = set scene_of.waiting ticket (Some (submission_of submission)); hands = h }) (shown_taken new_hands left)))
 
-        pub not_landed_yet : (left_hands new_hands : List (Option (CodeHeld A))) → left_hands ≡ set hands worker None → new_hands ≡ set left_hands worker (Some (holdings.Taken ticket submission seen)) → Lands scene_of worker (get_or scene_of.hands worker None) (record scene_of { hands = map (option_map held_of) new_hands })
+        pub not_landed_yet : (left_hands new_hands : List (Option (CodeHeld A))) → left_hands ≡ set hands worker None → new_hands ≡ set left_hands worker (Some (holdings.Taken ticket submission seen)) → DoesLand scene_of worker (get_or scene_of.hands worker None) (record scene_of { hands = map (option_map held_of) new_hands })
         not_landed_yet left_hands new_hands left put =
-            subst (λ h. Lands scene_of worker h (record scene_of { hands = map (option_map held_of) new_hands })) in_hand (same_scene new_hands left_hands (Some (holdings.Taken ticket submission seen)) taken_is left put)
+            subst (λ h. DoesLand scene_of worker h (record scene_of { hands = map (option_map held_of) new_hands })) in_hand (same_scene new_hands left_hands (Some (holdings.Taken ticket submission seen)) taken_is left put)
 
       -- ---- a landing
 
@@ -83,16 +83,16 @@ module _ {A : Type 0} (desk : Desk) (waiting : List (Option (CodeSubmission A)))
         decided_in_hand : Some (Decided ticket (verdict_of judged)) ≡ get_or scene_of.hands worker None
         decided_in_hand = ap (option_map held_of) (sym decided_is) ∙ shown_hand
 
-        pub judged_already : (left_hands new_hands : List (Option (CodeHeld A))) → left_hands ≡ set hands worker None → new_hands ≡ set left_hands worker (Some (holdings.Decided ticket judged)) → Judges scene_of worker (get_or scene_of.hands worker None) (record scene_of { hands = map (option_map held_of) new_hands })
+        pub judged_already : (left_hands new_hands : List (Option (CodeHeld A))) → left_hands ≡ set hands worker None → new_hands ≡ set left_hands worker (Some (holdings.Decided ticket judged)) → DoesJudge scene_of worker (get_or scene_of.hands worker None) (record scene_of { hands = map (option_map held_of) new_hands })
         judged_already left_hands new_hands left put =
-            subst (λ h. Judges scene_of worker h (record scene_of { hands = map (option_map held_of) new_hands })) decided_in_hand (same_scene new_hands left_hands (Some (holdings.Decided ticket judged)) decided_is left put)
+            subst (λ h. DoesJudge scene_of worker h (record scene_of { hands = map (option_map held_of) new_hands })) decided_in_hand (same_scene new_hands left_hands (Some (holdings.Decided ticket judged)) decided_is left put)
 
         pub landed_so : (new_desk : Desk) (reply : Reply) (new_hands : List (Option (CodeHeld A))) (new_replies : List (Option Reply)) → length desk.docket ≢ desk.limit
             → ◌↔◌ (IsFalse (is_rejudged reply)) (IsCurrent desk.state judged) → IsAnswered desk (submission_of judged.submission) (is_rejudged reply) reply new_desk
             → new_hands ≡ set hands worker None → new_replies ≡ set replies ticket (Some reply)
-            → Lands scene_of worker (get_or scene_of.hands worker None) (record { desk = new_desk; waiting = scene_of.waiting; hands = map (option_map held_of) new_hands; replies = new_replies })
+            → DoesLand scene_of worker (get_or scene_of.hands worker None) (record { desk = new_desk; waiting = scene_of.waiting; hands = map (option_map held_of) new_hands; replies = new_replies })
         landed_so new_desk reply new_hands new_replies room again answered left put =
-            subst (λ h. Lands scene_of worker h (record { desk = new_desk; waiting = scene_of.waiting; hands = map (option_map held_of) new_hands; replies = new_replies })) decided_in_hand
+            subst (λ h. DoesLand scene_of worker h (record { desk = new_desk; waiting = scene_of.waiting; hands = map (option_map held_of) new_hands; replies = new_replies })) decided_in_hand
             (inl (record {
               answer = reply;
               room = room;
@@ -103,9 +103,9 @@ module _ {A : Type 0} (desk : Desk) (waiting : List (Option (CodeSubmission A)))
 
         pub not_landed : (new_desk : Desk) (back : CodeSubmission A) (new_hands : List (Option (CodeHeld A))) (new_waiting : List (Option (CodeSubmission A))) → new_desk ≡ desk → back ≡ judged.submission
             → new_hands ≡ set hands worker None → new_waiting ≡ set waiting ticket (Some back)
-            → Lands scene_of worker (get_or scene_of.hands worker None) (record { desk = new_desk; waiting = map (option_map submission_of) new_waiting; hands = map (option_map held_of) new_hands; replies = replies })
+            → DoesLand scene_of worker (get_or scene_of.hands worker None) (record { desk = new_desk; waiting = map (option_map submission_of) new_waiting; hands = map (option_map held_of) new_hands; replies = replies })
         not_landed new_desk back new_hands new_waiting stays same left put =
-            subst (λ h. Lands scene_of worker h (record { desk = new_desk; waiting = map (option_map submission_of) new_waiting; hands = map (option_map held_of) new_hands; replies = replies })) decided_in_hand
+            subst (λ h. DoesLand scene_of worker h (record { desk = new_desk; waiting = map (option_map submission_of) new_waiting; hands = map (option_map held_of) new_hands; replies = replies })) decided_in_hand
             (inr (ap (λ d. record { desk = d; waiting = map (option_map submission_of) new_waiting; hands = map (option_map held_of) new_hands; replies = replies }) stays
             ∙ ap (λ w. record scene_of { waiting = w; hands = map (option_map held_of) new_hands }) (shown_back new_waiting judged.submission (put ∙ ap (λ b. set waiting ticket (Some b)) same))
             ∙ ap (λ h. record scene_of { waiting = set scene_of.waiting ticket (Some (submission_of judged.submission)); hands = h }) (shown_taken new_hands left)))
@@ -115,24 +115,24 @@ module _ {A : Type 0} (desk : Desk) (waiting : List (Option (CodeSubmission A)))
     empty_in_hand : hand ≡ None → None ≡ get_or scene_of.hands worker None
     empty_in_hand none = ap (option_map held_of) (sym none) ∙ shown_hand
 
-    pub nothing_judged : (new_hands : List (Option (CodeHeld A))) → hand ≡ None → new_hands ≡ set hands worker None → Judges scene_of worker (get_or scene_of.hands worker None) (record scene_of { hands = map (option_map held_of) new_hands })
-    nothing_judged new_hands none is = subst (λ h. Judges scene_of worker h (record scene_of { hands = map (option_map held_of) new_hands })) (empty_in_hand none) (none_taken new_hands none is)
+    pub nothing_judged : (new_hands : List (Option (CodeHeld A))) → hand ≡ None → new_hands ≡ set hands worker None → DoesJudge scene_of worker (get_or scene_of.hands worker None) (record scene_of { hands = map (option_map held_of) new_hands })
+    nothing_judged new_hands none is = subst (λ h. DoesJudge scene_of worker h (record scene_of { hands = map (option_map held_of) new_hands })) (empty_in_hand none) (none_taken new_hands none is)
 
-    pub nothing_landed : (new_hands : List (Option (CodeHeld A))) → hand ≡ None → new_hands ≡ set hands worker None → Lands scene_of worker (get_or scene_of.hands worker None) (record scene_of { hands = map (option_map held_of) new_hands })
-    nothing_landed new_hands none is = subst (λ h. Lands scene_of worker h (record scene_of { hands = map (option_map held_of) new_hands })) (empty_in_hand none) (none_taken new_hands none is)
+    pub nothing_landed : (new_hands : List (Option (CodeHeld A))) → hand ≡ None → new_hands ≡ set hands worker None → DoesLand scene_of worker (get_or scene_of.hands worker None) (record scene_of { hands = map (option_map held_of) new_hands })
+    nothing_landed new_hands none is = subst (λ h. DoesLand scene_of worker h (record scene_of { hands = map (option_map held_of) new_hands })) (empty_in_hand none) (none_taken new_hands none is)
 
   -- ---- a look
 
   pub looked_so : (worker ticket : ℕ) (seen : State) (submission : CodeSubmission A) (result : Option (CodeSubmission A)) (new_waiting : List (Option (CodeSubmission A))) (new_hands : List (Option (CodeHeld A))) → seen ≡ desk.state
       → (worker < length scene_of.hands) × (get_or scene_of.hands worker None ≡ None) → result ≡ get_or waiting ticket None → result ≡ Some submission
       → new_waiting ≡ set waiting ticket None → new_hands ≡ set hands worker (Some (holdings.Taken ticket submission seen))
-      → Looks scene_of worker ticket (slice_get scene_of.hands worker) (get_or scene_of.waiting ticket None) (record scene_of { waiting = map (option_map submission_of) new_waiting; hands = map (option_map held_of) new_hands })
+      → DoesLook scene_of worker ticket (slice_get scene_of.hands worker) (get_or scene_of.waiting ticket None) (record scene_of { waiting = map (option_map submission_of) new_waiting; hands = map (option_map held_of) new_hands })
   looked_so worker ticket seen submission result new_waiting new_hands now free at is left put =
       let next = record scene_of { waiting = map (option_map submission_of) new_waiting; hands = map (option_map held_of) new_hands } in
       let empty : slice_get scene_of.hands worker ≡ Some None = slice_get-get_or scene_of.hands worker None free.0 ∙ ap Some free.1 in
       let waits : get_or scene_of.waiting ticket None ≡ Some (submission_of submission) = get_or-map (option_map submission_of) waiting ticket None ∙ ap (option_map submission_of) (sym at ∙ is) in
-      subst (λ hand. Looks scene_of worker ticket hand (get_or scene_of.waiting ticket None) next) (sym empty)
-      (subst (λ waiting. Looks scene_of worker ticket (Some None) waiting next) (sym waits)
+      subst (λ hand. DoesLook scene_of worker ticket hand (get_or scene_of.waiting ticket None) next) (sym empty)
+      (subst (λ waiting. DoesLook scene_of worker ticket (Some None) waiting next) (sym waits)
       (inl (ap (λ w. record scene_of { waiting = w; hands = map (option_map held_of) new_hands }) (ap (map (option_map submission_of)) left ∙ map-set (option_map submission_of) waiting ticket None)
       ∙ ap (λ h. record scene_of { waiting = set scene_of.waiting ticket None; hands = h }) (ap (map (option_map held_of)) put ∙ map-set (option_map held_of) hands worker (Some (holdings.Taken ticket submission seen))
       ∙ ap (λ state. set scene_of.hands worker (Some (Taken ticket (submission_of submission) state))) now))))

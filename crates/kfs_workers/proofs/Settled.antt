@@ -6,21 +6,21 @@ use Rattle.std.proofs.lemmas.Option.{get_or_from_slice_get, slice_get_within}
 use Rattle.kfs_model.specs.Judgement.{Submission}
 use Rattle.kfs_plan.specs.declared.answers.Reply.{Reply}
 use Rattle.kfs_desk.specs.Machine.{Desk}
-use Rattle.kfs_workers.specs.Script.{Held, Taken, Decided, Scene, Does, Looks, Judges, Lands, Runs, all_returned, given_back, returned, taken, with_hand}
+use Rattle.kfs_workers.specs.Script.{Holding, Taken, Decided, ScriptState, DoesStep, DoesLook, DoesJudge, DoesLand, DoesSteps, all_returned, given_back, returned, taken, with_hand}
 use Rattle.kfs_workers.specs.Verdict.{HeldVerdict}
 use Rattle.kfs_workers.specs.declared.script.Step.{Step}
 use Rattle.kfs_workers.specs.declared.script.Step.TheVariants as steps
 use Rattle.kfs_workers.proofs.Places.{AreInPlace, Place, Waits, With, Answered, by_equal, found_within, gone_on, is_answered, submission_in, ticket_of, waiting_at}
 
 -- an empty hand is one of the workers'
-hand_within : (hands : List (Option Held)) (worker : ℕ) → slice_get hands worker ≡ Some None → (worker < length hands) × (get_or hands worker None ≡ None)
+hand_within : (hands : List (Option Holding)) (worker : ℕ) → slice_get hands worker ≡ Some None → (worker < length hands) × (get_or hands worker None ≡ None)
 hand_within hands worker is = (slice_get_within hands worker None is, get_or_from_slice_get hands worker None None is)
 
 -- what is found in the hand is what is held
-same_held : {one other : Held} → Some one ≡ Some other → one ≡ other
+same_held : {one other : Holding} → Some one ≡ Some other → one ≡ other
 same_held e = cc
 
-module _ (submissions : List Submission) (scene : Scene) (are : AreInPlace submissions scene) (worker : ℕ) where
+module _ (submissions : List Submission) (scene : ScriptState) (are : AreInPlace submissions scene) (worker : ℕ) where
   -- ---- an empty hand
 
   module _ (ticket : ℕ) where
@@ -28,7 +28,7 @@ module _ (submissions : List Submission) (scene : Scene) (are : AreInPlace submi
     look_in_place submission hand waits =
         let (is_worker, empty) = hand_within scene.hands worker hand in
         let within = found_within scene.waiting ticket submission waits in
-        let held : Held = Taken ticket submission scene.desk.state in
+        let held : Holding = Taken ticket submission scene.desk.state in
         let waited = waiting_there (are.place ticket) refl in
         let of : slice_get submissions ticket ≡ Some submission = sym (are.waits ticket ∙ ap (λ p. waiting_at p (slice_get submissions ticket)) waited) ∙ waits in
         gone_on submissions scene (taken scene worker ticket submission) are ticket worker (With worker) (record {
@@ -57,7 +57,7 @@ module _ (submissions : List Submission) (scene : Scene) (are : AreInPlace submi
 
   -- ---- a hand that holds something
 
-  module _ (held : Held) (at : get_or scene.hands worker None ≡ Some held) where
+  module _ (held : Holding) (at : get_or scene.hands worker None ≡ Some held) where
     abbrev its_ticket : ℕ
     its_ticket = ticket_of held
 
@@ -73,7 +73,7 @@ module _ (submissions : List Submission) (scene : Scene) (are : AreInPlace submi
     its : slice_get submissions its_ticket ≡ Some its_submission
     its = (are.holds worker held at).1
 
-    own : (other : Held) → get_or scene.hands worker None ≡ Some other → ticket_of other ≡ its_ticket
+    own : (other : Holding) → get_or scene.hands worker None ≡ Some other → ticket_of other ≡ its_ticket
     own other found = ap ticket_of (same_held (sym found ∙ at))
 
     nothing_waits : get_or scene.waiting its_ticket None ≡ None
@@ -83,12 +83,12 @@ module _ (submissions : List Submission) (scene : Scene) (are : AreInPlace submi
     unanswered = are.replied its_ticket ∙ ap is_answered there
 
     -- the hand is empty then
-    emptied : (other : Held) → get_or (set scene.hands worker None) worker None ≡ Some other → ⊥
+    emptied : (other : Holding) → get_or (set scene.hands worker None) worker None ≡ Some other → ⊥
     emptied other found = let none = get_or-set_same scene.hands worker None None is_worker in cc
 
     pub judge_in_place : (verdict : HeldVerdict) → verdict.submission ≡ its_submission → AreInPlace submissions (with_hand scene worker (Some (Decided its_ticket verdict)))
     judge_in_place verdict same =
-        let decided : Held = Decided its_ticket verdict in
+        let decided : Holding = Decided its_ticket verdict in
         gone_on submissions scene (with_hand scene worker (Some decided)) are its_ticket worker (With worker) (record {
           from = inr there;
           waiting_length = refl;
@@ -144,24 +144,24 @@ module _ (submissions : List Submission) (scene : Scene) (are : AreInPlace submi
 
 -- ---- steps
 
-module _ (submissions : List Submission) (scene next : Scene) (are : AreInPlace submissions scene) where
+module _ (submissions : List Submission) (scene next : ScriptState) (are : AreInPlace submissions scene) where
   same_scene : next ≡ scene → AreInPlace submissions next
   same_scene is = subst (AreInPlace submissions) (sym is) are
 
-  looks : (worker ticket : ℕ) (hand : Option (Option Held)) (waits : Option Submission) → slice_get scene.hands worker ≡ hand → get_or scene.waiting ticket None ≡ waits → Looks scene worker ticket hand waits next → AreInPlace submissions next
+  looks : (worker ticket : ℕ) (hand : Option (Option Holding)) (waits : Option Submission) → slice_get scene.hands worker ≡ hand → get_or scene.waiting ticket None ≡ waits → DoesLook scene worker ticket hand waits next → AreInPlace submissions next
   looks worker ticket None waits at of is = same_scene is
   looks worker ticket (Some (Some held)) waits at of is = same_scene is
   looks worker ticket (Some None) None at of is = same_scene is
   looks worker ticket (Some None) (Some submission) at of (inr is) = same_scene is
   looks worker ticket (Some None) (Some submission) at of (inl is) = subst (AreInPlace submissions) (sym is) (look_in_place submissions scene are worker ticket submission at of)
 
-  judges : (worker : ℕ) (hand : Option Held) → get_or scene.hands worker None ≡ hand → Judges scene worker hand next → AreInPlace submissions next
+  judges : (worker : ℕ) (hand : Option Holding) → get_or scene.hands worker None ≡ hand → DoesJudge scene worker hand next → AreInPlace submissions next
   judges worker None at is = same_scene is
   judges worker (Some (Decided ticket verdict)) at is = same_scene is
   judges worker (Some (Taken ticket submission seen)) at (inl (verdict, on, is)) = subst (AreInPlace submissions) (sym is) (judge_in_place submissions scene are worker (Taken ticket submission seen) at verdict on.submitted)
   judges worker (Some (Taken ticket submission seen)) at (inr is) = subst (AreInPlace submissions) (sym is) (back_in_place submissions scene are worker (Taken ticket submission seen) at submission refl)
 
-  lands : (worker : ℕ) (hand : Option Held) → get_or scene.hands worker None ≡ hand → Lands scene worker hand next → AreInPlace submissions next
+  lands : (worker : ℕ) (hand : Option Holding) → get_or scene.hands worker None ≡ hand → DoesLand scene worker hand next → AreInPlace submissions next
   lands worker None at is = same_scene is
   lands worker (Some (Taken ticket submission seen)) at is = same_scene is
   lands worker (Some (Decided ticket verdict)) at (inl landed) = subst (AreInPlace submissions) (sym landed.is) (land_in_place submissions scene are worker (Decided ticket verdict) at next.desk landed.answer)
@@ -170,46 +170,46 @@ module _ (submissions : List Submission) (scene next : Scene) (are : AreInPlace 
   asks : (desk : Desk) → next ≡ record scene { desk = desk } → AreInPlace submissions next
   asks desk is = subst (AreInPlace submissions) (sym is) (record { place = are.place; waiting_length = are.waiting_length; replies_length = are.replies_length; waits = are.waits; replied = are.replied; holds = are.holds; with = are.with })
 
-  pub step_in_place : (step : Step) → Does scene step next → AreInPlace submissions next
+  pub step_in_place : (step : Step) → DoesStep scene step next → AreInPlace submissions next
   step_in_place (steps.Look worker ticket) is = looks worker ticket (slice_get scene.hands worker) (get_or scene.waiting ticket None) refl refl is
   step_in_place (steps.Judge worker) is = judges worker (get_or scene.hands worker None) refl is
   step_in_place (steps.Land worker) is = lands worker (get_or scene.hands worker None) refl is
   step_in_place (steps.Act act) (inl asked) = asks next.desk asked.is
   step_in_place (steps.Act act) (inr is) = same_scene is
 
-pub run_in_place : (submissions : List Submission) (scene last : Scene) (script : List Step) → AreInPlace submissions scene → Runs scene script last → AreInPlace submissions last
+pub run_in_place : (submissions : List Submission) (scene last : ScriptState) (script : List Step) → AreInPlace submissions scene → DoesSteps scene script last → AreInPlace submissions last
 run_in_place submissions scene last [] are is = subst (AreInPlace submissions) (sym is) are
 run_in_place submissions scene last (step ∷ script) are (next, does, runs) = run_in_place submissions next last script (step_in_place submissions scene next are step does) runs
 
 -- ---- at the end
 
 -- a hand of another ticket gives nothing back under this one
-pub kept_back : (hands : List (Option Held)) (waiting : List (Option Submission)) (ticket : ℕ) → ((worker : ℕ) (held : Held) → get_or hands worker None ≡ Some held → ticket_of held ≢ ticket)
+pub kept_back : (hands : List (Option Holding)) (waiting : List (Option Submission)) (ticket : ℕ) → ((worker : ℕ) (held : Holding) → get_or hands worker None ≡ Some held → ticket_of held ≢ ticket)
     → get_or (all_returned hands waiting) ticket None ≡ get_or waiting ticket None
 kept_back [] waiting ticket apart = refl
 kept_back (hand ∷ hands) waiting ticket apart = kept_back hands (returned hand waiting) ticket (λ worker. apart (suc worker)) ∙ by hand (apart 0)
   where
-    by : (hand : Option Held) → ((held : Held) → hand ≡ Some held → ticket_of held ≢ ticket) → get_or (returned hand waiting) ticket None ≡ get_or waiting ticket None
+    by : (hand : Option Holding) → ((held : Holding) → hand ≡ Some held → ticket_of held ≢ ticket) → get_or (returned hand waiting) ticket None ≡ get_or waiting ticket None
     by None other = refl
     by (Some (Taken t submission seen)) other = get_or-set_other waiting t ticket (Some submission) None (λ same. other (Taken t submission seen) refl (sym same))
     by (Some (Decided t verdict)) other = get_or-set_other waiting t ticket (Some verdict.submission) None (λ same. other (Decided t verdict) refl (sym same))
 
 -- where each hand of the ticket holds this submission, it is left if it waits or a hand holds it
-pub given_at_end : (hands : List (Option Held)) (waiting : List (Option Submission)) (ticket : ℕ) (submission : Submission) → ticket < length waiting
-    → ((worker : ℕ) (held : Held) → get_or hands worker None ≡ Some held → ticket_of held ≡ ticket → submission_in held ≡ submission)
-    → (get_or waiting ticket None ≡ Some submission) ⊎ ((worker : ℕ) × (held : Held) × (get_or hands worker None ≡ Some held) × (ticket_of held ≡ ticket))
+pub given_at_end : (hands : List (Option Holding)) (waiting : List (Option Submission)) (ticket : ℕ) (submission : Submission) → ticket < length waiting
+    → ((worker : ℕ) (held : Holding) → get_or hands worker None ≡ Some held → ticket_of held ≡ ticket → submission_in held ≡ submission)
+    → (get_or waiting ticket None ≡ Some submission) ⊎ ((worker : ℕ) × (held : Holding) × (get_or hands worker None ≡ Some held) × (ticket_of held ≡ ticket))
     → get_or (all_returned hands waiting) ticket None ≡ Some submission
 given_at_end [] waiting ticket submission within own (inl waits) = waits
 given_at_end [] waiting ticket submission within own (inr (worker, held, at, of)) = cc
 given_at_end (hand ∷ hands) waiting ticket submission within own found = given_at_end hands (returned hand waiting) ticket submission (still hand) (λ worker. own (suc worker)) (on found)
   where
-    still : (hand : Option Held) → ticket < length (returned hand waiting)
+    still : (hand : Option Holding) → ticket < length (returned hand waiting)
     still None = within
     still (Some (Taken t other seen)) = subst (λ n. ticket < n) (sym (length-set waiting t (Some other))) within
     still (Some (Decided t verdict)) = subst (λ n. ticket < n) (sym (length-set waiting t (Some verdict.submission))) within
 
     -- the hand's submission waits under the hand's ticket
-    put : (h : Option Held) (held : Held) → h ≡ Some held → ticket_of held ≡ ticket → get_or (returned h waiting) ticket None ≡ Some (submission_in held)
+    put : (h : Option Holding) (held : Holding) → h ≡ Some held → ticket_of held ≡ ticket → get_or (returned h waiting) ticket None ≡ Some (submission_in held)
     put None held is of = cc
     put (Some (Taken t other seen)) held is of =
         let same = same_held is in
@@ -220,18 +220,18 @@ given_at_end (hand ∷ hands) waiting ticket submission within own found = given
         let here : t ≡ ticket = ap ticket_of same ∙ of in
         subst (λ n. get_or (set waiting n (Some verdict.submission)) ticket None ≡ Some (submission_in held)) (sym here) (get_or-set_same waiting ticket (Some verdict.submission) None within ∙ ap (λ h. Some (submission_in h)) same)
 
-    waiting_on : (h : Option Held) → hand ≡ h → get_or waiting ticket None ≡ Some submission → get_or (returned h waiting) ticket None ≡ Some submission
+    waiting_on : (h : Option Holding) → hand ≡ h → get_or waiting ticket None ≡ Some submission → get_or (returned h waiting) ticket None ≡ Some submission
     waiting_on None is waits = waits
     waiting_on (Some held) is waits = by_equal (ticket_of held) ticket
         (λ of. put (Some held) held refl of ∙ ap Some (own 0 held is of))
         (λ apart. other held apart ∙ waits)
       where
-        other : (h : Held) → ticket_of h ≢ ticket → get_or (returned (Some h) waiting) ticket None ≡ get_or waiting ticket None
+        other : (h : Holding) → ticket_of h ≢ ticket → get_or (returned (Some h) waiting) ticket None ≡ get_or waiting ticket None
         other (Taken t s seen) apart = get_or-set_other waiting t ticket (Some s) None (λ same. apart (sym same))
         other (Decided t verdict) apart = get_or-set_other waiting t ticket (Some verdict.submission) None (λ same. apart (sym same))
 
-    on : (get_or waiting ticket None ≡ Some submission) ⊎ ((worker : ℕ) × (held : Held) × (get_or (hand ∷ hands) worker None ≡ Some held) × (ticket_of held ≡ ticket))
-        → (get_or (returned hand waiting) ticket None ≡ Some submission) ⊎ ((worker : ℕ) × (held : Held) × (get_or hands worker None ≡ Some held) × (ticket_of held ≡ ticket))
+    on : (get_or waiting ticket None ≡ Some submission) ⊎ ((worker : ℕ) × (held : Holding) × (get_or (hand ∷ hands) worker None ≡ Some held) × (ticket_of held ≡ ticket))
+        → (get_or (returned hand waiting) ticket None ≡ Some submission) ⊎ ((worker : ℕ) × (held : Holding) × (get_or hands worker None ≡ Some held) × (ticket_of held ≡ ticket))
     on (inl waits) = inl (waiting_on hand refl waits)
     on (inr (zero, held, at, of)) = inl (put hand held at of ∙ ap Some (own 0 held at of))
     on (inr (suc worker, held, at, of)) = inr (worker, held, at, of)

@@ -14,7 +14,7 @@ use Rattle.kfs_judge_check.specs.declared.reads.Read.{Read}
 use Rattle.kfs_judge_check.specs.declared.reads.ReadAnswer.{ReadAnswer}
 use Rattle.kfs_judge_check.specs.declared.view.View.{View}
 use Rattle.kfs_plan.specs.Judged.{Judged}
-use Rattle.kfs_plan.specs.Judging.{AreLooked, AreOfLog, IsAlike, IsVerdict, Tells, refusal_of, stops_before, submission_of}
+use Rattle.kfs_plan.specs.Judging.{AreLooked, AreOfLog, AgreesWithReads, IsVerdict, TellsVerdict, refusal_of, stops_before, submission_of}
 use Rattle.kfs_plan.specs.declared.submission.Fault.{Fault as CodeFault}
 use Rattle.kfs_plan.specs.declared.submission.Outcome.{Outcome}
 use Rattle.kfs_plan.specs.declared.submission.Outcome.TheVariants as outcomes
@@ -49,14 +49,14 @@ module _ {A : Type 0} (submission : Submission) where
   comes_yes : (outcome : Outcome A) (log : _) (plan : _) (net : _) (blocks : ℕ) (t : State) → IsVerdict {A = A} t submission (outcomes.Yes log plan net blocks) → ComesTo t submission (Ok blocks)
   comes_yes outcome log plan net blocks t is = by is.verdict is.judgement is.told
     where
-      by : (verdict : Verdict) → IsJudgement t submission verdict → Tells t submission (outcomes.Yes log plan net blocks) verdict → ComesTo t submission (Ok blocks)
+      by : (verdict : Verdict) → IsJudgement t submission verdict → TellsVerdict t submission (outcomes.Yes log plan net blocks) verdict → ComesTo t submission (Ok blocks)
       by (Yes after marks) judgement told = (after, marks, judgement, told.need_told)
       by (No refusal) judgement told = absurd told
 
   comes_no : (fault : CodeFault) (refusal : Fault) → refusal_of fault ≡ Some refusal → (t : State) → IsVerdict {A = A} t submission (outcomes.No fault) → ComesTo t submission (Err refusal)
   comes_no fault refusal is t there = by there.verdict there.judgement there.told
     where
-      by : (verdict : Verdict) → IsJudgement t submission verdict → Tells {A = A} t submission (outcomes.No fault) verdict → ComesTo t submission (Err refusal)
+      by : (verdict : Verdict) → IsJudgement t submission verdict → TellsVerdict {A = A} t submission (outcomes.No fault) verdict → ComesTo t submission (Err refusal)
       by (Yes after marks) judgement told = absurd told
       by (No other) judgement told =
           let same : other ≡ refusal = some (sym told ∙ is) in
@@ -73,7 +73,7 @@ module _ {A : Type 0} (submission : Submission) where
   told_by s (outcomes.Yes log plan net blocks) here = (Ok blocks, comes_yes (outcomes.Yes log plan net blocks) log plan net blocks)
   told_by s (outcomes.No fault) here = by here.verdict here.told
     where
-      by : (verdict : Verdict) → Tells {A = A} s submission (outcomes.No fault) verdict → Told (outcomes.No fault)
+      by : (verdict : Verdict) → TellsVerdict {A = A} s submission (outcomes.No fault) verdict → Told (outcomes.No fault)
       by (Yes after marks) told = absurd told
       by (No refusal) told = (Err refusal, comes_no fault refusal told)
 
@@ -105,7 +105,7 @@ module _ {A : Type 0} (s : State) (in_order : IsInOrder s) (view : View A) (of :
   abbrev pub Says : CodeSubmission A → Judged A → Type 0
   Says submission judged =
       (judged.client ≡ row_of (clients_of view) submission.client)
-      × ((t : State) → IsAlike t submission.client judged.client judged.reads → IsVerdict t (submission_of submission) judged.outcome)
+      × ((t : State) → AgreesWithReads t submission.client judged.client judged.reads → IsVerdict t (submission_of submission) judged.outcome)
       × Agrees judged.reads (client_sight_in view submission.client)
       × AreLooked view (submission_of submission) judged.outcome judged.reads
 
@@ -133,7 +133,7 @@ module _ {A : Type 0} (s : State) (in_order : IsInOrder s) (view : View A) (of :
   -- of whatever a judgement gave
   pub judged_verdicts : {E : Type 0} (submission : CodeSubmission A) (result : Result (Judged A) E) → IfOk result (λ judged. judged.submission ≡ submission)
       → IfOk result (λ judged. judged.client ≡ row_of (clients_of view) submission.client)
-      → IfOk result (λ judged. (t : State) → IsAlike t submission.client judged.client judged.reads → IsVerdict t (submission_of submission) judged.outcome)
+      → IfOk result (λ judged. (t : State) → AgreesWithReads t submission.client judged.client judged.reads → IsVerdict t (submission_of submission) judged.outcome)
       → IfOk result (λ judged. Agrees judged.reads (client_sight_in view submission.client)) → IfOk result (λ judged. AreLooked view (submission_of submission) judged.outcome judged.reads)
       → IfOk result (λ judged. IsVerdictOn s (submission_of submission) (verdict_of judged))
   judged_verdicts submission (Ok judged) same client known agrees among = judged_verdict submission judged same (client, known, agrees, among)

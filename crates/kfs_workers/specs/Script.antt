@@ -12,49 +12,49 @@ use Rattle.kfs_workers.specs.declared.script.Step.{Step}
 use Rattle.kfs_workers.specs.declared.script.Step.TheVariants as steps
 
 -- what a worker may hold under a ticket: a submission with the state that it saw, or the verdict on it
-pub data Held : Type 0 where
-  Taken : (ticket : ℕ) (submission : Submission) (seen : State) → Held
-  Decided : (ticket : ℕ) (verdict : HeldVerdict) → Held
+pub data Holding : Type 0 where
+  Taken : (ticket : ℕ) (submission : Submission) (seen : State) → Holding
+  Decided : (ticket : ℕ) (verdict : HeldVerdict) → Holding
 
 -- the desk, what waits under each ticket, what each worker holds, and the reply to each ticket
-pub record Scene : Type 0 where
+pub record ScriptState : Type 0 where
   pub desk : Desk
   pub waiting : List (Option Submission)
-  pub hands : List (Option Held)
+  pub hands : List (Option Holding)
   pub replies : List (Option Reply)
 
 -- all submissions wait, and each of eight workers holds nothing
-abbrev pub begun : Desk → List Submission → Scene
+abbrev pub begun : Desk → List Submission → ScriptState
 begun desk submissions = record { desk = desk; waiting = map Some submissions; hands = replicate 8 None; replies = map (λ submission. None) submissions }
 
 -- then the worker holds this
-abbrev pub with_hand : Scene → (worker : ℕ) → Option Held → Scene
+abbrev pub with_hand : ScriptState → (worker : ℕ) → Option Holding → ScriptState
 with_hand scene worker hand = record scene { hands = set scene.hands worker hand }
 
 -- the submission waits under its ticket again, and the worker holds nothing
-abbrev pub given_back : Scene → (worker ticket : ℕ) → Submission → Scene
+abbrev pub given_back : ScriptState → (worker ticket : ℕ) → Submission → ScriptState
 given_back scene worker ticket submission = record scene { waiting = set scene.waiting ticket (Some submission); hands = set scene.hands worker None }
 
 -- ---- one step
 
 -- the worker takes what waits under the ticket, and saw the state of now
-abbrev pub taken : Scene → (worker ticket : ℕ) → Submission → Scene
+abbrev pub taken : ScriptState → (worker ticket : ℕ) → Submission → ScriptState
 taken scene worker ticket submission =
     record scene { waiting = set scene.waiting ticket None; hands = set scene.hands worker (Some (Taken ticket submission scene.desk.state)) }
 
 -- one of the workers who holds nothing takes what waits, where memory isn't wanted; another hand or ticket changes nothing
-abbrev pub Looks : Scene → (worker ticket : ℕ) → (hand : Option (Option Held)) → (waits : Option Submission) → Scene → Type 0
-Looks scene worker ticket (Some None) (Some submission) next = (next ≡ taken scene worker ticket submission) ⊎ (next ≡ scene)
-Looks scene worker ticket hand waits next = next ≡ scene
+abbrev pub DoesLook : ScriptState → (worker ticket : ℕ) → (hand : Option (Option Holding)) → (waits : Option Submission) → ScriptState → Type 0
+DoesLook scene worker ticket (Some None) (Some submission) next = (next ≡ taken scene worker ticket submission) ⊎ (next ≡ scene)
+DoesLook scene worker ticket hand waits next = next ≡ scene
 
 -- a submission that was taken is judged in the state that was seen, or goes back for want of memory; else nothing changes
-abbrev pub Judges : Scene → (worker : ℕ) → (hand : Option Held) → Scene → Type 0
-Judges scene worker (Some (Taken ticket submission seen)) next =
+abbrev pub DoesJudge : ScriptState → (worker : ℕ) → (hand : Option Holding) → ScriptState → Type 0
+DoesJudge scene worker (Some (Taken ticket submission seen)) next =
     ((verdict : HeldVerdict) × IsVerdictOn seen submission verdict × (next ≡ with_hand scene worker (Some (Decided ticket verdict)))) ⊎ (next ≡ given_back scene worker ticket submission)
-Judges scene worker hand next = next ≡ scene
+DoesJudge scene worker hand next = next ≡ scene
 
 -- the verdict's submission is answered at the desk of now, judged again exactly where the verdict isn't up to date
-pub record IsLanded (scene : Scene) (worker ticket : ℕ) (verdict : HeldVerdict) (next : Scene) : Type 0 where
+pub record VerdictIsLanded (scene : ScriptState) (worker ticket : ℕ) (verdict : HeldVerdict) (next : ScriptState) : Type 0 where
   pub answer : Reply
   pub room : length scene.desk.docket ≢ scene.desk.limit
   pub rejudged : IsFalse (is_rejudged answer) ↔ IsUpToDate scene.desk.state verdict
@@ -62,48 +62,48 @@ pub record IsLanded (scene : Scene) (worker ticket : ℕ) (verdict : HeldVerdict
   pub is : next ≡ record { desk = next.desk; waiting = scene.waiting; hands = set scene.hands worker None; replies = set scene.replies ticket (Some answer) }
 
 -- a verdict is landed, or its submission goes back for want of memory or of a row in the docket; else nothing changes
-abbrev pub Lands : Scene → (worker : ℕ) → (hand : Option Held) → Scene → Type 0
-Lands scene worker (Some (Decided ticket verdict)) next = IsLanded scene worker ticket verdict next ⊎ (next ≡ given_back scene worker ticket verdict.submission)
-Lands scene worker hand next = next ≡ scene
+abbrev pub DoesLand : ScriptState → (worker : ℕ) → (hand : Option Holding) → ScriptState → Type 0
+DoesLand scene worker (Some (Decided ticket verdict)) next = VerdictIsLanded scene worker ticket verdict next ⊎ (next ≡ given_back scene worker ticket verdict.submission)
+DoesLand scene worker hand next = next ≡ scene
 
 -- the call for the leases is answered at the desk of now
-pub record IsAsked (scene : Scene) (act : Act) (next : Scene) : Type 0 where
+pub record IsAsked (scene : ScriptState) (act : Act) (next : ScriptState) : Type 0 where
   pub reply : ActReply
   pub room : length scene.desk.docket ≢ scene.desk.limit
   pub acted : IsActed scene.desk (call_of act) (done_by act) reply next.desk
   pub is : next ≡ record scene { desk = next.desk }
 
 -- it is, or for want of memory or of a row in the docket nothing changes
-abbrev pub Asks : Scene → Act → Scene → Type 0
-Asks scene act next = IsAsked scene act next ⊎ (next ≡ scene)
+abbrev pub DoesAct : ScriptState → Act → ScriptState → Type 0
+DoesAct scene act next = IsAsked scene act next ⊎ (next ≡ scene)
 
-abbrev pub Does : Scene → Step → Scene → Type 0
-Does scene (steps.Look worker ticket) next = Looks scene worker ticket (slice_get scene.hands worker) (get_or scene.waiting ticket None) next
-Does scene (steps.Judge worker) next = Judges scene worker (get_or scene.hands worker None) next
-Does scene (steps.Land worker) next = Lands scene worker (get_or scene.hands worker None) next
-Does scene (steps.Act act) next = Asks scene act next
+abbrev pub DoesStep : ScriptState → Step → ScriptState → Type 0
+DoesStep scene (steps.Look worker ticket) next = DoesLook scene worker ticket (slice_get scene.hands worker) (get_or scene.waiting ticket None) next
+DoesStep scene (steps.Judge worker) next = DoesJudge scene worker (get_or scene.hands worker None) next
+DoesStep scene (steps.Land worker) next = DoesLand scene worker (get_or scene.hands worker None) next
+DoesStep scene (steps.Act act) next = DoesAct scene act next
 
 -- ---- all steps
 
 -- one step after another
-abbrev pub Runs : Scene → List Step → Scene → Type 0
-Runs scene [] last = last ≡ scene
-Runs scene (step ∷ steps) last = (next : Scene) × Does scene step next × Runs next steps last
+abbrev pub DoesSteps : ScriptState → List Step → ScriptState → Type 0
+DoesSteps scene [] last = last ≡ scene
+DoesSteps scene (step ∷ steps) last = (next : ScriptState) × DoesStep scene step next × DoesSteps next steps last
 
 -- the submission that a hand holds waits again
-abbrev pub returned : Option Held → List (Option Submission) → List (Option Submission)
+abbrev pub returned : Option Holding → List (Option Submission) → List (Option Submission)
 returned None waiting = waiting
 returned (Some (Taken ticket submission seen)) waiting = set waiting ticket (Some submission)
 returned (Some (Decided ticket verdict)) waiting = set waiting ticket (Some verdict.submission)
 
-abbrev pub all_returned : List (Option Held) → List (Option Submission) → List (Option Submission)
+abbrev pub all_returned : List (Option Holding) → List (Option Submission) → List (Option Submission)
 all_returned [] waiting = waiting
 all_returned (hand ∷ hands) waiting = all_returned hands (returned hand waiting)
 
 -- the run of a script over these submissions, by ticket: the replies, the submissions that are left, and the desk at the end
 pub record IsRun (desk : Desk) (submissions : List Submission) (script : List Step) (replies : List (Option Reply)) (left : List (Option Submission)) (last : Desk) : Type 0 where
-  pub scene : Scene
-  pub runs : Runs (begun desk submissions) script scene
+  pub scene : ScriptState
+  pub runs : DoesSteps (begun desk submissions) script scene
   pub replied : replies ≡ scene.replies
   pub remains : left ≡ all_returned scene.hands scene.waiting
   pub ends : last ≡ scene.desk

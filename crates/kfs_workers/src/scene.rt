@@ -4,7 +4,7 @@ ghost use Rattle.std.specs.List.{slice_get};
 ghost use Rattle.kfs_plan.specs.Judging.{submission_of};
 ghost use Rattle.kfs_entry_value.specs.Room.{spare_of};
 ghost use Rattle.kfs_workers.specs.Holding.{held_of};
-ghost use Rattle.kfs_workers.specs.Script.{Asks, Does, Judges, Lands, Looks, all_returned, begun, returned};
+ghost use Rattle.kfs_workers.specs.Script.{DoesAct, DoesStep, DoesJudge, DoesLand, DoesLook, all_returned, begun, returned};
 
 use crate::look::Look;
 use crate::script::{ScriptBack, ScriptEnd, Step};
@@ -49,7 +49,7 @@ impl<A: Allocator> Model for Scene<A> {
     ghost use Rattle.std.specs.Prelude.{map, option_map};
     ghost use Rattle.kfs_plan.specs.Judging.{submission_of};
     ghost use Rattle.kfs_workers.specs.Holding.{held_of};
-    ghost use Rattle.kfs_workers.specs.Script.{Scene as SceneShown};
+    ghost use Rattle.kfs_workers.specs.Script.{ScriptState as SceneShown};
 
     ghost Value = { SceneShown };
 
@@ -86,7 +86,7 @@ impl<A: Allocator + Copy> Scene<A> {
 
     /// Makes one step.
     pub fn make(&mut self, step: &Step<'_>)
-        ensures { Does self.old step.now self.new }
+        ensures { DoesStep self.old step.now self.new }
     {
         match *step {
             Step::Look { worker, ticket } => self.look(worker, ticket),
@@ -122,7 +122,7 @@ impl<A: Allocator + Copy> Scene<A> {
 
     /// The worker takes what waits under the ticket, where it holds nothing.
     fn look(&mut self, worker: usize, ticket: usize)
-        ensures { Looks self.old worker ticket (slice_get self.old.hands worker) (get_or self.old.waiting ticket None) self.new }
+        ensures { DoesLook self.old worker ticket (slice_get self.old.hands worker) (get_or self.old.waiting ticket None) self.new }
     {
         if !self.is_free(worker) {
             return;
@@ -142,7 +142,7 @@ impl<A: Allocator + Copy> Scene<A> {
 
     /// The worker judges what it took.
     fn judge(&mut self, worker: usize)
-        ensures { Judges self.old worker (get_or self.old.hands worker None) self.new }
+        ensures { DoesJudge self.old worker (get_or self.old.hands worker None) self.new }
     {
         match take_at(&mut self.hands, worker) {
             Some(
@@ -164,7 +164,7 @@ impl<A: Allocator + Copy> Scene<A> {
 
     /// The worker's verdict is landed.
     fn land(&mut self, worker: usize)
-        ensures { Lands self.old worker (get_or self.old.hands worker None) self.new }
+        ensures { DoesLand self.old worker (get_or self.old.hands worker None) self.new }
     {
         match take_at(&mut self.hands, worker) {
             Some(Held::Decided { ticket, judged }) => match self.desk.land(judged) {
@@ -191,7 +191,7 @@ impl<A: Allocator + Copy> Scene<A> {
 
     /// Makes a call for the leases. Its answer stands in the docket alone.
     fn ask(&mut self, act: Act<'_>)
-        ensures { Asks self.old act.entry self.new }
+        ensures { DoesAct self.old act.entry self.new }
     {
         let _answer = self.desk.act(act);
     }

@@ -1,10 +1,10 @@
 //! Scripts: the steps of eight workers and the calls for the leases, in one order.
 ghost use Rattle.std.specs.Prelude.{◌≡◌, IfErr, IfOk, map, option_map};
-ghost use Rattle.kfs_desk_docket.specs.Legal.{LeadsTo};
+ghost use Rattle.kfs_desk_docket.specs.Legal.{IsLegalDocket};
 ghost use Rattle.kfs_plan.specs.Judging.{submission_of};
 ghost use Rattle.kfs_desk.specs.Machine.{};
 ghost use Rattle.kfs_workers.specs.Claims.{AreSettled, EachReply, ElseChangesNothing, HasAllowedEntries, ShowsItsEntries};
-ghost use Rattle.kfs_workers.specs.Script.{IsRun, Runs};
+ghost use Rattle.kfs_workers.specs.Script.{IsRun, DoesSteps};
 
 use crate::scene::Scene;
 use kfs_desk::Desk;
@@ -64,7 +64,7 @@ pub fn run_script<A: Allocator + Copy>(
     // Each of these entries is allowed at its own point, by mode bits and by leases held at the landing.
     ensures allowed { IfOk result (λ end. EachReply end.desk (map submission_of submissions.items) end.replies.items HasAllowedEntries) }
     ensures otherwise { IfOk result (λ end. EachReply end.desk (map submission_of submissions.items) end.replies.items ElseChangesNothing) }
-    ensures legal { IfOk result (λ end. LeadsTo end.desk.opening end.desk.docket end.desk.state) }
+    ensures legal { IfOk result (λ end. IsLegalDocket end.desk.opening end.desk.docket end.desk.state) }
     ensures back { IfErr result (λ back. (back.desk ≡ desk) × (back.submissions ≡ submissions)) }
 {
     // A desk's docket is legal, at first and at the end.
@@ -78,7 +78,7 @@ pub fn run_script<A: Allocator + Copy>(
 
 /// Makes the steps.
 fn make_all<A: Allocator + Copy>(scene: &mut Scene<A>, steps: &[Step<'_>])
-    ensures { Runs scene.old steps.now scene.new }
+    ensures { DoesSteps scene.old steps.now scene.new }
 {
     for step in steps {
         scene.make(step);

@@ -3,7 +3,7 @@ ghost use Rattle.std.specs.Prelude.{◌≡◌};
 ghost use Rattle.std.specs.Option.{option_map};
 ghost use Rattle.kfs_image_nodes.specs.Look.{IsAnswer};
 ghost use Rattle.kfs_model.specs.Lease.{holds, row_of};
-ghost use Rattle.kfs_mode.specs.Clients.{AreDistinct};
+ghost use Rattle.kfs_mode.specs.Clients.{ClientsAreDistinct};
 ghost use Rattle.kfs_judge_check.specs.View.{contents_of, leases_of, clients_of};
 
 use crate::view::View;
@@ -21,7 +21,7 @@ impl<A: Allocator> View<A> {
         leases: Arc<Leases<A>, A>,
         clients: Arc<Vec<Client, A>, A>,
     ) -> View<A>
-        requires distinct { AreDistinct clients.value.items }
+        requires distinct { ClientsAreDistinct clients.value.items }
         ensures contents { contents_of result ≡ shape.value }
         ensures leases { leases_of result ≡ leases.value }
         ensures clients { clients_of result ≡ clients.value.items }

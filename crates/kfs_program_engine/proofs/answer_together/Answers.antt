@@ -1,8 +1,8 @@
 -- What was held back is written at the end, or a first part of it.
 use Rattle.std.proofs.Common.{ap, subst, ◌∙◌}
 use Rattle.std.proofs.lemmas.Result.{IfErr-at_err, IfOk-at_ok}
-use Rattle.kfs_program_text.specs.Held.{HasGrown}
-use Rattle.kfs_program_engine.specs.Conversation.{IsSession}
+use Rattle.kfs_program_text.specs.HeldOutput.{HasGrown}
+use Rattle.kfs_program_engine.specs.Transcript.{IsSession}
 use Rattle.kfs_program_engine.proofs.Conversations.{first_written}
 use Rattle.kfs_program_engine.proofs.HeldReplies.{all_written, first_part}
 use Rattle.kfs_program_engine.proofs.answer_together.Goals as goal

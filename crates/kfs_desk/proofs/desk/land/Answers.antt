@@ -7,10 +7,10 @@ use Rattle.kfs_entry_value.specs.declared.plan.Plan.{Plan}
 use Rattle.kfs_image_fill.specs.declared.bytes.LogBytes.{LogBytes}
 use Rattle.kfs_image_fill.specs.FillOf.{HasLandedWith}
 use Rattle.kfs_plan.specs.declared.answers.Reply.TheVariants as replies
-use Rattle.kfs_desk.specs.Landing.{Answers, AreOf, CanLand, CanLandYes, free_in}
+use Rattle.kfs_desk.specs.Landing.{AnswersOutcome, AreReadFrom, CanLand, CanLandYes, free_in}
 use Rattle.kfs_desk.proofs.desk.land.Goals as goal
 
-are_of : {A : Type 0} (source : List ℕ) (log : Log A) (plan : Plan A) (bytes : LogBytes) → bytes.source.now ≡ source → bytes.entries.now ≡ log.entries → bytes.pieces.now ≡ plan.pieces → AreOf source log plan bytes
+are_of : {A : Type 0} (source : List ℕ) (log : Log A) (plan : Plan A) (bytes : LogBytes) → bytes.source.now ≡ source → bytes.entries.now ≡ log.entries → bytes.pieces.now ≡ plan.pieces → AreReadFrom source log plan bytes
 are_of source log plan bytes from entries pieces = record {
   entries = λ i. map (entry_of (from i)) (entries i);
   pieces = λ i. map piece_of (pieces i);
@@ -38,5 +38,5 @@ returns-clause-answer g c =
     let room : yes.need ≤ free_in image = subst (λ n. yes.need ≤ n) (c.from.ensures ∙ c.free-free.ensures) c.if-from-need.false in
     let bytes : LogBytes = record { source = c.deref.result; entries = c.deref-2.result; pieces = c.deref-3.result } in
     let landed : HasLandedWith image bytes yes.net c.change_state.new.image = where_ok c.change_state.result c.change_state.ensures.image (sym c.is_err.ensures.value ∙ c.if-is_err.false) in
-    subst (λ outcome. Answers image source c.args.position c.args.rejudged outcome (replies.Yes c.args.position c.args.rejudged yes.need) c.change_state.new.image) (sym (sym c.into_parts-submission.ensures.outcome ∙ yes.is))
+    subst (λ outcome. AnswersOutcome image source c.args.position c.args.rejudged outcome (replies.Yes c.args.position c.args.rejudged yes.need) c.change_state.new.image) (sym (sym c.into_parts-submission.ensures.outcome ∙ yes.is))
     (refl, room, record { bytes = bytes; are = are_of source yes.log yes.plan bytes (c.deref.ensures.value ∙ ap (λ s. s.log.items) c.into_parts-submission.ensures.submission) c.deref-2.ensures c.deref-3.ensures; landed = landed })

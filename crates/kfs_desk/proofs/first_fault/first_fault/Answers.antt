@@ -10,7 +10,7 @@ use Rattle.std.specs.BTreeSet.{Updates}
 use Rattle.kfs_model.specs.Access.{Client}
 use Rattle.kfs_model.specs.CleanStep.{IsClient}
 use Rattle.kfs_model.proofs.FirstAnswer.{first_is, none_more}
-use Rattle.kfs_mode.specs.Clients.{AreDistinct}
+use Rattle.kfs_mode.specs.Clients.{ClientsAreDistinct}
 use Rattle.kfs_plan.specs.declared.answers.BeginFault.{BeginFault}
 use Rattle.kfs_plan.specs.declared.answers.BeginFault.TheVariants.{ClientTwice, GrantOverlap}
 use Rattle.kfs_image_tier.specs.Places.{is_free_in}
@@ -80,7 +80,7 @@ loop-index-preserved g c =
     let alone = none_from_ungranted earlier c.loop-index.ungranted client held.grants c.number.ensures.in_range (tells.0 c.if-not-are_ungranted.false) in
     record {
       first = ap begin_fault (sym more) ∙ none_more fault_behind earlier client held.first (no_fault earlier client new alone);
-      distinct = subst AreDistinct more (distinct_more earlier client held.distinct new);
+      distinct = subst ClientsAreDistinct more (distinct_more earlier client held.distinct new);
       in_range = subst (λ (rows : List Client). AllByRecursion IsClient rows) more (in_range_more earlier client held.in_range c.number.ensures.in_range);
       numbers = subst (λ (rows : List Client). AreNumbersOf rows c.insert.new.self) more (number_more earlier client c.loop-index.numbers c.insert.new.self held.numbers updates);
       grants = subst (λ (rows : List Client). AreGrantsOf rows c.mark_granted.new.ungranted) more (granted_more earlier client c.loop-index.ungranted c.mark_granted.new.ungranted held.grants marked);
@@ -93,7 +93,7 @@ returns-clause-first g c =
     sym c.loop-index.invariant.first ∙ ap begin_fault (take_all i clients (omega arith))
 
 pub returns-clause-distinct : goal.returns-clause-distinct
-returns-clause-distinct g c none = subst AreDistinct (take_all c.loop-index.index c.args.clients.now (omega arith)) c.loop-index.invariant.distinct
+returns-clause-distinct g c none = subst ClientsAreDistinct (take_all c.loop-index.index c.args.clients.now (omega arith)) c.loop-index.invariant.distinct
 
 pub returns-clause-in_range : goal.returns-clause-in_range
 returns-clause-in_range g c none = subst (λ (rows : List Client). AllByRecursion IsClient rows) (take_all c.loop-index.index c.args.clients.now (omega arith)) c.loop-index.invariant.in_range

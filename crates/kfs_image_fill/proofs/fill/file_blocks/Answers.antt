@@ -5,7 +5,7 @@ use Rattle.std.proofs.lemmas.Bool.{ltb-true, ltb-false}
 use Rattle.kfs_model.specs.Blocks.{touches}
 use Rattle.kfs_entry_value.specs.Views.{piece_of}
 use Rattle.kfs_plan_sweep.specs.BlockLists.{cleared_runs, listed}
-use Rattle.kfs_plan_sweep.specs.Lefts.{IsFilled, IsWhole}
+use Rattle.kfs_plan_sweep.specs.Lefts.{IsFilled, PieceIsInRange}
 use Rattle.kfs_plan_sweep.specs.Parts.{front_len}
 use Rattle.kfs_plan_sweep.proofs.FileParts.{front_within}
 use Rattle.kfs_plan_sweep.proofs.Lists.{all_drop}
@@ -49,7 +49,7 @@ loop-first-preserved g c =
     c.in_ok-add_cleared.ensures ∙ (λ i. c.loop-first.zero.items ++ map (run_of n) (cleared_runs (c.size_after-size.ensures i) (map piece_of (part i)))) in
     record {
       order = subst (AreInOrder new) behind (next_in_order rest first some is old new c.loop-first.invariant.order (size_among heads n) wrote);
-      whole = subst (AllByRecursion IsWhole) behind (all_drop IsWhole (front_len n rest) rest c.loop-first.invariant.whole);
+      whole = subst (AllByRecursion PieceIsInRange) behind (all_drop PieceIsInRange (front_len n rest) rest c.loop-first.invariant.whole);
       filled = subst (AllByRecursion IsFilled) behind (all_drop IsFilled (front_len n rest) rest c.loop-first.invariant.filled);
       written = subst (AreListed heads pieces new) behind (next_listed rest first some is old new c.loop-first.invariant.order heads pieces wrote c.loop-first.invariant.written);
       zero = subst (AreZeroed (size_among heads) pieces c.add_cleared.new.out.items) behind

@@ -1,7 +1,7 @@
 use Rattle.std.specs.List.{AllByRecursion}
 use Rattle.std.proofs.Common.{length, map}
 use Rattle.kfs_entry_value.specs.Views.{piece_of}
-use Rattle.kfs_plan_sweep.specs.Lefts.{IsFilled, IsWhole}
+use Rattle.kfs_plan_sweep.specs.Lefts.{IsFilled, PieceIsInRange}
 use Rattle.kfs_image_nodes.specs.Change.{reheaded}
 use Rattle.kfs_image_fill.specs.FillOf.{size_among}
 use Rattle.kfs_image_fill.proofs.FileBlocks.{AreInOrder, AreListed, AreZeroed}
@@ -10,7 +10,7 @@ use Rattle.kfs_image_fill.proofs.fill.file_blocks.Given as goal
 abbrev pub invariant-loop-first : goal.invariant-loop-first
 invariant-loop-first g l = record {
   order : AreInOrder l.written.items l.rest;
-  whole : AllByRecursion IsWhole l.rest;
+  whole : AllByRecursion PieceIsInRange l.rest;
   filled : AllByRecursion IsFilled l.rest;
   written : AreListed (reheaded l.image.heads l.nodes) (map piece_of l.pieces) l.written.items l.rest;
   zero : AreZeroed (size_among (reheaded l.image.heads l.nodes)) (map piece_of l.pieces) l.zero.items l.rest;

@@ -1,6 +1,6 @@
 use Rattle.std.proofs.Common.{subst, sym}
 use Rattle.std.proofs.lemmas.Result.{on_ok_weaker}
-use Rattle.kfs_image_tier.specs.Blocks.{HasRoom}
+use Rattle.kfs_image_tier.specs.Blocks.{HasRoomForBlock}
 use Rattle.kfs_image_tier.specs.Tier.{TierShown}
 use Rattle.kfs_image_tier.proofs.TierLists.{places_after, rooms_after, room_here, free_of-kept, devices_of-read, rooms_kept, room_made}
 use Rattle.kfs_image_tier.proofs.change.reserve.Goals as goal
@@ -17,7 +17,7 @@ pub returns-clause-room : goal.returns-clause-room
 returns-clause-room g c =
     on_ok_weaker c.reserve.result
     (λ made. room_made c.args.tiers.now c.args.place c.place.inside.tier c.place.inside.place c.index-tiers-place.result c.reserve.new.self c.place.view_is c.requires
-    (subst (λ (s : TierShown). HasRoom s.blocks c.place.inside.place) (sym made) (room_here _ c.place.inside.place _)))
+    (subst (λ (s : TierShown). HasRoomForBlock s.blocks c.place.inside.place) (sym made) (room_here _ c.place.inside.place _)))
     c.reserve.ensures.ok
 
 pub returns-clause-others : goal.returns-clause-others

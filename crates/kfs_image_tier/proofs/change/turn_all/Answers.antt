@@ -1,6 +1,6 @@
 use Rattle.std.proofs.Common.{subst, sym, ap, ◌∙◌, arith}
 use Rattle.kfs_image_tier.specs.Tiers.{with_places}
-use Rattle.kfs_image_tier.specs.TierViews.{CanTurn}
+use Rattle.kfs_image_tier.specs.TierViews.{CanTurnPlaces}
 use Rattle.kfs_image_tier.proofs.TierLists.{can_turn-here, with_places-here, with_places-end}
 use Rattle.kfs_image_tier.proofs.change.turn_all.Goals as goal
 
@@ -14,7 +14,7 @@ pub loop-place-preserved : goal.loop-place-preserved
 loop-place-preserved g c =
     let can = can_turn-here c.args.free c.args.places.now c.loop-place.place-index c.place-item.result _ c.loop-place-test.true c.place-item.is c.loop-place.invariant.can in
     record {
-      can = subst (CanTurn c.args.free _) (sym c.turn.ensures.free) can.2;
+      can = subst (CanTurnPlaces c.args.free _) (sym c.turn.ensures.free) can.2;
       free = ap (with_places c.args.free _) c.turn.ensures.free
           ∙ sym (with_places-here c.args.free c.args.places.now c.loop-place.place-index c.place-item.result _ c.loop-place-test.true c.place-item.is)
           ∙ c.loop-place.invariant.free;

@@ -1,5 +1,5 @@
 use Rattle.std.proofs.Common.{Some, subst, sym, ap}
-use Rattle.kfs_image_tier.specs.Blocks.{HasRoom}
+use Rattle.kfs_image_tier.specs.Blocks.{HasRoomForBlock}
 use Rattle.kfs_image_tier.specs.Tier.{TierShown}
 use Rattle.kfs_image_tier.proofs.TierLists.{room_insert, room_read, free_of-kept, devices_of-put, rooms_kept}
 use Rattle.kfs_image_tier.proofs.change.write.Goals as goal
@@ -17,4 +17,4 @@ returns-clause-devices g c = devices_of-put c.args.tiers.now c.args.block.place 
 pub returns-clause-others : goal.returns-clause-others
 returns-clause-others g c =
     rooms_kept c.args.tiers.now c.args.block.place c.place.inside.tier c.place.inside.place c.index-tiers-place.result c.write.new.self c.place.view_is c.requires.in_tier
-    (λ q room. subst (λ (s : TierShown). HasRoom s.blocks q) (sym c.write.ensures) (room_insert _ c.place.inside.place (Some c.args.block.bytes.items) q room))
+    (λ q room. subst (λ (s : TierShown). HasRoomForBlock s.blocks q) (sym c.write.ensures) (room_insert _ c.place.inside.place (Some c.args.block.bytes.items) q room))

@@ -7,7 +7,7 @@ use Rattle.kfs_model.specs.SeenAfter.{seen_after}
 use Rattle.kfs_entry_value.specs.Views.{entry_of, IsWithin}
 use Rattle.kfs_entry_value.specs.declared.entry.Entry.{Entry as CodeEntry}
 use Rattle.kfs_entry_value.specs.declared.entry.Span.{Span}
-use Rattle.kfs_judge_draft.specs.Overlay.{over, entry_context_of, IsWritten}
+use Rattle.kfs_judge_draft.specs.Overlay.{over, entry_context_of, ChangesAreAmong}
 use Rattle.kfs_judge_check.specs.Reads.{Within}
 use Rattle.kfs_judge_check.specs.Checks.{reason_of}
 use Rattle.kfs_judge_check.proofs.Entering.{RunsOn, runs_first, runs_next, runs_fails, runs_out}
@@ -111,7 +111,7 @@ loop-index-preserved g c = record {
       (λ s a. subst (λ cl. Within c.loop-index.judge.recorder.reads.entries c.enter.new.self.recorder.reads.entries (looked (entry_context_of cl c.loop-index.judge.draft s) (checks_of (entry_context_of cl c.loop-index.judge.draft s) (entry_of source item)))) c.loop-index.invariant.client (here.among s a))
       (λ s a. subst (λ cl. over c.enter.new.self.draft s.sight ≡ seen_after cl (over c.loop-index.judge.draft s.sight) (entry_of source item)) c.loop-index.invariant.client ((here.change (ap Ok c.in_default.is)).shown s a))
       ((here.change (ap Ok c.in_default.is)).created)
-      (λ s a among written. subst (λ cl. IsWritten c.enter.new.self.draft (looked (entry_context_of cl c.loop-index.judge.draft s) (checks_of (entry_context_of cl c.loop-index.judge.draft s) (entry_of source item)) ++ among)) c.loop-index.invariant.client ((here.change (ap Ok c.in_default.is)).written s a among written));
+      (λ s a among written. subst (λ cl. ChangesAreAmong c.enter.new.self.draft (looked (entry_context_of cl c.loop-index.judge.draft s) (checks_of (entry_context_of cl c.loop-index.judge.draft s) (entry_of source item)) ++ among)) c.loop-index.invariant.client ((here.change (ap Ok c.in_default.is)).written s a among written));
 }
 
 pub returns-clause-known : goal.returns-clause-known

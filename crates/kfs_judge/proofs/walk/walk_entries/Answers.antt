@@ -3,7 +3,7 @@ use Rattle.std.proofs.Common.{map, Some, None, Ok, subst, ap, sym, ◌∙◌}
 use Rattle.std.specs.Option.{option_map}
 use Rattle.kfs_entry_value.specs.Views.{entry_of}
 use Rattle.kfs_model.specs.Looked.{looked_cells}
-use Rattle.kfs_judge_draft.specs.Overlay.{over, IsWritten}
+use Rattle.kfs_judge_draft.specs.Overlay.{over, ChangesAreAmong}
 use Rattle.kfs_judge_check.specs.Reads.{Agrees, AreAmong, AreOnce}
 use Rattle.kfs_judge_check.specs.View.{clients_of, client_sight_in}
 use Rattle.kfs_judge_step.specs.FileSizes.{AreSizesOver, HasFilesOf}
@@ -86,7 +86,7 @@ returns-clause-among g c client is source within =
     let inside = subst (AreWithin source) (sym c.as_slice.ensures) within in
     let front = c.in_ok-fault.ensures.among shown agrees source inside in
     let written = c.in_ok-fault.ensures.written (ap Ok c.in_default.is) shown agrees source inside in
-    let back = within_then (c.in_ok-net.ensures.looks.among cells written) (c.in_ok-sizes.ensures.looks.among cells (subst (λ d. IsWritten d cells) (sym c.in_ok-net.ensures.draft) written)) in
+    let back = within_then (c.in_ok-net.ensures.looks.among cells written) (c.in_ok-sizes.ensures.looks.among cells (subst (λ d. ChangesAreAmong d cells) (sym c.in_ok-net.ensures.draft) written)) in
     let same = c.new-judge.ensures.client ∙ one_row (clients_of c.args.view.now) c.args.log.now.client c.unwrap-client.result.now client row is in
     subst (λ reads. AreAmong reads (looked_cells client shown (map (entry_of source) c.args.log.now.entries))) (sym c.into_reads-2.ensures)
     (subst (λ cl. AreAmong c.sizes.new.self.recorder.reads.entries (looked_cells cl shown (map (entry_of source) c.args.log.now.entries))) same

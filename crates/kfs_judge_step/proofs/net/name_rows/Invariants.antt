@@ -2,7 +2,7 @@
 use Rattle.std.proofs.Common.{◌≡◌, ◌++◌, List, nat_eq, map}
 use Rattle.kfs_model.specs.Plan.{number_now}
 use Rattle.kfs_model.specs.Sight.{Cell}
-use Rattle.kfs_judge_draft.specs.Overlay.{IsWritten}
+use Rattle.kfs_judge_draft.specs.Overlay.{ChangesAreAmong}
 use Rattle.kfs_judge_check.specs.Reads.{Always, Within}
 use Rattle.kfs_judge_check.specs.Recorders.{GoesOn}
 use Rattle.kfs_judge_step.specs.Rows.{keyed_name_row}
@@ -14,6 +14,6 @@ invariant-loop-key g l = record {
   ready : (goal.iterator-loop-key g).can_next l.key-iterator;
   finite : (goal.iterator-loop-key g).is_finite l.key-iterator;
   goes : GoesOn l.initial.recorder l.recorder;
-  among : (among : List Cell) → IsWritten l.draft among → Within l.initial.recorder.reads.entries l.recorder.reads.entries among;
+  among : (among : List Cell) → ChangesAreAmong l.draft among → Within l.initial.recorder.reads.entries l.recorder.reads.entries among;
   rows : Always l.recorder.reads.entries (λ state. map keyed_name_row l.rows.items ++ changed_rows nat_eq number_now (λ key. state.sight.name key.0 key.1) l.key-iterator ≡ changed_rows nat_eq number_now (λ key. state.sight.name key.0 key.1) l.draft.names.entries);
 }

@@ -3,7 +3,7 @@ use Rattle.std.proofs.Common.{◌≡◌, ◌++◌, List, map}
 use Rattle.kfs_model.specs.FirstWrong.{same_header}
 use Rattle.kfs_model.specs.Plan.{header_now}
 use Rattle.kfs_model.specs.Sight.{Cell}
-use Rattle.kfs_judge_draft.specs.Overlay.{IsWritten}
+use Rattle.kfs_judge_draft.specs.Overlay.{ChangesAreAmong}
 use Rattle.kfs_judge_check.specs.Reads.{Always, Within}
 use Rattle.kfs_judge_check.specs.Recorders.{GoesOn}
 use Rattle.kfs_judge_step.specs.Rows.{keyed_node_row}
@@ -15,6 +15,6 @@ invariant-loop-number g l = record {
   ready : (goal.iterator-loop-number g).can_next l.number-iterator;
   finite : (goal.iterator-loop-number g).is_finite l.number-iterator;
   goes : GoesOn l.initial.recorder l.recorder;
-  among : (among : List Cell) → IsWritten l.draft among → Within l.initial.recorder.reads.entries l.recorder.reads.entries among;
+  among : (among : List Cell) → ChangesAreAmong l.draft among → Within l.initial.recorder.reads.entries l.recorder.reads.entries among;
   rows : Always l.recorder.reads.entries (λ state. map keyed_node_row l.rows.items ++ changed_rows same_header header_now state.sight.head (shown_heads l.number-iterator) ≡ changed_rows same_header header_now state.sight.head (shown_heads l.draft.heads.entries));
 }

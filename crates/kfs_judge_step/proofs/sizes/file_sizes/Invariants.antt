@@ -2,7 +2,7 @@
 use Rattle.std.proofs.Common.{◌≡◌, ◌++◌, List, map}
 use Rattle.std.specs.List.{AllByRecursion}
 use Rattle.kfs_model.specs.Sight.{Cell}
-use Rattle.kfs_judge_draft.specs.Overlay.{IsWritten}
+use Rattle.kfs_judge_draft.specs.Overlay.{ChangesAreAmong}
 use Rattle.kfs_judge_check.specs.Reads.{Always, Within}
 use Rattle.kfs_judge_check.specs.Recorders.{GoesOn}
 use Rattle.kfs_judge_step.proofs.FileSizes.{IsOwnSize, keys_left}
@@ -15,7 +15,7 @@ invariant-loop-number g l = record {
   ready : (goal.iterator-loop-number g).can_next l.number-iterator;
   finite : (goal.iterator-loop-number g).is_finite l.number-iterator;
   goes : GoesOn l.initial.recorder l.recorder;
-  among : (among : List Cell) → IsWritten l.draft among → Within l.initial.recorder.reads.entries l.recorder.reads.entries among;
+  among : (among : List Cell) → ChangesAreAmong l.draft among → Within l.initial.recorder.reads.entries l.recorder.reads.entries among;
   numbers : map (λ (s : FileSize). s.number) l.sizes.items ++ keys_left l.number-iterator ≡ keys_left l.draft.heads.entries;
   own : Always l.recorder.reads.entries (λ state. AllByRecursion (IsOwnSize l.draft state.sight) l.sizes.items);
   short : AllByRecursion IsSize l.sizes.items;

@@ -4,9 +4,9 @@ use Rattle.std.specs.Vec.{with_items}
 use Rattle.std.specs.declared.ops.Bound.TheVariants.{Included}
 use Rattle.std.specs.FinMap.Entries.{is_sorted}
 use Rattle.kfs_map_chunks.specs.declared.edit.Edit.{Edit}
-use Rattle.kfs_map_chunks.specs.Edits.{entered_all, Ascend}
-use Rattle.kfs_map_chunks.specs.Held.{Held}
-use Rattle.kfs_map_chunks.specs.Joined.{joined, place, were_made, if_made, IsSized, IsFilled, AreSized, AreFilled}
+use Rattle.kfs_map_chunks.specs.Edits.{entered_all, KeysAscend}
+use Rattle.kfs_map_chunks.specs.Buffer.{Buffer}
+use Rattle.kfs_map_chunks.specs.Joined.{joined, first_chunk_from, were_made, if_made, IsSized, IsNotEmpty, AreSized, AreFilled}
 use Rattle.kfs_map_chunks.specs.Starts.{entry_from}
 use Rattle.kfs_map_chunks.proofs.Order.{ascend_take, ascend_drop}
 use Rattle.kfs_map_chunks.proofs.Parts.{sorted_behind, sorted_left, sorted_right, each-append, each_left, each_right, sized_filled, joined_filled, front_past}
@@ -22,7 +22,7 @@ change_parts-run_of_part-requires-clause-sorted g t c =
     let part = c.in-Some-split_first_mut.part.now in
     let rest = c.in-Some-split_first_mut.rest.now in
     let whole : c.args.parts.now ≡ front ++ part ∷ rest = c.split_at_mut-rest.ensures.value ∙ ap (λ back. front ++ back) c.in-Some-split_first_mut.ensures.cases.0 in
-    subst (λ (x : Held _ _). T (is_sorted cmp (x.pairs ++ joined rest))) (sym c.deref.ensures) (sorted_behind cmp front part rest (subst (λ cs. T (is_sorted cmp (joined cs))) whole c.requires.sorted))
+    subst (λ (x : Buffer _ _). T (is_sorted cmp (x.pairs ++ joined rest))) (sym c.deref.ensures) (sorted_behind cmp front part rest (subst (λ cs. T (is_sorted cmp (joined cs))) whole c.requires.sorted))
 
 pub change_parts-change_from_part-requires : goal.change_parts-change_from_part-requires
 change_parts-change_from_part-requires g t c =
@@ -32,7 +32,7 @@ change_parts-change_from_part-requires g t c =
     let rest = c.in-Some-split_first_mut.rest.now in
     let whole : c.args.parts.now ≡ front ++ part ∷ rest = c.split_at_mut-rest.ensures.value ∙ ap (λ back. front ++ back) c.in-Some-split_first_mut.ensures.cases.0 in
     let sorted = sorted_behind cmp front part rest (subst (λ cs. T (is_sorted cmp (joined cs))) whole c.requires.sorted) in
-    let filled = each_right IsFilled front (part ∷ rest) (subst AreFilled whole c.requires.filled) in
+    let filled = each_right IsNotEmpty front (part ∷ rest) (subst AreFilled whole c.requires.filled) in
     λ κs lives. (
       omega (arith, ap length whole, length-append front (part ∷ rest)),
       (
@@ -44,9 +44,9 @@ change_parts-change_from_part-requires g t c =
             (
               search rules,
               (
-                subst (Ascend cmp) (sym c.split_at.ensures.front) (ascend_take cmp c.args.edits.now c.run_of_part.result c.requires.ascend),
+                subst (KeysAscend cmp) (sym c.split_at.ensures.front) (ascend_take cmp c.args.edits.now c.run_of_part.result c.requires.ascend),
                 (
-                  subst (Ascend cmp) (sym c.split_at.ensures.back) (ascend_drop cmp c.args.edits.now c.run_of_part.result c.requires.ascend),
+                  subst (KeysAscend cmp) (sym c.split_at.ensures.back) (ascend_drop cmp c.args.edits.now c.run_of_part.result c.requires.ascend),
                   (sorted_right cmp part.value.pairs (joined rest) sorted, (filled.0, (filled.1, c.requires.then))),
                 ),
               ),
@@ -62,7 +62,7 @@ change_parts-returns-clause-filled g t c =
     let part = c.in-Some-split_first_mut.part.now in
     let rest = c.in-Some-split_first_mut.rest.now in
     let whole : c.args.parts.now ≡ front ++ part ∷ rest = c.split_at_mut-rest.ensures.value ∙ ap (λ back. front ++ back) c.in-Some-split_first_mut.ensures.cases.0 in
-    each-append IsFilled front (c.change_from_part.new.part ∷ c.change_from_part.new.rest) (each_left IsFilled front (part ∷ rest) (subst AreFilled whole c.requires.filled)) (c.change_from_part.ensures.part_filled, c.change_from_part.ensures.filled)
+    each-append IsNotEmpty front (c.change_from_part.new.part ∷ c.change_from_part.new.rest) (each_left IsNotEmpty front (part ∷ rest) (subst AreFilled whole c.requires.filled)) (c.change_from_part.ensures.part_filled, c.change_from_part.ensures.filled)
 
 pub change_parts-returns-clause-joined : goal.change_parts-returns-clause-joined
 change_parts-returns-clause-joined g t c =
@@ -76,15 +76,15 @@ change_parts-returns-clause-joined g t c =
     let rest = c.in-Some-split_first_mut.rest.now in
     let result = c.change_from_part.result in
     let whole : c.args.parts.now ≡ front ++ part ∷ rest = c.split_at_mut-rest.ensures.value ∙ ap (λ back. front ++ back) c.in-Some-split_first_mut.ensures.cases.0 in
-    let at : c.place_part.result ≡ place cmp (Included key) c.args.parts.now = search rules in
+    let at : c.place_part.result ≡ first_chunk_from cmp (Included key) c.args.parts.now = search rules in
     let in_front : All (λ e. entry_from cmp (Included e.key) (joined front) ≡ None) es =
-    front_past order front (part ∷ rest) es key c.requires.ascend (λ d. ap (λ (e : Edit _ _). e.key) (c.in-Some.ensures.item.4 (omega arith) d)) (omega (arith, c.split_at_mut-rest.ensures.front_len, c.min-index.ensures, at, ap (place cmp (Included key)) whole)) in
+    front_past order front (part ∷ rest) es key c.requires.ascend (λ d. ap (λ (e : Edit _ _). e.key) (c.in-Some.ensures.item.4 (omega arith) d)) (omega (arith, c.split_at_mut-rest.ensures.front_len, c.min-index.ensures, at, ap (first_chunk_from cmp (Included key)) whole)) in
     let all : take r es ++ drop r es ≡ es = take-append-drop r es in
     edited_chunks order (were_made result) front part c.change_from_part.new.part rest c.change_from_part.new.rest (take r es) (drop r es)
-    (subst (Ascend cmp) (sym all) c.requires.ascend)
+    (subst (KeysAscend cmp) (sym all) c.requires.ascend)
     (subst (All (λ e. entry_from cmp (Included e.key) (joined front) ≡ None)) (sym all) in_front)
     c.run_of_part.ensures.run
-    (subst (λ (x : Held _ _). All (λ e. entry_from cmp (Included e.key) x.pairs ≡ None) (drop r es)) c.deref.ensures c.run_of_part.ensures.rest)
+    (subst (λ (x : Buffer _ _). All (λ e. entry_from cmp (Included e.key) x.pairs ≡ None) (drop r es)) c.deref.ensures c.run_of_part.ensures.rest)
     (c.change_from_part.ensures.part ∙ ap (λ mine. if_made result (entered_all cmp part.value.pairs mine) part.value.pairs) c.split_at.ensures.front)
     (c.change_from_part.ensures.rest ∙ ap (λ later. if_made result (entered_all cmp (joined rest) later) (joined rest)) c.split_at.ensures.back)
     ∙ (λ i. if_made result (entered_all cmp (joined (sym whole i)) (all i)) (joined (sym whole i)))
@@ -96,7 +96,7 @@ change_chunks-run_of-requires-clause-sorted g t c =
     let chunk = c.in-Some-split_first_mut.chunk.now in
     let rest = c.in-Some-split_first_mut.rest.now in
     let whole : c.args.chunks.now ≡ front ++ chunk ∷ rest = c.split_at_mut-rest.ensures.value ∙ ap (λ back. front ++ back) c.in-Some-split_first_mut.ensures.cases.0 in
-    subst (λ (x : Held _ _). T (is_sorted cmp (x.pairs ++ joined rest))) (sym c.deref.ensures) (sorted_behind cmp front chunk rest (subst (λ cs. T (is_sorted cmp (joined cs))) whole c.requires.sorted))
+    subst (λ (x : Buffer _ _). T (is_sorted cmp (x.pairs ++ joined rest))) (sym c.deref.ensures) (sorted_behind cmp front chunk rest (subst (λ cs. T (is_sorted cmp (joined cs))) whole c.requires.sorted))
 
 pub change_chunks-change_from-requires : goal.change_chunks-change_from-requires
 change_chunks-change_from-requires g t c =
@@ -118,7 +118,7 @@ change_chunks-change_from-requires g t c =
             (
               search rules,
               (
-                subst (Ascend cmp) (sym c.split_at.ensures.back) (ascend_drop cmp c.args.edits.now c.run_of.result c.requires.ascend),
+                subst (KeysAscend cmp) (sym c.split_at.ensures.back) (ascend_drop cmp c.args.edits.now c.run_of.result c.requires.ascend),
                 (sorted_left cmp chunk.value.pairs (joined rest) sorted, (sorted_right cmp chunk.value.pairs (joined rest) sorted, (sized.0, (sized.1, (c.requires.behind, (c.requires.parts, (c.requires.filled, c.requires.then))))))),
               ),
             ),
@@ -147,15 +147,15 @@ change_chunks-returns-clause-joined g t c =
     let rest = c.in-Some-split_first_mut.rest.now in
     let result = c.change_from.result in
     let whole : c.args.chunks.now ≡ front ++ chunk ∷ rest = c.split_at_mut-rest.ensures.value ∙ ap (λ back. front ++ back) c.in-Some-split_first_mut.ensures.cases.0 in
-    let at : c.place.result ≡ place cmp (Included key) c.args.chunks.now = search rules in
+    let at : c.place.result ≡ first_chunk_from cmp (Included key) c.args.chunks.now = search rules in
     let in_front : All (λ e. entry_from cmp (Included e.key) (joined front) ≡ None) es =
-    front_past order front (chunk ∷ rest) es key c.requires.ascend (λ d. ap (λ (e : Edit _ _). e.key) (c.in-Some.ensures.item.4 (omega arith) d)) (omega (arith, c.split_at_mut-rest.ensures.front_len, c.min-index.ensures, at, ap (place cmp (Included key)) whole)) in
+    front_past order front (chunk ∷ rest) es key c.requires.ascend (λ d. ap (λ (e : Edit _ _). e.key) (c.in-Some.ensures.item.4 (omega arith) d)) (omega (arith, c.split_at_mut-rest.ensures.front_len, c.min-index.ensures, at, ap (first_chunk_from cmp (Included key)) whole)) in
     let all : take r es ++ drop r es ≡ es = take-append-drop r es in
     edited_chunks order (were_made result) front chunk c.change_from.new.chunk rest c.change_from.new.rest (take r es) (drop r es)
-    (subst (Ascend cmp) (sym all) c.requires.ascend)
+    (subst (KeysAscend cmp) (sym all) c.requires.ascend)
     (subst (All (λ e. entry_from cmp (Included e.key) (joined front) ≡ None)) (sym all) in_front)
     c.run_of.ensures.run
-    (subst (λ (x : Held _ _). All (λ e. entry_from cmp (Included e.key) x.pairs ≡ None) (drop r es)) c.deref.ensures c.run_of.ensures.rest)
+    (subst (λ (x : Buffer _ _). All (λ e. entry_from cmp (Included e.key) x.pairs ≡ None) (drop r es)) c.deref.ensures c.run_of.ensures.rest)
     (c.change_from.ensures.chunk ∙ ap (λ mine. if_made result (entered_all cmp chunk.value.pairs mine) chunk.value.pairs) c.split_at.ensures.front)
     (c.change_from.ensures.rest ∙ ap (λ later. if_made result (entered_all cmp (joined rest) later) (joined rest)) c.split_at.ensures.back)
     ∙ (λ i. if_made result (entered_all cmp (joined (sym whole i)) (all i)) (joined (sym whole i)))
@@ -168,9 +168,9 @@ change_from-returns-in-Ok-true-clause-size g t c =
     let mine = c.args.mine.now in
     let lent : (c.make_mut.follows.lender c.write.new.self).value ≡ c.write.new.self = search rules in
     let before : c.reserve.new.self.pairs ≡ old = c.reserve.ensures.pairs ∙ same_pairs c.args.chunk.now.value c.in_ok-chunk.chunk.now c.in_ok-chunk.ensures.value in
-    let made : (c.make_mut.follows.lender c.write.new.self).value.pairs ≡ entered_all cmp old mine = ap (λ (x : Held _ _). x.pairs) lent ∙ c.write.ensures.pairs ∙ ap (λ es. entered_all cmp es mine) before in
-    let len : c.len.result ≡ length old = c.len.ensures ∙ ap (λ (x : Held _ _). length x.pairs) c.deref.ensures in
-    let len_too : c.len-else-len-mine.result ≡ length old = c.len-else-len-mine.ensures ∙ ap (λ (x : Held _ _). length x.pairs) c.deref-else-len-mine.ensures in
+    let made : (c.make_mut.follows.lender c.write.new.self).value.pairs ≡ entered_all cmp old mine = ap (λ (x : Buffer _ _). x.pairs) lent ∙ c.write.ensures.pairs ∙ ap (λ es. entered_all cmp es mine) before in
+    let len : c.len.result ≡ length old = c.len.ensures ∙ ap (λ (x : Buffer _ _). length x.pairs) c.deref.ensures in
+    let len_too : c.len-else-len-mine.result ≡ length old = c.len-else-len-mine.ensures ∙ ap (λ (x : Buffer _ _). length x.pairs) c.deref-else-len-mine.ensures in
     let fewer : length mine < length old = omega (arith, c.if-len-mine.false, len) in
     let room : length old + length mine ≤ 256 = omega (arith, c.if-mine-len.false, len_too, c.requires.size.1) in
     subst IsSized (sym made) (sized_still order old mine c.requires.chunk fewer room)
@@ -198,10 +198,10 @@ change_from_part-returns-clause-part_filled g t c =
     let old = c.part.inside.chunks.items in
     let new = c.change_chunks.new.chunks in
     let written : (with_items c.part.inside.chunks new).items ≡ new = with_items_is c.part.inside.chunks new (omega (arith, c.change_chunks.auto.chunks, c.as_mut_slice.ensures.len)) in
-    let now : Held _ _ = record { pairs = joined (with_items c.part.inside.chunks new).items; room = 0 } in
+    let now : Buffer _ _ = record { pairs = joined (with_items c.part.inside.chunks new).items; room = 0 } in
     let lent : (c.make_mut.follows.lender now).value ≡ now = search rules in
     let some : 1 ≤ length new = omega (arith, c.change_chunks.auto.chunks, ap length c.as_mut_slice.ensures.value, c.part.invariant.2) in
-    subst IsFilled (sym (ap (λ (x : Held _ _). x.pairs) lent ∙ ap joined written)) (joined_filled new (sized_filled new c.change_chunks.ensures.sized) some)
+    subst IsNotEmpty (sym (ap (λ (x : Buffer _ _). x.pairs) lent ∙ ap joined written)) (joined_filled new (sized_filled new c.change_chunks.ensures.sized) some)
 
 pub change_from_part-returns-clause-part : goal.change_from_part-returns-clause-part
 change_from_part-returns-clause-part g t c =
@@ -213,7 +213,7 @@ change_from_part-returns-clause-part g t c =
     let written : (with_items c.part.inside.chunks new).items ≡ new = with_items_is c.part.inside.chunks new (omega (arith, c.change_chunks.auto.chunks, c.as_mut_slice.ensures.len)) in
     let made : joined new ≡ if_made result (entered_all cmp (joined old) mine) (joined old) =
     c.change_chunks.ensures.joined ∙ ap (λ cs. if_made result (entered_all cmp (joined cs) mine) (joined cs)) c.as_mut_slice.ensures.value in
-    let now : Held _ _ = record { pairs = joined (with_items c.part.inside.chunks new).items; room = 0 } in
+    let now : Buffer _ _ = record { pairs = joined (with_items c.part.inside.chunks new).items; room = 0 } in
     let lent : (c.make_mut.follows.lender now).value ≡ now = search rules in
     let before : joined old ≡ c.args.part.now.value.pairs = (λ i. (c.part.view_is i).pairs) ∙ same_pairs c.args.part.now.value c.in_ok-part.part.now c.in_ok-part.ensures.value in
-    ap (λ (x : Held _ _). x.pairs) lent ∙ ap joined written ∙ made ∙ ap (λ es. if_made result (entered_all cmp es mine) es) before
+    ap (λ (x : Buffer _ _). x.pairs) lent ∙ ap joined written ∙ made ∙ ap (λ es. if_made result (entered_all cmp es mine) es) before

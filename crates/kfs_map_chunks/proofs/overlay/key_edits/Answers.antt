@@ -1,11 +1,11 @@
 use Rattle.std.proofs.Common.{sym, ap, subst, ◌∙◌}
-use Rattle.kfs_map_chunks.specs.Edits.{edited, Ascend}
+use Rattle.kfs_map_chunks.specs.Edits.{edited, KeysAscend}
 use Rattle.kfs_map_chunks.proofs.Overlays.{key_edits_ascend, key_edits_say}
 use Rattle.kfs_map_chunks.proofs.overlay.key_edits.Goals as goal
 
 pub returns-clause-ascend : goal.returns-clause-ascend
 returns-clause-ascend g c =
-    subst (Ascend g.K.Ord.cmp) (sym c.in_ok-list_keys.ensures.edits) (key_edits_ascend g.K.Ord.cmp c.args.overlay.now.latest.entries c.list_keys.ensures.ordered)
+    subst (KeysAscend g.K.Ord.cmp) (sym c.in_ok-list_keys.ensures.edits) (key_edits_ascend g.K.Ord.cmp c.args.overlay.now.latest.entries c.list_keys.ensures.ordered)
 
 pub returns-clause-said : goal.returns-clause-said
 returns-clause-said g c = λ q there.

@@ -2,7 +2,7 @@ use Rattle.std.proofs.Common.{◌≡◌, ◌∷◌, ◌++◌, [], ◌∙◌, T, 
 use Rattle.std.proofs.lemmas.List.{append_assoc, nil_from_length}
 use Rattle.std.specs.declared.ops.Bound.TheVariants.{Included}
 use Rattle.std.specs.FinMap.Entries.{is_sorted, below_all}
-use Rattle.kfs_map_chunks.specs.Edits.{entered_all, Ascend}
+use Rattle.kfs_map_chunks.specs.Edits.{entered_all, KeysAscend}
 use Rattle.kfs_map_chunks.specs.Joined.{joined, IsSized, AreSized}
 use Rattle.kfs_map_chunks.specs.Starts.{entry_from}
 use Rattle.kfs_map_chunks.proofs.Order.{ascend_drop}
@@ -27,14 +27,14 @@ loop-chunk-preserved g c =
     subst (λ held. All (λ e. entry_from g.K.Ord.cmp (Included e.key) held.pairs ≡ None) others) c.deref.ensures
     (subst (λ es. All (λ e. entry_from g.K.Ord.cmp (Included e.key) c.deref.result.now.pairs ≡ None) es) (sym c.split_at.ensures.back) c.run_of.ensures.rest) in
     record {
-      ascend = subst (λ es. Ascend g.K.Ord.cmp es) (sym c.split_at.ensures.back) (ascend_drop g.K.Ord.cmp c.loop-chunk.later.now c.run_of.result c.loop-chunk.invariant.ascend);
+      ascend = subst (λ es. KeysAscend g.K.Ord.cmp es) (sym c.split_at.ensures.back) (ascend_drop g.K.Ord.cmp c.loop-chunk.later.now c.run_of.result c.loop-chunk.invariant.ascend);
       sorted = sorted_right g.K.Ord.cmp es (joined rest) sorted;
       left = sized.1;
       sized = c.in_ok-push.ensures.sized;
       joined =
           ap (λ done. done ++ entered_all g.K.Ord.cmp (joined rest) others) c.in_ok-push.ensures.joined
           ∙ append_assoc (joined c.loop-chunk.new.items) (entered_all g.K.Ord.cmp es mine) (entered_all g.K.Ord.cmp (joined rest) others)
-          ∙ ap (λ more. joined c.loop-chunk.new.items ++ more) (sym (parts_edited order es (joined rest) mine others (subst (λ es. Ascend g.K.Ord.cmp es) edits c.loop-chunk.invariant.ascend) below none))
+          ∙ ap (λ more. joined c.loop-chunk.new.items ++ more) (sym (parts_edited order es (joined rest) mine others (subst (λ es. KeysAscend g.K.Ord.cmp es) edits c.loop-chunk.invariant.ascend) below none))
           ∙ (λ i. joined c.loop-chunk.new.items ++ entered_all g.K.Ord.cmp (joined (sym whole i)) (sym edits i))
           ∙ c.loop-chunk.invariant.joined;
     }

@@ -1,7 +1,7 @@
 use Rattle.std.proofs.Common.{rules, ◌≡◌, ◌≤◌, ◌∙◌, ◌++◌, ◌∷◌, [], T, length, ap, sym, subst}
 use Rattle.std.proofs.lemmas.List.{append_assoc, append-nil, nil_from_length}
 use Rattle.std.specs.FinMap.Entries.{is_sorted}
-use Rattle.kfs_map_chunks.specs.Joined.{joined, IsSized, IsFilled, AreSized, AreFilled}
+use Rattle.kfs_map_chunks.specs.Joined.{joined, IsSized, IsNotEmpty, AreSized, AreFilled}
 use Rattle.kfs_map_chunks.proofs.Parts.{joined-append, joined_filled, sized_filled, sorted_left, sorted_right, each_left, each_right}
 use Rattle.kfs_map_chunks.proofs.Recut.{joined-push, each-push}
 use Rattle.kfs_map_chunks.proofs.rebuilt_parts.cut_parts.Goals as goal
@@ -31,11 +31,11 @@ loop-left-preserved g c =
     let items : c.push.new.self.items ≡ new ++ part ∷ [] = c.in_ok-push.ensures.items in
     let value : part.value.pairs ≡ joined mine = ap (λ held. held.pairs) c.in_ok-new.ensures.ok ∙ c.in_ok-part.ensures in
     let least : 1 ≤ length mine = search rules in
-    let filled : IsFilled (joined mine) = joined_filled mine (sized_filled mine (each_left IsSized mine rest (subst AreSized whole c.loop-left.invariant.sized))) least in
+    let filled : IsNotEmpty (joined mine) = joined_filled mine (sized_filled mine (each_left IsSized mine rest (subst AreSized whole c.loop-left.invariant.sized))) least in
     record {
       sorted = sorted_right g.K.Ord.cmp (joined mine) (joined rest) (subst (λ es. T (is_sorted g.K.Ord.cmp es)) both c.loop-left.invariant.sorted);
       sized = each_right IsSized mine rest (subst AreSized whole c.loop-left.invariant.sized);
-      filled = subst AreFilled (sym items) (each-push IsFilled new part c.loop-left.invariant.filled (subst IsFilled (sym value) filled));
+      filled = subst AreFilled (sym items) (each-push IsNotEmpty new part c.loop-left.invariant.filled (subst IsNotEmpty (sym value) filled));
       joined =
           ap (λ all. joined all ++ joined rest) items
           ∙ ap (λ es. es ++ joined rest) (joined-push new part)

@@ -1,12 +1,12 @@
 use Rattle.std.proofs.Common.{◌≡◌, ◌++◌, T, length}
 use Rattle.std.specs.FinMap.Entries.{is_sorted}
-use Rattle.kfs_map_chunks.specs.Edits.{entered_all, Ascend}
+use Rattle.kfs_map_chunks.specs.Edits.{entered_all, KeysAscend}
 use Rattle.kfs_map_chunks.specs.Joined.{joined, AreFilled}
 use Rattle.kfs_map_chunks.proofs.rebuilt_parts.rebuilt_parts.Given as goal
 
 abbrev pub invariant-loop-part : goal.invariant-loop-part
 invariant-loop-part g l = record {
-  ascend : Ascend g.K.Ord.cmp l.later;
+  ascend : KeysAscend g.K.Ord.cmp l.later;
   sorted : T (is_sorted g.K.Ord.cmp (joined l.left));
   left : AreFilled l.left;
   filled : AreFilled l.new.items;

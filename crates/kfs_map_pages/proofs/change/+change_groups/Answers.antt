@@ -7,9 +7,9 @@ use Rattle.kfs_model.specs.Table.{get}
 use Rattle.kfs_map_pages.specs.declared.edit.Edit.{Edit}
 use Rattle.kfs_map_pages.specs.declared.group.Group.{Group}
 use Rattle.kfs_map_pages.specs.Values.{Sheet}
-use Rattle.kfs_map_pages.specs.Edits.{page_of, edited, Ascends, IsWithin, IsOfPage}
-use Rattle.kfs_map_pages.specs.Groups.{held, all_held, pages_of, flat, AreWhole}
-use Rattle.kfs_map_pages.specs.Shown.{slot_shows, Edited, IsPlaced, Stands}
+use Rattle.kfs_map_pages.specs.Edits.{page_of, edited, Ascends, EditsAreWithin, IsOfPage}
+use Rattle.kfs_map_pages.specs.Groups.{held, all_held, pages_of, flat, GroupsAreWhole}
+use Rattle.kfs_map_pages.specs.Shown.{slot_shows, Edited, AreIndexedFrom, HasIndex}
 use Rattle.kfs_map_pages.proofs.Tables.{edited_behind, edited_page, placed_front, placed_again}
 use Rattle.kfs_map_pages.proofs.Groups.{held_append, length-held, whole_front, whole_back, whole_both}
 use Rattle.kfs_map_pages.proofs.Rest.{placed_groups, groups_again, edited_groups, placed_pages, pages_again, edited_pages}
@@ -43,9 +43,9 @@ change_groups-change_group-requires g t c =
     let all : c.args.groups.now ≡ front ++ group ∷ rest = c.split_at_mut-rest.ensures.value ∙ ap (λ back. front ++ back) c.in-Some-split_first_mut.ensures.cases.0 in
     let here : c.args.first + length front ≡ index =
     omega (arith, c.split_at_mut-rest.ensures.front_len, c.page_of-index.ensures, ap (λ (e : Edit _). page_of e.number) (c.in-Some.ensures.item.4 (omega arith) c.in-Some.edit.now), (c.requires.within 0 c.in-Some.edit.now c.in-Some.ensures.item.3.0).1) in
-    let apart : AreWhole (all_held front ++ all_held (group ∷ rest)) = subst AreWhole (ap all_held all ∙ held_append front (group ∷ rest)) c.requires.whole in
+    let apart : GroupsAreWhole (all_held front ++ all_held (group ∷ rest)) = subst GroupsAreWhole (ap all_held all ∙ held_append front (group ∷ rest)) c.requires.whole in
     let whole = whole_back (all_held front) (all_held (group ∷ rest)) apart in
-    let within : IsWithin (32 * index) (32 * (index + 1 + length rest)) c.args.edits.now =
+    let within : EditsAreWithin (32 * index) (32 * (index + 1 + length rest)) c.args.edits.now =
     λ k d below.
     let its = c.requires.within k d below in (
       its.0,
@@ -71,7 +71,7 @@ change_groups-change_group-requires g t c =
                     (
                       whole.1,
                       (
-                        placed_groups front (group ∷ rest) c.args.first index (whole_front (all_held front) (all_held (group ∷ rest)) apart) here (subst (λ groups. IsPlaced (32 * c.args.first) (flat (all_held groups))) all c.requires.placed),
+                        placed_groups front (group ∷ rest) c.args.first index (whole_front (all_held front) (all_held (group ∷ rest)) apart) here (subst (λ groups. AreIndexedFrom (32 * c.args.first) (flat (all_held groups))) all c.requires.placed),
                         c.requires.then,
                       ),
                     ),
@@ -91,8 +91,8 @@ change_groups-returns-clause-whole g t c =
     let rest = c.in-Some-split_first_mut.rest.now in
     let all : c.args.groups.now ≡ front ++ group ∷ rest = c.split_at_mut-rest.ensures.value ∙ ap (λ back. front ++ back) c.in-Some-split_first_mut.ensures.cases.0 in
     let news = c.change_group.new.slot ∷ c.change_group.new.rest in
-    subst AreWhole (sym (held_append front news))
-    (whole_both (all_held front) (all_held news) (whole_front (all_held front) (all_held (group ∷ rest)) (subst AreWhole (ap all_held all ∙ held_append front (group ∷ rest)) c.requires.whole)) (c.change_group.ensures.group, c.change_group.ensures.whole))
+    subst GroupsAreWhole (sym (held_append front news))
+    (whole_both (all_held front) (all_held news) (whole_front (all_held front) (all_held (group ∷ rest)) (subst GroupsAreWhole (ap all_held all ∙ held_append front (group ∷ rest)) c.requires.whole)) (c.change_group.ensures.group, c.change_group.ensures.whole))
 
 pub change_groups-returns-clause-placed : goal.change_groups-returns-clause-placed
 change_groups-returns-clause-placed g t c =
@@ -103,8 +103,8 @@ change_groups-returns-clause-placed g t c =
     let all : c.args.groups.now ≡ front ++ group ∷ rest = c.split_at_mut-rest.ensures.value ∙ ap (λ back. front ++ back) c.in-Some-split_first_mut.ensures.cases.0 in
     let here : c.args.first + length front ≡ index =
     omega (arith, c.split_at_mut-rest.ensures.front_len, c.page_of-index.ensures, ap (λ (e : Edit _). page_of e.number) (c.in-Some.ensures.item.4 (omega arith) c.in-Some.edit.now), (c.requires.within 0 c.in-Some.edit.now c.in-Some.ensures.item.3.0).1) in
-    let whole = whole_front (all_held front) (all_held (group ∷ rest)) (subst AreWhole (ap all_held all ∙ held_append front (group ∷ rest)) c.requires.whole) in
-    groups_again front (group ∷ rest) (c.change_group.new.slot ∷ c.change_group.new.rest) c.args.first index whole here (subst (λ groups. IsPlaced (32 * c.args.first) (flat (all_held groups))) all c.requires.placed) c.change_group.ensures.placed
+    let whole = whole_front (all_held front) (all_held (group ∷ rest)) (subst GroupsAreWhole (ap all_held all ∙ held_append front (group ∷ rest)) c.requires.whole) in
+    groups_again front (group ∷ rest) (c.change_group.new.slot ∷ c.change_group.new.rest) c.args.first index whole here (subst (λ groups. AreIndexedFrom (32 * c.args.first) (flat (all_held groups))) all c.requires.placed) c.change_group.ensures.placed
 
 pub change_groups-returns-clause-ok : goal.change_groups-returns-clause-ok
 change_groups-returns-clause-ok g t c =
@@ -117,7 +117,7 @@ change_groups-returns-clause-ok g t c =
     let all : c.args.groups.now ≡ front ++ group ∷ rest = c.split_at_mut-rest.ensures.value ∙ ap (λ back. front ++ back) c.in-Some-split_first_mut.ensures.cases.0 in
     let here : c.args.first + length front ≡ index =
     omega (arith, c.split_at_mut-rest.ensures.front_len, c.page_of-index.ensures, ap (λ (e : Edit _). page_of e.number) (c.in-Some.ensures.item.4 (omega arith) c.in-Some.edit.now), (c.requires.within 0 c.in-Some.edit.now c.in-Some.ensures.item.3.0).1) in
-    let whole = whole_front (all_held front) (all_held (group ∷ rest)) (subst AreWhole (ap all_held all ∙ held_append front (group ∷ rest)) c.requires.whole) in
+    let whole = whole_front (all_held front) (all_held (group ∷ rest)) (subst GroupsAreWhole (ap all_held all ∙ held_append front (group ∷ rest)) c.requires.whole) in
     let away : All (λ e. 32 * index ≤ page_of e.number) es =
     λ k d below. omega (arith, c.page_of-index.ensures, ap (λ (e : Edit _). page_of e.number) (c.in-Some.ensures.item.4 (omega arith) d), c.requires.ascends 0 k d (omega arith) below) in
     where_ok c.change_group.result (λ made. subst (λ groups. Edited (32 * c.args.first) es (flat (all_held groups)) (flat (all_held (front ++ news)))) (sym all) (edited_groups front (group ∷ rest) news c.args.first index es whole here away made)) c.change_group.ensures.ok
@@ -132,7 +132,7 @@ change_groups-returns-clause-err g t c =
     let all : c.args.groups.now ≡ front ++ group ∷ rest = c.split_at_mut-rest.ensures.value ∙ ap (λ back. front ++ back) c.in-Some-split_first_mut.ensures.cases.0 in
     let here : c.args.first + length front ≡ index =
     omega (arith, c.split_at_mut-rest.ensures.front_len, c.page_of-index.ensures, ap (λ (e : Edit _). page_of e.number) (c.in-Some.ensures.item.4 (omega arith) c.in-Some.edit.now), (c.requires.within 0 c.in-Some.edit.now c.in-Some.ensures.item.3.0).1) in
-    let whole = whole_front (all_held front) (all_held (group ∷ rest)) (subst AreWhole (ap all_held all ∙ held_append front (group ∷ rest)) c.requires.whole) in
+    let whole = whole_front (all_held front) (all_held (group ∷ rest)) (subst GroupsAreWhole (ap all_held all ∙ held_append front (group ∷ rest)) c.requires.whole) in
     where_err c.change_group.result
     (λ kept. subst (λ groups. Edited (32 * c.args.first) [] (flat (all_held groups)) (flat (all_held (front ++ news)))) (sym all) (edited_groups front (group ∷ rest) news c.args.first index [] whole here (λ k d below. omega (arith, below)) kept)) c.change_group.ensures.err
 
@@ -161,7 +161,7 @@ change_group-change_pages-requires g t c =
               c.requires.ascends,
               (
                 c.requires.within,
-                (omega (arith, count), (c.requires.end, (c.requires.whole, (subst (λ first. IsPlaced (32 * c.args.index) (first ++ flat (all_held c.args.rest.now))) (sym before) c.requires.placed, c.requires.then)))),
+                (omega (arith, count), (c.requires.end, (c.requires.whole, (subst (λ first. AreIndexedFrom (32 * c.args.index) (first ++ flat (all_held c.args.rest.now))) (sym before) c.requires.placed, c.requires.then)))),
               ),
             ),
           ),
@@ -186,7 +186,7 @@ change_group-returns-clause-placed g t c =
     let group : Group _ _ = record { pages = with_items c.in_ok-group.group.now.pages new } in
     let written : (c.make_mut.follows.lender group).value.pages.items ≡ new =
     ap (λ (x : Group _ _). x.pages.items) (c.make_mut.follows.holds group (ap is_ok c.in_ok-group.was)) ∙ with_items_is c.in_ok-group.group.now.pages new (omega (arith, c.change_pages.auto.pages, c.as_mut_slice-pages.ensures.len)) in
-    subst (λ pages. IsPlaced (32 * c.args.index) (all_held pages ++ flat (all_held c.change_pages.new.groups))) (sym written) c.change_pages.ensures.placed
+    subst (λ pages. AreIndexedFrom (32 * c.args.index) (all_held pages ++ flat (all_held c.change_pages.new.groups))) (sym written) c.change_pages.ensures.placed
 
 pub change_group-returns-clause-ok : goal.change_group-returns-clause-ok
 change_group-returns-clause-ok g t c =
@@ -224,7 +224,7 @@ change_pages-change_groups-requires g t c =
     let pages = c.args.pages.now in
     let behind = flat (all_held c.args.groups.now) in
     let edge : c.args.first + length (all_held pages) ≡ 32 * c.args.next = omega (arith, c.requires.edge, length-held pages) in
-    let within : IsWithin (32 * c.args.next) (32 * (c.args.next + length c.args.groups.now)) c.args.edits.now =
+    let within : EditsAreWithin (32 * c.args.next) (32 * (c.args.next + length c.args.groups.now)) c.args.edits.now =
     λ k d below.
     let its = c.requires.within k d below in
     (its.0, omega (arith, c.if-index-next.true, c.page_of-index.ensures, ap (λ (e : Edit _). page_of e.number) (c.in-Some.ensures.item.4 (omega arith) d), c.requires.ascends 0 k d (omega arith) below), its.2) in
@@ -232,7 +232,7 @@ change_pages-change_groups-requires g t c =
       omega arith,
       (
         search rules,
-        (search rules, (search rules, (c.requires.ascends, (within, (c.requires.end, (c.requires.whole, (subst (λ k. IsPlaced k behind) edge (placed_front (all_held pages) behind c.args.first c.requires.placed), c.requires.then))))))),
+        (search rules, (search rules, (c.requires.ascends, (within, (c.requires.end, (c.requires.whole, (subst (λ k. AreIndexedFrom k behind) edge (placed_front (all_held pages) behind c.args.first c.requires.placed), c.requires.then))))))),
       ),
     )
 
@@ -241,7 +241,7 @@ change_pages-returns-then-index-next-clause-placed g t c =
     let pages = c.args.pages.now in
     let after = flat (all_held c.change_groups.new.groups) in
     let edge : 32 * c.args.next ≡ c.args.first + length (all_held pages) = omega (arith, c.requires.edge, length-held pages) in
-    placed_again (all_held pages) (flat (all_held c.args.groups.now)) after c.args.first c.requires.placed (subst (λ k. IsPlaced k after) edge c.change_groups.ensures.placed)
+    placed_again (all_held pages) (flat (all_held c.args.groups.now)) after c.args.first c.requires.placed (subst (λ k. AreIndexedFrom k after) edge c.change_groups.ensures.placed)
 
 pub change_pages-returns-then-index-next-clause-ok : goal.change_pages-returns-then-index-next-clause-ok
 change_pages-returns-then-index-next-clause-ok g t c =
@@ -279,11 +279,11 @@ change_pages-change_from-requires g t c =
     let all : c.args.pages.now ≡ front ++ page ∷ rest = c.split_at_mut-rest.ensures.value ∙ ap (λ back. front ++ back) c.in-Some-split_first_mut.ensures.cases.0 in
     let here : c.args.first + length front ≡ index =
     omega (arith, c.split_at_mut-rest.ensures.front_len, c.page_of-index.ensures, ap (λ (e : Edit _). page_of e.number) (c.in-Some.ensures.item.4 (omega arith) c.in-Some.edit.now), (c.requires.within 0 c.in-Some.edit.now c.in-Some.ensures.item.3.0).1) in
-    let placed = placed_pages front (page ∷ rest) behind c.args.first index here (subst (λ pages. IsPlaced c.args.first (all_held pages ++ behind)) all c.requires.placed) in
+    let placed = placed_pages front (page ∷ rest) behind c.args.first index here (subst (λ pages. AreIndexedFrom c.args.first (all_held pages ++ behind)) all c.requires.placed) in
     let mine : All (IsOfPage index) c.split_at.result.0.now =
     subst (All (IsOfPage index)) (sym c.split_at.ensures.front) (λ k d below. (omega (arith, ap (λ (e : Edit _). e.number) (get_or-take r es k d (omega (arith, below, length-take r es))), (c.requires.within k d (omega (arith, below, length-take r es, c.run_of.ensures.within))).0), c.run_of.ensures.run k d below)) in
-    let later : IsWithin (index + 1) end c.split_at.result.1.now =
-    subst (IsWithin (index + 1) end) (sym c.split_at.ensures.back) (λ k d below.
+    let later : EditsAreWithin (index + 1) end c.split_at.result.1.now =
+    subst (EditsAreWithin (index + 1) end) (sym c.split_at.ensures.back) (λ k d below.
     let its = c.requires.within (r + k) d (omega (arith, below, length-drop r es)) in
     let same = get_or-drop r es k d in
     (omega (arith, ap (λ (e : Edit _). e.number) same, its.0), c.run_of.ensures.rest k d below, omega (arith, ap (λ (e : Edit _). page_of e.number) same, its.2))) in
@@ -320,7 +320,7 @@ change_pages-returns-clause-placed g t c =
     let all : c.args.pages.now ≡ front ++ page ∷ rest = c.split_at_mut-rest.ensures.value ∙ ap (λ back. front ++ back) c.in-Some-split_first_mut.ensures.cases.0 in
     let here : c.args.first + length front ≡ index =
     omega (arith, c.split_at_mut-rest.ensures.front_len, c.page_of-index.ensures, ap (λ (e : Edit _). page_of e.number) (c.in-Some.ensures.item.4 (omega arith) c.in-Some.edit.now), (c.requires.within 0 c.in-Some.edit.now c.in-Some.ensures.item.3.0).1) in
-    pages_again front (page ∷ rest) (c.change_from.new.slot ∷ c.change_from.new.rest) behind (flat (all_held c.change_from.new.groups)) c.args.first index here (subst (λ pages. IsPlaced c.args.first (all_held pages ++ behind)) all c.requires.placed)
+    pages_again front (page ∷ rest) (c.change_from.new.slot ∷ c.change_from.new.rest) behind (flat (all_held c.change_from.new.groups)) c.args.first index here (subst (λ pages. AreIndexedFrom c.args.first (all_held pages ++ behind)) all c.requires.placed)
     (c.change_from.ensures.stands, c.change_from.ensures.placed)
 
 pub change_pages-returns-clause-ok : goal.change_pages-returns-clause-ok
@@ -394,7 +394,7 @@ change_from-returns-in_err-page-clause-page_err g t c =
 pub change_from-returns-then-is_ok-clause-stands : goal.change_from-returns-then-is_ok-clause-stands
 change_from-returns-then-is_ok-clause-stands g t c =
     let written = c.make_mut.follows.holds c.write.new.self (ap is_ok c.in_ok-page.was) ∙ c.write.ensures.sheet in
-    ap (λ (s : Sheet _). s.index) written ∙ ap (λ (s : Sheet _). s.index) (same_page c.in_ok-page.ensures.value) ∙ subst (λ slot. Stands c.args.index (held slot)) c.in-Some.is c.found.ensures.stands
+    ap (λ (s : Sheet _). s.index) written ∙ ap (λ (s : Sheet _). s.index) (same_page c.in_ok-page.ensures.value) ∙ subst (λ slot. HasIndex c.args.index (held slot)) c.in-Some.is c.found.ensures.stands
 
 pub change_from-returns-then-is_ok-clause-page : goal.change_from-returns-then-is_ok-clause-page
 change_from-returns-then-is_ok-clause-page g t c =

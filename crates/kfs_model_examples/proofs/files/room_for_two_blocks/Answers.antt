@@ -7,7 +7,7 @@ use Rattle.kfs_model.specs.Sight.{climb_meets, climbed}
 use Rattle.kfs_model.specs.Lease.{live_at}
 use Rattle.kfs_model.specs.PlanRow.{Piece}
 use Rattle.kfs_model.specs.Check.{fault, checks_of, first_failing}
-use Rattle.kfs_model.specs.Effect.{overwritten, swept, change_of}
+use Rattle.kfs_model.specs.Effect.{overwritten, without_unnamed, change_of}
 use Rattle.kfs_model.specs.Run.{Mark, Zero, Payload, places_from, run_from}
 use Rattle.kfs_model.specs.FirstWrong.{RowFault, Pieces, changed_bytes, first_wrong_row, or_else, wrong_below, missed_by}
 use Rattle.kfs_model.specs.Placement.{written_blocks}
@@ -56,7 +56,7 @@ unfolding get insert retain mapped united changed_bytes first_wrong_row
 right = ap (λ (wrong : Option ℕ). or_else Pieces (elim wrong as (λ _. Option ℕ) [ Some index ↦ Some index | None ↦ missed_by marked_after (piece ∷ []) ]) None) well
 
 replies : (places : ℕ) (reply : Reply) → reply_to (with_room places) (Yes after marked_after) ≡ reply → Replies (with_room places) 7 two_blocks two_blocks_plan reply
-unfolding get insert retain mapped climb_meets climbed live_at fault checks_of first_failing overwritten swept change_of run_from judged
+unfolding get insert retain mapped climb_meets climbed live_at fault checks_of first_failing overwritten without_unnamed change_of run_from judged
 replies places reply e = ap (λ (found : Option RowFault). reply_to (with_room places) (elim found [ None ↦ Yes after marked_after | Some wrong ↦ No (AtRow wrong) ])) right ∙ e
 
 pub returns-clause-no_room : goal.returns-clause-no_room

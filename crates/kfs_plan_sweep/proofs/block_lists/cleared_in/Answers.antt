@@ -5,7 +5,7 @@ use Rattle.kfs_entry_value.specs.declared.plan.Piece.{Piece}
 use Rattle.kfs_entry_value.specs.declared.plan.Source.TheVariants as sources
 use Rattle.kfs_entry_value.specs.Views.{piece_of}
 use Rattle.kfs_plan_sweep.specs.BlockLists.{blocks_between, cleared_from, zeros_start}
-use Rattle.kfs_plan_sweep.specs.Lefts.{IsWhole}
+use Rattle.kfs_plan_sweep.specs.Lefts.{PieceIsInRange}
 use Rattle.kfs_plan_sweep.proofs.Lists.{all_at}
 use Rattle.kfs_plan_sweep.proofs.ListedBlocks.{cleared_row, cleared_rows}
 use Rattle.kfs_plan_sweep.proofs.block_lists.cleared_in.Goals as goal
@@ -38,7 +38,7 @@ loop-index-preserved g c =
             ∙ c.loop-index.invariant.lists
       ];
       begun = elim c.if-not-goes_on_at.branch [ then-not-goes_on_at+in_ok-add_between w ↦ subst (λ n. n ≤ size_limit) (sym w.start-is) w.zeros_start-start.ensures.small | else-not-goes_on_at w ↦ subst (λ n. n ≤ size_limit) (sym w.start-is) c.loop-index.invariant.begun ];
-      ended = (all_at IsWhole pieces c.loop-index.index none c.loop-index-test.true c.requires).start;
+      ended = (all_at PieceIsInRange pieces c.loop-index.index none c.loop-index-test.true c.requires).start;
     }
 
 pub returns : goal.returns

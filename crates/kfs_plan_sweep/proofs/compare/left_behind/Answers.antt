@@ -1,6 +1,6 @@
 use Rattle.std.proofs.Common.{subst, sym, ap, ◌∙◌, drop, map, Some, ◌∷◌}
 use Rattle.std.specs.List.{AllByRecursion}
-use Rattle.kfs_plan_sweep.specs.Lefts.{IsWhole}
+use Rattle.kfs_plan_sweep.specs.Lefts.{PieceIsInRange}
 use Rattle.kfs_entry_value.specs.Views.{piece_of}
 use Rattle.kfs_model.specs.Compare.{behind_piece}
 use Rattle.kfs_plan_sweep.proofs.Following.{left_some, left_none, behind_other, behind_shorter, behind_equal, behind_longer, behind_nothing}
@@ -34,12 +34,12 @@ returns-clause-behind c =
 pub loop-left-preserved : goal.loop-left-preserved
 loop-left-preserved c =
     let is = left_some c.args.right.now c.loop-left.left c.in-Some.front c.in-Some.is in
-    let whole = subst (AllByRecursion IsWhole) is c.loop-left.invariant.short in
+    let whole = subst (AllByRecursion PieceIsInRange) is c.loop-left.invariant.short in
     record {
       behind =
           (λ i. behind_piece (c.cut_front-wanted.ensures i) (map piece_of (c.left_from-left.ensures i)))
           ∙ sym (ap (λ xs. behind_piece (piece_of c.loop-left.wanted) (map piece_of xs)) is
           ∙ behind_longer (piece_of c.loop-left.wanted) (piece_of c.in-Some.front) (map piece_of (drop c.loop-left.left.next c.args.right.now)) (sym c.begin_alike.ensures ∙ c.if-not-begin_alike.false) c.if-wanted-front.false c.if-wanted-front-2.false)
           ∙ c.loop-left.invariant.behind;
-      short = subst (AllByRecursion IsWhole) (sym c.left_from-left.ensures) whole.1;
+      short = subst (AllByRecursion PieceIsInRange) (sym c.left_from-left.ensures) whole.1;
     }

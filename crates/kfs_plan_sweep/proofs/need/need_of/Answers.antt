@@ -7,7 +7,7 @@ use Rattle.kfs_entry_value.specs.Views.{piece_of}
 use Rattle.kfs_entry_value.specs.declared.plan.Piece.{Piece}
 use Rattle.kfs_plan_sweep.specs.Parts.{front_len}
 use Rattle.kfs_plan_sweep.specs.Sizes.{length_after}
-use Rattle.kfs_plan_sweep.specs.Lefts.{IsFilled, IsWhole}
+use Rattle.kfs_plan_sweep.specs.Lefts.{IsFilled, PieceIsInRange}
 use Rattle.kfs_plan_sweep.proofs.FileParts.{Counts, IsLow, counts_first, counts_last, counts_next, front_within, low_next}
 use Rattle.kfs_plan_sweep.proofs.Lists.{all_drop}
 use Rattle.kfs_plan_sweep.proofs.need.need_of.Goals as goal
@@ -45,7 +45,7 @@ loop-first-preserved c =
     c.blocks_written-total.ensures.counts ∙ (λ i. counted 0 (touches (c.size_after.ensures i) 0 (map piece_of (part i)))) in
     record {
       low = subst (IsLow (c.loop-first.total + blocks)) behind (low_next rest first some (sym item.1) c.loop-first.total blocks wide c.blocks_written-total.ensures.few c.loop-first.invariant.low);
-      whole = subst (AllByRecursion IsWhole) behind (all_drop IsWhole (front_len first.number rest) rest c.loop-first.invariant.whole);
+      whole = subst (AllByRecursion PieceIsInRange) behind (all_drop PieceIsInRange (front_len first.number rest) rest c.loop-first.invariant.whole);
       filled = subst (AllByRecursion IsFilled) behind (all_drop IsFilled (front_len first.number rest) rest c.loop-first.invariant.filled);
       counts = subst (Counts c.args.sizes.now c.args.pieces.now (c.loop-first.total + blocks)) behind
           (counts_next rest first some (sym item.1) c.args.sizes.now c.args.pieces.now c.loop-first.total blocks c.loop-first.invariant.low count c.loop-first.invariant.counts);

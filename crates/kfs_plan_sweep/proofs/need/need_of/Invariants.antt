@@ -1,13 +1,13 @@
 use Rattle.std.specs.List.{AllByRecursion}
 use Rattle.std.proofs.Common.{length}
-use Rattle.kfs_plan_sweep.specs.Lefts.{IsFilled, IsWhole}
+use Rattle.kfs_plan_sweep.specs.Lefts.{IsFilled, PieceIsInRange}
 use Rattle.kfs_plan_sweep.proofs.FileParts.{Counts, IsLow}
 use Rattle.kfs_plan_sweep.proofs.need.need_of.Given as goal
 
 abbrev pub invariant-loop-first : goal.invariant-loop-first
 invariant-loop-first l = record {
   low : IsLow l.total l.rest;
-  whole : AllByRecursion IsWhole l.rest;
+  whole : AllByRecursion PieceIsInRange l.rest;
   filled : AllByRecursion IsFilled l.rest;
   counts : Counts l.sizes l.pieces l.total l.rest;
 }

@@ -1,7 +1,7 @@
 -- The one line is a bad line.
 use Rattle.std.proofs.Common.{List, ℕ, [], ◌∷◌, inl, refl, arith}
 use Rattle.std.specs.Prelude.{codes}
-use Rattle.kfs_program_engine.specs.Conversation.{IsText}
+use Rattle.kfs_program_engine.specs.Transcript.{IsText}
 use Rattle.kfs_program_text.specs.Cut.{cut}
 use Rattle.kfs_program_engine.specs.Session.{fresh}
 use Rattle.kfs_program_engine.proofs.examples.write_broken_off.Goals as goal

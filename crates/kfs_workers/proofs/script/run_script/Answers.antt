@@ -1,7 +1,7 @@
 -- What the replies say follows from the run, since the docket is legal and each state on its way is shown.
 use Rattle.std.proofs.Common.{map, option_map, subst}
 use Rattle.kfs_plan.specs.Judging.{submission_of}
-use Rattle.kfs_workers.specs.Script.{IsRun, Runs}
+use Rattle.kfs_workers.specs.Script.{IsRun, DoesSteps}
 use Rattle.kfs_workers.proofs.Claimed.{all_allowed, else_nothing, settled, shows}
 use Rattle.kfs_workers.proofs.script.run_script.Given as given
 use Rattle.kfs_workers.proofs.script.run_script.Goals as goal
@@ -11,7 +11,7 @@ returns-clause-run g c =
     let end = c.end-end in
     record {
       scene = c.make_all.new.scene;
-      runs = subst (λ scene. Runs scene c.args.steps.now c.make_all.new.scene) c.in_ok-scene.ensures.ok c.make_all.ensures;
+      runs = subst (λ scene. DoesSteps scene c.args.steps.now c.make_all.new.scene) c.in_ok-scene.ensures.ok c.make_all.ensures;
       replied = end.ensures.replies;
       remains = end.ensures.left;
       ends = end.ensures.desk;

@@ -10,7 +10,7 @@ use Rattle.kfs_model.specs.Header.{Header}
 use Rattle.kfs_model.specs.Placement.{IsPlacement}
 use Rattle.kfs_model.specs.Table.{Table, numbers, get}
 use Rattle.kfs_model_device.specs.ShownTree.{shown_tree}
-use Rattle.kfs_mode.specs.Clients.{AreDistinct}
+use Rattle.kfs_mode.specs.Clients.{ClientsAreDistinct}
 use Rattle.kfs_desk.specs.Machine.{state_at}
 use Rattle.kfs_desk.specs.Opening.{begin_fault}
 use Rattle.kfs_desk.proofs.Dockets.{desk_opened}
@@ -23,7 +23,7 @@ invariant_of-result g c =
     let lawful = c.shape-shape.ensures.lawful in
     let leases : c.in-Ok.leases.value ≡ no_leases = c.in-Ok.ensures.ok ∙ c.new.ensures in
     let clients = c.deref.ensures.value ∙ ap (λ v. v.items) (sym c.in-Ok-new.ensures.ok) in
-    let distinct = subst AreDistinct clients (at_none c.first_fault.result c.first_fault.ensures.distinct c.unwrap_or-fault.ensures c.in_default.is) in
+    let distinct = subst ClientsAreDistinct clients (at_none c.first_fault.result c.first_fault.ensures.distinct c.unwrap_or-fault.ensures c.in_default.is) in
     let in_range = subst (λ (rows : List Client). AllByRecursion IsClient rows) clients (at_none c.first_fault.result c.first_fault.ensures.in_range c.unwrap_or-fault.ensures c.in_default.is) in
     let opened = opens_in_order c.in-Ok-new.clients.value.items image.sizes (shown_tree image) distinct in_range lawful.tree.sound in
     let in_order = subst (λ held. IsInOrder (state_at image c.in-Ok-new.clients.value.items held)) (sym leases) (record {

@@ -2,7 +2,7 @@
 use Rattle.std.proofs.Common.{Bool, ap, ◌<◌, length, sym, subst, refl, ◌∙◌, arith}
 use Rattle.kfs_model.specs.Machine.{Row}
 use Rattle.kfs_plan.specs.Judging.{submission_of}
-use Rattle.kfs_desk.specs.Landing.{Answers, CanLand}
+use Rattle.kfs_desk.specs.Landing.{AnswersOutcome, CanLand}
 use Rattle.kfs_desk.specs.Machine.{Desk, IsAnswered, IsCurrent, IsDesk, IsStep, Parts, shown, state_at, state_of}
 use Rattle.kfs_desk.proofs.Answered.{IsAnswer, answered, answered_at, answered_desk, can_land, told_of}
 use Rattle.kfs_desk.proofs.desk.Desk.land.Given as given
@@ -22,7 +22,7 @@ add_answer-requires-clause-step g c =
     let submission = submission_of c.args.judged.submission in
     let outcome = c.in_ok-judged.judged.outcome in
     let reply = c.in_ok-reply.reply in
-    let told = subst (λ handed_in. Answers inside.image handed_in.log.items c.len-position.result c.in_ok-judged.rejudged outcome reply c.land.new.image) c.in_ok-judged.ensures.submission c.in_ok-reply.ensures.answer in
+    let told = subst (λ handed_in. AnswersOutcome inside.image handed_in.log.items c.len-position.result c.in_ok-judged.rejudged outcome reply c.land.new.image) c.in_ok-judged.ensures.submission c.in_ok-reply.ensures.answer in
     let desk : Parts = record { image = inside.image; clients = inside.clients.value.items; leases = inside.leases.value; opening = inside.opening; docket = inside.docket; limit = inside.limit } in
     let is : IsAnswer (state_of desk) submission c.in_ok-judged.rejudged c.len-position.result reply (state_at c.land.new.image desk.clients c.land.new.leases.value) =
     answered desk c.self.invariant c.current.ensures.lawful submission c.in_ok-judged.rejudged c.len-position.result outcome reply c.land.new.image c.land.new.leases.value c.in_ok-judged.ensures.verdict told c.in_ok-reply.ensures.leases in
@@ -48,7 +48,7 @@ module _ (g : given.Over) (c : goal.After-drop-before-inside-4 g) where
       let submission = submission_of c.args.judged.submission in
       let outcome = c.in_ok-judged.judged.outcome in
       let reply = c.in_ok-reply.reply in
-      let told = subst (λ handed_in. Answers inside.image handed_in.log.items c.len-position.result c.in_ok-judged.rejudged outcome reply c.land.new.image) c.in_ok-judged.ensures.submission c.in_ok-reply.ensures.answer in
+      let told = subst (λ handed_in. AnswersOutcome inside.image handed_in.log.items c.len-position.result c.in_ok-judged.rejudged outcome reply c.land.new.image) c.in_ok-judged.ensures.submission c.in_ok-reply.ensures.answer in
       answered before c.self.invariant c.current.ensures.lawful submission c.in_ok-judged.rejudged c.len-position.result outcome reply c.land.new.image c.land.new.leases.value c.in_ok-judged.ensures.verdict told c.in_ok-reply.ensures.leases
 
   is_answered : IsAnswered (shown before) (submission_of c.args.judged.submission) c.in_ok-judged.rejudged c.in_ok-reply.reply (shown after)

@@ -2,7 +2,7 @@
 use Rattle.std.proofs.Common.{false, ap, ◌<◌, length, sym, subst, refl, arith}
 use Rattle.kfs_model.specs.Machine.{Row}
 use Rattle.kfs_plan.specs.Judging.{submission_of}
-use Rattle.kfs_desk.specs.Landing.{Answers, CanLand}
+use Rattle.kfs_desk.specs.Landing.{AnswersOutcome, CanLand}
 use Rattle.kfs_desk.specs.Machine.{Desk, IsAnswered, IsDesk, IsStep, Parts, shown, state_at, state_of}
 use Rattle.kfs_desk.proofs.Answered.{IsAnswer, answered, answered_at, answered_desk, can_land, told_of}
 use Rattle.kfs_desk.proofs.desk.Desk.submit.Given as given
@@ -25,7 +25,7 @@ add_answer-requires-clause-step g c =
     let submission = submission_of c.args.submission in
     let outcome = c.in_ok-judged.judged.outcome in
     let reply = c.in_ok-reply.reply in
-    let told = subst (λ handed_in. Answers inside.image handed_in.log.items c.len-position.result false outcome reply c.land.new.image) c.in_ok-judged.ensures.submission c.in_ok-reply.ensures.answer in
+    let told = subst (λ handed_in. AnswersOutcome inside.image handed_in.log.items c.len-position.result false outcome reply c.land.new.image) c.in_ok-judged.ensures.submission c.in_ok-reply.ensures.answer in
     let desk : Parts = record { image = inside.image; clients = inside.clients.value.items; leases = inside.leases.value; opening = inside.opening; docket = inside.docket; limit = inside.limit } in
     let is : IsAnswer (state_of desk) submission false c.len-position.result reply (state_at c.land.new.image desk.clients c.land.new.leases.value) =
     answered desk c.self.invariant c.judged.ensures.lawful submission false c.len-position.result outcome reply c.land.new.image c.land.new.leases.value c.in_ok-judged.ensures.verdict told c.in_ok-reply.ensures.leases in
@@ -51,7 +51,7 @@ module _ (g : given.Over) (c : goal.After-drop-before-inside-4 g) where
       let submission = submission_of c.args.submission in
       let outcome = c.in_ok-judged.judged.outcome in
       let reply = c.in_ok-reply.reply in
-      let told = subst (λ handed_in. Answers inside.image handed_in.log.items c.len-position.result false outcome reply c.land.new.image) c.in_ok-judged.ensures.submission c.in_ok-reply.ensures.answer in
+      let told = subst (λ handed_in. AnswersOutcome inside.image handed_in.log.items c.len-position.result false outcome reply c.land.new.image) c.in_ok-judged.ensures.submission c.in_ok-reply.ensures.answer in
       answered before c.self.invariant c.judged.ensures.lawful submission false c.len-position.result outcome reply c.land.new.image c.land.new.leases.value c.in_ok-judged.ensures.verdict told c.in_ok-reply.ensures.leases
 
   is_answered : IsAnswered (shown before) (submission_of c.args.submission) false c.in_ok-reply.reply (shown after)

@@ -1,7 +1,7 @@
 -- Whatever the rest comes to, the whole comes to that behind the answers so far.
 use Rattle.std.proofs.Common.{◌≡◌, ◌≤◌, ◌++◌, List, length, Result}
 use Rattle.std.specs.Vec.Iter.{into_iter_items, into_iter_len}
-use Rattle.kfs_desk_docket.specs.Legal.{LeadsTo}
+use Rattle.kfs_desk_docket.specs.Legal.{IsLegalDocket}
 use Rattle.kfs_plan.specs.declared.answers.Reply.{Reply}
 use Rattle.kfs_plan.specs.declared.submission.Back.{Back}
 use Rattle.kfs_desk.specs.Machine.{Desk, RunsThrough}
@@ -15,5 +15,5 @@ invariant-loop-submission g l = record {
   count : into_iter_len l.submission-iterator ≡ length (into_iter_items l.submission-iterator);
   opening : l.self.opening ≡ l.initial.self.opening;
   limit : l.self.limit ≡ l.initial.self.limit;
-  legal : LeadsTo l.self.opening l.self.docket l.self.state;
+  legal : IsLegalDocket l.self.opening l.self.docket l.self.state;
 }

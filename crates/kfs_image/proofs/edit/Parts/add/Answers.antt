@@ -11,8 +11,8 @@ use Rattle.kfs_image_tier.specs.declared.change.NewBlock.{NewBlock}
 use Rattle.kfs_image_tier.specs.Tiers.{with_blocks}
 use Rattle.kfs_map_chunks.specs.Keys.{same_items}
 use Rattle.kfs_map_chunks.proofs.Overlays.{overlaid_set}
-use Rattle.kfs_image.specs.Edit.{edited, IsWhole}
-use Rattle.kfs_image.specs.Parts.{plain, with_parts, AreWhole}
+use Rattle.kfs_image.specs.Edit.{edited, WritesWholeBlocks}
+use Rattle.kfs_image.specs.Parts.{plain, with_parts, BlocksAreWhole}
 use Rattle.kfs_image.proofs.EditedImages.{one_name, one_node, one_block, whole_copy}
 use Rattle.kfs_image.proofs.edit.Parts.add.Goals as goal
 
@@ -56,7 +56,7 @@ pub returns-in_ok-push-in-Bytes-clause-whole : goal.returns-in_ok-push-in-Bytes-
 returns-in_ok-push-in-Bytes-clause-whole g c = λ sizes whole written.
     let copy = c.in_ok-copy_of-in-Bytes.field-0 in
     let block : NewBlock _ = record { place = c.in-Bytes.place; bytes = copy } in
-    let (in_tier, long) = subst (IsWhole sizes) c.in-Bytes.is whole in
-    subst (AreWhole sizes) (sym c.in_ok-push-in-Bytes.ensures.items)
+    let (in_tier, long) = subst (WritesWholeBlocks sizes) c.in-Bytes.is whole in
+    subst (BlocksAreWhole sizes) (sym c.in_ok-push-in-Bytes.ensures.items)
     (All-push (λ (b : NewBlock _). (b.place.place < tier_size sizes b.place.tier) × (vec_len b.bytes ≡ block_size)) c.args.self.now.written.items block written
     (in_tier, whole_copy copy c.in-Bytes.bytes c.in_ok-copy_of-in-Bytes.ensures long))

@@ -1,5 +1,5 @@
 use Rattle.std.proofs.Common.{arith, ◌+◌, drop, map, sym, ap, subst, ◌∙◌}
-use Rattle.kfs_image.specs.Edit.{edited_all, IsWhole}
+use Rattle.kfs_image.specs.Edit.{edited_all, WritesWholeBlocks}
 use Rattle.kfs_image.specs.Parts.{plain, with_parts}
 use Rattle.kfs_image.proofs.EditedImages.{none_said, edit_made, edits_made}
 use Rattle.kfs_image.proofs.edit.Parts.of.Goals as goal
@@ -17,7 +17,7 @@ loop-edit-preserved g c = record {
       ∙ edit_made c.args.edits.now c.loop-edit.edit-index c.edit-item.result (with_parts c.loop-edit.parts image) c.loop-edit-test.true c.edit-item.is
       ∙ c.loop-edit.invariant.make image;
   whole = λ sizes whole.
-      c.in_ok-add.ensures.whole sizes (subst (IsWhole sizes) (sym c.edit-item.is) (whole c.loop-edit.edit-index c.edit-item.result c.loop-edit-test.true)) (c.loop-edit.invariant.whole sizes whole);
+      c.in_ok-add.ensures.whole sizes (subst (WritesWholeBlocks sizes) (sym c.edit-item.is) (whole c.loop-edit.edit-index c.edit-item.result c.loop-edit-test.true)) (c.loop-edit.invariant.whole sizes whole);
 }
 
 pub returns : goal.returns

@@ -6,7 +6,7 @@ use Rattle.kfs_map_chunks.specs.Edits as keyed
 use Rattle.kfs_map_chunks.specs.Tables.{table}
 use Rattle.kfs_image_nodes.specs.Change.{renamed, reheaded}
 use Rattle.kfs_image_nodes.specs.Indexes.{by_node, AreInPages}
-use Rattle.kfs_image_nodes.specs.Rows.{heads_of, heads_in, names_in, IsIndexed}
+use Rattle.kfs_image_nodes.specs.Rows.{heads_of, heads_in, names_in, CountsAreExact}
 use Rattle.kfs_image_nodes.proofs.EditedRows.{edited_indexed}
 use Rattle.kfs_image_nodes.proofs.NodeEdits.{heads_made}
 use Rattle.kfs_image_nodes.proofs.rows.Rows.apply.Goals as goal
@@ -17,12 +17,12 @@ returns-clause-indexed g c =
     let new = c.change.new.self in
     let edits = c.in_ok-edits.edits in
     let made = c.in_ok-edits.ensures in
-    elim c.change.result as (λ r. OnOk r (new.names ≡ keyed.rewritten name_order old.names edits.names.items) → OnOk r (new.counts ≡ rewritten old.counts edits.counts.items) → OnOk r (new.uplinks ≡ keyed.rewritten by_node old.uplinks edits.uplinks.items) → OnErr r (new ≡ old) → IsIndexed new) [
+    elim c.change.result as (λ r. OnOk r (new.names ≡ keyed.rewritten name_order old.names edits.names.items) → OnOk r (new.counts ≡ rewritten old.counts edits.counts.items) → OnOk r (new.uplinks ≡ keyed.rewritten by_node old.uplinks edits.uplinks.items) → OnErr r (new ≡ old) → CountsAreExact new) [
       | Ok done ↦ λ names counts uplinks kept.
           edited_indexed old new edits c.requires.indexed made.named
           (made.counted c.requires.before.1 (subst (λ (names : NameTable). AreInPages names) (sym made.renamed) c.requires.after.1))
           names counts uplinks
-      | Err e ↦ λ names counts uplinks kept. subst (IsIndexed {A = g.row.A.Denot}) (sym kept) c.requires.indexed
+      | Err e ↦ λ names counts uplinks kept. subst (CountsAreExact {A = g.row.A.Denot}) (sym kept) c.requires.indexed
     ] c.change.ensures.names c.change.ensures.counts c.change.ensures.uplinks c.change.ensures.err
 
 pub returns-clause-headers : goal.returns-clause-headers

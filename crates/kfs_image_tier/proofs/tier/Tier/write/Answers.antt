@@ -1,5 +1,5 @@
 use Rattle.std.proofs.Common.{Some, sym, subst}
-use Rattle.kfs_image_tier.specs.Blocks.{HasRoom}
+use Rattle.kfs_image_tier.specs.Blocks.{HasRoomForBlock}
 use Rattle.kfs_image_tier.specs.Tier.{TierShown}
 use Rattle.kfs_image_tier.proofs.TierRooms.{AreInTier-insert}
 use Rattle.kfs_image_tier.proofs.tier.Tier.write.Goals as goal
@@ -7,4 +7,4 @@ use Rattle.kfs_image_tier.proofs.tier.Tier.write.Goals as goal
 pub invariant_of-self : goal.invariant_of-self
 invariant_of-self g c =
     AreInTier-insert c.self.inside.places c.self.inside.blocks c.put.new.self c.args.place c.self.invariant (Some c.args.bytes.items) c.put.ensures
-    (c.self.invariant.in_tier c.args.place (subst (λ (tier : TierShown). HasRoom tier.blocks c.args.place) (sym c.self.view_is) c.requires.room))
+    (c.self.invariant.in_tier c.args.place (subst (λ (tier : TierShown). HasRoomForBlock tier.blocks c.args.place) (sym c.self.view_is) c.requires.room))

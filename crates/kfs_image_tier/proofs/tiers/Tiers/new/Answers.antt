@@ -2,9 +2,9 @@ use Rattle.std.proofs.Common.{◌≡◌, true, [], ◌∷◌, ◌++◌, length, 
 use Rattle.std.proofs.lemmas.List.{length-replicate}
 use Rattle.kfs_model.specs.Table.{empty}
 use Rattle.kfs_image_tier.specs.Tier.{TierShown}
-use Rattle.kfs_image_tier.specs.Tiers.{AreSized}
+use Rattle.kfs_image_tier.specs.Tiers.{TiersAreSized}
 use Rattle.kfs_image_tier.specs.TierViews.{free_of}
-use Rattle.kfs_image_tier.proofs.TierChanges.{AreSized-three, fresh_is}
+use Rattle.kfs_image_tier.proofs.TierChanges.{TiersAreSized-three, fresh_is}
 use Rattle.kfs_image_tier.proofs.TiersChanged.{shown_of}
 use Rattle.kfs_image_tier.proofs.tiers.Tiers.new.Goals as goal
 
@@ -14,8 +14,8 @@ invariant_of-result g c =
     c.in_ok-push-3.ensures.items ∙ ap (λ ts. ts ++ c.in_ok-third.third ∷ []) (
     c.in_ok-push-2.ensures.items ∙ ap (λ ts. ts ++ c.in_ok-second.second ∷ []) (c.in_ok-push.ensures.items ∙ ap (λ ts. ts ++ c.in_ok-first.first ∷ []) c.new-tiers.ensures.items)
     ) in
-    subst (λ ts. AreSized c.args.sizes (free_of ts)) (sym three) (
-    AreSized-three c.args.sizes _ _ _
+    subst (λ ts. TiersAreSized c.args.sizes (free_of ts)) (sym three) (
+    TiersAreSized-three c.args.sizes _ _ _
     (ap (λ (s : TierShown). length s.places) c.in_ok-first.ensures ∙ length-replicate _ true ∙ c.size.ensures.size)
     (ap (λ (s : TierShown). length s.places) c.in_ok-second.ensures ∙ length-replicate _ true ∙ c.size-2.ensures.size)
     (ap (λ (s : TierShown). length s.places) c.in_ok-third.ensures ∙ length-replicate _ true ∙ c.size-3.ensures.size)

@@ -1,12 +1,12 @@
 use Rattle.std.proofs.Common.{◌≡◌}
 use Rattle.std.specs.BTreeMap.{btree_map_len}
-use Rattle.kfs_lease_rows.specs.Rows.{IsIndexed, table_in}
+use Rattle.kfs_lease_rows.specs.Rows.{EndsAreExact, table_in}
 use Rattle.kfs_lease_rows.proofs.RowTables.{without_node}
 use Rattle.kfs_lease_rows.proofs.rows.Rows.remove_node.Given as goal
 
 abbrev pub invariant-loop-client : goal.invariant-loop-client
 invariant-loop-client g l = record {
-  indexed : IsIndexed l.self;
+  indexed : EndsAreExact l.self;
   same : without_node l.number (table_in l.self) ≡ without_node l.number (table_in l.initial.self);
 }
 

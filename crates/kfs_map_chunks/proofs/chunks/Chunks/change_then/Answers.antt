@@ -2,7 +2,7 @@ use Rattle.std.proofs.Common.{◌≡◌, ◌∙◌, true, false, ap, subst, sym,
 use Rattle.std.proofs.lemmas.List.{with_items_is}
 use Rattle.std.specs.Vec.{with_items}
 use Rattle.std.specs.FinMap.Entries.{is_sorted}
-use Rattle.kfs_map_chunks.specs.Edits.{entered_all, Ascend}
+use Rattle.kfs_map_chunks.specs.Edits.{entered_all, KeysAscend}
 use Rattle.kfs_map_chunks.specs.Joined.{joined, were_made, AreFilled}
 use Rattle.kfs_map_chunks.proofs.Rewritten.{is_sorted-all}
 use Rattle.kfs_map_chunks.proofs.Sorted.{order_by}
@@ -10,7 +10,7 @@ use Rattle.kfs_map_chunks.proofs.Together.{took_first, took_second}
 use Rattle.kfs_map_chunks.proofs.chunks.Chunks.change_then.Goals as goal
 
 pub change_parts-requires-clause-ascend : goal.change_parts-requires-clause-ascend
-change_parts-requires-clause-ascend g c = subst (λ cmp. Ascend cmp c.args.edits.now) (sym g.met.K.Key.compared) c.requires.edits
+change_parts-requires-clause-ascend g c = subst (λ cmp. KeysAscend cmp c.args.edits.now) (sym g.met.K.Key.compared) c.requires.edits
 
 pub invariant_of-self-then-branch : goal.invariant_of-self-then-branch
 invariant_of-self-then-branch g c =
@@ -26,7 +26,7 @@ invariant_of-self-then-branch g c =
     (subst (λ es. T (is_sorted cmp es)) (sym (ap joined written ∙ made)) (is_sorted-all order (joined old) es c.self.invariant.0), subst AreFilled (sym written) c.change_parts.ensures.filled)
 
 pub rebuilt_parts-requires-clause-ascend : goal.rebuilt_parts-requires-clause-ascend
-rebuilt_parts-requires-clause-ascend g c = subst (λ cmp. Ascend cmp c.args.edits.now) (sym g.met.K.Key.compared) c.requires.edits
+rebuilt_parts-requires-clause-ascend g c = subst (λ cmp. KeysAscend cmp c.args.edits.now) (sym g.met.K.Key.compared) c.requires.edits
 
 pub invariant_of-self-2 : goal.invariant_of-self-2
 invariant_of-self-2 g c =

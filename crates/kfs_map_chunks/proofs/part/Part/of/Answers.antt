@@ -2,7 +2,7 @@ use Rattle.std.proofs.Common.{rules, ◌≡◌, ◌∙◌, ◌+◌, ◌++◌, �
 use Rattle.std.proofs.lemmas.List.{append_assoc, append-nil, length-append, nil_from_length, at_drop_more}
 use Rattle.std.specs.FinMap.Entries.{is_sorted}
 use Rattle.std.specs.declared.sync.Arc.{Arc}
-use Rattle.kfs_map_chunks.specs.Held.{Held}
+use Rattle.kfs_map_chunks.specs.Buffer.{Buffer}
 use Rattle.kfs_map_chunks.specs.Joined.{joined, IsSized, AreSized}
 use Rattle.kfs_map_chunks.proofs.Parts.{each_at}
 use Rattle.kfs_map_chunks.proofs.Recut.{joined-push, each-push}
@@ -23,14 +23,14 @@ loop-chunk-preserved g c =
           ap (λ all. joined all ++ rest) items
           ∙ ap (λ es. es ++ rest) (joined-push own copy)
           ∙ append_assoc (joined own) copy.value.pairs rest
-          ∙ ap (λ (held : Held _ _). joined own ++ (held.pairs ++ rest)) value
+          ∙ ap (λ (held : Buffer _ _). joined own ++ (held.pairs ++ rest)) value
           ∙ ap (λ (x : Arc _ _). joined own ++ (x.value.pairs ++ rest)) c.chunk-item.is
           ∙ sym (at_drop_more (λ all. joined own ++ joined all) cs i chunk c.loop-chunk-test.true)
           ∙ c.loop-chunk.invariant.joined;
       sized =
           subst AreSized (sym items)
           (each-push IsSized own copy c.loop-chunk.invariant.sized
-          (subst (λ (held : Held _ _). IsSized held.pairs) (sym value)
+          (subst (λ (held : Buffer _ _). IsSized held.pairs) (sym value)
           (subst (λ (x : Arc _ _). IsSized x.value.pairs) (sym c.chunk-item.is) (each_at IsSized cs i chunk c.requires.sized c.loop-chunk-test.true))));
       count = omega (arith, ap length items, length-append own (copy ∷ []), c.loop-chunk.invariant.count);
     }

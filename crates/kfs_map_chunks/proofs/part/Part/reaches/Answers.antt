@@ -1,6 +1,6 @@
 use Rattle.std.proofs.Common.{rules, ◌≡◌, ◌∙◌, ◌<◌, ◌-◌, length, get_or, ap, sym, arith, Bor}
 use Rattle.std.specs.Range.Bound.{bound_map}
-use Rattle.kfs_map_chunks.specs.Held.{Held}
+use Rattle.kfs_map_chunks.specs.Buffer.{Buffer}
 use Rattle.kfs_map_chunks.specs.Starts.{reaches}
 use Rattle.kfs_map_chunks.proofs.Parts.{reaches_behind, sized_filled}
 use Rattle.kfs_map_chunks.proofs.Sorted.{order_by}
@@ -16,7 +16,7 @@ returns-in-Some g c =
     let some : 0 < length cs = search rules in
     let here : last ≡ get_or cs (length cs - 1) last = search rules in
     c.reaches.ensures
-    ∙ ap (λ (x : Held _ _). reaches cmp start x.pairs) c.deref-in-Some.ensures
+    ∙ ap (λ (x : Buffer _ _). reaches cmp start x.pairs) c.deref-in-Some.ensures
     ∙ ap (λ chunk. reaches cmp start chunk.value.pairs) here
     ∙ sym (reaches_behind order start cs (length cs - 1) last c.self.invariant.0 (sized_filled cs c.self.invariant.1) (omega (arith, some)))
-    ∙ ap (λ (s : Held _ _). reaches cmp start s.pairs) c.self.view_is
+    ∙ ap (λ (s : Buffer _ _). reaches cmp start s.pairs) c.self.view_is

@@ -1,5 +1,5 @@
 use Rattle.std.proofs.Common.{◌∙◌, ap, Some}
-use Rattle.kfs_program_engine.specs.Hands.{with_held}
+use Rattle.kfs_program_engine.specs.HeldVerdicts.{with_held}
 use Rattle.kfs_program_engine.specs.Holding.{hands_of}
 use Rattle.kfs_workers.specs.Holding.{verdict_of}
 use Rattle.kfs_program_engine.proofs.Held.{shown_with}

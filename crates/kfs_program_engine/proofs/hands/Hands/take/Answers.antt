@@ -1,6 +1,6 @@
 use Rattle.std.proofs.Common.{◌∙◌, ap, None}
 use Rattle.std.specs.Prelude.{set}
-use Rattle.kfs_program_engine.specs.Hands.{with_held}
+use Rattle.kfs_program_engine.specs.HeldVerdicts.{with_held}
 use Rattle.kfs_program_engine.specs.Holding.{hands_of}
 use Rattle.kfs_program_engine.proofs.Held.{shown_with}
 use Rattle.kfs_program_engine.proofs.hands.Hands.take.Goals as goal

@@ -4,7 +4,7 @@ use Rattle.kfs_desk.specs.Opening.{begin_fault}
 use Rattle.kfs_plan.specs.declared.answers.BeginFault.TheVariants.{OutOfMemory}
 use Rattle.kfs_program_text.specs.Parts.{line_of}
 use Rattle.kfs_report.specs.Text.{begin_text}
-use Rattle.kfs_program_engine.specs.Session.{Before, begun, begun_over}
+use Rattle.kfs_program_engine.specs.Session.{Before, begun_with, begun_over}
 use Rattle.kfs_program_engine.proofs.opening.Opening.begin.Goals as goal
 
 pub returns-clause-ok : goal.returns-clause-ok
@@ -22,6 +22,6 @@ returns-clause-ok g c =
       line,
       added,
       ap (λ o. begun_over o clients c.args.limit) image
-          ∙ ap (begun back.image clients c.args.limit) found
+          ∙ ap (begun_with back.image clients c.args.limit) found
           ∙ ap (λ kept. (line, Before (record { image = Some back.image; clients = kept }))) (sym cleared),
     )

@@ -1,6 +1,6 @@
 use Rattle.std.proofs.Common.{◌+◌, ◌-◌, ◌≤◌, List, ℕ, length, take, drop, subst, arith}
 use Rattle.std.specs.Io.KnownBytes.{Appends, Keeps, append_known}
-use Rattle.kfs_program_text.specs.Held.{Held, contents_with}
+use Rattle.kfs_program_text.specs.HeldOutput.{HeldOutput, contents_with}
 use Rattle.kfs_program_text.proofs.HeldBytes.{grown, moved, within}
 use Rattle.kfs_program_text.proofs.held.HeldBack.write_held.Goals as goal
 
@@ -23,7 +23,7 @@ returns-in_err-ended-clause-bytes g c =
     let before = contents inside.inner.now in
     let after = contents c.write_out-count.new.writer in
     let wrote = subst (λ (items : List ℕ). Appends before after (take count (take (length items - inside.taken) (drop inside.taken items)))) c.deref.ensures.value c.write_out-count.ensures.text in
-    subst (λ (h : Held _). Keeps (contents_with contents h) (append_known after (drop (inside.taken + count) inside.held.items))) c.self.view_is (moved inside.held.items inside.taken count before after wrote)
+    subst (λ (h : HeldOutput _). Keeps (contents_with contents h) (append_known after (drop (inside.taken + count) inside.held.items))) c.self.view_is (moved inside.held.items inside.taken count before after wrote)
 
 pub invariant_of-self-2 : goal.invariant_of-self-2
 invariant_of-self-2 g c =

@@ -3,8 +3,8 @@ use Rattle.std.specs.Vec.Iter.{into_iter_items}
 use Rattle.std.proofs.lemmas.List.{nil_from_length}
 use Rattle.kfs_plan.specs.Judging.{submission_of}
 use Rattle.kfs_workers.specs.Holding.{held_of}
-use Rattle.kfs_workers.specs.Script.{Scene, all_returned}
-use Rattle.kfs_workers.proofs.scene.Scene.end.Goals as goal
+use Rattle.kfs_workers.specs.Script.{ScriptState, all_returned}
+use Rattle.kfs_workers.proofs.scene.ScriptState.end.Goals as goal
 
 pub returns-clause-left : goal.returns-clause-left
 returns-clause-left g c =
@@ -16,4 +16,4 @@ returns-clause-left g c =
     ap (λ hands. all_returned (map (option_map held_of) hands) left) (sym empty)
     ∙ at.invariant.left
     ∙ ap (λ hands. all_returned (map (option_map held_of) hands) (map (option_map submission_of) inside.waiting.items)) c.into_iter-hand-iterator.ensures.into_iter_gives.0
-    ∙ ap (λ (s : Scene). all_returned s.hands s.waiting) c.self.view_is
+    ∙ ap (λ (s : ScriptState). all_returned s.hands s.waiting) c.self.view_is

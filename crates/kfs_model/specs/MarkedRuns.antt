@@ -2,7 +2,7 @@
 use Rattle.std.specs.Prelude.{◌≡◌, ℕ, Bool, false, List, Some, Result, Ok, Err}
 use Rattle.kfs_model.specs.Access.{Client}
 use Rattle.kfs_model.specs.Entry.{Entry}
-use Rattle.kfs_model.specs.Looked.{LooksAlike}
+use Rattle.kfs_model.specs.Looked.{AgreeWhereLooked}
 use Rattle.kfs_model.specs.Plan.{mark_at, is_base}
 use Rattle.kfs_model.specs.Run.{Mark, EntryFault, run, over_marks, marked}
 use Rattle.kfs_model.specs.Sight.{client_sight}
@@ -13,7 +13,7 @@ abbrev pub ChangesStandIn : (one other : Tree Mark) → Type 0
 ChangesStandIn one other = (number place : ℕ) (mark : Mark) → is_base mark ≡ false → mark_at one number place ≡ Some mark → mark_at other number place ≡ Some mark
 
 -- alike other than in bytes from before
-pub record MarksAlike (one other : Tree Mark) : Type 0 where
+pub record HaveSameNewMarks (one other : Tree Mark) : Type 0 where
   pub there : ChangesStandIn one other
   pub back : ChangesStandIn other one
 
@@ -27,5 +27,5 @@ BothEnd P (Err fault) (Err other) = fault ≡ other
 -- whatever the client holds in each: where the looked cells answer alike, the runs over the marks of the two trees have one
 -- fault, or end at trees of which P
 abbrev pub MarksEnd : (P : (after other_after : Tree Mark) → Type 0) → Client → (one other : Tree ℕ) → List Entry → Type 0
-MarksEnd P client one other entries = (held other_held : ℕ → Bool) → LooksAlike client (client_sight one held) (client_sight other other_held) entries
+MarksEnd P client one other entries = (held other_held : ℕ → Bool) → AgreeWhereLooked client (client_sight one held) (client_sight other other_held) entries
     → BothEnd P (run over_marks client (client_sight one held) (marked one) entries) (run over_marks client (client_sight other other_held) (marked other) entries)

@@ -8,11 +8,11 @@ abbrev pub HasGrown : (before after : Option (List ℕ)) → Type 0
 HasGrown before after = (text : List ℕ) × Appends before after text
 
 -- the inner writer as it was at first and as it is, and what is held
-pub record Held (W : Type 0) : Type 0 where
+pub record HeldOutput (W : Type 0) : Type 0 where
   pub first : MutBor W
   pub inner : MutBor W
   pub held : List ℕ
 
 -- what the inner writer has, and behind it what is held
-abbrev pub contents_with : {W : Type 0} → (W → Option (List ℕ)) → Held W → Option (List ℕ)
+abbrev pub contents_with : {W : Type 0} → (W → Option (List ℕ)) → HeldOutput W → Option (List ℕ)
 contents_with contents h = append_known (contents h.inner.now) h.held

@@ -2,7 +2,7 @@
 use Rattle.std.specs.Prelude.{◌≡◌, ◌<◌, ◌≤◌, ℕ, List, [], ◌∷◌, ◌++◌, length, Result, Ok, Err}
 use Rattle.std.specs.List.{AllByRecursion}
 use Rattle.kfs_program_text.specs.Cut.{cut, line_end, lines_of}
-use Rattle.kfs_program_engine.specs.Session.{Stage, Runs, fresh}
+use Rattle.kfs_program_engine.specs.Session.{Stage, AnswersLines, fresh}
 use Rattle.kfs_program_engine.specs.declared.fault.EngineFault.{EngineFault}
 use Rattle.kfs_program_engine.specs.declared.fault.EngineFault.TheVariants.{ReadFault, WriteFault, LongLine, OutOfMemory}
 
@@ -10,12 +10,12 @@ use Rattle.kfs_program_engine.specs.declared.fault.EngineFault.TheVariants.{Read
 abbrev pub longest_line : ℕ
 longest_line = 16777216
 
-abbrev pub IsShort : (line : List ℕ) → Type 0
-IsShort line = length line ≤ longest_line
+abbrev pub LineIsShort : (line : List ℕ) → Type 0
+LineIsShort line = length line ≤ longest_line
 
 -- a session of these lines, from its start, has this text, and none of them is too long
 abbrev pub IsText : (lines : List (List ℕ)) → (text : List ℕ) → Type 0
-IsText lines text = (last : Stage) × Runs fresh lines text last × AllByRecursion IsShort lines
+IsText lines text = (last : Stage) × AnswersLines fresh lines text last × AllByRecursion LineIsShort lines
 
 -- the input is these lines with their ends, and then the parts that are left
 abbrev pub IsCut : (input : List ℕ) → (lines left : List (List ℕ)) → Type 0

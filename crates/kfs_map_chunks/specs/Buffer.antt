@@ -2,6 +2,6 @@
 use Rattle.std.specs.Prelude.{ℕ, List}
 
 -- entries, and for how many more there is room
-pub record Held (K V : Type 0) : Type 0 where
+pub record Buffer (K V : Type 0) : Type 0 where
   pub pairs : List (K × V)
   pub room : ℕ
