@@ -2,13 +2,13 @@
 ghost use Rattle.std.specs.Prelude.{◌≡◌, ◌+◌, ◌<◌, ◌^◌, [], ◌∷◌, ◌++◌, length};
 
 use crate::row::OneRow;
-use crate::rows::Rows;
+use crate::rows::DocketRows;
 use std::marker::Model;
 
 /// A docket. Of its rows it keeps the number alone; contracts see the rows.
 #[derive(Drop)]
 pub struct Docket {
-    rows: Rows,
+    rows: DocketRows,
     len: u32,
 }
 
@@ -29,7 +29,7 @@ impl Docket {
         ensures { result ≡ [] }
     {
         Docket {
-            rows: Rows::none(),
+            rows: DocketRows::none(),
             len: 0,
         }
     }

@@ -7,4 +7,4 @@ mod rows;
 
 pub use docket::Docket;
 pub use row::{OneRow, RowRule};
-pub use rows::Rows;
+pub use rows::DocketRows;

@@ -6,27 +6,27 @@ ghost use Rattle.kfs_model.specs.Machine.{Row};
 use crate::row::OneRow;
 use std::marker::Model;
 
-/// Rows in their order. They take no memory.
+/// DocketRows in their order. They take no memory.
 #[derive(Drop)]
-pub struct Rows {
+pub struct DocketRows {
     pub ghost items: { List Row },
 }
 
-impl Model for Rows {
+impl Model for DocketRows {
     ghost also_owns = { λ _. ftrue };
 }
 
-impl Rows {
-    pub fn none() -> Rows
+impl DocketRows {
+    pub fn none() -> DocketRows
         ensures { result.items ≡ [] }
     {
-        Rows {}
+        DocketRows {}
     }
 
     /// These rows and one more.
-    pub fn and(&self, _row: &OneRow) -> Rows
+    pub fn and(&self, _row: &OneRow) -> DocketRows
         ensures { result.items ≡ self.now.items ++ _row.now.row ∷ [] }
     {
-        Rows {}
+        DocketRows {}
     }
 }

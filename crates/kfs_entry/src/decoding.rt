@@ -9,7 +9,7 @@ ghost use Rattle.kfs_entry.specs.Answers.{OnAnswer, log_of, plan_of, SpansAreWit
 
 use crate::fault::SpellFault;
 use kfs_entry_codec::{Row, RowsFault, headers, read_rows};
-use kfs_entry_value::{Entry, Log, NameRow, NodeRow, Piece, Plan, Rows, Span};
+use kfs_entry_value::{Entry, Log, NameRow, NodeRow, Piece, Plan, RowList, Span};
 use std::alloc::Allocator;
 
 /// The entries of a log.
@@ -63,7 +63,7 @@ fn log_in<A: Allocator>(alloc: A, source: &[u8]) -> Result<Log<A>, SpellFault>
     }
     Ok(Log {
         client: header.client,
-        entries: Rows::from_vec(entries),
+        entries: RowList::from_vec(entries),
     })
 }
 
@@ -95,9 +95,9 @@ fn plan_in<A: Allocator + Clone>(alloc: A, source: &[u8]) -> Result<Plan<A>, Spe
         return Err(SpellFault::Trailing);
     }
     Ok(Plan {
-        names: Rows::from_vec(names),
-        nodes: Rows::from_vec(nodes),
-        pieces: Rows::from_vec(pieces),
+        names: RowList::from_vec(names),
+        nodes: RowList::from_vec(nodes),
+        pieces: RowList::from_vec(pieces),
     })
 }
 

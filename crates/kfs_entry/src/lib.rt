@@ -10,5 +10,5 @@ pub use encoding::{encode_log, encode_plan};
 pub use fault::SpellFault;
 pub use kfs_entry_codec::{Row, RowsFault, entry_table, read_rows, write_rows};
 pub use kfs_entry_value::{
-    Entry, Header, Kind, Log, Name, NameRow, NodeRow, Piece, Plan, Rows, Source, Span,
+    Entry, Header, Kind, Log, Name, NameRow, NodeRow, Piece, Plan, RowList, Source, Span,
 };

@@ -2,7 +2,7 @@
 
 use crate::header::Kind;
 use crate::name::Name;
-use crate::rows::Rows;
+use crate::rows::RowList;
 use std::alloc::Allocator;
 
 /// The bytes from `start` up to and without `end` of the bytes that a log was read from.
@@ -67,5 +67,5 @@ pub struct Log<A: Allocator> {
     /// The client's number.
     pub client: u32,
     /// In the order in which they take effect.
-    pub entries: Rows<Entry<Span>, A>,
+    pub entries: RowList<Entry<Span>, A>,
 }

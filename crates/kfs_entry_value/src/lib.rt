@@ -17,5 +17,5 @@ pub use limits::{
 };
 pub use name::Name;
 pub use plan::{NameRow, NodeRow, Piece, Plan, Source};
-pub use rows::Rows;
+pub use rows::RowList;
 pub use sizes::TierSizes;

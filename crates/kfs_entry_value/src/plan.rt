@@ -2,7 +2,7 @@
 
 use crate::header::Header;
 use crate::name::Name;
-use crate::rows::Rows;
+use crate::rows::RowList;
 use std::alloc::Allocator;
 
 /// The number that a name of `dir` leads to after the log, or 0 for none.
@@ -41,7 +41,7 @@ pub struct Piece {
 /// What a client says that its log changes: names, then headers, then bytes.
 #[derive(Debug, Drop)]
 pub struct Plan<A: Allocator> {
-    pub names: Rows<NameRow, A>,
-    pub nodes: Rows<NodeRow, A>,
-    pub pieces: Rows<Piece, A>,
+    pub names: RowList<NameRow, A>,
+    pub nodes: RowList<NodeRow, A>,
+    pub pieces: RowList<Piece, A>,
 }

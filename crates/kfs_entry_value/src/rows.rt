@@ -5,14 +5,14 @@ use std::alloc::Allocator;
 use std::marker::Model;
 use std::ops::DerefSlice;
 
-/// Rows in order, in a vector. Two lists of rows are one value where their rows are, whatever the
+/// RowList in order, in a vector. Two lists of rows are one value where their rows are, whatever the
 /// capacity and the place in memory.
 #[derive(Debug, Drop)]
-pub struct Rows<T, A: Allocator> {
+pub struct RowList<T, A: Allocator> {
     items: Vec<T, A>,
 }
 
-impl<T, A: Allocator> Model for Rows<T, A> {
+impl<T, A: Allocator> Model for RowList<T, A> {
     ghost use Rattle.std.specs.Prelude.{List};
     ghost use Rattle.std.specs.Coded.{coded_list};
 
@@ -23,19 +23,19 @@ impl<T, A: Allocator> Model for Rows<T, A> {
     ghost view = { λ rows. rows.items.items };
 }
 
-impl<T, A: Allocator> Rows<T, A> {
+impl<T, A: Allocator> RowList<T, A> {
     /// The rows of a vector. Takes no memory.
     pub fn from_vec(items: Vec<T, A>) -> Self
         ensures { result ≡ items.items }
     {
-        Rows { items }
+        RowList { items }
     }
 
     /// The vector of the rows, given back. Takes no memory.
     pub fn into_vec(self) -> Vec<T, A>
         ensures { result.items ≡ self }
     {
-        let Rows { items } = self;
+        let RowList { items } = self;
         items
     }
 
@@ -47,7 +47,7 @@ impl<T, A: Allocator> Rows<T, A> {
     }
 }
 
-impl<T, A: Allocator> DerefSlice for Rows<T, A> {
+impl<T, A: Allocator> DerefSlice for RowList<T, A> {
     type Elem = T;
 
     ghost deref_gives = { λ rows items. items ≡ rows };

@@ -19,7 +19,7 @@ use Rattle.kfs_model.specs.Table.{Table, numbers, get, changed}
 use Rattle.kfs_model.specs.Placement.{Place, Placement, block_count}
 use Rattle.kfs_model.proofs.TableLaws.{same_table, get-changed, get-retain}
 use Rattle.kfs_model_device.specs.ShownTree.{DeviceImage, IsLawful}
-use Rattle.kfs_map_pages.specs.declared.edit.Edit.{Edit}
+use Rattle.kfs_map_pages.specs.declared.edit.NumberEdit.{NumberEdit}
 use Rattle.kfs_map_pages.specs.Edits.{edited, AreEdits}
 use Rattle.kfs_image_blocks.specs.declared.fill.BlockRun.{BlockRun}
 use Rattle.kfs_image_blocks.specs.Fill.{is_in, is_in_one, less}
@@ -31,14 +31,14 @@ use Rattle.kfs_image.specs.Net.{blocks_in, is_block, cut}
 
 -- ---- one run after another
 
-module _ (edits : List (Edit CodeHeader)) (i : ℕ) where
+module _ (edits : List (NumberEdit CodeHeader)) (i : ℕ) where
   -- a step of the loop, and its end
-  pub behind_one : (d : Edit CodeHeader) (first : ℕ) (old new : List BlockRun) → i < length edits → new ≡ old ++ record { number = (slice_index_or edits i d).number; first = first; end = 2 ^ 32 - 1 } ∷ []
+  pub behind_one : (d : NumberEdit CodeHeader) (first : ℕ) (old new : List BlockRun) → i < length edits → new ≡ old ++ record { number = (slice_index_or edits i d).number; first = first; end = 2 ^ 32 - 1 } ∷ []
       → first ≡ min (blocks_in (option_map header_of (slice_index_or edits i d).value)) (2 ^ 32 - 1)
       → old ++ map behind (drop i edits) ≡ map behind edits
       → new ++ map behind (drop (i + 1) edits) ≡ map behind edits
   behind_one d first old new below added is so_far =
-      let e : Edit CodeHeader = slice_index_or edits i d in
+      let e : NumberEdit CodeHeader = slice_index_or edits i d in
       let later : List BlockRun = map behind (drop (i + 1) edits) in
       ap (λ runs. runs ++ later) added
       ∙ append_assoc old (record { number = e.number; first = first; end = 2 ^ 32 - 1 } ∷ []) later
@@ -81,29 +81,29 @@ get-reheaded heads (row ∷ rows) q there same =
 
 -- ---- what the edits say of a number
 
-abbrev Ascend : List (Edit CodeHeader) → Type 0
-Ascend edits = (i j : ℕ) (d : Edit CodeHeader) → i < j → j < length edits → (slice_index_or edits i d).number < (slice_index_or edits j d).number
+abbrev Ascend : List (NumberEdit CodeHeader) → Type 0
+Ascend edits = (i j : ℕ) (d : NumberEdit CodeHeader) → i < j → j < length edits → (slice_index_or edits i d).number < (slice_index_or edits j d).number
 
 module _ (q : ℕ) (test : Option CodeHeader → Bool) where
   -- the edit is of the number, and its value passes the test
-  abbrev passes : Edit CodeHeader → Bool
+  abbrev passes : NumberEdit CodeHeader → Bool
   passes e = (q == e.number) && test e.value
 
   -- an edit puts a value there, and one of the edits passes just where that does
-  abbrev Puts : List (Edit CodeHeader) → Type 0
+  abbrev Puts : List (NumberEdit CodeHeader) → Type 0
   Puts edits = (v : Option CodeHeader) × ((there : Option CodeHeader) → edited edits q there ≡ v) × (list_any passes edits ≡ test v)
 
   -- the edits leave what is there, and none passes
-  abbrev Leaves : List (Edit CodeHeader) → Type 0
+  abbrev Leaves : List (NumberEdit CodeHeader) → Type 0
   Leaves edits = ((there : Option CodeHeader) → edited edits q there ≡ there) × (list_any passes edits ≡ false)
 
   -- an edit of another number changes nothing
-  beside : (e : Edit CodeHeader) (es : List (Edit CodeHeader)) → (q == e.number) ≡ false → ((there : Option CodeHeader) → edited (e ∷ es) q there ≡ edited es q there) × (list_any passes (e ∷ es) ≡ list_any passes es)
+  beside : (e : NumberEdit CodeHeader) (es : List (NumberEdit CodeHeader)) → (q == e.number) ≡ false → ((there : Option CodeHeader) → edited (e ∷ es) q there ≡ edited es q there) × (list_any passes (e ∷ es) ≡ list_any passes es)
   beside e es other =
       ((λ there. ap (λ b. edited es q (cond b e.value there)) (unsigned_tied q e.number ∙ other)), ap (λ b. (b && test e.value) || list_any passes es) other)
 
   -- nor do edits of higher numbers
-  beyond : (edits : List (Edit CodeHeader)) → ((j : ℕ) (d : Edit CodeHeader) → j < length edits → q < (slice_index_or edits j d).number) → Leaves edits
+  beyond : (edits : List (NumberEdit CodeHeader)) → ((j : ℕ) (d : NumberEdit CodeHeader) → j < length edits → q < (slice_index_or edits j d).number) → Leaves edits
   beyond [] above = ((λ there. refl), refl)
   beyond (e ∷ es) above =
       let first = above 0 e (omega arith) in
@@ -111,7 +111,7 @@ module _ (q : ℕ) (test : Option CodeHeader → Bool) where
       let rest = beyond es (λ j d below. above (suc j) d (omega (arith, below))) in
       ((λ there. step.0 there ∙ rest.0 there), step.1 ∙ rest.1)
 
-  puts_or_leaves : (edits : List (Edit CodeHeader)) → Ascend edits → Puts edits ⊎ Leaves edits
+  puts_or_leaves : (edits : List (NumberEdit CodeHeader)) → Ascend edits → Puts edits ⊎ Leaves edits
   puts_or_leaves [] ascend = inr ((λ there. refl), refl)
   puts_or_leaves (e ∷ es) ascend = by (puts_or_leaves es (λ i j d less below. ascend (suc i) (suc j) d (omega (arith, less)) (omega (arith, below)))) (q == e.number) refl
     where
@@ -137,7 +137,7 @@ not_below count block last small = by (nat_lt block count) refl
     by true below = grind (arith, nat_tests)
     by false past = grind (arith, nat_tests)
 
-any_behind : (block : ℕ × ℕ) (edits : List (Edit CodeHeader)) → is_in_one (map behind edits) block ≡ list_any (λ e. is_in (behind e) block) edits
+any_behind : (block : ℕ × ℕ) (edits : List (NumberEdit CodeHeader)) → is_in_one (map behind edits) block ≡ list_any (λ e. is_in (behind e) block) edits
 any_behind block [] = refl
 any_behind block (e ∷ es) = ap (λ b. is_in (behind e) block || b) (any_behind block es)
 
@@ -149,7 +149,7 @@ file_below h block file begins = by (is_file (Some h)) file
     by true is = lt-ltb block (block_count h.size) (omega (arith, begins))
     by false is = cc
 
-module _ (nodes : List NodeRow) (edits : List (Edit CodeHeader)) (zero : List BlockRun) (are : AreEdits edits) (says : (q : ℕ) (there : Option CodeHeader) → IsNumber q → edited edits q there ≡ left_by nodes q there) where
+module _ (nodes : List NodeRow) (edits : List (NumberEdit CodeHeader)) (zero : List BlockRun) (are : AreEdits edits) (says : (q : ℕ) (there : Option CodeHeader) → IsNumber q → edited edits q there ≡ left_by nodes q there) where
   module _ (heads : Table numbers Header) (q : ℕ) (within : IsNumber q) (h : Header) (there : get heads q ≡ Some h) (block : ℕ) (small : block < 2 ^ 32 - 1) (file : IsTrue (is_file (Some h))) (begins : block * 4096 < h.size) where
     -- the edits' runs have a file's block just where it is none of a file afterwards
     behind_just : not (is_in_one (map behind edits) (q, block)) ≡ is_block (reheaded heads nodes) (q, block)
@@ -226,5 +226,5 @@ module _ (nodes : List NodeRow) (edits : List (Edit CodeHeader)) (zero : List Bl
     same_after = same_table (less (map behind edits ++ zero) placement) (cut after (less zero placement)) same_slot
 
 -- The runs behind the edits of the rows, and those made zero, are the blocks that go.
-pub gone_are : (nodes : List NodeRow) (edits : List (Edit CodeHeader)) (zero : List BlockRun) → AreEdits edits → ((q : ℕ) (there : Option CodeHeader) → IsNumber q → edited edits q there ≡ left_by nodes q there) → AreGone nodes zero (map behind edits ++ zero)
+pub gone_are : (nodes : List NodeRow) (edits : List (NumberEdit CodeHeader)) (zero : List BlockRun) → AreEdits edits → ((q : ℕ) (there : Option CodeHeader) → IsNumber q → edited edits q there ≡ left_by nodes q there) → AreGone nodes zero (map behind edits ++ zero)
 gone_are nodes edits zero are says image lawful = same_after nodes edits zero are says image lawful

@@ -7,7 +7,7 @@ ghost use Rattle.kfs_image.specs.Net.{blocks_in};
 use kfs_entry_value::{BLOCK_SIZE, Header, Kind, NodeRow};
 use kfs_image_blocks::BlockRun;
 use kfs_image_nodes::header_edits;
-use kfs_map_pages::Edit;
+use kfs_map_pages::NumberEdit;
 use std::alloc::{AllocError, Allocator};
 
 /// The runs of blocks that go: of each node that changes, those behind the file's end, or all where it
@@ -28,7 +28,7 @@ pub(crate) fn gone_blocks<A: Allocator + Clone>(
 /// Of each node that changes, the blocks behind the end of its file.
 fn blocks_behind<A: Allocator + Clone>(
     alloc: &A,
-    edits: &[Edit<Header>],
+    edits: &[NumberEdit<Header>],
 ) -> Result<Vec<BlockRun, A>, AllocError>
     ensures { IfOk result (λ runs. runs.items ≡ map behind edits.now) }
 {

@@ -20,7 +20,7 @@ use crate::gone::gone_blocks;
 use crate::net::Fill;
 use crate::read::ReadFault;
 use kfs_entry_value::{Header, Kind, Name, NameRow, NodeRow, TierSizes};
-use kfs_image_blocks::{Blocks, ChangeBlocks, FillBlocks, Place};
+use kfs_image_blocks::{ChangeBlocks, FileBlocks, FillBlocks, Place};
 use kfs_image_nodes::{Answer, Cell, Net, Shape, look};
 use kfs_map_chunks::key_edits;
 use kfs_map_pages::Change;
@@ -35,7 +35,7 @@ use std::sync::Arc;
 #[derive(Drop)]
 pub struct Image<A: Allocator> {
     shape: Arc<Shape<A>, A>,
-    blocks: Blocks<A>,
+    blocks: FileBlocks<A>,
     alloc: A,
 }
 
@@ -58,7 +58,7 @@ impl<A: Allocator + Clone> Image<A> {
     {
         let shape = Shape::with_root(alloc.clone()?)?;
         let shape = Arc::new(alloc.clone()?, shape)?;
-        let blocks = Blocks::new(alloc.clone()?, sizes)?;
+        let blocks = FileBlocks::new(alloc.clone()?, sizes)?;
         Ok(Image {
             shape,
             blocks,

@@ -2,12 +2,12 @@
 use Rattle.std.specs.Prelude.{ℕ, List, [], ◌∷◌, ◌++◌, Option, Some, None, if◌then◌else◌}
 use Rattle.kfs_model.specs.Table.{get}
 use Rattle.kfs_model.specs.Placement.{Place, Placement}
-use Rattle.kfs_map_chunks.specs.declared.edit.Edit.{Edit}
+use Rattle.kfs_map_chunks.specs.declared.edit.KeyEdit.{KeyEdit}
 use Rattle.kfs_image_tier.specs.Tiers.{is_place}
 
 -- what a block comes to have: a place, or none
 abbrev pub BlockEdit : Type 0
-BlockEdit = Edit (ℕ × ℕ) Place
+BlockEdit = KeyEdit (ℕ × ℕ) Place
 
 -- the place that is left, where a block was there and is here
 abbrev pub left_by : (was is : Option Place) → List Place

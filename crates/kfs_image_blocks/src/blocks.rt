@@ -16,19 +16,19 @@ use crate::moves::Moves;
 use crate::staged::{StagedTiers, TiersChange};
 use kfs_entry_value::TierSizes;
 use kfs_image_tier::{NewBlock, Place, Tiers};
-use kfs_map_chunks::{Chunks, Edit};
+use kfs_map_chunks::{Chunks, KeyEdit};
 use std::alloc::{AllocError, Allocator};
 use std::marker::Model;
 
 /// Where the blocks of files lie, and the three tiers: a place is free where no block lies. A block of
 /// a file has a number of its own, from 0 on, and 4,096 bytes.
 #[derive(Drop)]
-pub struct Blocks<A: Allocator> {
+pub struct FileBlocks<A: Allocator> {
     placement: Chunks<(u32, u32), Place, A>,
     tiers: StagedTiers<A>,
 }
 
-impl<A: Allocator> Model for Blocks<A> {
+impl<A: Allocator> Model for FileBlocks<A> {
     ghost use Rattle.kfs_model.specs.Table.{pairs, numbers};
     ghost use Rattle.kfs_map_chunks.specs.Tables.{table};
     ghost use Rattle.kfs_image_blocks.specs.Blocks.{BlocksShown, AreHeld};
@@ -40,16 +40,16 @@ impl<A: Allocator> Model for Blocks<A> {
     ghost invariant = { λ b. AreHeld (table (pairs numbers numbers) b.placement) b.tiers.tiers };
 }
 
-impl<A: Allocator> Blocks<A> {
+impl<A: Allocator> FileBlocks<A> {
     /// Tiers of these sizes, in which no block lies and none was written. Takes a bit of memory for
     /// each place; `Err` where it is refused.
-    pub fn new(alloc: A, sizes: TierSizes) -> Result<Blocks<A>, AllocError>
+    pub fn new(alloc: A, sizes: TierSizes) -> Result<FileBlocks<A>, AllocError>
     where
         A: Clone,
         ensures { IfOk result (λ blocks. blocks ≡ record { sizes = sizes; placement = empty; devices = empty }) }
     {
         let tiers = Tiers::new(alloc.clone()?, sizes)?;
-        Ok(Blocks {
+        Ok(FileBlocks {
             placement: Chunks::new(alloc),
             tiers: StagedTiers {
                 tiers,
@@ -103,13 +103,13 @@ impl<A: Allocator> Blocks<A> {
     }
 }
 
-impl<A: Allocator + Clone> Blocks<A> {
+impl<A: Allocator + Clone> FileBlocks<A> {
     /// Edits where blocks lie, and writes blocks, which each may lie at any place of a tier. A block
     /// that moves leaves its bytes behind, and one keeps its bytes when its place is given back or
     /// taken. `Err` where memory is refused leaves all as it is.
     pub fn change(
         &mut self,
-        edits: &[Edit<(u32, u32), Place>],
+        edits: &[KeyEdit<(u32, u32), Place>],
         written: Vec<NewBlock<A>, A>,
     ) -> Result<(), AllocError>
         requires { CanChange self.old edits.now written.items }
@@ -141,7 +141,7 @@ impl<A: Allocator + Clone> Blocks<A> {
         &self,
         gone: &[BlockRun],
         rows: &[BlockRow<A>],
-    ) -> Result<Vec<Edit<(u32, u32), Place>, A>, AllocError>
+    ) -> Result<Vec<KeyEdit<(u32, u32), Place>, A>, AllocError>
         ensures ascend { IfOk result (λ edits. KeysAscend (pairs numbers numbers).compare edits.items) }
         ensures placed { IfOk result (λ edits. table_after self.now.placement edits.items ≡ placement_after gone.now rows.now self.now.placement) }
     {

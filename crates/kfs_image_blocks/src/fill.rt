@@ -7,11 +7,11 @@ ghost use Rattle.kfs_image_blocks.specs.Fill.{less, placement_after, new_part, r
 ghost use Rattle.kfs_image_blocks.specs.Walks.{AreUnmapped, placed, seen, SeesMapped};
 
 use kfs_image_tier::{NewBlock, Place};
-use kfs_map_chunks::{Chunks, Edit, Overlay, key_edits};
+use kfs_map_chunks::{Chunks, KeyEdit, Overlay, key_edits};
 use std::alloc::{AllocError, Allocator};
 use std::ops::Bound;
 
-/// Blocks of a file one behind the other: from `first` on, below `end`, and none where `end` isn't
+/// FileBlocks of a file one behind the other: from `first` on, below `end`, and none where `end` isn't
 /// above `first`.
 #[derive(Clone, Copy, Debug, PartialEq, Eq)]
 pub struct BlockRun {
@@ -37,7 +37,7 @@ pub(crate) fn fill_edits<A: Allocator + Clone>(
     placement: &Chunks<(u32, u32), Place, A>,
     gone: &[BlockRun],
     rows: &[BlockRow<A>],
-) -> Result<Vec<Edit<(u32, u32), Place>, A>, AllocError>
+) -> Result<Vec<KeyEdit<(u32, u32), Place>, A>, AllocError>
     ensures ascend { IfOk result (λ edits. KeysAscend (pairs numbers numbers).compare edits.items) }
     ensures placed { IfOk result (λ edits. table_after (placed placement.now) edits.items ≡ placement_after gone.now rows.now (placed placement.now)) }
 {

@@ -8,8 +8,8 @@ mod nested;
 mod read;
 mod staged;
 
-pub use blocks::Blocks;
+pub use blocks::FileBlocks;
 pub use fill::{BlockRow, BlockRun};
 pub use kfs_image_tier::{NewBlock, Place};
-pub use kfs_map_chunks::Edit;
+pub use kfs_map_chunks::KeyEdit;
 pub use nested::{ChangeBlocks, FillBlocks};

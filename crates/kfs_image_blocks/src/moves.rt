@@ -5,7 +5,7 @@ ghost use Rattle.kfs_map_chunks.specs.Tables.{table};
 ghost use Rattle.kfs_image_blocks.specs.Moves.{left_by, given_by, taken_by};
 
 use kfs_image_tier::Place;
-use kfs_map_chunks::{Chunks, Edit};
+use kfs_map_chunks::{Chunks, KeyEdit};
 use std::alloc::{AllocError, Allocator};
 
 /// The places that are given back, and those that are taken.
@@ -21,7 +21,7 @@ impl<A: Allocator + Clone> Moves<A> {
     pub(crate) fn of(
         alloc: &A,
         placement: &Chunks<(u32, u32), Place, A>,
-        edits: &[Edit<(u32, u32), Place>],
+        edits: &[KeyEdit<(u32, u32), Place>],
     ) -> Result<Moves<A>, AllocError>
         ensures given { IfOk result (λ moves. moves.given.items ≡ given_by (table (pairs numbers numbers) placement.now) edits.now) }
         ensures taken { IfOk result (λ moves. moves.taken.items ≡ taken_by (table (pairs numbers numbers) placement.now) edits.now) }

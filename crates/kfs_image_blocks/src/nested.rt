@@ -1,10 +1,10 @@
 //! Changes of blocks that are made together with another change, or not at all.
 ghost use Rattle.std.proofs.Common.{rules};
 
-use crate::blocks::Blocks;
+use crate::blocks::FileBlocks;
 use crate::fill::{BlockRow, BlockRun};
 use kfs_image_tier::{NewBlock, Place};
-use kfs_map_chunks::Edit;
+use kfs_map_chunks::KeyEdit;
 use kfs_map_pages::Change;
 use std::alloc::{AllocError, Allocator};
 use std::mem;
@@ -12,7 +12,7 @@ use std::mem;
 /// The blocks of files, with the runs that they lose and the rows that are mapped and written.
 #[derive(Drop)]
 pub struct FillBlocks<'a, A: Allocator> {
-    pub blocks: &'a mut Blocks<A>,
+    pub blocks: &'a mut FileBlocks<A>,
     pub gone: &'a [BlockRun],
     pub rows: &'a [BlockRow<A>],
 }
@@ -38,8 +38,8 @@ impl<'a, A: Allocator + Clone> Change for FillBlocks<'a, A> {
 /// out.
 #[derive(Drop)]
 pub struct ChangeBlocks<'a, A: Allocator> {
-    pub blocks: &'a mut Blocks<A>,
-    pub edits: &'a [Edit<(u32, u32), Place>],
+    pub blocks: &'a mut FileBlocks<A>,
+    pub edits: &'a [KeyEdit<(u32, u32), Place>],
     pub written: &'a mut Vec<NewBlock<A>, A>,
 }
 

@@ -3,13 +3,13 @@ ghost use Rattle.std.specs.Prelude.{◌≡◌, ◌+◌, ◌*◌, ◌≤◌, ◌^
 ghost use Rattle.kfs_model.specs.Limits.{block_size};
 ghost use Rattle.kfs_model_device.specs.ShownTree.{file_byte};
 
-use crate::blocks::Blocks;
+use crate::blocks::FileBlocks;
 use std::alloc::Allocator;
 
 /// How many bytes a block has.
 const BLOCK_LEN: usize = 4096;
 
-impl<A: Allocator> Blocks<A> {
+impl<A: Allocator> FileBlocks<A> {
     /// Fills the buffer with the bytes of a file from the position on, which are zero where a block
     /// isn't mapped or was never written. The buffer ends within the blocks that have a number. Takes
     /// no memory.

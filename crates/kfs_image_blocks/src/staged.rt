@@ -1,10 +1,10 @@
 //! Changes that wait to be made together with another one.
 ghost use Rattle.std.specs.Prelude.{◌≡◌, OnOk, OnErr};
 
-use crate::blocks::Blocks;
+use crate::blocks::FileBlocks;
 use crate::moves::Moves;
 use kfs_image_tier::{NewBlock, Place, Tiers};
-use kfs_map_chunks::Edit;
+use kfs_map_chunks::KeyEdit;
 use kfs_map_pages::Change;
 use std::alloc::{AllocError, Allocator};
 

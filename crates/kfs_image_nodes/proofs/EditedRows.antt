@@ -1,10 +1,10 @@
--- Rows after the edits of their names: the counts beside the names are still those of the names.
+-- NodeTables after the edits of their names: the counts beside the names are still those of the names.
 use Rattle.std.proofs.Common.{◌≡◌, ℕ, sym, ap, subst}
 use Rattle.kfs_model.specs.Table.{Table, numbers}
 use Rattle.kfs_model.specs.Tree.{NameTable, name_order}
 use Rattle.kfs_map_chunks.specs.Tables.{table}
 use Rattle.kfs_image_nodes.specs.declared.name_edits.NameEdits.{NameEdits}
-use Rattle.kfs_image_nodes.specs.declared.rows.Rows.{Rows}
+use Rattle.kfs_image_nodes.specs.declared.rows.NodeTables.{NodeTables}
 use Rattle.kfs_image_nodes.specs.Indexes.{by_node, AreNames, IsCounted}
 use Rattle.kfs_image_nodes.specs.NameEdits.{names_edited, counts_edited, ways_edited}
 use Rattle.kfs_image_nodes.specs.Rows.{names_in, CountsAreExact}
@@ -12,7 +12,7 @@ use Rattle.kfs_map_chunks.specs.Edits.{rewritten}
 use Rattle.kfs_map_pages.specs.Edits as numbered
 
 module _ {A : Type 0} where
-  pub edited_indexed : (old new : Rows A) (edits : NameEdits A) → CountsAreExact old
+  pub edited_indexed : (old new : NodeTables A) (edits : NameEdits A) → CountsAreExact old
       → (AreNames (names_in old) → AreNames (names_edited old.names edits))
       → IsCounted (names_edited old.names edits) (counts_edited old.counts edits) (ways_edited old.uplinks edits)
       → new.names ≡ rewritten name_order old.names edits.names.items

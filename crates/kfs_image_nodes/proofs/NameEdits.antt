@@ -12,11 +12,11 @@ use Rattle.std.specs.FinMap.Entries.{find}
 use Rattle.std.specs.BTreeMap.{BTreeMap, get as get_slot}
 use Rattle.kfs_model.specs.Table.{Order, Table, numbers, get}
 use Rattle.kfs_model.specs.Tree.{NameTable, name_order, entry_count}
-use Rattle.kfs_map_pages.specs.declared.edit.Edit as numbered
+use Rattle.kfs_map_pages.specs.declared.edit.NumberEdit as numbered
 use Rattle.kfs_map_pages.specs.Edits as numbered_edits
 use Rattle.kfs_map_pages.specs.Edits.{AreEdits}
 use Rattle.kfs_map_pages.proofs.Tables.{get-rewritten}
-use Rattle.kfs_map_chunks.specs.declared.edit.Edit.{Edit}
+use Rattle.kfs_map_chunks.specs.declared.edit.KeyEdit.{KeyEdit}
 use Rattle.kfs_map_chunks.specs.Edits.{rewritten}
 use Rattle.kfs_map_chunks.specs.Tables.{table}
 use Rattle.kfs_map_chunks.proofs.Tables.{get-table, find-rewritten}
@@ -56,7 +56,7 @@ module _ {K : Type 0} {R : Order K} (t : Table R ℕ) (old new : BTreeMap K (Opt
 
 module _ {K X : Type 0} (R : Order K) where
   -- edits that say what was said make the table seen
-  pub edited_seen : (xs : List (K × X)) (edits : List (Edit K X)) (latest : BTreeMap K (Option X)) → Say R.compare edits latest → table R (rewritten R xs edits) ≡ overlaid (table R xs) latest.entries
+  pub edited_seen : (xs : List (K × X)) (edits : List (KeyEdit K X)) (latest : BTreeMap K (Option X)) → Say R.compare edits latest → table R (rewritten R xs edits) ≡ overlaid (table R xs) latest.entries
   edited_seen xs edits latest says =
       is_overlaid (table R xs) (table R (rewritten R xs edits)) latest.entries (λ q.
       get-table R (rewritten R xs edits) q
@@ -96,7 +96,7 @@ none_out_of_pages names within d out = no_entries name_order (λ key. key.0 == d
 -- edits that say what was said make counts of the names seen
 pub counted_edits : (names : NameTable) (counts : Table numbers ℕ) (ways : Table by_node ℕ) → IsCounted names counts ways
     → (names_now : NameTable) (ways_now : Table by_node ℕ) (said : BTreeMap ℕ (Option ℕ)) → IsCounted names_now (overlaid counts said.entries) ways_now
-    → (edits : List (numbered.Edit ℕ)) → AreEdits edits → SayOfNumbers edits said
+    → (edits : List (numbered.NumberEdit ℕ)) → AreEdits edits → SayOfNumbers edits said
     → AreInPages names
     → AreInPages names_now
     → IsCounted names_now (numbered_edits.rewritten counts edits) ways_now

@@ -15,7 +15,7 @@ use Rattle.std.specs.BTreeMap.{is_at}
 use Rattle.kfs_entry_value.specs.declared.header.Header.{Header as CodeHeader}
 use Rattle.kfs_entry_value.specs.declared.plan.NodeRow.{NodeRow}
 use Rattle.kfs_entry_value.specs.Views.{header_of}
-use Rattle.kfs_map_pages.specs.declared.edit.Edit.{Edit}
+use Rattle.kfs_map_pages.specs.declared.edit.NumberEdit.{NumberEdit}
 use Rattle.kfs_map_pages.specs.Edits.{edited, rewritten, AreEdits}
 use Rattle.kfs_map_pages.proofs.Tables.{get-rewritten}
 use Rattle.kfs_model.specs.Header.{Header}
@@ -63,11 +63,11 @@ pub number_or_not : {P : Type 0} (n : ℕ) → (IsNumber n → P) → ((IsNumber
 number_or_not n within out = by_range n (λ is. within (in_range n is)) (λ isnt. out (out_of_range n isnt))
 
 module _ {X : Type 0} where
-  numbers_kept : (es : List (ℕ × Option X)) → map (λ (e : Edit X). e.number) (edits_from es) ≡ filter is_number (keys_of es)
+  numbers_kept : (es : List (ℕ × Option X)) → map (λ (e : NumberEdit X). e.number) (edits_from es) ≡ filter is_number (keys_of es)
   unfolding edits_from
   numbers_kept [] = refl
   numbers_kept (e ∷ es) =
-      elim (is_number e.0) as (λ b. map (λ (x : Edit X). x.number) (cond b (record { number = e.0; value = e.1 } ∷ edits_from es) (edits_from es)) ≡ cond b (e.0 ∷ filter is_number (keys_of es)) (filter is_number (keys_of es))) [
+      elim (is_number e.0) as (λ b. map (λ (x : NumberEdit X). x.number) (cond b (record { number = e.0; value = e.1 } ∷ edits_from es) (edits_from es)) ≡ cond b (e.0 ∷ filter is_number (keys_of es)) (filter is_number (keys_of es))) [
         | true ↦ ap (λ ks. e.0 ∷ ks) (numbers_kept es)
         | false ↦ numbers_kept es
       ]
@@ -90,27 +90,27 @@ module _ {X : Type 0} where
   unfolding edits_from
   no_edits = refl
 
-  edits_in_range : (es : List (ℕ × Option X)) → All (λ (e : Edit X). IsNumber e.number) (edits_from es)
-  edits_in_range [] = subst (All (λ (e : Edit X). IsNumber e.number)) (sym no_edits) (λ k d below. absurd (omega (arith, below)))
+  edits_in_range : (es : List (ℕ × Option X)) → All (λ (e : NumberEdit X). IsNumber e.number) (edits_from es)
+  edits_in_range [] = subst (All (λ (e : NumberEdit X). IsNumber e.number)) (sym no_edits) (λ k d below. absurd (omega (arith, below)))
   edits_in_range (e ∷ es) =
       by_range e.0
-      (λ is. subst (All (λ (x : Edit X). IsNumber x.number)) (sym (edits_within e es is)) (All-cons (λ (x : Edit X). IsNumber x.number) _ _ (in_range e.0 is) (edits_in_range es)))
-      (λ isnt. subst (All (λ (x : Edit X). IsNumber x.number)) (sym (edits_without e es isnt)) (edits_in_range es))
+      (λ is. subst (All (λ (x : NumberEdit X). IsNumber x.number)) (sym (edits_within e es is)) (All-cons (λ (x : NumberEdit X). IsNumber x.number) _ _ (in_range e.0 is) (edits_in_range es)))
+      (λ isnt. subst (All (λ (x : NumberEdit X). IsNumber x.number)) (sym (edits_without e es isnt)) (edits_in_range es))
 
   pub are_edits : (es : List (ℕ × Option X)) → IsStrictlySortedBy nat_cmp (keys_of es) → AreEdits (edits_from es)
   are_edits es sorted = record { ascend = ascend; range = edits_in_range es }
     where
       keys : List ℕ
-      keys = map (λ (e : Edit X). e.number) (edits_from es)
+      keys = map (λ (e : NumberEdit X). e.number) (edits_from es)
 
-      ordered : IsStrictlySortedBy nat_cmp (map (λ (e : Edit X). e.number) (edits_from es))
+      ordered : IsStrictlySortedBy nat_cmp (map (λ (e : NumberEdit X). e.number) (edits_from es))
       ordered = subst (IsStrictlySortedBy nat_cmp) (sym (numbers_kept es)) (IsStrictlySortedBy-filter nat_cmp is_number (keys_of es) sorted)
 
-      ascend : (i j : ℕ) (d : Edit X) → i < j → j < length (edits_from es) → (slice_index_or (edits_from es) i d).number < (slice_index_or (edits_from es) j d).number
+      ascend : (i j : ℕ) (d : NumberEdit X) → i < j → j < length (edits_from es) → (slice_index_or (edits_from es) i d).number < (slice_index_or (edits_from es) j d).number
       ascend i j d less below =
-          let at_i = get_or-map (λ (e : Edit X). e.number) (edits_from es) i d d.number (omega (arith, less, below)) in
-          let at_j = get_or-map (λ (e : Edit X). e.number) (edits_from es) j d d.number below in
-          let apart = below_from_sorted (map (λ (e : Edit X). e.number) (edits_from es)) i j d.number ordered less (omega (arith, below, length-map (edits_from es) (λ (e : Edit X). e.number))) in
+          let at_i = get_or-map (λ (e : NumberEdit X). e.number) (edits_from es) i d d.number (omega (arith, less, below)) in
+          let at_j = get_or-map (λ (e : NumberEdit X). e.number) (edits_from es) j d d.number below in
+          let apart = below_from_sorted (map (λ (e : NumberEdit X). e.number) (edits_from es)) i j d.number ordered less (omega (arith, below, length-map (edits_from es) (λ (e : NumberEdit X). e.number))) in
           omega (arith, at_i, at_j, apart)
 
   -- the edits make of a number what was said of it
@@ -133,9 +133,9 @@ module _ {X : Type 0} where
       left_out rest isnt = ap (λ edits. edited edits q there) (edits_without e es isnt) ∙ rest there ∙ away isnt (eq_by_cmp nat_cmp q e.0) refl
 
   -- edits make nothing of a number that no page has
-  pub edited_beside : (edits : List (Edit X)) (q : ℕ) (there : Option X) → All (λ (e : Edit X). IsNumber e.number) edits → (IsNumber q → ⊥) → edited edits q there ≡ there
+  pub edited_beside : (edits : List (NumberEdit X)) (q : ℕ) (there : Option X) → All (λ (e : NumberEdit X). IsNumber e.number) edits → (IsNumber q → ⊥) → edited edits q there ≡ there
   edited_beside [] q there within out = refl
-  edited_beside (e ∷ es) q there within out = at (edited_beside es q there (All-tail (λ (x : Edit X). IsNumber x.number) e es within) out) (eq_by_cmp nat_cmp q e.number) refl
+  edited_beside (e ∷ es) q there within out = at (edited_beside es q there (All-tail (λ (x : NumberEdit X). IsNumber x.number) e es within) out) (eq_by_cmp nat_cmp q e.number) refl
     where
       at : edited es q there ≡ there → (b : Bool) → eq_by_cmp nat_cmp q e.number ≡ b → edited es q (cond b e.value there) ≡ there
       at rest true tied = absurd (out (subst IsNumber (sym (eqb-true q e.number (sym (unsigned_tied q e.number) ∙ tied))) (within 0 e (omega arith))))
@@ -162,7 +162,7 @@ none_beyond heads q within out = at (get heads q) refl
     at (Some h) is = absurd (out (within q h is))
 
 -- edits that say what the rows leave make the headers of the rows
-pub heads_made : (headers : Table numbers CodeHeader) (edits : List (Edit CodeHeader)) (rows : List NodeRow) → AreEdits edits
+pub heads_made : (headers : Table numbers CodeHeader) (edits : List (NumberEdit CodeHeader)) (rows : List NodeRow) → AreEdits edits
     → ((q : ℕ) (there : Option CodeHeader) → IsNumber q → edited edits q there ≡ left_by rows q there)
     → AreNumbered (heads_of headers)
     → AreNumbered (reheaded (heads_of headers) rows)

@@ -6,7 +6,7 @@ use Rattle.kfs_entry_value.specs.declared.plan.NodeRow.{NodeRow}
 use Rattle.kfs_model.specs.Header.{Header}
 use Rattle.kfs_model.specs.Limits.{greatest_number}
 use Rattle.kfs_model.specs.Table.{Table, numbers, get}
-use Rattle.kfs_map_pages.specs.declared.edit.Edit.{Edit}
+use Rattle.kfs_map_pages.specs.declared.edit.NumberEdit.{NumberEdit}
 
 -- what the rows, one after the other, leave at a number where this stood
 abbrev pub left_by : List NodeRow → ℕ → Option CodeHeader → Option CodeHeader
@@ -23,6 +23,6 @@ AreNumbered heads = (number : ℕ) (h : Header) → get heads number ≡ Some h 
 
 module _ {X : Type 0} where
   -- the edits to what was said, of numbers that pages have
-  unfoldable pub edits_from : List (ℕ × Option X) → List (Edit X)
+  unfoldable pub edits_from : List (ℕ × Option X) → List (NumberEdit X)
   edits_from [] = []
   edits_from (e ∷ es) = if nat_le 1 e.0 && nat_le e.0 greatest_number then record { number = e.0; value = e.1 } ∷ edits_from es else edits_from es

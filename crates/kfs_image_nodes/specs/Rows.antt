@@ -6,7 +6,7 @@ use Rattle.kfs_model.specs.Header.{Header}
 use Rattle.kfs_model.specs.Table.{Table, numbers, mapped}
 use Rattle.kfs_model.specs.Tree.{NameTable, name_order}
 use Rattle.kfs_map_chunks.specs.Tables.{table}
-use Rattle.kfs_image_nodes.specs.declared.rows.Rows.{Rows}
+use Rattle.kfs_image_nodes.specs.declared.rows.NodeTables.{NodeTables}
 use Rattle.kfs_image_nodes.specs.Indexes.{by_node, AreNames, AreInPages, IsCounted}
 use Rattle.kfs_image_nodes.specs.NodeEdits.{AreNumbered}
 
@@ -19,17 +19,17 @@ abbrev pub FitPages : Table numbers Header → NameTable → Type 0
 FitPages heads names = AreNumbered heads × AreInPages names
 
 module _ {A : Type 0} where
-  abbrev pub heads_in : Rows A → Table numbers Header
+  abbrev pub heads_in : NodeTables A → Table numbers Header
   heads_in rows = heads_of rows.headers
 
-  abbrev pub names_in : Rows A → NameTable
+  abbrev pub names_in : NodeTables A → NameTable
   names_in rows = table name_order rows.names
 
   -- how many names of a directory lead to a node
-  abbrev pub ways_in : Rows A → Table by_node ℕ
+  abbrev pub ways_in : NodeTables A → Table by_node ℕ
   ways_in rows = table by_node rows.uplinks
 
   -- each name is one, and the counts are those of the names
-  pub record CountsAreExact (rows : Rows A) : Type 0 where
+  pub record CountsAreExact (rows : NodeTables A) : Type 0 where
     pub names : AreNames (names_in rows)
     pub counted : IsCounted (names_in rows) rows.counts (ways_in rows)

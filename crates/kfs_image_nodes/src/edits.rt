@@ -9,15 +9,15 @@ ghost use Rattle.kfs_map_chunks.specs.Overlays.{said_or};
 use crate::overlay::number_edits;
 use kfs_entry_value::{Header, NodeRow};
 use kfs_map_chunks::Overlay;
-use kfs_map_pages::Edit;
+use kfs_map_pages::NumberEdit;
 use std::alloc::{AllocError, Allocator};
 
-/// What the rows, one after the other, make of the headers, ascending. Rows of numbers that no node
+/// What the rows, one after the other, make of the headers, ascending. NodeTables of numbers that no node
 /// can have are left out. `Err` where memory is refused.
 pub fn header_edits<A: Allocator + Clone>(
     alloc: &A,
     nodes: &[NodeRow],
-) -> Result<Vec<Edit<Header>, A>, AllocError>
+) -> Result<Vec<NumberEdit<Header>, A>, AllocError>
     ensures edits { IfOk result (λ edits. AreEdits edits.items) }
     ensures made { IfOk result (λ edits. (q : ℕ) (there : Option Header) → IsNumber q → edited edits.items q there ≡ left_by nodes.now q there) }
 {

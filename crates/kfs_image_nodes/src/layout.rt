@@ -11,7 +11,7 @@ ghost use Rattle.kfs_image_nodes.specs.Change.{after_rows, renamed, reheaded};
 ghost use Rattle.kfs_image_nodes.specs.Rows.{FitPages};
 
 use crate::cell::{Answer, Cell};
-use crate::rows::{Rows, name_key};
+use crate::rows::{NodeTables, name_key};
 use kfs_entry_value::{GREATEST_MODE, Header, Kind, Name, NameRow, NodeRow, ROOT};
 use kfs_map_pages::{Change, Page};
 use std::alloc::{AllocError, Allocator};
@@ -20,7 +20,7 @@ use std::marker::Model;
 /// The nodes and the names of an image without its bytes.
 #[derive(Drop)]
 pub struct Shape<A: Allocator> {
-    rows: Rows<A>,
+    rows: NodeTables<A>,
 }
 
 impl<A: Allocator> Model for Shape<A> {
@@ -128,7 +128,7 @@ impl<A: Allocator + Clone> Shape<A> {
             links: 1,
             size: 0,
         };
-        let rows = Rows::with_node(alloc, ROOT, root)?;
+        let rows = NodeTables::with_node(alloc, ROOT, root)?;
         Ok(Shape { rows })
     }
 

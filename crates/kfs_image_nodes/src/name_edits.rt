@@ -22,9 +22,9 @@ use std::alloc::{AllocError, Allocator};
 /// ways up. The edits of each ascend.
 #[derive(Drop)]
 pub(crate) struct NameEdits<A: Allocator> {
-    pub(crate) names: Vec<kfs_map_chunks::Edit<(u32, Name), u32>, A>,
-    pub(crate) counts: Vec<kfs_map_pages::Edit<u64>, A>,
-    pub(crate) uplinks: Vec<kfs_map_chunks::Edit<(u32, u32), u64>, A>,
+    pub(crate) names: Vec<kfs_map_chunks::KeyEdit<(u32, Name), u32>, A>,
+    pub(crate) counts: Vec<kfs_map_pages::NumberEdit<u64>, A>,
+    pub(crate) uplinks: Vec<kfs_map_chunks::KeyEdit<(u32, u32), u64>, A>,
 }
 
 /// The edits that the rows, one after the other, make. The maps stay as they are. Counts of directories

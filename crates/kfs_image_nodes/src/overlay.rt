@@ -8,7 +8,7 @@ ghost use Rattle.kfs_image_nodes.specs.Overlays.{SayOfNumbers};
 
 use kfs_entry_value::GREATEST_NUMBER;
 use kfs_map_chunks::Overlay;
-use kfs_map_pages::Edit;
+use kfs_map_pages::NumberEdit;
 use std::alloc::{AllocError, Allocator};
 use std::collections::BTreeMap;
 
@@ -17,7 +17,7 @@ use std::collections::BTreeMap;
 pub(crate) fn number_edits<V: Copy, A: Allocator + Clone>(
     alloc: &A,
     overlay: &Overlay<u32, V, A>,
-) -> Result<Vec<Edit<V>, A>, AllocError>
+) -> Result<Vec<NumberEdit<V>, A>, AllocError>
     ensures edits { IfOk result (λ edits. AreEdits edits.items) }
     ensures said { IfOk result (λ edits. SayOfNumbers edits.items overlay.now.latest) }
 {
@@ -28,7 +28,7 @@ pub(crate) fn number_edits<V: Copy, A: Allocator + Clone>(
 
 fn list_numbers<V: Copy, A: Allocator + Clone>(
     latest: &BTreeMap<u32, Option<V>, A>,
-    edits: &mut Vec<Edit<V>, A>,
+    edits: &mut Vec<NumberEdit<V>, A>,
 ) -> Result<(), AllocError>
     requires { edits.old.items ≡ [] }
     ensures edits { OnOk result (edits.new.items ≡ edits_from latest.now.entries) }
@@ -36,7 +36,7 @@ fn list_numbers<V: Copy, A: Allocator + Clone>(
 {
     for (number, now) in latest {
         if 1 <= *number && *number <= GREATEST_NUMBER {
-            edits.push(Edit {
+            edits.push(NumberEdit {
                 number: *number,
                 value: *now,
             })?;

@@ -19,13 +19,13 @@ use crate::edits::header_edits;
 use crate::name_edits::{NameEdits, name_edits};
 use kfs_entry_value::{Header, Name, NameRow, NodeRow};
 use kfs_map_chunks::{Chunks, EditChunks};
-use kfs_map_pages::{Change, Edit, EditPages, Nothing, Pages};
+use kfs_map_pages::{Change, EditPages, Nothing, NumberEdit, Pages};
 use std::alloc::{AllocError, Allocator};
 use std::ops::Bound;
 
 /// Nodes by number, and names by directory and name, with counts of the names. Copies share the pages
 /// and chunks of all of them.
-pub(crate) struct Rows<A: Allocator> {
+pub(crate) struct NodeTables<A: Allocator> {
     pub(crate) headers: Pages<Header, A>,
     /// The number that a name leads to.
     names: Chunks<(u32, Name), u32, A>,
@@ -36,9 +36,9 @@ pub(crate) struct Rows<A: Allocator> {
 }
 
 // Written out, so that the drop of the maps is proved once and not in each crate that drops a shape.
-impl<A: Allocator> Drop for Rows<A> {
+impl<A: Allocator> Drop for NodeTables<A> {
     fn drop(self) {
-        let Rows {
+        let NodeTables {
             headers,
             names,
             counts,
@@ -51,11 +51,11 @@ impl<A: Allocator> Drop for Rows<A> {
     }
 }
 
-impl<A: Allocator + Clone> Clone for Rows<A> {
+impl<A: Allocator + Clone> Clone for NodeTables<A> {
     ghost is_clone = { λ rows copy. copy ≡ rows };
 
-    fn clone(&self) -> Result<Rows<A>, AllocError> {
-        Ok(Rows {
+    fn clone(&self) -> Result<NodeTables<A>, AllocError> {
+        Ok(NodeTables {
             headers: self.headers.clone()?,
             names: self.names.clone()?,
             counts: self.counts.clone()?,
@@ -64,7 +64,7 @@ impl<A: Allocator + Clone> Clone for Rows<A> {
     }
 }
 
-impl<A: Allocator> Rows<A> {
+impl<A: Allocator> NodeTables<A> {
     pub(crate) fn header(&self, number: u32) -> Option<Header>
         ensures { option_map header_of result ≡ get (heads_in self.now) number }
     {
@@ -157,21 +157,25 @@ pub(crate) fn target_of(row: &NameRow) -> Option<u32>
     }
 }
 
-impl<A: Allocator + Clone> Rows<A> {
+impl<A: Allocator + Clone> NodeTables<A> {
     /// One node, and no name.
-    pub(crate) fn with_node(alloc: A, number: u32, header: Header) -> Result<Rows<A>, AllocError>
+    pub(crate) fn with_node(
+        alloc: A,
+        number: u32,
+        header: Header,
+    ) -> Result<NodeTables<A>, AllocError>
         requires { IsNumber number }
         ensures heads { IfOk result (λ rows. heads_in rows ≡ changed empty number (Some (header_of header))) }
         ensures names { IfOk result (λ rows. names_in rows ≡ empty) }
         ensures indexed { IfOk result CountsAreExact }
     {
         let mut headers = Pages::new(alloc.clone()?)?;
-        let edit = Edit {
+        let edit = NumberEdit {
             number,
             value: Some(header),
         };
         headers.change_then(&[edit], &mut Nothing)?;
-        Ok(Rows {
+        Ok(NodeTables {
             headers,
             names: Chunks::new(alloc.clone()?),
             counts: Pages::new(alloc.clone()?)?,
@@ -183,7 +187,7 @@ impl<A: Allocator + Clone> Rows<A> {
     /// comes before the first edit.
     fn change<T: Change>(
         &mut self,
-        headers: &[Edit<Header>],
+        headers: &[NumberEdit<Header>],
         edits: &NameEdits<A>,
         then: &mut T,
     ) -> Result<(), AllocError>

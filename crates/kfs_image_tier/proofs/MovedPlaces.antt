@@ -8,7 +8,7 @@ use Rattle.kfs_model.proofs.Tables.{found_from_any, any_from_found}
 use Rattle.kfs_model_device.specs.Device.{Devices}
 use Rattle.kfs_image_tier.specs.Tiers.{TiersShown, is_free_at, IsInTier, is_place, is_among, with_places, CanMove}
 use Rattle.kfs_image_tier.specs.Unused.{FreeIsUnused, IsLeft, AreMoved, CanFollow, KeepsUnused}
-use Rattle.kfs_image_tier.proofs.TierChanges.{can_turn, free_in_tier, is_free_at-with_places, AreSized-with_places}
+use Rattle.kfs_image_tier.proofs.TierChanges.{can_turn, free_in_tier, is_free_at-with_places, TiersAreSized-with_places}
 
 -- ---- equal places
 
@@ -131,7 +131,7 @@ module _ (old new : Placement) (tiers : TiersShown) (given taken : List Place) (
 
   pub free_is_unused : (devices : Devices) → FreeIsUnused new (record { sizes = tiers.sizes; free = with_places false taken (with_places true given tiers.free); devices = devices })
   free_is_unused devices = record {
-    sized = AreSized-with_places tiers.sizes false taken (with_places true given tiers.free) (AreSized-with_places tiers.sizes true given tiers.free holds.sized);
+    sized = TiersAreSized-with_places tiers.sizes false taken (with_places true given tiers.free) (TiersAreSized-with_places tiers.sizes true given tiers.free holds.sized);
     unused = λ place below. moved_free place ∙ ap (λ b. cond (is_among taken place) false (cond (is_among given place) true b)) (holds.unused place below) ∙ settled place;
   }
 

@@ -8,7 +8,7 @@ ghost use Rattle.kfs_model.specs.Table.{empty, insert, remove};
 ghost use Rattle.kfs_image_tier.specs.Blocks.{block_at, byte_at, HasRoomForBlock, KeepsBlocks, with_room, without_room};
 ghost use Rattle.kfs_image_tier.specs.Slots.{held_at, SetsSlot};
 
-use kfs_entry_value::Rows;
+use kfs_entry_value::RowList;
 use std::alloc::{AllocError, Allocator};
 use std::collections::BTreeMap;
 use std::marker::Model;
@@ -16,11 +16,11 @@ use std::marker::Model;
 /// The blocks of a tier, each of 4,096 bytes once it was written. Contracts see their table by place,
 /// in which a block that has room and was never written stands without bytes.
 #[derive(Drop)]
-pub struct Blocks<A: Allocator> {
-    slots: BTreeMap<u32, Option<Rows<u8, A>>, A>,
+pub struct TierBlocks<A: Allocator> {
+    slots: BTreeMap<u32, Option<RowList<u8, A>>, A>,
 }
 
-impl<A: Allocator> Model for Blocks<A> {
+impl<A: Allocator> Model for TierBlocks<A> {
     ghost use Rattle.kfs_image_tier.specs.Blocks.{BlockTable, AreWhole};
     ghost use Rattle.kfs_image_tier.specs.Slots.{blocks_of};
 
@@ -31,12 +31,12 @@ impl<A: Allocator> Model for Blocks<A> {
     ghost invariant = { λ b. AreWhole (blocks_of b.slots.entries) };
 }
 
-impl<A: Allocator> Blocks<A> {
+impl<A: Allocator> TierBlocks<A> {
     /// No block was written, and none has room. Takes no memory.
-    pub fn new(alloc: A) -> Blocks<A>
+    pub fn new(alloc: A) -> TierBlocks<A>
         ensures { result ≡ empty }
     {
-        Blocks {
+        TierBlocks {
             slots: BTreeMap::new(alloc),
         }
     }
@@ -89,7 +89,7 @@ impl<A: Allocator> Blocks<A> {
         requires whole { vec_len bytes ≡ block_size }
         ensures { self.new ≡ insert self.old place (Some bytes.items) }
     {
-        set_slot(&mut self.slots, place, Rows::from_vec(bytes));
+        set_slot(&mut self.slots, place, RowList::from_vec(bytes));
     }
 
     /// Gives up the bytes of a block, and its room. Takes no memory.
@@ -102,9 +102,9 @@ impl<A: Allocator> Blocks<A> {
 
 /// The bytes in the place's slot.
 fn written<A: Allocator>(
-    slots: &BTreeMap<u32, Option<Rows<u8, A>>, A>,
+    slots: &BTreeMap<u32, Option<RowList<u8, A>>, A>,
     place: u32,
-) -> Option<&Rows<u8, A>>
+) -> Option<&RowList<u8, A>>
     ensures { option_copied result ≡ held_at slots.now place }
 {
     slots.get(&place)?.as_ref()
@@ -112,7 +112,7 @@ fn written<A: Allocator>(
 
 /// Makes a slot for the place where there is none.
 fn make_slot<A: Allocator + Clone>(
-    slots: &mut BTreeMap<u32, Option<Rows<u8, A>>, A>,
+    slots: &mut BTreeMap<u32, Option<RowList<u8, A>>, A>,
     place: u32,
 ) -> Result<(), AllocError>
     ensures ok { OnOk result (SetsSlot slots.old slots.new place (Some (held_at slots.old place))) }
@@ -126,7 +126,7 @@ fn make_slot<A: Allocator + Clone>(
 }
 
 /// Takes the place's slot out where it has no bytes.
-fn remove_empty<A: Allocator>(slots: &mut BTreeMap<u32, Option<Rows<u8, A>>, A>, place: u32)
+fn remove_empty<A: Allocator>(slots: &mut BTreeMap<u32, Option<RowList<u8, A>>, A>, place: u32)
     ensures empty { held_at slots.old place ≡ None → SetsSlot slots.old slots.new place None }
     ensures full { IfSome (held_at slots.old place) (λ _. slots.new.entries ≡ slots.old.entries) }
 {
@@ -136,7 +136,7 @@ fn remove_empty<A: Allocator>(slots: &mut BTreeMap<u32, Option<Rows<u8, A>>, A>,
 }
 
 /// Takes the place's slot out.
-fn remove_slot<A: Allocator>(slots: &mut BTreeMap<u32, Option<Rows<u8, A>>, A>, place: u32)
+fn remove_slot<A: Allocator>(slots: &mut BTreeMap<u32, Option<RowList<u8, A>>, A>, place: u32)
     ensures { SetsSlot slots.old slots.new place None }
 {
     let _ = slots.remove(&place);
@@ -144,9 +144,9 @@ fn remove_slot<A: Allocator>(slots: &mut BTreeMap<u32, Option<Rows<u8, A>>, A>, 
 
 /// Sets the bytes in the place's slot. There is one.
 fn set_slot<A: Allocator>(
-    slots: &mut BTreeMap<u32, Option<Rows<u8, A>>, A>,
+    slots: &mut BTreeMap<u32, Option<RowList<u8, A>>, A>,
     place: u32,
-    bytes: Rows<u8, A>,
+    bytes: RowList<u8, A>,
 )
     requires { IsSome (get nat_cmp slots.old place) }
     ensures { SetsSlot slots.old slots.new place (Some (Some bytes)) }

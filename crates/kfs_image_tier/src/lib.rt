@@ -10,7 +10,7 @@ mod places;
 mod tier;
 mod tiers;
 
-pub use blocks::Blocks;
+pub use blocks::TierBlocks;
 pub use change::NewBlock;
 pub use place::Place;
 pub use places::Places;

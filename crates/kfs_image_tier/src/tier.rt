@@ -6,7 +6,7 @@ ghost use Rattle.kfs_image_tier.specs.Places.{is_free_in};
 ghost use Rattle.kfs_image_tier.specs.Blocks.{HasRoomForBlock, KeepsBlocks, with_room, without_room};
 ghost use Rattle.kfs_image_tier.specs.Tier.{AreInTier};
 
-use crate::blocks::Blocks;
+use crate::blocks::TierBlocks;
 use crate::places::Places;
 use std::alloc::{AllocError, Allocator};
 use std::marker::Model;
@@ -15,7 +15,7 @@ use std::marker::Model;
 /// written.
 pub struct Tier<A: Allocator> {
     places: Places<A>,
-    blocks: Blocks<A>,
+    blocks: TierBlocks<A>,
 }
 
 impl<A: Allocator> Model for Tier<A> {
@@ -47,7 +47,7 @@ impl<A: Allocator> Tier<A> {
         let places = Places::new(alloc.clone()?, size)?;
         Ok(Tier {
             places,
-            blocks: Blocks::new(alloc),
+            blocks: TierBlocks::new(alloc),
         })
     }
 
@@ -59,7 +59,7 @@ impl<A: Allocator> Tier<A> {
     }
 
     /// The blocks, to be read. Takes no memory.
-    pub fn blocks(&self) -> &Blocks<A>
+    pub fn blocks(&self) -> &TierBlocks<A>
         ensures blocks { result.now ≡ self.now.blocks }
         ensures in_tier { AreInTier self.now }
     {

@@ -9,7 +9,7 @@ ghost use Rattle.kfs_lease.specs.declared.leases.LeaseFault.TheVariants.{OutOfMe
 
 use crate::path::{names_of, walk};
 use kfs_image_nodes::Shape;
-use kfs_lease_rows::{Lease, LeaseKind, Rows};
+use kfs_lease_rows::{Lease, LeaseKind, LeaseRows};
 use kfs_mode::{Client, find_client};
 use std::alloc::{AllocError, AllocFailed, Allocator};
 use std::marker::Model;
@@ -17,7 +17,7 @@ use std::marker::Model;
 /// The leases that clients hold on nodes, and the moment. A client has at most one lease on a node.
 #[derive(Drop)]
 pub struct Leases<A: Allocator> {
-    rows: Rows<A>,
+    rows: LeaseRows<A>,
     moment: u64,
 }
 
@@ -90,7 +90,7 @@ impl<A: Allocator + Copy> Leases<A> {
         ensures { result ≡ no_leases }
     {
         Leases {
-            rows: Rows::empty(alloc),
+            rows: LeaseRows::empty(alloc),
             moment: 0,
         }
     }

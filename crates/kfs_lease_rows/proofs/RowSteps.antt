@@ -12,7 +12,7 @@ use Rattle.std.specs.BTreeSet.{BTreeSet}
 use Rattle.std.proofs.lemmas.Bool.Decides.{nat_tests}
 use borrow.Author.Tests.{eqb-true, eq-eqb}
 use Rattle.kfs_lease_rows.specs.declared.rows.Lease.{Lease}
-use Rattle.kfs_lease_rows.specs.declared.rows.Rows.{Rows}
+use Rattle.kfs_lease_rows.specs.declared.rows.LeaseRows.{LeaseRows}
 use Rattle.kfs_lease_rows.specs.Rows.{by_node, by_end, ends_at, EndsAreExact}
 use Rattle.kfs_lease_rows.proofs.RowTables.{both_equal}
 
@@ -48,7 +48,7 @@ pub only_end : (row : Option Lease) (last : ℕ) → ends_at row last ≡ true �
 only_end None last is end = cc
 only_end (Some lease) last is end = ap (λ e. e == end) (eqb-true lease.end last is)
 
-module _ {A : Type 0} (old new : Rows A) (indexed : EndsAreExact old) (key : ℕ × ℕ) where
+module _ {A : Type 0} (old new : LeaseRows A) (indexed : EndsAreExact old) (key : ℕ × ℕ) where
   -- a row with its end
   pub indexed_set : (w : Option Lease) → ((q : ℕ × ℕ) → slots_of.get by_node.compare new.leases q ≡ cond (is_at (by_node.compare key) q) w (slots_of.get by_node.compare old.leases q))
       → ((end : ℕ) (q : ℕ × ℕ) → set.contains by_end.compare new.ends (end, q) ≡ cond (is_at (by_node.compare key) q) (ends_at w end) (set.contains by_end.compare old.ends (end, q)))
@@ -99,7 +99,7 @@ module _ (key : ℕ × ℕ) where
 
 -- ---- the ends of a row that is put
 
-module _ {A : Type 0} (rows : Rows A) (indexed : EndsAreExact rows) (key : ℕ × ℕ) (to : ℕ) (with_end : BTreeSet (ℕ × (ℕ × ℕ)))
+module _ {A : Type 0} (rows : LeaseRows A) (indexed : EndsAreExact rows) (key : ℕ × ℕ) (to : ℕ) (with_end : BTreeSet (ℕ × (ℕ × ℕ)))
     (added : (e : ℕ × (ℕ × ℕ)) → set.contains by_end.compare with_end e ≡ cond (is_at (by_end.compare (to, key)) e) true (set.contains by_end.compare rows.ends e)) where
   -- the new end stands beside the old one
   pub both_ends : (end : ℕ) → set.contains by_end.compare with_end (end, key) ≡ ((to == end) || ends_at (slots_of.get by_node.compare rows.leases key) end)
@@ -146,7 +146,7 @@ module _ {A : Type 0} (rows : Rows A) (indexed : EndsAreExact rows) (key : ℕ �
       at false other = other_ends end q other
 
 -- rows with the same leases and ends
-pub same_rows : {A : Type 0} (old new : Rows A) → EndsAreExact old → new.leases.entries ≡ old.leases.entries
+pub same_rows : {A : Type 0} (old new : LeaseRows A) → EndsAreExact old → new.leases.entries ≡ old.leases.entries
     → ((end : ℕ) (q : ℕ × ℕ) → set.contains by_end.compare new.ends (end, q) ≡ set.contains by_end.compare old.ends (end, q)) → EndsAreExact new
 same_rows old new indexed leases ends = record {
   ends = λ end q. ends end q ∙ indexed.ends end q ∙ ap (λ es. ends_at (lookup (is_at (by_node.compare q)) es) end) (sym leases);

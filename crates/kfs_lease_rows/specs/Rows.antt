@@ -8,7 +8,7 @@ use Rattle.kfs_model.specs.Lease as model
 use Rattle.kfs_lease_rows.specs.declared.rows.LeaseKind.{LeaseKind}
 use Rattle.kfs_lease_rows.specs.declared.rows.LeaseKind.TheVariants.{Read, Write}
 use Rattle.kfs_lease_rows.specs.declared.rows.Lease.{Lease}
-use Rattle.kfs_lease_rows.specs.declared.rows.Rows.{Rows}
+use Rattle.kfs_lease_rows.specs.declared.rows.LeaseRows.{LeaseRows}
 
 abbrev pub kind_of : LeaseKind → model.LeaseKind
 kind_of Read = model.ReadLease
@@ -31,7 +31,7 @@ table_of [] = empty
 table_of (row ∷ rows) = insert (table_of rows) (row.0.1, row.0.0) (lease_of row.1)
 
 -- how many rows there are
-abbrev pub row_count : {A : Type 0} → Rows A → ℕ
+abbrev pub row_count : {A : Type 0} → LeaseRows A → ℕ
 row_count rows = slots_of.btree_map_len rows.leases
 
 -- whether this end stands beside the key
@@ -43,9 +43,9 @@ abbrev pub ends_at : Option Lease → (end : ℕ) → Bool
 ends_at row end = is_some_and row (λ (lease : Lease). lease.end == end)
 
 module _ {A : Type 0} where
-  abbrev pub table_in : Rows A → model.LeaseTable
+  abbrev pub table_in : LeaseRows A → model.LeaseTable
   table_in rows = table_of rows.leases.entries
 
   -- the ends are those of the rows
-  pub record EndsAreExact (rows : Rows A) : Type 0 where
+  pub record EndsAreExact (rows : LeaseRows A) : Type 0 where
     pub ends : (end : ℕ) (key : ℕ × ℕ) → set.contains by_end.compare rows.ends (end, key) ≡ ends_at (slots_of.get by_node.compare rows.leases key) end

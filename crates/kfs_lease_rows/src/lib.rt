@@ -3,4 +3,4 @@
 
 mod rows;
 
-pub use rows::{Lease, LeaseKind, Rows};
+pub use rows::{Lease, LeaseKind, LeaseRows};

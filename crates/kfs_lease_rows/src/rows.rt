@@ -46,7 +46,7 @@ impl Lease {
 }
 
 /// A lease of each client on each node at most.
-pub struct Rows<A: Allocator> {
+pub struct LeaseRows<A: Allocator> {
     /// By the node's number and then the client's.
     pub leases: BTreeMap<(u32, u32), Lease, A>,
     /// The end of each row, and its key.
@@ -54,29 +54,29 @@ pub struct Rows<A: Allocator> {
 }
 
 // Written out, so that the drop of the two is proved once and not in each crate that drops leases.
-impl<A: Allocator> Drop for Rows<A> {
+impl<A: Allocator> Drop for LeaseRows<A> {
     fn drop(self) {
-        let Rows { leases, ends } = self;
+        let LeaseRows { leases, ends } = self;
         drop(leases);
         drop(ends);
     }
 }
 
-impl<A: Allocator + Copy> Rows<A> {
+impl<A: Allocator + Copy> LeaseRows<A> {
     /// No row. Takes no memory.
-    #[tactic(auto, unfolding(crate::specs::Rows::table_of))]
-    pub fn empty(alloc: A) -> Rows<A>
+    #[tactic(auto, unfolding(crate::specs::LeaseRows::table_of))]
+    pub fn empty(alloc: A) -> LeaseRows<A>
         ensures table { table_in result ≡ empty }
         ensures indexed { EndsAreExact result }
     {
-        Rows {
+        LeaseRows {
             leases: BTreeMap::new(alloc),
             ends: BTreeSet::new(alloc),
         }
     }
 }
 
-impl<A: Allocator> Rows<A> {
+impl<A: Allocator> LeaseRows<A> {
     /// The client's lease on the node.
     #[tactic(auto, using(crate::proofs::RowTables::tables))]
     pub fn lease(&self, client: u32, number: u32) -> Option<Lease>
@@ -179,13 +179,13 @@ fn first_client<A: Allocator>(leases: &BTreeMap<(u32, u32), Lease, A>, number: u
     if key.0 == number { Some(key.1) } else { None }
 }
 
-impl<A: Allocator + Clone> Rows<A> {
-    /// Rows that show the same.
-    pub fn copy(&self) -> Result<Rows<A>, AllocError>
+impl<A: Allocator + Clone> LeaseRows<A> {
+    /// LeaseRows that show the same.
+    pub fn copy(&self) -> Result<LeaseRows<A>, AllocError>
         ensures leases { IfOk result (λ copy. copy.leases.entries ≡ self.now.leases.entries) }
         ensures ends { IfOk result (λ copy. copy.ends.keys ≡ self.now.ends.keys) }
     {
-        Ok(Rows {
+        Ok(LeaseRows {
             leases: self.leases.clone()?,
             ends: self.ends.clone()?,
         })

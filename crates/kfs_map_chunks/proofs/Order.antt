@@ -6,7 +6,7 @@ use Rattle.std.specs.declared.cmp.Ordering.TheVariants.{Less, Equal, Greater}
 use Rattle.std.specs.Ordering.{is_lt, is_gt, ordering_reverse}
 use Rattle.std.specs.Cmp.{IsTotalOrder, upto, tied_itself}
 use Rattle.std.specs.List.Sorted.{IsPartitionPoint}
-use Rattle.kfs_map_chunks.specs.declared.edit.Edit.{Edit}
+use Rattle.kfs_map_chunks.specs.declared.edit.KeyEdit.{KeyEdit}
 use Rattle.kfs_map_chunks.specs.Edits.{KeysAscend}
 use Rattle.kfs_map_chunks.specs.Starts.{before}
 
@@ -57,22 +57,22 @@ module _ {X : Type 0} (test : X → Bool) where
 
 module _ {K V : Type 0} {cmp : K → K → Ordering} (o : IsTotalOrder cmp) where
   -- no edit is below an earlier one, nor below itself
-  pub not_earlier : (es : List (Edit K V)) (i k : ℕ) (d : Edit K V) → KeysAscend cmp es → i + k < length es → is_lt (cmp (slice_index_or es (i + k) d).key (slice_index_or es i d).key) ≡ false
+  pub not_earlier : (es : List (KeyEdit K V)) (i k : ℕ) (d : KeyEdit K V) → KeysAscend cmp es → i + k < length es → is_lt (cmp (slice_index_or es (i + k) d).key (slice_index_or es i d).key) ≡ false
   not_earlier es i zero d ascend below =
       ap (λ n. is_lt (cmp (slice_index_or es n d).key (slice_index_or es i d).key)) {x = i + 0} {y = i} (omega arith) ∙ ap is_lt (tied_itself o (slice_index_or es i d).key)
   not_earlier es i (suc k) d ascend below = flipped o _ _ ∙ ap is_gt (ascend i (i + suc k) d (omega arith) below)
 
 module _ {K V : Type 0} (cmp : K → K → Ordering) where
-  pub ascend_drop : (es : List (Edit K V)) (r : ℕ) → KeysAscend cmp es → KeysAscend cmp (drop r es)
+  pub ascend_drop : (es : List (KeyEdit K V)) (r : ℕ) → KeysAscend cmp es → KeysAscend cmp (drop r es)
   ascend_drop es r ascend i j d less below =
-      ap (λ (e : Edit K V). cmp e.key (slice_index_or (drop r es) j d).key) (get_or-drop r es i d)
-      ∙ ap (λ (e : Edit K V). cmp (slice_index_or es (r + i) d).key e.key) (get_or-drop r es j d)
+      ap (λ (e : KeyEdit K V). cmp e.key (slice_index_or (drop r es) j d).key) (get_or-drop r es i d)
+      ∙ ap (λ (e : KeyEdit K V). cmp (slice_index_or es (r + i) d).key e.key) (get_or-drop r es j d)
       ∙ ascend (r + i) (r + j) d (omega (arith, less)) (omega (arith, below, length-drop r es))
 
-  pub ascend_take : (es : List (Edit K V)) (r : ℕ) → KeysAscend cmp es → KeysAscend cmp (take r es)
+  pub ascend_take : (es : List (KeyEdit K V)) (r : ℕ) → KeysAscend cmp es → KeysAscend cmp (take r es)
   ascend_take es r ascend i j d less below =
       let in_run : j < r = omega (arith, below, length-take r es) in
       let in_all : j < length es = omega (arith, below, length-take r es) in
-      ap (λ (e : Edit K V). cmp e.key (slice_index_or (take r es) j d).key) (get_or-take r es i d (omega (arith, less, in_run)))
-      ∙ ap (λ (e : Edit K V). cmp (slice_index_or es i d).key e.key) (get_or-take r es j d in_run)
+      ap (λ (e : KeyEdit K V). cmp e.key (slice_index_or (take r es) j d).key) (get_or-take r es i d (omega (arith, less, in_run)))
+      ∙ ap (λ (e : KeyEdit K V). cmp (slice_index_or es i d).key e.key) (get_or-take r es j d in_run)
       ∙ ascend i j d less in_all

@@ -12,7 +12,7 @@ use Rattle.std.specs.Map.{lookup, keys_of}
 use Rattle.std.specs.BTreeMap.{BTreeMap, get as get_slot, is_at}
 use Rattle.kfs_model.specs.Table.{Order, Table, get, changed}
 use Rattle.kfs_model.proofs.TableLaws.{same_table, get-changed}
-use Rattle.kfs_map_chunks.specs.declared.edit.Edit.{Edit}
+use Rattle.kfs_map_chunks.specs.declared.edit.KeyEdit.{KeyEdit}
 use Rattle.kfs_map_chunks.specs.Edits.{edited, KeysAscend}
 use Rattle.kfs_map_chunks.specs.Tables.{table_after}
 use Rattle.kfs_map_chunks.specs.Overlays.{said_or, key_edits, overlaid, Say}
@@ -40,13 +40,13 @@ module _ {K X : Type 0} {cmp : K → K → Ordering} (total : IsTotalOrder cmp) 
       at false apart = refl
 
 module _ {K X : Type 0} where
-  keys_kept : (es : List (K × Option X)) → map (λ (e : Edit K X). e.key) (key_edits es) ≡ keys_of es
+  keys_kept : (es : List (K × Option X)) → map (λ (e : KeyEdit K X). e.key) (key_edits es) ≡ keys_of es
   keys_kept [] = refl
   keys_kept (e ∷ es) = ap (λ keys. e.0 ∷ keys) (keys_kept es)
 
   pub key_edits_ascend : (cmp : K → K → Ordering) (es : List (K × Option X)) → IsStrictlySortedBy cmp (keys_of es) → KeysAscend cmp (key_edits es)
   key_edits_ascend cmp es sorted i j d less below =
-      let key : Edit K X → K = λ e. e.key in
+      let key : KeyEdit K X → K = λ e. e.key in
       let edits = key_edits es in
       let at_i = get_or-map key edits i d d.key (omega (arith, less, below)) in
       let at_j = get_or-map key edits j d d.key below in
@@ -84,5 +84,5 @@ module _ {K X : Type 0} {R : Order K} where
   is_overlaid t new es shows = same_table _ _ (λ q. shows q ∙ sym (get-overlaid t es q))
 
   -- edits that say what was said make the table seen
-  pub table_after_said : (t : Table R X) (edits : List (Edit K X)) (latest : BTreeMap K (Option X)) → Say R.compare edits latest → table_after t edits ≡ overlaid t latest.entries
+  pub table_after_said : (t : Table R X) (edits : List (KeyEdit K X)) (latest : BTreeMap K (Option X)) → Say R.compare edits latest → table_after t edits ≡ overlaid t latest.entries
   table_after_said t edits latest says = is_overlaid t (table_after t edits) latest.entries (λ q. get-table_after t edits q ∙ says q (get t q))

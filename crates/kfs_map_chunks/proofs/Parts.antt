@@ -13,7 +13,7 @@ use Rattle.std.specs.List.Sorted.{IsPartitionedBy}
 use Rattle.std.specs.FinMap.Entries.{find, is_sorted, below_all}
 use Rattle.kfs_model.specs.Table.{Order}
 use Rattle.kfs_model.proofs.Tables.{left_part, right_part}
-use Rattle.kfs_map_chunks.specs.declared.edit.Edit.{Edit}
+use Rattle.kfs_map_chunks.specs.declared.edit.KeyEdit.{KeyEdit}
 use Rattle.kfs_map_chunks.specs.Edits.{KeysAscend}
 use Rattle.kfs_map_chunks.specs.Buffer.{Buffer}
 use Rattle.kfs_map_chunks.specs.Joined.{joined, first_chunk_from, Each, IsNotEmpty, AreSized, AreFilled}
@@ -84,7 +84,7 @@ module _ {K V : Type 0} (R : Order K) where
 
 module _ {K V : Type 0} (R : Order K) where
   -- the edits that reach into the entries stand before the others
-  pub parted_edits : (xs : List (K × V)) (es : List (Edit K V)) → KeysAscend R.compare es → IsPartitionedBy (λ (e : Edit K V). reaches R.compare (Included e.key) xs) es
+  pub parted_edits : (xs : List (K × V)) (es : List (KeyEdit K V)) → KeysAscend R.compare es → IsPartitionedBy (λ (e : KeyEdit K V). reaches R.compare (Included e.key) xs) es
   parted_edits xs es ascend i j d le below reached = at (reaches R.compare (Included (slice_index_or es i d).key) xs) refl
     where
       later : is_lt (R.compare (slice_index_or es j d).key (slice_index_or es i d).key) ≡ false
@@ -95,17 +95,17 @@ module _ {K V : Type 0} (R : Order K) where
       at false e = absurd (true_or_false false (ap is_some (sym (none_later R (slice_index_or es i d).key (slice_index_or es j d).key xs later (not_some _ e))) ∙ reached) refl)
 
   -- the keys of those that do are below what stands behind the entries
-  pub run_below : (xs ys : List (K × V)) (es : List (Edit K V)) (run : ℕ) → T (is_sorted R.compare (xs ++ ys)) → ((k : ℕ) (d : Edit K V) → 0 ≤ k → k < run → reaches R.compare (Included (slice_index_or es k d).key) xs ≡ true)
+  pub run_below : (xs ys : List (K × V)) (es : List (KeyEdit K V)) (run : ℕ) → T (is_sorted R.compare (xs ++ ys)) → ((k : ℕ) (d : KeyEdit K V) → 0 ≤ k → k < run → reaches R.compare (Included (slice_index_or es k d).key) xs ≡ true)
       → All (λ e. T (below_all R.compare e.key ys)) (take run es)
   run_below xs ys es run sorted reached k d below =
       let within : k < run = omega (arith, below, length-take run es) in
-      subst (λ (e : Edit K V). T (below_all R.compare e.key ys)) (sym (get_or-take run es k d within)) (reached_below R (slice_index_or es k d).key xs ys sorted (reached k d (omega arith) within))
+      subst (λ (e : KeyEdit K V). T (below_all R.compare e.key ys)) (sym (get_or-take run es k d within)) (reached_below R (slice_index_or es k d).key xs ys sorted (reached k d (omega arith) within))
 
   -- and the others have no entry from their keys on
-  pub run_past : (xs : List (K × V)) (es : List (Edit K V)) (run : ℕ) → ((k : ℕ) (d : Edit K V) → run ≤ k → k < length es → reaches R.compare (Included (slice_index_or es k d).key) xs ≡ false)
+  pub run_past : (xs : List (K × V)) (es : List (KeyEdit K V)) (run : ℕ) → ((k : ℕ) (d : KeyEdit K V) → run ≤ k → k < length es → reaches R.compare (Included (slice_index_or es k d).key) xs ≡ false)
       → All (λ e. entry_from R.compare (Included e.key) xs ≡ None) (drop run es)
   run_past xs es run past k d below =
-      ap (λ (e : Edit K V). entry_from R.compare (Included e.key) xs) (get_or-drop run es k d) ∙ not_some _ (past (run + k) d (omega arith) (omega (arith, below, length-drop run es)))
+      ap (λ (e : KeyEdit K V). entry_from R.compare (Included e.key) xs) (get_or-drop run es k d) ∙ not_some _ (past (run + k) d (omega arith) (omega (arith, below, length-drop run es)))
 
 module _ {K V A : Type 0} where
   pub joined-append : (xs ys : List (Arc (Buffer K V) A)) → joined (xs ++ ys) ≡ joined xs ++ joined ys
@@ -256,7 +256,7 @@ module _ {K V A : Type 0} (cmp : K → K → Ordering) where
 
 module _ {K V A : Type 0} (R : Order K) where
   -- no chunk in front of the first edit's first_chunk_from has an entry from an edit's key on
-  pub front_past : (front back : List (Arc (Buffer K V) A)) (es : List (Edit K V)) (k : K) → KeysAscend R.compare es → ((d : Edit K V) → k ≡ (slice_index_or es 0 d).key) → length front ≤ first_chunk_from R.compare (Included k) (front ++ back)
+  pub front_past : (front back : List (Arc (Buffer K V) A)) (es : List (KeyEdit K V)) (k : K) → KeysAscend R.compare es → ((d : KeyEdit K V) → k ≡ (slice_index_or es 0 d).key) → length front ≤ first_chunk_from R.compare (Included k) (front ++ back)
       → All (λ e. entry_from R.compare (Included e.key) (joined front) ≡ None) es
   front_past front back es k ascend first before_place i d below =
       none_later R k (slice_index_or es i d).key (joined front)

@@ -13,7 +13,7 @@ use Rattle.std.specs.Cmp.{Equal-is}
 use Rattle.std.specs.FinMap.Entries.{put, by_order, is_sorted}
 use Rattle.kfs_model.specs.Table.{Order}
 use Rattle.kfs_model.proofs.Tables.{left_part}
-use Rattle.kfs_map_chunks.specs.declared.edit.Edit.{Edit}
+use Rattle.kfs_map_chunks.specs.declared.edit.KeyEdit.{KeyEdit}
 use Rattle.kfs_map_chunks.specs.Edits.{entered, entered_all, KeysAscend}
 use Rattle.kfs_map_chunks.specs.Buffer.{Buffer}
 use Rattle.kfs_map_chunks.specs.Joined.{joined, Each}
@@ -86,7 +86,7 @@ module _ {K V : Type 0} (R : Order K) where
       at Greater above = absurd (not_above k e es from above)
 
   -- edits of ascending keys: what is in front of the first stays, then comes what it makes, and the later are made in what is left
-  walked : (es : List (K × V)) (e : Edit K V) (later : List (Edit K V)) → T (is_sorted R.compare es) → All (λ l. R.compare e.key l.key ≡ Less) later
+  walked : (es : List (K × V)) (e : KeyEdit K V) (later : List (KeyEdit K V)) → T (is_sorted R.compare es) → All (λ l. R.compare e.key l.key ≡ Less) later
       → entered_all R.compare es (e ∷ later)
       ≡ take (first_from R.compare (Included e.key) es) es ++ (entered R.compare [] e.key e.value ++ entered_all R.compare (entered R.compare (drop (first_from R.compare (Included e.key) es) es) e.key None) later)
   walked es e later sorted less =
@@ -105,7 +105,7 @@ module _ {K V : Type 0} (R : Order K) where
           none_later R e.key (slice_index_or later i d).key (take n es) (flipped R.total (slice_index_or later i d).key e.key ∙ ap is_gt (less i d (omega (arith, below)))) (none-take R.compare (Included e.key) es)
 
   -- a step of the walk: behind what is done come the entries in front and what the edit makes
-  pub walk_step : (done es : List (K × V)) (e : Edit K V) (later : List (Edit K V)) → T (is_sorted R.compare es) → All (λ l. R.compare e.key l.key ≡ Less) later
+  pub walk_step : (done es : List (K × V)) (e : KeyEdit K V) (later : List (KeyEdit K V)) → T (is_sorted R.compare es) → All (λ l. R.compare e.key l.key ≡ Less) later
       → ((done ++ take (first_from R.compare (Included e.key) es) es) ++ entered R.compare [] e.key e.value) ++ entered_all R.compare (entered R.compare (drop (first_from R.compare (Included e.key) es) es) e.key None) later
       ≡ done ++ entered_all R.compare es (e ∷ later)
   walk_step done es e later sorted less =
@@ -122,7 +122,7 @@ module _ {K V : Type 0} (R : Order K) where
 
 module _ {K V : Type 0} (cmp : K → K → Ordering) where
   -- an edit is below those behind it
-  pub ascend-behind : (es : List (Edit K V)) (i : ℕ) (d : Edit K V) → i < length es → KeysAscend cmp es → All (λ l. cmp (get_or es i d).key l.key ≡ Less) (drop (i + 1) es)
+  pub ascend-behind : (es : List (KeyEdit K V)) (i : ℕ) (d : KeyEdit K V) → i < length es → KeysAscend cmp es → All (λ l. cmp (get_or es i d).key l.key ≡ Less) (drop (i + 1) es)
   ascend-behind es i d within ascend = ascend-head cmp (get_or es i d) (drop (i + 1) es) (subst (λ xs. KeysAscend cmp xs) (drop_more es i d within) (ascend_drop cmp es i ascend))
 
 module _ {K V A : Type 0} where

@@ -9,7 +9,7 @@ use Rattle.std.specs.Ordering.{is_eq, is_lt, eq_by_cmp, ordering_reverse}
 use Rattle.std.specs.FinMap.Entries.{put, where_key, by_order, is_sorted, below_all}
 use Rattle.kfs_model.specs.Table.{Order}
 use Rattle.kfs_model.proofs.Tables.{left_part, right_part, find_below}
-use Rattle.kfs_map_chunks.specs.declared.edit.Edit.{Edit}
+use Rattle.kfs_map_chunks.specs.declared.edit.KeyEdit.{KeyEdit}
 use Rattle.kfs_map_chunks.specs.Edits.{entered, entered_all, KeysAscend}
 use Rattle.kfs_map_chunks.specs.Joined.{IsSized}
 use Rattle.kfs_map_chunks.specs.Starts.{is_from, entry_from}
@@ -25,14 +25,14 @@ All-right P [] ys all = all
 All-right P (x ∷ xs) ys all = All-right P xs ys (All-tail P x (xs ++ ys) all)
 
 module _ {K V : Type 0} (cmp : K → K → Ordering) where
-  pub ascend-tail : (e : Edit K V) (es : List (Edit K V)) → KeysAscend cmp (e ∷ es) → KeysAscend cmp es
+  pub ascend-tail : (e : KeyEdit K V) (es : List (KeyEdit K V)) → KeysAscend cmp (e ∷ es) → KeysAscend cmp es
   ascend-tail e es ascend i j d less below = ascend (suc i) (suc j) d (omega (arith, less)) (omega (arith, below))
 
   -- the first edit is below the others
-  pub ascend-head : (e : Edit K V) (es : List (Edit K V)) → KeysAscend cmp (e ∷ es) → All (λ l. cmp e.key l.key ≡ Less) es
+  pub ascend-head : (e : KeyEdit K V) (es : List (KeyEdit K V)) → KeysAscend cmp (e ∷ es) → All (λ l. cmp e.key l.key ≡ Less) es
   ascend-head e es ascend j d below = ascend 0 (suc j) d (omega arith) (omega (arith, below))
 
-  pub entered_all-append : (es : List (K × V)) (mine later : List (Edit K V)) → entered_all cmp es (mine ++ later) ≡ entered_all cmp (entered_all cmp es mine) later
+  pub entered_all-append : (es : List (K × V)) (mine later : List (KeyEdit K V)) → entered_all cmp es (mine ++ later) ≡ entered_all cmp (entered_all cmp es mine) later
   entered_all-append es [] later = refl
   entered_all-append es (e ∷ mine) later = entered_all-append (entered cmp es e.key e.value) mine later
 
@@ -105,22 +105,22 @@ module _ {K V : Type 0} (R : Order K) where
       at Greater past old rest = ap (λ t. cond t (Some x) (entry_from R.compare (Included k) (put R.compare j v xs))) past ∙ rest
 
   -- edits behind the entries in front leave them as they are
-  pub all_behind : (xs ys : List (K × V)) (es : List (Edit K V)) → All (λ e. entry_from R.compare (Included e.key) xs ≡ None) es → entered_all R.compare (xs ++ ys) es ≡ xs ++ entered_all R.compare ys es
+  pub all_behind : (xs ys : List (K × V)) (es : List (KeyEdit K V)) → All (λ e. entry_from R.compare (Included e.key) xs ≡ None) es → entered_all R.compare (xs ++ ys) es ≡ xs ++ entered_all R.compare ys es
   all_behind xs ys [] none = refl
   all_behind xs ys (e ∷ es) none =
       ap (λ all. entered_all R.compare all es) (entered_behind xs ys e.key e.value (none 0 e (omega arith)))
-      ∙ all_behind xs (entered R.compare ys e.key e.value) es (All-tail (λ (x : Edit K V). entry_from R.compare (Included x.key) xs ≡ None) e es none)
+      ∙ all_behind xs (entered R.compare ys e.key e.value) es (All-tail (λ (x : KeyEdit K V). entry_from R.compare (Included x.key) xs ≡ None) e es none)
 
-  pub none_still : (xs : List (K × V)) (j : K) (w : Option V) (es : List (Edit K V)) → All (λ l. R.compare j l.key ≡ Less) es → All (λ e. entry_from R.compare (Included e.key) xs ≡ None) es → All (λ e. entry_from R.compare (Included e.key) (entered R.compare xs j w) ≡ None) es
+  pub none_still : (xs : List (K × V)) (j : K) (w : Option V) (es : List (KeyEdit K V)) → All (λ l. R.compare j l.key ≡ Less) es → All (λ e. entry_from R.compare (Included e.key) xs ≡ None) es → All (λ e. entry_from R.compare (Included e.key) (entered R.compare xs j w) ≡ None) es
   none_still xs j w es less none i d below = none_after_entry xs j (slice_index_or es i d).key w (less i d below) (none i d below)
 
   -- edits of both parts, each made there, are made of both
-  pub parts_edited : (xs ys : List (K × V)) (mine later : List (Edit K V)) → KeysAscend R.compare (mine ++ later) → All (λ e. T (below_all R.compare e.key ys)) mine
+  pub parts_edited : (xs ys : List (K × V)) (mine later : List (KeyEdit K V)) → KeysAscend R.compare (mine ++ later) → All (λ e. T (below_all R.compare e.key ys)) mine
       → All (λ e. entry_from R.compare (Included e.key) xs ≡ None) later → entered_all R.compare (xs ++ ys) (mine ++ later) ≡ entered_all R.compare xs mine ++ entered_all R.compare ys later
   parts_edited xs ys [] later ascend below none = all_behind xs ys later none
   parts_edited xs ys (e ∷ mine) later ascend below none =
       ap (λ all. entered_all R.compare all (mine ++ later)) (entered_before xs ys e.key e.value (below 0 e (omega arith)))
-      ∙ parts_edited (entered R.compare xs e.key e.value) ys mine later (ascend-tail R.compare e (mine ++ later) ascend) (All-tail (λ (x : Edit K V). T (below_all R.compare x.key ys)) e mine below)
+      ∙ parts_edited (entered R.compare xs e.key e.value) ys mine later (ascend-tail R.compare e (mine ++ later) ascend) (All-tail (λ (x : KeyEdit K V). T (below_all R.compare x.key ys)) e mine below)
       (none_still xs e.key e.value later (All-right (λ l. R.compare e.key l.key ≡ Less) mine later (ascend-head R.compare e (mine ++ later) ascend)) none)
 
   -- an edit leaves at most one entry more, and at most one less
@@ -152,17 +152,17 @@ module _ {K V : Type 0} (R : Order K) where
       at Equal rest = (omega arith, omega arith)
       at Greater rest = (omega (arith, rest.0), omega (arith, rest.1))
 
-  pub is_sorted-all : (xs : List (K × V)) (es : List (Edit K V)) → T (is_sorted R.compare xs) → T (is_sorted R.compare (entered_all R.compare xs es))
+  pub is_sorted-all : (xs : List (K × V)) (es : List (KeyEdit K V)) → T (is_sorted R.compare xs) → T (is_sorted R.compare (entered_all R.compare xs es))
   is_sorted-all xs [] sorted = sorted
   is_sorted-all xs (e ∷ es) sorted = is_sorted-all (entered R.compare xs e.key e.value) es (is_sorted-entered R xs e.key e.value sorted)
 
   -- and so they do where the edits are made or not
-  pub is_sorted-if : (made : Bool) (xs : List (K × V)) (es : List (Edit K V)) → T (is_sorted R.compare xs) → T (is_sorted R.compare (cond made (entered_all R.compare xs es) xs))
+  pub is_sorted-if : (made : Bool) (xs : List (K × V)) (es : List (KeyEdit K V)) → T (is_sorted R.compare xs) → T (is_sorted R.compare (cond made (entered_all R.compare xs es) xs))
   is_sorted-if true xs es sorted = is_sorted-all xs es sorted
   is_sorted-if false xs es sorted = sorted
 
   -- so many edits leave at most so many entries more, and at most so many less
-  pub length-all : (xs : List (K × V)) (es : List (Edit K V)) → T (is_sorted R.compare xs)
+  pub length-all : (xs : List (K × V)) (es : List (KeyEdit K V)) → T (is_sorted R.compare xs)
       → (length (entered_all R.compare xs es) ≤ length xs + length es) × (length xs ≤ length (entered_all R.compare xs es) + length es)
   length-all xs [] sorted = (omega arith, omega arith)
   length-all xs (e ∷ es) sorted =
@@ -171,5 +171,5 @@ module _ {K V : Type 0} (R : Order K) where
       (omega (arith, one.0, rest.0), omega (arith, one.1, rest.1))
 
   -- entries stay as many as a chunk may have, where there are fewer edits than entries, and room for as many
-  pub sized_still : (xs : List (K × V)) (es : List (Edit K V)) → T (is_sorted R.compare xs) → length es < length xs → length xs + length es ≤ 256 → IsSized (entered_all R.compare xs es)
+  pub sized_still : (xs : List (K × V)) (es : List (KeyEdit K V)) → T (is_sorted R.compare xs) → length es < length xs → length xs + length es ≤ 256 → IsSized (entered_all R.compare xs es)
   sized_still xs es sorted fewer room = let sizes = length-all xs es sorted in (omega (arith, sizes.1, fewer), omega (arith, sizes.0, room))

@@ -5,7 +5,7 @@ use Rattle.std.specs.Cmp.{eq_by_cmp_equiv}
 use Rattle.std.specs.FinMap.Entries.{find, find-put, find-where_key, is_sorted, same_entries}
 use Rattle.kfs_model.specs.Table.{Order, Table, get, changed}
 use Rattle.kfs_model.proofs.TableLaws.{get-insert, same_table, get-changed}
-use Rattle.kfs_map_chunks.specs.declared.edit.Edit.{Edit}
+use Rattle.kfs_map_chunks.specs.declared.edit.KeyEdit.{KeyEdit}
 use Rattle.kfs_map_chunks.specs.Edits.{edited, entered, rewritten}
 use Rattle.kfs_map_chunks.specs.Tables.{table, table_after}
 
@@ -37,19 +37,19 @@ module _ {K V : Type 0} (R : Order K) where
   find-entered xs k (Some v) q = find-put R.compare R.total q k v xs
 
   -- what is found after edits
-  pub find-rewritten : (xs : List (K × V)) (es : List (Edit K V)) (q : K) → find R.compare q (rewritten R xs es) ≡ edited R.compare es q (find R.compare q xs)
+  pub find-rewritten : (xs : List (K × V)) (es : List (KeyEdit K V)) (q : K) → find R.compare q (rewritten R xs es) ≡ edited R.compare es q (find R.compare q xs)
   find-rewritten xs [] q = refl
   find-rewritten xs (e ∷ es) q = find-rewritten (entered R.compare xs e.key e.value) es q ∙ ap (edited R.compare es q) (find-entered xs e.key e.value q)
 
 module _ {K V : Type 0} {R : Order K} where
-  pub get-table_after : (t : Table R V) (es : List (Edit K V)) (q : K) → get (table_after t es) q ≡ edited R.compare es q (get t q)
+  pub get-table_after : (t : Table R V) (es : List (KeyEdit K V)) (q : K) → get (table_after t es) q ≡ edited R.compare es q (get t q)
   unfolding table_after
   get-table_after t [] q = refl
   get-table_after t (e ∷ es) q = get-table_after (changed t e.key e.value) es q ∙ ap (edited R.compare es q) (get-changed t e.key e.value q)
 
 module _ {K V : Type 0} (R : Order K) where
   -- the table of edited entries is the table after the edits
-  pub table-rewritten : (xs : List (K × V)) (es : List (Edit K V)) → table R (rewritten R xs es) ≡ table_after (table R xs) es
+  pub table-rewritten : (xs : List (K × V)) (es : List (KeyEdit K V)) → table R (rewritten R xs es) ≡ table_after (table R xs) es
   table-rewritten xs es =
       same_table (table R (rewritten R xs es)) (table_after (table R xs) es) (λ q.
       get-table R (rewritten R xs es) q ∙ find-rewritten R xs es q ∙ ap (edited R.compare es q) (sym (get-table R xs q)) ∙ sym (get-table_after (table R xs) es q))

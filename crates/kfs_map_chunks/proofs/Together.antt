@@ -5,7 +5,7 @@ use Rattle.std.specs.declared.ops.Bound.TheVariants.{Included}
 use Rattle.std.specs.declared.sync.Arc.{Arc}
 use Rattle.std.specs.FinMap.Entries.{below_all}
 use Rattle.kfs_model.specs.Table.{Order}
-use Rattle.kfs_map_chunks.specs.declared.edit.Edit.{Edit}
+use Rattle.kfs_map_chunks.specs.declared.edit.KeyEdit.{KeyEdit}
 use Rattle.kfs_map_chunks.specs.Edits.{entered_all, KeysAscend}
 use Rattle.kfs_map_chunks.specs.Buffer.{Buffer}
 use Rattle.kfs_map_chunks.specs.Joined.{joined}
@@ -16,7 +16,7 @@ use Rattle.kfs_map_chunks.proofs.Rewritten.{all_behind, parts_edited}
 
 module _ {K V A : Type 0} (R : Order K) where
   -- the edits of one chunk and of those behind it, made there or not, are made of all or not
-  pub edited_chunks : (made : Bool) (front : List (Arc (Buffer K V) A)) (old new : Arc (Buffer K V) A) (olds news : List (Arc (Buffer K V) A)) (mine later : List (Edit K V))
+  pub edited_chunks : (made : Bool) (front : List (Arc (Buffer K V) A)) (old new : Arc (Buffer K V) A) (olds news : List (Arc (Buffer K V) A)) (mine later : List (KeyEdit K V))
       → KeysAscend R.compare (mine ++ later)
       → All (λ e. entry_from R.compare (Included e.key) (joined front) ≡ None) (mine ++ later)
       → All (λ e. T (below_all R.compare e.key (joined olds))) mine

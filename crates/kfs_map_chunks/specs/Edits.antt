@@ -5,7 +5,7 @@ use Rattle.std.specs.declared.cmp.Ordering.TheVariants.{Less}
 use Rattle.std.specs.Ordering.{eq_by_cmp}
 use Rattle.std.specs.FinMap.Entries.{put, where_key}
 use Rattle.kfs_model.specs.Table.{Order}
-use Rattle.kfs_map_chunks.specs.declared.edit.Edit.{Edit}
+use Rattle.kfs_map_chunks.specs.declared.edit.KeyEdit.{KeyEdit}
 
 module _ {K V : Type 0} (cmp : K → K → Ordering) where
   -- the entries with this at the key
@@ -14,26 +14,26 @@ module _ {K V : Type 0} (cmp : K → K → Ordering) where
   entered entries key (Some value) = put cmp key value entries
 
   -- the entries after the edits, one after the other
-  abbrev pub entered_all : List (K × V) → List (Edit K V) → List (K × V)
+  abbrev pub entered_all : List (K × V) → List (KeyEdit K V) → List (K × V)
   entered_all entries [] = entries
   entered_all entries (e ∷ es) = entered_all (entered entries e.key e.value) es
 
   -- the edit is made in what moved from the left list to the one before: so, whatever edits come later, these
   -- make the same of what is left
-  abbrev pub IsPassed : Edit K V → (old left : List (K × V)) → (new rest : List (K × V)) → Type 0
-  IsPassed edit old left new rest = (later : List (Edit K V)) → All (λ e. cmp edit.key e.key ≡ Less) later → new ++ entered_all rest later ≡ old ++ entered_all left (edit ∷ later)
+  abbrev pub IsPassed : KeyEdit K V → (old left : List (K × V)) → (new rest : List (K × V)) → Type 0
+  IsPassed edit old left new rest = (later : List (KeyEdit K V)) → All (λ e. cmp edit.key e.key ≡ Less) later → new ++ entered_all rest later ≡ old ++ entered_all left (edit ∷ later)
 
 module _ {K V : Type 0} (R : Order K) where
   -- the entries after the edits, by the order of the keys
-  abbrev pub rewritten : List (K × V) → List (Edit K V) → List (K × V)
+  abbrev pub rewritten : List (K × V) → List (KeyEdit K V) → List (K × V)
   rewritten entries edits = entered_all R.compare entries edits
 
 module _ {K V : Type 0} (cmp : K → K → Ordering) where
   -- what the edits make of what a key had
-  abbrev pub edited : List (Edit K V) → K → Option V → Option V
+  abbrev pub edited : List (KeyEdit K V) → K → Option V → Option V
   edited [] q v = v
   edited (e ∷ es) q v = edited es q (if eq_by_cmp cmp q e.key then e.value else v)
 
   -- the keys ascend, none twice
-  abbrev pub KeysAscend : List (Edit K V) → Type 0
-  KeysAscend edits = (i j : ℕ) (d : Edit K V) → i < j → j < length edits → cmp (slice_index_or edits i d).key (slice_index_or edits j d).key ≡ Less
+  abbrev pub KeysAscend : List (KeyEdit K V) → Type 0
+  KeysAscend edits = (i j : ℕ) (d : KeyEdit K V) → i < j → j < length edits → cmp (slice_index_or edits i d).key (slice_index_or edits j d).key ≡ Less

@@ -3,7 +3,7 @@ use Rattle.std.specs.Prelude.{◌≡◌, List, [], ◌∷◌, Option, Some, None
 use Rattle.std.specs.declared.cmp.Ordering.{Ordering}
 use Rattle.std.specs.BTreeMap.{BTreeMap, get}
 use Rattle.kfs_model.specs.Table.{Order, Table, changed}
-use Rattle.kfs_map_chunks.specs.declared.edit.Edit.{Edit}
+use Rattle.kfs_map_chunks.specs.declared.edit.KeyEdit.{KeyEdit}
 use Rattle.kfs_map_chunks.specs.Edits.{edited}
 
 module _ {X : Type 0} where
@@ -14,11 +14,11 @@ module _ {X : Type 0} where
 
 module _ {K X : Type 0} where
   -- the edits make of each key what was said of it
-  abbrev pub Say : (K → K → Ordering) → List (Edit K X) → BTreeMap K (Option X) → Type 0
+  abbrev pub Say : (K → K → Ordering) → List (KeyEdit K X) → BTreeMap K (Option X) → Type 0
   Say cmp edits latest = (q : K) (there : Option X) → edited cmp edits q there ≡ said_or (get cmp latest q) there
 
   -- the edits to what was said
-  abbrev pub key_edits : List (K × Option X) → List (Edit K X)
+  abbrev pub key_edits : List (K × Option X) → List (KeyEdit K X)
   key_edits [] = []
   key_edits (e ∷ es) = record { key = e.0; value = e.1 } ∷ key_edits es
 

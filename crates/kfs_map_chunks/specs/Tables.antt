@@ -1,7 +1,7 @@
 -- The table that a list of entries makes, the first of two with one key, and a table after edits.
 use Rattle.std.specs.Prelude.{List, [], ◌∷◌}
 use Rattle.kfs_model.specs.Table.{Order, Table, empty, insert, changed}
-use Rattle.kfs_map_chunks.specs.declared.edit.Edit.{Edit}
+use Rattle.kfs_map_chunks.specs.declared.edit.KeyEdit.{KeyEdit}
 
 module _ {K V : Type 0} (R : Order K) where
   -- the table of the entries
@@ -11,6 +11,6 @@ module _ {K V : Type 0} (R : Order K) where
 
 module _ {K V : Type 0} {R : Order K} where
   -- the table after the edits, one after the other
-  unfoldable pub table_after : Table R V → List (Edit K V) → Table R V
+  unfoldable pub table_after : Table R V → List (KeyEdit K V) → Table R V
   table_after t [] = t
   table_after t (e ∷ es) = table_after (changed t e.key e.value) es

@@ -6,7 +6,7 @@ ghost use Rattle.kfs_map_chunks.specs.Edits.{entered_all, KeysAscend};
 ghost use Rattle.kfs_map_chunks.specs.Joined.{joined, were_made, if_made, IsSized, IsNotEmpty, AreSized, AreFilled};
 ghost use Rattle.kfs_map_chunks.specs.Starts.{entry_from};
 
-use crate::edit::Edit;
+use crate::edit::KeyEdit;
 use crate::entries::Entries;
 use crate::key::Key;
 use crate::part::Part;
@@ -25,7 +25,7 @@ pub(crate) const GREATEST_SIZE: usize = 256;
 #[cycle(change_chunks)]
 pub(crate) fn change_parts<K: Key, V: Copy, A: Allocator + Clone, C: Change>(
     parts: &mut [Arc<Part<K, V, A>, A>],
-    edits: &[Edit<K, V>],
+    edits: &[KeyEdit<K, V>],
     then: &mut C,
 ) -> Result<bool, AllocError>
     requires ascend { KeysAscend K.cmp edits.now }
@@ -57,8 +57,8 @@ pub(crate) fn change_parts<K: Key, V: Copy, A: Allocator + Clone, C: Change>(
 fn change_from_part<K: Key, V: Copy, A: Allocator + Clone, C: Change>(
     part: &mut Arc<Part<K, V, A>, A>,
     rest: &mut [Arc<Part<K, V, A>, A>],
-    mine: &[Edit<K, V>],
-    later: &[Edit<K, V>],
+    mine: &[KeyEdit<K, V>],
+    later: &[KeyEdit<K, V>],
     then: &mut C,
 ) -> Result<bool, AllocError>
     requires mine { KeysAscend K.cmp mine.now }
@@ -83,9 +83,9 @@ fn change_from_part<K: Key, V: Copy, A: Allocator + Clone, C: Change>(
 #[cycle(change_chunks)]
 fn change_chunks<K: Key, V: Copy, A: Allocator + Clone, C: Change>(
     chunks: &mut [Arc<Entries<K, V, A>, A>],
-    edits: &[Edit<K, V>],
+    edits: &[KeyEdit<K, V>],
     parts: &mut [Arc<Part<K, V, A>, A>],
-    behind: &[Edit<K, V>],
+    behind: &[KeyEdit<K, V>],
     then: &mut C,
 ) -> Result<bool, AllocError>
     requires ascend { KeysAscend K.cmp edits.now }
@@ -121,10 +121,10 @@ fn change_chunks<K: Key, V: Copy, A: Allocator + Clone, C: Change>(
 fn change_from<K: Key, V: Copy, A: Allocator + Clone, C: Change>(
     chunk: &mut Arc<Entries<K, V, A>, A>,
     rest: &mut [Arc<Entries<K, V, A>, A>],
-    mine: &[Edit<K, V>],
-    later: &[Edit<K, V>],
+    mine: &[KeyEdit<K, V>],
+    later: &[KeyEdit<K, V>],
     parts: &mut [Arc<Part<K, V, A>, A>],
-    behind: &[Edit<K, V>],
+    behind: &[KeyEdit<K, V>],
     then: &mut C,
 ) -> Result<bool, AllocError>
     requires ascend { KeysAscend K.cmp later.now }

@@ -7,7 +7,7 @@ ghost use Rattle.kfs_map_chunks.specs.Edits.{rewritten, KeysAscend};
 ghost use Rattle.kfs_map_chunks.specs.Starts.{is_from, IsNextEntry};
 
 use crate::change::change_parts;
-use crate::edit::Edit;
+use crate::edit::KeyEdit;
 use crate::key::Key;
 use crate::part::Part;
 use crate::place::place_part;
@@ -90,7 +90,7 @@ impl<K: Key, V: Copy, A: Allocator + Clone> Chunks<K, V, A> {
     /// what it showed.
     pub fn change_then<T: Change>(
         &mut self,
-        edits: &[Edit<K, V>],
+        edits: &[KeyEdit<K, V>],
         then: &mut T,
     ) -> Result<(), AllocError>
         requires edits { KeysAscend K.order.compare edits.now }

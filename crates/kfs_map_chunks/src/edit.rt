@@ -3,7 +3,7 @@ use crate::key::Key;
 
 /// What a key comes to have: a value, or none.
 #[derive(Drop)]
-pub struct Edit<K: Key, V: Copy> {
+pub struct KeyEdit<K: Key, V: Copy> {
     pub key: K,
     pub value: Option<V>,
 }

@@ -7,7 +7,7 @@ ghost use Rattle.std.specs.declared.ops.Bound.TheVariants.{Included};
 ghost use Rattle.kfs_map_chunks.specs.Edits.{entered, entered_all, KeysAscend};
 ghost use Rattle.kfs_map_chunks.specs.Starts.{is_from, first_from, entry_from, reaches};
 
-use crate::edit::Edit;
+use crate::edit::KeyEdit;
 use crate::key::Key;
 use crate::merge::{copy_to, merged};
 use std::alloc::{AllocError, Allocator};
@@ -88,7 +88,7 @@ impl<K: Key, V: Copy, A: Allocator> Entries<K, V, A> {
     }
 
     /// Makes the edits, for which there is room. Takes no memory.
-    pub(crate) fn write(&mut self, edits: &[Edit<K, V>])
+    pub(crate) fn write(&mut self, edits: &[KeyEdit<K, V>])
         requires { length edits.now ≤ self.old.room }
         ensures pairs { self.new.pairs ≡ entered_all K.cmp self.old.pairs edits.now }
     {
@@ -126,7 +126,7 @@ impl<K: Key, V: Copy, A: Allocator> Entries<K, V, A> {
 
 impl<K: Key, V: Copy, A: Allocator + Clone> Entries<K, V, A> {
     /// The entries after the edits, in memory of their own.
-    pub(crate) fn merged(&self, edits: &[Edit<K, V>]) -> Result<Entries<K, V, A>, AllocError>
+    pub(crate) fn merged(&self, edits: &[KeyEdit<K, V>]) -> Result<Entries<K, V, A>, AllocError>
         requires { KeysAscend K.cmp edits.now }
         ensures { IfOk result (λ merged. merged.pairs ≡ entered_all K.cmp self.now.pairs edits.now) }
     {

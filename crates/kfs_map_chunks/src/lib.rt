@@ -15,7 +15,7 @@ mod rebuilt;
 mod rebuilt_parts;
 
 pub use chunks::Chunks;
-pub use edit::Edit;
+pub use edit::KeyEdit;
 pub use key::Key;
 pub use nested::EditChunks;
 pub use overlay::{Overlay, key_edits};

@@ -5,7 +5,7 @@ ghost use Rattle.std.specs.FinMap.Entries.{is_sorted};
 ghost use Rattle.kfs_map_chunks.specs.Edits.{entered, entered_all, KeysAscend, IsPassed};
 ghost use Rattle.kfs_map_chunks.specs.Starts.{first_from};
 
-use crate::edit::Edit;
+use crate::edit::KeyEdit;
 use crate::entries::first_from;
 use crate::key::Key;
 use std::alloc::{AllocError, Allocator};
@@ -15,7 +15,7 @@ use std::ops::Bound;
 pub(crate) fn merged<K: Key, V: Copy, A: Allocator>(
     alloc: A,
     entries: &[(K, V)],
-    edits: &[Edit<K, V>],
+    edits: &[KeyEdit<K, V>],
 ) -> Result<Vec<(K, V), A>, AllocError>
     requires sorted { T (is_sorted K.cmp entries.now) }
     requires ascend { KeysAscend K.cmp edits.now }
@@ -35,7 +35,7 @@ pub(crate) fn merged<K: Key, V: Copy, A: Allocator>(
 fn enter<'a, K: Key, V: Copy, A: Allocator>(
     merged: &mut Vec<(K, V), A>,
     left: &'a [(K, V)],
-    edit: &Edit<K, V>,
+    edit: &KeyEdit<K, V>,
 ) -> Result<&'a [(K, V)], AllocError>
     requires { T (is_sorted K.cmp left.now) }
     ensures sorted { IfOk result (λ rest. T (is_sorted K.cmp rest.now)) }

@@ -2,7 +2,7 @@
 ghost use Rattle.std.proofs.Common.{rules};
 
 use crate::chunks::Chunks;
-use crate::edit::Edit;
+use crate::edit::KeyEdit;
 use crate::key::Key;
 use kfs_map_pages::Change;
 use std::alloc::{AllocError, Allocator};
@@ -11,7 +11,7 @@ use std::alloc::{AllocError, Allocator};
 #[derive(Drop)]
 pub struct EditChunks<'a, K: Key, V: Copy, A: Allocator, T> {
     pub chunks: &'a mut Chunks<K, V, A>,
-    pub edits: &'a [Edit<K, V>],
+    pub edits: &'a [KeyEdit<K, V>],
     pub then: T,
 }
 

@@ -5,7 +5,7 @@ ghost use Rattle.std.specs.BTreeMap.{get, IsOrdered};
 ghost use Rattle.kfs_map_chunks.specs.Edits.{KeysAscend};
 ghost use Rattle.kfs_map_chunks.specs.Overlays.{said_or, key_edits, Say};
 
-use crate::edit::Edit;
+use crate::edit::KeyEdit;
 use crate::key::Key;
 use std::alloc::{AllocError, Allocator};
 use std::collections::BTreeMap;
@@ -50,7 +50,7 @@ impl<K: Ord + Drop, V: Copy, A: Allocator + Clone> Overlay<K, V, A> {
 pub fn key_edits<K: Key, V: Copy, A: Allocator + Clone>(
     alloc: &A,
     overlay: &Overlay<K, V, A>,
-) -> Result<Vec<Edit<K, V>, A>, AllocError>
+) -> Result<Vec<KeyEdit<K, V>, A>, AllocError>
     ensures ascend { IfOk result (λ edits. KeysAscend K.cmp edits.items) }
     ensures said { IfOk result (λ edits. Say K.cmp edits.items overlay.now.latest) }
 {
@@ -61,14 +61,14 @@ pub fn key_edits<K: Key, V: Copy, A: Allocator + Clone>(
 
 fn list_keys<K: Key, V: Copy, A: Allocator + Clone>(
     latest: &BTreeMap<K, Option<V>, A>,
-    edits: &mut Vec<Edit<K, V>, A>,
+    edits: &mut Vec<KeyEdit<K, V>, A>,
 ) -> Result<(), AllocError>
     requires { edits.old.items ≡ [] }
     ensures edits { OnOk result (edits.new.items ≡ key_edits latest.now.entries) }
     ensures ordered { IsOrdered K.cmp latest.now }
 {
     for (key, now) in latest {
-        edits.push(Edit {
+        edits.push(KeyEdit {
             key: key.duplicate(),
             value: *now,
         })?;

@@ -7,7 +7,7 @@ ghost use Rattle.kfs_map_chunks.specs.Edits.{entered_all, KeysAscend};
 ghost use Rattle.kfs_map_chunks.specs.Joined.{joined, AreSized};
 ghost use Rattle.kfs_map_chunks.specs.Starts.{entry_from, reaches};
 
-use crate::edit::Edit;
+use crate::edit::KeyEdit;
 use crate::entries::Entries;
 use crate::key::Key;
 use crate::place::place;
@@ -101,7 +101,7 @@ impl<K: Key, V: Copy, A: Allocator + Clone> Part<K, V, A> {
     /// The chunks after the edits, in a list of their own.
     pub(crate) fn rebuilt(
         &self,
-        edits: &[Edit<K, V>],
+        edits: &[KeyEdit<K, V>],
     ) -> Result<Vec<Arc<Entries<K, V, A>, A>, A>, AllocError>
         requires { KeysAscend K.cmp edits.now }
         ensures joined { IfOk result (λ new. joined new.items ≡ entered_all K.cmp self.now.pairs edits.now) }

@@ -7,7 +7,7 @@ ghost use Rattle.kfs_map_chunks.specs.Edits.{KeysAscend};
 ghost use Rattle.kfs_map_chunks.specs.Joined.{joined, first_chunk_from, AreSized, AreFilled};
 ghost use Rattle.kfs_map_chunks.specs.Starts.{entry_from};
 
-use crate::edit::Edit;
+use crate::edit::KeyEdit;
 use crate::entries::Entries;
 use crate::key::Key;
 use crate::part::Part;
@@ -30,7 +30,7 @@ pub(crate) fn place<K: Key, V: Copy, A: Allocator>(
 /// How many of the edits, from the first on, are of the chunk: those of keys up to its last, or all
 /// where no chunk is behind it.
 pub(crate) fn run_of<K: Key, V: Copy, A: Allocator>(
-    edits: &[Edit<K, V>],
+    edits: &[KeyEdit<K, V>],
     chunk: &Entries<K, V, A>,
     rest: &[Arc<Entries<K, V, A>, A>],
 ) -> usize
@@ -61,7 +61,7 @@ pub(crate) fn place_part<K: Key, V: Copy, A: Allocator>(
 /// How many of the edits, from the first on, are of the part: those of keys up to its last, or all
 /// where no part is behind it.
 pub(crate) fn run_of_part<K: Key, V: Copy, A: Allocator>(
-    edits: &[Edit<K, V>],
+    edits: &[KeyEdit<K, V>],
     part: &Part<K, V, A>,
     rest: &[Arc<Part<K, V, A>, A>],
 ) -> usize

@@ -5,7 +5,7 @@ ghost use Rattle.kfs_map_chunks.specs.Edits.{entered_all, KeysAscend};
 ghost use Rattle.kfs_map_chunks.specs.Joined.{joined, IsSized, AreSized};
 
 use crate::change::GREATEST_SIZE;
-use crate::edit::Edit;
+use crate::edit::KeyEdit;
 use crate::entries::Entries;
 use crate::key::Key;
 use crate::place::run_of;
@@ -15,7 +15,7 @@ use std::sync::Arc;
 /// The chunks after the edits. Those without an edit are shared, and the others are cut anew.
 pub(crate) fn rebuilt<K: Key, V: Copy, A: Allocator + Clone>(
     chunks: &Vec<Arc<Entries<K, V, A>, A>, A>,
-    edits: &[Edit<K, V>],
+    edits: &[KeyEdit<K, V>],
 ) -> Result<Vec<Arc<Entries<K, V, A>, A>, A>, AllocError>
     requires ascend { KeysAscend K.cmp edits.now }
     requires sorted { T (is_sorted K.cmp (joined chunks.now.items)) }
@@ -40,7 +40,7 @@ pub(crate) fn rebuilt<K: Key, V: Copy, A: Allocator + Clone>(
 /// What the edits make where nothing stood, as chunks.
 pub(crate) fn fresh<K: Key, V: Copy, A: Allocator + Clone>(
     alloc: &A,
-    edits: &[Edit<K, V>],
+    edits: &[KeyEdit<K, V>],
 ) -> Result<Vec<Arc<Entries<K, V, A>, A>, A>, AllocError>
     requires { KeysAscend K.cmp edits.now }
     ensures joined { IfOk result (λ new. joined new.items ≡ entered_all K.cmp [] edits.now) }
@@ -55,7 +55,7 @@ pub(crate) fn fresh<K: Key, V: Copy, A: Allocator + Clone>(
 fn push<K: Key, V: Copy, A: Allocator + Clone>(
     new: &mut Vec<Arc<Entries<K, V, A>, A>, A>,
     chunk: &Arc<Entries<K, V, A>, A>,
-    edits: &[Edit<K, V>],
+    edits: &[KeyEdit<K, V>],
 ) -> Result<(), AllocError>
     requires ascend { KeysAscend K.cmp edits.now }
     requires sized { AreSized new.old.items }

@@ -4,7 +4,7 @@ ghost use Rattle.std.specs.FinMap.Entries.{is_sorted};
 ghost use Rattle.kfs_map_chunks.specs.Edits.{entered_all, KeysAscend};
 ghost use Rattle.kfs_map_chunks.specs.Joined.{joined, IsNotEmpty, AreFilled, AreSized};
 
-use crate::edit::Edit;
+use crate::edit::KeyEdit;
 use crate::entries::Entries;
 use crate::key::Key;
 use crate::part::{MOST_CHUNKS, Part};
@@ -16,7 +16,7 @@ use std::sync::Arc;
 /// The parts after the edits. Those without an edit are shared, and the others are cut anew.
 pub(crate) fn rebuilt_parts<K: Key, V: Copy, A: Allocator + Clone>(
     parts: &Vec<Arc<Part<K, V, A>, A>, A>,
-    edits: &[Edit<K, V>],
+    edits: &[KeyEdit<K, V>],
 ) -> Result<Vec<Arc<Part<K, V, A>, A>, A>, AllocError>
     requires ascend { KeysAscend K.cmp edits.now }
     requires sorted { T (is_sorted K.cmp (joined parts.now.items)) }
@@ -42,7 +42,7 @@ pub(crate) fn rebuilt_parts<K: Key, V: Copy, A: Allocator + Clone>(
 fn push_part<K: Key, V: Copy, A: Allocator + Clone>(
     new: &mut Vec<Arc<Part<K, V, A>, A>, A>,
     part: &Arc<Part<K, V, A>, A>,
-    edits: &[Edit<K, V>],
+    edits: &[KeyEdit<K, V>],
 ) -> Result<(), AllocError>
     requires ascend { KeysAscend K.cmp edits.now }
     requires sorted { T (is_sorted K.cmp part.now.value.pairs) }

@@ -2,7 +2,7 @@
 use Rattle.std.proofs.Common.{◌≡◌, ◌≤◌, ℕ, ◌+◌, ◌*◌, All, List, ◌++◌, length, Option, sym, ap, subst, ◌∙◌, arith}
 use Rattle.std.proofs.lemmas.List.{append_assoc}
 use Rattle.std.specs.declared.sync.Arc.{Arc}
-use Rattle.kfs_map_pages.specs.declared.edit.Edit.{Edit}
+use Rattle.kfs_map_pages.specs.declared.edit.NumberEdit.{NumberEdit}
 use Rattle.kfs_map_pages.specs.declared.group.Group.{Group}
 use Rattle.kfs_map_pages.specs.Values.{Sheet}
 use Rattle.kfs_map_pages.specs.Edits.{page_of}
@@ -26,7 +26,7 @@ module _ {V A : Type 0} where
       (placed_again (flat (all_held front)) (flat (all_held olds)) (flat (all_held news)) (32 * first) (subst (AreIndexedFrom (32 * first)) (flat_both front olds) placed) (subst (λ k. AreIndexedFrom k (flat (all_held news))) (sym (past front first index whole here)) again))
 
   -- edits of the groups behind some are edits of all
-  pub edited_groups : (front olds news : List (Option (Arc (Group V A) A))) (first index : ℕ) (es : List (Edit V)) → GroupsAreWhole (all_held front) → first + length front ≡ index → All (λ e. 32 * index ≤ page_of e.number) es → Edited (32 * index) es (flat (all_held olds)) (flat (all_held news))
+  pub edited_groups : (front olds news : List (Option (Arc (Group V A) A))) (first index : ℕ) (es : List (NumberEdit V)) → GroupsAreWhole (all_held front) → first + length front ≡ index → All (λ e. 32 * index ≤ page_of e.number) es → Edited (32 * index) es (flat (all_held olds)) (flat (all_held news))
       → Edited (32 * first) es (flat (all_held (front ++ olds))) (flat (all_held (front ++ news)))
   edited_groups front olds news first index es whole here away made =
       let at = past front first index whole here in
@@ -50,7 +50,7 @@ module _ {V A : Type 0} where
       (placed_again (all_held front) (all_held olds ++ behind) (all_held news ++ after) first (subst (AreIndexedFrom first) (held_both front olds behind) placed) (subst (λ k. AreIndexedFrom k (all_held news ++ after)) (omega (arith, here, length-held front)) again))
 
   -- edits of the pages behind some are edits of all
-  pub edited_pages : (front olds news : List (Option (Arc (Sheet V) A))) (behind after : List (Option (Sheet V))) (first index : ℕ) (es : List (Edit V)) → first + length front ≡ index → All (λ e. index ≤ page_of e.number) es → Edited index es (all_held olds ++ behind) (all_held news ++ after)
+  pub edited_pages : (front olds news : List (Option (Arc (Sheet V) A))) (behind after : List (Option (Sheet V))) (first index : ℕ) (es : List (NumberEdit V)) → first + length front ≡ index → All (λ e. index ≤ page_of e.number) es → Edited index es (all_held olds ++ behind) (all_held news ++ after)
       → Edited first es (all_held (front ++ olds) ++ behind) (all_held (front ++ news) ++ after)
   edited_pages front olds news behind after first index es here away made =
       let at : first + length (all_held front) ≡ index = omega (arith, here, length-held front) in

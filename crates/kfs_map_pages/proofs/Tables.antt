@@ -7,7 +7,7 @@ use Rattle.std.specs.Cmp.{unsigned_tied}
 use Rattle.std.specs.Option.{is_some}
 use Rattle.kfs_model.specs.Table.{Table, numbers, get, empty, option_or, changed}
 use Rattle.kfs_model.proofs.TableLaws.{get-united, get-retain, same_table, get-changed}
-use Rattle.kfs_map_pages.specs.declared.edit.Edit.{Edit}
+use Rattle.kfs_map_pages.specs.declared.edit.NumberEdit.{NumberEdit}
 use Rattle.kfs_map_pages.specs.Values.{Sheet, IsNextNumber}
 use Rattle.kfs_map_pages.specs.Edits.{page_of, rewritten, edited}
 use Rattle.kfs_map_pages.specs.Shown.{part, slot_shows, shown, Edited, HasIndex, AreIndexedFrom, page_table, table_from}
@@ -18,18 +18,18 @@ or_none None rest none = none
 or_none (Some y) rest none = refl
 
 module _ {V : Type 0} where
-  pub get-rewritten : (t : Table numbers V) (es : List (Edit V)) (q : ℕ) → get (rewritten t es) q ≡ edited es q (get t q)
+  pub get-rewritten : (t : Table numbers V) (es : List (NumberEdit V)) (q : ℕ) → get (rewritten t es) q ≡ edited es q (get t q)
   get-rewritten t [] q = refl
   get-rewritten t (e ∷ es) q = get-rewritten (changed t e.number e.value) es q ∙ ap (edited es q) (get-changed t e.number e.value q)
 
-  edited-append : (xs ys : List (Edit V)) (n : ℕ) (v : Option V) → edited (xs ++ ys) n v ≡ edited ys n (edited xs n v)
+  edited-append : (xs ys : List (NumberEdit V)) (n : ℕ) (v : Option V) → edited (xs ++ ys) n v ≡ edited ys n (edited xs n v)
   edited-append [] ys n v = refl
   edited-append (x ∷ xs) ys n v = edited-append xs ys n (cond (eq_by_cmp nat_cmp n x.number) x.value v)
 
   -- edits of other pages change nothing
-  edited-away : (es : List (Edit V)) (n : ℕ) (v : Option V) → All (λ e. page_of e.number ≡ page_of n → ⊥) es → edited es n v ≡ v
+  edited-away : (es : List (NumberEdit V)) (n : ℕ) (v : Option V) → All (λ e. page_of e.number ≡ page_of n → ⊥) es → edited es n v ≡ v
   edited-away [] n v away = refl
-  edited-away (e ∷ es) n v away = at_first (edited-away es n v (All-tail (λ (x : Edit V). page_of x.number ≡ page_of n → ⊥) e es away)) (eq_by_cmp nat_cmp n e.number) refl
+  edited-away (e ∷ es) n v away = at_first (edited-away es n v (All-tail (λ (x : NumberEdit V). page_of x.number ≡ page_of n → ⊥) e es away)) (eq_by_cmp nat_cmp n e.number) refl
     where
       at_first : edited es n v ≡ v → (b : Bool) → (eq_by_cmp nat_cmp n e.number) ≡ b → edited es n (cond b e.value v) ≡ v
       at_first rest true same = absurd (away 0 e (omega arith) (ap page_of (sym (eqb-true n e.number (sym (unsigned_tied n e.number) ∙ same)))))
@@ -37,7 +37,7 @@ module _ {V : Type 0} where
 
 module _ {V : Type 0} where
   -- edits that are of no page in front, made behind those, are made of all
-  pub edited_behind : (front olds news : List (Option (Sheet V))) (first : ℕ) (es : List (Edit V)) → All (λ e. first + length front ≤ page_of e.number) es → Edited (first + length front) es olds news → Edited first es (front ++ olds) (front ++ news)
+  pub edited_behind : (front olds news : List (Option (Sheet V))) (first : ℕ) (es : List (NumberEdit V)) → All (λ e. first + length front ≤ page_of e.number) es → Edited (first + length front) es olds news → Edited first es (front ++ olds) (front ++ news)
   edited_behind [] olds news first es away made n = subst (λ k. shown k news n ≡ edited es n (shown k olds n)) {x = first + 0} {y = first} (omega arith) (made n)
   edited_behind (page ∷ front) olds news first es away made n =
       at_page (edited_behind front olds news (first + 1) es (λ k d below. omega (arith, away k d below)) (λ m. subst (λ k. shown k news m ≡ edited es m (shown k olds m)) {x = first + suc (length front)} {y = first + 1 + length front} (omega arith) (made m)) n) (page_of n == first) refl
@@ -47,7 +47,7 @@ module _ {V : Type 0} where
       at_page inner true is = sym (edited-away es n _ (λ k d below same. omega (arith, away k d below, same, eqb-true (page_of n) first is)))
 
   -- the edits of one page and of those after it, made there, are made of all
-  pub edited_page : (old new : Option (Sheet V)) (olds news : List (Option (Sheet V))) (index : ℕ) (mine later : List (Edit V))
+  pub edited_page : (old new : Option (Sheet V)) (olds news : List (Option (Sheet V))) (index : ℕ) (mine later : List (NumberEdit V))
       → All (λ e. page_of e.number ≡ index) mine
       → All (λ e. index + 1 ≤ page_of e.number) later
       → ((n : ℕ) → slot_shows new n ≡ edited mine n (slot_shows old n))
@@ -121,7 +121,7 @@ module _ {V : Type 0} where
       at_test rest true same = or_none (slot_shows page q) _ (rest ∙ early (first + 1) pages q (omega (arith, eqb-true (page_of q) first same)))
       at_test rest false same = rest
 
-  pub table_edited : (old new : List (Option (Sheet V))) (es : List (Edit V)) → ((q : ℕ) → shown 0 new q ≡ edited es q (shown 0 old q)) → table_from 0 new ≡ rewritten (table_from 0 old) es
+  pub table_edited : (old new : List (Option (Sheet V))) (es : List (NumberEdit V)) → ((q : ℕ) → shown 0 new q ≡ edited es q (shown 0 old q)) → table_from 0 new ≡ rewritten (table_from 0 old) es
   table_edited old new es made = same_table _ _ (λ q. get-table_from 0 new q ∙ made q ∙ ap (edited es q) (sym (get-table_from 0 old q)) ∙ sym (get-rewritten (table_from 0 old) es q))
 
   pub table_kept : (old new : List (Option (Sheet V))) → ((q : ℕ) → shown 0 new q ≡ shown 0 old q) → table_from 0 new ≡ table_from 0 old

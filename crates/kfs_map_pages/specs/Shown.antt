@@ -2,7 +2,7 @@
 use Rattle.std.specs.Prelude.{◌≡◌, ℕ, ◌+◌, ◌==◌, List, [], ◌∷◌, Option, Some, None, if◌then◌else◌}
 use Rattle.kfs_model.specs.Table.{Table, numbers, empty, get, united, retain}
 use Rattle.kfs_map_pages.specs.Values.{Sheet}
-use Rattle.kfs_map_pages.specs.declared.edit.Edit.{Edit}
+use Rattle.kfs_map_pages.specs.declared.edit.NumberEdit.{NumberEdit}
 use Rattle.kfs_map_pages.specs.Edits.{page_of, edited}
 
 module _ {V : Type 0} where
@@ -21,7 +21,7 @@ module _ {V : Type 0} where
   shown first (page ∷ pages) n = if page_of n == first then slot_shows page n else shown (first + 1) pages n
 
   -- the pages from the first on show afterwards what the edits make of what they showed
-  abbrev pub Edited : (first : ℕ) → List (Edit V) → (before after : List (Option (Sheet V))) → Type 0
+  abbrev pub Edited : (first : ℕ) → List (NumberEdit V) → (before after : List (Option (Sheet V))) → Type 0
   Edited first edits before after = (n : ℕ) → shown first after n ≡ edited edits n (shown first before n)
 
   -- a page has this index

@@ -4,7 +4,7 @@ ghost use Rattle.kfs_map_pages.specs.Edits.{edited, Ascends, EditsAreWithin, IsO
 ghost use Rattle.kfs_map_pages.specs.Groups.{held, all_held, pages_of, laid_out, GroupsAreWhole};
 ghost use Rattle.kfs_map_pages.specs.Shown.{slot_shows, HasIndex, AreIndexedFrom, Edited};
 
-use crate::edit::{Edit, page_of, run_of};
+use crate::edit::{NumberEdit, page_of, run_of};
 use crate::group::{GROUP_LEN, Group};
 use crate::page::Page;
 use std::alloc::{AllocError, Allocator};
@@ -72,7 +72,7 @@ pub(crate) fn change_groups<V: Copy, A: Allocator + Clone, T: Change>(
     alloc: &A,
     groups: &mut [Option<Arc<Group<V, A>, A>>],
     first: u32,
-    edits: &[Edit<V>],
+    edits: &[NumberEdit<V>],
     then: &mut T,
 ) -> Result<(), AllocError>
     requires ascends { Ascends edits.now }
@@ -106,7 +106,7 @@ fn change_group<V: Copy, A: Allocator + Clone, T: Change>(
     slot: &mut Option<Arc<Group<V, A>, A>>,
     rest: &mut [Option<Arc<Group<V, A>, A>>],
     index: u32,
-    edits: &[Edit<V>],
+    edits: &[NumberEdit<V>],
     then: &mut T,
 ) -> Result<(), AllocError>
     requires ascends { Ascends edits.now }
@@ -142,7 +142,7 @@ fn change_pages<V: Copy, A: Allocator + Clone, T: Change>(
     first: u32,
     groups: &mut [Option<Arc<Group<V, A>, A>>],
     next: u32,
-    edits: &[Edit<V>],
+    edits: &[NumberEdit<V>],
     then: &mut T,
 ) -> Result<(), AllocError>
     requires ascends { Ascends edits.now }
@@ -183,8 +183,8 @@ fn change_from<V: Copy, A: Allocator + Clone, T: Change>(
     index: u32,
     groups: &mut [Option<Arc<Group<V, A>, A>>],
     next: u32,
-    mine: &[Edit<V>],
-    later: &[Edit<V>],
+    mine: &[NumberEdit<V>],
+    later: &[NumberEdit<V>],
     then: &mut T,
 ) -> Result<(), AllocError>
     requires mine { All (IsOfPage index) mine.now }

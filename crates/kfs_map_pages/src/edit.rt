@@ -4,7 +4,7 @@ ghost use Rattle.kfs_map_pages.specs.Edits.{page_of, Ascends};
 
 /// What a number comes to have: a value, or none.
 #[derive(Clone, Copy, Debug)]
-pub struct Edit<V: Copy> {
+pub struct NumberEdit<V: Copy> {
     pub number: u32,
     pub value: Option<V>,
 }
@@ -17,7 +17,7 @@ pub(crate) fn page_of(number: u32) -> u32
 }
 
 /// How many of the edits, from the first on, are of this page.
-pub(crate) fn run_of<V: Copy>(edits: &[Edit<V>], index: u32) -> usize
+pub(crate) fn run_of<V: Copy>(edits: &[NumberEdit<V>], index: u32) -> usize
     requires ascends { Ascends edits.now }
     requires from { All (λ e. index ≤ page_of e.number) edits.now }
     ensures within { result ≤ length edits.now }

@@ -9,7 +9,7 @@ mod page;
 mod pages;
 
 pub use change::Change;
-pub use edit::Edit;
+pub use edit::NumberEdit;
 pub use nested::{EditPages, Nothing};
 pub use page::Page;
 pub use pages::Pages;

@@ -2,7 +2,7 @@
 ghost use Rattle.std.proofs.Common.{rules};
 
 use crate::change::Change;
-use crate::edit::Edit;
+use crate::edit::NumberEdit;
 use crate::pages::Pages;
 use std::alloc::{AllocError, Allocator};
 
@@ -30,7 +30,7 @@ impl Change for Nothing {
 #[derive(Drop)]
 pub struct EditPages<'a, V: Copy, A: Allocator, T> {
     pub pages: &'a mut Pages<V, A>,
-    pub edits: &'a [Edit<V>],
+    pub edits: &'a [NumberEdit<V>],
     pub then: T,
 }
 

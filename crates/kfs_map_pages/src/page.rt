@@ -5,7 +5,7 @@ ghost use Rattle.kfs_model.specs.Table.{empty, get, changed};
 ghost use Rattle.kfs_map_pages.specs.Values.{IsNextNumber};
 ghost use Rattle.kfs_map_pages.specs.Edits.{page_of, edited, rewritten, IsOfPage};
 
-use crate::edit::Edit;
+use crate::edit::NumberEdit;
 use std::alloc::{AllocError, Allocator};
 use std::marker::Model;
 
@@ -101,7 +101,7 @@ impl<V: Copy, A: Allocator> Page<V, A> {
     }
 
     /// Makes the edits, each of a number of the page. Takes no memory.
-    pub(crate) fn write(&mut self, edits: &[Edit<V>])
+    pub(crate) fn write(&mut self, edits: &[NumberEdit<V>])
         requires { All (IsOfPage self.old.index) edits.now }
         ensures sheet { self.new ≡ record { index = self.old.index; values = rewritten self.old.values edits.now } }
         ensures shown { (n : ℕ) → get self.new.values n ≡ edited edits.now n (get self.old.values n) }

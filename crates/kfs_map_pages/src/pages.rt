@@ -7,7 +7,7 @@ ghost use Rattle.kfs_map_pages.specs.Edits.{rewritten, AreEdits};
 ghost use Rattle.kfs_map_pages.specs.Shown.{part};
 
 use crate::change::{Change, change_groups};
-use crate::edit::{Edit, page_of};
+use crate::edit::{NumberEdit, page_of};
 use crate::group::{GROUP_LEN, Group, nothing, page_at};
 use crate::page::Page;
 use std::alloc::{AllocError, Allocator};
@@ -109,7 +109,7 @@ impl<V: Copy, A: Allocator + Clone> Pages<V, A> {
     /// then the other change, and then the edits. A copy that was made before shows what it showed.
     pub fn change_then<T: Change>(
         &mut self,
-        edits: &[Edit<V>],
+        edits: &[NumberEdit<V>],
         then: &mut T,
     ) -> Result<(), AllocError>
         requires edits { AreEdits edits.now }

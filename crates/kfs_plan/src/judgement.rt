@@ -42,7 +42,7 @@ pub fn judge<A: Allocator + Copy>(
     let (log, plan) = (submission.log.as_slice(), submission.plan.as_slice());
     match find(alloc, view, submission.client, log, plan) {
         Ok(finding) => {
-            let Finding {
+            let VerdictParts {
                 client,
                 reads,
                 outcome,
@@ -55,20 +55,20 @@ pub fn judge<A: Allocator + Copy>(
 
 /// What a verdict says beside the submission.
 #[derive(Drop)]
-struct Finding<A: Allocator> {
+struct VerdictParts<A: Allocator> {
     client: Option<Client>,
     reads: IndexMap<Read, ReadAnswer, BuildHasherDefault<FoldHasher>, A>,
     outcome: Outcome<A>,
 }
 
-impl<A: Allocator + Copy> Finding<A> {
+impl<A: Allocator + Copy> VerdictParts<A> {
     /// A fault that was found before the entries.
-    fn unread(alloc: A, client: Option<Client>, fault: Fault) -> Finding<A>
+    fn unread(alloc: A, client: Option<Client>, fault: Fault) -> VerdictParts<A>
         ensures client { result.client ≡ client }
         ensures reads { result.reads.entries ≡ [] }
         ensures outcome { result.outcome ≡ Outcome.No fault }
     {
-        Finding {
+        VerdictParts {
             client,
             reads: IndexMap::new(alloc),
             outcome: Outcome::No(fault),
@@ -82,7 +82,7 @@ fn find<A: Allocator + Copy>(
     number: u32,
     log: &[u8],
     plan: &[u8],
-) -> Result<Finding<A>, Why>
+) -> Result<VerdictParts<A>, Why>
     ensures client { IfOk result (λ f. f.client ≡ row_of (clients_of view.now) number) }
     ensures known { IfOk result (λ f. (s : State) → AgreesWithReads s number f.client f.reads.entries → IsVerdict s (submission_with number log.now plan.now) f.outcome) }
     ensures view_agrees { IfOk result (λ f. Agrees f.reads.entries (client_sight_in view.now number)) }
@@ -90,11 +90,11 @@ fn find<A: Allocator + Copy>(
     ensures memory { IfErr result (λ why. why ≡ Why.OutOfMemory) }
 {
     let Some(client) = view.client(number) else {
-        return Ok(Finding::unread(alloc, None, Fault::UnknownClient));
+        return Ok(VerdictParts::unread(alloc, None, Fault::UnknownClient));
     };
     let row = Some(copied(client)?);
     match read_submission(alloc, client.number(), log, plan)? {
-        Spelled::No(fault) => Ok(Finding::unread(alloc, row, fault)),
+        Spelled::No(fault) => Ok(VerdictParts::unread(alloc, row, fault)),
         Spelled::Yes(log, plan) => {
             let walk = judge_entries(alloc, view, &log)?;
             let finding = settle(alloc, row, log, plan, walk)?;
@@ -116,7 +116,7 @@ fn settle<A: Allocator + Copy>(
     log: Log<A>,
     plan: Plan<A>,
     walk: Walk<A>,
-) -> Result<Finding<A>, Why>
+) -> Result<VerdictParts<A>, Why>
     requires sizes { HasOrderedSizes walk }
     requires spans { AllByRecursion IsSpanned log.entries }
     requires count { length log.entries ≤ entry_limit }
@@ -143,7 +143,7 @@ fn settle<A: Allocator + Copy>(
             Err(fault) => Outcome::No(Fault::Row(fault)),
         },
     };
-    Ok(Finding {
+    Ok(VerdictParts {
         client,
         reads,
         outcome,

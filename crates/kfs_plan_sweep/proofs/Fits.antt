@@ -5,7 +5,7 @@ use Rattle.std.proofs.lemmas.Bool.Decides.{nat_tests}
 use Rattle.kfs_model.proofs.WrittenBlocks.{all_append}
 use Rattle.kfs_plan_sweep.specs.declared.stretch.Origin.{Origin}
 use Rattle.kfs_plan_sweep.specs.declared.stretch.Origin.TheVariants.{Zero, Payload}
-use Rattle.kfs_plan_sweep.specs.declared.stretch.Stretch.{Stretch}
+use Rattle.kfs_plan_sweep.specs.declared.stretch.ByteRange.{ByteRange}
 use Rattle.kfs_plan_sweep.specs.Stretches.{AreFrom, ends_by, begins_before, cut_below, cut_from, merged}
 use Rattle.kfs_plan_sweep.specs.Made.{IsPlacedAt, IsFit}
 
@@ -21,7 +21,7 @@ back_placed Zero s e p placed h k = tt
 back_placed (Payload entry offset) s e p placed h k = let low = placed.0 in (omega arith, placed.1)
 
 module _ (n p : ℕ) where
-  below_fit : (ls : List Stretch) → AllByRecursion IsFit ls → AllByRecursion IsFit (cut_below n p ls)
+  below_fit : (ls : List ByteRange) → AllByRecursion IsFit ls → AllByRecursion IsFit (cut_below n p ls)
   unfolding cut_below
   below_fit [] fit = tt
   below_fit (s ∷ ss) fit = at (ends_by n p s) refl (begins_before n p s) refl (below_fit ss fit.1)
@@ -34,7 +34,7 @@ module _ (n p : ℕ) where
           (record { end = (let e : p ≤ 4294967296 = omega arith in e); placed = front_placed s.origin s.start s.end p fit.0.placed cut.0 cut.1 }, tt)
       at false ends false begins more = tt
 
-  from_fit : (ls : List Stretch) → AllByRecursion IsFit ls → AllByRecursion IsFit (cut_from n p ls)
+  from_fit : (ls : List ByteRange) → AllByRecursion IsFit ls → AllByRecursion IsFit (cut_from n p ls)
   unfolding cut_from
   from_fit [] fit = tt
   from_fit (s ∷ ss) fit = at (ends_by n p s) refl (begins_before n p s) refl (from_fit ss fit.1)
@@ -46,14 +46,14 @@ module _ (n p : ℕ) where
           (record { end = fit.0.end; placed = back_placed s.origin s.start s.end p fit.0.placed cut.0 cut.1 }, fit.1)
       at false ends false begins more = fit
 
-pub merged_fit : (us ls : List Stretch) → AllByRecursion IsFit ls → AllByRecursion IsFit us → AllByRecursion IsFit (merged ls us)
+pub merged_fit : (us ls : List ByteRange) → AllByRecursion IsFit ls → AllByRecursion IsFit us → AllByRecursion IsFit (merged ls us)
 unfolding merged
 merged_fit [] ls lower upper = lower
 merged_fit (u ∷ us) ls lower upper =
     all_append IsFit (cut_below u.number u.start ls) (u ∷ merged (cut_from u.number u.end (cut_from u.number u.start ls)) us) (below_fit u.number u.start ls lower)
     (upper.0, merged_fit us (cut_from u.number u.end (cut_from u.number u.start ls)) (from_fit u.number u.end (cut_from u.number u.start ls) (from_fit u.number u.start ls lower)) upper.1)
 
-pub filled_at : (ss : List Stretch) (n p i : ℕ) (d : Stretch) → i < length ss → AreFrom n p ss → (get_or ss i d).start < (get_or ss i d).end
+pub filled_at : (ss : List ByteRange) (n p i : ℕ) (d : ByteRange) → i < length ss → AreFrom n p ss → (get_or ss i d).start < (get_or ss i d).end
 filled_at [] n p i d h from = absurd (omega arith)
 filled_at (s ∷ ss) n p zero d h from = from.1
 filled_at (s ∷ ss) n p (suc i) d h from = filled_at ss s.number s.end i d (omega arith) from.2

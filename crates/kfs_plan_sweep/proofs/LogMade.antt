@@ -13,7 +13,7 @@ use Rattle.kfs_entry_value.specs.declared.entry.Entry.{Entry as CodeEntry}
 use Rattle.kfs_entry_value.specs.declared.entry.Entry.TheVariants as entries
 use Rattle.kfs_plan_sweep.specs.declared.sizes.FileSize.{FileSize}
 use Rattle.kfs_plan_sweep.specs.declared.stretch.Origin.TheVariants.{Zero, Payload}
-use Rattle.kfs_plan_sweep.specs.declared.stretch.Stretch.{Stretch}
+use Rattle.kfs_plan_sweep.specs.declared.stretch.ByteRange.{ByteRange}
 use Rattle.kfs_plan_sweep.specs.Made.{AreMade, grown, made}
 use Rattle.kfs_plan_sweep.specs.Sizes.{AreSizes, growths, length_after, reaches, reaches_file}
 
@@ -53,7 +53,7 @@ module _ (source : List ℕ) (sizes : List FileSize) (ends : ℕ → ℕ) where
   reaches_are index (entries.Chmod n mode ∷ es) within reached = reaches_are (index + 1) es within.1 (later (entries.Chmod n mode) es reached)
 
 -- what the code lists is what the log made
-pub log_made : (source : List ℕ) (sizes : List FileSize) (es : List (CodeEntry Span)) (tree : Tree ℕ) (after : Tree Mark) (stretches : List Stretch) → AllByRecursion (IsWithin (length source)) es
+pub log_made : (source : List ℕ) (sizes : List FileSize) (es : List (CodeEntry Span)) (tree : Tree ℕ) (after : Tree Mark) (stretches : List ByteRange) → AllByRecursion (IsWithin (length source)) es
     → AreSizes tree (map (entry_of source) es) after sizes → stretches ≡ growths sizes ++ reaches sizes 0 es → AreMade tree (map (entry_of source) es) after stretches
 log_made source sizes es tree after stretches within all is = record {
   numbers = map (λ (s : FileSize). s.number) sizes;

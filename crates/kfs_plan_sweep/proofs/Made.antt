@@ -17,7 +17,7 @@ use Rattle.kfs_model.proofs.Cut.{changed_mark, pieces_from_said}
 use Rattle.kfs_plan_sweep.proofs.ChangedMarks.{growth_mark, changed_mark_is}
 use Rattle.kfs_plan_sweep.specs.declared.stretch.Origin.{Origin}
 use Rattle.kfs_plan_sweep.specs.declared.stretch.Origin.TheVariants.{Zero, Payload}
-use Rattle.kfs_plan_sweep.specs.declared.stretch.Stretch.{Stretch}
+use Rattle.kfs_plan_sweep.specs.declared.stretch.ByteRange.{ByteRange}
 use Rattle.kfs_entry_value.specs.Views.{piece_of}
 use Rattle.kfs_entry_value.specs.declared.plan.Piece.{Piece as CodePiece}
 use Rattle.kfs_plan_sweep.specs.Parts.{AreByNumber}
@@ -165,7 +165,7 @@ module _ (before ends : ℕ → ℕ) (n p : ℕ) where
 module _ (client : Client) (seen : ClientSight) (before : Tree ℕ) (entries : List Entry) (after : Tree Mark) (opens : seen.sight ≡ sight before) (ran : run over_marks client seen (marked before) entries ≡ Ok after)
     (numbers : List ℕ) (all : (n : ℕ) → file_size before n < file_size after n → list_any (λ k. n == k) numbers ≡ true) where
   -- what the log made, the growth of files below all
-  abbrev pub all_made : List Stretch
+  abbrev pub all_made : List ByteRange
   all_made = grown (file_size before) (file_size after) numbers ++ made (file_size after) 0 entries
 
   both_conds : (b : Bool) (a c : Option Mark) → option_or (cond b a None) (cond b c None) ≡ cond b (option_or a c) None
@@ -193,7 +193,7 @@ said_mark (Payload entry offset) s e p placed h = let sum : s - offset + (p - s)
 low_end : (k s e n p : ℕ) → (eqb k n && leb s p && ltb p e) ≡ true → s ≤ p
 low_end k s e n p h = grind (arith, nat_tests)
 
-pub pieces_say : (ss : List Stretch) (k i : ℕ) → AreFrom k i ss → AllByRecursion IsFit ss → (n p : ℕ) → mark_in_pieces (pieces_made ss) n p ≡ option_map (λ o. mark_of o p) (origin_at ss n p)
+pub pieces_say : (ss : List ByteRange) (k i : ℕ) → AreFrom k i ss → AllByRecursion IsFit ss → (n p : ℕ) → mark_in_pieces (pieces_made ss) n p ≡ option_map (λ o. mark_of o p) (origin_at ss n p)
 pieces_say [] k i from fit n p = refl
 pieces_say (s ∷ ss) k i from fit n p =
     ap (λ b. cond b (Some (mark_of_source (source_at s.origin s.start) (p - s.start))) (mark_in_pieces (pieces_made ss) n p)) (holds_piece s.number s.start s.end n p from.1)
@@ -204,11 +204,11 @@ pieces_say (s ∷ ss) k i from fit n p =
     at true e more = ap Some (said_mark s.origin s.start s.end p fit.0.placed (low_end s.number s.start s.end n p e))
     at false e more = more
 
-filled_pieces : (ss : List Stretch) (k i : ℕ) → AreFrom k i ss → AllByRecursion (λ (p : Piece). 0 < p.length) (pieces_made ss)
+filled_pieces : (ss : List ByteRange) (k i : ℕ) → AreFrom k i ss → AllByRecursion (λ (p : Piece). 0 < p.length) (pieces_made ss)
 filled_pieces [] k i from = tt
 filled_pieces (s ∷ ss) k i from = ((let filled = from.1 in let f : 0 < s.end - s.start = omega arith in f), filled_pieces ss s.number s.end from.2)
 
-ascending_pieces : (ss : List Stretch) (k i : ℕ) → AreFrom k i ss → PiecesAscend (pieces_made ss)
+ascending_pieces : (ss : List ByteRange) (k i : ℕ) → AreFrom k i ss → PiecesAscend (pieces_made ss)
 ascending_pieces [] k i from = tt
 ascending_pieces (s ∷ []) k i from = tt
 ascending_pieces (s ∷ t ∷ rest) k i from =
@@ -216,19 +216,19 @@ ascending_pieces (s ∷ t ∷ rest) k i from =
     let ends : s.end ≡ s.start + (s.end - s.start) = omega arith in
     (subst (λ e. (s.number < t.number) ⊎ ((s.number ≡ t.number) × (e ≤ t.start))) ends from.2.0, ascending_pieces (t ∷ rest) s.number s.end from.2)
 
-pub pieces_in_order : (ss : List Stretch) → AreFrom 0 0 ss → AreInOrder (pieces_made ss)
+pub pieces_in_order : (ss : List ByteRange) → AreFrom 0 0 ss → AreInOrder (pieces_made ss)
 pieces_in_order ss from = record { ascending = ascending_pieces ss 0 0 from; filled = filled_pieces ss 0 0 from }
 
 -- stretches in order that say what the last of all says are right pieces
 module _ (client : Client) (seen : ClientSight) (before : Tree ℕ) (entries : List Entry) (after : Tree Mark) (opens : seen.sight ≡ sight before) (ran : run over_marks client seen (marked before) entries ≡ Ok after)
     (numbers : List ℕ) (all : (n : ℕ) → file_size before n < file_size after n → list_any (λ k. n == k) numbers ≡ true) where
-  pub laid_pieces_are_right : (ss : List Stretch) → AreFrom 0 0 ss → AllByRecursion IsFit ss
+  pub laid_pieces_are_right : (ss : List ByteRange) → AreFrom 0 0 ss → AllByRecursion IsFit ss
       → ((n p : ℕ) → origin_at ss n p ≡ last_origin (grown (file_size before) (file_size after) numbers ++ made (file_size after) 0 entries) n p) → ArePieces after (pieces_made ss)
   laid_pieces_are_right ss from fit says = pieces_from_said after (pieces_made ss) (pieces_in_order ss from) (λ n p.
       pieces_say ss 0 0 from fit n p ∙ ap (option_map (λ o. mark_of o p)) (says n p) ∙ stretches_say client seen before entries after opens ran numbers all n p)
 
 -- pieces of stretches in order stand in the order of their files' numbers
-pub made_by_number : (ss : List Stretch) (xs : List CodePiece) (n p : ℕ) → map piece_of xs ≡ pieces_made ss → AreFrom n p ss → AreByNumber n xs
+pub made_by_number : (ss : List ByteRange) (xs : List CodePiece) (n p : ℕ) → map piece_of xs ≡ pieces_made ss → AreFrom n p ss → AreByNumber n xs
 made_by_number ss [] n p is from = tt
 made_by_number [] (x ∷ xs) n p is from = cc
 made_by_number (s ∷ ss) (x ∷ xs) n p is from =

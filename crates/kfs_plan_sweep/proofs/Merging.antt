@@ -4,7 +4,7 @@ use Rattle.std.proofs.lemmas.Bool.Decides.{nat_tests}
 use Rattle.kfs_model.specs.Table.{option_or}
 use Rattle.kfs_model.specs.Plan.{ComesBy}
 use Rattle.kfs_model.proofs.Follow.{comes_then, before_then, either_side, not_yet, no_more}
-use Rattle.kfs_plan_sweep.specs.declared.stretch.Stretch.{Stretch}
+use Rattle.kfs_plan_sweep.specs.declared.stretch.ByteRange.{ByteRange}
 use Rattle.kfs_plan_sweep.specs.Stretches.{has_byte, origin_at, AreFrom, ends_by, begins_before, cut_below, cut_from, merged}
 
 -- ---- over plain numbers
@@ -33,13 +33,13 @@ past_end k s e m q h i = grind (arith, nat_tests)
 
 -- ---- lists in order
 
-from_weaker : (n p m q : ℕ) (ss : List Stretch) → ComesBy n p m q → AreFrom m q ss → AreFrom n p ss
+from_weaker : (n p m q : ℕ) (ss : List ByteRange) → ComesBy n p m q → AreFrom m q ss → AreFrom n p ss
 from_weaker n p m q [] h from = tt
 from_weaker n p m q (s ∷ ss) h from = (comes_then n p m q s.number s.start h from.0, from.1, from.2)
 
 module _ (m q : ℕ) where
   -- a byte before the first stretch is in none
-  none_before : (n p : ℕ) (ss : List Stretch) → (m < n) ⊎ ((m ≡ n) × (q < p)) → AreFrom n p ss → origin_at ss m q ≡ None
+  none_before : (n p : ℕ) (ss : List ByteRange) → (m < n) ⊎ ((m ≡ n) × (q < p)) → AreFrom n p ss → origin_at ss m q ≡ None
   none_before n p [] h from = refl
   none_before n p (s ∷ ss) h from =
       let here : (m < s.number) ⊎ ((m ≡ s.number) × (q < s.start)) = before_then m q n p s.number s.start h from.0 in
@@ -49,7 +49,7 @@ module _ (m q : ℕ) where
       ∙ none_before s.number s.end ss behind from.2
 
 module _ (n p : ℕ) where
-  cut_below_from : (m q : ℕ) (ls rest : List Stretch) → AreFrom m q ls → ComesBy m q n p → AreFrom n p rest → AreFrom m q (cut_below n p ls ++ rest)
+  cut_below_from : (m q : ℕ) (ls rest : List ByteRange) → AreFrom m q ls → ComesBy m q n p → AreFrom n p rest → AreFrom m q (cut_below n p ls ++ rest)
   unfolding cut_below
   cut_below_from m q [] rest from h behind = from_weaker m q n p rest h behind
   cut_below_from m q (s ∷ ss) rest from h behind = at (ends_by n p s) refl (begins_before n p s) refl (cut_below_from s.number s.end ss rest from.2)
@@ -63,7 +63,7 @@ module _ (n p : ℕ) where
           (from.0, parts.1, subst (λ k. AreFrom k p rest) (sym parts.0) behind)
       at false ends false begins more = from_weaker m q n p rest h behind
 
-  cut_from_from : (m q : ℕ) (ls : List Stretch) → AreFrom m q ls → AreFrom n p (cut_from n p ls)
+  cut_from_from : (m q : ℕ) (ls : List ByteRange) → AreFrom m q ls → AreFrom n p (cut_from n p ls)
   unfolding cut_from
   cut_from_from m q [] from = tt
   cut_from_from m q (s ∷ ss) from = at (ends_by n p s) refl (begins_before n p s) refl (cut_from_from s.number s.end ss from.2)
@@ -77,7 +77,7 @@ module _ (n p : ℕ) where
 
   module _ (m q : ℕ) where
     -- before the cut the front says what the list says
-    front_says : (ls rest : List Stretch) → (k i : ℕ) → AreFrom k i ls → AreFrom n p rest → (m < n) ⊎ ((m ≡ n) × (q < p)) → origin_at (cut_below n p ls ++ rest) m q ≡ origin_at ls m q
+    front_says : (ls rest : List ByteRange) → (k i : ℕ) → AreFrom k i ls → AreFrom n p rest → (m < n) ⊎ ((m ≡ n) × (q < p)) → origin_at (cut_below n p ls ++ rest) m q ≡ origin_at ls m q
     unfolding cut_below
     front_says [] rest k i from behind h = none_before m q n p rest h behind
     front_says (s ∷ ss) rest k i from behind h = at (ends_by n p s) refl (begins_before n p s) refl (front_says ss rest s.number s.end from.2 behind h)
@@ -100,7 +100,7 @@ module _ (n p : ℕ) where
             ∙ sym (none_before m q n p (s ∷ ss) h (lies_behind s.number s.start s.end n p ends begins, from.1, from.2))
 
     -- from the cut on the back says what the list says
-    back_says : (ls : List Stretch) → ComesBy n p m q → origin_at (cut_from n p ls) m q ≡ origin_at ls m q
+    back_says : (ls : List ByteRange) → ComesBy n p m q → origin_at (cut_from n p ls) m q ≡ origin_at ls m q
     unfolding cut_from
     back_says [] h = refl
     back_says (s ∷ ss) h = at (ends_by n p s) refl (begins_before n p s) refl (back_says ss h)
@@ -114,7 +114,7 @@ module _ (n p : ℕ) where
         at false ends false begins more = refl
 
     -- the front says nothing from the cut on
-    front_ends : (ls rest : List Stretch) → ComesBy n p m q → origin_at (cut_below n p ls ++ rest) m q ≡ origin_at rest m q
+    front_ends : (ls rest : List ByteRange) → ComesBy n p m q → origin_at (cut_below n p ls ++ rest) m q ≡ origin_at rest m q
     unfolding cut_below
     front_ends [] rest h = refl
     front_ends (s ∷ ss) rest h = at (ends_by n p s) refl (begins_before n p s) refl (front_ends ss rest h)
@@ -129,7 +129,7 @@ module _ (n p : ℕ) where
 
 -- ---- one list over another
 
-pub merged_from : (us ls : List Stretch) (n p : ℕ) → AreFrom n p ls → AreFrom n p us → AreFrom n p (merged ls us)
+pub merged_from : (us ls : List ByteRange) (n p : ℕ) → AreFrom n p ls → AreFrom n p us → AreFrom n p (merged ls us)
 unfolding merged
 merged_from [] ls n p lower upper = lower
 merged_from (u ∷ us) ls n p lower upper =
@@ -139,9 +139,9 @@ merged_from (u ∷ us) ls n p lower upper =
     let same : u.start ≤ u.start = omega arith in
     cut_below_from u.number u.start n p ls (u ∷ merged (cut_from u.number u.end (cut_from u.number u.start ls)) us) lower upper.0 (inr (refl, same), upper.1, more)
 
-module _ (u : Stretch) (us ls : List Stretch) (n p : ℕ) (lower : AreFrom n p ls) (upper : AreFrom n p (u ∷ us)) (m q : ℕ) where
+module _ (u : ByteRange) (us ls : List ByteRange) (n p : ℕ) (lower : AreFrom n p ls) (upper : AreFrom n p (u ∷ us)) (m q : ℕ) where
   -- what lies behind the first stretch of the upper list
-  abbrev rest : List Stretch
+  abbrev rest : List ByteRange
   rest = cut_from u.number u.end (cut_from u.number u.start ls)
 
   rest_from : AreFrom u.number u.end rest
@@ -164,7 +164,7 @@ module _ (u : Stretch) (us ls : List Stretch) (n p : ℕ) (lower : AreFrom n p l
           let past = past_end u.number u.start u.end m q h e in
           more ∙ ap (option_or (origin_at us m q)) (back_says u.number u.end m q (cut_from u.number u.start ls) past ∙ back_says u.number u.start m q ls h)
 
-pub merged_says : (us ls : List Stretch) (n p : ℕ) → AreFrom n p ls → AreFrom n p us → (m q : ℕ) → origin_at (merged ls us) m q ≡ option_or (origin_at us m q) (origin_at ls m q)
+pub merged_says : (us ls : List ByteRange) (n p : ℕ) → AreFrom n p ls → AreFrom n p us → (m q : ℕ) → origin_at (merged ls us) m q ≡ option_or (origin_at us m q) (origin_at ls m q)
 unfolding merged
 merged_says [] ls n p lower upper m q = refl
 merged_says (u ∷ us) ls n p lower upper m q =

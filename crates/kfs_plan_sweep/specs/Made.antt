@@ -12,17 +12,17 @@ use Rattle.kfs_model.specs.Tree.{Tree}
 use Rattle.kfs_model.specs.PlanRow.{Piece, Source}
 use Rattle.kfs_plan_sweep.specs.declared.stretch.Origin.{Origin}
 use Rattle.kfs_plan_sweep.specs.declared.stretch.Origin.TheVariants.{Zero, Payload}
-use Rattle.kfs_plan_sweep.specs.declared.stretch.Stretch.{Stretch}
+use Rattle.kfs_plan_sweep.specs.declared.stretch.ByteRange.{ByteRange}
 
 -- what a piece that begins at this byte comes from
 abbrev pub source_at : Origin → (start : ℕ) → Source
 source_at Zero start = Source.Zero
 source_at (Payload entry offset) start = Source.Payload entry (start - offset)
 
-abbrev pub piece_made : Stretch → Piece
+abbrev pub piece_made : ByteRange → Piece
 piece_made s = record { number = s.number; start = s.start; length = s.end - s.start; source = source_at s.origin s.start }
 
-abbrev pub pieces_made : List Stretch → List Piece
+abbrev pub pieces_made : List ByteRange → List Piece
 pieces_made [] = []
 pieces_made (s ∷ ss) = piece_made s ∷ pieces_made ss
 
@@ -32,12 +32,12 @@ IsPlacedAt Zero start end = Unit {0}
 IsPlacedAt (Payload entry offset) start end = (offset ≤ start) × (end ≤ offset + payload_limit)
 
 -- the stretch lies in a file of the greatest size, and in its entry's payload
-pub record IsFit (s : Stretch) : Type 0 where
+pub record IsFit (s : ByteRange) : Type 0 where
   pub end : s.end ≤ size_limit
   pub placed : IsPlacedAt s.origin s.start s.end
 
 -- what each Write and each Truncate reaches of its file, below the file's end after the log
-unfoldable pub made : (ends : ℕ → ℕ) → (index : ℕ) → List Entry → List Stretch
+unfoldable pub made : (ends : ℕ → ℕ) → (index : ℕ) → List Entry → List ByteRange
 made ends index [] = []
 made ends index (Create d m n kind mode ∷ entries) = made ends (index + 1) entries
 made ends index (Write n offset payload ∷ entries) = record { number = n; start = offset; end = min (offset + length payload) (ends n); origin = Payload index offset } ∷ made ends (index + 1) entries
@@ -48,17 +48,17 @@ made ends index (Rename d m e k ∷ entries) = made ends (index + 1) entries
 made ends index (Chmod n mode ∷ entries) = made ends (index + 1) entries
 
 -- what files grew by, between their ends before and after the log
-unfoldable pub grown : (before ends : ℕ → ℕ) → (numbers : List ℕ) → List Stretch
+unfoldable pub grown : (before ends : ℕ → ℕ) → (numbers : List ℕ) → List ByteRange
 grown before ends [] = []
 grown before ends (n ∷ ns) = record { number = n; start = before n; end = ends n; origin = Zero } ∷ grown before ends ns
 
 -- what a run made: the growth of files, those that grew among them, and then what each entry reaches
-pub record AreMade (tree : Tree ℕ) (entries : List Entry) (after : Tree Mark) (stretches : List Stretch) : Type 0 where
+pub record AreMade (tree : Tree ℕ) (entries : List Entry) (after : Tree Mark) (stretches : List ByteRange) : Type 0 where
   pub numbers : List ℕ
   pub grew : (n : ℕ) → file_size tree n < file_size after n → IsTrue (list_any (λ k. n == k) numbers)
   pub are : stretches ≡ grown (file_size tree) (file_size after) numbers ++ made (file_size after) 0 entries
 
 -- whichever run made the stretches, the pieces are right ones of its log
-abbrev pub AreRightOf : List Stretch → List Piece → Type 0
+abbrev pub AreRightOf : List ByteRange → List Piece → Type 0
 AreRightOf stretches pieces = EachRun (λ client before tree entries. before.sight ≡ sight tree
     → IfOk (run over_marks client before (marked tree) entries) (λ after. AreMade tree entries after stretches → ArePieces after pieces))

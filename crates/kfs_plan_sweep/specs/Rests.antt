@@ -1,7 +1,7 @@
 -- What is left of a list of stretches.
 use Rattle.std.specs.Prelude.{List, [], ◌∷◌, drop, Some, None}
-use Rattle.kfs_plan_sweep.specs.declared.stretch.Stretch.{Stretch}
+use Rattle.kfs_plan_sweep.specs.declared.stretch.ByteRange.{ByteRange}
 use Rattle.kfs_plan_sweep.specs.declared.merge.Rest.{Rest}
 
-abbrev pub rest_of : List Stretch → Rest → List Stretch
+abbrev pub rest_of : List ByteRange → Rest → List ByteRange
 rest_of list rest = elim rest.front [ None ↦ [] | Some front ↦ front ∷ drop rest.next list ]

@@ -16,7 +16,7 @@ use Rattle.kfs_entry_value.specs.declared.entry.Entry.{Entry as CodeEntry}
 use Rattle.kfs_entry_value.specs.declared.entry.Entry.TheVariants as entries
 use Rattle.kfs_plan_sweep.specs.declared.sizes.FileSize.{FileSize}
 use Rattle.kfs_plan_sweep.specs.declared.stretch.Origin.TheVariants.{Zero, Payload}
-use Rattle.kfs_plan_sweep.specs.declared.stretch.Stretch.{Stretch}
+use Rattle.kfs_plan_sweep.specs.declared.stretch.ByteRange.{ByteRange}
 
 -- by number, each of them at least this one, and no number twice
 abbrev pub SizesAscend : (least : ℕ) → List FileSize → Type 0
@@ -43,14 +43,14 @@ IsSpanned (entries.Rename d m e k) = Unit {0}
 IsSpanned (entries.Chmod n mode) = Unit {0}
 
 -- what a file grew by
-abbrev pub growth_of : FileSize → Stretch
+abbrev pub growth_of : FileSize → ByteRange
 growth_of s = record { number = s.number; start = s.before; end = s.after; origin = Zero }
 
-abbrev pub growths : List FileSize → List Stretch
+abbrev pub growths : List FileSize → List ByteRange
 growths sizes = map growth_of sizes
 
 -- what an entry reaches of its file
-abbrev pub reach_of : List FileSize → (index : ℕ) → CodeEntry Span → Option Stretch
+abbrev pub reach_of : List FileSize → (index : ℕ) → CodeEntry Span → Option ByteRange
 reach_of sizes index (entries.Write n offset p) =
     Some (record { number = n; start = offset; end = min (offset + (p.end - p.start)) (length_after sizes n); origin = Payload index offset })
 reach_of sizes index (entries.Truncate n size) = Some (record { number = n; start = size; end = length_after sizes n; origin = Zero })
@@ -60,12 +60,12 @@ reach_of sizes index (entries.Unlink d m k) = None
 reach_of sizes index (entries.Rename d m e k) = None
 reach_of sizes index (entries.Chmod n mode) = None
 
-abbrev pub put_before : Option Stretch → List Stretch → List Stretch
+abbrev pub put_before : Option ByteRange → List ByteRange → List ByteRange
 put_before None stretches = stretches
 put_before (Some stretch) stretches = stretch ∷ stretches
 
 -- what the entries reach, the first of them having this index
-abbrev pub reaches : List FileSize → (index : ℕ) → List (CodeEntry Span) → List Stretch
+abbrev pub reaches : List FileSize → (index : ℕ) → List (CodeEntry Span) → List ByteRange
 reaches sizes index [] = []
 reaches sizes index (entry ∷ rest) = put_before (reach_of sizes index entry) (reaches sizes (index + 1) rest)
 

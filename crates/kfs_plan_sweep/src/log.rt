@@ -10,17 +10,17 @@ ghost use Rattle.kfs_plan_sweep.specs.Sizes.{AreRightFrom, SizesAscend, IsSize, 
 
 use crate::pieces::right_pieces;
 use crate::sizes::{FileSize, size_after};
-use crate::stretch::{Origin, Stretch};
+use crate::stretch::{ByteRange, Origin};
 use kfs_entry_value::{Entry, Piece, Span};
 use std::alloc::{AllocError, Allocator};
 
 /// What a file grew by; empty where it didn't grow.
-fn growth(size: &FileSize) -> Stretch
+fn growth(size: &FileSize) -> ByteRange
     requires { IsSize size.now }
     ensures made { result ≡ growth_of size.now }
     ensures fit { IsFit result }
 {
-    Stretch {
+    ByteRange {
         number: size.number,
         start: size.before,
         end: size.after,
@@ -30,7 +30,7 @@ fn growth(size: &FileSize) -> Stretch
 
 /// What the entry of this index reaches of its file, below the file's size after the log; none for an entry that is neither
 /// a Write nor a Truncate.
-fn reach(sizes: &[FileSize], index: u16, entry: &Entry<Span>) -> Option<Stretch>
+fn reach(sizes: &[FileSize], index: u16, entry: &Entry<Span>) -> Option<ByteRange>
     requires ascending { SizesAscend 0 sizes.now }
     requires sizes { AllByRecursion IsSize sizes.now }
     requires span { IsSpanned entry.now }
@@ -44,7 +44,7 @@ fn reach(sizes: &[FileSize], index: u16, entry: &Entry<Span>) -> Option<Stretch>
             payload,
         } => {
             let end = offset.saturating_add((payload.end - payload.start) as u64);
-            Some(Stretch {
+            Some(ByteRange {
                 number: *number,
                 start: *offset,
                 end: end.min(size_after(sizes, *number)),
@@ -54,7 +54,7 @@ fn reach(sizes: &[FileSize], index: u16, entry: &Entry<Span>) -> Option<Stretch>
                 },
             })
         }
-        Entry::Truncate { number, size } => Some(Stretch {
+        Entry::Truncate { number, size } => Some(ByteRange {
             number: *number,
             start: *size,
             end: size_after(sizes, *number),
@@ -69,7 +69,7 @@ fn stretches_of<A: Allocator>(
     alloc: A,
     sizes: &[FileSize],
     entries: &[Entry<Span>],
-) -> Result<Vec<Stretch, A>, AllocError>
+) -> Result<Vec<ByteRange, A>, AllocError>
     requires ascending { SizesAscend 0 sizes.now }
     requires sizes { AllByRecursion IsSize sizes.now }
     requires spans { AllByRecursion IsSpanned entries.now }

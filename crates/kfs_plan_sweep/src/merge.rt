@@ -5,18 +5,18 @@ ghost use Rattle.std.specs.List.{AllByRecursion};
 ghost use Rattle.kfs_plan_sweep.specs.Made.{IsFit};
 ghost use Rattle.kfs_plan_sweep.specs.Rests.{rest_of};
 
-use crate::stretch::Stretch;
+use crate::stretch::ByteRange;
 use std::alloc::{AllocError, Allocator};
 
 /// What is left of a list: a first stretch, perhaps without its front, and those of the list from `next` on.
 #[derive(Clone, Copy)]
 pub(crate) struct Rest {
-    pub front: Option<Stretch>,
+    pub front: Option<ByteRange>,
     pub next: usize,
 }
 
 /// The list from `next` on.
-fn from_next(list: &[Stretch], next: usize) -> Rest
+fn from_next(list: &[ByteRange], next: usize) -> Rest
     ensures { rest_of list.now result ≡ drop next list.now }
 {
     if next < list.len() {
@@ -30,14 +30,14 @@ fn from_next(list: &[Stretch], next: usize) -> Rest
 }
 
 /// Whether the stretch ends at this byte or before it.
-fn is_over(stretch: &Stretch, number: u32, place: u64) -> bool
+fn is_over(stretch: &ByteRange, number: u32, place: u64) -> bool
     ensures { result ≡ ends_by number place stretch.now }
 {
     stretch.number < number || stretch.number == number && stretch.end <= place
 }
 
 /// Whether the stretch begins before this byte of its file.
-fn has_begun(stretch: &Stretch, number: u32, place: u64) -> bool
+fn has_begun(stretch: &ByteRange, number: u32, place: u64) -> bool
     ensures { result ≡ begins_before number place stretch.now }
 {
     stretch.number == number && stretch.start < place
@@ -45,8 +45,8 @@ fn has_begun(stretch: &Stretch, number: u32, place: u64) -> bool
 
 /// Moves what lies before the byte to `out`, and answers what is left.
 fn take_below<A: Allocator>(
-    out: &mut Vec<Stretch, A>,
-    list: &[Stretch],
+    out: &mut Vec<ByteRange, A>,
+    list: &[ByteRange],
     rest: Rest,
     number: u32,
     place: u64,
@@ -60,11 +60,11 @@ fn take_below<A: Allocator>(
             out.push(stretch)?;
             left = from_next(list, left.next);
         } else if has_begun(&stretch, number, place) {
-            out.push(Stretch {
+            out.push(ByteRange {
                 end: place,
                 ..stretch
             })?;
-            let back = Stretch {
+            let back = ByteRange {
                 start: place,
                 ..stretch
             };
@@ -80,7 +80,7 @@ fn take_below<A: Allocator>(
 }
 
 /// What is left without what lies before the byte.
-fn skip_below(list: &[Stretch], rest: Rest, number: u32, place: u64) -> Rest
+fn skip_below(list: &[ByteRange], rest: Rest, number: u32, place: u64) -> Rest
     ensures { rest_of list.now result ≡ cut_from number place (rest_of list.now rest) }
 {
     let mut left = rest;
@@ -88,7 +88,7 @@ fn skip_below(list: &[Stretch], rest: Rest, number: u32, place: u64) -> Rest
         if is_over(&stretch, number, place) {
             left = from_next(list, left.next);
         } else if has_begun(&stretch, number, place) {
-            let back = Stretch {
+            let back = ByteRange {
                 start: place,
                 ..stretch
             };
@@ -105,8 +105,8 @@ fn skip_below(list: &[Stretch], rest: Rest, number: u32, place: u64) -> Rest
 
 /// Moves all that is left to `out`.
 fn take_all<A: Allocator>(
-    out: &mut Vec<Stretch, A>,
-    list: &[Stretch],
+    out: &mut Vec<ByteRange, A>,
+    list: &[ByteRange],
     rest: Rest,
 ) -> Result<(), AllocError>
     ensures { IfOk result (λ _. out.new.items ≡ out.old.items ++ rest_of list.now rest) }
@@ -122,9 +122,9 @@ fn take_all<A: Allocator>(
 /// The upper list laid over the lower one: all of the upper list, and what the lower one has beside it.
 pub fn laid_over<A: Allocator>(
     alloc: A,
-    lower: &[Stretch],
-    upper: &[Stretch],
-) -> Result<Vec<Stretch, A>, AllocError>
+    lower: &[ByteRange],
+    upper: &[ByteRange],
+) -> Result<Vec<ByteRange, A>, AllocError>
     ensures { IfOk result (λ out. out.items ≡ merged lower.now upper.now) }
 {
     let mut out = Vec::new(alloc);
@@ -141,8 +141,8 @@ pub fn laid_over<A: Allocator>(
 /// For each byte the last of the stretches that has it. Stretches may overlap and be empty; a later one hides an earlier one.
 pub fn last_of_all<A: Allocator + Copy>(
     alloc: A,
-    stretches: &[Stretch],
-) -> Result<Vec<Stretch, A>, AllocError>
+    stretches: &[ByteRange],
+) -> Result<Vec<ByteRange, A>, AllocError>
     ensures order { IfOk result (λ out. AreFrom 0 0 out.items) }
     ensures says { IfOk result (λ out. (number place : ℕ) → origin_at out.items number place ≡ last_origin stretches.now number place) }
     ensures fit { IfOk result (λ out. AllByRecursion IsFit stretches.now → AllByRecursion IsFit out.items) }
@@ -161,7 +161,7 @@ pub fn last_of_all<A: Allocator + Copy>(
 }
 
 /// The stretch, or nothing where it is empty.
-fn alone<A: Allocator>(alloc: A, stretch: &Stretch) -> Result<Vec<Stretch, A>, AllocError>
+fn alone<A: Allocator>(alloc: A, stretch: &ByteRange) -> Result<Vec<ByteRange, A>, AllocError>
     ensures order { IfOk result (λ out. AreFrom 0 0 out.items) }
     ensures says { IfOk result (λ out. (number place : ℕ) → origin_at out.items number place ≡ last_origin (stretch.now ∷ []) number place) }
     ensures fit { IfOk result (λ out. IsFit stretch.now → AllByRecursion IsFit out.items) }

@@ -8,12 +8,12 @@ ghost use Rattle.kfs_plan_sweep.specs.Parts.{AreByNumber};
 ghost use Rattle.kfs_plan_sweep.specs.Stretches.{AreFrom};
 
 use crate::merge::last_of_all;
-use crate::stretch::{Origin, Stretch};
+use crate::stretch::{ByteRange, Origin};
 use kfs_entry_value::{Piece, Source};
 use std::alloc::{AllocError, Allocator};
 
 /// The stretch as a row of a plan.
-fn piece_from(stretch: &Stretch) -> Piece
+fn piece_from(stretch: &ByteRange) -> Piece
     requires fit { IsFit stretch.now }
     requires filled { stretch.now.start < stretch.now.end }
     ensures made { piece_of result ≡ piece_made stretch.now }
@@ -36,7 +36,7 @@ fn piece_from(stretch: &Stretch) -> Piece
 }
 
 /// The stretches as rows of a plan.
-fn pieces_from<A: Allocator>(alloc: A, stretches: &[Stretch]) -> Result<Vec<Piece, A>, AllocError>
+fn pieces_from<A: Allocator>(alloc: A, stretches: &[ByteRange]) -> Result<Vec<Piece, A>, AllocError>
     requires fit { AllByRecursion IsFit stretches.now }
     requires order { AreFrom 0 0 stretches.now }
     ensures made { IfOk result (λ out. map piece_of out.items ≡ pieces_made stretches.now) }
@@ -54,7 +54,7 @@ fn pieces_from<A: Allocator>(alloc: A, stretches: &[Stretch]) -> Result<Vec<Piec
 /// Right pieces of a log, from what it made: what each file grew by, and then what each of its entries reaches of its file.
 pub fn right_pieces<A: Allocator + Copy>(
     alloc: A,
-    stretches: &[Stretch],
+    stretches: &[ByteRange],
 ) -> Result<Vec<Piece, A>, AllocError>
     requires fit { AllByRecursion IsFit stretches.now }
     ensures right { IfOk result (λ out. AreRightOf stretches.now (map piece_of out.items)) }

@@ -7,8 +7,8 @@ use Rattle.kfs_program_command.specs.Reading.{begin_of, command_named, docket_of
 use Rattle.kfs_program_text.specs.Cut.{cut, space}
 use Rattle.kfs_program_text.specs.Decimals.{decimal32, decimal64, decimal_within, decimals32, hexadecimal}
 use Rattle.kfs_program_text.specs.Reading.{are_words, checked, ended, first_by, only}
-use Rattle.kfs_program_command.specs.declared.command.Name.{Name}
-use Rattle.kfs_program_command.specs.declared.command.Name.TheVariants as names
+use Rattle.kfs_program_command.specs.declared.command.Keyword.{Keyword}
+use Rattle.kfs_program_command.specs.declared.command.Keyword.TheVariants as names
 use Rattle.std.specs.Prelude.{bytes_eq, codes}
 use Rattle.kfs_program_text.proofs.WordByWord.{bind_all, bind_none, checked_decimals, checked_nothing, checked_same, checked_then, decimals_then, first_if, if_none, map_bind, nothing_if, nothing_then, word_then}
 use Rattle.kfs_program_command.proofs.Rows.{sizes_by, new_by_sizes, kept_groups}
@@ -198,13 +198,13 @@ client_steps words =
 
 -- ---- lines
 
-name_or : (is : Bool) (name : Name) (others : Option Name) (other : Option Command) (words : List (List ℕ)) → other ≡ command_named others words
+name_or : (is : Bool) (name : Keyword) (others : Option Keyword) (other : Option Command) (words : List (List ℕ)) → other ≡ command_named others words
     → (if is then command_named (Some name) words else other) ≡ command_named (if is then Some name else others) words
 name_or true name others other words same = refl
 name_or false name others other words same = same
 
 -- a word's command is that of its name
-pub command_by_name : (word : List ℕ) (name : Option Name) → name ≡ named_by word → (words : List (List ℕ)) → command_of word words ≡ command_named name words
+pub command_by_name : (word : List ℕ) (name : Option Keyword) → name ≡ named_by word → (words : List (List ℕ)) → command_of word words ≡ command_named name words
 unfolding begin_of tick_of node_of listing_of docket_of land_of
 command_by_name word name is words =
     name_or (bytes_eq word (codes "new")) names.New _ _ words
@@ -227,7 +227,7 @@ pub nameless : (words : List (List ℕ)) → checked (command_named None) words 
 unfolding checked
 nameless words = if_none (are_words words) None refl
 
-asked_parts : (parts : List (List ℕ)) (word : List ℕ) (left : List (List ℕ)) (name : Option Name) → first_by (λ w. Some w) parts ≡ Some (word, left) → ((words : List (List ℕ)) → command_of word words ≡ command_named name words)
+asked_parts : (parts : List (List ℕ)) (word : List ℕ) (left : List (List ℕ)) (name : Option Keyword) → first_by (λ w. Some w) parts ≡ Some (word, left) → ((words : List (List ℕ)) → command_of word words ≡ command_named name words)
     → asked_in parts ≡ checked (command_named name) left
 unfolding first_by checked
 asked_parts [] word left name is named = cc
@@ -239,7 +239,7 @@ asked_parts (first ∷ words) word left name is named =
     ∙ ap (λ o. if are_words left then o else None) (named left)
 
 -- a line asks for the command that its first word names, of the words behind it
-pub asked_named : (line word : List ℕ) (left : List (List ℕ)) (name : Option Name) → first_by (λ w. Some w) (cut space line) ≡ Some (word, left) → ((words : List (List ℕ)) → command_of word words ≡ command_named name words)
+pub asked_named : (line word : List ℕ) (left : List (List ℕ)) (name : Option Keyword) → first_by (λ w. Some w) (cut space line) ≡ Some (word, left) → ((words : List (List ℕ)) → command_of word words ≡ command_named name words)
     → asked_by line ≡ checked (command_named name) left
 asked_named line word left name is named = asked_parts (cut space line) word left name is named
 

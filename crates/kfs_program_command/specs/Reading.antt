@@ -1,8 +1,8 @@
 -- The commands by their names.
 use Rattle.std.specs.Prelude.{ℕ, List, codes, bytes_eq, Option, Some, None, if◌then◌else◌}
 use Rattle.kfs_program_command.specs.Command.{Command, Setup, Begin, Request, Tick, Node, Listing, DocketLength, Land, alone, client_of, drop_of, judge_of, last_worker, lease_of, new_of, read_of, submit_of, with_number}
-use Rattle.kfs_program_command.specs.declared.command.Name.{Name}
-use Rattle.kfs_program_command.specs.declared.command.Name.TheVariants as names
+use Rattle.kfs_program_command.specs.declared.command.Keyword.{Keyword}
+use Rattle.kfs_program_command.specs.declared.command.Keyword.TheVariants as names
 use Rattle.kfs_program_text.specs.Decimals.{decimal32, decimal64, decimal_within}
 
 -- ---- the commands with one number alone, and each command by its name
@@ -26,7 +26,7 @@ unfoldable pub land_of : List (List ℕ) → Option Command
 land_of = with_number (decimal_within last_worker) (λ worker. Request (Land worker))
 
 -- the command that a word names
-abbrev pub named_by : (word : List ℕ) → Option Name
+abbrev pub named_by : (word : List ℕ) → Option Keyword
 named_by word =
     if bytes_eq word (codes "new") then Some names.New
     else if bytes_eq word (codes "client") then Some names.Client
@@ -43,7 +43,7 @@ named_by word =
     else if bytes_eq word (codes "land") then Some names.Land
     else None
 
-abbrev pub command_named : Option Name → List (List ℕ) → Option Command
+abbrev pub command_named : Option Keyword → List (List ℕ) → Option Command
 command_named None words = None
 command_named (Some names.New) words = new_of words
 command_named (Some names.Client) words = client_of words

@@ -81,30 +81,34 @@ impl<'a, A: Allocator + Copy> Command<'a, A> {
 
     /// The command of this name with the words behind it.
     #[tactic(auto, using(crate::proofs::Readings::nameless))]
-    fn named(alloc: A, name: Option<Name>, words: &mut Words<'a>) -> Result<Command<'a, A>, Refusal>
+    fn named(
+        alloc: A,
+        name: Option<Keyword>,
+        words: &mut Words<'a>,
+    ) -> Result<Command<'a, A>, Refusal>
         ensures { ReadsAs asked_of (checked (command_named name) (words_left words.old)) result }
     {
         match name.ok_or(Refusal::BadLine)? {
-            Name::New => Ok(Command::Opening(read_new(words)?)),
-            Name::Client => Ok(Command::Opening(read_client(words)?)),
-            Name::Begin => Ok(Command::Opening(read_begin(words)?)),
-            Name::Lease => Ok(Command::Desk(DeskCommand::Act(read_lease(words)?))),
-            Name::Drop => Ok(Command::Desk(DeskCommand::Act(read_drop(words)?))),
-            Name::Tick => Ok(Command::Desk(DeskCommand::Act(read_tick(words)?))),
-            Name::Submit => Ok(Command::Desk(DeskCommand::Submit(read_submit(alloc, words)?))),
-            Name::Node => Ok(Command::Desk(DeskCommand::Node(read_node(words)?))),
-            Name::List => Ok(Command::Desk(DeskCommand::List(read_list(words)?))),
-            Name::Read => Ok(Command::Desk(read_bytes(words)?)),
-            Name::Docket => Ok(Command::Desk(read_docket(words)?)),
-            Name::Judge => Ok(Command::Desk(read_judge(alloc, words)?)),
-            Name::Land => Ok(Command::Desk(read_land(words)?)),
+            Keyword::New => Ok(Command::Opening(read_new(words)?)),
+            Keyword::Client => Ok(Command::Opening(read_client(words)?)),
+            Keyword::Begin => Ok(Command::Opening(read_begin(words)?)),
+            Keyword::Lease => Ok(Command::Desk(DeskCommand::Act(read_lease(words)?))),
+            Keyword::Drop => Ok(Command::Desk(DeskCommand::Act(read_drop(words)?))),
+            Keyword::Tick => Ok(Command::Desk(DeskCommand::Act(read_tick(words)?))),
+            Keyword::Submit => Ok(Command::Desk(DeskCommand::Submit(read_submit(alloc, words)?))),
+            Keyword::Node => Ok(Command::Desk(DeskCommand::Node(read_node(words)?))),
+            Keyword::List => Ok(Command::Desk(DeskCommand::List(read_list(words)?))),
+            Keyword::Read => Ok(Command::Desk(read_bytes(words)?)),
+            Keyword::Docket => Ok(Command::Desk(read_docket(words)?)),
+            Keyword::Judge => Ok(Command::Desk(read_judge(alloc, words)?)),
+            Keyword::Land => Ok(Command::Desk(read_land(words)?)),
         }
     }
 }
 
 /// The name of a command.
 #[derive(Clone, Copy)]
-enum Name {
+enum Keyword {
     New,
     Client,
     Begin,
@@ -121,35 +125,35 @@ enum Name {
 }
 
 /// The command that the word names.
-fn name_in(word: &[u8]) -> Option<Name>
+fn name_in(word: &[u8]) -> Option<Keyword>
     ensures { result ≡ named_by word.now }
 {
     if word == b"new".as_slice() {
-        Some(Name::New)
+        Some(Keyword::New)
     } else if word == b"client".as_slice() {
-        Some(Name::Client)
+        Some(Keyword::Client)
     } else if word == b"begin".as_slice() {
-        Some(Name::Begin)
+        Some(Keyword::Begin)
     } else if word == b"lease".as_slice() {
-        Some(Name::Lease)
+        Some(Keyword::Lease)
     } else if word == b"drop".as_slice() {
-        Some(Name::Drop)
+        Some(Keyword::Drop)
     } else if word == b"tick".as_slice() {
-        Some(Name::Tick)
+        Some(Keyword::Tick)
     } else if word == b"submit".as_slice() {
-        Some(Name::Submit)
+        Some(Keyword::Submit)
     } else if word == b"node".as_slice() {
-        Some(Name::Node)
+        Some(Keyword::Node)
     } else if word == b"list".as_slice() {
-        Some(Name::List)
+        Some(Keyword::List)
     } else if word == b"read".as_slice() {
-        Some(Name::Read)
+        Some(Keyword::Read)
     } else if word == b"docket".as_slice() {
-        Some(Name::Docket)
+        Some(Keyword::Docket)
     } else if word == b"judge".as_slice() {
-        Some(Name::Judge)
+        Some(Keyword::Judge)
     } else if word == b"land".as_slice() {
-        Some(Name::Land)
+        Some(Keyword::Land)
     } else {
         None
     }

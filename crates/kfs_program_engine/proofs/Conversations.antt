@@ -6,7 +6,7 @@ use Rattle.kfs_program_text.specs.Cut.{cut, line_end, lines_in, lines_of}
 use Rattle.kfs_program_engine.specs.Progress.{IsStopped, IsTaken, HasAnswered}
 use Rattle.kfs_program_engine.specs.Session.{AnswersLine, AnswersLines, Stage, fresh}
 use Rattle.kfs_program_engine.specs.Views.{stage_of}
-use Rattle.kfs_program_engine.specs.declared.conversation.Conversation.{Conversation}
+use Rattle.kfs_program_engine.specs.declared.conversation.SessionLoop.{SessionLoop}
 use Rattle.kfs_program_engine.specs.declared.fault.EngineFault.{EngineFault}
 use Rattle.kfs_program_engine.specs.declared.fault.EngineFault.TheVariants.{ReadFault, WriteFault, LongLine, OutOfMemory}
 use Rattle.kfs_program_text.proofs.Cuts.{cut-joined, cut-more, cut-some}
@@ -135,7 +135,7 @@ HasAnswered-stopped_last T fault s held input text more some stop h =
     HasAnswered-stopped T fault s held [] held input text more [] (rw (append-nil held) h.endless) (λ _. some) stop h
 
 -- the rest without a line's end is kept, or the session ends at it
-pub HasAnswered-rest : {A T : Type 0} (ended : Result T EngineFault) (conversation : Conversation A) (s : Stage) (held rest input text : List ℕ) → stage_of conversation.session ≡ s
+pub HasAnswered-rest : {A T : Type 0} (ended : Result T EngineFault) (conversation : SessionLoop A) (s : Stage) (held rest input text : List ℕ) → stage_of conversation.session ≡ s
     → cut line_end rest ≡ rest ∷ [] → MatchResult ended (λ _. (conversation.line.items ≡ held ++ rest) × LineIsShort (held ++ rest)) (λ fault. IsStopped fault s (held ++ rest) [] × (fault ≢ WriteFault))
     → HasAnswered s held rest input text → IsTaken ended conversation input text
 HasAnswered-rest (Ok done) conversation s held rest input text stage none kept h =

@@ -6,7 +6,7 @@ use Rattle.kfs_program_text.specs.Cut.{cut, line_end}
 use Rattle.kfs_program_engine.specs.Session.{AnswersLine, AnswersLines, Stage, fresh}
 use Rattle.kfs_program_text.specs.Parts.{line_of}
 use Rattle.kfs_program_engine.specs.Views.{stage_of}
-use Rattle.kfs_program_engine.specs.declared.conversation.Conversation.{Conversation}
+use Rattle.kfs_program_engine.specs.declared.conversation.SessionLoop.{SessionLoop}
 use Rattle.kfs_program_engine.specs.declared.fault.EngineFault.{EngineFault}
 use Rattle.kfs_program_engine.specs.declared.fault.EngineFault.TheVariants.{ReadFault, WriteFault, LongLine, OutOfMemory}
 use Rattle.kfs_program_text.specs.declared.words.Refusal.{Refusal}
@@ -36,29 +36,29 @@ LineIsKept result stage line kept =
 
 module _ {A : Type 0} where
   -- the conversation stands there, with the line that it holds
-  abbrev pub HasAnsweredSoFar : Conversation A → (rest input text : List ℕ) → Type 0
+  abbrev pub HasAnsweredSoFar : SessionLoop A → (rest input text : List ℕ) → Type 0
   HasAnsweredSoFar conversation rest input text = HasAnswered (stage_of conversation.session) conversation.line.items rest input text
 
   -- all is looked at, or the session has ended
-  abbrev pub IsTaken : {T : Type 0} → Result T EngineFault → Conversation A → (input text : List ℕ) → Type 0
+  abbrev pub IsTaken : {T : Type 0} → Result T EngineFault → SessionLoop A → (input text : List ℕ) → Type 0
   IsTaken (Ok done) conversation input text = HasAnsweredSoFar conversation [] input text
   IsTaken {T} (Err fault) conversation input text = IsSession {T = T} (Err fault) input text
 
   -- wherever it stood before these bytes, all of them are looked at, or the session has ended
-  abbrev pub Takes : {T : Type 0} → Conversation A → (bytes : List ℕ) → Result T EngineFault → Conversation A → (more : List ℕ) → Type 0
+  abbrev pub Takes : {T : Type 0} → SessionLoop A → (bytes : List ℕ) → Result T EngineFault → SessionLoop A → (more : List ℕ) → Type 0
   Takes before bytes result after more = (input text : List ℕ) → HasAnsweredSoFar before bytes input text → IsTaken result after input (text ++ more)
 
   -- wherever it stood, the session has ended
-  abbrev pub Ends : {T : Type 0} → Conversation A → Result T EngineFault → (more : List ℕ) → Type 0
+  abbrev pub Ends : {T : Type 0} → SessionLoop A → Result T EngineFault → (more : List ℕ) → Type 0
   Ends before result more = (input text : List ℕ) → HasAnsweredSoFar before [] input text → IsSession result input (text ++ more)
 
   -- the line is answered with this text, or stopped
-  abbrev pub IsLineAnswered : {T : Type 0} → Result T EngineFault → Conversation A → (line : List ℕ) → Conversation A → (text : List ℕ) → Type 0
+  abbrev pub IsLineAnswered : {T : Type 0} → Result T EngineFault → SessionLoop A → (line : List ℕ) → SessionLoop A → (text : List ℕ) → Type 0
   IsLineAnswered (Ok done) before line after text = AnswersLine (stage_of before.session) line (text, stage_of after.session) × LineIsShort line
   IsLineAnswered (Err fault) before line after text = IsStopped fault (stage_of before.session) line text
 
   -- so is the line that it holds, where that is short
-  abbrev pub IsHeldAnswered : {T : Type 0} → Result T EngineFault → (before after : Conversation A) → (text : List ℕ) → Type 0
+  abbrev pub IsHeldAnswered : {T : Type 0} → Result T EngineFault → (before after : SessionLoop A) → (text : List ℕ) → Type 0
   IsHeldAnswered result before after text = LineIsShort before.line.items → IsLineAnswered result before before.line.items after text
 
 -- what is written of a reply

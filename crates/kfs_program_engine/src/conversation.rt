@@ -18,17 +18,17 @@ const LONGEST_INPUT_LINE: usize = 16_777_216;
 
 /// A session, and the line of it whose end has not been read.
 #[derive(Drop)]
-pub struct Conversation<A: Allocator> {
+pub struct SessionLoop<A: Allocator> {
     session: Session<A>,
     line: Vec<u8, A>,
     reply: Vec<u8, A>,
 }
 
-impl<A: Allocator + Copy> Conversation<A> {
-    pub fn new(alloc: A) -> Conversation<A>
+impl<A: Allocator + Copy> SessionLoop<A> {
+    pub fn new(alloc: A) -> SessionLoop<A>
         ensures { HasAnsweredSoFar result [] [] [] }
     {
-        Conversation {
+        SessionLoop {
             session: Session::new(alloc),
             line: Vec::new(alloc),
             reply: Vec::new(alloc),

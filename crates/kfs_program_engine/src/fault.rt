@@ -2,7 +2,7 @@
 ghost use Rattle.std.specs.Prelude.{◌≡◌};
 ghost use Rattle.kfs_program_engine.specs.declared.fault.EngineFault.TheVariants.{OutOfMemory, ReadFault as Unread, WriteFault as Unwritten};
 
-use kfs_program_text::{ReadFault, WriteFault};
+use kfs_program_text::{InputFault, OutputFault};
 use std::alloc::AllocError;
 use thiserror::Error;
 
@@ -31,18 +31,18 @@ impl From<AllocError> for EngineFault {
     }
 }
 
-impl From<ReadFault> for EngineFault {
+impl From<InputFault> for EngineFault {
     ghost from_gives = { λ _ fault. fault ≡ Unread };
 
-    fn from(_fault: ReadFault) -> EngineFault {
+    fn from(_fault: InputFault) -> EngineFault {
         EngineFault::ReadFault
     }
 }
 
-impl From<WriteFault> for EngineFault {
+impl From<OutputFault> for EngineFault {
     ghost from_gives = { λ _ fault. fault ≡ Unwritten };
 
-    fn from(_fault: WriteFault) -> EngineFault {
+    fn from(_fault: OutputFault) -> EngineFault {
         EngineFault::WriteFault
     }
 }

@@ -13,11 +13,11 @@ const WORKERS: usize = 8;
 
 /// A hand for each worker, in their order.
 #[derive(Drop)]
-pub struct Hands<A: Allocator> {
+pub struct HeldVerdicts<A: Allocator> {
     held: Vec<Option<Judged<A>>, A>,
 }
 
-impl<A: Allocator> Model for Hands<A> {
+impl<A: Allocator> Model for HeldVerdicts<A> {
     ghost use Rattle.kfs_program_engine.specs.HeldVerdicts.{HeldVerdicts as HandsShown};
     ghost use Rattle.std.specs.Prelude.{◌≡◌, length};
 
@@ -30,16 +30,16 @@ impl<A: Allocator> Model for Hands<A> {
     ghost invariant = { λ h. length h.held.items ≡ 8 };
 }
 
-impl<A: Allocator> Hands<A> {
+impl<A: Allocator> HeldVerdicts<A> {
     /// All are empty.
-    pub fn new(alloc: A) -> Result<Hands<A>, AllocError>
+    pub fn new(alloc: A) -> Result<HeldVerdicts<A>, AllocError>
         ensures { IfOk result (λ hands. hands ≡ no_verdict) }
     {
         let mut held = Vec::new(alloc);
         for _ in 0..WORKERS {
             held.push(None)?;
         }
-        Ok(Hands { held })
+        Ok(HeldVerdicts { held })
     }
 
     /// Whether the worker holds no verdict.

@@ -17,7 +17,7 @@ mod opening;
 mod session;
 mod verdicts;
 
-use conversation::Conversation;
+use conversation::SessionLoop;
 pub use fault::EngineFault;
 use kfs_program_text::{HeldBack, read_some};
 use std::alloc::{AllocError, Allocator};
@@ -100,7 +100,7 @@ where
     ensures first { writer.new.first ≡ writer.old.first }
     ensures end { OnOk result (IsAtEnd (I.remaining reader.new)) }
 {
-    let mut conversation = Conversation::new(alloc);
+    let mut conversation = SessionLoop::new(alloc);
     'reads: for _ in 0..MOST_READS {
         let Some(count) = read_some(reader, chunk)? else {
             continue;

@@ -13,7 +13,7 @@ ghost use Rattle.kfs_program_text.specs.Parts.{line_of};
 ghost use Rattle.kfs_entry_value.specs.Room.{spare_of};
 
 use crate::bytes::bytes_line;
-use crate::hands::Hands;
+use crate::hands::HeldVerdicts;
 use crate::listing::list_line;
 use crate::opening::Opening;
 use crate::verdicts::{judge_for, land_for};
@@ -37,7 +37,7 @@ pub struct Session<A: Allocator> {
 #[derive(Drop)]
 enum Stage<A: Allocator> {
     Before(Opening<A>),
-    After(Desk<A>, Hands<A>),
+    After(Desk<A>, HeldVerdicts<A>),
 }
 
 impl<A: Allocator + Copy> Session<A> {
@@ -78,7 +78,7 @@ impl<A: Allocator + Copy> Session<A> {
     {
         match &mut self.stage {
             Stage::Before(opening) => {
-                let hands = Hands::new(self.alloc)?;
+                let hands = HeldVerdicts::new(self.alloc)?;
                 if let Some(desk) = opening.answer(command, reply)? {
                     self.stage = Stage::After(desk, hands);
                 }
@@ -110,7 +110,7 @@ impl<A: Allocator + Copy> Session<A> {
 fn answer_due<A: Allocator + Copy>(
     alloc: A,
     desk: &mut Desk<A>,
-    hands: &mut Hands<A>,
+    hands: &mut HeldVerdicts<A>,
     command: DeskCommand<'_, A>,
     reply: &mut Vec<u8, A>,
 ) -> Result<(), Refusal>
@@ -157,7 +157,7 @@ fn make_call<A: Allocator + Copy>(
     }
 }
 
-/// Hands in a log and its plan.
+/// HeldVerdicts in a log and its plan.
 fn hand_in<A: Allocator + Copy>(
     desk: &mut Desk<A>,
     submission: Submission<A>,

@@ -8,7 +8,7 @@ ghost use Rattle.kfs_program_engine.specs.Session.{After, IsLandingAnswered, IsR
 ghost use Rattle.kfs_program_text.specs.Parts.{line_of};
 ghost use Rattle.kfs_entry_value.specs.Room.{spare_of};
 
-use crate::hands::Hands;
+use crate::hands::HeldVerdicts;
 use kfs_desk::Desk;
 use kfs_plan::{Judged, Submission, Why};
 use kfs_program_command::Worker;
@@ -22,7 +22,7 @@ use std::alloc::Allocator;
 pub fn judge_for<A: Allocator + Copy>(
     alloc: A,
     desk: &Desk<A>,
-    hands: &mut Hands<A>,
+    hands: &mut HeldVerdicts<A>,
     worker: Worker,
     submission: Submission<A>,
     reply: &mut Vec<u8, A>,
@@ -62,7 +62,7 @@ fn judged_now<A: Allocator + Copy>(
 /// Lands the verdict that the worker holds, who holds none then, whatever comes of it.
 pub fn land_for<A: Allocator + Copy>(
     desk: &mut Desk<A>,
-    hands: &mut Hands<A>,
+    hands: &mut HeldVerdicts<A>,
     worker: Worker,
     reply: &mut Vec<u8, A>,
 ) -> Result<(), Refusal>

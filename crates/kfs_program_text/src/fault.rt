@@ -2,8 +2,8 @@
 
 /// The reader failed.
 #[derive(Clone, Copy, Debug, PartialEq, Eq)]
-pub struct ReadFault;
+pub struct InputFault;
 
 /// The writer failed, or took no byte.
 #[derive(Clone, Copy, Debug, PartialEq, Eq)]
-pub struct WriteFault;
+pub struct OutputFault;

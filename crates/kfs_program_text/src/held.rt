@@ -4,7 +4,7 @@ ghost use Rattle.std.specs.Io.KnownBytes.{Keeps, append_known};
 ghost use Rattle.kfs_program_text.specs.HeldOutput.{HasGrown, contents_with};
 ghost use Rattle.kfs_program_text.specs.Streams.{IsWritten, Writes};
 
-use crate::fault::WriteFault;
+use crate::fault::OutputFault;
 use crate::writing::{flush, write_out, write_whole};
 use std::alloc::Allocator;
 use std::io::Write;
@@ -53,7 +53,7 @@ impl<'w, W: Write, A: Allocator> HeldBack<'w, W, A> {
 
     /// Writes the text behind all that was written so far, or holds it back. Where the inner writer
     /// fails, a first part of all is written or held.
-    pub fn write(&mut self, text: &[u8]) -> Result<(), WriteFault>
+    pub fn write(&mut self, text: &[u8]) -> Result<(), OutputFault>
         ensures text { Writes (contents_with W.contents self.old) (contents_with W.contents self.new) (IsWritten result text.now) }
         ensures first { self.new.first ≡ self.old.first }
     {
@@ -65,7 +65,7 @@ impl<'w, W: Write, A: Allocator> HeldBack<'w, W, A> {
     }
 
     /// Writes what is held, and flushes the inner writer.
-    pub fn flush(&mut self) -> Result<(), WriteFault>
+    pub fn flush(&mut self) -> Result<(), OutputFault>
         ensures bytes { Keeps (contents_with W.contents self.old) (contents_with W.contents self.new) }
         ensures first { self.new.first ≡ self.old.first }
     {
@@ -74,7 +74,7 @@ impl<'w, W: Write, A: Allocator> HeldBack<'w, W, A> {
     }
 
     /// Writes what is held, and gives the inner writer back. Where that fails, a first part of all is written.
-    pub fn close(self) -> (&'w mut W, Result<(), WriteFault>)
+    pub fn close(self) -> (&'w mut W, Result<(), OutputFault>)
         ensures reference { result.0.ghost_name ≡ self.entry.first.ghost_name }
         ensures grown { HasGrown (W.contents self.entry.first.now) (W.contents result.0.now) }
         ensures all { OnOk result.1 (Keeps (contents_with W.contents self.entry) (W.contents result.0.now)) }
@@ -104,7 +104,7 @@ impl<'w, W: Write, A: Allocator> HeldBack<'w, W, A> {
     }
 
     /// Writes what is held. What a failure leaves unwritten stays held.
-    fn write_held(&mut self) -> Result<(), WriteFault>
+    fn write_held(&mut self) -> Result<(), OutputFault>
         ensures bytes { Keeps (contents_with W.contents self.old) (contents_with W.contents self.new) }
         ensures first { self.new.first ≡ self.old.first }
         ensures empty { OnOk result (self.new.held ≡ []) }

@@ -9,7 +9,7 @@ mod reading;
 mod words;
 mod writing;
 
-pub use fault::{ReadFault, WriteFault};
+pub use fault::{InputFault, OutputFault};
 pub use held::HeldBack;
 pub use lines::first_line;
 pub use reading::read_some;

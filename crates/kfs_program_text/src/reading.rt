@@ -3,11 +3,11 @@ ghost use Rattle.std.specs.Prelude.{◌≡◌, ◌≤◌, ◌<◌, length, IfOk,
 ghost use Rattle.std.specs.Io.KnownBytes.{IsAtEnd};
 ghost use Rattle.kfs_program_text.specs.Streams.{IsChunkRead};
 
-use crate::fault::ReadFault;
+use crate::fault::InputFault;
 use std::io::{ErrorKind, Read};
 
 /// The count of bytes that one read gave, 0 at the end; none where the read was interrupted.
-pub fn read_some<I: Read>(reader: &mut I, chunk: &mut [u8]) -> Result<Option<usize>, ReadFault>
+pub fn read_some<I: Read>(reader: &mut I, chunk: &mut [u8]) -> Result<Option<usize>, InputFault>
     requires { 0 < length chunk.old }
     ensures bytes { IsChunkRead result chunk.new (I.remaining reader.old) (I.remaining reader.new) }
     ensures count { IfOk result (λ read. IfSome read (λ count. count ≤ length chunk.old)) }
@@ -16,6 +16,6 @@ pub fn read_some<I: Read>(reader: &mut I, chunk: &mut [u8]) -> Result<Option<usi
     match reader.read(chunk) {
         Ok(count) => Ok(Some(count)),
         Err(error) if error.kind() == ErrorKind::Interrupted => Ok(None),
-        Err(_) => Err(ReadFault),
+        Err(_) => Err(InputFault),
     }
 }

@@ -3,14 +3,14 @@ ghost use Rattle.std.specs.Prelude.{◌≡◌, ◌≤◌, length, take, IfOk, On
 ghost use Rattle.std.specs.Io.KnownBytes.{Appends, Keeps, WriteAppends};
 ghost use Rattle.kfs_program_text.specs.Streams.{IsWritten, Writes};
 
-use crate::fault::WriteFault;
+use crate::fault::OutputFault;
 use std::io::{ErrorKind, Write};
 
 /// How often a writer is asked to take bytes before it is taken never to.
 const MOST_WRITES: u64 = 1 << 32;
 
 /// Writes the bytes; the writer's fault leaves a first part of them written.
-pub fn write_whole<W: Write>(writer: &mut W, bytes: &[u8]) -> Result<(), WriteFault>
+pub fn write_whole<W: Write>(writer: &mut W, bytes: &[u8]) -> Result<(), OutputFault>
     ensures { Writes (W.contents writer.old) (W.contents writer.new) (IsWritten result bytes.now) }
 {
     let (_count, ended) = write_out(writer, bytes);
@@ -18,7 +18,7 @@ pub fn write_whole<W: Write>(writer: &mut W, bytes: &[u8]) -> Result<(), WriteFa
 }
 
 /// Writes the bytes, and tells how many of them the writer took: all but where it fails.
-pub(crate) fn write_out<W: Write>(writer: &mut W, bytes: &[u8]) -> (usize, Result<(), WriteFault>)
+pub(crate) fn write_out<W: Write>(writer: &mut W, bytes: &[u8]) -> (usize, Result<(), OutputFault>)
     ensures bound { result.0 ≤ length bytes.now }
     ensures all { OnOk result.1 (result.0 ≡ length bytes.now) }
     ensures text { Appends (W.contents writer.old) (W.contents writer.new) (take result.0 bytes.now) }
@@ -33,24 +33,24 @@ pub(crate) fn write_out<W: Write>(writer: &mut W, bytes: &[u8]) -> (usize, Resul
             Err(fault) => return (count, Err(fault)),
         }
     }
-    (count, Err(WriteFault))
+    (count, Err(OutputFault))
 }
 
-pub fn flush<W: Write>(writer: &mut W) -> Result<(), WriteFault>
+pub fn flush<W: Write>(writer: &mut W) -> Result<(), OutputFault>
     ensures { Keeps (W.contents writer.old) (W.contents writer.new) }
 {
-    writer.flush().map_err(|_| WriteFault)
+    writer.flush().map_err(|_| OutputFault)
 }
 
 /// The count of bytes that one write took, 0 where it was interrupted.
-fn write_some<W: Write>(writer: &mut W, bytes: &[u8]) -> Result<usize, WriteFault>
+fn write_some<W: Write>(writer: &mut W, bytes: &[u8]) -> Result<usize, OutputFault>
     ensures count { IfOk result (λ count. count ≤ length bytes.now) }
     ensures text { WriteAppends (W.contents writer.old) (W.contents writer.new) result bytes.now }
 {
     match writer.write(bytes) {
-        Ok(0) => Err(WriteFault),
+        Ok(0) => Err(OutputFault),
         Ok(count) => Ok(count),
         Err(error) if error.kind() == ErrorKind::Interrupted => Ok(0),
-        Err(_) => Err(WriteFault),
+        Err(_) => Err(OutputFault),
     }
 }

@@ -6,7 +6,7 @@
 mod memory;
 
 use kfs_program::run_words;
-use kfs_test_scripts::{Case, Fault, script_names};
+use kfs_test_scripts::{Case, ScriptFault, script_names};
 use memory::run_in_little_memory;
 use std::io;
 use std::process::ExitCode;
@@ -30,7 +30,7 @@ fn main(rt: HostRuntime) -> io::Result<ExitCode> {
 }
 
 /// Runs one script, with its words, and compares its replies and its status.
-fn run_script<R: Files + AllocGlobal>(rt: &R, name: &str) -> Result<(), Fault> {
+fn run_script<R: Files + AllocGlobal>(rt: &R, name: &str) -> Result<(), ScriptFault> {
     let case = Case::read(rt, name)?;
     let words = case.words(rt.alloc())?;
     let mut script = case.script();

@@ -1,7 +1,7 @@
 //! Scripts in little memory: with each growth refused in turn, and with few bytes.
 
 use kfs_program::run_words;
-use kfs_test_scripts::{Case, Fault, Script};
+use kfs_test_scripts::{Case, Script, ScriptFault};
 use kfs_test_support::refusing::Refusing;
 use std::alloc::{AllocError, Allocator, Global};
 
@@ -150,18 +150,18 @@ fn is_due<R: AllocGlobal>(
 }
 
 /// Refuses each growth of the script in turn. Answers how many there are.
-fn growths<R: AllocGlobal>(rt: &R, case: &Case, words: &[&str]) -> Result<u64, Fault> {
+fn growths<R: AllocGlobal>(rt: &R, case: &Case, words: &[&str]) -> Result<u64, ScriptFault> {
     for growth in 0..MANY {
         let heap = Refusing::new(rt.alloc(), growth);
         let given = run(rt, &heap, words, case.lines());
         if !is_due(rt, case, words, &given)? {
-            return Err(Fault::Growth(growth));
+            return Err(ScriptFault::Growth(growth));
         }
         if !heap.has_refused() {
             return Ok(growth);
         }
     }
-    Err(Fault::Growth(MANY))
+    Err(ScriptFault::Growth(MANY))
 }
 
 /// Runs the script where at most so many bytes are held at one time.
@@ -177,14 +177,14 @@ fn run_in_room<R: AllocGlobal>(
     case: &Case,
     words: &[&str],
     bytes: u64,
-) -> Result<(), Fault> {
+) -> Result<(), ScriptFault> {
     let given = run_within(rt, case, words, bytes);
     let none = run_within(rt, case, words, 0);
     let is_due = case.compare(given.status, &given.written).is_ok();
     if is_due && none.status == ENDED && none.written.is_empty() {
         Ok(())
     } else {
-        Err(Fault::Room(bytes))
+        Err(ScriptFault::Room(bytes))
     }
 }
 
@@ -193,7 +193,7 @@ pub fn run_in_little_memory<R: AllocGlobal>(
     rt: &R,
     case: &Case,
     words: &[&str],
-) -> Result<(), Fault> {
+) -> Result<(), ScriptFault> {
     if let Some(bytes) = case.room() {
         run_in_room(rt, case, words, bytes)?;
     }
@@ -202,7 +202,7 @@ pub fn run_in_little_memory<R: AllocGlobal>(
     };
     let made = growths(rt, case, words)?;
     if made < least {
-        return Err(Fault::FewGrowths { made, least });
+        return Err(ScriptFault::FewGrowths { made, least });
     }
     Ok(())
 }

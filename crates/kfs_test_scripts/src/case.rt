@@ -2,7 +2,7 @@
 ghost use Rattle.std.specs.Prelude.{◌≡◌, ◌≤◌, length, OnOk};
 ghost use Rattle.kfs_test_scripts.specs.Differences.{line_behind};
 
-use crate::fault::Fault;
+use crate::fault::ScriptFault;
 use crate::script::Script;
 use std::alloc::Global;
 use std::collections::BTreeSet;
@@ -49,13 +49,13 @@ impl Case {
     /// `.words`, the words behind the program's name, one a line, `run` without it; `.status`, the exit
     /// status, 0 without it; `.broken`, with which reading fails behind the script's last byte; `.growths`,
     /// how many growths of memory it makes at least; and `.room`, the bytes that are enough for it.
-    pub fn read<R: Files + AllocGlobal>(rt: &R, name: &str) -> Result<Case, Fault> {
+    pub fn read<R: Files + AllocGlobal>(rt: &R, name: &str) -> Result<Case, ScriptFault> {
         let script = needed_file(rt, name, ".kfs")?;
         let replies = needed_file(rt, name, ".out")?;
         let words = optional_file(rt, name, ".words")?;
         let status = optional_number(rt, name, ".status")?.unwrap_or(DONE);
         let Ok(status) = u8::try_from(status) else {
-            return Err(Fault::Unreadable(".status"));
+            return Err(ScriptFault::Unreadable(".status"));
         };
         let is_broken = optional_file(rt, name, ".broken")?.is_some();
         Ok(Case {
@@ -70,14 +70,14 @@ impl Case {
     }
 
     /// The program's name and its words.
-    pub fn words(&self, alloc: Global) -> Result<Vec<&str>, Fault> {
+    pub fn words(&self, alloc: Global) -> Result<Vec<&str>, ScriptFault> {
         let mut words = vec![in alloc; "kfs"]?;
         let Some(text) = &self.words else {
             words.push("run")?;
             return Ok(words);
         };
         let Ok(text) = str::from_utf8(text) else {
-            return Err(Fault::Unreadable(".words"));
+            return Err(ScriptFault::Unreadable(".words"));
         };
         for word in text.lines() {
             words.push(word)?;
@@ -123,7 +123,7 @@ impl Case {
     }
 
     /// Compares what was written, and then the exit status, with what is expected.
-    pub fn compare(&self, ended: u8, written: &[u8]) -> Result<(), Fault>
+    pub fn compare(&self, ended: u8, written: &[u8]) -> Result<(), ScriptFault>
         ensures replies { OnOk result (written.now ≡ self.now.replies.items) }
         ensures status { OnOk result (ended ≡ self.now.status) }
     {
@@ -131,7 +131,7 @@ impl Case {
         if ended == self.status {
             Ok(())
         } else {
-            Err(Fault::Status {
+            Err(ScriptFault::Status {
                 ended,
                 status: self.status,
             })
@@ -144,8 +144,8 @@ fn needed_file<R: Files + AllocGlobal>(
     rt: &R,
     name: &str,
     ending: &'static str,
-) -> Result<Vec<u8>, Fault> {
-    optional_file(rt, name, ending)?.ok_or(Fault::Missing(ending))
+) -> Result<Vec<u8>, ScriptFault> {
+    optional_file(rt, name, ending)?.ok_or(ScriptFault::Missing(ending))
 }
 
 /// The bytes of a file that a script may have.
@@ -153,12 +153,12 @@ fn optional_file<R: Files + AllocGlobal>(
     rt: &R,
     name: &str,
     ending: &'static str,
-) -> Result<Option<Vec<u8>>, Fault> {
+) -> Result<Option<Vec<u8>>, ScriptFault> {
     let path = format!(in rt.alloc(); "{name}{ending}")?;
     match fs::read(rt, path.as_str()) {
         Ok(bytes) => Ok(Some(bytes)),
         Err(error) if error.kind() == ErrorKind::NotFound => Ok(None),
-        Err(_) => Err(Fault::Unreadable(ending)),
+        Err(_) => Err(ScriptFault::Unreadable(ending)),
     }
 }
 
@@ -167,7 +167,7 @@ fn optional_number<R: Files + AllocGlobal>(
     rt: &R,
     name: &str,
     ending: &'static str,
-) -> Result<Option<u64>, Fault> {
+) -> Result<Option<u64>, ScriptFault> {
     let Some(text) = optional_file(rt, name, ending)? else {
         return Ok(None);
     };
@@ -175,19 +175,19 @@ fn optional_number<R: Files + AllocGlobal>(
     let number = number.and_then(|text| text.trim_ascii_end().parse::<u64>().ok());
     match number {
         Some(number) => Ok(Some(number)),
-        None => Err(Fault::Unreadable(ending)),
+        None => Err(ScriptFault::Unreadable(ending)),
     }
 }
 
 /// Finds the first byte in which what was written differs from what is expected.
-fn compare_replies(written: &[u8], expected: &[u8]) -> Result<(), Fault>
+fn compare_replies(written: &[u8], expected: &[u8]) -> Result<(), ScriptFault>
     ensures { OnOk result (written.now ≡ expected.now) }
 {
     if written == expected {
         return Ok(());
     }
     let same = alike(written, expected);
-    Err(Fault::Differs {
+    Err(ScriptFault::Differs {
         line: line_behind(expected, same),
         byte: same.saturating_add(1),
     })

@@ -4,7 +4,7 @@ use std::alloc::{AllocError, AllocFailed};
 use thiserror::Error;
 
 #[derive(Clone, Copy, Debug, PartialEq, Eq, Error)]
-pub enum Fault {
+pub enum ScriptFault {
     /// The line and the byte, both counted from 1, of the first difference.
     #[error("differs at line {line} (byte {byte})")]
     Differs { line: usize, byte: usize },
@@ -28,14 +28,14 @@ pub enum Fault {
     OutOfMemory,
 }
 
-impl From<AllocError> for Fault {
-    fn from(_error: AllocError) -> Fault {
-        Fault::OutOfMemory
+impl From<AllocError> for ScriptFault {
+    fn from(_error: AllocError) -> ScriptFault {
+        ScriptFault::OutOfMemory
     }
 }
 
-impl<T: Drop> From<AllocFailed<T>> for Fault {
-    fn from(_error: AllocFailed<T>) -> Fault {
-        Fault::OutOfMemory
+impl<T: Drop> From<AllocFailed<T>> for ScriptFault {
+    fn from(_error: AllocFailed<T>) -> ScriptFault {
+        ScriptFault::OutOfMemory
     }
 }

@@ -6,5 +6,5 @@ mod fault;
 mod script;
 
 pub use case::{Case, script_names};
-pub use fault::Fault;
+pub use fault::ScriptFault;
 pub use script::Script;

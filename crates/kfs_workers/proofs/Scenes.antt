@@ -15,8 +15,8 @@ use Rattle.kfs_desk.specs.Machine.{Desk, IsAnswered, IsCurrent}
 use Rattle.kfs_workers.specs.Holding.{held_of, verdict_of}
 use Rattle.kfs_workers.specs.Script.{DoesJudge, DoesLand, DoesLook, ScriptState, Taken, Decided, begun, returned}
 use Rattle.kfs_workers.specs.Verdict.{IsVerdictOn}
-use Rattle.kfs_workers.specs.declared.scene.Held.{Held as CodeHeld}
-use Rattle.kfs_workers.specs.declared.scene.Held.TheVariants as holdings
+use Rattle.kfs_workers.specs.declared.scene.Holding.{Holding as CodeHeld}
+use Rattle.kfs_workers.specs.declared.scene.Holding.TheVariants as holdings
 use Rattle.kfs_workers.proofs.Verdicts.{current, up_to_date}
 
 -- a second store at one place is the only one

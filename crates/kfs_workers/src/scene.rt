@@ -21,7 +21,7 @@ const WORKERS: usize = 8;
 
 /// What a worker holds under a ticket.
 #[derive(Drop)]
-pub enum Held<A: Allocator> {
+pub enum Holding<A: Allocator> {
     /// A submission, and what the worker saw of the desk.
     Taken {
         ticket: usize,
@@ -37,15 +37,15 @@ pub enum Held<A: Allocator> {
 
 /// The desk, and by ticket what waits and what was replied; and what each worker holds.
 #[derive(Drop)]
-pub struct Scene<A: Allocator> {
+pub struct ScriptState<A: Allocator> {
     alloc: A,
     desk: Desk<A>,
     waiting: Vec<Option<Submission<A>>, A>,
-    hands: Vec<Option<Held<A>>, A>,
+    hands: Vec<Option<Holding<A>>, A>,
     replies: Vec<Option<Reply>, A>,
 }
 
-impl<A: Allocator> Model for Scene<A> {
+impl<A: Allocator> Model for ScriptState<A> {
     ghost use Rattle.std.specs.Prelude.{map, option_map};
     ghost use Rattle.kfs_plan.specs.Judging.{submission_of};
     ghost use Rattle.kfs_workers.specs.Holding.{held_of};
@@ -56,13 +56,13 @@ impl<A: Allocator> Model for Scene<A> {
     ghost view = { λ s. record { desk = s.desk; waiting = map (option_map submission_of) s.waiting.items; hands = map (option_map held_of) s.hands.items; replies = s.replies.items } };
 }
 
-impl<A: Allocator + Copy> Scene<A> {
+impl<A: Allocator + Copy> ScriptState<A> {
     /// All submissions wait. Makes room for all that the steps put down.
     pub fn begin(
         alloc: A,
         desk: Desk<A>,
         submissions: Vec<Submission<A>, A>,
-    ) -> Result<Scene<A>, ScriptBack<A>>
+    ) -> Result<ScriptState<A>, ScriptBack<A>>
         ensures ok { IfOk result (λ scene. scene ≡ begun desk (map submission_of submissions.items)) }
         ensures back { IfErr result (λ back. (back.desk ≡ desk) × (back.submissions ≡ submissions)) }
     {
@@ -75,7 +75,7 @@ impl<A: Allocator + Copy> Scene<A> {
             replies,
         } = room;
         let waiting = all_waiting(submissions, waiting);
-        Ok(Scene {
+        Ok(ScriptState {
             alloc,
             desk,
             waiting,
@@ -102,7 +102,7 @@ impl<A: Allocator + Copy> Scene<A> {
         ensures replies { result.replies.items ≡ self.replies }
         ensures left { map (option_map submission_of) result.left.items ≡ all_returned self.hands self.waiting }
     {
-        let Scene {
+        let ScriptState {
             alloc: _,
             desk,
             waiting,
@@ -131,7 +131,7 @@ impl<A: Allocator + Copy> Scene<A> {
             return;
         };
         if let Some(submission) = take_at(&mut self.waiting, ticket) {
-            let held = Held::Taken {
+            let held = Holding::Taken {
                 ticket,
                 submission,
                 look,
@@ -146,17 +146,17 @@ impl<A: Allocator + Copy> Scene<A> {
     {
         match take_at(&mut self.hands, worker) {
             Some(
-                Held::Taken {
+                Holding::Taken {
                     ticket,
                     submission,
                     look,
                 },
             ) => match look.judge(self.alloc, submission) {
-                Ok(judged) => put_at(&mut self.hands, worker, Held::Decided { ticket, judged }),
+                Ok(judged) => put_at(&mut self.hands, worker, Holding::Decided { ticket, judged }),
                 Err(back) => put_at(&mut self.waiting, ticket, back.submission),
             },
-            Some(Held::Decided { ticket, judged }) => {
-                put_at(&mut self.hands, worker, Held::Decided { ticket, judged });
+            Some(Holding::Decided { ticket, judged }) => {
+                put_at(&mut self.hands, worker, Holding::Decided { ticket, judged });
             }
             None => (),
         }
@@ -167,18 +167,18 @@ impl<A: Allocator + Copy> Scene<A> {
         ensures { DoesLand self.old worker (get_or self.old.hands worker None) self.new }
     {
         match take_at(&mut self.hands, worker) {
-            Some(Held::Decided { ticket, judged }) => match self.desk.land(judged) {
+            Some(Holding::Decided { ticket, judged }) => match self.desk.land(judged) {
                 Ok(reply) => put_at(&mut self.replies, ticket, reply),
                 Err(back) => put_at(&mut self.waiting, ticket, back.submission),
             },
             Some(
-                Held::Taken {
+                Holding::Taken {
                     ticket,
                     submission,
                     look,
                 },
             ) => {
-                let held = Held::Taken {
+                let held = Holding::Taken {
                     ticket,
                     submission,
                     look,
@@ -208,7 +208,7 @@ impl<A: Allocator + Copy> Scene<A> {
 #[derive(Drop)]
 struct Room<A: Allocator> {
     waiting: Vec<Option<Submission<A>>, A>,
-    hands: Vec<Option<Held<A>>, A>,
+    hands: Vec<Option<Holding<A>>, A>,
     replies: Vec<Option<Reply>, A>,
 }
 
@@ -275,18 +275,18 @@ fn put_at<T: Drop, A: Allocator>(list: &mut Vec<Option<T>, A>, at: usize, value:
 }
 
 /// What a worker holds waits again under its ticket.
-fn put_back<A: Allocator>(waiting: &mut Vec<Option<Submission<A>>, A>, hand: Option<Held<A>>)
+fn put_back<A: Allocator>(waiting: &mut Vec<Option<Submission<A>>, A>, hand: Option<Holding<A>>)
     ensures { map (option_map submission_of) waiting.new.items ≡ returned (option_map held_of hand) (map (option_map submission_of) waiting.old.items) }
 {
     match hand {
         Some(
-            Held::Taken {
+            Holding::Taken {
                 ticket,
                 submission,
                 ..
             },
         ) => put_at(waiting, ticket, submission),
-        Some(Held::Decided { ticket, judged }) => {
+        Some(Holding::Decided { ticket, judged }) => {
             let (submission, _outcome) = judged.into_parts();
             put_at(waiting, ticket, submission);
         }

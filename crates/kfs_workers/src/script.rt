@@ -6,7 +6,7 @@ ghost use Rattle.kfs_desk.specs.Machine.{};
 ghost use Rattle.kfs_workers.specs.Claims.{AreSettled, EachReply, ElseChangesNothing, HasAllowedEntries, ShowsItsEntries};
 ghost use Rattle.kfs_workers.specs.Script.{IsRun, DoesSteps};
 
-use crate::scene::Scene;
+use crate::scene::ScriptState;
 use kfs_desk::Desk;
 use kfs_lease::Act;
 use kfs_plan::Submission;
@@ -69,7 +69,7 @@ pub fn run_script<A: Allocator + Copy>(
 {
     // A desk's docket is legal, at first and at the end.
     let _docket = desk.docket();
-    let mut scene = Scene::begin(alloc, desk, submissions)?;
+    let mut scene = ScriptState::begin(alloc, desk, submissions)?;
     make_all(&mut scene, steps);
     let end = scene.end();
     let _docket = end.desk.docket();
@@ -77,7 +77,7 @@ pub fn run_script<A: Allocator + Copy>(
 }
 
 /// Makes the steps.
-fn make_all<A: Allocator + Copy>(scene: &mut Scene<A>, steps: &[Step<'_>])
+fn make_all<A: Allocator + Copy>(scene: &mut ScriptState<A>, steps: &[Step<'_>])
     ensures { DoesSteps scene.old steps.now scene.new }
 {
     for step in steps {

@@ -2,7 +2,7 @@ use Rattle.std.proofs.Common.{◌++◌, [], Result, Ok, Err, OnOk, refl, take, a
 use Rattle.std.proofs.KnownBytes.{Appends-kept, Appends-nil, Appends-trans, Consumes-kept, Consumes-nil, Consumes-trans}
 use Rattle.std.proofs.lemmas.Result.{err_from_is_err_and}
 use Rattle.kfs_program_engine.specs.declared.fault.EngineFault.TheVariants.{ReadFault}
-use Rattle.kfs_program_engine.proofs.Conversations.{Stands-read, Stands-unread, Stands-unsent}
+use Rattle.kfs_program_engine.proofs.Conversations.{HasAnswered-read, HasAnswered-unread, HasAnswered-unsent}
 use Rattle.kfs_program_engine.proofs.answer_all.Goals as goal
 
 on_ok : {T E P : Type 0} (result : Result T E) → P → OnOk result P
@@ -16,7 +16,7 @@ pub returns-in_err-count-clause-session : goal.returns-in_err-count-clause-sessi
 returns-in_err-count-clause-session g c =
     let p = err_from_is_err_and c.from_residual.result c.from_residual.ensures.1 in
     let done = c.reads.invariant in
-    (done.0, done.1, Consumes-kept _ _ _ _ done.2 c.in_err-count.ensures.bytes, done.3, rw (p.1, p.2) (Stands-unread (Unit {0}) ReadFault _ _ done.0 done.1 refl done.4))
+    (done.0, done.1, Consumes-kept _ _ _ _ done.2 c.in_err-count.ensures.bytes, done.3, rw (p.1, p.2) (HasAnswered-unread (Unit {0}) ReadFault _ _ done.0 done.1 refl done.4))
 
 pub returns-then-count-eq0-clause-session : goal.returns-then-count-eq0-clause-session
 returns-then-count-eq0-clause-session g c =
@@ -41,7 +41,7 @@ returns-in_err-take-clause-session g c =
       done.1 ++ taken.0,
       Consumes-trans _ _ _ _ _ done.2 read,
       Appends-trans _ _ _ _ _ done.3 taken.1,
-      rw (p.1, p.2) (taken.2 (done.0 ++ bytes) done.1 (Stands-read _ _ bytes done.0 done.1 done.4)),
+      rw (p.1, p.2) (taken.2 (done.0 ++ bytes) done.1 (HasAnswered-read _ _ bytes done.0 done.1 done.4)),
     )
 
 pub returns-in_err-flush-clause-session : goal.returns-in_err-flush-clause-session
@@ -51,12 +51,12 @@ returns-in_err-flush-clause-session g c =
     let bytes = take c.in-Some.count c.read_some.new.chunk in
     let read = rw c.in-Some.is at c.in_ok-count.ensures.bytes in
     let taken = c.in_ok-take.ensures.session in
-    let stands = taken.2 (done.0 ++ bytes) done.1 (Stands-read _ _ bytes done.0 done.1 done.4) in (
+    let stands = taken.2 (done.0 ++ bytes) done.1 (HasAnswered-read _ _ bytes done.0 done.1 done.4) in (
       done.0 ++ bytes,
       done.1 ++ taken.0,
       Consumes-trans _ _ _ _ _ done.2 read,
       Appends-kept _ _ _ _ (Appends-trans _ _ _ _ _ done.3 taken.1) c.in_err-flush.ensures.bytes,
-      rw (p.1, p.2) (Stands-unsent (Unit {0}) _ _ (done.0 ++ bytes) (done.1 ++ taken.0) stands),
+      rw (p.1, p.2) (HasAnswered-unsent (Unit {0}) _ _ (done.0 ++ bytes) (done.1 ++ taken.0) stands),
     )
 
 pub reads-preserved : goal.reads-preserved
@@ -69,11 +69,11 @@ reads-preserved g c =
       done.1 ++ taken.0,
       Consumes-trans _ _ _ _ _ done.2 read,
       Appends-kept _ _ _ _ (Appends-trans _ _ _ _ _ done.3 taken.1) c.in_ok-flush.ensures.bytes,
-      taken.2 (done.0 ++ bytes) done.1 (Stands-read _ _ bytes done.0 done.1 done.4),
+      taken.2 (done.0 ++ bytes) done.1 (HasAnswered-read _ _ bytes done.0 done.1 done.4),
       c.in_ok-flush.ensures.first ∙ c.in_ok-take.ensures.first ∙ done.5,
     )
 
 pub returns-clause-session : goal.returns-clause-session
 returns-clause-session g c =
     let done = c.reads.invariant in
-    (done.0, done.1, done.2, done.3, Stands-unread (Unit {0}) ReadFault _ _ done.0 done.1 refl done.4)
+    (done.0, done.1, done.2, done.3, HasAnswered-unread (Unit {0}) ReadFault _ _ done.0 done.1 refl done.4)

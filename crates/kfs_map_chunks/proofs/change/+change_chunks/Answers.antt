@@ -3,7 +3,7 @@ use Rattle.std.proofs.lemmas.List.{take-append-drop, length-append, with_items_i
 use Rattle.std.specs.Vec.{with_items}
 use Rattle.std.specs.declared.ops.Bound.TheVariants.{Included}
 use Rattle.std.specs.FinMap.Entries.{is_sorted}
-use Rattle.kfs_map_chunks.specs.declared.edit.Edit.{Edit}
+use Rattle.kfs_map_chunks.specs.declared.edit.KeyEdit.{KeyEdit}
 use Rattle.kfs_map_chunks.specs.Edits.{entered_all, KeysAscend}
 use Rattle.kfs_map_chunks.specs.Buffer.{Buffer}
 use Rattle.kfs_map_chunks.specs.Joined.{joined, first_chunk_from, were_made, if_made, IsSized, IsNotEmpty, AreSized, AreFilled}
@@ -78,7 +78,7 @@ change_parts-returns-clause-joined g t c =
     let whole : c.args.parts.now ≡ front ++ part ∷ rest = c.split_at_mut-rest.ensures.value ∙ ap (λ back. front ++ back) c.in-Some-split_first_mut.ensures.cases.0 in
     let at : c.place_part.result ≡ first_chunk_from cmp (Included key) c.args.parts.now = search rules in
     let in_front : All (λ e. entry_from cmp (Included e.key) (joined front) ≡ None) es =
-    front_past order front (part ∷ rest) es key c.requires.ascend (λ d. ap (λ (e : Edit _ _). e.key) (c.in-Some.ensures.item.4 (omega arith) d)) (omega (arith, c.split_at_mut-rest.ensures.front_len, c.min-index.ensures, at, ap (first_chunk_from cmp (Included key)) whole)) in
+    front_past order front (part ∷ rest) es key c.requires.ascend (λ d. ap (λ (e : KeyEdit _ _). e.key) (c.in-Some.ensures.item.4 (omega arith) d)) (omega (arith, c.split_at_mut-rest.ensures.front_len, c.min-index.ensures, at, ap (first_chunk_from cmp (Included key)) whole)) in
     let all : take r es ++ drop r es ≡ es = take-append-drop r es in
     edited_chunks order (were_made result) front part c.change_from_part.new.part rest c.change_from_part.new.rest (take r es) (drop r es)
     (subst (KeysAscend cmp) (sym all) c.requires.ascend)
@@ -149,7 +149,7 @@ change_chunks-returns-clause-joined g t c =
     let whole : c.args.chunks.now ≡ front ++ chunk ∷ rest = c.split_at_mut-rest.ensures.value ∙ ap (λ back. front ++ back) c.in-Some-split_first_mut.ensures.cases.0 in
     let at : c.place.result ≡ first_chunk_from cmp (Included key) c.args.chunks.now = search rules in
     let in_front : All (λ e. entry_from cmp (Included e.key) (joined front) ≡ None) es =
-    front_past order front (chunk ∷ rest) es key c.requires.ascend (λ d. ap (λ (e : Edit _ _). e.key) (c.in-Some.ensures.item.4 (omega arith) d)) (omega (arith, c.split_at_mut-rest.ensures.front_len, c.min-index.ensures, at, ap (first_chunk_from cmp (Included key)) whole)) in
+    front_past order front (chunk ∷ rest) es key c.requires.ascend (λ d. ap (λ (e : KeyEdit _ _). e.key) (c.in-Some.ensures.item.4 (omega arith) d)) (omega (arith, c.split_at_mut-rest.ensures.front_len, c.min-index.ensures, at, ap (first_chunk_from cmp (Included key)) whole)) in
     let all : take r es ++ drop r es ≡ es = take-append-drop r es in
     edited_chunks order (were_made result) front chunk c.change_from.new.chunk rest c.change_from.new.rest (take r es) (drop r es)
     (subst (KeysAscend cmp) (sym all) c.requires.ascend)

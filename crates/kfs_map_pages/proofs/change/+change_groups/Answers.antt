@@ -4,7 +4,7 @@ use Rattle.std.specs.Prelude.{OnOk, OnErr}
 use Rattle.std.specs.Result.{is_ok}
 use Rattle.std.specs.Vec.{with_items}
 use Rattle.kfs_model.specs.Table.{get}
-use Rattle.kfs_map_pages.specs.declared.edit.Edit.{Edit}
+use Rattle.kfs_map_pages.specs.declared.edit.NumberEdit.{NumberEdit}
 use Rattle.kfs_map_pages.specs.declared.group.Group.{Group}
 use Rattle.kfs_map_pages.specs.Values.{Sheet}
 use Rattle.kfs_map_pages.specs.Edits.{page_of, edited, Ascends, EditsAreWithin, IsOfPage}
@@ -42,14 +42,14 @@ change_groups-change_group-requires g t c =
     let index = c.page_of-index.result / 32 in
     let all : c.args.groups.now ≡ front ++ group ∷ rest = c.split_at_mut-rest.ensures.value ∙ ap (λ back. front ++ back) c.in-Some-split_first_mut.ensures.cases.0 in
     let here : c.args.first + length front ≡ index =
-    omega (arith, c.split_at_mut-rest.ensures.front_len, c.page_of-index.ensures, ap (λ (e : Edit _). page_of e.number) (c.in-Some.ensures.item.4 (omega arith) c.in-Some.edit.now), (c.requires.within 0 c.in-Some.edit.now c.in-Some.ensures.item.3.0).1) in
+    omega (arith, c.split_at_mut-rest.ensures.front_len, c.page_of-index.ensures, ap (λ (e : NumberEdit _). page_of e.number) (c.in-Some.ensures.item.4 (omega arith) c.in-Some.edit.now), (c.requires.within 0 c.in-Some.edit.now c.in-Some.ensures.item.3.0).1) in
     let apart : GroupsAreWhole (all_held front ++ all_held (group ∷ rest)) = subst GroupsAreWhole (ap all_held all ∙ held_append front (group ∷ rest)) c.requires.whole in
     let whole = whole_back (all_held front) (all_held (group ∷ rest)) apart in
     let within : EditsAreWithin (32 * index) (32 * (index + 1 + length rest)) c.args.edits.now =
     λ k d below.
     let its = c.requires.within k d below in (
       its.0,
-      omega (arith, c.page_of-index.ensures, ap (λ (e : Edit _). page_of e.number) (c.in-Some.ensures.item.4 (omega arith) d), c.requires.ascends 0 k d (omega arith) below),
+      omega (arith, c.page_of-index.ensures, ap (λ (e : NumberEdit _). page_of e.number) (c.in-Some.ensures.item.4 (omega arith) d), c.requires.ascends 0 k d (omega arith) below),
       omega (arith, its.2, here, ap length all, length-append front (group ∷ rest)),
     ) in
     λ κs lives. (
@@ -102,7 +102,7 @@ change_groups-returns-clause-placed g t c =
     let index = c.page_of-index.result / 32 in
     let all : c.args.groups.now ≡ front ++ group ∷ rest = c.split_at_mut-rest.ensures.value ∙ ap (λ back. front ++ back) c.in-Some-split_first_mut.ensures.cases.0 in
     let here : c.args.first + length front ≡ index =
-    omega (arith, c.split_at_mut-rest.ensures.front_len, c.page_of-index.ensures, ap (λ (e : Edit _). page_of e.number) (c.in-Some.ensures.item.4 (omega arith) c.in-Some.edit.now), (c.requires.within 0 c.in-Some.edit.now c.in-Some.ensures.item.3.0).1) in
+    omega (arith, c.split_at_mut-rest.ensures.front_len, c.page_of-index.ensures, ap (λ (e : NumberEdit _). page_of e.number) (c.in-Some.ensures.item.4 (omega arith) c.in-Some.edit.now), (c.requires.within 0 c.in-Some.edit.now c.in-Some.ensures.item.3.0).1) in
     let whole = whole_front (all_held front) (all_held (group ∷ rest)) (subst GroupsAreWhole (ap all_held all ∙ held_append front (group ∷ rest)) c.requires.whole) in
     groups_again front (group ∷ rest) (c.change_group.new.slot ∷ c.change_group.new.rest) c.args.first index whole here (subst (λ groups. AreIndexedFrom (32 * c.args.first) (flat (all_held groups))) all c.requires.placed) c.change_group.ensures.placed
 
@@ -116,10 +116,10 @@ change_groups-returns-clause-ok g t c =
     let index = c.page_of-index.result / 32 in
     let all : c.args.groups.now ≡ front ++ group ∷ rest = c.split_at_mut-rest.ensures.value ∙ ap (λ back. front ++ back) c.in-Some-split_first_mut.ensures.cases.0 in
     let here : c.args.first + length front ≡ index =
-    omega (arith, c.split_at_mut-rest.ensures.front_len, c.page_of-index.ensures, ap (λ (e : Edit _). page_of e.number) (c.in-Some.ensures.item.4 (omega arith) c.in-Some.edit.now), (c.requires.within 0 c.in-Some.edit.now c.in-Some.ensures.item.3.0).1) in
+    omega (arith, c.split_at_mut-rest.ensures.front_len, c.page_of-index.ensures, ap (λ (e : NumberEdit _). page_of e.number) (c.in-Some.ensures.item.4 (omega arith) c.in-Some.edit.now), (c.requires.within 0 c.in-Some.edit.now c.in-Some.ensures.item.3.0).1) in
     let whole = whole_front (all_held front) (all_held (group ∷ rest)) (subst GroupsAreWhole (ap all_held all ∙ held_append front (group ∷ rest)) c.requires.whole) in
     let away : All (λ e. 32 * index ≤ page_of e.number) es =
-    λ k d below. omega (arith, c.page_of-index.ensures, ap (λ (e : Edit _). page_of e.number) (c.in-Some.ensures.item.4 (omega arith) d), c.requires.ascends 0 k d (omega arith) below) in
+    λ k d below. omega (arith, c.page_of-index.ensures, ap (λ (e : NumberEdit _). page_of e.number) (c.in-Some.ensures.item.4 (omega arith) d), c.requires.ascends 0 k d (omega arith) below) in
     where_ok c.change_group.result (λ made. subst (λ groups. Edited (32 * c.args.first) es (flat (all_held groups)) (flat (all_held (front ++ news)))) (sym all) (edited_groups front (group ∷ rest) news c.args.first index es whole here away made)) c.change_group.ensures.ok
 
 pub change_groups-returns-clause-err : goal.change_groups-returns-clause-err
@@ -131,7 +131,7 @@ change_groups-returns-clause-err g t c =
     let index = c.page_of-index.result / 32 in
     let all : c.args.groups.now ≡ front ++ group ∷ rest = c.split_at_mut-rest.ensures.value ∙ ap (λ back. front ++ back) c.in-Some-split_first_mut.ensures.cases.0 in
     let here : c.args.first + length front ≡ index =
-    omega (arith, c.split_at_mut-rest.ensures.front_len, c.page_of-index.ensures, ap (λ (e : Edit _). page_of e.number) (c.in-Some.ensures.item.4 (omega arith) c.in-Some.edit.now), (c.requires.within 0 c.in-Some.edit.now c.in-Some.ensures.item.3.0).1) in
+    omega (arith, c.split_at_mut-rest.ensures.front_len, c.page_of-index.ensures, ap (λ (e : NumberEdit _). page_of e.number) (c.in-Some.ensures.item.4 (omega arith) c.in-Some.edit.now), (c.requires.within 0 c.in-Some.edit.now c.in-Some.ensures.item.3.0).1) in
     let whole = whole_front (all_held front) (all_held (group ∷ rest)) (subst GroupsAreWhole (ap all_held all ∙ held_append front (group ∷ rest)) c.requires.whole) in
     where_err c.change_group.result
     (λ kept. subst (λ groups. Edited (32 * c.args.first) [] (flat (all_held groups)) (flat (all_held (front ++ news)))) (sym all) (edited_groups front (group ∷ rest) news c.args.first index [] whole here (λ k d below. omega (arith, below)) kept)) c.change_group.ensures.err
@@ -227,7 +227,7 @@ change_pages-change_groups-requires g t c =
     let within : EditsAreWithin (32 * c.args.next) (32 * (c.args.next + length c.args.groups.now)) c.args.edits.now =
     λ k d below.
     let its = c.requires.within k d below in
-    (its.0, omega (arith, c.if-index-next.true, c.page_of-index.ensures, ap (λ (e : Edit _). page_of e.number) (c.in-Some.ensures.item.4 (omega arith) d), c.requires.ascends 0 k d (omega arith) below), its.2) in
+    (its.0, omega (arith, c.if-index-next.true, c.page_of-index.ensures, ap (λ (e : NumberEdit _). page_of e.number) (c.in-Some.ensures.item.4 (omega arith) d), c.requires.ascends 0 k d (omega arith) below), its.2) in
     λ κs lives. (
       omega arith,
       (
@@ -251,7 +251,7 @@ change_pages-returns-then-index-next-clause-ok g t c =
     let after = flat (all_held c.change_groups.new.groups) in
     let edge : 32 * c.args.next ≡ c.args.first + length (all_held pages) = omega (arith, c.requires.edge, length-held pages) in
     let away : All (λ e. c.args.first + length (all_held pages) ≤ page_of e.number) es =
-    λ k d below. omega (arith, edge, c.if-index-next.true, c.page_of-index.ensures, ap (λ (e : Edit _). page_of e.number) (c.in-Some.ensures.item.4 (omega arith) d), c.requires.ascends 0 k d (omega arith) below) in
+    λ k d below. omega (arith, edge, c.if-index-next.true, c.page_of-index.ensures, ap (λ (e : NumberEdit _). page_of e.number) (c.in-Some.ensures.item.4 (omega arith) d), c.requires.ascends 0 k d (omega arith) below) in
     where_ok c.change_groups.result (λ made. edited_behind (all_held pages) behind after c.args.first es away (subst (λ k. Edited k es behind after) edge made)) c.change_groups.ensures.ok
 
 pub change_pages-returns-then-index-next-clause-err : goal.change_pages-returns-then-index-next-clause-err
@@ -264,7 +264,7 @@ change_pages-returns-then-index-next-clause-err g t c =
 
 pub change_pages-run_of-requires-clause-from : goal.change_pages-run_of-requires-clause-from
 change_pages-run_of-requires-clause-from g t c k d below =
-    omega (arith, c.page_of-index.ensures, ap (λ (e : Edit _). page_of e.number) (c.in-Some.ensures.item.4 (omega arith) d), c.requires.ascends 0 k d (omega arith) below)
+    omega (arith, c.page_of-index.ensures, ap (λ (e : NumberEdit _). page_of e.number) (c.in-Some.ensures.item.4 (omega arith) d), c.requires.ascends 0 k d (omega arith) below)
 
 pub change_pages-change_from-requires : goal.change_pages-change_from-requires
 change_pages-change_from-requires g t c =
@@ -278,15 +278,15 @@ change_pages-change_from-requires g t c =
     let index = c.page_of-index.result in
     let all : c.args.pages.now ≡ front ++ page ∷ rest = c.split_at_mut-rest.ensures.value ∙ ap (λ back. front ++ back) c.in-Some-split_first_mut.ensures.cases.0 in
     let here : c.args.first + length front ≡ index =
-    omega (arith, c.split_at_mut-rest.ensures.front_len, c.page_of-index.ensures, ap (λ (e : Edit _). page_of e.number) (c.in-Some.ensures.item.4 (omega arith) c.in-Some.edit.now), (c.requires.within 0 c.in-Some.edit.now c.in-Some.ensures.item.3.0).1) in
+    omega (arith, c.split_at_mut-rest.ensures.front_len, c.page_of-index.ensures, ap (λ (e : NumberEdit _). page_of e.number) (c.in-Some.ensures.item.4 (omega arith) c.in-Some.edit.now), (c.requires.within 0 c.in-Some.edit.now c.in-Some.ensures.item.3.0).1) in
     let placed = placed_pages front (page ∷ rest) behind c.args.first index here (subst (λ pages. AreIndexedFrom c.args.first (all_held pages ++ behind)) all c.requires.placed) in
     let mine : All (IsOfPage index) c.split_at.result.0.now =
-    subst (All (IsOfPage index)) (sym c.split_at.ensures.front) (λ k d below. (omega (arith, ap (λ (e : Edit _). e.number) (get_or-take r es k d (omega (arith, below, length-take r es))), (c.requires.within k d (omega (arith, below, length-take r es, c.run_of.ensures.within))).0), c.run_of.ensures.run k d below)) in
+    subst (All (IsOfPage index)) (sym c.split_at.ensures.front) (λ k d below. (omega (arith, ap (λ (e : NumberEdit _). e.number) (get_or-take r es k d (omega (arith, below, length-take r es))), (c.requires.within k d (omega (arith, below, length-take r es, c.run_of.ensures.within))).0), c.run_of.ensures.run k d below)) in
     let later : EditsAreWithin (index + 1) end c.split_at.result.1.now =
     subst (EditsAreWithin (index + 1) end) (sym c.split_at.ensures.back) (λ k d below.
     let its = c.requires.within (r + k) d (omega (arith, below, length-drop r es)) in
     let same = get_or-drop r es k d in
-    (omega (arith, ap (λ (e : Edit _). e.number) same, its.0), c.run_of.ensures.rest k d below, omega (arith, ap (λ (e : Edit _). page_of e.number) same, its.2))) in
+    (omega (arith, ap (λ (e : NumberEdit _). e.number) same, its.0), c.run_of.ensures.rest k d below, omega (arith, ap (λ (e : NumberEdit _). page_of e.number) same, its.2))) in
     λ κs lives. (
       omega (arith, ap length all, length-append front (page ∷ rest)),
       (
@@ -319,7 +319,7 @@ change_pages-returns-clause-placed g t c =
     let index = c.page_of-index.result in
     let all : c.args.pages.now ≡ front ++ page ∷ rest = c.split_at_mut-rest.ensures.value ∙ ap (λ back. front ++ back) c.in-Some-split_first_mut.ensures.cases.0 in
     let here : c.args.first + length front ≡ index =
-    omega (arith, c.split_at_mut-rest.ensures.front_len, c.page_of-index.ensures, ap (λ (e : Edit _). page_of e.number) (c.in-Some.ensures.item.4 (omega arith) c.in-Some.edit.now), (c.requires.within 0 c.in-Some.edit.now c.in-Some.ensures.item.3.0).1) in
+    omega (arith, c.split_at_mut-rest.ensures.front_len, c.page_of-index.ensures, ap (λ (e : NumberEdit _). page_of e.number) (c.in-Some.ensures.item.4 (omega arith) c.in-Some.edit.now), (c.requires.within 0 c.in-Some.edit.now c.in-Some.ensures.item.3.0).1) in
     pages_again front (page ∷ rest) (c.change_from.new.slot ∷ c.change_from.new.rest) behind (flat (all_held c.change_from.new.groups)) c.args.first index here (subst (λ pages. AreIndexedFrom c.args.first (all_held pages ++ behind)) all c.requires.placed)
     (c.change_from.ensures.stands, c.change_from.ensures.placed)
 
@@ -337,8 +337,8 @@ change_pages-returns-clause-ok g t c =
     let index = c.page_of-index.result in
     let all : c.args.pages.now ≡ front ++ page ∷ rest = c.split_at_mut-rest.ensures.value ∙ ap (λ back. front ++ back) c.in-Some-split_first_mut.ensures.cases.0 in
     let here : c.args.first + length front ≡ index =
-    omega (arith, c.split_at_mut-rest.ensures.front_len, c.page_of-index.ensures, ap (λ (e : Edit _). page_of e.number) (c.in-Some.ensures.item.4 (omega arith) c.in-Some.edit.now), (c.requires.within 0 c.in-Some.edit.now c.in-Some.ensures.item.3.0).1) in
-    let away : All (λ e. index ≤ page_of e.number) es = λ k d below. omega (arith, c.page_of-index.ensures, ap (λ (e : Edit _). page_of e.number) (c.in-Some.ensures.item.4 (omega arith) d), c.requires.ascends 0 k d (omega arith) below) in
+    omega (arith, c.split_at_mut-rest.ensures.front_len, c.page_of-index.ensures, ap (λ (e : NumberEdit _). page_of e.number) (c.in-Some.ensures.item.4 (omega arith) c.in-Some.edit.now), (c.requires.within 0 c.in-Some.edit.now c.in-Some.ensures.item.3.0).1) in
+    let away : All (λ e. index ≤ page_of e.number) es = λ k d below. omega (arith, c.page_of-index.ensures, ap (λ (e : NumberEdit _). page_of e.number) (c.in-Some.ensures.item.4 (omega arith) d), c.requires.ascends 0 k d (omega arith) below) in
     both_ok c.change_from.result
     (λ on_page on_rest.
     let there : Edited index (take r es ++ drop r es) (all_held (page ∷ rest) ++ behind) (all_held (slot ∷ new) ++ after) =
@@ -360,7 +360,7 @@ change_pages-returns-clause-err g t c =
     let index = c.page_of-index.result in
     let all : c.args.pages.now ≡ front ++ page ∷ rest = c.split_at_mut-rest.ensures.value ∙ ap (λ back. front ++ back) c.in-Some-split_first_mut.ensures.cases.0 in
     let here : c.args.first + length front ≡ index =
-    omega (arith, c.split_at_mut-rest.ensures.front_len, c.page_of-index.ensures, ap (λ (e : Edit _). page_of e.number) (c.in-Some.ensures.item.4 (omega arith) c.in-Some.edit.now), (c.requires.within 0 c.in-Some.edit.now c.in-Some.ensures.item.3.0).1) in
+    omega (arith, c.split_at_mut-rest.ensures.front_len, c.page_of-index.ensures, ap (λ (e : NumberEdit _). page_of e.number) (c.in-Some.ensures.item.4 (omega arith) c.in-Some.edit.now), (c.requires.within 0 c.in-Some.edit.now c.in-Some.ensures.item.3.0).1) in
     both_err c.change_from.result
     (λ on_page on_rest.
     let there : Edited index [] (all_held (page ∷ rest) ++ behind) (all_held (slot ∷ new) ++ after) =

@@ -1,7 +1,0 @@
-use Rattle.std.proofs.Common.{sym, ◌∙◌}
-use Rattle.kfs_model.specs.Tree.{name_order}
-use Rattle.kfs_map_chunks.proofs.Tables.{get-table}
-use Rattle.kfs_image_nodes.proofs.rows.Rows.target.Goals as goal
-
-pub returns : goal.returns
-returns g c = c.copied.ensures ∙ c.get.ensures ∙ sym (get-table name_order c.args.self.now.names c.args.key.now)
