@@ -21,11 +21,11 @@ impl Model for OneRow {
 
 impl OneRow {
     /// A row that keeps the rule, of which there is one.
-    pub fn of<R: RowRule>(said: &R) -> OneRow
-        requires { (row : Row) × R.is_row said.now row }
-        ensures { R.is_row said.now result.row }
+    pub fn of<R: RowRule>(rule: &R) -> OneRow
+        requires { (row : Row) × R.is_row rule.now row }
+        ensures { R.is_row rule.now result.row }
     {
-        let _ = said;
+        let _ = rule;
         OneRow {}
     }
 }

@@ -15,27 +15,27 @@ use Rattle.kfs_image_nodes.specs.declared.net.Net.{Net}
 use Rattle.kfs_image_nodes.specs.Contents.{Contents}
 use Rattle.kfs_image_nodes.specs.Change.{after_rows, renamed, reheaded}
 use Rattle.kfs_image.specs.declared.net.Fill.{Fill}
-use Rattle.kfs_image.specs.Gone.{AreGone}
+use Rattle.kfs_image.specs.Released.{AreReleased}
 use Rattle.kfs_image.specs.Image.{image_with}
 use Rattle.kfs_image.specs.Net.{CanApply, applied}
 
 -- these are the rows of a net and a fill, and the runs of blocks that go with them
-pub record AreOf {A : Type 0} (net : Net A) (fill : Fill A) (names : List NameRow) (nodes : List NodeRow) (gone : List BlockRun) (rows : List (BlockRow A)) : Type 0 where
+pub record AreOf {A : Type 0} (net : Net A) (fill : Fill A) (names : List NameRow) (nodes : List NodeRow) (released : List BlockRun) (rows : List (BlockRow A)) : Type 0 where
   pub names_are : names ≡ net.names.items
   pub nodes_are : nodes ≡ net.nodes.items
   pub rows_are : rows ≡ fill.rows.items
-  pub gone_are : AreGone net.nodes.items fill.zero.items gone
+  pub released_are : AreReleased net.nodes.items fill.zero.items released
 
-module _ {A : Type 0} (net : Net A) (fill : Fill A) (names : List NameRow) (nodes : List NodeRow) (gone : List BlockRun) (rows : List (BlockRow A)) (of : AreOf net fill names nodes gone rows)
+module _ {A : Type 0} (net : Net A) (fill : Fill A) (names : List NameRow) (nodes : List NodeRow) (released : List BlockRun) (rows : List (BlockRow A)) (of : AreOf net fill names nodes released rows)
     (contents : Contents) (blocks : BlocksShown) (lawful : IsLawful (image_with contents blocks)) where
   abbrev image : DeviceImage
   image = image_with contents blocks
 
   -- the blocks that the runs and rows leave are those of the net and the fill
-  left : mapped_by rows (less gone blocks.placement) ≡ (applied net fill image).placement
-  left = ap (λ rs. mapped_by rs (less gone blocks.placement)) of.rows_are ∙ ap (mapped_by fill.rows.items) (of.gone_are image lawful)
+  left : mapped_by rows (less released blocks.placement) ≡ (applied net fill image).placement
+  left = ap (λ rs. mapped_by rs (less released blocks.placement)) of.rows_are ∙ ap (mapped_by fill.rows.items) (of.released_are image lawful)
 
-  pub can_fill : CanApply net fill image → CanFill blocks gone rows
+  pub can_fill : CanApply net fill image → CanFill blocks released rows
   can_fill can = record {
     laid = subst (λ (placement : Placement). IsLaid blocks.sizes placement) (sym left) can.lawful.placed.laid;
     in_tier = subst (λ rs. All (λ (r : BlockRow A). r.place.place < tier_size blocks.sizes r.place.tier) rs) (sym of.rows_are) can.in_tier;
@@ -43,7 +43,7 @@ module _ {A : Type 0} (net : Net A) (fill : Fill A) (names : List NameRow) (node
   }
 
   -- nodes, names and blocks together are those of the image after
-  pub applied_is : image_with (after_rows contents names nodes) (filled gone rows blocks) ≡ applied net fill image
+  pub applied_is : image_with (after_rows contents names nodes) (filled released rows blocks) ≡ applied net fill image
   applied_is = λ i. record {
     sizes = blocks.sizes;
     heads = reheaded contents.heads (of.nodes_are i);

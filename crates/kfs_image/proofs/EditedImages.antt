@@ -71,14 +71,14 @@ module _ {A : Type 0} where
   none_said parts of = of.make
 
   -- and parts that say nothing are those of no edit
-  pub nothing_said : (parts : Parts A) → parts.names.items ≡ [] → parts.nodes.items ≡ [] → parts.said.latest.entries ≡ [] → parts.written.items ≡ [] → PartsAreOf [] parts
+  pub nothing_edited : (parts : Parts A) → parts.names.items ≡ [] → parts.nodes.items ≡ [] → parts.block_places.latest.entries ≡ [] → parts.written.items ≡ [] → PartsAreOf [] parts
   unfolding edited_all with_blocks
-  nothing_said parts names nodes said written = record {
+  nothing_edited parts names nodes block_places written = record {
     make = λ image i. record {
       sizes = image.sizes;
       heads = reheaded image.heads (nodes i);
       names = renamed image.names (names i);
-      placement = overlaid_none image.placement parts.said.latest.entries said i;
+      placement = overlaid_none image.placement parts.block_places.latest.entries block_places i;
       devices = with_blocks (written i) image.devices;
     };
     whole = λ sizes whole. subst (BlocksAreWhole sizes) (sym written) (λ k d below. absurd (omega (arith, below)));
@@ -155,15 +155,15 @@ pub record AreMade {A : Type 0} (edits : List (Edit A)) (parts : Parts A) (names
   pub nodes_are : nodes ≡ parts.nodes.items
   pub places_are : places ≡ made
   pub ascend : KeysAscend (pairs numbers numbers).compare made
-  pub said : Say (pairs numbers numbers).compare made parts.said.latest
+  pub block_places : Say (pairs numbers numbers).compare made parts.block_places.latest
 
 module _ {A : Type 0} (edits : List (Edit A)) (parts : Parts A) (names : List NameRow) (nodes : List NodeRow) (made places : List BlockEdit) (are : AreMade edits parts names nodes made places)
     (contents : Contents) (blocks : BlocksShown) (lawful : IsLawful (image_with contents blocks)) (can : CanEdit edits (image_with contents blocks)) where
   abbrev image : DeviceImage
   image = image_with contents blocks
 
-  placed : table_after blocks.placement places ≡ overlaid blocks.placement parts.said.latest.entries
-  placed = ap (table_after blocks.placement) are.places_are ∙ table_after_said blocks.placement made parts.said.latest are.said
+  placed : table_after blocks.placement places ≡ overlaid blocks.placement parts.block_places.latest.entries
+  placed = ap (table_after blocks.placement) are.places_are ∙ table_after_said blocks.placement made parts.block_places.latest are.block_places
 
   -- nodes, names and blocks together are those of the image after
   pub edited_is : image_with (after_rows contents names nodes) (changed_blocks places parts.written.items blocks) ≡ edited_all edits image

@@ -3,7 +3,7 @@ mod EditedImages
 pub mod EmptyFills
 pub mod FilledImages
 mod FreshImage
-mod GoneBlocks
+mod ReleasedBlocks
 mod HeadersAfter
 pub mod KeptTrees
 pub mod NetTables

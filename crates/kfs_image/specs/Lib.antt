@@ -1,5 +1,5 @@
 pub mod Edit
-pub mod Gone
+pub mod Released
 pub mod Image
 pub mod Net
 pub mod Parts

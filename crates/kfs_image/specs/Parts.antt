@@ -31,7 +31,7 @@ module _ {A : Type 0} where
     sizes = image.sizes;
     heads = reheaded image.heads parts.nodes.items;
     names = renamed image.names parts.names.items;
-    placement = overlaid image.placement parts.said.latest.entries;
+    placement = overlaid image.placement parts.block_places.latest.entries;
     devices = with_blocks parts.written.items image.devices;
   }
 

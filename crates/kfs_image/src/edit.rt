@@ -28,7 +28,7 @@ pub enum Edit<A: Allocator> {
 pub(crate) struct Parts<A: Allocator> {
     pub(crate) names: Vec<NameRow, A>,
     pub(crate) nodes: Vec<NodeRow, A>,
-    pub(crate) said: Overlay<(u32, u32), Place, A>,
+    pub(crate) block_places: Overlay<(u32, u32), Place, A>,
     pub(crate) written: Vec<NewBlock<A>, A>,
 }
 
@@ -51,7 +51,7 @@ impl<A: Allocator + Clone> Parts<A> {
         Ok(Parts {
             names: Vec::new(alloc.clone()?),
             nodes: Vec::new(alloc.clone()?),
-            said: Overlay::new(alloc.clone()?),
+            block_places: Overlay::new(alloc.clone()?),
             written: Vec::new(alloc.clone()?),
         })
     }
@@ -71,7 +71,7 @@ impl<A: Allocator + Clone> Parts<A> {
                 name: name.clone()?,
                 number: number.unwrap_or(0),
             })?,
-            Edit::Map(number, block, place) => self.said.set((*number, *block), *place)?,
+            Edit::Map(number, block, place) => self.block_places.set((*number, *block), *place)?,
             Edit::Bytes(place, bytes) => self.written.push(NewBlock {
                 place: *place,
                 bytes: copy_of(bytes)?,

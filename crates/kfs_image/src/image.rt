@@ -16,7 +16,7 @@ ghost use Rattle.kfs_image.specs.Net.{CanApply, applied};
 ghost use Rattle.kfs_image.specs.Read.{FileIsRead};
 
 use crate::edit::{Edit, Parts};
-use crate::gone::gone_blocks;
+use crate::released::released_blocks;
 use crate::net::Fill;
 use crate::read::ReadFault;
 use kfs_entry_value::{Header, Kind, Name, NameRow, NodeRow, TierSizes};
@@ -77,10 +77,10 @@ impl<A: Allocator + Clone> Image<A> {
         let Parts {
             names,
             nodes,
-            said,
+            block_places,
             mut written,
         } = Parts::of(&self.alloc, edits)?;
-        let places = key_edits(&self.alloc, &said)?;
+        let places = key_edits(&self.alloc, &block_places)?;
         let mut then = ChangeBlocks {
             blocks: &mut self.blocks,
             edits: places.as_slice(),
@@ -103,10 +103,10 @@ impl<A: Allocator + Clone> Image<A> {
         ensures ok { OnOk result (self.new ≡ applied net.now fill.now self.old) }
         ensures err { OnErr result (self.new ≡ self.old) }
     {
-        let gone = gone_blocks(&self.alloc, net.nodes.as_slice(), fill.zero.as_slice())?;
+        let released = released_blocks(&self.alloc, net.nodes.as_slice(), fill.zero.as_slice())?;
         let mut then = FillBlocks {
             blocks: &mut self.blocks,
-            gone: gone.as_slice(),
+            released: released.as_slice(),
             rows: fill.rows.as_slice(),
         };
         change_shared(

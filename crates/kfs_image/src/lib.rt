@@ -2,7 +2,7 @@
 #![tactic(auto)]
 
 mod edit;
-mod gone;
+mod released;
 mod headers;
 mod image;
 mod net;

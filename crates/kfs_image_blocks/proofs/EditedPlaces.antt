@@ -138,8 +138,8 @@ module _ (was is : BlockEdit → Option Place) where
   left_has [] p among = cc
   left_has (e ∷ es) p among =
       ⊎_elim
-      (λ here. let (from, gone) = left_from (was e) (is e) p here in (e, inl refl, from, gone))
-      (λ later. let (x, has, from, gone) = left_has es p later in (x, inr has, from, gone))
+      (λ here. let (from, released) = left_from (was e) (is e) p here in (e, inl refl, from, released))
+      (λ later. let (x, has, from, released) = left_has es p later in (x, inr has, from, released))
       (or_cases (is_among (left_by (was e) (is e)) p) (is_among (left_in was is es) p) (sym (one_more (was e) (is e) (left_in was is es) p) ∙ among))
 
   has_left : (es : List BlockEdit) (e : BlockEdit) (p : Place) → is_among (left_in was is es) p ≡ false → Has es e → was e ≡ Some p → is e ≡ Some p
@@ -160,7 +160,7 @@ module _ (was is : BlockEdit → Option Place) where
       distinct_more (was e) (is e) (left_in was is es)
       (λ p there.
       ⊎_elim
-      (λ among. let (x, has, from, gone) = left_has es p among in absurd (first_key e x es ascend has (apart e x p (inl refl) (inr has) there from)))
+      (λ among. let (x, has, from, released) = left_has es p among in absurd (first_key e x es ascend has (apart e x p (inl refl) (inr has) there from)))
       (λ none. none)
       (cases_Bool (is_among (left_in was is es) p)))
       (left_once es (ascend_rest e es ascend) (λ x y p has also from too. apart x y p (inr has) (inr also) from too))
@@ -194,13 +194,13 @@ module _ (sizes : TierSizes) (old : Placement) (es : List BlockEdit) (ascend : K
 
   given_is : (p : Place) → is_among (given_by old es) p ≡ true → IsLeft old new p
   given_is p among =
-      let (e, has, from, gone) = left_has (λ e. get old e.key) (λ e. e.value) es p among in
-      record { block = e.key; before = from; after = λ there. gone (sym (new_at e has) ∙ there) }
+      let (e, has, from, released) = left_has (λ e. get old e.key) (λ e. e.value) es p among in
+      record { block = e.key; before = from; after = λ there. released (sym (new_at e has) ∙ there) }
 
   taken_is : (p : Place) → is_among (taken_by old es) p ≡ true → IsLeft new old p
   taken_is p among =
-      let (e, has, from, gone) = left_has (λ e. e.value) (λ e. get old e.key) es p among in
-      record { block = e.key; before = new_at e has ∙ from; after = gone }
+      let (e, has, from, released) = left_has (λ e. e.value) (λ e. get old e.key) es p among in
+      record { block = e.key; before = new_at e has ∙ from; after = released }
 
   given_all : (p : Place) → IsLeft old new p → is_among (given_by old es) p ≡ true
   given_all p left =

@@ -37,18 +37,18 @@ less_further run runs t =
     at false true slot = refl
     at false false slot = refl
 
-module _ (gone : List BlockRun) (i : ℕ) where
-  pub less_run : (d : BlockRun) (old new all : Placement) → i < length gone → new ≡ less (get_or gone i d ∷ []) old → less (drop i gone) old ≡ all → less (drop (i + 1) gone) new ≡ all
+module _ (released : List BlockRun) (i : ℕ) where
+  pub less_run : (d : BlockRun) (old new all : Placement) → i < length released → new ≡ less (get_or released i d ∷ []) old → less (drop i released) old ≡ all → less (drop (i + 1) released) new ≡ all
   less_run d old new all below unmapped so_far =
-      ap (less (drop (i + 1) gone)) unmapped
-      ∙ less_further (get_or gone i d) (drop (i + 1) gone) old
-      ∙ sym (at_drop_more (λ runs. less runs old) gone i d below)
+      ap (less (drop (i + 1) released)) unmapped
+      ∙ less_further (get_or released i d) (drop (i + 1) released) old
+      ∙ sym (at_drop_more (λ runs. less runs old) released i d below)
       ∙ so_far
 
   -- what isn't mapped isn't once there is less
-  pub still_unmapped : (d : BlockRun) (old new : Placement) → new ≡ less (get_or gone i d ∷ []) old → (q : ℕ × ℕ) → get old q ≡ None → get new q ≡ None
+  pub still_unmapped : (d : BlockRun) (old new : Placement) → new ≡ less (get_or released i d ∷ []) old → (q : ℕ × ℕ) → get old q ≡ None → get new q ≡ None
   still_unmapped d old new unmapped q none =
-      let run : BlockRun = get_or gone i d in
+      let run : BlockRun = get_or released i d in
       ap (λ (t : Placement). get t q) unmapped
       ∙ get-retain (λ block. not (is_in_one (run ∷ []) block)) old q
       ∙ ap (λ slot. cond (not (is_in_one (run ∷ []) q)) slot None) none
@@ -58,8 +58,8 @@ module _ (gone : List BlockRun) (i : ℕ) where
       at true = refl
       at false = refl
 
-  pub less_all : (now all : Placement) → length gone ≤ i → less (drop i gone) now ≡ all → now ≡ all
-  less_all now all past so_far = sym (less_nothing now) ∙ sym (ap (λ runs. less runs now) (drop_all i gone past)) ∙ so_far
+  pub less_all : (now all : Placement) → length released ≤ i → less (drop i released) now ≡ all → now ≡ all
+  less_all now all past so_far = sym (less_nothing now) ∙ sym (ap (λ runs. less runs now) (drop_all i released past)) ∙ so_far
 
 -- ---- mapped by rows, and copied from them
 
@@ -123,8 +123,8 @@ module _ {A : Type 0} where
       rows_whole : All (λ (r : BlockRow A). length r.bytes.items ≡ block_size) rows
       rows_whole k d below = let row : BlockRow A = get_or rows k d in omega (arith, row.bytes.ok.0, whole k d below)
 
-  module _ (gone : List BlockRun) (rows : List (BlockRow A)) (old : BlocksShown) (made edits : List BlockEdit) (blocks : List (NewBlock A)) (same : edits ≡ made) where
-    pub can_change : KeysAscend (pairs numbers numbers).compare made → table_after old.placement made ≡ placement_after gone rows old.placement → map new_part blocks ≡ map row_part rows → CanFill old gone rows → CanChange old edits blocks
+  module _ (released : List BlockRun) (rows : List (BlockRow A)) (old : BlocksShown) (made edits : List BlockEdit) (blocks : List (NewBlock A)) (same : edits ≡ made) where
+    pub can_change : KeysAscend (pairs numbers numbers).compare made → table_after old.placement made ≡ placement_after released rows old.placement → map new_part blocks ≡ map row_part rows → CanFill old released rows → CanChange old edits blocks
     can_change ascend placed alike can = record {
       ascend = subst (KeysAscend (pairs numbers numbers).compare) (sym same) ascend;
       laid = subst (IsLaid old.sizes) (sym (ap (table_after old.placement) same ∙ placed)) can.laid;
@@ -132,8 +132,8 @@ module _ {A : Type 0} where
       whole = whole_blocks blocks rows alike can.whole;
     }
 
-    pub filled_ok : {E : Type 0} → table_after old.placement made ≡ placement_after gone rows old.placement → map new_part blocks ≡ map row_part rows → (new : BlocksShown) (result : Result (Unit {0}) E) → OnOk result (new ≡ changed_blocks edits blocks old)
-        → OnOk result (new ≡ filled gone rows old)
+    pub filled_ok : {E : Type 0} → table_after old.placement made ≡ placement_after released rows old.placement → map new_part blocks ≡ map row_part rows → (new : BlocksShown) (result : Result (Unit {0}) E) → OnOk result (new ≡ changed_blocks edits blocks old)
+        → OnOk result (new ≡ filled released rows old)
     filled_ok placed alike new (Ok done) is =
         is ∙ (λ i. record { sizes = old.sizes; placement = (ap (table_after old.placement) same ∙ placed) i; devices = same_written blocks rows old.devices alike i })
     filled_ok placed alike new (Err error) is = tt

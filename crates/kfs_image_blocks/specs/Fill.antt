@@ -35,15 +35,15 @@ module _ {A : Type 0} where
 
   -- the placement without the blocks in the runs, and then with those of the rows
   abbrev pub placement_after : List BlockRun → List (BlockRow A) → Placement → Placement
-  placement_after gone rows placement = mapped_by rows (less gone placement)
+  placement_after released rows placement = mapped_by rows (less released placement)
 
   -- the blocks once those in the runs are unmapped, and those of the rows mapped and written
   abbrev pub filled : List BlockRun → List (BlockRow A) → BlocksShown → BlocksShown
-  filled gone rows blocks = record { sizes = blocks.sizes; placement = placement_after gone rows blocks.placement; devices = written_by rows blocks.devices }
+  filled released rows blocks = record { sizes = blocks.sizes; placement = placement_after released rows blocks.placement; devices = written_by rows blocks.devices }
 
   -- Each place comes to lie in its tier, with one block at the most. The rows' places lie in their tiers, and their blocks are whole.
-  pub record CanFill (blocks : BlocksShown) (gone : List BlockRun) (rows : List (BlockRow A)) : Type 0 where
-    pub laid : IsLaid blocks.sizes (placement_after gone rows blocks.placement)
+  pub record CanFill (blocks : BlocksShown) (released : List BlockRun) (rows : List (BlockRow A)) : Type 0 where
+    pub laid : IsLaid blocks.sizes (placement_after released rows blocks.placement)
     pub in_tier : All (λ r. r.place.place < tier_size blocks.sizes r.place.tier) rows
     pub whole : All (λ r. vec_len r.bytes ≡ block_size) rows
 

@@ -17,8 +17,8 @@ placed entries = table (pairs numbers numbers) entries
 module _ {A : Type 0} where
   -- the placement that shows with what was said of blocks
   abbrev pub seen : Overlay (ℕ × ℕ) Place A → List ((ℕ × ℕ) × Place) → Placement
-  seen said placement = overlaid (table (pairs numbers numbers) placement) said.latest.entries
+  seen overlay placement = overlaid (table (pairs numbers numbers) placement) overlay.latest.entries
 
   -- a block that isn't mapped isn't said to be either
   abbrev pub SeesMapped : List ((ℕ × ℕ) × Place) → Overlay (ℕ × ℕ) Place A → Type 0
-  SeesMapped placement said = (block : ℕ × ℕ) → get (table (pairs numbers numbers) placement) block ≡ None → get (seen said placement) block ≡ None
+  SeesMapped placement overlay = (block : ℕ × ℕ) → get (table (pairs numbers numbers) placement) block ≡ None → get (seen overlay placement) block ≡ None

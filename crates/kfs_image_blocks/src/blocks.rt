@@ -126,12 +126,12 @@ impl<A: Allocator + Clone> FileBlocks<A> {
     /// Unmaps the blocks in these runs, and then maps each row's block to its place and writes its bytes
     /// there, one row after the other. A block that is unmapped or moves leaves its bytes behind. A run
     /// costs as many steps as it has mapped blocks. `Err` where memory is refused leaves all as it is.
-    pub fn fill(&mut self, gone: &[BlockRun], rows: &[BlockRow<A>]) -> Result<(), AllocError>
-        requires { CanFill self.old gone.now rows.now }
-        ensures ok { OnOk result (self.new ≡ filled gone.now rows.now self.old) }
+    pub fn fill(&mut self, released: &[BlockRun], rows: &[BlockRow<A>]) -> Result<(), AllocError>
+        requires { CanFill self.old released.now rows.now }
+        ensures ok { OnOk result (self.new ≡ filled released.now rows.now self.old) }
         ensures err { OnErr result (self.new ≡ self.old) }
     {
-        let edits = self.edits_of(gone, rows)?;
+        let edits = self.edits_of(released, rows)?;
         let written = copies(edits.allocator(), rows)?;
         self.change(edits.as_slice(), written)
     }
@@ -139,12 +139,12 @@ impl<A: Allocator + Clone> FileBlocks<A> {
     /// The edits of the placement that a fill makes.
     fn edits_of(
         &self,
-        gone: &[BlockRun],
+        released: &[BlockRun],
         rows: &[BlockRow<A>],
     ) -> Result<Vec<KeyEdit<(u32, u32), Place>, A>, AllocError>
         ensures ascend { IfOk result (λ edits. KeysAscend (pairs numbers numbers).compare edits.items) }
-        ensures placed { IfOk result (λ edits. table_after self.now.placement edits.items ≡ placement_after gone.now rows.now self.now.placement) }
+        ensures placed { IfOk result (λ edits. table_after self.now.placement edits.items ≡ placement_after released.now rows.now self.now.placement) }
     {
-        fill_edits(&self.placement, gone, rows)
+        fill_edits(&self.placement, released, rows)
     }
 }

@@ -35,35 +35,35 @@ pub struct BlockRow<A: Allocator> {
 /// The edits of a placement that unmap the blocks in the runs, and then map the rows' blocks, ascending.
 pub(crate) fn fill_edits<A: Allocator + Clone>(
     placement: &Chunks<(u32, u32), Place, A>,
-    gone: &[BlockRun],
+    released: &[BlockRun],
     rows: &[BlockRow<A>],
 ) -> Result<Vec<KeyEdit<(u32, u32), Place>, A>, AllocError>
     ensures ascend { IfOk result (λ edits. KeysAscend (pairs numbers numbers).compare edits.items) }
-    ensures placed { IfOk result (λ edits. table_after (placed placement.now) edits.items ≡ placement_after gone.now rows.now (placed placement.now)) }
+    ensures placed { IfOk result (λ edits. table_after (placed placement.now) edits.items ≡ placement_after released.now rows.now (placed placement.now)) }
 {
-    let mut said = Overlay::new(placement.allocator().clone()?);
-    for run in gone {
-        unmap(&mut said, placement, run)?;
+    let mut overlay = Overlay::new(placement.allocator().clone()?);
+    for run in released {
+        unmap(&mut overlay, placement, run)?;
     }
     for row in rows {
-        said.set((row.number, row.block), Some(row.place))?;
+        overlay.set((row.number, row.block), Some(row.place))?;
     }
-    let edits = key_edits(placement.allocator(), &said)?;
+    let edits = key_edits(placement.allocator(), &overlay)?;
     Ok(edits)
 }
 
 /// Says of each mapped block of the run that it is mapped no more.
 fn unmap<A: Allocator + Clone>(
-    said: &mut Overlay<(u32, u32), Place, A>,
+    overlay: &mut Overlay<(u32, u32), Place, A>,
     placement: &Chunks<(u32, u32), Place, A>,
     run: &BlockRun,
 ) -> Result<(), AllocError>
-    requires { SeesMapped placement.now said.old }
-    ensures { OnOk result (seen said.new placement.now ≡ less (run.now ∷ []) (seen said.old placement.now)) }
+    requires { SeesMapped placement.now overlay.old }
+    ensures { OnOk result (seen overlay.new placement.now ≡ less (run.now ∷ []) (seen overlay.old placement.now)) }
 {
     let mut from = run.first;
     while let Some(block) = next_mapped(placement, run.number, from, run.end) {
-        said.set((run.number, block), None)?;
+        overlay.set((run.number, block), None)?;
         from = block + 1;
     }
     Ok(())

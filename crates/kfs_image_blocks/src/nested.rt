@@ -13,7 +13,7 @@ use std::mem;
 #[derive(Drop)]
 pub struct FillBlocks<'a, A: Allocator> {
     pub blocks: &'a mut FileBlocks<A>,
-    pub gone: &'a [BlockRun],
+    pub released: &'a [BlockRun],
     pub rows: &'a [BlockRow<A>],
 }
 
@@ -21,16 +21,16 @@ impl<'a, A: Allocator + Clone> Change for FillBlocks<'a, A> {
     ghost use Rattle.kfs_map_pages.specs.Nested.{Becomes};
     ghost use Rattle.kfs_image_blocks.specs.Fill.{CanFill, filled};
 
-    ghost can_make = { λ before. CanFill before.blocks.now before.gone.now before.rows.now };
+    ghost can_make = { λ before. CanFill before.blocks.now before.released.now before.rows.now };
 
-    ghost made = { λ before after. Becomes before.blocks after.blocks (filled before.gone.now before.rows.now before.blocks.now) };
+    ghost made = { λ before after. Becomes before.blocks after.blocks (filled before.released.now before.rows.now before.blocks.now) };
 
     ghost kept = { λ before after. Becomes before.blocks after.blocks before.blocks.now };
 
     ghost not_tried = { λ before. Prim.search rules };
 
     fn make(&mut self) -> Result<(), AllocError> {
-        self.blocks.fill(self.gone, self.rows)
+        self.blocks.fill(self.released, self.rows)
     }
 }
 

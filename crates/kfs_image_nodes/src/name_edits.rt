@@ -44,11 +44,11 @@ pub(crate) fn name_edits<A: Allocator + Clone>(
     ensures named { IfOk result (λ edits. AreNames (table name_order names.now) → AreNames (names_edited names.now edits)) }
     ensures counted { IfOk result (IsCountedAfter names.now counts.now uplinks.now) }
 {
-    let mut said = Overlays::new(alloc)?;
+    let mut overlays = Overlays::new(alloc)?;
     for row in rows {
-        said.rename(names, counts, uplinks, row)?;
+        overlays.rename(names, counts, uplinks, row)?;
     }
-    let edits = said.edits(alloc)?;
+    let edits = overlays.edits(alloc)?;
     Ok(edits)
 }
 
@@ -62,9 +62,9 @@ struct Overlays<A: Allocator> {
 
 impl<A: Allocator + Clone> Overlays<A> {
     fn new(alloc: &A) -> Result<Overlays<A>, AllocError>
-        ensures names { IfOk result (λ said. said.names.latest.entries ≡ []) }
-        ensures counts { IfOk result (λ said. said.counts.latest.entries ≡ []) }
-        ensures uplinks { IfOk result (λ said. said.uplinks.latest.entries ≡ []) }
+        ensures names { IfOk result (λ overlays. overlays.names.latest.entries ≡ []) }
+        ensures counts { IfOk result (λ overlays. overlays.counts.latest.entries ≡ []) }
+        ensures uplinks { IfOk result (λ overlays. overlays.uplinks.latest.entries ≡ []) }
     {
         Ok(Overlays {
             names: Overlay::new(alloc.clone()?),

@@ -1,5 +1,5 @@
 -- Lemmas on sessions.
-pub mod Conversations
+pub mod SessionLoops
 pub mod Held
 pub mod HeldReplies
 pub mod Listed

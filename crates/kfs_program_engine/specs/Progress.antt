@@ -6,7 +6,7 @@ use Rattle.kfs_program_text.specs.Cut.{cut, line_end}
 use Rattle.kfs_program_engine.specs.Session.{AnswersLine, AnswersLines, Stage, fresh}
 use Rattle.kfs_program_text.specs.Parts.{line_of}
 use Rattle.kfs_program_engine.specs.Views.{stage_of}
-use Rattle.kfs_program_engine.specs.declared.conversation.SessionLoop.{SessionLoop}
+use Rattle.kfs_program_engine.specs.declared.session_loop.SessionLoop.{SessionLoop}
 use Rattle.kfs_program_engine.specs.declared.fault.EngineFault.{EngineFault}
 use Rattle.kfs_program_engine.specs.declared.fault.EngineFault.TheVariants.{ReadFault, WriteFault, LongLine, OutOfMemory}
 use Rattle.kfs_program_text.specs.declared.words.Refusal.{Refusal}
@@ -37,12 +37,12 @@ LineIsKept result stage line kept =
 module _ {A : Type 0} where
   -- the conversation stands there, with the line that it holds
   abbrev pub HasAnsweredSoFar : SessionLoop A → (rest input text : List ℕ) → Type 0
-  HasAnsweredSoFar conversation rest input text = HasAnswered (stage_of conversation.session) conversation.line.items rest input text
+  HasAnsweredSoFar session_loop rest input text = HasAnswered (stage_of session_loop.session) session_loop.line.items rest input text
 
   -- all is looked at, or the session has ended
   abbrev pub IsTaken : {T : Type 0} → Result T EngineFault → SessionLoop A → (input text : List ℕ) → Type 0
-  IsTaken (Ok done) conversation input text = HasAnsweredSoFar conversation [] input text
-  IsTaken {T} (Err fault) conversation input text = IsSession {T = T} (Err fault) input text
+  IsTaken (Ok done) session_loop input text = HasAnsweredSoFar session_loop [] input text
+  IsTaken {T} (Err fault) session_loop input text = IsSession {T = T} (Err fault) input text
 
   -- wherever it stood before these bytes, all of them are looked at, or the session has ended
   abbrev pub Takes : {T : Type 0} → SessionLoop A → (bytes : List ℕ) → Result T EngineFault → SessionLoop A → (more : List ℕ) → Type 0

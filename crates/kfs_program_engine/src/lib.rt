@@ -8,16 +8,16 @@ ghost use Rattle.kfs_program_text.specs.HeldOutput.{contents_with};
 ghost use Rattle.kfs_program_text.specs.Streams.{Exchanges};
 
 mod bytes;
-mod conversation;
+mod session_loop;
 pub mod examples;
 mod fault;
-mod hands;
+mod held_verdicts;
 mod listing;
 mod opening;
 mod session;
 mod verdicts;
 
-use conversation::SessionLoop;
+use session_loop::SessionLoop;
 pub use fault::EngineFault;
 use kfs_program_text::{HeldBack, read_some};
 use std::alloc::{AllocError, Allocator};
@@ -100,15 +100,15 @@ where
     ensures first { writer.new.first ≡ writer.old.first }
     ensures end { OnOk result (IsAtEnd (I.remaining reader.new)) }
 {
-    let mut conversation = SessionLoop::new(alloc);
+    let mut session_loop = SessionLoop::new(alloc);
     'reads: for _ in 0..MOST_READS {
         let Some(count) = read_some(reader, chunk)? else {
             continue;
         };
         if count == 0 {
-            return conversation.finish(writer);
+            return session_loop.finish(writer);
         }
-        conversation.take(&chunk[..count], writer)?;
+        session_loop.take(&chunk[..count], writer)?;
         writer.flush()?;
     }
     Err(EngineFault::ReadFault)

@@ -13,7 +13,7 @@ ghost use Rattle.kfs_program_text.specs.Parts.{line_of};
 ghost use Rattle.kfs_entry_value.specs.Room.{spare_of};
 
 use crate::bytes::bytes_line;
-use crate::hands::HeldVerdicts;
+use crate::held_verdicts::HeldVerdicts;
 use crate::listing::list_line;
 use crate::opening::Opening;
 use crate::verdicts::{judge_for, land_for};

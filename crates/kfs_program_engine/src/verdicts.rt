@@ -8,14 +8,14 @@ ghost use Rattle.kfs_program_engine.specs.Session.{After, IsLandingAnswered, IsR
 ghost use Rattle.kfs_program_text.specs.Parts.{line_of};
 ghost use Rattle.kfs_entry_value.specs.Room.{spare_of};
 
-use crate::hands::HeldVerdicts;
+use crate::held_verdicts::HeldVerdicts;
 use kfs_desk::Desk;
 use kfs_plan::{Judged, Submission, Why};
 use kfs_program_command::Worker;
 use kfs_program_text::Refusal;
 use kfs_program_text::parts::{number, text};
 use kfs_report::reply_line;
-use kfs_workers::Look;
+use kfs_workers::DeskView;
 use std::alloc::Allocator;
 
 /// Judges the submission for a worker who holds no verdict, and now holds this one.
@@ -52,8 +52,8 @@ fn judged_now<A: Allocator + Copy>(
     ensures verdict { IfOk result (λ judged. IsVerdictOn desk.now.state (submission_of submission) (verdict_of judged)) }
     ensures memory { IfErr result (λ why. why ≡ Refusal.OutOfMemory) }
 {
-    let look = Look::at(desk)?;
-    match look.judge(alloc, submission) {
+    let view = DeskView::at(desk)?;
+    match view.judge(alloc, submission) {
         Ok(judged) => Ok(judged),
         Err(_) => Err(Refusal::OutOfMemory),
     }

@@ -5,33 +5,33 @@ use Rattle.std.proofs.lemmas.Option.{slice_get-map}
 use Rattle.std.proofs.lemmas.Map.Steps.{length-le_from_distinct_below}
 use Rattle.kfs_model.specs.Soundness.{Climbs}
 use Rattle.kfs_model.proofs.Climb.{passed, passed_long, climb_from, passed_once}
-use Rattle.kfs_shape.specs.Climbs.{up_at, up_from, is_root}
+use Rattle.kfs_shape.specs.Climbs.{ancestor_at, ancestor_from, is_root}
 
 -- ---- a list that leads on
 
-pub up_map : (ups others : List (Option ℕ)) (n : ℕ) → up_at (map (up_from ups) others) n ≡ up_from ups (up_at others n)
-up_map ups others n = ap (λ o. elim o [ None ↦ None | Some up ↦ up ]) (slice_get-map (up_from ups) others n) ∙ at (slice_get others n)
+pub up_map : (ancestors others : List (Option ℕ)) (n : ℕ) → ancestor_at (map (ancestor_from ancestors) others) n ≡ ancestor_from ancestors (ancestor_at others n)
+up_map ancestors others n = ap (λ o. elim o [ None ↦ None | Some up ↦ up ]) (slice_get-map (ancestor_from ancestors) others n) ∙ at (slice_get others n)
   where
-    at : (o : Option (Option ℕ)) → elim (option_map (up_from ups) o) [ None ↦ None | Some up ↦ up ] ≡ up_from ups (elim o [ None ↦ None | Some up ↦ up ])
+    at : (o : Option (Option ℕ)) → elim (option_map (ancestor_from ancestors) o) [ None ↦ None | Some up ↦ up ] ≡ ancestor_from ancestors (elim o [ None ↦ None | Some up ↦ up ])
     at None = refl
     at (Some up) = refl
 
 module _ (parent : ℕ → Option ℕ) (root_end : parent 1 ≡ None) where
   -- the list leads up, and as far as so many steps on each climb to the root
-  pub record LeadsBy (power : ℕ) (ups : List (Option ℕ)) : Type 0 where
-    pub sound : (n m : ℕ) → up_at ups n ≡ Some m → (steps : ℕ) × Climbs parent steps n m
-    pub far : (n steps : ℕ) → Climbs parent steps n 1 → (m : ℕ) × (up_at ups n ≡ Some m) × Climbs parent (steps - power) m 1
+  pub record LeadsBy (power : ℕ) (ancestors : List (Option ℕ)) : Type 0 where
+    pub sound : (n m : ℕ) → ancestor_at ancestors n ≡ Some m → (steps : ℕ) × Climbs parent steps n m
+    pub far : (n steps : ℕ) → Climbs parent steps n 1 → (m : ℕ) × (ancestor_at ancestors n ≡ Some m) × Climbs parent (steps - power) m 1
 
   -- ---- one step
 
-  pub leads_by_one : (ups : List (Option ℕ)) → ((n : ℕ) → up_at ups n ≡ cond (n == 1) (Some 1) (parent n)) → LeadsBy 1 ups
-  leads_by_one ups are = record { sound = λ n m is. up (n == 1) n m refl (sym (are n) ∙ is); far = far }
+  pub leads_by_one : (ancestors : List (Option ℕ)) → ((n : ℕ) → ancestor_at ancestors n ≡ cond (n == 1) (Some 1) (parent n)) → LeadsBy 1 ancestors
+  leads_by_one ancestors are = record { sound = λ n m is. up (n == 1) n m refl (sym (are n) ∙ is); far = far }
     where
       up : (root : Bool) (n m : ℕ) → (n == 1) ≡ root → cond root (Some 1) (parent n) ≡ Some m → (steps : ℕ) × Climbs parent steps n m
       up true n m root is = let here : 1 ≡ m = cc in (0, eqb-true n 1 root ∙ here)
       up false n m root is = (1, (m, is, refl))
 
-      far : (n steps : ℕ) → Climbs parent steps n 1 → (m : ℕ) × (up_at ups n ≡ Some m) × Climbs parent (steps - 1) m 1
+      far : (n steps : ℕ) → Climbs parent steps n 1 → (m : ℕ) × (ancestor_at ancestors n ≡ Some m) × Climbs parent (steps - 1) m 1
       far n zero climb = (1, are n ∙ ap (λ b. cond b (Some 1) (parent n)) (eq-eqb n 1 climb), refl)
       far n (suc steps) climb =
           let other : n ≢ 1 = λ same. let none : parent n ≡ None = ap parent same ∙ root_end in cc (climb.1, none) in
@@ -44,17 +44,17 @@ module _ (parent : ℕ → Option ℕ) (root_end : parent 1 ≡ None) where
   joined zero n k m climb others rest = (others, subst (λ from. Climbs parent others from m) (sym climb) rest)
   joined (suc steps) n k m climb others rest = let (all, whole) = joined steps climb.0 k m climb.2 others rest in (suc all, (climb.0, climb.1, whole))
 
-  pub leads_by_twice : (power : ℕ) (ups twice : List (Option ℕ)) → ((n : ℕ) → up_at twice n ≡ up_from ups (up_at ups n)) → LeadsBy power ups → LeadsBy (power + power) twice
-  leads_by_twice power ups twice are leads = record {
-    sound = λ n m is. up n m (up_at ups n) refl (sym (are n) ∙ is);
+  pub leads_by_twice : (power : ℕ) (ancestors twice : List (Option ℕ)) → ((n : ℕ) → ancestor_at twice n ≡ ancestor_from ancestors (ancestor_at ancestors n)) → LeadsBy power ancestors → LeadsBy (power + power) twice
+  leads_by_twice power ancestors twice are leads = record {
+    sound = λ n m is. up n m (ancestor_at ancestors n) refl (sym (are n) ∙ is);
     far = λ n steps climb.
         let (k, first, rest) = leads.far n steps climb in
         let (m, second, last) = leads.far k (steps - power) rest in
         let left : steps - power - power ≡ steps - (power + power) = omega arith in
-        (m, are n ∙ ap (up_from ups) first ∙ second, subst (λ s. Climbs parent s m 1) left last);
+        (m, are n ∙ ap (ancestor_from ancestors) first ∙ second, subst (λ s. Climbs parent s m 1) left last);
   }
     where
-      up : (n m : ℕ) (o : Option ℕ) → up_at ups n ≡ o → up_from ups o ≡ Some m → (steps : ℕ) × Climbs parent steps n m
+      up : (n m : ℕ) (o : Option ℕ) → ancestor_at ancestors n ≡ o → ancestor_from ancestors o ≡ Some m → (steps : ℕ) × Climbs parent steps n m
       up n m None first is = cc
       up n m (Some k) first is =
           let (steps, climb) = leads.sound n k first in
@@ -74,28 +74,28 @@ module _ (parent : ℕ → Option ℕ) (root_end : parent 1 ≡ None) where
         (λ k any. let (fewer, fits, rest) = climb_from parent root_end steps from climb k any in passed_in_range fewer k rest) in
         omega (arith, passed_long parent root_end steps from climb)
 
-    to_the_root : (power : ℕ) (ups : List (Option ℕ)) → 65536 ≤ power → LeadsBy power ups → (n steps : ℕ) → Climbs parent steps n 1 → is_root (up_at ups n) ≡ true
-    to_the_root power ups enough leads n steps climb =
+    to_the_root : (power : ℕ) (ancestors : List (Option ℕ)) → 65536 ≤ power → LeadsBy power ancestors → (n steps : ℕ) → Climbs parent steps n 1 → is_root (ancestor_at ancestors n) ≡ true
+    to_the_root power ancestors enough leads n steps climb =
         let (m, is, rest) = leads.far n steps climb in
         let few = short_climb steps n climb in
         let none : steps - power ≡ 0 = omega arith in
         let here : m ≡ 1 = subst (λ s. Climbs parent s m 1) none rest in
         ap is_root is ∙ eq-eqb m 1 here
 
-    from_the_root : (power : ℕ) (ups : List (Option ℕ)) → LeadsBy power ups → (n : ℕ) → is_root (up_at ups n) ≡ true → (steps : ℕ) × Climbs parent steps n 1
-    from_the_root power ups leads n root = at (up_at ups n) refl root
+    from_the_root : (power : ℕ) (ancestors : List (Option ℕ)) → LeadsBy power ancestors → (n : ℕ) → is_root (ancestor_at ancestors n) ≡ true → (steps : ℕ) × Climbs parent steps n 1
+    from_the_root power ancestors leads n root = at (ancestor_at ancestors n) refl root
       where
-        at : (o : Option ℕ) → up_at ups n ≡ o → is_root o ≡ true → (steps : ℕ) × Climbs parent steps n 1
+        at : (o : Option ℕ) → ancestor_at ancestors n ≡ o → is_root o ≡ true → (steps : ℕ) × Climbs parent steps n 1
         at None is root = cc
         at (Some m) is root = leads.sound n 1 (is ∙ ap Some (eqb-true m 1 root))
 
     -- the test of a climb, by such a list
-    pub root_tells : (power : ℕ) (ups : List (Option ℕ)) → 65536 ≤ power → LeadsBy power ups → (n : ℕ) (reaches : Bool) → (reaches ≡ true → (steps : ℕ) × Climbs parent steps n 1)
-        → ((steps : ℕ) → Climbs parent steps n 1 → reaches ≡ true) → is_root (up_at ups n) ≡ reaches
-    root_tells power ups enough leads n reaches found only =
-        same (is_root (up_at ups n)) reaches
-        (λ root. let (steps, climb) = from_the_root power ups leads n root in only steps climb)
-        (λ reached. let (steps, climb) = found reached in to_the_root power ups enough leads n steps climb)
+    pub root_tells : (power : ℕ) (ancestors : List (Option ℕ)) → 65536 ≤ power → LeadsBy power ancestors → (n : ℕ) (reaches : Bool) → (reaches ≡ true → (steps : ℕ) × Climbs parent steps n 1)
+        → ((steps : ℕ) → Climbs parent steps n 1 → reaches ≡ true) → is_root (ancestor_at ancestors n) ≡ reaches
+    root_tells power ancestors enough leads n reaches found only =
+        same (is_root (ancestor_at ancestors n)) reaches
+        (λ root. let (steps, climb) = from_the_root power ancestors leads n root in only steps climb)
+        (λ reached. let (steps, climb) = found reached in to_the_root power ancestors enough leads n steps climb)
       where
         same : (a b : Bool) → (a ≡ true → b ≡ true) → (b ≡ true → a ≡ true) → a ≡ b
         same true b there back = sym (there refl)

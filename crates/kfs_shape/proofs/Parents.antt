@@ -16,7 +16,7 @@ use Rattle.kfs_model_device.specs.Rules.{with_previous, number_test, rule_1, rul
 use Rattle.kfs_model_device.specs.Finding.{least_failed}
 use Rattle.kfs_model_device.proofs.RulesHold.{AllHold}
 use Rattle.kfs_model_device.proofs.SoundImage.{some_directory, each_head}
-use Rattle.kfs_shape.specs.Climbs.{up_at}
+use Rattle.kfs_shape.specs.Climbs.{ancestor_at}
 use Rattle.kfs_shape.proofs.HeadTables.{or_none}
 use Rattle.kfs_shape.proofs.NameCounts.{all_hold, names_listed}
 
@@ -33,7 +33,7 @@ only_none P none_there (Some n) is = absurd (none_there n is)
 abbrev no_way : Option ℕ
 no_way = None
 
-pub leads_nowhere : (many n : ℕ) → n < many → up_at (replicate many None) n ≡ None
+pub leads_nowhere : (many n : ℕ) → n < many → ancestor_at (replicate many None) n ≡ None
 leads_nowhere many n within =
     let long : length (replicate many no_way) ≡ many = length-replicate many no_way in
     ap (λ o. elim o [ None ↦ None | Some up ↦ up ]) (slice_get-get_or {X = Option ℕ} (replicate many no_way) n no_way (omega arith)) ∙ get_or-replicate many n no_way no_way within
@@ -142,9 +142,9 @@ module _ (raw : RawImage) where
         let few : k ≤ 65536 = each_head raw (λ number h. number ≤ 65536) (nodes_in_range None raw.nodes (all_hold (rule_1 raw) in_range)) k h there in
         omega arith
 
-    pub nowhere : (ups : List (Option ℕ)) (number : ℕ) → length ups ≡ 65537 → 65537 ≤ number → up_at ups number ≡ wanted number
-    nowhere ups number many past =
-        ap (λ o. elim o [ None ↦ None | Some up ↦ up ]) (slice_get_past ups number (omega arith))
+    pub nowhere : (ancestors : List (Option ℕ)) (number : ℕ) → length ancestors ≡ 65537 → 65537 ≤ number → ancestor_at ancestors number ≡ wanted number
+    nowhere ancestors number many past =
+        ap (λ o. elim o [ None ↦ None | Some up ↦ up ]) (slice_get_past ancestors number (omega arith))
         ∙ sym (ap (λ b. cond b (Some 1) (parent_of raw number)) (ne_eqb number 1 (λ same. absurd (omega arith))) ∙ at (parent_of raw number) refl)
       where
         at : (o : Option ℕ) → parent_of raw number ≡ o → parent_of raw number ≡ None

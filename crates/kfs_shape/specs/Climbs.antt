@@ -5,22 +5,22 @@ use Rattle.kfs_model_device.specs.RawImage.{RawImage}
 use Rattle.kfs_model_device.specs.Rules.{parent_of}
 
 -- where the list leads from a number; nowhere from one past its end
-abbrev pub up_at : List (Option ℕ) → (number : ℕ) → Option ℕ
-up_at ups number = elim (slice_get ups number) [ None ↦ None | Some up ↦ up ]
+abbrev pub ancestor_at : List (Option ℕ) → (number : ℕ) → Option ℕ
+ancestor_at ancestors number = elim (slice_get ancestors number) [ None ↦ None | Some up ↦ up ]
 
 -- where the list leads from there
-abbrev pub up_from : List (Option ℕ) → Option ℕ → Option ℕ
-up_from ups None = None
-up_from ups (Some number) = up_at ups number
+abbrev pub ancestor_from : List (Option ℕ) → Option ℕ → Option ℕ
+ancestor_from ancestors None = None
+ancestor_from ancestors (Some number) = ancestor_at ancestors number
 
 -- each directory leads to that of its name, and the root to itself
 abbrev pub ParentsOf : List (Option ℕ) → RawImage → Type 0
-ParentsOf ups raw = (number : ℕ) → up_at ups number ≡ (if number == 1 then Some 1 else parent_of raw number)
+ParentsOf ancestors raw = (number : ℕ) → ancestor_at ancestors number ≡ (if number == 1 then Some 1 else parent_of raw number)
 
 -- if it is taken, the number leads up where it led nowhere; the others lead where they did
 pub record LeadsFirst (old new : List (Option ℕ)) (taken : Bool) (number up : ℕ) : Type 0 where
   pub len : length new ≡ length old
-  pub each : (n : ℕ) → n < length old → up_at new n ≡ option_or (up_at old n) (if taken && (number == n) then Some up else None)
+  pub each : (n : ℕ) → n < length old → ancestor_at new n ≡ option_or (ancestor_at old n) (if taken && (number == n) then Some up else None)
 
 abbrev pub is_root : Option ℕ → Bool
 is_root None = false

@@ -3,7 +3,7 @@ ghost use Rattle.std.specs.Prelude.{◌≡◌, ◌||◌, ◌<◌, ◌≤◌, ℕ
 ghost use Rattle.kfs_model.specs.Sight.{is_directory, is_file};
 ghost use Rattle.kfs_model_device.specs.Rules.{rule_1, rule_4, rule_7, reaches_root};
 ghost use Rattle.kfs_model_device.specs.Finding.{least_failed};
-ghost use Rattle.kfs_shape.specs.Climbs.{up_at, up_from, is_root, LeadsFirst, ParentsOf};
+ghost use Rattle.kfs_shape.specs.Climbs.{ancestor_at, ancestor_from, is_root, LeadsFirst, ParentsOf};
 ghost use Rattle.kfs_shape.specs.Heads.{head_at, ShowsHeads};
 ghost use Rattle.kfs_shape.specs.Views.{node_row_of, raw_of};
 
@@ -21,35 +21,35 @@ const NUMBERS: usize = 65_537;
 const DOUBLINGS: u32 = 17;
 
 /// Where the list leads from the number.
-fn up_at(ups: &[Option<u32>], number: u32) -> Option<u32>
-    ensures { result ≡ up_at ups.now number }
+fn ancestor_at(ancestors: &[Option<u32>], number: u32) -> Option<u32>
+    ensures { result ≡ ancestor_at ancestors.now number }
 {
-    match ups.get(number as usize) {
+    match ancestors.get(number as usize) {
         Some(up) => *up,
         None => None,
     }
 }
 
 /// Leads from the number to `up`, where it leads nowhere yet.
-fn lead_first(ups: &mut [Option<u32>], number: u32, up: u32)
-    ensures { LeadsFirst ups.old ups.new true number up }
+fn lead_first(ancestors: &mut [Option<u32>], number: u32, up: u32)
+    ensures { LeadsFirst ancestors.old ancestors.new true number up }
 {
-    if let Some(None) = ups.get(number as usize) {
-        ups[number as usize] = Some(up);
+    if let Some(None) = ancestors.get(number as usize) {
+        ancestors[number as usize] = Some(up);
     }
 }
 
 /// Leads from the number of a directory's name to the directory that has the name, where it leads nowhere
 /// yet.
 fn lead_by_name<A: Allocator>(
-    ups: &mut [Option<u32>],
+    ancestors: &mut [Option<u32>],
     headers: &BTreeMap<u32, Header, A>,
     row: &NameRow,
 )
-    ensures { LeadsFirst ups.old ups.new (is_directory (head_at headers.now row.now.number)) row.now.number row.now.dir }
+    ensures { LeadsFirst ancestors.old ancestors.new (is_directory (head_at headers.now row.now.number)) row.now.number row.now.dir }
 {
     if has_directory(headers, row.number) {
-        lead_first(ups, row.number, row.dir);
+        lead_first(ancestors, row.number, row.dir);
     }
 }
 
@@ -63,34 +63,34 @@ fn parents<A: Allocator + Copy>(
     requires shown { ShowsHeads headers.now raw.now }
     requires in_range { least_failed (rule_1 (raw_of raw.now)) ≡ None }
     requires ascend { least_failed (rule_4 (raw_of raw.now)) ≡ None }
-    ensures { IfOk result (λ ups. ParentsOf ups.items (raw_of raw.now)) }
+    ensures { IfOk result (λ ancestors. ParentsOf ancestors.items (raw_of raw.now)) }
 {
     let rows = raw.names.as_slice();
-    let mut ups = vec![in alloc; None; NUMBERS]?;
-    lead_first(&mut ups, ROOT, ROOT);
+    let mut ancestors = vec![in alloc; None; NUMBERS]?;
+    lead_first(&mut ancestors, ROOT, ROOT);
     for row in rows.iter() {
-        lead_by_name(&mut ups, headers, row);
+        lead_by_name(&mut ancestors, headers, row);
     }
-    Ok(ups)
+    Ok(ancestors)
 }
 
 /// Where the list leads from there.
-fn up_from(ups: &[Option<u32>], number: Option<u32>) -> Option<u32>
-    ensures { result ≡ up_from ups.now number }
+fn ancestor_from(ancestors: &[Option<u32>], number: Option<u32>) -> Option<u32>
+    ensures { result ≡ ancestor_from ancestors.now number }
 {
     match number {
-        Some(number) => up_at(ups, number),
+        Some(number) => ancestor_at(ancestors, number),
         None => None,
     }
 }
 
 /// Leads from each number where two steps of the list lead. An error is for want of memory.
-fn doubled<A: Allocator>(alloc: A, ups: &[Option<u32>]) -> Result<Vec<Option<u32>, A>, AllocError>
-    ensures { IfOk result (λ twice. (number : ℕ) → up_at twice.items number ≡ up_from ups.now (up_at ups.now number)) }
+fn doubled<A: Allocator>(alloc: A, ancestors: &[Option<u32>]) -> Result<Vec<Option<u32>, A>, AllocError>
+    ensures { IfOk result (λ twice. (number : ℕ) → ancestor_at twice.items number ≡ ancestor_from ancestors.now (ancestor_at ancestors.now number)) }
 {
-    let mut twice = Vec::with_capacity(alloc, ups.len())?;
-    for up in ups.iter() {
-        twice.push(up_from(ups, *up))?;
+    let mut twice = Vec::with_capacity(alloc, ancestors.len())?;
+    for up in ancestors.iter() {
+        twice.push(ancestor_from(ancestors, *up))?;
     }
     Ok(twice)
 }
@@ -104,20 +104,20 @@ fn tops<A: Allocator + Copy>(
     requires shown { ShowsHeads headers.now raw.now }
     requires in_range { least_failed (rule_1 (raw_of raw.now)) ≡ None }
     requires ascend { least_failed (rule_4 (raw_of raw.now)) ≡ None }
-    ensures { IfOk result (λ tops. (number : ℕ) → is_root (up_at tops.items number) ≡ reaches_root (raw_of raw.now) number) }
+    ensures { IfOk result (λ tops. (number : ℕ) → is_root (ancestor_at tops.items number) ≡ reaches_root (raw_of raw.now) number) }
 {
-    let mut ups = parents(alloc, raw, headers)?;
+    let mut ancestors = parents(alloc, raw, headers)?;
     for _ in 0..DOUBLINGS {
-        ups = doubled(alloc, &ups)?;
+        ancestors = doubled(alloc, &ancestors)?;
     }
-    Ok(ups)
+    Ok(ancestors)
 }
 
 /// Whether the node is a file, or leads to the root.
 fn is_below_root(tops: &[Option<u32>], row: &NodeRow) -> bool
-    ensures { result ≡ (is_file (Some (node_row_of row.now).header) || is_root (up_at tops.now row.now.number)) }
+    ensures { result ≡ (is_file (Some (node_row_of row.now).header) || is_root (ancestor_at tops.now row.now.number)) }
 {
-    row.header.kind == Kind::File || up_at(tops, row.number) == Some(ROOT)
+    row.header.kind == Kind::File || ancestor_at(tops, row.number) == Some(ROOT)
 }
 
 /// The least number of a directory from which going up doesn't reach the root. An error is for want of

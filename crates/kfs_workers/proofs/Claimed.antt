@@ -34,43 +34,43 @@ allowed client before index created t (entry ∷ entries) after_it is = (is.0, a
 
 module _ (desk last : Desk) (submissions : List Submission) (script : List Step) (replies : List (Option Reply)) (left : List (Option Submission)) (run : IsRun desk submissions script replies left last)
     (legal : IsLegalDocket desk.opening desk.docket desk.state) where
-  both : AreInPlace submissions run.scene × AreStanding submissions run.scene
-  both = run_stands submissions (begun desk submissions) run.scene script (in_place_at_first desk submissions) (stands_at_first desk submissions legal) run.runs
+  both : AreInPlace submissions run.state × AreStanding submissions run.state
+  both = run_stands submissions (begun desk submissions) run.state script (in_place_at_first desk submissions) (stands_at_first desk submissions legal) run.runs
 
   -- ---- each ticket is answered once or left
 
-  -- what holds of the scene's lists holds of what came out
-  replies_are : (ticket : ℕ) → get_or replies ticket None ≡ get_or run.scene.replies ticket None
+  -- what holds of the state's lists holds of what came out
+  replies_are : (ticket : ℕ) → get_or replies ticket None ≡ get_or run.state.replies ticket None
   replies_are ticket = ap (λ l. get_or l ticket None) run.replied
 
-  left_is : (ticket : ℕ) → get_or left ticket None ≡ get_or (all_returned run.scene.hands run.scene.waiting) ticket None
+  left_is : (ticket : ℕ) → get_or left ticket None ≡ get_or (all_returned run.state.hands run.state.waiting) ticket None
   left_is ticket = ap (λ l. get_or l ticket None) run.remains
 
-  settled_at : (ticket : ℕ) (submission : Submission) → slice_get submissions ticket ≡ Some submission → IsSettled last submission (get_or run.scene.replies ticket None) (get_or (all_returned run.scene.hands run.scene.waiting) ticket None)
-  settled_at ticket submission of = by (both.0.place ticket) refl (get_or run.scene.replies ticket None) refl
+  settled_at : (ticket : ℕ) (submission : Submission) → slice_get submissions ticket ≡ Some submission → IsSettled last submission (get_or run.state.replies ticket None) (get_or (all_returned run.state.hands run.state.waiting) ticket None)
+  settled_at ticket submission of = by (both.0.place ticket) refl (get_or run.state.replies ticket None) refl
     where
-      own : (worker : ℕ) (held : Holding) → get_or run.scene.hands worker None ≡ Some held → ticket_of held ≡ ticket → submission_in held ≡ submission
+      own : (worker : ℕ) (held : Holding) → get_or run.state.hands worker None ≡ Some held → ticket_of held ≡ ticket → submission_in held ≡ submission
       own worker held at its = one (sym (both.0.holds worker held at).1 ∙ ap (slice_get submissions) its ∙ of)
         where
           one : {a b : Submission} → Some a ≡ Some b → a ≡ b
           one e = cc
 
-      within : ticket < length run.scene.waiting
+      within : ticket < length run.state.waiting
       within = subst (λ n. ticket < n) (sym both.0.waiting_length) (slice_get_within submissions ticket submission of)
 
-      left_there : (get_or run.scene.waiting ticket None ≡ Some submission) ⊎ ((worker : ℕ) × (held : Holding) × (get_or run.scene.hands worker None ≡ Some held) × (ticket_of held ≡ ticket))
-          → get_or (all_returned run.scene.hands run.scene.waiting) ticket None ≡ Some submission
-      left_there = given_at_end run.scene.hands run.scene.waiting ticket submission within own
+      left_there : (get_or run.state.waiting ticket None ≡ Some submission) ⊎ ((worker : ℕ) × (held : Holding) × (get_or run.state.hands worker None ≡ Some held) × (ticket_of held ≡ ticket))
+          → get_or (all_returned run.state.hands run.state.waiting) ticket None ≡ Some submission
+      left_there = given_at_end run.state.hands run.state.waiting ticket submission within own
 
-      by : (at : Place) → both.0.place ticket ≡ at → (reply : Option Reply) → get_or run.scene.replies ticket None ≡ reply → IsSettled last submission reply (get_or (all_returned run.scene.hands run.scene.waiting) ticket None)
+      by : (at : Place) → both.0.place ticket ≡ at → (reply : Option Reply) → get_or run.state.replies ticket None ≡ reply → IsSettled last submission reply (get_or (all_returned run.state.hands run.state.waiting) ticket None)
       by Waits at None none = left_there (inl (both.0.waits ticket ∙ ap (λ p. waiting_at p (slice_get submissions ticket)) at ∙ of))
       by (With worker) at None none = let (held, at_hand, its) = both.0.with ticket worker at in left_there (inr (worker, held, at_hand, its))
-      by Answered at None none = let yes : is_some (get_or run.scene.replies ticket None) ≡ true = both.0.replied ticket ∙ ap is_answered at in cc
-      by Waits at (Some reply) is = let no : is_some (get_or run.scene.replies ticket None) ≡ false = both.0.replied ticket ∙ ap is_answered at in cc
-      by (With worker) at (Some reply) is = let no : is_some (get_or run.scene.replies ticket None) ≡ false = both.0.replied ticket ∙ ap is_answered at in cc
+      by Answered at None none = let yes : is_some (get_or run.state.replies ticket None) ≡ true = both.0.replied ticket ∙ ap is_answered at in cc
+      by Waits at (Some reply) is = let no : is_some (get_or run.state.replies ticket None) ≡ false = both.0.replied ticket ∙ ap is_answered at in cc
+      by (With worker) at (Some reply) is = let no : is_some (get_or run.state.replies ticket None) ≡ false = both.0.replied ticket ∙ ap is_answered at in cc
       by Answered at (Some reply) is =
           let stands = both.1.stands ticket submission reply of is in (
-            kept_back run.scene.hands run.scene.waiting ticket (λ worker held found its. not_with (sym at ∙ ap both.0.place (sym its) ∙ (both.0.holds worker held found).0)) ∙ both.0.waits ticket ∙ ap (λ p. waiting_at p (slice_get submissions ticket)) at,
+            kept_back run.state.hands run.state.waiting ticket (λ worker held found its. not_with (sym at ∙ ap both.0.place (sym its) ∙ (both.0.holds worker held found).0)) ∙ both.0.waits ticket ∙ ap (λ p. waiting_at p (slice_get submissions ticket)) at,
             subst (λ (d : Desk). AtReply d submission reply (λ before after_it. Unit {0})) (sym run.ends) (stands.before, stands.after_it, stands.at, tt),
           )
         where
@@ -79,7 +79,7 @@ module _ (desk last : Desk) (submissions : List Submission) (script : List Step)
 
   pub settled : AreSettled last submissions replies left
   settled = record {
-    each = λ ticket submission of. subst (λ reply. IsSettled last submission reply (get_or left ticket None)) (sym (replies_are ticket)) (subst (λ s. IsSettled last submission (get_or run.scene.replies ticket None) s) (sym (left_is ticket)) (settled_at ticket submission of));
+    each = λ ticket submission of. subst (λ reply. IsSettled last submission reply (get_or left ticket None)) (sym (replies_are ticket)) (subst (λ s. IsSettled last submission (get_or run.state.replies ticket None) s) (sym (left_is ticket)) (settled_at ticket submission of));
     apart = λ one other first second at also. both.1.apart one other first second (sym (replies_are one) ∙ at) (sym (replies_are other) ∙ also);
   }
 

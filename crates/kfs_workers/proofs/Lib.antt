@@ -2,6 +2,6 @@
 pub mod Claimed
 pub mod Places
 pub mod Replies
-pub mod Scenes
+pub mod ScriptStates
 pub mod Settled
 pub mod Verdicts

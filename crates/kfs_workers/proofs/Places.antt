@@ -72,14 +72,14 @@ is_answered (With worker) = false
 is_answered Answered = true
 
 -- each submission has one place, and stands just there
-pub record AreInPlace (submissions : List Submission) (scene : ScriptState) : Type 0 where
+pub record AreInPlace (submissions : List Submission) (state : ScriptState) : Type 0 where
   pub place : ℕ → Place
-  pub waiting_length : length scene.waiting ≡ length submissions
-  pub replies_length : length scene.replies ≡ length submissions
-  pub waits : (ticket : ℕ) → get_or scene.waiting ticket None ≡ waiting_at (place ticket) (slice_get submissions ticket)
-  pub replied : (ticket : ℕ) → is_some (get_or scene.replies ticket None) ≡ is_answered (place ticket)
-  pub holds : (worker : ℕ) (held : Holding) → get_or scene.hands worker None ≡ Some held → (place (ticket_of held) ≡ With worker) × (slice_get submissions (ticket_of held) ≡ Some (submission_in held))
-  pub with : (ticket worker : ℕ) → place ticket ≡ With worker → (held : Holding) × (get_or scene.hands worker None ≡ Some held) × (ticket_of held ≡ ticket)
+  pub waiting_length : length state.waiting ≡ length submissions
+  pub replies_length : length state.replies ≡ length submissions
+  pub waits : (ticket : ℕ) → get_or state.waiting ticket None ≡ waiting_at (place ticket) (slice_get submissions ticket)
+  pub replied : (ticket : ℕ) → is_some (get_or state.replies ticket None) ≡ is_answered (place ticket)
+  pub holds : (worker : ℕ) (held : Holding) → get_or state.hands worker None ≡ Some held → (place (ticket_of held) ≡ With worker) × (slice_get submissions (ticket_of held) ≡ Some (submission_in held))
+  pub with : (ticket worker : ℕ) → place ticket ≡ With worker → (held : Holding) × (get_or state.hands worker None ≡ Some held) × (ticket_of held ≡ ticket)
 
 -- ---- at first
 
@@ -112,20 +112,20 @@ in_place_at_first desk submissions = record {
 -- ---- a ticket goes on to another place
 
 -- the ticket of a worker's hand goes to this place, and all else stands where it stood
-pub record Goes (submissions : List Submission) (scene next : ScriptState) (place : ℕ → Place) (ticket worker : ℕ) (new : Place) : Type 0 where
+pub record Goes (submissions : List Submission) (state next : ScriptState) (place : ℕ → Place) (ticket worker : ℕ) (new : Place) : Type 0 where
   pub from : (place ticket ≡ Waits) ⊎ (place ticket ≡ With worker)
-  pub waiting_length : length next.waiting ≡ length scene.waiting
-  pub replies_length : length next.replies ≡ length scene.replies
-  pub other_waiting : (other : ℕ) → other ≢ ticket → get_or next.waiting other None ≡ get_or scene.waiting other None
-  pub other_replies : (other : ℕ) → other ≢ ticket → get_or next.replies other None ≡ get_or scene.replies other None
-  pub other_hands : (other : ℕ) → other ≢ worker → get_or next.hands other None ≡ get_or scene.hands other None
-  pub own : (held : Holding) → get_or scene.hands worker None ≡ Some held → ticket_of held ≡ ticket
+  pub waiting_length : length next.waiting ≡ length state.waiting
+  pub replies_length : length next.replies ≡ length state.replies
+  pub other_waiting : (other : ℕ) → other ≢ ticket → get_or next.waiting other None ≡ get_or state.waiting other None
+  pub other_replies : (other : ℕ) → other ≢ ticket → get_or next.replies other None ≡ get_or state.replies other None
+  pub other_hands : (other : ℕ) → other ≢ worker → get_or next.hands other None ≡ get_or state.hands other None
+  pub own : (held : Holding) → get_or state.hands worker None ≡ Some held → ticket_of held ≡ ticket
   pub waiting : get_or next.waiting ticket None ≡ waiting_at new (slice_get submissions ticket)
   pub replied : is_some (get_or next.replies ticket None) ≡ is_answered new
   pub holds : (held : Holding) → get_or next.hands worker None ≡ Some held → (new ≡ With worker) × (ticket_of held ≡ ticket) × (slice_get submissions ticket ≡ Some (submission_in held))
   pub with : (other : ℕ) → new ≡ With other → (other ≡ worker) × (held : Holding) × (get_or next.hands worker None ≡ Some held) × (ticket_of held ≡ ticket)
 
-module _ (submissions : List Submission) (scene next : ScriptState) (are : AreInPlace submissions scene) (ticket worker : ℕ) (new : Place) (goes : Goes submissions scene next are.place ticket worker new) where
+module _ (submissions : List Submission) (state next : ScriptState) (are : AreInPlace submissions state) (ticket worker : ℕ) (new : Place) (goes : Goes submissions state next are.place ticket worker new) where
   -- another worker doesn't hold it
   not_held : (other : ℕ) → other ≢ worker → are.place ticket ≢ With other
   not_held other apart there = by goes.from
@@ -168,6 +168,6 @@ module _ (submissions : List Submission) (scene next : ScriptState) (are : AreIn
         (held, subst (λ w. get_or next.hands w None ≡ Some held) (sym is) at_hand, its ∙ sym same))
         (λ apart.
         let (held, at_hand, its) = are.with of other (sym (moved-other are.place ticket of new apart) ∙ at) in
-        let not_worker : other ≢ worker = λ same. apart (sym its ∙ goes.own held (subst (λ w. get_or scene.hands w None ≡ Some held) same at_hand)) in
+        let not_worker : other ≢ worker = λ same. apart (sym its ∙ goes.own held (subst (λ w. get_or state.hands w None ≡ Some held) same at_hand)) in
         (held, goes.other_hands other not_worker ∙ at_hand, its));
   }

@@ -48,11 +48,11 @@ pub record Stands (desk : Desk) (submission : Submission) (reply : Reply) : Type
   pub means : AnswerMeans before submission reply after_it
 
 -- the replies stand in the docket, which is legal, each at a row of its own
-pub record AreStanding (submissions : List Submission) (scene : ScriptState) : Type 0 where
-  pub legal : IsLegalDocket scene.desk.opening scene.desk.docket scene.desk.state
-  pub stands : (ticket : ℕ) (submission : Submission) (reply : Reply) → slice_get submissions ticket ≡ Some submission → get_or scene.replies ticket None ≡ Some reply → Stands scene.desk submission reply
-  pub within : (ticket : ℕ) (reply : Reply) → get_or scene.replies ticket None ≡ Some reply → position_of reply < length scene.desk.docket
-  pub apart : (one other : ℕ) (first second : Reply) → get_or scene.replies one None ≡ Some first → get_or scene.replies other None ≡ Some second → one ≢ other → position_of first ≢ position_of second
+pub record AreStanding (submissions : List Submission) (state : ScriptState) : Type 0 where
+  pub legal : IsLegalDocket state.desk.opening state.desk.docket state.desk.state
+  pub stands : (ticket : ℕ) (submission : Submission) (reply : Reply) → slice_get submissions ticket ≡ Some submission → get_or state.replies ticket None ≡ Some reply → Stands state.desk submission reply
+  pub within : (ticket : ℕ) (reply : Reply) → get_or state.replies ticket None ≡ Some reply → position_of reply < length state.desk.docket
+  pub apart : (one other : ℕ) (first second : Reply) → get_or state.replies one None ≡ Some first → get_or state.replies other None ≡ Some second → one ≢ other → position_of first ≢ position_of second
 
 module _ (old new : Desk) (grows : Grows old new) where
   longer : length old.docket ≤ length new.docket
@@ -108,35 +108,35 @@ answer_stands old new legal submission again reply is =
 
 -- ---- steps
 
-module _ (submissions : List Submission) (scene next_scene : ScriptState) (are : AreStanding submissions scene) where
+module _ (submissions : List Submission) (state next_scene : ScriptState) (are : AreStanding submissions state) where
   -- the replies stay, in a docket that may have grown
-  pub replies_stay : next_scene.replies ≡ scene.replies → Grows scene.desk next_scene.desk → AreStanding submissions next_scene
+  pub replies_stay : next_scene.replies ≡ state.replies → Grows state.desk next_scene.desk → AreStanding submissions next_scene
   replies_stay same grows =
-      let was : (ticket : ℕ) (reply : Reply) → get_or next_scene.replies ticket None ≡ Some reply → get_or scene.replies ticket None ≡ Some reply = λ ticket reply at. ap (λ l. get_or l ticket None) (sym same) ∙ at in
+      let was : (ticket : ℕ) (reply : Reply) → get_or next_scene.replies ticket None ≡ Some reply → get_or state.replies ticket None ≡ Some reply = λ ticket reply at. ap (λ l. get_or l ticket None) (sym same) ∙ at in
       record {
         legal = grows.legal;
-        stands = λ ticket submission reply of at. stands_on scene.desk next_scene.desk grows submission reply (are.stands ticket submission reply of (was ticket reply at));
-        within = λ ticket reply at. let before = are.within ticket reply (was ticket reply at) in let more = longer scene.desk next_scene.desk grows in omega arith;
+        stands = λ ticket submission reply of at. stands_on state.desk next_scene.desk grows submission reply (are.stands ticket submission reply of (was ticket reply at));
+        within = λ ticket reply at. let before = are.within ticket reply (was ticket reply at) in let more = longer state.desk next_scene.desk grows in omega arith;
         apart = λ one other first second at also. are.apart one other first second (was one first at) (was other second also);
       }
 
   -- one more reply, which stands behind all others
-  pub reply_added : (ticket : ℕ) (submission : Submission) (reply : Reply) → slice_get submissions ticket ≡ Some submission → ticket < length scene.replies → next_scene.replies ≡ set scene.replies ticket (Some reply)
-      → position_of reply ≡ length scene.desk.docket → Grows scene.desk next_scene.desk → Stands next_scene.desk submission reply → AreStanding submissions next_scene
+  pub reply_added : (ticket : ℕ) (submission : Submission) (reply : Reply) → slice_get submissions ticket ≡ Some submission → ticket < length state.replies → next_scene.replies ≡ set state.replies ticket (Some reply)
+      → position_of reply ≡ length state.desk.docket → Grows state.desk next_scene.desk → Stands next_scene.desk submission reply → AreStanding submissions next_scene
   reply_added ticket submission reply of within added last grows stands =
       let here : (t : ℕ) (r : Reply) → t ≡ ticket → get_or next_scene.replies t None ≡ Some r → r ≡ reply =
-      λ t r same at. one_reply (sym at ∙ ap (λ l. get_or l t None) added ∙ ap (λ n. get_or (set scene.replies ticket (Some reply)) n None) same ∙ get_or-set_same scene.replies ticket (Some reply) None within) in
-      let was : (t : ℕ) (r : Reply) → t ≢ ticket → get_or next_scene.replies t None ≡ Some r → get_or scene.replies t None ≡ Some r =
-      λ t r apart at. sym (get_or-set_other scene.replies ticket t (Some reply) None apart) ∙ ap (λ l. get_or l t None) (sym added) ∙ at in
+      λ t r same at. one_reply (sym at ∙ ap (λ l. get_or l t None) added ∙ ap (λ n. get_or (set state.replies ticket (Some reply)) n None) same ∙ get_or-set_same state.replies ticket (Some reply) None within) in
+      let was : (t : ℕ) (r : Reply) → t ≢ ticket → get_or next_scene.replies t None ≡ Some r → get_or state.replies t None ≡ Some r =
+      λ t r apart at. sym (get_or-set_other state.replies ticket t (Some reply) None apart) ∙ ap (λ l. get_or l t None) (sym added) ∙ at in
       let below : (t : ℕ) (r : Reply) → t ≢ ticket → get_or next_scene.replies t None ≡ Some r → position_of r ≢ position_of reply = λ t r apart at same. let before = are.within t r (was t r apart at) in let never : ⊥ = omega (arith, before, same, last) in never in
       record {
         legal = grows.legal;
         stands = λ t s r is at. by_equal t ticket
             (λ same. subst (Stands next_scene.desk s) (sym (here t r same at)) (subst (λ u. Stands next_scene.desk u reply) (one_submission (sym of ∙ ap (slice_get submissions) (sym same) ∙ is)) stands))
-            (λ apart. stands_on scene.desk next_scene.desk grows s r (are.stands t s r is (was t r apart at)));
+            (λ apart. stands_on state.desk next_scene.desk grows s r (are.stands t s r is (was t r apart at)));
         within = λ t r at. by_equal t ticket
             (λ same. subst (λ it. position_of it < length next_scene.desk.docket) (sym (here t r same at)) stands.within)
-            (λ apart. let before = are.within t r (was t r apart at) in let more = longer scene.desk next_scene.desk grows in omega arith);
+            (λ apart. let before = are.within t r (was t r apart at) in let more = longer state.desk next_scene.desk grows in omega arith);
         apart = λ one other first second at also differ. by_equal one ticket
             (λ same. by_equal other ticket
             (λ too. absurd (differ (same ∙ sym too)))
@@ -177,52 +177,52 @@ call_grows old new act reply legal is =
     read (acts.Drop client number) = tt
     read (acts.Tick moment) = tt
 
-module _ (submissions : List Submission) (scene next_scene : ScriptState) (in_place : AreInPlace submissions scene) (are : AreStanding submissions scene) where
-  same_scene : next_scene ≡ scene → AreStanding submissions next_scene
-  same_scene is = subst (AreStanding submissions) (sym is) are
+module _ (submissions : List Submission) (state next_scene : ScriptState) (in_place : AreInPlace submissions state) (are : AreStanding submissions state) where
+  same_state : next_scene ≡ state → AreStanding submissions next_scene
+  same_state is = subst (AreStanding submissions) (sym is) are
 
   -- the replies and the desk are the same
-  same_desk : next_scene.replies ≡ scene.replies → next_scene.desk ≡ scene.desk → AreStanding submissions next_scene
-  same_desk replies desk = replies_stay submissions scene next_scene are replies (stays_legal scene.desk next_scene.desk desk are.legal)
+  same_desk : next_scene.replies ≡ state.replies → next_scene.desk ≡ state.desk → AreStanding submissions next_scene
+  same_desk replies desk = replies_stay submissions state next_scene are replies (stays_legal state.desk next_scene.desk desk are.legal)
 
-  looks : (worker ticket : ℕ) (hand : Option (Option Holding)) (waits : Option Submission) → DoesLook scene worker ticket hand waits next_scene → AreStanding submissions next_scene
-  looks worker ticket None waits is = same_scene is
-  looks worker ticket (Some (Some held)) waits is = same_scene is
-  looks worker ticket (Some None) None is = same_scene is
-  looks worker ticket (Some None) (Some submission) (inr is) = same_scene is
+  looks : (worker ticket : ℕ) (hand : Option (Option Holding)) (waits : Option Submission) → DoesLook state worker ticket hand waits next_scene → AreStanding submissions next_scene
+  looks worker ticket None waits is = same_state is
+  looks worker ticket (Some (Some held)) waits is = same_state is
+  looks worker ticket (Some None) None is = same_state is
+  looks worker ticket (Some None) (Some submission) (inr is) = same_state is
   looks worker ticket (Some None) (Some submission) (inl is) = same_desk (ap (λ (s : ScriptState). s.replies) is) (ap (λ (s : ScriptState). s.desk) is)
 
-  judges : (worker : ℕ) (hand : Option Holding) → DoesJudge scene worker hand next_scene → AreStanding submissions next_scene
-  judges worker None is = same_scene is
-  judges worker (Some (Decided ticket verdict)) is = same_scene is
+  judges : (worker : ℕ) (hand : Option Holding) → DoesJudge state worker hand next_scene → AreStanding submissions next_scene
+  judges worker None is = same_state is
+  judges worker (Some (Decided ticket verdict)) is = same_state is
   judges worker (Some (Taken ticket submission seen)) (inl (verdict, on, is)) = same_desk (ap (λ (s : ScriptState). s.replies) is) (ap (λ (s : ScriptState). s.desk) is)
   judges worker (Some (Taken ticket submission seen)) (inr is) = same_desk (ap (λ (s : ScriptState). s.replies) is) (ap (λ (s : ScriptState). s.desk) is)
 
-  lands : (worker : ℕ) (hand : Option Holding) → get_or scene.hands worker None ≡ hand → DoesLand scene worker hand next_scene → AreStanding submissions next_scene
-  lands worker None at is = same_scene is
-  lands worker (Some (Taken ticket submission seen)) at is = same_scene is
+  lands : (worker : ℕ) (hand : Option Holding) → get_or state.hands worker None ≡ hand → DoesLand state worker hand next_scene → AreStanding submissions next_scene
+  lands worker None at is = same_state is
+  lands worker (Some (Taken ticket submission seen)) at is = same_state is
   lands worker (Some (Decided ticket verdict)) at (inr is) = same_desk (ap (λ (s : ScriptState). s.replies) is) (ap (λ (s : ScriptState). s.desk) is)
   lands worker (Some (Decided ticket verdict)) at (inl landed) =
       let (there, of) = in_place.holds worker (Decided ticket verdict) at in
-      let within : ticket < length scene.replies = subst (λ n. ticket < n) (sym in_place.replies_length) (slice_get_within submissions ticket verdict.submission of) in
-      let (grows, stands) = answer_stands scene.desk next_scene.desk are.legal verdict.submission (is_rejudged landed.answer) landed.answer landed.answered in
-      reply_added submissions scene next_scene are ticket verdict.submission landed.answer of within (ap (λ (s : ScriptState). s.replies) landed.is) landed.answered.position grows stands
+      let within : ticket < length state.replies = subst (λ n. ticket < n) (sym in_place.replies_length) (slice_get_within submissions ticket verdict.submission of) in
+      let (grows, stands) = answer_stands state.desk next_scene.desk are.legal verdict.submission (is_rejudged landed.answer) landed.answer landed.answered in
+      reply_added submissions state next_scene are ticket verdict.submission landed.answer of within (ap (λ (s : ScriptState). s.replies) landed.is) landed.answered.position grows stands
 
-  asks : (act : Act) → DoesAct scene act next_scene → AreStanding submissions next_scene
-  asks act (inr is) = same_scene is
+  asks : (act : Act) → DoesAct state act next_scene → AreStanding submissions next_scene
+  asks act (inr is) = same_state is
   asks act (inl asked) =
-      replies_stay submissions scene next_scene are (ap (λ (s : ScriptState). s.replies) asked.is) (call_grows scene.desk next_scene.desk act asked.reply are.legal asked.acted)
+      replies_stay submissions state next_scene are (ap (λ (s : ScriptState). s.replies) asked.is) (call_grows state.desk next_scene.desk act asked.reply are.legal asked.acted)
 
-  pub step_stands : (step : Step) → DoesStep scene step next_scene → AreStanding submissions next_scene
-  step_stands (steps.Look worker ticket) is = looks worker ticket (slice_get scene.hands worker) (get_or scene.waiting ticket None) is
-  step_stands (steps.Judge worker) is = judges worker (get_or scene.hands worker None) is
-  step_stands (steps.Land worker) is = lands worker (get_or scene.hands worker None) refl is
+  pub step_stands : (step : Step) → DoesStep state step next_scene → AreStanding submissions next_scene
+  step_stands (steps.Look worker ticket) is = looks worker ticket (slice_get state.hands worker) (get_or state.waiting ticket None) is
+  step_stands (steps.Judge worker) is = judges worker (get_or state.hands worker None) is
+  step_stands (steps.Land worker) is = lands worker (get_or state.hands worker None) refl is
   step_stands (steps.Act act) is = asks act is
 
-pub run_stands : (submissions : List Submission) (scene last : ScriptState) (script : List Step) → AreInPlace submissions scene → AreStanding submissions scene → DoesSteps scene script last → AreInPlace submissions last × AreStanding submissions last
-run_stands submissions scene last [] in_place are is = (subst (AreInPlace submissions) (sym is) in_place, subst (AreStanding submissions) (sym is) are)
-run_stands submissions scene last (step ∷ script) in_place are (next_scene, does, runs) =
-    run_stands submissions next_scene last script (step_in_place submissions scene next_scene in_place step does) (step_stands submissions scene next_scene in_place are step does) runs
+pub run_stands : (submissions : List Submission) (state last : ScriptState) (script : List Step) → AreInPlace submissions state → AreStanding submissions state → DoesSteps state script last → AreInPlace submissions last × AreStanding submissions last
+run_stands submissions state last [] in_place are is = (subst (AreInPlace submissions) (sym is) in_place, subst (AreStanding submissions) (sym is) are)
+run_stands submissions state last (step ∷ script) in_place are (next_scene, does, runs) =
+    run_stands submissions next_scene last script (step_in_place submissions state next_scene in_place step does) (step_stands submissions state next_scene in_place are step does) runs
 
 pub stands_at_first : (desk : Desk) (submissions : List Submission) → IsLegalDocket desk.opening desk.docket desk.state → AreStanding submissions (begun desk submissions)
 stands_at_first desk submissions legal = record {

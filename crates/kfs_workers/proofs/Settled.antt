@@ -20,52 +20,52 @@ hand_within hands worker is = (slice_get_within hands worker None is, get_or_fro
 same_held : {one other : Holding} → Some one ≡ Some other → one ≡ other
 same_held e = cc
 
-module _ (submissions : List Submission) (scene : ScriptState) (are : AreInPlace submissions scene) (worker : ℕ) where
+module _ (submissions : List Submission) (state : ScriptState) (are : AreInPlace submissions state) (worker : ℕ) where
   -- ---- an empty hand
 
   module _ (ticket : ℕ) where
-    pub look_in_place : (submission : Submission) → slice_get scene.hands worker ≡ Some None → get_or scene.waiting ticket None ≡ Some submission → AreInPlace submissions (taken scene worker ticket submission)
+    pub look_in_place : (submission : Submission) → slice_get state.hands worker ≡ Some None → get_or state.waiting ticket None ≡ Some submission → AreInPlace submissions (taken state worker ticket submission)
     look_in_place submission hand waits =
-        let (is_worker, empty) = hand_within scene.hands worker hand in
-        let within = found_within scene.waiting ticket submission waits in
-        let held : Holding = Taken ticket submission scene.desk.state in
+        let (is_worker, empty) = hand_within state.hands worker hand in
+        let within = found_within state.waiting ticket submission waits in
+        let held : Holding = Taken ticket submission state.desk.state in
         let waited = waiting_there (are.place ticket) refl in
         let of : slice_get submissions ticket ≡ Some submission = sym (are.waits ticket ∙ ap (λ p. waiting_at p (slice_get submissions ticket)) waited) ∙ waits in
-        gone_on submissions scene (taken scene worker ticket submission) are ticket worker (With worker) (record {
+        gone_on submissions state (taken state worker ticket submission) are ticket worker (With worker) (record {
           from = inl waited;
-          waiting_length = length-set scene.waiting ticket None;
+          waiting_length = length-set state.waiting ticket None;
           replies_length = refl;
-          other_waiting = λ other apart. get_or-set_other scene.waiting ticket other None None apart;
+          other_waiting = λ other apart. get_or-set_other state.waiting ticket other None None apart;
           other_replies = λ other apart. refl;
-          other_hands = λ other apart. get_or-set_other scene.hands worker other (Some held) None apart;
+          other_hands = λ other apart. get_or-set_other state.hands worker other (Some held) None apart;
           own = λ h at. cc;
-          waiting = get_or-set_same scene.waiting ticket None None within;
+          waiting = get_or-set_same state.waiting ticket None None within;
           replied = are.replied ticket ∙ ap is_answered waited;
           holds = λ h at.
-              let same = same_held (sym (get_or-set_same scene.hands worker (Some held) None is_worker) ∙ at) in
+              let same = same_held (sym (get_or-set_same state.hands worker (Some held) None is_worker) ∙ at) in
               (refl, ap ticket_of (sym same), of ∙ ap (λ h. Some (submission_in h)) same);
-          with = λ other is. (worker_of is, held, get_or-set_same scene.hands worker (Some held) None is_worker, refl);
+          with = λ other is. (worker_of is, held, get_or-set_same state.hands worker (Some held) None is_worker, refl);
         })
       where
         waiting_there : (place : Place) → are.place ticket ≡ place → are.place ticket ≡ Waits
         waiting_there Waits is = is
-        waiting_there (With w) is = let none : get_or scene.waiting ticket None ≡ None = are.waits ticket ∙ ap (λ p. waiting_at p (slice_get submissions ticket)) is in cc
-        waiting_there Answered is = let none : get_or scene.waiting ticket None ≡ None = are.waits ticket ∙ ap (λ p. waiting_at p (slice_get submissions ticket)) is in cc
+        waiting_there (With w) is = let none : get_or state.waiting ticket None ≡ None = are.waits ticket ∙ ap (λ p. waiting_at p (slice_get submissions ticket)) is in cc
+        waiting_there Answered is = let none : get_or state.waiting ticket None ≡ None = are.waits ticket ∙ ap (λ p. waiting_at p (slice_get submissions ticket)) is in cc
 
         worker_of : {one other : ℕ} → With one ≡ With other → other ≡ one
         worker_of e = cc
 
   -- ---- a hand that holds something
 
-  module _ (held : Holding) (at : get_or scene.hands worker None ≡ Some held) where
+  module _ (held : Holding) (at : get_or state.hands worker None ≡ Some held) where
     abbrev its_ticket : ℕ
     its_ticket = ticket_of held
 
     abbrev its_submission : Submission
     its_submission = submission_in held
 
-    is_worker : worker < length scene.hands
-    is_worker = found_within scene.hands worker held at
+    is_worker : worker < length state.hands
+    is_worker = found_within state.hands worker held at
 
     there : are.place its_ticket ≡ With worker
     there = (are.holds worker held at).0
@@ -73,113 +73,113 @@ module _ (submissions : List Submission) (scene : ScriptState) (are : AreInPlace
     its : slice_get submissions its_ticket ≡ Some its_submission
     its = (are.holds worker held at).1
 
-    own : (other : Holding) → get_or scene.hands worker None ≡ Some other → ticket_of other ≡ its_ticket
+    own : (other : Holding) → get_or state.hands worker None ≡ Some other → ticket_of other ≡ its_ticket
     own other found = ap ticket_of (same_held (sym found ∙ at))
 
-    nothing_waits : get_or scene.waiting its_ticket None ≡ None
+    nothing_waits : get_or state.waiting its_ticket None ≡ None
     nothing_waits = are.waits its_ticket ∙ ap (λ p. waiting_at p (slice_get submissions its_ticket)) there
 
-    unanswered : is_some (get_or scene.replies its_ticket None) ≡ false
+    unanswered : is_some (get_or state.replies its_ticket None) ≡ false
     unanswered = are.replied its_ticket ∙ ap is_answered there
 
     -- the hand is empty then
-    emptied : (other : Holding) → get_or (set scene.hands worker None) worker None ≡ Some other → ⊥
-    emptied other found = let none = get_or-set_same scene.hands worker None None is_worker in cc
+    emptied : (other : Holding) → get_or (set state.hands worker None) worker None ≡ Some other → ⊥
+    emptied other found = let none = get_or-set_same state.hands worker None None is_worker in cc
 
-    pub judge_in_place : (verdict : HeldVerdict) → verdict.submission ≡ its_submission → AreInPlace submissions (with_hand scene worker (Some (Decided its_ticket verdict)))
+    pub judge_in_place : (verdict : HeldVerdict) → verdict.submission ≡ its_submission → AreInPlace submissions (with_hand state worker (Some (Decided its_ticket verdict)))
     judge_in_place verdict same =
         let decided : Holding = Decided its_ticket verdict in
-        gone_on submissions scene (with_hand scene worker (Some decided)) are its_ticket worker (With worker) (record {
+        gone_on submissions state (with_hand state worker (Some decided)) are its_ticket worker (With worker) (record {
           from = inr there;
           waiting_length = refl;
           replies_length = refl;
           other_waiting = λ other apart. refl;
           other_replies = λ other apart. refl;
-          other_hands = λ other apart. get_or-set_other scene.hands worker other (Some decided) None apart;
+          other_hands = λ other apart. get_or-set_other state.hands worker other (Some decided) None apart;
           own = own;
           waiting = nothing_waits;
           replied = unanswered;
           holds = λ h found.
-              let is = same_held (sym (get_or-set_same scene.hands worker (Some decided) None is_worker) ∙ found) in
+              let is = same_held (sym (get_or-set_same state.hands worker (Some decided) None is_worker) ∙ found) in
               (refl, ap ticket_of (sym is), its ∙ ap Some (sym same) ∙ ap (λ h. Some (submission_in h)) is);
-          with = λ other is. (worker_of is, decided, get_or-set_same scene.hands worker (Some decided) None is_worker, refl);
+          with = λ other is. (worker_of is, decided, get_or-set_same state.hands worker (Some decided) None is_worker, refl);
         })
       where
         worker_of : {one other : ℕ} → With one ≡ With other → other ≡ one
         worker_of e = cc
 
-    pub back_in_place : (returned : Submission) → returned ≡ its_submission → AreInPlace submissions (given_back scene worker its_ticket returned)
+    pub back_in_place : (returned : Submission) → returned ≡ its_submission → AreInPlace submissions (given_back state worker its_ticket returned)
     back_in_place returned same =
-        let within : its_ticket < length scene.waiting = subst (λ n. its_ticket < n) (sym are.waiting_length) (slice_get_within submissions its_ticket its_submission its) in
-        gone_on submissions scene (given_back scene worker its_ticket returned) are its_ticket worker Waits (record {
+        let within : its_ticket < length state.waiting = subst (λ n. its_ticket < n) (sym are.waiting_length) (slice_get_within submissions its_ticket its_submission its) in
+        gone_on submissions state (given_back state worker its_ticket returned) are its_ticket worker Waits (record {
           from = inr there;
-          waiting_length = length-set scene.waiting its_ticket (Some returned);
+          waiting_length = length-set state.waiting its_ticket (Some returned);
           replies_length = refl;
-          other_waiting = λ other apart. get_or-set_other scene.waiting its_ticket other (Some returned) None apart;
+          other_waiting = λ other apart. get_or-set_other state.waiting its_ticket other (Some returned) None apart;
           other_replies = λ other apart. refl;
-          other_hands = λ other apart. get_or-set_other scene.hands worker other None None apart;
+          other_hands = λ other apart. get_or-set_other state.hands worker other None None apart;
           own = own;
-          waiting = get_or-set_same scene.waiting its_ticket (Some returned) None within ∙ ap Some same ∙ sym its;
+          waiting = get_or-set_same state.waiting its_ticket (Some returned) None within ∙ ap Some same ∙ sym its;
           replied = unanswered;
           holds = λ h found. absurd (emptied h found);
           with = λ other is. cc;
         })
 
-    pub land_in_place : (desk : Desk) (reply : Reply) → AreInPlace submissions (record { desk = desk; waiting = scene.waiting; hands = set scene.hands worker None; replies = set scene.replies its_ticket (Some reply) })
+    pub land_in_place : (desk : Desk) (reply : Reply) → AreInPlace submissions (record { desk = desk; waiting = state.waiting; hands = set state.hands worker None; replies = set state.replies its_ticket (Some reply) })
     land_in_place desk reply =
-        let within : its_ticket < length scene.replies = subst (λ n. its_ticket < n) (sym are.replies_length) (slice_get_within submissions its_ticket its_submission its) in
-        gone_on submissions scene (record { desk = desk; waiting = scene.waiting; hands = set scene.hands worker None; replies = set scene.replies its_ticket (Some reply) }) are its_ticket worker Answered (record {
+        let within : its_ticket < length state.replies = subst (λ n. its_ticket < n) (sym are.replies_length) (slice_get_within submissions its_ticket its_submission its) in
+        gone_on submissions state (record { desk = desk; waiting = state.waiting; hands = set state.hands worker None; replies = set state.replies its_ticket (Some reply) }) are its_ticket worker Answered (record {
           from = inr there;
           waiting_length = refl;
-          replies_length = length-set scene.replies its_ticket (Some reply);
+          replies_length = length-set state.replies its_ticket (Some reply);
           other_waiting = λ other apart. refl;
-          other_replies = λ other apart. get_or-set_other scene.replies its_ticket other (Some reply) None apart;
-          other_hands = λ other apart. get_or-set_other scene.hands worker other None None apart;
+          other_replies = λ other apart. get_or-set_other state.replies its_ticket other (Some reply) None apart;
+          other_hands = λ other apart. get_or-set_other state.hands worker other None None apart;
           own = own;
           waiting = nothing_waits;
-          replied = ap is_some (get_or-set_same scene.replies its_ticket (Some reply) None within);
+          replied = ap is_some (get_or-set_same state.replies its_ticket (Some reply) None within);
           holds = λ h found. absurd (emptied h found);
           with = λ other is. cc;
         })
 
 -- ---- steps
 
-module _ (submissions : List Submission) (scene next : ScriptState) (are : AreInPlace submissions scene) where
-  same_scene : next ≡ scene → AreInPlace submissions next
-  same_scene is = subst (AreInPlace submissions) (sym is) are
+module _ (submissions : List Submission) (state next : ScriptState) (are : AreInPlace submissions state) where
+  same_state : next ≡ state → AreInPlace submissions next
+  same_state is = subst (AreInPlace submissions) (sym is) are
 
-  looks : (worker ticket : ℕ) (hand : Option (Option Holding)) (waits : Option Submission) → slice_get scene.hands worker ≡ hand → get_or scene.waiting ticket None ≡ waits → DoesLook scene worker ticket hand waits next → AreInPlace submissions next
-  looks worker ticket None waits at of is = same_scene is
-  looks worker ticket (Some (Some held)) waits at of is = same_scene is
-  looks worker ticket (Some None) None at of is = same_scene is
-  looks worker ticket (Some None) (Some submission) at of (inr is) = same_scene is
-  looks worker ticket (Some None) (Some submission) at of (inl is) = subst (AreInPlace submissions) (sym is) (look_in_place submissions scene are worker ticket submission at of)
+  looks : (worker ticket : ℕ) (hand : Option (Option Holding)) (waits : Option Submission) → slice_get state.hands worker ≡ hand → get_or state.waiting ticket None ≡ waits → DoesLook state worker ticket hand waits next → AreInPlace submissions next
+  looks worker ticket None waits at of is = same_state is
+  looks worker ticket (Some (Some held)) waits at of is = same_state is
+  looks worker ticket (Some None) None at of is = same_state is
+  looks worker ticket (Some None) (Some submission) at of (inr is) = same_state is
+  looks worker ticket (Some None) (Some submission) at of (inl is) = subst (AreInPlace submissions) (sym is) (look_in_place submissions state are worker ticket submission at of)
 
-  judges : (worker : ℕ) (hand : Option Holding) → get_or scene.hands worker None ≡ hand → DoesJudge scene worker hand next → AreInPlace submissions next
-  judges worker None at is = same_scene is
-  judges worker (Some (Decided ticket verdict)) at is = same_scene is
-  judges worker (Some (Taken ticket submission seen)) at (inl (verdict, on, is)) = subst (AreInPlace submissions) (sym is) (judge_in_place submissions scene are worker (Taken ticket submission seen) at verdict on.submitted)
-  judges worker (Some (Taken ticket submission seen)) at (inr is) = subst (AreInPlace submissions) (sym is) (back_in_place submissions scene are worker (Taken ticket submission seen) at submission refl)
+  judges : (worker : ℕ) (hand : Option Holding) → get_or state.hands worker None ≡ hand → DoesJudge state worker hand next → AreInPlace submissions next
+  judges worker None at is = same_state is
+  judges worker (Some (Decided ticket verdict)) at is = same_state is
+  judges worker (Some (Taken ticket submission seen)) at (inl (verdict, on, is)) = subst (AreInPlace submissions) (sym is) (judge_in_place submissions state are worker (Taken ticket submission seen) at verdict on.submitted)
+  judges worker (Some (Taken ticket submission seen)) at (inr is) = subst (AreInPlace submissions) (sym is) (back_in_place submissions state are worker (Taken ticket submission seen) at submission refl)
 
-  lands : (worker : ℕ) (hand : Option Holding) → get_or scene.hands worker None ≡ hand → DoesLand scene worker hand next → AreInPlace submissions next
-  lands worker None at is = same_scene is
-  lands worker (Some (Taken ticket submission seen)) at is = same_scene is
-  lands worker (Some (Decided ticket verdict)) at (inl landed) = subst (AreInPlace submissions) (sym landed.is) (land_in_place submissions scene are worker (Decided ticket verdict) at next.desk landed.answer)
-  lands worker (Some (Decided ticket verdict)) at (inr is) = subst (AreInPlace submissions) (sym is) (back_in_place submissions scene are worker (Decided ticket verdict) at verdict.submission refl)
+  lands : (worker : ℕ) (hand : Option Holding) → get_or state.hands worker None ≡ hand → DoesLand state worker hand next → AreInPlace submissions next
+  lands worker None at is = same_state is
+  lands worker (Some (Taken ticket submission seen)) at is = same_state is
+  lands worker (Some (Decided ticket verdict)) at (inl landed) = subst (AreInPlace submissions) (sym landed.is) (land_in_place submissions state are worker (Decided ticket verdict) at next.desk landed.answer)
+  lands worker (Some (Decided ticket verdict)) at (inr is) = subst (AreInPlace submissions) (sym is) (back_in_place submissions state are worker (Decided ticket verdict) at verdict.submission refl)
 
-  asks : (desk : Desk) → next ≡ record scene { desk = desk } → AreInPlace submissions next
+  asks : (desk : Desk) → next ≡ record state { desk = desk } → AreInPlace submissions next
   asks desk is = subst (AreInPlace submissions) (sym is) (record { place = are.place; waiting_length = are.waiting_length; replies_length = are.replies_length; waits = are.waits; replied = are.replied; holds = are.holds; with = are.with })
 
-  pub step_in_place : (step : Step) → DoesStep scene step next → AreInPlace submissions next
-  step_in_place (steps.Look worker ticket) is = looks worker ticket (slice_get scene.hands worker) (get_or scene.waiting ticket None) refl refl is
-  step_in_place (steps.Judge worker) is = judges worker (get_or scene.hands worker None) refl is
-  step_in_place (steps.Land worker) is = lands worker (get_or scene.hands worker None) refl is
+  pub step_in_place : (step : Step) → DoesStep state step next → AreInPlace submissions next
+  step_in_place (steps.Look worker ticket) is = looks worker ticket (slice_get state.hands worker) (get_or state.waiting ticket None) refl refl is
+  step_in_place (steps.Judge worker) is = judges worker (get_or state.hands worker None) refl is
+  step_in_place (steps.Land worker) is = lands worker (get_or state.hands worker None) refl is
   step_in_place (steps.Act act) (inl asked) = asks next.desk asked.is
-  step_in_place (steps.Act act) (inr is) = same_scene is
+  step_in_place (steps.Act act) (inr is) = same_state is
 
-pub run_in_place : (submissions : List Submission) (scene last : ScriptState) (script : List Step) → AreInPlace submissions scene → DoesSteps scene script last → AreInPlace submissions last
-run_in_place submissions scene last [] are is = subst (AreInPlace submissions) (sym is) are
-run_in_place submissions scene last (step ∷ script) are (next, does, runs) = run_in_place submissions next last script (step_in_place submissions scene next are step does) runs
+pub run_in_place : (submissions : List Submission) (state last : ScriptState) (script : List Step) → AreInPlace submissions state → DoesSteps state script last → AreInPlace submissions last
+run_in_place submissions state last [] are is = subst (AreInPlace submissions) (sym is) are
+run_in_place submissions state last (step ∷ script) are (next, does, runs) = run_in_place submissions next last script (step_in_place submissions state next are step does) runs
 
 -- ---- at the end
 

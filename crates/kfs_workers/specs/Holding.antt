@@ -5,8 +5,8 @@ use Rattle.kfs_plan.specs.Judged.{Judged}
 use Rattle.kfs_plan.specs.Judging.{submission_of}
 use Rattle.kfs_workers.specs.Script.{Holding, Taken, Decided}
 use Rattle.kfs_workers.specs.Verdict.{HeldVerdict}
-use Rattle.kfs_workers.specs.declared.scene.Holding.{Holding as CodeHeld}
-use Rattle.kfs_workers.specs.declared.scene.Holding.TheVariants as holdings
+use Rattle.kfs_workers.specs.declared.script_state.Holding.{Holding as CodeHeld}
+use Rattle.kfs_workers.specs.declared.script_state.Holding.TheVariants as holdings
 
 -- what is held of it
 abbrev pub verdict_of : {A : Type 0} → Judged A → HeldVerdict

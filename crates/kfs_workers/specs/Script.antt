@@ -29,66 +29,66 @@ begun desk submissions = record { desk = desk; waiting = map Some submissions; h
 
 -- then the worker holds this
 abbrev pub with_hand : ScriptState → (worker : ℕ) → Option Holding → ScriptState
-with_hand scene worker hand = record scene { hands = set scene.hands worker hand }
+with_hand state worker hand = record state { hands = set state.hands worker hand }
 
 -- the submission waits under its ticket again, and the worker holds nothing
 abbrev pub given_back : ScriptState → (worker ticket : ℕ) → Submission → ScriptState
-given_back scene worker ticket submission = record scene { waiting = set scene.waiting ticket (Some submission); hands = set scene.hands worker None }
+given_back state worker ticket submission = record state { waiting = set state.waiting ticket (Some submission); hands = set state.hands worker None }
 
 -- ---- one step
 
 -- the worker takes what waits under the ticket, and saw the state of now
 abbrev pub taken : ScriptState → (worker ticket : ℕ) → Submission → ScriptState
-taken scene worker ticket submission =
-    record scene { waiting = set scene.waiting ticket None; hands = set scene.hands worker (Some (Taken ticket submission scene.desk.state)) }
+taken state worker ticket submission =
+    record state { waiting = set state.waiting ticket None; hands = set state.hands worker (Some (Taken ticket submission state.desk.state)) }
 
 -- one of the workers who holds nothing takes what waits, where memory isn't wanted; another hand or ticket changes nothing
 abbrev pub DoesLook : ScriptState → (worker ticket : ℕ) → (hand : Option (Option Holding)) → (waits : Option Submission) → ScriptState → Type 0
-DoesLook scene worker ticket (Some None) (Some submission) next = (next ≡ taken scene worker ticket submission) ⊎ (next ≡ scene)
-DoesLook scene worker ticket hand waits next = next ≡ scene
+DoesLook state worker ticket (Some None) (Some submission) next = (next ≡ taken state worker ticket submission) ⊎ (next ≡ state)
+DoesLook state worker ticket hand waits next = next ≡ state
 
 -- a submission that was taken is judged in the state that was seen, or goes back for want of memory; else nothing changes
 abbrev pub DoesJudge : ScriptState → (worker : ℕ) → (hand : Option Holding) → ScriptState → Type 0
-DoesJudge scene worker (Some (Taken ticket submission seen)) next =
-    ((verdict : HeldVerdict) × IsVerdictOn seen submission verdict × (next ≡ with_hand scene worker (Some (Decided ticket verdict)))) ⊎ (next ≡ given_back scene worker ticket submission)
-DoesJudge scene worker hand next = next ≡ scene
+DoesJudge state worker (Some (Taken ticket submission seen)) next =
+    ((verdict : HeldVerdict) × IsVerdictOn seen submission verdict × (next ≡ with_hand state worker (Some (Decided ticket verdict)))) ⊎ (next ≡ given_back state worker ticket submission)
+DoesJudge state worker hand next = next ≡ state
 
 -- the verdict's submission is answered at the desk of now, judged again exactly where the verdict isn't up to date
-pub record VerdictIsLanded (scene : ScriptState) (worker ticket : ℕ) (verdict : HeldVerdict) (next : ScriptState) : Type 0 where
+pub record VerdictIsLanded (state : ScriptState) (worker ticket : ℕ) (verdict : HeldVerdict) (next : ScriptState) : Type 0 where
   pub answer : Reply
-  pub room : length scene.desk.docket ≢ scene.desk.limit
-  pub rejudged : IsFalse (is_rejudged answer) ↔ IsUpToDate scene.desk.state verdict
-  pub answered : IsAnswered scene.desk verdict.submission (is_rejudged answer) answer next.desk
-  pub is : next ≡ record { desk = next.desk; waiting = scene.waiting; hands = set scene.hands worker None; replies = set scene.replies ticket (Some answer) }
+  pub room : length state.desk.docket ≢ state.desk.limit
+  pub rejudged : IsFalse (is_rejudged answer) ↔ IsUpToDate state.desk.state verdict
+  pub answered : IsAnswered state.desk verdict.submission (is_rejudged answer) answer next.desk
+  pub is : next ≡ record { desk = next.desk; waiting = state.waiting; hands = set state.hands worker None; replies = set state.replies ticket (Some answer) }
 
 -- a verdict is landed, or its submission goes back for want of memory or of a row in the docket; else nothing changes
 abbrev pub DoesLand : ScriptState → (worker : ℕ) → (hand : Option Holding) → ScriptState → Type 0
-DoesLand scene worker (Some (Decided ticket verdict)) next = VerdictIsLanded scene worker ticket verdict next ⊎ (next ≡ given_back scene worker ticket verdict.submission)
-DoesLand scene worker hand next = next ≡ scene
+DoesLand state worker (Some (Decided ticket verdict)) next = VerdictIsLanded state worker ticket verdict next ⊎ (next ≡ given_back state worker ticket verdict.submission)
+DoesLand state worker hand next = next ≡ state
 
 -- the call for the leases is answered at the desk of now
-pub record IsAsked (scene : ScriptState) (act : Act) (next : ScriptState) : Type 0 where
+pub record IsAsked (state : ScriptState) (act : Act) (next : ScriptState) : Type 0 where
   pub reply : ActReply
-  pub room : length scene.desk.docket ≢ scene.desk.limit
-  pub acted : IsActed scene.desk (call_of act) (done_by act) reply next.desk
-  pub is : next ≡ record scene { desk = next.desk }
+  pub room : length state.desk.docket ≢ state.desk.limit
+  pub acted : IsActed state.desk (call_of act) (done_by act) reply next.desk
+  pub is : next ≡ record state { desk = next.desk }
 
 -- it is, or for want of memory or of a row in the docket nothing changes
 abbrev pub DoesAct : ScriptState → Act → ScriptState → Type 0
-DoesAct scene act next = IsAsked scene act next ⊎ (next ≡ scene)
+DoesAct state act next = IsAsked state act next ⊎ (next ≡ state)
 
 abbrev pub DoesStep : ScriptState → Step → ScriptState → Type 0
-DoesStep scene (steps.Look worker ticket) next = DoesLook scene worker ticket (slice_get scene.hands worker) (get_or scene.waiting ticket None) next
-DoesStep scene (steps.Judge worker) next = DoesJudge scene worker (get_or scene.hands worker None) next
-DoesStep scene (steps.Land worker) next = DoesLand scene worker (get_or scene.hands worker None) next
-DoesStep scene (steps.Act act) next = DoesAct scene act next
+DoesStep state (steps.Look worker ticket) next = DoesLook state worker ticket (slice_get state.hands worker) (get_or state.waiting ticket None) next
+DoesStep state (steps.Judge worker) next = DoesJudge state worker (get_or state.hands worker None) next
+DoesStep state (steps.Land worker) next = DoesLand state worker (get_or state.hands worker None) next
+DoesStep state (steps.Act act) next = DoesAct state act next
 
 -- ---- all steps
 
 -- one step after another
 abbrev pub DoesSteps : ScriptState → List Step → ScriptState → Type 0
-DoesSteps scene [] last = last ≡ scene
-DoesSteps scene (step ∷ steps) last = (next : ScriptState) × DoesStep scene step next × DoesSteps next steps last
+DoesSteps state [] last = last ≡ state
+DoesSteps state (step ∷ steps) last = (next : ScriptState) × DoesStep state step next × DoesSteps next steps last
 
 -- the submission that a hand holds waits again
 abbrev pub returned : Option Holding → List (Option Submission) → List (Option Submission)
@@ -102,8 +102,8 @@ all_returned (hand ∷ hands) waiting = all_returned hands (returned hand waitin
 
 -- the run of a script over these submissions, by ticket: the replies, the submissions that are left, and the desk at the end
 pub record IsRun (desk : Desk) (submissions : List Submission) (script : List Step) (replies : List (Option Reply)) (left : List (Option Submission)) (last : Desk) : Type 0 where
-  pub scene : ScriptState
-  pub runs : DoesSteps (begun desk submissions) script scene
-  pub replied : replies ≡ scene.replies
-  pub remains : left ≡ all_returned scene.hands scene.waiting
-  pub ends : last ≡ scene.desk
+  pub state : ScriptState
+  pub runs : DoesSteps (begun desk submissions) script state
+  pub replied : replies ≡ state.replies
+  pub remains : left ≡ all_returned state.hands state.waiting
+  pub ends : last ≡ state.desk

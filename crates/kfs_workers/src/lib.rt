@@ -1,9 +1,9 @@
 //! Workers, who look at a desk, judge what is handed in, and land it: scripts of their steps, one after another.
 #![tactic(auto)]
 
-mod look;
-mod scene;
+mod desk_view;
+mod script_state;
 mod script;
 
-pub use look::Look;
+pub use desk_view::DeskView;
 pub use script::{ScriptBack, ScriptEnd, Step, run_script};

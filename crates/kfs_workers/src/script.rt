@@ -6,7 +6,7 @@ ghost use Rattle.kfs_desk.specs.Machine.{};
 ghost use Rattle.kfs_workers.specs.Claims.{AreSettled, EachReply, ElseChangesNothing, HasAllowedEntries, ShowsItsEntries};
 ghost use Rattle.kfs_workers.specs.Script.{IsRun, DoesSteps};
 
-use crate::scene::ScriptState;
+use crate::script_state::ScriptState;
 use kfs_desk::Desk;
 use kfs_lease::Act;
 use kfs_plan::Submission;
@@ -69,18 +69,18 @@ pub fn run_script<A: Allocator + Copy>(
 {
     // A desk's docket is legal, at first and at the end.
     let _docket = desk.docket();
-    let mut scene = ScriptState::begin(alloc, desk, submissions)?;
-    make_all(&mut scene, steps);
-    let end = scene.end();
+    let mut state = ScriptState::begin(alloc, desk, submissions)?;
+    make_all(&mut state, steps);
+    let end = state.end();
     let _docket = end.desk.docket();
     Ok(end)
 }
 
 /// Makes the steps.
-fn make_all<A: Allocator + Copy>(scene: &mut ScriptState<A>, steps: &[Step<'_>])
-    ensures { DoesSteps scene.old steps.now scene.new }
+fn make_all<A: Allocator + Copy>(state: &mut ScriptState<A>, steps: &[Step<'_>])
+    ensures { DoesSteps state.old steps.now state.new }
 {
     for step in steps {
-        scene.make(step);
+        state.make(step);
     }
 }

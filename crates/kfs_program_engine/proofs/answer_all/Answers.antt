@@ -2,7 +2,7 @@ use Rattle.std.proofs.Common.{◌++◌, [], Result, Ok, Err, OnOk, refl, take, a
 use Rattle.std.proofs.KnownBytes.{Appends-kept, Appends-nil, Appends-trans, Consumes-kept, Consumes-nil, Consumes-trans}
 use Rattle.std.proofs.lemmas.Result.{err_from_is_err_and}
 use Rattle.kfs_program_engine.specs.declared.fault.EngineFault.TheVariants.{ReadFault}
-use Rattle.kfs_program_engine.proofs.Conversations.{HasAnswered-read, HasAnswered-unread, HasAnswered-unsent}
+use Rattle.kfs_program_engine.proofs.SessionLoops.{HasAnswered-read, HasAnswered-unread, HasAnswered-unsent}
 use Rattle.kfs_program_engine.proofs.answer_all.Goals as goal
 
 on_ok : {T E P : Type 0} (result : Result T E) → P → OnOk result P
@@ -10,7 +10,7 @@ on_ok (Ok x) holds = holds
 on_ok (Err e) holds = tt
 
 pub reads-init : goal.reads-init
-reads-init g c = ([], [], Consumes-nil _, Appends-nil _, c.new-conversation.ensures, refl)
+reads-init g c = ([], [], Consumes-nil _, Appends-nil _, c.new-session_loop.ensures, refl)
 
 pub returns-in_err-count-clause-session : goal.returns-in_err-count-clause-session
 returns-in_err-count-clause-session g c =

@@ -7,4 +7,4 @@ use Rattle.kfs_program_engine.proofs.answer_all.Given as goal
 abbrev pub invariant-reads : goal.invariant-reads
 invariant-reads g l =
     (input : List ℕ) × (text : List ℕ) × Consumes (g.I.Read.remaining l.fn.reader) (g.I.Read.remaining l.reader) input × Appends (contents_with g.O.Write.contents l.fn.writer) (contents_with g.O.Write.contents l.writer) text
-    × HasAnsweredSoFar l.conversation [] input text × (l.writer.first ≡ l.fn.writer.first)
+    × HasAnsweredSoFar l.session_loop [] input text × (l.writer.first ≡ l.fn.writer.first)

@@ -3,7 +3,7 @@ use Rattle.std.proofs.Common.{ap, subst, ◌∙◌}
 use Rattle.std.proofs.lemmas.Result.{IfErr-at_err, IfOk-at_ok}
 use Rattle.kfs_program_text.specs.HeldOutput.{HasGrown}
 use Rattle.kfs_program_engine.specs.Transcript.{IsSession}
-use Rattle.kfs_program_engine.proofs.Conversations.{first_written}
+use Rattle.kfs_program_engine.proofs.SessionLoops.{first_written}
 use Rattle.kfs_program_engine.proofs.HeldReplies.{all_written, first_part}
 use Rattle.kfs_program_engine.proofs.answer_together.Goals as goal
 

@@ -1,7 +1,7 @@
 use Rattle.std.proofs.Common.{[]}
 use Rattle.std.proofs.KnownBytes.{Appends-nil, Consumes-nil}
 use Rattle.std.proofs.lemmas.Result.{err_from_is_err_and}
-use Rattle.kfs_program_engine.proofs.Conversations.{nothing-read}
+use Rattle.kfs_program_engine.proofs.SessionLoops.{nothing-read}
 use Rattle.kfs_program_engine.proofs.engine.Goals as goal
 
 pub returns-in_err-chunk-clause-session : goal.returns-in_err-chunk-clause-session

@@ -8,10 +8,10 @@ use Rattle.kfs_image_blocks.proofs.fill.fill_edits.Given as goal
 -- the runs that are left make of what is seen so far what all runs make
 abbrev pub invariant-loop-run : goal.invariant-loop-run
 invariant-loop-run g l = record {
-  less : less (drop l.run-index l.gone) (seen l.said l.placement) ≡ less l.gone (table (pairs numbers numbers) l.placement);
-  sees : SeesMapped l.placement l.said;
+  less : less (drop l.run-index l.released) (seen l.overlay l.placement) ≡ less l.released (table (pairs numbers numbers) l.placement);
+  sees : SeesMapped l.placement l.overlay;
 }
 
 -- and so do the rows
 abbrev pub invariant-loop-row : goal.invariant-loop-row
-invariant-loop-row g l = mapped_by (drop l.row-index l.rows) (seen l.said l.placement) ≡ placement_after l.gone l.rows (table (pairs numbers numbers) l.placement)
+invariant-loop-row g l = mapped_by (drop l.row-index l.rows) (seen l.overlay l.placement) ≡ placement_after l.released l.rows (table (pairs numbers numbers) l.placement)

@@ -7,7 +7,7 @@ use Rattle.kfs_image_blocks.proofs.fill.unmap.Given as goal
 abbrev pub invariant-loop-block : goal.invariant-loop-block
 invariant-loop-block g l = record {
   first : l.run.first ≤ l.from;
-  less : IsLess l.run (seen l.initial.said l.placement) l.from (seen l.said l.placement);
+  less : IsLess l.run (seen l.initial.overlay l.placement) l.from (seen l.overlay l.placement);
 }
 
 abbrev pub decreases-loop-block : goal.decreases-loop-block

@@ -14,10 +14,10 @@ use Rattle.kfs_image_nodes.proofs.name_edits.name_edits.Goals as goal
 
 pub loop-row-init : goal.loop-row-init
 loop-row-init g c =
-    let said = c.in_ok-said.said in
-    let names = overlaid_none (table name_order c.args.names.now) said.names.latest.entries c.in_ok-said.ensures.names in
-    let counts = overlaid_none c.args.counts.now said.counts.latest.entries c.in_ok-said.ensures.counts in
-    let ways = overlaid_none (table by_node c.args.uplinks.now) said.uplinks.latest.entries c.in_ok-said.ensures.uplinks in
+    let overlays = c.in_ok-overlays.overlays in
+    let names = overlaid_none (table name_order c.args.names.now) overlays.names.latest.entries c.in_ok-overlays.ensures.names in
+    let counts = overlaid_none c.args.counts.now overlays.counts.latest.entries c.in_ok-overlays.ensures.counts in
+    let ways = overlaid_none (table by_node c.args.uplinks.now) overlays.uplinks.latest.entries c.in_ok-overlays.ensures.uplinks in
     record {
       named = subst (λ (t : NameTable). AreNames t) (sym names);
       counted = rw (names, counts, ways) c.requires;
@@ -28,7 +28,7 @@ pub loop-row-preserved : goal.loop-row-preserved
 loop-row-preserved g c =
     let rows = c.args.rows.now in
     let i = c.loop-row.row-index in
-    let names = names_seen c.loop-row.said c.args.names.now in
+    let names = names_seen c.loop-row.overlays c.args.names.now in
     record {
       named = λ all. c.in_ok-rename.ensures.named (c.loop-row.invariant.named all);
       counted = c.in_ok-rename.ensures.counted;
@@ -41,23 +41,23 @@ loop-row-preserved g c =
 
 pub returns-clause-renamed : goal.returns-clause-renamed
 returns-clause-renamed g c =
-    let said = c.loop-row.said in
-    edited_seen name_order c.args.names.now c.in_ok-edits.edits.names.items said.names.latest c.in_ok-edits.ensures.names
-    ∙ sym (at_drop_all (renamed (names_seen said c.args.names.now)) c.args.rows.now c.loop-row.row-index c.loop-row-test.false)
+    let overlays = c.loop-row.overlays in
+    edited_seen name_order c.args.names.now c.in_ok-edits.edits.names.items overlays.names.latest c.in_ok-edits.ensures.names
+    ∙ sym (at_drop_all (renamed (names_seen overlays c.args.names.now)) c.args.rows.now c.loop-row.row-index c.loop-row-test.false)
     ∙ c.loop-row.invariant.names
 
 pub returns-clause-named : goal.returns-clause-named
 returns-clause-named g c = λ all.
-    subst (λ (t : NameTable). AreNames t) (sym (edited_seen name_order c.args.names.now c.in_ok-edits.edits.names.items c.loop-row.said.names.latest c.in_ok-edits.ensures.names)) (c.loop-row.invariant.named all)
+    subst (λ (t : NameTable). AreNames t) (sym (edited_seen name_order c.args.names.now c.in_ok-edits.edits.names.items c.loop-row.overlays.names.latest c.in_ok-edits.ensures.names)) (c.loop-row.invariant.named all)
 
 pub returns-clause-counted : goal.returns-clause-counted
 returns-clause-counted g c = λ within within_now.
-    let said = c.loop-row.said in
+    let overlays = c.loop-row.overlays in
     let edits = c.in_ok-edits.edits in
     let says = c.in_ok-edits.ensures in
-    let names = edited_seen name_order c.args.names.now edits.names.items said.names.latest says.names in
-    let ways = edited_seen by_node c.args.uplinks.now edits.uplinks.items said.uplinks.latest says.uplinks in
-    counted_edits (table name_order c.args.names.now) c.args.counts.now (table by_node c.args.uplinks.now) c.requires _ _ said.counts.latest
-    (subst (λ (t : NameTable). IsCounted t (counts_seen said c.args.counts.now) (ways_edited c.args.uplinks.now edits)) (sym names)
-    (subst (IsCounted (names_seen said c.args.names.now) (counts_seen said c.args.counts.now)) (sym ways) c.loop-row.invariant.counted))
+    let names = edited_seen name_order c.args.names.now edits.names.items overlays.names.latest says.names in
+    let ways = edited_seen by_node c.args.uplinks.now edits.uplinks.items overlays.uplinks.latest says.uplinks in
+    counted_edits (table name_order c.args.names.now) c.args.counts.now (table by_node c.args.uplinks.now) c.requires _ _ overlays.counts.latest
+    (subst (λ (t : NameTable). IsCounted t (counts_seen overlays c.args.counts.now) (ways_edited c.args.uplinks.now edits)) (sym names)
+    (subst (IsCounted (names_seen overlays c.args.names.now) (counts_seen overlays c.args.counts.now)) (sym ways) c.loop-row.invariant.counted))
     edits.counts.items says.counts_ascend says.counts within within_now

@@ -9,7 +9,7 @@ use Rattle.kfs_image_nodes.proofs.name_edits.name_edits.Given as goal
 -- names are names, the counts fit, and the rows that are left make of the names seen what all rows make of the names
 abbrev pub invariant-loop-row : goal.invariant-loop-row
 invariant-loop-row g l = record {
-  named : AreNames (table name_order l.names) → AreNames (names_seen l.said l.names);
-  counted : IsCountedOver l.names l.counts l.uplinks l.said;
-  names : renamed (names_seen l.said l.names) (drop l.row-index l.rows) ≡ renamed (table name_order l.names) l.rows;
+  named : AreNames (table name_order l.names) → AreNames (names_seen l.overlays l.names);
+  counted : IsCountedOver l.names l.counts l.uplinks l.overlays;
+  names : renamed (names_seen l.overlays l.names) (drop l.row-index l.rows) ≡ renamed (table name_order l.names) l.rows;
 }

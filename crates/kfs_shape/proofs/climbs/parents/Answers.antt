@@ -3,7 +3,7 @@ use Rattle.std.proofs.lemmas.Bool.{cases_lt}
 use Rattle.kfs_entry_value.specs.Views.{name_row_of}
 use Rattle.kfs_model.specs.Sight.{is_directory}
 use Rattle.kfs_model.specs.Table.{option_or}
-use Rattle.kfs_shape.specs.Climbs.{up_at}
+use Rattle.kfs_shape.specs.Climbs.{ancestor_at}
 use Rattle.kfs_shape.specs.Heads.{head_at}
 use Rattle.kfs_shape.specs.Views.{raw_of}
 use Rattle.kfs_shape.proofs.Parents.{left_to, only_none, written, leads_nowhere, first_left, next_left, none_left, nowhere}
@@ -13,14 +13,14 @@ pub loop-row-init : goal.loop-row-init
 loop-row-init g c =
     let rows = c.as_slice-rows.result.now in
     let raw = raw_of c.args.raw.now in
-    let whole = written c.in_ok-ups.ups.len c.lead_first.new.ups c.deref_mut.result.now c.in_ok-ups.ups.items c.deref_mut.ensures.value c.deref_mut.ensures.len c.lead_first.ensures.len in
-    let all = c.deref_mut.ensures.len ∙ c.in_ok-ups.ensures.len in
+    let whole = written c.in_ok-ancestors.ancestors.len c.lead_first.new.ancestors c.deref_mut.result.now c.in_ok-ancestors.ancestors.items c.deref_mut.ensures.value c.deref_mut.ensures.len c.lead_first.ensures.len in
+    let all = c.deref_mut.ensures.len ∙ c.in_ok-ancestors.ensures.len in
     record {
       many = ap length whole ∙ c.lead_first.ensures.len ∙ all;
       leads = λ n within.
-          first_left raw rows (ap (map name_row_of) (sym c.as_slice-rows.ensures.value)) c.requires.ascend n (up_at c.deref_mut.result.now n) _
-          (ap (λ ups. up_at ups n) (c.deref_mut.ensures.value ∙ c.in_ok-ups.ensures.items_if_clones_equal (only_none _ (λ v clone. clone))) ∙ leads_nowhere 65537 n within)
-          (ap (λ ups. up_at ups n) whole ∙ c.lead_first.ensures.each n (omega arith));
+          first_left raw rows (ap (map name_row_of) (sym c.as_slice-rows.ensures.value)) c.requires.ascend n (ancestor_at c.deref_mut.result.now n) _
+          (ap (λ ancestors. ancestor_at ancestors n) (c.deref_mut.ensures.value ∙ c.in_ok-ancestors.ensures.items_if_clones_equal (only_none _ (λ v clone. clone))) ∙ leads_nowhere 65537 n within)
+          (ap (λ ancestors. ancestor_at ancestors n) whole ∙ c.lead_first.ensures.each n (omega arith));
     }
 
 pub loop-row-preserved : goal.loop-row-preserved
@@ -29,15 +29,15 @@ loop-row-preserved g c =
     let raw = raw_of c.args.raw.now in
     let row = c.row-item.result in
     let before = c.deref_mut-in-loop-row in
-    let whole = written c.loop-row.ups.len c.lead_by_name.new.ups before.result.now c.loop-row.ups.items before.ensures.value before.ensures.len c.lead_by_name.ensures.len in
+    let whole = written c.loop-row.ancestors.len c.lead_by_name.new.ancestors before.result.now c.loop-row.ancestors.items before.ensures.value before.ensures.len c.lead_by_name.ensures.len in
     let all = ap length before.ensures.value ∙ c.loop-row.invariant.many in
     record {
       many = ap length whole ∙ c.lead_by_name.ensures.len ∙ all;
       leads = λ n within.
-          ap (λ ups. option_or (up_at ups n) (left_to raw rows (c.loop-row.row-index + 1) n)) whole
-          ∙ next_left raw rows c.loop-row.row-index row c.loop-row-test.true c.row-item.is n (up_at before.result.now n) (up_at c.lead_by_name.new.ups n) (is_directory (head_at c.args.headers.now row.number))
+          ap (λ ancestors. option_or (ancestor_at ancestors n) (left_to raw rows (c.loop-row.row-index + 1) n)) whole
+          ∙ next_left raw rows c.loop-row.row-index row c.loop-row-test.true c.row-item.is n (ancestor_at before.result.now n) (ancestor_at c.lead_by_name.new.ancestors n) (is_directory (head_at c.args.headers.now row.number))
           (ap is_directory (c.requires.shown row.number)) (c.lead_by_name.ensures.each n (omega arith))
-          ∙ ap (λ ups. option_or (up_at ups n) (left_to raw rows c.loop-row.row-index n)) before.ensures.value
+          ∙ ap (λ ancestors. option_or (ancestor_at ancestors n) (left_to raw rows c.loop-row.row-index n)) before.ensures.value
           ∙ c.loop-row.invariant.leads n within;
     }
 
@@ -45,6 +45,6 @@ pub returns : goal.returns
 returns g c n =
     let raw = raw_of c.args.raw.now in
     ⊎_elim
-    (λ within. none_left raw c.as_slice-rows.result.now c.loop-row.row-index n c.loop-row-test.false (up_at c.loop-row.ups.items n) (c.loop-row.invariant.leads n within))
-    (λ past. nowhere raw c.requires.in_range c.loop-row.ups.items n c.loop-row.invariant.many past)
+    (λ within. none_left raw c.as_slice-rows.result.now c.loop-row.row-index n c.loop-row-test.false (ancestor_at c.loop-row.ancestors.items n) (c.loop-row.invariant.leads n within))
+    (λ past. nowhere raw c.requires.in_range c.loop-row.ancestors.items n c.loop-row.invariant.many past)
     (cases_lt n 65537)

@@ -1,12 +1,12 @@
 use Rattle.std.proofs.Common.{◌≡◌, ℕ, ◌<◌, length}
 use Rattle.kfs_model.specs.Table.{option_or}
-use Rattle.kfs_shape.specs.Climbs.{up_at}
+use Rattle.kfs_shape.specs.Climbs.{ancestor_at}
 use Rattle.kfs_shape.specs.Views.{raw_of}
 use Rattle.kfs_shape.proofs.Parents.{left_to, wanted}
 use Rattle.kfs_shape.proofs.climbs.parents.Given as goal
 
 abbrev pub invariant-loop-row : goal.invariant-loop-row
 invariant-loop-row g l = record {
-  many : length l.ups.items ≡ 65537;
-  leads : (n : ℕ) → n < 65537 → option_or (up_at l.ups.items n) (left_to (raw_of l.raw) l.rows l.row-index n) ≡ wanted (raw_of l.raw) n;
+  many : length l.ancestors.items ≡ 65537;
+  leads : (n : ℕ) → n < 65537 → option_or (ancestor_at l.ancestors.items n) (left_to (raw_of l.raw) l.rows l.row-index n) ≡ wanted (raw_of l.raw) n;
 }

@@ -5,7 +5,7 @@ use Rattle.kfs_model.proofs.Heads.{root_has_none}
 use Rattle.kfs_model_device.specs.RawImage.{heads_of, names_of}
 use Rattle.kfs_model_device.specs.Rules.{parent_of, reaches_root}
 use Rattle.kfs_model_device.proofs.ClimbTest.{found_is_reach, reach_is_found}
-use Rattle.kfs_shape.specs.Climbs.{up_at, up_from}
+use Rattle.kfs_shape.specs.Climbs.{ancestor_at, ancestor_from}
 use Rattle.kfs_shape.specs.Views.{raw_of}
 use Rattle.kfs_shape.proofs.Doubling.{LeadsBy, leads_by_one, leads_by_twice, root_tells}
 use Rattle.kfs_shape.proofs.Parents.{parent_in_range}
@@ -14,7 +14,7 @@ use Rattle.kfs_shape.proofs.climbs.tops.Goals as goal
 pub loop-init : goal.loop-init
 loop-init g c =
     let raw = raw_of c.args.raw.now in
-    leads_by_one (parent_of raw) (root_has_none (get (heads_of raw)) (names_of raw)) _ c.in_ok-ups.ensures
+    leads_by_one (parent_of raw) (root_has_none (get (heads_of raw)) (names_of raw)) _ c.in_ok-ancestors.ensures
 
 pub loop-preserved : goal.loop-preserved
 loop-preserved g c =
@@ -23,13 +23,13 @@ loop-preserved g c =
     let power = 2 ^ c.loop.counter in
     let more : 2 ^ (c.loop.counter + 1) ≡ power * 2 = pow-add 2 c.loop.counter 1 in
     let twice : power + power ≡ 2 ^ (c.loop.counter + 1) = omega arith in
-    subst (λ p. LeadsBy (parent_of raw) root p c.in_ok-ups-2.ups.items) twice
-    (leads_by_twice (parent_of raw) root power c.loop.ups.items c.in_ok-ups-2.ups.items (λ n. c.in_ok-ups-2.ensures n ∙ ap (λ ups. up_from ups (up_at ups n)) c.deref.ensures.value) c.loop.invariant)
+    subst (λ p. LeadsBy (parent_of raw) root p c.in_ok-ancestors-2.ancestors.items) twice
+    (leads_by_twice (parent_of raw) root power c.loop.ancestors.items c.in_ok-ancestors-2.ancestors.items (λ n. c.in_ok-ancestors-2.ensures n ∙ ap (λ ancestors. ancestor_from ancestors (ancestor_at ancestors n)) c.deref.ensures.value) c.loop.invariant)
 
 pub returns : goal.returns
 returns g c n =
     let raw = raw_of c.args.raw.now in
     let last : 17 ≡ c.loop.counter = omega arith in
     let enough : 65536 ≤ 2 ^ c.loop.counter = subst (λ k. 65536 ≤ 2 ^ k) last (omega arith) in
-    root_tells (parent_of raw) (root_has_none (get (heads_of raw)) (names_of raw)) (parent_in_range raw c.requires.in_range) (2 ^ c.loop.counter) c.loop.ups.items enough c.loop.invariant n (reaches_root raw n) (found_is_reach raw n)
+    root_tells (parent_of raw) (root_has_none (get (heads_of raw)) (names_of raw)) (parent_in_range raw c.requires.in_range) (2 ^ c.loop.counter) c.loop.ancestors.items enough c.loop.invariant n (reaches_root raw n) (found_is_reach raw n)
     (reach_is_found raw n)

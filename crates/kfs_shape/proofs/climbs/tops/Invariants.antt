@@ -10,4 +10,4 @@ use Rattle.kfs_shape.proofs.climbs.tops.Given as goal
 abbrev pub invariant-loop : goal.invariant-loop
 invariant-loop g l =
     let raw = raw_of l.raw in
-    LeadsBy (parent_of raw) (root_has_none (get (heads_of raw)) (names_of raw)) (2 ^ l.counter) l.ups.items
+    LeadsBy (parent_of raw) (root_has_none (get (heads_of raw)) (names_of raw)) (2 ^ l.counter) l.ancestors.items

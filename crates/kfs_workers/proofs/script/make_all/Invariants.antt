@@ -5,5 +5,5 @@ use Rattle.kfs_workers.proofs.script.make_all.Given as goal
 
 abbrev pub invariant-loop-step : goal.invariant-loop-step
 invariant-loop-step g l = record {
-  left : (last : ScriptState) → DoesSteps l.scene (drop l.step-index l.steps) last → DoesSteps l.initial.scene l.steps last;
+  left : (last : ScriptState) → DoesSteps l.state (drop l.step-index l.steps) last → DoesSteps l.initial.state l.steps last;
 }

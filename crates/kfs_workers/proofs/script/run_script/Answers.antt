@@ -10,8 +10,8 @@ pub returns-clause-run : goal.returns-clause-run
 returns-clause-run g c =
     let end = c.end-end in
     record {
-      scene = c.make_all.new.scene;
-      runs = subst (λ scene. DoesSteps scene c.args.steps.now c.make_all.new.scene) c.in_ok-scene.ensures.ok c.make_all.ensures;
+      state = c.make_all.new.state;
+      runs = subst (λ state. DoesSteps state c.args.steps.now c.make_all.new.state) c.in_ok-state.ensures.ok c.make_all.ensures;
       replied = end.ensures.replies;
       remains = end.ensures.left;
       ends = end.ensures.desk;

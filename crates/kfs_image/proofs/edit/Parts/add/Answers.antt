@@ -38,7 +38,7 @@ returns-in_ok-push-in-Name-clause-made g c = λ image.
 pub returns-in_ok-set-in-Map-clause-made : goal.returns-in_ok-set-in-Map-clause-made
 returns-in_ok-set-in-Map-clause-made g c = λ image.
     let parts = c.args.self.now in
-    let placement = overlaid_set image.placement parts.said.latest c.set.new.self.latest (c.in-Map.number, c.in-Map.block) c.in-Map.place c.in_ok-set-in-Map.ensures in
+    let placement = overlaid_set image.placement parts.block_places.latest c.set.new.self.latest (c.in-Map.number, c.in-Map.block) c.in-Map.place c.in_ok-set-in-Map.ensures in
     (λ i. record (with_parts parts image) { placement = placement i }) ∙ ap (λ e. edited (plain e) (with_parts parts image)) (sym c.in-Map.is)
 
 pub returns-in_ok-push-in-Bytes-clause-made : goal.returns-in_ok-push-in-Bytes-clause-made

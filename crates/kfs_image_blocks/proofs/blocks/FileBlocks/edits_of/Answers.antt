@@ -7,4 +7,4 @@ use Rattle.kfs_image_blocks.proofs.blocks.FileBlocks.edits_of.Goals as goal
 
 pub returns-clause-placed : goal.returns-clause-placed
 returns-clause-placed g c =
-    subst (λ (b : BlocksShown). IfOk c.fill_edits.result (λ edits. table_after b.placement edits.items ≡ placement_after c.args.gone.now c.args.rows.now b.placement)) c.self.view_is c.fill_edits.ensures.placed
+    subst (λ (b : BlocksShown). IfOk c.fill_edits.result (λ edits. table_after b.placement edits.items ≡ placement_after c.args.released.now c.args.rows.now b.placement)) c.self.view_is c.fill_edits.ensures.placed

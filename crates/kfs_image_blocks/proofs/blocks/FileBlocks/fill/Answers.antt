@@ -3,10 +3,10 @@ use Rattle.kfs_image_blocks.proofs.blocks.FileBlocks.fill.Goals as goal
 
 pub change-requires : goal.change-requires
 change-requires g c =
-    can_change c.args.gone.now c.args.rows.now c.args.self.now c.in_ok-edits.edits.items c.as_slice.result.now c.in_ok-written.written.items c.as_slice.ensures.value c.in_ok-edits.ensures.ascend c.in_ok-edits.ensures.placed
+    can_change c.args.released.now c.args.rows.now c.args.self.now c.in_ok-edits.edits.items c.as_slice.result.now c.in_ok-written.written.items c.as_slice.ensures.value c.in_ok-edits.ensures.ascend c.in_ok-edits.ensures.placed
     c.in_ok-written.ensures c.requires
 
 pub returns-clause-ok : goal.returns-clause-ok
 returns-clause-ok g c =
-    filled_ok c.args.gone.now c.args.rows.now c.args.self.now c.in_ok-edits.edits.items c.as_slice.result.now c.in_ok-written.written.items c.as_slice.ensures.value c.in_ok-edits.ensures.placed c.in_ok-written.ensures
+    filled_ok c.args.released.now c.args.rows.now c.args.self.now c.in_ok-edits.edits.items c.as_slice.result.now c.in_ok-written.written.items c.as_slice.ensures.value c.in_ok-edits.ensures.placed c.in_ok-written.ensures
     c.change.new.self c.change.result c.change.ensures.ok

@@ -26,7 +26,7 @@ returns-clause-names g c =
     let table_now = table name_order c.args.names.now in
     let names = names_seen c.args.self.now c.args.names.now in
     overlaid_set table_now c.enter.new.self.names.latest c.set.new.self.latest c.name_key-key.result c.target_of-to.result c.in_ok-set.ensures
-    ∙ ap (λ said. changed (overlaid table_now said.latest.entries) c.name_key-key.result c.target_of-to.result) (c.enter.ensures.names ∙ c.leave.ensures.names)
+    ∙ ap (λ overlays. changed (overlaid table_now overlays.latest.entries) c.name_key-key.result c.target_of-to.result) (c.enter.ensures.names ∙ c.leave.ensures.names)
     ∙ ap (λ key. changed names key c.target_of-to.result) c.name_key-key.ensures.key
     ∙ ap (changed names (c.args.row.now.dir, c.args.row.now.name)) c.target_of-to.ensures
 

@@ -1,0 +1,56 @@
+//! The blocks that a landing leaves nowhere.
+ghost use Rattle.std.specs.Prelude.{◌≡◌, ◌-◌, ◌^◌, map, min, option_map, IfOk};
+ghost use Rattle.kfs_entry_value.specs.Views.{header_of};
+ghost use Rattle.kfs_image.specs.Released.{AreReleased, behind};
+ghost use Rattle.kfs_image.specs.Net.{blocks_in};
+
+use kfs_entry_value::{BLOCK_SIZE, Header, Kind, NodeRow};
+use kfs_image_blocks::BlockRun;
+use kfs_image_nodes::header_edits;
+use kfs_map_pages::NumberEdit;
+use std::alloc::{AllocError, Allocator};
+
+/// The runs of blocks that go: of each node that changes, those behind the file's end, or all where it
+/// is no file any more; and those that become zero.
+pub(crate) fn released_blocks<A: Allocator + Clone>(
+    alloc: &A,
+    nodes: &[NodeRow],
+    zero: &[BlockRun],
+) -> Result<Vec<BlockRun, A>, AllocError>
+    ensures { IfOk result (λ released. AreReleased nodes.now zero.now released.items) }
+{
+    let edits = header_edits(alloc, nodes)?;
+    let mut released = blocks_behind(alloc, edits.as_slice())?;
+    released.extend_from_slice(zero)?;
+    Ok(released)
+}
+
+/// Of each node that changes, the blocks behind the end of its file.
+fn blocks_behind<A: Allocator + Clone>(
+    alloc: &A,
+    edits: &[NumberEdit<Header>],
+) -> Result<Vec<BlockRun, A>, AllocError>
+    ensures { IfOk result (λ runs. runs.items ≡ map behind edits.now) }
+{
+    let mut runs = Vec::new(alloc.clone()?);
+    for edit in edits {
+        runs.push(BlockRun {
+            number: edit.number,
+            first: block_count(edit.value),
+            end: u32::MAX,
+        })?;
+    }
+    Ok(runs)
+}
+
+/// How many blocks the file has, none where there is no file; at most 2^32 - 1.
+fn block_count(header: Option<Header>) -> u32
+    ensures { result ≡ min (blocks_in (option_map header_of header)) (2 ^ 32 - 1) }
+{
+    match header {
+        Some(header) if header.kind == Kind::File => {
+            u32::try_from(header.size.div_ceil(BLOCK_SIZE)).unwrap_or(u32::MAX)
+        }
+        _ => 0,
+    }
+}
