@@ -65,3 +65,4 @@ pub mod Blocks
 pub mod Touches
 pub mod SameNeed
 pub mod Need
+pub mod RowsMean

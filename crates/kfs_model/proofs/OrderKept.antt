@@ -29,16 +29,16 @@ use Rattle.kfs_model.proofs.PlacementKept.{placement_kept}
 -- ---- what a Yes says
 
 -- the run of a client's log ends at these trees
-record IsYes (s : State) (number : ℕ) (log : Result Log SpellingFault) (after : Tree ℕ) (marked_after : Tree Mark) : Type 0 where
-  client : Client
-  row : row_of s.clients number ≡ Some client
-  read : Log
-  log_is : log ≡ Ok read
-  ran : run over_bytes client (client_sight_of s client.number) s.tree read.entries ≡ Ok after
-  ran_marked : run over_marks client (client_sight_of s client.number) (marked s.tree) read.entries ≡ Ok marked_after
+pub record IsYes (s : State) (number : ℕ) (log : Result Log SpellingFault) (after : Tree ℕ) (marked_after : Tree Mark) : Type 0 where
+  pub client : Client
+  pub row : row_of s.clients number ≡ Some client
+  pub read : Log
+  pub log_is : log ≡ Ok read
+  pub ran : run over_bytes client (client_sight_of s client.number) s.tree read.entries ≡ Ok after
+  pub ran_marked : run over_marks client (client_sight_of s client.number) (marked s.tree) read.entries ≡ Ok marked_after
 
 module _ (s : State) (number : ℕ) (log : Result Log SpellingFault) (plan : Result Plan SpellingFault) (after : Tree ℕ) (marked_after : Tree Mark) where
-  yes_means : judged s number log plan ≡ Yes after marked_after → IsYes s number log after marked_after
+  pub yes_means : judged s number log plan ≡ Yes after marked_after → IsYes s number log after marked_after
   unfolding judged
   yes_means is = by_client (row_of s.clients number) refl is
     where

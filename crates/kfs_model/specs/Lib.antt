@@ -32,3 +32,4 @@ pub mod Judgement
 pub mod Machine
 pub mod Order
 pub mod Laws
+pub mod Means

@@ -9,10 +9,12 @@ ghost use Rattle.kfs_model.specs.Plan.{ArePieces, IsRight, OldBytesStay};
 ghost use Rattle.kfs_model.specs.Compare.{first_apart};
 ghost use Rattle.kfs_model.specs.PlanCut.{SaySame, IsCutAnew};
 ghost use Rattle.kfs_model.specs.FirstWrong.{first_wrong_piece, first_wrong_row};
+ghost use Rattle.kfs_model.specs.Judgement.{State};
 ghost use Rattle.kfs_model.specs.Machine.{OneByOne, Row, IsRead, next, after};
 ghost use Rattle.kfs_model.specs.Placement.{TierSizes, need};
 ghost use Rattle.kfs_model.specs.Blocks.{counted_files};
 ghost use Rattle.kfs_model.specs.Lease.{KeepsCompatible, dropped, ticked};
+ghost use Rattle.kfs_model.specs.Means.{Means};
 ghost use Rattle.kfs_model.specs.Order.{IsInOrder};
 ghost use Rattle.std.specs.List.{AllByRecursion};
 ghost use Rattle.kfs_model.specs.Sight.{sight};
@@ -137,4 +139,12 @@ pub fn bytes_have_one_reading()
     ensures log_is_one { (bytes : List ℕ) → IsBytes bytes → (one other : Result Log SpellingFault) → LogAnswer bytes one → LogAnswer bytes other → one ≡ other }
     ensures plan_exists { (bytes : List ℕ) → IsBytes bytes → (answer : Result Plan SpellingFault) × PlanAnswer bytes answer }
     ensures plan_is_one { (bytes : List ℕ) → IsBytes bytes → (one other : Result Plan SpellingFault) → PlanAnswer bytes one → PlanAnswer bytes other → one ≡ other }
+{}
+
+/// What a row of the docket means, of a row that is read rightly and fits a state. After a Yes the tree is what the log's
+/// entries give one by one, each of them allowed where it stands. Any other answer to a submission changes nothing. A call
+/// for the leases changes leases only. The state after the row is in order where the state before it was.
+pub fn what_a_row_means()
+    ensures meaning { (s t : State) (row : Row) → IsRead row → next s row ≡ Some t → Means s row t }
+    ensures order { (s t : State) (row : Row) → IsInOrder s → IsRead row → next s row ≡ Some t → IsInOrder t }
 {}

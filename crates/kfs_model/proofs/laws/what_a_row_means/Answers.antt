@@ -1,6 +1,6 @@
 use Rattle.kfs_model.proofs.OrderKept.{step_keeps_order}
-use Rattle.kfs_model_row_laws.proofs.RowsMean.{row_means}
-use Rattle.kfs_model_row_laws.proofs.laws.what_a_row_means.Goals as goal
+use Rattle.kfs_model.proofs.RowsMean.{row_means}
+use Rattle.kfs_model.proofs.laws.what_a_row_means.Goals as goal
 
 pub returns-clause-meaning : goal.returns-clause-meaning
 returns-clause-meaning c s t row read is = row_means s t row read is

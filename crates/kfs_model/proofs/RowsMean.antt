@@ -3,6 +3,7 @@ use Rattle.std.proofs.Common.{◌≡◌, ℕ, ◌==◌, Bool, true, false, cond,
 use Rattle.std.specs.Prelude.{length, nat_lt}
 use native.Mathlib.Decide.{ℕ_discrete}
 use Rattle.kfs_model.proofs.OneByOne.{run_is_one_by_one}
+use Rattle.kfs_model.proofs.OrderKept.{IsYes, yes_means}
 use Rattle.kfs_model.specs.Access.{Client}
 use Rattle.kfs_model.specs.Entry.{Log}
 use Rattle.kfs_model.specs.FirstWrong.{RowFault, first_wrong_row}
@@ -15,7 +16,7 @@ use Rattle.kfs_model.specs.Run.{EntryFault, Mark, marked, over_bytes, over_marks
 use Rattle.kfs_model.specs.Sight.{sight}
 use Rattle.kfs_model.specs.Spelling.{LogAnswer, SpellingFault}
 use Rattle.kfs_model.specs.Tree.{Tree}
-use Rattle.kfs_model_row_laws.specs.Means.{DiffersInLeases, HasEntriesDone, Means, MeansOf}
+use Rattle.kfs_model.specs.Means.{DiffersInLeases, HasEntriesDone, Means, MeansOf}
 
 -- ---- what fits is what the call comes to
 
@@ -45,45 +46,16 @@ unplaced_is (place ∷ places) outcome other is = cc
 module _ (s : State) (submission : Submission) (reading : Reading) (read : IsReadAs submission reading) (after : Tree ℕ) (marks : Tree Mark) where
   -- the run of the entries that the log spells ends at this tree
   done : judged s submission.client reading.log reading.plan ≡ Yes after marks → (t : State) → t.tree ≡ after → HasEntriesDone s submission t
-  unfolding judged
-  done is t at = by_client (row_of s.clients submission.client) refl is
-    where
-      ran : (client : Client) (log : Log) → row_of s.clients submission.client ≡ Some client → reading.log ≡ Ok log → run over_bytes client (client_sight_of s client.number) s.tree log.entries ≡ Ok after → HasEntriesDone s submission t
-      ran client log row log_is ends = record {
-        client = client;
-        row = row;
-        log = log;
-        spelled = subst (LogAnswer submission.log) log_is read.log;
-        one_by_one = subst (OneByOne client (client_sight_of s client.number) 0 [] s.tree log.entries) (sym at) (run_is_one_by_one client (client_sight_of s client.number) 0 [] s.tree log.entries after ends);
+  done is t at =
+      let yes = yes_means s submission.client reading.log reading.plan after marks is in
+      record {
+        client = yes.client;
+        row = yes.row;
+        log = yes.read;
+        spelled = subst (LogAnswer submission.log) yes.log_is read.log;
+        one_by_one = subst (OneByOne yes.client (client_sight_of s yes.client.number) 0 [] s.tree yes.read.entries) (sym at)
+            (run_is_one_by_one yes.client (client_sight_of s yes.client.number) 0 [] s.tree yes.read.entries after yes.ran);
       }
-
-      by_rows : (client : Client) (log : Log) (v : Tree ℕ) (u : Tree Mark) → row_of s.clients submission.client ≡ Some client → reading.log ≡ Ok log → run over_bytes client (client_sight_of s client.number) s.tree log.entries ≡ Ok v
-          → (wrong : Option RowFault) → ◌≡◌ {A = Verdict} (elim wrong [ None ↦ Yes v u | Some fault ↦ No (AtRow fault) ]) (Yes after marks) → HasEntriesDone s submission t
-      by_rows client log v u row log_is ends None is = let same : v ≡ after = cc in ran client log row log_is (ends ∙ ap Ok same)
-      by_rows client log v u row log_is ends (Some fault) is = cc
-
-      by_run : (client : Client) (log : Log) (plan : Plan) → row_of s.clients submission.client ≡ Some client → reading.log ≡ Ok log
-          → (end : Result (Tree ℕ) EntryFault) (marked_end : Result (Tree Mark) EntryFault) → run over_bytes client (client_sight_of s client.number) s.tree log.entries ≡ end → judged_run s plan end marked_end ≡ Yes after marks → HasEntriesDone s submission t
-      by_run client log plan row log_is (Err fault) marked_end ends is = cc
-      by_run client log plan row log_is (Ok v) (Err fault) ends is = cc
-      by_run client log plan row log_is (Ok v) (Ok u) ends is = by_rows client log v u row log_is ends (first_wrong_row s.tree u plan) is
-
-      by_plan : (client : Client) (log : Log) (plan : Result Plan SpellingFault) → row_of s.clients submission.client ≡ Some client → reading.log ≡ Ok log → judged_plan s client log plan ≡ Yes after marks → HasEntriesDone s submission t
-      by_plan client log (Err fault) row log_is is = cc
-      by_plan client log (Ok plan) row log_is is =
-          by_run client log plan row log_is (run over_bytes client (client_sight_of s client.number) s.tree log.entries) (run over_marks client (client_sight_of s client.number) (marked s.tree) log.entries) refl is
-
-      by_owner : (client : Client) (log : Log) → row_of s.clients submission.client ≡ Some client → reading.log ≡ Ok log → (own : Bool) → cond own (judged_plan s client log reading.plan) (No ClientWrong) ≡ Yes after marks → HasEntriesDone s submission t
-      by_owner client log row log_is true is = by_plan client log reading.plan row log_is is
-      by_owner client log row log_is false is = cc
-
-      by_log : (client : Client) (log : Result Log SpellingFault) → row_of s.clients submission.client ≡ Some client → reading.log ≡ log → judged_log s client log reading.plan ≡ Yes after marks → HasEntriesDone s submission t
-      by_log client (Err fault) row log_is is = cc
-      by_log client (Ok log) row log_is is = by_owner client log row log_is (log.client == client.number) is
-
-      by_client : (found : Option Client) → row_of s.clients submission.client ≡ found → ◌≡◌ {A = Verdict} (elim found [ None ↦ No ClientUnknown | Some client ↦ judged_log s client reading.log reading.plan ]) (Yes after marks) → HasEntriesDone s submission t
-      by_client None row is = cc
-      by_client (Some client) row is = by_log client reading.log row refl is
 
 -- ---- each call
 

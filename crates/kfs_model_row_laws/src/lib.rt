@@ -1,4 +1,0 @@
-//! What a row of the docket means, as a law of the definitions.
-#![tactic(auto)]
-
-pub mod laws;
