@@ -37,7 +37,7 @@ use Rattle.kfs_desk.proofs.Landing.{contents_are, leases_end}
 use Rattle.kfs_desk.proofs.WholePieces as whole
 
 module _ (desk : Parts) (is_desk : IsDesk desk) (lawful : IsLawful desk.image) (submission : Submission) {A : Type 0} (log : CodeLog A) (plan : CodePlan A) (net : Net A) (told : ℕ) (after : Tree ℕ) (marked_after : Tree Mark)
-    (yes : TellsYes (state_of desk) submission log plan net told after marked_after) where
+    (yes : TellsYes (state_of desk) submission (record { log = log; plan = plan; net = net; told = told }) after marked_after) where
   abbrev s : State
   s = state_of desk
 

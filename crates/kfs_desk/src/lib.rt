@@ -5,10 +5,10 @@ mod back;
 mod desk;
 mod docket;
 mod first_fault;
-pub mod room;
 mod state;
 
 pub use back::BeginBack;
 pub use desk::Desk;
 pub use kfs_desk_docket::Docket;
-pub use kfs_plan::answers;
+pub use kfs_plan::answers::{Act, ActReply, BeginFault, Done, Reply, SubmissionsBack, Unanswered};
+pub use kfs_plan::{Back, Why};

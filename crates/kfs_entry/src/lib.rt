@@ -8,7 +8,7 @@ mod fault;
 pub use decoding::{decode_log, decode_plan};
 pub use encoding::{encode_log, encode_plan};
 pub use fault::SpellFault;
-pub use kfs_entry_codec::{Row, RowsFault, entry_table, read_rows, write_rows};
 pub use kfs_entry_value::{
-    Entry, Header, Kind, Log, Name, NameRow, NodeRow, Piece, Plan, RowList, Source, Span,
+    ENTRY_LIMIT, Entry, GREATEST_MODE, Header, Kind, Log, Name, NameRow, NodeRow, PAYLOAD_LIMIT,
+    Piece, Plan, RowList, Source, Span,
 };

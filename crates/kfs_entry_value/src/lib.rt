@@ -6,6 +6,7 @@ mod header;
 mod limits;
 mod name;
 mod plan;
+mod room;
 mod rows;
 mod sizes;
 
@@ -17,5 +18,6 @@ pub use limits::{
 };
 pub use name::Name;
 pub use plan::{NameRow, NodeRow, Piece, Plan, Source};
+pub use room::push_within;
 pub use rows::RowList;
 pub use sizes::TierSizes;

@@ -5,6 +5,7 @@ use Rattle.kfs_model.specs.Table.{changed, insert}
 use Rattle.kfs_model.specs.Placement.{TierSizes, tier_size}
 use Rattle.kfs_entry_value.specs.Views.{header_of}
 use Rattle.kfs_model_device.specs.ShownTree.{DeviceImage, IsLawful}
+use Rattle.kfs_image.specs.Image.{place_at}
 use Rattle.kfs_image.specs.declared.edit.Edit.{Edit}
 use Rattle.kfs_image.specs.declared.edit.Edit.TheVariants.{Header, Name, Map, Bytes}
 
@@ -13,8 +14,8 @@ module _ {A : Type 0} where
   abbrev pub edited : Edit A → DeviceImage → DeviceImage
   edited (Header number header) image = record image { heads = changed image.heads number (option_map header_of header) }
   edited (Name dir name number) image = record image { names = changed image.names (dir, name) number }
-  edited (Map number block place) image = record image { placement = changed image.placement (number, block) place }
-  edited (Bytes place bytes) image = record image { devices = insert image.devices (place.tier, place.place) bytes.items }
+  edited (Map number block pair) image = record image { placement = changed image.placement (number, block) (option_map place_at pair) }
+  edited (Bytes tier place bytes) image = record image { devices = insert image.devices (tier, place) bytes.items }
 
   -- the image after the edits, one after the other
   unfoldable pub edited_all : List (Edit A) → DeviceImage → DeviceImage
@@ -25,8 +26,8 @@ module _ {A : Type 0} where
   abbrev pub WritesWholeBlocks : TierSizes → Edit A → Type 0
   WritesWholeBlocks sizes (Header number header) = Unit
   WritesWholeBlocks sizes (Name dir name number) = Unit
-  WritesWholeBlocks sizes (Map number block place) = Unit
-  WritesWholeBlocks sizes (Bytes place bytes) = (place.place < tier_size sizes place.tier) × (vec_len bytes ≡ block_size)
+  WritesWholeBlocks sizes (Map number block pair) = Unit
+  WritesWholeBlocks sizes (Bytes tier place bytes) = (place < tier_size sizes tier) × (vec_len bytes ≡ block_size)
 
   -- the image after is lawful, and each block that is written lies in its tier and is whole
   pub record CanEdit (edits : List (Edit A)) (image : DeviceImage) : Type 0 where

@@ -1,9 +1,14 @@
 -- What contracts see of an image: its nodes and names, which views share, and its blocks.
+use Rattle.std.specs.Prelude.{ℕ}
 use Rattle.kfs_model.specs.Table.{empty}
-use Rattle.kfs_model.specs.Placement.{TierSizes}
+use Rattle.kfs_model.specs.Placement.{Place, TierSizes}
 use Rattle.kfs_model_device.specs.ShownTree.{DeviceImage}
 use Rattle.kfs_image_blocks.specs.Blocks.{BlocksShown}
 use Rattle.kfs_image_nodes.specs.Contents.{Contents, root_alone}
+
+-- the place of a pair of tier and place
+abbrev pub place_at : ℕ × ℕ → Place
+place_at pair = record { tier = pair.0; place = pair.1 }
 
 -- the image of these nodes and names, over these blocks
 abbrev pub image_with : Contents → BlocksShown → DeviceImage

@@ -4,3 +4,4 @@ pub mod Image
 pub mod Net
 pub mod Parts
 pub mod Read
+pub mod RawImages

@@ -22,8 +22,8 @@ module _ {A : Type 0} where
   abbrev pub plain : Edit A → Edit A
   plain (Header number header) = Header number header
   plain (Name dir name number) = Name dir name (above_zero number)
-  plain (Map number block place) = Map number block place
-  plain (Bytes place bytes) = Bytes place bytes
+  plain (Map number block pair) = Map number block pair
+  plain (Bytes tier place bytes) = Bytes tier place bytes
 
   -- the image with what the parts say in place of what stood there
   abbrev pub with_parts : Parts A → DeviceImage → DeviceImage

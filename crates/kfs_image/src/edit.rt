@@ -1,8 +1,9 @@
 //! Changes of an image, one after the other.
-ghost use Rattle.std.specs.Prelude.{◌≡◌, [], IfOk, OnOk};
+ghost use Rattle.std.specs.Prelude.{◌≡◌, [], IfOk, OnOk, option_map};
 ghost use Rattle.kfs_model.specs.Placement.{TierSizes};
 ghost use Rattle.kfs_model_device.specs.ShownTree.{DeviceImage};
 ghost use Rattle.kfs_image.specs.Edit.{edited, WritesWholeBlocks};
+ghost use Rattle.kfs_image.specs.Image.{place_at};
 ghost use Rattle.kfs_image.specs.Parts.{plain, with_parts, PartsAreOf, BlocksAreWhole};
 
 use kfs_entry_value::{Header, Name, NameRow, NodeRow};
@@ -17,10 +18,10 @@ pub enum Edit<A: Allocator> {
     Header(u32, Option<Header>),
     /// The number to which a directory's name leads: the directory, the name, the number.
     Name(u32, Name, Option<u32>),
-    /// Where a block of a file lies: the file's number, the block, the place.
-    Map(u32, u32, Option<Place>),
-    /// The 4,096 bytes at a place of a tier.
-    Bytes(Place, Vec<u8, A>),
+    /// Where a block of a file lies: the file's number, the block, the tier and the place.
+    Map(u32, u32, Option<(u8, u32)>),
+    /// The 4,096 bytes at a place of a tier: the tier, the place, the bytes.
+    Bytes(u8, u32, Vec<u8, A>),
 }
 
 /// What edits say of names, of nodes, of where blocks lie, and of what is written.
@@ -71,14 +72,28 @@ impl<A: Allocator + Clone> Parts<A> {
                 name: name.clone()?,
                 number: number.unwrap_or(0),
             })?,
-            Edit::Map(number, block, place) => self.block_places.set((*number, *block), *place)?,
-            Edit::Bytes(place, bytes) => self.written.push(NewBlock {
-                place: *place,
+            Edit::Map(number, block, pair) => {
+                let place = place_in(*pair);
+                self.block_places.set((*number, *block), place)?
+            }
+            Edit::Bytes(tier, place, bytes) => self.written.push(NewBlock {
+                place: Place {
+                    tier: *tier,
+                    place: *place,
+                },
                 bytes: copy_of(bytes)?,
             })?,
         }
         Ok(())
     }
+}
+
+/// The place of a pair of tier and place.
+fn place_in(pair: Option<(u8, u32)>) -> Option<Place>
+    ensures { result ≡ option_map place_at pair }
+{
+    let (tier, place) = pair?;
+    Some(Place { tier, place })
 }
 
 fn copy_of<A: Allocator + Clone>(bytes: &Vec<u8, A>) -> Result<Vec<u8, A>, AllocError>

@@ -11,16 +11,16 @@ ghost use Rattle.kfs_image_nodes.specs.Change.{after_rows, renamed, reheaded};
 ghost use Rattle.kfs_image_nodes.specs.Look.{IsAfter, IsNext, IsNextNode};
 ghost use Rattle.kfs_image_nodes.specs.Rows.{FitPages};
 ghost use Rattle.kfs_image.specs.Edit.{CanEdit, edited_all};
-ghost use Rattle.kfs_image.specs.Image.{contents_of, fresh_image};
+ghost use Rattle.kfs_image.specs.Image.{contents_of, fresh_image, place_at};
 ghost use Rattle.kfs_image.specs.Net.{CanApply, applied};
 ghost use Rattle.kfs_image.specs.Read.{FileIsRead};
 
 use crate::edit::{Edit, Parts};
-use crate::released::released_blocks;
 use crate::net::Fill;
 use crate::read::ReadFault;
+use crate::released::released_blocks;
 use kfs_entry_value::{Header, Kind, Name, NameRow, NodeRow, TierSizes};
-use kfs_image_blocks::{ChangeBlocks, FileBlocks, FillBlocks, Place};
+use kfs_image_blocks::{ChangeBlocks, FileBlocks, FillBlocks};
 use kfs_image_nodes::{Answer, Cell, Net, Shape, look};
 use kfs_map_chunks::key_edits;
 use kfs_map_pages::Change;
@@ -98,12 +98,17 @@ impl<A: Allocator + Clone> Image<A> {
     /// Makes the change of a net and a fill. Pages and chunks that a view shares are copied where they
     /// change, and the others stay shared. `Err` leaves what the image shows as it is, and a view shows
     /// what it showed in any case.
-    pub(crate) fn change(&mut self, net: &Net<A>, fill: &Fill<A>) -> Result<(), AllocError>
+    pub(crate) fn change(
+        &mut self,
+        alloc: &A,
+        net: &Net<A>,
+        fill: &Fill<A>,
+    ) -> Result<(), AllocError>
         requires { CanApply net.now fill.now self.old }
         ensures ok { OnOk result (self.new ≡ applied net.now fill.now self.old) }
         ensures err { OnErr result (self.new ≡ self.old) }
     {
-        let released = released_blocks(&self.alloc, net.nodes.as_slice(), fill.zero.as_slice())?;
+        let released = released_blocks(alloc, net.nodes.as_slice(), fill.zero.as_slice())?;
         let mut then = FillBlocks {
             blocks: &mut self.blocks,
             released: released.as_slice(),
@@ -111,7 +116,7 @@ impl<A: Allocator + Clone> Image<A> {
         };
         change_shared(
             &mut self.shape,
-            &self.alloc,
+            alloc,
             net.names.as_slice(),
             net.nodes.as_slice(),
             &mut then,
@@ -169,11 +174,12 @@ impl<A: Allocator> Image<A> {
         self.blocks.next_free(tier, from)
     }
 
-    /// Where a block of a file lies, or none where it isn't mapped. Takes no memory.
-    pub fn place_of(&self, number: u32, block: u32) -> Option<Place>
-        ensures { result ≡ get self.now.placement (number, block) }
+    /// Where a block of a file lies, as tier and place, or none where it isn't mapped. Takes no memory.
+    pub fn place_of(&self, number: u32, block: u32) -> Option<(u8, u32)>
+        ensures { option_map place_at result ≡ get self.now.placement (number, block) }
     {
-        self.blocks.place_of(number, block)
+        let place = self.blocks.place_of(number, block)?;
+        Some((place.tier, place.place))
     }
 
     /// The least number above `after` that a node has, or none where no node has one. Takes no memory.

@@ -2,17 +2,23 @@
 #![tactic(auto)]
 
 mod edit;
-mod released;
 mod headers;
 mod image;
 mod net;
+mod raw;
 mod read;
+mod released;
 
 pub use edit::Edit;
+#[doc(hidden)]
 pub use headers::{header, header_after};
 pub use image::Image;
-pub use kfs_entry_value::{Header, Kind, Name, TierSizes};
+pub use kfs_entry_value::{
+    BLOCK_SIZE, GREATEST_MODE, GREATEST_NUMBER, Header, Kind, LINK_LIMIT, Name, NameRow, NodeRow,
+    ROOT, SIZE_LIMIT, TIER_LIMIT, TierSizes,
+};
 pub use kfs_image_blocks::{BlockRow, BlockRun, Place};
-pub use kfs_image_nodes::{Answer, Cell, Net, Page, Shape, look};
+pub use kfs_image_nodes::{Answer, Cell, HeaderPage, Net, Page, Shape, look};
 pub use net::{Fill, net_apply};
+pub use raw::{Extent, ExtentRow, RawImage, RawNode};
 pub use read::{ReadFault, read_file};

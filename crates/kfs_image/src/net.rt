@@ -33,6 +33,7 @@ impl<A: Allocator + Clone> Fill<A> {
 /// a file any more. Every growth comes before the first change, so `Err` leaves what the image shows as
 /// it is. A view that was taken before shows what it showed.
 pub fn net_apply<A: Allocator + Clone>(
+    alloc: A,
     image: &mut Image<A>,
     net: &Net<A>,
     fill: &Fill<A>,
@@ -41,5 +42,5 @@ pub fn net_apply<A: Allocator + Clone>(
     ensures ok { OnOk result (image.new ≡ applied net.now fill.now image.old) }
     ensures err { OnErr result (image.new ≡ image.old) }
 {
-    image.change(net, fill)
+    image.change(&alloc, net, fill)
 }

@@ -27,5 +27,5 @@ pub fn land_bytes<A: Allocator + Copy>(
     ensures err { OnErr result (image.new ≡ image.old) }
 {
     let fill = fill_of(alloc, image, log, net.nodes.as_slice())?;
-    net_apply(image, net, &fill)
+    net_apply(alloc, image, net, &fill)
 }

@@ -4,5 +4,7 @@
 pub mod laws;
 mod walk;
 
+pub use kfs_image_nodes::Net;
 pub use kfs_judge_check::{Read, ReadAnswer, Reason, View};
+pub use kfs_plan_sweep::FileSize;
 pub use walk::{EntryFault, Walk, judge_entries};

@@ -103,7 +103,7 @@ unfolding checks_of
 clean_create p d m n kind mode clean =
     let pass = all_pass p _ clean in
     record {
-      place = changes_directory p d pass.1.0 pass.1.1.0 pass.1.1.1.0 pass.1.1.1.1.0;
+      in_directory = changes_directory p d pass.1.0 pass.1.1.0 pass.1.1.1.0 pass.1.1.1.1.0;
       least = (granted_number p n pass.1.1.1.1.1.1.0).0;
       greatest = (granted_number p n pass.1.1.1.1.1.1.0).1;
     }
@@ -122,7 +122,7 @@ clean_link p n d m clean =
     let pass = all_pass p _ clean in
     let after_file = pass.1.1 in
     record {
-      place = changes_directory p d after_file.1.0 after_file.1.1.0 after_file.1.1.1.0 after_file.1.1.1.1.0;
+      in_directory = changes_directory p d after_file.1.0 after_file.1.1.0 after_file.1.1.1.0 after_file.1.1.1.1.0;
       leased = leased p n after_file.1.1.1.1.1.0;
     }
 
@@ -142,7 +142,7 @@ unfolding checks_of fault
 clean_unlink p d m kind clean =
     let pass = all_pass p _ clean in
     record {
-      place = changes_directory p d pass.1.0 pass.1.1.0 pass.1.1.1.0 pass.1.1.1.1.0;
+      in_directory = changes_directory p d pass.1.0 pass.1.1.0 pass.1.1.1.0 pass.1.1.1.1.0;
       leased = by_target (p.now.name d m) refl pass.1.1.1.1.1.0 pass.1.1.1.1.1.1;
     }
   where

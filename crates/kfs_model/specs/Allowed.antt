@@ -27,16 +27,16 @@ abbrev pub NameLeadsTo : EntryContext → ℕ → List ℕ → ℕ → Type 0
 NameLeadsTo context directory name number = context.now.name directory name ≡ Some number
 
 pub record MayCreate (context : EntryContext) (directory number : ℕ) : Type 0 where
-  pub place : MayChangeDirectory context directory
+  pub in_directory : MayChangeDirectory context directory
   pub least : context.client.first ≤ number
   pub greatest : number ≤ context.client.last
 
 pub record MayLink (context : EntryContext) (number directory : ℕ) : Type 0 where
-  pub place : MayChangeDirectory context directory
+  pub in_directory : MayChangeDirectory context directory
   pub leased : IsLeasedTo context number
 
 pub record MayUnlink (context : EntryContext) (directory : ℕ) (name : List ℕ) : Type 0 where
-  pub place : MayChangeDirectory context directory
+  pub in_directory : MayChangeDirectory context directory
   pub leased : (number : ℕ) × NameLeadsTo context directory name number × IsLeasedTo context number
 
 pub record MayMove (context : EntryContext) (d : ℕ) (m : List ℕ) (e : ℕ) (k : List ℕ) : Type 0 where

@@ -17,7 +17,7 @@ use Rattle.kfs_model_device.specs.ShownTree.{DeviceImage, file_bytes, shown_tree
 use Rattle.kfs_model_device.specs.RawImage.{RawImage, IsSpelled, heads_of, names_of}
 use Rattle.kfs_model_device.specs.Rules.{Test, rules, number_test, rule_1, rule_2, kind_fits, header_test, rule_3, directory_test, rule_4, target_test, rule_5, names_fit, names_test, rule_6, parent_of, reaches_root, climb_test, rule_7, overlap, share_block, share_place, ends_in_file, is_extent, extent_test, rule_8, tier_test, rule_9, place_test, rule_10}
 use Rattle.kfs_model_device.specs.Finding.{Finding, least_of, least_failed, finding_from, finding_of, IsWellFormed}
-use Rattle.kfs_model_device.specs.Listed.{block_bytes, node_row, name_row, extent_row, rows_of}
+use Rattle.kfs_model_device.specs.Listed.{block_bytes, raw_node, name_row, extent_row, rows_of}
 use Rattle.kfs_model_device.proofs.RulesHold.{AllHold}
 use Rattle.kfs_model_device.proofs.ShownHeads.{HeaderFits}
 use Rattle.kfs_model_device.proofs.ClimbTest.{reach_is_found}
@@ -125,16 +125,16 @@ module _ (image : DeviceImage) (lawful : IsLawful image) where
 
   holds_1 : AllHold (rule_1 raw)
   holds_1 =
-      hold_rising node_row numbers (λ row. row.number) (λ e. refl) number_test (λ e. (1 ≤ e.0) × (e.0 ≤ 65536))
+      hold_rising raw_node numbers (λ row. row.number) (λ e. refl) number_test (λ e. (1 ≤ e.0) × (e.0 ≤ 65536))
       (λ previous e above range. and_from _ _ (and_from _ _ above (le-leb 1 e.0 range.0)) (le-leb e.0 65536 range.1)) image.heads.entries image.heads.sorted in_range
 
   holds_2 : AllHold (rule_2 raw)
   holds_2 = (at_heads (λ heads. IsTrue (is_directory (get heads 1))) sound.root, tt)
 
   holds_3 : AllHold (rule_3 raw)
-  holds_3 = hold_each node_row header_test image.heads.entries (each_entry numbers (λ (e : ℕ × Header). (header_test (node_row e)).holds ≡ true) image.heads each)
+  holds_3 = hold_each raw_node header_test image.heads.entries (each_entry numbers (λ (e : ℕ × Header). (header_test (raw_node e)).holds ≡ true) image.heads each)
     where
-      each : (number : ℕ) (h : Header) → head number ≡ Some h → (header_test (node_row (number, h))).holds ≡ true
+      each : (number : ℕ) (h : Header) → head number ≡ Some h → (header_test (raw_node (number, h))).holds ≡ true
       each number h is = let range = sound.ranges number h is in and_from _ _ (and_from _ _ (le-leb h.mode 511 range.mode) (le-leb h.size 4294967296 range.size)) (fits number h is).as_kind
 
   holds_4 : AllHold (rule_4 raw)
@@ -153,15 +153,15 @@ module _ (image : DeviceImage) (lawful : IsLawful image) where
 
   holds_6 : AllHold (rule_6 raw)
   holds_6 =
-      hold_each node_row (names_test (names_of raw)) image.heads.entries
-      (each_entry numbers (λ (e : ℕ × Header). (names_test (names_of raw) (node_row e)).holds ≡ true) image.heads
+      hold_each raw_node (names_test (names_of raw)) image.heads.entries
+      (each_entry numbers (λ (e : ℕ × Header). (names_test (names_of raw) (raw_node e)).holds ≡ true) image.heads
       (λ number h is. at_names (λ names. names_fit h.kind number h.links (name_count names number) ≡ true) (fits number h is).as_named))
 
   same_parents : parent_in head image.names ≡ parent_of raw
   same_parents = λ i. parent_in (get (sym (heads_back image) i)) (sym (names_back image) i)
 
   holds_7 : AllHold (rule_7 raw)
-  holds_7 = hold_each node_row (climb_test raw) image.heads.entries (each_entry numbers (λ (e : ℕ × Header). (is_file (Some e.1) || reaches_root raw e.0) ≡ true) image.heads each)
+  holds_7 = hold_each raw_node (climb_test raw) image.heads.entries (each_entry numbers (λ (e : ℕ × Header). (is_file (Some e.1) || reaches_root raw e.0) ≡ true) image.heads each)
     where
       each : (number : ℕ) (h : Header) → head number ≡ Some h → (is_file (Some h) || reaches_root raw number) ≡ true
       each number h is = by h.kind refl
@@ -232,6 +232,6 @@ module _ (image : DeviceImage) (lawful : IsLawful image) where
   pub rows_spelled : IsSpelled raw
   rows_spelled = record {
     names = each_row name_row (λ row. IsName row.name) image.names.entries (each_entry name_order (λ (e : (ℕ × List ℕ) × ℕ). IsName e.0.1) image.names (λ key number is. (sound.names_sound key.0 key.1 number is).spelled));
-    ids = each_row node_row (λ row. (row.header.uid < 2 ^ 32) × (row.header.gid < 2 ^ 32)) image.heads.entries
+    ids = each_row raw_node (λ row. (row.header.uid < 2 ^ 32) × (row.header.gid < 2 ^ 32)) image.heads.entries
         (each_entry numbers (λ (e : ℕ × Header). (e.1.uid < 2 ^ 32) × (e.1.gid < 2 ^ 32)) image.heads (λ number h is. let range = sound.ranges number h is in (range.uid, range.gid)));
   }

@@ -8,7 +8,7 @@ use Rattle.kfs_model.specs.Placement.{Place}
 use Rattle.kfs_model_device.specs.ShownTree.{DeviceImage}
 use Rattle.kfs_model.specs.Plan.{keyed_name}
 use Rattle.kfs_model_device.specs.RawImage.{table_of, node_entry, places_in, heads_of, names_of, placement_of}
-use Rattle.kfs_model_device.specs.Listed.{node_row, name_row, extent_row, rows_of}
+use Rattle.kfs_model_device.specs.Listed.{raw_node, name_row, extent_row, rows_of}
 use Rattle.kfs_model_device.proofs.RowTables.{sorted_entries}
 
 module _ {K X Z : Type 0} (entry : Z → K × X) (row : K × X → Z) (back : (e : K × X) → entry (row e) ≡ e) where
@@ -24,7 +24,7 @@ add_none n = omega arith
 
 module _ (image : DeviceImage) where
   pub heads_back : heads_of (rows_of image) ≡ image.heads
-  heads_back = table_back numbers image.heads _ (entries_back node_entry node_row (λ e. refl) image.heads.entries)
+  heads_back = table_back numbers image.heads _ (entries_back node_entry raw_node (λ e. refl) image.heads.entries)
 
   pub names_back : names_of (rows_of image) ≡ image.names
   names_back = table_back name_order image.names _ (entries_back keyed_name name_row (λ e. refl) image.names.entries)

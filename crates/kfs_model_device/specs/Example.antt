@@ -9,7 +9,7 @@ use Rattle.kfs_model.specs.PlanRow.{NameRow}
 use Rattle.kfs_model.specs.Placement.{TierSizes, Placement}
 use Rattle.kfs_model_examples.specs.Example as known
 use Rattle.kfs_model_examples.specs.Example.{name_row, name_a, name_b, name_x}
-use Rattle.kfs_model_device.specs.RawImage.{NodeRow, ExtentRow, RawImage, table_of}
+use Rattle.kfs_model_device.specs.RawImage.{RawNode, ExtentRow, RawImage, table_of}
 use Rattle.kfs_model_device.specs.FreeRuns.{Run, runs_of}
 use Rattle.kfs_model_device.specs.Rules.{rules}
 use Rattle.kfs_model_device.specs.Finding.{Finding, least_failed, finding_of}
@@ -24,21 +24,21 @@ computing = tt
 abbrev pub sizes : TierSizes
 sizes = record { first = 8; second = 8; third = 8 }
 
-abbrev pub node : (number : ℕ) → Kind → (mode id links size : ℕ) → NodeRow
+abbrev pub node : (number : ℕ) → Kind → (mode id links size : ℕ) → RawNode
 node number kind mode id links size = record { number = number; header = record { kind = kind; mode = mode; uid = id; gid = id; links = links; size = size } }
 
 -- the root, with this mode
-abbrev pub root_with : (mode : ℕ) → NodeRow
+abbrev pub root_with : (mode : ℕ) → RawNode
 root_with mode = node 1 Directory mode 0 1 0
 
-abbrev pub root : NodeRow
+abbrev pub root : RawNode
 root = root_with 511
 
-abbrev pub directory : (number : ℕ) → NodeRow
+abbrev pub directory : (number : ℕ) → RawNode
 directory number = node number Directory 511 1000 1 0
 
 -- with one name
-abbrev pub file : (number size : ℕ) → NodeRow
+abbrev pub file : (number size : ℕ) → RawNode
 file number size = node number File 420 1000 1 size
 
 abbrev pub extent : (number block tier place count : ℕ) → List ℕ → ExtentRow
@@ -53,7 +53,7 @@ letters (suc count) = replicate block_size 120 ++ letters count
 abbrev pub block_at : (number block place : ℕ) → ExtentRow
 block_at number block place = extent number block 0 place 1 (letters 1)
 
-abbrev pub raw : List NodeRow → List NameRow → List ExtentRow → RawImage
+abbrev pub raw : List RawNode → List NameRow → List ExtentRow → RawImage
 raw nodes names extents = record { sizes = sizes; nodes = nodes; names = names; extents = extents }
 
 -- the root, and file 5 of this size at "/a" with these extents

@@ -6,11 +6,11 @@ use Rattle.kfs_model.specs.PlanRow.{NameRow}
 use Rattle.kfs_model.specs.Placement.{Place, below}
 use Rattle.kfs_model_device.specs.Device.{Devices, byte_on}
 use Rattle.kfs_model_device.specs.ShownTree.{DeviceImage, shown_tree}
-use Rattle.kfs_model_device.specs.RawImage.{NodeRow, ExtentRow, RawImage, IsSpelled, heads_of, names_of, placement_of, image_of}
+use Rattle.kfs_model_device.specs.RawImage.{RawNode, ExtentRow, RawImage, IsSpelled, heads_of, names_of, placement_of, image_of}
 use Rattle.kfs_model_device.specs.Finding.{IsWellFormed}
 
-abbrev pub node_row : ℕ × Header → NodeRow
-node_row e = record { number = e.0; header = e.1 }
+abbrev pub raw_node : ℕ × Header → RawNode
+raw_node e = record { number = e.0; header = e.1 }
 
 abbrev pub name_row : (ℕ × List ℕ) × ℕ → NameRow
 name_row e = record { directory = e.0.0; name = e.0.1; number = e.1 }
@@ -26,7 +26,7 @@ extent_row devices e = record { number = e.0.0; block = e.0.1; tier = e.1.tier; 
 abbrev pub rows_of : DeviceImage → RawImage
 rows_of image = record {
   sizes = image.sizes;
-  nodes = map node_row image.heads.entries;
+  nodes = map raw_node image.heads.entries;
   names = map name_row image.names.entries;
   extents = map (extent_row image.devices) image.placement.entries;
 }

@@ -12,7 +12,7 @@ use Rattle.kfs_model.specs.Placement.{TierSizes, Place, Placement, below}
 use Rattle.kfs_model_device.specs.Device.{Devices}
 use Rattle.kfs_model_device.specs.ShownTree.{DeviceImage}
 
-pub record NodeRow : Type 0 where
+pub record RawNode : Type 0 where
   pub number : ℕ
   pub header : Header
 
@@ -27,14 +27,14 @@ pub record ExtentRow : Type 0 where
 
 pub record RawImage : Type 0 where
   pub sizes : TierSizes
-  pub nodes : List NodeRow
+  pub nodes : List RawNode
   pub names : List NameRow
   pub extents : List ExtentRow
 
 -- names are spelled as such, and uids and gids have 32 bits
 pub record IsSpelled (raw : RawImage) : Type 0 where
   pub names : AllByRecursion (λ (row : NameRow). IsName row.name) raw.names
-  pub ids : AllByRecursion (λ (row : NodeRow). (row.header.uid < 2 ^ 32) × (row.header.gid < 2 ^ 32)) raw.nodes
+  pub ids : AllByRecursion (λ (row : RawNode). (row.header.uid < 2 ^ 32) × (row.header.gid < 2 ^ 32)) raw.nodes
 
 -- ---- what the rows make
 
@@ -43,7 +43,7 @@ abbrev pub table_of : {K X : Type 0} (R : Order K) → List (K × X) → Table R
 table_of R [] = empty
 table_of R (e ∷ es) = insert (table_of R es) e.0 e.1
 
-abbrev pub node_entry : NodeRow → ℕ × Header
+abbrev pub node_entry : RawNode → ℕ × Header
 node_entry row = (row.number, row.header)
 
 abbrev pub heads_of : RawImage → Table numbers Header

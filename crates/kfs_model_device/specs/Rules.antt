@@ -10,7 +10,7 @@ use Rattle.kfs_model.specs.Sight.{is_directory, is_file, parent_in, climb_meets}
 use Rattle.kfs_model.specs.Check.{is_some_and}
 use Rattle.kfs_model.specs.PlanRow.{NameRow}
 use Rattle.kfs_model.specs.Placement.{TierSizes, tier_size}
-use Rattle.kfs_model_device.specs.RawImage.{NodeRow, ExtentRow, RawImage, heads_of, names_of}
+use Rattle.kfs_model_device.specs.RawImage.{RawNode, ExtentRow, RawImage, heads_of, names_of}
 
 pub record Test : Type 0 where
   pub holds : Bool
@@ -33,7 +33,7 @@ is_above R key (Some previous, row) = is_lt (R.compare (key previous) (key row))
 
 -- ---- nodes
 
-abbrev pub number_test : Option NodeRow × NodeRow → Test
+abbrev pub number_test : Option RawNode × RawNode → Test
 number_test e = test (is_above numbers (λ row. row.number) e && nat_le 1 e.1.number && nat_le e.1.number greatest_number) e.1.number
 
 -- node rows ascend, and numbers are in range
@@ -49,7 +49,7 @@ abbrev pub kind_fits : Kind → (links size : ℕ) → Bool
 kind_fits File links size = true
 kind_fits Directory links size = (links == 1) && (size == 0)
 
-abbrev pub header_test : NodeRow → Test
+abbrev pub header_test : RawNode → Test
 header_test row = test (nat_le row.header.mode greatest_mode && nat_le row.header.size size_limit && kind_fits row.header.kind row.header.links row.header.size) row.number
 
 -- modes and sizes are in range, and a directory has one link and no size
@@ -77,7 +77,7 @@ abbrev pub names_fit : Kind → (number links names : ℕ) → Bool
 names_fit File number links names = nat_le 1 names && nat_le names link_limit && (links == names)
 names_fit Directory number links names = (number == root_number) || (names == 1)
 
-abbrev pub names_test : NameTable → NodeRow → Test
+abbrev pub names_test : NameTable → RawNode → Test
 names_test names row = test (names_fit row.header.kind row.number row.header.links (name_count names row.number)) row.number
 
 -- nodes have as many names as they may
@@ -92,7 +92,7 @@ parent_of raw = parent_in (get (heads_of raw)) (names_of raw)
 abbrev pub reaches_root : RawImage → ℕ → Bool
 reaches_root raw number = climb_meets (parent_of raw) (length raw.nodes) root_number number
 
-abbrev pub climb_test : RawImage → NodeRow → Test
+abbrev pub climb_test : RawImage → RawNode → Test
 climb_test raw row = test (is_file (Some row.header) || reaches_root raw row.number) row.number
 
 -- from each directory the parents lead to number 1

@@ -122,20 +122,27 @@ pub record ComesToNet {A : Type 0} (s : State) (client : Client) (entries : List
   pub differs : IsNetOf (sight s.tree) (sight after) net
   pub ran_marked : run over_marks client (client_sight_of s client.number) (marked s.tree) entries ≡ Ok marked_after
 
+-- what a Yes holds: the log, the plan, what differs after the log, and the number of written blocks
+pub record YesParts (A : Type 0) : Type 0 where
+  pub log : CodeLog A
+  pub plan : CodePlan A
+  pub net : Net A
+  pub told : ℕ
+
 -- a Yes tells what the bytes spell, what the entries come to, and how many blocks are written
-pub record TellsYes {A : Type 0} (s : State) (submission : Submission) (log : CodeLog A) (plan : CodePlan A) (net : Net A) (told : ℕ) (after : Tree ℕ) (marked_after : Tree Mark) : Type 0 where
-  pub spelled : AreSpelled submission log plan
+pub record TellsYes {A : Type 0} (s : State) (submission : Submission) (parts : YesParts A) (after : Tree ℕ) (marked_after : Tree Mark) : Type 0 where
+  pub spelled : AreSpelled submission parts.log parts.plan
   pub client : Client
   pub row : row_of s.clients submission.client ≡ Some client
-  pub comes : ComesToNet s client (log_of submission.log log).entries net after marked_after
-  pub right : IsRight s.tree marked_after (plan_of plan)
-  pub need_told : told ≡ need marked_after
+  pub comes : ComesToNet s client (log_of submission.log parts.log).entries parts.net after marked_after
+  pub right : IsRight s.tree marked_after (plan_of parts.plan)
+  pub need_told : parts.told ≡ need marked_after
 
 -- the outcome is the verdict
 abbrev pub TellsVerdict : {A : Type 0} → State → Submission → Outcome A → Verdict → Type 0
 TellsVerdict s submission (outcomes.No fault) (No refusal) = refusal_of fault ≡ Some refusal
 TellsVerdict s submission (outcomes.No fault) (Yes after marked_after) = ⊥
-TellsVerdict s submission (outcomes.Yes log plan net told) (Yes after marked_after) = TellsYes s submission log plan net told after marked_after
+TellsVerdict s submission (outcomes.Yes log plan net told) (Yes after marked_after) = TellsYes s submission (record { log = log; plan = plan; net = net; told = told }) after marked_after
 TellsVerdict s submission (outcomes.Yes log plan net told) (No refusal) = ⊥
 
 -- the state's verdict on the submission is the outcome

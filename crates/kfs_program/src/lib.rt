@@ -4,5 +4,5 @@
 
 mod run;
 
-pub use kfs_program_engine::{EngineFault, engine};
+pub use kfs_program_engine::{EngineFault, LINE_LIMIT, engine};
 pub use run::{run_words, status_message};

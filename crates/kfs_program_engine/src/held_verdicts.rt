@@ -5,11 +5,9 @@ ghost use Rattle.kfs_workers.specs.Holding.{verdict_of};
 
 use kfs_plan::Judged;
 use kfs_program_command::Worker;
+use kfs_workers::WORKERS;
 use std::alloc::{AllocError, Allocator};
 use std::marker::Model;
-
-/// How many workers there are.
-const WORKERS: usize = 8;
 
 /// A hand for each worker, in their order.
 #[derive(Drop)]
@@ -18,10 +16,10 @@ pub struct HeldVerdicts<A: Allocator> {
 }
 
 impl<A: Allocator> Model for HeldVerdicts<A> {
-    ghost use Rattle.kfs_program_engine.specs.HeldVerdicts.{HeldVerdicts as HandsShown};
+    ghost use Rattle.kfs_program_engine.specs.HeldVerdicts.{HeldVerdicts as VerdictsShown};
     ghost use Rattle.std.specs.Prelude.{◌≡◌, length};
 
-    ghost Value = { HandsShown };
+    ghost Value = { VerdictsShown };
 
     ghost use Rattle.kfs_program_engine.specs.Holding.{hands_of};
 

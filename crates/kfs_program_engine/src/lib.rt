@@ -8,18 +8,19 @@ ghost use Rattle.kfs_program_text.specs.HeldOutput.{contents_with};
 ghost use Rattle.kfs_program_text.specs.Streams.{Exchanges};
 
 mod bytes;
-mod session_loop;
 pub mod examples;
 mod fault;
 mod held_verdicts;
 mod listing;
 mod opening;
 mod session;
+mod session_loop;
 mod verdicts;
 
-use session_loop::SessionLoop;
 pub use fault::EngineFault;
 use kfs_program_text::{HeldBack, read_some};
+pub use session_loop::LINE_LIMIT;
+use session_loop::SessionLoop;
 use std::alloc::{AllocError, Allocator};
 use std::io::{Read, Write};
 

@@ -14,7 +14,7 @@ use std::alloc::Allocator;
 use std::io::Write;
 
 /// The most bytes of a line without its end.
-const LONGEST_INPUT_LINE: usize = 16_777_216;
+pub const LINE_LIMIT: usize = 16_777_216;
 
 /// A session, and the line of it whose end has not been read.
 #[derive(Drop)]
@@ -82,7 +82,7 @@ impl<A: Allocator + Copy> SessionLoop<A> {
         ensures line { LineIsKept result (stage_of self.old.session) (self.old.line.items ++ part.now) self.new.line.items }
         ensures session { self.new.session ≡ self.old.session }
     {
-        if self.line.len().saturating_add(part.len()) > LONGEST_INPUT_LINE {
+        if self.line.len().saturating_add(part.len()) > LINE_LIMIT {
             return Err(EngineFault::LongLine);
         }
         self.line.extend_from_slice(part)?;

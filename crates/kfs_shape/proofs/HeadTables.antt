@@ -9,22 +9,22 @@ use Rattle.kfs_model.specs.Header.{Header}
 use Rattle.kfs_model.specs.Table.{numbers, get, option_or}
 use Rattle.kfs_model.proofs.TableLaws.{get-insert}
 use Rattle.kfs_model_device.specs.RawImage.{table_of, node_entry}
-use Rattle.kfs_shape.specs.declared.raw.NodeRow.{NodeRow}
-use Rattle.kfs_shape.specs.Views.{node_row_of}
+use Rattle.kfs_image.specs.declared.raw.RawNode.{RawNode}
+use Rattle.kfs_image.specs.RawImages.{raw_node_of}
 
 -- what the rows from an index on show at a number
-abbrev pub head_in : List NodeRow → (index number : ℕ) → Option Header
-head_in rows index number = get (table_of numbers (map node_entry (map node_row_of (drop index rows)))) number
+abbrev pub head_in : List RawNode → (index number : ℕ) → Option Header
+head_in rows index number = get (table_of numbers (map node_entry (map raw_node_of (drop index rows)))) number
 
-pub head_end : (rows : List NodeRow) (index number : ℕ) → length rows ≤ index → head_in rows index number ≡ None
+pub head_end : (rows : List RawNode) (index number : ℕ) → length rows ≤ index → head_in rows index number ≡ None
 unfolding get
-head_end rows index number past = ap (λ xs. get (table_of numbers (map node_entry (map node_row_of xs))) number) (drop_all index rows past)
+head_end rows index number past = ap (λ xs. get (table_of numbers (map node_entry (map raw_node_of xs))) number) (drop_all index rows past)
 
-pub head_next : (rows : List NodeRow) (index number : ℕ) (d : NodeRow) → index < length rows
+pub head_next : (rows : List RawNode) (index number : ℕ) (d : RawNode) → index < length rows
     → head_in rows index number ≡ cond (eq_by_cmp nat_cmp number (get_or rows index d).number) (Some (header_of (get_or rows index d).header)) (head_in rows (index + 1) number)
 head_next rows index number d within =
-    ap (λ xs. get (table_of numbers (map node_entry (map node_row_of xs))) number) (drop_more rows index d within)
-    ∙ get-insert (table_of numbers (map node_entry (map node_row_of (drop (index + 1) rows)))) (get_or rows index d).number (header_of (get_or rows index d).header) number
+    ap (λ xs. get (table_of numbers (map node_entry (map raw_node_of xs))) number) (drop_more rows index d within)
+    ∙ get-insert (table_of numbers (map node_entry (map raw_node_of (drop (index + 1) rows)))) (get_or rows index d).number (header_of (get_or rows index d).header) number
 
 -- the first header stands before the later ones
 pub taken_first : (old : Option CodeHeader) (here : Bool) (header : CodeHeader) (later : Option Header)

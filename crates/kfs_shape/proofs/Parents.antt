@@ -11,7 +11,7 @@ use Rattle.kfs_model.specs.Sight.{is_directory, holder}
 use Rattle.kfs_model.proofs.CleanIsAllowed.{right}
 use Rattle.kfs_model.proofs.Heads.{has_parent}
 use Rattle.kfs_model.specs.Plan.{keyed_name}
-use Rattle.kfs_model_device.specs.RawImage.{NodeRow, RawImage, heads_of, names_of}
+use Rattle.kfs_model_device.specs.RawImage.{RawNode, RawImage, heads_of, names_of}
 use Rattle.kfs_model_device.specs.Rules.{with_previous, number_test, rule_1, rule_4, parent_of}
 use Rattle.kfs_model_device.specs.Finding.{least_failed}
 use Rattle.kfs_model_device.proofs.RulesHold.{AllHold}
@@ -40,7 +40,7 @@ leads_nowhere many n within =
 
 -- ---- numbers in range
 
-nodes_in_range : (previous : Option NodeRow) (rows : List NodeRow) → AllHold (map number_test (with_previous previous rows)) → AllByRecursion (λ row. row.number ≤ 65536) rows
+nodes_in_range : (previous : Option RawNode) (rows : List RawNode) → AllHold (map number_test (with_previous previous rows)) → AllByRecursion (λ row. row.number ≤ 65536) rows
 nodes_in_range previous [] hold = tt
 nodes_in_range previous (row ∷ rows) hold = (leb-true row.number 65536 (right _ _ hold.0), nodes_in_range (Some row) rows hold.1)
 

@@ -9,8 +9,8 @@ use Rattle.kfs_entry_value.specs.Views.{header_of}
 use Rattle.kfs_model.specs.Header.{Header}
 use Rattle.kfs_model.specs.Table.{get, option_or}
 use Rattle.kfs_model_device.specs.RawImage.{heads_of}
-use Rattle.kfs_shape.specs.declared.raw.RawImage.{RawImage as CodeRawImage}
-use Rattle.kfs_shape.specs.Views.{raw_of}
+use Rattle.kfs_image.specs.declared.raw.RawImage.{RawImage as CodeRawImage}
+use Rattle.kfs_image.specs.RawImages.{raw_of}
 
 -- the header that the map has for a number
 abbrev pub head_at : BTreeMap ℕ CodeHeader → (number : ℕ) → Option Header

@@ -1,4 +1,3 @@
-pub mod Views
 pub mod Least
 pub mod Heads
 pub mod Names

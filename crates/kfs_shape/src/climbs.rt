@@ -5,12 +5,12 @@ ghost use Rattle.kfs_model_device.specs.Rules.{rule_1, rule_4, rule_7, reaches_r
 ghost use Rattle.kfs_model_device.specs.Finding.{least_failed};
 ghost use Rattle.kfs_shape.specs.Climbs.{ancestor_at, ancestor_from, is_root, LeadsFirst, ParentsOf};
 ghost use Rattle.kfs_shape.specs.Heads.{head_at, ShowsHeads};
-ghost use Rattle.kfs_shape.specs.Views.{node_row_of, raw_of};
+ghost use Rattle.kfs_image.specs.RawImages.{raw_node_of, raw_of};
 
 use crate::heads::has_directory;
 use crate::least::noted;
-use crate::raw::{NodeRow, RawImage};
 use kfs_entry_value::{Header, Kind, NameRow, ROOT};
+use kfs_image::{RawImage, RawNode};
 use std::alloc::{AllocError, Allocator};
 use std::collections::BTreeMap;
 
@@ -85,7 +85,10 @@ fn ancestor_from(ancestors: &[Option<u32>], number: Option<u32>) -> Option<u32>
 }
 
 /// Leads from each number where two steps of the list lead. An error is for want of memory.
-fn doubled<A: Allocator>(alloc: A, ancestors: &[Option<u32>]) -> Result<Vec<Option<u32>, A>, AllocError>
+fn doubled<A: Allocator>(
+    alloc: A,
+    ancestors: &[Option<u32>],
+) -> Result<Vec<Option<u32>, A>, AllocError>
     ensures { IfOk result (λ twice. (number : ℕ) → ancestor_at twice.items number ≡ ancestor_from ancestors.now (ancestor_at ancestors.now number)) }
 {
     let mut twice = Vec::with_capacity(alloc, ancestors.len())?;
@@ -114,8 +117,8 @@ fn tops<A: Allocator + Copy>(
 }
 
 /// Whether the node is a file, or leads to the root.
-fn is_below_root(tops: &[Option<u32>], row: &NodeRow) -> bool
-    ensures { result ≡ (is_file (Some (node_row_of row.now).header) || is_root (ancestor_at tops.now row.now.number)) }
+fn is_below_root(tops: &[Option<u32>], row: &RawNode) -> bool
+    ensures { result ≡ (is_file (Some (raw_node_of row.now).header) || is_root (ancestor_at tops.now row.now.number)) }
 {
     row.header.kind == Kind::File || ancestor_at(tops, row.number) == Some(ROOT)
 }

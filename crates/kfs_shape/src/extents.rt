@@ -6,11 +6,11 @@ ghost use Rattle.kfs_model_device.specs.Rules.{is_above, ends_in_file, tier_test
 ghost use Rattle.kfs_model_device.specs.Finding.{least_failed};
 ghost use Rattle.kfs_shape.specs.Heads.{head_at, ShowsHeads};
 ghost use Rattle.kfs_shape.specs.Extents.{is_behind, is_full, is_in_place};
-ghost use Rattle.kfs_shape.specs.Views.{extent_row_of, raw_of};
+ghost use Rattle.kfs_image.specs.RawImages.{extent_row_of, raw_of};
 
 use crate::least::{noted, previous};
-use crate::raw::{ExtentRow, RawImage};
 use kfs_entry_value::{BLOCK_SIZE, Header, Kind, TierSizes};
+use kfs_image::{ExtentRow, RawImage};
 use std::alloc::Allocator;
 use std::collections::BTreeMap;
 
@@ -22,7 +22,9 @@ fn is_in_order<A: Allocator>(before: Option<&ExtentRow<A>>, row: &ExtentRow<A>) 
         None => true,
         Some(other) => {
             let by_number = other.number.cmp(&row.number);
-            by_number.then(other.block.cmp(&row.block)).is_lt()
+            by_number
+                .then(other.extent.block.cmp(&row.extent.block))
+                .is_lt()
         }
     }
 }
@@ -34,8 +36,8 @@ fn is_behind<A: Allocator>(before: Option<&ExtentRow<A>>, row: &ExtentRow<A>) ->
     match before {
         None => true,
         Some(other) => {
-            let end = u64::from(other.block) + u64::from(other.count);
-            other.number != row.number || end <= u64::from(row.block)
+            let end = u64::from(other.extent.block) + u64::from(other.extent.count);
+            other.number != row.number || end <= u64::from(row.extent.block)
         }
     }
 }
@@ -44,7 +46,7 @@ fn is_behind<A: Allocator>(before: Option<&ExtentRow<A>>, row: &ExtentRow<A>) ->
 fn ends_in_file<A: Allocator>(headers: &BTreeMap<u32, Header, A>, row: &ExtentRow<A>) -> bool
     ensures { result ≡ ends_in_file (head_at headers.now row.now.number) (extent_row_of row.now) }
 {
-    let end = u64::from(row.block) + u64::from(row.count);
+    let end = u64::from(row.extent.block) + u64::from(row.extent.count);
     let last = end.saturating_sub(1) * BLOCK_SIZE;
     match headers.get(&row.number) {
         None => false,
@@ -56,7 +58,7 @@ fn ends_in_file<A: Allocator>(headers: &BTreeMap<u32, Header, A>, row: &ExtentRo
 fn is_full<A: Allocator>(row: &ExtentRow<A>) -> bool
     ensures { result ≡ is_full (extent_row_of row.now) }
 {
-    row.count >= 1 && row.bytes.len() as u64 == u64::from(row.count) * BLOCK_SIZE
+    row.extent.count >= 1 && row.bytes.len() as u64 == u64::from(row.extent.count) * BLOCK_SIZE
 }
 
 /// Whether the extent is one of blocks of a file, behind the row before.
@@ -95,8 +97,8 @@ pub fn least_misplaced<A: Allocator>(
 fn is_in_tier<A: Allocator>(sizes: TierSizes, row: &ExtentRow<A>) -> bool
     ensures { result ≡ (tier_test sizes (extent_row_of row.now)).holds }
 {
-    let end = u64::from(row.place) + u64::from(row.count);
-    row.tier <= 2 && end <= u64::from(sizes.size(row.tier))
+    let end = u64::from(row.extent.place) + u64::from(row.extent.count);
+    row.extent.tier <= 2 && end <= u64::from(sizes.size(row.extent.tier))
 }
 
 /// The least number of an extent that lies in no tier from 0 to 2, or past its end. Takes no memory.

@@ -2,19 +2,25 @@
 #![tactic(auto)]
 
 mod check;
+#[doc(hidden)]
 pub mod climbs;
 mod counts;
+#[doc(hidden)]
 pub mod extents;
 mod fault;
+#[doc(hidden)]
 pub mod heads;
 mod least;
+#[doc(hidden)]
 pub mod names;
+#[doc(hidden)]
 pub mod nodes;
+#[doc(hidden)]
 pub mod places;
-mod raw;
 
 pub use check::check_shape;
 pub use fault::{Finding, ShapeFault};
 pub use kfs_entry_value::{Header, Kind, Name, NameRow, TierSizes};
-pub use kfs_image::{Fill, Net, net_apply};
-pub use raw::{ExtentRow, NodeRow, RawImage};
+pub use kfs_image::{
+    BlockRow, BlockRun, Extent, ExtentRow, Fill, Net, Place, RawImage, RawNode, net_apply,
+};

@@ -7,15 +7,15 @@ ghost use Rattle.kfs_entry_value.specs.Views.{kind_of, name_row_of};
 ghost use Rattle.kfs_model_device.specs.Rules.{is_above, names_fit, rule_4, rule_5, rule_6};
 ghost use Rattle.kfs_model_device.specs.Finding.{least_failed};
 ghost use Rattle.kfs_shape.specs.Names.{is_in_place};
-ghost use Rattle.kfs_shape.specs.Views.{raw_of};
+ghost use Rattle.kfs_image.specs.RawImages.{raw_of};
 ghost use Rattle.kfs_shape.specs.Counts.{count_at, leads_to};
 ghost use Rattle.kfs_shape.specs.Heads.{head_at, ShowsHeads};
 
 use crate::counts::{count_more, count_of};
 use crate::heads::{has_directory, has_node};
 use crate::least::{noted, previous};
-use crate::raw::{NodeRow, RawImage};
 use kfs_entry_value::{Header, Kind, LINK_LIMIT, NameRow, ROOT};
+use kfs_image::{RawImage, RawNode};
 use std::alloc::{AllocError, Allocator};
 use std::collections::BTreeMap;
 
@@ -93,7 +93,7 @@ fn name_counts<A: Allocator + Copy>(
 }
 
 /// Whether a node of this row may have so many names.
-fn may_have_names(row: &NodeRow, names: u64) -> bool
+fn may_have_names(row: &RawNode, names: u64) -> bool
     ensures { result ≡ names_fit (kind_of row.now.header.kind) row.now.number row.now.header.links names }
 {
     let header = row.header;

@@ -3,16 +3,16 @@ ghost use Rattle.std.specs.Prelude.{◌≡◌};
 ghost use Rattle.std.specs.Option.{option_copied, option_map};
 ghost use Rattle.kfs_model_device.specs.Rules.{number_test, header_test, rule_1, rule_3};
 ghost use Rattle.kfs_model_device.specs.Finding.{least_failed};
-ghost use Rattle.kfs_shape.specs.Views.{node_row_of, raw_of};
+ghost use Rattle.kfs_image.specs.RawImages.{raw_node_of, raw_of};
 
 use crate::least::{noted, previous};
-use crate::raw::{NodeRow, RawImage};
 use kfs_entry_value::{GREATEST_MODE, GREATEST_NUMBER, Kind, SIZE_LIMIT};
+use kfs_image::{RawImage, RawNode};
 use std::alloc::Allocator;
 
 /// Whether the number is in range and above that of the row before.
-fn is_in_order(before: Option<&NodeRow>, row: &NodeRow) -> bool
-    ensures { result ≡ (number_test (option_map node_row_of (option_copied before.entry), node_row_of row.now)).holds }
+fn is_in_order(before: Option<&RawNode>, row: &RawNode) -> bool
+    ensures { result ≡ (number_test (option_map raw_node_of (option_copied before.entry), raw_node_of row.now)).holds }
 {
     let is_above = match before {
         None => true,
@@ -36,8 +36,8 @@ pub fn least_out_of_order<A: Allocator>(raw: &RawImage<A>) -> Option<u32>
 }
 
 /// Whether mode and size are in range, and a directory has one link and no size.
-fn is_header_in_range(row: &NodeRow) -> bool
-    ensures { result ≡ (header_test (node_row_of row.now)).holds }
+fn is_header_in_range(row: &RawNode) -> bool
+    ensures { result ≡ (header_test (raw_node_of row.now)).holds }
 {
     let header = row.header;
     let fits = match header.kind {

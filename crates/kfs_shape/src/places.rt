@@ -4,12 +4,12 @@ ghost use Rattle.kfs_model_device.specs.Rules.{rule_8, rule_9, rule_10};
 ghost use Rattle.kfs_model_device.specs.Finding.{least_failed};
 ghost use Rattle.kfs_shape.specs.Counts.{count_at};
 ghost use Rattle.kfs_shape.specs.Places.{first_position, has_position, lies_at, TellsWhetherAlone};
-ghost use Rattle.kfs_shape.specs.Views.{extent_row_of, raw_of};
+ghost use Rattle.kfs_image.specs.RawImages.{extent_row_of, raw_of};
 
 use crate::counts::{count_more, count_of};
 use crate::least::noted;
-use crate::raw::{ExtentRow, RawImage};
 use kfs_entry_value::TIER_LIMIT;
+use kfs_image::{ExtentRow, RawImage};
 use std::alloc::{AllocError, Allocator};
 use std::collections::BTreeMap;
 
@@ -20,7 +20,7 @@ const TIER_SPAN: u64 = 8_589_934_592;
 fn position<A: Allocator>(row: &ExtentRow<A>, index: u32) -> u64
     ensures { result ≡ first_position (extent_row_of row.now) + index }
 {
-    let (tier, place) = (row.tier, row.place);
+    let (tier, place) = (row.extent.tier, row.extent.place);
     u64::from(tier) * TIER_SPAN + u64::from(place) + u64::from(index)
 }
 
@@ -32,7 +32,7 @@ fn count_places<A: Allocator + Clone>(
     requires { (n : ℕ) → count_at uses.old n + 1 < 2 ^ 64 }
     ensures { IfOk result (λ done. (n : ℕ) → count_at uses.new n ≡ count_at uses.old n + (if has_position n (extent_row_of row.now) then 1 else 0)) }
 {
-    for index in 0..row.count {
+    for index in 0..row.extent.count {
         count_more(uses, position(row, index))?;
     }
     Ok(())
@@ -56,7 +56,7 @@ fn place_counts<A: Allocator + Copy>(
 fn is_alone<A: Allocator>(uses: &BTreeMap<u64, u64, A>, row: &ExtentRow<A>) -> bool
     ensures { TellsWhetherAlone uses.now (extent_row_of row.now) result }
 {
-    for index in 0..row.count {
+    for index in 0..row.extent.count {
         if count_of(uses, position(row, index)) > 1 {
             return false;
         }

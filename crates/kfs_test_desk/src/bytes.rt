@@ -1,8 +1,7 @@
 //! Bytes that land over others: what is then read, and where the blocks lie.
 
 use crate::desks::{create, is_accepted, is_answered, is_leased, landed, opening_over, submission};
-use kfs_desk::Desk;
-use kfs_desk::answers::Reply;
+use kfs_desk::{Desk, Reply};
 use kfs_image::{ReadFault, read_file};
 use kfs_plan::Submission;
 use kfs_test_support::vectors::{EDITS_LOG, EDITS_PLAN};

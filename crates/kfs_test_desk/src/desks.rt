@@ -1,7 +1,6 @@
 //! The calls of the desk and of the image, each in a function without clauses.
 
-use kfs_desk::Desk;
-use kfs_desk::answers::{Act, ActReply, Done, Reply};
+use kfs_desk::{Act, ActReply, Desk, Done, Reply};
 use kfs_image::{Answer, Cell, Header, Image, Kind, Name, Shape, TierSizes, look};
 use kfs_lease::LeaseKind;
 use kfs_mode::{Client, ClientFault};

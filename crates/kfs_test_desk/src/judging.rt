@@ -1,8 +1,7 @@
 //! Submissions that are handed in at once, one after another.
 
 use crate::desks::{is_answer, landed, opening, submission};
-use kfs_desk::Desk;
-use kfs_desk::answers::Reply;
+use kfs_desk::{Desk, Reply};
 use kfs_judge::{EntryFault, Reason};
 use kfs_plan::{Fault, RowFault, Submission, Why};
 use kfs_test_support::vectors::{CREATE_LOG, CREATE_PLAN};

@@ -2,7 +2,7 @@
 
 use crate::desks::{AMPLE, Shown, is_accepted, opening, shows, submission};
 use kfs_desk::Desk;
-use kfs_image::{Header, Kind, Shape};
+use kfs_image::{Header, HeaderPage, Kind, Shape};
 use kfs_test_support::refusing::Refusing;
 use std::alloc::{AllocError, Allocator, Global};
 use std::process::Abort;
@@ -29,7 +29,7 @@ const AFTER: [Shown<'static>; 4] = [
 
 /// The header of 65 in the second page, where the shape has that page.
 fn header_in_second_page(shape: &Shape<Global>) -> Option<Option<Header>> {
-    Some(shape.page(1)?.get(65).copied())
+    Some(shape.page(1)?.header(65))
 }
 
 /// Whether the second page has the file 65.

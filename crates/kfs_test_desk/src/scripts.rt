@@ -1,8 +1,7 @@
 //! Scripts of workers: steps in and out of their place, calls among them, and each growth of a script refused in turn.
 
 use crate::desks::{AMPLE, FILE, NO_FILE, Shown, opening, shows, submission, yes};
-use kfs_desk::Desk;
-use kfs_desk::answers::{Act, Reply};
+use kfs_desk::{Act, Desk, Reply};
 use kfs_judge::{EntryFault, Reason};
 use kfs_lease::LeaseKind;
 use kfs_plan::{Fault, Submission};

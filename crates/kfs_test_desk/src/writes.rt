@@ -2,7 +2,7 @@
 
 use crate::bytes::desk_with_file;
 use crate::desks::{is_answered, landed, submission};
-use kfs_desk::answers::Reply;
+use kfs_desk::Reply;
 use kfs_plan::{Fault, RowFault, Submission};
 use std::alloc::{AllocError, Global};
 

@@ -97,7 +97,7 @@ fn apply_alone<A: Allocator + Clone>(
     requires { IsLawful (after_net net.now image.old) }
 {
     let fill = Fill::empty(alloc)?;
-    net_apply(image, net, &fill)
+    net_apply(alloc.clone()?, image, net, &fill)
 }
 
 /// A new image with so many blocks on tier 0, and the nodes that are made.

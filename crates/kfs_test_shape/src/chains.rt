@@ -1,7 +1,7 @@
 //! Images of as many nodes as there may be: directories one in another.
 
 use kfs_shape::{
-    Header, Kind, Name, NameRow, NodeRow, RawImage, ShapeFault, TierSizes, check_shape,
+    Header, Kind, Name, NameRow, RawImage, RawNode, ShapeFault, TierSizes, check_shape,
 };
 use std::alloc::Allocator;
 use std::process::Abort;
@@ -18,10 +18,10 @@ const DIRECTORY: Header = Header {
     size: 0,
 };
 
-fn directories<A: Allocator>(alloc: A) -> Option<Vec<NodeRow, A>> {
+fn directories<A: Allocator>(alloc: A) -> Option<Vec<RawNode, A>> {
     let mut nodes = Vec::new(alloc);
     for number in 1..=GREATEST {
-        let row = NodeRow {
+        let row = RawNode {
             number,
             header: DIRECTORY,
         };

@@ -1,7 +1,8 @@
 //! Raw images, row by row.
 
 use kfs_shape::{
-    ExtentRow, Header, Kind, Name, NameRow, NodeRow, RawImage, ShapeFault, TierSizes, check_shape,
+    Extent, ExtentRow, Header, Kind, Name, NameRow, RawImage, RawNode, ShapeFault, TierSizes,
+    check_shape,
 };
 use std::alloc::Allocator;
 
@@ -44,17 +45,17 @@ fn header(kind: Kind, mode: u16, links: u16, size: u64) -> Header {
     }
 }
 
-fn node(line: NodeLine) -> NodeRow {
+fn node(line: NodeLine) -> RawNode {
     match line {
-        NodeLine::Directory(number) => NodeRow {
+        NodeLine::Directory(number) => RawNode {
             number,
             header: header(Kind::Directory, 0o777, 1, 0),
         },
-        NodeLine::File(number, size) => NodeRow {
+        NodeLine::File(number, size) => RawNode {
             number,
             header: header(Kind::File, 0o644, 1, size),
         },
-        NodeLine::Empty(number, kind, mode, links) => NodeRow {
+        NodeLine::Empty(number, kind, mode, links) => RawNode {
             number,
             header: header(kind, mode, links, 0),
         },
@@ -69,12 +70,15 @@ fn name((dir, name, number): NameLine) -> Option<NameRow> {
 fn extent<A: Allocator>(alloc: A, line: ExtentLine) -> Option<ExtentRow<A>> {
     let ExtentLine(number, block, tier, place, count, len) = line;
     let bytes = vec![in alloc; b'x'; len].ok()?;
-    Some(ExtentRow {
-        number,
+    let extent = Extent {
         block,
         tier,
         place,
         count,
+    };
+    Some(ExtentRow {
+        number,
+        extent,
         bytes,
     })
 }
@@ -100,7 +104,7 @@ fn names_of<A: Allocator + Copy>(alloc: A, parts: &[Rows]) -> Option<Vec<NameRow
     Some(names)
 }
 
-fn nodes_of<A: Allocator + Copy>(alloc: A, parts: &[Rows]) -> Option<Vec<NodeRow, A>> {
+fn nodes_of<A: Allocator + Copy>(alloc: A, parts: &[Rows]) -> Option<Vec<RawNode, A>> {
     let mut nodes = Vec::new(alloc);
     for part in parts {
         for line in part.nodes {

@@ -2,8 +2,9 @@
 #![tactic(auto)]
 
 mod desk_view;
-mod script_state;
 mod script;
+mod script_state;
 
 pub use desk_view::DeskView;
 pub use script::{ScriptBack, ScriptEnd, Step, run_script};
+pub use script_state::WORKERS;

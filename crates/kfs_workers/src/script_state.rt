@@ -9,7 +9,7 @@ ghost use Rattle.kfs_workers.specs.Script.{DoesAct, DoesStep, DoesJudge, DoesLan
 use crate::desk_view::DeskView;
 use crate::script::{ScriptBack, ScriptEnd, Step};
 use kfs_desk::Desk;
-use kfs_desk::room::push_within;
+use kfs_entry_value::push_within;
 use kfs_lease::Act;
 use kfs_plan::answers::Reply;
 use kfs_plan::{Judged, Submission};
@@ -17,7 +17,7 @@ use std::alloc::{AllocError, Allocator};
 use std::marker::Model;
 
 /// How many workers there are.
-const WORKERS: usize = 8;
+pub const WORKERS: usize = 8;
 
 /// What a worker holds under a ticket.
 #[derive(Drop)]

@@ -5,20 +5,25 @@ use std::alloc::Allocator;
 
 /// A node and what it shows of itself.
 #[derive(Clone, Copy, Debug, PartialEq, Eq)]
-pub struct NodeRow {
+pub struct RawNode {
     pub number: u32,
     pub header: Header,
 }
 
-/// Blocks of the file `number` from `block` on, as many as `count`. They lie at places of a tier from
-/// `place` on, and `bytes` are theirs, block after block.
-#[derive(Debug, Drop)]
-pub struct ExtentRow<A: Allocator> {
-    pub number: u32,
+/// Blocks next to each other: `count` blocks of a file from `block` on, at places of one tier from `place` on.
+#[derive(Clone, Copy, Debug, PartialEq, Eq)]
+pub struct Extent {
     pub block: u32,
     pub tier: u8,
     pub place: u32,
     pub count: u32,
+}
+
+/// An extent of the file `number`, and the bytes of its blocks, 4,096 for each, block after block.
+#[derive(Debug, Drop)]
+pub struct ExtentRow<A: Allocator> {
+    pub number: u32,
+    pub extent: Extent,
     pub bytes: Vec<u8, A>,
 }
 
@@ -26,7 +31,7 @@ pub struct ExtentRow<A: Allocator> {
 #[derive(Debug, Drop)]
 pub struct RawImage<A: Allocator> {
     pub sizes: TierSizes,
-    pub nodes: Vec<NodeRow, A>,
+    pub nodes: Vec<RawNode, A>,
     pub names: Vec<NameRow, A>,
     pub extents: Vec<ExtentRow<A>, A>,
 }

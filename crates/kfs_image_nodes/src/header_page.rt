@@ -1,0 +1,23 @@
+//! The headers of a page of nodes.
+ghost use Rattle.std.specs.Prelude.{◌≡◌, option_map};
+ghost use Rattle.kfs_entry_value.specs.Views.{header_of};
+ghost use Rattle.kfs_model.specs.Table.{get};
+
+use kfs_entry_value::Header;
+use kfs_map_pages::Page;
+use std::alloc::Allocator;
+
+/// What a page of nodes shows of each of its 64 numbers.
+pub trait HeaderPage {
+    /// The header of the node with this number, or none where no node has it or it belongs to another
+    /// page. Takes no memory.
+    fn header(&self, number: u32) -> Option<Header>;
+}
+
+impl<A: Allocator> HeaderPage for Page<Header, A> {
+    fn header(&self, number: u32) -> Option<Header>
+        ensures { option_map header_of result ≡ option_map header_of (get self.now.values number) }
+    {
+        self.get(number).copied()
+    }
+}
