@@ -5,7 +5,8 @@ use Rattle.kfs_model.specs.Header.{Header}
 use Rattle.kfs_model.specs.Limits.{greatest_number}
 use Rattle.kfs_model.specs.Distinct.{are_distinct}
 
--- a client's row: who it is, and the numbers that it may give to new nodes
+-- a client's row: its number, its ids and groups, and the range of numbers that it may give to new
+-- nodes
 pub record Client : Type 0 where
   pub number : ℕ
   pub uid : ℕ
@@ -25,13 +26,14 @@ pub data Class : Type 0 where
 pub data Want : Type 0 where
   Read Write Search : Want
 
--- owner where the uids are equal, else group where one of the client's groups is the node's, else other
+-- the class that counts for the client: owner where the uids are equal, else group where one of the
+-- client's groups is the node's, else other
 abbrev pub class_of : Client → (uid gid : ℕ) → Class
 class_of client uid gid =
     if client.uid == uid then Owner
     else (if (client.gid == gid) || list_any (λ g. g == gid) client.groups then Group else Other)
 
--- what the lowest bit of a class counts in a mode
+-- the value of the class's lowest bit in a mode: 0o100, 0o10 or 1
 abbrev pub class_unit : Class → ℕ
 class_unit Owner = 64
 class_unit Group = 8
@@ -42,22 +44,23 @@ bit_value Read = 4
 bit_value Write = 2
 bit_value Search = 1
 
--- whether the mode has the bit in the class
+-- whether the mode has this bit in this class
 abbrev pub has_bit : (mode : ℕ) → Class → Want → Bool
 has_bit mode class want = (mode / (class_unit class * bit_value want)) % 2 == 1
 
--- a privileged client is granted each bit, another one those of the one class that holds
+-- whether the client may: a privileged client always, any other where the mode has the bit in the
+-- client's class
 abbrev pub may : Client → (uid gid mode : ℕ) → Want → Bool
 may client uid gid mode want = client.privileged || has_bit mode (class_of client uid gid) want
 
 abbrev pub may_header : Client → Header → Want → Bool
 may_header client h want = may client h.uid h.gid h.mode want
 
--- the node's owner, or a privileged client
+-- whether the client owns a node of this uid, or is privileged
 abbrev pub owns : Client → (uid : ℕ) → Bool
 owns client uid = (client.uid == uid) || client.privileged
 
--- whether a client may have these as its first and its last number: nodes have those from 1 to the greatest
+-- whether a client's grant may be first to last: no number below 1, none above the greatest
 abbrev pub is_grant : (first last : ℕ) → Bool
 is_grant first last = nat_le 1 first && nat_le last greatest_number
 

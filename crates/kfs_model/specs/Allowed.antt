@@ -1,11 +1,12 @@
--- What an entry needs, said of the client, its leases, the tree and the numbers created so far, in no order.
+-- What an entry needs: facts about the client, its leases, the tree and the numbers created so far,
+-- with no order among them.
 use Rattle.std.specs.Prelude.{◌≡◌, ◌≤◌, ◌⊎◌, ℕ, List, Some, IsTrue}
 use Rattle.kfs_model.specs.Header.{Header}
 use Rattle.kfs_model.specs.Access.{Want, may_header, owns, Search}
 use Rattle.kfs_model.specs.Entry.{Entry, Create, Write, Truncate, Link, Unlink, Rename, Chmod}
 use Rattle.kfs_model.specs.Check.{EntryContext}
 
--- the client has the bit on the node
+-- the client may use the node in this way
 abbrev pub IsGrantedBit : EntryContext → Want → ℕ → Type 0
 IsGrantedBit context want n = (h : Header) × (context.now.head n ≡ Some h) × IsTrue (may_header context.client h want)
 
@@ -22,7 +23,7 @@ pub record MayChangeFile (context : EntryContext) (number : ℕ) : Type 0 where
   pub write : IsGrantedBit context Want.Write number ⊎ IsTrue (context.created number)
   pub leased : IsLeasedTo context number
 
--- the node that a name leads to
+-- the name leads to this node
 abbrev pub NameLeadsTo : EntryContext → ℕ → List ℕ → ℕ → Type 0
 NameLeadsTo context directory name number = context.now.name directory name ≡ Some number
 
@@ -45,7 +46,7 @@ pub record MayMove (context : EntryContext) (d : ℕ) (m : List ℕ) (e : ℕ) (
   pub moved : (number : ℕ) × NameLeadsTo context d m number × IsLeasedTo context number
   pub replaced : (number : ℕ) → NameLeadsTo context e k number → IsLeasedTo context number
 
--- both names lead to one node, so that nothing changes
+-- both names lead to the same node, so that a Rename changes nothing
 pub record MayKeep (context : EntryContext) (d : ℕ) (m : List ℕ) (e : ℕ) (k : List ℕ) : Type 0 where
   pub same : (number : ℕ) × NameLeadsTo context d m number × NameLeadsTo context e k number
   pub from : IsGrantedBit context Search d

@@ -1,4 +1,4 @@
--- Which blocks a log writes, by the pieces of its files: no byte is looked at.
+-- Which blocks a log writes, computed from the pieces alone, without looking at bytes.
 use Rattle.std.specs.Prelude.{ℕ, ◌+◌, ◌-◌, ◌/◌, ◌%◌, ◌==◌, ◌++◌, ◌&&◌, ◌||◌, nat_le, max, Bool, true, false, List, [], ◌∷◌, length, filter, Some, if◌then◌else◌}
 use Rattle.kfs_model.specs.Limits.{block_size}
 use Rattle.kfs_model.specs.Tree.{Node, content_of}
@@ -11,7 +11,7 @@ pub record BlockRange : Type 0 where
   pub first : ℕ
   pub last : ℕ
 
--- how many blocks are in one of them at least, from a block on: each block is counted once
+-- how many blocks from `next` on lie in the ranges; a block in two ranges is counted once
 unfoldable pub counted : (next : ℕ) → List BlockRange → ℕ
 counted next [] = 0
 counted next (r ∷ rs) = (r.last + 1 - max r.first next) + counted (max next (r.last + 1)) rs
@@ -20,7 +20,7 @@ abbrev pub is_zero_source : Source → Bool
 is_zero_source Source.Zero = true
 is_zero_source (Source.Payload entry place) = false
 
--- the pieces go on with zero bytes from this place on
+-- whether the next piece is of zero bytes and starts at this place
 abbrev pub goes_on : (place : ℕ) → List Piece → Bool
 goes_on place [] = false
 goes_on place (r ∷ rs) = is_zero_source r.source && (r.start == place)
@@ -29,8 +29,8 @@ goes_on place (r ∷ rs) = is_zero_source r.source && (r.start == place)
 abbrev pub block_of : (place : ℕ) → BlockRange
 block_of place = record { first = place / block_size; last = place / block_size }
 
--- The blocks that the pieces of a file of this size write, where the last zero bytes ended at `until`: those of payloads, and
--- those in which zero bytes begin or end beside other bytes.
+-- The blocks that the pieces of one file write; the last zero piece ended at `until`. These are the
+-- blocks of payloads, and the blocks in which zero bytes begin or end next to other bytes.
 unfoldable pub touches : (size until : ℕ) → List Piece → List BlockRange
 touches size until [] = []
 touches size until (r ∷ rs) =
@@ -43,11 +43,11 @@ touches size until (r ∷ rs) =
 abbrev pub of_file : (number : ℕ) → List Piece → List Piece
 of_file number pieces = filter (λ r. r.number == number) pieces
 
--- how many blocks the pieces of this node write: `touches` begins at block 0, with no zero bytes before
+-- how many blocks of this node the pieces write
 abbrev pub node_blocks : List Piece → ℕ × Node Mark → ℕ
 node_blocks pieces entry = counted 0 (touches (length (content_of (Some entry.1))) 0 (of_file entry.0 pieces))
 
--- and those of all nodes
+-- the same, added up over all nodes
 unfoldable pub counted_files : List Piece → List (ℕ × Node Mark) → ℕ
 counted_files pieces [] = 0
 counted_files pieces (entry ∷ entries) = node_blocks pieces entry + counted_files pieces entries

@@ -14,8 +14,8 @@ pub data Reason : Type 0 where
   NoLease : (number : ℕ) → Reason
   deriving Discrete as Reason-discrete
 
--- where an entry is judged: its client, what the client saw before the log, what nodes and names show now, and the numbers
--- that the log has created
+-- the point at which an entry is judged: the client, what it saw before the log, what it sees now, and
+-- the numbers that the log has created
 pub record EntryContext : Type 0 where
   pub client : Client
   pub before : ClientSight
@@ -25,39 +25,39 @@ pub record EntryContext : Type 0 where
 pub data Check : Type 0 where
   Exists IsADirectory IsAFile MaySearch MayWrite MayChangeMode IsLeased HasNoNames HasRoomForLink NumberIsGranted NumberIsFree : (number : ℕ) → Check
   NameIsThere NameIsFree : (directory : ℕ) (name : List ℕ) → Check
-  -- a file may end there
+  -- a file may end at this byte
   EndIsInRange : (end : ℕ) → Check
   -- the node isn't the directory and doesn't lie above it
   IsNotAbove : (node directory : ℕ) → Check
-  -- never fails: what comes after it depends on the cell
+  -- a check that never fails: it only records that the checks behind it depend on the cell
   Sees : Cell → Check
 
 abbrev pub is_some_and : {X : Type 0} → Option X → (X → Bool) → Bool
 is_some_and None test = false
 is_some_and (Some x) test = test x
 
--- the reason where the test fails
+-- no reason where the test passes, else the reason
 abbrev pub unless : Bool → Reason → Option Reason
 unless true reason = None
 unless false reason = Some reason
 
--- whether the client has the bit on the node
+-- whether the client may use the node in this way
 abbrev pub is_permitted : EntryContext → Want → ℕ → Bool
 is_permitted context want n = is_some_and (context.now.head n) (λ h. may_header context.client h want)
 
--- or the log created the node as a file
+-- whether the client may write the node, or the log created it as a file
 abbrev pub may_write : EntryContext → ℕ → Bool
 may_write context n = (context.created n && is_file (context.now.head n)) || is_permitted context Want.Write n
 
--- by the client, or the log created the node
+-- whether the client holds a live write lease on the node, or the log created it
 abbrev pub is_leased : EntryContext → ℕ → Bool
 is_leased context n = context.created n || context.before.held n
 
--- no node's before the log nor now, nor created by the log
+-- whether the number was no node's before the log, is none's now, and wasn't created by the log
 abbrev pub is_number_free : EntryContext → ℕ → Bool
 is_number_free context n = is_none (context.before.sight.head n) && is_none (context.now.head n) && not (context.created n)
 
--- what a check finds wrong
+-- the reason for which a check fails, if it fails
 unfoldable pub fault : EntryContext → Check → Option Reason
 fault context (Exists n) = unless (is_some (context.now.head n)) NoSuchNode
 fault context (IsADirectory n) = unless (is_directory (context.now.head n)) NotDirectory
@@ -95,7 +95,7 @@ cells context (EndIsInRange end) = []
 cells context (IsNotAbove n d) = map ParentOf (climbed context.now.parent climb_limit d)
 cells context (Sees cell) = cell ∷ []
 
--- a directory that is to change
+-- the checks of a directory that the entry changes
 abbrev pub may_change_directory : ℕ → List Check
 may_change_directory d = MaySearch d ∷ MayWrite d ∷ IsLeased d ∷ []
 
@@ -105,7 +105,8 @@ is_directory_node d = Exists d ∷ IsADirectory d ∷ []
 abbrev pub is_file_node : ℕ → List Check
 is_file_node n = Exists n ∷ IsAFile n ∷ []
 
--- the node that an Unlink takes a name of, or that a Rename replaces: of the kind wanted, leased, and empty where it is a directory
+-- the checks of a node that loses a name by Unlink, or that a Rename replaces: it has the wanted kind,
+-- is leased, and is empty where it is a directory
 abbrev pub may_go : Kind → ℕ → List Check
 may_go File t = IsAFile t ∷ IsLeased t ∷ []
 may_go Directory t = IsADirectory t ∷ IsLeased t ∷ HasNoNames t ∷ []
@@ -114,12 +115,13 @@ abbrev pub on_number : Option ℕ → (ℕ → List Check) → List Check
 on_number None checks = []
 on_number (Some n) checks = checks n
 
--- the bytes of a Write must end in range, where there are any
+-- the check of a Write's end; a Write without bytes has none
 abbrev pub payload_fits : ℕ → List ℕ → List Check
 payload_fits offset [] = []
 payload_fits offset (b ∷ bs) = EndIsInRange (offset + length (b ∷ bs)) ∷ []
 
--- what a node comes to that a Rename moves: a directory stays out of what lies below itself, and what is there is of its kind
+-- the checks of where a Rename moves a node: a directory doesn't go below itself, and a node that is
+-- replaced has the same kind
 abbrev pub arrival_checks : Kind → (moved directory : ℕ) → Option ℕ → List Check
 arrival_checks File s e there = on_number there (may_go File)
 arrival_checks Directory s e there = IsNotAbove s e ∷ on_number there (may_go Directory)
@@ -128,7 +130,8 @@ abbrev pub move_checks : EntryContext → (d e moved : ℕ) → Option ℕ → L
 move_checks context d e s there =
     MayWrite d ∷ MayWrite e ∷ IsLeased d ∷ IsLeased e ∷ IsLeased s ∷ Sees (HeaderOf s) ∷ arrival_checks (kind_shown (context.now.head s)) s e there
 
--- of a Rename, by what its two names lead to: where that is one node nothing changes, and nothing more is checked
+-- the further checks of a Rename, given what its two names lead to; there are none where that is one
+-- node
 abbrev pub rename_checks : EntryContext → (d e : ℕ) → (from to : Option ℕ) → List Check
 rename_checks context d e None to = []
 rename_checks context d e (Some s) None = move_checks context d e s None

@@ -1,5 +1,5 @@
--- What a clean entry keeps: a sound tree stays sound, and what the cells show moves cell by cell; and so a log of clean
--- entries.
+-- What an entry without a failed check keeps. A sound tree stays sound, and what the cells show changes
+-- cell by cell. The same holds for a log of such entries.
 use Rattle.std.specs.Prelude.{◌≡◌, ℕ, ◌<◌, ◌^◌, List, [], None, IsTrue}
 use Rattle.std.specs.List.{AllByRecursion}
 use Rattle.kfs_model.specs.Access.{Client, is_grant}
@@ -13,13 +13,14 @@ use Rattle.kfs_model.specs.Soundness.{IsSound}
 use Rattle.kfs_model.specs.Spelling.{IsEntry}
 use Rattle.kfs_model.specs.SeenAfter.{seen_after, seen_run_from, shown_run}
 
--- a client's row, whose numbers may be nodes
+-- a client whose ids fit 32 bits and whose grant is in range
 pub record IsClient (client : Client) : Type 0 where
   pub uid : client.uid < 2 ^ 32
   pub gid : client.gid < 2 ^ 32
   pub grant : IsTrue (is_grant client.first client.last)
 
--- a sound tree, a client and an entry in their ranges; no check fails where the tree is what shows now
+-- the tree is sound, client and entry are in range, the cells show this tree, and no check of the entry
+-- fails
 pub record IsClean {B : Type 0} (context : EntryContext) (t : Tree B) (entry : Entry) : Type 0 where
   pub sound : IsSound t
   pub client : IsClient context.client
@@ -27,19 +28,20 @@ pub record IsClean {B : Type 0} (context : EntryContext) (t : Tree B) (entry : E
   pub shown : context.now ≡ sight t
   pub clean : first_fault context entry ≡ None
 
--- the entry with this number in its log leaves the tree sound
+-- the entry with this index in its log leaves the tree sound, and the cells show what they should
 pub record StaysSound {B : Type 0} (filling : Filling B) (client : Client) (index : ℕ) (t : Tree B) (entry : Entry) : Type 0 where
   pub sound : IsSound (effect filling client index entry t)
   pub seen : sight (effect filling client index entry t) ≡ seen_after client (sight t) entry
 
 -- ---- a log
 
--- a sound tree, a client and entries in their ranges
+-- the tree is sound, and the client and all entries are in range
 pub record Fits (client : Client) (t : Tree ℕ) (entries : List Entry) : Type 0 where
   pub in_range : IsClient client
   pub sound : IsSound t
   pub fitting : AllByRecursion IsEntry entries
 
--- the run over the tree and the run over its cells have one fault or show the same
+-- the run over the tree and the run over its cells end alike: with the same fault, or with the same
+-- cells
 abbrev pub IsSeenInCells : Client → (before : ClientSight) → Tree ℕ → List Entry → Type 0
 IsSeenInCells client before t entries = shown_run (run over_bytes client before t entries) ≡ seen_run_from client before 0 [] (sight t) entries

@@ -1,4 +1,4 @@
--- Numbers no two of which are the same.
+-- Lists of numbers in which no number stands twice.
 use Rattle.std.specs.Prelude.{ℕ, ◌==◌, ◌&&◌, not, Bool, true, List, [], ◌∷◌}
 use Rattle.std.specs.List.{list_any}
 

@@ -1,4 +1,5 @@
--- What a clean entry does to the tree (POSIX.1-2017: open, write, ftruncate, link, unlink and rmdir, rename, chmod).
+-- What an entry without a failed check does to the tree (POSIX.1-2017: open, write, ftruncate, link,
+-- unlink and rmdir, rename, chmod).
 use Rattle.std.specs.Prelude.{ℕ, ◌+◌, ◌-◌, ◌==◌, ◌||◌, true, false, List, [], ◌∷◌, ◌++◌, length, take, drop, replicate, Option, Some, None}
 use Rattle.kfs_model.specs.Header.{Kind, File, Directory}
 use Rattle.kfs_model.specs.Limits.{root_number}
@@ -7,22 +8,23 @@ use Rattle.kfs_model.specs.Table.{get, insert, remove, retain}
 use Rattle.kfs_model.specs.Tree.{Tree, Node, Body, FileBody, DirectoryBody, NameTable, target, is_named}
 use Rattle.kfs_model.specs.Entry.{Entry, Create, Write, Truncate, Link, Unlink, Rename, Chmod}
 
--- what a file is filled with: a gap, and the payload of the entry with this number
+-- what new content is made of: the filler of a gap, and the payload of the entry with this index
 pub record Filling (B : Type 0) : Type 0 where
   pub gap : B
   pub payload : (entry : ℕ) → List ℕ → List B
 
 module _ {B : Type 0} (filling : Filling B) where
-  -- with a gap at its end up to this size, where it is shorter
+  -- the content, made at least this long by a gap at its end
   abbrev pub lengthened : ℕ → List B → List B
   lengthened size content = content ++ replicate (size - length content) filling.gap
 
-  -- the payload stands at the offset, behind a gap where the file ends before it
+  -- the content with the payload written at the offset; a gap fills the space between the old end and
+  -- the offset
   unfoldable pub overwritten : (offset : ℕ) → (payload content : List B) → List B
   overwritten offset [] content = content
   overwritten offset (b ∷ bs) content = take offset (lengthened offset content) ++ (b ∷ bs) ++ drop (offset + length (b ∷ bs)) content
 
-  -- the first part of this size, or all with a gap behind it
+  -- the content made exactly this long: cut, or with a gap at its end
   unfoldable pub resized : ℕ → List B → List B
   resized size content = take size (lengthened size content)
 
@@ -35,18 +37,19 @@ module _ {B : Type 0} (filling : Filling B) where
   on_content change DirectoryBody = DirectoryBody
 
 module _ {B : Type 0} where
-  -- the node changed, where there is one
+  -- the tree with the node changed, if there is such a node
   abbrev pub changed_node : (Node B → Node B) → ℕ → Tree B → Tree B
   changed_node change n t = elim (get t.nodes n) [ None ↦ t | Some node ↦ record { nodes = insert t.nodes n (change node); names = t.names } ]
 
   abbrev pub with_names : NameTable → Tree B → Tree B
   with_names names t = record { nodes = t.nodes; names = names }
 
-  -- a node that no name leads to goes, the root stays
+  -- the tree without nodes that have no name, the root aside
   unfoldable pub without_unnamed : Tree B → Tree B
   without_unnamed t = record { nodes = retain (λ n. (n == root_number) || is_named t.names n) t.nodes; names = t.names }
 
--- the old name is gone and the new one leads to the node; nothing changes where both lead to one node
+-- the old name is removed and the new one leads to its node; nothing changes where both lead to one
+-- node
 abbrev pub moved_name : NameTable → (d : ℕ) → (m : List ℕ) → (e : ℕ) → (k : List ℕ) → NameTable
 moved_name names d m e k = elim (target names d m) [ None ↦ names | Some s ↦ to_new s (target names e k) ]
   where
@@ -58,7 +61,7 @@ moved_name names d m e k = elim (target names d m) [ None ↦ names | Some s ↦
     to_new s (Some t) = elim (s == t) [ true ↦ names | false ↦ move s ]
 
 module _ {B : Type 0} (filling : Filling B) (client : Client) where
-  -- the change of the entry with this number in its log, before nodes without a name go
+  -- the change that the entry with this index makes, before nodes without a name are removed
   unfoldable pub change_of : (index : ℕ) → Entry → Tree B → Tree B
   change_of index (Create d m n kind mode) t = record {
     nodes = insert t.nodes n (record { mode = mode; uid = client.uid; gid = client.gid; body = new_body filling kind });

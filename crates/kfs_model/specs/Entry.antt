@@ -2,13 +2,13 @@
 use Rattle.std.specs.Prelude.{ℕ, List}
 use Rattle.kfs_model.specs.Header.{Kind}
 
--- A name is a list of bytes, and a payload too.
+-- The seven kinds of entry. Names and payloads are lists of bytes.
 pub data Entry : Type 0 where
   Create : (directory : ℕ) (name : List ℕ) (number : ℕ) (kind : Kind) (mode : ℕ) → Entry
   Write : (number offset : ℕ) (payload : List ℕ) → Entry
   Truncate : (number size : ℕ) → Entry
   Link : (number directory : ℕ) (name : List ℕ) → Entry
-  -- the flag is the kind of what is to go
+  -- the kind says what is to go: a file's name or an empty directory
   Unlink : (directory : ℕ) (name : List ℕ) (kind : Kind) → Entry
   Rename : (directory : ℕ) (name : List ℕ) (target : ℕ) (new_name : List ℕ) → Entry
   Chmod : (number mode : ℕ) → Entry

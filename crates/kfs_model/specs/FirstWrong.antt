@@ -54,12 +54,13 @@ same_mark (Mark.Payload e i) (Mark.Payload f j) = (e == f) && (i == j)
 
 -- ---- names and nodes
 
--- what differs, by key, with what stands there now
+-- the keys at which two tables differ, each with what the second one has there
 abbrev pub differences : {K X Y : Type 0} {R : Order K} → (X → X → Bool) → (Option X → Y) → Table R X → Table R X → Table R Y
 differences same now before after =
     mapped (λ key _. now (get after key)) (retain (λ key. not (same_option same (get before key) (get after key))) (united before after))
 
--- the first place at which two lists differ: the shorter one's length where it only stops early
+-- the index of the first difference of two lists; where one is a prefix of the other, the shorter
+-- length
 abbrev pub first_difference : {X : Type 0} → (X → X → Bool) → List X → List X → Option ℕ
 first_difference same [] [] = None
 first_difference same [] (y ∷ ys) = Some 0
@@ -74,7 +75,7 @@ first_wrong_node before after rows = first_difference (same_pair nat_eq same_hea
 
 -- ---- pieces
 
--- the places that the list's elements have from a place on, where they pass the test
+-- the places of the elements that pass the test, counted from the given place on
 abbrev pub places_where : {X : Type 0} → (X → Bool) → ℕ → List X → List ℕ
 places_where test place [] = []
 places_where test place (x ∷ xs) = elim (test x) [ true ↦ place ∷ places_where test (place + 1) xs | false ↦ places_where test (place + 1) xs ]
@@ -82,43 +83,43 @@ places_where test place (x ∷ xs) = elim (test x) [ true ↦ place ∷ places_w
 abbrev pub changed_places : ℕ × Node Mark → List (ℕ × ℕ)
 changed_places entry = map (λ place. (entry.0, place)) (places_where (λ mark. not (is_base mark)) 0 (content_of (Some entry.1)))
 
--- the bytes that the log wrote or made zero, in the order of number and place
+-- all bytes that the log wrote or made zero, ascending by file number and place
 unfoldable pub changed_bytes : Tree Mark → List (ℕ × ℕ)
 changed_bytes t = flat_map changed_places t.nodes.entries
 
 abbrev pub lies_before : (byte : ℕ × ℕ) → (number place : ℕ) → Bool
 lies_before byte number place = nat_lt byte.0 number || ((byte.0 == number) && nat_lt byte.1 place)
 
--- whether some byte of the list is in no piece
+-- whether one of these bytes lies in no piece
 abbrev pub is_missed : List Piece → List (ℕ × ℕ) → Bool
 is_missed pieces bytes = list_any (λ byte. not (list_any (covers byte.0 byte.1) pieces)) bytes
 
--- whether these are the marks that the source says, from this distance on
+-- whether `count` bytes of the piece, from this distance on, have the marks that the piece says
 abbrev pub holds_along : Tree Mark → Piece → (distance count : ℕ) → Bool
 holds_along t p distance zero = true
 holds_along t p distance (suc count) =
     elim (same_option same_mark (mark_at t p.number (p.start + distance)) (Some (mark_of_source p.source distance))) [ true ↦ holds_along t p (distance + 1) count | false ↦ false ]
 
--- whether the piece begins before the last of those above it ends
+-- whether the piece begins before an earlier piece ends
 abbrev pub begins_early : (above : List Piece) → Piece → Bool
 begins_early above p = is_some_and (last_or None above) (λ q. lies_before (p.number, p.start) q.number (end_of q))
 
--- a piece is wrong below those above it: empty, begun before the one above it ends, with a byte that the file hasn't or that has
--- another mark, or where a changed byte that lies before the piece is in none above
+-- whether a piece is wrong after the pieces before it: it is empty, begins before they end, has a byte
+-- outside its file or with another mark, or leaves out a changed byte in front of it
 unfoldable pub is_wrong : Tree Mark → (above : List Piece) → Piece → Bool
 is_wrong after above p =
     (p.length == 0) || begins_early above p || not (holds_along after p 0 p.length)
     || is_missed above (filter (λ byte. lies_before byte p.number p.start) (changed_bytes after))
 
--- the piece's index where it is wrong below those above it
+-- the piece's index, where the piece is wrong after those before it
 abbrev pub wrong_below : Tree Mark → (above : List Piece) → Piece → Option ℕ
 wrong_below after above p = elim (is_wrong after above p) [ true ↦ Some (length above) | false ↦ None ]
 
--- the number of the pieces where some changed byte is in none of them
+-- the number of pieces, where they leave out a changed byte
 abbrev pub missed_by : Tree Mark → List Piece → Option ℕ
 missed_by after pieces = elim (is_missed pieces (changed_bytes after)) [ true ↦ Some (length pieces) | false ↦ None ]
 
--- the first piece that is wrong, or else what all of them miss
+-- the index of the first wrong piece; if all are right but leave out a byte, the number of pieces
 abbrev pub first_wrong_piece : Tree Mark → List Piece → Option ℕ
 first_wrong_piece after pieces = elim (first_answer (wrong_below after) pieces) [ Some index ↦ Some index | None ↦ missed_by after pieces ]
 

@@ -6,7 +6,8 @@ pub data Kind : Type 0 where
   deriving Discrete as Kind-discrete
   deriving IsSet as Kind-set
 
--- mode in 0 to 0o777; a directory has one link and size 0, a file as many links as names
+-- the header of a node: the mode is 0 to 0o777; a file has as many links as names; a directory has 1
+-- link and size 0
 pub record Header : Type 0 where
   pub kind : Kind
   pub mode : ℕ

@@ -28,16 +28,17 @@ pub data Fault : Type 0 where
   AtRow : (fault : RowFault) → Fault
   deriving Discrete as Fault-discrete
 
--- a Yes tells the tree after, and each of its bytes marked
+-- the outcome: refused with a fault, or accepted with the tree afterwards, as bytes and as marks
 pub data Verdict : Type 0 where
   Yes : (after : Tree ℕ) (marks : Tree Mark) → Verdict
   No : (fault : Fault) → Verdict
 
--- what the client of this number sees
+-- what the client with this number sees of the state
 abbrev pub client_sight_of : State → (number : ℕ) → ClientSight
 client_sight_of s number = client_sight s.tree (holds s.leases number)
 
--- ---- the order of the judgement: client, log, whose log, plan, entries, rows
+-- ---- the order of the judgement: client, log's bytes, the log's client, plan's bytes, entries, plan
+-- rows
 
 abbrev pub judged_rows : State → Plan → Tree ℕ → Tree Mark → Verdict
 judged_rows s plan after marked_after = elim (first_wrong_row s.tree marked_after plan) [ None ↦ Yes after marked_after | Some fault ↦ No (AtRow fault) ]
@@ -66,7 +67,7 @@ pub record Submission : Type 0 where
   pub log : List ℕ
   pub plan : List ℕ
 
--- what the bytes of a submission are read as: a log, or why they are none, and a plan, or why
+-- what the bytes of a submission decode to: a log and a plan, or why one doesn't decode
 pub record Reading : Type 0 where
   pub log : Result Log SpellingFault
   pub plan : Result Plan SpellingFault
@@ -78,7 +79,7 @@ pub record IsReadAs (submission : Submission) (reading : Reading) : Type 0 where
 abbrev pub verdict_on : State → (client : ℕ) → Reading → Verdict
 verdict_on s client reading = judged s client reading.log reading.plan
 
--- the verdict on the bytes of a submission
+-- the verdict is right for these bytes
 pub record IsJudgement (s : State) (submission : Submission) (verdict : Verdict) : Type 0 where
   pub reading : Reading
   pub read : IsReadAs submission reading
@@ -100,7 +101,7 @@ abbrev pub is_yes : {P : Type 0} → Dec P → Bool
 is_yes (yes p) = true
 is_yes (no n) = false
 
--- the places of tier 0 in which no block lies
+-- the places of tier 0 that hold no block
 unfoldable pub free_places : State → List ℕ
 free_places s = filter (λ place. is_free s.placement (in_first_tier place)) (below s.sizes.first)
 

@@ -15,11 +15,11 @@ pub record Lease : Type 0 where
   pub kind : LeaseKind
   pub end : ℕ
 
--- leases by client and number
+-- leases by client and node number
 abbrev pub LeaseTable : Type 0
 LeaseTable = Table (pairs numbers numbers) Lease
 
--- such leases, and the moment
+-- all leases, and the moment now
 pub record Leases : Type 0 where
   pub rows : LeaseTable
   pub moment : ℕ
@@ -44,7 +44,7 @@ is_live moment lease = nat_lt moment lease.end
 unfoldable pub live_at : (moment : ℕ) → LeaseTable → LeaseTable
 live_at moment rows = retain (λ key. is_some_and (get rows key) (is_live moment)) rows
 
--- the leases on numbers that pass the test
+-- the leases on nodes whose numbers pass the test
 unfoldable pub on_those : (ℕ → Bool) → LeaseTable → LeaseTable
 on_those test rows = retain (λ key. test key.1) rows
 
@@ -72,7 +72,8 @@ names_of [] = None
 names_of (b ∷ []) = if b == slash then Some [] else None
 names_of (b ∷ c ∷ rest) = if (b == slash) && list_all is_name (parts_of (c ∷ rest)) then Some (parts_of (c ∷ rest)) else None
 
--- the node that the names lead to, from a directory on: at each name the directory is looked at, then its search bit, then the name
+-- the node that the names lead to from a directory; at each name the directory is checked, then its
+-- search bit, then the name
 unfoldable pub walked : Sight → Client → (node component : ℕ) → List (List ℕ) → Result ℕ LeaseFault
 walked sight client node component [] = Ok node
 walked sight client node component (name ∷ names) = elim (is_directory (sight.head node)) [
@@ -83,9 +84,10 @@ walked sight client node component (name ∷ names) = elim (is_directory (sight.
   ]
 ]
 
--- ---- grant, drop and tick: the answer and the leases after, which a refusal leaves as they were
+-- ---- grant, drop and tick: each gives the answer and the leases afterwards; a refusal changes none
 
--- two clients' leases on one node conflict where one of them is for writing
+-- whether a lease of another client on the node conflicts with this one: one of the two is for writing,
+-- and the other client's is live
 abbrev pub conflicts : Leases → (client number : ℕ) → LeaseKind → ((ℕ × ℕ) × Lease) → Bool
 conflicts leases client number kind row =
     (row.0.1 == number) && not (row.0.0 == client) && is_live leases.moment row.1 && (is_write kind || is_write row.1.kind)
@@ -98,7 +100,7 @@ HasLive leases client number lease = (get leases.rows (client, number) ≡ Some 
 abbrev pub AreCompatible : Leases → Type 0
 AreCompatible leases = (client other number : ℕ) (one two : Lease) → client ≢ other → HasLive leases client number one → HasLive leases other number two → one.kind ≡ ReadLease
 
--- the least client in conflict: the rows stand in the order of their clients
+-- the conflicting lease of the client with the least number
 abbrev pub in_conflict : Leases → (client number : ℕ) → LeaseKind → Option ((ℕ × ℕ) × Lease)
 in_conflict leases client number kind = find (conflicts leases client number kind) leases.rows.entries
 
@@ -109,7 +111,7 @@ abbrev pub refused : LeaseFault → Leases → LeaseOutcome
 refused fault leases = (Err fault, leases)
 
 module _ (leases : Leases) where
-  -- on a node that the walk has found
+  -- the grant, once the path has led to this node
   abbrev pub granted_at : Client → (number : ℕ) → LeaseKind → (end : ℕ) → LeaseOutcome
   granted_at client number kind end =
       if nat_le end leases.moment then refused Past leases
@@ -126,7 +128,7 @@ module _ (leases : Leases) where
   granted_on sight None client kind end = refused BadPath leases
   granted_on sight (Some names) client kind end = granted_by_walk (walked sight client root_number 0 names) client kind end
 
-  -- a lease for the client on the node that the path leads to
+  -- the grant of a lease on the node at the path
   unfoldable pub granted : Sight → List Client → (client : ℕ) → (path : List ℕ) → LeaseKind → (end : ℕ) → LeaseOutcome
   granted sight clients number path kind end =
       elim (row_of clients number) [ None ↦ refused UnknownClient leases | Some client ↦ granted_on sight (names_of path) client kind end ]
@@ -137,16 +139,16 @@ module _ (leases : Leases) where
       else if is_none (get leases.rows (client, number)) then refused NoLeaseHeld leases
       else (Ok number, record leases { rows = remove leases.rows (client, number) })
 
-  -- the moment goes on, and leases that are no longer live go
+  -- the moment goes on to this one, and leases that are no longer live are removed
   unfoldable pub ticked : (moment : ℕ) → LeaseOutcome
   ticked moment =
       if nat_lt moment leases.moment then refused Backwards leases
       else (Ok moment, record { rows = live_at moment leases.rows; moment = moment })
 
-  -- leases on numbers that are no node end
+  -- the leases without those on numbers that are no node
   unfoldable pub without_gone : (ℕ → Bool) → Leases
   without_gone is_node = record { rows = on_those is_node leases.rows; moment = leases.moment }
 
--- a call that leads from compatible leases to compatible ones
+-- the call leads from compatible leases to compatible leases
 abbrev pub KeepsCompatible : (call : Leases → LeaseOutcome) → Type 0
 KeepsCompatible call = (leases : Leases) → AreCompatible leases → AreCompatible (call leases).1

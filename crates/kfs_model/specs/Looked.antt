@@ -1,4 +1,4 @@
--- The cells that a log looks at, and what two states have in common that answer alike there.
+-- The cells that a log looks at, and what two states that give the same answers there have in common.
 use Rattle.std.specs.Prelude.{◌≡◌, ◌⊎◌, ℕ, Bool, List, [], ◌∷◌, ◌++◌, Some, None, Result, Ok, Err}
 use Rattle.std.specs.List.{AllByRecursion}
 use Rattle.kfs_model.specs.Access.{Client}
@@ -10,7 +10,7 @@ use Rattle.kfs_model.specs.Run.{EntryFault, entry_context, created_by, run, over
 use Rattle.kfs_model.specs.SeenAfter.{seen_after, seen_run_from, shown_run}
 
 module _ (client : Client) (before : ClientSight) where
-  -- the cells of the checks of each entry, up to the first that fails
+  -- the cells that the entries' checks look at, each entry's up to its first failed check
   unfoldable pub looked_from : (created : List ℕ) → Sight → List Entry → List Cell
   looked_from created now [] = []
   looked_from created now (entry ∷ entries) =
@@ -26,18 +26,20 @@ module _ (client : Client) (before : ClientSight) where
 abbrev pub AgreeAt : ClientSight → ClientSight → List Cell → Type 0
 AgreeAt s u cells = AllByRecursion (λ cell. answer s cell ≡ answer u cell) cells
 
--- the cells that the log looks at in the one answer alike in the other
+-- the other state gives the same answers at the cells that the log looks at in the one
 abbrev pub AgreeWhereLooked : Client → (one other : ClientSight) → List Entry → Type 0
 AgreeWhereLooked client one other entries = AgreeAt one other (looked_cells client one entries)
 
--- the same first fault, or no fault and alike answers wherever they were alike before
+-- both runs end with the same fault; or both end without one, and wherever the states gave the same
+-- answers before, they do afterwards
 abbrev pub EndInAgreement : ClientSight → ClientSight → Result Sight EntryFault → Result Sight EntryFault → Type 0
 EndInAgreement s u (Ok now) (Ok other) = (cell : Cell) → answer s cell ≡ answer u cell → answer (record s { sight = now }) cell ≡ answer (record u { sight = other }) cell
 EndInAgreement s u (Ok now) (Err fault) = ⊥
 EndInAgreement s u (Err fault) (Ok other) = ⊥
 EndInAgreement s u (Err fault) (Err other) = fault ≡ other
 
--- whatever the client holds in each: where the looked cells answer alike, the runs over the two trees end alike
+-- where the looked-at cells have the same answers, the runs over the two trees end alike, whatever
+-- leases the client holds in each
 abbrev pub TreesEndInAgreement : Client → (one other : Tree ℕ) → List Entry → Type 0
 TreesEndInAgreement client one other entries = (held other_held : ℕ → Bool) → AgreeWhereLooked client (client_sight one held) (client_sight other other_held) entries
     → EndInAgreement (client_sight one held) (client_sight other other_held)
@@ -45,11 +47,11 @@ TreesEndInAgreement client one other entries = (held other_held : ℕ → Bool) 
 
 -- ---- what a log changes
 
--- alike before and after, or changed on neither side
+-- both had the same value before and have the same value now, or neither changed
 abbrev pub IsSameChange : {X : Type 0} → (before after other_before other_after : X) → Type 0
 IsSameChange before after other_before other_after = ((before ≡ other_before) × (after ≡ other_after)) ⊎ ((after ≡ before) × (other_after ≡ other_before))
 
--- the names and headers that the log changes, and what they were and are
+-- the log changes the same names and headers in both states, from and to the same values
 pub record HaveSameChanges (s u : ClientSight) (now other : Sight) : Type 0 where
   pub heads : (n : ℕ) → IsSameChange (s.sight.head n) (now.head n) (u.sight.head n) (other.head n)
   pub names : (d : ℕ) (m : List ℕ) → IsSameChange (s.sight.name d m) (now.name d m) (u.sight.name d m) (other.name d m)
@@ -59,7 +61,7 @@ HaveSameNet s u (Ok now) (Ok other) = HaveSameChanges s u now other
 HaveSameNet s u (Ok now) (Err fault) = ⊥
 HaveSameNet s u (Err fault) end = Unit {0}
 
--- the log ends alike in both, changes the same, and looks at the same cells
+-- the log ends alike in both states, makes the same changes, and looks at the same cells
 pub record HaveSameRun (client : Client) (one other : ClientSight) (entries : List Entry) : Type 0 where
   pub ends : EndInAgreement one other (seen_run client one entries) (seen_run client other entries)
   pub changes : HaveSameNet one other (seen_run client one entries) (seen_run client other entries)

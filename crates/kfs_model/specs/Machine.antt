@@ -1,5 +1,5 @@
--- The machine: one step is a call with its answer and, for a Yes, the places of the written blocks. A docket is a list of such
--- rows.
+-- The machine. A step is one call with its answer and, for a Yes, the places of the written blocks. A
+-- docket is a list of such rows.
 use Rattle.std.specs.Prelude.{◌≡◌, ℕ, ◌+◌, ◌==◌, ◌&&◌, not, nat_lt, Bool, List, [], ◌∷◌, length, zip, Option, Some, None, is_some, Result, Ok, Err, if◌then◌else◌}
 use Rattle.std.specs.List.{list_any, list_all}
 use native.Mathlib.Decide.{ℕ_discrete}
@@ -19,12 +19,12 @@ use Rattle.kfs_model.specs.Judgement.{State, Verdict, Yes, Reply, Reply-equality
 
 -- ---- landing
 
--- one free place of tier 0 for each block, no two of them the same
+-- whether these are free places of tier 0, one for each block, no two the same
 abbrev pub are_chosen : State → (blocks : List (ℕ × ℕ)) → (places : List ℕ) → Bool
 are_chosen s blocks places =
     (length places == length blocks) && list_all (λ place. list_any (λ free. free == place) (free_places s)) places && are_distinct places
 
--- whether a block is still the file's and wasn't made all zero
+-- whether the block is still one of the file, and isn't cleared
 abbrev pub stays : Tree ℕ → Tree Mark → ℕ × ℕ → Bool
 stays after marked_after block =
     is_some_and (get (headers after) block.0) (λ h. is_file (Some h) && nat_lt block.1 (block_count h.size))
@@ -34,11 +34,12 @@ abbrev pub placed : List ((ℕ × ℕ) × ℕ) → Placement → Placement
 placed [] placement = placement
 placed (e ∷ es) placement = insert (placed es placement) e.0 (in_first_tier e.1)
 
--- written blocks lie at the new places, blocks that don't stay nowhere, all others where they lay
+-- written blocks lie at the new places, cleared and removed blocks lie nowhere, all others stay where
+-- they were
 abbrev pub placement_after : State → Tree ℕ → Tree Mark → List ℕ → Placement
 placement_after s after marked_after places = placed (zip (written_blocks marked_after) places) (retain (stays after marked_after) s.placement)
 
--- leases end with the nodes that they are on
+-- the leases without those on nodes that the log removed
 abbrev pub leases_after : State → Tree ℕ → Leases
 leases_after s after = without_gone s.leases (λ n. is_some (get after.nodes n))
 
@@ -48,7 +49,7 @@ landed s after marked_after places = record s { tree = after; leases = leases_af
 -- ---- calls and their answers
 
 pub data Call : Type 0 where
-  -- the bytes of a submission, and what they are read as
+  -- a submission's bytes, with the log and plan that they decode to
   Submit : (submission : Submission) (reading : Reading) → Call
   Lease : (client : ℕ) (path : List ℕ) (kind : LeaseKind) (end : ℕ) → Call
   Drop : (client number : ℕ) → Call
@@ -56,7 +57,7 @@ pub data Call : Type 0 where
 
 pub data CallAnswer : Type 0 where
   Replied : (reply : Reply) → CallAnswer
-  -- done to the node of this number, or at this moment
+  -- the call was carried out; the number is the node's, or the moment
   Done : (number : ℕ) → CallAnswer
   NotDone : (fault : LeaseFault) → CallAnswer
   deriving Discrete as CallAnswer-discrete
@@ -66,16 +67,16 @@ same_answer a b = is_yes (CallAnswer-discrete Reply-equality ℕ_discrete (Lease
 
 -- ---- one step
 
--- an answer, and the state then
+-- the answer of a call, and the state afterwards
 abbrev pub CallOutcome : Type 0
 CallOutcome = CallAnswer × State
 
--- only written blocks have places
+-- the outcome, where no places are listed
 abbrev pub unplaced : (places : List ℕ) → CallOutcome → Option CallOutcome
 unplaced [] outcome = Some outcome
 unplaced (place ∷ places) outcome = None
 
--- changed by a Yes with room alone
+-- the reply and the state afterwards; only a Yes with room changes the state
 abbrev pub replied : State → (places : List ℕ) → Verdict → Reply → Option CallOutcome
 replied s places (Yes after marked_after) (Accepted need) =
     if are_chosen s (written_blocks marked_after) places then Some (Replied (Accepted need), landed s after marked_after places) else None
@@ -85,14 +86,16 @@ abbrev pub leased : State → (places : List ℕ) → Result ℕ LeaseFault × L
 leased s places (Ok number, leases) = unplaced places (Done number, record s { leases = leases })
 leased s places (Err fault, leases) = unplaced places (NotDone fault, record s { leases = leases })
 
--- what the call is answered, and the state then; none where the places aren't one free place for each written block
+-- the answer of the call and the state afterwards; none where the places aren't one free place for each
+-- written block
 unfoldable pub outcome_of : State → Call → (places : List ℕ) → Option CallOutcome
 outcome_of s (Submit submission reading) places = replied s places (verdict_on s submission.client reading) (reply_to s (verdict_on s submission.client reading))
 outcome_of s (Lease client path kind end) places = leased s places (granted s.leases (sight s.tree) s.clients client path kind end)
 outcome_of s (Drop client number) places = leased s places (dropped s.leases s.clients client number)
 outcome_of s (Tick moment) places = leased s places (ticked s.leases moment)
 
--- a row of the docket: a call with its answer and, for a Yes, a place of tier 0 for each written block, ascending by block
+-- a row of the docket: a call, its answer, and for a Yes the places of the written blocks in tier 0,
+-- ascending by block
 pub record Row : Type 0 where
   pub call : Call
   pub answer : CallAnswer
@@ -101,22 +104,22 @@ pub record Row : Type 0 where
 abbrev pub answered : CallAnswer → CallOutcome → Option State
 answered answer outcome = if same_answer outcome.0 answer then Some outcome.1 else None
 
--- the state after the row, where it fits
+-- the state after the row, if the row fits the state
 unfoldable pub next : State → Row → Option State
 next s row = elim (outcome_of s row.call row.places) [ None ↦ None | Some outcome ↦ answered row.answer outcome ]
 
 -- ---- dockets
 
--- no lease, moment 0
+-- the state in which a machine begins: no leases, moment 0
 abbrev pub opening : List Client → TierSizes → Tree ℕ → Placement → State
 opening clients sizes tree placement = record { clients = clients; sizes = sizes; tree = tree; leases = no_leases; placement = placement }
 
--- the state after a docket, where each of its rows fits
+-- the state after all rows, if each one fits
 unfoldable pub after : State → List Row → Option State
 after s [] = Some s
 after s (row ∷ rows) = elim (next s row) [ None ↦ None | Some t ↦ after t rows ]
 
--- the bytes of the row's submission are read so
+-- the log and plan in the row are what the row's bytes decode to
 abbrev pub IsRead : Row → Type 0
 IsRead row = IsReadCall row.call
   where
@@ -128,7 +131,7 @@ IsRead row = IsReadCall row.call
 
 -- ---- what a Yes means
 
--- the tree is what the entries give one by one, each of them allowed where it stands
+-- the tree results from the entries in turn, each one allowed at its point of the log
 abbrev pub OneByOne : Client → (before : ClientSight) → (index : ℕ) → (created : List ℕ) → Tree ℕ → List Entry → Tree ℕ → Type 0
 OneByOne client before index created t [] after = after ≡ t
 OneByOne client before index created t (entry ∷ entries) after =

@@ -1,4 +1,4 @@
--- When a state is in order: what each step of the machine keeps.
+-- When a state is in order. Each step of the machine keeps this.
 use Rattle.std.specs.Prelude.{ℕ, is_some, IsTrue}
 use Rattle.std.specs.List.{AllByRecursion}
 use Rattle.kfs_model.specs.Access.{ClientsAreDistinct}
@@ -10,8 +10,8 @@ use Rattle.kfs_model.specs.CleanStep.{IsClient}
 use Rattle.kfs_model.specs.Placement.{IsPlacement}
 use Rattle.kfs_model.specs.Judgement.{State}
 
--- the tree is sound, each lease is on a node and no two live ones conflict, no two clients have one number and each is in
--- range, and the blocks of files lie in places of their own
+-- The tree is sound. Each lease is on a node, and no two live leases conflict. Clients are in range and
+-- have different numbers. Each block of a file has a place of its own.
 pub record IsInOrder (s : State) : Type 0 where
   pub sound : IsSound s.tree
   pub on_nodes : (client number : ℕ) → IsTrue (is_some (get s.leases.rows (client, number))) → IsTrue (is_some (get (headers s.tree) number))

@@ -1,4 +1,5 @@
--- The right plan of a log: exactly the names and headers that differ, and pieces that cover the changed bytes.
+-- The right plan of a log: the names and headers that differ, no others, and pieces that cover the
+-- changed bytes.
 use Rattle.std.specs.Prelude.{◌≡◌, ◌≢◌, ◌⊎◌, ℕ, ◌+◌, ◌<◌, ◌≤◌, ◌==◌, ◌&&◌, Bool, true, false, nat_lt, nat_le, List, [], ◌∷◌, map, Option, Some, None, IsTrue, slice_get, unwrap_or}
 use Rattle.std.specs.List.{list_any, AllByRecursion}
 use Rattle.std.specs.FinMap.Entries.{find, is_sorted}
@@ -8,7 +9,8 @@ use Rattle.kfs_model.specs.Tree.{Tree, NameTable, headers, name_order, content_o
 use Rattle.kfs_model.specs.Run.{Mark}
 use Rattle.kfs_model.specs.PlanRow.{NameRow, NodeRow, Piece, Source, Zero, Payload, Plan}
 
--- The rows ascend by their keys. Where before and after differ at a key there is a row with what stands there now, and nowhere else.
+-- the rows ascend by key; there is a row for each key at which before and after differ, with the value
+-- from after, and no other row
 pub record AreDifferences {K X Y : Type 0} (R : Order K) (now : Option X → Y) (before after : K → Option X) (rows : List (K × Y)) : Type 0 where
   pub ascending : IsTrue (is_sorted R.compare rows)
   pub changed : (key : K) → before key ≢ after key → find R.compare key rows ≡ Some (now (after key))
@@ -39,11 +41,11 @@ AreNodeRows before after rows = AreDifferences numbers header_now (get before) (
 abbrev pub mark_at : Tree Mark → (number place : ℕ) → Option Mark
 mark_at t number place = slice_get (content_of (get t.nodes number)) place
 
--- each byte from before the log stands in the file and at the place where it stood
+-- each byte from before the log is in the file, and at the place, where it was
 abbrev pub OldBytesStay : Tree Mark → Type 0
 OldBytesStay after = (number place n p : ℕ) → mark_at after number place ≡ Some (Mark.Base n p) → (n ≡ number) × (p ≡ place)
 
--- the mark that a source gives its byte at this distance from the piece's start
+-- the mark that a source gives the byte at this distance from the piece's start
 abbrev pub mark_of_source : Source → (distance : ℕ) → Mark
 mark_of_source Zero distance = Mark.Zero
 mark_of_source (Payload entry place) distance = Mark.Payload entry (place + distance)
@@ -60,11 +62,12 @@ end_of p = p.start + p.length
 abbrev pub covers : (number place : ℕ) → Piece → Bool
 covers number place p = (p.number == number) && nat_le p.start place && nat_lt place (end_of p)
 
--- a place in a file is the other one, or before it: places go by the number of the file, and then by the place
+-- the first place comes before the second or is the same; places are ordered by file number and then by
+-- place
 abbrev pub ComesBy : (number place other_number other_place : ℕ) → Type 0
 ComesBy n p m q = (n < m) ⊎ ((n ≡ m) × (p ≤ q))
 
--- q begins where p ends, or behind it
+-- q begins where p ends, or later
 abbrev pub IsBehind : Piece → Piece → Type 0
 IsBehind p q = ComesBy p.number (end_of p) q.number q.start
 
@@ -73,7 +76,7 @@ PiecesAscend [] = Unit {0}
 PiecesAscend (p ∷ []) = Unit {0}
 PiecesAscend (p ∷ q ∷ rest) = IsBehind p q × PiecesAscend (q ∷ rest)
 
--- not empty, and each of its bytes lies in the file and has the mark that the piece says
+-- the piece isn't empty, and each of its bytes lies in the file and has the mark that the piece says
 pub record IsTrueOf (after : Tree Mark) (p : Piece) : Type 0 where
   pub filled : 0 < p.length
   pub said : (distance : ℕ) → distance < p.length → mark_at after p.number (p.start + distance) ≡ Some (mark_of_source p.source distance)

@@ -13,7 +13,8 @@ pub record NodeRow : Type 0 where
   pub number : ℕ
   pub now : Option Header
 
--- what the bytes of a piece are: zero bytes, or a part of one entry's payload from a place on
+-- where the bytes of a piece come from: they are zero, or they are part of one entry's payload, from
+-- `place` on
 pub data Source : Type 0 where
   Zero : Source
   Payload : (entry place : ℕ) → Source

@@ -1,4 +1,4 @@
--- The run of a log: its entries one by one, each judged at its own point, up to the first fault.
+-- The run of a log: the entries in turn, each judged at its own point, up to the first fault.
 use Rattle.std.specs.Prelude.{◌≡◌, ℕ, ◌+◌, ◌==◌, List, [], ◌∷◌, map, Option, Some, None, Result, Ok, Err, unwrap_or, slice_get}
 use Rattle.std.specs.List.{list_any}
 use Rattle.kfs_model.specs.Access.{Client}
@@ -34,7 +34,7 @@ pub record EntryFault : Type 0 where
   pub entry : ℕ
   pub reason : Reason
 
--- two faults are one where their entries and their reasons are
+-- two faults are equal where their entries and their reasons are
 pub EntryFault-equality : Discrete EntryFault
 EntryFault-equality f g = both (ℕ_discrete f.entry g.entry) (Reason-discrete ℕ_discrete f.reason g.reason)
   where
@@ -44,7 +44,7 @@ EntryFault-equality f g = both (ℕ_discrete f.entry g.entry) (Reason-discrete �
     both (no differ) r = no (λ p. differ (ap (λ (fault : EntryFault). fault.entry) p))
 
 module _ {B : Type 0} (filling : Filling B) (client : Client) (before : ClientSight) where
-  -- the entries from the one with this number on, from this tree
+  -- the run from the entry with this index on, over this tree
   unfoldable pub run_from : (index : ℕ) → (created : List ℕ) → Tree B → List Entry → Result (Tree B) EntryFault
   run_from index created t [] = Ok t
   run_from index created t (entry ∷ entries) = elim (first_fault (entry_context client before (sight t) created) entry) [
@@ -60,7 +60,7 @@ module _ {B : Type 0} (filling : Filling B) (client : Client) (before : ClientSi
 abbrev pub over_bytes : Filling ℕ
 over_bytes = record { gap = 0; payload = λ index payload. payload }
 
--- where a byte comes from: the file that had it before the log, a gap, or a place in an entry's payload
+-- where a byte comes from: a file's byte from before the log, a gap, or a byte of an entry's payload
 pub data Mark : Type 0 where
   Base : (number place : ℕ) → Mark
   Zero : Mark
@@ -78,7 +78,7 @@ module _ {B C : Type 0} where
   mapped_body f (FileBody content) = FileBody (f content)
   mapped_body f DirectoryBody = DirectoryBody
 
-  -- the same tree, each file's content changed by a function of the file's number
+  -- the same tree, with each file's content changed by a function of its number and content
   abbrev pub mapped_tree : (ℕ → List B → List C) → Tree B → Tree C
   mapped_tree f t = record {
     nodes = mapped (λ n (node : Node B). record { mode = node.mode; uid = node.uid; gid = node.gid; body = mapped_body (f n) node.body }) t.nodes;
@@ -88,11 +88,11 @@ module _ {B C : Type 0} where
 abbrev pub base_marks : ℕ → ℕ → List ℕ → List Mark
 base_marks number place content = places_from (Base number) place content
 
--- each byte marked as what it is before the log
+-- the tree with each byte replaced by the mark that says where it is
 abbrev pub marked : Tree ℕ → Tree Mark
 marked t = mapped_tree (λ n content. base_marks n 0 content) t
 
--- the tree of marks after a log
+-- the tree of marks after the log
 abbrev pub marks_after : Client → (before : ClientSight) → Tree ℕ → List Entry → Result (Tree Mark) EntryFault
 marks_after client before t entries = run over_marks client before (marked t) entries
 
@@ -105,17 +105,17 @@ payload_of _ = []
 abbrev pub byte_at : List ℕ → (place : ℕ) → ℕ
 byte_at bytes place = unwrap_or (slice_get bytes place) 0
 
--- a byte of the tree before, a zero byte, or a byte of an entry's payload
+-- the byte that a mark stands for: one of the old tree, zero, or one of a payload
 abbrev pub byte_of : Tree ℕ → List Entry → Mark → ℕ
 byte_of before entries (Base number place) = byte_at (content_of (get before.nodes number)) place
 byte_of before entries Zero = 0
 byte_of before entries (Payload entry place) = byte_at (payload_of (slice_get entries entry)) place
 
--- the outcome of a marked run with each mark looked up
+-- the outcome of a run over marks, with each mark replaced by its byte
 abbrev pub looked_up : (Mark → ℕ) → Result (Tree Mark) EntryFault → Result (Tree ℕ) EntryFault
 looked_up byte (Ok t) = Ok (mapped_tree (λ n content. map byte content) t)
 looked_up byte (Err fault) = Err fault
 
--- a log's run over marks, looked up in the tree and in the payloads
+-- the run over marks, with each mark looked up in the old tree and the payloads
 abbrev pub run_by_marks : Client → (before : ClientSight) → Tree ℕ → List Entry → Result (Tree ℕ) EntryFault
 run_by_marks client before t entries = looked_up (byte_of t entries) (marks_after client before t entries)

@@ -1,5 +1,5 @@
--- What a clean entry does to what the cells show, cell by cell, and the run of a log over that. It is said of any sight,
--- also of one that no tree has.
+-- What an entry without a failed check does to the cells, one by one, and the run of a log over cells
+-- alone. It is defined for any cells, also for some that no tree has.
 use Rattle.std.specs.Prelude.{ℕ, ◌+◌, ◌-◌, ◌==◌, nat_le, max, ℤ, pos, negsuc, ◌+ℤ◌, List, [], ◌∷◌, length, Option, Some, None, option_map, option_and_then, Result, Ok, Err, if◌then◌else◌}
 use Rattle.kfs_model.specs.Header.{Kind, File, Directory, Header}
 use Rattle.kfs_model.specs.Access.{Client}
@@ -18,11 +18,11 @@ put_at n x f k = if k == n then x else f k
 abbrev pub put_name : {X : Type 0} → (directory : ℕ) (name : List ℕ) → X → (ℕ → List ℕ → X) → ℕ → List ℕ → X
 put_name d m x names e k = if same_place (e, k) (d, m) then x else names e k
 
--- a directory has so many names more
+-- the counts, with this much added for one directory
 abbrev pub shifted : (directory : ℕ) → ℤ → (ℕ → ℤ) → ℕ → ℤ
 shifted d by count e = if e == d then count e +ℤ by else count e
 
--- the header changed, where there is one
+-- the headers, with one changed where there is such a node
 abbrev pub put_header : (number : ℕ) → (Header → Header) → (ℕ → Option Header) → ℕ → Option Header
 put_header n change head = put_at n (option_map change (head n)) head
 
@@ -31,16 +31,17 @@ put_header n change head = put_at n (option_map change (head n)) head
 abbrev pub new_header : Client → Kind → (mode : ℕ) → Header
 new_header client kind mode = record { kind = kind; mode = mode; uid = client.uid; gid = client.gid; links = 1; size = 0 }
 
--- at the number, where that is a directory's
+-- the values, with one changed at the number where that is a directory
 abbrev pub put_of_directory : {X : Type 0} → Kind → (number : ℕ) → X → (ℕ → X) → ℕ → X
 put_of_directory File n x f = f
 put_of_directory Directory n x f = put_at n x f
 
--- where the node is a directory it now stands in this one
+-- the parents, with this one for the node where that is a directory
 abbrev pub put_parent : Kind → (number directory : ℕ) → (ℕ → Option ℕ) → ℕ → Option ℕ
 put_parent kind n d parent = put_of_directory kind n (Some d) parent
 
--- a name fewer leads to the node: a directory goes, and a file with its last name
+-- the header after the node lost a name; none where it goes, as a directory does, or a file with its
+-- last name
 abbrev pub unlinked : Header → Option Header
 unlinked h = of_kind h.kind
   where
@@ -52,7 +53,7 @@ abbrev pub written_size : (offset : ℕ) → (payload : List ℕ) → (size : �
 written_size offset [] size = size
 written_size offset (b ∷ bs) size = max size (offset + length (b ∷ bs))
 
--- without the name, which leads to this node
+-- the cells without this name, which led to the node
 abbrev pub seen_without : (directory : ℕ) (name : List ℕ) (number : ℕ) → Sight → Sight
 seen_without d m t s = record {
   head = put_at t (option_and_then unlinked (s.head t)) s.head;
@@ -61,7 +62,7 @@ seen_without d m t s = record {
   parent = put_at t None s.parent;
 }
 
--- the name leads to nothing any more, and the other one, which led to nothing, leads to the node
+-- the cells with the node's name moved; the new name led to nothing before
 abbrev pub seen_moved : (d : ℕ) (m : List ℕ) (e : ℕ) (k : List ℕ) (number : ℕ) → Sight → Sight
 seen_moved d m e k n s = record {
   head = s.head;
@@ -70,7 +71,8 @@ seen_moved d m e k n s = record {
   parent = put_parent (kind_shown (s.head n)) n e s.parent;
 }
 
--- nothing changes where both names lead to one node; what the new name led to loses that name first
+-- the cells after a Rename: nothing changes where both names lead to one node; a node that is replaced
+-- loses its name first
 abbrev pub seen_renamed : (d : ℕ) (m : List ℕ) (e : ℕ) (k : List ℕ) → Option ℕ → Option ℕ → Sight → Sight
 seen_renamed d m e k None there s = s
 seen_renamed d m e k (Some n) None s = seen_moved d m e k n s
@@ -101,7 +103,7 @@ seen_after client s (Rename d m e k) = seen_renamed d m e k (s.name d m) (s.name
 seen_after client s (Chmod n mode) = record s { head = put_header n (λ h. record h { mode = mode }) s.head }
 
 module _ (client : Client) (before : ClientSight) where
-  -- the entries from the one with this number on
+  -- the run over cells, from the entry with this index on
   unfoldable pub seen_run_from : (index : ℕ) → (created : List ℕ) → Sight → List Entry → Result Sight EntryFault
   seen_run_from index created now [] = Ok now
   seen_run_from index created now (entry ∷ entries) = elim (first_fault (entry_context client before now created) entry) [
@@ -109,7 +111,7 @@ module _ (client : Client) (before : ClientSight) where
     | Some reason ↦ Err (record { entry = index; reason = reason })
   ]
 
--- a run over trees as the cells show it
+-- the outcome of a run over trees, as cells
 abbrev pub shown_run : {B : Type 0} → Result (Tree B) EntryFault → Result Sight EntryFault
 shown_run (Ok t) = Ok (sight t)
 shown_run (Err fault) = Err fault

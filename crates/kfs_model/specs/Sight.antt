@@ -6,7 +6,7 @@ use Rattle.kfs_model.specs.Limits.{greatest_number, root_number}
 use Rattle.kfs_model.specs.Table.{Table, numbers, get}
 use Rattle.kfs_model.specs.Tree.{Tree, NameTable, headers, target, entry_count}
 
--- A cell of a state, for one client.
+-- A cell: one thing that a client can look at.
 pub data Cell : Type 0 where
   -- the header of a node, or none
   HeaderOf : (number : ℕ) → Cell
@@ -14,9 +14,9 @@ pub data Cell : Type 0 where
   NameIn : (directory : ℕ) (name : List ℕ) → Cell
   -- how many names a directory has
   CountOf : (directory : ℕ) → Cell
-  -- the directory that holds the one name of a directory, none for the root and for what is no directory
+  -- the directory that has a directory's name; none for the root and for what is no directory
   ParentOf : (number : ℕ) → Cell
-  -- whether the client holds a live write lease
+  -- whether the client holds a live write lease on the node
   LeaseOn : (number : ℕ) → Cell
 
 pub record Sight : Type 0 where
@@ -41,19 +41,19 @@ is_file (Some h) = of_kind h.kind
     of_kind File = true
     of_kind Directory = false
 
--- a file's where there is no node
+-- the kind that a header shows; of no node, a file
 abbrev pub kind_shown : Option Header → Kind
 kind_shown None = File
 kind_shown (Some h) = h.kind
 
--- the directory of the first name that leads to the number
+-- the directory with the least name that leads to the number
 abbrev pub holder : NameTable → ℕ → Option ℕ
 holder names number = option_map (λ e. e.0.0) (find (λ e. e.1 == number) names.entries)
 
 abbrev pub parent_in : (ℕ → Option Header) → NameTable → ℕ → Option ℕ
 parent_in head names number = if is_directory (head number) && not (number == root_number) then holder names number else None
 
--- what the cells of these headers and names show
+-- the cells of a tree with these headers and names
 abbrev pub sight_over : (heads : Table numbers Header) → (names : NameTable) → Sight
 sight_over heads names = record {
   head = get heads;
@@ -65,19 +65,19 @@ sight_over heads names = record {
 abbrev pub sight : {B : Type 0} → Tree B → Sight
 sight t = sight_over (headers t) t.names
 
--- what a cell answers
+-- the answer at a cell
 pub data Answer : Type 0 where
   Head : Option Header → Answer
   Number : Option ℕ → Answer
   Count : ℤ → Answer
   Held : Bool → Answer
 
--- what one client sees of a state: nodes and names, and whether it holds a live write lease on a node
+-- what one client sees of a state: nodes and names, and on which nodes it holds a live write lease
 pub record ClientSight : Type 0 where
   pub sight : Sight
   pub held : ℕ → Bool
 
--- of a tree, where the client holds these nodes
+-- what a client that holds these nodes sees of a tree
 abbrev pub client_sight : {B : Type 0} → Tree B → (held : ℕ → Bool) → ClientSight
 client_sight t held = record { sight = sight t; held = held }
 
@@ -88,17 +88,17 @@ answer s (CountOf d) = Count (s.sight.count d)
 answer s (ParentOf n) = Number (s.sight.parent n)
 answer s (LeaseOn n) = Held (s.held n)
 
--- how far a climb goes at the most: no directory of a sound tree lies deeper than there are numbers
+-- the most steps of a climb: in a sound tree no directory lies deeper than there are numbers
 abbrev pub climb_limit : ℕ
 climb_limit = greatest_number
 
--- whether the climb along the parents meets the node, where it begins included
+-- whether a climb along the parents meets the node; the node where it begins counts
 unfoldable pub climb_meets : (ℕ → Option ℕ) → (fuel node from : ℕ) → Bool
 climb_meets parent zero node from = from == node
 climb_meets parent (suc fuel) node from =
     elim (from == node) [ true ↦ true | false ↦ elim (parent from) [ None ↦ false | Some up ↦ climb_meets parent fuel node up ] ]
 
--- the nodes that the climb passes, where it begins included
+-- the nodes that a climb passes, from where it begins on
 unfoldable pub climbed : (ℕ → Option ℕ) → (fuel from : ℕ) → List ℕ
 climbed parent zero from = from ∷ []
 climbed parent (suc fuel) from = from ∷ elim (parent from) [ None ↦ [] | Some up ↦ climbed parent fuel up ]

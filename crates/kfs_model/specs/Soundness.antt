@@ -1,5 +1,5 @@
--- A sound tree: the root, one name for each other directory, and all in range. It is said of what the nodes show and of
--- the names, so that it is the same whatever a file is made of.
+-- A sound tree: it has a root, each other directory has one name, and all is in range. This concerns
+-- headers and names alone, so it is the same for trees of bytes and of marks.
 use Rattle.std.specs.Prelude.{◌≡◌, ◌≢◌, ℕ, zero, suc, ◌<◌, ◌≤◌, ◌^◌, List, Option, Some, IsTrue}
 use Rattle.kfs_model.specs.Header.{Header}
 use Rattle.kfs_model.specs.Limits.{greatest_mode, greatest_number, link_limit, root_number, size_limit}
@@ -8,7 +8,7 @@ use Rattle.kfs_model.specs.Tree.{Tree, NameTable, headers, target, name_count}
 use Rattle.kfs_model.specs.Sight.{parent_in, is_directory, is_file}
 use Rattle.kfs_model.specs.Spelling.{IsName}
 
--- one step after another along the parents
+-- so many steps up along the parents lead from the one to the other
 abbrev pub Climbs : (ℕ → Option ℕ) → (steps from to : ℕ) → Type 0
 Climbs parent zero from to = from ≡ to
 Climbs parent (suc steps) from to = (up : ℕ) × (parent from ≡ Some up) × Climbs parent steps up to
@@ -39,7 +39,7 @@ module _ (head : ℕ → Option Header) (names : NameTable) where
 abbrev pub IsSound : {B : Type 0} → Tree B → Type 0
 IsSound t = AreSound (get (headers t)) t.names
 
--- the tree is sound, and these are its headers, with the links and sizes that it has
+-- the tree is sound, and these are its headers, with the right links and sizes
 pub record IsSoundOver {B : Type 0} (heads : Table numbers Header) (t : Tree B) : Type 0 where
   pub sound : IsSound t
   pub counted : headers t ≡ heads

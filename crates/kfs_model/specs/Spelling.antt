@@ -1,4 +1,4 @@
--- How logs and plans are spelled as bytes, and what a decoder answers to bytes. Numbers are big-endian.
+-- How logs and plans are written as bytes, and what a decoder answers. Numbers are big-endian.
 -- Each value has one spelling.
 use Rattle.std.specs.Prelude.{◌≡◌, ◌≢◌, ℕ, zero, suc, ◌^◌, ◌<◌, ◌≤◌, ◌==◌, ◌&&◌, not, nat_lt, nat_le, Bool, false, List, [], ◌∷◌, ◌++◌, length, get_or, All, Option, None, Some, Result, Ok, Err}
 use Rattle.std.specs.List.{list_all, flat_map, AllByRecursion}
@@ -8,7 +8,7 @@ use Rattle.kfs_model.specs.Limits.{entry_limit, greatest_mode, name_limit, paylo
 use Rattle.kfs_model.specs.Entry.{Entry, Log, Create, Write, Truncate, Link, Unlink, Rename, Chmod}
 use Rattle.kfs_model.specs.PlanRow.{NameRow, NodeRow, Source, Zero, Payload, Piece, Plan}
 
--- each of the numbers is a byte
+-- each of the numbers is below 256
 abbrev pub IsBytes : List ℕ → Type 0
 IsBytes numbers = (i : ℕ) → get_or numbers i 0 < 256
 
@@ -51,11 +51,11 @@ is_dots (a ∷ b ∷ c ∷ bytes) = false
 unfoldable pub is_name : List ℕ → Bool
 is_name bytes = nat_lt 0 (length bytes) && nat_le (length bytes) name_limit && list_all (λ byte. not (byte == 0) && not (byte == slash)) bytes && not (is_dots bytes)
 
--- how many bytes, and the bytes
+-- the spelling of a name: a byte of length, then the name
 abbrev pub name_bytes : List ℕ → List ℕ
 name_bytes bytes = byte (length bytes) ++ bytes
 
--- the same behind four bytes of length
+-- the spelling of a payload: four bytes of length, then the payload
 abbrev pub payload_bytes : List ℕ → List ℕ
 payload_bytes bytes = number32 (length bytes) ++ bytes
 
@@ -71,25 +71,25 @@ IsMode mode = mode ≤ greatest_mode
 
 -- ---- rows, one after another
 
--- the bytes begin with the spelling of a value that fits
+-- the bytes begin with the spelling of such a value
 abbrev pub Begins : {V : Type 0} → (V → Type 0) → (V → List ℕ) → List ℕ → Type 0
 Begins {V} Fits spelling bytes = (value : V) × (rest : List ℕ) × Fits value × (bytes ≡ spelling value ++ rest)
 
 abbrev pub BeginsWithNo : {V : Type 0} → (V → Type 0) → (V → List ℕ) → List ℕ → Type 0
 BeginsWithNo Fits spelling bytes = Begins Fits spelling bytes → ⊥
 
--- the bytes are these rows, and then the rest
+-- the bytes are the spellings of these rows, followed by the rest
 pub record AreRows {V : Type 0} (Fits : V → Type 0) (spelling : V → List ℕ) (rows : List V) (bytes rest : List ℕ) : Type 0 where
   pub fit : AllByRecursion Fits rows
   pub spelled : bytes ≡ flat_map spelling rows ++ rest
 
--- the bytes are this many rows, and then the rest
+-- the bytes are the spellings of `count` rows, followed by the rest
 pub record BeginsWithRows {V : Type 0} (Fits : V → Type 0) (spelling : V → List ℕ) (count : ℕ) (bytes rest : List ℕ) : Type 0 where
   pub rows : List V
   pub number : length rows ≡ count
   pub are : AreRows Fits spelling rows bytes rest
 
--- the bytes are k rows, fewer than the count, and what follows doesn't begin as a row does
+-- k rows stand at the front, fewer than `count`, and no row follows them
 pub record LacksRowBy {V : Type 0} (Fits : V → Type 0) (spelling : V → List ℕ) (begins : List ℕ → Type 0) (count k : ℕ) (bytes : List ℕ) : Type 0 where
   pub rest : List ℕ
   pub before : BeginsWithRows Fits spelling k bytes rest
@@ -110,7 +110,8 @@ entry_bytes (Unlink d m flag) = byte 5 ++ number32 d ++ name_bytes m ++ kind_byt
 entry_bytes (Rename d m e k) = byte 6 ++ number32 d ++ name_bytes m ++ number32 e ++ name_bytes k
 entry_bytes (Chmod n mode) = byte 7 ++ number32 n ++ number16 mode
 
--- what has a spelling: the modes, names and payloads are in their ranges, the other numbers any of their width
+-- the entry has a spelling: its modes, names and payload are in range, and its other numbers fit their
+-- widths
 abbrev pub IsEntry : Entry → Type 0
 IsEntry (Create d m n k mode) = (d < 2 ^ 32) × IsName m × (n < 2 ^ 32) × IsMode mode
 IsEntry (Write n offset p) = (n < 2 ^ 32) × (offset < 2 ^ 64) × IsPayload p
@@ -120,12 +121,12 @@ IsEntry (Unlink d m flag) = (d < 2 ^ 32) × IsName m
 IsEntry (Rename d m e k) = (d < 2 ^ 32) × IsName m × (e < 2 ^ 32) × IsName k
 IsEntry (Chmod n mode) = (n < 2 ^ 32) × IsMode mode
 
--- whose log it is, and how many entries follow
+-- the header of a log: the client's number, and the number of entries
 pub record LogHeader : Type 0 where
   pub client : ℕ
   pub count : ℕ
 
--- "KLOG" and version 1
+-- the spelling of a log's header: "KLOG", version 1, the client, the count
 abbrev pub log_header : LogHeader → List ℕ
 log_header h = 75 ∷ 76 ∷ 79 ∷ 71 ∷ 1 ∷ number32 h.client ++ number16 h.count
 
@@ -149,12 +150,12 @@ name_row_bytes r = number32 r.directory ++ name_bytes r.name ++ number32 r.numbe
 abbrev pub IsNameRow : NameRow → Type 0
 IsNameRow r = (r.directory < 2 ^ 32) × IsName r.name × (r.number < 2 ^ 32)
 
--- 1 for a file, 2 for a directory
+-- the byte of a node's kind: 1 for a file, 2 for a directory
 abbrev pub state_bytes : Kind → List ℕ
 state_bytes File = byte 1
 state_bytes Directory = byte 2
 
--- 0 for gone, else the state and the rest of the header
+-- the spelling of a header in a plan: 0 where the node is gone, else the kind and the other fields
 abbrev pub header_bytes : Option Header → List ℕ
 header_bytes None = byte 0
 header_bytes (Some h) = state_bytes h.kind ++ number16 h.mode ++ number32 h.uid ++ number32 h.gid ++ number16 h.links ++ number64 h.size
@@ -183,13 +184,13 @@ piece_bytes p = number32 p.number ++ number64 p.start ++ number64 p.length ++ so
 abbrev pub IsPiece : Piece → Type 0
 IsPiece p = (p.number < 2 ^ 32) × (p.start < 2 ^ 64) × (p.length < 2 ^ 64) × IsSource p.source
 
--- how many rows each part has
+-- how many rows each part of a plan has
 pub record Counts : Type 0 where
   pub names : ℕ
   pub nodes : ℕ
   pub pieces : ℕ
 
--- "KPLN" and version 1
+-- the spelling of a plan's header: "KPLN", version 1, the three counts
 abbrev pub plan_header : Counts → List ℕ
 plan_header c = 75 ∷ 80 ∷ 76 ∷ 78 ∷ 1 ∷ number16 c.names ++ number16 c.nodes ++ number32 c.pieces
 
@@ -210,13 +211,14 @@ IsPlan p = AreCounts (counts_of p) × AllByRecursion IsNameRow p.names × AllByR
 -- why bytes are no log or no plan
 pub data SpellingFault : Type 0 where
   BadHeader Trailing : SpellingFault
-  -- so many entries were read
+  -- k entries were read, and no entry follows
   BadEntry : (k : ℕ) → SpellingFault
-  -- so many rows of this part were read: 0 names, 1 nodes, 2 pieces
+  -- k rows of this part were read, and no row follows; the parts are 0 names, 1 nodes, 2 pieces
   BadRow : (part k : ℕ) → SpellingFault
   deriving Discrete as SpellingFault-discrete
 
--- the bytes are the log · a log and more · begin with no header · a header, k entries, and no entry
+-- the decoder's answer to these bytes, case by case: a log; a log and more bytes; no header; a header
+-- and k entries, then no entry
 abbrev pub LogAnswer : List ℕ → Result Log SpellingFault → Type 0
 LogAnswer bytes (Ok l) = IsLog l × (bytes ≡ log_bytes l)
 LogAnswer bytes (Err Trailing) = (l : Log) × (more : List ℕ) × IsLog l × (more ≢ []) × (bytes ≡ log_bytes l ++ more)
@@ -224,7 +226,8 @@ LogAnswer bytes (Err BadHeader) = BeginsWithNo IsLogHeader log_header bytes
 LogAnswer bytes (Err (BadEntry k)) = (h : LogHeader) × (rest : List ℕ) × IsLogHeader h × (bytes ≡ log_header h ++ rest) × LacksRow IsEntry entry_bytes h.count k rest
 LogAnswer bytes (Err (BadRow part k)) = ⊥
 
--- after the header, so many rows stand of this part, behind all the rows of the parts before it
+-- all rows of the parts before this one stand behind the header, then k rows of this part, and then no
+-- row
 abbrev pub PartLacksRow : Counts → ℕ → ℕ → List ℕ → Type 0
 PartLacksRow c zero k rows = LacksRow IsNameRow name_row_bytes c.names k rows
 PartLacksRow c (suc zero) k rows = (nodes : List ℕ) × BeginsWithRows IsNameRow name_row_bytes c.names rows nodes × LacksRow IsNodeRow node_row_bytes c.nodes k nodes

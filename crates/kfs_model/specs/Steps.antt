@@ -1,4 +1,4 @@
--- One step after another, where each may give nothing.
+-- Two steps in a row, where each may have no result.
 use Rattle.std.specs.Prelude.{Option, Some, None}
 
 infixl 10 ◌>>=◌

@@ -1,8 +1,9 @@
--- A finite map whose entries stand in the order of their keys. It computes, so tables of literals compare by `refl`.
---     get t k, insert t k v, remove t k      what stands at a key, a table with one entry put or taken away
---     changed t k value      the table with this at a key, an entry or none
---     retain p t, mapped f t      the entries whose keys pass a test; each value changed by a function of its key
---     united old new      the entries of both, those of new where both have one
+-- A finite map whose entries stand in the order of their keys. It computes, so equal tables of literals
+-- are equal by `refl`.
+--     get t k, insert t k v, remove t k      the value at a key; the table with an entry added or removed
+--     changed t k value      the table with this value at the key, or without an entry there
+--     retain p t, mapped f t      the entries whose keys pass a test; the table with each value changed by a function of its key
+--     united old new      the entries of both tables; at a common key the one of `new`
 use Rattle.std.specs.Prelude.{◌≡◌, ℕ, Bool, not, ◌&&◌, T, List, [], ◌∷◌, refl, Option, Some, None}
 use Rattle.std.specs.declared.cmp.Ordering.{Ordering}
 use Rattle.std.specs.declared.cmp.Ordering.TheVariants.{Less, Equal, Greater}
@@ -13,12 +14,12 @@ use Rattle.std.specs.FinMap.{IsAntisymmetric, nat_cmp-IsAntisymmetric, slice_cmp
 use Rattle.std.specs.FinMap.Entries.{find, put, where_key, is_sorted, below_all, is_sorted-put, is_sorted-where_key}
 use mathlib.Core.Path.{sym, ap, subst}
 
--- the first, or else the second
+-- the first value, or the second where there is no first
 abbrev pub option_or : {X : Type 0} → Option X → Option X → Option X
 option_or None y = y
 option_or (Some x) y = Some x
 
--- an order of keys in which only equal keys tie
+-- an order of keys in which only equal keys compare as equal
 pub record Order (K : Type 0) : Type 0 where
   pub compare : K → K → Ordering
   pub total : IsTotalOrder compare
@@ -41,7 +42,7 @@ then_second Equal b e = e
 then_second Greater b e = absurd (subst (λ r. T (is_eq r)) (sym e) tt)
 
 module _ {J K : Type 0} where
-  -- pairs, by their first parts and then by their second
+  -- the order of pairs: by the first part, then by the second
   pub pairs_exact : (R : Order J) (S : Order K) → IsAntisymmetric (then_cmp (on (λ (p : J × K). p.0) R.compare) (on (λ (p : J × K). p.1) S.compare))
   pairs_exact R S x y e =
       let first = R.exact x.0 y.0 (then_first _ _ e) in
@@ -75,13 +76,13 @@ module _ {K X : Type 0} {R : Order K} where
   unfoldable pub remove : Table R X → K → Table R X
   remove t k = retain (λ j. not (eq_by_cmp R.compare k j)) t
 
-  -- the table with this at the key
+  -- the table with this value at the key, or without an entry there
   unfoldable pub changed : Table R X → K → Option X → Table R X
   changed t key None = remove t key
   changed t key (Some value) = insert t key value
 
 module _ {K X Y : Type 0} where
-  -- each value changed by a function of its key
+  -- the entries with each value changed by a function of its key
   abbrev pub changed_entries : (K → X → Y) → List (K × X) → List (K × Y)
   changed_entries f [] = []
   changed_entries f (e ∷ es) = (e.0, f e.0 e.1) ∷ changed_entries f es
@@ -100,7 +101,7 @@ module _ {K X Y : Type 0} {R : Order K} where
   mapped f t = record { entries = changed_entries f t.entries; sorted = subst T (sym (is_sorted-changed R f t.entries)) t.sorted }
 
 module _ {K X : Type 0} (R : Order K) where
-  -- the entries of both lists, those of the second where both have one
+  -- the entries of both lists; at a common key the one of the second
   abbrev pub united_entries : List (K × X) → List (K × X) → List (K × X)
   united_entries old [] = old
   united_entries old (e ∷ es) = put R.compare e.0 e.1 (united_entries old es)
@@ -110,6 +111,6 @@ module _ {K X : Type 0} (R : Order K) where
   is_sorted-united old (e ∷ es) h = is_sorted-put R.compare R.total e.0 e.1 (united_entries old es) (is_sorted-united old es h)
 
 module _ {K X : Type 0} {R : Order K} where
-  -- the entries of both tables, those of the second where both have one
+  -- the entries of both tables; at a common key the one of the second
   unfoldable pub united : Table R X → Table R X → Table R X
   united old new = record { entries = united_entries R old.entries new.entries; sorted = is_sorted-united R old.entries new.entries old.sorted }

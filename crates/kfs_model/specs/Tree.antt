@@ -1,11 +1,13 @@
--- The tree of nodes and names, generic in what a file is made of: bytes, marks, or nothing but its length.
+-- The tree of nodes and names. What a file's content consists of is a parameter: bytes, or marks that
+-- say where bytes come from.
 use Rattle.std.specs.Prelude.{ℕ, Bool, ◌==◌, List, [], length, Option, Some, None, count_by}
 use Rattle.std.specs.List.{list_any}
 use Rattle.kfs_model.specs.Header.{Kind, Header}
 use Rattle.kfs_model.specs.Header.Kind.{File, Directory}
 use Rattle.kfs_model.specs.Table.{Table, numbers, byte_order, pairs, get, mapped, Order}
 
--- what stands in a node: a file's content, its bytes in their order or marks for them, or a directory, whose names stand in the tree
+-- the body of a node: a file has its content, in order; a directory has none, since its names are in
+-- the tree
 pub data Body (B : Type 0) : Type 0 where
   FileBody : List B → Body B
   DirectoryBody : Body B
@@ -16,7 +18,7 @@ pub record Node (B : Type 0) : Type 0 where
   pub gid : ℕ
   pub body : Body B
 
--- a name is found by its directory and its bytes
+-- the order of names: by directory, then by the name's bytes
 abbrev pub name_order : Order (ℕ × List ℕ)
 name_order = pairs numbers byte_order
 
@@ -29,12 +31,12 @@ module _ {B : Type 0} where
   kind_of (FileBody content) = File
   kind_of DirectoryBody = Directory
 
-  -- a file's length, and 0 for a directory
+  -- the size of a body: a file's length, 0 for a directory
   abbrev pub size_of : Body B → ℕ
   size_of (FileBody content) = length content
   size_of DirectoryBody = 0
 
--- The tables of names alone say these, whatever a file is made of.
+-- The names alone determine these, whatever files contain.
 abbrev pub NameTable : Type 0
 NameTable = Table name_order ℕ
 
@@ -54,7 +56,7 @@ abbrev pub is_named : NameTable → ℕ → Bool
 is_named names number = list_any (λ e. e.1 == number) names.entries
 
 module _ {B : Type 0} where
-  -- a directory counts one link, a file its names
+  -- the links of a node: 1 for a directory, the number of its names for a file
   abbrev pub links_of : NameTable → ℕ → Body B → ℕ
   links_of names number (FileBody content) = name_count names number
   links_of names number DirectoryBody = 1
@@ -72,7 +74,7 @@ module _ {B : Type 0} where
   abbrev pub headers : Tree B → Table numbers Header
   headers t = mapped (node_header t.names) t.nodes
 
-  -- the content of a file, none for a directory and for what is no node
+  -- the content of a file; empty for a directory and where there is no node
   abbrev pub content_of : Option (Node B) → List B
   content_of None = []
   content_of (Some node) = body_content node.body
@@ -81,7 +83,7 @@ module _ {B : Type 0} where
       body_content (FileBody content) = content
       body_content DirectoryBody = []
 
--- A tree made of headers: `content` tells what stands in a file, by its number and its size.
+-- A tree made from headers; `content` gives each file's content, by its number and size.
 module _ {B : Type 0} (content : (number size : ℕ) → List B) where
   abbrev pub body_over : (number : ℕ) → Kind → (size : ℕ) → Body B
   body_over number File size = FileBody (content number size)
@@ -90,6 +92,6 @@ module _ {B : Type 0} (content : (number size : ℕ) → List B) where
   abbrev pub node_over : (number : ℕ) → Header → Node B
   node_over number h = record { mode = h.mode; uid = h.uid; gid = h.gid; body = body_over number h.kind h.size }
 
-  -- the nodes of these headers, and these names
+  -- the tree with these headers and these names
   abbrev pub tree_over : Table numbers Header → NameTable → Tree B
   tree_over heads names = record { nodes = mapped node_over heads; names = names }

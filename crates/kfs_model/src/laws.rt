@@ -1,4 +1,5 @@
-//! Laws of the definitions: each is the contract of a function without a body.
+//! Laws of the definitions. Each is the contract of a function that has nothing to do when it is
+//! called.
 
 ghost use Rattle.std.specs.Prelude.{◌≡◌, ℕ, List, [], Some, None, Result, IfOk, true};
 ghost use Rattle.kfs_model.specs.Tree.{Tree};
@@ -28,53 +29,56 @@ ghost use Rattle.kfs_model.specs.Spelling.{IsName, is_name, IsBytes, SpellingFau
 ghost use Rattle.kfs_model.specs.CleanStep.{IsClient, Fits, IsSeenInCells};
 ghost use Rattle.kfs_model.specs.Laws.{CellsDecide, CleanIsAllowed, EachGrant, EachRun, EachTwoTrees, KeepsOrder, KeepsSound, MarksGiveBytes, opening_of_new};
 
-/// An entry of which no check fails is allowed to its client, by mode bits and leases, whichever of the seven it is.
+/// An entry without a failed check is allowed to its client by mode bits and leases. This holds for all
+/// seven kinds of entry.
 pub fn clean_is_allowed()
     ensures { CleanIsAllowed }
 {}
 
-/// The bytes that a run gives are the marks that it gives, looked up in the tree before and in the payloads; and both stop
-/// at the same entry for the same reason.
+/// A run over bytes and a run over marks agree. They stop at the same entry for the same reason, or
+/// each mark, looked up in the old tree and the payloads, is the byte.
 pub fn marks_give_bytes()
     ensures { MarksGiveBytes }
 {}
 
-/// After a run a byte from before the log stands only where it stood: in the same file, at the same place.
+/// After a run, a byte from before the log is in the file, and at the place, where it was before.
 pub fn old_bytes_keep_their_place()
     ensures { EachRun (λ client before tree entries. IfOk (marks_after client before tree entries) OldBytesStay) }
 {}
 
-/// After a log without a fault a byte of a file has the mark of the last entry that covers it, and where none does the mark
-/// that it had before: a byte of the file, or zero behind the file's old end.
+/// After a log without a fault, each byte of a file has the mark of the last entry that covers it.
+/// Where no entry does, it keeps its own mark, or is zero behind the file's old end.
 pub fn last_entry_decides()
     ensures { EachRun (λ client before tree entries. before.sight ≡ sight tree → IfOk (marks_after client before tree entries) (LastEntryDecides tree entries)) }
 {}
 
-/// A plan has no wrong row exactly where it is right.
+/// A plan is right exactly where the search for a wrong row finds none.
 pub fn right_plan_has_no_wrong_row()
     ensures only { (before : Tree ℕ) (after : Tree Mark) (plan : Plan) → first_wrong_row before after plan ≡ None → IsRight before after plan }
     ensures found { (before : Tree ℕ) (after : Tree Mark) (plan : Plan) → IsRight before after plan → first_wrong_row before after plan ≡ None }
 {}
 
-/// Two right plans of one run say the same of each name, node and byte. Whatever says the same in pieces that are in
-/// order is right too.
+/// Two right plans of one run say the same of each name, node and byte. And a plan that says the same
+/// as a right one, in pieces that are in order, is right too.
 pub fn right_plans_differ_in_their_cut()
     ensures same { (before : Tree ℕ) (after : Tree Mark) (plan other : Plan) → IsRight before after plan → IsRight before after other → SaySame plan other }
     ensures cut_anew { (before : Tree ℕ) (after : Tree Mark) (plan other : Plan) → IsRight before after plan → IsCutAnew plan other → IsRight before after other }
 {}
 
-/// The first wrong piece of a plan is the first one that isn't what is left of right pieces begins with, however the right
-/// ones are cut.
+/// The first wrong piece is found by comparing the plan's pieces with any right pieces, however those
+/// are cut.
 pub fn pieces_are_followed()
     ensures { (after : Tree Mark) (right pieces : List Piece) → ArePieces after right → first_wrong_piece after pieces ≡ first_apart 0 pieces right }
 {}
 
-/// The room that a landing takes is counted over right pieces, file by file, however they are cut: no byte is looked at.
+/// The room that a landing takes can be counted over right pieces, file by file, however they are cut.
+/// No byte is looked at.
 pub fn need_is_counted_over_pieces()
     ensures { (after : Tree Mark) (right : List Piece) → ArePieces after right → need after ≡ counted_files right after.nodes.entries }
 {}
 
-/// Where a run has no fault, its tree is what the entries give one by one, each of them allowed where it stands.
+/// Where a run has no fault, its tree results from the entries in turn, each one allowed at its point
+/// of the log.
 pub fn accepted_entries_one_by_one()
     ensures { EachRun (λ client before tree entries. IfOk (run over_bytes client before tree entries) (OneByOne client before 0 [] tree entries)) }
 {}
@@ -84,23 +88,26 @@ pub fn fresh_tree_is_sound()
     ensures { IsSound (fresh_tree {B = ℕ}) }
 {}
 
-/// An entry in range of which no check fails, at a sound tree, leaves a sound tree, and what the cells show moves as the
-/// effect on cells says; of bytes and of marks.
+/// At a sound tree, an entry in range without a failed check leaves a sound tree, and its cells are
+/// those that the effect on cells gives. This holds for trees of bytes and of marks.
 pub fn clean_entry_keeps_tree_sound()
     ensures of_bytes { KeepsSound over_bytes }
     ensures of_marks { KeepsSound over_marks }
 {}
 
-/// From a sound tree, a run of entries in range shows at each of its ends what the run over the cells alone shows: the same
-/// first fault, or a tree with these cells, which is sound.
+/// From a sound tree, a run of entries in range and the run over its cells alone end alike: with the
+/// same first fault, or with a sound tree and its cells.
 pub fn run_is_seen_in_cells()
     ensures seen { EachRun (λ client before tree entries. Fits client tree entries → IsSeenInCells client before tree entries) }
     ensures sound { EachRun (λ client before tree entries. Fits client tree entries → IfOk (run over_bytes client before tree entries) IsSound) }
 {}
 
-/// Two states that answer alike, to one client, at the cells that a log looks at in the one, have the same first fault of
-/// the log, or none and the same names and headers changed by it; and the log looks at the same cells in the other. Two
-/// sound trees end alike too, whatever their bytes; the log changes the same bytes of both, and needs as much room.
+/// The cells that a log looks at decide its run. If two states give one client the same answers there,
+/// the log has the same first fault in both, or none and the same changes of names and headers; and it
+/// looks at the same cells in both.
+///
+/// For two sound trees, whatever bytes they hold, the log also changes the same bytes and needs the
+/// same room.
 pub fn looked_cells_decide()
     ensures decides { CellsDecide }
     ensures of_trees { EachTwoTrees TreesEndInAgreement }
@@ -114,26 +121,26 @@ pub fn name_test_is_exact()
     ensures only { (name : List ℕ) → IsName name → is_name name ≡ true }
 {}
 
-/// From leases of which no two live ones conflict, a grant, a drop and a tick lead to such leases.
+/// If no two live leases conflict, none do after a grant, a drop or a tick.
 pub fn leases_stay_compatible()
     ensures granted { EachGrant KeepsCompatible }
     ensures dropped { (clients : List Client) (client number : ℕ) → KeepsCompatible (λ leases. dropped leases clients client number) }
     ensures ticked { (moment : ℕ) → KeepsCompatible (λ leases. ticked leases moment) }
 {}
 
-/// Each step of the machine from a state in order, by a row whose submission is read rightly, leads to a state in order; and
-/// so does a docket of such rows.
+/// A step of the machine from a state in order leads to a state in order, if the row's log and plan are
+/// what its bytes decode to. The same holds of a docket of such rows.
 pub fn a_step_keeps_order()
     ensures step { (row : Row) → IsRead row → KeepsOrder (λ s. next s row) }
     ensures docket { (docket : List Row) → AllByRecursion IsRead docket → KeepsOrder (λ opened. after opened docket) }
 {}
 
-/// A state that opens on a new image is in order, where no two clients have one number and each is in range.
+/// A new image with clients in range, no two with the same number, opens in a state in order.
 pub fn new_image_opens_in_order()
     ensures { (clients : List Client) (sizes : TierSizes) → ClientsAreDistinct clients → AllByRecursion IsClient clients → IsInOrder (opening_of_new clients sizes) }
 {}
 
-/// All bytes have one reading as a log, and one as a plan: an answer of the decoder, and no other.
+/// Any bytes have exactly one reading as a log and exactly one as a plan: the answer of the decoder.
 pub fn bytes_have_one_reading()
     ensures log_exists { (bytes : List ℕ) → IsBytes bytes → (answer : Result Log SpellingFault) × LogAnswer bytes answer }
     ensures log_is_one { (bytes : List ℕ) → IsBytes bytes → (one other : Result Log SpellingFault) → LogAnswer bytes one → LogAnswer bytes other → one ≡ other }
