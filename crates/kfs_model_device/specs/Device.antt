@@ -4,11 +4,11 @@ use Rattle.kfs_model.specs.Limits.{block_size}
 use Rattle.kfs_model.specs.Table.{Table, numbers, pairs, get}
 use Rattle.kfs_model.specs.Placement.{TierSizes, Place, tier_size}
 
--- the blocks that were written: (tier, place) to the bytes of the block
+-- the blocks that were written: from tier and place to the block's bytes
 abbrev pub Devices : Type 0
 Devices = Table (pairs numbers numbers) (List ℕ)
 
--- a byte of the block at a place; a block that was never written has zero bytes
+-- a byte of the block at this place; a block that was never written has zero bytes
 abbrev pub byte_on : Devices → Place → (offset : ℕ) → ℕ
 byte_on devices place offset = elim (get devices (place.tier, place.place)) [ None ↦ 0 | Some bytes ↦ get_or bytes offset 0 ]
 

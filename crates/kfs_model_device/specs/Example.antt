@@ -14,7 +14,7 @@ use Rattle.kfs_model_device.specs.FreeRuns.{Run, runs_of}
 use Rattle.kfs_model_device.specs.Rules.{rules}
 use Rattle.kfs_model_device.specs.Finding.{Finding, least_failed, finding_of}
 
--- an example's proof computes: it unfolds this
+-- what the proof of an example unfolds in order to compute
 unfoldable pub computing : Unit {0}
 unfolding get insert mapped climb_meets runs_of finding_of
 computing = tt
@@ -27,7 +27,7 @@ sizes = record { first = 8; second = 8; third = 8 }
 abbrev pub node : (number : ℕ) → Kind → (mode id links size : ℕ) → RawNode
 node number kind mode id links size = record { number = number; header = record { kind = kind; mode = mode; uid = id; gid = id; links = links; size = size } }
 
--- the root, with this mode
+-- the root's row, with this mode
 abbrev pub root_with : (mode : ℕ) → RawNode
 root_with mode = node 1 Directory mode 0 1 0
 
@@ -37,19 +37,19 @@ root = root_with 511
 abbrev pub directory : (number : ℕ) → RawNode
 directory number = node number Directory 511 1000 1 0
 
--- with one name
+-- the row of a file with one name
 abbrev pub file : (number size : ℕ) → RawNode
 file number size = node number File 420 1000 1 size
 
 abbrev pub extent : (number block tier place count : ℕ) → List ℕ → ExtentRow
 extent number block tier place count bytes = record { number = number; block = block; tier = tier; place = place; count = count; bytes = bytes }
 
--- so many blocks of bytes 120
+-- the bytes of so many blocks, each byte 120
 abbrev pub letters : (count : ℕ) → List ℕ
 letters zero = []
 letters (suc count) = replicate block_size 120 ++ letters count
 
--- one block of bytes 120 at a place of tier 0
+-- an extent of one such block, at a place of tier 0
 abbrev pub block_at : (number block place : ℕ) → ExtentRow
 block_at number block place = extent number block 0 place 1 (letters 1)
 
@@ -69,11 +69,11 @@ two_files size_of_5 size_of_7 extents = raw (root ∷ file 5 size_of_5 ∷ file 
 abbrev pub at : (rule number : ℕ) → Finding
 at rule number = record { rule = rule; number = number }
 
--- each rule that is broken, with its least number
+-- each rule that is broken, with the least number at which it is
 abbrev pub findings : RawImage → List Finding
 findings image = filter_map (λ rule. option_map (at rule.0) (least_failed (rule.1 image))) rules.entries
 
--- this is the finding, and these later rules are broken too
+-- the image's finding is this, and these later rules are broken too
 abbrev pub Breaks : RawImage → Finding → (later : List Finding) → Type 0
 Breaks image finding later = (finding_of image ≡ Some finding) × (findings image ≡ finding ∷ later)
 
@@ -93,21 +93,22 @@ root_alone mode = raw (root_with mode ∷ []) [] []
 
 -- ---- a file with a hole
 
--- file 5 of 4,098 bytes: its first block isn't mapped, its second one lies at place 2
+-- file 5 of 4,098 bytes; its first block isn't mapped, and its second one lies at place 2
 abbrev pub with_hole : RawImage
 with_hole = one_file 4098 (block_at 5 1 2 ∷ [])
 
--- file 5 has a byte more than a block, in two blocks at the end of tier 2; the second one begins with 121
+-- file 5 has one byte more than a block, in two blocks at the end of tier 2; the second block begins
+-- with 121
 abbrev pub two_blocks : RawImage
 two_blocks = one_file 4097 (extent 5 0 2 6 2 (letters 1 ++ 121 ∷ replicate 4095 120) ∷ [])
 
--- file 5 at "/a", of client 1000, with mode 0o644 and this content
+-- file 5 at "/a", of uid 1000, with mode 0o644 and this content
 abbrev pub shown_file : List ℕ → Tree ℕ
 shown_file content = known.with_file content
 
 abbrev pub run : (first count : ℕ) → Run
 run first count = record { first = first; count = count }
 
--- block 0 of file 5 lies at place 2 of tier 1, and nothing else anywhere
+-- block 0 of file 5 lies at place 2 of tier 1, and no other block lies anywhere
 abbrev pub one_place : Placement
 one_place = table_of _ (((5, 0), record { tier = 1; place = 2 }) ∷ [])

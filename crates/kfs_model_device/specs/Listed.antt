@@ -1,4 +1,4 @@
--- An image as rows: its nodes, its names, and each block that lies somewhere as an extent of its own.
+-- The rows of an image: its nodes, its names, and for each block that lies somewhere an extent.
 use Rattle.std.specs.Prelude.{◌≡◌, ℕ, List, map}
 use Rattle.kfs_model.specs.Header.{Header}
 use Rattle.kfs_model.specs.Limits.{block_size}
@@ -19,7 +19,7 @@ name_row e = record { directory = e.0.0; name = e.0.1; number = e.1 }
 unfoldable pub block_bytes : Devices → Place → List ℕ
 block_bytes devices place = map (byte_on devices place) (below block_size)
 
--- one block
+-- the extent of one block
 abbrev pub extent_row : Devices → (ℕ × ℕ) × Place → ExtentRow
 extent_row devices e = record { number = e.0.0; block = e.0.1; tier = e.1.tier; place = e.1.place; count = 1; bytes = block_bytes devices e.1 }
 
@@ -31,7 +31,8 @@ rows_of image = record {
   extents = map (extent_row image.devices) image.placement.entries;
 }
 
--- the rows are spelled and well formed, and make the image again, but for blocks on which no file's block lies
+-- the rows are well formed and give the image again, apart from device blocks that hold no block of a
+-- file
 pub record AreRowsOfImage (image : DeviceImage) (raw : RawImage) : Type 0 where
   pub spelled : IsSpelled raw
   pub well_formed : IsWellFormed raw

@@ -1,4 +1,4 @@
--- An image as its format lists it: rows of nodes, of names and of extents, of which nothing is known yet.
+-- An image as its format lists it: rows of nodes, names and extents, not yet checked.
 use Rattle.std.specs.Prelude.{◌≡◌, ℕ, ◌+◌, ◌*◌, ◌<◌, ◌^◌, ◌==◌, ◌&&◌, nat_le, nat_lt, Bool, List, [], ◌∷◌, map, take, drop, Some}
 use Rattle.std.specs.List.{flat_map, AllByRecursion}
 use Rattle.kfs_model.specs.Header.{Header}
@@ -16,7 +16,7 @@ pub record RawNode : Type 0 where
   pub number : ℕ
   pub header : Header
 
--- blocks of a file from one on, at places of a tier from one on, and their bytes
+-- an extent: blocks of a file in a row, at places of a tier in a row, with their bytes
 pub record ExtentRow : Type 0 where
   pub number : ℕ
   pub block : ℕ
@@ -31,14 +31,14 @@ pub record RawImage : Type 0 where
   pub names : List NameRow
   pub extents : List ExtentRow
 
--- names are spelled as such, and uids and gids have 32 bits
+-- the rows can be spelled: names are names, and uids and gids fit 32 bits
 pub record IsSpelled (raw : RawImage) : Type 0 where
   pub names : AllByRecursion (λ (row : NameRow). IsName row.name) raw.names
   pub ids : AllByRecursion (λ (row : RawNode). (row.header.uid < 2 ^ 32) × (row.header.gid < 2 ^ 32)) raw.nodes
 
 -- ---- what the rows make
 
--- a table of entries; of those with one key the first one stands
+-- the table with these entries; of entries with the same key, the first one
 abbrev pub table_of : {K X : Type 0} (R : Order K) → List (K × X) → Table R X
 table_of R [] = empty
 table_of R (e ∷ es) = insert (table_of R es) e.0 e.1
@@ -52,7 +52,7 @@ heads_of raw = table_of numbers (map node_entry raw.nodes)
 abbrev pub names_of : RawImage → NameTable
 names_of raw = table_of name_order (map keyed_name raw.names)
 
--- where the extent's block of this index lies
+-- the key and the place of the extent's block with this index
 abbrev pub place_in : ExtentRow → (index : ℕ) → (ℕ × ℕ) × Place
 place_in row index = ((row.number, row.block + index), record { tier = row.tier; place = row.place + index })
 
@@ -76,11 +76,11 @@ image_of raw = record { sizes = raw.sizes; heads = heads_of raw; names = names_o
 
 -- ---- extents and their places
 
--- whether the place is one of the extent's
+-- whether the place is in the extent
 abbrev pub has_place : Place → ExtentRow → Bool
 has_place place row = (row.tier == place.tier) && nat_le row.place place.place && nat_lt place.place (row.place + row.count)
 
--- each of the extent's blocks lies where the extent says, and its bytes stand there
+-- each block of the extent lies where the extent says, with the extent's bytes
 pub record IsLaidOut (raw : RawImage) (row : ExtentRow) : Type 0 where
   pub mapped : (index : ℕ) → index < row.count → get (placement_of raw) (place_in row index).0 ≡ Some (place_in row index).1
   pub written : (index : ℕ) → index < row.count → get (devices_of raw) (bytes_in row index).0 ≡ Some (bytes_in row index).1

@@ -1,5 +1,5 @@
-//! Worked examples of the definitions: each is a fact by computation, the contract of a function without a body.
-//! The images stand in `specs/Example.antt`.
+//! Worked examples of images. Each is the contract of a function that does nothing, proved by
+//! computing. The images are in `specs/Example.antt`.
 
 pub mod findings;
 pub mod images;

@@ -1,4 +1,4 @@
-//! Images that are well formed, the trees that they show and their free runs.
+//! Well formed images, the trees that they show, and their free runs.
 
 ghost use Rattle.std.specs.Prelude.{◌≡◌, List, [], ◌∷◌, ◌++◌, replicate};
 ghost use Rattle.kfs_model.specs.Table.{empty};
@@ -8,7 +8,8 @@ ghost use Rattle.kfs_model_device.specs.RawImage.{image_of, placement_of, device
 ghost use Rattle.kfs_model_device.specs.Finding.{IsWellFormed};
 ghost use Rattle.kfs_model_device.specs.Example.{sizes, root_alone, two_files, block_at, extent, letters, with_hole, two_blocks, shown_file, run, one_place};
 
-/// A file whose first block isn't mapped begins with zero bytes. Bytes of its last block past the size aren't shown.
+/// A file whose first block isn't mapped begins with zero bytes. Bytes of its last block past its size
+/// aren't shown.
 #[tactic(auto, unfolding(crate::specs::Example::computing))]
 pub fn file_with_a_hole()
     ensures well_formed { IsWellFormed with_hole }
@@ -18,14 +19,15 @@ pub fn file_with_a_hole()
     ensures no_tier { free_runs sizes (placement_of with_hole) 3 ≡ [] }
 {}
 
-/// A block that is mapped and was never written has zero bytes; one that is written elsewhere doesn't show.
+/// A mapped block that was never written has zero bytes. A written block that isn't mapped isn't shown.
 #[tactic(auto, unfolding(crate::specs::Example::computing))]
 pub fn block_never_written()
     ensures never { file_bytes one_place empty 5 3 ≡ 0 ∷ 0 ∷ 0 ∷ [] }
     ensures elsewhere { file_bytes one_place (devices_of with_hole) 5 3 ≡ 0 ∷ 0 ∷ 0 ∷ [] }
 {}
 
-/// An extent of two blocks at the end of a tier: the second block's bytes are its own. And the root alone.
+/// An extent of two blocks at the end of a tier: each block has its own bytes. And an image with the
+/// root alone.
 #[tactic(auto, unfolding(crate::specs::Example::computing))]
 pub fn blocks_side_by_side()
     ensures well_formed { IsWellFormed two_blocks }
@@ -35,7 +37,8 @@ pub fn blocks_side_by_side()
     ensures root_alone { IsWellFormed (root_alone 511) }
 {}
 
-/// Blocks of two files lie at places of one number on two tiers, or side by side on one.
+/// Blocks of two files may lie at places with the same number on two tiers, or next to each other on
+/// one.
 #[tactic(auto, unfolding(crate::specs::Example::computing))]
 pub fn blocks_apart()
     ensures two_tiers { IsWellFormed (two_files 4 4 (block_at 5 0 3 ∷ extent 7 0 1 3 1 (letters 1) ∷ [])) }
