@@ -1,4 +1,4 @@
-//! Which entries permissions, grants and limits refuse.
+//! Entries that permissions, grants and limits refuse.
 
 ghost use Rattle.std.specs.Prelude.{◌≡◌, [], Some};
 ghost use Rattle.kfs_model.specs.Check.{NoWrite, NotOwner, NumberTaken, NumberNotGranted, TooManyLinks, first_fault};
@@ -7,8 +7,9 @@ ghost use Rattle.kfs_model_examples.specs.Example.{Replies, refused_at, no_plan}
 ghost use Rattle.kfs_model_examples.specs.Example.FileCases.{write_x, file_state};
 ghost use Rattle.kfs_model_examples.specs.Example.AccessCases.{with_mode, in_group, one_byte_plan, locked_first, both_held, create_z, chmod_root, with_many_names, one_more_name};
 
-/// Only the bits of the one class that holds count: with mode 0o077 the owner may not write; with mode 0o602 a member of the
-/// file's group may not, and another client may. The mode that counts is that of the entry's own moment.
+/// Only the bits of one class count. With mode 0o077 the owner may not write. With mode 0o602 a member
+/// of the file's group may not write, and another client may. The mode that counts is the one at the
+/// entry's own point of the log.
 #[tactic(auto, unfolding(crate::specs::Example::computing))]
 pub fn one_class_counts()
     ensures owner { Replies (with_mode 63 1000 1000) 7 (write_x 5) no_plan (refused_at 0 NoWrite) }
@@ -17,8 +18,8 @@ pub fn one_class_counts()
     ensures after_chmod { Replies (file_state []) 7 locked_first no_plan (refused_at 1 NoWrite) }
 {}
 
-/// Client 7 holds the root and file 5: numbers outside its grant and numbers in use are refused, and so is a Chmod of the root,
-/// whose owner it is not.
+/// Client 7 holds the root and file 5. It may not create numbers outside its grant or numbers in use,
+/// nor change the mode of the root, which it doesn't own.
 #[tactic(auto, unfolding(crate::specs::Example::computing))]
 pub fn grants_and_owners()
     ensures not_granted { Replies both_held 7 (create_z 200) no_plan (refused_at 0 NumberNotGranted) }
@@ -26,7 +27,8 @@ pub fn grants_and_owners()
     ensures not_owner { Replies both_held 7 chmod_root no_plan (refused_at 0 NotOwner) }
 {}
 
-/// A file with 1,024 names gets no further one. (The tree with these names is a matter of tests; here its header says so.)
+/// A file with 1,024 names gets no further one. Here the header says so; a test makes the tree with all
+/// these names.
 #[tactic(auto, unfolding(crate::specs::Example::computing))]
 pub fn as_many_names_as_a_file_may_have()
     ensures { first_fault with_many_names one_more_name ≡ Some TooManyLinks }

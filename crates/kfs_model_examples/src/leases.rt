@@ -5,7 +5,8 @@ ghost use Rattle.kfs_model.specs.Lease.{LeaseHeld, NoLeaseHeld, BadPath, NoSuchN
 ghost use Rattle.kfs_model_examples.specs.Example.{leases};
 ghost use Rattle.kfs_model_examples.specs.Example.LeaseCases.{lease, lease_until, drop, root_path, no_slash, no_such, below_file, read_by_7, read_by_both, read_by_8, written_by_8, at_5};
 
-/// Clients 7 and 8 both read file 5; 8 may write only after 7 has dropped its lease, and then holds it.
+/// Clients 7 and 8 both read file 5. Client 8 may write only after 7 has dropped its lease, and holds
+/// the file then.
 #[tactic(auto, unfolding(crate::specs::Example::computing))]
 pub fn readers_and_a_writer()
     ensures first_reader { (lease no_leases 7 ReadLease).0 ≡ Ok 5 }
@@ -18,7 +19,7 @@ pub fn readers_and_a_writer()
     ensures held_after { holds written_by_8 8 5 ≡ true }
 {}
 
-/// What a path, an end, a client and a moment are refused for.
+/// Leases that are refused for their path, their end, their client or the moment.
 #[tactic(auto, unfolding(crate::specs::Example::computing))]
 pub fn refused_leases()
     ensures on_the_root { (lease_until no_leases 7 root_path WriteLease 100).0 ≡ Ok 1 }
@@ -32,7 +33,7 @@ pub fn refused_leases()
     ensures same_moment { (ticked at_5 5).0 ≡ Ok 5 }
 {}
 
-/// Clients 7 and 8 with a live lease for writing each, both on file 5, are in conflict.
+/// Two clients with a live write lease each on file 5 are in conflict.
 pub fn two_writers()
     ensures { AreCompatible (leases (5 ∷ []) (5 ∷ [])) → ⊥ }
 {}

@@ -8,16 +8,17 @@ ghost use Rattle.kfs_model_examples.specs.Example.NameCases.{two_names, rename_t
 ghost use Rattle.kfs_model_examples.specs.Example.FileCases.{write_x};
 ghost use Rattle.kfs_model.specs.Header.{File, Directory};
 
-/// File 5 has the names "a" and "b" in the root, which nobody may write, and client 7 holds no lease: a Rename from the one
-/// to the other changes nothing and is allowed.
+/// File 5 has the names "a" and "b" in the root, which nobody may write, and client 7 holds no lease. A
+/// Rename from one name to the other is allowed and changes nothing.
 #[tactic(auto, unfolding(crate::specs::Example::computing))]
 pub fn rename_to_its_own_name()
     ensures accepted { Replies two_names 7 rename_to_own_name no_plan (Accepted 0) }
     ensures shows { Leaves two_names 7 rename_to_own_name no_plan two_names.tree }
 {}
 
-/// Directories 20 ("p") and 21 ("q") in the root, 10 ("x") in 20, 11 ("y") in 21, 12 ("c") in 11, 13 ("d") in 10. Client 7
-/// moves 10 into 12, client 8 moves 11 into 13: whichever lands first, the other one would go below itself.
+/// Directory 10 ("x") is in 20 ("p"), and 11 ("y") in 21 ("q"); 12 ("c") is in 11, and 13 ("d") in 10.
+/// Client 7 moves 10 into 12, client 8 moves 11 into 13. Whichever lands first, the other move would
+/// put a directory below itself.
 #[tactic(auto, unfolding(crate::specs::Example::computing))]
 pub fn two_moves()
     ensures first_7 { Replies four_directories 7 move_7 plan_7 (Accepted 0) }
@@ -28,7 +29,8 @@ pub fn two_moves()
     ensures then_7 { Replies moved_by_8 7 move_7 plan_7 (refused_at 0 BelowItself) }
 {}
 
-/// File 9 at "/f" of client 7, which holds 1 and 9: it is removed, its number is used again, and the old lease is gone.
+/// Client 7 holds the root and its file 9 at "/f". After the file is removed and number 9 is used
+/// again, the old lease is gone.
 #[tactic(auto, unfolding(crate::specs::Example::computing))]
 pub fn number_used_again()
     ensures removed { Replies removed_file 7 unlink_f unlink_plan (Accepted 0) }
@@ -38,7 +40,8 @@ pub fn number_used_again()
     ensures no_lease { Replies after_creation 7 (write_x 9) no_plan (refused_at 0 (NoLease 9)) }
 {}
 
-/// Directory 20 at "/p" with directory 10 named "x" in it, file 5 at "/a", all of client 7, which holds 1, 20, 10 and 5.
+/// Directory 20 at "/p" holds directory 10 ("x"), and file 5 is at "/a". All are client 7's, which
+/// holds them and the root.
 #[tactic(auto, unfolding(crate::specs::Example::computing))]
 pub fn directories_and_files()
     ensures not_empty { Replies folder 7 (unlink_p Directory) no_plan (refused_at 0 NotEmpty) }

@@ -1,4 +1,4 @@
-//! Logs and plans beside the bytes that spell them.
+//! Logs and plans with the bytes that spell them.
 
 ghost use Rattle.std.specs.Prelude.{[], ◌∷◌, ◌++◌, take, Ok, Err};
 ghost use Rattle.kfs_model.specs.Spelling.{BadEntry, BadHeader, BadRow, LogAnswer, PlanAnswer, Trailing};
@@ -28,22 +28,22 @@ pub fn move_into_another_directory()
     ensures plan { PlanAnswer plan_7_bytes (Ok plan_7) }
 {}
 
-/// No entry is 11 bytes, no row 13.
+/// A log without entries has 11 bytes, a plan without rows 13.
 #[tactic(auto, unfolding(kfs_model::specs::Spelling::number16, kfs_model::specs::Spelling::number32, kfs_model::specs::Spelling::number64))]
 pub fn nothing()
     ensures log { LogAnswer empty_log_bytes (Ok (log_of_7 [])) }
     ensures plan { PlanAnswer empty_plan_bytes (Ok no_plan) }
 {}
 
-/// The same log with too few bytes for a header, with its last byte missing, and with one byte more.
+/// Bytes that are no log: too few for a header, the last one missing, one too many.
 pub fn no_logs()
     ensures header { LogAnswer (cut_log 10) (Err BadHeader) }
     ensures entry { LogAnswer (cut_log 24) (Err (BadEntry 0)) }
     ensures trailing { LogAnswer (create_a_log_bytes ++ 0 ∷ []) (Err Trailing) }
 {}
 
-/// The same plan with too few bytes for a header, cut in its name row and in its node row, and with one byte more; and a plan
-/// of four pieces cut in the last one.
+/// Bytes that are no plan: too few for a header, cut in the name row, cut in the node row, one too
+/// many, and four pieces cut in the last one.
 pub fn no_plans()
     ensures header { PlanAnswer (cut_plan 12) (Err BadHeader) }
     ensures name_row { PlanAnswer (cut_plan 22) (Err (BadRow 0 0)) }
