@@ -148,9 +148,9 @@ pub fn bytes_have_one_reading()
     ensures plan_is_one { (bytes : List ℕ) → IsBytes bytes → (one other : Result Plan SpellingFault) → PlanAnswer bytes one → PlanAnswer bytes other → one ≡ other }
 {}
 
-/// What a row of the docket means, of a row that is read rightly and fits a state. After a Yes the tree is what the log's
-/// entries give one by one, each of them allowed where it stands. Any other answer to a submission changes nothing. A call
-/// for the leases changes leases only. The state after the row is in order where the state before it was.
+/// What a row says, if its log and plan are what its bytes decode to and it fits the state. After a Yes
+/// the tree results from the log's entries in turn, each one allowed. Any other answer to a submission
+/// changes nothing. A lease call changes leases only. A state in order stays in order.
 pub fn what_a_row_means()
     ensures meaning { (s t : State) (row : Row) → IsRead row → next s row ≡ Some t → Means s row t }
     ensures order { (s t : State) (row : Row) → IsInOrder s → IsRead row → next s row ≡ Some t → IsInOrder t }
