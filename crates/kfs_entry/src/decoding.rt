@@ -12,7 +12,7 @@ use kfs_entry_codec::{Row, RowsFault, headers, read_rows};
 use kfs_entry_value::{Entry, Log, NameRow, NodeRow, Piece, Plan, RowList, Span};
 use std::alloc::Allocator;
 
-/// The entries of a log.
+/// Reads the entries of a log.
 fn entries<R: Row, A: Allocator>(
     alloc: A,
     source: &[u8],
@@ -30,7 +30,7 @@ fn entries<R: Row, A: Allocator>(
     }
 }
 
-/// The rows of one part of a plan.
+/// Reads the rows of one part of a plan.
 fn part<R: Row, A: Allocator>(
     alloc: A,
     source: &[u8],
@@ -49,7 +49,7 @@ fn part<R: Row, A: Allocator>(
     }
 }
 
-/// The log that the source spells, or the place where it leaves the grammar.
+/// `decode_log`, with the first and the third of its clauses.
 fn log_in<A: Allocator>(alloc: A, source: &[u8]) -> Result<Log<A>, SpellFault>
     ensures found { OnAnswer (log_of source.now) (LogAnswer source.now) result }
     ensures spans { IfOk result (SpansAreWithin (length source.now)) }
@@ -67,19 +67,22 @@ fn log_in<A: Allocator>(alloc: A, source: &[u8]) -> Result<Log<A>, SpellFault>
     })
 }
 
-/// The log that the source spells. A refusal says where the bytes leave the grammar of logs, and
-/// keeps nothing. No payload byte is touched: the entries hold spans of the source.
+/// Reads a log from bytes. All of `source` must be the log.
+///
+/// The entries hold spans of `source`: no payload byte is copied or looked at. The list of entries
+/// grows from `alloc` as entries are read. Refused with `BadHeader`, `BadEntry(k)` or `Trailing` where
+/// the bytes leave the format, and with `OutOfMemory` where memory is refused; nothing is kept then.
 pub fn decode_log<A: Allocator>(alloc: A, source: &[u8]) -> Result<Log<A>, SpellFault>
-    // What is answered is so.
+    // Soundness: the answer is right for these bytes.
     ensures found { OnAnswer (log_of source.now) (LogAnswer source.now) result }
-    // What is so is answered, unless memory runs out.
+    // Completeness: the right answer is given, unless memory is refused.
     ensures only { (answer : Result LogValue SpellingFault) → LogAnswer source.now answer → OnAnswer (log_of source.now) (λ given. given ≡ answer) result }
     ensures spans { IfOk result (SpansAreWithin (length source.now)) }
 {
     log_in(alloc, source)
 }
 
-/// The plan that the source spells, or the place where it leaves the grammar.
+/// `decode_plan`, with the first of its clauses.
 fn plan_in<A: Allocator + Clone>(alloc: A, source: &[u8]) -> Result<Plan<A>, SpellFault>
     ensures { OnAnswer plan_of (PlanAnswer source.now) result }
 {
@@ -101,12 +104,15 @@ fn plan_in<A: Allocator + Clone>(alloc: A, source: &[u8]) -> Result<Plan<A>, Spe
     })
 }
 
-/// The plan that the source spells. A refusal says where the bytes leave the grammar of plans, and
-/// keeps nothing.
+/// Reads a plan from bytes. All of `source` must be the plan.
+///
+/// The three lists grow from `alloc` as rows are read. Refused with `BadHeader`, `BadRow(part, k)` or
+/// `Trailing` where the bytes leave the format, and with `OutOfMemory` where memory is refused; nothing
+/// is kept then.
 pub fn decode_plan<A: Allocator + Clone>(alloc: A, source: &[u8]) -> Result<Plan<A>, SpellFault>
-    // What is answered is so.
+    // Soundness: the answer is right for these bytes.
     ensures found { OnAnswer plan_of (PlanAnswer source.now) result }
-    // What is so is answered, unless memory runs out.
+    // Completeness: the right answer is given, unless memory is refused.
     ensures only { (answer : Result PlanValue SpellingFault) → PlanAnswer source.now answer → OnAnswer plan_of (λ given. given ≡ answer) result }
 {
     plan_in(alloc, source)

@@ -8,7 +8,10 @@ use kfs_entry_codec::{headers, rows_len, write_rows};
 use kfs_entry_value::{Log, Plan};
 use std::alloc::{AllocError, Allocator};
 
-/// The spelling of a log whose payloads lie in `source`.
+/// Writes a log as bytes. `source` is the bytes that the spans of its payloads point into.
+///
+/// Condition: there are at most 4,096 entries, each in the ranges of the format, and the spans lie in
+/// `source`. Takes memory for the bytes; `Err` where it is refused.
 pub fn encode_log<A: Allocator, B: Allocator>(
     alloc: A,
     log: &Log<B>,
@@ -30,7 +33,8 @@ pub fn encode_log<A: Allocator, B: Allocator>(
     Ok(out)
 }
 
-/// The spelling of a plan.
+/// Writes a plan as bytes. Condition: there are fewer than 2^16 names, 2^16 nodes and 2^32 pieces.
+/// Takes memory for the bytes; `Err` where it is refused.
 pub fn encode_plan<A: Allocator, B: Allocator>(
     alloc: A,
     plan: &Plan<B>,

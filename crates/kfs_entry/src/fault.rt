@@ -4,20 +4,20 @@ ghost use Rattle.kfs_entry.specs.declared.fault.SpellFault.TheVariants.{OutOfMem
 
 use std::alloc::{AllocError, AllocFailed};
 
-/// Why bytes were not decoded. Nothing is kept of them then.
+/// Why bytes weren't decoded. Nothing of them is kept.
 #[derive(Clone, Copy, Debug, PartialEq, Eq)]
 pub enum SpellFault {
-    /// 1: the bytes begin with no header: too few bytes, another magic or version, or a log's count
-    /// over 4,096.
+    /// 1: the bytes don't begin with a header: there are too few, the magic or the version is another,
+    /// or a log's count is over 4,096.
     BadHeader,
     /// 2: this many entries were read, fewer than the log's count, and no entry follows.
     BadEntry(u16),
     /// 3: the whole log or plan was read, and bytes remain.
     Trailing,
-    /// 4: all parts of the plan before this one (0 names, 1 nodes, 2 pieces) and this many of its
-    /// rows were read, and no such row follows.
+    /// 4: the part (0 names, 1 nodes, 2 pieces) and how many of its rows were read. All parts before it
+    /// were read, and no row of this part follows, though its count is larger.
     BadRow(u8, u32),
-    /// A growth was refused.
+    /// Memory was refused.
     OutOfMemory,
 }
 

@@ -1,4 +1,7 @@
-//! Update logs and digest plans, as values and as bytes.
+//! Update logs and digest plans ("Strata", SOSP 2017), as values and as bytes.
+//!
+//! It stands on `kfs_entry_value` (the values) and `kfs_entry_codec` (the fields); the judge and the
+//! plan checker stand on it. Begin with `decode_log` and `encode_log`. docs/FORMATS.md has the formats.
 #![tactic(auto)]
 
 mod decoding;
