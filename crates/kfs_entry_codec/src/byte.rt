@@ -1,4 +1,4 @@
-//! One byte.
+//! A field of one byte.
 ghost use Rattle.std.specs.Prelude.{◌≡◌, ◌≤◌, length, drop, IfSome};
 ghost use Rattle.kfs_model.proofs.Reading.{byte_read};
 ghost use Rattle.kfs_entry_codec.specs.Reading.{seen};

@@ -1,9 +1,9 @@
-//! Bytes at a place of the source.
+//! Runs of bytes in the source.
 ghost use Rattle.std.specs.Prelude.{◌≡◌, ◌+◌, ◌<◌, ◌≤◌, length, drop, IfNone, IfSome};
 ghost use Rattle.kfs_model.proofs.Reading.{bytes_read};
 ghost use Rattle.kfs_entry_codec.specs.Reading.{IsChunk, seen};
 
-/// The `N` bytes that stand at `at`, and the place after them.
+/// The `N` bytes at position `at`, and the position after them; none where fewer are left.
 pub fn chunk<const N: usize>(source: &[u8], at: usize) -> Option<(&[u8; N], usize)>
     requires { at ≤ length source.now }
     ensures none { IfNone result (length (drop at source.now) < N) }
@@ -13,7 +13,7 @@ pub fn chunk<const N: usize>(source: &[u8], at: usize) -> Option<(&[u8; N], usiz
     Some((front, at + N))
 }
 
-/// The next `count` bytes from `at` on, and the place after them.
+/// The `count` bytes at position `at`, and the position after them; none where fewer are left.
 pub fn run(source: &[u8], at: usize, count: usize) -> Option<(&[u8], usize)>
     requires { at ≤ length source.now }
     ensures value { seen (λ bytes. bytes.now) source.now result ≡ bytes_read count (drop at source.now) }

@@ -1,4 +1,4 @@
-//! An entry: its tag and its fields, as the table lists them.
+//! An entry of a log: its tag and its fields, as the table lists them.
 ghost use Rattle.std.specs.Prelude.{◌≡◌, ◌≤◌, length, drop, IfSome};
 ghost use Rattle.kfs_entry_value.specs.Views.{entry_of, IsWithin};
 ghost use Rattle.kfs_model.proofs.Reading.{tagged_read, entry_read};
@@ -9,7 +9,7 @@ use crate::{byte, entry_table, kind, mode, name, number32, number64, payload};
 use kfs_entry_value::{Entry, Span};
 use std::alloc::{AllocError, Allocator};
 
-/// The tags of the entries without names, as the table has them. Only the speed depends on them.
+/// The tags of the entries without names, as in the table. Only the speed depends on these.
 const WRITE: u8 = 2;
 
 const TRUNCATE: u8 = 3;
@@ -47,7 +47,7 @@ macro_rules! len_case {
     };
 }
 
-/// The entry of this tag whose fields stand at `at`, and the place after it.
+/// The entry with this tag whose fields are at position `at`, and the position after it.
 #[inline(always)]
 fn read_fields(tag: u8, source: &[u8], at: usize) -> Option<(Entry<Span>, usize)>
     requires { at ≤ length source.now }
@@ -57,7 +57,7 @@ fn read_fields(tag: u8, source: &[u8], at: usize) -> Option<(Entry<Span>, usize)
     entry_table!(read_case(tag, source, at))
 }
 
-/// The same in a frame of its own.
+/// The same, as a call of its own.
 #[inline(never)]
 fn read_fields_apart(tag: u8, source: &[u8], at: usize) -> Option<(Entry<Span>, usize)>
     requires { at ≤ length source.now }
@@ -67,7 +67,8 @@ fn read_fields_apart(tag: u8, source: &[u8], at: usize) -> Option<(Entry<Span>, 
     read_fields(tag, source, at)
 }
 
-// A frame is cleared at each call, and names are long, so an entry without any is read in a frame without.
+// A function's frame is cleared at each call, and names are long. So an entry without a name is read in
+// a function whose frame holds none.
 #[tactic(auto, unfolding(kfs_model::proofs::Reading::entry_read))]
 fn read_entry(source: &[u8], at: usize) -> Option<(Entry<Span>, usize)>
     requires { at ≤ length source.now }

@@ -1,5 +1,5 @@
-//! A header as a plan spells it: 0 where the node is gone, 1 for a file and 2 for a directory, and
-//! behind these the other fields.
+//! A header in a plan: a byte that is 0 where the node is gone, 1 for a file and 2 for a directory;
+//! after 1 or 2 the other fields follow.
 ghost use Rattle.std.specs.Prelude.{◌≡◌, ◌≤◌, ◌++◌, length, drop, Some, IfSome, OnOk};
 ghost use Rattle.std.specs.Option.{option_map};
 ghost use Rattle.kfs_model.specs.Spelling.{header_bytes};
@@ -11,6 +11,7 @@ use crate::{byte, number16, number32, number64};
 use kfs_entry_value::{Header, Kind};
 use std::alloc::{AllocError, Allocator};
 
+/// The fields behind the first byte.
 fn read_present(source: &[u8], at: usize, kind: Kind) -> Option<(Header, usize)>
     requires { at ≤ length source.now }
     ensures value { seen (λ h. Some (header_of h)) source.now result ≡ present_read (kind_of kind) (drop at source.now) }

@@ -1,4 +1,4 @@
-//! What stands before the rows of a log and of a plan.
+//! The headers with which a log and a plan begin.
 ghost use Rattle.std.specs.Prelude.{◌≡◌, ◌≤◌, ◌++◌, length, drop, option_map, IfSome, IfNone, OnOk};
 ghost use Rattle.kfs_model.specs.Spelling.{BeginsWithNo, IsLogHeader, log_header, AreCounts, plan_header};
 ghost use Rattle.kfs_entry_codec.specs.Headers.{log_header_of, counts_of};
@@ -9,10 +9,10 @@ use crate::{number16, number32};
 use kfs_entry_value::ENTRY_LIMIT;
 use std::alloc::{AllocError, Allocator};
 
-/// The magic of a log, and version 1.
+/// "KLOG", and version 1.
 const LOG_MARK: &[u8] = b"KLOG\x01";
 
-/// The magic of a plan, and version 1.
+/// "KPLN", and version 1.
 const PLAN_MARK: &[u8] = b"KPLN\x01";
 
 /// The length of a log's header in bytes.
@@ -21,18 +21,23 @@ pub const LOG_LEN: usize = 11;
 /// The length of a plan's header in bytes.
 pub const PLAN_LEN: usize = 13;
 
-/// A log's client and how many entries follow.
+/// The client of a log, and how many entries follow.
 #[derive(Clone, Copy)]
 pub struct LogCounts {
+    /// The client's number, any of 32 bits.
     pub client: u32,
+    /// At most 4,096.
     pub entries: u16,
 }
 
 /// How many rows each part of a plan has.
 #[derive(Clone, Copy)]
 pub struct PlanCounts {
+    /// How many name rows.
     pub names: u16,
+    /// How many node rows.
     pub nodes: u16,
+    /// How many pieces.
     pub pieces: u32,
 }
 
@@ -89,7 +94,7 @@ fn plan_counts(source: &[u8]) -> Option<(PlanCounts, usize)>
     Some((counts, at))
 }
 
-/// The header that a log begins with, and the place after it.
+/// The header of a log, and the position after it; none where the source doesn't begin with one.
 pub fn read_log(source: &[u8]) -> Option<(LogCounts, usize)>
     ensures found { IfSome result (λ x. IsLogHeader (log_header_of x.0) × StandsIn source.now 0 x.1 (log_header (log_header_of x.0))) }
     ensures none { IfNone result (BeginsWithNo IsLogHeader log_header source.now) }
@@ -97,7 +102,7 @@ pub fn read_log(source: &[u8]) -> Option<(LogCounts, usize)>
     log_counts(source)
 }
 
-/// The header that a plan begins with, and the place after it.
+/// The header of a plan, and the position after it; none where the source doesn't begin with one.
 pub fn read_plan(source: &[u8]) -> Option<(PlanCounts, usize)>
     ensures found { IfSome result (λ x. AreCounts (counts_of x.0) × StandsIn source.now 0 x.1 (plan_header (counts_of x.0))) }
     ensures none { IfNone result (BeginsWithNo AreCounts plan_header source.now) }
@@ -105,7 +110,7 @@ pub fn read_plan(source: &[u8]) -> Option<(PlanCounts, usize)>
     plan_counts(source)
 }
 
-/// Appends the spelling of a log's header.
+/// Appends a log's header, 11 bytes. `Err` where memory is refused.
 pub fn write_log<A: Allocator>(out: &mut Vec<u8, A>, header: LogCounts) -> Result<(), AllocError>
     ensures { OnOk result (out.new.items ≡ out.old.items ++ log_header (log_header_of header)) }
 {
@@ -114,7 +119,7 @@ pub fn write_log<A: Allocator>(out: &mut Vec<u8, A>, header: LogCounts) -> Resul
     number16::write(out, &[], &header.entries)
 }
 
-/// Appends the spelling of a plan's header.
+/// Appends a plan's header, 13 bytes. `Err` where memory is refused.
 pub fn write_plan<A: Allocator>(out: &mut Vec<u8, A>, counts: PlanCounts) -> Result<(), AllocError>
     ensures { OnOk result (out.new.items ≡ out.old.items ++ plan_header (counts_of counts)) }
 {

@@ -1,4 +1,4 @@
-//! A kind: 0 for a file, 1 for a directory.
+//! A kind, as one byte: 0 for a file, 1 for a directory.
 ghost use Rattle.std.specs.Prelude.{◌≡◌, ◌≤◌, ◌++◌, length, drop, IfSome, OnOk};
 ghost use Rattle.kfs_model.specs.Spelling.{kind_bytes};
 ghost use Rattle.kfs_entry_value.specs.Views.{kind_of};

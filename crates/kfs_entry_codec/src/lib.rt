@@ -1,8 +1,11 @@
-//! The fields and rows of logs and plans: how each is read and written.
+//! The fields and rows of logs and plans: how each is read from bytes and written as bytes.
 //!
-//! A field's module has `read`, which answers the value at a place of the source and the place after
-//! it, or none where no such field stands there; `write`, which appends the value's spelling; and
-//! `len`, that spelling's length in bytes. The source is what spans point into. Numbers are big-endian.
+//! A module for a field has three functions. `read` answers the value at a position of the source, and
+//! the position after it, or none where no such field stands there. `write` appends the value's bytes,
+//! and `len` counts them. The source is the bytes that spans point into. Numbers are big-endian.
+//!
+//! It stands on `kfs_entry_value`; `kfs_entry` makes whole logs and plans of its rows. Begin with
+//! `table.rt`, which lists the entries, and `row.rt`.
 #![tactic(auto)]
 
 mod byte;

@@ -1,4 +1,4 @@
-//! A mode of at most 0o777.
+//! A mode, 0 to 0o777, as two bytes.
 ghost use Rattle.std.specs.Prelude.{◌≡◌, ◌≤◌, ◌++◌, length, drop, IfSome, OnOk};
 ghost use Rattle.kfs_model.specs.Spelling.{number16};
 ghost use Rattle.kfs_model.proofs.Reading.{mode_read};

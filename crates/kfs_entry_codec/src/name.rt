@@ -1,4 +1,4 @@
-//! A name behind a byte of length.
+//! A name: one byte with its length, then its bytes.
 ghost use Rattle.std.specs.Prelude.{◌≡◌, ◌≤◌, ◌++◌, length, drop, IfSome, OnOk};
 ghost use Rattle.kfs_model.specs.Spelling.{name_bytes};
 ghost use Rattle.kfs_model.proofs.Reading.{name_read};

@@ -1,4 +1,4 @@
-//! A name row of a plan.
+//! A name row of a plan: directory, name, number.
 ghost use Rattle.std.specs.Prelude.{◌≡◌, ◌≤◌, ◌++◌, length, drop, IfSome, OnOk};
 ghost use Rattle.kfs_model.specs.Spelling.{name_row_bytes};
 ghost use Rattle.kfs_entry_value.specs.Views.{name_row_of};

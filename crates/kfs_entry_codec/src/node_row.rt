@@ -1,4 +1,4 @@
-//! A node row of a plan.
+//! A node row of a plan: number, header.
 ghost use Rattle.std.specs.Prelude.{◌≡◌, ◌≤◌, ◌++◌, length, drop, IfSome, OnOk};
 ghost use Rattle.kfs_model.specs.Spelling.{node_row_bytes};
 ghost use Rattle.kfs_entry_value.specs.Views.{node_row_of};

@@ -1,4 +1,5 @@
-//! A payload of at most 65,536 bytes behind four bytes of length, held as its span in the source.
+//! A payload: four bytes with its length, at most 65,536, then its bytes. It is held as a span of the
+//! source.
 ghost use Rattle.std.specs.Prelude.{◌≡◌, ◌≤◌, ◌++◌, length, drop, IfSome, OnOk};
 ghost use Rattle.kfs_model.specs.Spelling.{IsPayload, payload_bytes};
 ghost use Rattle.kfs_entry_value.specs.Views.{span_bytes};

@@ -1,4 +1,4 @@
-//! A piece of a plan.
+//! A piece of a plan: number, start, length, source.
 ghost use Rattle.std.specs.Prelude.{◌≡◌, ◌≤◌, ◌++◌, length, drop, IfSome, OnOk};
 ghost use Rattle.kfs_model.specs.Spelling.{source_bytes, piece_bytes};
 ghost use Rattle.kfs_entry_value.specs.Views.{source_of, piece_of};

@@ -1,4 +1,4 @@
-//! Rows of a format, one after another.
+//! The rows of a format: the entries of a log, and the rows of a plan's three parts.
 ghost use Rattle.std.specs.Prelude.{◌≡◌, ℕ, ◌<◌, ◌≤◌, List, ◌++◌, length, drop, IfSome, IfNone, IfOk, IfErr, OnOk, All};
 ghost use Rattle.std.specs.List.{flat_map};
 ghost use Rattle.kfs_entry_codec.specs.Reading.{StandsIn};
@@ -6,7 +6,7 @@ ghost use Rattle.kfs_entry_codec.specs.RowList.{AreRead, RowMissing};
 
 use std::alloc::{AllocError, AllocFailed, Allocator};
 
-/// A row of a format: what stands again and again in the bytes. The source is what a row's spans point into.
+/// A row of a format. The source is the bytes that the row's spans point into.
 pub trait Row: Drop {
     ghost use Rattle.std.specs.Prelude.{ℕ, List};
 
@@ -16,24 +16,25 @@ pub trait Row: Drop {
     /// The row has a spelling, and its spans lie in the source.
     ghost fits: { List ℕ → Self → Type 0 };
 
-    /// What writing asks of a row; of a row whose fields all have the width of their types, nothing.
+    /// What `write` requires of a row. It is nothing where any value of the fields' types can be
+    /// written.
     ghost can_write: { List ℕ → Self → Type 0 };
 
     /// The bytes begin with a row.
     ghost begins: { List ℕ → Type 0 };
 
-    /// The row that stands at `at`, and the place after it; none where no row stands there.
+    /// The row at position `at`, and the position after it; none where no row stands there.
     fn read(source: &[u8], at: usize) -> Option<(Self, usize)>
         requires { at ≤ length source.now }
         ensures found { IfSome result (λ x. fits source.now x.0 × StandsIn source.now at x.1 (spelling source.now x.0)) }
         ensures none { IfNone result (begins (drop at source.now) → ⊥) };
 
-    /// Appends the row's spelling.
+    /// Appends the row's bytes. `Err` where memory is refused.
     fn write<A: Allocator>(&self, out: &mut Vec<u8, A>, source: &[u8]) -> Result<(), AllocError>
         requires { can_write source.now self.now }
         ensures { OnOk result (out.new.items ≡ out.old.items ++ spelling source.now self.now) };
 
-    /// How many bytes the row's spelling has.
+    /// The length of the row's spelling in bytes.
     fn len(&self, source: &[u8]) -> usize
         requires { can_write source.now self.now }
         ensures { result ≡ length (spelling source.now self.now) };
@@ -70,7 +71,8 @@ impl<T: Drop> From<AllocFailed<T>> for RowsFault {
     }
 }
 
-/// Reads `count` rows from `at` on, and answers the place after the last. Nothing is reserved by the count.
+/// Reads `count` rows from position `at` on, and answers them with the position after the last. The
+/// list grows as rows are read: `count` comes from the input and reserves nothing.
 pub fn read_rows<R: Row, A: Allocator>(
     alloc: A,
     source: &[u8],
@@ -95,7 +97,8 @@ pub fn read_rows<R: Row, A: Allocator>(
     Ok((rows, end))
 }
 
-/// Appends the spellings of the rows.
+/// Appends the bytes of the rows, one after another. `Err` where memory is refused; what was appended
+/// until then stays.
 pub fn write_rows<R: Row, A: Allocator>(
     out: &mut Vec<u8, A>,
     source: &[u8],
@@ -110,7 +113,7 @@ pub fn write_rows<R: Row, A: Allocator>(
     Ok(())
 }
 
-/// How many bytes the spellings of the rows have, or `usize::MAX` where that is more.
+/// The length of all the spellings in bytes, or `usize::MAX` where it is greater.
 pub fn rows_len<R: Row>(source: &[u8], rows: &[R]) -> usize
     requires { All (R.can_write source.now) rows.now }
 {

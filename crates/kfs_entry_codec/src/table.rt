@@ -1,7 +1,9 @@
-//! The table of the entries: for each its tag, its variant, the call that takes it, and its fields with their codecs.
+//! The table of the entries: each one's tag, variant, the call that takes it, and its fields with their
+//! codecs.
 
-/// Expands `$callback!` with the entries: `tag Variant call { field: codec, .. }` for each, after the
-/// arguments. A codec is a module of this crate. A call has the entry's fields as its arguments.
+/// Expands `$callback!` with its arguments and then all entries, each as
+/// `tag Variant call { field: codec, .. }`. A codec is a module of this crate. The call takes the
+/// entry's fields as its arguments.
 #[macro_export]
 macro_rules! entry_table {
     ($callback:ident($($arguments:tt)*)) => {
