@@ -1,22 +1,27 @@
-//! Update logs and their entries.
+//! Update logs and their entries ("Strata", SOSP 2017).
 
 use crate::header::Kind;
 use crate::name::Name;
 use crate::rows::RowList;
 use std::alloc::Allocator;
 
-/// The bytes from `start` up to and without `end` of the bytes that a log was read from.
+/// A payload's place: the bytes from position `start` up to, but without, `end` of the bytes that the
+/// log was read from. Positions count from 0.
 #[derive(Clone, Copy, Debug, PartialEq, Eq)]
 pub struct Span {
+    /// The position of the first byte.
     pub start: usize,
+    /// The position after the last byte.
     pub end: usize,
 }
 
-/// One change that a client asks for. Nodes and directories are named by their numbers. `P` is what
-/// stands for the payload of a Write.
+/// One change that a client asks for. Nodes and directories are given by number. A log may hold any
+/// 32-bit number; the judge refuses those that fit no node of the tree. `P` is what stands for the
+/// payload of a Write: in a decoded log a `Span`.
 #[derive(Clone, Debug, PartialEq, Eq, Drop)]
 pub enum Entry<P> {
-    /// Makes an empty node under a name of `dir`, with the client's own uid and gid.
+    /// Makes the empty node `number` with the name `name` in the directory `dir`, with the client's uid
+    /// and gid and the permission bits `mode`, 0 to 0o777 (POSIX `open` with `O_CREAT`, `mkdir`).
     Create {
         dir: u32,
         name: Name,
@@ -24,37 +29,42 @@ pub enum Entry<P> {
         kind: Kind,
         mode: u16,
     },
-    /// Puts the payload's bytes from `offset` on (POSIX `pwrite`).
+    /// Puts the payload, 0 to 65,536 bytes, into the file `number` from byte `offset` on (POSIX
+    /// `pwrite`). A gap behind the old end is filled with zero bytes. A Write without bytes changes
+    /// nothing.
     Write {
         number: u32,
         offset: u64,
         payload: P,
     },
-    /// Sets the file's size in bytes (POSIX `ftruncate`).
+    /// Sets the size of the file `number` to `size` bytes (POSIX `ftruncate`). Bytes that it gains are
+    /// zero.
     Truncate {
         number: u32,
         size: u64,
     },
-    /// Gives the file one more name (POSIX `link`).
+    /// Gives the file `number` one more name: `name` in the directory `dir` (POSIX `link`).
     Link {
         number: u32,
         dir: u32,
         name: Name,
     },
-    /// Takes a name away; `kind` is the kind of what is to go (POSIX `unlink`, `rmdir`).
+    /// Removes the name `name` from the directory `dir`. `kind` says what the name must lead to: a file
+    /// (POSIX `unlink`) or an empty directory (POSIX `rmdir`). A file goes with its last name.
     Unlink {
         dir: u32,
         name: Name,
         kind: Kind,
     },
-    /// Moves a name (POSIX `rename`).
+    /// Moves the name `name` of `dir` to `new_name` in `new_dir`, in place of what is there (POSIX
+    /// `rename`).
     Rename {
         dir: u32,
         name: Name,
         new_dir: u32,
         new_name: Name,
     },
-    /// Sets the permission bits (POSIX `fchmod`).
+    /// Sets the permission bits of the node `number` to `mode`, 0 to 0o777 (POSIX `fchmod`).
     Chmod {
         number: u32,
         mode: u16,
@@ -64,8 +74,8 @@ pub enum Entry<P> {
 /// A client's update log. The payloads are spans of the bytes that it was read from.
 #[derive(Debug, Drop)]
 pub struct Log<A: Allocator> {
-    /// The client's number.
+    /// The number of the client whose log it is, any of 32 bits.
     pub client: u32,
-    /// In the order in which they take effect.
+    /// At most 4,096, in the order in which they take effect.
     pub entries: RowList<Entry<Span>, A>,
 }

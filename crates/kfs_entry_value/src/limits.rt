@@ -1,27 +1,28 @@
-//! Numbers, modes and limits that the rules name.
+//! The limits of the file system, each named once.
 
 /// The number of the root directory.
 pub const ROOT: u32 = 1;
 
-/// The greatest number of a node.
+/// The greatest number of a node; the least is 1.
 pub const GREATEST_NUMBER: u32 = 65_536;
 
 /// The greatest mode: all nine permission bits (POSIX `<sys/stat.h>`).
 pub const GREATEST_MODE: u16 = 0o777;
 
-/// The most bytes of a name.
+/// The most bytes of a name (POSIX `NAME_MAX`).
 pub const NAME_LIMIT: usize = 255;
 
-/// The most names of a file.
+/// The most names of a file (POSIX `LINK_MAX`).
 pub const LINK_LIMIT: u16 = 1_024;
 
-/// The most bytes of a file. As wide as the sum of any offset and length.
+/// The most bytes of a file. It is 128 bits wide, so that it compares with any sum of offset and
+/// length.
 pub const SIZE_LIMIT: u128 = 1 << 32;
 
-/// The most steps from a directory up to the root.
+/// The most steps from a directory up to the root: as many as there are numbers.
 pub const CLIMB_LIMIT: u32 = 65_536;
 
-/// Bytes in a block of a file.
+/// The bytes of a block.
 pub const BLOCK_SIZE: u64 = 4_096;
 
 /// The most entries of a log.

@@ -8,7 +8,7 @@ use std::marker::Model;
 /// A name in a directory: 1 to 255 bytes without `/` and without a zero byte, neither `.` nor `..`
 /// (POSIX.1-2017, XBD 3.170 "Filename"). Names are ordered by their bytes.
 ///
-/// The bytes lie in the value itself, so a name takes no memory of its own.
+/// The bytes are part of the value itself, so a name takes no memory of its own.
 #[derive(Clone, Debug, PartialEq, Eq, PartialOrd, Ord, Hash, Drop)]
 pub struct Name {
     bytes: ArrayVec<u8, NAME_LIMIT>,
@@ -30,7 +30,8 @@ impl Model for Name {
 impl Name {
     ghost use Rattle.kfs_model.specs.Spelling.{IsName};
 
-    /// The name with these bytes, or none where the bytes are no name. Takes no memory.
+    /// The name with these bytes, or none where they aren't a name: no bytes, over 255, a `/` or a zero
+    /// byte among them, `.` or `..`. Takes no memory.
     pub fn new(bytes: &[u8]) -> Option<Name>
         ensures valid { IsSome result ↔ IsName bytes.now }
         ensures value { IfSome result (λ name. name ≡ bytes.now) }
@@ -42,7 +43,7 @@ impl Name {
         Some(Name { bytes })
     }
 
-    /// Whether the bytes are a name.
+    /// Whether the bytes are a name. Takes no memory.
     pub fn is_name(bytes: &[u8]) -> bool
         ensures { IsTrue result ↔ IsName bytes.now }
     {
@@ -52,7 +53,7 @@ impl Name {
         !bytes.iter().any(|byte| *byte == 0 || *byte == b'/')
     }
 
-    /// The bytes of the name.
+    /// The bytes of the name, 1 to 255. Takes no memory.
     pub fn as_bytes(&self) -> &[u8]
         ensures value { result.now ≡ self.now }
         ensures name { IsName result.now }

@@ -1,47 +1,60 @@
-//! Digest plans and their rows.
+//! Digest plans and their rows ("Strata", SOSP 2017: what is left of a log once it is coalesced).
 
 use crate::header::Header;
 use crate::name::Name;
 use crate::rows::RowList;
 use std::alloc::Allocator;
 
-/// The number that a name of `dir` leads to after the log, or 0 for none.
+/// The number that a name leads to after the log, where that differs from before.
 #[derive(Clone, Debug, PartialEq, Eq, Drop)]
 pub struct NameRow {
+    /// The number of the name's directory.
     pub dir: u32,
     pub name: Name,
+    /// The node's number after the log, or 0 where the name is gone.
     pub number: u32,
 }
 
-/// The header that a node has after the log, or none where it is gone.
+/// The header that a node has after the log, where that differs from before.
 #[derive(Clone, Copy, Debug, PartialEq, Eq)]
 pub struct NodeRow {
+    /// The node's number.
     pub number: u32,
+    /// The header after the log, or none where the node is gone.
     pub now: Option<Header>,
 }
 
 /// Where the bytes of a piece come from.
 #[derive(Clone, Copy, Debug, PartialEq, Eq)]
 pub enum Source {
-    /// They are zero bytes.
+    /// The bytes are zero.
     Zero,
-    /// They stand in the payload of the log's entry of this index, from this place on.
+    /// The bytes are part of a Write's payload. `entry` is the Write's index in the log, from 0.
+    /// `place` is the index, in that payload, of the piece's first byte.
     Payload { entry: u16, place: u32 },
 }
 
-/// A range of the file `number`, from `start` on and `len` bytes long, whose bytes the log made.
+/// A range of bytes of one file that the log changed, and where they come from.
 #[derive(Clone, Copy, Debug, PartialEq, Eq)]
 pub struct Piece {
+    /// The file's number.
     pub number: u32,
+    /// The position of the first byte in the file, from 0.
     pub start: u64,
+    /// How many bytes.
     pub len: u64,
+    /// Where they come from.
     pub source: Source,
 }
 
-/// What a client says that its log changes: names, then headers, then bytes.
+/// What a client says that its log changes, against the tree before the log. The client makes the plan,
+/// and the desk only checks it.
 #[derive(Debug, Drop)]
 pub struct Plan<A: Allocator> {
+    /// The names that lead elsewhere, ascending by directory and name.
     pub names: RowList<NameRow, A>,
+    /// The nodes with another header, ascending by number.
     pub nodes: RowList<NodeRow, A>,
+    /// The changed bytes of files, ascending by file number and position, not overlapping.
     pub pieces: RowList<Piece, A>,
 }

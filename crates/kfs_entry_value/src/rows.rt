@@ -5,7 +5,7 @@ use std::alloc::Allocator;
 use std::marker::Model;
 use std::ops::DerefSlice;
 
-/// RowList in order, in a vector. Two lists of rows are one value where their rows are, whatever the
+/// Rows in order, in a vector. For contracts two lists are equal where their rows are, whatever the
 /// capacity and the place in memory.
 #[derive(Debug, Drop)]
 pub struct RowList<T, A: Allocator> {
@@ -24,14 +24,14 @@ impl<T, A: Allocator> Model for RowList<T, A> {
 }
 
 impl<T, A: Allocator> RowList<T, A> {
-    /// The rows of a vector. Takes no memory.
+    /// The list of a vector's rows. Takes no memory.
     pub fn from_vec(items: Vec<T, A>) -> Self
         ensures { result ≡ items.items }
     {
         RowList { items }
     }
 
-    /// The vector of the rows, given back. Takes no memory.
+    /// The vector of the list's rows. Takes no memory.
     pub fn into_vec(self) -> Vec<T, A>
         ensures { result.items ≡ self }
     {
@@ -39,7 +39,7 @@ impl<T, A: Allocator> RowList<T, A> {
         items
     }
 
-    /// The rows.
+    /// The rows in order. Takes no memory.
     pub fn as_slice(&self) -> &[T]
         ensures { result.now ≡ self.now }
     {

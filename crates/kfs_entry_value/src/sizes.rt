@@ -6,8 +6,8 @@ ghost use Rattle.kfs_model.specs.Placement.{tier_size};
 use crate::limits::TIER_LIMIT;
 use std::marker::Model;
 
-/// How many blocks of 4,096 bytes each of the three tiers has: non-volatile memory, solid-state disk
-/// and hard disk.
+/// How many blocks of 4,096 bytes each of the three tiers has. Tier 0 stands for non-volatile memory,
+/// tier 1 for solid-state disk, tier 2 for hard disk ("Strata", SOSP 2017).
 #[derive(Clone, Copy, Debug, PartialEq, Eq)]
 pub struct TierSizes {
     first: u32,
@@ -30,7 +30,8 @@ impl Model for TierSizes {
 }
 
 impl TierSizes {
-    /// The sizes of tiers 0, 1 and 2 in blocks, or none where one is over 65,536. Takes no memory.
+    /// The sizes of tiers 0, 1 and 2 in blocks, each 0 to 65,536; none where one is larger. Takes no
+    /// memory.
     pub fn new(first: u32, second: u32, third: u32) -> Option<TierSizes>
         ensures in_range { IsSome result ↔ ((first ≤ tier_limit) × (second ≤ tier_limit) × (third ≤ tier_limit)) }
         ensures value { IfSome result (λ sizes. sizes ≡ record { first = first; second = second; third = third }) }
@@ -44,7 +45,7 @@ impl TierSizes {
             third,
         })
     }
-    /// How many blocks the tier has: none where it is over 2. Takes no memory.
+    /// How many blocks the tier has, 0 for a tier over 2. Takes no memory.
     pub fn size(&self, tier: u8) -> u32
         ensures size { result ≡ tier_size self.now tier }
         ensures in_range { result ≤ tier_limit }
