@@ -1,4 +1,4 @@
-//! Clients: who they are, and the numbers that they may give to new nodes.
+//! Clients: who they are, and which numbers they may give to new nodes.
 ghost use Rattle.std.specs.Prelude.{◌≡◌, ◌<◌, ◌≤◌, ◌↔◌, ◌==◌, ◌||◌, length, IfOk, IsErrOf, IsFalse};
 ghost use Rattle.std.specs.List.{list_any};
 ghost use Rattle.std.specs.Option.{option_map};
@@ -13,10 +13,11 @@ use arrayvec::ArrayVec;
 use kfs_entry_value::GREATEST_NUMBER;
 use std::marker::Model;
 
-/// The greatest number of supplementary groups of a client.
+/// The most supplementary groups of a client (POSIX `NGROUPS_MAX`).
 pub const GROUP_LIMIT: usize = 16;
 
-/// A client: who it is, and the numbers that it may give to new nodes.
+/// A client: its number, its ids and groups, whether it is privileged, and its grant, the range of
+/// numbers that it may give to new nodes. It takes no memory of its own.
 #[derive(Clone, Debug, PartialEq, Eq, Drop)]
 pub struct Client {
     number: u32,
@@ -41,18 +42,19 @@ impl Model for Client {
     ghost inverse = { λ v. record { number = v.number; uid = v.uid; gid = v.gid; groups = record { items = v.groups }; privileged = v.privileged; first = v.first; last = v.last } };
 }
 
-/// Why a client is refused.
+/// Why a client is refused. The first that applies is answered.
 #[derive(Clone, Copy, Debug, PartialEq, Eq)]
 pub enum ClientFault {
-    /// 1: over 16 supplementary groups.
+    /// 1: there are over 16 supplementary groups.
     TooManyGroups,
     /// 2: the grant begins at 0 or ends above 65,536.
     BadGrant,
 }
 
 impl Client {
-    /// A client with the supplementary groups `groups`, whose grant is `first..=last`: no number
-    /// where `first` is above `last`. Takes no memory.
+    /// A client. `number`, `uid`, `gid` and `groups` are any of 32 bits; `groups` are the supplementary
+    /// groups. The grant is `first..=last`, empty where `first` is above `last`. Refused with
+    /// `TooManyGroups` or `BadGrant`. Takes no memory.
     pub fn new(
         number: u32,
         uid: u32,
@@ -83,7 +85,7 @@ impl Client {
         })
     }
 
-    /// The client's own number. Each client's numbers are in their ranges.
+    /// The client's own number, any of 32 bits. The clause on ranges says what every client fulfills.
     pub fn number(&self) -> u32
         ensures number { result ≡ self.now.number }
         ensures in_range { IsClient self.now }
@@ -91,36 +93,36 @@ impl Client {
         self.number
     }
 
-    /// The user id of the client's new nodes.
+    /// The user id, also of the client's new nodes.
     pub fn uid(&self) -> u32
         ensures { result ≡ self.now.uid }
     {
         self.uid
     }
 
-    /// The group id of the client's new nodes.
+    /// The group id, also of the client's new nodes.
     pub fn gid(&self) -> u32
         ensures { result ≡ self.now.gid }
     {
         self.gid
     }
 
-    /// Whether the client is granted read, write and search whatever a node's bits are.
+    /// Whether the client may read, write and search whatever a node's bits are.
     pub fn is_privileged(&self) -> bool
         ensures { result ≡ self.now.privileged }
     {
         self.privileged
     }
 
-    /// The least and the greatest number that the client may give to a new node; none where the
-    /// first is above the second.
+    /// The first and the last number that the client may give to new nodes, each 1 to 65,536 where the
+    /// grant isn't empty; it is empty where the first is above the last.
     pub fn grant(&self) -> (u32, u32)
         ensures { result ≡ (self.now.first, self.now.last) }
     {
         (self.first, self.last)
     }
 
-    /// Whether the client may give the number to a new node.
+    /// Whether the client may give this number to a new node.
     pub fn is_granted(&self, number: u32) -> bool
         ensures { result ≡ access.is_granted self.now number }
     {
@@ -135,8 +137,8 @@ impl Client {
     }
 }
 
-/// The client of this number; no two have one number. Where the numbers ascend it is found in the time
-/// of a logarithm, else by a scan.
+/// The client with this number, or none. Condition: no two clients have the same number. Where the
+/// numbers ascend it is found by binary search, else by a scan. Takes no memory.
 pub fn find_client(clients: &[Client], number: u32) -> Option<&Client>
     requires distinct { ClientsAreDistinct clients.now }
     ensures { option_map (λ row. row.now) result ≡ row_of clients.now number }
