@@ -1,8 +1,8 @@
 //! Worked examples of the definitions of `kfs_model`: logs, plans, leases and landings with literal
 //! values. Each is the contract of a function that does nothing, proved by computing.
 //!
-//! It stands on `kfs_model`; tests of the engine use its values. Begin with `files.rt`. The clients and
-//! their leases are in `specs/Example.antt`.
+//! It stands on `kfs_model`. `kfs_model_device` and the examples of `kfs_program_engine` use its values.
+//! Begin with `files.rt`. The clients and their leases are in `specs/Example.antt`.
 #![tactic(auto)]
 
 pub mod access;
