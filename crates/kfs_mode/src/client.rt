@@ -12,6 +12,7 @@ ghost use Rattle.kfs_mode.specs.Clients.{ClientsAreDistinct, client_row};
 use arrayvec::ArrayVec;
 use kfs_entry_value::GREATEST_NUMBER;
 use std::marker::Model;
+use thiserror::Error;
 
 /// The most supplementary groups of a client (POSIX `NGROUPS_MAX`).
 pub const GROUP_LIMIT: usize = 16;
@@ -43,11 +44,13 @@ impl Model for Client {
 }
 
 /// Why a client is refused. The first that applies is answered.
-#[derive(Clone, Copy, Debug, PartialEq, Eq)]
+#[derive(Clone, Copy, Debug, PartialEq, Eq, Error)]
 pub enum ClientFault {
     /// 1: there are over 16 supplementary groups.
+    #[error("TooManyGroups")]
     TooManyGroups,
     /// 2: the grant begins at 0 or ends above 65,536.
+    #[error("BadGrant")]
     BadGrant,
 }
 

@@ -1,0 +1,275 @@
+//! An example of each public type of `kfs_judge`, `kfs_plan` and `kfs_desk`: how it comes about, and what it holds.
+
+use kfs_desk::{
+    Act, ActReply, Back, BeginBack, BeginFault, Desk, Done, Reply, SubmissionsBack, Unanswered, Why,
+};
+use kfs_entry::{ENTRY_LIMIT, Log, SpellFault, decode_log};
+use kfs_image::{Answer, Cell, Image, TierSizes};
+use kfs_judge::{EntryFault, FileSize, Net, Read, ReadAnswer, Reason, View, Walk, judge_entries};
+use kfs_lease::{LeaseFault, LeaseKind};
+use kfs_mode::{Client, ClientFault};
+use kfs_plan::{Fault, Judged, Outcome, RowFault, Submission, judge};
+use kfs_test_support::refusing::Refusing;
+use kfs_test_support::vectors::{CREATE_LOG, CREATE_PLAN, EMPTY_PLAN};
+use std::alloc::{Allocator, Global};
+
+/// A client of uid and gid 1000 that may give the numbers from `first` to `last` to new nodes.
+fn client(number: u32, first: u32, last: u32) -> Result<Client, ClientFault> {
+    Client::new(number, 1_000, 1_000, &[], false, first, last)
+}
+
+/// A desk of client 7 on a new image, whose docket takes `limit` rows.
+fn begun<A: Allocator + Copy>(alloc: A, limit: u32) -> Option<Desk<A>> {
+    let image = Image::fresh(alloc, TierSizes::new(8, 8, 8)?).ok()?;
+    let clients = vec![in alloc; client(7, 2, 99).ok()?].ok()?;
+    Desk::begin(alloc, image, clients, limit).ok()
+}
+
+/// What the desk answers where client 7 asks for a write lease on the root.
+fn lease<A: Allocator + Copy>(desk: &mut Desk<A>) -> Result<ActReply, Unanswered> {
+    desk.lease(7, b"/", LeaseKind::Write, 100)
+}
+
+/// Such a desk, of which client 7 holds the root: row 0.
+fn opened<A: Allocator + Copy>(alloc: A, limit: u32) -> Option<Desk<A>> {
+    let mut desk = begun(alloc, limit)?;
+    lease(&mut desk).ok()?.answer.ok()?;
+    Some(desk)
+}
+
+/// What client 7 hands in.
+fn submission<A: Allocator + Copy>(alloc: A, log: &[u8], plan: &[u8]) -> Option<Submission<A>> {
+    Some(Submission {
+        client: 7,
+        log: Vec::from_slice(alloc, log).ok()?,
+        plan: Vec::from_slice(alloc, plan).ok()?,
+    })
+}
+
+// ---- views, and what a walk over a log's entries finds
+
+fn view(desk: &Desk<Global>) -> Option<View<Global>> {
+    desk.view().ok()
+}
+
+fn log(alloc: Global, bytes: &[u8]) -> Option<Log<Global>> {
+    decode_log(alloc, bytes).ok()
+}
+
+/// The walk over the entries of a log whose client the view has.
+fn walk(alloc: Global, view: &View<Global>, log: &Log<Global>) -> Option<Walk<Global>> {
+    let is_known = view.client(log.client).is_some();
+    if !is_known || log.entries.as_slice().len() > usize::from(ENTRY_LIMIT) {
+        return None;
+    }
+    judge_entries(alloc, view, log).ok()
+}
+
+fn walked(alloc: Global, desk: &Desk<Global>, bytes: &[u8]) -> Option<Walk<Global>> {
+    let log = log(alloc, bytes)?;
+    walk(alloc, &view(desk)?, &log)
+}
+
+/// What was read of the cell, or none where it wasn't looked at.
+fn read(walk: &Walk<Global>, read: Read) -> Option<ReadAnswer> {
+    walk.reads.get(&read).copied()
+}
+
+/// How many names and headers differ after the log.
+fn differing(net: &Net<Global>) -> (usize, usize) {
+    (net.names.len(), net.nodes.len())
+}
+
+fn outcome(walk: &Walk<Global>) -> Result<(usize, usize), EntryFault> {
+    match &walk.outcome {
+        Ok(net) => Ok(differing(net)),
+        Err(fault) => Err(*fault),
+    }
+}
+
+fn size(walk: &Walk<Global>) -> Option<FileSize> {
+    walk.sizes.first().copied()
+}
+
+#[test]
+fn a_walk_and_what_it_read(rt: HostRuntime) {
+    let walk = opened(rt.alloc(), 9).and_then(|desk| walked(rt.alloc(), &desk, CREATE_LOG));
+    assert!(rt; walk.is_some());
+    if let Some(walk) = walk {
+        assert!(rt; outcome(&walk) == Ok((1, 1)));
+        assert!(rt; read(&walk, Read::Lease(1)) == Some(ReadAnswer::Lease(true)));
+        let free = ReadAnswer::Look(Answer::Header(None));
+        assert!(rt; read(&walk, Read::Look(Cell::Header(5))) == Some(free));
+        assert!(rt; read(&walk, Read::Look(Cell::Count(1))).is_none());
+        let created = FileSize {
+            number: 5,
+            before: 0,
+            after: 0,
+        };
+        assert!(rt; size(&walk) == Some(created));
+    }
+}
+
+#[test]
+fn a_walk_that_stops_at_an_entry(rt: HostRuntime) {
+    let walk = begun(rt.alloc(), 9).and_then(|desk| walked(rt.alloc(), &desk, CREATE_LOG));
+    let fault = EntryFault {
+        index: 0,
+        reason: Reason::NoLease(1),
+    };
+    let found = match walk {
+        Some(walk) => outcome(&walk),
+        None => Ok((0, 0)),
+    };
+    assert!(rt; found == Err(fault));
+}
+
+// ---- verdicts
+
+/// The verdict on a submission in the state of now.
+fn judged(alloc: Global, desk: &Desk<Global>, log: &[u8], plan: &[u8]) -> Option<Judged<Global>> {
+    judge(alloc, &view(desk)?, submission(alloc, log, plan)?).ok()
+}
+
+/// How many names and headers a Yes changes and how many blocks it writes, or why the verdict is a No.
+fn verdict(judged: &Judged<Global>) -> Result<(usize, usize, u64), Fault> {
+    match judged.outcome() {
+        Outcome::Yes { net, need, .. } => {
+            let (names, nodes) = differing(net);
+            Ok((names, nodes, *need))
+        }
+        Outcome::No(fault) => Err(*fault),
+    }
+}
+
+/// The verdict on a log and a plan where client 7 holds the root.
+fn verdict_on(
+    alloc: Global,
+    log: &[u8],
+    plan: &[u8],
+) -> Option<Result<(usize, usize, u64), Fault>> {
+    let desk = opened(alloc, 9)?;
+    let judged = judged(alloc, &desk, log, plan)?;
+    Some(verdict(&judged))
+}
+
+#[test]
+fn a_verdict_of_yes_and_two_of_no(rt: HostRuntime) {
+    let yes = verdict_on(rt.alloc(), CREATE_LOG, CREATE_PLAN);
+    assert!(rt; yes == Some(Ok((1, 1, 0))));
+    let row = verdict_on(rt.alloc(), CREATE_LOG, EMPTY_PLAN);
+    assert!(rt; row == Some(Err(Fault::Row(RowFault::Names(0)))));
+    let cut = verdict_on(rt.alloc(), &CREATE_LOG[..24], CREATE_PLAN);
+    assert!(rt; cut == Some(Err(Fault::BadLog(SpellFault::BadEntry(0)))));
+}
+
+// ---- the desk's answers
+
+fn submit<A: Allocator + Copy>(
+    desk: &mut Desk<A>,
+    submission: Submission<A>,
+) -> Result<Reply, Back<A>> {
+    desk.submit(submission)
+}
+
+/// What a desk with a docket of `limit` rows answers to the Create of file 5, or why it comes back.
+fn created(alloc: Global, limit: u32) -> Option<Result<Reply, Why>> {
+    let mut desk = opened(alloc, limit)?;
+    let submission = submission(alloc, CREATE_LOG, CREATE_PLAN)?;
+    match submit(&mut desk, submission) {
+        Ok(reply) => Some(Ok(reply)),
+        // the submission is as it was handed in
+        Err(back) if back.submission.log.as_slice() == CREATE_LOG => Some(Err(back.why)),
+        Err(_) => None,
+    }
+}
+
+#[test]
+fn a_reply_and_a_submission_that_comes_back(rt: HostRuntime) {
+    let yes = Reply::Yes {
+        position: 1,
+        rejudged: false,
+        need: 0,
+    };
+    assert!(rt; created(rt.alloc(), 2) == Some(Ok(yes)));
+    assert!(rt; created(rt.alloc(), 1) == Some(Err(Why::DocketFull)));
+}
+
+fn act(desk: &mut Desk<Global>, act: Act<'_>) -> Result<ActReply, Unanswered> {
+    desk.act(act)
+}
+
+fn docket_len(desk: &Desk<Global>) -> u32 {
+    desk.docket().len()
+}
+
+#[test]
+fn answers_to_calls_for_leases(rt: HostRuntime) {
+    let desk = begun(rt.alloc(), 2);
+    assert!(rt; desk.is_some());
+    if let Some(mut desk) = desk {
+        let leased = ActReply {
+            position: 0,
+            answer: Ok(Done::Leased(1)),
+        };
+        assert!(rt; lease(&mut desk) == Ok(leased));
+        let refused = ActReply {
+            position: 1,
+            answer: Err(LeaseFault::NoLeaseHeld),
+        };
+        let drop = Act::Drop {
+            client: 7,
+            number: 5,
+        };
+        assert!(rt; act(&mut desk, drop) == Ok(refused));
+        assert!(rt; act(&mut desk, Act::Tick { moment: 5 }) == Err(Unanswered::DocketFull));
+        assert!(rt; docket_len(&desk) == 2);
+    }
+}
+
+fn begin(
+    alloc: Global,
+    image: Image<Global>,
+    clients: Vec<Client, Global>,
+) -> Result<Desk<Global>, BeginBack<Global>> {
+    Desk::begin(alloc, image, clients, 9)
+}
+
+/// Why no desk is begun with two clients of one number, and how many clients come back with the image.
+fn begun_with_a_client_twice(alloc: Global) -> Option<(BeginFault, usize)> {
+    let image = Image::fresh(alloc, TierSizes::new(8, 8, 8)?).ok()?;
+    let clients = vec![in alloc; client(7, 2, 99).ok()?, client(7, 100, 199).ok()?].ok()?;
+    match begin(alloc, image, clients) {
+        Ok(_) => None,
+        Err(back) => Some((back.why, back.clients.len())),
+    }
+}
+
+#[test]
+fn a_desk_that_is_not_begun(rt: HostRuntime) {
+    assert!(rt; begun_with_a_client_twice(rt.alloc()) == Some((BeginFault::ClientTwice(1), 2)));
+}
+
+fn submit_all<A: Allocator + Copy>(
+    desk: &mut Desk<A>,
+    submissions: Vec<Submission<A>, A>,
+) -> Result<Vec<Result<Reply, Back<A>>, A>, SubmissionsBack<A>> {
+    desk.submit_all(submissions)
+}
+
+/// How many submissions come back where the desk finds no room for their answers.
+fn sent_back(alloc: Global) -> Option<usize> {
+    let heap = Refusing::new(alloc, 1 << 40);
+    let mut desk = opened(&heap, 9)?;
+    let submissions = vec![in &heap; submission(&heap, CREATE_LOG, CREATE_PLAN)?].ok()?;
+    heap.refuse_after(0);
+    match submit_all(&mut desk, submissions) {
+        Ok(_) => None,
+        Err(back) => Some(back.submissions.len()),
+    }
+}
+
+#[test]
+fn submissions_that_come_back(rt: HostRuntime) {
+    assert!(rt; sent_back(rt.alloc()) == Some(1));
+}

@@ -1,0 +1,73 @@
+//! Each public name, as a user brings it in.
+
+/// Logs and plans.
+pub mod entry {
+    pub use kfs_entry::{
+        ENTRY_LIMIT, Entry, Header, Kind, Log, Name, NameRow, NodeRow, PAYLOAD_LIMIT, Piece, Plan,
+        RowList, Source, Span, SpellFault, decode_log, decode_plan, encode_log, encode_plan,
+    };
+}
+
+/// Clients.
+pub mod mode {
+    pub use kfs_mode::{Class, Client, ClientFault, GROUP_LIMIT, Want, class_of, find_client, may};
+}
+
+/// Images.
+pub mod image {
+    pub use kfs_image::{
+        Answer, BLOCK_SIZE, Cell, Edit, Extent, ExtentRow, GREATEST_NUMBER, Header, HeaderPage,
+        Image, Kind, LINK_LIMIT, Name, Page, RawImage, RawNode, ReadFault, SIZE_LIMIT, Shape,
+        TIER_LIMIT, TierSizes, look, read_file,
+    };
+}
+
+/// The rules of a raw image, and the change of a landing.
+pub mod shape {
+    pub use kfs_shape::{
+        BlockRow, BlockRun, Fill, Finding, Net, RawImage, ShapeFault, check_shape, net_apply,
+    };
+}
+
+/// Leases.
+pub mod lease {
+    pub use kfs_lease::{Act, LeaseFault, LeaseKind, Leases};
+}
+
+/// Entries against a view.
+pub mod judge {
+    pub use kfs_judge::laws::{cells_decide, clean_is_allowed, marks_give_bytes};
+    pub use kfs_judge::{
+        EntryFault, FileSize, Net, Read, ReadAnswer, Reason, View, Walk, judge_entries,
+    };
+}
+
+/// Submissions against a view.
+pub mod plan {
+    pub use kfs_plan::{
+        Back, Fault, Judged, Outcome, RowFault, Submission, Why, check_plan, judge, sweep,
+    };
+}
+
+/// The desk.
+pub mod desk {
+    pub use kfs_desk::{
+        Act, ActReply, Back, BeginBack, BeginFault, Desk, Docket, Done, Reply, SubmissionsBack,
+        Unanswered, Why,
+    };
+}
+
+/// Workers and scripts of their steps.
+pub mod workers {
+    pub use kfs_workers::{DeskView, ScriptBack, ScriptEnd, Step, WORKERS, run_script};
+}
+
+/// The lines of answers.
+pub mod report {
+    pub use kfs_report::{act_line, node_line, reply_line};
+}
+
+/// The program.
+pub mod program {
+    pub use kfs_program::{EngineFault, LINE_LIMIT, engine, run_words};
+}

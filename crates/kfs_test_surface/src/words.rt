@@ -1,0 +1,160 @@
+//! What each fault says of itself as an `Error`: the words of docs/FORMATS.md, where these have some.
+
+use kfs_desk::{BeginFault, Unanswered, Why};
+use kfs_entry::SpellFault;
+use kfs_image::ReadFault;
+use kfs_judge::{EntryFault, Reason};
+use kfs_lease::LeaseFault;
+use kfs_mode::ClientFault;
+use kfs_plan::{Fault, RowFault};
+use kfs_program::EngineFault;
+use kfs_shape::{Finding, ShapeFault};
+use std::alloc::Global;
+use std::error::Error;
+
+/// Whether the fault says this of itself.
+fn says<E: Error>(alloc: Global, fault: &E, words: &str) -> bool {
+    match format!(in alloc; "{fault}") {
+        Ok(text) => text.as_str() == words,
+        Err(_) => false,
+    }
+}
+
+/// Whether each fault says its words.
+fn say<E: Error>(alloc: Global, faults: &[(E, &str)]) -> bool {
+    for (fault, words) in faults {
+        if !says(alloc, fault, words) {
+            return false;
+        }
+    }
+    true
+}
+
+/// The fault of the second entry of a log.
+const ENTRY: EntryFault = EntryFault {
+    index: 1,
+    reason: Reason::NoLease(5),
+};
+
+#[test]
+fn faults_of_bytes(rt: HostRuntime) {
+    let faults = [
+        (SpellFault::BadHeader, "BadHeader"),
+        (SpellFault::BadEntry(3), "BadEntry(3)"),
+        (SpellFault::Trailing, "Trailing"),
+        (SpellFault::BadRow(1, 0), "BadRow(1,0)"),
+        (SpellFault::OutOfMemory, "memory"),
+    ];
+    assert!(rt; say(rt.alloc(), &faults));
+}
+
+#[test]
+fn faults_of_entries(rt: HostRuntime) {
+    let reasons = [
+        (Reason::NoSuchNode, "NoSuchNode"),
+        (Reason::NotDirectory, "NotDirectory"),
+        (Reason::IsDirectory, "IsDirectory"),
+        (Reason::NoSuchName, "NoSuchName"),
+        (Reason::NameTaken, "NameTaken"),
+        (Reason::NumberTaken, "NumberTaken"),
+        (Reason::NumberNotGranted, "NumberNotGranted"),
+        (Reason::NotEmpty, "NotEmpty"),
+        (Reason::BelowItself, "BelowItself"),
+        (Reason::TooManyLinks, "TooManyLinks"),
+        (Reason::TooBig, "TooBig"),
+        (Reason::NoSearch, "NoSearch"),
+        (Reason::NoWrite, "NoWrite"),
+        (Reason::NotOwner, "NotOwner"),
+        (Reason::NoLease(9), "NoLease(9)"),
+    ];
+    assert!(rt; say(rt.alloc(), &reasons));
+    assert!(rt; says(rt.alloc(), &ENTRY, "entry 1 NoLease(5)"));
+}
+
+#[test]
+fn faults_of_submissions(rt: HostRuntime) {
+    let rows = [
+        (RowFault::Names(0), "Names(0)"),
+        (RowFault::Nodes(2), "Nodes(2)"),
+        (RowFault::Pieces(3), "Pieces(3)"),
+        (RowFault::OutOfMemory, "memory"),
+    ];
+    assert!(rt; say(rt.alloc(), &rows));
+    let faults = [
+        (Fault::UnknownClient, "client unknown"),
+        (Fault::BadLog(SpellFault::Trailing), "log Trailing"),
+        (Fault::WrongClient, "client wrong"),
+        (Fault::BadPlan(SpellFault::BadRow(1, 0)), "plan BadRow(1,0)"),
+        (Fault::Entry(ENTRY), "entry 1 NoLease(5)"),
+        (Fault::Row(RowFault::Names(0)), "plan Names(0)"),
+    ];
+    assert!(rt; say(rt.alloc(), &faults));
+}
+
+#[test]
+fn faults_of_leases(rt: HostRuntime) {
+    let faults = [
+        (LeaseFault::UnknownClient, "UnknownClient"),
+        (LeaseFault::BadPath, "BadPath"),
+        (LeaseFault::NoSuchName(0), "NoSuchName(0)"),
+        (LeaseFault::NotDirectory(1), "NotDirectory(1)"),
+        (LeaseFault::NoSearch(2), "NoSearch(2)"),
+        (LeaseFault::Past, "Past"),
+        (LeaseFault::LeaseHeld(7), "LeaseHeld(7)"),
+        (LeaseFault::NoLeaseHeld, "NoLeaseHeld"),
+        (LeaseFault::Backwards, "Backwards"),
+        (LeaseFault::OutOfMemory, "memory"),
+    ];
+    assert!(rt; say(rt.alloc(), &faults));
+}
+
+#[test]
+fn faults_of_a_desk(rt: HostRuntime) {
+    let begun = [
+        (BeginFault::ClientTwice(1), "ClientTwice(1)"),
+        (BeginFault::GrantOverlap(1), "GrantOverlap(1)"),
+        (BeginFault::OutOfMemory, "memory"),
+    ];
+    assert!(rt; say(rt.alloc(), &begun));
+    let back = [(Why::OutOfMemory, "memory"), (Why::DocketFull, "full")];
+    assert!(rt; say(rt.alloc(), &back));
+    let unanswered = [
+        (Unanswered::OutOfMemory, "memory"),
+        (Unanswered::DocketFull, "full"),
+    ];
+    assert!(rt; say(rt.alloc(), &unanswered));
+}
+
+#[test]
+fn faults_of_clients_and_images(rt: HostRuntime) {
+    let clients = [
+        (ClientFault::TooManyGroups, "TooManyGroups"),
+        (ClientFault::BadGrant, "BadGrant"),
+    ];
+    assert!(rt; say(rt.alloc(), &clients));
+    let reads = [
+        (ReadFault::NoSuchNode, "NoSuchNode"),
+        (ReadFault::IsDirectory, "IsDirectory"),
+    ];
+    assert!(rt; say(rt.alloc(), &reads));
+    let finding = Finding {
+        rule: 10,
+        number: 5,
+    };
+    let shapes = [
+        (ShapeFault::Found(finding), "finding 10 5"),
+        (ShapeFault::OutOfMemory, "memory"),
+    ];
+    assert!(rt; say(rt.alloc(), &shapes));
+}
+
+#[test]
+fn faults_of_the_engine(rt: HostRuntime) {
+    assert!(rt;
+        says(
+            rt.alloc(),
+            &EngineFault::LongLine,
+            "a line of the input is too long"
+        )
+    );
+}
