@@ -1,4 +1,4 @@
-//! Changes of an image, one after the other.
+//! Single changes of an image.
 ghost use Rattle.std.specs.Prelude.{◌≡◌, [], IfOk, OnOk, option_map};
 ghost use Rattle.kfs_model.specs.Placement.{TierSizes};
 ghost use Rattle.kfs_model_device.specs.ShownTree.{DeviceImage};
@@ -11,20 +11,22 @@ use kfs_image_blocks::{NewBlock, Place};
 use kfs_map_chunks::Overlay;
 use std::alloc::{AllocError, Allocator};
 
-/// A change of what an image has of one node, name or block. What a value of none says is gone.
+/// A change of one header, one name, one block's place or one place's bytes. `None` removes what is
+/// there.
 #[derive(Debug, Drop)]
 pub enum Edit<A: Allocator> {
-    /// The header of the node with this number.
+    /// Sets the header of the node with this number, 1 to 65,536.
     Header(u32, Option<Header>),
-    /// The number to which a directory's name leads: the directory, the name, the number.
+    /// Sets the number that a name leads to: the directory, the name, the number.
     Name(u32, Name, Option<u32>),
-    /// Where a block of a file lies: the file's number, the block, the tier and the place.
+    /// Sets where a block of a file lies: the file's number, the block from 0, and the place as tier 0
+    /// to 2 and block on the device.
     Map(u32, u32, Option<(u8, u32)>),
-    /// The 4,096 bytes at a place of a tier: the tier, the place, the bytes.
+    /// Writes 4,096 bytes at a place: the tier, the block on its device, the bytes.
     Bytes(u8, u32, Vec<u8, A>),
 }
 
-/// What edits say of names, of nodes, of where blocks lie, and of what is written.
+/// What edits change: names, headers, places of blocks, bytes.
 #[derive(Drop)]
 pub(crate) struct Parts<A: Allocator> {
     pub(crate) names: Vec<NameRow, A>,
@@ -34,7 +36,7 @@ pub(crate) struct Parts<A: Allocator> {
 }
 
 impl<A: Allocator + Clone> Parts<A> {
-    /// What the edits say, one after the other.
+    /// The changes that the edits make, in order.
     pub(crate) fn of(alloc: &A, edits: &[Edit<A>]) -> Result<Parts<A>, AllocError>
         ensures { IfOk result (PartsAreOf edits.now) }
     {
@@ -45,7 +47,7 @@ impl<A: Allocator + Clone> Parts<A> {
         Ok(parts)
     }
 
-    /// Nothing is said.
+    /// No change.
     fn empty(alloc: &A) -> Result<Parts<A>, AllocError>
         ensures { IfOk result (PartsAreOf []) }
     {
@@ -57,7 +59,7 @@ impl<A: Allocator + Clone> Parts<A> {
         })
     }
 
-    /// Says also what the edit does, after what was said.
+    /// Adds the change of one more edit, made after the others.
     fn add(&mut self, edit: &Edit<A>) -> Result<(), AllocError>
         ensures made { OnOk result ((image : DeviceImage) → with_parts self.new image ≡ edited (plain edit.now) (with_parts self.old image)) }
         ensures whole { OnOk result ((sizes : TierSizes) → WritesWholeBlocks sizes edit.now → BlocksAreWhole sizes self.old.written.items → BlocksAreWhole sizes self.new.written.items) }
@@ -88,7 +90,7 @@ impl<A: Allocator + Clone> Parts<A> {
     }
 }
 
-/// The place of a pair of tier and place.
+/// A pair of tier and place, as a place.
 fn place_in(pair: Option<(u8, u32)>) -> Option<Place>
     ensures { result ≡ option_map place_at pair }
 {

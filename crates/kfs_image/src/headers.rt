@@ -1,4 +1,4 @@
-//! The headers of nodes, as they are and once rows are made.
+//! The headers of nodes, now and after rows.
 ghost use Rattle.std.specs.Prelude.{◌≡◌, option_map};
 ghost use Rattle.kfs_entry_value.specs.Views.{header_of};
 ghost use Rattle.kfs_model.specs.Table.{get};
@@ -9,7 +9,7 @@ use kfs_entry_value::{Header, NodeRow};
 use kfs_image_nodes::{Answer, Cell, look};
 use std::alloc::Allocator;
 
-/// The header of the node with this number.
+/// The header of the node with this number, or none. Takes no memory.
 pub fn header<A: Allocator>(image: &Image<A>, number: u32) -> Option<Header>
     ensures { option_map header_of result ≡ get image.now.heads number }
 {
@@ -19,7 +19,8 @@ pub fn header<A: Allocator>(image: &Image<A>, number: u32) -> Option<Header>
     }
 }
 
-/// The header of the node with this number once the rows are made, in the time of all rows.
+/// The header of the node with this number after the rows are made, or none. It goes through all rows.
+/// Takes no memory.
 pub fn header_after<A: Allocator>(image: &Image<A>, rows: &[NodeRow], number: u32) -> Option<Header>
     ensures { option_map header_of result ≡ get (reheaded image.now.heads rows.now) number }
 {

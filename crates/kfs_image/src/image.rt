@@ -1,4 +1,4 @@
-//! An image: the shape that views share, and the blocks of files.
+//! The image: nodes and names, which views share, and the blocks of files.
 ghost use Rattle.std.specs.Prelude.{◌≡◌, ◌↔◌, ℕ, ◌<◌, List, length, option_map, Err, Some, None, IsTrue, IfSome, IfNone, IfOk, OnOk, OnErr};
 ghost use Rattle.kfs_entry_value.specs.Views.{header_of};
 ghost use Rattle.kfs_model.specs.Table.{get};
@@ -28,10 +28,11 @@ use std::alloc::{AllocError, Allocator};
 use std::marker::Model;
 use std::sync::Arc;
 
-/// The image that the desk owns: nodes, names, and the blocks of files on three tiers. Its tree is
-/// sound, and its headers are those that the tree has; each block is one of a file, begins below the
-/// file's size, and has a place of its own. A place is free where no block lies. Views share its shape
-/// and see it as it was when they were taken.
+/// The image that the desk owns: nodes, names, and the blocks of files on three tiers. It is always
+/// lawful: its tree is sound and has these headers; each block belongs to a file, begins below the
+/// file's size, and has a place of its own; a place is free exactly where no block lies.
+///
+/// Views share the nodes and names, and keep showing what they showed when they were taken.
 #[derive(Drop)]
 pub struct Image<A: Allocator> {
     shape: Arc<Shape<A>, A>,
@@ -51,8 +52,8 @@ impl<A: Allocator> Model for Image<A> {
 }
 
 impl<A: Allocator + Clone> Image<A> {
-    /// The image with the root directory alone, of mode 0o777, uid 0 and gid 0, over tiers of these
-    /// sizes, in which no block was written. `Err` where memory is refused.
+    /// An image with the root directory alone, with mode 0o777, uid 0 and gid 0, over empty tiers of
+    /// these sizes. Takes one bit of memory for each block of the tiers; `Err` where memory is refused.
     pub fn fresh(alloc: A, sizes: TierSizes) -> Result<Image<A>, AllocError>
         ensures { IfOk result (λ image. image ≡ fresh_image sizes) }
     {
@@ -66,9 +67,11 @@ impl<A: Allocator + Clone> Image<A> {
         })
     }
 
-    /// Makes the edits, one after the other, after which the image is lawful. Every growth comes before
-    /// the first change, so `Err` leaves what the image shows as it is. A view that was taken before shows
-    /// what it showed in any case.
+    /// Makes the edits in order. Condition: places exist, written blocks have 4,096 bytes, and the
+    /// image is lawful after the last edit.
+    ///
+    /// All memory is taken before the first change: after `Err` the image shows what it showed. Views
+    /// that were taken before keep showing what they showed in any case.
     pub fn edit(&mut self, edits: &[Edit<A>]) -> Result<(), AllocError>
         requires { CanEdit edits.now self.old }
         ensures ok { OnOk result (self.new ≡ edited_all edits.now self.old) }
@@ -95,9 +98,8 @@ impl<A: Allocator + Clone> Image<A> {
         )
     }
 
-    /// Makes the change of a net and a fill. Pages and chunks that a view shares are copied where they
-    /// change, and the others stay shared. `Err` leaves what the image shows as it is, and a view shows
-    /// what it showed in any case.
+    /// `net_apply`. Pages and chunks that a view shares are copied where they change, and the others
+    /// stay shared.
     pub(crate) fn change(
         &mut self,
         alloc: &A,
@@ -144,7 +146,7 @@ fn change_shared<A: Allocator + Clone, T: Change>(
 }
 
 impl<A: Allocator> Image<A> {
-    /// The shape of now, to share with a view. Takes no memory.
+    /// The nodes and names of now, to be shared with a view. Takes no memory.
     pub fn shape(&self) -> &Arc<Shape<A>, A>
         ensures shape { result.now.value ≡ contents_of self.now }
         ensures lawful { IsLawful self.now }
@@ -152,21 +154,21 @@ impl<A: Allocator> Image<A> {
         &self.shape
     }
 
-    /// How many blocks the tier has: none where it is over 2. Takes no memory.
+    /// How many blocks the tier has, 0 for a tier over 2. Takes no memory.
     pub fn tier_size(&self, tier: u8) -> u32
         ensures { result ≡ tier_size self.now.sizes tier }
     {
         self.blocks.size(tier)
     }
 
-    /// In how many places of the tier no block of a file lies: none where it is over 2. Takes no memory.
+    /// How many places of the tier hold no block of a file, 0 for a tier over 2. Takes no memory.
     pub fn free(&self, tier: u8) -> u32
         ensures { result ≡ length (unused_places self.now.sizes self.now.placement tier) }
     {
         self.blocks.free(tier)
     }
 
-    /// The tier's least free place that isn't below `from`, or none. Takes no memory.
+    /// The tier's least free place from `from` on, or none. Takes no memory.
     pub fn next_free(&self, tier: u8, from: u32) -> Option<u32>
         ensures found { IfSome result (λ place. IsNextUnused self.now.sizes self.now.placement tier from place) }
         ensures none { IfNone result (AreTakenFrom self.now.sizes self.now.placement tier from) }
@@ -174,7 +176,8 @@ impl<A: Allocator> Image<A> {
         self.blocks.next_free(tier, from)
     }
 
-    /// Where a block of a file lies, as tier and place, or none where it isn't mapped. Takes no memory.
+    /// Where block `block`, from 0, of the file `number` lies, as tier and place; none where it isn't
+    /// mapped. Takes no memory.
     pub fn place_of(&self, number: u32, block: u32) -> Option<(u8, u32)>
         ensures { option_map place_at result ≡ get self.now.placement (number, block) }
     {
@@ -182,7 +185,7 @@ impl<A: Allocator> Image<A> {
         Some((place.tier, place.place))
     }
 
-    /// The least number above `after` that a node has, or none where no node has one. Takes no memory.
+    /// The least number above `after` that is a node's, or none. Takes no memory.
     pub fn next_node(&self, after: u32) -> Option<u32>
         ensures found { IfSome result (IsNextNode self.now.heads after) }
         ensures none { IfNone result ((m : ℕ) → after < m → get self.now.heads m ≡ None) }
@@ -191,7 +194,7 @@ impl<A: Allocator> Image<A> {
     }
 
     /// The least name of the directory above `after`, or of all its names where `after` is none, and
-    /// the number that it leads to. Takes no memory.
+    /// the number that it leads to. None where there is no such name. Takes no memory.
     pub fn next_name(&self, dir: u32, after: Option<&Name>) -> Option<(&Name, u32)>
         ensures found { IfSome result (λ p. IsNext self.now.names dir after.entry p.0.now p.1) }
         ensures none { IfNone result ((m : List ℕ) (n : ℕ) → target self.now.names dir m ≡ Some n → IsAfter after.entry m → ⊥) }
@@ -199,7 +202,7 @@ impl<A: Allocator> Image<A> {
         self.shape.next_name(dir, after)
     }
 
-    /// Reads bytes of a file into the front of the buffer.
+    /// `read_file`.
     pub(crate) fn read(
         &self,
         number: u32,

@@ -1,4 +1,7 @@
-//! The image of the file system: its nodes, names and tiers.
+//! The image of the file system: nodes, names, and the blocks of files on three tiers.
+//!
+//! It stands on `kfs_image_nodes` (nodes and names, which views share) and `kfs_image_blocks` (blocks
+//! and tiers); the desk owns an image. Begin with `Image::fresh`, `look` and `read_file`.
 #![tactic(auto)]
 
 mod edit;

@@ -7,17 +7,18 @@ use kfs_image_blocks::{BlockRow, BlockRun};
 use kfs_image_nodes::Net;
 use std::alloc::{AllocError, Allocator};
 
-/// The blocks that a landing writes, and those that it makes zero.
+/// The change of a landing to the blocks of files.
 #[derive(Debug, Drop)]
 pub struct Fill<A: Allocator> {
-    /// The written blocks of files, with their places and their bytes.
+    /// The blocks that it writes, with their places and their bytes.
     pub rows: Vec<BlockRow<A>, A>,
-    /// Runs of blocks of which every byte is zero.
+    /// Runs of blocks whose bytes become all zero. They are unmapped, since an unmapped block reads as
+    /// zero.
     pub zero: Vec<BlockRun, A>,
 }
 
 impl<A: Allocator + Clone> Fill<A> {
-    /// No block. `Err` where the allocator isn't copied.
+    /// No block. `Err` where the allocator can't be cloned.
     pub fn empty(alloc: &A) -> Result<Fill<A>, AllocError>
         ensures { IfOk result (λ fill. (fill.rows.items ≡ []) × (fill.zero.items ≡ [])) }
     {
@@ -28,10 +29,12 @@ impl<A: Allocator + Clone> Fill<A> {
     }
 }
 
-/// Makes the change of a net and a fill, after which the image is lawful: the names and headers of the
-/// net, the blocks of the fill mapped and written, and those unmapped that are zero, or are no block of
-/// a file any more. Every growth comes before the first change, so `Err` leaves what the image shows as
-/// it is. A view that was taken before shows what it showed.
+/// Makes the change of a landing: the names and headers of the net; blocks that become zero, or are no
+/// longer blocks of a file, are unmapped; the rows' blocks are mapped and written.
+///
+/// Condition: the rows' places exist, their blocks have 4,096 bytes, and the image is lawful after the
+/// change. `Err` where memory is refused: all memory is taken before the first change, so the image
+/// shows what it showed. Views that were taken before keep showing what they showed in any case.
 pub fn net_apply<A: Allocator + Clone>(
     alloc: A,
     image: &mut Image<A>,

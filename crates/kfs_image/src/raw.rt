@@ -1,37 +1,51 @@
-//! An image as its format lists it: rows of which nothing is known yet.
+//! An image as its format lists it: rows that nobody has checked yet.
 
 use kfs_entry_value::{Header, NameRow, TierSizes};
 use std::alloc::Allocator;
 
-/// A node and what it shows of itself.
+/// A node's row.
 #[derive(Clone, Copy, Debug, PartialEq, Eq)]
 pub struct RawNode {
+    /// The node's number, any of 32 bits.
     pub number: u32,
+    /// Its kind, mode, uid, gid, links and size, any that fit their types.
     pub header: Header,
 }
 
-/// Blocks next to each other: `count` blocks of a file from `block` on, at places of one tier from `place` on.
+/// Blocks of a file next to each other, at places next to each other.
 #[derive(Clone, Copy, Debug, PartialEq, Eq)]
 pub struct Extent {
+    /// The first block of the file, from 0.
     pub block: u32,
+    /// The tier, 0 to 2 where it exists.
     pub tier: u8,
+    /// The place of the first block on the tier's device, from 0.
     pub place: u32,
+    /// How many blocks.
     pub count: u32,
 }
 
-/// An extent of the file `number`, and the bytes of its blocks, 4,096 for each, block after block.
+/// The row of an extent.
 #[derive(Debug, Drop)]
 pub struct ExtentRow<A: Allocator> {
+    /// The number of the file.
     pub number: u32,
+    /// Which blocks, and where they lie.
     pub extent: Extent,
+    /// The bytes of the blocks, 4,096 for each, in order.
     pub bytes: Vec<u8, A>,
 }
 
-/// The sizes of the tiers, and rows of nodes, names and extents in any order and with any numbers.
+/// An image as rows, in any order and with any numbers. docs/FORMATS.md has the rules that a well
+/// formed image fulfills.
 #[derive(Debug, Drop)]
 pub struct RawImage<A: Allocator> {
+    /// The sizes of the tiers, in blocks.
     pub sizes: TierSizes,
+    /// The nodes.
     pub nodes: Vec<RawNode, A>,
+    /// The names; number 0 has no meaning of its own here.
     pub names: Vec<NameRow, A>,
+    /// The extents.
     pub extents: Vec<ExtentRow<A>, A>,
 }

@@ -1,4 +1,4 @@
-//! The bytes of files.
+//! Reading the bytes of files.
 ghost use Rattle.std.specs.Prelude.{◌≡◌, ◌↔◌, Err, None, IsTrue, IfOk, OnErr};
 ghost use Rattle.kfs_model.specs.Table.{get};
 ghost use Rattle.kfs_model.specs.Sight.{is_directory};
@@ -10,15 +10,18 @@ use std::alloc::Allocator;
 /// Why a file isn't read.
 #[derive(Clone, Copy, Debug, PartialEq, Eq)]
 pub enum ReadFault {
-    /// 1: no node has the number.
+    /// 1: no node has this number.
     NoSuchNode,
     /// 2: the node is a directory.
     IsDirectory,
 }
 
-/// Reads bytes of a file from the start on into the front of the buffer, as many as it has room for and
-/// the file has, none where the start isn't below the file's size, and answers how many. The rest of the
-/// buffer, and all of it where there is no file, stays as it is. Takes no memory.
+/// Reads bytes of the file `number`, from position `start` on, into the front of the buffer (POSIX
+/// `pread`). Answers how many: as many as the buffer takes and the file has, 0 where `start` isn't
+/// below the file's size.
+///
+/// The rest of the buffer stays as it is, and so does all of it where the answer is `NoSuchNode` or
+/// `IsDirectory`. Takes no memory.
 pub fn read_file<A: Allocator>(
     image: &Image<A>,
     number: u32,

@@ -1,4 +1,4 @@
-//! The blocks that a landing leaves nowhere.
+//! The blocks that a landing unmaps.
 ghost use Rattle.std.specs.Prelude.{◌≡◌, ◌-◌, ◌^◌, map, min, option_map, IfOk};
 ghost use Rattle.kfs_entry_value.specs.Views.{header_of};
 ghost use Rattle.kfs_image.specs.Released.{AreReleased, behind};
@@ -10,8 +10,8 @@ use kfs_image_nodes::header_edits;
 use kfs_map_pages::NumberEdit;
 use std::alloc::{AllocError, Allocator};
 
-/// The runs of blocks that go: of each node that changes, those behind the file's end, or all where it
-/// is no file any more; and those that become zero.
+/// The runs of blocks to be unmapped: of each node that changes, those behind the file's end, or all if
+/// it is no longer a file; and the runs that become zero.
 pub(crate) fn released_blocks<A: Allocator + Clone>(
     alloc: &A,
     nodes: &[NodeRow],
@@ -25,7 +25,7 @@ pub(crate) fn released_blocks<A: Allocator + Clone>(
     Ok(released)
 }
 
-/// Of each node that changes, the blocks behind the end of its file.
+/// The blocks behind the end of each file that changes.
 fn blocks_behind<A: Allocator + Clone>(
     alloc: &A,
     edits: &[NumberEdit<Header>],
@@ -43,7 +43,7 @@ fn blocks_behind<A: Allocator + Clone>(
     Ok(runs)
 }
 
-/// How many blocks the file has, none where there is no file; at most 2^32 - 1.
+/// How many blocks the file has, at most 2^32 - 1; 0 where there is no file.
 fn block_count(header: Option<Header>) -> u32
     ensures { result ≡ min (blocks_in (option_map header_of header)) (2 ^ 32 - 1) }
 {

@@ -20,8 +20,8 @@ use kfs_map_chunks::{Chunks, KeyEdit};
 use std::alloc::{AllocError, Allocator};
 use std::marker::Model;
 
-/// Where the blocks of files lie, and the three tiers: a place is free where no block lies. A block of
-/// a file has a number of its own, from 0 on, and 4,096 bytes.
+/// Where the blocks of files lie, and the three tiers. A place is marked free exactly where no block
+/// lies. The blocks of a file are numbered from 0, and each has 4,096 bytes.
 #[derive(Drop)]
 pub struct FileBlocks<A: Allocator> {
     placement: Chunks<(u32, u32), Place, A>,
@@ -41,8 +41,8 @@ impl<A: Allocator> Model for FileBlocks<A> {
 }
 
 impl<A: Allocator> FileBlocks<A> {
-    /// Tiers of these sizes, in which no block lies and none was written. Takes a bit of memory for
-    /// each place; `Err` where it is refused.
+    /// Tiers of these sizes, with no block anywhere and none written. Takes one bit of memory for each
+    /// place; `Err` where memory is refused.
     pub fn new(alloc: A, sizes: TierSizes) -> Result<FileBlocks<A>, AllocError>
     where
         A: Clone,
@@ -58,7 +58,7 @@ impl<A: Allocator> FileBlocks<A> {
         })
     }
 
-    /// How many places the tier has: none where it is over 2. Takes no memory.
+    /// How many places the tier has, 0 for a tier over 2. Takes no memory.
     pub fn size(&self, tier: u8) -> u32
         ensures size { result ≡ tier_size self.now.sizes tier }
         ensures laid { IsLaid self.now.sizes self.now.placement }
@@ -67,14 +67,14 @@ impl<A: Allocator> FileBlocks<A> {
         self.tiers.tiers.size(tier)
     }
 
-    /// In how many places of the tier no block lies: none where it is over 2. Takes no memory.
+    /// How many places of the tier hold no block, 0 for a tier over 2. Takes no memory.
     pub fn free(&self, tier: u8) -> u32
         ensures { result ≡ length (unused_places self.now.sizes self.now.placement tier) }
     {
         self.tiers.tiers.free(tier)
     }
 
-    /// The tier's least place that isn't below `from` and in which no block lies. Takes no memory.
+    /// The tier's least place from `from` on that holds no block, or none. Takes no memory.
     pub fn next_free(&self, tier: u8, from: u32) -> Option<u32>
         ensures found { IfSome result (λ place. IsNextUnused self.now.sizes self.now.placement tier from place) }
         ensures none { IfNone result (AreTakenFrom self.now.sizes self.now.placement tier from) }
@@ -82,16 +82,15 @@ impl<A: Allocator> FileBlocks<A> {
         self.tiers.tiers.next_free(tier, from)
     }
 
-    /// Where the block of the file with this number lies, or none where it isn't mapped. Takes no
-    /// memory.
+    /// Where block `block` of the file `number` lies, or none where it isn't mapped. Takes no memory.
     pub fn place_of(&self, number: u32, block: u32) -> Option<Place>
         ensures { result ≡ get self.now.placement (number, block) }
     {
         self.placement.get(&(number, block)).copied()
     }
 
-    /// Fills the buffer with the bytes of a block of a file from the offset on, which are zero where
-    /// the block isn't mapped or was never written. The buffer ends within the block. Takes no memory.
+    /// Fills the buffer with the block's bytes from `offset` on; they are zero where the block isn't
+    /// mapped or was never written. Condition: the buffer doesn't go past the block. Takes no memory.
     pub fn read(&self, number: u32, block: u32, offset: usize, buffer: &mut [u8])
         requires { offset + length buffer.old ≤ block_size }
         ensures { EachIndex buffer.new (λ k. slice_index buffer.new k ≡ file_byte self.now.placement self.now.devices number (block * block_size + (offset + k))) }
@@ -104,9 +103,8 @@ impl<A: Allocator> FileBlocks<A> {
 }
 
 impl<A: Allocator + Clone> FileBlocks<A> {
-    /// Edits where blocks lie, and writes blocks, which each may lie at any place of a tier. A block
-    /// that moves leaves its bytes behind, and one keeps its bytes when its place is given back or
-    /// taken. `Err` where memory is refused leaves all as it is.
+    /// Changes where blocks lie, and writes blocks, at any places of the tiers. A block that moves
+    /// leaves its bytes at the old place. `Err` where memory is refused; all is as before then.
     pub fn change(
         &mut self,
         edits: &[KeyEdit<(u32, u32), Place>],
@@ -123,9 +121,10 @@ impl<A: Allocator + Clone> FileBlocks<A> {
         done
     }
 
-    /// Unmaps the blocks in these runs, and then maps each row's block to its place and writes its bytes
-    /// there, one row after the other. A block that is unmapped or moves leaves its bytes behind. A run
-    /// costs as many steps as it has mapped blocks. `Err` where memory is refused leaves all as it is.
+    /// Unmaps the blocks in the runs; then maps each row's block to its place and writes its bytes
+    /// there, row after row. A block that is unmapped or moves leaves its bytes at the old place. A run
+    /// takes as many steps as it has mapped blocks. `Err` where memory is refused; all is as before
+    /// then.
     pub fn fill(&mut self, released: &[BlockRun], rows: &[BlockRow<A>]) -> Result<(), AllocError>
         requires { CanFill self.old released.now rows.now }
         ensures ok { OnOk result (self.new ≡ filled released.now rows.now self.old) }
@@ -136,7 +135,7 @@ impl<A: Allocator + Clone> FileBlocks<A> {
         self.change(edits.as_slice(), written)
     }
 
-    /// The edits of the placement that a fill makes.
+    /// The changes of places that a fill makes.
     fn edits_of(
         &self,
         released: &[BlockRun],

@@ -1,4 +1,4 @@
-//! The blocks that a landing unmaps, and those that it maps and writes.
+//! The blocks that a landing unmaps, and the blocks that it maps and writes.
 ghost use Rattle.std.specs.Prelude.{◌≡◌, ◌∷◌, [], ◌≤◌, ◌<◌, map, IfSome, IfNone, IfOk, OnOk};
 ghost use Rattle.kfs_model.specs.Table.{pairs, numbers};
 ghost use Rattle.kfs_map_chunks.specs.Edits.{KeysAscend};
@@ -11,28 +11,32 @@ use kfs_map_chunks::{Chunks, KeyEdit, Overlay, key_edits};
 use std::alloc::{AllocError, Allocator};
 use std::ops::Bound;
 
-/// FileBlocks of a file one behind the other: from `first` on, below `end`, and none where `end` isn't
-/// above `first`.
+/// A run of blocks of one file: from `first` on, below `end`. It is empty where `end` isn't above
+/// `first`.
 #[derive(Clone, Copy, Debug, PartialEq, Eq)]
 pub struct BlockRun {
     /// The number of the file.
     pub number: u32,
+    /// The first block, from 0.
     pub first: u32,
+    /// The block after the last.
     pub end: u32,
 }
 
-/// A block of a file that a landing writes: where it comes to lie, and its 4,096 bytes.
+/// A block of a file that a landing writes.
 #[derive(Debug, Drop)]
 pub struct BlockRow<A: Allocator> {
     /// The number of the file.
     pub number: u32,
-    /// The block of the file, counted from 0.
+    /// The block of the file, from 0.
     pub block: u32,
+    /// The place on a tier at which it is put.
     pub place: Place,
+    /// Its 4,096 bytes.
     pub bytes: Vec<u8, A>,
 }
 
-/// The edits of a placement that unmap the blocks in the runs, and then map the rows' blocks, ascending.
+/// The changes of places that unmap the blocks in the runs and then map the rows' blocks, ascending.
 pub(crate) fn fill_edits<A: Allocator + Clone>(
     placement: &Chunks<(u32, u32), Place, A>,
     released: &[BlockRun],
@@ -52,7 +56,7 @@ pub(crate) fn fill_edits<A: Allocator + Clone>(
     Ok(edits)
 }
 
-/// Says of each mapped block of the run that it is mapped no more.
+/// Marks each mapped block of the run as unmapped.
 fn unmap<A: Allocator + Clone>(
     overlay: &mut Overlay<(u32, u32), Place, A>,
     placement: &Chunks<(u32, u32), Place, A>,
@@ -69,7 +73,7 @@ fn unmap<A: Allocator + Clone>(
     Ok(())
 }
 
-/// The file's least mapped block from `from` on, where it is below `end`.
+/// The file's least mapped block from `from` on and below `end`, or none.
 fn next_mapped<A: Allocator>(
     placement: &Chunks<(u32, u32), Place, A>,
     number: u32,
@@ -88,7 +92,7 @@ fn next_mapped<A: Allocator>(
     }
 }
 
-/// The blocks that the rows write.
+/// The rows' blocks with copies of their bytes.
 pub(crate) fn copies<A: Allocator + Clone>(
     alloc: &A,
     rows: &[BlockRow<A>],

@@ -1,4 +1,4 @@
-//! The places that blocks leave and those that they enter where their placement is edited.
+//! The places that become free, and those that become used, when blocks change places.
 ghost use Rattle.std.specs.Prelude.{◌≡◌, ◌++◌, IfOk, OnOk};
 ghost use Rattle.kfs_model.specs.Table.{pairs, numbers};
 ghost use Rattle.kfs_map_chunks.specs.Tables.{table};
@@ -8,13 +8,15 @@ use kfs_image_tier::Place;
 use kfs_map_chunks::{Chunks, KeyEdit};
 use std::alloc::{AllocError, Allocator};
 
-/// The places that are given back, and those that are taken.
+/// The places that become free, and the places that become used.
 #[derive(Drop)]
 pub(crate) struct Moves<A: Allocator> {
     pub(crate) given: Vec<Place, A>,
     pub(crate) taken: Vec<Place, A>,
 }
 
+/// The places that the edits free, and those that they use. A block that keeps its place counts as
+/// neither.
 impl<A: Allocator + Clone> Moves<A> {
     /// The places that blocks leave by the edits, and those that they enter. A block that keeps its
     /// place has no part in it.
@@ -37,7 +39,7 @@ impl<A: Allocator + Clone> Moves<A> {
     }
 }
 
-/// Adds the place that a block leaves: where it was, and isn't any more.
+/// Adds the place that a block had, if it isn't there any more.
 fn push_left<A: Allocator + Clone>(
     places: &mut Vec<Place, A>,
     was: Option<Place>,

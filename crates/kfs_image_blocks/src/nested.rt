@@ -1,4 +1,4 @@
-//! Changes of blocks that are made together with another change, or not at all.
+//! Changes of blocks that are made together with another change or not at all.
 ghost use Rattle.std.proofs.Common.{rules};
 
 use crate::blocks::FileBlocks;
@@ -9,7 +9,7 @@ use kfs_map_pages::Change;
 use std::alloc::{AllocError, Allocator};
 use std::mem;
 
-/// The blocks of files, with the runs that they lose and the rows that are mapped and written.
+/// A fill of blocks: the runs that are unmapped, and the rows that are mapped and written.
 #[derive(Drop)]
 pub struct FillBlocks<'a, A: Allocator> {
     pub blocks: &'a mut FileBlocks<A>,
@@ -34,8 +34,8 @@ impl<'a, A: Allocator + Clone> Change for FillBlocks<'a, A> {
     }
 }
 
-/// The blocks of files, with the edits of where they lie, and the blocks to be written, which are taken
-/// out.
+/// A change of blocks: new places of blocks, and blocks to be written. The latter are taken out of the
+/// list.
 #[derive(Drop)]
 pub struct ChangeBlocks<'a, A: Allocator> {
     pub blocks: &'a mut FileBlocks<A>,

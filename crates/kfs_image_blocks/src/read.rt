@@ -6,13 +6,13 @@ ghost use Rattle.kfs_model_device.specs.ShownTree.{file_byte};
 use crate::blocks::FileBlocks;
 use std::alloc::Allocator;
 
-/// How many bytes a block has.
+/// The bytes of a block.
 const BLOCK_LEN: usize = 4096;
 
 impl<A: Allocator> FileBlocks<A> {
-    /// Fills the buffer with the bytes of a file from the position on, which are zero where a block
-    /// isn't mapped or was never written. The buffer ends within the blocks that have a number. Takes
-    /// no memory.
+    /// Fills the buffer with the file's bytes from position `start` on; they are zero where a block
+    /// isn't mapped or was never written. Condition: the buffer ends within the blocks that can be
+    /// numbered. Takes no memory.
     pub fn read_bytes(&self, number: u32, start: u64, buffer: &mut [u8])
         requires { start + length buffer.old ≤ 2 ^ 32 * block_size }
         ensures { EachIndex buffer.new (λ k. slice_index buffer.new k ≡ file_byte self.now.placement self.now.devices number (start + k)) }

@@ -1,4 +1,4 @@
-//! Changes that wait to be made together with another one.
+//! A change of the tiers that waits to be made together with the change of the blocks' places.
 ghost use Rattle.std.specs.Prelude.{◌≡◌, OnOk, OnErr};
 
 use crate::blocks::FileBlocks;
@@ -8,14 +8,14 @@ use kfs_map_chunks::KeyEdit;
 use kfs_map_pages::Change;
 use std::alloc::{AllocError, Allocator};
 
-/// A change of the tiers: the places that are given back and taken, and the blocks that are written.
+/// A change of the tiers: places that become free, places that become used, and blocks to be written.
 #[derive(Drop)]
 pub(crate) struct TiersChange<A: Allocator> {
     pub(crate) moves: Moves<A>,
     pub(crate) written: Vec<NewBlock<A>, A>,
 }
 
-/// The tiers, and the change that they are to make, if any.
+/// The tiers, and the change that waits for them, if any.
 #[derive(Drop)]
 pub(crate) struct StagedTiers<A: Allocator> {
     pub(crate) tiers: Tiers<A>,

@@ -1,4 +1,4 @@
-//! A block of a file after a log.
+//! The bytes of one block after a log.
 ghost use Rattle.std.specs.Prelude.{◌≡◌, IfOk, vec_len};
 ghost use Rattle.kfs_model_device.specs.ShownTree.{shown_tree};
 ghost use Rattle.kfs_image_fill.specs.Bytes.{entries_of, pieces_of, AreBytesOf, HasPayloads};
@@ -9,7 +9,8 @@ use kfs_entry_value::BLOCK_SIZE;
 use kfs_image::{Image, read_file};
 use std::alloc::{AllocError, Allocator};
 
-/// So many bytes of a file from `start` on, zero past its end and where there is no file.
+/// `count` bytes of a file from position `start` on; zero behind the file's end, and where there is no
+/// file.
 fn bytes_before<A: Allocator>(
     alloc: A,
     image: &Image<A>,
@@ -22,7 +23,8 @@ fn bytes_before<A: Allocator>(
 {
     let mut bytes = Vec::new(alloc);
     bytes.resize(count, 0)?;
-    // Bytes past the file's end stay zero, and all of them where there is no file yet.
+    // Bytes behind the file's end stay zero, and so do all of them where there is no file yet. So the
+    // answer doesn't matter.
     let _ = read_file(image, number, start, bytes.as_mut_slice());
     Ok(bytes)
 }

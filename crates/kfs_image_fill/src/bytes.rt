@@ -1,4 +1,4 @@
-//! A log's pieces put over the bytes of a file.
+//! A log's pieces, laid over the bytes of a file.
 ghost use Rattle.std.specs.Prelude.{◌≡◌, ◌∷◌, [], drop, slice_get, slice_index, EachIndex};
 ghost use Rattle.kfs_entry_value.specs.Views.{piece_of, source_of};
 ghost use Rattle.kfs_model.specs.Run.{byte_at, payload_of};
@@ -6,17 +6,18 @@ ghost use Rattle.kfs_image_fill.specs.Bytes.{entries_of, pieces_of, HasPayloads,
 
 use kfs_entry_value::{Entry, Piece, Source, Span};
 
-/// A log, and what its pieces say of the bytes that it changes.
+/// A log, and the pieces that say which bytes it changes.
 #[derive(Clone, Copy)]
 pub struct LogBytes<'a> {
     /// The bytes that the log was read from.
     pub source: &'a [u8],
+    /// The log's entries.
     pub entries: &'a [Entry<Span>],
-    /// Pieces in the order of number and place.
+    /// Its pieces, ascending by file number and position.
     pub pieces: &'a [Piece],
 }
 
-/// The payload of the entry of this index, empty where that isn't a Write or there is none.
+/// The payload of the entry with this index; empty where the entry isn't a Write, or there is none.
 fn payload<'a>(log: &LogBytes<'a>, entry: u16) -> &'a [u8]
     requires { HasPayloads log.now }
     ensures { result.now ≡ payload_of (slice_get (entries_of log.now) entry) }
@@ -33,14 +34,14 @@ fn payload<'a>(log: &LogBytes<'a>, entry: u16) -> &'a [u8]
     }
 }
 
-/// The bytes behind the first ones.
+/// The bytes without the first `count`.
 fn behind(bytes: &[u8], count: usize) -> &[u8]
     ensures { result.now ≡ drop count bytes.now }
 {
     &bytes[count.min(bytes.len())..]
 }
 
-/// Fills the bytes with those of a payload, and with zero behind its end.
+/// Copies the payload to the front of the bytes, and fills the rest with zero.
 fn put_bytes(bytes: &mut [u8], payload: &[u8])
     ensures { EachIndex bytes.new (λ k. slice_index bytes.new k ≡ byte_at payload.now k) }
 {
@@ -49,7 +50,7 @@ fn put_bytes(bytes: &mut [u8], payload: &[u8])
     bytes[count..].fill(0);
 }
 
-/// Fills the bytes with what stands in the source of a piece from a distance to its start on.
+/// Fills the bytes from a piece's source, from `distance` bytes behind the piece's start on.
 fn put_source(bytes: &mut [u8], log: &LogBytes<'_>, source: Source, distance: usize)
     requires { HasPayloads log.now }
     ensures { AreGivenBy (entries_of log.now) (source_of source) distance bytes.new }
@@ -63,7 +64,7 @@ fn put_source(bytes: &mut [u8], log: &LogBytes<'_>, source: Source, distance: us
     }
 }
 
-/// Puts a piece over bytes of a file from `start` on.
+/// Lays a piece over the bytes, which are the file's from position `start` on.
 fn put_piece(bytes: &mut [u8], log: &LogBytes<'_>, piece: &Piece, number: u32, start: u64)
     requires { HasPayloads log.now }
     ensures { ArePut (entries_of log.now) (piece_of piece.now ∷ []) number start bytes.old bytes.new }
@@ -83,7 +84,8 @@ fn put_piece(bytes: &mut [u8], log: &LogBytes<'_>, piece: &Piece, number: u32, s
     );
 }
 
-/// Puts the pieces over bytes of a file from `start` on: each byte becomes that of the first piece that covers it.
+/// Lays the pieces over the bytes, which are the file's from position `start` on. A byte in several
+/// pieces is that of the first one.
 pub(crate) fn put_pieces(bytes: &mut [u8], log: &LogBytes<'_>, number: u32, start: u64)
     requires { HasPayloads log.now }
     ensures { ArePut (entries_of log.now) (pieces_of log.now) number start bytes.old bytes.new }

@@ -1,4 +1,4 @@
-//! The fill of a landing.
+//! The fill of a landing: the blocks that it writes and those that it clears.
 ghost use Rattle.std.specs.Prelude.{◌≡◌, ◌++◌, IfOk, map};
 ghost use Rattle.std.specs.List.{AllByRecursion};
 ghost use Rattle.kfs_entry_value.specs.Views.{piece_of};
@@ -19,14 +19,14 @@ use kfs_image::{BlockRun, Fill, Image, header_after};
 use kfs_plan_sweep::{cleared_in, written_in};
 use std::alloc::{AllocError, Allocator};
 
-/// The blocks that a log writes, ascending, and runs of those that it makes zero.
+/// The blocks that a log writes, ascending, and the runs of those that it makes zero.
 #[derive(Drop)]
 struct FileBlocks<A: Allocator> {
     written: Vec<(u32, u32), A>,
     zero: Vec<BlockRun, A>,
 }
 
-/// The size of a file once the rows are made, 0 where there is none.
+/// The size of a file after the rows, 0 where there is no file.
 fn size_after<A: Allocator>(image: &Image<A>, nodes: &[NodeRow], number: u32) -> u64
     ensures { result ≡ size_among (reheaded image.now.heads nodes.now) number }
 {
@@ -47,7 +47,7 @@ fn front_len(pieces: &[Piece], number: u32) -> usize
     len
 }
 
-/// Adds the blocks that the pieces of one file write, where the file has this size after the log.
+/// Adds the blocks that the pieces of one file write; `size` is the file's size after the log.
 fn add_written<A: Allocator + Copy>(
     alloc: A,
     out: &mut Vec<(u32, u32), A>,
@@ -66,7 +66,8 @@ fn add_written<A: Allocator + Copy>(
     Ok(())
 }
 
-/// Adds the runs of the blocks that the pieces of one file make zero, where the file has this size after the log.
+/// Adds the runs of blocks that the pieces of one file make zero; `size` is the file's size after the
+/// log.
 fn add_cleared<A: Allocator + Copy>(
     alloc: A,
     out: &mut Vec<BlockRun, A>,
@@ -88,7 +89,8 @@ fn add_cleared<A: Allocator + Copy>(
     Ok(())
 }
 
-/// The blocks of all files that right pieces write and make zero, where the nodes are changed by these rows.
+/// The blocks of all files that right pieces write or make zero; the rows say which sizes files have
+/// after the log.
 fn file_blocks<A: Allocator + Copy>(
     alloc: A,
     image: &Image<A>,
@@ -116,9 +118,12 @@ fn file_blocks<A: Allocator + Copy>(
     Ok(FileBlocks { written, zero })
 }
 
-/// The fill of a log whose pieces are right and whose net has these rows of nodes: the written blocks at the least free places
-/// of tier 0, and the runs of those made zero. Where there are fewer free places than written blocks, only the first of these
+/// The fill of a log: its written blocks, at the least free places of tier 0, and the runs of blocks
+/// that it makes zero. Where there are fewer free places than written blocks, only the first blocks
 /// have rows.
+///
+/// `nodes` are the rows of the log's net. Condition: the pieces ascend, none is empty, and they and the
+/// payloads are in range. `Err` where memory is refused.
 pub fn fill_of<A: Allocator + Copy>(
     alloc: A,
     image: &Image<A>,

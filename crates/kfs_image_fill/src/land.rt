@@ -1,4 +1,4 @@
-//! The change of a landing, with its bytes.
+//! The change of a landing, bytes included.
 ghost use Rattle.std.specs.Prelude.{◌≡◌, OnErr, OnOk};
 ghost use Rattle.std.specs.List.{AllByRecursion};
 ghost use Rattle.kfs_model.specs.Plan.{PiecesAscend};
@@ -11,7 +11,9 @@ use crate::fill::fill_of;
 use kfs_image::{Image, Net, net_apply};
 use std::alloc::{AllocError, Allocator};
 
-/// Makes the change of a net, and with it that of the bytes of its log. `Err` leaves what the image shows as it is.
+/// Makes the change that a log makes: the names and headers of its net, and its bytes. Condition: that
+/// of `fill_of`, and the net can be applied with such a fill. `Err` where memory is refused; the image
+/// shows what it showed then.
 pub fn land_bytes<A: Allocator + Copy>(
     alloc: A,
     image: &mut Image<A>,

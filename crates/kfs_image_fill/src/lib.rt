@@ -1,4 +1,7 @@
-//! The blocks that a landing writes, and those that it makes zero.
+//! What a landing does to blocks: which ones it writes, at which places, with which bytes, and which
+//! ones it clears.
+//!
+//! It stands on `kfs_image`, and the desk on it. Begin with `land_bytes`, then `fill_of`.
 #![tactic(auto)]
 
 mod block;

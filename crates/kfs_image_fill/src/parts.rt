@@ -1,11 +1,11 @@
-//! The pieces that a block needs, among those of a whole log.
+//! The pieces that matter for one block, among all pieces of a log.
 ghost use Rattle.std.specs.Prelude.{◌≡◌, map};
 ghost use Rattle.kfs_entry_value.specs.Views.{piece_of};
 ghost use Rattle.kfs_image_fill.specs.Bytes.{ends_by, begins_before, reaching, beginning};
 
 use kfs_entry_value::Piece;
 
-/// Whether the piece ends at this byte or before it.
+/// Whether the piece ends at this byte of the file, or before it.
 fn ends_by(piece: &Piece, number: u32, place: u64) -> bool
     ensures { result ≡ ends_by number place (piece_of piece.now) }
 {
@@ -13,7 +13,7 @@ fn ends_by(piece: &Piece, number: u32, place: u64) -> bool
         || piece.number == number && piece.start <= place && piece.len <= place - piece.start
 }
 
-/// Whether the piece begins before this byte.
+/// Whether the piece begins before this byte of the file.
 fn begins_before(piece: &Piece, number: u32, place: u64) -> bool
     ensures { result ≡ begins_before number place (piece_of piece.now) }
 {
@@ -31,7 +31,7 @@ pub(crate) fn reaching(pieces: &[Piece], number: u32, place: u64) -> &[Piece]
     &pieces[first..]
 }
 
-/// The pieces up to the first that begins at this byte or behind it.
+/// The pieces at the front that begin before this byte.
 pub(crate) fn beginning(pieces: &[Piece], number: u32, place: u64) -> &[Piece]
     ensures { map piece_of result.now ≡ beginning number place (map piece_of pieces.now) }
 {

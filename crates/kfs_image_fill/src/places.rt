@@ -1,4 +1,4 @@
-//! The places that a landing takes.
+//! The places at which a landing puts blocks.
 ghost use Rattle.std.specs.Prelude.{◌≡◌, IfOk, take};
 ghost use Rattle.kfs_image_tier.specs.Unused.{unused_places};
 ghost use Rattle.kfs_image_fill.specs.Places.{CanBeChosen};
@@ -6,7 +6,8 @@ ghost use Rattle.kfs_image_fill.specs.Places.{CanBeChosen};
 use kfs_image::Image;
 use std::alloc::{AllocError, Allocator};
 
-/// The least free places of tier 0, so many, or all of them where there are fewer.
+/// The `count` least free places of tier 0, or all of them where there are fewer. `Err` where memory is
+/// refused.
 pub fn free_places<A: Allocator>(
     alloc: A,
     image: &Image<A>,

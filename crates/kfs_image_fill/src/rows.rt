@@ -1,4 +1,4 @@
-//! The blocks that a landing writes.
+//! The blocks that a landing writes, with their places and bytes.
 ghost use Rattle.std.specs.Prelude.{◌≡◌, IfOk, length};
 ghost use Rattle.kfs_model.specs.Plan.{PiecesAscend};
 ghost use Rattle.kfs_model_device.specs.ShownTree.{shown_tree};
@@ -12,8 +12,9 @@ use kfs_entry_value::BLOCK_SIZE;
 use kfs_image::{BlockRow, Image, Place};
 use std::alloc::{AllocError, Allocator};
 
-/// The rows of these blocks, each with its place of tier 0 and its bytes after the log. Pieces and blocks ascend, so
-/// pieces that end before a block aren't looked at again, nor for a block those that begin behind it.
+/// A row for each of these blocks, with its place on tier 0 and its bytes after the log. Pieces and
+/// blocks ascend, so pieces that end before a block are skipped for good. `Err` where memory is
+/// refused.
 pub fn block_rows<A: Allocator + Copy>(
     alloc: A,
     image: &Image<A>,

@@ -1,9 +1,9 @@
-//! A change that a caller lends, to be made together with those of the rows.
+//! A change that a caller lends, to be made together with a change of the tables.
 
 use kfs_map_pages::Change;
 use std::alloc::AllocError;
 
-/// A change behind a reference.
+/// A change, by reference.
 #[derive(Drop)]
 pub(crate) struct Borrowed<'a, T> {
     pub(crate) change: &'a mut T,

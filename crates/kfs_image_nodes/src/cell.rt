@@ -2,29 +2,29 @@
 
 use kfs_entry_value::{Header, Name};
 
-/// One thing that a shape shows.
+/// A cell: one thing that a shape shows. Numbers are any of 32 bits; those that are no node's have
+/// answers too.
 #[derive(Clone, Debug, PartialEq, Eq, Hash, Drop)]
 pub enum Cell {
-    /// The header of a node.
+    /// The header of the node with this number.
     Header(u32),
-    /// Where a name of a directory leads.
+    /// Where the name of a directory leads: the directory's number, and the name.
     Name(u32, Name),
-    /// How many names a directory has.
+    /// How many names the directory with this number has.
     Count(u32),
-    /// The directory that a directory stands in.
+    /// The directory in which the directory with this number has its name.
     Parent(u32),
 }
 
-/// What a shape shows at a cell of the same case.
+/// The answer to a cell of the same case.
 #[derive(Clone, Copy, Debug, PartialEq, Eq)]
 pub enum Answer {
-    /// The header, or none where the number is no node's.
+    /// The header, or none where no node has the number.
     Header(Option<Header>),
     /// The number that the name leads to, or none where the directory has no such name.
     Name(Option<u32>),
-    /// The number of names, 0 where the number is no directory's.
+    /// How many names; 0 where the number isn't a directory's.
     Count(u64),
-    /// The directory that has the name of this directory; none for the root and for all that is no
-    /// directory.
+    /// The directory's parent; none for the root, and where the number isn't a directory's.
     Parent(Option<u32>),
 }

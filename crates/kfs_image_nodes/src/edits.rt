@@ -1,4 +1,4 @@
-//! The edits of headers that node rows make.
+//! The changes of headers that node rows make.
 ghost use Rattle.std.specs.Prelude.{◌≡◌, ℕ, Option, IfOk};
 ghost use Rattle.std.specs.Ordering.{nat_cmp};
 ghost use Rattle.std.specs.BTreeMap.{get};
@@ -12,8 +12,8 @@ use kfs_map_chunks::Overlay;
 use kfs_map_pages::NumberEdit;
 use std::alloc::{AllocError, Allocator};
 
-/// What the rows, one after the other, make of the headers, ascending. NodeTables of numbers that no node
-/// can have are left out. `Err` where memory is refused.
+/// The new headers that the rows make, row after row, ascending by number. Rows with numbers that no
+/// node can have are left out. `Err` where memory is refused.
 pub fn header_edits<A: Allocator + Clone>(
     alloc: &A,
     nodes: &[NodeRow],
@@ -25,7 +25,7 @@ pub fn header_edits<A: Allocator + Clone>(
     number_edits(alloc, &latest)
 }
 
-/// What was said last of each number.
+/// The last row of each number.
 fn latest_rows<A: Allocator + Clone>(
     alloc: &A,
     nodes: &[NodeRow],

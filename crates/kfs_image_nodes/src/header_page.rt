@@ -7,10 +7,10 @@ use kfs_entry_value::Header;
 use kfs_map_pages::Page;
 use std::alloc::Allocator;
 
-/// What a page of nodes shows of each of its 64 numbers.
+/// What a page of nodes shows of its 64 numbers.
 pub trait HeaderPage {
-    /// The header of the node with this number, or none where no node has it or it belongs to another
-    /// page. Takes no memory.
+    /// The header of the node with this number; none where there is no such node, or where the number
+    /// isn't in this page. Takes no memory.
     fn header(&self, number: u32) -> Option<Header>;
 }
 

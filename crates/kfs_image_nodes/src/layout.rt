@@ -17,7 +17,8 @@ use kfs_map_pages::{Change, Page};
 use std::alloc::{AllocError, Allocator};
 use std::marker::Model;
 
-/// The nodes and the names of an image without its bytes.
+/// The nodes and names of an image, without any bytes of files. A copy shares the tables, and keeps
+/// showing what it showed when it was made.
 #[derive(Drop)]
 pub struct Shape<A: Allocator> {
     rows: NodeTables<A>,
@@ -44,7 +45,7 @@ impl<A: Allocator + Clone> Clone for Shape<A> {
     }
 }
 
-/// What the shape shows at a cell. Takes no memory.
+/// The answer of the shape at a cell. Takes no memory.
 pub fn look<A: Allocator>(shape: &Shape<A>, cell: &Cell) -> Answer
     ensures { IsAnswer shape.now cell.now result }
 {
@@ -63,16 +64,17 @@ impl<A: Allocator> Shape<A> {
         self.rows.header(number)
     }
 
-    /// Where a name of a directory leads: what `look` answers of it, without a copy of the name.
+    /// Where a name of a directory leads: what `look` answers, but without a copy of the name. Takes no
+    /// memory.
     pub fn target(&self, key: &(u32, Name)) -> Option<u32>
         ensures { result ≡ target self.now.names key.now.0 key.now.1 }
     {
         self.rows.target(key)
     }
 
-    /// The page of this index, or none where none of its 64 numbers is a node. The number n belongs to
-    /// the page (n - 1) / 64. A page has the headers of the nodes that belong to it, and no others; it is
-    /// the same for all that share it. Takes no memory.
+    /// The page with this index, or none where none of its 64 numbers is a node. Number n, from 1 on,
+    /// is in page (n - 1) / 64. A page has the headers of its nodes, and all that share it see the
+    /// same. Takes no memory.
     pub fn page(&self, index: u32) -> Option<&Page<Header, A>>
         ensures index { IfSome result (λ page. page.now.index ≡ index) }
         ensures headers { IfSome result (λ page. (n : ℕ) → option_map header_of (get page.now.values n) ≡ get (part index self.now.heads) n) }
@@ -97,7 +99,7 @@ impl<A: Allocator> Shape<A> {
         self.rows.holder(number)
     }
 
-    /// The least number above `after` that a node has, or none where no node has one. Takes no memory.
+    /// The least number above `after` that is a node's, or none. Takes no memory.
     pub fn next_node(&self, after: u32) -> Option<u32>
         ensures found { IfSome result (IsNextNode self.now.heads after) }
         ensures none { IfNone result ((m : ℕ) → after < m → get self.now.heads m ≡ None) }
@@ -106,7 +108,7 @@ impl<A: Allocator> Shape<A> {
     }
 
     /// The least name of the directory above `after`, or of all its names where `after` is none, and
-    /// the number that it leads to. Takes no memory.
+    /// the number that it leads to. None where there is no such name. Takes no memory.
     pub fn next_name(&self, dir: u32, after: Option<&Name>) -> Option<(&Name, u32)>
         ensures found { IfSome result (λ p. IsNext self.now.names dir after.entry p.0.now p.1) }
         ensures none { IfNone result ((m : List ℕ) (n : ℕ) → target self.now.names dir m ≡ Some n → IsAfter after.entry m → ⊥) }
@@ -116,7 +118,7 @@ impl<A: Allocator> Shape<A> {
 }
 
 impl<A: Allocator + Clone> Shape<A> {
-    /// The root directory alone, of mode 0o777, uid 0 and gid 0. `Err` where memory is refused.
+    /// The root directory alone, with mode 0o777, uid 0 and gid 0. `Err` where memory is refused.
     pub fn with_root(alloc: A) -> Result<Shape<A>, AllocError>
         ensures { IfOk result (λ shape. shape ≡ root_alone) }
     {
@@ -132,9 +134,9 @@ impl<A: Allocator + Clone> Shape<A> {
         Ok(Shape { rows })
     }
 
-    /// Makes the changes of a net, together with another change. Every copy and growth comes first:
-    /// where one is refused, neither is made, and the shape shows what it showed. Pages and chunks that
-    /// a copy of the shape shares are copied where they change, and the others stay shared.
+    /// Makes the rows' changes, together with another change. All memory is taken first. `Err` where it
+    /// is refused: then neither change is made, and the shape shows what it showed. Pages and chunks
+    /// that copies share are copied where they change.
     pub fn apply<T: Change>(
         &mut self,
         alloc: &A,

@@ -1,4 +1,7 @@
-//! The nodes and names of an image, as views share them.
+//! The nodes and names of an image, in tables that views share.
+//!
+//! It stands on `kfs_map_pages` and `kfs_map_chunks`; the image, the leases and the judge stand on it.
+//! Begin with `layout.rt` (`Shape`) and `cell.rt` (what can be looked up).
 #![tactic(auto)]
 
 mod borrowed;

@@ -1,4 +1,5 @@
-//! The edits of the names, of the counts beside them and of the ways up that name rows make.
+//! The changes that name rows make to the names, to the counts of directories' names, and to the
+//! uplinks.
 ghost use Rattle.std.specs.Prelude.{◌≡◌, ℕ, ◌+◌, ◌<◌, [], OnOk, IfOk, Option, Some, unwrap_or};
 ghost use Rattle.kfs_model.specs.Table.{get, changed};
 ghost use Rattle.kfs_model.specs.Tree.{name_order};
@@ -18,8 +19,8 @@ use kfs_map_chunks::{Chunks, Overlay, key_edits};
 use kfs_map_pages::Pages;
 use std::alloc::{AllocError, Allocator};
 
-/// What name rows make of the names, of the counts of each directory's names, and of the counts of the
-/// ways up. The edits of each ascend.
+/// New names, new counts of each directory's names, and new counts of uplinks: how many names of a
+/// directory lead to a node. Each list ascends.
 #[derive(Drop)]
 pub(crate) struct NameEdits<A: Allocator> {
     pub(crate) names: Vec<kfs_map_chunks::KeyEdit<(u32, Name), u32>, A>,
@@ -27,8 +28,8 @@ pub(crate) struct NameEdits<A: Allocator> {
     pub(crate) uplinks: Vec<kfs_map_chunks::KeyEdit<(u32, u32), u64>, A>,
 }
 
-/// The edits that the rows, one after the other, make. The maps stay as they are. Counts of directories
-/// whose numbers pages don't have are left out.
+/// The changes that the rows make, row after row. The maps themselves stay as they are. Counts for
+/// numbers that no node can have are left out.
 pub(crate) fn name_edits<A: Allocator + Clone>(
     alloc: &A,
     names: &Chunks<(u32, Name), u32, A>,
@@ -52,7 +53,7 @@ pub(crate) fn name_edits<A: Allocator + Clone>(
     Ok(edits)
 }
 
-/// What was said of the names and of the counts beside them.
+/// New values of names, counts and uplinks, laid over the maps.
 #[derive(Drop)]
 struct Overlays<A: Allocator> {
     names: Overlay<(u32, Name), u32, A>,
@@ -73,28 +74,28 @@ impl<A: Allocator + Clone> Overlays<A> {
         })
     }
 
-    /// Where a name leads.
+    /// The number that a name leads to, or none.
     fn target(&self, names: &Chunks<(u32, Name), u32, A>, key: &(u32, Name)) -> Option<u32>
         ensures { result ≡ get (names_seen self.now names.now) key.now }
     {
         self.names.get_or(key, names.get(key).copied())
     }
 
-    /// How many names a directory has, where none is 0.
+    /// How many names a directory has; none stands for 0.
     fn name_count(&self, counts: &Pages<u64, A>, dir: u32) -> Option<u64>
         ensures { result ≡ get (counts_seen self.now counts.now) dir }
     {
         self.counts.get_or(&dir, counts.get(dir).copied())
     }
 
-    /// How often a way up is counted, where none is 0.
+    /// How many names of a directory lead to a node; none stands for 0.
     fn way_count(&self, uplinks: &Chunks<(u32, u32), u64, A>, way: &(u32, u32)) -> Option<u64>
         ensures { result ≡ get (ways_seen self.now uplinks.now) way.now }
     {
         self.uplinks.get_or(way, uplinks.get(way).copied())
     }
 
-    /// Says where the row's name leads now, and moves the counts with it.
+    /// Sets where the row's name leads, and changes the counts with it.
     fn rename(
         &mut self,
         names: &Chunks<(u32, Name), u32, A>,
@@ -116,7 +117,7 @@ impl<A: Allocator + Clone> Overlays<A> {
         Ok(())
     }
 
-    /// Counts a name of the directory less, where it led to a node.
+    /// Counts one name of the directory fewer, if the name led to a node.
     fn leave(
         &mut self,
         counts: &Pages<u64, A>,
@@ -141,7 +142,7 @@ impl<A: Allocator + Clone> Overlays<A> {
         Ok(())
     }
 
-    /// Counts a name of the directory more, where it comes to lead to a node.
+    /// Counts one name of the directory more, if the name now leads to a node.
     fn enter(
         &mut self,
         counts: &Pages<u64, A>,
@@ -164,7 +165,7 @@ impl<A: Allocator + Clone> Overlays<A> {
         Ok(())
     }
 
-    /// The edits that say the same.
+    /// The new values as edits of the maps.
     fn edits(&self, alloc: &A) -> Result<NameEdits<A>, AllocError>
         ensures names_ascend { IfOk result (λ edits. KeysAscend name_order.compare edits.names.items) }
         ensures counts_ascend { IfOk result (λ edits. AreEdits edits.counts.items) }
@@ -181,7 +182,7 @@ impl<A: Allocator + Clone> Overlays<A> {
     }
 }
 
-/// One less, where 0 is shown as none.
+/// Subtracts one; 0 becomes none.
 fn one_less(count: Option<u64>) -> Option<u64>
     requires { 0 < unwrap_or count 0 }
     ensures less { unwrap_or result 0 + 1 ≡ unwrap_or count 0 }
@@ -191,8 +192,8 @@ fn one_less(count: Option<u64>) -> Option<u64>
     if less == 0 { None } else { Some(less) }
 }
 
-/// One more, where none stands for 0. A count that doesn't fit is refused as memory is: 2^64 names have
-/// no room in it.
+/// Adds one; none stands for 0. A count over 64 bits can't occur, since memory doesn't hold so many
+/// names; it would be answered as `Err`.
 fn one_more(count: Option<u64>) -> Result<Option<u64>, AllocError>
     ensures more { IfOk result (λ more. unwrap_or more 0 ≡ unwrap_or count 0 + 1) }
     ensures positive { IfOk result (λ more. (n : ℕ) → more ≡ Some n → 0 < n) }

@@ -1,13 +1,13 @@
-//! What a log makes of names and nodes.
+//! The change that a log makes to names and nodes.
 
 use kfs_entry_value::{NameRow, NodeRow};
 use std::alloc::Allocator;
 
-/// What the names and nodes of a tree are after a log where they differ from before: the number that
-/// each name leads to, or 0 for none, ascending by directory and name, and the header of each
-/// number, or none, ascending.
+/// The net change of a log: the names and nodes that are different after it.
 #[derive(Debug, Drop)]
 pub struct Net<A: Allocator> {
+    /// The names that lead elsewhere, ascending by directory and name; number 0 stands for none.
     pub names: Vec<NameRow, A>,
+    /// The nodes with another header, ascending by number; no header where the node is gone.
     pub nodes: Vec<NodeRow, A>,
 }

@@ -1,4 +1,4 @@
-//! The edits of pages that say what was said last of their numbers.
+//! An overlay of numbers as edits of a map in pages.
 ghost use Rattle.std.specs.Prelude.{◌≡◌, [], OnOk, IfOk};
 ghost use Rattle.std.specs.Ordering.{nat_cmp};
 ghost use Rattle.std.specs.BTreeMap.{IsOrdered};
@@ -12,8 +12,7 @@ use kfs_map_pages::NumberEdit;
 use std::alloc::{AllocError, Allocator};
 use std::collections::BTreeMap;
 
-/// The edits of pages that say the same, ascending. What was said of numbers that pages don't have is
-/// left out.
+/// The overlay as edits, ascending by number. Numbers that pages don't have are left out.
 pub(crate) fn number_edits<V: Copy, A: Allocator + Clone>(
     alloc: &A,
     overlay: &Overlay<u32, V, A>,

@@ -1,4 +1,4 @@
-//! The maps that hold the nodes and names of a shape, and the counts beside them.
+//! The maps that hold the nodes and names of a shape, with counts of the names.
 ghost use Rattle.std.specs.Prelude.{◌≡◌, ℕ, ◌≤◌, ◌<◌, true, option_map, IfOk, IfSome, IfNone, OnOk, OnErr, Some, None, List, [], ◌∷◌};
 ghost use Rattle.kfs_entry_value.specs.Views.{header_of};
 ghost use Rattle.kfs_model.specs.Spelling.{IsName};
@@ -23,19 +23,21 @@ use kfs_map_pages::{Change, EditPages, Nothing, NumberEdit, Pages};
 use std::alloc::{AllocError, Allocator};
 use std::ops::Bound;
 
-/// Nodes by number, and names by directory and name, with counts of the names. Copies share the pages
-/// and chunks of all of them.
+/// Nodes by number, names by directory and name, and counts of the names. Copies share pages and chunks
+/// of all four maps.
 pub(crate) struct NodeTables<A: Allocator> {
+    /// The header of each node.
     pub(crate) headers: Pages<Header, A>,
-    /// The number that a name leads to.
+    /// The number that each name leads to, by directory and name.
     names: Chunks<(u32, Name), u32, A>,
-    /// How many names a directory has.
+    /// How many names each directory has.
     counts: Pages<u64, A>,
     /// How many names of a directory lead to a node, by the node's number and then the directory's.
     uplinks: Chunks<(u32, u32), u64, A>,
 }
 
-// Written out, so that the drop of the maps is proved once and not in each crate that drops a shape.
+// Written out, so that the drop of the maps is proved here once and not again in each crate that drops
+// a shape.
 impl<A: Allocator> Drop for NodeTables<A> {
     fn drop(self) {
         let NodeTables {
@@ -93,7 +95,7 @@ impl<A: Allocator> NodeTables<A> {
         if key.0 == number { Some(key.1) } else { None }
     }
 
-    /// The least number above `after` that a node has.
+    /// The least number above `after` that is a node's, or none.
     pub(crate) fn next_node(&self, after: u32) -> Option<u32>
         ensures found { IfSome result (IsNextNode (heads_in self.now) after) }
         ensures none { IfNone result ((m : ℕ) → after < m → get (heads_in self.now) m ≡ None) }
@@ -102,7 +104,8 @@ impl<A: Allocator> NodeTables<A> {
         Some(number)
     }
 
-    /// The least name of the directory above `after`, or of all its names, and where it leads.
+    /// The least name of the directory above `after`, or of all its names where `after` is none, and
+    /// where it leads.
     pub(crate) fn next_name(&self, dir: u32, after: Option<&Name>) -> Option<(&Name, u32)>
         requires { CountsAreExact self.now }
         ensures found { IfSome result (λ p. IsNext (names_in self.now) dir after.entry p.0.now p.1) }
@@ -118,7 +121,7 @@ impl<A: Allocator> NodeTables<A> {
     }
 }
 
-/// Where the names of a directory begin that come after a name, or all of them.
+/// The bound at which the directory's names behind `after`, or all of them, begin.
 fn start_after(dir: u32, after: Option<&Name>) -> Bound<(u32, Name)>
     ensures within { (m : List ℕ) → IsName m → IsAfter after.entry m → is_from name_order.compare result (dir, m) ≡ true }
     ensures later { (m : List ℕ) → is_from name_order.compare result (dir, m) ≡ true → IsAfter after.entry m }
@@ -130,14 +133,14 @@ fn start_after(dir: u32, after: Option<&Name>) -> Bound<(u32, Name)>
     }
 }
 
-/// The name that is least in the order of names.
+/// The least of all names.
 fn least_name() -> Name
     ensures { result ≡ 1 ∷ [] }
 {
     Name::new(&[1]).unwrap()
 }
 
-/// The key of a name.
+/// The key under which a name is kept.
 pub(crate) fn name_key(dir: u32, name: &Name) -> (u32, Name)
     ensures key { result ≡ (dir, name.now) }
     ensures name { IsName result.1 }
@@ -146,7 +149,7 @@ pub(crate) fn name_key(dir: u32, name: &Name) -> (u32, Name)
     (dir, name.clone().unwrap())
 }
 
-/// The number of a row, where 0 stands for none.
+/// The number in a row; 0 stands for none.
 pub(crate) fn target_of(row: &NameRow) -> Option<u32>
     ensures { result ≡ led_to row.now.number }
 {
@@ -158,7 +161,7 @@ pub(crate) fn target_of(row: &NameRow) -> Option<u32>
 }
 
 impl<A: Allocator + Clone> NodeTables<A> {
-    /// One node, and no name.
+    /// The tables with one node and no name.
     pub(crate) fn with_node(
         alloc: A,
         number: u32,
@@ -183,8 +186,8 @@ impl<A: Allocator + Clone> NodeTables<A> {
         })
     }
 
-    /// Makes the edits of all four maps and a further change, or none of them. Every copy and growth
-    /// comes before the first edit.
+    /// Makes the edits of all four maps and another change, or none of these. All memory is taken
+    /// before the first edit.
     fn change<T: Change>(
         &mut self,
         headers: &[NumberEdit<Header>],
@@ -220,8 +223,8 @@ impl<A: Allocator + Clone> NodeTables<A> {
         self.headers.change_then(headers, &mut all)
     }
 
-    /// Makes the changes of the rows, together with another change. Every copy and growth comes first:
-    /// where one is refused, neither is made, and the rows stay as they are.
+    /// Makes the rows' changes, together with another change. All memory is taken first; where it is
+    /// refused, neither change is made, and the tables stay as they are.
     pub(crate) fn apply<T: Change>(
         &mut self,
         alloc: &A,

@@ -1,4 +1,4 @@
-//! A bit for each place, in words of 64 places each.
+//! One bit for each place, 64 places to a word.
 ghost use Rattle.std.specs.Prelude.{◌≡◌, ℕ, ◌+◌, ◌*◌, ◌<◌, ◌≤◌, ◌^◌, ◌==◌, true, false, length, IfSome, IfNone, if◌then◌else◌};
 ghost use Rattle.kfs_image_tier.specs.Words.{is_marked, IsNextClear};
 
@@ -32,7 +32,7 @@ pub(crate) fn next_clear(words: &[u64], from: u32) -> Option<usize>
     ensures found { IfSome result (λ place. IsNextClear words.now from place) }
     ensures none { IfNone result ((q : ℕ) → from ≤ q → q < 64 * length words.now → is_marked words.now q ≡ true) }
 {
-    // The bits below the place in its word count as set.
+    // Bits below the place, in its own word, count as set.
     let mut passed = (1 << (from % 64)) - 1;
     for (index, word) in words.iter().enumerate().skip(from as usize / 64) {
         let word = word | passed;

@@ -1,4 +1,4 @@
-//! The bytes of the blocks of a tier. A block that was never written takes no memory.
+//! The bytes of a tier's blocks. A block that was never written takes no memory.
 ghost use Rattle.std.specs.Prelude.{◌≡◌, ◌+◌, ◌≤◌, length, slice_index, vec_len, Some, None, IsSome, IfSome, OnOk, OnErr, EachIndex};
 ghost use Rattle.std.specs.Ordering.{nat_cmp};
 ghost use Rattle.std.specs.BTreeMap.{get};
@@ -13,8 +13,8 @@ use std::alloc::{AllocError, Allocator};
 use std::collections::BTreeMap;
 use std::marker::Model;
 
-/// The blocks of a tier, each of 4,096 bytes once it was written. Contracts see their table by place,
-/// in which a block that has room and was never written stands without bytes.
+/// The blocks of a tier, by place. A block that was written has 4,096 bytes. A block that has room but
+/// was never written is listed without bytes, in contracts too.
 #[derive(Drop)]
 pub struct TierBlocks<A: Allocator> {
     slots: BTreeMap<u32, Option<RowList<u8, A>>, A>,
@@ -32,7 +32,7 @@ impl<A: Allocator> Model for TierBlocks<A> {
 }
 
 impl<A: Allocator> TierBlocks<A> {
-    /// No block was written, and none has room. Takes no memory.
+    /// No block was written, none has room. Takes no memory.
     pub fn new(alloc: A) -> TierBlocks<A>
         ensures { result ≡ empty }
     {
@@ -41,7 +41,7 @@ impl<A: Allocator> TierBlocks<A> {
         }
     }
 
-    /// The bytes of a block that was written. Takes no memory.
+    /// The bytes of a block, if it was written. Takes no memory.
     #[tactic(auto, using(crate::proofs::BlockTables::shown))]
     pub fn block(&self, place: u32) -> Option<&[u8]>
         ensures bytes { option_copied result ≡ block_at self.now place }
@@ -50,8 +50,8 @@ impl<A: Allocator> TierBlocks<A> {
         Some(written(&self.slots, place)?.as_slice())
     }
 
-    /// Fills the buffer with the bytes of a block from the offset on, which are zero where the block
-    /// was never written. The buffer ends within the block. Takes no memory.
+    /// Fills the buffer with the block's bytes from `offset` on; they are zero where the block was
+    /// never written. Condition: the buffer doesn't go past the block. Takes no memory.
     pub fn read(&self, place: u32, offset: usize, buffer: &mut [u8])
         requires { offset + length buffer.old ≤ block_size }
         ensures { EachIndex buffer.new (λ k. slice_index buffer.new k ≡ byte_at self.now place (offset + k)) }
@@ -62,8 +62,8 @@ impl<A: Allocator> TierBlocks<A> {
         }
     }
 
-    /// Makes room for the bytes of a block where there is none. The blocks stay as they are. `Err`
-    /// where memory is refused leaves all as it is.
+    /// Makes room for a block's bytes, if it has none. The blocks stay as they are. `Err` where memory
+    /// is refused; all is as before then.
     pub fn reserve(&mut self, place: u32) -> Result<(), AllocError>
     where
         A: Clone,
@@ -74,8 +74,7 @@ impl<A: Allocator> TierBlocks<A> {
         make_slot(&mut self.slots, place)
     }
 
-    /// Gives up the room of a block that was never written. The blocks stay as they are. Takes no
-    /// memory.
+    /// Gives up a block's room, if it was never written. The blocks stay as they are. Takes no memory.
     pub fn release(&mut self, place: u32)
         ensures table { self.new ≡ without_room self.old place }
         ensures blocks { KeepsBlocks self.old self.new }
@@ -83,7 +82,7 @@ impl<A: Allocator> TierBlocks<A> {
         remove_empty(&mut self.slots, place);
     }
 
-    /// Writes a block that has room: 4,096 bytes in place of what was there. Takes no memory.
+    /// Writes 4,096 bytes into a block that has room. Takes no memory.
     pub fn put(&mut self, place: u32, bytes: Vec<u8, A>)
         requires room { HasRoomForBlock self.old place }
         requires whole { vec_len bytes ≡ block_size }
@@ -92,7 +91,7 @@ impl<A: Allocator> TierBlocks<A> {
         set_slot(&mut self.slots, place, RowList::from_vec(bytes));
     }
 
-    /// Gives up the bytes of a block, and its room. Takes no memory.
+    /// Removes a block's bytes and its room. Takes no memory.
     pub fn forget(&mut self, place: u32)
         ensures { self.new ≡ remove self.old place }
     {
@@ -100,7 +99,7 @@ impl<A: Allocator> TierBlocks<A> {
     }
 }
 
-/// The bytes in the place's slot.
+/// The bytes in the place's slot, if any.
 fn written<A: Allocator>(
     slots: &BTreeMap<u32, Option<RowList<u8, A>>, A>,
     place: u32,
@@ -110,7 +109,7 @@ fn written<A: Allocator>(
     slots.get(&place)?.as_ref()
 }
 
-/// Makes a slot for the place where there is none.
+/// Makes a slot for the place, if it has none.
 fn make_slot<A: Allocator + Clone>(
     slots: &mut BTreeMap<u32, Option<RowList<u8, A>>, A>,
     place: u32,
@@ -125,7 +124,7 @@ fn make_slot<A: Allocator + Clone>(
     Ok(())
 }
 
-/// Takes the place's slot out where it has no bytes.
+/// Removes the place's slot, if it has no bytes.
 fn remove_empty<A: Allocator>(slots: &mut BTreeMap<u32, Option<RowList<u8, A>>, A>, place: u32)
     ensures empty { held_at slots.old place ≡ None → SetsSlot slots.old slots.new place None }
     ensures full { IfSome (held_at slots.old place) (λ _. slots.new.entries ≡ slots.old.entries) }
@@ -135,14 +134,14 @@ fn remove_empty<A: Allocator>(slots: &mut BTreeMap<u32, Option<RowList<u8, A>>, 
     }
 }
 
-/// Takes the place's slot out.
+/// Removes the place's slot.
 fn remove_slot<A: Allocator>(slots: &mut BTreeMap<u32, Option<RowList<u8, A>>, A>, place: u32)
     ensures { SetsSlot slots.old slots.new place None }
 {
     let _ = slots.remove(&place);
 }
 
-/// Sets the bytes in the place's slot. There is one.
+/// Sets the bytes in the place's slot. Condition: there is a slot.
 fn set_slot<A: Allocator>(
     slots: &mut BTreeMap<u32, Option<RowList<u8, A>>, A>,
     place: u32,

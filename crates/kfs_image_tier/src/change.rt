@@ -1,4 +1,4 @@
-//! Several places and blocks of the tiers, changed one after another.
+//! A change of several places and blocks of the tiers.
 ghost use Rattle.std.specs.Prelude.{◌≡◌, All, true, false, not, OnOk, OnErr, vec_len};
 ghost use Rattle.kfs_model.specs.Limits.{block_size};
 ghost use Rattle.kfs_model.specs.Placement.{Place as ModelPlace};
@@ -10,7 +10,7 @@ use crate::place::Place;
 use crate::tier::Tier;
 use std::alloc::{AllocError, Allocator};
 
-/// A block to be written: where it lies, and its 4,096 bytes.
+/// A block to be written: its place, and its 4,096 bytes.
 #[derive(Debug, Drop)]
 pub struct NewBlock<A: Allocator> {
     pub place: Place,
@@ -32,7 +32,7 @@ fn turn<A: Allocator>(tiers: &mut [Tier<A>], place: Place, free: bool)
     }
 }
 
-/// Makes used places free, or free ones used. Takes no memory.
+/// The same for several places. Takes no memory.
 pub(crate) fn turn_all<A: Allocator>(tiers: &mut [Tier<A>], places: &[Place], free: bool)
     requires { CanTurnPlaces free places.now (free_of tiers.old) }
     ensures free { free_of tiers.new ≡ with_places free places.now (free_of tiers.old) }
@@ -54,7 +54,7 @@ fn reserve<A: Allocator + Clone>(tiers: &mut [Tier<A>], place: Place) -> Result<
     tiers[place.tier as usize].reserve(place.place)
 }
 
-/// Makes room for each of the blocks.
+/// Makes room for each block.
 fn reserve_all<A: Allocator + Clone>(
     tiers: &mut [Tier<A>],
     blocks: &[NewBlock<A>],
@@ -70,7 +70,7 @@ fn reserve_all<A: Allocator + Clone>(
     Ok(())
 }
 
-/// Gives up the room of a block that was never written.
+/// Gives up a block's room, if it was never written.
 fn release<A: Allocator>(tiers: &mut [Tier<A>], place: Place)
     requires { IsInTier (free_of tiers.old) place }
     ensures free { free_of tiers.new ≡ free_of tiers.old }
@@ -79,7 +79,7 @@ fn release<A: Allocator>(tiers: &mut [Tier<A>], place: Place)
     tiers[place.tier as usize].release(place.place);
 }
 
-/// Gives up the room of each of the blocks that was never written.
+/// Gives up the room of each block that was never written.
 fn release_all<A: Allocator>(tiers: &mut [Tier<A>], blocks: &[NewBlock<A>])
     requires { All (λ b. IsInTier (free_of tiers.old) b.place) blocks.now }
     ensures free { free_of tiers.new ≡ free_of tiers.old }
@@ -103,7 +103,7 @@ fn write<A: Allocator>(tiers: &mut [Tier<A>], block: NewBlock<A>)
     tiers[place.tier as usize].write(place.place, bytes);
 }
 
-/// Writes blocks that have room, one after another.
+/// Writes blocks that have room.
 fn write_all<A: Allocator>(tiers: &mut [Tier<A>], blocks: Vec<NewBlock<A>, A>)
     requires in_tier { All (λ b. IsInTier (free_of tiers.old) b.place) blocks.items }
     requires room { All (λ b. HasRoomAt tiers.old b.place) blocks.items }
@@ -116,8 +116,8 @@ fn write_all<A: Allocator>(tiers: &mut [Tier<A>], blocks: Vec<NewBlock<A>, A>)
     }
 }
 
-/// Writes the blocks, makes the places free that are given back, and uses those that are taken. All
-/// room is made before the first change.
+/// Writes the blocks, makes the places in `given` free, and those in `taken` used. All room is made
+/// before the first change.
 pub(crate) fn change_all<A: Allocator + Clone>(
     tiers: &mut [Tier<A>],
     given: &[Place],

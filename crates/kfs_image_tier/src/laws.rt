@@ -1,4 +1,4 @@
-//! Laws of the definitions: each is the contract of a function without a body.
+//! A law of the definitions. It is the contract of a function that has nothing to do when it is called.
 
 ghost use Rattle.std.specs.Prelude.{List};
 ghost use Rattle.kfs_model.specs.Placement.{Place, Placement};
@@ -6,9 +6,8 @@ ghost use Rattle.kfs_model_device.specs.Device.{Devices};
 ghost use Rattle.kfs_image_tier.specs.Tiers.{TiersShown};
 ghost use Rattle.kfs_image_tier.specs.Unused.{CountsUnused, FindsUnused, MissesNone, CanFollow, KeepsUnused};
 
-/// Where free are the places in which no block lies, their count and the next of them are those that the
-/// placement says. The places that blocks leave can be given back, and those that they enter taken, and
-/// then it is so again.
+/// If a place is marked free exactly when no block lies there, then the free count and the next free
+/// place are right too. Marks can follow blocks that move, and stay right then.
 pub fn free_places_are_the_unused()
     ensures counted { (placement : Placement) (tiers : TiersShown) → CountsUnused placement tiers }
     ensures found { (placement : Placement) (tiers : TiersShown) → FindsUnused placement tiers }

@@ -1,11 +1,14 @@
-//! A block of a tier's device.
+//! A place: a block of a tier's device.
 
 use std::marker::Model;
 
-/// A tier, 0 to 2 where there is such a block, and the block's place on its device, counted from 0.
+/// A tier and a block of its device. Such a block exists where `tier` is 0 to 2 and `place` is below
+/// the tier's size.
 #[derive(Clone, Copy, Debug, PartialEq, Eq)]
 pub struct Place {
+    /// 0 to 2 for a tier that exists.
     pub tier: u8,
+    /// The number of the block on the device, from 0.
     pub place: u32,
 }
 

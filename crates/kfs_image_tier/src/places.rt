@@ -1,4 +1,4 @@
-//! Which places of a tier are used and which are free.
+//! Which places of a tier are free.
 ghost use Rattle.std.specs.Prelude.{◌≡◌, ◌<◌, true, false, IsTrue, IfSome, IfNone, IfOk, length, replicate, slice_set};
 ghost use Rattle.kfs_image_tier.specs.Places.{is_free_in, free_count, IsNextFree, AreUsedFrom};
 
@@ -27,7 +27,7 @@ impl<A: Allocator> Model for Places<A> {
 }
 
 impl<A: Allocator> Places<A> {
-    /// So many places, all free. Takes a bit of memory for each; `Err` where it is refused.
+    /// `size` places, all free. Takes one bit of memory for each; `Err` where memory is refused.
     pub fn new(alloc: A, size: u32) -> Result<Places<A>, AllocError>
         ensures { IfOk result (λ places. places ≡ replicate size true) }
     {
@@ -54,7 +54,7 @@ impl<A: Allocator> Places<A> {
         self.free
     }
 
-    /// Whether the place is one of these and free. Takes no memory.
+    /// Whether the place is below the tier's size and free. Takes no memory.
     #[tactic(auto, using(crate::proofs::PlaceLists::shown))]
     pub fn is_free(&self, place: u32) -> bool
         ensures { result ≡ is_free_in self.now place }
@@ -62,7 +62,7 @@ impl<A: Allocator> Places<A> {
         place < self.size && !bits::is_marked(self.used.as_slice(), place)
     }
 
-    /// The least free place that isn't below `from`. Takes no memory.
+    /// The least free place from `from` on, or none. Takes no memory.
     pub fn next_free(&self, from: u32) -> Option<u32>
         ensures found { IfSome result (λ place. IsNextFree self.now from place) }
         ensures none { IfNone result (AreUsedFrom self.now from) }
@@ -76,7 +76,7 @@ impl<A: Allocator> Places<A> {
         }
     }
 
-    /// Makes a free place a used one. Takes no memory.
+    /// Marks a free place as used. Takes no memory.
     pub fn take(&mut self, place: u32)
         requires { IsTrue (is_free_in self.old place) }
         ensures { self.new ≡ slice_set self.old place false }
@@ -85,7 +85,7 @@ impl<A: Allocator> Places<A> {
         self.free -= 1;
     }
 
-    /// Makes a used place a free one. Takes no memory.
+    /// Marks a used place as free. Takes no memory.
     pub fn give_back(&mut self, place: u32)
         requires in_tier { place < length self.old }
         requires used { is_free_in self.old place ≡ false }

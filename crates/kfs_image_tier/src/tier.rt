@@ -1,4 +1,4 @@
-//! A tier: its places, and the blocks that lie there.
+//! A tier: its places and its blocks.
 ghost use Rattle.std.specs.Prelude.{◌≡◌, ◌<◌, true, false, IsTrue, IfOk, OnOk, OnErr, length, replicate, slice_set, vec_len, Some};
 ghost use Rattle.kfs_model.specs.Limits.{block_size};
 ghost use Rattle.kfs_model.specs.Table.{empty, insert, remove};
@@ -11,8 +11,8 @@ use crate::places::Places;
 use std::alloc::{AllocError, Allocator};
 use std::marker::Model;
 
-/// A tier of blocks of 4,096 bytes. Its places are used or free whether or not their blocks were
-/// written.
+/// A tier of blocks of 4,096 bytes. Whether a place is free has nothing to do with whether its block
+/// was written.
 pub struct Tier<A: Allocator> {
     places: Places<A>,
     blocks: TierBlocks<A>,
@@ -28,7 +28,8 @@ impl<A: Allocator> Model for Tier<A> {
     ghost invariant = { λ t. AreInTier (record { places = t.places; blocks = t.blocks }) };
 }
 
-// Written out, so that the drop of both is proved once and not in each crate that drops a tier.
+// Written out, so that the drop of both is proved here once and not again in each crate that drops a
+// tier.
 impl<A: Allocator> Drop for Tier<A> {
     fn drop(self) {
         let Tier { places, blocks } = self;
@@ -38,7 +39,7 @@ impl<A: Allocator> Drop for Tier<A> {
 }
 
 impl<A: Allocator> Tier<A> {
-    /// A tier of so many places, all free and no block written. `Err` where memory is refused.
+    /// A tier of `size` places, all free, with no block written. `Err` where memory is refused.
     pub fn new(alloc: A, size: u32) -> Result<Tier<A>, AllocError>
     where
         A: Clone,
@@ -51,14 +52,14 @@ impl<A: Allocator> Tier<A> {
         })
     }
 
-    /// The places, to be asked which are free. Takes no memory.
+    /// The places, for asking which are free. Takes no memory.
     pub fn places(&self) -> &Places<A>
         ensures { result.now ≡ self.now.places }
     {
         &self.places
     }
 
-    /// The blocks, to be read. Takes no memory.
+    /// The blocks, for reading. Takes no memory.
     pub fn blocks(&self) -> &TierBlocks<A>
         ensures blocks { result.now ≡ self.now.blocks }
         ensures in_tier { AreInTier self.now }
@@ -66,7 +67,7 @@ impl<A: Allocator> Tier<A> {
         &self.blocks
     }
 
-    /// Makes a free place a used one. Takes no memory.
+    /// Marks a free place as used. Takes no memory.
     pub fn take(&mut self, place: u32)
         requires { IsTrue (is_free_in self.old.places place) }
         ensures { self.new ≡ record self.old { places = slice_set self.old.places place false } }
@@ -74,7 +75,7 @@ impl<A: Allocator> Tier<A> {
         self.places.take(place);
     }
 
-    /// Makes a used place a free one. Its block stays as it is. Takes no memory.
+    /// Marks a used place as free. Its block keeps its bytes. Takes no memory.
     pub fn give_back(&mut self, place: u32)
         requires in_tier { place < length self.old.places }
         requires used { is_free_in self.old.places place ≡ false }
@@ -83,8 +84,8 @@ impl<A: Allocator> Tier<A> {
         self.places.give_back(place);
     }
 
-    /// Makes room for the bytes of a block where there is none. The blocks stay as they are. `Err`
-    /// where memory is refused leaves all as it is.
+    /// Makes room for a block's bytes, if it has none. The blocks stay as they are. `Err` where memory
+    /// is refused; all is as before then.
     pub fn reserve(&mut self, place: u32) -> Result<(), AllocError>
     where
         A: Clone,
@@ -96,8 +97,7 @@ impl<A: Allocator> Tier<A> {
         self.blocks.reserve(place)
     }
 
-    /// Gives up the room of a block that was never written. The blocks stay as they are. Takes no
-    /// memory.
+    /// Gives up a block's room, if it was never written. The blocks stay as they are. Takes no memory.
     pub fn release(&mut self, place: u32)
         ensures table { self.new ≡ record self.old { blocks = without_room self.old.blocks place } }
         ensures blocks { KeepsBlocks self.old.blocks self.new.blocks }
@@ -105,7 +105,7 @@ impl<A: Allocator> Tier<A> {
         self.blocks.release(place);
     }
 
-    /// Writes a block that has room: 4,096 bytes in place of what was there. Takes no memory.
+    /// Writes 4,096 bytes into a block that has room. Takes no memory.
     pub fn write(&mut self, place: u32, bytes: Vec<u8, A>)
         requires room { HasRoomForBlock self.old.blocks place }
         requires whole { vec_len bytes ≡ block_size }
@@ -114,7 +114,7 @@ impl<A: Allocator> Tier<A> {
         self.blocks.put(place, bytes);
     }
 
-    /// Gives up the bytes of a block, and its room. Takes no memory.
+    /// Removes a block's bytes and its room. Takes no memory.
     pub fn forget(&mut self, place: u32)
         ensures { self.new ≡ record self.old { blocks = remove self.old.blocks place } }
     {

@@ -13,11 +13,12 @@ use kfs_entry_value::TierSizes;
 use std::alloc::{AllocError, Allocator};
 use std::marker::Model;
 
-/// The places of three tiers, used or free, and the bytes of their blocks. A block that was never
+/// Three tiers: which of their places are free, and the bytes of their blocks. A block that was never
 /// written takes no memory.
 pub struct Tiers<A: Allocator> {
     sizes: TierSizes,
-    // Three of them. With an array each caller would have to show that the whole fits into memory.
+    // Three of them. A vector, since with an array each caller would have to show that the whole fits
+    // in memory.
     tiers: Vec<Tier<A>, A>,
 }
 
@@ -32,7 +33,8 @@ impl<A: Allocator> Model for Tiers<A> {
     ghost invariant = { λ t. TiersAreSized t.sizes (free_of t.tiers.items) };
 }
 
-// Written out, so that the drop of the three is proved once and not in each crate that drops them.
+// Written out, so that the drop of the three is proved here once and not again in each crate that drops
+// them.
 impl<A: Allocator> Drop for Tiers<A> {
     fn drop(self) {
         let Tiers {
@@ -44,8 +46,8 @@ impl<A: Allocator> Drop for Tiers<A> {
 }
 
 impl<A: Allocator> Tiers<A> {
-    /// Tiers of these sizes, all places free and no block written. Takes a bit of memory for each
-    /// place; `Err` where it is refused.
+    /// Tiers of these sizes, all places free, no block written. Takes one bit of memory for each place;
+    /// `Err` where memory is refused.
     pub fn new(alloc: A, sizes: TierSizes) -> Result<Tiers<A>, AllocError>
     where
         A: Clone,
@@ -61,7 +63,7 @@ impl<A: Allocator> Tiers<A> {
         Ok(Tiers { sizes, tiers })
     }
 
-    /// How many places the tier has: none where it is over 2. Takes no memory.
+    /// How many places the tier has, 0 for a tier over 2. Takes no memory.
     pub fn size(&self, tier: u8) -> u32
         ensures size { result ≡ tier_size self.now.sizes tier }
         ensures sized { TiersAreSized self.now.sizes self.now.free }
@@ -69,7 +71,7 @@ impl<A: Allocator> Tiers<A> {
         self.sizes.size(tier)
     }
 
-    /// How many places of the tier are free: none where it is over 2. Takes no memory.
+    /// How many places of the tier are free, 0 for a tier over 2. Takes no memory.
     pub fn free(&self, tier: u8) -> u32
         ensures { result ≡ free_count (places_in self.now.free tier) }
     {
@@ -79,7 +81,7 @@ impl<A: Allocator> Tiers<A> {
         }
     }
 
-    /// The tier's least free place that isn't below `from`. Takes no memory.
+    /// The tier's least free place from `from` on, or none. Takes no memory.
     pub fn next_free(&self, tier: u8, from: u32) -> Option<u32>
         ensures found { IfSome result (λ place. IsNextFree (places_in self.now.free tier) from place) }
         ensures none { IfNone result (AreUsedFrom (places_in self.now.free tier) from) }
@@ -87,7 +89,7 @@ impl<A: Allocator> Tiers<A> {
         self.tiers.get(tier as usize)?.places().next_free(from)
     }
 
-    /// Whether the place is one of its tier's and free. Takes no memory.
+    /// Whether the place exists and is free. Takes no memory.
     pub fn is_free(&self, place: Place) -> bool
         ensures { result ≡ is_free_at self.now.free place }
     {
@@ -97,8 +99,8 @@ impl<A: Allocator> Tiers<A> {
         }
     }
 
-    /// Fills the buffer with the bytes of a block from the offset on, which are zero where the block
-    /// was never written. The buffer ends within the block. Takes no memory.
+    /// Fills the buffer with the block's bytes from `offset` on; they are zero where the block was
+    /// never written. Condition: the buffer doesn't go past the block. Takes no memory.
     pub fn read(&self, place: Place, offset: usize, buffer: &mut [u8])
         requires { offset + length buffer.old ≤ block_size }
         ensures { EachIndex buffer.new (λ k. slice_index buffer.new k ≡ byte_on self.now.devices place (offset + k)) }
@@ -109,9 +111,9 @@ impl<A: Allocator> Tiers<A> {
         }
     }
 
-    /// Gives places back, takes others, and writes blocks, which each may lie at any place of a tier.
-    /// A block keeps its bytes when its place is given back or taken. `Err` where memory is refused
-    /// leaves all as it is.
+    /// Makes the places in `given` free and those in `taken` used, and writes blocks, at any places of
+    /// the tiers. A block keeps its bytes when its place is marked. `Err` where memory is refused; all
+    /// is as before then.
     pub fn change(
         &mut self,
         given: &[Place],

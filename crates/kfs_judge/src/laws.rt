@@ -1,4 +1,5 @@
-//! What the judgement of a log rests on: laws of the definitions, each the contract of a function without a body.
+//! Laws that the judgement of a log rests on. Each is the contract of a function that has nothing to do
+//! when it is called.
 
 ghost use Rattle.std.specs.Prelude.{◌≡◌};
 ghost use Rattle.kfs_model.specs.MarkedRuns.{HaveSameNewMarks, MarksEnd};
@@ -6,20 +7,21 @@ ghost use Rattle.kfs_model.specs.Laws.{CellsDecide, CleanIsAllowed, EachTwoTrees
 ghost use Rattle.kfs_model.specs.Looked.{TreesEndInAgreement};
 ghost use Rattle.kfs_model.specs.Placement.{need};
 
-/// An entry of which no check fails is allowed to its client, by mode bits and leases, whichever of the seven it is.
+/// An entry without a failed check is allowed to its client by mode bits and leases. This holds for all
+/// seven kinds of entry.
 pub fn clean_is_allowed()
     ensures { CleanIsAllowed }
 {}
 
-/// The bytes that a run gives are the marks that it gives, looked up in the tree before and in the payloads; and both stop
-/// at the same entry for the same reason.
+/// A run over bytes and a run over marks agree. They stop at the same entry for the same reason, or
+/// each mark, looked up in the old tree and the payloads, is the byte.
 pub fn marks_give_bytes()
     ensures { MarksGiveBytes }
 {}
 
-/// Two states that answer alike at the cells that a log looks at have the same first fault of the log, or none and the same
-/// names and headers changed by it. Two sound trees end alike too; the log changes the same bytes of both, and needs as much
-/// room.
+/// The cells that a log looks at decide its run. Two states that give the same answers there have the
+/// same first fault, or none and the same changes of names and headers. For two sound trees, the log
+/// also changes the same bytes and needs the same room.
 pub fn cells_decide()
     ensures decides { CellsDecide }
     ensures of_trees { EachTwoTrees TreesEndInAgreement }

@@ -1,4 +1,7 @@
-//! Judges a client's log against a view of the image, the leases and the clients.
+//! Judges a client's log against a view of the nodes and names, the leases and the clients.
+//!
+//! It stands on `kfs_judge_step`, which enters the entries one by one; `kfs_plan` stands on it. Begin
+//! with `judge_entries`.
 #![tactic(auto)]
 
 pub mod laws;

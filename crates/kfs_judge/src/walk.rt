@@ -1,4 +1,4 @@
-//! The entries of a log against a view.
+//! Judging the entries of a log against a view.
 ghost use Rattle.std.specs.Prelude.{◌≡◌, ℕ, ◌≤◌, false, length, IsSome, IfOk, [], None, Ok, OnOk};
 ghost use Rattle.kfs_model.specs.Access.{Client as ClientRow};
 ghost use Rattle.kfs_model.specs.Lease.{row_of};
@@ -20,25 +20,31 @@ use kfs_plan_sweep::FileSize;
 use std::alloc::{AllocError, Allocator};
 use std::hash::{BuildHasherDefault, FoldHasher};
 
-/// The first bad entry of a log: its index, and why.
+/// The first bad entry of a log.
 #[derive(Clone, Copy, Debug, PartialEq, Eq)]
 pub struct EntryFault {
+    /// Its index in the log, from 0.
     pub index: usize,
+    /// The reason of its first check that fails.
     pub reason: Reason,
 }
 
-/// What the entries of a log come to: the reads that this rests on, in the order of the first look,
-/// and the first bad entry, or else what differs after the log, and how long the files are that it
-/// changes or reaches, by number. With a bad entry there are no sizes.
+/// The outcome of judging a log's entries, with the reads that it rests on.
 #[derive(Drop)]
 pub struct Walk<A: Allocator> {
+    /// What was read of the view, with the answers, in the order of the first look.
     pub reads: IndexMap<Read, ReadAnswer, BuildHasherDefault<FoldHasher>, A>,
+    /// The net change, or the first bad entry.
     pub outcome: Result<Net<A>, EntryFault>,
+    /// The sizes of the files that the log changes or reaches, ascending by number. Empty where there
+    /// is a bad entry.
     pub sizes: Vec<FileSize, A>,
 }
 
-/// Goes through the entries of a log against a view. The log's client has a row there, and the entries
-/// are at most 4,096. Where memory is refused nothing is kept.
+/// Judges the entries of a log against a view. Condition: the log's client is one of the view's, and
+/// there are at most 4,096 entries.
+///
+/// A bad entry is an outcome, not an error. `Err` only where memory is refused; nothing is kept then.
 pub fn judge_entries<A: Allocator + Copy>(
     alloc: A,
     view: &View<A>,
@@ -46,8 +52,8 @@ pub fn judge_entries<A: Allocator + Copy>(
 ) -> Result<Walk<A>, AllocError>
     requires client { IsSome (row_of (clients_of view.now) log.now.client) }
     requires count { length log.now.entries ≤ entry_limit }
-    // At every sound tree and all leases that agree with the reads, the entries come to this outcome one by one,
-    // whatever bytes the payloads' spans are of.
+    // The outcome is right at every sound tree, with all leases, that agrees with the reads, whatever
+    // bytes the payloads are.
     ensures known { IfOk result (λ walk. (client : ClientRow) × IsRowOf (clients_of view.now) log.now.client client × IsWalkOf client log.now walk) }
     ensures view_agrees { IfOk result (λ walk. Agrees walk.reads.entries (client_sight_in view.now log.now.client)) }
     ensures once { IfOk result (λ walk. AreOnce walk.reads.entries) }
@@ -65,7 +71,7 @@ fn walk_entries<A: Allocator + Copy>(
 ) -> Result<Walk<A>, AllocError>
     requires client { IsSome (row_of (clients_of view.now) log.now.client) }
     requires count { length log.now.entries ≤ entry_limit }
-    // In every state that agrees with the reads, the run over its cells comes to this outcome.
+    // The outcome is right in every state that agrees with the reads.
     ensures known { IfOk result (λ walk. (client : ClientRow) × IsRowOf (clients_of view.now) log.now.client client × IsCellWalkOf client log.now walk) }
     ensures view_agrees { IfOk result (λ walk. Agrees walk.reads.entries (client_sight_in view.now log.now.client)) }
     ensures once { IfOk result (λ walk. AreOnce walk.reads.entries) }
@@ -91,7 +97,7 @@ fn walk_entries<A: Allocator + Copy>(
     })
 }
 
-/// Enters one entry after another, up to the first bad one.
+/// Enters the entries in order, up to the first bad one.
 fn enter_all<A: Allocator + Copy>(
     judge: &mut LogJudge<'_, A>,
     entries: &[Entry<Span>],

@@ -1,29 +1,30 @@
-//! The checks of an entry, and why one fails.
+//! The checks of an entry, and the reasons for which they fail.
 
 use kfs_image_nodes::Name;
 
-/// Why an entry is refused.
+/// Why an entry is refused. docs/FORMATS.md says in which order an entry's checks are made; the first
+/// that fails is the reason.
 #[derive(Clone, Copy, Debug, PartialEq, Eq)]
 pub enum Reason {
-    /// 1: the number is no node's.
+    /// 1: no node has the number.
     NoSuchNode,
-    /// 2: the node is no directory.
+    /// 2: the node isn't a directory.
     NotDirectory,
     /// 3: the node is a directory.
     IsDirectory,
     /// 4: the directory has no such name.
     NoSuchName,
-    /// 5: the directory has the name.
+    /// 5: the directory already has the name.
     NameTaken,
-    /// 6: the number is a node's or was one's before the log, or the log created it.
+    /// 6: the number is a node's, or was one's before the log, or the log has created it.
     NumberTaken,
     /// 7: the number isn't in the client's grant.
     NumberNotGranted,
     /// 8: the directory has names.
     NotEmpty,
-    /// 9: a directory would lie below itself.
+    /// 9: the directory would be put below itself.
     BelowItself,
-    /// 10: the file has 1,024 names.
+    /// 10: the file already has 1,024 names.
     TooManyLinks,
     /// 11: the file would be longer than 2^32 bytes.
     TooBig,
@@ -33,18 +34,18 @@ pub enum Reason {
     NoWrite,
     /// 14: the client is neither the node's owner nor privileged.
     NotOwner,
-    /// 15: the client holds no live write lease on the node of this number.
+    /// 15: the client holds no live write lease on the node with this number.
     NoLease(u32),
 }
 
-/// One test of where an entry stands.
+/// One check: what must hold at an entry's point of the log. Nodes are given by number.
 #[derive(Clone, Copy)]
 pub enum Check<'a> {
     /// The number is a node's.
     Exists(u32),
     /// The node is a directory.
     IsADirectory(u32),
-    /// The node is no directory.
+    /// The node isn't a directory.
     IsAFile(u32),
     /// The client may search the directory.
     MaySearch(u32),
@@ -52,20 +53,20 @@ pub enum Check<'a> {
     MayWrite(u32),
     /// The client is the node's owner, or privileged.
     MayChangeMode(u32),
-    /// The log created the node, or the client holds a live write lease on it.
+    /// The client holds a live write lease on the node, or the log created it.
     IsLeased(u32),
     /// The directory has no names.
     HasNoNames(u32),
-    /// The file may have one name more.
+    /// The file may have one more name.
     HasRoomForLink(u32),
-    /// The directory has no such name.
+    /// The directory doesn't have the name.
     NameIsFree(&'a (u32, Name)),
     /// The client may give the number to a new node.
     NumberIsGranted(u32),
-    /// The number is no node's, was none's before the log, and the log didn't create it.
+    /// The number is no node's, was none's before the log, and wasn't created by the log.
     NumberIsFree(u32),
-    /// A file may end at this place. It may be the sum of two numbers of 64 bits.
+    /// The end, offset + length, is at most 2^32. Kept in 128 bits, since the sum may exceed 64.
     EndIsInRange(u128),
-    /// The node isn't the directory and doesn't lie above it.
+    /// The node isn't the directory, and isn't above it.
     IsNotAbove { node: u32, dir: u32 },
 }

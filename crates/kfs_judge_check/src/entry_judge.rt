@@ -1,4 +1,4 @@
-//! What judges one entry: the first of its checks that fails where it stands.
+//! Judging one entry: which of its checks is the first to fail.
 ghost use Rattle.std.specs.Prelude.{◌≡◌, ◌+ℤ◌, pos, nat_lt, is_none, not, ◌&&◌, ◌||◌, map, [], ◌∷◌};
 ghost use Rattle.std.specs.Option.{option_map};
 ghost use Rattle.std.specs.Ordering.{int_eq};
@@ -20,7 +20,7 @@ use kfs_judge_draft::Draft;
 use kfs_mode::{Client, Want, may};
 use std::alloc::{AllocError, Allocator};
 
-/// What judges the next entry: the log's client, and the draft of the entries so far.
+/// Judges the next entry of a log: it has the log's client, and what the entries so far have changed.
 #[derive(Clone, Copy)]
 pub struct EntryJudge<'a, A: Allocator> {
     pub client: &'a Client,
@@ -28,7 +28,7 @@ pub struct EntryJudge<'a, A: Allocator> {
 }
 
 impl<A: Allocator + Copy> EntryJudge<'_, A> {
-    /// The header of the node now.
+    /// The node's header now, or none.
     pub fn header(
         &self,
         recorder: &mut Recorder<'_, A>,
@@ -42,7 +42,7 @@ impl<A: Allocator + Copy> EntryJudge<'_, A> {
         }
     }
 
-    /// The kind of the node now, and a file's where there is no node.
+    /// The node's kind now; a file's where there is no node.
     pub fn kind(&self, recorder: &mut Recorder<'_, A>, number: u32) -> Result<Kind, AllocError>
         ensures { LooksAtHeader recorder.old recorder.new result number (λ kind before. sight.kind_shown ((sight_in self.now before).head number) ≡ kind_of kind) }
     {
@@ -50,7 +50,7 @@ impl<A: Allocator + Copy> EntryJudge<'_, A> {
         Ok(kind_in(header))
     }
 
-    /// The number that the name leads to now.
+    /// The number that the name leads to now, or none.
     pub fn target(
         &self,
         recorder: &mut Recorder<'_, A>,
@@ -76,7 +76,7 @@ impl<A: Allocator + Copy> EntryJudge<'_, A> {
         Ok(may_want(self.client, header, want))
     }
 
-    /// The reason of the first check that fails.
+    /// The reason of the first check that fails, if one does. `Err` where memory is refused.
     pub fn first_fault(
         &self,
         recorder: &mut Recorder<'_, A>,
@@ -133,7 +133,7 @@ impl<A: Allocator + Copy> EntryJudge<'_, A> {
         }
     }
 
-    /// What a check of what the client may do finds wrong.
+    /// The reason of a check of what the client may do, if it fails.
     #[tactic(auto, unfolding(kfs_model::specs::Check::fault, kfs_model::specs::Check::cells))]
     fn right_fault(
         &self,
@@ -160,7 +160,7 @@ impl<A: Allocator + Copy> EntryJudge<'_, A> {
         }
     }
 
-    /// What a check of a header finds wrong.
+    /// The reason of a check of a header, if it fails.
     #[tactic(auto, unfolding(kfs_model::specs::Check::fault, kfs_model::specs::Check::cells))]
     fn header_fault(
         &self,
@@ -216,7 +216,7 @@ impl<A: Allocator + Copy> EntryJudge<'_, A> {
         Ok(is_zero(count, shift))
     }
 
-    /// The directory that the directory stands in now.
+    /// The directory's parent now, or none.
     fn parent(&self, recorder: &mut Recorder<'_, A>, number: u32) -> Result<Option<u32>, AllocError>
         ensures { AnswersLook recorder.old recorder.new result (ParentOf number ∷ []) (λ parent before. parent_in self.now before number ≡ parent) }
     {
@@ -226,8 +226,8 @@ impl<A: Allocator + Copy> EntryJudge<'_, A> {
         }
     }
 
-    /// Whether the climb along the parents from the directory on meets the node. It takes as many
-    /// steps as the directory lies deep.
+    /// Whether a climb from the directory along its parents meets the node. It takes one step for each
+    /// level.
     fn climb_meets(
         &self,
         recorder: &mut Recorder<'_, A>,
@@ -274,7 +274,7 @@ fn may_want(client: &Client, header: Option<Header>, want: Want) -> bool
     }
 }
 
-/// Whether the client may change the node's mode: its owner may, and a privileged client.
+/// Whether the client may change the mode: it is the node's owner, or privileged.
 fn owns(client: &Client, header: Option<Header>) -> bool
     ensures { result ≡ checks.is_some_and (option_map header_of header) (λ h. owns client.now h.uid) }
 {
@@ -284,7 +284,7 @@ fn owns(client: &Client, header: Option<Header>) -> bool
     }
 }
 
-/// Whether a file with this header may have one name more.
+/// Whether a file with this header may have one more name.
 fn has_room_for_link(header: Option<Header>) -> bool
     ensures { result ≡ checks.is_some_and (option_map header_of header) (λ h. nat_lt h.links link_limit) }
 {
@@ -294,7 +294,7 @@ fn has_room_for_link(header: Option<Header>) -> bool
     }
 }
 
-/// Whether a count with its change comes to zero.
+/// Whether a count plus its change is zero.
 fn is_zero(count: u64, shift: i32) -> bool
     ensures { result ≡ int_eq (pos count +ℤ shift) (pos 0) }
 {

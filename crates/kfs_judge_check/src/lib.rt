@@ -1,4 +1,7 @@
-//! Views of a state, and the checks of an entry, made against a view and the draft of the entries before it.
+//! Views of a state, the reads that a judgement makes of one, and the checks of an entry.
+//!
+//! It stands on `kfs_lease`, `kfs_image_nodes` and `kfs_judge_draft`; `kfs_judge_step` stands on it.
+//! Begin with `view.rt`, then `check.rt`.
 #![tactic(auto)]
 
 mod check;

@@ -1,4 +1,4 @@
-//! What a judgement reads of its view, each recorded once, in the order of the first look.
+//! The reads of a judgement: each is made once, and recorded with its answer.
 
 ghost use Rattle.std.specs.Prelude.{◌≡◌, ℕ, ℤ, pos, Bool, [], ◌∷◌, Option, IfOk, OnOk};
 ghost use Rattle.std.specs.Option.{option_map};
@@ -15,27 +15,29 @@ use kfs_image_nodes::{Answer, Cell, Header, Name};
 use std::alloc::{AllocError, Allocator};
 use std::hash::{BuildHasherDefault, FoldHasher};
 
-/// A cell of a state, as one client sees it.
+/// One thing that a judgement may read of a state, for its client.
 #[derive(Clone, Debug, PartialEq, Eq, Hash, Drop)]
 pub enum Read {
-    /// A cell of the shape.
+    /// A cell of the nodes and names.
     Look(Cell),
-    /// Whether the client holds a live write lease on the node.
+    /// Whether the client holds a live write lease on the node with this number.
     Lease(u32),
 }
 
-/// What a state shows at a cell of the same case.
+/// The answer to a read of the same case.
 #[derive(Clone, Copy, Debug, PartialEq, Eq)]
 pub enum ReadAnswer {
+    /// What the cell shows.
     Look(Answer),
+    /// Whether the lease is held.
     Lease(bool),
 }
 
-/// The recorded reads with their answers.
+/// The recorded reads with their answers, in the order of the first look.
 pub type Reads<A> = IndexMap<Read, ReadAnswer, BuildHasherDefault<FoldHasher>, A>;
 
-/// Reads a view for one client, by numbers of nodes, and keeps what it read. Only a growth of what is
-/// kept, or of a name's copy, can fail, and then the read isn't kept.
+/// Reads a view for one client, and records each read with its answer. `Err` where memory for the
+/// record is refused; that read isn't recorded then.
 #[derive(Drop)]
 pub struct Recorder<'a, A: Allocator> {
     view: &'a View<A>,
@@ -51,7 +53,7 @@ fn copied(name: &Name) -> Result<Name, AllocError>
 }
 
 impl<'a, A: Allocator + Copy> Recorder<'a, A> {
-    /// Nothing read yet, for the client of this number. Takes no memory.
+    /// No read yet, for the client with this number. Takes no memory.
     pub fn new(alloc: A, view: &'a View<A>, client: u32) -> Recorder<'a, A>
         ensures none { result.reads.entries ≡ [] }
         ensures seen { seen_by result ≡ client_sight_in view.now client }
@@ -63,7 +65,7 @@ impl<'a, A: Allocator + Copy> Recorder<'a, A> {
         }
     }
 
-    /// The answer at a cell: the recorded one, or else the view's, which is recorded then.
+    /// The recorded answer to a read, or else the view's, which is then recorded.
     fn read(&mut self, read: Read) -> Result<ReadAnswer, AllocError>
         ensures { AnswersLook self.old self.new result (cell_of read ∷ []) (λ told before. answer before (cell_of read) ≡ answer_of told) }
     {
@@ -75,7 +77,7 @@ impl<'a, A: Allocator + Copy> Recorder<'a, A> {
         Ok(answer)
     }
 
-    /// What the view shows at a cell.
+    /// The view's answer to a read.
     fn view_answer(&self, read: &Read) -> ReadAnswer
         ensures { answer (seen_by self.now) (cell_of read.now) ≡ answer_of result }
     {
@@ -85,7 +87,7 @@ impl<'a, A: Allocator + Copy> Recorder<'a, A> {
         }
     }
 
-    /// The header of a node.
+    /// The header of a node, or none.
     pub fn header(&mut self, number: u32) -> Result<Option<Header>, AllocError>
         ensures { LooksAtHeader self.old self.new result number (λ header before. before.sight.head number ≡ option_map header_of header) }
     {
@@ -93,7 +95,7 @@ impl<'a, A: Allocator + Copy> Recorder<'a, A> {
         Ok(header_in(answer))
     }
 
-    /// The number that a name leads to.
+    /// The number that a name leads to, or none.
     pub fn target(&mut self, key: &(u32, Name)) -> Result<Option<u32>, AllocError>
         ensures { LooksAtName self.old self.new result key.now (λ number before. before.sight.name key.now.0 key.now.1 ≡ number) }
     {
@@ -110,7 +112,7 @@ impl<'a, A: Allocator + Copy> Recorder<'a, A> {
         Ok(count_in(answer))
     }
 
-    /// The directory that a directory stands in.
+    /// The directory's parent, or none.
     pub fn parent(&mut self, number: u32) -> Result<Option<u32>, AllocError>
         ensures { AnswersLook self.old self.new result (ParentOf number ∷ []) (λ parent before. before.sight.parent number ≡ parent) }
     {
@@ -134,7 +136,7 @@ impl<'a, A: Allocator + Copy> Recorder<'a, A> {
     }
 }
 
-/// The header that an answer tells.
+/// The header in an answer.
 fn header_in(answer: ReadAnswer) -> Option<Header>
     ensures { (header : Option HeaderShown) → Head header ≡ answer_of answer → header ≡ option_map header_of result }
 {
@@ -144,7 +146,7 @@ fn header_in(answer: ReadAnswer) -> Option<Header>
     }
 }
 
-/// The number that an answer tells.
+/// The number in an answer.
 fn number_in(answer: ReadAnswer) -> Option<u32>
     ensures { (number : Option ℕ) → Number number ≡ answer_of answer → number ≡ result }
 {
@@ -154,7 +156,7 @@ fn number_in(answer: ReadAnswer) -> Option<u32>
     }
 }
 
-/// The count that an answer tells.
+/// The count in an answer.
 fn count_in(answer: ReadAnswer) -> u64
     ensures { (count : ℤ) → Count count ≡ answer_of answer → count ≡ pos result }
 {
@@ -164,7 +166,7 @@ fn count_in(answer: ReadAnswer) -> u64
     }
 }
 
-/// Whether an answer tells of a lease that is held.
+/// Whether the lease in an answer is held.
 fn held_in(answer: ReadAnswer) -> bool
     ensures { (held : Bool) → Held held ≡ answer_of answer → held ≡ result }
 {

@@ -1,4 +1,5 @@
-//! What a judgement looks at: the image, the leases and the clients as they were at one moment.
+//! What a judgement looks at: nodes and names, leases and clients, as they were when the view was
+//! taken.
 ghost use Rattle.kfs_mode.specs.Clients.{ClientsAreDistinct};
 
 mod answers;
@@ -9,8 +10,8 @@ use kfs_mode::Client;
 use std::alloc::Allocator;
 use std::sync::Arc;
 
-/// A view of a state. It shares the shape, the leases with their moment, and the clients, and has no
-/// bytes of files.
+/// A view of a state: its nodes and names, its leases with their moment, and its clients. It shares
+/// them, has no bytes of files, and doesn't change when the desk goes on.
 #[derive(Drop)]
 pub struct View<A: Allocator> {
     shape: Arc<Shape<A>, A>,

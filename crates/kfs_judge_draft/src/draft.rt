@@ -1,4 +1,4 @@
-//! What the entries of a log have changed so far, over the state that the log came to.
+//! What the entries of a log have changed so far, over the state that the log began with.
 
 ghost use Rattle.std.specs.Prelude.{◌≡◌, ℕ, ◌+◌, ◌==◌, ◌||◌, pos, negsuc, ◌+ℤ◌, ◌≤ℤ◌, FitsSigned, unwrap_or, OnOk, IsTrue, false, List, [], Contains};
 ghost use Rattle.std.specs.Option.{option_map};
@@ -15,21 +15,24 @@ use kfs_entry_value::{Header, Kind, Name};
 use std::alloc::{AllocError, Allocator};
 use std::collections::{BTreeMap, BTreeSet};
 
-/// The cells that the entries so far have written, each with what it shows now. Nodes and directories
-/// go by their numbers, names by directory and name. Looking takes no memory.
+/// The cells that the entries so far have written, each with its value now. A cell that none has
+/// written isn't here. Look-ups take no memory.
 #[derive(Drop)]
 pub struct Draft<A: Allocator> {
+    /// The header of each node that was written.
     heads: BTreeMap<u32, Option<Header>, A>,
+    /// The number that each written name leads to.
     names: BTreeMap<(u32, Name), Option<u32>, A>,
+    /// The parent of each directory that was written.
     parents: BTreeMap<u32, Option<u32>, A>,
-    /// By how much a directory's count of names differs.
+    /// By how much each directory's count of names has changed.
     shifts: BTreeMap<u32, i32, A>,
     /// The numbers that the log created.
     created: BTreeSet<u32, A>,
 }
 
 impl<A: Allocator + Copy> Draft<A> {
-    /// Nothing changed yet. Takes no memory.
+    /// No cell is written. Takes no memory.
     pub fn new(alloc: A) -> Draft<A>
         ensures shown { (s : Sight) → over result s ≡ s }
         ensures written { ChangesAreAmong result [] }
@@ -45,8 +48,8 @@ impl<A: Allocator + Copy> Draft<A> {
         }
     }
 
-    /// A new node and its name. The key is the directory's number with the name. Where a growth is
-    /// refused, part of the change may be made; so it is in each call that changes the draft.
+    /// A new node, and its name in a directory: `key` is the directory's number with the name. In this
+    /// and the other calls that change the draft, part of the change may be made after `Err`.
     pub fn add_node(
         &mut self,
         key: (u32, Name),
@@ -67,7 +70,7 @@ impl<A: Allocator + Copy> Draft<A> {
         Ok(())
     }
 
-    /// Another name of a node, which has this header then.
+    /// One more name of a node, whose header is then this one.
     pub fn add_name(
         &mut self,
         key: (u32, Name),
@@ -87,7 +90,7 @@ impl<A: Allocator + Copy> Draft<A> {
         Ok(())
     }
 
-    /// A name of the node fewer. The node has this header then, or is gone.
+    /// One name of a node fewer. Its header is then this one, or the node is gone.
     pub fn remove_name(
         &mut self,
         key: (u32, Name),
@@ -108,7 +111,7 @@ impl<A: Allocator + Copy> Draft<A> {
         Ok(())
     }
 
-    /// The second name leads to the node, in place of the first.
+    /// `new_key` leads to the node, and `key` to none.
     pub fn move_name(
         &mut self,
         key: (u32, Name),
@@ -157,7 +160,7 @@ impl<A: Allocator + Copy> Draft<A> {
         Ok(())
     }
 
-    /// The node stands in this directory, or in none.
+    /// The directory's parent is this one, or none.
     fn set_parent(&mut self, number: u32, parent: Option<u32>) -> Result<(), AllocError>
         ensures shown { OnOk result ((s : Sight) → over self.new s ≡ with_parent number parent (over self.old s)) }
         ensures written { OnOk result ((among : List Cell) → ChangesAreAmong self.old among → ChangesAreAmong self.new among) }
@@ -169,7 +172,7 @@ impl<A: Allocator + Copy> Draft<A> {
         Ok(())
     }
 
-    /// Where the node is a directory it now stands in `dir`.
+    /// If the node is a directory, its parent is `dir`.
     fn set_directory_in(&mut self, kind: Kind, number: u32, dir: u32) -> Result<(), AllocError>
         ensures shown { OnOk result ((s : Sight) → over self.new s ≡ with_directory_in (kind_of kind) number dir (over self.old s)) }
         ensures written { OnOk result ((among : List Cell) → ChangesAreAmong self.old among → ChangesAreAmong self.new among) }
@@ -186,7 +189,7 @@ impl<A: Allocator + Copy> Draft<A> {
         }
     }
 
-    /// Counts one name more in the directory, or one fewer.
+    /// The directory has `by` names more, or fewer where that is negative.
     fn shift_count(&mut self, dir: u32, by: i32) -> Result<(), AllocError>
         requires least { negsuc 0 ≤ℤ by }
         requires greatest { by ≤ℤ pos 1 }
@@ -213,7 +216,7 @@ fn put<K: Ord + Drop, V: Drop, A: Allocator + Clone>(
     Ok(())
 }
 
-/// Adds to the difference of the directory's count.
+/// Adds to the change of the directory's count.
 fn count_names<A: Allocator + Clone>(
     shifts: &mut BTreeMap<u32, i32, A>,
     dir: u32,
@@ -227,49 +230,50 @@ fn count_names<A: Allocator + Clone>(
 }
 
 impl<A: Allocator> Draft<A> {
-    /// The header of the node, or none, where an entry wrote it.
+    /// The node's header now, if an entry wrote it. An inner none means that the node is gone.
     pub fn header(&self, number: u32) -> Option<Option<Header>>
         ensures { result ≡ get nat_cmp self.now.heads number }
     {
         self.heads.get(&number).copied()
     }
 
-    /// The number that the name leads to, or none, where an entry wrote it.
+    /// The number that the name leads to now, if an entry wrote it. An inner none means that the name
+    /// is gone.
     pub fn target(&self, key: &(u32, Name)) -> Option<Option<u32>>
         ensures { result ≡ get name_order.compare self.now.names key.now }
     {
         self.names.get(key).copied()
     }
 
-    /// The directory that the directory stands in, or none, where an entry wrote it.
+    /// The directory's parent now, if an entry wrote it. An inner none means that it has none.
     pub fn parent(&self, number: u32) -> Option<Option<u32>>
         ensures { result ≡ get nat_cmp self.now.parents number }
     {
         self.parents.get(&number).copied()
     }
 
-    /// By how much the directory's count of names differs.
+    /// By how much the directory's count of names has changed.
     pub fn shift(&self, dir: u32) -> i32
         ensures { result ≡ shift_of self.now dir }
     {
         self.shifts.get(&dir).copied().unwrap_or(0)
     }
 
-    /// Whether an entry created the number.
+    /// Whether the log created the number.
     pub fn has_created(&self, number: u32) -> bool
         ensures { result ≡ has_created self.now number }
     {
         self.created.contains(&number)
     }
 
-    /// The headers written, by number.
+    /// The written headers, by number.
     pub fn headers(&self) -> &BTreeMap<u32, Option<Header>, A>
         ensures { result.now ≡ self.now.heads }
     {
         &self.heads
     }
 
-    /// The names written, by directory and name.
+    /// The written names, by directory and name.
     pub fn targets(&self) -> &BTreeMap<(u32, Name), Option<u32>, A>
         ensures { result.now ≡ self.now.names }
     {

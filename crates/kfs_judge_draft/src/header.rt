@@ -1,4 +1,4 @@
-//! A node's header after a name more or fewer leads to the node.
+//! The header of a node that gains or loses a name.
 ghost use Rattle.std.specs.Prelude.{◌≡◌, ◌+◌, ◌<◌, None, option_and_then};
 ghost use Rattle.std.specs.Option.{option_map};
 ghost use Rattle.kfs_entry_value.specs.Views.{header_of};
@@ -7,7 +7,8 @@ ghost use Rattle.kfs_judge_draft.specs.Overlay.{IsLinked};
 
 use kfs_entry_value::{Header, Kind};
 
-/// With one link fewer, or none: a directory goes, and a file with its last name.
+/// The header after a name is lost: one link fewer. None where the node goes, as a directory does, and
+/// a file with its last name.
 pub fn unlinked(header: Option<Header>) -> Option<Header>
     ensures { option_map header_of result ≡ option_and_then seen.unlinked (option_map header_of header) }
 {
@@ -29,7 +30,7 @@ fn without_link(header: Header) -> Option<Header>
     }
 }
 
-/// With one link more.
+/// The header after a name is gained: one link more.
 pub fn linked(header: Option<Header>) -> Option<Header>
     ensures linked { IsLinked (option_map header_of header) (option_map header_of result) }
     ensures none { header ≡ None → result ≡ None }

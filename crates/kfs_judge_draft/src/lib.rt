@@ -1,4 +1,8 @@
-//! What the entries of a log have changed so far, over the state that the log came to.
+//! What the entries of a log have changed so far. It is kept apart, over the state that the log began
+//! with.
+//!
+//! It stands on `kfs_entry_value`; `kfs_judge_check` reads it and `kfs_judge_step` changes it. Begin
+//! with `draft.rt`.
 #![tactic(auto)]
 
 mod draft;

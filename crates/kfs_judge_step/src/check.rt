@@ -1,6 +1,6 @@
-//! The form in which an entry's checks stand in its body.
+//! How an entry's checks are written in its function.
 
-/// Makes the checks in order, and has the function around it return the reason of the first that fails.
+/// Makes the checks in order. If one fails, the function around the macro returns its reason.
 macro_rules! check {
     ($judge:expr, $recorder:expr; $($case:ident $of:tt),+ $(,)?) => {
         if let Some(reason) = $judge.first_fault($recorder, &[$(kfs_judge_check::Check::$case $of),+])? {

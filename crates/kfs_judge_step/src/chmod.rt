@@ -15,7 +15,7 @@ use kfs_image_nodes::Header;
 use kfs_judge_check::{EntryJudge, Reason, Recorder};
 use std::alloc::{AllocError, Allocator};
 
-/// Why the mode of the node `number` can't be changed, if so.
+/// Why the mode of node `number` can't be changed; none if it can.
 #[tactic(auto, unfolding(kfs_model::specs::Check::checks_of))]
 fn chmod_fault<A: Allocator + Copy>(
     judge: &EntryJudge<'_, A>,
@@ -33,7 +33,7 @@ fn chmod_fault<A: Allocator + Copy>(
 }
 
 impl<A: Allocator + Copy> LogJudge<'_, A> {
-    /// Sets the permission bits of the node `number`, or answers why not.
+    /// Sets the permission bits of node `number`, or answers the reason why not.
     pub fn chmod(&mut self, number: u32, mode: u16) -> Result<Option<Reason>, AllocError>
         ensures { IsEntered self.old self.new (entry.Chmod number mode) result }
     {

@@ -17,7 +17,7 @@ use kfs_image_nodes::{Header, Kind, Name};
 use kfs_judge_check::{EntryJudge, Reason, Recorder};
 use std::alloc::{AllocError, Allocator};
 
-/// Why a node `number` can't be made under the name `key`, if so.
+/// Why node `number` can't be made with the name `key`; none if it can.
 #[tactic(auto, unfolding(kfs_model::specs::Check::checks_of))]
 fn create_fault<A: Allocator + Copy>(
     judge: &EntryJudge<'_, A>,
@@ -42,8 +42,8 @@ fn create_fault<A: Allocator + Copy>(
 }
 
 impl<'a, A: Allocator + Copy> LogJudge<'a, A> {
-    /// Makes the node `number` without bytes under the name `name` in `dir`, with the client's uid and
-    /// gid, or answers why not.
+    /// Makes the empty node `number` with the name `name` in `dir` and the client's uid and gid, or
+    /// answers the reason why not.
     pub fn create(
         &mut self,
         dir: u32,

@@ -1,4 +1,7 @@
-//! One entry of a log after another: its checks in their order, and its change.
+//! Entering the entries of a log one after another: each one's checks, in order, and then its change.
+//!
+//! It stands on `kfs_judge_check` (the checks) and `kfs_judge_draft` (the changes so far); `kfs_judge`
+//! stands on it. Begin with `LogJudge::enter`. Each entry has a file of its own.
 #![tactic(auto)]
 
 mod check;

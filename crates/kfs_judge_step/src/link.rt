@@ -13,7 +13,7 @@ use kfs_judge_check::{EntryJudge, Reason, Recorder};
 use kfs_judge_draft::linked;
 use std::alloc::{AllocError, Allocator};
 
-/// Why the node `number` can't have the name `key` too, if so.
+/// Why node `number` can't get the name `key`; none if it can.
 #[tactic(auto, unfolding(kfs_model::specs::Check::checks_of))]
 fn link_fault<A: Allocator + Copy>(
     judge: &EntryJudge<'_, A>,
@@ -40,7 +40,7 @@ fn link_fault<A: Allocator + Copy>(
 }
 
 impl<A: Allocator + Copy> LogJudge<'_, A> {
-    /// Gives the file `number` the name `name` in `dir` too, or answers why not.
+    /// Gives the file `number` one more name, `name` in `dir`, or answers the reason why not.
     pub fn link(&mut self, number: u32, dir: u32, name: Name) -> Result<Option<Reason>, AllocError>
         requires { HasRoom 3 self.old.draft }
         ensures { IsEntered self.old self.new (entry.Link number dir name) result }

@@ -1,4 +1,4 @@
-//! Where an entry stands: its client, what the entries before it changed, and the state under that.
+//! Judges a log: holds the client, the changes of the entries so far, and the reads of the view.
 ghost use Rattle.std.specs.Prelude.{◌≡◌, ℕ, ◌+◌, ◌==◌, List, length, None, Ok, IfOk, false, [], ◌++◌};
 ghost use Rattle.kfs_entry_value.specs.Views.{entry_of, IsWithin};
 ghost use Rattle.kfs_model.specs.Sight.{Sight};
@@ -24,7 +24,7 @@ use kfs_plan_sweep::FileSize;
 use std::alloc::{AllocError, Allocator};
 use std::hash::{BuildHasherDefault, FoldHasher};
 
-/// A field of an entry as the call takes it; of a payload, how many bytes it has.
+/// An entry's field as its function takes it: of a payload, the number of its bytes.
 macro_rules! taken {
     (name $field:ident) => {
         copied($field)?
@@ -52,8 +52,8 @@ fn copied(name: &Name) -> Result<Name, AllocError>
     name.clone()
 }
 
-/// What judges the entries of a log one after another: the log's client, the draft of its entries so
-/// far, and the recorded view.
+/// Judges the entries of a log in order. It has the log's client, what the entries so far have changed,
+/// and what was read of the view.
 #[derive(Drop)]
 pub struct LogJudge<'a, A: Allocator> {
     pub client: &'a Client,
@@ -62,7 +62,7 @@ pub struct LogJudge<'a, A: Allocator> {
 }
 
 impl<'a, A: Allocator + Copy> LogJudge<'a, A> {
-    /// Before the first entry of a log of this client.
+    /// At the start of a log of this client. Takes no memory.
     pub fn new(alloc: A, view: &'a View<A>, client: &'a Client) -> LogJudge<'a, A>
         ensures client { result.client.now ≡ client.now }
         ensures none { result.recorder.reads.entries ≡ [] }
@@ -79,19 +79,20 @@ impl<'a, A: Allocator + Copy> LogJudge<'a, A> {
         }
     }
 
-    /// Makes the change of an entry, or answers why not.
+    /// Makes the change of an entry, or answers the reason why not. After `Err`, where memory is
+    /// refused, part of the change may be made.
     pub fn enter(&mut self, entry: &Entry<Span>) -> Result<Option<Reason>, AllocError>
         requires { HasRoom 3 self.old.draft }
         ensures goes { GoesOn self.old.recorder self.new.recorder }
         ensures client { self.new.client.now ≡ self.old.client.now }
         ensures shifts { result ≡ Ok None → ShiftsFurther 3 self.old.draft self.new.draft }
-        // Whatever bytes the payload's span is of.
+        // Whatever bytes the payload's span points to.
         ensures entered { (source : List ℕ) → IsWithin (length source) entry.now → IsEntered self.old self.new (entry_of source entry.now) result }
     {
         entry_table!(enter_case(self, entry))
     }
 
-    /// What differs after the entries so far.
+    /// The net change of the entries so far. `Err` where memory is refused.
     pub fn net(&mut self, alloc: A) -> Result<Net<A>, AllocError>
         ensures draft { self.new.draft ≡ self.old.draft }
         ensures looks { LooksOver self.old.draft self.old.recorder self.new.recorder result (λ net before. IsNetOver self.old.draft before.sight net) }
@@ -101,8 +102,8 @@ impl<'a, A: Allocator + Copy> LogJudge<'a, A> {
         Ok(Net { names, nodes })
     }
 
-    /// How long the files are that the entries so far changed or reached, by number: before the log and
-    /// now. A directory's size is 0.
+    /// The sizes, before the log and now, of the files that the entries so far changed or reached,
+    /// ascending by number. A directory's size is 0. `Err` where memory is refused.
     pub fn sizes(&mut self, alloc: A) -> Result<Vec<FileSize, A>, AllocError>
         ensures draft { self.new.draft ≡ self.old.draft }
         ensures looks { LooksOver self.old.draft self.old.recorder self.new.recorder result (λ sizes before. AreSizesOver self.old.draft before.sight sizes.items) }
@@ -112,7 +113,7 @@ impl<'a, A: Allocator + Copy> LogJudge<'a, A> {
         file_sizes(alloc, &self.draft, &mut self.recorder)
     }
 
-    /// The recorded reads.
+    /// The recorded reads. Takes no memory.
     pub fn into_reads(self) -> IndexMap<Read, ReadAnswer, BuildHasherDefault<FoldHasher>, A>
         ensures { result.entries ≡ self.entry.recorder.reads.entries }
     {

@@ -1,4 +1,4 @@
-//! What differs after a log.
+//! The net change of a log.
 ghost use Rattle.std.specs.Option.{option_map};
 ghost use Rattle.kfs_entry_value.specs.Views.{header_of};
 ghost use Rattle.kfs_judge_check.specs.Recorders.{LooksAtHeader, LooksAtName};
@@ -12,7 +12,7 @@ use kfs_judge_check::Recorder;
 use kfs_judge_draft::Draft;
 use std::alloc::{AllocError, Allocator};
 
-/// The names whose numbers differ, ascending.
+/// A row for each name that leads elsewhere than before, ascending.
 pub fn name_rows<A: Allocator + Copy>(
     alloc: A,
     draft: &Draft<A>,
@@ -29,7 +29,7 @@ pub fn name_rows<A: Allocator + Copy>(
     Ok(rows)
 }
 
-/// The row of a name that leads to `now`, where it led elsewhere before.
+/// The row of a name that leads to `now`, if it led elsewhere before.
 fn name_row<A: Allocator + Copy>(
     recorder: &mut Recorder<'_, A>,
     key: &(u32, Name),
@@ -49,7 +49,7 @@ fn name_row<A: Allocator + Copy>(
     Ok(Some(row))
 }
 
-/// The numbers whose headers differ, ascending.
+/// A row for each node with another header than before, ascending.
 pub fn node_rows<A: Allocator + Copy>(
     alloc: A,
     draft: &Draft<A>,
@@ -66,7 +66,7 @@ pub fn node_rows<A: Allocator + Copy>(
     Ok(rows)
 }
 
-/// The row of a number whose header is `now`, where it was another one before.
+/// The row of a node whose header is `now`, if it was another before.
 fn node_row<A: Allocator + Copy>(
     recorder: &mut Recorder<'_, A>,
     number: u32,

@@ -15,7 +15,7 @@ use kfs_image_nodes::{Kind, Name};
 use kfs_judge_check::{EntryJudge, Reason, Recorder};
 use std::alloc::{AllocError, Allocator};
 
-/// Why the name `key` can't become `new_key`, if so.
+/// Why the name `key` can't become `new_key`; none if it can.
 #[tactic(auto, unfolding(kfs_model::specs::Check::checks_of))]
 fn rename_fault<A: Allocator + Copy>(
     judge: &EntryJudge<'_, A>,
@@ -42,7 +42,7 @@ fn rename_fault<A: Allocator + Copy>(
     Ok(rest)
 }
 
-/// Why the node `moved` can't go from `dir` to `new_dir`, in place of what is there, if so.
+/// Why node `moved` can't go from `dir` to `new_dir`, in place of `there`; none if it can.
 fn move_fault<A: Allocator + Copy>(
     judge: &EntryJudge<'_, A>,
     recorder: &mut Recorder<'_, A>,
@@ -75,7 +75,7 @@ fn leads_to(target: Option<u32>, number: u32) -> bool
     target == Some(number)
 }
 
-/// Why the node `moved` of this kind can't come to `new_dir`, in place of what is there, if so.
+/// Why node `moved`, of this kind, can't come to `new_dir`, in place of `there`; none if it can.
 fn arrival_fault<A: Allocator + Copy>(
     judge: &EntryJudge<'_, A>,
     recorder: &mut Recorder<'_, A>,
@@ -93,7 +93,7 @@ fn arrival_fault<A: Allocator + Copy>(
     Ok(rest)
 }
 
-/// Why the node `moved` of this kind can't lie in `new_dir`, if so: a directory stays out of what lies
+/// Why node `moved`, of this kind, can't be in `new_dir`; none if it can. A directory may not be put
 /// below itself.
 #[tactic(auto, unfolding(kfs_model::specs::Check::first_failing))]
 fn place_fault<A: Allocator + Copy>(
@@ -114,7 +114,7 @@ fn place_fault<A: Allocator + Copy>(
     }
 }
 
-/// Why what is there can't go for a node of this kind, if so.
+/// Why `there` can't be replaced by a node of this kind; none if it can.
 #[tactic(auto, unfolding(kfs_model::specs::Check::first_failing))]
 fn replaced_fault<A: Allocator + Copy>(
     judge: &EntryJudge<'_, A>,
@@ -134,7 +134,7 @@ fn replaced_fault<A: Allocator + Copy>(
 }
 
 impl<A: Allocator + Copy> LogJudge<'_, A> {
-    /// Moves the name `name` in `dir` to `new_name` in `new_dir`, or answers why not.
+    /// Moves the name `name` in `dir` to `new_name` in `new_dir`, or answers the reason why not.
     pub fn rename(
         &mut self,
         dir: u32,
@@ -160,8 +160,8 @@ impl<A: Allocator + Copy> LogJudge<'_, A> {
         Ok(None)
     }
 
-    /// The node `from` that the first name leads to has the second one in its place, and what that one
-    /// leads to has a name fewer. Nothing changes where both lead to one node.
+    /// Makes `new_key` lead to `from` and removes `key`. A node that `new_key` led to loses that name.
+    /// Nothing changes where both names lead to one node.
     fn move_name(
         &mut self,
         key: (u32, Name),

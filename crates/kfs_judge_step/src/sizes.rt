@@ -1,4 +1,4 @@
-//! How long the files are that a log changes, before it and after it.
+//! The sizes of the files that a log changes or reaches, before and after it.
 ghost use Rattle.std.specs.Prelude.{◌≡◌, ℕ, IfOk};
 ghost use Rattle.std.specs.List.{AllByRecursion};
 ghost use Rattle.std.specs.Option.{option_map};
@@ -15,8 +15,8 @@ use kfs_judge_draft::Draft;
 use kfs_plan_sweep::FileSize;
 use std::alloc::{AllocError, Allocator};
 
-/// The sizes of each number whose header an entry wrote, ascending. No size after the log is over the
-/// greatest of a file.
+/// The sizes of each node whose header an entry wrote, ascending by number. After the log none is over
+/// 2^32.
 pub fn file_sizes<A: Allocator + Copy>(
     alloc: A,
     draft: &Draft<A>,
@@ -38,7 +38,7 @@ pub fn file_sizes<A: Allocator + Copy>(
     Ok(sizes)
 }
 
-/// The size in bytes that a header says, 0 of none.
+/// The size in a header; 0 where there is none.
 fn header_size(header: Option<Header>) -> u64
     ensures { (s : Sight) (n : ℕ) → s.head n ≡ option_map header_of header → size_in s n ≡ result }
 {

@@ -15,7 +15,7 @@ use kfs_image_nodes::Header;
 use kfs_judge_check::{EntryJudge, Reason, Recorder};
 use std::alloc::{AllocError, Allocator};
 
-/// Why the file `number` can't have this size, if so.
+/// Why the file `number` can't have this size; none if it can.
 #[tactic(auto, unfolding(kfs_model::specs::Check::checks_of))]
 fn truncate_fault<A: Allocator + Copy>(
     judge: &EntryJudge<'_, A>,
@@ -37,7 +37,7 @@ fn truncate_fault<A: Allocator + Copy>(
 }
 
 impl<A: Allocator + Copy> LogJudge<'_, A> {
-    /// Sets the size of the file `number` in bytes, or answers why not.
+    /// Sets the size of the file `number` in bytes, or answers the reason why not.
     pub fn truncate(&mut self, number: u32, size: u64) -> Result<Option<Reason>, AllocError>
         ensures { IsEntered self.old self.new (entry.Truncate number size) result }
     {

@@ -15,7 +15,7 @@ use kfs_judge_check::{EntryJudge, Reason, Recorder};
 use kfs_judge_draft::unlinked;
 use std::alloc::{AllocError, Allocator};
 
-/// Why the name `key` of a node of this kind can't go, if so.
+/// Why the name `key`, of a node of this kind, can't be removed; none if it can.
 #[tactic(auto, unfolding(kfs_model::specs::Check::checks_of))]
 fn unlink_fault<A: Allocator + Copy>(
     judge: &EntryJudge<'_, A>,
@@ -40,7 +40,7 @@ fn unlink_fault<A: Allocator + Copy>(
     Ok(rest)
 }
 
-/// Why the node `number`, wanted to be of this kind, can't lose a name, if so.
+/// Why node `number`, which should be of this kind, can't lose a name; none if it can.
 pub fn going_fault<A: Allocator + Copy>(
     judge: &EntryJudge<'_, A>,
     recorder: &mut Recorder<'_, A>,
@@ -61,7 +61,7 @@ pub fn going_fault<A: Allocator + Copy>(
 }
 
 impl<A: Allocator + Copy> LogJudge<'_, A> {
-    /// Takes the name `name` in `dir` away, or answers why not.
+    /// Removes the name `name` from `dir`, or answers the reason why not.
     pub fn unlink(&mut self, dir: u32, name: Name, kind: Kind) -> Result<Option<Reason>, AllocError>
         requires { HasRoom 3 self.old.draft }
         ensures { IsEntered self.old self.new (entry.Unlink dir name (kind_of kind)) result }
@@ -80,7 +80,7 @@ impl<A: Allocator + Copy> LogJudge<'_, A> {
         Ok(None)
     }
 
-    /// The name, which leads to the node `there`, leads to none, and the node goes with its last name.
+    /// Removes the name `key`, which leads to `there`. The node goes with its last name.
     pub fn remove_name(&mut self, key: (u32, Name), there: Option<u32>) -> Result<(), AllocError>
         requires { HasRoom 1 self.old.draft }
         ensures goes { GoesOn self.old.recorder self.new.recorder }

@@ -16,7 +16,7 @@ use kfs_image_nodes::Header;
 use kfs_judge_check::{EntryJudge, Reason, Recorder};
 use std::alloc::{AllocError, Allocator};
 
-/// Why `len` bytes can't be put into the file `number` from `offset` on, if so.
+/// Why `len` bytes can't be put into the file `number` from `offset` on; none if it can.
 #[tactic(auto, unfolding(kfs_model::specs::Check::checks_of))]
 fn write_fault<A: Allocator + Copy>(
     judge: &EntryJudge<'_, A>,
@@ -37,7 +37,8 @@ fn write_fault<A: Allocator + Copy>(
     Ok(rest)
 }
 
-/// Why no file can have `len` bytes from `offset` on, if so. No bytes fit anywhere.
+/// Why no file can have `len` bytes from `offset` on; none if one can. A length of 0 fits at any
+/// offset.
 fn end_fault<A: Allocator + Copy>(
     judge: &EntryJudge<'_, A>,
     recorder: &mut Recorder<'_, A>,
@@ -55,7 +56,8 @@ fn end_fault<A: Allocator + Copy>(
 }
 
 impl<A: Allocator + Copy> LogJudge<'_, A> {
-    /// Puts `len` bytes into the file `number` from `offset` on, or answers why not.
+    /// Puts `len` bytes into the file `number` from `offset` on, or answers the reason why not. Their
+    /// values don't matter here.
     pub fn write(
         &mut self,
         number: u32,
@@ -78,7 +80,7 @@ impl<A: Allocator + Copy> LogJudge<'_, A> {
     }
 }
 
-/// The header of a file after `len` bytes were put into it from `offset` on.
+/// A file's header after `len` bytes are put into it from `offset` on.
 fn written(header: Option<Header>, offset: u64, len: usize) -> Option<Header>
     ensures { (p : List ℕ) → length p ≡ len → IsWrittenAt offset p (option_map header_of header) (option_map header_of result) }
 {
@@ -91,7 +93,7 @@ fn written(header: Option<Header>, offset: u64, len: usize) -> Option<Header>
     }
 }
 
-/// The size of a file after `len` bytes were put into it from `offset` on.
+/// A file's size after `len` bytes are put into it from `offset` on.
 fn written_size(size: u64, offset: u64, len: usize) -> u64
     ensures { (p : List ℕ) → length p ≡ len → offset + len < 2 ^ 64 → result ≡ seen.written_size offset p size }
 {

@@ -1,18 +1,19 @@
-//! What a desk is asked for its leases.
+//! The calls for leases, as values.
 
 use kfs_lease_rows::LeaseKind;
 
-/// A call of the desk for its leases.
+/// A call for the desk's leases, with its arguments.
 #[derive(Clone, Copy)]
 pub enum Act<'a> {
-    /// The client asks for a lease on the node of the path, until the moment `end`.
+    /// The client asks for a lease on the node at the path. `end` is the moment at which the lease
+    /// ends.
     Lease {
         client: u32,
         path: &'a [u8],
         kind: LeaseKind,
         end: u64,
     },
-    /// The client gives up its lease on the node.
+    /// The client gives up its lease on the node with this number.
     Drop {
         client: u32,
         number: u32,

@@ -1,4 +1,5 @@
-//! Leases of clients on nodes, up to an end moment: read leases are shared, write leases exclusive.
+//! Leases of clients on nodes, each up to an end moment. Read leases are shared, write leases
+//! exclusive.
 ghost use Rattle.std.specs.Prelude.{◌≡◌, ◌==◌, not, Ok, Err, IfOk, IfErr, OnOk, OnErr, IfSome, IsSomeAnd};
 ghost use Rattle.kfs_model.specs.Lease.{no_leases, holds, granted, dropped, ticked, without_gone};
 ghost use Rattle.kfs_mode.specs.Clients.{ClientsAreDistinct};
@@ -15,6 +16,9 @@ use std::alloc::{AllocError, AllocFailed, Allocator};
 use std::marker::Model;
 
 /// The leases that clients hold on nodes, and the moment. A client has at most one lease on a node.
+///
+/// Moments are numbers that the caller counts, from 0; no clock is read. A lease is live while its end
+/// is above the moment.
 #[derive(Drop)]
 pub struct Leases<A: Allocator> {
     rows: LeaseRows<A>,
@@ -43,28 +47,29 @@ impl<A: Allocator + Clone> Clone for Leases<A> {
     }
 }
 
-/// Why a call of the leases is refused. The leases stay as they were.
+/// Why a call for leases is refused. The leases and the moment stay as they were. Components of a path
+/// are counted from 0.
 #[derive(Clone, Copy, Debug, PartialEq, Eq)]
 pub enum LeaseFault {
     /// 1: no client has this number.
     UnknownClient,
-    /// 2: the path is neither `/` nor names each preceded by one `/`.
+    /// 2: the path is neither `/` nor names with one `/` before each.
     BadPath,
-    /// 3: the component of this index, from 0, is no name of the directory before it.
+    /// 3: the component with this index isn't a name of the directory before it.
     NoSuchName(usize),
-    /// 4: what stands before the component of this index is no directory.
+    /// 4: what comes before the component with this index isn't a directory.
     NotDirectory(usize),
-    /// 5: the client may not search the directory before the component of this index.
+    /// 5: the client may not search the directory before the component with this index.
     NoSearch(usize),
-    /// 6: the end isn't after the moment.
+    /// 6: the end isn't above the moment.
     Past,
-    /// 7: another client has a live lease in conflict; the least such client's number.
+    /// 7: another client has a live lease that conflicts; the least such client's number.
     LeaseHeld(u32),
     /// 8: the client has no lease on the node.
     NoLeaseHeld,
     /// 9: the moment would go down.
     Backwards,
-    /// A growth was refused.
+    /// Memory was refused.
     OutOfMemory,
 }
 
@@ -97,7 +102,8 @@ impl<A: Allocator + Copy> Leases<A> {
 }
 
 impl<A: Allocator> Leases<A> {
-    /// Whether the client holds a live write lease on the node. Takes no memory.
+    /// Whether the client holds a live write lease on the node; false where there is no such client or
+    /// node. Takes no memory.
     pub fn holds(&self, client: u32, number: u32) -> bool
         ensures { result ≡ holds self.now client number }
     {
@@ -107,14 +113,15 @@ impl<A: Allocator> Leases<A> {
         }
     }
 
-    /// The moment, a count of the caller's own that never goes down.
+    /// The moment: a number that the caller counts. It never goes down.
     pub fn moment(&self) -> u64
         ensures { result ≡ self.now.moment }
     {
         self.moment
     }
 
-    /// Ends the client's lease on the node. Takes no memory.
+    /// Ends the client's lease on the node. Refused with `UnknownClient` or `NoLeaseHeld`. Condition:
+    /// no two clients have the same number. Takes no memory.
     pub fn drop_lease(
         &mut self,
         clients: &[Client],
@@ -134,7 +141,8 @@ impl<A: Allocator> Leases<A> {
         Ok(())
     }
 
-    /// Goes to a moment, and ends the leases that are no longer live. Takes no memory.
+    /// Goes to a moment, the same or a later one, and ends the leases that are no longer live. Refused
+    /// with `Backwards`. Takes no memory.
     #[tactic(auto, unfolding(kfs_model::specs::Lease::ticked, kfs_model::specs::Lease::live_at))]
     pub fn tick(&mut self, moment: u64) -> Result<(), LeaseFault>
         ensures ok { OnOk result (ticked self.old moment ≡ (Ok moment, self.new)) }
@@ -148,7 +156,7 @@ impl<A: Allocator> Leases<A> {
         Ok(())
     }
 
-    /// Ends all leases on a node that goes. Takes no memory.
+    /// Ends all leases on a node that is removed. Takes no memory.
     pub fn remove_node(&mut self, number: u32)
         ensures { self.new ≡ without_gone self.old (λ node. not (node == number)) }
     {
@@ -157,15 +165,20 @@ impl<A: Allocator> Leases<A> {
 }
 
 impl<A: Allocator + Clone> Leases<A> {
-    /// An equal table.
+    /// An equal table, as a copy. `Err` where memory is refused.
     pub fn copy(&self) -> Result<Leases<A>, AllocError>
         ensures { IfOk result (λ copy. copy ≡ self.now) }
     {
         self.clone()
     }
 
-    /// Gives the client a lease on the node at the path, in place of the one that it has there, and
-    /// answers the node's number. It asks search on the directories of the path alone.
+    /// Gives the client a lease on the node at the path, up to the moment `end`, and answers the node's
+    /// number. It replaces the client's own lease on that node, kind and end. Of permissions it asks
+    /// only for search on the directories of the path (POSIX.1-2017, XBD 4.13).
+    ///
+    /// Refused, in this order, with `UnknownClient`; `BadPath`; at the least component that fails
+    /// `NotDirectory`, `NoSearch` or `NoSuchName`; `Past`; `LeaseHeld`. `OutOfMemory` where memory is
+    /// refused. Condition: no two clients have the same number.
     pub fn grant(
         &mut self,
         shape: &Shape<A>,

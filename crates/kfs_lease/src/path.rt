@@ -1,4 +1,4 @@
-//! Paths from the root to a node.
+//! Paths from the root to a node (POSIX.1-2017, XBD 4.13, without links).
 ghost use Rattle.std.specs.Prelude.{◌≡◌, ◌+◌, ◌==◌, ◌≤◌, ◌∷◌, ℕ, List, length, false, option_map, IsTrue, IsSomeAnd, IfSome, IfNone, IfOk, IfErr, Some, Ok, Err};
 ghost use Rattle.std.specs.Option.{option_map_or};
 ghost use Rattle.std.specs.List.{list_all, position};
@@ -19,10 +19,10 @@ use kfs_image_nodes::{Answer, Cell, Header, Kind, Name, Shape, look};
 use kfs_mode::{Client, Want, may};
 use std::alloc::Allocator;
 
-/// The parts of a path between its slashes, from first to last.
+/// The parts of a path between its slashes, in order.
 #[derive(Clone, Copy)]
 pub(crate) struct Parts<'a> {
-    /// The bytes of the parts that are left, where there are any.
+    /// The bytes that are left, if parts are left.
     rest: Option<&'a [u8]>,
 }
 
@@ -40,7 +40,7 @@ impl<'a> Iterator for Parts<'a> {
     }
 }
 
-/// The bytes before the first slash, and those after it where there is one.
+/// The bytes before the first slash, and those after it, if there is a slash.
 fn split_part(bytes: &[u8]) -> (&[u8], Option<&[u8]>)
     ensures parts { model.parts_of bytes.now ≡ result.0.now ∷ left_of result.1 }
     ensures shorter { option_map_or (λ rest. length rest.now + 1) result.1 0 ≤ length bytes.now }
@@ -51,15 +51,14 @@ fn split_part(bytes: &[u8]) -> (&[u8], Option<&[u8]>)
     }
 }
 
-/// Where the first slash stands.
+/// The index of the first slash.
 fn slash_in(bytes: &[u8]) -> Option<usize>
     ensures { result ≡ position (λ byte. byte == spelling.slash) bytes.now }
 {
     bytes.iter().position(|byte| *byte == b'/')
 }
 
-/// The names of a path in their order, or none where it is neither `/` nor names each preceded by one
-/// `/`.
+/// The names of a path, in order; none where it is neither `/` nor names with one `/` before each.
 pub(crate) fn names_of(path: &[u8]) -> Option<Parts<'_>>
     ensures { option_map parts_left result ≡ model.names_of path.now }
 {
@@ -88,8 +87,8 @@ fn is_name(bytes: &[u8]) -> bool
     Name::is_name(bytes)
 }
 
-/// The number of the node that the names lead to from the root. The component of the least index that
-/// fails is answered; at it the order is `NotDirectory`, `NoSearch`, `NoSuchName`.
+/// The number of the node to which the names lead from the root. Refused at the least component that
+/// fails; there the order is `NotDirectory`, `NoSearch`, `NoSuchName`.
 pub(crate) fn walk<A: Allocator>(
     shape: &Shape<A>,
     client: &Client,
@@ -130,7 +129,7 @@ fn step<A: Allocator>(
     }
 }
 
-/// The header of a directory.
+/// The header of a directory; none where the number isn't a directory's.
 fn directory<A: Allocator>(shape: &Shape<A>, number: u32) -> Option<Header>
     ensures header { IfSome result (λ header. get shape.now.heads number ≡ Some (header_shown header)) }
     ensures kind { IfSome result (λ header. IsTrue (is_directory (Some (header_shown header)))) }
@@ -145,7 +144,7 @@ fn directory<A: Allocator>(shape: &Shape<A>, number: u32) -> Option<Header>
     }
 }
 
-/// Where a name of a directory leads.
+/// The number that a directory's name leads to, or none.
 #[tactic(auto, using(kfs_model::proofs::NameTest::is_name_sound))]
 fn target_of<A: Allocator>(shape: &Shape<A>, dir: u32, name: &[u8]) -> Option<u32>
     requires { IsTrue (spelling.is_name name.now) }

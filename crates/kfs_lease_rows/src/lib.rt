@@ -1,4 +1,6 @@
-//! The rows of a table of leases, by node and client, with their ends in order.
+//! The rows of a table of leases, found by node and client, and their ends in order.
+//!
+//! It stands on definitions alone, and `kfs_lease` on it. Begin with `rows.rt`.
 #![tactic(auto)]
 
 mod rows;

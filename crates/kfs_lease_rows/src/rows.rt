@@ -1,4 +1,4 @@
-//! The rows of leases by node and client, and their ends in order.
+//! The rows of leases, kept by node and client, and their ends, kept in order.
 ghost use Rattle.std.specs.Prelude.{◌≡◌, ℕ, ◌<◌, ◌≤◌, ◌==◌, ◌&&◌, ◌||◌, not, IsTrue, IsSome, IfSome, IfNone, IfOk, OnOk, OnErr, option_map, is_some, None, false, if◌then◌else◌};
 ghost use Rattle.std.specs.Ordering.{eq_by_cmp};
 ghost use Rattle.std.specs.BTreeMap as slots_of;
@@ -11,17 +11,23 @@ use std::alloc::{AllocError, Allocator};
 use std::collections::{BTreeMap, BTreeSet};
 use std::ops::Bound;
 
-/// What a lease allows its client.
+/// What a lease allows its client ("Strata", SOSP 2017: read leases are shared, write leases are
+/// exclusive).
 #[derive(Clone, Copy, Debug, PartialEq, Eq)]
 pub enum LeaseKind {
+    /// Other clients may hold read leases on the node, and no write lease.
     Read,
+    /// No other client may hold a lease on the node.
     Write,
 }
 
+/// A lease of one client on one node.
 #[derive(Clone, Copy, Debug, PartialEq, Eq)]
 pub struct Lease {
+    /// For reading or for writing.
     pub kind: LeaseKind,
-    /// The lease is live as long as the moment is before this one.
+    /// The lease is live while the moment is below this one. Moments are numbers that the caller
+    /// counts.
     pub end: u64,
 }
 
@@ -37,7 +43,7 @@ impl LeaseKind {
 }
 
 impl Lease {
-    /// Whether the lease is live and excludes another client's lease of this kind.
+    /// Whether the lease is live and conflicts with another client's lease of this kind.
     fn excludes(&self, kind: LeaseKind, moment: u64) -> bool
         ensures { result ≡ model.is_live moment (lease_of self.now) && (model.is_write (kind_of kind) || model.is_write (kind_of self.now.kind)) }
     {
@@ -45,15 +51,16 @@ impl Lease {
     }
 }
 
-/// A lease of each client on each node at most.
+/// The rows of a table: each client has at most one lease on a node.
 pub struct LeaseRows<A: Allocator> {
-    /// By the node's number and then the client's.
+    /// By the node's number, and then the client's.
     pub leases: BTreeMap<(u32, u32), Lease, A>,
-    /// The end of each row, and its key.
+    /// The end of each row, with the row's key.
     pub ends: BTreeSet<(u64, (u32, u32)), A>,
 }
 
-// Written out, so that the drop of the two is proved once and not in each crate that drops leases.
+// Written out, so that the drop of both maps is proved here once and not again in each crate that drops
+// leases.
 impl<A: Allocator> Drop for LeaseRows<A> {
     fn drop(self) {
         let LeaseRows { leases, ends } = self;
@@ -63,7 +70,7 @@ impl<A: Allocator> Drop for LeaseRows<A> {
 }
 
 impl<A: Allocator + Copy> LeaseRows<A> {
-    /// No row. Takes no memory.
+    /// No rows. Takes no memory.
     #[tactic(auto, unfolding(crate::specs::LeaseRows::table_of))]
     pub fn empty(alloc: A) -> LeaseRows<A>
         ensures table { table_in result ≡ empty }
@@ -77,7 +84,7 @@ impl<A: Allocator + Copy> LeaseRows<A> {
 }
 
 impl<A: Allocator> LeaseRows<A> {
-    /// The client's lease on the node.
+    /// The client's lease on the node, or none.
     #[tactic(auto, using(crate::proofs::RowTables::tables))]
     pub fn lease(&self, client: u32, number: u32) -> Option<Lease>
         ensures { option_map lease_of result ≡ get (table_in self.now) (client, number) }
@@ -85,7 +92,7 @@ impl<A: Allocator> LeaseRows<A> {
         self.leases.get(&(number, client)).copied()
     }
 
-    /// The least other client with a live lease on the node that excludes one of this kind.
+    /// The least other client whose live lease on the node conflicts with a lease of this kind.
     pub fn least_conflict(
         &self,
         client: u32,
@@ -107,7 +114,7 @@ impl<A: Allocator> LeaseRows<A> {
         None
     }
 
-    /// Takes the client's lease on the node out, and answers whether there was one.
+    /// Removes the client's lease on the node. Answers whether there was one.
     pub fn take(&mut self, client: u32, number: u32) -> bool
         requires { EndsAreExact self.old }
         ensures indexed { EndsAreExact self.new }
@@ -126,7 +133,7 @@ impl<A: Allocator> LeaseRows<A> {
         }
     }
 
-    /// Takes out the leases that end at the moment or before.
+    /// Removes the leases whose end isn't above the moment.
     pub fn end_until(&mut self, moment: u64)
         requires { EndsAreExact self.old }
         ensures indexed { EndsAreExact self.new }
@@ -137,7 +144,7 @@ impl<A: Allocator> LeaseRows<A> {
         }
     }
 
-    /// Takes out the leases on the node.
+    /// Removes the leases on the node.
     pub fn remove_node(&mut self, number: u32)
         requires { EndsAreExact self.old }
         ensures indexed { EndsAreExact self.new }
@@ -149,7 +156,7 @@ impl<A: Allocator> LeaseRows<A> {
     }
 }
 
-/// Takes out the least end where it is at most the moment, with the key of its row.
+/// Removes and answers the least end, with its row's key, if it isn't above the moment.
 fn take_ended<A: Allocator>(
     ends: &mut BTreeSet<(u64, (u32, u32)), A>,
     moment: u64,
@@ -180,7 +187,7 @@ fn first_client<A: Allocator>(leases: &BTreeMap<(u32, u32), Lease, A>, number: u
 }
 
 impl<A: Allocator + Clone> LeaseRows<A> {
-    /// LeaseRows that show the same.
+    /// Equal rows, as a copy. `Err` where memory is refused.
     pub fn copy(&self) -> Result<LeaseRows<A>, AllocError>
         ensures leases { IfOk result (λ copy. copy.leases.entries ≡ self.now.leases.entries) }
         ensures ends { IfOk result (λ copy. copy.ends.keys ≡ self.now.ends.keys) }
@@ -191,7 +198,8 @@ impl<A: Allocator + Clone> LeaseRows<A> {
         })
     }
 
-    /// Puts a lease in place of the one of the same client and node.
+    /// Sets the client's lease on the node, in place of an old one. `Err` where memory is refused; the
+    /// rows are as before then.
     pub fn put(&mut self, client: u32, number: u32, lease: Lease) -> Result<(), AllocError>
         requires { EndsAreExact self.old }
         ensures indexed { EndsAreExact self.new }
@@ -209,7 +217,7 @@ impl<A: Allocator + Clone> LeaseRows<A> {
     }
 }
 
-/// Takes the old end of a row out where it is another than the new one.
+/// Removes a row's old end, if it differs from the new one.
 fn leave_end<A: Allocator>(
     ends: &mut BTreeSet<(u64, (u32, u32)), A>,
     key: (u32, u32),

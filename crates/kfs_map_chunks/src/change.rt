@@ -1,4 +1,5 @@
-//! A change of parts and chunks as they are cut: every copy and growth on the way in, every value on the way out.
+//! A change of a map within its present chunks: memory is taken while the calls go inwards, values are
+//! set while they return.
 ghost use Rattle.std.specs.Prelude.{◌≡◌, ◌++◌, T, All, Ok, None, true, false, OnErr};
 ghost use Rattle.std.specs.FinMap.Entries.{is_sorted, below_all};
 ghost use Rattle.std.specs.declared.ops.Bound.TheVariants.{Included};
@@ -16,12 +17,12 @@ use std::alloc::{AllocError, Allocator};
 use std::ops::Bound;
 use std::sync::Arc;
 
-/// How many entries a chunk has at most.
+/// The most entries of a chunk.
 pub(crate) const GREATEST_SIZE: usize = 256;
 
-/// Makes the edits and the other change, where each chunk has room for its own. Answers whether it
-/// has; where not, nothing was tried. Every copy and growth comes before the other change, and that
-/// before the first edit.
+/// Makes the edits and the other change, if each chunk has room for its own edits. Answers whether that
+/// is so; if not, nothing was tried. All memory is taken before the other change is made, and that
+/// comes before the first edit.
 #[cycle(change_chunks)]
 pub(crate) fn change_parts<K: Key, V: Copy, A: Allocator + Clone, C: Change>(
     parts: &mut [Arc<Part<K, V, A>, A>],
@@ -52,7 +53,7 @@ pub(crate) fn change_parts<K: Key, V: Copy, A: Allocator + Clone, C: Change>(
     change_from_part(part, rest, mine, later, then)
 }
 
-/// Makes the edits of a part, those of the parts behind it, and the other change.
+/// The same for a part, followed by the parts behind it.
 #[cycle(change_chunks)]
 fn change_from_part<K: Key, V: Copy, A: Allocator + Clone, C: Change>(
     part: &mut Arc<Part<K, V, A>, A>,
@@ -79,7 +80,7 @@ fn change_from_part<K: Key, V: Copy, A: Allocator + Clone, C: Change>(
     change_chunks(part.chunks.as_mut_slice(), mine, rest, later, then)
 }
 
-/// Makes the edits of chunks, those of the parts behind them, and the other change.
+/// The same for chunks, followed by the parts behind them.
 #[cycle(change_chunks)]
 fn change_chunks<K: Key, V: Copy, A: Allocator + Clone, C: Change>(
     chunks: &mut [Arc<Entries<K, V, A>, A>],
@@ -116,7 +117,7 @@ fn change_chunks<K: Key, V: Copy, A: Allocator + Clone, C: Change>(
     change_from(chunk, rest, mine, later, parts, behind, then)
 }
 
-/// Makes the edits of a chunk, those of the chunks and parts behind it, and the other change.
+/// The same for a chunk, followed by the chunks and parts behind it.
 #[cycle(change_chunks)]
 fn change_from<K: Key, V: Copy, A: Allocator + Clone, C: Change>(
     chunk: &mut Arc<Entries<K, V, A>, A>,

@@ -18,11 +18,11 @@ use std::marker::Model;
 use std::ops::Bound;
 use std::sync::Arc;
 
-/// A sorted map from keys to values. Copies share its chunks, and each sees the map as it was when it
+/// A sorted map from keys to values. Copies share chunks, and each keeps showing what it showed when it
 /// was made.
 #[derive(Drop)]
 pub struct Chunks<K: Key, V: Copy, A: Allocator> {
-    /// Each has an entry, and those of a part come before those of the next.
+    /// None is empty, and the keys of a part come before those of the next.
     parts: Vec<Arc<Part<K, V, A>, A>, A>,
 }
 
@@ -49,7 +49,7 @@ impl<K: Key, V: Copy, A: Allocator + Clone> Clone for Chunks<K, V, A> {
 }
 
 impl<K: Key, V: Copy, A: Allocator> Chunks<K, V, A> {
-    /// The map without a value. Takes no memory.
+    /// The map without entries. Takes no memory.
     pub fn new(alloc: A) -> Chunks<K, V, A>
         ensures { result ≡ [] }
     {
@@ -58,12 +58,12 @@ impl<K: Key, V: Copy, A: Allocator> Chunks<K, V, A> {
         }
     }
 
-    /// The allocator of its chunks. Takes no memory.
+    /// The allocator that the map was made with. Takes no memory.
     pub fn allocator(&self) -> &A {
         self.parts.allocator()
     }
 
-    /// The value at a key. Takes no memory.
+    /// The value at a key, or none. Takes no memory.
     pub fn get(&self, key: &K) -> Option<&V>
         ensures { option_copied result ≡ find K.order.compare key.now self.now }
     {
@@ -73,7 +73,7 @@ impl<K: Key, V: Copy, A: Allocator> Chunks<K, V, A> {
         part.get(key)
     }
 
-    /// The first entry from the start on, and none where there is none. Takes no memory.
+    /// The first entry at the bound or behind it, or none. Takes no memory.
     pub fn next(&self, start: Bound<&K>) -> Option<(&K, &V)>
         ensures some { IfSome result (λ p. IsNextEntry K.order.compare (bound_map (λ x. x.now) start.entry) self.now p.0.now p.1.now) }
         ensures none { IfNone result ((q : K) → is_from K.order.compare (bound_map (λ x. x.now) start.entry) q ≡ true → find K.order.compare q self.now ≡ None) }
@@ -84,10 +84,13 @@ impl<K: Key, V: Copy, A: Allocator> Chunks<K, V, A> {
 }
 
 impl<K: Key, V: Copy, A: Allocator + Clone> Chunks<K, V, A> {
-    /// Makes the edits and the other change, or neither. Every copy and growth of chunks comes first,
-    /// then the other change, and then the edits. A chunk that has no room for its edits, or that they
-    /// may empty, is cut anew, with its part, in a new list of parts. A copy that was made before shows
-    /// what it showed.
+    /// Makes the edits and the other change, or neither. All memory is taken first; then comes the
+    /// other change, then the edits. Copies show what they showed. Condition: the keys of the edits
+    /// ascend. `Err` where memory is refused.
+    ///
+    /// Usually the edits are made in the chunks that are there. Where a chunk has no room for its
+    /// edits, or might become empty, a new list of parts is made, with that chunk and its part cut
+    /// anew.
     pub fn change_then<T: Change>(
         &mut self,
         edits: &[KeyEdit<K, V>],

@@ -1,7 +1,7 @@
 //! Edits of a map in chunks.
 use crate::key::Key;
 
-/// What a key comes to have: a value, or none.
+/// The new value of a key, or none where it is to have none.
 #[derive(Drop)]
 pub struct KeyEdit<K: Key, V: Copy> {
     pub key: K,

@@ -14,7 +14,7 @@ use std::alloc::{AllocError, Allocator};
 use std::marker::Model;
 use std::ops::Bound;
 
-/// Pairs of a key and its value, the keys ascending, none twice.
+/// Keys with their values, the keys ascending, none twice.
 #[derive(Drop)]
 pub(crate) struct Entries<K: Key, V: Copy, A: Allocator> {
     pairs: Vec<(K, V), A>,
@@ -53,7 +53,7 @@ impl<K: Key, V: Copy, A: Allocator> Entries<K, V, A> {
         }
     }
 
-    /// The value at a key. Takes no memory.
+    /// The value at a key, or none. Takes no memory.
     pub(crate) fn get(&self, key: &K) -> Option<&V>
         ensures { option_copied result ≡ find K.cmp key.now self.now.pairs }
     {
@@ -63,7 +63,7 @@ impl<K: Key, V: Copy, A: Allocator> Entries<K, V, A> {
         }
     }
 
-    /// Makes room for so many more entries. The entries stay as they are.
+    /// Makes room for `more` entries. The entries stay as they are. `Err` where memory is refused.
     pub(crate) fn reserve(&mut self, more: usize) -> Result<(), AllocError>
         ensures room { OnOk result (more ≤ self.new.room) }
         ensures pairs { self.new.pairs ≡ self.old.pairs }
@@ -71,7 +71,7 @@ impl<K: Key, V: Copy, A: Allocator> Entries<K, V, A> {
         self.pairs.try_reserve(more)
     }
 
-    /// Gives the key this value, or takes its entry out. Takes no memory.
+    /// Sets the value of a key, or removes its entry. Condition: there is room. Takes no memory.
     pub(crate) fn set(&mut self, key: &K, value: Option<V>)
         requires { 0 < self.old.room }
         ensures room { self.old.room ≤ self.new.room + 1 }
@@ -87,7 +87,7 @@ impl<K: Key, V: Copy, A: Allocator> Entries<K, V, A> {
         }
     }
 
-    /// Makes the edits, for which there is room. Takes no memory.
+    /// Makes the edits. Condition: there is room for them. Takes no memory.
     pub(crate) fn write(&mut self, edits: &[KeyEdit<K, V>])
         requires { length edits.now ≤ self.old.room }
         ensures pairs { self.new.pairs ≡ entered_all K.cmp self.old.pairs edits.now }
@@ -97,14 +97,14 @@ impl<K: Key, V: Copy, A: Allocator> Entries<K, V, A> {
         }
     }
 
-    /// How many there are.
+    /// How many entries there are.
     pub(crate) fn len(&self) -> usize
         ensures { result ≡ length self.now.pairs }
     {
         self.pairs.len()
     }
 
-    /// Whether there is an entry from the start on. Looks at the last alone.
+    /// Whether an entry is at the bound or behind it. Only the last entry is looked at.
     pub(crate) fn reaches(&self, start: &Bound<&K>) -> bool
         ensures { result ≡ reaches K.cmp (bound_map (λ x. x.now) start.now) self.now.pairs }
     {
@@ -114,7 +114,7 @@ impl<K: Key, V: Copy, A: Allocator> Entries<K, V, A> {
         }
     }
 
-    /// The first entry from the start on.
+    /// The first entry at the bound or behind it, or none.
     pub(crate) fn next(&self, start: Bound<&K>) -> Option<(&K, &V)>
         ensures some { IfSome result (λ p. entry_from K.cmp (bound_map (λ x. x.now) start.entry) self.now.pairs ≡ Some (p.0.now, p.1.now)) }
         ensures none { IfNone result (entry_from K.cmp (bound_map (λ x. x.now) start.entry) self.now.pairs ≡ None) }
@@ -125,7 +125,7 @@ impl<K: Key, V: Copy, A: Allocator> Entries<K, V, A> {
 }
 
 impl<K: Key, V: Copy, A: Allocator + Clone> Entries<K, V, A> {
-    /// The entries after the edits, in memory of their own.
+    /// The entries after the edits, as a new chunk.
     pub(crate) fn merged(&self, edits: &[KeyEdit<K, V>]) -> Result<Entries<K, V, A>, AllocError>
         requires { KeysAscend K.cmp edits.now }
         ensures { IfOk result (λ merged. merged.pairs ≡ entered_all K.cmp self.now.pairs edits.now) }
@@ -134,7 +134,7 @@ impl<K: Key, V: Copy, A: Allocator + Clone> Entries<K, V, A> {
         Ok(Entries { pairs })
     }
 
-    /// A copy of so many entries, from an index on.
+    /// A copy of `count` entries, the first of them at index `from`.
     pub(crate) fn part(&self, from: usize, count: usize) -> Result<Entries<K, V, A>, AllocError>
         requires { from + count ≤ length self.now.pairs }
         ensures { IfOk result (λ part. part.pairs ≡ take count (drop from self.now.pairs)) }
@@ -145,7 +145,8 @@ impl<K: Key, V: Copy, A: Allocator + Clone> Entries<K, V, A> {
     }
 }
 
-/// The index of the first entry from the start on, or else their number.
+/// The index of the first entry at the bound or behind it, or the number of entries where there is
+/// none.
 pub(crate) fn first_from<K: Key, V: Copy>(pairs: &[(K, V)], start: Bound<&K>) -> usize
     requires { T (is_sorted K.cmp pairs.now) }
     ensures { result ≡ first_from K.cmp (bound_map (λ x. x.now) start.entry) pairs.now }
@@ -153,7 +154,7 @@ pub(crate) fn first_from<K: Key, V: Copy>(pairs: &[(K, V)], start: Bound<&K>) ->
     pairs.partition_point(|pair| !is_from(&start, &pair.0))
 }
 
-/// The index of the key's entry, or else the one at which it would stand.
+/// The index of the key's entry; as an error the index at which it would be put.
 fn search<K: Key, V: Copy>(pairs: &[(K, V)], key: &K) -> Result<usize, usize>
     requires { T (is_sorted K.cmp pairs.now) }
     ensures { result ≡ (let at = first_from K.cmp (Included key.now) pairs.now in if is_some (find K.cmp key.now pairs.now) then Ok at else Err at) }
@@ -169,7 +170,7 @@ fn search<K: Key, V: Copy>(pairs: &[(K, V)], key: &K) -> Result<usize, usize>
     }
 }
 
-/// Whether a key is at the start or behind it.
+/// Whether a key is at the bound or behind it.
 fn is_from<K: Ord>(start: &Bound<&K>, key: &K) -> bool
     ensures { result ≡ is_from K.cmp (bound_map (λ x. x.now) start.now) key.now }
 {

@@ -1,4 +1,4 @@
-//! What a key of a map in chunks must offer.
+//! What a type must offer to be the key of a map in chunks.
 ghost use Rattle.std.specs.Prelude.{◌≡◌, refl};
 ghost use Rattle.std.proofs.Common.{rules, sym, ◌∙◌};
 ghost use Rattle.kfs_map_chunks.specs.Keys.{same_items};
@@ -7,19 +7,20 @@ ghost use Rattle.kfs_model.specs.Tree.{name_order};
 
 use kfs_entry_value::Name;
 
-/// A key of a map in chunks: it is ordered, only equal keys tie, and it takes no memory of its own.
+/// A key of a map in chunks. Keys are ordered, only equal keys compare as equal, and a key takes no
+/// memory of its own.
 pub trait Key: Ord + Clone + Drop {
     /// The order of the keys.
     ghost order: { Order Self };
 
-    /// The same key again. Takes no memory.
+    /// The same key once more. Takes no memory.
     fn duplicate(&self) -> Self
         ensures { result ≡ self.now };
 
-    /// The order is the one that `cmp` answers.
+    /// The order is that of `cmp`.
     ghost compared: { Self.cmp ≡ order.compare };
 
-    /// A clone is the key itself.
+    /// A clone equals the key.
     ghost cloned: { (key copy : Self) → Self.is_clone key copy → copy ≡ key };
 }
 

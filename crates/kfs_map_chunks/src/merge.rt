@@ -1,4 +1,4 @@
-//! Entries after edits, in memory of their own, by one walk over both.
+//! Entries after edits, as a new list, made in one walk over both.
 ghost use Rattle.std.specs.Prelude.{◌≡◌, ◌++◌, T, IfOk, OnOk, None};
 ghost use Rattle.std.specs.declared.ops.Bound.TheVariants.{Included};
 ghost use Rattle.std.specs.FinMap.Entries.{is_sorted};
@@ -30,8 +30,8 @@ pub(crate) fn merged<K: Key, V: Copy, A: Allocator>(
     Ok(merged)
 }
 
-/// Adds the entries up to the edit's key, and what the edit makes of it. Gives the entries that are
-/// left.
+/// Copies the entries below the edit's key, and then the edit's entry, if it has a value. Answers the
+/// entries that are left.
 fn enter<'a, K: Key, V: Copy, A: Allocator>(
     merged: &mut Vec<(K, V), A>,
     left: &'a [(K, V)],
@@ -49,7 +49,7 @@ fn enter<'a, K: Key, V: Copy, A: Allocator>(
     Ok(behind(from, &edit.key))
 }
 
-/// The entries without the first, where that has the key.
+/// The entries without the first one, if that has the key.
 fn behind<'a, K: Key, V: Copy>(entries: &'a [(K, V)], key: &K) -> &'a [(K, V)]
     requires sorted { T (is_sorted K.cmp entries.now) }
     requires from { first_from K.cmp (Included key.now) entries.now ≡ 0 }
@@ -65,7 +65,7 @@ fn behind<'a, K: Key, V: Copy>(entries: &'a [(K, V)], key: &K) -> &'a [(K, V)]
     }
 }
 
-/// Adds the entries behind the others.
+/// Appends the entries to the list.
 pub(crate) fn copy_to<K: Key, V: Copy, A: Allocator>(
     to: &mut Vec<(K, V), A>,
     entries: &[(K, V)],

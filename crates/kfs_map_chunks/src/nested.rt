@@ -1,4 +1,4 @@
-//! A change of chunks that is made together with another, or not at all.
+//! A change of chunks that is made together with another one or not at all.
 ghost use Rattle.std.proofs.Common.{rules};
 
 use crate::chunks::Chunks;
@@ -7,7 +7,7 @@ use crate::key::Key;
 use kfs_map_pages::Change;
 use std::alloc::{AllocError, Allocator};
 
-/// Edits of a map in chunks, and the change that is made with them.
+/// Edits of a map in chunks, and the change to be made together with them.
 #[derive(Drop)]
 pub struct EditChunks<'a, K: Key, V: Copy, A: Allocator, T> {
     pub chunks: &'a mut Chunks<K, V, A>,

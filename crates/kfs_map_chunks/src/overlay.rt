@@ -1,4 +1,4 @@
-//! What was said last of the keys of a map, laid over the map without a change of it.
+//! New values of keys, laid over a map that stays as it is.
 ghost use Rattle.std.specs.Prelude.{◌≡◌, [], Some, OnOk, IfOk, if◌then◌else◌};
 ghost use Rattle.std.specs.Ordering.{eq_by_cmp};
 ghost use Rattle.std.specs.BTreeMap.{get, IsOrdered};
@@ -10,15 +10,16 @@ use crate::key::Key;
 use std::alloc::{AllocError, Allocator};
 use std::collections::BTreeMap;
 
-/// What was said last of the keys of a map: a value, or none. The map itself stays as it is.
+/// The newest values set for keys of a map: a value, or none for a key that is removed. The map itself
+/// isn't changed.
 #[derive(Drop)]
 pub struct Overlay<K: Ord + Drop, V: Copy, A: Allocator> {
-    /// The keys of which something was said.
+    /// The keys that were set.
     pub latest: BTreeMap<K, Option<V>, A>,
 }
 
 impl<K: Ord + Drop, V: Copy, A: Allocator + Clone> Overlay<K, V, A> {
-    /// Nothing was said. Takes no memory.
+    /// An overlay in which no key is set. Takes no memory.
     pub fn new(alloc: A) -> Overlay<K, V, A>
         ensures { result.latest.entries ≡ [] }
     {
@@ -27,7 +28,7 @@ impl<K: Ord + Drop, V: Copy, A: Allocator + Clone> Overlay<K, V, A> {
         }
     }
 
-    /// What was said last of the key, or else what stands there. Takes no memory.
+    /// The value set last for the key, or `there` where the key wasn't set. Takes no memory.
     pub fn get_or(&self, key: &K, there: Option<V>) -> Option<V>
         ensures { result ≡ said_or (get K.cmp self.now.latest key.now) there }
     {
@@ -37,7 +38,7 @@ impl<K: Ord + Drop, V: Copy, A: Allocator + Clone> Overlay<K, V, A> {
         }
     }
 
-    /// Says what the key comes to have. `Err` where memory is refused.
+    /// Sets the key's value, or that it has none. `Err` where memory is refused.
     pub fn set(&mut self, key: K, now: Option<V>) -> Result<(), AllocError>
         ensures { OnOk result ((q : K) → get K.cmp self.new.latest q ≡ (if eq_by_cmp K.cmp q key then Some now else get K.cmp self.old.latest q)) }
     {
@@ -46,7 +47,7 @@ impl<K: Ord + Drop, V: Copy, A: Allocator + Clone> Overlay<K, V, A> {
     }
 }
 
-/// The edits of chunks that say the same, ascending. `Err` where memory is refused.
+/// The overlay as edits of a map in chunks, ascending by key. `Err` where memory is refused.
 pub fn key_edits<K: Key, V: Copy, A: Allocator + Clone>(
     alloc: &A,
     overlay: &Overlay<K, V, A>,

@@ -17,13 +17,13 @@ use std::marker::Model;
 use std::ops::Bound;
 use std::sync::Arc;
 
-/// How many chunks a part has at most.
+/// The most chunks of a part.
 pub(crate) const MOST_CHUNKS: usize = 64;
 
-/// Chunks that stand one behind the other. Copies share them.
+/// Chunks in the order of their keys. Copies share them.
 #[derive(Drop)]
 pub(crate) struct Part<K: Key, V: Copy, A: Allocator> {
-    /// 1 to 64 of them. Each has 1 to 256 entries, and those of a chunk come before those of the next.
+    /// 1 to 64 chunks of 1 to 256 entries; the keys of a chunk come before those of the next.
     pub(crate) chunks: Vec<Arc<Entries<K, V, A>, A>, A>,
 }
 
@@ -51,7 +51,7 @@ impl<K: Key, V: Copy, A: Allocator + Clone> Clone for Part<K, V, A> {
 }
 
 impl<K: Key, V: Copy, A: Allocator> Part<K, V, A> {
-    /// The value at a key. Takes no memory.
+    /// The value at a key, or none. Takes no memory.
     pub(crate) fn get(&self, key: &K) -> Option<&V>
         ensures { option_copied result ≡ find K.cmp key.now self.now.pairs }
     {
@@ -59,7 +59,7 @@ impl<K: Key, V: Copy, A: Allocator> Part<K, V, A> {
         chunk.get(key)
     }
 
-    /// The first entry from the start on. Takes no memory.
+    /// The first entry at the bound or behind it, or none. Takes no memory.
     pub(crate) fn next(&self, start: Bound<&K>) -> Option<(&K, &V)>
         ensures some { IfSome result (λ p. entry_from K.cmp (bound_map (λ x. x.now) start.entry) self.now.pairs ≡ Some (p.0.now, p.1.now)) }
         ensures none { IfNone result (entry_from K.cmp (bound_map (λ x. x.now) start.entry) self.now.pairs ≡ None) }
@@ -68,7 +68,7 @@ impl<K: Key, V: Copy, A: Allocator> Part<K, V, A> {
         chunk.next(start)
     }
 
-    /// Whether there is an entry from the start on. Looks at the last alone.
+    /// Whether an entry is at the bound or behind it. Only the last entry is looked at.
     pub(crate) fn reaches(&self, start: &Bound<&K>) -> bool
         ensures { result ≡ reaches K.cmp (bound_map (λ x. x.now) start.now) self.now.pairs }
     {
@@ -80,7 +80,7 @@ impl<K: Key, V: Copy, A: Allocator> Part<K, V, A> {
 }
 
 impl<K: Key, V: Copy, A: Allocator + Clone> Part<K, V, A> {
-    /// The chunks as a part of their own, which shares them.
+    /// A part with these chunks, which it shares.
     pub(crate) fn of(
         alloc: A,
         chunks: &[Arc<Entries<K, V, A>, A>],
@@ -98,7 +98,7 @@ impl<K: Key, V: Copy, A: Allocator + Clone> Part<K, V, A> {
         Ok(Part { chunks: own })
     }
 
-    /// The chunks after the edits, in a list of their own.
+    /// The chunks after the edits, as a new list.
     pub(crate) fn rebuilt(
         &self,
         edits: &[KeyEdit<K, V>],

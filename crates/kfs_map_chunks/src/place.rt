@@ -1,4 +1,4 @@
-//! The part that a key belongs to, and the chunk in it.
+//! Finding the part, and in it the chunk, to which a key belongs.
 ghost use Rattle.std.specs.Prelude.{◌≡◌, ◌≤◌, ◌++◌, T, All, None, length, take, drop};
 ghost use Rattle.std.specs.FinMap.Entries.{is_sorted, below_all};
 ghost use Rattle.std.specs.Range.Bound.{bound_map};
@@ -15,7 +15,8 @@ use std::alloc::Allocator;
 use std::ops::Bound;
 use std::sync::Arc;
 
-/// The index of the first chunk that has an entry from the start on, or else their number.
+/// The index of the first chunk with an entry at the bound or behind it, or the number of chunks where
+/// there is none.
 pub(crate) fn place<K: Key, V: Copy, A: Allocator>(
     chunks: &[Arc<Entries<K, V, A>, A>],
     start: &Bound<&K>,
@@ -27,8 +28,8 @@ pub(crate) fn place<K: Key, V: Copy, A: Allocator>(
     chunks.partition_point(|chunk| !chunk.reaches(start))
 }
 
-/// How many of the edits, from the first on, are of the chunk: those of keys up to its last, or all
-/// where no chunk is behind it.
+/// How many edits at the front of the list belong to the chunk: those of keys up to its last one, or
+/// all where it is the last chunk.
 pub(crate) fn run_of<K: Key, V: Copy, A: Allocator>(
     edits: &[KeyEdit<K, V>],
     chunk: &Entries<K, V, A>,
@@ -46,7 +47,8 @@ pub(crate) fn run_of<K: Key, V: Copy, A: Allocator>(
     edits.partition_point(|edit| chunk.reaches(&Bound::Included(&edit.key)))
 }
 
-/// The index of the first part that has an entry from the start on, or else their number.
+/// The index of the first part with an entry at the bound or behind it, or the number of parts where
+/// there is none.
 pub(crate) fn place_part<K: Key, V: Copy, A: Allocator>(
     parts: &[Arc<Part<K, V, A>, A>],
     start: &Bound<&K>,
@@ -58,8 +60,8 @@ pub(crate) fn place_part<K: Key, V: Copy, A: Allocator>(
     parts.partition_point(|part| !part.reaches(start))
 }
 
-/// How many of the edits, from the first on, are of the part: those of keys up to its last, or all
-/// where no part is behind it.
+/// How many edits at the front of the list belong to the part: those of keys up to its last one, or all
+/// where it is the last part.
 pub(crate) fn run_of_part<K: Key, V: Copy, A: Allocator>(
     edits: &[KeyEdit<K, V>],
     part: &Part<K, V, A>,

@@ -1,4 +1,4 @@
-//! Chunks with their edits made, in a list of its own.
+//! Chunks after edits, as a new list.
 ghost use Rattle.std.specs.Prelude.{◌≡◌, ◌≤◌, [], ◌++◌, T, IfOk, OnOk};
 ghost use Rattle.std.specs.FinMap.Entries.{is_sorted};
 ghost use Rattle.kfs_map_chunks.specs.Edits.{entered_all, KeysAscend};
@@ -12,7 +12,7 @@ use crate::place::run_of;
 use std::alloc::{AllocError, Allocator};
 use std::sync::Arc;
 
-/// The chunks after the edits. Those without an edit are shared, and the others are cut anew.
+/// The chunks after the edits. Chunks without edits are shared; the others are cut anew.
 pub(crate) fn rebuilt<K: Key, V: Copy, A: Allocator + Clone>(
     chunks: &Vec<Arc<Entries<K, V, A>, A>, A>,
     edits: &[KeyEdit<K, V>],
@@ -37,7 +37,7 @@ pub(crate) fn rebuilt<K: Key, V: Copy, A: Allocator + Clone>(
     Ok(new)
 }
 
-/// What the edits make where nothing stood, as chunks.
+/// The chunks that the edits make of a map without entries.
 pub(crate) fn fresh<K: Key, V: Copy, A: Allocator + Clone>(
     alloc: &A,
     edits: &[KeyEdit<K, V>],
@@ -51,7 +51,7 @@ pub(crate) fn fresh<K: Key, V: Copy, A: Allocator + Clone>(
     Ok(new)
 }
 
-/// Adds the chunk after its edits: the same chunk where there are none.
+/// Appends the chunk after its edits; where there are none, the same chunk.
 fn push<K: Key, V: Copy, A: Allocator + Clone>(
     new: &mut Vec<Arc<Entries<K, V, A>, A>, A>,
     chunk: &Arc<Entries<K, V, A>, A>,
@@ -70,7 +70,7 @@ fn push<K: Key, V: Copy, A: Allocator + Clone>(
     cut(new, &chunk.merged(edits)?)
 }
 
-/// Adds the entries, cut into chunks of one size, the last of which may be smaller.
+/// Appends the entries, cut into chunks of one size; only the last may be smaller.
 fn cut<K: Key, V: Copy, A: Allocator + Clone>(
     new: &mut Vec<Arc<Entries<K, V, A>, A>, A>,
     entries: &Entries<K, V, A>,
@@ -90,8 +90,8 @@ fn cut<K: Key, V: Copy, A: Allocator + Clone>(
     Ok(())
 }
 
-/// How many stand in a block, of which one takes so many at most: all where they fit, one half where
-/// two halves fit, and else half of what fits, so that each block has room for more.
+/// How many entries each new chunk gets, where a chunk takes `most`: all if they fit in one, half if
+/// two chunks suffice, else `most` / 2, so that each can grow.
 pub(crate) fn size_for(len: usize, most: usize) -> usize
     requires fits_two { 2 ≤ most }
     requires most { most ≤ 256 }

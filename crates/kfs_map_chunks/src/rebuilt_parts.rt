@@ -1,4 +1,4 @@
-//! Parts with their edits made, in a list of its own.
+//! Parts after edits, as a new list.
 ghost use Rattle.std.specs.Prelude.{◌≡◌, ◌++◌, T, IfOk, OnOk};
 ghost use Rattle.std.specs.FinMap.Entries.{is_sorted};
 ghost use Rattle.kfs_map_chunks.specs.Edits.{entered_all, KeysAscend};
@@ -13,7 +13,7 @@ use crate::rebuilt::{fresh, size_for};
 use std::alloc::{AllocError, Allocator};
 use std::sync::Arc;
 
-/// The parts after the edits. Those without an edit are shared, and the others are cut anew.
+/// The parts after the edits. Parts without edits are shared; the others are cut anew.
 pub(crate) fn rebuilt_parts<K: Key, V: Copy, A: Allocator + Clone>(
     parts: &Vec<Arc<Part<K, V, A>, A>, A>,
     edits: &[KeyEdit<K, V>],
@@ -38,7 +38,7 @@ pub(crate) fn rebuilt_parts<K: Key, V: Copy, A: Allocator + Clone>(
     Ok(new)
 }
 
-/// Adds the part after its edits: the same part where there are none.
+/// Appends the part after its edits; where there are none, the same part.
 fn push_part<K: Key, V: Copy, A: Allocator + Clone>(
     new: &mut Vec<Arc<Part<K, V, A>, A>, A>,
     part: &Arc<Part<K, V, A>, A>,
@@ -58,7 +58,7 @@ fn push_part<K: Key, V: Copy, A: Allocator + Clone>(
     cut_parts(new, &part.rebuilt(edits)?)
 }
 
-/// Adds the chunks, cut into parts of one size, the last of which may be smaller.
+/// Appends the chunks, cut into parts of one size; only the last may be smaller.
 fn cut_parts<K: Key, V: Copy, A: Allocator + Clone>(
     new: &mut Vec<Arc<Part<K, V, A>, A>, A>,
     chunks: &[Arc<Entries<K, V, A>, A>],

@@ -1,4 +1,5 @@
-//! A change of pages: every copy and growth on the way in, every value on the way out.
+//! A change of pages together with another change: memory is taken while the calls go inwards, values
+//! are set while they return.
 ghost use Rattle.std.specs.Prelude.{◌≡◌, ℕ, ◌+◌, ◌*◌, ◌≤◌, ◌<◌, ◌++◌, [], ◌∷◌, All, IsSome, OnOk, OnErr, length};
 ghost use Rattle.kfs_map_pages.specs.Edits.{edited, Ascends, EditsAreWithin, IsOfPage};
 ghost use Rattle.kfs_map_pages.specs.Groups.{held, all_held, pages_of, laid_out, GroupsAreWhole};
@@ -10,28 +11,28 @@ use crate::page::Page;
 use std::alloc::{AllocError, Allocator};
 use std::sync::Arc;
 
-/// A change that is made together with one of pages, or not at all.
+/// A change that can be made together with a change of pages: both are made, or neither.
 pub trait Change {
-    /// It can be made from this state.
+    /// What must hold before a call.
     ghost can_make: { Self → Type 0 };
 
-    /// Where it was made, it led from the first state to the second.
+    /// What holds of the states before and after a call that returned `Ok`.
     ghost made: { Self → Self → Type 0 };
 
-    /// Where it was refused, it led from the first state to the second.
+    /// What holds of the states before and after a call that returned `Err`.
     ghost kept: { Self → Self → Type 0 };
 
-    /// The error is for memory alone.
+    /// Makes the change. `Err` only where memory is refused.
     fn make(&mut self) -> Result<(), AllocError>
         requires { can_make self.old }
         ensures made { OnOk result (made self.old self.new) }
         ensures kept { OnErr result (kept self.old self.new) };
 
-    /// A change that wasn't tried counts as refused.
+    /// A change that was never tried counts as one that returned `Err`.
     ghost not_tried: { (x : Self) → kept x x };
 }
 
-/// Makes a page without a value where there is none.
+/// Puts a page without values into the slot, if it has none.
 fn found<V: Copy, A: Allocator + Clone>(
     alloc: &A,
     slot: &mut Option<Arc<Page<V, A>, A>>,
@@ -50,7 +51,7 @@ fn found<V: Copy, A: Allocator + Clone>(
     Ok(())
 }
 
-/// Makes a group without a page where there is none.
+/// Puts a group without pages into the slot, if it has none.
 fn found_group<V: Copy, A: Allocator + Clone>(
     alloc: &A,
     slot: &mut Option<Arc<Group<V, A>, A>>,
@@ -65,8 +66,8 @@ fn found_group<V: Copy, A: Allocator + Clone>(
     Ok(())
 }
 
-/// Makes the edits, of pages of the groups from the first on, and the other change. Every copy and
-/// growth comes before the other change, and that before the first edit.
+/// Makes the edits in these groups, and the other change; the first group has index `first`. All memory
+/// is taken before the other change is made, and that comes before the first edit.
 #[cycle(change_groups)]
 pub(crate) fn change_groups<V: Copy, A: Allocator + Clone, T: Change>(
     alloc: &A,
@@ -99,7 +100,7 @@ pub(crate) fn change_groups<V: Copy, A: Allocator + Clone, T: Change>(
     change_group(alloc, group, rest, index, edits, then)
 }
 
-/// Makes the edits of a group and of those behind it, and the other change.
+/// The same for a group, followed by the groups behind it.
 #[cycle(change_groups)]
 fn change_group<V: Copy, A: Allocator + Clone, T: Change>(
     alloc: &A,
@@ -134,7 +135,7 @@ fn change_group<V: Copy, A: Allocator + Clone, T: Change>(
     change_pages(alloc, pages, first, rest, index + 1, edits, then)
 }
 
-/// Makes the edits of the pages from the first on and of the groups behind them, and the other change.
+/// The same for pages, the first of which has index `first`, followed by the groups behind them.
 #[cycle(change_groups)]
 fn change_pages<V: Copy, A: Allocator + Clone, T: Change>(
     alloc: &A,
@@ -174,7 +175,7 @@ fn change_pages<V: Copy, A: Allocator + Clone, T: Change>(
     change_from(alloc, page, rest, index, groups, next, mine, later, then)
 }
 
-/// Makes the edits of a page, those of the pages and groups behind it, and the other change.
+/// The same for a page, followed by the pages and groups behind it.
 #[cycle(change_groups)]
 fn change_from<V: Copy, A: Allocator + Clone, T: Change>(
     alloc: &A,

@@ -1,4 +1,4 @@
-//! Changes of several maps, made together or not at all.
+//! Changes of several maps that are made together or not at all.
 ghost use Rattle.std.proofs.Common.{rules};
 
 use crate::change::Change;
@@ -6,7 +6,7 @@ use crate::edit::NumberEdit;
 use crate::pages::Pages;
 use std::alloc::{AllocError, Allocator};
 
-/// No further change.
+/// No change: the end of a chain of changes.
 #[derive(Drop)]
 pub struct Nothing;
 
@@ -26,7 +26,7 @@ impl Change for Nothing {
     }
 }
 
-/// Edits of a map in pages, and the change that is made with them.
+/// Edits of a map in pages, and the change to be made together with them.
 #[derive(Drop)]
 pub struct EditPages<'a, V: Copy, A: Allocator, T> {
     pub pages: &'a mut Pages<V, A>,

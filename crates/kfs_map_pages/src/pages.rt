@@ -1,4 +1,4 @@
-//! Pages of all numbers, as one map.
+//! The pages of all numbers, as one map.
 ghost use Rattle.std.specs.Prelude.{◌≡◌, ℕ, ◌<◌, None, IfOk, IfSome, IfNone, OnOk, OnErr};
 ghost use Rattle.std.specs.Option.{option_copied};
 ghost use Rattle.kfs_model.specs.Table.{empty, get};
@@ -14,12 +14,12 @@ use std::alloc::{AllocError, Allocator};
 use std::marker::Model;
 use std::sync::Arc;
 
-/// How many groups of pages there are.
+/// How many groups there are.
 const GROUPS: u32 = 32;
 
-/// A map from the numbers 1 to 65,536 to values. Copies share its groups of pages, and each sees the
-/// map as it was when it was made. A change beside a copy copies the list of the groups, and of each
-/// group that it touches the list of its pages, and the pages that it touches.
+/// A map from the numbers 1 to 65,536 to values. Copies share groups of pages, and each keeps showing
+/// what it showed when it was made. A change copies the list of groups, and only those groups' lists
+/// and pages that it touches and that a copy shares.
 #[derive(Drop)]
 pub struct Pages<V: Copy, A: Allocator> {
     groups: Vec<Option<Arc<Group<V, A>, A>>, A>,
@@ -49,7 +49,7 @@ impl<V: Copy, A: Allocator + Clone> Clone for Pages<V, A> {
 }
 
 impl<V: Copy, A: Allocator> Pages<V, A> {
-    /// The map without a value.
+    /// The map without values. Takes memory for the list of groups.
     pub fn new(alloc: A) -> Result<Pages<V, A>, AllocError>
         ensures { IfOk result (λ pages. pages ≡ empty) }
     {
@@ -58,7 +58,7 @@ impl<V: Copy, A: Allocator> Pages<V, A> {
         })
     }
 
-    /// The value at a number. Takes no memory.
+    /// The value at a number, or none. Takes no memory.
     pub fn get(&self, number: u32) -> Option<&V>
         ensures { option_copied result ≡ get self.now number }
     {
@@ -66,8 +66,8 @@ impl<V: Copy, A: Allocator> Pages<V, A> {
         page.get(number)
     }
 
-    /// The page of this index, or none where none of its 64 numbers has a value. The number n belongs
-    /// to the page (n - 1) / 64. Takes no memory.
+    /// The page with this index, or none where none of its 64 numbers has a value. Number n is in page
+    /// (n - 1) / 64. Takes no memory.
     pub fn page(&self, index: u32) -> Option<&Page<V, A>>
         ensures page { IfSome result (λ page. page.now ≡ record { index = index; values = part index self.now }) }
         ensures some { IfSome result (λ page. part index self.now ≡ empty → ⊥) }
@@ -80,7 +80,7 @@ impl<V: Copy, A: Allocator> Pages<V, A> {
         Some(page)
     }
 
-    /// The least number above `after` that has a value, and the value. Takes no memory.
+    /// The least number above `after` that has a value, and its value. Takes no memory.
     pub fn next(&self, after: u32) -> Option<(u32, &V)>
         ensures found { IfSome result (λ p. IsNextNumber self.now after p.0 p.1.now) }
         ensures none { IfNone result ((m : ℕ) → after < m → get self.now m ≡ None) }
@@ -95,7 +95,7 @@ impl<V: Copy, A: Allocator> Pages<V, A> {
         None
     }
 
-    /// The same of the numbers of one page.
+    /// The same among the numbers of one page.
     fn next_in(&self, index: u32, after: u32) -> Option<(u32, &V)>
         ensures found { IfSome result (λ p. IsNextNumber (part index self.now) after p.0 p.1.now) }
         ensures none { IfNone result ((m : ℕ) → after < m → get (part index self.now) m ≡ None) }
@@ -105,8 +105,9 @@ impl<V: Copy, A: Allocator> Pages<V, A> {
 }
 
 impl<V: Copy, A: Allocator + Clone> Pages<V, A> {
-    /// Makes the edits and the other change, or neither. Every copy and growth of pages comes first,
-    /// then the other change, and then the edits. A copy that was made before shows what it showed.
+    /// Makes the edits and the other change, or neither. All memory is taken first; then comes the
+    /// other change, then the edits. Copies show what they showed. Condition: the edits ascend. `Err`
+    /// where memory is refused.
     pub fn change_then<T: Change>(
         &mut self,
         edits: &[NumberEdit<V>],

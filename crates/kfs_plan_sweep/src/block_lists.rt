@@ -1,4 +1,5 @@
-//! The blocks of a file that its right pieces write, one by one, and the ranges of blocks that they make all zero.
+//! The blocks of a file that its right pieces write, one by one, and the ranges of blocks that they
+//! make all zero.
 ghost use Rattle.std.specs.Prelude.{◌≡◌, ◌+◌, ◌++◌, ◌≤◌, ◌^◌, IfOk, map};
 ghost use Rattle.std.specs.List.{AllByRecursion};
 ghost use Rattle.kfs_model.specs.Blocks.{touches};
@@ -14,14 +15,14 @@ use crate::touched::Touched;
 use kfs_entry_value::{BLOCK_SIZE, Piece, Source};
 use std::alloc::{AllocError, Allocator};
 
-/// Blocks of a file from the first on, without the end.
+/// Blocks of a file: from `first` on, below `end`.
 #[derive(Clone, Copy, Debug, PartialEq, Eq)]
 pub struct BlockRange {
     pub first: u32,
     pub end: u32,
 }
 
-/// Lists the blocks of a stretch, if there is one, those before `next` left out, and answers the next block.
+/// Lists the blocks from `next` on, and answers the block after the last one listed.
 fn list_blocks<A: Allocator>(
     out: &mut Vec<u32, A>,
     next: u64,
@@ -40,7 +41,8 @@ fn list_blocks<A: Allocator>(
     Ok(next.max(blocks.last + 1))
 }
 
-/// The blocks that the right pieces of one file write, ascending, where the file has this size after the log.
+/// The blocks that the right pieces of one file write, ascending. `size` is the file's size after the
+/// log. `Err` where memory is refused.
 pub fn written_in<A: Allocator>(
     alloc: A,
     pieces: &[Piece],
@@ -63,7 +65,7 @@ pub fn written_in<A: Allocator>(
     Ok(out)
 }
 
-/// How many blocks reach to this place.
+/// How many blocks hold the bytes before this position.
 fn blocks_to(place: u64) -> u64
     requires { place ≤ size_limit }
     ensures { result ≡ block_count place }
@@ -71,7 +73,8 @@ fn blocks_to(place: u64) -> u64
     place.div_ceil(BLOCK_SIZE)
 }
 
-/// Adds the range of the blocks whose bytes all lie from one place to another of a file of this size, unless it is empty.
+/// Adds the range of blocks that lie whole between two positions, if there are any. A file's last block
+/// counts as whole at its end.
 fn add_between<A: Allocator>(
     out: &mut Vec<BlockRange, A>,
     size: u64,
@@ -97,7 +100,7 @@ fn add_between<A: Allocator>(
     Ok(())
 }
 
-/// Where the zero bytes of a piece begin, and its end for a payload's.
+/// Where a piece's zero bytes begin; for a payload's piece, where the piece ends.
 fn zeros_start(piece: &Piece) -> u64
     requires { PieceIsInRange piece.now }
     ensures value { result ≡ zeros_start (piece_of piece.now) }
@@ -109,8 +112,8 @@ fn zeros_start(piece: &Piece) -> u64
     }
 }
 
-/// The ranges of the blocks that the right pieces of one file make all zero, where the file has this size after the log: in
-/// their order, none of them empty.
+/// The ranges of blocks that the right pieces of one file make all zero, ascending, none empty. `size`
+/// is the file's size after the log. `Err` where memory is refused.
 pub fn cleared_in<A: Allocator>(
     alloc: A,
     pieces: &[Piece],

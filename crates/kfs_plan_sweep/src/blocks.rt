@@ -10,14 +10,14 @@ ghost use Rattle.kfs_plan_sweep.specs.PieceBlocks.{HasCounted, blocks_in, piece_
 use crate::touched::Touched;
 use kfs_entry_value::{BLOCK_SIZE, Piece, Source};
 
-/// How many blocks are counted so far, and the first block behind them.
+/// A count that is under way: the first block not counted yet, and how many were counted.
 #[derive(Clone, Copy)]
 pub(crate) struct Count {
     pub next: u64,
     pub total: u64,
 }
 
-/// The block of a place, unless it is left out.
+/// The block at a position, unless it is to be left out.
 fn block_at(place: u64, is_left_out: bool) -> Option<Touched>
     requires { place ≤ size_limit }
     ensures { blocks_in result ≡ (if is_left_out then [] else block_of place ∷ []) }
@@ -32,7 +32,7 @@ fn block_at(place: u64, is_left_out: bool) -> Option<Touched>
     })
 }
 
-/// The blocks that a piece writes, in their order: at the most those of two stretches.
+/// The blocks that a piece writes, ascending: at most two runs of them.
 pub(crate) fn touched_by(
     until: u64,
     piece: &Piece,
@@ -60,7 +60,7 @@ pub(crate) fn touched_by(
     }
 }
 
-/// Counts the blocks of a stretch, if there is one, those that are counted already left out.
+/// Counts the blocks of a run, without those counted before.
 fn with_blocks(count: Count, touched: Option<Touched>) -> Count
     requires near { count.next ≤ 2 ^ 20 + 1 }
     requires low { count.total ≤ count.next }
@@ -96,7 +96,7 @@ fn with_piece(count: Count, until: u64, piece: &Piece, goes_on: bool, size: u64)
     with_blocks(begun, back)
 }
 
-/// Whether the pieces from an index on go on with zero bytes at a place.
+/// Whether the next piece is of zero bytes and starts at this position.
 pub(crate) fn goes_on_at(pieces: &[Piece], index: usize, place: u64) -> bool
     ensures { result ≡ goes_on place (map piece_of (drop index pieces.now)) }
 {
@@ -106,7 +106,7 @@ pub(crate) fn goes_on_at(pieces: &[Piece], index: usize, place: u64) -> bool
     pieces[index].source == Source::Zero && pieces[index].start == place
 }
 
-/// Where the zero bytes of a piece end, and 0 for a payload's.
+/// Where a piece's zero bytes end; 0 for a payload's piece.
 pub(crate) fn zeros_end(piece: &Piece) -> u64
     requires { PieceIsInRange piece.now }
     ensures { result ≡ zeros_until (piece_of piece.now) }
@@ -117,7 +117,8 @@ pub(crate) fn zeros_end(piece: &Piece) -> u64
     }
 }
 
-/// How many blocks the right pieces of one file write, where the file has this size after the log.
+/// How many blocks the right pieces of one file write. `size` is the file's size after the log. Takes
+/// no memory.
 pub fn blocks_written(pieces: &[Piece], size: u64) -> u64
     requires whole { AllByRecursion PieceIsInRange pieces.now }
     requires filled { AllByRecursion IsFilled pieces.now }

@@ -1,4 +1,4 @@
-//! A plan's pieces followed along right ones.
+//! A plan's pieces compared with right ones, however either list is cut.
 ghost use Rattle.std.specs.Prelude.{◌≡◌, ◌+◌, ◌<◌, ◌≤◌, ◌^◌, ℕ, List, drop, map, IfSome, MatchOption, Option, None, Some};
 ghost use Rattle.std.specs.Option.{option_map};
 ghost use Rattle.std.specs.List.{AllByRecursion};
@@ -8,7 +8,8 @@ ghost use Rattle.kfs_plan_sweep.specs.Lefts.{FrontIsInRange, PieceIsInRange, lef
 
 use kfs_entry_value::{Piece, Source};
 
-/// What is left of right pieces: a first one, perhaps without its front, and those from `next` on.
+/// What is left of the right pieces: a first one, perhaps without its front, and those from index
+/// `next` on.
 #[derive(Clone, Copy)]
 pub(crate) struct Left {
     pub front: Option<Piece>,
@@ -28,7 +29,7 @@ fn left_from(right: &[Piece], next: usize) -> Left
     }
 }
 
-/// Whether both begin at the same byte and say the same of it.
+/// Whether both begin at the same byte, and with the same source.
 fn begin_alike(piece: &Piece, right: &Piece) -> bool
     ensures { result ≡ begins_alike (piece_of piece.now) (piece_of right.now) }
 {
@@ -48,7 +49,7 @@ fn begin_alike(piece: &Piece, right: &Piece) -> bool
     }
 }
 
-/// The piece without its first bytes.
+/// The piece without its first `distance` bytes.
 fn cut_front(piece: Piece, distance: u64) -> Piece
     requires within { distance ≤ piece.len }
     requires short { FrontIsInRange (piece_of piece) distance }
@@ -69,7 +70,7 @@ fn cut_front(piece: Piece, distance: u64) -> Piece
     }
 }
 
-/// What is left behind a piece, if the piece says what the right pieces say from their first byte on.
+/// What is left behind a piece; none where the piece differs from the bytes that are left.
 fn left_behind(right: &[Piece], left: Left, piece: &Piece) -> Option<Left>
     requires short { AllByRecursion PieceIsInRange (left_of right.now left) }
     ensures behind { option_map (λ after. pieces_left right.now after) result ≡ behind_piece (piece_of piece.now) (pieces_left right.now left) }
@@ -97,8 +98,9 @@ fn left_behind(right: &[Piece], left: Left, piece: &Piece) -> Option<Left>
     None
 }
 
-/// The first piece that is empty or isn't what is left of the right pieces begins with, or the count of pieces where some of
-/// the right ones are left.
+/// The index of the first wrong piece: empty, or different from the next bytes of the right list. If
+/// all agree but bytes are missing at the end, the number of pieces. None if nothing is wrong. Takes no
+/// memory.
 pub fn first_piece_apart(pieces: &[Piece], right: &[Piece]) -> Option<usize>
     requires { AllByRecursion PieceIsInRange right.now }
     ensures { result ≡ first_apart 0 (map piece_of pieces.now) (map piece_of right.now) }

@@ -1,4 +1,5 @@
-//! Laws of the lists of blocks: each is the contract of a function without a body.
+//! Laws of the lists of blocks. Each is the contract of a function that has nothing to do when it is
+//! called.
 
 ghost use Rattle.std.specs.Prelude.{◌≡◌, ℕ, List, flat_map};
 ghost use Rattle.kfs_model.specs.Placement.{written_blocks};
@@ -8,12 +9,14 @@ ghost use Rattle.kfs_model.specs.Run.{Mark};
 ghost use Rattle.kfs_model.specs.Tree.{Tree};
 ghost use Rattle.kfs_plan_sweep.specs.BlockLists.{IsClearedInRanges, node_written};
 
-/// The blocks that a log writes are those that right pieces list, file by file, however they are cut.
+/// The blocks that a log writes are those listed from right pieces, file by file, however the pieces
+/// are cut.
 pub fn written_blocks_are_listed()
     ensures { (after : Tree Mark) (pieces : List Piece) → ArePieces after pieces → written_blocks after ≡ flat_map (node_written pieces) after.nodes.entries }
 {}
 
-/// The blocks of a file that a log makes all zero are those in the ranges that right pieces clear, however they are cut.
+/// The blocks of a file that a log makes all zero are those in the ranges from right pieces, however
+/// the pieces are cut.
 pub fn cleared_blocks_are_in_ranges()
     ensures { (after : Tree Mark) (pieces : List Piece) → ArePieces after pieces → (number : ℕ) → IsClearedInRanges after pieces number }
 {}

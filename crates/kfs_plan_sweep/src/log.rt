@@ -1,4 +1,4 @@
-//! What the entries of a log make of the bytes of files.
+//! Which bytes of files the entries of a log change.
 ghost use Rattle.std.specs.Prelude.{◌≡◌, ◌≤◌, ◌++◌, IfOk, IfSome, length, map};
 ghost use Rattle.std.specs.List.{AllByRecursion};
 ghost use Rattle.kfs_model.specs.Limits.{entry_limit};
@@ -14,7 +14,7 @@ use crate::stretch::{ByteRange, Origin};
 use kfs_entry_value::{Entry, Piece, Span};
 use std::alloc::{AllocError, Allocator};
 
-/// What a file grew by; empty where it didn't grow.
+/// The range by which a file grew; empty where it didn't.
 fn growth(size: &FileSize) -> ByteRange
     requires { IsSize size.now }
     ensures made { result ≡ growth_of size.now }
@@ -28,8 +28,8 @@ fn growth(size: &FileSize) -> ByteRange
     }
 }
 
-/// What the entry of this index reaches of its file, below the file's size after the log; none for an entry that is neither
-/// a Write nor a Truncate.
+/// The range that the entry with this index changes in its file, cut off at the file's size after the
+/// log. None where the entry is neither a Write nor a Truncate.
 fn reach(sizes: &[FileSize], index: u16, entry: &Entry<Span>) -> Option<ByteRange>
     requires ascending { SizesAscend 0 sizes.now }
     requires sizes { AllByRecursion IsSize sizes.now }
@@ -64,7 +64,8 @@ fn reach(sizes: &[FileSize], index: u16, entry: &Entry<Span>) -> Option<ByteRang
     }
 }
 
-/// What a log made: what each listed file grew by, and then what each Write and each Truncate reaches of its file.
+/// The ranges that a log changes: first what each listed file grew by, then what each Write and
+/// Truncate changes.
 fn stretches_of<A: Allocator>(
     alloc: A,
     sizes: &[FileSize],
@@ -89,9 +90,11 @@ fn stretches_of<A: Allocator>(
     Ok(out)
 }
 
-/// Right pieces of a log, from its entries and the sizes of files: of each file that grew, and of each that a Write or a
-/// Truncate names and that is there after the log. The numbers of `sizes` ascend, the log has at most 4,096 entries, and
-/// payloads and sizes are in their ranges. Refused growths are the only error.
+/// Right pieces of a log, from its entries and the sizes of files. `sizes` lists, ascending by number,
+/// each file that grew or that a Write or Truncate names, if it is there after the log.
+///
+/// Condition: at most 4,096 entries, with payloads and sizes in their ranges. `Err` where memory is
+/// refused.
 pub fn sweep<A: Allocator + Copy>(
     alloc: A,
     sizes: &[FileSize],

@@ -1,4 +1,4 @@
-//! Lists of stretches, one laid over another.
+//! Lists of byte ranges, one laid over another.
 ghost use Rattle.std.specs.Prelude.{◌≡◌, ◌++◌, IfOk, ℕ, List, [], ◌∷◌, drop};
 ghost use Rattle.kfs_plan_sweep.specs.Stretches.{AreFrom, begins_before, cut_below, cut_from, ends_by, last_origin, merged, origin_at};
 ghost use Rattle.std.specs.List.{AllByRecursion};
@@ -8,14 +8,14 @@ ghost use Rattle.kfs_plan_sweep.specs.Rests.{rest_of};
 use crate::stretch::ByteRange;
 use std::alloc::{AllocError, Allocator};
 
-/// What is left of a list: a first stretch, perhaps without its front, and those of the list from `next` on.
+/// What is left of a list: a first range, perhaps without its front, and those from index `next` on.
 #[derive(Clone, Copy)]
 pub(crate) struct Rest {
     pub front: Option<ByteRange>,
     pub next: usize,
 }
 
-/// The list from `next` on.
+/// The list from index `next` on.
 fn from_next(list: &[ByteRange], next: usize) -> Rest
     ensures { rest_of list.now result ≡ drop next list.now }
 {
@@ -29,21 +29,21 @@ fn from_next(list: &[ByteRange], next: usize) -> Rest
     }
 }
 
-/// Whether the stretch ends at this byte or before it.
+/// Whether the range ends at this byte of the file, or before it.
 fn is_over(stretch: &ByteRange, number: u32, place: u64) -> bool
     ensures { result ≡ ends_by number place stretch.now }
 {
     stretch.number < number || stretch.number == number && stretch.end <= place
 }
 
-/// Whether the stretch begins before this byte of its file.
+/// Whether the range begins before this byte of the file.
 fn has_begun(stretch: &ByteRange, number: u32, place: u64) -> bool
     ensures { result ≡ begins_before number place stretch.now }
 {
     stretch.number == number && stretch.start < place
 }
 
-/// Moves what lies before the byte to `out`, and answers what is left.
+/// Moves to `out` what lies before the byte, and answers what is left.
 fn take_below<A: Allocator>(
     out: &mut Vec<ByteRange, A>,
     list: &[ByteRange],
@@ -103,7 +103,7 @@ fn skip_below(list: &[ByteRange], rest: Rest, number: u32, place: u64) -> Rest
     left
 }
 
-/// Moves all that is left to `out`.
+/// Moves to `out` all that is left.
 fn take_all<A: Allocator>(
     out: &mut Vec<ByteRange, A>,
     list: &[ByteRange],
@@ -119,7 +119,8 @@ fn take_all<A: Allocator>(
     Ok(())
 }
 
-/// The upper list laid over the lower one: all of the upper list, and what the lower one has beside it.
+/// The upper list laid over the lower one: all of the upper list, and of the lower one what the upper
+/// one doesn't cover.
 pub fn laid_over<A: Allocator>(
     alloc: A,
     lower: &[ByteRange],
@@ -138,7 +139,8 @@ pub fn laid_over<A: Allocator>(
     Ok(out)
 }
 
-/// For each byte the last of the stretches that has it. Stretches may overlap and be empty; a later one hides an earlier one.
+/// For each byte, the last of the ranges that has it. Ranges may overlap and be empty; a later one
+/// hides an earlier one. `Err` where memory is refused.
 pub fn last_of_all<A: Allocator + Copy>(
     alloc: A,
     stretches: &[ByteRange],
@@ -160,7 +162,7 @@ pub fn last_of_all<A: Allocator + Copy>(
     }
 }
 
-/// The stretch, or nothing where it is empty.
+/// The range as a list of one, or no range where it is empty.
 fn alone<A: Allocator>(alloc: A, stretch: &ByteRange) -> Result<Vec<ByteRange, A>, AllocError>
     ensures order { IfOk result (λ out. AreFrom 0 0 out.items) }
     ensures says { IfOk result (λ out. (number place : ℕ) → origin_at out.items number place ≡ last_origin (stretch.now ∷ []) number place) }

@@ -21,8 +21,8 @@ fn front_len(pieces: &[Piece], number: u32) -> usize
     len
 }
 
-/// How many blocks right pieces write, over all files, by the files' sizes after the log: so many free places a landing takes.
-/// The pieces stand in the order of their files' numbers, and those of `sizes` ascend.
+/// How many blocks right pieces write, over all files: as many free places a landing takes. The pieces
+/// ascend by file number and position; `sizes` ascends by number. Takes no memory.
 pub fn need_of(pieces: &[Piece], sizes: &[FileSize]) -> u64
     requires ascending { SizesAscend 0 sizes.now }
     requires order { AreByNumber 0 pieces.now }

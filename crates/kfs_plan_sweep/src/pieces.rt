@@ -1,4 +1,4 @@
-//! Right pieces of a log, made of stretches.
+//! Right pieces of a log, made from byte ranges.
 ghost use Rattle.std.specs.Prelude.{◌≡◌, ◌<◌, ℕ, IfOk, map};
 ghost use Rattle.std.specs.List.{AllByRecursion};
 ghost use Rattle.kfs_entry_value.specs.Views.{piece_of};
@@ -12,7 +12,7 @@ use crate::stretch::{ByteRange, Origin};
 use kfs_entry_value::{Piece, Source};
 use std::alloc::{AllocError, Allocator};
 
-/// The stretch as a row of a plan.
+/// A range as a piece of a plan.
 fn piece_from(stretch: &ByteRange) -> Piece
     requires fit { IsFit stretch.now }
     requires filled { stretch.now.start < stretch.now.end }
@@ -35,7 +35,7 @@ fn piece_from(stretch: &ByteRange) -> Piece
     }
 }
 
-/// The stretches as rows of a plan.
+/// The ranges as pieces of a plan.
 fn pieces_from<A: Allocator>(alloc: A, stretches: &[ByteRange]) -> Result<Vec<Piece, A>, AllocError>
     requires fit { AllByRecursion IsFit stretches.now }
     requires order { AreFrom 0 0 stretches.now }
@@ -51,7 +51,8 @@ fn pieces_from<A: Allocator>(alloc: A, stretches: &[ByteRange]) -> Result<Vec<Pi
     Ok(out)
 }
 
-/// Right pieces of a log, from what it made: what each file grew by, and then what each of its entries reaches of its file.
+/// Right pieces of a log, from the ranges that it changed: first what each file grew by, then what each
+/// entry changes, in the log's order. `Err` where memory is refused.
 pub fn right_pieces<A: Allocator + Copy>(
     alloc: A,
     stretches: &[ByteRange],

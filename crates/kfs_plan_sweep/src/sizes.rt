@@ -1,17 +1,20 @@
-//! How long the files are that a log changes.
+//! The sizes of the files that a log changes.
 ghost use Rattle.std.specs.Prelude.{◌≡◌};
 ghost use Rattle.kfs_plan_sweep.specs.Sizes.{SizesAscend, length_after};
 
-/// The sizes of a file in bytes, before and after a log; 0 where it isn't there.
+/// The sizes of one file before and after a log.
 #[derive(Clone, Copy, Debug, PartialEq, Eq)]
 pub struct FileSize {
+    /// The file's number.
     pub number: u32,
+    /// In bytes; 0 where the file wasn't there.
     pub before: u64,
+    /// In bytes; 0 where the file is gone.
     pub after: u64,
 }
 
-/// The size after the log of the file with this number, 0 where it isn't listed. The numbers ascend, so it is found in the
-/// time of a logarithm.
+/// The file's size after the log, 0 where it isn't listed. The numbers ascend, so it is found by binary
+/// search.
 pub(crate) fn size_after(sizes: &[FileSize], number: u32) -> u64
     requires { SizesAscend 0 sizes.now }
     ensures { result ≡ length_after sizes.now number }

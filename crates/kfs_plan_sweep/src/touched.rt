@@ -1,7 +1,7 @@
-//! Stretches of blocks.
+//! Runs of blocks that a piece writes.
 ghost use Rattle.std.specs.Prelude.{◌≤◌, ◌^◌};
 
-/// Blocks of a file from the first to the last, both included.
+/// Blocks of a file, from `first` to `last`, both included.
 #[derive(Clone, Copy)]
 pub(crate) struct Touched {
     pub first: u64,

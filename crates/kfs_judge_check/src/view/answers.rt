@@ -1,4 +1,4 @@
-//! What a view is made of, and what it shows.
+//! Making a view, and looking things up in it.
 ghost use Rattle.std.specs.Prelude.{◌≡◌};
 ghost use Rattle.std.specs.Option.{option_map};
 ghost use Rattle.kfs_image_nodes.specs.Look.{IsAnswer};
@@ -14,8 +14,8 @@ use std::alloc::Allocator;
 use std::sync::Arc;
 
 impl<A: Allocator> View<A> {
-    /// The view of exactly these. The clients' numbers are distinct, and a look-up of a client is
-    /// quick where they ascend. Takes no memory.
+    /// The view of these. Condition: no two clients have the same number; where their numbers ascend, a
+    /// client is found faster. Takes no memory.
     pub fn of(
         shape: Arc<Shape<A>, A>,
         leases: Arc<Leases<A>, A>,
@@ -33,21 +33,22 @@ impl<A: Allocator> View<A> {
         }
     }
 
-    /// The row of the client with this number. Takes no memory.
+    /// The client with this number, or none. Takes no memory.
     pub fn client(&self, number: u32) -> Option<&Client>
         ensures { option_map (λ row. row.now) result ≡ row_of (clients_of self.now) number }
     {
         find_client(self.clients.as_slice(), number)
     }
 
-    /// What the view shows at a cell. Takes no memory.
+    /// The answer at a cell. Takes no memory.
     pub fn look(&self, cell: &Cell) -> Answer
         ensures { IsAnswer (contents_of self.now) cell.now result }
     {
         look(&self.shape, cell)
     }
 
-    /// Whether the client holds a live write lease on the node. Takes no memory.
+    /// Whether the client holds a live write lease on the node; false where there is no such client or
+    /// node. Takes no memory.
     pub fn holds(&self, client: u32, number: u32) -> bool
         ensures { result ≡ holds (leases_of self.now) client number }
     {
