@@ -8,12 +8,12 @@ ghost use Rattle.kfs_entry.specs.Missing.{EntryMissing, PartRowMissing};
 ghost use Rattle.kfs_entry.specs.Answers.{OnAnswer, log_of, plan_of, SpansAreWithin};
 
 use crate::fault::SpellFault;
-use kfs_entry_codec::{Row, RowsFault, headers, read_rows};
+use kfs_entry_codec::{RowsFault, SpelledRow, headers, read_rows};
 use kfs_entry_value::{Entry, Log, NameRow, NodeRow, Piece, Plan, RowList, Span};
 use std::alloc::Allocator;
 
 /// Reads the entries of a log.
-fn entries<R: Row, A: Allocator>(
+fn entries<R: SpelledRow, A: Allocator>(
     alloc: A,
     source: &[u8],
     at: usize,
@@ -31,7 +31,7 @@ fn entries<R: Row, A: Allocator>(
 }
 
 /// Reads the rows of one part of a plan.
-fn part<R: Row, A: Allocator>(
+fn part<R: SpelledRow, A: Allocator>(
     alloc: A,
     source: &[u8],
     at: usize,

@@ -4,7 +4,7 @@ ghost use Rattle.kfs_entry_value.specs.Views.{entry_of, IsWithin};
 ghost use Rattle.kfs_model.proofs.Reading.{tagged_read, entry_read};
 ghost use Rattle.kfs_entry_codec.specs.Reading.{seen};
 
-use crate::row::Row;
+use crate::row::SpelledRow;
 use crate::{byte, entry_table, kind, mode, name, number32, number64, payload};
 use kfs_entry_value::{Entry, Span};
 use std::alloc::{AllocError, Allocator};
@@ -88,7 +88,7 @@ fn read_entry(source: &[u8], at: usize) -> Option<(Entry<Span>, usize)>
     }
 }
 
-impl Row for Entry<Span> {
+impl SpelledRow for Entry<Span> {
     ghost use Rattle.std.specs.Prelude.{length};
     ghost use Rattle.kfs_model.specs.Spelling.{IsEntry, entry_bytes};
     ghost use Rattle.kfs_entry_value.specs.Views.{entry_of, IsWithin};

@@ -26,4 +26,4 @@ mod piece;
 mod row;
 mod table;
 
-pub use row::{Row, RowsFault, read_rows, rows_len, write_rows};
+pub use row::{RowsFault, SpelledRow, read_rows, rows_len, write_rows};

@@ -5,7 +5,7 @@ ghost use Rattle.kfs_entry_value.specs.Views.{name_row_of};
 ghost use Rattle.kfs_model.proofs.Reading.{name_row_read};
 ghost use Rattle.kfs_entry_codec.specs.Reading.{seen};
 
-use crate::row::Row;
+use crate::row::SpelledRow;
 use crate::{name, number32};
 use kfs_entry_value::NameRow;
 use std::alloc::{AllocError, Allocator};
@@ -22,7 +22,7 @@ fn read_row(source: &[u8], at: usize) -> Option<(NameRow, usize)>
     Some((NameRow { dir, name, number }, at))
 }
 
-impl Row for NameRow {
+impl SpelledRow for NameRow {
     ghost use Rattle.kfs_model.specs.Spelling.{IsNameRow, name_row_bytes};
     ghost use Rattle.kfs_entry_value.specs.Views.{name_row_of};
     ghost use Rattle.kfs_model.specs.Spelling.{Begins};

@@ -5,7 +5,7 @@ ghost use Rattle.kfs_entry_value.specs.Views.{node_row_of};
 ghost use Rattle.kfs_model.proofs.Reading.{node_row_read};
 ghost use Rattle.kfs_entry_codec.specs.Reading.{seen};
 
-use crate::row::Row;
+use crate::row::SpelledRow;
 use crate::{header, number32};
 use kfs_entry_value::NodeRow;
 use std::alloc::{AllocError, Allocator};
@@ -21,7 +21,7 @@ fn read_row(source: &[u8], at: usize) -> Option<(NodeRow, usize)>
     Some((NodeRow { number, now }, at))
 }
 
-impl Row for NodeRow {
+impl SpelledRow for NodeRow {
     ghost use Rattle.kfs_model.specs.Spelling.{IsNodeRow, node_row_bytes};
     ghost use Rattle.kfs_entry_value.specs.Views.{node_row_of};
     ghost use Rattle.kfs_model.specs.Spelling.{Begins};

@@ -5,7 +5,7 @@ ghost use Rattle.kfs_entry_value.specs.Views.{source_of, piece_of};
 ghost use Rattle.kfs_model.proofs.Reading.{source_read, piece_read};
 ghost use Rattle.kfs_entry_codec.specs.Reading.{seen};
 
-use crate::row::Row;
+use crate::row::SpelledRow;
 use crate::{byte, number16, number32, number64};
 use kfs_entry_value::{Piece, Source};
 use std::alloc::{AllocError, Allocator};
@@ -64,7 +64,7 @@ fn read_piece(source: &[u8], at: usize) -> Option<(Piece, usize)>
     Some((piece, at))
 }
 
-impl Row for Piece {
+impl SpelledRow for Piece {
     ghost use Rattle.kfs_model.specs.Spelling.{IsPiece, piece_bytes};
     ghost use Rattle.kfs_entry_value.specs.Views.{piece_of};
     ghost use Rattle.kfs_model.specs.Spelling.{Begins};

@@ -7,7 +7,7 @@ ghost use Rattle.kfs_entry_codec.specs.RowList.{AreRead, RowMissing};
 use std::alloc::{AllocError, AllocFailed, Allocator};
 
 /// A row of a format. The source is the bytes that the row's spans point into.
-pub trait Row: Drop {
+pub trait SpelledRow: Drop {
     ghost use Rattle.std.specs.Prelude.{ℕ, List};
 
     /// The bytes that spell the row.
@@ -73,7 +73,7 @@ impl<T: Drop> From<AllocFailed<T>> for RowsFault {
 
 /// Reads `count` rows from position `at` on, and answers them with the position after the last. The
 /// list grows as rows are read: `count` comes from the input and reserves nothing.
-pub fn read_rows<R: Row, A: Allocator>(
+pub fn read_rows<R: SpelledRow, A: Allocator>(
     alloc: A,
     source: &[u8],
     at: usize,
@@ -99,7 +99,7 @@ pub fn read_rows<R: Row, A: Allocator>(
 
 /// Appends the bytes of the rows, one after another. `Err` where memory is refused; what was appended
 /// until then stays.
-pub fn write_rows<R: Row, A: Allocator>(
+pub fn write_rows<R: SpelledRow, A: Allocator>(
     out: &mut Vec<u8, A>,
     source: &[u8],
     rows: &[R],
@@ -114,7 +114,7 @@ pub fn write_rows<R: Row, A: Allocator>(
 }
 
 /// The length of all the spellings in bytes, or `usize::MAX` where it is greater.
-pub fn rows_len<R: Row>(source: &[u8], rows: &[R]) -> usize
+pub fn rows_len<R: SpelledRow>(source: &[u8], rows: &[R]) -> usize
     requires { All (R.can_write source.now) rows.now }
 {
     let mut len = 0usize;

@@ -6,13 +6,16 @@ ghost use Rattle.kfs_image.specs.Read.{FileIsRead};
 
 use crate::image::Image;
 use std::alloc::Allocator;
+use thiserror::Error;
 
 /// Why a file isn't read.
-#[derive(Clone, Copy, Debug, PartialEq, Eq)]
+#[derive(Clone, Copy, Debug, PartialEq, Eq, Error)]
 pub enum ReadFault {
     /// 1: no node has this number.
+    #[error("NoSuchNode")]
     NoSuchNode,
     /// 2: the node is a directory.
+    #[error("IsDirectory")]
     IsDirectory,
 }
 

@@ -19,9 +19,11 @@ use kfs_judge_step::LogJudge;
 use kfs_plan_sweep::FileSize;
 use std::alloc::{AllocError, Allocator};
 use std::hash::{BuildHasherDefault, FoldHasher};
+use thiserror::Error;
 
 /// The first bad entry of a log.
-#[derive(Clone, Copy, Debug, PartialEq, Eq)]
+#[derive(Clone, Copy, Debug, PartialEq, Eq, Error)]
+#[error("entry {index} {reason}")]
 pub struct EntryFault {
     /// Its index in the log, from 0.
     pub index: usize,

@@ -1,40 +1,56 @@
 //! The checks of an entry, and the reasons for which they fail.
 
 use kfs_image_nodes::Name;
+use thiserror::Error;
 
 /// Why an entry is refused. docs/FORMATS.md says in which order an entry's checks are made; the first
 /// that fails is the reason.
-#[derive(Clone, Copy, Debug, PartialEq, Eq)]
+#[derive(Clone, Copy, Debug, PartialEq, Eq, Error)]
 pub enum Reason {
     /// 1: no node has the number.
+    #[error("NoSuchNode")]
     NoSuchNode,
     /// 2: the node isn't a directory.
+    #[error("NotDirectory")]
     NotDirectory,
     /// 3: the node is a directory.
+    #[error("IsDirectory")]
     IsDirectory,
     /// 4: the directory has no such name.
+    #[error("NoSuchName")]
     NoSuchName,
     /// 5: the directory already has the name.
+    #[error("NameTaken")]
     NameTaken,
     /// 6: the number is a node's, or was one's before the log, or the log has created it.
+    #[error("NumberTaken")]
     NumberTaken,
     /// 7: the number isn't in the client's grant.
+    #[error("NumberNotGranted")]
     NumberNotGranted,
     /// 8: the directory has names.
+    #[error("NotEmpty")]
     NotEmpty,
     /// 9: the directory would be put below itself.
+    #[error("BelowItself")]
     BelowItself,
     /// 10: the file already has 1,024 names.
+    #[error("TooManyLinks")]
     TooManyLinks,
     /// 11: the file would be longer than 2^32 bytes.
+    #[error("TooBig")]
     TooBig,
     /// 12: the client may not search the directory.
+    #[error("NoSearch")]
     NoSearch,
     /// 13: the client may not write the node.
+    #[error("NoWrite")]
     NoWrite,
     /// 14: the client is neither the node's owner nor privileged.
+    #[error("NotOwner")]
     NotOwner,
     /// 15: the client holds no live write lease on the node with this number.
+    #[error("NoLease({0})")]
     NoLease(u32),
 }
 

@@ -14,6 +14,7 @@ use kfs_lease_rows::{Lease, LeaseKind, LeaseRows};
 use kfs_mode::{Client, find_client};
 use std::alloc::{AllocError, AllocFailed, Allocator};
 use std::marker::Model;
+use thiserror::Error;
 
 /// The leases that clients hold on nodes, and the moment. A client has at most one lease on a node.
 ///
@@ -49,27 +50,37 @@ impl<A: Allocator + Clone> Clone for Leases<A> {
 
 /// Why a call for leases is refused. The leases and the moment stay as they were. Components of a path
 /// are counted from 0.
-#[derive(Clone, Copy, Debug, PartialEq, Eq)]
+#[derive(Clone, Copy, Debug, PartialEq, Eq, Error)]
 pub enum LeaseFault {
     /// 1: no client has this number.
+    #[error("UnknownClient")]
     UnknownClient,
     /// 2: the path is neither `/` nor names with one `/` before each.
+    #[error("BadPath")]
     BadPath,
     /// 3: the component with this index isn't a name of the directory before it.
+    #[error("NoSuchName({0})")]
     NoSuchName(usize),
     /// 4: what comes before the component with this index isn't a directory.
+    #[error("NotDirectory({0})")]
     NotDirectory(usize),
     /// 5: the client may not search the directory before the component with this index.
+    #[error("NoSearch({0})")]
     NoSearch(usize),
     /// 6: the end isn't above the moment.
+    #[error("Past")]
     Past,
     /// 7: another client has a live lease that conflicts; the least such client's number.
+    #[error("LeaseHeld({0})")]
     LeaseHeld(u32),
     /// 8: the client has no lease on the node.
+    #[error("NoLeaseHeld")]
     NoLeaseHeld,
     /// 9: the moment would go down.
+    #[error("Backwards")]
     Backwards,
     /// Memory was refused.
+    #[error("memory")]
     OutOfMemory,
 }
 

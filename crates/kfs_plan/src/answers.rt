@@ -4,6 +4,7 @@ use crate::submission::{Fault, Submission};
 pub use kfs_lease::Act;
 use kfs_lease::LeaseFault;
 use std::alloc::{AllocError, Allocator};
+use thiserror::Error;
 
 /// The answer to a submission, with its place in the docket.
 #[derive(Clone, Copy, Debug, PartialEq, Eq)]
@@ -50,11 +51,13 @@ pub struct ActReply {
 }
 
 /// Why a call for the leases has no place in the docket. The desk is as it was.
-#[derive(Clone, Copy, Debug, PartialEq, Eq)]
+#[derive(Clone, Copy, Debug, PartialEq, Eq, Error)]
 pub enum Unanswered {
     /// 1: a growth of memory was refused.
+    #[error("memory")]
     OutOfMemory,
     /// 2: the docket has as many rows as its limit allows.
+    #[error("full")]
     DocketFull,
 }
 
@@ -76,12 +79,15 @@ pub struct SubmissionsBack<A: Allocator> {
 }
 
 /// Why a desk was not begun. The number is the index of the client, from 0, in the list of clients.
-#[derive(Clone, Copy, Debug, PartialEq, Eq)]
+#[derive(Clone, Copy, Debug, PartialEq, Eq, Error)]
 pub enum BeginFault {
     /// 1: an earlier client has the same number.
+    #[error("ClientTwice({0})")]
     ClientTwice(usize),
     /// 2: an earlier client's grant has a number of this client's.
+    #[error("GrantOverlap({0})")]
     GrantOverlap(usize),
     /// A growth of memory was refused.
+    #[error("memory")]
     OutOfMemory,
 }

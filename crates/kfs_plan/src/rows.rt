@@ -14,19 +14,24 @@ use kfs_image_nodes::Net;
 use kfs_judge::Walk;
 use kfs_plan_sweep::{FileSize, first_piece_apart, need_of, sweep};
 use std::alloc::{AllocError, Allocator};
+use thiserror::Error;
 
 /// Why a plan isn't the right one for its log.
-#[derive(Clone, Copy, Debug, PartialEq, Eq)]
+#[derive(Clone, Copy, Debug, PartialEq, Eq, Error)]
 pub enum RowFault {
     /// 1: the name row of this index isn't the right list's, or the right list has it no more or the
     /// plan has it not.
+    #[error("Names({0})")]
     Names(usize),
     /// 2: the same of the node rows.
+    #[error("Nodes({0})")]
     Nodes(usize),
     /// 3: the piece of this index is empty, or isn't what comes next of the bytes that the log made;
     /// or some of these are left behind the last piece.
+    #[error("Pieces({0})")]
     Pieces(usize),
     /// A growth was refused.
+    #[error("memory")]
     OutOfMemory,
 }
 

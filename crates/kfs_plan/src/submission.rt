@@ -7,6 +7,7 @@ use kfs_entry::{Log, Plan, SpellFault};
 use kfs_image_nodes::Net;
 use kfs_judge::EntryFault;
 use std::alloc::{AllocError, Allocator};
+use thiserror::Error;
 
 /// What a client hands in: a log and a plan as bytes.
 #[derive(Debug, Drop)]
@@ -18,19 +19,25 @@ pub struct Submission<A: Allocator> {
 }
 
 /// Why a submission is refused, in the order in which it is looked at.
-#[derive(Clone, Copy, Debug, PartialEq, Eq)]
+#[derive(Clone, Copy, Debug, PartialEq, Eq, Error)]
 pub enum Fault {
     /// 1: the submission's client has no row.
+    #[error("client unknown")]
     UnknownClient,
     /// 2: the bytes of the log are no log.
+    #[error("log {0}")]
     BadLog(SpellFault),
     /// 3: the log's client isn't the submission's.
+    #[error("client wrong")]
     WrongClient,
     /// 4: the bytes of the plan are no plan.
+    #[error("plan {0}")]
     BadPlan(SpellFault),
     /// 5: the first bad entry.
+    #[error("{0}")]
     Entry(EntryFault),
     /// 6: the first bad row of the plan.
+    #[error("plan {0}")]
     Row(RowFault),
 }
 
@@ -48,11 +55,13 @@ pub enum Outcome<A: Allocator> {
 }
 
 /// Why a submission comes back without a verdict or an answer.
-#[derive(Clone, Copy, Debug, PartialEq, Eq)]
+#[derive(Clone, Copy, Debug, PartialEq, Eq, Error)]
 pub enum Why {
     /// 1: a growth was refused.
+    #[error("memory")]
     OutOfMemory,
     /// 2: the docket has as many rows as its limit allows. Only a desk answers so.
+    #[error("full")]
     DocketFull,
 }
 

@@ -81,20 +81,20 @@ fn without_line(alloc: Global, text: &[u8], index: usize) -> Result<Vec<u8>, All
 
 /// Lines, and what they were answered one by one.
 #[derive(Drop)]
-struct Session {
+struct Transcript {
     lines: Vec<u8>,
     replies: Vec<u8>,
 }
 
-impl Session {
+impl Transcript {
     /// The session but for the line of this index and its reply.
     fn without(
         alloc: Global,
         lines: &[u8],
         replies: &[u8],
         index: usize,
-    ) -> Result<Session, AllocError> {
-        Ok(Session {
+    ) -> Result<Transcript, AllocError> {
+        Ok(Transcript {
             lines: without_line(alloc, lines, index)?,
             replies: without_line(alloc, replies, index)?,
         })
@@ -116,7 +116,7 @@ fn is_due_without<R: AllocGlobal>(
     written: &[u8],
     index: usize,
 ) -> Result<bool, AllocError> {
-    let left = Session::without(rt.alloc(), lines, written, index)?;
+    let left = Transcript::without(rt.alloc(), lines, written, index)?;
     if left.is_due(rt, words) {
         return Ok(true);
     }
@@ -126,7 +126,7 @@ fn is_due_without<R: AllocGlobal>(
     let Some(judged) = judged_line(written, index, worker) else {
         return Ok(false);
     };
-    let left = Session::without(rt.alloc(), &left.lines, &left.replies, judged)?;
+    let left = Transcript::without(rt.alloc(), &left.lines, &left.replies, judged)?;
     Ok(left.is_due(rt, words))
 }
 

@@ -63,7 +63,7 @@ fn drop_lease<A: Allocator>(
 
 /// A call of the leases, and what it answers where it answers.
 #[derive(Clone, Copy)]
-enum Call<'a> {
+enum LeaseCall<'a> {
     Grant(u32, &'a str, LeaseKind, u64, Result<u32, LeaseFault>),
     Drop(u32, u32, Result<(), LeaseFault>),
     Tick(u64, Result<(), LeaseFault>),
@@ -76,17 +76,17 @@ enum Call<'a> {
 fn is_answered<A: Allocator + Clone>(
     leases: &mut Leases<A>,
     shape: &Shape<A>,
-    call: Call<'_>,
+    call: LeaseCall<'_>,
 ) -> bool {
     match call {
-        Call::Grant(client, path, kind, end, wanted) => {
+        LeaseCall::Grant(client, path, kind, end, wanted) => {
             grant(leases, shape, client, path, kind, end) == wanted
         }
-        Call::Drop(client, number, wanted) => drop_lease(leases, client, number) == wanted,
-        Call::Tick(moment, wanted) => leases.tick(moment) == wanted,
-        Call::Holds(client, number, wanted) => leases.holds(client, number) == wanted,
-        Call::Moment(wanted) => leases.moment() == wanted,
-        Call::RemoveNode(number) => {
+        LeaseCall::Drop(client, number, wanted) => drop_lease(leases, client, number) == wanted,
+        LeaseCall::Tick(moment, wanted) => leases.tick(moment) == wanted,
+        LeaseCall::Holds(client, number, wanted) => leases.holds(client, number) == wanted,
+        LeaseCall::Moment(wanted) => leases.moment() == wanted,
+        LeaseCall::RemoveNode(number) => {
             leases.remove_node(number);
             true
         }
@@ -97,7 +97,7 @@ fn is_answered<A: Allocator + Clone>(
 fn make_calls<A: Allocator + Clone>(
     leases: &mut Leases<A>,
     shape: &Shape<A>,
-    calls: &[Call<'_>],
+    calls: &[LeaseCall<'_>],
 ) -> usize {
     let mut count = 0usize;
     for call in calls {
@@ -110,39 +110,39 @@ fn make_calls<A: Allocator + Clone>(
 }
 
 /// Makes the calls on the tree of this module, from no leases on. Answers how many are answered as they say.
-fn answered(alloc: Global, calls: &[Call<'_>]) -> Option<usize> {
+fn answered(alloc: Global, calls: &[LeaseCall<'_>]) -> Option<usize> {
     let desk = tree(alloc)?;
     let mut leases = Leases::new(alloc);
     Some(make_calls(&mut leases, desk.image().shape(), calls))
 }
 
 /// Each of the calls is answered as it says.
-fn expect_calls(rt: &(impl Abort + AllocGlobal), calls: &[Call<'_>]) {
+fn expect_calls(rt: &(impl Abort + AllocGlobal), calls: &[LeaseCall<'_>]) {
     let count = answered(rt.alloc(), calls);
     assert!(rt; count == Some(calls.len()), "{count:?}");
 }
 
-const PATHS_THAT_NO_LINE_CAN_SAY: [Call<'static>; 3] = [
-    Call::Grant(7, "", Write, 1, Err(LeaseFault::BadPath)),
-    Call::Grant(7, "/\0", Write, 1, Err(LeaseFault::BadPath)),
-    Call::Grant(7, "/a\0", Write, 1, Err(LeaseFault::BadPath)),
+const PATHS_THAT_NO_LINE_CAN_SAY: [LeaseCall<'static>; 3] = [
+    LeaseCall::Grant(7, "", Write, 1, Err(LeaseFault::BadPath)),
+    LeaseCall::Grant(7, "/\0", Write, 1, Err(LeaseFault::BadPath)),
+    LeaseCall::Grant(7, "/a\0", Write, 1, Err(LeaseFault::BadPath)),
 ];
 
-const CALLS_AND_NODES_THAT_GO: [Call<'static>; 14] = [
-    Call::Grant(7, "/a", Read, 100, Ok(5)),
-    Call::Grant(9, "/a", Read, 100, Ok(5)),
-    Call::Grant(7, "/", Write, 100, Ok(1)),
-    Call::Grant(8, "/d", Write, 100, Ok(20)),
-    Call::RemoveNode(5),
-    Call::Drop(7, 5, Err(LeaseFault::NoLeaseHeld)),
-    Call::Drop(9, 5, Err(LeaseFault::NoLeaseHeld)),
-    Call::Holds(7, 1, true),
-    Call::Holds(8, 20, true),
-    Call::RemoveNode(6),
-    Call::RemoveNode(20),
-    Call::Holds(7, 1, true),
-    Call::Holds(8, 20, false),
-    Call::Grant(9, "/d", Write, 100, Ok(20)),
+const CALLS_AND_NODES_THAT_GO: [LeaseCall<'static>; 14] = [
+    LeaseCall::Grant(7, "/a", Read, 100, Ok(5)),
+    LeaseCall::Grant(9, "/a", Read, 100, Ok(5)),
+    LeaseCall::Grant(7, "/", Write, 100, Ok(1)),
+    LeaseCall::Grant(8, "/d", Write, 100, Ok(20)),
+    LeaseCall::RemoveNode(5),
+    LeaseCall::Drop(7, 5, Err(LeaseFault::NoLeaseHeld)),
+    LeaseCall::Drop(9, 5, Err(LeaseFault::NoLeaseHeld)),
+    LeaseCall::Holds(7, 1, true),
+    LeaseCall::Holds(8, 20, true),
+    LeaseCall::RemoveNode(6),
+    LeaseCall::RemoveNode(20),
+    LeaseCall::Holds(7, 1, true),
+    LeaseCall::Holds(8, 20, false),
+    LeaseCall::Grant(9, "/d", Write, 100, Ok(20)),
 ];
 
 #[test]
@@ -155,38 +155,38 @@ fn calls_and_nodes_that_go(rt: HostRuntime) {
     expect_calls(&rt, &CALLS_AND_NODES_THAT_GO);
 }
 
-const BEFORE_THE_COPY: [Call<'static>; 6] = [
-    Call::Grant(7, "/m", Read, 20, Ok(30)),
-    Call::Drop(7, 30, Ok(())),
-    Call::Grant(7, "/a", Write, 10, Ok(5)),
-    Call::Grant(8, "/d", Read, 20, Ok(20)),
-    Call::Tick(3, Ok(())),
-    Call::Moment(3),
+const BEFORE_THE_COPY: [LeaseCall<'static>; 6] = [
+    LeaseCall::Grant(7, "/m", Read, 20, Ok(30)),
+    LeaseCall::Drop(7, 30, Ok(())),
+    LeaseCall::Grant(7, "/a", Write, 10, Ok(5)),
+    LeaseCall::Grant(8, "/d", Read, 20, Ok(20)),
+    LeaseCall::Tick(3, Ok(())),
+    LeaseCall::Moment(3),
 ];
 
-const ON_THE_COPY: [Call<'static>; 6] = [
-    Call::Holds(7, 5, true),
-    Call::Tick(2, Err(LeaseFault::Backwards)),
-    Call::Moment(3),
-    Call::Tick(10, Ok(())),
-    Call::Holds(7, 5, false),
-    Call::Drop(8, 20, Ok(())),
+const ON_THE_COPY: [LeaseCall<'static>; 6] = [
+    LeaseCall::Holds(7, 5, true),
+    LeaseCall::Tick(2, Err(LeaseFault::Backwards)),
+    LeaseCall::Moment(3),
+    LeaseCall::Tick(10, Ok(())),
+    LeaseCall::Holds(7, 5, false),
+    LeaseCall::Drop(8, 20, Ok(())),
 ];
 
-const ON_THE_TABLE: [Call<'static>; 7] = [
-    Call::Tick(4, Ok(())),
-    Call::Holds(7, 5, true),
-    Call::Grant(7, "/d", Write, 20, Err(LeaseFault::LeaseHeld(8))),
-    Call::Drop(7, 5, Ok(())),
-    Call::Drop(8, 20, Ok(())),
-    Call::Grant(8, "/m", Write, 100, Ok(30)),
-    Call::Holds(8, 30, true),
+const ON_THE_TABLE: [LeaseCall<'static>; 7] = [
+    LeaseCall::Tick(4, Ok(())),
+    LeaseCall::Holds(7, 5, true),
+    LeaseCall::Grant(7, "/d", Write, 20, Err(LeaseFault::LeaseHeld(8))),
+    LeaseCall::Drop(7, 5, Ok(())),
+    LeaseCall::Drop(8, 20, Ok(())),
+    LeaseCall::Grant(8, "/m", Write, 100, Ok(30)),
+    LeaseCall::Holds(8, 30, true),
 ];
 
-const ON_THE_COPY_THEN: [Call<'static>; 3] = [
-    Call::Moment(10),
-    Call::Holds(8, 30, false),
-    Call::Grant(7, "/m", Write, 20, Ok(30)),
+const ON_THE_COPY_THEN: [LeaseCall<'static>; 3] = [
+    LeaseCall::Moment(10),
+    LeaseCall::Holds(8, 30, false),
+    LeaseCall::Grant(7, "/m", Write, 20, Ok(30)),
 ];
 
 /// Makes these calls on the table and on a copy of it, one table after the other. Answers how many calls of each list are

@@ -1,6 +1,6 @@
 //! What is found in images that break a rule, and in such as break none.
 
-use crate::images::{ExtentLine, NameLine, NodeLine, Rows, found};
+use crate::images::{ExtentLine, NameLine, NodeLine, SmallImage, found};
 use NodeLine::{Directory, Empty, File};
 use kfs_shape::Kind;
 use std::process::Abort;
@@ -16,11 +16,11 @@ const ONE: &[NameLine] = &[(1, A, 5)];
 const TWO: &[NameLine] = &[(1, A, 5), (1, B, 7)];
 
 /// Rule, number, and an image in which they are found.
-const BROKEN: [(u8, u32, Rows); 12] = [
+const BROKEN: [(u8, u32, SmallImage); 12] = [
     (
         1,
         5,
-        Rows {
+        SmallImage {
             nodes: &[Directory(1), File(7, 0), File(5, 0)],
             names: TWO,
             extents: &[],
@@ -29,7 +29,7 @@ const BROKEN: [(u8, u32, Rows); 12] = [
     (
         1,
         65_537,
-        Rows {
+        SmallImage {
             nodes: &[Directory(1), File(65_537, 0)],
             names: &[(1, A, 65_537)],
             extents: &[],
@@ -38,7 +38,7 @@ const BROKEN: [(u8, u32, Rows); 12] = [
     (
         2,
         1,
-        Rows {
+        SmallImage {
             nodes: &[File(1, 0)],
             names: &[],
             extents: &[],
@@ -47,7 +47,7 @@ const BROKEN: [(u8, u32, Rows); 12] = [
     (
         3,
         5,
-        Rows {
+        SmallImage {
             nodes: &[Directory(1), File(5, 4_294_967_297), File(7, 4_294_967_297)],
             names: TWO,
             extents: &[],
@@ -56,7 +56,7 @@ const BROKEN: [(u8, u32, Rows); 12] = [
     (
         4,
         5,
-        Rows {
+        SmallImage {
             nodes: &[Directory(1), File(5, 0), File(7, 0)],
             names: &[(1, A, 5), (5, X, 7)],
             extents: &[],
@@ -65,7 +65,7 @@ const BROKEN: [(u8, u32, Rows); 12] = [
     (
         5,
         9,
-        Rows {
+        SmallImage {
             nodes: &[Directory(1)],
             names: &[(1, A, 9)],
             extents: &[],
@@ -74,7 +74,7 @@ const BROKEN: [(u8, u32, Rows); 12] = [
     (
         6,
         3,
-        Rows {
+        SmallImage {
             nodes: &[Directory(1), Directory(3)],
             names: &[(1, A, 3), (1, B, 3)],
             extents: &[],
@@ -83,7 +83,7 @@ const BROKEN: [(u8, u32, Rows); 12] = [
     (
         7,
         3,
-        Rows {
+        SmallImage {
             nodes: &[Directory(1), Directory(3), Directory(4)],
             names: &[(3, X, 4), (4, X, 3)],
             extents: &[],
@@ -92,7 +92,7 @@ const BROKEN: [(u8, u32, Rows); 12] = [
     (
         8,
         5,
-        Rows {
+        SmallImage {
             nodes: &[Directory(1), File(5, 8192)],
             names: ONE,
             extents: &[
@@ -104,7 +104,7 @@ const BROKEN: [(u8, u32, Rows); 12] = [
     (
         9,
         5,
-        Rows {
+        SmallImage {
             nodes: &[Directory(1), File(5, 8192)],
             names: ONE,
             extents: &[ExtentLine(5, 0, 2, 7, 2, 8192)],
@@ -113,7 +113,7 @@ const BROKEN: [(u8, u32, Rows); 12] = [
     (
         10,
         5,
-        Rows {
+        SmallImage {
             nodes: &[Directory(1), File(5, 4), File(7, 4)],
             names: TWO,
             extents: &[
@@ -125,7 +125,7 @@ const BROKEN: [(u8, u32, Rows); 12] = [
     (
         10,
         5,
-        Rows {
+        SmallImage {
             nodes: &[Directory(1), File(5, 8192), File(7, 4)],
             names: TWO,
             extents: &[
@@ -137,18 +137,18 @@ const BROKEN: [(u8, u32, Rows); 12] = [
 ];
 
 /// Images that break no rule.
-const RIGHT: [Rows; 3] = [
-    Rows {
+const RIGHT: [SmallImage; 3] = [
+    SmallImage {
         nodes: &[Directory(1)],
         names: &[],
         extents: &[],
     },
-    Rows {
+    SmallImage {
         nodes: &[Directory(1), Directory(3), Directory(4)],
         names: &[(1, X, 4), (4, X, 3)],
         extents: &[],
     },
-    Rows {
+    SmallImage {
         nodes: &[Directory(1), File(5, 8192), Empty(7, Kind::File, 0o777, 1)],
         names: TWO,
         extents: &[

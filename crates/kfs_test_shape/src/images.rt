@@ -28,7 +28,7 @@ pub struct ExtentLine(pub u32, pub u32, pub u8, pub u32, pub u32, pub usize);
 
 /// Rows of an image with three tiers of eight blocks.
 #[derive(Clone, Copy)]
-pub struct Rows {
+pub struct SmallImage {
     pub nodes: &'static [NodeLine],
     pub names: &'static [NameLine],
     pub extents: &'static [ExtentLine],
@@ -84,7 +84,11 @@ fn extent<A: Allocator>(alloc: A, line: ExtentLine) -> Option<ExtentRow<A>> {
 }
 
 /// Takes in the names of a part that stand in the root, or those that stand elsewhere.
-fn push_names<A: Allocator>(names: &mut Vec<NameRow, A>, part: &Rows, in_root: bool) -> Option<()> {
+fn push_names<A: Allocator>(
+    names: &mut Vec<NameRow, A>,
+    part: &SmallImage,
+    in_root: bool,
+) -> Option<()> {
     for line in part.names {
         if (line.0 == ROOT) == in_root {
             names.push(name(*line)?).ok()?;
@@ -94,7 +98,7 @@ fn push_names<A: Allocator>(names: &mut Vec<NameRow, A>, part: &Rows, in_root: b
 }
 
 /// The names of the parts, those in the root first.
-fn names_of<A: Allocator + Copy>(alloc: A, parts: &[Rows]) -> Option<Vec<NameRow, A>> {
+fn names_of<A: Allocator + Copy>(alloc: A, parts: &[SmallImage]) -> Option<Vec<NameRow, A>> {
     let mut names = Vec::new(alloc);
     for in_root in [true, false] {
         for part in parts {
@@ -104,7 +108,7 @@ fn names_of<A: Allocator + Copy>(alloc: A, parts: &[Rows]) -> Option<Vec<NameRow
     Some(names)
 }
 
-fn nodes_of<A: Allocator + Copy>(alloc: A, parts: &[Rows]) -> Option<Vec<RawNode, A>> {
+fn nodes_of<A: Allocator + Copy>(alloc: A, parts: &[SmallImage]) -> Option<Vec<RawNode, A>> {
     let mut nodes = Vec::new(alloc);
     for part in parts {
         for line in part.nodes {
@@ -114,7 +118,7 @@ fn nodes_of<A: Allocator + Copy>(alloc: A, parts: &[Rows]) -> Option<Vec<RawNode
     Some(nodes)
 }
 
-fn extents_of<A: Allocator + Copy>(alloc: A, parts: &[Rows]) -> Option<Vec<ExtentRow<A>, A>> {
+fn extents_of<A: Allocator + Copy>(alloc: A, parts: &[SmallImage]) -> Option<Vec<ExtentRow<A>, A>> {
     let mut extents = Vec::new(alloc);
     for part in parts {
         for line in part.extents {
@@ -125,7 +129,7 @@ fn extents_of<A: Allocator + Copy>(alloc: A, parts: &[Rows]) -> Option<Vec<Exten
 }
 
 /// The image with the rows of all parts.
-pub fn image<A: Allocator + Copy>(alloc: A, parts: &[Rows]) -> Option<RawImage<A>> {
+pub fn image<A: Allocator + Copy>(alloc: A, parts: &[SmallImage]) -> Option<RawImage<A>> {
     Some(RawImage {
         sizes: TierSizes::new(8, 8, 8)?,
         nodes: nodes_of(alloc, parts)?,
@@ -135,7 +139,7 @@ pub fn image<A: Allocator + Copy>(alloc: A, parts: &[Rows]) -> Option<RawImage<A
 }
 
 /// What is found in the image with the rows of all parts: rule and number, none where it is well formed.
-pub fn found<A: Allocator + Copy>(alloc: A, parts: &[Rows]) -> Option<Option<(u8, u32)>> {
+pub fn found<A: Allocator + Copy>(alloc: A, parts: &[SmallImage]) -> Option<Option<(u8, u32)>> {
     let raw = image(alloc, parts)?;
     match check_shape(alloc, &raw) {
         Ok(()) => Some(None),

@@ -1,7 +1,7 @@
 //! Each rule of an image broken alone, and together with each later one, of which the least is found; and the check with
 //! one growth refused.
 
-use crate::images::{ExtentLine, NameLine, NodeLine, Rows, found, image};
+use crate::images::{ExtentLine, NameLine, NodeLine, SmallImage, found, image};
 use NodeLine::{Directory, Empty, File};
 use kfs_shape::{Finding, Kind, ShapeFault, check_shape};
 use kfs_test_support::refusing::Refusing;
@@ -14,13 +14,13 @@ const RULES: usize = 10;
 /// More growths than a check makes.
 const MANY: u64 = 2000;
 
-const NO_ROWS: Rows = Rows {
+const NO_ROWS: SmallImage = SmallImage {
     nodes: &[],
     names: &[],
     extents: &[],
 };
 
-const ROOT_ALONE: Rows = Rows {
+const ROOT_ALONE: SmallImage = SmallImage {
     nodes: &[Directory(1)],
     names: &[],
     extents: &[],
@@ -28,10 +28,10 @@ const ROOT_ALONE: Rows = Rows {
 
 /// For each rule a number, and rows that stand beside a root directory and break this rule alone, there; the second has no
 /// rows, since what breaks it is that there is no root directory.
-const BREAKS: [(u32, Rows); RULES] = [
+const BREAKS: [(u32, SmallImage); RULES] = [
     (
         11,
-        Rows {
+        SmallImage {
             nodes: &[File(12, 0), File(11, 0)],
             names: &[(1, b"1a", 11), (1, b"1b", 12)],
             extents: &[],
@@ -40,7 +40,7 @@ const BREAKS: [(u32, Rows); RULES] = [
     (1, NO_ROWS),
     (
         31,
-        Rows {
+        SmallImage {
             nodes: &[File(31, 4_294_967_297)],
             names: &[(1, b"3a", 31)],
             extents: &[],
@@ -48,7 +48,7 @@ const BREAKS: [(u32, Rows); RULES] = [
     ),
     (
         41,
-        Rows {
+        SmallImage {
             nodes: &[File(41, 0), File(42, 0)],
             names: &[(1, b"4a", 41), (41, b"a", 42)],
             extents: &[],
@@ -56,7 +56,7 @@ const BREAKS: [(u32, Rows); RULES] = [
     ),
     (
         51,
-        Rows {
+        SmallImage {
             nodes: &[],
             names: &[(1, b"5a", 51)],
             extents: &[],
@@ -64,7 +64,7 @@ const BREAKS: [(u32, Rows); RULES] = [
     ),
     (
         61,
-        Rows {
+        SmallImage {
             nodes: &[File(61, 0)],
             names: &[],
             extents: &[],
@@ -72,7 +72,7 @@ const BREAKS: [(u32, Rows); RULES] = [
     ),
     (
         71,
-        Rows {
+        SmallImage {
             nodes: &[Directory(71), Directory(72)],
             names: &[(71, b"a", 72), (72, b"a", 71)],
             extents: &[],
@@ -80,7 +80,7 @@ const BREAKS: [(u32, Rows); RULES] = [
     ),
     (
         81,
-        Rows {
+        SmallImage {
             nodes: &[File(81, 4096)],
             names: &[(1, b"8a", 81)],
             extents: &[ExtentLine(81, 1, 0, 0, 1, 4096)],
@@ -88,7 +88,7 @@ const BREAKS: [(u32, Rows); RULES] = [
     ),
     (
         91,
-        Rows {
+        SmallImage {
             nodes: &[File(91, 4096)],
             names: &[(1, b"9a", 91)],
             extents: &[ExtentLine(91, 0, 0, 8, 1, 4096)],
@@ -96,7 +96,7 @@ const BREAKS: [(u32, Rows); RULES] = [
     ),
     (
         101,
-        Rows {
+        SmallImage {
             nodes: &[File(101, 4096), File(102, 4096)],
             names: &[(1, b"Aa", 101), (1, b"Ab", 102)],
             extents: &[
@@ -108,7 +108,7 @@ const BREAKS: [(u32, Rows); RULES] = [
 ];
 
 /// The rows that break the rule of this index.
-fn breaking(index: usize) -> Rows {
+fn breaking(index: usize) -> SmallImage {
     match BREAKS.get(index) {
         Some((_, rows)) => *rows,
         None => NO_ROWS,
@@ -116,7 +116,7 @@ fn breaking(index: usize) -> Rows {
 }
 
 /// Rows in which the rules of both indexes are broken, or the one if they are the same.
-fn broken(first: usize, second: usize) -> [Rows; 3] {
+fn broken(first: usize, second: usize) -> [SmallImage; 3] {
     let has_root = first != 1 && second != 1;
     let root = if has_root { ROOT_ALONE } else { NO_ROWS };
     let is_alone = first == second;
@@ -152,7 +152,7 @@ fn the_least_broken_rule_is_found(rt: HostRuntime) {
 /// What the check of the rows tells where one growth of it is refused.
 fn told<B: Allocator>(
     heap: &Refusing<B>,
-    parts: &[Rows],
+    parts: &[SmallImage],
     growth: u64,
 ) -> Option<Result<(), ShapeFault>> {
     let raw = image(heap, parts)?;
@@ -170,7 +170,11 @@ fn is_as_due(
 }
 
 /// How many growths the check of the rows makes, each of which is refused in turn.
-fn growths(rt: &(impl Abort + AllocGlobal), parts: &[Rows], due: Result<(), ShapeFault>) -> u64 {
+fn growths(
+    rt: &(impl Abort + AllocGlobal),
+    parts: &[SmallImage],
+    due: Result<(), ShapeFault>,
+) -> u64 {
     for growth in 0..MANY {
         let heap = Refusing::new(rt.alloc(), MANY);
         let answer = told(&heap, parts, growth);
@@ -183,7 +187,7 @@ fn growths(rt: &(impl Abort + AllocGlobal), parts: &[Rows], due: Result<(), Shap
 }
 
 /// A file of two blocks, in a directory.
-const RIGHT: Rows = Rows {
+const RIGHT: SmallImage = SmallImage {
     nodes: &[
         Directory(1),
         Directory(5),

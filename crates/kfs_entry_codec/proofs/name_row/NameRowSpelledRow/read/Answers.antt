@@ -2,7 +2,7 @@ use Rattle.std.proofs.Common.{drop, arith}
 use Rattle.kfs_entry_value.specs.Views.{name_row_of}
 use Rattle.kfs_model.proofs.PlanLaws.{name_row_field}
 use Rattle.kfs_entry_codec.proofs.Found.{is_found, is_none}
-use Rattle.kfs_entry_codec.proofs.name_row.NameRowRow.read.Goals as goal
+use Rattle.kfs_entry_codec.proofs.name_row.NameRowSpelledRow.read.Goals as goal
 
 pub returns-clause-found : goal.returns-clause-found
 returns-clause-found c =

@@ -2,7 +2,7 @@ use Rattle.std.proofs.Common.{◌≤◌, length, drop, arith}
 use Rattle.kfs_entry_value.specs.Views.{entry_of, IsWithin}
 use Rattle.kfs_model.proofs.EntryLaws.{entry_field}
 use Rattle.kfs_entry_codec.proofs.Found.{is_found, is_none, IfSome-both, IfSome-weaker}
-use Rattle.kfs_entry_codec.proofs.entry.EntrySpanRow.read.Goals as goal
+use Rattle.kfs_entry_codec.proofs.entry.EntrySpanSpelledRow.read.Goals as goal
 
 pub returns-clause-found : goal.returns-clause-found
 returns-clause-found c =
