@@ -6,7 +6,7 @@ ghost use Rattle.kfs_model.specs.Machine.{Row};
 use crate::row::OneRow;
 use std::marker::Model;
 
-/// DocketRows in their order. They take no memory.
+/// Rows in their order. They take no memory.
 #[derive(Drop)]
 pub struct DocketRows {
     pub ghost items: { List Row },

@@ -1,4 +1,4 @@
--- FileBlocks once runs of them are unmapped, and those of rows are mapped and written.
+-- The blocks once runs of them are unmapped, and those of rows are mapped and written.
 use Rattle.std.proofs.Common.{◌≡◌, ℕ, ◌+◌, ◌<◌, ◌≤◌, ◌||◌, not, Bool, true, false, cond, All, List, [], ◌∷◌, ◌++◌, map, length, get_or, drop, append_assoc, append-nil, Option, Some, None, Result, Ok, Err, refl, sym, ap, subst, ◌∙◌, arith}
 use Rattle.std.specs.Prelude.{vec_len, OnOk}
 use Rattle.std.proofs.lemmas.List.{drop_all, at_drop_more, get_or-map, length-map, map-append}

@@ -10,7 +10,7 @@ use Rattle.std.proofs.lemmas.Bool.{both_ways, eq-eqb, eqb-false, ne_eqb}
 use Rattle.std.proofs.lemmas.Cmp.{ranked}
 use Rattle.std.proofs.lemmas.List.{append-nil, append_assoc}
 use Rattle.std.proofs.lemmas.List.Folds.{list_any-append}
-use Rattle.kfs_model.specs.Blocks.{BlockRange, of_file, touches}
+use Rattle.kfs_model.specs.Blocks.{BlockInterval, of_file, touches}
 use Rattle.kfs_model.specs.Header.{Header}
 use Rattle.kfs_model.specs.LastCover.{file_size}
 use Rattle.kfs_model.specs.Placement.{block_count, numbers_from}
@@ -197,7 +197,7 @@ rises_run (suc count) least m later xs low behind far rises =
     let end = far (omega arith) in
     (low, rises_run count m (m + 1) later xs (omega arith) (omega arith) (λ some. omega arith) rises)
 
-listed_rises : (next : ℕ) (rs : List BlockRange) → Rises next (listed next rs)
+listed_rises : (next : ℕ) (rs : List BlockInterval) → Rises next (listed next rs)
 unfolding listed
 listed_rises next [] = tt
 listed_rises next (r ∷ rs) =

@@ -1,4 +1,4 @@
--- NodeTables after the edits of their names: the counts beside the names are still those of the names.
+-- The tables after the edits of their names: the counts beside the names are still those of the names.
 use Rattle.std.proofs.Common.{◌≡◌, ℕ, sym, ap, subst}
 use Rattle.kfs_model.specs.Table.{Table, numbers}
 use Rattle.kfs_model.specs.Tree.{NameTable, name_order}

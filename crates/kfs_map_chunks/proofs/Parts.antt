@@ -140,7 +140,7 @@ module _ {K V A : Type 0} where
   joined_filled (c ∷ cs) filled some = omega (arith, filled.0, length-append c.value.pairs (joined cs))
 
 module _ {K V A : Type 0} (cmp : K → K → Ordering) (start : Bound K) where
-  -- the first entry of all stands in the chunk at the first_chunk_from
+  -- the first entry of all stands in the chunk at the first chunk from the start on
   pub in_place : (cs : List (Arc (Buffer K V) A)) (d : Arc (Buffer K V) A) → first_chunk_from cmp start cs < length cs → entry_from cmp start (joined cs) ≡ entry_from cmp start (get_or cs (first_chunk_from cmp start cs) d).value.pairs
   in_place [] d within = absurd (omega (arith, within))
   in_place (c ∷ cs) d within = entry-append cmp start c.value.pairs (joined cs) ∙ at (in_place cs d) (reaches cmp start c.value.pairs) within
@@ -151,7 +151,7 @@ module _ {K V A : Type 0} (cmp : K → K → Ordering) (start : Bound K) where
       at rest true within = refl
       at rest false within = rest (omega (arith, within))
 
-  -- where there is no first_chunk_from, there is no entry
+  -- where there is no first chunk from the start on, there is no entry
   pub past_place : (cs : List (Arc (Buffer K V) A)) → length cs ≤ first_chunk_from cmp start cs → entry_from cmp start (joined cs) ≡ None
   past_place [] past = refl
   past_place (c ∷ cs) past = entry-append cmp start c.value.pairs (joined cs) ∙ at (past_place cs) (reaches cmp start c.value.pairs) past
@@ -161,7 +161,7 @@ module _ {K V A : Type 0} (cmp : K → K → Ordering) (start : Bound K) where
       at rest true past = absurd (omega (arith, past))
       at rest false past = rest (omega (arith, past))
 
-  -- no chunk in front of the first_chunk_from has an entry from the start on
+  -- no chunk in front of the first chunk from the start on has an entry from the start on
   pub none_in_front : (front back : List (Arc (Buffer K V) A)) → length front ≤ first_chunk_from cmp start (front ++ back) → entry_from cmp start (joined front) ≡ None
   none_in_front [] back before_place = refl
   none_in_front (c ∷ front) back before_place = entry-append cmp start c.value.pairs (joined front) ∙ at (none_in_front front back) (reaches cmp start c.value.pairs) before_place
@@ -223,7 +223,7 @@ module _ {K V A : Type 0} (R : Order K) where
   sorted_at (c ∷ cs) zero d sorted within = sorted_left R.compare c.value.pairs (joined cs) sorted
   sorted_at (c ∷ cs) (suc i) d sorted within = sorted_at cs i d (sorted_right R.compare c.value.pairs (joined cs) sorted) (omega (arith, within))
 
-  -- what is found at a key is found in the chunk at its first_chunk_from
+  -- what is found at a key is found in the chunk at its first chunk from the start on
   pub found_in_place : (q : K) (cs : List (Arc (Buffer K V) A)) (d : Arc (Buffer K V) A) → T (is_sorted R.compare (joined cs)) → first_chunk_from R.compare (Included q) cs < length cs
       → find R.compare q (joined cs) ≡ find R.compare q (get_or cs (first_chunk_from R.compare (Included q) cs) d).value.pairs
   found_in_place q cs d sorted within = find_same R q (joined cs) _ sorted (sorted_at cs (first_chunk_from R.compare (Included q) cs) d sorted within) (in_place R.compare (Included q) cs d within)
@@ -255,7 +255,7 @@ module _ {K V A : Type 0} (cmp : K → K → Ordering) where
   sorted_behind front c cs sorted = sorted_right cmp (joined front) (joined (c ∷ cs)) (subst (λ es. T (is_sorted cmp es)) (joined-append front (c ∷ cs)) sorted)
 
 module _ {K V A : Type 0} (R : Order K) where
-  -- no chunk in front of the first edit's first_chunk_from has an entry from an edit's key on
+  -- no chunk in front of the first edit's first chunk from the start on has an entry from an edit's key on
   pub front_past : (front back : List (Arc (Buffer K V) A)) (es : List (KeyEdit K V)) (k : K) → KeysAscend R.compare es → ((d : KeyEdit K V) → k ≡ (slice_index_or es 0 d).key) → length front ≤ first_chunk_from R.compare (Included k) (front ++ back)
       → All (λ e. entry_from R.compare (Included e.key) (joined front) ≡ None) es
   front_past front back es k ascend first before_place i d below =

@@ -9,7 +9,7 @@ use Rattle.kfs_model.specs.Run.{Mark, Base, Zero, Payload}
 use Rattle.kfs_model.specs.Plan.{is_base}
 use Rattle.kfs_model.specs.Limits.{block_size}
 use Rattle.kfs_model.specs.Placement.{is_zero, is_payload, is_written, block_count, blocks_from, blocks_of}
-use Rattle.kfs_model.specs.Blocks.{BlockRange, counted}
+use Rattle.kfs_model.specs.Blocks.{BlockInterval, counted}
 use Rattle.kfs_model.proofs.Tape.{below_or_not}
 
 -- ---- turns, and ranges of blocks
@@ -27,11 +27,11 @@ abbrev has_turn : List Mark → Bool
 has_turn [] = false
 has_turn (x ∷ xs) = turns_from (is_zero x) xs
 
-abbrev pub has_block : (block : ℕ) → BlockRange → Bool
+abbrev pub has_block : (block : ℕ) → BlockInterval → Bool
 has_block block r = leb r.first block && leb block r.last
 
 -- in order: each begins where the one before ends, or behind it
-abbrev pub InOrder : (least : ℕ) → List BlockRange → Type 0
+abbrev pub InOrder : (least : ℕ) → List BlockInterval → Type 0
 InOrder least [] = Unit {0}
 InOrder least (r ∷ rs) = (least ≤ r.first) × (r.first ≤ r.last) × InOrder r.last rs
 
@@ -128,7 +128,7 @@ module _ (b : ℕ) where
   behind_range : (f l : ℕ) → l < b → (leb f b && leb b l) ≡ false
   behind_range f l h = grind (arith, nat_tests)
 
-  none_below : (least : ℕ) (rs : List BlockRange) → InOrder least rs → b < least → list_any (has_block b) rs ≡ false
+  none_below : (least : ℕ) (rs : List BlockInterval) → InOrder least rs → b < least → list_any (has_block b) rs ≡ false
   none_below least [] order h = refl
   none_below least (r ∷ rs) order h =
       let first = order.0 in
@@ -141,7 +141,7 @@ max_left a b h = omega arith
 max_right : (a b : ℕ) → a ≤ b → max a b ≡ b
 max_right a b h = omega arith
 
-module _ (r : BlockRange) (rs : List BlockRange) (next bound : ℕ) (first : r.first ≤ r.last) where
+module _ (r : BlockInterval) (rs : List BlockInterval) (next bound : ℕ) (first : r.first ≤ r.last) where
   abbrev has_any : ℕ → Bool
   has_any b = list_any (has_block b) (r ∷ rs)
 
@@ -184,7 +184,7 @@ module _ (r : BlockRange) (rs : List BlockRange) (next bound : ℕ) (first : r.f
       (λ i. none i + counted (same i) rs) ∙ plus ∙ more ∙ sym (count_same has_any has_later (bound - next) next (λ b low high. no_more_in b (omega arith)))
 
 -- ranges in order have as many blocks as the count of them says
-counted_is : (rs : List BlockRange) (least next bound : ℕ) → InOrder least rs → AllByRecursion (λ (r : BlockRange). r.last < bound) rs → counted next rs ≡ count_that (λ b. list_any (has_block b) rs) (bound - next) next
+counted_is : (rs : List BlockInterval) (least next bound : ℕ) → InOrder least rs → AllByRecursion (λ (r : BlockInterval). r.last < bound) rs → counted next rs ≡ count_that (λ b. list_any (has_block b) rs) (bound - next) next
 unfolding counted
 counted_is [] least next bound order within = sym (count_none (λ b. false) (bound - next) next (λ b low high. refl))
 counted_is (r ∷ rs) least next bound order within =
@@ -225,7 +225,7 @@ blocks_long test n (suc count) first marks =
     ap (λ xs. test (take block_size xs)) (drop-drop (4096 * (k - (first + 1))) 4096 marks ∙ ap (λ n. drop n marks) sum))) i)
 
 -- Where ranges in order have exactly the written blocks of a file, the count of them is that of its written blocks.
-pub file_needs : (n : ℕ) (marks : List Mark) (rs : List BlockRange) → InOrder 0 rs → AllByRecursion (λ (r : BlockRange). r.last < block_count (length marks)) rs
+pub file_needs : (n : ℕ) (marks : List Mark) (rs : List BlockInterval) → InOrder 0 rs → AllByRecursion (λ (r : BlockInterval). r.last < block_count (length marks)) rs
     → ((k : ℕ) → k < block_count (length marks) → list_any (has_block k) rs ≡ is_written (block_at marks k))
     → length (map (numbered n) (filter (passes is_written) (blocks_of marks))) ≡ counted 0 rs
 file_needs n marks rs order within exact =

@@ -9,7 +9,7 @@ use Rattle.kfs_model.specs.Run.{Mark, Zero}
 use Rattle.kfs_model.specs.PlanRow.{Piece, Source}
 use Rattle.kfs_model.specs.Plan.{end_of}
 use Rattle.kfs_model.specs.Placement.{is_zero, is_payload, is_written, block_count, blocks_of}
-use Rattle.kfs_model.specs.Blocks.{BlockRange, counted, is_zero_source, goes_on, block_of, touches}
+use Rattle.kfs_model.specs.Blocks.{BlockInterval, counted, is_zero_source, goes_on, block_of, touches}
 use Rattle.kfs_model.proofs.Tape.{below_or_not}
 use Rattle.kfs_model.proofs.Blocks.{differ, has_block, InOrder, TurnsAt, block_at, numbered, passes, file_needs, touched_is_written, written_is_touched}
 
@@ -110,7 +110,7 @@ module _ (marks : List Mark) (k : ℕ) where
   has_to : (f l : ℕ) → f ≤ k → k ≤ l → (leb f k && leb k l) ≡ true
   has_to f l h i = grind (arith, nat_tests)
 
-  one_of : (c : Bool) (x : BlockRange) → list_any (has_block k) (cond c [] (x ∷ [])) ≡ true → (c ≡ false) × (has_block k x ≡ true)
+  one_of : (c : Bool) (x : BlockInterval) → list_any (has_block k) (cond c [] (x ∷ [])) ≡ true → (c ≡ false) × (has_block k x ≡ true)
   one_of true x h = cc
   one_of false x h = (refl, sym (or-false (has_block k x)) ∙ h)
 
@@ -214,13 +214,13 @@ module _ (marks : List Mark) (k : ℕ) where
       (before_or_same f r.start is.parts.0)
 
   module _ (f until : ℕ) (r : Piece) (rs : List Piece) (is : Classes marks f until (r ∷ rs)) where
-    abbrev start_list : List BlockRange
+    abbrev start_list : List BlockInterval
     start_list = cond ((r.start % 4096 == 0) || (r.start == until)) [] (block_of r.start ∷ [])
 
-    abbrev end_list : List BlockRange
+    abbrev end_list : List BlockInterval
     end_list = cond ((end_of r % 4096 == 0) || leb (length marks) (end_of r) || goes_on (end_of r) rs) [] (block_of (end_of r) ∷ [])
 
-    abbrev here_list : List BlockRange
+    abbrev here_list : List BlockInterval
     here_list = record { first = r.start / 4096; last = (end_of r - 1) / 4096 } ∷ []
 
     touches_is : (b : Bool) → is_zero_source r.source ≡ b → touches (length marks) until (r ∷ rs) ≡ cond b (start_list ++ (end_list ++ touches (length marks) (end_of r) rs)) (here_list ++ touches (length marks) 0 rs)
@@ -520,7 +520,7 @@ module _ (size : ℕ) where
       at true false false more payload s e l far = (s, le_same (r.start / 4096), (e, le_same (end_of r / 4096), more (end_of r / 4096) (le_same (end_of r / 4096))))
       at false c d more payload s e l far = (s, l, payload)
 
-  within : (rs : List Piece) (f until : ℕ) → AreParts size f rs → AllByRecursion (λ (b : BlockRange). b.last < block_count size) (touches size until rs)
+  within : (rs : List Piece) (f until : ℕ) → AreParts size f rs → AllByRecursion (λ (b : BlockInterval). b.last < block_count size) (touches size until rs)
   unfolding touches
   within [] f until parts = tt
   within (r ∷ rs) f until parts =
@@ -534,9 +534,9 @@ module _ (size : ℕ) where
       end_within stops = let below = (none_of (end_of r % 4096) 0 size (end_of r) (goes_on (end_of r) rs) stops).1 in omega arith
 
       at : (b c d : Bool) → ((end_of r % 4096 == 0) || leb size (end_of r) || goes_on (end_of r) rs) ≡ d
-          → AllByRecursion (λ (b : BlockRange). b.last < block_count size) (touches size (end_of r) rs) → AllByRecursion (λ (b : BlockRange). b.last < block_count size) (touches size 0 rs)
+          → AllByRecursion (λ (b : BlockInterval). b.last < block_count size) (touches size (end_of r) rs) → AllByRecursion (λ (b : BlockInterval). b.last < block_count size) (touches size 0 rs)
           → r.start / 4096 < block_count size → (end_of r - 1) / 4096 < block_count size
-          → AllByRecursion (λ (b : BlockRange). b.last < block_count size) (cond b (cond c [] (block_of r.start ∷ []) ++ (cond d [] (block_of (end_of r) ∷ []) ++ touches size (end_of r) rs)) (record { first = r.start / 4096; last = (end_of r - 1) / 4096 } ∷ touches size 0 rs))
+          → AllByRecursion (λ (b : BlockInterval). b.last < block_count size) (cond b (cond c [] (block_of r.start ∷ []) ++ (cond d [] (block_of (end_of r) ∷ []) ++ touches size (end_of r) rs)) (record { first = r.start / 4096; last = (end_of r - 1) / 4096 } ∷ touches size 0 rs))
       at true true true is more payload s l = more
       at true true false is more payload s l = (end_within is, more)
       at true false true is more payload s l = (s, more)

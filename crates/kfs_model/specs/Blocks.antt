@@ -7,12 +7,12 @@ use Rattle.kfs_model.specs.PlanRow.{Piece, Source}
 use Rattle.kfs_model.specs.Plan.{end_of}
 
 -- blocks from the first to the last, both included
-pub record BlockRange : Type 0 where
+pub record BlockInterval : Type 0 where
   pub first : ℕ
   pub last : ℕ
 
 -- how many blocks from `next` on lie in the ranges; a block in two ranges is counted once
-unfoldable pub counted : (next : ℕ) → List BlockRange → ℕ
+unfoldable pub counted : (next : ℕ) → List BlockInterval → ℕ
 counted next [] = 0
 counted next (r ∷ rs) = (r.last + 1 - max r.first next) + counted (max next (r.last + 1)) rs
 
@@ -26,12 +26,12 @@ goes_on place [] = false
 goes_on place (r ∷ rs) = is_zero_source r.source && (r.start == place)
 
 -- the block that has this byte
-abbrev pub block_of : (place : ℕ) → BlockRange
+abbrev pub block_of : (place : ℕ) → BlockInterval
 block_of place = record { first = place / block_size; last = place / block_size }
 
 -- The blocks that the pieces of one file write; the last zero piece ended at `until`. These are the
 -- blocks of payloads, and the blocks in which zero bytes begin or end next to other bytes.
-unfoldable pub touches : (size until : ℕ) → List Piece → List BlockRange
+unfoldable pub touches : (size until : ℕ) → List Piece → List BlockInterval
 touches size until [] = []
 touches size until (r ∷ rs) =
     if is_zero_source r.source

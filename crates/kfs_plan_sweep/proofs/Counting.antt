@@ -7,13 +7,13 @@ use Rattle.kfs_model.specs.Plan.{end_of}
 use Rattle.kfs_plan_sweep.specs.PieceBlocks.{piece_blocks, zeros_until}
 use Rattle.std.proofs.lemmas.List.{drop_all}
 use Rattle.kfs_plan_sweep.proofs.Lists.{drop_next}
-use Rattle.kfs_model.specs.Blocks.{BlockRange, counted, goes_on, touches}
+use Rattle.kfs_model.specs.Blocks.{BlockInterval, counted, goes_on, touches}
 
-counted_next : (next : ℕ) (r : BlockRange) (rs : List BlockRange) → counted next (r ∷ rs) ≡ (r.last + 1 - max r.first next) + counted (max next (r.last + 1)) rs
+counted_next : (next : ℕ) (r : BlockInterval) (rs : List BlockInterval) → counted next (r ∷ rs) ≡ (r.last + 1 - max r.first next) + counted (max next (r.last + 1)) rs
 unfolding counted
 counted_next next r rs = refl
 
-module _ (next first last total : ℕ) (rest : List BlockRange) (order : first ≤ last) where
+module _ (next first last total : ℕ) (rest : List BlockInterval) (order : first ≤ last) where
   pub none_new : last < max next first → total + counted next rest ≡ total + counted next (record { first = first; last = last } ∷ rest)
   none_new old =
       let none : last + 1 - max first next ≡ 0 = omega arith in

@@ -1,12 +1,12 @@
--- What is laid out of stretches that fit fits too.
+-- What is laid out of ranges that fit fits too.
 use Rattle.std.proofs.Common.{◌≡◌, ℕ, ◌<◌, ◌≤◌, Bool, true, false, cond, ltb, leb, eqb, ◌&&◌, ◌||◌, List, [], ◌∷◌, zero, suc, get_or, length, refl, arith}
 use Rattle.std.specs.List.{AllByRecursion}
 use Rattle.std.proofs.lemmas.Bool.Decides.{nat_tests}
 use Rattle.kfs_model.proofs.WrittenBlocks.{all_append}
-use Rattle.kfs_plan_sweep.specs.declared.stretch.Origin.{Origin}
-use Rattle.kfs_plan_sweep.specs.declared.stretch.Origin.TheVariants.{Zero, Payload}
-use Rattle.kfs_plan_sweep.specs.declared.stretch.ByteRange.{ByteRange}
-use Rattle.kfs_plan_sweep.specs.Stretches.{AreFrom, ends_by, begins_before, cut_below, cut_from, merged}
+use Rattle.kfs_plan_sweep.specs.declared.byte_range.Origin.{Origin}
+use Rattle.kfs_plan_sweep.specs.declared.byte_range.Origin.TheVariants.{Zero, Payload}
+use Rattle.kfs_plan_sweep.specs.declared.byte_range.ByteRange.{ByteRange}
+use Rattle.kfs_plan_sweep.specs.ByteRanges.{AreFrom, ends_by, begins_before, cut_below, cut_from, merged}
 use Rattle.kfs_plan_sweep.specs.Made.{IsPlacedAt, IsFit}
 
 within_cut : (k s e n p : ℕ) → (ltb k n || (eqb k n && leb e p)) ≡ false → (eqb k n && ltb s p) ≡ true → (s < p) × (p < e)

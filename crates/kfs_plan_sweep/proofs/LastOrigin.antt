@@ -1,11 +1,11 @@
--- The last of the stretches that has a byte, of a log in two parts.
+-- The last of the ranges that has a byte, of a log in two parts.
 use Rattle.std.proofs.Common.{◌≡◌, ℕ, cond, List, [], ◌∷◌, ◌++◌, take, drop, Option, Some, None, refl, sym, ap, ◌∙◌, length, ◌-◌, arith, length-drop}
 use Rattle.std.proofs.lemmas.List.{take_all}
 use Rattle.std.proofs.Math.ListN.{take-append-drop}
 use Rattle.kfs_model.specs.Table.{option_or}
-use Rattle.kfs_plan_sweep.specs.declared.stretch.Origin.{Origin}
-use Rattle.kfs_plan_sweep.specs.declared.stretch.ByteRange.{ByteRange}
-use Rattle.kfs_plan_sweep.specs.Stretches.{has_byte, origin_at, last_origin, AreFrom, merged}
+use Rattle.kfs_plan_sweep.specs.declared.byte_range.Origin.{Origin}
+use Rattle.kfs_plan_sweep.specs.declared.byte_range.ByteRange.{ByteRange}
+use Rattle.kfs_plan_sweep.specs.ByteRanges.{has_byte, origin_at, last_origin, AreFrom, merged}
 use Rattle.kfs_plan_sweep.proofs.Merging.{merged_from, merged_says}
 
 option_or_assoc : (a b c : Option Origin) → option_or (option_or a b) c ≡ option_or a (option_or b c)

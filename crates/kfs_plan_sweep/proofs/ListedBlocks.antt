@@ -1,16 +1,16 @@
--- BlockRange listed one after another.
+-- Intervals of blocks, listed one after another.
 use Rattle.std.proofs.Common.{◌≡◌, ℕ, suc, ◌+◌, ◌-◌, ◌<◌, ◌≤◌, max, Bool, cond, List, [], ◌∷◌, ◌++◌, length, map, drop, get_or, refl, sym, ap, ◌∙◌, arith, append_assoc}
 use Rattle.std.proofs.lemmas.List.{append-nil, drop_all}
 use Rattle.kfs_entry_value.specs.Views.{piece_of}
 use Rattle.kfs_entry_value.specs.declared.plan.Piece.{Piece as CodePiece}
-use Rattle.kfs_model.specs.Blocks.{BlockRange, goes_on, touches}
+use Rattle.kfs_model.specs.Blocks.{BlockInterval, goes_on, touches}
 use Rattle.kfs_model.specs.Placement.{numbers_from}
 use Rattle.kfs_model.specs.Plan.{end_of}
 use Rattle.kfs_model.specs.PlanRow.{Piece}
 use Rattle.kfs_plan_sweep.proofs.Lists.{drop_next}
 use Rattle.kfs_plan_sweep.specs.BlockLists.{HasListed, blocks_between, cleared_from, listed, zeros_start}
 
-listed_next : (next : ℕ) (r : BlockRange) (rs : List BlockRange) → listed next (r ∷ rs) ≡ numbers_from (max r.first next) (r.last + 1 - max r.first next) ++ listed (max next (r.last + 1)) rs
+listed_next : (next : ℕ) (r : BlockInterval) (rs : List BlockInterval) → listed next (r ∷ rs) ≡ numbers_from (max r.first next) (r.last + 1 - max r.first next) ++ listed (max next (r.last + 1)) rs
 unfolding listed
 listed_next next r rs = refl
 
@@ -29,17 +29,17 @@ number_pushed out pushed all n end below is before =
     ∙ ap (λ xs. out ++ xs) (sym (numbers_more n end below))
     ∙ before
 
-pub stretch_listed : (old out : List ℕ) (next n first last : ℕ) → last + 1 ≤ n → out ++ numbers_from n (last + 1 - n) ≡ old ++ numbers_from (max first next) (last + 1 - max first next)
+pub range_listed : (old out : List ℕ) (next n first last : ℕ) → last + 1 ≤ n → out ++ numbers_from n (last + 1 - n) ≡ old ++ numbers_from (max first next) (last + 1 - max first next)
     → HasListed old next (record { first = first; last = last } ∷ []) out (max next (last + 1))
-stretch_listed old out next n first last over is rest =
-    let r : BlockRange = record { first = first; last = last } in
+range_listed old out next n first last over is rest =
+    let r : BlockInterval = record { first = first; last = last } in
     ap (λ xs. xs ++ listed (max next (last + 1)) rest) (sym (append-nil out) ∙ ap (λ xs. out ++ xs) (sym (numbers_none n (last + 1) over)) ∙ is)
     ∙ append_assoc old (numbers_from (max first next) (last + 1 - max first next)) (listed (max next (last + 1)) rest)
     ∙ ap (λ xs. old ++ xs) (sym (listed_next next r rest))
 
 -- ---- the loop over pieces
 
-pub listed_both : (old mid out : List ℕ) (next later last : ℕ) (front back : List BlockRange) → HasListed old next front mid later → HasListed mid later back out last → HasListed old next (front ++ back) out last
+pub listed_both : (old mid out : List ℕ) (next later last : ℕ) (front back : List BlockInterval) → HasListed old next front mid later → HasListed mid later back out last → HasListed old next (front ++ back) out last
 listed_both old mid out next later last front back one two rest =
     two rest ∙ one (back ++ rest) ∙ ap (λ bs. old ++ listed next bs) (sym (append_assoc front back rest))
 

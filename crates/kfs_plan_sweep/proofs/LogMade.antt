@@ -1,4 +1,4 @@
--- The stretches of a log's entries are what the log made, where the sizes are those of its run.
+-- The ranges of a log's entries are what the log made, where the sizes are those of its run.
 use Rattle.std.proofs.Common.{◌≡◌, ℕ, ◌+◌, ◌-◌, ◌++◌, min, true, List, [], ◌∷◌, length, drop, length-drop, arith, map, Result, Ok, refl, sym, subst, ◌∙◌}
 use Rattle.std.specs.Prelude.{IfOk}
 use Rattle.std.specs.List.{AllByRecursion, list_any}
@@ -12,8 +12,8 @@ use Rattle.kfs_entry_value.specs.declared.entry.Span.{Span}
 use Rattle.kfs_entry_value.specs.declared.entry.Entry.{Entry as CodeEntry}
 use Rattle.kfs_entry_value.specs.declared.entry.Entry.TheVariants as entries
 use Rattle.kfs_plan_sweep.specs.declared.sizes.FileSize.{FileSize}
-use Rattle.kfs_plan_sweep.specs.declared.stretch.Origin.TheVariants.{Zero, Payload}
-use Rattle.kfs_plan_sweep.specs.declared.stretch.ByteRange.{ByteRange}
+use Rattle.kfs_plan_sweep.specs.declared.byte_range.Origin.TheVariants.{Zero, Payload}
+use Rattle.kfs_plan_sweep.specs.declared.byte_range.ByteRange.{ByteRange}
 use Rattle.kfs_plan_sweep.specs.Made.{AreMade, grown, made}
 use Rattle.kfs_plan_sweep.specs.Sizes.{AreSizes, growths, length_after, reaches, reaches_file}
 
@@ -53,9 +53,9 @@ module _ (source : List ℕ) (sizes : List FileSize) (ends : ℕ → ℕ) where
   reaches_are index (entries.Chmod n mode ∷ es) within reached = reaches_are (index + 1) es within.1 (later (entries.Chmod n mode) es reached)
 
 -- what the code lists is what the log made
-pub log_made : (source : List ℕ) (sizes : List FileSize) (es : List (CodeEntry Span)) (tree : Tree ℕ) (after : Tree Mark) (stretches : List ByteRange) → AllByRecursion (IsWithin (length source)) es
-    → AreSizes tree (map (entry_of source) es) after sizes → stretches ≡ growths sizes ++ reaches sizes 0 es → AreMade tree (map (entry_of source) es) after stretches
-log_made source sizes es tree after stretches within all is = record {
+pub log_made : (source : List ℕ) (sizes : List FileSize) (es : List (CodeEntry Span)) (tree : Tree ℕ) (after : Tree Mark) (ranges : List ByteRange) → AllByRecursion (IsWithin (length source)) es
+    → AreSizes tree (map (entry_of source) es) after sizes → ranges ≡ growths sizes ++ reaches sizes 0 es → AreMade tree (map (entry_of source) es) after ranges
+log_made source sizes es tree after ranges within all is = record {
   numbers = map (λ (s : FileSize). s.number) sizes;
   grew = all.grew;
   are = is ∙ (λ i. growths_are (file_size tree) (file_size after) sizes all.own i ++ reaches_are source sizes (file_size after) 0 es within all.reached i);

@@ -1,4 +1,4 @@
--- The last stretch that has a byte gives it the mark of the last entry that covers it.
+-- The last range that has a byte gives it the mark of the last entry that covers it.
 use Rattle.std.proofs.Common.{◌≡◌, ℕ, ◌+◌, ◌-◌, ◌<◌, ◌≤◌, ◌⊎◌, min, Bool, true, false, cond, not, ◌==◌, ◌&&◌, ◌||◌, ltb, leb, eqb, List, [], ◌∷◌, ◌++◌, length, map, Option, Some, None, option_map, Ok, refl, sym, ap, subst, ◌∙◌, arith, eqb-true, eq-eqb}
 use Rattle.std.specs.List.{list_any, AllByRecursion}
 use Rattle.std.proofs.lemmas.Bool.Decides.{nat_tests}
@@ -15,13 +15,13 @@ use Rattle.kfs_model.specs.PlanCut.{mark_in_pieces, AreInOrder}
 use Rattle.kfs_model.specs.LastCover.{file_size, covered_by, last_cover}
 use Rattle.kfs_model.proofs.Cut.{changed_mark, pieces_from_said}
 use Rattle.kfs_plan_sweep.proofs.ChangedMarks.{growth_mark, changed_mark_is}
-use Rattle.kfs_plan_sweep.specs.declared.stretch.Origin.{Origin}
-use Rattle.kfs_plan_sweep.specs.declared.stretch.Origin.TheVariants.{Zero, Payload}
-use Rattle.kfs_plan_sweep.specs.declared.stretch.ByteRange.{ByteRange}
+use Rattle.kfs_plan_sweep.specs.declared.byte_range.Origin.{Origin}
+use Rattle.kfs_plan_sweep.specs.declared.byte_range.Origin.TheVariants.{Zero, Payload}
+use Rattle.kfs_plan_sweep.specs.declared.byte_range.ByteRange.{ByteRange}
 use Rattle.kfs_entry_value.specs.Views.{piece_of}
 use Rattle.kfs_entry_value.specs.declared.plan.Piece.{Piece as CodePiece}
 use Rattle.kfs_plan_sweep.specs.Parts.{AreByNumber}
-use Rattle.kfs_plan_sweep.specs.Stretches.{has_byte, origin_at, last_origin, AreFrom}
+use Rattle.kfs_plan_sweep.specs.ByteRanges.{has_byte, origin_at, last_origin, AreFrom}
 use Rattle.kfs_plan_sweep.specs.Made.{source_at, piece_made, pieces_made, IsPlacedAt, IsFit, made, grown}
 use Rattle.kfs_plan_sweep.proofs.LastOrigin.{last_origin-append, option_or_none}
 
@@ -172,9 +172,9 @@ module _ (client : Client) (seen : ClientSight) (before : Tree ℕ) (entries : L
   both_conds true a c = refl
   both_conds false a c = refl
 
-  -- the last of the stretches that has a byte says its mark, and it is in none exactly where the log didn't change it
-  pub stretches_say : (n p : ℕ) → option_map (λ o. mark_of o p) (last_origin all_made n p) ≡ changed_mark (mark_at after n p)
-  stretches_say n p =
+  -- the last of the ranges that has a byte says its mark, and it is in none exactly where the log didn't change it
+  pub ranges_say : (n p : ℕ) → option_map (λ o. mark_of o p) (last_origin all_made n p) ≡ changed_mark (mark_at after n p)
+  ranges_say n p =
       ap (option_map (λ o. mark_of o p)) (last_origin-append (grown (file_size before) (file_size after) numbers) (made (file_size after) 0 entries) n p)
       ∙ marked_or p (last_origin (made (file_size after) 0 entries) n p) (last_origin (grown (file_size before) (file_size after) numbers) n p)
       ∙ (λ i. option_or (made_marks (file_size after) n p 0 entries i) (grown_marks (file_size before) (file_size after) n p numbers (all n) i))
@@ -219,15 +219,15 @@ ascending_pieces (s ∷ t ∷ rest) k i from =
 pub pieces_in_order : (ss : List ByteRange) → AreFrom 0 0 ss → AreInOrder (pieces_made ss)
 pieces_in_order ss from = record { ascending = ascending_pieces ss 0 0 from; filled = filled_pieces ss 0 0 from }
 
--- stretches in order that say what the last of all says are right pieces
+-- ranges in order that say what the last of all says are right pieces
 module _ (client : Client) (seen : ClientSight) (before : Tree ℕ) (entries : List Entry) (after : Tree Mark) (opens : seen.sight ≡ sight before) (ran : run over_marks client seen (marked before) entries ≡ Ok after)
     (numbers : List ℕ) (all : (n : ℕ) → file_size before n < file_size after n → list_any (λ k. n == k) numbers ≡ true) where
   pub laid_pieces_are_right : (ss : List ByteRange) → AreFrom 0 0 ss → AllByRecursion IsFit ss
       → ((n p : ℕ) → origin_at ss n p ≡ last_origin (grown (file_size before) (file_size after) numbers ++ made (file_size after) 0 entries) n p) → ArePieces after (pieces_made ss)
   laid_pieces_are_right ss from fit says = pieces_from_said after (pieces_made ss) (pieces_in_order ss from) (λ n p.
-      pieces_say ss 0 0 from fit n p ∙ ap (option_map (λ o. mark_of o p)) (says n p) ∙ stretches_say client seen before entries after opens ran numbers all n p)
+      pieces_say ss 0 0 from fit n p ∙ ap (option_map (λ o. mark_of o p)) (says n p) ∙ ranges_say client seen before entries after opens ran numbers all n p)
 
--- pieces of stretches in order stand in the order of their files' numbers
+-- pieces of ranges in order stand in the order of their files' numbers
 pub made_by_number : (ss : List ByteRange) (xs : List CodePiece) (n p : ℕ) → map piece_of xs ≡ pieces_made ss → AreFrom n p ss → AreByNumber n xs
 made_by_number ss [] n p is from = tt
 made_by_number [] (x ∷ xs) n p is from = cc

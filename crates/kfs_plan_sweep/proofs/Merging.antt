@@ -1,11 +1,11 @@
--- One list of stretches laid over another stays in order, and says of each byte what the upper one says, or else the lower one.
+-- One list of ranges laid over another stays in order, and says of each byte what the upper one says, or else the lower one.
 use Rattle.std.proofs.Common.{◌≡◌, ℕ, ◌<◌, ◌≤◌, ◌⊎◌, inr, ⊎_elim, Bool, true, false, cond, ◌&&◌, ◌||◌, ltb, leb, eqb, List, [], ◌∷◌, ◌++◌, Some, None, refl, sym, ap, subst, ◌∙◌, arith}
 use Rattle.std.proofs.lemmas.Bool.Decides.{nat_tests}
 use Rattle.kfs_model.specs.Table.{option_or}
 use Rattle.kfs_model.specs.Plan.{ComesBy}
 use Rattle.kfs_model.proofs.Follow.{comes_then, before_then, either_side, not_yet, no_more}
-use Rattle.kfs_plan_sweep.specs.declared.stretch.ByteRange.{ByteRange}
-use Rattle.kfs_plan_sweep.specs.Stretches.{has_byte, origin_at, AreFrom, ends_by, begins_before, cut_below, cut_from, merged}
+use Rattle.kfs_plan_sweep.specs.declared.byte_range.ByteRange.{ByteRange}
+use Rattle.kfs_plan_sweep.specs.ByteRanges.{has_byte, origin_at, AreFrom, ends_by, begins_before, cut_below, cut_from, merged}
 
 -- ---- over plain numbers
 
@@ -21,7 +21,7 @@ goes_past k e n p h i = grind (arith, nat_tests)
 lies_behind : (k s e n p : ℕ) → (ltb k n || (eqb k n && leb e p)) ≡ false → (eqb k n && ltb s p) ≡ false → (n < k) ⊎ ((n ≡ k) × (p ≤ s))
 lies_behind k s e n p h i = grind (arith, nat_tests)
 
--- the front of a stretch has its bytes before the cut, the back those behind it
+-- the front of a range has its bytes before the cut, the back those behind it
 front_holds : (k s e n p m q : ℕ) → k ≡ n → p < e → (m < n) ⊎ ((m ≡ n) × (q < p)) → (eqb k m && leb s q && ltb q p) ≡ (eqb k m && leb s q && ltb q e)
 front_holds k s e n p m q a b h = grind (arith, nat_tests)
 
@@ -38,7 +38,7 @@ from_weaker n p m q [] h from = tt
 from_weaker n p m q (s ∷ ss) h from = (comes_then n p m q s.number s.start h from.0, from.1, from.2)
 
 module _ (m q : ℕ) where
-  -- a byte before the first stretch is in none
+  -- a byte before the first range is in none
   none_before : (n p : ℕ) (ss : List ByteRange) → (m < n) ⊎ ((m ≡ n) × (q < p)) → AreFrom n p ss → origin_at ss m q ≡ None
   none_before n p [] h from = refl
   none_before n p (s ∷ ss) h from =
@@ -140,7 +140,7 @@ merged_from (u ∷ us) ls n p lower upper =
     cut_below_from u.number u.start n p ls (u ∷ merged (cut_from u.number u.end (cut_from u.number u.start ls)) us) lower upper.0 (inr (refl, same), upper.1, more)
 
 module _ (u : ByteRange) (us ls : List ByteRange) (n p : ℕ) (lower : AreFrom n p ls) (upper : AreFrom n p (u ∷ us)) (m q : ℕ) where
-  -- what lies behind the first stretch of the upper list
+  -- what lies behind the first range of the upper list
   abbrev rest : List ByteRange
   rest = cut_from u.number u.end (cut_from u.number u.start ls)
 

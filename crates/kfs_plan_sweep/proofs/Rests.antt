@@ -1,6 +1,6 @@
--- What is left of a list, by its first stretch.
+-- What is left of a list, by its first range.
 use Rattle.std.proofs.Common.{◌≡◌, List, [], ◌∷◌, drop, Some, None, ap}
-use Rattle.kfs_plan_sweep.specs.declared.stretch.ByteRange.{ByteRange}
+use Rattle.kfs_plan_sweep.specs.declared.byte_range.ByteRange.{ByteRange}
 use Rattle.kfs_plan_sweep.specs.declared.merge.Rest.{Rest}
 use Rattle.kfs_plan_sweep.specs.Rests.{rest_of}
 

@@ -1,9 +1,9 @@
--- One stretch at a time: what a cut makes of a list's first stretch.
+-- One range at a time: what a cut makes of a list's first range.
 use Rattle.std.proofs.Common.{◌≡◌, ℕ, Bool, true, false, cond, List, [], ◌∷◌, ◌++◌, drop, length, refl, sym, ap, ◌∙◌, append_assoc, get_or, ◌+◌, ◌<◌, ◌≤◌}
 use Rattle.std.proofs.lemmas.List.{drop_all}
 use Rattle.kfs_plan_sweep.proofs.Lists.{drop_next}
-use Rattle.kfs_plan_sweep.specs.declared.stretch.ByteRange.{ByteRange}
-use Rattle.kfs_plan_sweep.specs.Stretches.{ends_by, begins_before, cut_below, cut_from, merged}
+use Rattle.kfs_plan_sweep.specs.declared.byte_range.ByteRange.{ByteRange}
+use Rattle.kfs_plan_sweep.specs.ByteRanges.{ends_by, begins_before, cut_below, cut_from, merged}
 
 module _ (n p : ℕ) (s : ByteRange) (ss : List ByteRange) where
   two : (a b : Bool) (x y z : List ByteRange) → ends_by n p s ≡ a → begins_before n p s ≡ b → cond (ends_by n p s) x (cond (begins_before n p s) y z) ≡ cond a x (cond b y z)
@@ -52,7 +52,7 @@ merged_next ls u us = refl
 pub append_one : (xs : List ByteRange) (x : ByteRange) (ys : List ByteRange) → (xs ++ x ∷ []) ++ ys ≡ xs ++ x ∷ ys
 append_one xs x ys = append_assoc xs (x ∷ []) ys
 
--- one turn of the laying: what lies before the upper stretch, the stretch, and the rest
+-- one turn of the laying: what lies before the upper range, the range, and the rest
 pub laid_next : (out taken pushed ls left skipped : List ByteRange) (u : ByteRange) (us all : List ByteRange)
     → taken ≡ out ++ cut_below u.number u.start ls → left ≡ cut_from u.number u.start ls → pushed ≡ taken ++ u ∷ [] → skipped ≡ cut_from u.number u.end left
     → out ++ merged ls (u ∷ us) ≡ all → pushed ++ merged skipped us ≡ all

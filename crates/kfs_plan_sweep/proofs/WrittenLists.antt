@@ -4,7 +4,7 @@ use Rattle.std.specs.List.{list_any, AllByRecursion}
 use Rattle.std.proofs.lemmas.Bool.{or_left, or_right}
 use Rattle.std.proofs.lemmas.Bool.Decides.{nat_tests}
 use Rattle.std.proofs.lemmas.List.{drop_all, length-map}
-use Rattle.kfs_model.specs.Blocks.{BlockRange, counted, of_file, touches}
+use Rattle.kfs_model.specs.Blocks.{BlockInterval, counted, of_file, touches}
 use Rattle.kfs_model.specs.Limits.{block_size}
 use Rattle.kfs_model.specs.Placement.{is_written, block_count, blocks_from, blocks_of, blocks_that, numbers_from, written_blocks}
 use Rattle.kfs_model.specs.Plan.{ArePieces}
@@ -21,8 +21,8 @@ use Rattle.kfs_plan_sweep.specs.BlockLists.{listed, node_written}
 
 -- ---- ascending numbers that pass a test
 
-in_stretch : (f l k : ℕ) → f ≤ k → k < l + 1 → (leb f k && leb k l) ≡ true
-in_stretch f l k low high = grind (arith, nat_tests)
+in_range_of_bytes : (f l k : ℕ) → f ≤ k → k < l + 1 → (leb f k && leb k l) ≡ true
+in_range_of_bytes f l k low high = grind (arith, nat_tests)
 
 module _ (p : ℕ → Bool) (bound : ℕ) where
   -- ascending from a number on, each below the bound and passing the test
@@ -85,13 +85,13 @@ module _ (p : ℕ → Bool) (bound : ℕ) where
           (λ (same : x ≡ first). let parts = same_first first x xs same picked in cc (parts.0, fails))
           (before_or_same first x picked.0)
 
-  listed_picked : (rs : List BlockRange) (next : ℕ) → ((k : ℕ) → list_any (has_block k) rs ≡ true → (k < bound) × (p k ≡ true)) → IsPicked next (listed next rs)
+  listed_picked : (rs : List BlockInterval) (next : ℕ) → ((k : ℕ) → list_any (has_block k) rs ≡ true → (k < bound) × (p k ≡ true)) → IsPicked next (listed next rs)
   unfolding listed
   listed_picked [] next pass = tt
   listed_picked (r ∷ rs) next pass =
       let m = max r.first next in
       picked_run (r.last + 1 - m) next m (max next (r.last + 1)) (listed (max next (r.last + 1)) rs) (omega arith) (omega arith) (λ some. omega arith)
-      (λ k low below. pass k (or_left (has_block k r) (list_any (has_block k) rs) (in_stretch r.first r.last k (omega arith) (omega arith))))
+      (λ k low below. pass k (or_left (has_block k r) (list_any (has_block k) rs) (in_range_of_bytes r.first r.last k (omega arith) (omega arith))))
       (listed_picked rs (max next (r.last + 1)) (λ k has. pass k (or_right (has_block k r) (list_any (has_block k) rs) has)))
 
 -- ---- as many are listed as are counted
@@ -100,7 +100,7 @@ numbers_long : (first count : ℕ) → length (numbers_from first count) ≡ cou
 numbers_long first zero = refl
 numbers_long first (suc count) = ap suc (numbers_long (first + 1) count)
 
-listed_long : (next : ℕ) (rs : List BlockRange) → length (listed next rs) ≡ counted next rs
+listed_long : (next : ℕ) (rs : List BlockInterval) → length (listed next rs) ≡ counted next rs
 unfolding listed counted
 listed_long next [] = refl
 listed_long next (r ∷ rs) =
@@ -156,7 +156,7 @@ module _ (n : ℕ) (marks : List Mark) (rs : List Piece) (is : Classes marks 0 0
   abbrev has_written : ℕ → Bool
   has_written k = is_written (block_at marks k)
 
-  abbrev touched : List BlockRange
+  abbrev touched : List BlockInterval
   touched = touches (length marks) 0 rs
 
   pass : (k : ℕ) → list_any (has_block k) touched ≡ true → (k < block_count (length marks)) × (has_written k ≡ true)

@@ -1,7 +1,7 @@
 -- Lists of blocks: those that the pieces of a file write, and the ranges of those that they make all zero.
 use Rattle.std.specs.Prelude.{◌≡◌, ℕ, ◌+◌, ◌-◌, ◌/◌, ◌<◌, ◌++◌, ◌==◌, ◌&&◌, max, nat_le, nat_lt, Bool, List, [], ◌∷◌, length, map, Some, if◌then◌else◌}
 use Rattle.std.specs.List.{list_any}
-use Rattle.kfs_model.specs.Blocks.{BlockRange, goes_on, is_zero_source, of_file, touches}
+use Rattle.kfs_model.specs.Blocks.{BlockInterval, goes_on, is_zero_source, of_file, touches}
 use Rattle.kfs_model.specs.LastCover.{file_size}
 use Rattle.kfs_model.specs.Limits.{block_size}
 use Rattle.kfs_model.specs.Placement.{block_count, cleared_blocks, numbers_from}
@@ -11,14 +11,14 @@ use Rattle.kfs_model.specs.Run.{Mark}
 use Rattle.kfs_model.specs.Tree.{Tree, Node, content_of}
 use Rattle.kfs_plan_sweep.specs.declared.block_lists.BlockRange.{BlockRange}
 
--- the blocks that are in one of the stretches at least, from a block on: each block once
-unfoldable pub listed : (next : ℕ) → List BlockRange → List ℕ
+-- the blocks that are in one of the ranges at least, from a block on: each block once
+unfoldable pub listed : (next : ℕ) → List BlockInterval → List ℕ
 listed next [] = []
 listed next (r ∷ rs) = numbers_from (max r.first next) (r.last + 1 - max r.first next) ++ listed (max next (r.last + 1)) rs
 
 -- The later list has these blocks listed: whatever comes behind them, both come to the same.
-abbrev pub HasListed : (before : List ℕ) (next : ℕ) → List BlockRange → (after : List ℕ) (later : ℕ) → Type 0
-HasListed before next blocks after later = (rest : List BlockRange) → after ++ listed later rest ≡ before ++ listed next (blocks ++ rest)
+abbrev pub HasListed : (before : List ℕ) (next : ℕ) → List BlockInterval → (after : List ℕ) (later : ℕ) → Type 0
+HasListed before next blocks after later = (rest : List BlockInterval) → after ++ listed later rest ≡ before ++ listed next (blocks ++ rest)
 
 abbrev pub is_in_range : (block : ℕ) → BlockRange → Bool
 is_in_range block range = nat_le range.first block && nat_lt block range.end
@@ -37,7 +37,7 @@ abbrev pub zeros_start : Piece → ℕ
 zeros_start p = if is_zero_source p.source then p.start else end_of p
 
 -- The blocks that are all zero by the pieces, where zero bytes begin at `start` and reach to `end`, at which the pieces begin:
--- zero pieces that go on from one another are one stretch of zero bytes.
+-- zero pieces that go on from one another are one range of zero bytes.
 unfoldable pub cleared_from : (size start end : ℕ) → List Piece → List BlockRange
 cleared_from size start end [] = blocks_between size start end
 cleared_from size start end (r ∷ rs) =

@@ -1,4 +1,4 @@
--- The stretches that a log makes, and the pieces that they are.
+-- The ranges that a log makes, and the pieces that they are.
 use Rattle.std.specs.Prelude.{◌≡◌, ℕ, ◌+◌, ◌-◌, ◌<◌, ◌≤◌, ◌++◌, ◌==◌, min, List, [], ◌∷◌, length, IfOk, IsTrue}
 use Rattle.std.specs.List.{list_any}
 use Rattle.kfs_model.specs.Limits.{payload_limit, size_limit}
@@ -10,9 +10,9 @@ use Rattle.kfs_model.specs.Run.{Mark, run, over_marks, marked}
 use Rattle.kfs_model.specs.Sight.{sight}
 use Rattle.kfs_model.specs.Tree.{Tree}
 use Rattle.kfs_model.specs.PlanRow.{Piece, Source}
-use Rattle.kfs_plan_sweep.specs.declared.stretch.Origin.{Origin}
-use Rattle.kfs_plan_sweep.specs.declared.stretch.Origin.TheVariants.{Zero, Payload}
-use Rattle.kfs_plan_sweep.specs.declared.stretch.ByteRange.{ByteRange}
+use Rattle.kfs_plan_sweep.specs.declared.byte_range.Origin.{Origin}
+use Rattle.kfs_plan_sweep.specs.declared.byte_range.Origin.TheVariants.{Zero, Payload}
+use Rattle.kfs_plan_sweep.specs.declared.byte_range.ByteRange.{ByteRange}
 
 -- what a piece that begins at this byte comes from
 abbrev pub source_at : Origin → (start : ℕ) → Source
@@ -31,7 +31,7 @@ abbrev pub IsPlacedAt : Origin → (start end : ℕ) → Type 0
 IsPlacedAt Zero start end = Unit {0}
 IsPlacedAt (Payload entry offset) start end = (offset ≤ start) × (end ≤ offset + payload_limit)
 
--- the stretch lies in a file of the greatest size, and in its entry's payload
+-- the range lies in a file of the greatest size, and in its entry's payload
 pub record IsFit (s : ByteRange) : Type 0 where
   pub end : s.end ≤ size_limit
   pub placed : IsPlacedAt s.origin s.start s.end
@@ -53,12 +53,12 @@ grown before ends [] = []
 grown before ends (n ∷ ns) = record { number = n; start = before n; end = ends n; origin = Zero } ∷ grown before ends ns
 
 -- what a run made: the growth of files, those that grew among them, and then what each entry reaches
-pub record AreMade (tree : Tree ℕ) (entries : List Entry) (after : Tree Mark) (stretches : List ByteRange) : Type 0 where
+pub record AreMade (tree : Tree ℕ) (entries : List Entry) (after : Tree Mark) (ranges : List ByteRange) : Type 0 where
   pub numbers : List ℕ
   pub grew : (n : ℕ) → file_size tree n < file_size after n → IsTrue (list_any (λ k. n == k) numbers)
-  pub are : stretches ≡ grown (file_size tree) (file_size after) numbers ++ made (file_size after) 0 entries
+  pub are : ranges ≡ grown (file_size tree) (file_size after) numbers ++ made (file_size after) 0 entries
 
--- whichever run made the stretches, the pieces are right ones of its log
+-- whichever run made the ranges, the pieces are right ones of its log
 abbrev pub AreRightOf : List ByteRange → List Piece → Type 0
-AreRightOf stretches pieces = EachRun (λ client before tree entries. before.sight ≡ sight tree
-    → IfOk (run over_marks client before (marked tree) entries) (λ after. AreMade tree entries after stretches → ArePieces after pieces))
+AreRightOf ranges pieces = EachRun (λ client before tree entries. before.sight ≡ sight tree
+    → IfOk (run over_marks client before (marked tree) entries) (λ after. AreMade tree entries after ranges → ArePieces after pieces))

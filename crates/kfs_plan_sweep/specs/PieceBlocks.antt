@@ -3,27 +3,27 @@ use Rattle.std.specs.Prelude.{◌≡◌, ℕ, ◌+◌, ◌-◌, ◌/◌, ◌%◌
 use Rattle.kfs_model.specs.Limits.{block_size}
 use Rattle.kfs_model.specs.PlanRow.{Piece, Source}
 use Rattle.kfs_model.specs.Plan.{end_of}
-use Rattle.kfs_model.specs.Blocks.{BlockRange, block_of, counted}
+use Rattle.kfs_model.specs.Blocks.{BlockInterval, block_of, counted}
 use Rattle.kfs_plan_sweep.specs.declared.blocks.Count.{Count}
 use Rattle.kfs_plan_sweep.specs.declared.touched.Touched.{Touched}
 
 -- The blocks that one piece of a file of this size writes, where zero bytes ended last at `until` and go on behind the piece or not.
 module _ (size until : ℕ) (goes_on : Bool) (p : Piece) where
-  abbrev pub of_source : Source → List BlockRange
+  abbrev pub of_source : Source → List BlockInterval
   of_source Source.Zero = (if (p.start % block_size == 0) || (p.start == until) then [] else block_of p.start ∷ []) ++ (if (end_of p % block_size == 0) || nat_le size (end_of p) || goes_on then [] else block_of (end_of p) ∷ [])
   of_source (Source.Payload entry place) = record { first = p.start / block_size; last = (end_of p - 1) / block_size } ∷ []
 
-  abbrev pub piece_blocks : List BlockRange
+  abbrev pub piece_blocks : List BlockInterval
   piece_blocks = of_source p.source
 
--- the blocks that a stretch of the code's says, if there is one
-abbrev pub blocks_in : Option Touched → List BlockRange
+-- the blocks that a range of the code's says, if there is one
+abbrev pub blocks_in : Option Touched → List BlockInterval
 blocks_in None = []
 blocks_in (Some touched) = record { first = touched.first; last = touched.last } ∷ []
 
 -- The later count has these blocks counted: whatever comes behind them, both come to the same.
-abbrev pub HasCounted : (before : Count) → List BlockRange → (after : Count) → Type 0
-HasCounted before blocks after = (rest : List BlockRange) → after.total + counted after.next rest ≡ before.total + counted before.next (blocks ++ rest)
+abbrev pub HasCounted : (before : Count) → List BlockInterval → (after : Count) → Type 0
+HasCounted before blocks after = (rest : List BlockInterval) → after.total + counted after.next rest ≡ before.total + counted before.next (blocks ++ rest)
 
 -- where the zero bytes of the piece end, 0 for a payload's
 abbrev pub zeros_until : Piece → ℕ

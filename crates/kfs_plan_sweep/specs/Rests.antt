@@ -1,6 +1,6 @@
--- What is left of a list of stretches.
+-- What is left of a list of ranges.
 use Rattle.std.specs.Prelude.{List, [], ◌∷◌, drop, Some, None}
-use Rattle.kfs_plan_sweep.specs.declared.stretch.ByteRange.{ByteRange}
+use Rattle.kfs_plan_sweep.specs.declared.byte_range.ByteRange.{ByteRange}
 use Rattle.kfs_plan_sweep.specs.declared.merge.Rest.{Rest}
 
 abbrev pub rest_of : List ByteRange → Rest → List ByteRange

@@ -1,4 +1,4 @@
--- The sizes of files before and after a log, and the stretches that its entries make below the sizes after.
+-- The sizes of files before and after a log, and the ranges that its entries make below the sizes after.
 use Rattle.std.specs.Prelude.{◌≡◌, ℕ, ◌+◌, ◌-◌, ◌<◌, ◌≤◌, ◌==◌, min, Bool, false, List, [], ◌∷◌, length, map, Option, Some, None, IfOk, IsTrue, if◌then◌else◌}
 use Rattle.std.specs.List.{list_any, AllByRecursion}
 use Rattle.kfs_model.specs.Access.{Client}
@@ -15,8 +15,8 @@ use Rattle.kfs_entry_value.specs.declared.entry.Span.{Span}
 use Rattle.kfs_entry_value.specs.declared.entry.Entry.{Entry as CodeEntry}
 use Rattle.kfs_entry_value.specs.declared.entry.Entry.TheVariants as entries
 use Rattle.kfs_plan_sweep.specs.declared.sizes.FileSize.{FileSize}
-use Rattle.kfs_plan_sweep.specs.declared.stretch.Origin.TheVariants.{Zero, Payload}
-use Rattle.kfs_plan_sweep.specs.declared.stretch.ByteRange.{ByteRange}
+use Rattle.kfs_plan_sweep.specs.declared.byte_range.Origin.TheVariants.{Zero, Payload}
+use Rattle.kfs_plan_sweep.specs.declared.byte_range.ByteRange.{ByteRange}
 
 -- by number, each of them at least this one, and no number twice
 abbrev pub SizesAscend : (least : ℕ) → List FileSize → Type 0
@@ -61,8 +61,8 @@ reach_of sizes index (entries.Rename d m e k) = None
 reach_of sizes index (entries.Chmod n mode) = None
 
 abbrev pub put_before : Option ByteRange → List ByteRange → List ByteRange
-put_before None stretches = stretches
-put_before (Some stretch) stretches = stretch ∷ stretches
+put_before None ranges = ranges
+put_before (Some range) ranges = range ∷ ranges
 
 -- what the entries reach, the first of them having this index
 abbrev pub reaches : List FileSize → (index : ℕ) → List (CodeEntry Span) → List ByteRange

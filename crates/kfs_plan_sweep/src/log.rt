@@ -8,9 +8,9 @@ ghost use Rattle.kfs_plan_sweep.specs.Made.{IsFit};
 ghost use Rattle.kfs_plan_sweep.specs.Parts.{AreByNumber};
 ghost use Rattle.kfs_plan_sweep.specs.Sizes.{AreRightFrom, SizesAscend, IsSize, IsSpanned, growth_of, growths, reach_of, reaches};
 
+use crate::byte_range::{ByteRange, Origin};
 use crate::pieces::right_pieces;
 use crate::sizes::{FileSize, size_after};
-use crate::stretch::{ByteRange, Origin};
 use kfs_entry_value::{Entry, Piece, Span};
 use std::alloc::{AllocError, Allocator};
 
@@ -66,7 +66,7 @@ fn reach(sizes: &[FileSize], index: u16, entry: &Entry<Span>) -> Option<ByteRang
 
 /// The ranges that a log changes: first what each listed file grew by, then what each Write and
 /// Truncate changes.
-fn stretches_of<A: Allocator>(
+fn ranges_of<A: Allocator>(
     alloc: A,
     sizes: &[FileSize],
     entries: &[Entry<Span>],
@@ -83,8 +83,8 @@ fn stretches_of<A: Allocator>(
         out.push(growth(size))?;
     }
     for (index, entry) in entries.iter().enumerate() {
-        if let Some(stretch) = reach(sizes, index as u16, entry) {
-            out.push(stretch)?;
+        if let Some(range) = reach(sizes, index as u16, entry) {
+            out.push(range)?;
         }
     }
     Ok(out)
@@ -109,7 +109,7 @@ pub fn sweep<A: Allocator + Copy>(
     ensures filled { IfOk result (λ out. AllByRecursion IsFilled out.items) }
     ensures order { IfOk result (λ out. AreByNumber 0 out.items) }
 {
-    let stretches = stretches_of(alloc, sizes, entries)?;
-    let out = right_pieces(alloc, stretches.as_slice())?;
+    let ranges = ranges_of(alloc, sizes, entries)?;
+    let out = right_pieces(alloc, ranges.as_slice())?;
     Ok(out)
 }

@@ -1,11 +1,11 @@
 //! Lists of byte ranges, one laid over another.
 ghost use Rattle.std.specs.Prelude.{◌≡◌, ◌++◌, IfOk, ℕ, List, [], ◌∷◌, drop};
-ghost use Rattle.kfs_plan_sweep.specs.Stretches.{AreFrom, begins_before, cut_below, cut_from, ends_by, last_origin, merged, origin_at};
+ghost use Rattle.kfs_plan_sweep.specs.ByteRanges.{AreFrom, begins_before, cut_below, cut_from, ends_by, last_origin, merged, origin_at};
 ghost use Rattle.std.specs.List.{AllByRecursion};
 ghost use Rattle.kfs_plan_sweep.specs.Made.{IsFit};
 ghost use Rattle.kfs_plan_sweep.specs.Rests.{rest_of};
 
-use crate::stretch::ByteRange;
+use crate::byte_range::ByteRange;
 use std::alloc::{AllocError, Allocator};
 
 /// What is left of a list: a first range, perhaps without its front, and those from index `next` on.
@@ -30,17 +30,17 @@ fn from_next(list: &[ByteRange], next: usize) -> Rest
 }
 
 /// Whether the range ends at this byte of the file, or before it.
-fn is_over(stretch: &ByteRange, number: u32, place: u64) -> bool
-    ensures { result ≡ ends_by number place stretch.now }
+fn is_over(range: &ByteRange, number: u32, place: u64) -> bool
+    ensures { result ≡ ends_by number place range.now }
 {
-    stretch.number < number || stretch.number == number && stretch.end <= place
+    range.number < number || range.number == number && range.end <= place
 }
 
 /// Whether the range begins before this byte of the file.
-fn has_begun(stretch: &ByteRange, number: u32, place: u64) -> bool
-    ensures { result ≡ begins_before number place stretch.now }
+fn has_begun(range: &ByteRange, number: u32, place: u64) -> bool
+    ensures { result ≡ begins_before number place range.now }
 {
-    stretch.number == number && stretch.start < place
+    range.number == number && range.start < place
 }
 
 /// Moves to `out` what lies before the byte, and answers what is left.
@@ -55,18 +55,18 @@ fn take_below<A: Allocator>(
     ensures left { IfOk result (λ left. rest_of list.now left ≡ cut_from number place (rest_of list.now rest)) }
 {
     let mut left = rest;
-    while let Some(stretch) = left.front {
-        if is_over(&stretch, number, place) {
-            out.push(stretch)?;
+    while let Some(range) = left.front {
+        if is_over(&range, number, place) {
+            out.push(range)?;
             left = from_next(list, left.next);
-        } else if has_begun(&stretch, number, place) {
+        } else if has_begun(&range, number, place) {
             out.push(ByteRange {
                 end: place,
-                ..stretch
+                ..range
             })?;
             let back = ByteRange {
                 start: place,
-                ..stretch
+                ..range
             };
             return Ok(Rest {
                 front: Some(back),
@@ -84,13 +84,13 @@ fn skip_below(list: &[ByteRange], rest: Rest, number: u32, place: u64) -> Rest
     ensures { rest_of list.now result ≡ cut_from number place (rest_of list.now rest) }
 {
     let mut left = rest;
-    while let Some(stretch) = left.front {
-        if is_over(&stretch, number, place) {
+    while let Some(range) = left.front {
+        if is_over(&range, number, place) {
             left = from_next(list, left.next);
-        } else if has_begun(&stretch, number, place) {
+        } else if has_begun(&range, number, place) {
             let back = ByteRange {
                 start: place,
-                ..stretch
+                ..range
             };
             return Rest {
                 front: Some(back),
@@ -112,8 +112,8 @@ fn take_all<A: Allocator>(
     ensures { IfOk result (λ _. out.new.items ≡ out.old.items ++ rest_of list.now rest) }
 {
     let mut left = rest;
-    while let Some(stretch) = left.front {
-        out.push(stretch)?;
+    while let Some(range) = left.front {
+        out.push(range)?;
         left = from_next(list, left.next);
     }
     Ok(())
@@ -130,10 +130,10 @@ pub fn laid_over<A: Allocator>(
 {
     let mut out = Vec::new(alloc);
     let mut rest = from_next(lower, 0);
-    for stretch in upper {
-        let left = take_below(&mut out, lower, rest, stretch.number, stretch.start)?;
-        out.push(*stretch)?;
-        rest = skip_below(lower, left, stretch.number, stretch.end);
+    for range in upper {
+        let left = take_below(&mut out, lower, rest, range.number, range.start)?;
+        out.push(*range)?;
+        rest = skip_below(lower, left, range.number, range.end);
     }
     take_all(&mut out, lower, rest)?;
     Ok(out)
@@ -143,19 +143,19 @@ pub fn laid_over<A: Allocator>(
 /// hides an earlier one. `Err` where memory is refused.
 pub fn last_of_all<A: Allocator + Copy>(
     alloc: A,
-    stretches: &[ByteRange],
+    ranges: &[ByteRange],
 ) -> Result<Vec<ByteRange, A>, AllocError>
     ensures order { IfOk result (λ out. AreFrom 0 0 out.items) }
-    ensures says { IfOk result (λ out. (number place : ℕ) → origin_at out.items number place ≡ last_origin stretches.now number place) }
-    ensures fit { IfOk result (λ out. AllByRecursion IsFit stretches.now → AllByRecursion IsFit out.items) }
+    ensures says { IfOk result (λ out. (number place : ℕ) → origin_at out.items number place ≡ last_origin ranges.now number place) }
+    ensures fit { IfOk result (λ out. AllByRecursion IsFit ranges.now → AllByRecursion IsFit out.items) }
 {
-    match stretches {
+    match ranges {
         [] => Ok(Vec::new(alloc)),
-        [stretch] => alone(alloc, stretch),
+        [range] => alone(alloc, range),
         _ => {
-            let middle = stretches.len() / 2;
-            let earlier = last_of_all(alloc, &stretches[..middle])?;
-            let later = last_of_all(alloc, &stretches[middle..])?;
+            let middle = ranges.len() / 2;
+            let earlier = last_of_all(alloc, &ranges[..middle])?;
+            let later = last_of_all(alloc, &ranges[middle..])?;
             let out = laid_over(alloc, earlier.as_slice(), later.as_slice())?;
             Ok(out)
         }
@@ -163,14 +163,14 @@ pub fn last_of_all<A: Allocator + Copy>(
 }
 
 /// The range as a list of one, or no range where it is empty.
-fn alone<A: Allocator>(alloc: A, stretch: &ByteRange) -> Result<Vec<ByteRange, A>, AllocError>
+fn alone<A: Allocator>(alloc: A, range: &ByteRange) -> Result<Vec<ByteRange, A>, AllocError>
     ensures order { IfOk result (λ out. AreFrom 0 0 out.items) }
-    ensures says { IfOk result (λ out. (number place : ℕ) → origin_at out.items number place ≡ last_origin (stretch.now ∷ []) number place) }
-    ensures fit { IfOk result (λ out. IsFit stretch.now → AllByRecursion IsFit out.items) }
+    ensures says { IfOk result (λ out. (number place : ℕ) → origin_at out.items number place ≡ last_origin (range.now ∷ []) number place) }
+    ensures fit { IfOk result (λ out. IsFit range.now → AllByRecursion IsFit out.items) }
 {
     let mut out = Vec::new(alloc);
-    if stretch.start < stretch.end {
-        out.push(*stretch)?;
+    if range.start < range.end {
+        out.push(*range)?;
     }
     Ok(out)
 }

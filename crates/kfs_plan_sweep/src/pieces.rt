@@ -5,48 +5,48 @@ ghost use Rattle.kfs_entry_value.specs.Views.{piece_of};
 ghost use Rattle.kfs_plan_sweep.specs.Lefts.{IsFilled, PieceIsInRange};
 ghost use Rattle.kfs_plan_sweep.specs.Made.{AreRightOf, IsFit, piece_made, pieces_made};
 ghost use Rattle.kfs_plan_sweep.specs.Parts.{AreByNumber};
-ghost use Rattle.kfs_plan_sweep.specs.Stretches.{AreFrom};
+ghost use Rattle.kfs_plan_sweep.specs.ByteRanges.{AreFrom};
 
+use crate::byte_range::{ByteRange, Origin};
 use crate::merge::last_of_all;
-use crate::stretch::{ByteRange, Origin};
 use kfs_entry_value::{Piece, Source};
 use std::alloc::{AllocError, Allocator};
 
 /// A range as a piece of a plan.
-fn piece_from(stretch: &ByteRange) -> Piece
-    requires fit { IsFit stretch.now }
-    requires filled { stretch.now.start < stretch.now.end }
-    ensures made { piece_of result ≡ piece_made stretch.now }
+fn piece_from(range: &ByteRange) -> Piece
+    requires fit { IsFit range.now }
+    requires filled { range.now.start < range.now.end }
+    ensures made { piece_of result ≡ piece_made range.now }
     ensures whole { PieceIsInRange result }
     ensures filled { IsFilled result }
 {
-    let source = match stretch.origin {
+    let source = match range.origin {
         Origin::Zero => Source::Zero,
         Origin::Payload { entry, offset } => Source::Payload {
             entry,
-            place: (stretch.start - offset) as u32,
+            place: (range.start - offset) as u32,
         },
     };
     Piece {
-        number: stretch.number,
-        start: stretch.start,
-        len: stretch.end - stretch.start,
+        number: range.number,
+        start: range.start,
+        len: range.end - range.start,
         source,
     }
 }
 
 /// The ranges as pieces of a plan.
-fn pieces_from<A: Allocator>(alloc: A, stretches: &[ByteRange]) -> Result<Vec<Piece, A>, AllocError>
-    requires fit { AllByRecursion IsFit stretches.now }
-    requires order { AreFrom 0 0 stretches.now }
-    ensures made { IfOk result (λ out. map piece_of out.items ≡ pieces_made stretches.now) }
+fn pieces_from<A: Allocator>(alloc: A, ranges: &[ByteRange]) -> Result<Vec<Piece, A>, AllocError>
+    requires fit { AllByRecursion IsFit ranges.now }
+    requires order { AreFrom 0 0 ranges.now }
+    ensures made { IfOk result (λ out. map piece_of out.items ≡ pieces_made ranges.now) }
     ensures whole { IfOk result (λ out. AllByRecursion PieceIsInRange out.items) }
     ensures filled { IfOk result (λ out. AllByRecursion IsFilled out.items) }
     ensures order { IfOk result (λ out. AreByNumber 0 out.items) }
 {
     let mut out = Vec::new(alloc);
-    for stretch in stretches {
-        out.push(piece_from(stretch))?;
+    for range in ranges {
+        out.push(piece_from(range))?;
     }
     Ok(out)
 }
@@ -55,15 +55,15 @@ fn pieces_from<A: Allocator>(alloc: A, stretches: &[ByteRange]) -> Result<Vec<Pi
 /// entry changes, in the log's order. `Err` where memory is refused.
 pub fn right_pieces<A: Allocator + Copy>(
     alloc: A,
-    stretches: &[ByteRange],
+    ranges: &[ByteRange],
 ) -> Result<Vec<Piece, A>, AllocError>
-    requires fit { AllByRecursion IsFit stretches.now }
-    ensures right { IfOk result (λ out. AreRightOf stretches.now (map piece_of out.items)) }
+    requires fit { AllByRecursion IsFit ranges.now }
+    ensures right { IfOk result (λ out. AreRightOf ranges.now (map piece_of out.items)) }
     ensures whole { IfOk result (λ out. AllByRecursion PieceIsInRange out.items) }
     ensures filled { IfOk result (λ out. AllByRecursion IsFilled out.items) }
     ensures order { IfOk result (λ out. AreByNumber 0 out.items) }
 {
-    let laid = last_of_all(alloc, stretches)?;
+    let laid = last_of_all(alloc, ranges)?;
     let out = pieces_from(alloc, laid.as_slice())?;
     Ok(out)
 }

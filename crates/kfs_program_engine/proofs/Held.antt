@@ -1,4 +1,4 @@
--- HeldVerdicts of a session.
+-- What the workers of a session hold.
 use Rattle.std.proofs.Common.{◌≡◌, ◌≢◌, inr, ℕ, ◌++◌, List, Option, Some, None, option_map, Result, Ok, Err, refl, sym, ap, subst, ◌∙◌}
 use Rattle.std.specs.Prelude.{get_or, set, codes, decimal, IfErr, OnOk}
 use Rattle.std.specs.Option.{ok_or}

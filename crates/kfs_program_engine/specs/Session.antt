@@ -27,12 +27,12 @@ use Rattle.kfs_program_engine.specs.Listing.{list_text}
 use Rattle.kfs_report.specs.Text.{act_text, begin_text, client_text, node_text, reply_text}
 use Rattle.kfs_program_text.specs.Parts.{line_of}
 
--- what a desk is begun_with with: the image, where one was made, and the clients
+-- what a desk is begun with: the image, where one was made, and the clients
 pub record Start : Type 0 where
   pub image : Option DeviceImage
   pub clients : List Client
 
--- before the desk is begun_with, and after: the desk, and what the workers hold
+-- before the desk is begun, and after: the desk, and what the workers hold
 pub data Stage : Type 0 where
   Before : (start : Start) → Stage
   After : (desk : Desk) (hands : HeldVerdicts) → Stage
@@ -57,7 +57,7 @@ IsReplied Holds before after s = (text : List ℕ) × (after ≡ before ++ text)
 abbrev pub IsSaid : {S : Type 0} → (text : List ℕ) → S → List ℕ × S → Type 0
 IsSaid text s outcome = outcome ≡ (line_of text, s)
 
--- ---- before the desk is begun_with
+-- ---- before the desk is begun
 
 -- the desk, or the fault of the clients: the image stays then, and they are forgotten
 abbrev pub begun_with : DeviceImage → List Client → (limit : ℕ) → Option BeginFault → LineOutcome
@@ -158,7 +158,7 @@ AnswersLand desk hands worker (Some verdict) outcome = WithHands (with_held hand
 
 -- ---- lines
 
--- a command after the desk is begun_with
+-- a command after the desk is begun
 abbrev pub AnswersDeskCommand : Desk → HeldVerdicts → DeskCommand → LineOutcome → Type 0
 AnswersDeskCommand desk hands (Lease client path kind end) outcome = WithHands hands (IsCallAnswered desk (machine.Lease client path kind end) Leased) outcome
 AnswersDeskCommand desk hands (Drop client number) outcome = WithHands hands (IsCallAnswered desk (machine.Drop client number) Dropped) outcome

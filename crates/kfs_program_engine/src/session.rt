@@ -157,7 +157,7 @@ fn make_call<A: Allocator + Copy>(
     }
 }
 
-/// HeldVerdicts in a log and its plan.
+/// Hands in a log and its plan.
 fn hand_in<A: Allocator + Copy>(
     desk: &mut Desk<A>,
     submission: Submission<A>,

@@ -14,8 +14,8 @@ returns-clause-right g c source within client before tree opens =
     let entries = map (entry_of source) c.args.entries.now in
     let sizes = c.args.sizes.now in
     let pieces = map piece_of c.in_ok-out.out.items in
-    let stretches = c.as_slice.result.now in
+    let ranges = c.as_slice.result.now in
     each_end (run over_marks client before (marked tree) entries) (λ after. AreSizes tree entries after sizes → AreSwept sizes after pieces) (λ after ran all.
-    let made = log_made source sizes c.args.entries.now tree after stretches within all (c.as_slice.ensures.value ∙ c.in_ok-stretches.ensures.made) in
-    let right = of_value (λ after. AreMade tree entries after stretches → ArePieces after pieces) (run over_marks client before (marked tree) entries) after ran (c.in_ok-out.ensures.right client before tree entries opens) made in
+    let made = log_made source sizes c.args.entries.now tree after ranges within all (c.as_slice.ensures.value ∙ c.in_ok-ranges.ensures.made) in
+    let right = of_value (λ after. AreMade tree entries after ranges → ArePieces after pieces) (run over_marks client before (marked tree) entries) after ran (c.in_ok-out.ensures.right client before tree entries opens) made in
     record { right = right; listed = pieces_are_listed client before tree entries after opens ran sizes all pieces right.said })

@@ -1,5 +1,5 @@
 use Rattle.std.proofs.Common.{◌≡◌, ◌++◌, length}
-use Rattle.kfs_plan_sweep.specs.Stretches.{cut_below, cut_from}
+use Rattle.kfs_plan_sweep.specs.ByteRanges.{cut_below, cut_from}
 use Rattle.kfs_plan_sweep.specs.Rests.{rest_of}
 use Rattle.kfs_plan_sweep.proofs.merge.take_below.Given as goal
 

@@ -7,12 +7,12 @@ use Rattle.kfs_plan_sweep.proofs.Made.{made_by_number}
 use Rattle.kfs_plan_sweep.proofs.pieces.pieces_from.Goals as goal
 
 pub piece_from-requires-clause-filled : goal.piece_from-requires-clause-filled
-piece_from-requires-clause-filled g c = filled_at c.args.stretches.now 0 0 c.loop-stretch.stretch-index _ c.loop-stretch-test.true c.requires.order
+piece_from-requires-clause-filled g c = filled_at c.args.ranges.now 0 0 c.loop-range.range-index _ c.loop-range-test.true c.requires.order
 
 pub returns-clause-order : goal.returns-clause-order
 returns-clause-order g c =
-    made_by_number c.args.stretches.now c.loop-stretch.out.items 0 0
-    (sym (append-nil (map piece_of c.loop-stretch.out.items))
-    ∙ ap (λ ss. map piece_of c.loop-stretch.out.items ++ pieces_made ss) (sym (drop_all c.loop-stretch.stretch-index c.args.stretches.now c.loop-stretch-test.false))
-    ∙ c.loop-stretch.invariant.made)
+    made_by_number c.args.ranges.now c.loop-range.out.items 0 0
+    (sym (append-nil (map piece_of c.loop-range.out.items))
+    ∙ ap (λ ss. map piece_of c.loop-range.out.items ++ pieces_made ss) (sym (drop_all c.loop-range.range-index c.args.ranges.now c.loop-range-test.false))
+    ∙ c.loop-range.invariant.made)
     c.requires.order

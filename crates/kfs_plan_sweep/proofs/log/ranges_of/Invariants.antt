@@ -2,7 +2,7 @@ use Rattle.std.proofs.Common.{◌≡◌, ◌++◌, drop}
 use Rattle.std.specs.List.{AllByRecursion}
 use Rattle.kfs_plan_sweep.specs.Made.{IsFit}
 use Rattle.kfs_plan_sweep.specs.Sizes.{growths, reaches}
-use Rattle.kfs_plan_sweep.proofs.log.stretches_of.Given as goal
+use Rattle.kfs_plan_sweep.proofs.log.ranges_of.Given as goal
 
 abbrev pub invariant-loop-size : goal.invariant-loop-size
 invariant-loop-size g l = record {
