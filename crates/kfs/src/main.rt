@@ -1,4 +1,7 @@
-//! The digest desk's program: `kfs run` answers command lines.
+//! The program `kfs`: hands the words of the command line to `kfs_program`, with standard input and
+//! output.
+//!
+//! It stands on `kfs_program` alone. Begin with `run_words` there.
 #![tactic(auto)]
 
 use kfs_program::{run_words, status_message};
@@ -18,12 +21,12 @@ fn main(rt: HostRuntime) -> ExitCode {
     ExitCode::from(status)
 }
 
-/// The words of the command line, the program's name first.
+/// The words of the command line; the program's name is the first.
 fn words(rt: &HostRuntime) -> io::Result<Vec<String>> {
     Ok(env::args(rt)?.collect(rt.alloc())?)
 }
 
-/// The exit status. It is 4, too, where there is no memory for the words.
+/// The exit status; 4 also where memory for the words was refused.
 fn run(rt: &HostRuntime, words: &[String]) -> u8 {
     let Ok(words) = words.iter().map(|word| word.as_str()).collect(rt.alloc()) else {
         return 4;

@@ -3,13 +3,13 @@ use Rattle.std.specs.Prelude.{ℕ, Bool}
 use Rattle.kfs_plan.specs.declared.answers.Reply.{Reply}
 use Rattle.kfs_plan.specs.declared.answers.Reply.TheVariants.{Yes, No, NoRoom}
 
--- the place of the answer's row in the docket
+-- the position of the answer's row in the docket
 abbrev pub position_of : Reply → ℕ
 position_of (Yes position rejudged need) = position
 position_of (No position rejudged fault) = position
 position_of (NoRoom position rejudged need free) = position
 
--- whether the answer says that the submission was judged twice
+-- whether the answer says that the submission was judged again
 abbrev pub is_rejudged : Reply → Bool
 is_rejudged (Yes position rejudged need) = rejudged
 is_rejudged (No position rejudged fault) = rejudged

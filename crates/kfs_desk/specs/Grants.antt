@@ -1,4 +1,4 @@
--- Which node numbers no grant so far has, as a list that says so of each.
+-- Which node numbers nobody is granted yet, as a list that says so of each number.
 use Rattle.std.specs.Prelude.{◌≡◌, ℕ, ◌≤◌, ◌&&◌, nat_le, not, Bool, List, IsTrue}
 use Rattle.kfs_image_tier.specs.Places.{is_free_in}
 
@@ -6,6 +6,6 @@ use Rattle.kfs_image_tier.specs.Places.{is_free_in}
 abbrev pub AreUngranted : (ungranted : List Bool) → (first last : ℕ) → Type 0
 AreUngranted ungranted first last = (n : ℕ) → first ≤ n → n ≤ last → IsTrue (is_free_in ungranted n)
 
--- now the numbers from the first to the last are granted, too
+-- the new list has the numbers from the first to the last as granted too
 abbrev pub MarksGranted : (old : List Bool) → (first last : ℕ) → (new : List Bool) → Type 0
 MarksGranted old first last new = (n : ℕ) → is_free_in new n ≡ is_free_in old n && not (nat_le first n && nat_le n last)

@@ -1,4 +1,4 @@
--- What a verdict's outcome makes of an image and of the leases, and the answer to it.
+-- What the outcome of a verdict does to an image and its leases, and the answer to it.
 use Rattle.std.specs.Prelude.{◌≡◌, ℕ, ◌≤◌, ◌<◌, ◌==◌, not, Bool, List, [], ◌∷◌, length, Option, None, Some}
 use Rattle.std.specs.List.{AllByRecursion}
 use Rattle.kfs_model.specs.Lease.{Leases, without_gone}
@@ -20,27 +20,28 @@ use Rattle.kfs_plan.specs.declared.submission.Outcome.TheVariants as outcomes
 use Rattle.kfs_plan.specs.declared.answers.Reply.{Reply}
 use Rattle.kfs_plan.specs.declared.answers.Reply.TheVariants as replies
 
--- the leases after a row of a net: those on its node end where it is gone
+-- the leases after a row of a net: where the row's node is gone, those on it end
 abbrev pub ended_with : Leases → (number : ℕ) → Option Header → Leases
 ended_with leases number None = without_gone leases (λ node. not (node == number))
 ended_with leases number (Some header) = leases
 
--- the leases after the rows, one after the other
+-- the leases after all rows
 abbrev pub ended_by : Leases → List NodeRow → Leases
 ended_by leases [] = leases
 ended_by leases (row ∷ rows) = ended_by (ended_with leases row.number row.now) rows
 
--- how many places of tier 0 are free
+-- how many places of tier 0 hold no block
 abbrev pub free_in : DeviceImage → ℕ
 free_in image = length (unused_places image.sizes image.placement 0)
 
 module _ {A : Type 0} where
-  -- the log read from these bytes, and the pieces of the plan
+  -- the log decodes from these bytes, and the pieces are the plan's
   pub record AreReadFrom (source : List ℕ) (log : Log A) (plan : Plan A) (bytes : LogBytes) : Type 0 where
     pub entries : entries_of bytes ≡ (log_of source log).entries
     pub pieces : pieces_of bytes ≡ (plan_of plan).pieces
 
-  -- payloads lie in the bytes, pieces are in order and can be cut into blocks, and where there is room the net can be applied
+  -- payloads lie in the bytes; the pieces are in order and can be cut into blocks; and where there is
+  -- room, the net can be applied
   pub record CanLandYes (image : DeviceImage) (source : List ℕ) (log : Log A) (plan : Plan A) (net : Net A) (need : ℕ) : Type 0 where
     pub within : SpansAreWithin (length source) log
     pub ascend : PiecesAscend (plan_of plan).pieces
@@ -52,14 +53,14 @@ module _ {A : Type 0} where
   CanLand image source (outcomes.No fault) = Unit {0}
   CanLand image source (outcomes.Yes log plan net need) = CanLandYes image source log plan net need
 
-  -- the net has been applied, with a fill of its log
+  -- the net was applied, with a fill of its log
   pub record HasLanded (old : DeviceImage) (source : List ℕ) (log : Log A) (plan : Plan A) (net : Net A) (new : DeviceImage) : Type 0 where
     pub bytes : LogBytes
     pub are : AreReadFrom source log plan bytes
     pub landed : HasLandedWith old bytes net new
 
-  -- The answer to an outcome at this place in the docket: a No is told; a Yes needs more places than there are, or its log has
-  -- landed.
+  -- the answer to an outcome is right: a No passes on its fault; a Yes needs more places than there
+  -- are, or its log was landed
   abbrev pub AnswersOutcome : (old : DeviceImage) → (source : List ℕ) → (position : ℕ) → (again : Bool) → Outcome A → Reply → (new : DeviceImage) → Type 0
   AnswersOutcome old source position again (outcomes.No fault) reply new = (reply ≡ replies.No position again fault) × (new ≡ old)
   AnswersOutcome old source position again (outcomes.Yes log plan net need) (replies.No p rejudged fault) new = ⊥
@@ -68,7 +69,7 @@ module _ {A : Type 0} where
   AnswersOutcome old source position again (outcomes.Yes log plan net need) (replies.Yes p rejudged n) new =
       (replies.Yes p rejudged n ≡ replies.Yes position again need) × (need ≤ free_in old) × HasLanded old source log plan net new
 
-  -- the leases after the answer to a net: after a Yes those on nodes that went have ended
+  -- the leases after the answer to a net: after a Yes, those on removed nodes have ended
   abbrev pub left_by : Leases → Net A → Reply → Leases
   left_by leases net (replies.Yes position rejudged need) = ended_by leases net.nodes.items
   left_by leases net (replies.No position rejudged fault) = leases

@@ -5,10 +5,13 @@ use kfs_mode::Client;
 use kfs_plan::answers::BeginFault;
 use std::alloc::Allocator;
 
-/// The image and the clients of a desk that was not begun, and why.
+/// The image and the clients that a desk wasn't begun with.
 #[derive(Drop)]
 pub struct BeginBack<A: Allocator> {
+    /// As it was handed in.
     pub image: Image<A>,
+    /// As they were handed in.
     pub clients: Vec<Client, A>,
+    /// The reason.
     pub why: BeginFault,
 }

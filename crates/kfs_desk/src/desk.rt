@@ -1,4 +1,4 @@
-//! The desk: it owns the image and the leases, and lands what was judged.
+//! The desk: it owns the image and the leases, and lands what was judged right.
 ghost use Rattle.std.specs.Prelude.{◌≡◌, ◌↔◌, ◌⊎◌, false, ◌+◌, ◌≤◌, ◌<◌, ◌++◌, ◌∷◌, [], IfOk, IfErr, OnErr, OnOk, IsErrOf, IsFalse, IsTrue, Ok, Err, None, Some, length};
 ghost use Rattle.std.specs.List.{AllByRecursion};
 ghost use Rattle.kfs_model.specs.Order.{IsInOrder};
@@ -42,9 +42,11 @@ use std::marker::Model;
 use std::snapshot::Snapshot;
 use std::sync::Arc;
 
-/// The image, the clients, their leases, and the docket, which has a row for each call that was
-/// answered, refusals included. The docket leads from the state at the start to the state of now, which
-/// is in order, by states that well formed images show.
+/// A commit server for one image. It owns the image, the clients and their leases, and a docket with a
+/// row for each call that was answered, refusals included.
+///
+/// Its state is always in order. Replaying the docket's rows from the opening state gives the state
+/// now, and a well formed image shows each state on the way.
 #[derive(Drop)]
 pub struct Desk<A: Allocator> {
     alloc: A,
@@ -67,7 +69,11 @@ impl<A: Allocator> Model for Desk<A> {
 }
 
 impl<A: Allocator + Copy> Desk<A> {
-    /// A desk with no lease, at moment 0, whose docket has at most `limit` rows.
+    /// Begins a desk with an image and its clients: no lease, moment 0, and a docket that will have at
+    /// most `limit` rows.
+    ///
+    /// Refused, at the least client, with `ClientTwice` or `GrantOverlap`, or with `OutOfMemory`. Image
+    /// and clients come back then.
     pub fn begin(
         alloc: A,
         image: Image<A>,
@@ -78,10 +84,10 @@ impl<A: Allocator + Copy> Desk<A> {
         ensures back { IfErr result (λ back. (back.image ≡ image) × (back.clients ≡ clients)) }
         ensures fit { OnOk result (begin_fault clients.items ≡ None) }
 
-        // The fault of the clients, or a growth was refused, which may be at any clients.
+        // The clients' fault; or memory was refused, which may be so with any clients.
         ensures why { IfErr result (λ back. (back.why ≡ BeginFault.OutOfMemory) ⊎ (begin_fault clients.items ≡ Some back.why)) }
     {
-        // An image is lawful.
+        // Tells the prover that the image is lawful.
         let _shape = image.shape();
         let fault = first_fault(alloc, &clients).unwrap_or(Some(BeginFault::OutOfMemory));
         if let Some(why) = fault {
@@ -116,8 +122,8 @@ impl<A: Allocator + Copy> Desk<A> {
         }
     }
 
-    /// The docket, which leads from the state that the desk began with to the state of now. Each state to
-    /// which its first rows lead is shown by a well formed image. Takes no memory.
+    /// The docket. It leads from the opening state to the state now, and a well formed image shows each
+    /// state on the way. Takes no memory.
     pub fn docket(&self) -> &Docket
         ensures shown { result.now ≡ self.now.docket }
         ensures legal { IsLegalDocket self.now.opening self.now.docket self.now.state }
@@ -126,7 +132,7 @@ impl<A: Allocator + Copy> Desk<A> {
         &self.docket
     }
 
-    /// The image of now. The desk's state is in order, as each call leaves it.
+    /// The image now. Takes no memory.
     pub fn image(&self) -> &Image<A>
         ensures shown { IsImageOf result.now self.now.state }
         ensures in_order { IsInOrder self.now.state }
@@ -134,7 +140,9 @@ impl<A: Allocator + Copy> Desk<A> {
         &self.image
     }
 
-    /// Gives the client a lease on the node of a path, until the moment `end`.
+    /// Gives the client a lease on the node at the path, up to the moment `end`. The answer, a grant or
+    /// a refusal, is a row of the docket. `Err` where the docket is full or memory is refused; nothing
+    /// has changed then.
     pub fn lease(
         &mut self,
         client: u32,
@@ -152,21 +160,22 @@ impl<A: Allocator + Copy> Desk<A> {
         })
     }
 
-    /// Ends the client's lease on the node.
+    /// Ends the client's lease on the node with this number. Row and `Err` as for `lease`.
     pub fn drop_lease(&mut self, client: u32, number: u32) -> Result<ActReply, Unanswered>
         ensures { IsCallOf self.old (machine.Drop client number) Done.Dropped result self.new }
     {
         self.act(Act::Drop { client, number })
     }
 
-    /// Goes to a moment, and ends the leases that are no longer live.
+    /// Goes to a moment, a number that the caller counts, and ends the leases that are no longer live.
+    /// Row and `Err` as for `lease`.
     pub fn tick(&mut self, moment: u64) -> Result<ActReply, Unanswered>
         ensures { IsCallOf self.old (machine.Tick moment) Done.Ticked result self.new }
     {
         self.act(Act::Tick { moment })
     }
 
-    /// Makes a call for the leases. Its answer takes the docket's next row.
+    /// Makes a call for leases: `lease`, `drop_lease` or `tick`, given as a value.
     pub fn act(&mut self, act: Act<'_>) -> Result<ActReply, Unanswered>
         ensures { IsCallOf self.old (call_of act.entry) (done_by act.entry) result self.new }
     {
@@ -180,10 +189,10 @@ impl<A: Allocator + Copy> Desk<A> {
         Ok(ActReply { position, answer })
     }
 
-    /// Judges the submission against the state of now, and lands it: where it is judged right and tier
-    /// 0 has a free place for each block that its log writes, the tree changes as the log says, and any
-    /// other answer leaves it as it is. A submission that isn't answered comes back, and the desk is as
-    /// it was.
+    /// Judges a submission against the state now and lands it: `view`, `judge` and `land` in one call.
+    ///
+    /// The tree changes only with the answer `Yes`. Every answer is a row of the docket. Where the
+    /// docket is full or memory is refused, the submission comes back, and nothing has changed.
     pub fn submit(&mut self, submission: Submission<A>) -> Result<Reply, Back<A>>
         ensures full { IsBackFor result Why.DocketFull ↔ (length self.old.docket ≡ self.old.limit) }
         ensures answered { IfOk result (λ reply. IsAnswered self.old (submission_of submission) false reply self.new) }
@@ -219,16 +228,22 @@ impl<A: Allocator + Copy> Desk<A> {
         Ok(reply)
     }
 
-    /// A view of the state of now, to judge against. `Err` where memory is refused.
+    /// A view of the state now, to be judged against. It shares the tables and doesn't change when the
+    /// desk goes on. Takes little memory, whatever the image's size; `Err` where it is refused.
     pub fn view(&self) -> Result<View<A>, AllocError>
         ensures { IfOk result (λ view. IsViewOf view self.now.state) }
     {
         view_of(&self.image, &self.leases, &self.clients)
     }
 
-    /// Lands a verdict, wherever it was made. Where the client's row or a read that it rests on differs
-    /// in the state of now, the submission is judged again. A submission that isn't answered comes back,
-    /// and the desk is as it was.
+    /// Lands a verdict, from whatever view it was made. If the client or a read that it rests on is
+    /// different now, the submission is judged again, and `rejudged` says so. Then comes the answer:
+    /// `No` where a fault was found, `NoRoom` where `need` exceeds the free places of tier 0, else
+    /// `Yes`.
+    ///
+    /// The tree changes only with `Yes`, and leases on nodes that the log removes end then. Every
+    /// answer is a row of the docket. Where the docket is full or memory is refused, the submission
+    /// comes back, and nothing has changed.
     pub fn land(&mut self, judged: Judged<A>) -> Result<Reply, Back<A>>
         ensures full { IsBackFor result Why.DocketFull ↔ (length self.old.docket ≡ self.old.limit) }
         ensures answered { IfOk result (λ reply. IsAnswered self.old (submission_of judged.submission) (is_rejudged reply) reply self.new) }
@@ -266,8 +281,9 @@ impl<A: Allocator + Copy> Desk<A> {
         Ok(reply)
     }
 
-    /// Hands in one submission after another, and answers each, in their order. Room for all answers
-    /// is made before the first is judged.
+    /// Hands in submissions one after another, and answers each in its place: with a reply, or with the
+    /// submission that comes back. Where there is no memory for the list of answers, all submissions
+    /// come back, and nothing has changed.
     pub fn submit_all(
         &mut self,
         submissions: Vec<Submission<A>, A>,
@@ -290,7 +306,7 @@ impl<A: Allocator + Copy> Desk<A> {
         Ok(answers)
     }
 
-    /// The place of the docket's next row.
+    /// The position of the docket's next row, if there is one.
     fn next_row(&self) -> Result<u32, Unanswered>
         ensures full { IsErrOf result Unanswered.DocketFull ↔ (length self.now.docket ≡ self.now.limit) }
         ensures row { IfOk result (λ row. (row ≡ length self.now.docket) × row < self.now.limit) }
@@ -311,8 +327,8 @@ impl<A: Allocator + Copy> Desk<A> {
     }
 }
 
-/// The verdict on the submission in the state of now. The view that it is judged against ends here,
-/// so that landing shares nothing.
+/// The verdict on the submission in the state now. The view is dropped here, so that landing finds
+/// nothing shared.
 fn judged<A: Allocator + Copy>(
     alloc: A,
     image: &Image<A>,
@@ -334,8 +350,8 @@ fn judged<A: Allocator + Copy>(
     judge(alloc, &view, submission)
 }
 
-/// A verdict in the state of now: this one where it holds there, or else that of a judgement that is made again;
-/// and whether it was. The view that it is compared with ends here, so that landing shares nothing.
+/// A verdict that holds in the state now, and whether it was judged again: the given one if it holds,
+/// else a new one. The view is dropped here, so that landing finds nothing shared.
 fn current<A: Allocator + Copy>(
     alloc: A,
     image: &Image<A>,
@@ -363,7 +379,7 @@ fn current<A: Allocator + Copy>(
     Ok((judge(alloc, &view, submission)?, true))
 }
 
-/// The shape, the leases and the clients of now.
+/// A view of these.
 fn view_of<A: Allocator + Copy>(
     image: &Image<A>,
     leases: &Arc<Leases<A>, A>,
@@ -379,7 +395,7 @@ fn view_of<A: Allocator + Copy>(
     Ok(View::of(shape, leases.clone()?, clients.clone()?))
 }
 
-/// Makes the act's change of the leases in place, where no view shares them.
+/// Makes the call's change of the leases. They are copied first where a view shares them.
 fn change<A: Allocator + Clone>(
     leases: &mut Arc<Leases<A>, A>,
     shape: &Shape<A>,
@@ -399,7 +415,7 @@ fn change<A: Allocator + Clone>(
     }
 }
 
-/// Makes the act's change.
+/// Makes the call's change of the leases.
 fn made<A: Allocator + Clone>(
     leases: &mut Leases<A>,
     shape: &Shape<A>,
@@ -433,7 +449,7 @@ fn made<A: Allocator + Clone>(
     }
 }
 
-/// Lands what a verdict came to, at its place in the docket. Leases on nodes that go end.
+/// Answers a verdict, and lands it where it is a Yes with room. Leases on nodes that go end.
 fn land<A: Allocator + Copy>(
     alloc: A,
     image: &mut Image<A>,
@@ -489,8 +505,8 @@ fn land<A: Allocator + Copy>(
     })
 }
 
-/// Makes a net's change with the bytes of its log. The leases are made the desk's own before the first
-/// change: no view shares them then.
+/// Makes a net's change, with the bytes of its log. All memory is taken before the first change: the
+/// leases are copied first where a view shares them.
 fn change_state<A: Allocator + Copy>(
     alloc: A,
     image: &mut Image<A>,
@@ -513,7 +529,7 @@ fn change_state<A: Allocator + Copy>(
     Ok(())
 }
 
-/// Ends the leases on the nodes that go.
+/// Ends the leases on the nodes that the rows remove.
 fn end_leases<A: Allocator>(leases: &mut Leases<A>, nodes: &[NodeRow])
     ensures { leases.new ≡ ended_by leases.old nodes.now }
 {

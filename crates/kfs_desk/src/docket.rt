@@ -1,4 +1,4 @@
-//! The docket's rows of answered calls.
+//! Adding rows to the docket. At run time a row is nothing but a count.
 ghost use Rattle.std.specs.Prelude.{◌≡◌, ◌+◌, ◌<◌, ◌^◌, ◌++◌, ◌∷◌, [], length, Result};
 ghost use Rattle.kfs_model.specs.Machine.{Row};
 ghost use Rattle.kfs_plan.specs.Judging.{submission_of};
@@ -12,7 +12,7 @@ use kfs_plan::answers::{Done, Reply};
 use std::alloc::Allocator;
 use std::snapshot::Snapshot;
 
-/// A submission with its answer, and the states before and after it.
+/// A submission and its reply, with the states before and after it.
 #[derive(Drop)]
 struct Answered<'a, A: Allocator> {
     before: &'a ShownState<A>,
@@ -25,7 +25,7 @@ impl<A: Allocator> RowRule for Answered<'_, A> {
     ghost is_row = { λ a row. IsStep a.before.now (submission_of a.submission.now.value) a.reply.now row a.after.now };
 }
 
-/// Adds the row of a submission's answer, which leads from the one state to the other.
+/// Adds the row of a submission with its reply, which leads from the state before to the state after.
 pub fn add_answer<A: Allocator>(
     docket: &mut Docket,
     before: &ShownState<A>,
@@ -46,7 +46,7 @@ pub fn add_answer<A: Allocator>(
     docket.push(row);
 }
 
-/// A call for the leases with its answer, and the states before and after it.
+/// A call for leases and its answer, with the states before and after it.
 #[derive(Drop)]
 struct Acted<'a, A: Allocator> {
     before: &'a ShownState<A>,
@@ -59,7 +59,7 @@ impl<A: Allocator> RowRule for Acted<'_, A> {
     ghost is_row = { λ a row. IsLeaseStep a.before.now (call_of a.act.now) (done_by a.act.now) a.answer.now row a.after.now };
 }
 
-/// Adds the row of such a call's answer, which leads from the one state to the other.
+/// Adds the row of a call for leases, which leads from the state before to the state after.
 pub fn add_act<A: Allocator>(
     docket: &mut Docket,
     before: &ShownState<A>,

@@ -1,4 +1,4 @@
-//! Why a desk can't be begun with a list of clients, found by one look at each.
+//! Why a desk can't be begun with a list of clients. Each client is looked at once.
 ghost use Rattle.std.specs.Prelude.{◌≡◌, ◌↔◌, IfOk, IsTrue, None};
 ghost use Rattle.std.specs.List.{AllByRecursion};
 ghost use Rattle.kfs_model.specs.CleanStep.{IsClient};
@@ -13,9 +13,9 @@ use kfs_plan::answers::BeginFault;
 use std::alloc::{AllocError, Allocator};
 use std::collections::BTreeSet;
 
-/// The fault of the first client that can't stand behind the earlier ones. These aren't looked at
-/// again: their numbers are kept in a set, and the numbers that no grant of theirs has as free places.
-/// `Err` where memory is refused.
+/// The fault of the first client that can't follow the earlier ones, if there is one. Instead of
+/// looking at these again, it keeps their numbers in a set, and the numbers that nobody is granted as
+/// free places. `Err` where memory is refused.
 pub(crate) fn first_fault<A: Allocator + Copy>(
     alloc: A,
     clients: &[Client],
@@ -39,7 +39,7 @@ pub(crate) fn first_fault<A: Allocator + Copy>(
     Ok(None)
 }
 
-/// Whether no number from `first` to `last` is granted.
+/// Whether no number from `first` to `last` is granted yet.
 fn are_ungranted<A: Allocator>(ungranted: &Places<A>, first: u32, last: u32) -> bool
     ensures { IsTrue result ↔ AreUngranted ungranted.now first last }
 {

@@ -1,4 +1,7 @@
-//! The desk: it owns the image, the clients and their leases, and answers each call in turn.
+//! The desk: it owns the image, the clients and their leases, and answers calls one after another.
+//!
+//! It stands on `kfs_plan` (judging), `kfs_image_fill` (landing), `kfs_lease` and `kfs_desk_docket`;
+//! workers and engine stand on it. Begin with `Desk::begin`, then `Desk::view` and `Desk::land`.
 #![tactic(auto)]
 
 mod back;

@@ -1,4 +1,4 @@
-//! A state of the machine, which only contracts read.
+//! A state of the machine, visible to contracts only.
 ghost use Rattle.std.specs.Prelude.{◌≡◌};
 ghost use Rattle.kfs_desk.specs.Machine.{IsShown, state_at};
 
@@ -10,7 +10,7 @@ use std::marker::Model;
 use std::snapshot::Snapshot;
 use std::sync::Arc;
 
-/// The state that an image shows with its clients and their leases. It takes no memory.
+/// The state that an image shows, together with clients and leases. It takes no memory.
 #[derive(Drop)]
 pub struct ShownState<A: Allocator> {
     image: Snapshot<Image<A>>,
@@ -28,6 +28,7 @@ impl<A: Allocator> Model for ShownState<A> {
 }
 
 impl<A: Allocator> ShownState<A> {
+    /// The state of this image, these clients and these leases. Takes no memory.
     pub fn of(
         image: &Image<A>,
         clients: &Arc<Vec<Client, A>, A>,
@@ -36,7 +37,7 @@ impl<A: Allocator> ShownState<A> {
         ensures state { result ≡ state_at image.now clients.now.value.items leases.now.value }
         ensures shown { IsShown (state_at image.now clients.now.value.items leases.now.value) }
     {
-        // An image is lawful.
+        // Tells the prover that the image is lawful.
         let _shape = image.shape();
         ShownState {
             image: Snapshot::of(image),

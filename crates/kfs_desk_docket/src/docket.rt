@@ -1,11 +1,12 @@
-//! The rows with their number.
+//! The docket: rows that contracts see, and their number.
 ghost use Rattle.std.specs.Prelude.{◌≡◌, ◌+◌, ◌<◌, ◌^◌, [], ◌∷◌, ◌++◌, length};
 
 use crate::row::OneRow;
 use crate::rows::DocketRows;
 use std::marker::Model;
 
-/// A docket. Of its rows it keeps the number alone; contracts see the rows.
+/// A desk's docket. It has one row for each call that was answered, in order. Only the number of rows
+/// is kept; the rows take no memory and are visible to contracts alone.
 #[derive(Drop)]
 pub struct Docket {
     rows: DocketRows,
@@ -24,7 +25,7 @@ impl Model for Docket {
 }
 
 impl Docket {
-    /// A docket with no row.
+    /// A docket without rows. Takes no memory.
     pub fn new() -> Docket
         ensures { result ≡ [] }
     {
@@ -34,14 +35,14 @@ impl Docket {
         }
     }
 
-    /// How many rows it has. Takes no memory.
+    /// How many rows it has, at most 2^32 - 1. A row's position counts from 0. Takes no memory.
     pub fn len(&self) -> u32
         ensures { result ≡ length self.now }
     {
         self.len
     }
 
-    /// Adds a row.
+    /// Adds a row at the end. Condition: the docket has fewer than 2^32 - 1 rows. Takes no memory.
     pub fn push(&mut self, row: OneRow)
         requires { length self.old + 1 < 2 ^ 32 }
         ensures { self.new ≡ self.old ++ row.row ∷ [] }

@@ -1,15 +1,15 @@
-//! One row, known only by what is said of it.
+//! A docket row, visible to contracts only; it takes no memory.
 ghost use Rattle.kfs_model.specs.Machine.{Row};
 ghost use Rattle.std.specs.Borrow.{ftrue};
 
 use std::marker::Model;
 
-/// What a row has to be, said of the values that a call has at hand.
+/// The property that a row must have, given values that a call has at hand.
 pub trait RowRule {
     ghost is_row: { Self → Row → Type 0 };
 }
 
-/// A row. It takes no memory.
+/// A docket row. It takes no memory.
 #[derive(Drop)]
 pub struct OneRow {
     pub ghost row: { Row },
@@ -20,7 +20,7 @@ impl Model for OneRow {
 }
 
 impl OneRow {
-    /// A row that keeps the rule, of which there is one.
+    /// A row with the property. The caller proves that such a row exists; at run time this is nothing.
     pub fn of<R: RowRule>(rule: &R) -> OneRow
         requires { (row : Row) × R.is_row rule.now row }
         ensures { R.is_row rule.now result.row }

@@ -1,4 +1,4 @@
-//! A list of rows.
+//! The rows of a docket, visible to contracts only.
 ghost use Rattle.std.specs.Prelude.{◌≡◌, List, [], ◌∷◌, ◌++◌};
 ghost use Rattle.std.specs.Borrow.{ftrue};
 ghost use Rattle.kfs_model.specs.Machine.{Row};
@@ -6,7 +6,7 @@ ghost use Rattle.kfs_model.specs.Machine.{Row};
 use crate::row::OneRow;
 use std::marker::Model;
 
-/// Rows in their order. They take no memory.
+/// Docket rows in order. They take no memory.
 #[derive(Drop)]
 pub struct DocketRows {
     pub ghost items: { List Row },
@@ -17,6 +17,7 @@ impl Model for DocketRows {
 }
 
 impl DocketRows {
+    /// No rows.
     pub fn none() -> DocketRows
         ensures { result.items ≡ [] }
     {

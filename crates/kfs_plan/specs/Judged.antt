@@ -1,4 +1,4 @@
--- A verdict with what it rests on, and the views in which it holds.
+-- A verdict, what it rests on, and the views in which it holds.
 use Rattle.std.specs.Prelude.{◌≡◌, List, Option}
 use Rattle.kfs_model.specs.Access.{Client}
 use Rattle.kfs_model.specs.Judgement.{State}
@@ -12,18 +12,18 @@ use Rattle.kfs_plan.specs.declared.submission.Submission.{Submission as CodeSubm
 use Rattle.kfs_plan.specs.declared.submission.Outcome.{Outcome}
 use Rattle.kfs_plan.specs.Judging.{AgreesWithReads, IsVerdict, submission_of}
 
--- what was handed in, the client's row and the recorded reads on which the verdict rests, and what it comes to
+-- a verdict: the submission, the client and the reads that it rests on, and the outcome
 pub record Judged (A : Type 0) : Type 0 where
   pub submission : CodeSubmission A
   pub client : Option Client
   pub reads : List (Read × ReadAnswer)
   pub outcome : Outcome A
 
--- in every state that is alike, this is the verdict
+-- in every state that has the client and agrees with the reads, the outcome is the verdict
 abbrev pub IsKnown : {A : Type 0} → Judged A → Type 0
 IsKnown judged = (s : State) → AgreesWithReads s judged.submission.client judged.client judged.reads → IsVerdict s (submission_of judged.submission) judged.outcome
 
--- the view has the client's row as the verdict has it, and answers each recorded read as recorded
+-- the view has the verdict's client, and answers each read as recorded
 pub record HoldsIn {A : Type 0} (view : View A) (judged : Judged A) : Type 0 where
   pub row : row_of (clients_of view) judged.submission.client ≡ judged.client
   pub agrees : Agrees judged.reads (client_sight_in view judged.submission.client)

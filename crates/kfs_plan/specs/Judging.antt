@@ -1,4 +1,4 @@
--- What a judgement answered, as the definitions say it.
+-- What a judgement answered, in terms of the definitions.
 use Rattle.std.specs.Prelude.{◌≡◌, ◌≢◌, ℕ, Bool, true, false, List, [], length, Option, None, Some, Result, Ok, Err}
 use Rattle.std.specs.Option.{option_map}
 use Rattle.kfs_model.specs.Access.{Client}
@@ -41,7 +41,7 @@ use Rattle.kfs_judge_check.specs.View.{clients_of, client_sight_in}
 use Rattle.kfs_judge.specs.Walks.{fault_of}
 use Rattle.kfs_judge_step.specs.Nets.{IsNetOf}
 
--- ---- faults, none where a growth was refused: that is no fault of a submission
+-- ---- faults; a refusal of memory is none, since it isn't a fault of the submission
 
 abbrev pub spelling_fault_of : SpellFault → Option SpellingFault
 spelling_fault_of spelling.BadHeader = Some BadHeader
@@ -72,7 +72,7 @@ submission_with client log plan = record { client = client; log = log; plan = pl
 abbrev pub submission_of : {A : Type 0} → CodeSubmission A → Submission
 submission_of submission = submission_with submission.client submission.log.items submission.plan.items
 
--- the bytes of the submission are this log of the client and this plan, and the payloads' spans lie in the log's bytes
+-- the bytes are this client's log and this plan, and the payloads' spans lie in the log's bytes
 pub record AreSpelled {A : Type 0} (submission : Submission) (log : CodeLog A) (plan : CodePlan A) : Type 0 where
   pub owner : log.client ≡ submission.client
   pub log_read : LogAnswer submission.log (Ok (log_of submission.log log))
@@ -81,13 +81,13 @@ pub record AreSpelled {A : Type 0} (submission : Submission) (log : CodeLog A) (
 
 -- ---- verdicts
 
--- a sound state in which the client has this row, and which agrees with the reads of a judgement
+-- the state is sound, has this client, and agrees with the reads of a judgement
 pub record AgreesWithReads (s : State) (number : ℕ) (client : Option Client) (reads : List (Read × ReadAnswer)) : Type 0 where
   pub sound : IsSound s.tree
   pub row : row_of s.clients number ≡ client
   pub agrees : Agrees reads (client_sight_of s number)
 
--- faults that are found before the entries are looked at
+-- whether the fault is found before the entries are looked at
 abbrev pub is_before_entries : CodeFault → Bool
 is_before_entries faults.UnknownClient = true
 is_before_entries (faults.BadLog fault) = true
@@ -100,7 +100,7 @@ abbrev pub stops_before : {A : Type 0} → Outcome A → Bool
 stops_before (outcomes.No fault) = is_before_entries fault
 stops_before (outcomes.Yes log plan net told) = false
 
--- the bytes spell a log of this client, who has a row, and what was read is among the cells that the log looks at
+-- the bytes spell a log of a known client, and each read is at a cell that the log looks at
 pub record AreOfLog {A : Type 0} (view : View A) (submission : Submission) (reads : List (Read × ReadAnswer)) : Type 0 where
   pub client : Client
   pub row : row_of (clients_of view) submission.client ≡ Some client
@@ -109,12 +109,14 @@ pub record AreOfLog {A : Type 0} (view : View A) (submission : Submission) (read
   pub owner : log.client ≡ submission.client
   pub among : AreAmong reads (looked_cells client (client_sight_in view submission.client) log.entries)
 
--- nothing was read where the judgement stops before the entries, and elsewhere what the client's own log looks at
+-- nothing was read where the judgement stops before the entries; else only cells were read that the log
+-- looks at
 pub record AreLooked {A : Type 0} (view : View A) (submission : Submission) (outcome : Outcome A) (reads : List (Read × ReadAnswer)) : Type 0 where
   pub unread : stops_before outcome ≡ true → reads ≡ []
   pub looked : stops_before outcome ≡ false → AreOfLog view submission reads
 
--- what the entries of a right plan's log come to: a sound tree, one by one and each allowed, with this net, and marked
+-- the entries of the log lead to a sound tree, one by one and each allowed, with this net change and
+-- these marks
 pub record ComesToNet {A : Type 0} (s : State) (client : Client) (entries : List Entry) (net : Net A) (after : Tree ℕ) (marked_after : Tree Mark) : Type 0 where
   pub ran : run over_bytes client (client_sight_of s client.number) s.tree entries ≡ Ok after
   pub sound : IsSound after
@@ -122,14 +124,15 @@ pub record ComesToNet {A : Type 0} (s : State) (client : Client) (entries : List
   pub differs : IsNetOf (sight s.tree) (sight after) net
   pub ran_marked : run over_marks client (client_sight_of s client.number) (marked s.tree) entries ≡ Ok marked_after
 
--- what a Yes holds: the log, the plan, what differs after the log, and the number of written blocks
+-- the parts of a Yes: the log, the plan, the net change, and the number of written blocks
 pub record YesParts (A : Type 0) : Type 0 where
   pub log : CodeLog A
   pub plan : CodePlan A
   pub net : Net A
   pub told : ℕ
 
--- a Yes tells what the bytes spell, what the entries come to, and how many blocks are written
+-- a Yes is right: the bytes spell its log and plan, the entries lead to its net, and `need` blocks are
+-- written
 pub record TellsYes {A : Type 0} (s : State) (submission : Submission) (parts : YesParts A) (after : Tree ℕ) (marked_after : Tree Mark) : Type 0 where
   pub spelled : AreSpelled submission parts.log parts.plan
   pub client : Client
@@ -138,20 +141,21 @@ pub record TellsYes {A : Type 0} (s : State) (submission : Submission) (parts : 
   pub right : IsRight s.tree marked_after (plan_of parts.plan)
   pub need_told : parts.told ≡ need marked_after
 
--- the outcome is the verdict
+-- the outcome and the verdict say the same
 abbrev pub TellsVerdict : {A : Type 0} → State → Submission → Outcome A → Verdict → Type 0
 TellsVerdict s submission (outcomes.No fault) (No refusal) = refusal_of fault ≡ Some refusal
 TellsVerdict s submission (outcomes.No fault) (Yes after marked_after) = ⊥
 TellsVerdict s submission (outcomes.Yes log plan net told) (Yes after marked_after) = TellsYes s submission (record { log = log; plan = plan; net = net; told = told }) after marked_after
 TellsVerdict s submission (outcomes.Yes log plan net told) (No refusal) = ⊥
 
--- the state's verdict on the submission is the outcome
+-- the outcome is the state's verdict on the submission
 pub record IsVerdict {A : Type 0} (s : State) (submission : Submission) (outcome : Outcome A) : Type 0 where
   pub verdict : Verdict
   pub judgement : IsJudgement s submission verdict
   pub told : TellsVerdict s submission outcome verdict
 
--- what was read is what the bytes spell; a fault is the verdict in all states that have the client
+-- what the bytes decode to is right; a fault found in them is the verdict in all states that have the
+-- client
 abbrev pub IsReading : {A : Type 0} → Submission → Spelled A → Type 0
 IsReading submission (readings.Yes log plan) = AreSpelled submission log plan
 IsReading {A} submission (readings.No fault) = (s : State) (client : Client) → row_of s.clients submission.client ≡ Some client → IsVerdict {A = A} s submission (outcomes.No fault)
@@ -160,7 +164,8 @@ abbrev pub IsEarly : {A : Type 0} → Spelled A → Type 0
 IsEarly (readings.Yes log plan) = Unit {0}
 IsEarly (readings.No fault) = is_before_entries fault ≡ true
 
--- a bad entry is the outcome, or else what is told of the net and of the marks of each run with these sizes
+-- the outcome is the bad entry; or it says what is right of the net, and of the marks of each run with
+-- these file sizes
 abbrev pub OutcomeIsSettled : {A : Type 0} → CodeLog A → CodePlan A → List FileSize → Result (Net A) CodeEntryFault → Outcome A → Type 0
 OutcomeIsSettled log plan sizes (Err fault) (outcomes.No refusal) = refusal ≡ faults.Entry fault
 OutcomeIsSettled log plan sizes (Err fault) (outcomes.Yes l p n told) = ⊥

@@ -1,4 +1,4 @@
--- What a check of a plan tells, and right pieces of a log, as the definitions say it.
+-- What a check of a plan answers, and right pieces of a log, in terms of the definitions.
 use Rattle.std.specs.Prelude.{◌≡◌, ℕ, Bool, List, length, map, nat_eq, Option, None, Some, Result, Ok, Err, IfOk}
 use Rattle.kfs_model.specs.Sight.{ClientSight, sight, client_sight}
 use Rattle.kfs_model.specs.Access.{Client}
@@ -22,7 +22,8 @@ use Rattle.kfs_judge_check.specs.Reads.{Agrees}
 use Rattle.kfs_judge.specs.declared.walk.Walk.{Walk}
 use Rattle.kfs_judge_step.specs.Rows.{keyed_name_row, keyed_node_row}
 
--- The first wrong row is named, or there is none and so many blocks are written. A refused growth tells nothing.
+-- the answer names the first wrong row, or is the need where there is none; a refusal of memory says
+-- nothing
 abbrev pub TellsRow : Option RowFault → (need : ℕ) → Result ℕ CodeRowFault → Type 0
 TellsRow first need (Ok told) = (first ≡ None) × (told ≡ need)
 TellsRow first need (Err (faults.Names index)) = first ≡ Some (Names index)
@@ -30,32 +31,34 @@ TellsRow first need (Err (faults.Nodes index)) = first ≡ Some (Nodes index)
 TellsRow first need (Err (faults.Pieces index)) = first ≡ Some (Pieces index)
 TellsRow first need (Err faults.OutOfMemory) = Unit {0}
 
--- P of each tree before the log and of its marks after the entries' run, which ends without a fault: at every fitting tree and
--- all leases that agree with the walk's reads, whatever bytes the payloads' spans are of
+-- P holds of each tree before the log and the marks after it, at every tree and all leases that agree
+-- with the walk's reads, and whatever bytes the payloads are
 abbrev pub AtEachEnd : {A : Type 0} → Client → CodeLog A → Walk A → (Tree ℕ → Tree Mark → Type 0) → Type 0
 AtEachEnd client log walk P =
     (source : List ℕ) → SpansAreWithin (length source) log → (tree : Tree ℕ) (held : ℕ → Bool) → Fits client tree (map (entry_of source) log.entries) → Agrees walk.reads.entries (client_sight tree held)
     → (after : Tree Mark) × (run over_marks client (client_sight tree held) (marked tree) (map (entry_of source) log.entries) ≡ Ok after) × P tree after
 
--- right pieces of the client's log
+-- these are right pieces of the client's log
 abbrev pub ArePiecesOf : {A : Type 0} → Client → CodeLog A → Walk A → List Piece → Type 0
 ArePiecesOf client log walk pieces = AtEachEnd client log walk (λ tree after. ArePieces after pieces)
 
--- the first wrong row of the plan for the client's log is told, or how many blocks the log writes
+-- the answer names the first wrong row of the plan for the client's log, or is the number of blocks
+-- that the log writes
 abbrev pub TellsOfEachTree : {A : Type 0} → Client → CodeLog A → Walk A → CodePlan A → Result ℕ CodeRowFault → Type 0
 TellsOfEachTree client log walk plan result = AtEachEnd client log walk (λ tree after. TellsRow (first_wrong_row tree after (plan_of plan)) (need after) result)
 
 -- ---- over a net
 
--- the first row of the plan that isn't the net's, or else the first piece that is wrong of these marks
+-- the first row of the plan that differs from the net's, or else the first piece that is wrong for
+-- these marks
 abbrev pub first_unlike : {A : Type 0} → Net A → (after : Tree Mark) → CodePlan A → Option RowFault
 first_unlike net after plan =
     or_else Names (first_difference (same_pair same_place nat_eq) (map keyed_name_row plan.names) (map keyed_name_row net.names.items))
     (or_else Nodes (first_difference (same_pair nat_eq same_headers) (map keyed_node_row plan.nodes) (map keyed_node_row net.nodes.items))
     (or_else Pieces (first_wrong_piece after (map piece_of plan.pieces)) None))
 
--- whichever run of the entries has these sizes, this is told of the net and of the marks at its end, whatever bytes the payloads'
--- spans are of
+-- for each run of the entries with these file sizes, whatever bytes the payloads are, the answer is
+-- right for the net and for the marks at its end
 abbrev pub TellsOfEachRun : {A : Type 0} → List FileSize → CodeLog A → Net A → CodePlan A → Result ℕ CodeRowFault → Type 0
 TellsOfEachRun sizes log net plan result =
     (source : List ℕ) → SpansAreWithin (length source) log → (client : Client) (before : ClientSight) (tree : Tree ℕ) → before.sight ≡ sight tree

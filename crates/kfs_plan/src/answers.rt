@@ -1,4 +1,4 @@
-//! What the desk is asked for and what it answers.
+//! The values with which the desk answers its calls.
 
 use crate::submission::{Fault, Submission};
 pub use kfs_lease::Act;
@@ -6,24 +6,25 @@ use kfs_lease::LeaseFault;
 use std::alloc::{AllocError, Allocator};
 use thiserror::Error;
 
-/// The answer to a submission, with its place in the docket.
+/// The answer to a submission. `position` is its row in the docket, from 0. `rejudged` says whether it
+/// was judged again because something that the first verdict rested on had changed.
 #[derive(Clone, Copy, Debug, PartialEq, Eq)]
 pub enum Reply {
-    /// The tree is now what the log makes of it. `need` counts the written blocks, each of which has a
-    /// new place on tier 0.
+    /// The log was landed: the tree is what its entries make of it. `need` is the number of blocks that
+    /// were written, each to a free place of tier 0.
     Yes {
         position: u32,
         rejudged: bool,
         need: u64,
     },
-    /// The tree is as it was.
+    /// The submission is refused, and the tree is as it was. `fault` is the first thing found wrong.
     No {
         position: u32,
         rejudged: bool,
         fault: Fault,
     },
-    /// The log and the plan are right, and of the `need` places that the written blocks take only `free`
-    /// are free on tier 0. The tree is as it was.
+    /// Log and plan are right, but the log's blocks need `need` free places of tier 0, and there are
+    /// only `free`. The tree is as it was.
     NoRoom {
         position: u32,
         rejudged: bool,
@@ -32,31 +33,33 @@ pub enum Reply {
     },
 }
 
-/// What a call for the leases has done.
+/// What a call for leases has done.
 #[derive(Clone, Copy, Debug, PartialEq, Eq)]
 pub enum Done {
-    /// The client has a lease on the node of this number.
+    /// The client has a lease on the node with this number.
     Leased(u32),
-    /// The client has no lease any more on the node of this number.
+    /// The client's lease on the node with this number is gone.
     Dropped(u32),
-    /// This is the moment, and leases that are no longer live are gone.
+    /// This is the moment now, and leases that are no longer live are gone.
     Ticked(u64),
 }
 
-/// The answer to a call for the leases, with its place in the docket: what was done, or why nothing was.
+/// The answer to a call for leases.
 #[derive(Clone, Copy, Debug, PartialEq, Eq)]
 pub struct ActReply {
+    /// Its row in the docket, from 0.
     pub position: u32,
+    /// What was done, or why nothing was; the leases are as they were then.
     pub answer: Result<Done, LeaseFault>,
 }
 
-/// Why a call for the leases has no place in the docket. The desk is as it was.
+/// Why a call for leases wasn't answered. It has no row in the docket, and the desk is as it was.
 #[derive(Clone, Copy, Debug, PartialEq, Eq, Error)]
 pub enum Unanswered {
-    /// 1: a growth of memory was refused.
+    /// 1: memory was refused.
     #[error("memory")]
     OutOfMemory,
-    /// 2: the docket has as many rows as its limit allows.
+    /// 2: the docket is full: it has as many rows as its limit allows.
     #[error("full")]
     DocketFull,
 }
@@ -72,22 +75,24 @@ impl From<AllocError> for Unanswered {
     }
 }
 
-/// Submissions that come back as they were handed in, since there was no memory for their answers.
+/// Submissions that come back as they were handed in, because there was no memory for their answers.
 #[derive(Drop)]
 pub struct SubmissionsBack<A: Allocator> {
+    /// In the order in which they were handed in.
     pub submissions: Vec<Submission<A>, A>,
 }
 
-/// Why a desk was not begun. The number is the index of the client, from 0, in the list of clients.
+/// Why a desk wasn't begun. The number is the client's index in the list, from 0; the least index with
+/// a fault is answered.
 #[derive(Clone, Copy, Debug, PartialEq, Eq, Error)]
 pub enum BeginFault {
     /// 1: an earlier client has the same number.
     #[error("ClientTwice({0})")]
     ClientTwice(usize),
-    /// 2: an earlier client's grant has a number of this client's.
+    /// 2: this client's grant has a number in common with an earlier one's.
     #[error("GrantOverlap({0})")]
     GrantOverlap(usize),
-    /// A growth of memory was refused.
+    /// Memory was refused.
     #[error("memory")]
     OutOfMemory,
 }

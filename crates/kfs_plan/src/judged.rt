@@ -1,4 +1,4 @@
-//! A verdict with what it rests on, and whether it holds in another view.
+//! A verdict, and whether it holds in another view.
 ghost use Rattle.std.specs.Prelude.{◌≡◌, ◌↔◌, IsTrue};
 ghost use Rattle.std.specs.Option.{option_map};
 ghost use Rattle.kfs_model.specs.Sight as sights;
@@ -16,8 +16,9 @@ use std::alloc::Allocator;
 use std::hash::{BuildHasherDefault, FoldHasher};
 use std::marker::Model;
 
-/// The verdict on a submission: what was handed in, the client's row and the reads that it rests on,
-/// and what it comes to. In every sound state that has the row and agrees with the reads it is the verdict.
+/// The verdict on a submission: the submission, the client and the reads that the verdict rests on, and
+/// its outcome. It is the right verdict in each sound state that has the same client and agrees with
+/// the reads.
 #[derive(Drop)]
 pub struct Judged<A: Allocator> {
     submission: Submission<A>,
@@ -37,7 +38,7 @@ impl<A: Allocator> Model for Judged<A> {
 }
 
 impl<A: Allocator> Judged<A> {
-    /// The verdict of these parts.
+    /// The verdict with these parts.
     pub(crate) fn of(
         submission: Submission<A>,
         client: Option<Client>,
@@ -55,36 +56,37 @@ impl<A: Allocator> Judged<A> {
         }
     }
 
-    /// What was handed in. Takes no memory.
+    /// The submission. Takes no memory.
     pub fn submission(&self) -> &Submission<A>
         ensures { result.now ≡ self.now.submission }
     {
         &self.submission
     }
 
-    /// The client's row that the verdict rests on; none where there was none. Takes no memory.
+    /// The client that the verdict rests on; none where the submission's client is unknown. Takes no
+    /// memory.
     pub fn client(&self) -> Option<&Client>
         ensures { option_map (λ row. row.now) result ≡ self.now.client }
     {
         self.client.as_ref()
     }
 
-    /// The reads that the verdict rests on. Takes no memory.
+    /// The reads that the verdict rests on, with their answers, in the order of the first look. Takes
+    /// no memory.
     pub fn reads(&self) -> &IndexMap<Read, ReadAnswer, BuildHasherDefault<FoldHasher>, A>
         ensures { result.now.entries ≡ self.now.reads }
     {
         &self.reads
     }
 
-    /// What the submission comes to. Takes no memory.
+    /// The outcome. Takes no memory.
     pub fn outcome(&self) -> &Outcome<A>
         ensures { result.now ≡ self.now.outcome }
     {
         &self.outcome
     }
 
-    /// What was handed in and what it comes to, which is the verdict in every state that is alike.
-    /// Takes no memory.
+    /// The submission and the outcome. Takes no memory.
     pub fn into_parts(self) -> (Submission<A>, Outcome<A>)
         ensures submission { result.0 ≡ self.submission }
         ensures outcome { result.1 ≡ self.outcome }
@@ -93,8 +95,8 @@ impl<A: Allocator> Judged<A> {
         (self.submission, self.outcome)
     }
 
-    /// Whether the view has the client's row and answers each read as the verdict has them. Takes no
-    /// memory.
+    /// Whether the verdict holds in this view: it has the same client, and answers each read as
+    /// recorded. Takes no memory.
     pub fn holds_in(&self, view: &View<A>) -> bool
         ensures holds { IsTrue result ↔ HoldsIn view.now self.now }
         ensures known { IsKnown self.now }
@@ -104,7 +106,7 @@ impl<A: Allocator> Judged<A> {
     }
 }
 
-/// Whether the view has this row for the number, or none where that is none.
+/// Whether the view has the same client with this number, or likewise none.
 fn has_row<A: Allocator>(view: &View<A>, number: u32, row: Option<&Client>) -> bool
     ensures { IsTrue result ↔ (row_of (clients_of view.now) number ≡ option_map (λ r. r.now) row.entry) }
 {
@@ -115,7 +117,7 @@ fn has_row<A: Allocator>(view: &View<A>, number: u32, row: Option<&Client>) -> b
     }
 }
 
-/// Whether the view answers the client each read as recorded.
+/// Whether the view answers each of the client's reads as recorded.
 fn agrees<A: Allocator>(
     view: &View<A>,
     client: u32,
@@ -131,7 +133,7 @@ fn agrees<A: Allocator>(
     true
 }
 
-/// What the view shows the client at a cell.
+/// The view's answer to a read.
 fn shown<A: Allocator>(view: &View<A>, client: u32, read: &Read) -> ReadAnswer
     ensures { sights.answer (client_sight_in view.now client) (cell_of read.now) ≡ answer_of result }
 {
@@ -141,7 +143,7 @@ fn shown<A: Allocator>(view: &View<A>, client: u32, read: &Read) -> ReadAnswer
     }
 }
 
-/// Whether two answers tell the same.
+/// Whether two answers are the same.
 fn is_same(one: ReadAnswer, other: ReadAnswer) -> bool
     ensures { IsTrue result ↔ (answer_of one ≡ answer_of other) }
 {
@@ -157,7 +159,8 @@ fn is_same(one: ReadAnswer, other: ReadAnswer) -> bool
     }
 }
 
-/// Whether two answers of a shape tell the same, be it of a name or of a parent.
+/// Whether two answers at cells are the same; whether the number is a name's or a parent's doesn't
+/// matter.
 fn is_same_look(one: Answer, other: Answer) -> bool
     ensures { IsTrue result ↔ (look_answer_of one ≡ look_answer_of other) }
 {

@@ -1,4 +1,4 @@
-//! The judgement of a submission: its log and its plan against a view.
+//! Judging a submission: its log and its plan, against a view.
 ghost use Rattle.std.specs.Prelude.{◌≡◌, ◌≤◌, [], length, IfOk, IfErr};
 ghost use Rattle.std.specs.List.{AllByRecursion};
 ghost use Rattle.kfs_model.specs.Judgement.{State};
@@ -21,9 +21,11 @@ use kfs_mode::Client;
 use std::alloc::{AllocError, Allocator};
 use std::hash::{BuildHasherDefault, FoldHasher};
 
-/// Judges a submission against a view: the client's row, the log's spelling, whose log it is, the
-/// plan's spelling, the entries, the plan's rows. It touches nothing but the view. A submission comes
-/// back for want of memory alone.
+/// Judges a submission against a view. It checks, in order: the client is known, the log's bytes, the
+/// log's client, the plan's bytes, the entries, the plan's rows. It changes nothing but memory of its
+/// own, and takes no lock.
+///
+/// A bad submission is a verdict, not an error. The submission comes back only where memory is refused.
 pub fn judge<A: Allocator + Copy>(
     alloc: A,
     view: &View<A>,
@@ -33,7 +35,7 @@ pub fn judge<A: Allocator + Copy>(
     ensures back { IfErr result (λ b. b.submission ≡ submission) }
     ensures client { IfOk result (λ j. j.client ≡ row_of (clients_of view.now) submission.client) }
 
-    // In every state that is alike, this is the verdict.
+    // In every state that agrees with the client and the reads, this is the verdict.
     ensures known { IfOk result (λ j. (s : State) → AgreesWithReads s submission.client j.client j.reads → IsVerdict s (submission_of submission) j.outcome) }
     ensures view_agrees { IfOk result (λ j. Agrees j.reads (client_sight_in view.now submission.client)) }
     ensures among { IfOk result (λ j. AreLooked view.now (submission_of submission) j.outcome j.reads) }
@@ -53,7 +55,7 @@ pub fn judge<A: Allocator + Copy>(
     }
 }
 
-/// What a verdict says beside the submission.
+/// The parts of a verdict, without the submission.
 #[derive(Drop)]
 struct VerdictParts<A: Allocator> {
     client: Option<Client>,
@@ -62,7 +64,7 @@ struct VerdictParts<A: Allocator> {
 }
 
 impl<A: Allocator + Copy> VerdictParts<A> {
-    /// A fault that was found before the entries.
+    /// A fault found before the entries were looked at.
     fn unread(alloc: A, client: Option<Client>, fault: Fault) -> VerdictParts<A>
         ensures client { result.client ≡ client }
         ensures reads { result.reads.entries ≡ [] }
@@ -109,7 +111,8 @@ fn copied(client: &Client) -> Result<Client, AllocError>
     client.clone()
 }
 
-/// The finding of a log that was walked: its first bad entry, or else what its plan comes to.
+/// The outcome of a log whose entries were judged: its first bad entry, or else what the plan's rows
+/// lead to.
 fn settle<A: Allocator + Copy>(
     alloc: A,
     client: Option<Client>,

@@ -1,5 +1,8 @@
-//! Judges a client's submission: the spelling of its log and plan, the entries, and the plan's rows and
-//! pieces against what the log comes to.
+//! Judges a client's submission: client, log, plan, entries, plan rows. Also has the values that the
+//! desk answers.
+//!
+//! It stands on `kfs_judge` (the entries) and `kfs_plan_sweep` (the pieces); desk, workers and report
+//! stand on it. Begin with `judge`, and with `check_plan` for a log that was judged before.
 #![tactic(auto)]
 
 pub mod answers;

@@ -1,4 +1,4 @@
-//! Right pieces of a log that was walked.
+//! Right pieces of a log whose entries were judged.
 ghost use Rattle.std.specs.Prelude.{◌≤◌, IfOk, IsOk, length, map};
 ghost use Rattle.std.specs.List.{AllByRecursion};
 ghost use Rattle.kfs_model.specs.Access.{Client as ClientRow};
@@ -12,9 +12,11 @@ use kfs_entry::{Log, Piece};
 use kfs_judge::Walk;
 use std::alloc::{AllocError, Allocator};
 
-/// Right pieces of a log: the bytes that it wrote or made zero, each from the entry that reached it last. The walk is the log's
-/// own, as `judge_entries` gives it, and has no bad entry; the log has at most 4,096 entries, with payloads of at most 65,536
-/// bytes, as `decode_log` reads them. A refused growth is the only error.
+/// Right pieces of a log: the bytes that it wrote or made zero, each from the last entry that reached
+/// it.
+///
+/// Condition: the walk is this log's own and has no bad entry, and the log is one that `decode_log`
+/// gives (at most 4,096 entries, payloads of at most 65,536 bytes). `Err` where memory is refused.
 pub fn sweep<A: Allocator + Copy>(
     alloc: A,
     log: &Log<A>,
@@ -24,7 +26,8 @@ pub fn sweep<A: Allocator + Copy>(
     requires sizes { HasOrderedSizes walk.now }
     requires spans { AllByRecursion IsSpanned log.now.entries }
     requires count { length log.now.entries ≤ entry_limit }
-    // At every sound tree and all leases that agree with the walk's reads, these are right pieces of the log.
+    // They are right pieces of the log at every sound tree, with all leases, that agrees with the
+    // walk's reads.
     ensures right { IfOk result (λ out. (client : ClientRow) → IsWalkOf client log.now walk.now → ArePiecesOf client log.now walk.now (map piece_of out.items)) }
 {
     let out = kfs_plan_sweep::sweep(alloc, walk.sizes.as_slice(), log.entries.as_slice())?;

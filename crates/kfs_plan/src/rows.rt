@@ -1,4 +1,4 @@
-//! The rows of a plan against what its log comes to.
+//! A plan's rows, checked against what its log leads to.
 ghost use Rattle.std.specs.Prelude.{◌≡◌, ◌≤◌, length, position, zip, not, IsOk};
 ghost use Rattle.std.specs.List.{AllByRecursion};
 ghost use Rattle.kfs_model.specs.Access.{Client as ClientRow};
@@ -16,21 +16,22 @@ use kfs_plan_sweep::{FileSize, first_piece_apart, need_of, sweep};
 use std::alloc::{AllocError, Allocator};
 use thiserror::Error;
 
-/// Why a plan isn't the right one for its log.
+/// Why a plan isn't right for its log. Names are checked before nodes, nodes before pieces. Indices
+/// count from 0.
 #[derive(Clone, Copy, Debug, PartialEq, Eq, Error)]
 pub enum RowFault {
-    /// 1: the name row of this index isn't the right list's, or the right list has it no more or the
-    /// plan has it not.
+    /// 1: the first name row that differs from the right list; where one list is a prefix of the other,
+    /// the shorter length.
     #[error("Names({0})")]
     Names(usize),
-    /// 2: the same of the node rows.
+    /// 2: the same for the node rows.
     #[error("Nodes({0})")]
     Nodes(usize),
-    /// 3: the piece of this index is empty, or isn't what comes next of the bytes that the log made;
-    /// or some of these are left behind the last piece.
+    /// 3: the first piece that is empty, or differs from the next bytes that the log changed; if all
+    /// agree but bytes are missing at the end, the number of pieces.
     #[error("Pieces({0})")]
     Pieces(usize),
-    /// A growth was refused.
+    /// Memory was refused.
     #[error("memory")]
     OutOfMemory,
 }
@@ -43,10 +44,12 @@ impl From<AllocError> for RowFault {
     }
 }
 
-/// Compares a plan with what the log comes to: names before nodes before pieces, each from the first
-/// row on. Answers how many blocks the landing writes. The walk is the log's own, as `judge_entries`
-/// gives it, and has no bad entry; the log is in the ranges that `decode_log` keeps: at most 4,096
-/// entries, with payloads of at most 65,536 bytes.
+/// Checks a plan against its log: names, then nodes, then pieces, each list from its first row on.
+/// Answers `need`: how many blocks the landing writes.
+///
+/// Condition: the walk is this log's own and has no bad entry, and the log is one that `decode_log`
+/// gives (at most 4,096 entries, payloads of at most 65,536 bytes). Refused with the first wrong row,
+/// or with `OutOfMemory`. Nothing is changed.
 pub fn check_plan<A: Allocator + Copy>(
     alloc: A,
     log: &Log<A>,
@@ -57,15 +60,16 @@ pub fn check_plan<A: Allocator + Copy>(
     requires sizes { HasOrderedSizes walk.now }
     requires spans { AllByRecursion IsSpanned log.now.entries }
     requires count { length log.now.entries ≤ entry_limit }
-    // At every sound tree and all leases that agree with the walk's reads, the first wrong row of the definitions is named, or
-    // the need is told.
+    // At every sound tree, with all leases, that agrees with the walk's reads: the first wrong row is
+    // answered, or the need.
     ensures { (client : ClientRow) → IsWalkOf client log.now walk.now → TellsOfEachTree client log.now walk.now plan.now result }
 {
     let net = walk.outcome.as_ref().unwrap();
     check_rows(alloc, log, walk.sizes.as_slice(), net, plan)
 }
 
-/// Compares a plan with a net, and with the pieces of the log by the sizes of its files.
+/// Checks a plan against a net, and against right pieces of the log; `sizes` are the sizes of its
+/// files.
 pub fn check_rows<A: Allocator + Copy>(
     alloc: A,
     log: &Log<A>,
@@ -92,7 +96,7 @@ pub fn check_rows<A: Allocator + Copy>(
     Ok(need_of(right.as_slice(), sizes))
 }
 
-/// The least index at which the lists differ, the end of a shorter list included.
+/// The index of the first difference; where one list is a prefix of the other, the shorter length.
 fn first_difference<T: PartialEq>(rows: &[T], right: &[T]) -> Option<usize>
     ensures { result ≡ first_difference T.eq rows.now right.now }
 {
@@ -107,7 +111,7 @@ fn first_difference<T: PartialEq>(rows: &[T], right: &[T]) -> Option<usize>
     }
 }
 
-/// The least index at which both lists have a row, and not the same one.
+/// The first index at which both lists have a row and the rows differ.
 fn first_unequal<T: PartialEq>(rows: &[T], right: &[T]) -> Option<usize>
     ensures { result ≡ position (λ pair. not (T.eq pair.0 pair.1)) (zip rows.now right.now) }
 {

@@ -1,4 +1,4 @@
-//! What the bytes of a submission say.
+//! The bytes of a submission, decoded.
 ghost use Rattle.std.specs.Prelude.{◌≡◌, ◌≢◌, IfOk, IfErr};
 ghost use Rattle.kfs_plan.specs.Judging.{IsEarly, IsReading, submission_with};
 
@@ -6,13 +6,17 @@ use crate::submission::{Fault, Why};
 use kfs_entry::{Log, Plan, SpellFault, decode_log, decode_plan};
 use std::alloc::Allocator;
 
-/// What the bytes of a submission say.
+/// What the bytes of a submission decode to.
 #[derive(Drop)]
 pub enum Spelled<A: Allocator> {
+    /// A log of the submission's client, and a plan.
     Yes(Log<A>, Plan<A>),
+    /// The fault found in the bytes.
     No(Fault),
 }
 
+/// Decodes the bytes of a submission; `number` is the submission's client. `Err` where memory is
+/// refused.
 pub fn read_submission<A: Allocator + Copy>(
     alloc: A,
     number: u32,
@@ -37,7 +41,7 @@ pub fn read_submission<A: Allocator + Copy>(
     Ok(Spelled::Yes(log, plan))
 }
 
-/// The fault of the bytes, unless a growth was refused.
+/// The fault, unless it is that memory was refused.
 fn unless_refused(fault: SpellFault) -> Result<SpellFault, Why>
     ensures fault { IfOk result (λ told. (told ≡ fault) × (told ≢ SpellFault.OutOfMemory)) }
     ensures refused { IfErr result (λ why. why ≡ Why.OutOfMemory) }

@@ -1,4 +1,4 @@
-//! A submission, what it comes to, and what is handed back without a verdict.
+//! Submissions, their outcomes, and submissions that come back.
 ghost use Rattle.std.specs.Prelude.{◌≡◌};
 ghost use Rattle.kfs_plan.specs.declared.submission.Why.TheVariants.{OutOfMemory};
 
@@ -9,66 +9,74 @@ use kfs_judge::EntryFault;
 use std::alloc::{AllocError, Allocator};
 use thiserror::Error;
 
-/// What a client hands in: a log and a plan as bytes.
+/// What a client hands in: a log and the plan that it claims is right for it.
 #[derive(Debug, Drop)]
 pub struct Submission<A: Allocator> {
-    /// The number of the client that hands it in.
+    /// The number of the client that hands it in. The caller tells which client that is; nothing here
+    /// authenticates it.
     pub client: u32,
+    /// The bytes of the log.
     pub log: Vec<u8, A>,
+    /// The bytes of the plan.
     pub plan: Vec<u8, A>,
 }
 
-/// Why a submission is refused, in the order in which it is looked at.
+/// Why a submission is refused. The checks are made in this order, and the first that fails is the
+/// fault.
 #[derive(Clone, Copy, Debug, PartialEq, Eq, Error)]
 pub enum Fault {
-    /// 1: the submission's client has no row.
+    /// 1: no client has the submission's number.
     #[error("client unknown")]
     UnknownClient,
-    /// 2: the bytes of the log are no log.
+    /// 2: the bytes of the log aren't a log.
     #[error("log {0}")]
     BadLog(SpellFault),
     /// 3: the log's client isn't the submission's.
     #[error("client wrong")]
     WrongClient,
-    /// 4: the bytes of the plan are no plan.
+    /// 4: the bytes of the plan aren't a plan.
     #[error("plan {0}")]
     BadPlan(SpellFault),
-    /// 5: the first bad entry.
+    /// 5: an entry is refused; the first one.
     #[error("{0}")]
     Entry(EntryFault),
-    /// 6: the first bad row of the plan.
+    /// 6: a row of the plan is wrong; the first one.
     #[error("plan {0}")]
     Row(RowFault),
 }
 
-/// What a submission comes to.
+/// What a judgement found.
 #[derive(Drop)]
 pub enum Outcome<A: Allocator> {
-    /// The plan is right for the log: both, what differs after the log, and how many blocks are written.
+    /// The plan is right for the log. Has both, the net change, and `need`, the number of blocks that a
+    /// landing writes.
     Yes {
         log: Log<A>,
         plan: Plan<A>,
         net: Net<A>,
         need: u64,
     },
+    /// The submission is refused.
     No(Fault),
 }
 
-/// Why a submission comes back without a verdict or an answer.
+/// Why a submission comes back without a verdict or an answer. Nothing has changed.
 #[derive(Clone, Copy, Debug, PartialEq, Eq, Error)]
 pub enum Why {
-    /// 1: a growth was refused.
+    /// 1: memory was refused.
     #[error("memory")]
     OutOfMemory,
-    /// 2: the docket has as many rows as its limit allows. Only a desk answers so.
+    /// 2: the docket is full: it has as many rows as its limit allows. Only a desk answers so.
     #[error("full")]
     DocketFull,
 }
 
-/// A submission that comes back as it was handed in.
+/// A submission that comes back.
 #[derive(Debug, Drop)]
 pub struct Back<A: Allocator> {
+    /// As it was handed in.
     pub submission: Submission<A>,
+    /// The reason.
     pub why: Why,
 }
 

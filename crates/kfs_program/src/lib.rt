@@ -1,5 +1,7 @@
-//! The program `kfs` over a reader and a writer: the words of its command line, and its exit status. It stands
-//! apart from the engine, so that the library which reads the words is read by nothing else.
+//! The program `kfs`, over any reader and writer: the words of its command line, and its exit status.
+//!
+//! It stands on `kfs_program_engine` and on `clap`, which no other crate reads; the program `kfs`
+//! stands on it. Begin with `run_words`.
 #![tactic(auto)]
 
 mod run;

@@ -19,17 +19,18 @@ enum Subcommand {
 /// Why the words ask for nothing.
 #[derive(Clone, Copy, Debug, PartialEq, Eq)]
 enum WordsFault {
-    /// Other words, or more of them; a request for help, too.
+    /// There are other words, or more of them. A request for help counts as that.
     Refused,
-    /// A growth of memory was refused.
+    /// Memory was refused.
     OutOfMemory,
 }
 
 /// Does what the words ask for, over `reader` and `writer`. The first word is the program's name. The
 /// words are looked at before any input is read.
 ///
-/// Answers the exit status: 0 done; 2 the words were refused; 3 a read or a write failed, or a line
-/// was too long; 4 no memory for the words or for a line of the input.
+/// Answers the exit status: 0 done; 2 the words were refused, and nothing was read or written; 3 a read
+/// or a write failed, or a line was too long; 4 memory for the words or for a line of the input was
+/// refused.
 pub fn run_words<R, A, I, O>(rt: &R, alloc: A, words: &[&str], reader: &mut I, writer: &mut O) -> u8
 where
     R: AllocGlobal,
@@ -45,7 +46,7 @@ where
     }
 }
 
-/// What a status that is no success means, for the person who reads it.
+/// What an exit status means, in words for a person; none for 0.
 pub fn status_message(status: u8) -> Option<&'static str>
     ensures { MatchOption result (message_of status ≡ None) (λ message. message_of status ≡ Some message.now) }
 {
@@ -67,8 +68,8 @@ fn exit_status(ended: Result<(), EngineFault>) -> u8
     }
 }
 
-/// The subcommand that the words name. `clap` takes some words for none, as `--`, so the count of the
-/// words is asked too.
+/// The subcommand that the words name. `clap` skips some words, such as `--`, so the number of words is
+/// checked too.
 fn asked_of(alloc: Global, words: &[&str]) -> Result<Subcommand, WordsFault>
     ensures { OnOk result (length words.now ≤ 2) }
 {

@@ -1,4 +1,4 @@
-//! The command lines that a session answers.
+//! The commands of a session.
 ghost use Rattle.std.specs.Prelude.{◌≡◌, ℕ, List, true, false, IfOk, IsErrOf, None, Some};
 ghost use Rattle.kfs_lease_rows.specs.Rows.{kind_of};
 ghost use Rattle.kfs_plan.specs.Judging.{submission_of};
@@ -16,10 +16,10 @@ use kfs_plan::Submission;
 use kfs_program_text::{Refusal, Words};
 use std::alloc::Allocator;
 
-/// The most bytes that a line may ask for.
+/// The most bytes that a `read` line may ask for.
 const READ_LIMIT: u64 = 65_536;
 
-/// A command with its words read.
+/// A command, with its words read.
 #[derive(Drop)]
 pub enum Command<'a, A: Allocator> {
     Opening(OpeningCommand),
@@ -31,16 +31,16 @@ pub enum Command<'a, A: Allocator> {
 pub enum OpeningCommand {
     /// `new A B C`: a fresh image over tiers of these sizes.
     New(TierSizes),
-    /// `client N UID GID PRIV FIRST LAST [GROUP ..]`: one client more, where its row is right.
+    /// `client N UID GID PRIV FIRST LAST [GROUP ..]`: one more client, or why it is refused.
     Client(Result<Client, ClientFault>),
-    /// `begin LIMIT`: the desk, whose docket has at most this many rows.
+    /// `begin LIMIT`: a desk whose docket has at most this many rows.
     Begin(u32),
 }
 
 /// A command to the desk.
 #[derive(Drop)]
 pub enum DeskCommand<'a, A: Allocator> {
-    /// `lease N PATH K END`, `drop N NUMBER` or `tick M`: a call for the leases.
+    /// `lease N PATH K END`, `drop N NUMBER` or `tick M`: a call for leases.
     Act(Act<'a>),
     /// `submit N LOG PLAN`: a log and its plan.
     Submit(Submission<A>),
@@ -48,7 +48,7 @@ pub enum DeskCommand<'a, A: Allocator> {
     Node(u32),
     /// `list N`: the names of a directory.
     List(u32),
-    /// `read N START LEN`: at most LEN bytes of a file from START on, of which LEN is at most 65,536.
+    /// `read N START LEN`: bytes of a file, at most LEN of them, from START on. LEN is at most 65,536.
     Read {
         number: u32,
         start: u64,
@@ -56,20 +56,20 @@ pub enum DeskCommand<'a, A: Allocator> {
     },
     /// `docket`: how many rows the docket has.
     Docket,
-    /// `judge W N LOG PLAN`: a log and its plan, whose verdict the worker holds.
+    /// `judge W N LOG PLAN`: a log and its plan, to be judged; worker W holds the verdict.
     Judge {
         worker: Worker,
         submission: Submission<A>,
     },
-    /// `land W`: the verdict that the worker holds.
+    /// `land W`: lands the verdict that worker W holds.
     Land {
         worker: Worker,
     },
 }
 
 impl<'a, A: Allocator + Copy> Command<'a, A> {
-    /// Reads a line, which comes without its end. What is no command, or has a number out of its
-    /// range, is a bad line.
+    /// Reads a line without its end. Refused with `BadLine` where it isn't a command or has a number
+    /// out of range, and with `OutOfMemory`.
     pub fn read(alloc: A, line: &'a [u8]) -> Result<Command<'a, A>, Refusal>
         ensures ok { IfOk result (λ command. asked_by line.now ≡ Some (asked_of command)) }
         ensures bad { IsErrOf result Refusal.BadLine → asked_by line.now ≡ None }
@@ -79,7 +79,7 @@ impl<'a, A: Allocator + Copy> Command<'a, A> {
         Command::named(alloc, name, &mut words)
     }
 
-    /// The command of this name with the words behind it.
+    /// The command with this name, and with the words after it.
     #[tactic(auto, using(crate::proofs::Readings::nameless))]
     fn named(
         alloc: A,
@@ -106,7 +106,7 @@ impl<'a, A: Allocator + Copy> Command<'a, A> {
     }
 }
 
-/// The name of a command.
+/// The names of the commands.
 #[derive(Clone, Copy)]
 enum Keyword {
     New,
@@ -124,7 +124,7 @@ enum Keyword {
     Land,
 }
 
-/// The command that the word names.
+/// The command that a word names.
 fn name_in(word: &[u8]) -> Option<Keyword>
     ensures { result ≡ named_by word.now }
 {
@@ -196,7 +196,7 @@ fn read_client(words: &mut Words<'_>) -> Result<OpeningCommand, Refusal>
     let privileged = words.number(1)? == 1;
     let first = words.number32()?;
     let last = words.number32()?;
-    // One more than a client can have, so that too many are seen.
+    // One more than a client may have, so that too many are noticed.
     let groups = words.numbers::<17>()?;
     let client = Client::new(number, uid, gid, groups.as_slice(), privileged, first, last);
     Ok(OpeningCommand::Client(client))

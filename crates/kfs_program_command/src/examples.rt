@@ -1,4 +1,5 @@
-//! Lines beside what they ask for, by computation.
+//! Lines with what they ask for. Each is the contract of a function that does nothing, proved by
+//! computing.
 
 ghost use Rattle.std.specs.Prelude.{◌≡◌, [], ◌∷◌, codes, None, Some, Ok, Err};
 ghost use Rattle.kfs_model.specs.Lease.{WriteLease};
@@ -7,7 +8,7 @@ ghost use Rattle.kfs_plan.specs.Judging.{submission_with};
 ghost use Rattle.kfs_program_command.specs.Command.{Begin, Bytes, DocketLength, Drop, Judge, Land, Lease, Listing, New, Node, Request, Row, Setup, Submit, Tick, asked_by};
 ghost use Rattle.kfs_program_command.specs.Example.{client_twice_in_group_4};
 
-/// Each command by its words.
+/// One line of each command.
 #[tactic(auto, unfolding(kfs_program_text::specs::Cut::cut, kfs_program_text::specs::Decimals::decimals32, hex::specs::Hex::decode_pairs))]
 pub fn commands()
     ensures new { asked_by (codes "new 8 08 65536") ≡ Some (Setup (New (record { first = 8; second = 8; third = 65536 }))) }
@@ -26,8 +27,8 @@ pub fn commands()
     ensures land { asked_by (codes "land 00") ≡ Some (Request (Land 0)) }
 {}
 
-/// What is no command: an empty word, a word too many or too few, a number out of its range or with a sign, text that is not
-/// hexadecimal, and any other name.
+/// Lines that aren't commands: an empty word, a word too many or too few, a number out of range or with
+/// a sign, text that isn't hexadecimal, and any other name.
 #[tactic(auto, unfolding(kfs_program_text::specs::Cut::cut, kfs_program_text::specs::Decimals::decimals32, hex::specs::Hex::decode_pairs))]
 pub fn bad_lines()
     ensures empty { asked_by [] ≡ None }

@@ -1,4 +1,7 @@
-//! The lines of commands, read into what they ask for.
+//! Command lines, read into values that say what they ask for.
+//!
+//! It stands on `kfs_plan` (submissions), `kfs_lease` and `kfs_program_text`; `kfs_program_engine`
+//! stands on it. Begin with `Command::read`. docs/FORMATS.md has the commands.
 #![tactic(auto)]
 
 mod command;

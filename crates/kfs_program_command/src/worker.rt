@@ -1,10 +1,10 @@
-//! The workers, each with a hand for one verdict.
+//! The numbers of workers. Each worker may hold one verdict.
 ghost use Rattle.std.specs.Prelude.{◌≡◌, ◌≤◌};
 
-/// The number of the last worker.
+/// The greatest number of a worker.
 pub(crate) const LAST_WORKER: u64 = 7;
 
-/// The number of a worker: 0 to 7.
+/// The number of a worker, 0 to 7.
 #[derive(Clone, Copy)]
 pub struct Worker {
     number: u8,
@@ -12,7 +12,7 @@ pub struct Worker {
 }
 
 impl Worker {
-    /// The worker of this number.
+    /// The worker with this number.
     pub(crate) fn of(number: u8) -> Worker
         requires { number ≤ 7 }
         ensures { result.number ≡ number }

@@ -1,4 +1,4 @@
--- The desk of the worked sessions: a new image of three tiers of eight blocks, and client 7.
+-- The desk of the worked sessions: a new image with three tiers of eight blocks, and client 7.
 use Rattle.std.specs.Prelude.{ℕ, List, [], ◌∷◌, codes, None, Some}
 use Rattle.kfs_model.specs.Access.{Client}
 use Rattle.kfs_model_examples.specs.Example.{client_7}
@@ -13,33 +13,33 @@ use Rattle.kfs_desk.specs.Machine.{Desk, opened_at}
 use Rattle.kfs_program_engine.specs.HeldVerdicts.{HeldVerdicts, no_verdict, with_held}
 use Rattle.kfs_program_engine.specs.Session.{Start}
 
--- the sizes of its tiers
+-- three tiers of eight blocks
 abbrev pub eight_blocks_each : TierSizes
 eight_blocks_each = record { first = 8; second = 8; third = 8 }
 
--- that image, and these clients
+-- such an image, and these clients
 abbrev pub opening_with : List Client → Start
 opening_with clients = record { image = Some (fresh_image eight_blocks_each); clients = clients }
 
--- the desk that opens with these
+-- the desk that is begun with these
 abbrev pub desk_with : List Client → (limit : ℕ) → Desk
 desk_with clients limit = opened_at (opening clients eight_blocks_each (shown_tree (fresh_image eight_blocks_each)) empty) limit
 
 abbrev pub desk_of_7 : Desk
 desk_of_7 = desk_with (client_7 ∷ []) 100
 
--- client 7 is given a lease on the root until 100
+-- the row of a grant: client 7 gets a write lease on the root, up to moment 100
 abbrev pub root_row : Row
 root_row = record { call = Lease 7 (codes "/") WriteLease 100; answer = Done 1; places = [] }
 
--- and holds it
+-- the desk after that row
 abbrev pub root_leased : Desk
 root_leased = record desk_of_7 {
   docket = root_row ∷ [];
   state = record desk_of_7.state { leases = record { rows = insert empty (7, 1) (record { kind = WriteLease; end = 100 }); moment = 0 } };
 }
 
--- a docket without a row, and a worker who holds a verdict on no byte
+-- a desk whose docket may have no row, and a worker's verdict on an empty submission
 abbrev pub full_docket : Desk
 full_docket = desk_with [] 0
 

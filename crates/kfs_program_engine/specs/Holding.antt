@@ -1,4 +1,4 @@
--- The code's hands in the definitions.
+-- The code's held verdicts, in terms of the definitions.
 use Rattle.std.specs.Prelude.{List, map, Option, option_map}
 use Rattle.kfs_plan.specs.Judged.{Judged}
 use Rattle.kfs_workers.specs.Holding.{verdict_of}

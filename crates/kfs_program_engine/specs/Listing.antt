@@ -1,13 +1,13 @@
--- The line of a directory's names.
+-- The reply to `list`.
 use Rattle.std.specs.Prelude.{ℕ, ◌==◌, List, [], ◌∷◌, ◌++◌, filter, codes, decimal}
 use Rattle.hex.specs.Hex.{encode_lower}
 use Rattle.kfs_model.specs.Tree.{NameTable}
 
--- the names of the directory in their order, each with the number that it leads to
+-- the names of the directory in order, each with the number that it leads to
 abbrev pub names_in : NameTable → (directory : ℕ) → List ((ℕ × List ℕ) × ℕ)
 names_in names directory = filter (λ e. e.0.0 == directory) names.entries
 
--- the bytes of the name in hexadecimal text, and the number
+-- the text of one name: a space, its bytes in hexadecimal, a colon, the number
 abbrev pub name_text : (ℕ × List ℕ) × ℕ → List ℕ
 name_text e = codes " " ++ (encode_lower e.0.1 ++ (codes ":" ++ decimal e.1))
 

@@ -1,4 +1,4 @@
--- How far a conversation has come in its input.
+-- How far the loop over the input has come.
 use Rattle.std.specs.Prelude.{◌≡◌, ◌≢◌, ◌<◌, ℕ, List, [], ◌∷◌, ◌++◌, length, codes, Result, Ok, Err, MatchResult}
 use Rattle.std.specs.List.{AllByRecursion}
 use Rattle.kfs_program_engine.specs.Transcript.{IsSession, LineIsShort, longest_line}
@@ -12,8 +12,8 @@ use Rattle.kfs_program_engine.specs.declared.fault.EngineFault.TheVariants.{Read
 use Rattle.kfs_program_text.specs.declared.words.Refusal.{Refusal}
 use Rattle.kfs_program_text.specs.declared.words.Refusal.TheVariants as refusal
 
--- The input is lines that are answered with this text, and then the held bytes, which have no line's end, and the bytes that
--- are not looked at yet.
+-- The input is in three parts: lines that are answered with this text; held bytes, which are the
+-- beginning of a line; and bytes that aren't looked at yet.
 pub record HasAnswered (stage : Stage) (held rest input text : List ℕ) : Type 0 where
   pub lines : List (List ℕ)
   pub parts : cut line_end input ≡ lines ++ cut line_end (held ++ rest)
@@ -22,46 +22,46 @@ pub record HasAnswered (stage : Stage) (held rest input text : List ℕ) : Type 
   pub short : AllByRecursion LineIsShort lines
   pub held_short : LineIsShort held
 
--- why the line has no whole answer, where this much of one is written
+-- the line isn't answered in full, for this reason, and this much of an answer is written
 abbrev pub IsStopped : EngineFault → Stage → (line text : List ℕ) → Type 0
 IsStopped ReadFault stage line text = ⊥
 IsStopped WriteFault stage line text = (unwritten : List ℕ) × (next : Stage) × AnswersLine stage line (text ++ unwritten, next) × LineIsShort line
 IsStopped LongLine stage line text = (longest_line < length line) × (text ≡ [])
 IsStopped OutOfMemory stage line text = text ≡ []
 
--- the line is kept, or the session ends at it, and not by the writer's fault
+-- the line is kept, or the session ends at it, for another reason than the writer's
 abbrev pub LineIsKept : {T : Type 0} → Result T EngineFault → Stage → (line kept : List ℕ) → Type 0
 LineIsKept result stage line kept =
     MatchResult result (λ done. (kept ≡ line) × LineIsShort line) (λ fault. IsStopped fault stage line [] × (fault ≢ WriteFault))
 
 module _ {A : Type 0} where
-  -- the conversation stands there, with the line that it holds
+  -- the loop has come so far, and holds the beginning of the next line
   abbrev pub HasAnsweredSoFar : SessionLoop A → (rest input text : List ℕ) → Type 0
   HasAnsweredSoFar session_loop rest input text = HasAnswered (stage_of session_loop.session) session_loop.line.items rest input text
 
-  -- all is looked at, or the session has ended
+  -- all input is looked at, or the session has ended
   abbrev pub IsTaken : {T : Type 0} → Result T EngineFault → SessionLoop A → (input text : List ℕ) → Type 0
   IsTaken (Ok done) session_loop input text = HasAnsweredSoFar session_loop [] input text
   IsTaken {T} (Err fault) session_loop input text = IsSession {T = T} (Err fault) input text
 
-  -- wherever it stood before these bytes, all of them are looked at, or the session has ended
+  -- wherever the loop was before these bytes, they are all looked at, or the session has ended
   abbrev pub Takes : {T : Type 0} → SessionLoop A → (bytes : List ℕ) → Result T EngineFault → SessionLoop A → (more : List ℕ) → Type 0
   Takes before bytes result after more = (input text : List ℕ) → HasAnsweredSoFar before bytes input text → IsTaken result after input (text ++ more)
 
-  -- wherever it stood, the session has ended
+  -- wherever the loop was, the session has ended
   abbrev pub Ends : {T : Type 0} → SessionLoop A → Result T EngineFault → (more : List ℕ) → Type 0
   Ends before result more = (input text : List ℕ) → HasAnsweredSoFar before [] input text → IsSession result input (text ++ more)
 
-  -- the line is answered with this text, or stopped
+  -- the line is answered with this text, or stopped at
   abbrev pub IsLineAnswered : {T : Type 0} → Result T EngineFault → SessionLoop A → (line : List ℕ) → SessionLoop A → (text : List ℕ) → Type 0
   IsLineAnswered (Ok done) before line after text = AnswersLine (stage_of before.session) line (text, stage_of after.session) × LineIsShort line
   IsLineAnswered (Err fault) before line after text = IsStopped fault (stage_of before.session) line text
 
-  -- so is the line that it holds, where that is short
+  -- the line that the loop holds is answered with this text or stopped at, if it isn't too long
   abbrev pub IsHeldAnswered : {T : Type 0} → Result T EngineFault → (before after : SessionLoop A) → (text : List ℕ) → Type 0
   IsHeldAnswered result before after text = LineIsShort before.line.items → IsLineAnswered result before before.line.items after text
 
--- what is written of a reply
+-- what is written for a reply: the reply, or a refusal's line
 abbrev pub reply_written : {T : Type 0} → Result T Refusal → (reply : List ℕ) → List ℕ
 reply_written (Ok done) reply = reply
 reply_written (Err refusal.BadLine) reply = line_of (codes "bad line")

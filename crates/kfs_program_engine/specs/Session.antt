@@ -1,4 +1,4 @@
--- A session: what each line is answered, and what it leaves.
+-- A session: the reply to each line, and the state that the line leaves.
 use Rattle.std.specs.Prelude.{◌≡◌, ◌≢◌, ◌⊎◌, ◌↔◌, ℕ, Bool, List, [], ◌∷◌, ◌++◌, length, codes, decimal, false, IsFalse, Option, Some, None, Result, Ok, Err, if◌then◌else◌}
 use Rattle.kfs_model.specs.Access.{Client}
 use Rattle.kfs_model.specs.Table.{get}
@@ -27,44 +27,44 @@ use Rattle.kfs_program_engine.specs.Listing.{list_text}
 use Rattle.kfs_report.specs.Text.{act_text, begin_text, client_text, node_text, reply_text}
 use Rattle.kfs_program_text.specs.Parts.{line_of}
 
--- what a desk is begun with: the image, where one was made, and the clients
+-- what a desk is begun with: the image, if there is one yet, and the clients
 pub record Start : Type 0 where
   pub image : Option DeviceImage
   pub clients : List Client
 
--- before the desk is begun, and after: the desk, and what the workers hold
+-- before the desk is begun; or afterwards, with the desk and the verdicts that workers hold
 pub data Stage : Type 0 where
   Before : (start : Start) → Stage
   After : (desk : Desk) (hands : HeldVerdicts) → Stage
 
--- neither an image nor a client
+-- the start of a session: no image, no clients
 abbrev pub fresh : Stage
 fresh = Before (record { image = None; clients = [] })
 
--- a reply, and the stage that it leaves
+-- the reply to a line, and the stage after it
 abbrev pub LineOutcome : Type 0
 LineOutcome = List ℕ × Stage
 
--- a reply of the desk, and the desk after it
+-- the desk's reply to a line, and the desk after it
 abbrev pub DeskOutcome : Type 0
 DeskOutcome = List ℕ × Desk
 
--- a text is appended that, with what it leaves, is such an outcome
+-- a text is appended; that text, with what the line leaves, is such an outcome
 abbrev pub IsReplied : {S : Type 0} → (List ℕ × S → Type 0) → (before after : List ℕ) → S → Type 0
 IsReplied Holds before after s = (text : List ℕ) × (after ≡ before ++ text) × Holds (text, s)
 
--- this line, which leaves this
+-- the outcome is this line of text, and leaves this
 abbrev pub IsSaid : {S : Type 0} → (text : List ℕ) → S → List ℕ × S → Type 0
 IsSaid text s outcome = outcome ≡ (line_of text, s)
 
 -- ---- before the desk is begun
 
--- the desk, or the fault of the clients: the image stays then, and they are forgotten
+-- the desk is begun; or the clients have a fault, and then the image stays and they are forgotten
 abbrev pub begun_with : DeviceImage → List Client → (limit : ℕ) → Option BeginFault → LineOutcome
 begun_with image clients limit None = (line_of (codes "ok"), After (opened_at (opening clients image.sizes (shown_tree image) image.placement) limit) no_verdict)
 begun_with image clients limit (Some fault) = (line_of (codes "begin " ++ begin_text fault), Before (record { image = Some image; clients = [] }))
 
--- without an image there is no desk
+-- the reply to `begin`; without an image it is a bad line
 abbrev pub begun_over : Option DeviceImage → List Client → (limit : ℕ) → LineOutcome
 begun_over None clients limit = (line_of (codes "bad line"), Before (record { image = None; clients = clients }))
 begun_over (Some image) clients limit = begun_with image clients limit (begin_fault clients)
@@ -80,11 +80,11 @@ opened start (Begin limit) = begun_over start.image start.clients limit
 
 -- ---- calls of the desk
 
--- the docket has as many rows as its limit
+-- the docket is full, and the reply says so
 abbrev pub IsFull : Desk → DeskOutcome → Type 0
 IsFull desk outcome = (length desk.docket ≡ desk.limit) × IsSaid (codes "full") desk outcome
 
--- the machine's step of the call, told in these words, with the docket's next row
+-- the call is the machine's next step, and the reply is its line, in these words
 pub record IsCalled (desk : Desk) (call : machine.Call) (words : ℕ → Done) (outcome : DeskOutcome) : Type 0 where
   pub answer : ActReply
   pub next : Desk
@@ -92,11 +92,11 @@ pub record IsCalled (desk : Desk) (call : machine.Call) (words : ℕ → Done) (
   pub acted : IsActed desk call words answer next
   pub is : outcome ≡ (line_of (act_text answer), next)
 
--- a full docket answers no call
+-- the call is answered, or the docket is full
 abbrev pub IsCallAnswered : Desk → machine.Call → (ℕ → Done) → DeskOutcome → Type 0
 IsCallAnswered desk call words outcome = IsFull desk outcome ⊎ IsCalled desk call words outcome
 
--- the submission is answered, judged again or not: the desk's reply to it
+-- the submission is answered by the desk, and the reply is its line
 pub record IsSubmitted (desk : Desk) (submission : Submission) (again : Bool) (outcome : DeskOutcome) : Type 0 where
   pub answer : Reply
   pub next : Desk
@@ -107,9 +107,9 @@ pub record IsSubmitted (desk : Desk) (submission : Submission) (again : Bool) (o
 abbrev pub IsSubmissionAnswered : Desk → Submission → DeskOutcome → Type 0
 IsSubmissionAnswered desk submission outcome = IsFull desk outcome ⊎ IsSubmitted desk submission false outcome
 
--- ---- looks
+-- ---- what is looked up
 
--- the node's line
+-- the reply is the node's line
 pub record IsNode (desk : Desk) (number : ℕ) (outcome : DeskOutcome) : Type 0 where
   pub header : CodeHeader
   pub shown : get (headers desk.state.tree) number ≡ Some (header_of header)
@@ -121,44 +121,46 @@ IsNone desk number outcome = (get (headers desk.state.tree) number ≡ None) × 
 abbrev pub IsNodeShown : Desk → (number : ℕ) → DeskOutcome → Type 0
 IsNodeShown desk number outcome = IsNone desk number outcome ⊎ IsNode desk number outcome
 
--- the line of its names, where it is a directory
+-- the line of a directory's names, or `none` where there is no such directory
 abbrev pub names_line : Desk → (directory : ℕ) → List ℕ
 names_line desk directory = if is_directory (get (headers desk.state.tree) directory) then list_text directory desk.state.tree.names else codes "none"
 
--- the line of how many rows the docket has
+-- the line with the number of the docket's rows
 abbrev pub docket_line : Desk → List ℕ
 docket_line desk = codes "docket " ++ decimal (length desk.docket)
 
 -- ---- verdicts that are held
 
--- the desk's outcome, and then the workers hold this
+-- the outcome of the desk, with these verdicts held afterwards
 abbrev pub WithHands : HeldVerdicts → (DeskOutcome → Type 0) → LineOutcome → Type 0
 WithHands hands Holds outcome = (said : DeskOutcome) × Holds said × (outcome ≡ (said.0, After said.1 hands))
 
--- the worker, who holds no verdict, holds one on the submission then, and the desk is as it was; with a full hand it is a bad line
+-- a worker who holds nothing then holds a verdict on the submission, and the desk is as it was; for a
+-- worker who holds one it is a bad line
 abbrev pub AnswersJudge : Desk → HeldVerdicts → (worker : ℕ) → (held : Option HeldVerdict) → Submission → LineOutcome → Type 0
 AnswersJudge desk hands worker (Some verdict) submission outcome = IsSaid (codes "bad line") (After desk hands) outcome
 AnswersJudge desk hands worker None submission outcome =
     (verdict : HeldVerdict) × IsVerdictOn desk.state submission verdict × IsSaid (codes "judged " ++ decimal worker) (After desk (with_held hands worker (Some verdict))) outcome
 
--- the verdict's submission is answered, judged again exactly where the verdict isn't up to date
+-- the verdict's submission is answered; it is judged again exactly where the verdict isn't up to date
 pub record IsLanded (desk : Desk) (verdict : HeldVerdict) (outcome : DeskOutcome) : Type 0 where
   pub again : Bool
   pub why : IsFalse again ↔ IsUpToDate desk.state verdict
   pub submitted : IsSubmitted desk verdict.submission again outcome
 
--- the docket is full, or the verdict is landed, or there is want of memory, which leaves the desk
+-- the verdict is landed, or the docket is full, or memory is refused, which leaves the desk as it was
 abbrev pub IsLandingAnswered : Desk → HeldVerdict → DeskOutcome → Type 0
 IsLandingAnswered desk verdict outcome = IsFull desk outcome ⊎ (IsLanded desk verdict outcome ⊎ IsSaid (codes "memory") desk outcome)
 
--- whatever comes of the verdict that the worker holds, it holds none then; with an empty hand it is a bad line
+-- whatever becomes of the worker's verdict, the worker holds none afterwards; for a worker who holds
+-- none it is a bad line
 abbrev pub AnswersLand : Desk → HeldVerdicts → (worker : ℕ) → (held : Option HeldVerdict) → LineOutcome → Type 0
 AnswersLand desk hands worker None outcome = IsSaid (codes "bad line") (After desk hands) outcome
 AnswersLand desk hands worker (Some verdict) outcome = WithHands (with_held hands worker None) (IsLandingAnswered desk verdict) outcome
 
 -- ---- lines
 
--- a command after the desk is begun
+-- the outcome of a command to the desk, once it is begun
 abbrev pub AnswersDeskCommand : Desk → HeldVerdicts → DeskCommand → LineOutcome → Type 0
 AnswersDeskCommand desk hands (Lease client path kind end) outcome = WithHands hands (IsCallAnswered desk (machine.Lease client path kind end) Leased) outcome
 AnswersDeskCommand desk hands (Drop client number) outcome = WithHands hands (IsCallAnswered desk (machine.Drop client number) Dropped) outcome
@@ -171,25 +173,26 @@ AnswersDeskCommand desk hands DocketLength outcome = WithHands hands (IsSaid (do
 AnswersDeskCommand desk hands (Judge worker submission) outcome = AnswersJudge desk hands worker (held_by hands worker) submission outcome
 AnswersDeskCommand desk hands (Land worker) outcome = AnswersLand desk hands worker (held_by hands worker) outcome
 
--- a command where it is due
+-- the outcome of a command; one that comes at the wrong time is a bad line
 abbrev pub AnswersCommand : Stage → Command → LineOutcome → Type 0
 AnswersCommand (Before start) (Setup command) outcome = outcome ≡ opened start command
 AnswersCommand (Before start) (Request command) outcome = IsSaid (codes "bad line") (Before start) outcome
 AnswersCommand (After desk hands) (Setup command) outcome = IsSaid (codes "bad line") (After desk hands) outcome
 AnswersCommand (After desk hands) (Request command) outcome = AnswersDeskCommand desk hands command outcome
 
--- what the line asks for is done, where it is a command
+-- the line is a command, and this is its outcome
 abbrev pub Obeys : Stage → Option Command → LineOutcome → Type 0
 Obeys s None outcome = ⊥
 Obeys s (Some command) outcome = AnswersCommand s command outcome
 
--- a line that is no command, or what it asks for, or want of memory, which may come at any line and leaves the stage
+-- the outcome of a line: it is no command, or its command is carried out, or memory is refused, which
+-- may be so at any line and leaves the stage as it was
 abbrev pub AnswersLine : Stage → (line : List ℕ) → LineOutcome → Type 0
 AnswersLine s line outcome =
     ((asked_by line ≡ None) × IsSaid (codes "bad line") s outcome)
     ⊎ (Obeys s (asked_by line) outcome ⊎ IsSaid (codes "memory") s outcome)
 
--- the text that the lines are answered one after another, and the last stage
+-- the lines one after another are answered with this text, and leave this stage
 abbrev pub AnswersLines : Stage → (lines : List (List ℕ)) → (text : List ℕ) → Stage → Type 0
 AnswersLines s [] text last = (text ≡ []) × (last ≡ s)
 AnswersLines s (line ∷ lines) text last = (reply : List ℕ) × (next : Stage) × (rest : List ℕ) × AnswersLine s line (reply, next) × AnswersLines next lines rest last × (text ≡ reply ++ rest)

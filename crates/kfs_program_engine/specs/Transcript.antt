@@ -1,4 +1,4 @@
--- What the engine writes of what it reads.
+-- What the engine writes, given what it reads.
 use Rattle.std.specs.Prelude.{◌≡◌, ◌<◌, ◌≤◌, ℕ, List, [], ◌∷◌, ◌++◌, length, Result, Ok, Err}
 use Rattle.std.specs.List.{AllByRecursion}
 use Rattle.kfs_program_text.specs.Cut.{cut, line_end, lines_of}
@@ -6,29 +6,29 @@ use Rattle.kfs_program_engine.specs.Session.{Stage, AnswersLines, fresh}
 use Rattle.kfs_program_engine.specs.declared.fault.EngineFault.{EngineFault}
 use Rattle.kfs_program_engine.specs.declared.fault.EngineFault.TheVariants.{ReadFault, WriteFault, LongLine, OutOfMemory}
 
--- the most bytes of a line without its end
+-- the most bytes of a line, without its end
 abbrev pub longest_line : ℕ
 longest_line = 16777216
 
 abbrev pub LineIsShort : (line : List ℕ) → Type 0
 LineIsShort line = length line ≤ longest_line
 
--- a session of these lines, from its start, has this text, and none of them is too long
+-- a new session answers these lines with this text, and none of them is too long
 abbrev pub IsText : (lines : List (List ℕ)) → (text : List ℕ) → Type 0
 IsText lines text = (last : Stage) × AnswersLines fresh lines text last × AllByRecursion LineIsShort lines
 
--- the input is these lines with their ends, and then the parts that are left
+-- the input consists of these lines with their ends, and then of the parts in `left`
 abbrev pub IsCut : (input : List ℕ) → (lines left : List (List ℕ)) → Type 0
 IsCut input lines left = cut line_end input ≡ lines ++ left
 
--- the lines before are answered, and the next one isn't
+-- the lines before `next` are answered, and `next` isn't
 pub record StopsBefore (next : List ℕ) (later : List (List ℕ)) (input text : List ℕ) : Type 0 where
   pub lines : List (List ℕ)
   pub parts : IsCut input lines (next ∷ later)
   pub answered : IsText lines text
 
--- the text is the first part of that of lines which the input begins with; what stands behind its last line's end is a line
--- only where it isn't empty
+-- The text is a first part of the answers to some first lines of the input. Bytes behind the last
+-- line's end count as a line only where there are any.
 pub record BreaksOff (input text : List ℕ) : Type 0 where
   pub lines : List (List ℕ)
   pub later : List (List ℕ)
@@ -36,7 +36,7 @@ pub record BreaksOff (input text : List ℕ) : Type 0 where
   pub first : lines_of input ≡ lines ++ later
   pub answered : IsText lines (text ++ unwritten)
 
--- the text that is written of what was read, by how the engine ends
+-- the text that was written for what was read, by how the engine ended
 abbrev pub IsSession : {T : Type 0} → Result T EngineFault → (input text : List ℕ) → Type 0
 IsSession (Ok done) input text = IsText (lines_of input) text
 IsSession (Err ReadFault) input text = (rest : List ℕ) × StopsBefore rest [] input text

@@ -1,4 +1,4 @@
-//! The line of a file's bytes, which may be long.
+//! The reply to `read`, which may be long.
 ghost use Rattle.std.specs.Prelude.{◌≡◌, ◌++◌, OnOk, IfOk, codes};
 ghost use Rattle.kfs_model_device.specs.ShownTree.{shown_tree};
 ghost use Rattle.kfs_program_engine.specs.Bytes.{answer_text, fault_text, hex_text, read_text};
@@ -7,8 +7,9 @@ ghost use Rattle.kfs_program_text.specs.Parts.{line_of};
 use kfs_image::{Image, ReadFault, read_file};
 use std::alloc::{AllocError, Allocator};
 
-/// Appends `bytes HEX`, of at most so many bytes of the file from `start` on, or `read NAME` where the
-/// number is no file's. Where memory is refused, a part of the line may stand in `out`.
+/// Appends `bytes HEX`, for at most `count` bytes of the file from position `start` on, or `read NAME`
+/// where the number isn't a file's. After `Err`, where memory is refused, part of the line may be
+/// appended.
 pub fn bytes_line<A: Allocator + Copy>(
     alloc: A,
     out: &mut Vec<u8, A>,
@@ -26,7 +27,7 @@ pub fn bytes_line<A: Allocator + Copy>(
     out.extend_from_slice(b"\n")
 }
 
-/// At most so many bytes of the file from `start` on.
+/// At most `count` bytes of the file from position `start` on, or why there are none.
 fn bytes_read<A: Allocator + Copy>(
     alloc: A,
     image: &Image<A>,
@@ -36,7 +37,7 @@ fn bytes_read<A: Allocator + Copy>(
 ) -> Result<Result<Vec<u8, A>, ReadFault>, AllocError>
     ensures { IfOk result (λ read. answer_text read ≡ read_text (shown_tree image.now) number start count) }
 {
-    // An image is lawful.
+    // Tells the prover that the image is lawful.
     let _shape = image.shape();
     let mut bytes = Vec::new(alloc);
     bytes.resize(count as usize, 0)?;
@@ -49,7 +50,7 @@ fn bytes_read<A: Allocator + Copy>(
     }
 }
 
-/// Appends the bytes in hexadecimal text.
+/// Appends the bytes in hexadecimal.
 fn push_bytes<A: Allocator + Copy>(
     alloc: A,
     out: &mut Vec<u8, A>,

@@ -1,4 +1,5 @@
-//! The lines of an input, and a session line by line, by computation.
+//! Inputs cut into lines, and sessions line by line. Each is the contract of a function that does
+//! nothing, proved by computing.
 
 ghost use Rattle.std.specs.Prelude.{◌≡◌, [], ◌∷◌, codes, None, Err};
 ghost use Rattle.kfs_model_examples.specs.Example.{client_7, client_8};
@@ -11,7 +12,8 @@ ghost use Rattle.kfs_program_engine.specs.Listing.{list_text};
 ghost use Rattle.kfs_program_engine.specs.Session.{After, Before, AnswersLines, fresh, opened};
 ghost use Rattle.kfs_program_text.specs.Cut.{lines_of};
 
-/// The lines of an input, and a last line that lacks its end; an input that ends with a line's end has no further line.
+/// The lines of an input. A last line without an end counts; an input that ends with a line's end has
+/// no further line.
 #[tactic(auto, unfolding(kfs_program_text::specs::Cut::cut))]
 pub fn lines_of_an_input()
     ensures ended { lines_of (codes "tick 1\nnode 5\n") ≡ codes "tick 1" ∷ codes "node 5" ∷ [] }
@@ -20,8 +22,8 @@ pub fn lines_of_an_input()
     ensures no_line { lines_of [] ≡ [] }
 {}
 
-/// Before the desk is begun: an image, a client that is refused, clients of which two later ones have the number of the first,
-/// and a desk.
+/// A session before the desk is begun: an image, a client that is refused, clients two of which have
+/// the first one's number, and then a desk.
 pub fn openings()
     ensures image { opened (record { image = None; clients = [] }) (New eight_blocks_each) ≡ (codes "ok\n", Before (opening_with [])) }
     ensures without_image { opened (record { image = None; clients = [] }) (Begin 100) ≡ (codes "bad line\n", fresh) }
@@ -30,23 +32,24 @@ pub fn openings()
     ensures begun { opened (opening_with []) (Begin 3) ≡ (codes "ok\n", After (desk_with [] 3) no_verdict) }
 {}
 
-/// The names of the root, and none of another directory.
+/// The names of the root, and those of a directory without names.
 pub fn lists()
     ensures of_root { list_text 1 names_of_two_directories ≡ codes "list 1 61:5 62:9" }
     ensures of_another { list_text 6 (record { entries = ((1, codes "a"), 5) ∷ []; sorted = tt }) ≡ codes "list 6" }
 {}
 
-/// A lease on the root, and the root's line then: a directory has one link and size 0.
+/// A lease on the root, and the root's line after it: a directory has 1 link and size 0.
 pub fn node_after_a_lease()
     ensures { AnswersLines (After desk_of_7 no_verdict) (codes "lease 7 / w 100" ∷ codes "node 1" ∷ []) (codes "0 leased 1\nnode 1 dir 0777 0 0 1 0\n") (After root_leased no_verdict) }
 {}
 
-/// At a full docket no verdict is landed, and the worker holds none then.
+/// Where the docket is full, a verdict isn't landed, and the worker holds none afterwards.
 pub fn verdict_at_a_full_docket()
     ensures { AnswersLines (After full_docket held_by_3) (codes "land 3" ∷ codes "land 3" ∷ []) (codes "full\nbad line\n") (After full_docket no_verdict) }
 {}
 
-/// A reader that gave one line with its end, and a writer that failed behind the reply: there is no further line.
+/// The reader gave one line with its end, and the writer failed after the reply: there is no further
+/// line.
 pub fn write_broken_off()
     ensures { BreaksOff (codes "x\n") (codes "bad line\n") }
 {}

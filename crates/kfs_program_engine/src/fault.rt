@@ -6,19 +6,19 @@ use kfs_program_text::{InputFault, OutputFault};
 use std::alloc::AllocError;
 use thiserror::Error;
 
-/// Why the engine stopped. The lines before were answered.
+/// Why the engine stopped early. The lines before were answered.
 #[derive(Clone, Copy, Debug, PartialEq, Eq, Error)]
 pub enum EngineFault {
-    /// 1: the reader failed, or was read 2^32 times and gave no end.
+    /// 1: the reader failed, or was read 2^32 times without an end.
     #[error("the input can't be read")]
     ReadFault,
-    /// 2: the writer failed or took no byte.
+    /// 2: the writer failed, or took no byte.
     #[error("the output can't be written")]
     WriteFault,
-    /// 3: a line has more than 16,777,216 bytes without its end.
+    /// 3: a line has over 16,777,216 bytes without its end.
     #[error("a line of the input is too long")]
     LongLine,
-    /// There is no memory for a line of the input.
+    /// Memory for a line of the input was refused.
     #[error("out of memory")]
     OutOfMemory,
 }

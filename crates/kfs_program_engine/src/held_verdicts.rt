@@ -1,4 +1,4 @@
-//! What the workers hold: a verdict each, or none.
+//! The verdicts that workers hold: each worker one, or none.
 ghost use Rattle.std.specs.Prelude.{◌≡◌, ◌↔◌, IfOk, IsTrue, None, Some, option_map};
 ghost use Rattle.kfs_program_engine.specs.HeldVerdicts.{held_by, no_verdict, with_held};
 ghost use Rattle.kfs_workers.specs.Holding.{verdict_of};
@@ -9,7 +9,7 @@ use kfs_workers::WORKERS;
 use std::alloc::{AllocError, Allocator};
 use std::marker::Model;
 
-/// A hand for each worker, in their order.
+/// The verdict of each worker, by the worker's number.
 #[derive(Drop)]
 pub struct HeldVerdicts<A: Allocator> {
     held: Vec<Option<Judged<A>>, A>,
@@ -29,7 +29,7 @@ impl<A: Allocator> Model for HeldVerdicts<A> {
 }
 
 impl<A: Allocator> HeldVerdicts<A> {
-    /// All are empty.
+    /// No worker holds a verdict. `Err` where memory is refused.
     pub fn new(alloc: A) -> Result<HeldVerdicts<A>, AllocError>
         ensures { IfOk result (λ hands. hands ≡ no_verdict) }
     {
@@ -54,7 +54,7 @@ impl<A: Allocator> HeldVerdicts<A> {
         self.held[worker.number()] = Some(judged);
     }
 
-    /// Takes the verdict that the worker holds.
+    /// Takes the worker's verdict away, if it holds one.
     pub fn take(&mut self, worker: Worker) -> Option<Judged<A>>
         ensures taken { option_map verdict_of result ≡ held_by self.old worker.number }
         ensures left { self.new ≡ with_held self.old worker.number None }

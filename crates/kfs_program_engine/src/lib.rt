@@ -1,4 +1,7 @@
-//! The engine: command lines in, and the replies of the desk out.
+//! The engine: reads command lines, and writes the desk's replies.
+//!
+//! It stands on `kfs_workers` (desk and verdicts), `kfs_program_command` (lines) and `kfs_report`
+//! (replies); `kfs_program` stands on it. Begin with `engine`, then `session.rt`.
 #![tactic(auto)]
 
 ghost use Rattle.std.specs.Prelude.{◌≡◌, ◌<◌, length, IfErr, IfOk, OnOk};
@@ -24,16 +27,18 @@ use session_loop::SessionLoop;
 use std::alloc::{AllocError, Allocator};
 use std::io::{Read, Write};
 
-/// How often a reader is asked for bytes before it is taken never to end.
+/// After how many reads a reader counts as one that never ends.
 const MOST_READS: u64 = 1 << 32;
 
-/// How many bytes a reader is asked for at once.
+/// How many bytes are read at once.
 const CHUNK: usize = 65_536;
 
-/// Reads commands, a line each, and writes the replies to the lines of one read together, before the
-/// next bytes are read. The input is never kept whole.
+/// Reads command lines from `reader` to its end, and writes a reply to each to `writer`. The replies to
+/// all lines of one read are written together, before the next read. The input is never kept whole.
 ///
-/// Where it stops early, the lines before were answered.
+/// Stops early with `ReadFault`, `WriteFault`, `LongLine`, or `OutOfMemory` for a line's memory. The
+/// lines before were answered then; after `WriteFault` only a first part of the replies is written. A
+/// command for which memory is refused is answered `memory`, and the engine goes on.
 pub fn engine<R, A, I, O>(
     _rt: &R,
     alloc: A,
@@ -60,7 +65,7 @@ fn new_chunk<A: Allocator>(alloc: A) -> Result<Vec<u8, A>, EngineFault>
     Ok(vec![in alloc; 0u8; CHUNK]?)
 }
 
-/// Reads and answers all, with the replies held back, and gives the writer back.
+/// Reads and answers all input, with the replies held back, and answers the writer too.
 fn answer_together<'w, A, I, O>(
     alloc: A,
     reader: &mut I,
@@ -85,7 +90,7 @@ where
     }
 }
 
-/// Reads all, a chunk at a time, answers each line, and flushes the writer before the next chunk.
+/// Reads the input chunk by chunk, answers each line, and flushes the writer before the next chunk.
 fn answer_all<A, I, O>(
     alloc: A,
     reader: &mut I,

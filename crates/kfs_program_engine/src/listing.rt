@@ -1,4 +1,4 @@
-//! The line of a directory's names, which may be long.
+//! The reply to `list`, which may be long.
 ghost use Rattle.std.specs.Prelude.{◌≡◌, ◌++◌, OnOk, codes, decimal};
 ghost use Rattle.hex.specs.Hex.{encode_lower};
 ghost use Rattle.kfs_program_engine.specs.Listing.{list_text, names_in, names_text};
@@ -9,8 +9,8 @@ use kfs_program_text::parts::{field, number, text};
 use kfs_report::LONGEST_LINE;
 use std::alloc::{AllocError, Allocator};
 
-/// Appends `list N`, and for each name of the directory in order a space and `HEXNAME:NUMBER`. Where
-/// memory is refused, a part of the line may stand in `out`.
+/// Appends `list N`, and then for each name of the directory, in order, a space and `HEXNAME:NUMBER`.
+/// After `Err`, where memory is refused, part of the line may be appended.
 pub fn list_line<A: Allocator + Copy>(
     alloc: A,
     out: &mut Vec<u8, A>,
@@ -43,7 +43,7 @@ fn push_names<A: Allocator + Copy>(
     Ok(())
 }
 
-/// Appends one name, with the number that it leads to.
+/// Appends one name, and the number that it leads to.
 fn push_name<A: Allocator + Copy>(
     alloc: A,
     out: &mut Vec<u8, A>,

@@ -1,4 +1,4 @@
-//! What a desk is begun with: the image and the clients.
+//! What a desk is begun with: an image and clients.
 ghost use Rattle.std.specs.Prelude.{◌≡◌, ◌≤◌, IfErr, IfOk, IsErrOf, None, OnOk};
 ghost use Rattle.kfs_program_command.specs.Command as commands;
 ghost use Rattle.kfs_program_engine.specs.Session.{Before, fresh};
@@ -17,7 +17,7 @@ use kfs_report::{begin_line, client_line};
 use std::alloc::Allocator;
 use std::mem;
 
-/// The image, where one was made, and the clients in the order of their lines.
+/// The image, if there is one yet, and the clients in the order of their lines.
 #[derive(Drop)]
 pub struct Opening<A: Allocator> {
     alloc: A,
@@ -37,8 +37,8 @@ impl<A: Allocator + Copy> Opening<A> {
         }
     }
 
-    /// Answers a command that comes before the desk is begun; where it is the one that begins the
-    /// desk, the desk comes back. The reply has room for 128 bytes.
+    /// Answers a command that comes before the desk is begun. If the command begins the desk, the desk
+    /// is the answer. Condition: the reply has room for 128 bytes.
     pub fn answer(
         &mut self,
         command: OpeningCommand,
@@ -57,7 +57,7 @@ impl<A: Allocator + Copy> Opening<A> {
         Ok(None)
     }
 
-    /// Takes a fresh image in place of the one before.
+    /// Makes a fresh image, in place of an image that was there.
     fn renew(&mut self, sizes: TierSizes, reply: &mut Vec<u8, A>) -> Result<(), Refusal>
         requires { 128 ≤ spare_of reply.old }
         ensures ok { OnOk result (IsOpened self.old (commands.New sizes) reply.old.items reply.new.items None self.new) }
@@ -68,7 +68,7 @@ impl<A: Allocator + Copy> Opening<A> {
         Ok(())
     }
 
-    /// Keeps one client more, where its row is right.
+    /// Adds a client, unless it is refused.
     fn admit(
         &mut self,
         client: Result<Client, ClientFault>,
@@ -88,8 +88,8 @@ impl<A: Allocator + Copy> Opening<A> {
         Ok(())
     }
 
-    /// Begins the desk. Where that is refused the image stays; the clients are forgotten, except for
-    /// want of memory.
+    /// Begins the desk. If its clients are refused, the image stays and the clients are forgotten. If
+    /// memory is refused, both stay.
     fn begin(&mut self, limit: u32, reply: &mut Vec<u8, A>) -> Result<Option<Desk<A>>, Refusal>
         requires { 128 ≤ spare_of reply.old }
         ensures ok { IfOk result (λ begun. IsOpened self.old (commands.Begin limit) reply.old.items reply.new.items begun self.new) }

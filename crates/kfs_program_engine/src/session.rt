@@ -27,7 +27,7 @@ use kfs_program_text::parts::{number, text};
 use kfs_report::{act_line, node_line, reply_line};
 use std::alloc::Allocator;
 
-/// What lines were answered before: the desk and the workers' verdicts, or what a desk is begun with.
+/// A session: first what the desk will be begun with, then the desk and the verdicts that workers hold.
 #[derive(Drop)]
 pub struct Session<A: Allocator> {
     alloc: A,
@@ -41,7 +41,7 @@ enum Stage<A: Allocator> {
 }
 
 impl<A: Allocator + Copy> Session<A> {
-    /// No image and no client.
+    /// A session without an image and clients.
     pub fn new(alloc: A) -> Session<A>
         ensures { stage_of result ≡ fresh }
     {
@@ -51,8 +51,10 @@ impl<A: Allocator + Copy> Session<A> {
         }
     }
 
-    /// Answers a line: appends its reply, which has room for 128 bytes. A refusal leaves the state
-    /// as it was, but for a verdict that was to be landed: without memory it is given up.
+    /// Answers a line: appends its reply. Condition: the reply has room for 128 bytes.
+    ///
+    /// A refusal leaves the state as it was, with one exception: a verdict for whose landing memory is
+    /// refused is given up.
     pub fn answer(&mut self, line: &[u8], reply: &mut Vec<u8, A>) -> Result<(), Refusal>
         requires { 128 ≤ spare_of reply.old }
         ensures ok { OnOk result (IsReplied (AnswersLine (stage_of self.old) line.now) reply.old.items reply.new.items (stage_of self.new)) }
@@ -65,7 +67,7 @@ impl<A: Allocator + Copy> Session<A> {
         }
     }
 
-    /// Answers a command that comes before the desk is begun. Afterwards it is a bad line.
+    /// Answers a command that comes before the desk is begun. Later it is a bad line.
     fn answer_before(
         &mut self,
         command: OpeningCommand,
@@ -106,7 +108,7 @@ impl<A: Allocator + Copy> Session<A> {
     }
 }
 
-/// Answers a command after the desk is begun.
+/// Answers a command to the desk, once it is begun.
 fn answer_due<A: Allocator + Copy>(
     alloc: A,
     desk: &mut Desk<A>,
@@ -140,7 +142,7 @@ fn answer_due<A: Allocator + Copy>(
     }
 }
 
-/// Makes a call for the leases.
+/// Makes a call for leases.
 fn make_call<A: Allocator + Copy>(
     desk: &mut Desk<A>,
     act: Act<'_>,
@@ -176,7 +178,7 @@ fn hand_in<A: Allocator + Copy>(
     }
 }
 
-/// The header of a node, none where the number is no node's.
+/// The header of a node, or none.
 fn header_of_node<A: Allocator + Copy>(desk: &Desk<A>, number: u32) -> Option<Header>
     ensures { option_map header_of result ≡ get (headers desk.now.state.tree) number }
 {
@@ -186,7 +188,7 @@ fn header_of_node<A: Allocator + Copy>(desk: &Desk<A>, number: u32) -> Option<He
     }
 }
 
-/// Appends the line of a node, or `none` where the number is no node's.
+/// Appends the node's line, or `none` where there is no such node.
 fn show_node<A: Allocator + Copy>(
     desk: &Desk<A>,
     number: u32,
@@ -203,7 +205,7 @@ fn show_node<A: Allocator + Copy>(
     Ok(())
 }
 
-/// Appends the line of how many rows the docket has.
+/// Appends the number of the docket's rows.
 fn show_docket<A: Allocator + Copy>(desk: &Desk<A>, reply: &mut Vec<u8, A>)
     requires { 128 ≤ spare_of reply.old }
     ensures { reply.new.items ≡ reply.old.items ++ line_of (docket_line desk.now) }
@@ -213,7 +215,7 @@ fn show_docket<A: Allocator + Copy>(desk: &Desk<A>, reply: &mut Vec<u8, A>)
     text(reply, b"\n");
 }
 
-/// Appends the line of a directory's names, or `none` where the number is no directory's.
+/// Appends the names of a directory, or `none` where there is no such directory.
 fn show_names<A: Allocator + Copy>(
     alloc: A,
     desk: &Desk<A>,

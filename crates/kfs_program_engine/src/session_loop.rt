@@ -1,4 +1,4 @@
-//! Cuts the input into lines and writes the reply of each.
+//! Cuts the input into lines, and writes the reply to each.
 ghost use Rattle.std.specs.Prelude.{◌≡◌, ◌++◌, [], OnOk};
 ghost use Rattle.kfs_program_engine.specs.Progress.{Ends, IsHeldAnswered, LineIsKept, IsLineAnswered, HasAnsweredSoFar, Takes, reply_written};
 ghost use Rattle.kfs_program_engine.specs.Session.{AnswersLine};
@@ -13,10 +13,10 @@ use kfs_report::LONGEST_LINE;
 use std::alloc::Allocator;
 use std::io::Write;
 
-/// The most bytes of a line without its end.
+/// The most bytes of a line, without its end.
 pub const LINE_LIMIT: usize = 16_777_216;
 
-/// A session, and the line of it whose end has not been read.
+/// A session, and the beginning of a line whose end isn't read yet.
 #[derive(Drop)]
 pub struct SessionLoop<A: Allocator> {
     session: Session<A>,
@@ -35,7 +35,7 @@ impl<A: Allocator + Copy> SessionLoop<A> {
         }
     }
 
-    /// Answers each line that ends in `bytes`, and keeps the bytes after the last end.
+    /// Answers each line that ends in `bytes`, and keeps the bytes after the last line's end.
     pub fn take<W: Write>(
         &mut self,
         bytes: &[u8],
@@ -52,7 +52,7 @@ impl<A: Allocator + Copy> SessionLoop<A> {
         self.keep(rest)
     }
 
-    /// Answers the last line, where it lacks its end.
+    /// Answers the last line, if it has no end.
     pub fn finish<W: Write>(&mut self, writer: &mut HeldBack<'_, W, A>) -> Result<(), EngineFault>
         ensures session { Writes (contents_with W.contents writer.old) (contents_with W.contents writer.new) (Ends self.old result) }
         ensures first { writer.new.first ≡ writer.old.first }
@@ -64,7 +64,7 @@ impl<A: Allocator + Copy> SessionLoop<A> {
         Ok(writer.flush()?)
     }
 
-    /// Answers the line, of which `part` is the last bytes.
+    /// Answers the line that ends with `part`.
     fn end_line<W: Write>(
         &mut self,
         part: &[u8],
@@ -100,7 +100,7 @@ impl<A: Allocator + Copy> SessionLoop<A> {
         Ok(written?)
     }
 
-    /// Makes room for the reply before anything changes.
+    /// Answers the line, with room for the reply made before anything changes.
     fn reply(&mut self) -> Result<(), Refusal>
         ensures session { AnswersLine (stage_of self.old.session) self.old.line.items (reply_written result self.new.reply.items, stage_of self.new.session) }
         ensures line { self.new.line ≡ self.old.line }
@@ -111,7 +111,7 @@ impl<A: Allocator + Copy> SessionLoop<A> {
     }
 }
 
-/// What is written of a reply.
+/// What is written for a reply: the reply itself, or a refusal's line.
 fn text_of(replied: Result<(), Refusal>, reply: &[u8]) -> &[u8]
     ensures { result.now ≡ reply_written replied reply.now }
 {

@@ -1,4 +1,5 @@
-//! The commands `judge` and `land`: a verdict is made against a view of now, held by a worker, and landed later.
+//! The commands `judge` and `land`: a verdict is made from a view of the desk now, is held by a worker,
+//! and is landed later.
 ghost use Rattle.std.specs.Prelude.{◌≡◌, ◌≤◌, codes, IfErr, IfOk, IsErrOf, OnOk};
 ghost use Rattle.kfs_plan.specs.Judging.{submission_of};
 ghost use Rattle.kfs_program_command.specs.Command as commands;
@@ -18,7 +19,7 @@ use kfs_report::reply_line;
 use kfs_workers::DeskView;
 use std::alloc::Allocator;
 
-/// Judges the submission for a worker who holds no verdict, and now holds this one.
+/// Judges the submission for a worker who holds nothing; the worker holds the verdict then.
 pub fn judge_for<A: Allocator + Copy>(
     alloc: A,
     desk: &Desk<A>,
@@ -43,7 +44,8 @@ pub fn judge_for<A: Allocator + Copy>(
     Ok(())
 }
 
-/// The verdict on the submission in the state of now. The look ends here, so that landing shares nothing.
+/// The verdict on the submission in the state now. The view is dropped here, so that landing finds
+/// nothing shared.
 fn judged_now<A: Allocator + Copy>(
     alloc: A,
     desk: &Desk<A>,
@@ -59,7 +61,7 @@ fn judged_now<A: Allocator + Copy>(
     }
 }
 
-/// Lands the verdict that the worker holds, who holds none then, whatever comes of it.
+/// Lands the worker's verdict. The worker holds none afterwards, whatever the answer is.
 pub fn land_for<A: Allocator + Copy>(
     desk: &mut Desk<A>,
     hands: &mut HeldVerdicts<A>,

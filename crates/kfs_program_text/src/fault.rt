@@ -1,4 +1,4 @@
-//! The faults of a reader and of a writer.
+//! Faults of readers and writers.
 
 /// The reader failed.
 #[derive(Clone, Copy, Debug, PartialEq, Eq)]

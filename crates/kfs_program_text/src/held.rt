@@ -1,4 +1,4 @@
-//! A writer in front of another, which holds texts back so that several are written together.
+//! A writer in front of another one. It holds texts back, so that several are written at once.
 ghost use Rattle.std.specs.Prelude.{◌≡◌, ◌++◌, ℕ, List, [], IsFalse, IsTrue, OnOk, OnErr};
 ghost use Rattle.std.specs.Io.KnownBytes.{Keeps, append_known};
 ghost use Rattle.kfs_program_text.specs.HeldOutput.{HasGrown, contents_with};
@@ -19,7 +19,7 @@ const MOST_HELD: usize = 65_536;
 pub struct HeldBack<'w, W: Write, A: Allocator> {
     inner: &'w mut W,
     held: Vec<u8, A>,
-    /// How many of these the inner writer took before it failed.
+    /// How many of the held bytes the inner writer took before it failed.
     taken: usize,
     first: Snapshot<&'w mut W>,
 }
@@ -36,7 +36,7 @@ impl<'w, W: Write, A: Allocator> Model for HeldBack<'w, W, A> {
 }
 
 impl<'w, W: Write, A: Allocator> HeldBack<'w, W, A> {
-    /// In front of this writer. Takes no memory yet.
+    /// A writer in front of this one. Takes no memory yet.
     pub fn new(alloc: A, inner: &'w mut W) -> HeldBack<'w, W, A>
         ensures first { result.first.now ≡ inner.old }
         ensures reference { result.first.ghost_name ≡ inner.entry.ghost_name }
@@ -51,8 +51,8 @@ impl<'w, W: Write, A: Allocator> HeldBack<'w, W, A> {
         }
     }
 
-    /// Writes the text behind all that was written so far, or holds it back. Where the inner writer
-    /// fails, a first part of all is written or held.
+    /// Writes the text after all that was written before, or holds it back. After `Err`, where the
+    /// inner writer failed, only a first part of all is written or held.
     pub fn write(&mut self, text: &[u8]) -> Result<(), OutputFault>
         ensures text { Writes (contents_with W.contents self.old) (contents_with W.contents self.new) (IsWritten result text.now) }
         ensures first { self.new.first ≡ self.old.first }
@@ -73,7 +73,8 @@ impl<'w, W: Write, A: Allocator> HeldBack<'w, W, A> {
         flush(self.inner)
     }
 
-    /// Writes what is held, and gives the inner writer back. Where that fails, a first part of all is written.
+    /// Writes what is held, and answers the inner writer. After `Err` only a first part of all is
+    /// written.
     pub fn close(self) -> (&'w mut W, Result<(), OutputFault>)
         ensures reference { result.0.ghost_name ≡ self.entry.first.ghost_name }
         ensures grown { HasGrown (W.contents self.entry.first.now) (W.contents result.0.now) }
@@ -90,7 +91,7 @@ impl<'w, W: Write, A: Allocator> HeldBack<'w, W, A> {
         (inner, ended)
     }
 
-    /// Holds the text back, where it fits and memory isn't refused.
+    /// Holds the text back, if it fits and memory isn't refused. Answers whether it did.
     fn hold(&mut self, text: &[u8]) -> bool
         ensures held { IsTrue result → (self.new.held ≡ self.old.held ++ text.now) × (self.new.inner ≡ self.old.inner) }
         ensures kept { IsFalse result → self.new ≡ self.old }
@@ -103,7 +104,7 @@ impl<'w, W: Write, A: Allocator> HeldBack<'w, W, A> {
         self.held.extend_from_slice(text).is_ok()
     }
 
-    /// Writes what is held. What a failure leaves unwritten stays held.
+    /// Writes what is held. What can't be written stays held.
     fn write_held(&mut self) -> Result<(), OutputFault>
         ensures bytes { Keeps (contents_with W.contents self.old) (contents_with W.contents self.new) }
         ensures first { self.new.first ≡ self.old.first }

@@ -1,4 +1,8 @@
-//! Lines and their words, the parts that a reply is made of, and whole reads and writes.
+//! Text for the program: lines and their words, the parts of a reply, and reads and writes of whole
+//! texts.
+//!
+//! It stands on `hex` and `itoa`; `kfs_program_command`, `kfs_report` and `kfs_program_engine` stand on
+//! it. Begin with `words.rt`.
 #![tactic(auto)]
 
 mod fault;

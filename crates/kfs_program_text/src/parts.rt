@@ -1,4 +1,4 @@
-//! The parts that a line is made of. The caller has made room for them.
+//! The parts of a reply's line. The caller has made room for them.
 ghost use Rattle.std.specs.Prelude.{◌≡◌, ◌+◌, ◌≤◌, ◌++◌, length, decimal};
 ghost use Rattle.kfs_entry_value.specs.Room.{Appends, spare_of};
 ghost use Rattle.kfs_program_text.specs.Parts.{field_text, flag_text, numbered_text, octal_text};
@@ -14,7 +14,7 @@ pub fn text<A: Allocator>(out: &mut Vec<u8, A>, bytes: &[u8])
     out.extend_from_slice(bytes).unwrap();
 }
 
-/// Appends the number in decimal digits without leading zeros.
+/// Appends the number in decimal, without leading zeros.
 pub fn number<A: Allocator>(out: &mut Vec<u8, A>, value: u64)
     requires { 20 ≤ spare_of out.old }
     ensures { Appends out.old out.new 20 (decimal value) }
@@ -23,7 +23,7 @@ pub fn number<A: Allocator>(out: &mut Vec<u8, A>, value: u64)
     text(out, digits.format(value).as_bytes());
 }
 
-/// Appends the permission bits in four octal digits.
+/// Appends the permission bits as four octal digits.
 pub fn octal<A: Allocator>(out: &mut Vec<u8, A>, mode: u16)
     requires { 4 ≤ spare_of out.old }
     ensures { Appends out.old out.new 4 (octal_text mode) }

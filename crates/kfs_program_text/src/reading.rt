@@ -1,4 +1,4 @@
-//! Reads one chunk at a time.
+//! Reading one chunk at a time.
 ghost use Rattle.std.specs.Prelude.{◌≡◌, ◌≤◌, ◌<◌, length, IfOk, IfSome};
 ghost use Rattle.std.specs.Io.KnownBytes.{IsAtEnd};
 ghost use Rattle.kfs_program_text.specs.Streams.{IsChunkRead};
@@ -6,7 +6,7 @@ ghost use Rattle.kfs_program_text.specs.Streams.{IsChunkRead};
 use crate::fault::InputFault;
 use std::io::{ErrorKind, Read};
 
-/// The count of bytes that one read gave, 0 at the end; none where the read was interrupted.
+/// How many bytes one read gave, 0 at the end of the input; none where the read was interrupted.
 pub fn read_some<I: Read>(reader: &mut I, chunk: &mut [u8]) -> Result<Option<usize>, InputFault>
     requires { 0 < length chunk.old }
     ensures bytes { IsChunkRead result chunk.new (I.remaining reader.old) (I.remaining reader.new) }

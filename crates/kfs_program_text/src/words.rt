@@ -1,4 +1,4 @@
-//! The words of a command line: names, decimal numbers and hexadecimal text.
+//! The words of a command line: names, decimal numbers, hexadecimal text.
 
 ghost use Rattle.std.specs.Prelude.{◌≡◌, ◌==◌, ◌≤◌, [], ◌∷◌, ◌++◌, Some, option_map, position, take, IfOk};
 ghost use Rattle.std.specs.List.{list_all};
@@ -9,12 +9,12 @@ ghost use Rattle.kfs_program_text.specs.Reading.{ReadsAs, ended, first_by, only,
 use arrayvec::ArrayVec;
 use std::alloc::{AllocError, AllocFailed, Allocator};
 
-/// Why a line has no other answer. The state is as it was before the line.
+/// Why a line isn't answered otherwise. The state is as it was before the line.
 #[derive(Clone, Copy, Debug, PartialEq, Eq)]
 pub enum Refusal {
-    /// The line is no command, stands at the wrong time, or has a number out of its range.
+    /// The line isn't a command, comes at the wrong time, or has a number out of range.
     BadLine,
-    /// A growth of memory was refused.
+    /// Memory was refused.
     OutOfMemory,
 }
 
@@ -40,15 +40,15 @@ impl<T: Drop> From<AllocFailed<T>> for Refusal {
     }
 }
 
-/// The words of a line that are still to be read. A word has at least one byte, and one space
-/// stands between two words.
+/// The words of a line that aren't read yet. A word has at least one byte, and one space is between two
+/// words.
 #[derive(Clone, Copy, Debug)]
 pub struct Words<'a> {
     rest: Option<&'a [u8]>,
 }
 
 impl<'a> Words<'a> {
-    /// All words of `line`, which comes without its end.
+    /// All words of `line`, which has no line's end.
     pub fn new(line: &'a [u8]) -> Words<'a>
         ensures { words_left result ≡ cut space line.now }
     {
@@ -69,8 +69,7 @@ impl<'a> Words<'a> {
         Ok(word)
     }
 
-    /// The next word as a decimal number that is at most `most`: digits alone, with any count of
-    /// leading zeros.
+    /// The next word, as a decimal number of at most `most`. Leading zeros are allowed, signs aren't.
     #[tactic(auto, unfolding(crate::specs::Reading::first_by))]
     pub fn number(&mut self, most: u64) -> Result<u64, Refusal>
         ensures range { IfOk result (λ n. n ≤ most) }
@@ -79,21 +78,21 @@ impl<'a> Words<'a> {
         number_in(self.word()?, most).ok_or(Refusal::BadLine)
     }
 
-    /// The next word as a decimal number of 32 bits.
+    /// The next word, as a decimal number of 32 bits.
     pub fn number32(&mut self) -> Result<u32, Refusal>
         ensures { ReadsAs (λ n. (n, words_left self.new)) (first_by decimal32 (words_left self.old)) result }
     {
         Ok(self.number(u64::from(u32::MAX))? as u32)
     }
 
-    /// The next word as a decimal number of 64 bits.
+    /// The next word, as a decimal number of 64 bits.
     pub fn number64(&mut self) -> Result<u64, Refusal>
         ensures { ReadsAs (λ n. (n, words_left self.new)) (first_by decimal64 (words_left self.old)) result }
     {
         self.number(u64::MAX)
     }
 
-    /// The only word that is left as a decimal number of 32 bits.
+    /// The only word left, as a decimal number of 32 bits.
     pub fn only_number32(&mut self) -> Result<u32, Refusal>
         ensures { ReadsAs (λ n. n) (only decimal32 (words_left self.old)) result }
     {
@@ -102,7 +101,7 @@ impl<'a> Words<'a> {
         Ok(number)
     }
 
-    /// The only word that is left as a decimal number of 64 bits.
+    /// The only word left, as a decimal number of 64 bits.
     pub fn only_number64(&mut self) -> Result<u64, Refusal>
         ensures { ReadsAs (λ n. n) (only decimal64 (words_left self.old)) result }
     {
@@ -111,7 +110,7 @@ impl<'a> Words<'a> {
         Ok(number)
     }
 
-    /// All words that are left as decimal numbers. The first `N` are kept.
+    /// All words left, as decimal numbers of 32 bits. Only the first `N` are kept.
     pub fn numbers<const N: usize>(&mut self) -> Result<ArrayVec<u32, N>, Refusal>
         ensures { ReadsAs (λ numbers. numbers.items) (option_map (λ ns. take N ns) (decimals32 (words_left self.old))) result }
     {
@@ -122,7 +121,7 @@ impl<'a> Words<'a> {
         Ok(numbers)
     }
 
-    /// The next word as hexadecimal text, in either case; `-` stands for no bytes.
+    /// The next word, as bytes in hexadecimal, in either case; `-` is no bytes.
     #[tactic(auto, unfolding(crate::specs::Reading::first_by))]
     pub fn bytes<A: Allocator>(&mut self, alloc: A) -> Result<Vec<u8, A>, Refusal>
         ensures { ReadsAs (λ bytes. (bytes.items, words_left self.new)) (first_by hexadecimal (words_left self.old)) result }
@@ -130,7 +129,7 @@ impl<'a> Words<'a> {
         bytes_in(alloc, self.word()?)
     }
 
-    /// No word is left.
+    /// Refuses the line, if a word is left.
     #[tactic(auto, using(crate::proofs::WordsCut::cut_not_ended), unfolding(crate::specs::Reading::ended))]
     pub fn end(&self) -> Result<(), Refusal>
         ensures { ReadsAs (λ done. done) (ended (words_left self.now)) result }
@@ -142,7 +141,7 @@ impl<'a> Words<'a> {
     }
 }
 
-/// What stands before the first space of the text, and what behind it where there is one.
+/// The text before the first space, and the text after it, if there is a space.
 fn first_part(text: &[u8]) -> (&[u8], Option<&[u8]>)
     ensures { cut space text.now ≡ result.0.now ∷ words_left (record { rest = result.1 }) }
 {
@@ -158,7 +157,7 @@ fn first_space(text: &[u8]) -> Option<usize>
     text.iter().position(|byte| *byte == b' ')
 }
 
-/// The word as a decimal number that is at most `most`.
+/// The word as a decimal number of at most `most`; none where it isn't one.
 fn number_in(word: &[u8], most: u64) -> Option<u64>
     ensures { result ≡ decimal_within most word.now }
 {
@@ -180,14 +179,14 @@ fn are_digits(word: &[u8]) -> bool
     word.iter().all(|byte| byte.is_ascii_digit())
 }
 
-/// Appends the number where there is room.
+/// Appends the number, if there is room.
 fn keep<const N: usize>(numbers: &mut ArrayVec<u32, N>, number: u32)
     ensures { numbers.new.items ≡ take N (numbers.old.items ++ number ∷ []) }
 {
     let _ = numbers.try_push(number);
 }
 
-/// The word as hexadecimal text, in either case; `-` stands for no bytes.
+/// The word as bytes in hexadecimal, in either case; `-` is no bytes.
 fn bytes_in<A: Allocator>(alloc: A, word: &[u8]) -> Result<Vec<u8, A>, Refusal>
     ensures { ReadsAs (λ bytes. bytes.items) (hexadecimal word.now) result }
 {

@@ -1,4 +1,4 @@
-//! Writes whole texts.
+//! Writing whole texts.
 ghost use Rattle.std.specs.Prelude.{◌≡◌, ◌≤◌, length, take, IfOk, OnOk};
 ghost use Rattle.std.specs.Io.KnownBytes.{Appends, Keeps, WriteAppends};
 ghost use Rattle.kfs_program_text.specs.Streams.{IsWritten, Writes};
@@ -6,10 +6,10 @@ ghost use Rattle.kfs_program_text.specs.Streams.{IsWritten, Writes};
 use crate::fault::OutputFault;
 use std::io::{ErrorKind, Write};
 
-/// How often a writer is asked to take bytes before it is taken never to.
+/// After how many writes a writer counts as one that never takes all.
 const MOST_WRITES: u64 = 1 << 32;
 
-/// Writes the bytes; the writer's fault leaves a first part of them written.
+/// Writes all bytes. After `Err` only a first part of them is written.
 pub fn write_whole<W: Write>(writer: &mut W, bytes: &[u8]) -> Result<(), OutputFault>
     ensures { Writes (W.contents writer.old) (W.contents writer.new) (IsWritten result bytes.now) }
 {
@@ -17,7 +17,7 @@ pub fn write_whole<W: Write>(writer: &mut W, bytes: &[u8]) -> Result<(), OutputF
     ended
 }
 
-/// Writes the bytes, and tells how many of them the writer took: all but where it fails.
+/// Writes all bytes, and answers how many of them the writer took: all, unless it failed.
 pub(crate) fn write_out<W: Write>(writer: &mut W, bytes: &[u8]) -> (usize, Result<(), OutputFault>)
     ensures bound { result.0 ≤ length bytes.now }
     ensures all { OnOk result.1 (result.0 ≡ length bytes.now) }
@@ -42,7 +42,7 @@ pub fn flush<W: Write>(writer: &mut W) -> Result<(), OutputFault>
     writer.flush().map_err(|_| OutputFault)
 }
 
-/// The count of bytes that one write took, 0 where it was interrupted.
+/// How many bytes one write took; 0 where it was interrupted.
 fn write_some<W: Write>(writer: &mut W, bytes: &[u8]) -> Result<usize, OutputFault>
     ensures count { IfOk result (λ count. count ≤ length bytes.now) }
     ensures text { WriteAppends (W.contents writer.old) (W.contents writer.new) result bytes.now }

@@ -1,6 +1,7 @@
-//! The line of each answer. A function appends its line to `out`; where memory is refused it leaves
-//! `out` as it is. It is never refused where `out` has 128 bytes to spare, which the longest of these
-//! lines doesn't take.
+//! The line of each answer. Each function appends its line, with its end, to `out`.
+//!
+//! `Err` where memory is refused; `out` is as it was then. Where `out` has 128 bytes of spare room, no
+//! memory is taken.
 ghost use Rattle.std.specs.Prelude.{◌≡◌, ◌+◌, ◌≤◌, ◌++◌, length, codes};
 ghost use Rattle.kfs_report.specs.Text.{AddsLine, reply_text, head_text, act_text, done_text, node_text, header_text, kind_text, counts_text, client_text, begin_text};
 ghost use Rattle.kfs_entry_value.specs.Room.{Appends, spare_of};
@@ -14,11 +15,11 @@ use kfs_program_text::parts::{field, flag, number, octal, text};
 use names::{begin_fault, client_fault, judgement_fault, lease_fault};
 use std::alloc::{AllocError, Allocator};
 
-/// The most bytes of a line.
+/// The most bytes of a line that these functions append.
 pub const LONGEST_LINE: usize = 128;
 
-/// The line of a submission that landed: `P yes rejudged=R need=N`, `P no rejudged=R
-/// FAULT` or `P noroom rejudged=R need=N free=F`.
+/// The line of the answer to a submission: `P yes rejudged=R need=N`, `P no rejudged=R FAULT` or
+/// `P noroom rejudged=R need=N free=F`.
 pub fn reply_line<A: Allocator>(out: &mut Vec<u8, A>, reply: &Reply) -> Result<(), AllocError>
     ensures { AddsLine out.old out.new (reply_text reply.now) result }
 {
@@ -75,7 +76,8 @@ fn push_head<A: Allocator>(out: &mut Vec<u8, A>, position: u32, word: &[u8], rej
     flag(out, rejudged);
 }
 
-/// The line of a call for the leases: `P leased N`, `P dropped N`, `P ticked M` or `P refused NAME`.
+/// The line of the answer to a call for leases: `P leased N`, `P dropped N`, `P ticked M` or
+/// `P refused NAME`.
 pub fn act_line<A: Allocator>(out: &mut Vec<u8, A>, reply: &ActReply) -> Result<(), AllocError>
     ensures { AddsLine out.old out.new (act_text reply.now) result }
 {
@@ -157,7 +159,7 @@ fn push_counts<A: Allocator>(out: &mut Vec<u8, A>, header: &Header)
     field(out, header.size);
 }
 
-/// The line of a client that was refused: `client NAME`.
+/// The line of a client that is refused: `client NAME`.
 pub fn client_line<A: Allocator>(out: &mut Vec<u8, A>, fault: ClientFault) -> Result<(), AllocError>
     ensures { AddsLine out.old out.new (codes "client " ++ client_text fault) result }
 {
@@ -168,7 +170,7 @@ pub fn client_line<A: Allocator>(out: &mut Vec<u8, A>, fault: ClientFault) -> Re
     Ok(())
 }
 
-/// The line of a begin that was refused: `begin NAME`.
+/// The line of a desk that wasn't begun: `begin NAME`.
 pub fn begin_line<A: Allocator>(out: &mut Vec<u8, A>, fault: BeginFault) -> Result<(), AllocError>
     ensures { AddsLine out.old out.new (codes "begin " ++ begin_text fault) result }
 {

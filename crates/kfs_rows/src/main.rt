@@ -1,6 +1,8 @@
-//! Runs the scripts of its folder data/ through the program's entry and compares all that is written,
-//! byte by byte, and the exit status with what is expected; some in little memory, too. docs/EXAMPLES.md
-//! lists the scripts.
+//! A test program. It runs the scripts of its folder data/ through `run_words`, and compares output and
+//! exit status with what is expected, byte by byte; some of them in little memory, too.
+//!
+//! It stands on `kfs_program` and `kfs_test_scripts`. docs/EXAMPLES.md lists the scripts. Begin with
+//! `main`.
 #![tactic(auto)]
 
 mod memory;
@@ -29,7 +31,7 @@ fn main(rt: HostRuntime) -> io::Result<ExitCode> {
     Ok(ExitCode::from(u8::from(failed != 0)))
 }
 
-/// Runs one script, with its words, and compares its replies and its status.
+/// Runs one script with its words, and compares its replies and its status.
 fn run_script<R: Files + AllocGlobal>(rt: &R, name: &str) -> Result<(), ScriptFault> {
     let case = Case::read(rt, name)?;
     let words = case.words(rt.alloc())?;

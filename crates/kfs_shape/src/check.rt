@@ -1,4 +1,4 @@
-//! All ten rules of an image, one after another.
+//! The check of an image by all ten rules, in order.
 ghost use Rattle.std.specs.Prelude.{◌≡◌, None, IfOk};
 ghost use Rattle.kfs_model_device.specs.Rules.{rule_1};
 ghost use Rattle.kfs_model_device.specs.Finding.{finding_from, finding_of, least_failed};
@@ -18,7 +18,7 @@ use kfs_image::RawImage;
 use std::alloc::Allocator;
 use std::collections::BTreeMap;
 
-/// A finding where there is a least number.
+/// A finding, if there is a number at which the rule is broken.
 fn no_failure(rule: u8, least: Option<u32>) -> Result<(), ShapeFault>
     ensures { FindsNoneWhere result (found_at rule least) }
 {
@@ -28,7 +28,7 @@ fn no_failure(rule: u8, least: Option<u32>) -> Result<(), ShapeFault>
     }
 }
 
-/// Checks the rules 1 to 3, and gives the headers by number.
+/// Checks rules 1 to 3, and answers the headers by number.
 fn check_nodes<A: Allocator + Copy>(
     alloc: A,
     raw: &RawImage<A>,
@@ -43,7 +43,7 @@ fn check_nodes<A: Allocator + Copy>(
     Ok(headers)
 }
 
-/// Checks the rules 4 to 7 of an image whose node rows ascend.
+/// Checks rules 4 to 7 of an image whose node rows ascend.
 fn check_names<A: Allocator + Copy>(
     alloc: A,
     raw: &RawImage<A>,
@@ -59,7 +59,7 @@ fn check_names<A: Allocator + Copy>(
     no_failure(7, least_unrooted(alloc, raw, headers)?)
 }
 
-/// Checks the rules 8 to 10.
+/// Checks rules 8 to 10.
 fn check_extents<A: Allocator + Copy>(
     alloc: A,
     raw: &RawImage<A>,
@@ -73,8 +73,10 @@ fn check_extents<A: Allocator + Copy>(
     no_failure(10, least_shared(alloc, raw)?)
 }
 
-/// Whether the image is well formed. If not, the error has the least rule that is broken, with the least
-/// number at which it is, unless a growth was refused.
+/// Checks whether an image is well formed. docs/FORMATS.md has the ten rules.
+///
+/// Refused with `Found`, the least rule that is broken and the least number at which it is, or with
+/// `OutOfMemory` where memory is refused. The image isn't changed.
 pub fn check_shape<A: Allocator + Copy>(alloc: A, raw: &RawImage<A>) -> Result<(), ShapeFault>
     ensures { FindsNoneWhere result (finding_of (raw_of raw.now)) }
 {

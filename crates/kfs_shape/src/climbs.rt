@@ -1,4 +1,4 @@
-//! The rule of the climbs: going up from each directory reaches the root.
+//! Rule 7: from each directory a climb along the parents reaches the root.
 ghost use Rattle.std.specs.Prelude.{◌≡◌, ◌||◌, ◌<◌, ◌≤◌, ℕ, IfOk, None, length, Some, true};
 ghost use Rattle.kfs_model.specs.Sight.{is_directory, is_file};
 ghost use Rattle.kfs_model_device.specs.Rules.{rule_1, rule_4, rule_7, reaches_root};
@@ -14,10 +14,10 @@ use kfs_image::{RawImage, RawNode};
 use std::alloc::{AllocError, Allocator};
 use std::collections::BTreeMap;
 
-/// As many numbers as there are from 0 to the greatest one of a node.
+/// How many numbers there are from 0 to the greatest number of a node.
 const NUMBERS: usize = 65_537;
 
-/// A climb of 2 to the power of this takes more steps than there are nodes.
+/// 2 to the power of this is more steps than any climb without a circle takes.
 const DOUBLINGS: u32 = 17;
 
 /// Where the list leads from the number.
@@ -30,7 +30,7 @@ fn ancestor_at(ancestors: &[Option<u32>], number: u32) -> Option<u32>
     }
 }
 
-/// Leads from the number to `up`, where it leads nowhere yet.
+/// Makes the number lead to `up`, if it leads nowhere yet.
 fn lead_first(ancestors: &mut [Option<u32>], number: u32, up: u32)
     ensures { LeadsFirst ancestors.old ancestors.new true number up }
 {
@@ -39,8 +39,8 @@ fn lead_first(ancestors: &mut [Option<u32>], number: u32, up: u32)
     }
 }
 
-/// Leads from the number of a directory's name to the directory that has the name, where it leads nowhere
-/// yet.
+/// Makes the number in a name row lead to the row's directory, if it is a directory's number and leads
+/// nowhere yet.
 fn lead_by_name<A: Allocator>(
     ancestors: &mut [Option<u32>],
     headers: &BTreeMap<u32, Header, A>,
@@ -53,8 +53,8 @@ fn lead_by_name<A: Allocator>(
     }
 }
 
-/// For each number of a directory the directory of its first name; for the root itself. An error is for
-/// want of memory.
+/// For each directory the directory of its first name, and for the root itself. `Err` where memory is
+/// refused.
 fn parents<A: Allocator + Copy>(
     alloc: A,
     raw: &RawImage<A>,
@@ -74,7 +74,7 @@ fn parents<A: Allocator + Copy>(
     Ok(ancestors)
 }
 
-/// Where the list leads from there.
+/// Where the list leads from there, if anywhere.
 fn ancestor_from(ancestors: &[Option<u32>], number: Option<u32>) -> Option<u32>
     ensures { result ≡ ancestor_from ancestors.now number }
 {
@@ -84,7 +84,7 @@ fn ancestor_from(ancestors: &[Option<u32>], number: Option<u32>) -> Option<u32>
     }
 }
 
-/// Leads from each number where two steps of the list lead. An error is for want of memory.
+/// The list in which each number leads as far as two steps of this one. `Err` where memory is refused.
 fn doubled<A: Allocator>(
     alloc: A,
     ancestors: &[Option<u32>],
@@ -98,7 +98,8 @@ fn doubled<A: Allocator>(
     Ok(twice)
 }
 
-/// For each number from which going up reaches the root, the root. An error is for want of memory.
+/// The list in which each number from which a climb reaches the root leads to the root. `Err` where
+/// memory is refused.
 fn tops<A: Allocator + Copy>(
     alloc: A,
     raw: &RawImage<A>,
@@ -123,8 +124,8 @@ fn is_below_root(tops: &[Option<u32>], row: &RawNode) -> bool
     row.header.kind == Kind::File || ancestor_at(tops, row.number) == Some(ROOT)
 }
 
-/// The least number of a directory from which going up doesn't reach the root. An error is for want of
-/// memory.
+/// The least number of a directory from which a climb doesn't reach the root, if there is one. `Err`
+/// where memory is refused.
 pub fn least_unrooted<A: Allocator + Copy>(
     alloc: A,
     raw: &RawImage<A>,

@@ -1,4 +1,4 @@
-//! How often each of some numbers was counted.
+//! Counts of numbers.
 ghost use Rattle.std.specs.Prelude.{◌≡◌, ◌+◌, ◌<◌, ◌^◌, ℕ, IfOk, if◌then◌else◌};
 ghost use Rattle.std.specs.Ordering.{eq_by_cmp, nat_cmp};
 ghost use Rattle.kfs_shape.specs.Counts.{count_at};

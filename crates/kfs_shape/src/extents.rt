@@ -1,4 +1,4 @@
-//! The rules of the extent rows.
+//! Rules 8 and 9: the extent rows.
 ghost use Rattle.std.specs.Prelude.{◌≡◌};
 ghost use Rattle.std.specs.Option.{option_copied, option_map};
 ghost use Rattle.kfs_model.specs.Table.{numbers, pairs};
@@ -14,7 +14,7 @@ use kfs_image::{ExtentRow, RawImage};
 use std::alloc::Allocator;
 use std::collections::BTreeMap;
 
-/// Whether the extent's number and block are above those of the row before.
+/// Whether the extent's file number and block are above those of the row before.
 fn is_in_order<A: Allocator>(before: Option<&ExtentRow<A>>, row: &ExtentRow<A>) -> bool
     ensures { result ≡ is_above (pairs numbers numbers) (λ r. (r.number, r.block)) (option_map extent_row_of (option_copied before.entry), extent_row_of row.now) }
 {
@@ -29,7 +29,7 @@ fn is_in_order<A: Allocator>(before: Option<&ExtentRow<A>>, row: &ExtentRow<A>) 
     }
 }
 
-/// Whether the extent begins where the one before ends, or later, or is of another file.
+/// Whether the extent begins where the row before ends, or later, or is of another file.
 fn is_behind<A: Allocator>(before: Option<&ExtentRow<A>>, row: &ExtentRow<A>) -> bool
     ensures { result ≡ is_behind (option_map extent_row_of (option_copied before.entry)) (extent_row_of row.now) }
 {
@@ -42,7 +42,7 @@ fn is_behind<A: Allocator>(before: Option<&ExtentRow<A>>, row: &ExtentRow<A>) ->
     }
 }
 
-/// Whether the extent's number is a file's, and its last block begins below the file's size.
+/// Whether the extent is of a file, and its last block begins below the file's size.
 fn ends_in_file<A: Allocator>(headers: &BTreeMap<u32, Header, A>, row: &ExtentRow<A>) -> bool
     ensures { result ≡ ends_in_file (head_at headers.now row.now.number) (extent_row_of row.now) }
 {
@@ -54,14 +54,14 @@ fn ends_in_file<A: Allocator>(headers: &BTreeMap<u32, Header, A>, row: &ExtentRo
     }
 }
 
-/// Whether the extent has blocks, and all their bytes.
+/// Whether the extent has blocks, and 4,096 bytes for each.
 fn is_full<A: Allocator>(row: &ExtentRow<A>) -> bool
     ensures { result ≡ is_full (extent_row_of row.now) }
 {
     row.extent.count >= 1 && row.bytes.len() as u64 == u64::from(row.extent.count) * BLOCK_SIZE
 }
 
-/// Whether the extent is one of blocks of a file, behind the row before.
+/// Whether the extent is of blocks of a file, and comes after the row before without sharing a block.
 fn is_in_place<A: Allocator>(
     headers: &BTreeMap<u32, Header, A>,
     before: Option<&ExtentRow<A>>,
@@ -74,8 +74,8 @@ fn is_in_place<A: Allocator>(
     is_above && ends_in_file && is_full(row) && is_behind(before, row)
 }
 
-/// The least number of an extent that isn't above the row before, isn't of blocks of a file that begin
-/// below its size, has no block or not 4,096 bytes for each, or shares a block of the file with another
+/// Rule 8: the least file number of an extent that isn't above the row before, isn't of blocks of a
+/// file, has no block or too few bytes, or shares a block with another extent. None if there is no such
 /// extent. Takes no memory.
 pub fn least_misplaced<A: Allocator>(
     raw: &RawImage<A>,
@@ -93,7 +93,7 @@ pub fn least_misplaced<A: Allocator>(
     least
 }
 
-/// Whether the extent's tier is from 0 to 2 and has its places.
+/// Whether the extent is on a tier from 0 to 2 and ends within it.
 fn is_in_tier<A: Allocator>(sizes: TierSizes, row: &ExtentRow<A>) -> bool
     ensures { result ≡ (tier_test sizes (extent_row_of row.now)).holds }
 {
@@ -101,7 +101,8 @@ fn is_in_tier<A: Allocator>(sizes: TierSizes, row: &ExtentRow<A>) -> bool
     row.extent.tier <= 2 && end <= u64::from(sizes.size(row.extent.tier))
 }
 
-/// The least number of an extent that lies in no tier from 0 to 2, or past its end. Takes no memory.
+/// Rule 9: the least file number of an extent that is on no tier, or goes past its end. None if there
+/// is no such extent. Takes no memory.
 pub fn least_past_tier<A: Allocator>(raw: &RawImage<A>) -> Option<u32>
     ensures { result ≡ least_failed (rule_9 (raw_of raw.now)) }
 {

@@ -5,21 +5,23 @@ ghost use Rattle.kfs_shape.specs.declared.fault.ShapeFault.TheVariants.{OutOfMem
 use std::alloc::AllocError;
 use thiserror::Error;
 
-/// The least rule that is broken, 1 to 10, and the least number of a node at which it is broken.
+/// A broken rule of an image.
 #[derive(Clone, Copy, Debug, PartialEq, Eq, Error)]
 #[error("finding {rule} {number}")]
 pub struct Finding {
+    /// The least rule that is broken, 1 to 10.
     pub rule: u8,
+    /// The least number of a node at which it is broken.
     pub number: u32,
 }
 
-/// Why an image isn't known to be well formed.
+/// Why the check of an image didn't succeed.
 #[derive(Clone, Copy, Debug, PartialEq, Eq, Error)]
 pub enum ShapeFault {
     /// The image breaks a rule.
     #[error("{0}")]
     Found(Finding),
-    /// A growth was refused.
+    /// Memory was refused.
     #[error("memory")]
     OutOfMemory,
 }

@@ -1,4 +1,4 @@
-//! The headers of the node rows by number, and the rule of the root.
+//! The headers by number, and rule 2: number 1 is a directory.
 ghost use Rattle.std.specs.Prelude.{◌≡◌, ℕ, IfOk, Some, None, is_some, if◌then◌else◌};
 ghost use Rattle.std.specs.Option.{option_map};
 ghost use Rattle.std.specs.Ordering.{eq_by_cmp, nat_cmp};
@@ -17,8 +17,8 @@ use kfs_image::RawImage;
 use std::alloc::{AllocError, Allocator};
 use std::collections::BTreeMap;
 
-/// The header of each node row by its number: of rows with one number the first one's. An error is for
-/// want of memory.
+/// The header of each node row, by number; of rows with the same number, the first one's. `Err` where
+/// memory is refused.
 pub fn headers<A: Allocator + Copy>(
     alloc: A,
     raw: &RawImage<A>,
@@ -33,7 +33,7 @@ pub fn headers<A: Allocator + Copy>(
     Ok(headers)
 }
 
-/// Takes the header in where its number has none.
+/// Adds the header, if its number has none yet.
 fn insert_first<A: Allocator + Clone>(
     headers: &mut BTreeMap<u32, Header, A>,
     number: u32,
@@ -47,7 +47,7 @@ fn insert_first<A: Allocator + Clone>(
     Ok(())
 }
 
-/// Whether there is a directory of this number.
+/// Whether the number is a directory's.
 pub(crate) fn has_directory<A: Allocator>(headers: &BTreeMap<u32, Header, A>, number: u32) -> bool
     ensures { result ≡ is_directory (head_at headers.now number) }
 {
@@ -57,14 +57,14 @@ pub(crate) fn has_directory<A: Allocator>(headers: &BTreeMap<u32, Header, A>, nu
     }
 }
 
-/// Whether there is a node of this number.
+/// Whether the number is a node's.
 pub(crate) fn has_node<A: Allocator>(headers: &BTreeMap<u32, Header, A>, number: u32) -> bool
     ensures { result ≡ is_some (head_at headers.now number) }
 {
     headers.get(&number).is_some()
 }
 
-/// The number 1 where it is no directory. Takes no memory.
+/// Rule 2: the number 1, if it isn't a directory's. Takes no memory.
 pub fn least_missing_root<A: Allocator>(
     raw: &RawImage<A>,
     headers: &BTreeMap<u32, Header, A>,

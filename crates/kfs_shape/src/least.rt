@@ -4,7 +4,7 @@ ghost use Rattle.std.specs.Option.{option_copied};
 ghost use Rattle.kfs_model_device.specs.Finding.{least_of};
 ghost use Rattle.kfs_shape.specs.Least.{merged, before};
 
-/// The least number so far with one more test, which holds or fails at its number.
+/// The least number at which a test failed, after one more test at `number`.
 pub(crate) fn noted(least: Option<u32>, holds: bool, number: u32) -> Option<u32>
     ensures { (later : Option ℕ) → merged result later ≡ merged least (if holds then later else Some (least_of number later)) }
 {
@@ -17,7 +17,7 @@ pub(crate) fn noted(least: Option<u32>, holds: bool, number: u32) -> Option<u32>
     }
 }
 
-/// The row before the one of this index.
+/// The row before the one with this index, if there is one.
 pub(crate) fn previous<T>(rows: &[T], index: usize) -> Option<&T>
     ensures { option_copied result ≡ before rows.now index }
 {

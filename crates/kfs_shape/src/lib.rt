@@ -1,4 +1,8 @@
-//! The rules of a raw image, checked, and the change that a landing makes to an image.
+//! Checks the ten rules of a raw image, and tells the least that is broken. Shows the change of a
+//! landing, too.
+//!
+//! It stands on the definitions of `kfs_model_device` and on `kfs_image`; nothing calls the check yet
+//! but tests. Begin with `check_shape`.
 #![tactic(auto)]
 
 mod check;

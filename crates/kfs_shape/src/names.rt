@@ -1,4 +1,4 @@
-//! The rules of the name rows.
+//! Rules 4 to 6: the name rows.
 ghost use Rattle.std.specs.Prelude.{◌≡◌, ◌+◌, ◌<◌, ◌^◌, ℕ, IfOk, None, count_by, if◌then◌else◌};
 ghost use Rattle.std.specs.Option.{option_copied, option_map};
 ghost use Rattle.kfs_model.specs.Tree.{name_order};
@@ -19,7 +19,7 @@ use kfs_image::{RawImage, RawNode};
 use std::alloc::{AllocError, Allocator};
 use std::collections::BTreeMap;
 
-/// Whether the directory and name are above those of the row before.
+/// Whether the row's directory and name are above those of the row before.
 fn is_in_order(before: Option<&NameRow>, row: &NameRow) -> bool
     ensures { result ≡ is_above name_order (λ r. (r.directory, r.name)) (option_map name_row_of (option_copied before.entry), name_row_of row.now) }
 {
@@ -32,7 +32,7 @@ fn is_in_order(before: Option<&NameRow>, row: &NameRow) -> bool
     }
 }
 
-/// Whether the row is in its order behind the row before, and stands in a directory.
+/// Whether the row is above the row before, and its directory is one.
 fn is_in_place<A: Allocator>(
     headers: &BTreeMap<u32, Header, A>,
     before: Option<&NameRow>,
@@ -43,8 +43,8 @@ fn is_in_place<A: Allocator>(
     is_in_order(before, row) && has_directory(headers, row.dir)
 }
 
-/// The least directory of a name row that isn't above the row before, or stands in no directory. Takes
-/// no memory.
+/// Rule 4: the least directory number of a name row that isn't above the row before, or whose directory
+/// isn't one. None if there is no such row. Takes no memory.
 pub fn least_out_of_order<A: Allocator>(
     raw: &RawImage<A>,
     headers: &BTreeMap<u32, Header, A>,
@@ -61,7 +61,8 @@ pub fn least_out_of_order<A: Allocator>(
     least
 }
 
-/// The least number to which a name leads, but no node of it is there, or it is 1. Takes no memory.
+/// Rule 5: the least number that a name leads to though it is no node's, or is 1. None if there is no
+/// such name. Takes no memory.
 pub fn least_lost_target<A: Allocator>(
     raw: &RawImage<A>,
     headers: &BTreeMap<u32, Header, A>,
@@ -78,7 +79,7 @@ pub fn least_lost_target<A: Allocator>(
     least
 }
 
-/// How many name rows lead to each number. An error is for want of memory.
+/// How many names lead to each number. `Err` where memory is refused.
 fn name_counts<A: Allocator + Copy>(
     alloc: A,
     rows: &[NameRow],
@@ -92,7 +93,7 @@ fn name_counts<A: Allocator + Copy>(
     Ok(counts)
 }
 
-/// Whether a node of this row may have so many names.
+/// Whether the node may have this many names.
 fn may_have_names(row: &RawNode, names: u64) -> bool
     ensures { result ≡ names_fit (kind_of row.now.header.kind) row.now.number row.now.header.links names }
 {
@@ -105,8 +106,9 @@ fn may_have_names(row: &RawNode, names: u64) -> bool
     }
 }
 
-/// The least number of a file that hasn't 1 to 1,024 names, or not as many as its links say, or of a
-/// directory other than 1 that hasn't one name. An error is for want of memory.
+/// Rule 6: the least number of a file that doesn't have 1 to 1,024 names, or not as many as its links,
+/// or of a directory other than 1 that doesn't have exactly one name. None if there is no such node.
+/// `Err` where memory is refused.
 pub fn least_miscounted<A: Allocator + Copy>(
     alloc: A,
     raw: &RawImage<A>,

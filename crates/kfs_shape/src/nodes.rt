@@ -1,4 +1,4 @@
-//! The rules of the node rows by themselves.
+//! Rules 1 and 3: the node rows by themselves.
 ghost use Rattle.std.specs.Prelude.{◌≡◌};
 ghost use Rattle.std.specs.Option.{option_copied, option_map};
 ghost use Rattle.kfs_model_device.specs.Rules.{number_test, header_test, rule_1, rule_3};
@@ -10,7 +10,7 @@ use kfs_entry_value::{GREATEST_MODE, GREATEST_NUMBER, Kind, SIZE_LIMIT};
 use kfs_image::{RawImage, RawNode};
 use std::alloc::Allocator;
 
-/// Whether the number is in range and above that of the row before.
+/// Whether the number is 1 to 65,536 and above that of the row before.
 fn is_in_order(before: Option<&RawNode>, row: &RawNode) -> bool
     ensures { result ≡ (number_test (option_map raw_node_of (option_copied before.entry), raw_node_of row.now)).holds }
 {
@@ -21,8 +21,8 @@ fn is_in_order(before: Option<&RawNode>, row: &RawNode) -> bool
     is_above && row.number >= 1 && row.number <= GREATEST_NUMBER
 }
 
-/// The least number of a node row that isn't above the row before, or is not from 1 to 65,536. Takes no
-/// memory.
+/// Rule 1: the least number of a node row that is out of range or isn't above the row before. None if
+/// there is no such row. Takes no memory.
 pub fn least_out_of_order<A: Allocator>(raw: &RawImage<A>) -> Option<u32>
     ensures { result ≡ least_failed (rule_1 (raw_of raw.now)) }
 {
@@ -35,7 +35,7 @@ pub fn least_out_of_order<A: Allocator>(raw: &RawImage<A>) -> Option<u32>
     least
 }
 
-/// Whether mode and size are in range, and a directory has one link and no size.
+/// Whether mode and size are in range, and a directory has 1 link and size 0.
 fn is_header_in_range(row: &RawNode) -> bool
     ensures { result ≡ (header_test (raw_node_of row.now)).holds }
 {
@@ -47,8 +47,9 @@ fn is_header_in_range(row: &RawNode) -> bool
     header.mode <= GREATEST_MODE && u128::from(header.size) <= SIZE_LIMIT && fits
 }
 
-/// The least number of a node whose mode is above 0o777 or whose size is above 2^32 bytes, or of a
-/// directory that hasn't one link or has a size. Takes no memory.
+/// Rule 3: the least number of a node whose mode is over 0o777 or whose size is over 2^32, or of a
+/// directory with other links than 1 or another size than 0. None if there is no such node. Takes no
+/// memory.
 pub fn least_bad_header<A: Allocator>(raw: &RawImage<A>) -> Option<u32>
     ensures { result ≡ least_failed (rule_3 (raw_of raw.now)) }
 {

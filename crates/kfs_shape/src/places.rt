@@ -1,4 +1,4 @@
-//! The rule of the device blocks: no two extents have one in common.
+//! Rule 10: no device block is in two extents.
 ghost use Rattle.std.specs.Prelude.{◌≡◌, ◌+◌, ◌<◌, ◌^◌, ℕ, IfOk, None, count_by, if◌then◌else◌};
 ghost use Rattle.kfs_model_device.specs.Rules.{rule_8, rule_9, rule_10};
 ghost use Rattle.kfs_model_device.specs.Finding.{least_failed};
@@ -13,10 +13,11 @@ use kfs_image::{ExtentRow, RawImage};
 use std::alloc::{AllocError, Allocator};
 use std::collections::BTreeMap;
 
-/// From the first place of a tier to that of the next one, as positions count: no extent reaches over it.
+/// The distance from a tier's first place to the next tier's, when places are numbered over all tiers.
+/// No extent reaches so far.
 const TIER_SPAN: u64 = 8_589_934_592;
 
-/// The place of the extent's block of this index, as one number over all tiers.
+/// The place of the extent's block with this index, as one number over all tiers.
 fn position<A: Allocator>(row: &ExtentRow<A>, index: u32) -> u64
     ensures { result ≡ first_position (extent_row_of row.now) + index }
 {
@@ -38,7 +39,7 @@ fn count_places<A: Allocator + Clone>(
     Ok(())
 }
 
-/// How many extents have each place.
+/// How many extents have each place. `Err` where memory is refused.
 fn place_counts<A: Allocator + Copy>(
     alloc: A,
     rows: &[ExtentRow<A>],
@@ -52,7 +53,7 @@ fn place_counts<A: Allocator + Copy>(
     Ok(uses)
 }
 
-/// Whether no place of the extent was counted twice.
+/// Whether each place of the extent was counted once only.
 fn is_alone<A: Allocator>(uses: &BTreeMap<u64, u64, A>, row: &ExtentRow<A>) -> bool
     ensures { TellsWhetherAlone uses.now (extent_row_of row.now) result }
 {
@@ -64,8 +65,8 @@ fn is_alone<A: Allocator>(uses: &BTreeMap<u64, u64, A>, row: &ExtentRow<A>) -> b
     true
 }
 
-/// The least number of an extent that has a device block in common with another one. An error is for
-/// want of memory.
+/// Rule 10: the least file number of an extent that shares a device block with another. None if there
+/// is no such extent. `Err` where memory is refused.
 pub fn least_shared<A: Allocator + Copy>(
     alloc: A,
     raw: &RawImage<A>,

@@ -1,9 +1,13 @@
-//! Tests of what only calls of the desk can say: leases, the places of blocks, views from before, as many nodes as there may
-//! be, and scripts of workers. What command lines can say stands in the scripts of kfs_rows, with each growth refused in turn. The expected values come from
-//! docs/FORMATS.md and from the worked examples of kfs_model_examples, never from the program's own output.
+//! Tests of what only calls of the desk can show: leases, the places of blocks, old views, as many
+//! nodes as there may be, and scripts of workers. What command lines can show is in the scripts of
+//! `kfs_rows`. The expected values come from docs/FORMATS.md and from the examples of
+//! `kfs_model_examples`, never from the program's own output.
 //!
-//! A test is proved, too, and carries the clauses of all calls that it makes. So each call stands in a
-//! small function without clauses, which a test then makes over a table.
+//! It stands on `kfs_workers`, `kfs_desk` and `kfs_test_support`. Begin with `desks.rt`, which has the
+//! calls.
+//!
+//! A test is proved too, and would have to carry the clauses of each call that it makes. So each call
+//! is in a small function without clauses, which a test then makes for each row of a table.
 #![tactic(auto)]
 
 #[cfg(test)]

@@ -1,6 +1,8 @@
-//! Tests of what only calls of the engine can say: how it ends where a read or a write fails, or where its reader
-//! never ends. What command lines can say stands in the scripts of kfs_rows. The expected values come from
+//! Tests of how the engine ends: readers and writers that fail, and a reader that never ends. What
+//! command lines can show is in the scripts of `kfs_rows`. The expected values come from
 //! docs/FORMATS.md, never from the program's own output.
+//!
+//! It stands on `kfs_program_engine`. Begin with `stopping.rt`.
 #![tactic(auto)]
 
 #[cfg(test)]

@@ -1,9 +1,12 @@
-//! Tests of the edits of an image: as many blocks of a tier as there may be, and each growth refused in turn. The expected
-//! values come from docs/DEFINITIONS.md, never from the program's own output. What a landing does to blocks stands in the
-//! scripts of kfs_rows.
+//! Tests of edits of an image: a tier that is full, and each growth refused in turn. The expected
+//! values come from docs/DEFINITIONS.md, never from the program's own output. The scripts of `kfs_rows`
+//! show what a landing does to blocks.
 //!
-//! A test is proved, too, and carries the clauses of all calls that it makes. So each call stands in a small function
-//! without clauses, and whether an edit can be made is found out as the test runs (`fits`).
+//! It stands on `kfs_image`, `kfs_plan` and `kfs_test_support`. Begin with `edits.rt`.
+//!
+//! A test is proved too, and would have to carry the clauses of each call that it makes. So each call
+//! is in a small function without clauses, and whether an edit can be made is found out as the test
+//! runs (`fits`).
 #![tactic(auto)]
 
 #[cfg(test)]

@@ -1,4 +1,6 @@
-//! Scripts with what they are expected to be answered, read from files and compared.
+//! Test scripts with the replies that are expected, read from files and compared.
+//!
+//! It stands on `kfs_program_text`, and `kfs_rows` on it. Begin with `case.rt`.
 #![tactic(auto)]
 
 mod case;

@@ -1,9 +1,11 @@
-//! Tests of the parts that stand below every judgement: logs and plans as bytes, what permission bits grant, and what the
-//! check of raw images finds. The expected values come from docs/FORMATS.md and from the worked examples of kfs_model_examples
-//! and kfs_model_device, never from the program's own output.
+//! Tests of what is below every judgement: logs and plans as bytes, permission bits, and the check of
+//! raw images. The expected values come from docs/FORMATS.md and from the examples of
+//! `kfs_model_examples` and `kfs_model_device`, never from the program's own output.
 //!
-//! A test is proved, too, and carries the clauses of all calls that it makes. So each call stands in a
-//! small function without clauses, which a test then makes over a table.
+//! It stands on `kfs_entry`, `kfs_mode`, `kfs_shape` and `kfs_test_support`. Begin with `codec.rt`.
+//!
+//! A test is proved too, and would have to carry the clauses of each call that it makes. So each call
+//! is in a small function without clauses, which a test then makes for each row of a table.
 #![tactic(auto)]
 
 #[cfg(test)]

@@ -1,4 +1,5 @@
--- What a script's replies say: each ticket is answered once or left, a Yes does what its entries say, and nothing else changes the tree.
+-- What the replies of a script say: each ticket is answered once or left, a Yes does what its entries
+-- say, and no other reply changes the tree.
 use Rattle.std.specs.Prelude.{◌≡◌, ◌≢◌, ℕ, ◌+◌, List, [], ◌∷◌, take, get_or, Option, Some, None, Ok}
 use Rattle.std.specs.List.{slice_get}
 use Rattle.kfs_model.specs.Access.{Client}
@@ -19,7 +20,8 @@ use Rattle.kfs_desk.specs.Machine.{Desk, IsShown, IsStep}
 
 -- ---- where a reply stands
 
--- the docket has the reply's row at its position, which leads from the state before to the state after
+-- the docket has the reply's row at its position, and the row leads from the state before to the state
+-- after
 pub record StandsAt (last : Desk) (submission : Submission) (reply : Reply) (before after_it : State) : Type 0 where
   pub row : Row
   pub at : slice_get last.docket (position_of reply) ≡ Some row
@@ -27,16 +29,16 @@ pub record StandsAt (last : Desk) (submission : Submission) (reply : Reply) (bef
   pub leads : after last.opening (take (position_of reply + 1) last.docket) ≡ Some after_it
   pub step : IsStep before submission reply row after_it
 
--- P of the states before and after the reply
+-- P holds of the states before and after the reply
 abbrev pub AtReply : Desk → Submission → Reply → ((before after_it : State) → Type 0) → Type 0
 AtReply last submission reply P = (before : State) × (after_it : State) × StandsAt last submission reply before after_it × P before after_it
 
--- the ticket's submission is left, or it has a reply, which stands in the docket, and isn't left
+-- the ticket has a reply that is in the docket, or its submission is left, and not both
 abbrev pub IsSettled : Desk → Submission → Option Reply → Option Submission → Type 0
 IsSettled last submission None left = left ≡ Some submission
 IsSettled last submission (Some reply) left = (left ≡ None) × AtReply last submission reply (λ before after_it. Unit {0})
 
--- no two of the replies have one row
+-- no two replies have the same row
 abbrev pub HaveOwnRows : List (Option Reply) → Type 0
 HaveOwnRows replies = (one other : ℕ) (first second : Reply) → get_or replies one None ≡ Some first → get_or replies other None ≡ Some second → one ≢ other → position_of first ≢ position_of second
 
@@ -45,25 +47,25 @@ pub record AreSettled (last : Desk) (submissions : List Submission) (replies : L
   pub each : (ticket : ℕ) (submission : Submission) → slice_get submissions ticket ≡ Some submission → IsSettled last submission (get_or replies ticket None) (get_or left ticket None)
   pub apart : HaveOwnRows replies
 
--- P of each reply, and of the states before and after it
+-- P holds of each reply and of the states before and after it
 abbrev pub EachReply : Desk → List Submission → List (Option Reply) → (Submission → Reply → (before after_it : State) → Type 0) → Type 0
 EachReply last submissions replies P =
     (ticket : ℕ) (submission : Submission) (reply : Reply) → slice_get submissions ticket ≡ Some submission → get_or replies ticket None ≡ Some reply → AtReply last submission reply (P submission reply)
 
 -- ---- what a Yes does
 
--- the tree that the entries give one by one from this one
+-- the entries in turn lead from the one tree to the other
 abbrev pub Gives : Client → (index : ℕ) → Tree ℕ → List Entry → Tree ℕ → Type 0
 Gives client index t [] after_it = after_it ≡ t
 Gives client index t (entry ∷ entries) after_it = Gives client (index + 1) (effect over_bytes client index entry t) entries after_it
 
--- each entry is allowed where it stands
+-- each entry is allowed at its own point of the log
 abbrev pub AreAllowed : Client → (before : ClientSight) → (index : ℕ) → (created : List ℕ) → Tree ℕ → List Entry → Type 0
 AreAllowed client before index created t [] = Unit {0}
 AreAllowed client before index created t (entry ∷ entries) =
     IsAllowed (entry_context client before (sight t) created) entry × AreAllowed client before (index + 1) (created_by entry created) (effect over_bytes client index entry t) entries
 
--- P of the client's row and of the entries that its bytes spell
+-- P holds of the client and of the entries of the log that the submission spells
 pub record OfItsLog (s : State) (submission : Submission) (P : Client → List Entry → Type 0) : Type 0 where
   pub client : Client
   pub row : row_of s.clients submission.client ≡ Some client
@@ -71,21 +73,22 @@ pub record OfItsLog (s : State) (submission : Submission) (P : Client → List E
   pub spelled : LogAnswer submission.log (Ok log)
   pub holds : P client log.entries
 
--- after a Yes a well formed image shows the tree that the entries give one by one from the tree before
+-- after a Yes, a well formed image shows the tree that results from the entries in turn
 abbrev pub ShowsItsEntries : Submission → Reply → (before after_it : State) → Type 0
 ShowsItsEntries submission (replies.Yes position rejudged need) before after_it =
     IsShown after_it × OfItsLog before submission (λ client entries. Gives client 0 before.tree entries after_it.tree)
 ShowsItsEntries submission (replies.No position rejudged fault) before after_it = Unit {0}
 ShowsItsEntries submission (replies.NoRoom position rejudged need free) before after_it = Unit {0}
 
--- each entry of a Yes is allowed to its client at its own point of the log, by the mode bits there and by the leases held at the landing
+-- each entry of a Yes is allowed to its client at its own point of the log, by the mode bits there and
+-- by the leases held at the landing
 abbrev pub HasAllowedEntries : Submission → Reply → (before after_it : State) → Type 0
 HasAllowedEntries submission (replies.Yes position rejudged need) before after_it =
     OfItsLog before submission (λ client entries. AreAllowed client (client_sight_of before client.number) 0 [] before.tree entries)
 HasAllowedEntries submission (replies.No position rejudged fault) before after_it = Unit {0}
 HasAllowedEntries submission (replies.NoRoom position rejudged need free) before after_it = Unit {0}
 
--- any other reply leaves the state, its tree and its placement with it, as it was
+-- any other reply leaves the whole state as it was, the tree and the blocks' places with it
 abbrev pub ElseChangesNothing : Submission → Reply → (before after_it : State) → Type 0
 ElseChangesNothing submission (replies.Yes position rejudged need) before after_it = Unit {0}
 ElseChangesNothing submission (replies.No position rejudged fault) before after_it = after_it ≡ before

@@ -1,4 +1,4 @@
--- The code's verdicts as they are held, and what workers hold.
+-- The code's verdicts, and what its workers hold, in terms of the definitions.
 use Rattle.std.specs.Prelude.{map}
 use Rattle.kfs_judge_check.specs.Reads.{answer_of, cell_of}
 use Rattle.kfs_plan.specs.Judged.{Judged}
@@ -8,7 +8,7 @@ use Rattle.kfs_workers.specs.Verdict.{HeldVerdict}
 use Rattle.kfs_workers.specs.declared.script_state.Holding.{Holding as CodeHeld}
 use Rattle.kfs_workers.specs.declared.script_state.Holding.TheVariants as holdings
 
--- what is held of it
+-- a verdict of the code as a held verdict
 abbrev pub verdict_of : {A : Type 0} → Judged A → HeldVerdict
 verdict_of judged = record { submission = submission_of judged.submission; client = judged.client; reads = map (λ read. (cell_of read.0, answer_of read.1)) judged.reads }
 

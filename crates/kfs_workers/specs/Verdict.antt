@@ -1,4 +1,4 @@
--- Verdicts that are held, and what they rest on.
+-- Verdicts that workers hold, and what they rest on.
 use Rattle.std.specs.Prelude.{◌≡◌, ◌⊎◌, ℕ, List, [], Option, Some, Result, Ok, Err, All, Contains}
 use Rattle.std.specs.List.{AllByRecursion}
 use Rattle.kfs_model.specs.Access.{Client}
@@ -13,18 +13,19 @@ use Rattle.kfs_model.specs.Soundness.{IsSound}
 use Rattle.kfs_model.specs.Spelling.{LogAnswer}
 use Rattle.kfs_model.specs.Tree.{Tree}
 
--- what was handed in, and what its verdict rests on: the client's row, and what was answered at each cell that was read
+-- a held verdict: the submission, and what the verdict rests on, namely the client and the answers at
+-- the cells that were read
 pub record HeldVerdict : Type 0 where
   pub submission : Submission
   pub client : Option Client
   pub reads : List (Cell × Answer)
 
--- the state has that row, and these answers
+-- the verdict is up to date in the state: the state has its client, and gives its answers
 pub record IsUpToDate (s : State) (verdict : HeldVerdict) : Type 0 where
   pub row : row_of s.clients verdict.submission.client ≡ verdict.client
   pub answers : AllByRecursion (λ read. answer (client_sight_of s verdict.submission.client) read.0 ≡ read.1) verdict.reads
 
--- the state's judgement on the submission is a Yes that needs this many blocks, or a No for this fault
+-- the state's judgement on the submission is a Yes that needs this many blocks, or a No with this fault
 abbrev pub ComesTo : State → Submission → Result ℕ Fault → Type 0
 ComesTo s submission (Ok blocks) = (after : Tree ℕ) × (marks : Tree Mark) × IsJudgement s submission (Yes after marks) × (blocks ≡ need marks)
 ComesTo s submission (Err fault) = IsJudgement s submission (No fault)
@@ -38,8 +39,9 @@ pub record AreLookedAt (s : State) (submission : Submission) (reads : List (Cell
   pub owner : log.client ≡ submission.client
   pub among : All (λ read. Contains (looked_cells client (client_sight_of s submission.client) log.entries) read.0) reads
 
--- A verdict of the state on the submission: it is up to date there, and rests on enough, for in each sound state in which it is up
--- to date the submission comes to the same; and it rests on nothing that the log doesn't look at.
+-- A verdict of the state on the submission. It is up to date there. It rests on enough: in each sound
+-- state in which it is up to date, the judgement is the same. It rests on nothing that the log doesn't
+-- look at.
 pub record IsVerdictOn (s : State) (submission : Submission) (verdict : HeldVerdict) : Type 0 where
   pub submitted : verdict.submission ≡ submission
   pub current : IsUpToDate s verdict

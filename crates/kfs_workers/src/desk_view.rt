@@ -1,4 +1,4 @@
-//! What a worker saw of a desk, and the verdicts that it makes of that.
+//! A worker's view of a desk, and the verdicts that it makes from it.
 ghost use Rattle.std.specs.Prelude.{◌≡◌, IfErr, IfOk};
 ghost use Rattle.kfs_plan.specs.Judging.{submission_of};
 ghost use Rattle.kfs_workers.specs.Holding.{verdict_of};
@@ -11,7 +11,8 @@ use std::alloc::{AllocError, Allocator};
 use std::marker::Model;
 use std::snapshot::Snapshot;
 
-/// A view of a desk's state. Contracts see the state, which has no bytes here.
+/// A view of a desk, for judging. Contracts also see which state of the desk it was taken of; that
+/// takes no memory.
 #[derive(Drop)]
 pub struct DeskView<A: Allocator> {
     view: View<A>,
@@ -31,11 +32,11 @@ impl<A: Allocator> Model for DeskView<A> {
 }
 
 impl<A: Allocator + Copy> DeskView<A> {
-    /// At the state of now. `Err` where memory is refused.
+    /// A view of the desk's state now. `Err` where memory is refused.
     pub fn at(desk: &Desk<A>) -> Result<DeskView<A>, AllocError>
         ensures { IfOk result (λ look. look ≡ desk.now.state) }
     {
-        // The desk's state is in order.
+        // Tells the prover that the desk's state is in order.
         let _image = desk.image();
         Ok(DeskView {
             view: desk.view()?,
@@ -43,7 +44,8 @@ impl<A: Allocator + Copy> DeskView<A> {
         })
     }
 
-    /// Judges the submission in the state that was seen. It comes back for want of memory alone.
+    /// Judges a submission against the state that was seen. The submission comes back only where memory
+    /// is refused. Takes no lock, and doesn't touch the desk.
     pub fn judge(&self, alloc: A, submission: Submission<A>) -> Result<Judged<A>, Back<A>>
         ensures verdict { IfOk result (λ judged. IsVerdictOn self.now (submission_of submission) (verdict_of judged)) }
         ensures submission { IfOk result (λ judged. judged.submission ≡ submission) }

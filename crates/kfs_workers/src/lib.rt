@@ -1,4 +1,7 @@
-//! Workers, who look at a desk, judge what is handed in, and land it: scripts of their steps, one after another.
+//! Workers: each takes a view of a desk, judges a submission against it, and lands the verdict. A
+//! script is the steps of up to eight workers, one after another.
+//!
+//! It stands on `kfs_desk`, and `kfs_program_engine` on it. Begin with `run_script`, then `DeskView`.
 #![tactic(auto)]
 
 mod desk_view;

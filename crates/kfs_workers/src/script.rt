@@ -1,4 +1,4 @@
-//! Scripts: the steps of eight workers and the calls for the leases, in one order.
+//! Scripts: steps of eight workers, and calls for leases, in one order.
 ghost use Rattle.std.specs.Prelude.{◌≡◌, IfErr, IfOk, map, option_map};
 ghost use Rattle.kfs_desk_docket.specs.Legal.{IsLegalDocket};
 ghost use Rattle.kfs_plan.specs.Judging.{submission_of};
@@ -13,42 +13,51 @@ use kfs_plan::Submission;
 use kfs_plan::answers::Reply;
 use std::alloc::Allocator;
 
-/// One step of a script.
+/// One step of a script. Workers are numbered 0 to 7. A ticket is a submission's index in the list that
+/// was handed in, from 0.
 #[derive(Clone, Copy)]
 pub enum Step<'a> {
-    /// The worker, from 0 to 7, takes the submission of the ticket and looks at the desk.
+    /// The worker takes the ticket's submission, and a view of the desk.
     Look { worker: usize, ticket: usize },
-    /// The worker judges the submission that it holds, in the state that it saw.
+    /// The worker judges its submission against its view.
     Judge { worker: usize },
-    /// The worker's verdict is landed.
+    /// The worker lands its verdict.
     Land { worker: usize },
-    /// A call for the leases.
+    /// A call for the desk's leases.
     Act(Act<'a>),
 }
 
-/// What a script leaves. Both lists go by ticket: a ticket has a reply, or its submission is left.
+/// What a script leaves. Each ticket has either a reply, or its submission in `left`.
 #[derive(Drop)]
 pub struct ScriptEnd<A: Allocator> {
+    /// The desk after the last step.
     pub desk: Desk<A>,
+    /// The reply to each ticket, by ticket.
     pub replies: Vec<Option<Reply>, A>,
+    /// The submissions without a reply, by ticket, as they were handed in.
     pub left: Vec<Option<Submission<A>>, A>,
 }
 
-/// The desk and the submissions of a script of which no step was made, for want of memory.
+/// The desk and the submissions of a script that made no step, because memory was refused.
 #[derive(Drop)]
 pub struct ScriptBack<A: Allocator> {
+    /// As it was handed in.
     pub desk: Desk<A>,
+    /// As they were handed in.
     pub submissions: Vec<Submission<A>, A>,
 }
 
-/// Makes the steps one after another. A submission's ticket is its place in the list, from 0.
+/// Makes the steps of a script in order.
 ///
-/// A step out of its place changes nothing: of a worker over 7, a look with a full hand or at a ticket
-/// that isn't there, a judgement of what is judged, a landing of what isn't, either with an empty hand.
-/// A step that finds no memory, or a full docket, changes nothing either, but the submission that its
-/// worker held goes back under its ticket. What is held at the end is left.
+/// These steps change nothing: any step of a worker over 7; a Look of a worker that holds something, or
+/// at a ticket without a submission; a Judge or Land of a worker that holds nothing; a Judge of what is
+/// judged; a Land of what isn't.
 ///
-/// `Err` where there is no memory before the first step.
+/// A step for which memory is refused, or the docket is full, changes nothing but this: a submission
+/// that the worker holds goes back under its ticket. What workers hold at the end is left.
+///
+/// Takes memory for its lists before the first step; `Err` where that is refused, with desk and
+/// submissions. Memory refused later is no error.
 pub fn run_script<A: Allocator + Copy>(
     alloc: A,
     desk: Desk<A>,
@@ -58,16 +67,18 @@ pub fn run_script<A: Allocator + Copy>(
     ensures run { IfOk result (λ end. IsRun desk (map submission_of submissions.items) steps.now end.replies.items (map (option_map submission_of) end.left.items) end.desk) }
     ensures tickets { IfOk result (λ end. AreSettled end.desk (map submission_of submissions.items) end.replies.items (map (option_map submission_of) end.left.items)) }
 
-    // After a Yes a well formed image shows what the entries give one by one from the tree at the landing.
+    // After a Yes, a well formed image shows the tree that results from the log's entries in turn, from
+    // the tree at the landing.
     ensures yes { IfOk result (λ end. EachReply end.desk (map submission_of submissions.items) end.replies.items ShowsItsEntries) }
 
-    // Each of these entries is allowed at its own point, by mode bits and by leases held at the landing.
+    // Each of these entries is allowed at its own point of the log, by mode bits and by the leases held
+    // at the landing.
     ensures allowed { IfOk result (λ end. EachReply end.desk (map submission_of submissions.items) end.replies.items HasAllowedEntries) }
     ensures otherwise { IfOk result (λ end. EachReply end.desk (map submission_of submissions.items) end.replies.items ElseChangesNothing) }
     ensures legal { IfOk result (λ end. IsLegalDocket end.desk.opening end.desk.docket end.desk.state) }
     ensures back { IfErr result (λ back. (back.desk ≡ desk) × (back.submissions ≡ submissions)) }
 {
-    // A desk's docket is legal, at first and at the end.
+    // Tells the prover that a desk's docket is legal, at the start and at the end.
     let _docket = desk.docket();
     let mut state = ScriptState::begin(alloc, desk, submissions)?;
     make_all(&mut state, steps);
@@ -76,7 +87,7 @@ pub fn run_script<A: Allocator + Copy>(
     Ok(end)
 }
 
-/// Makes the steps.
+/// Makes the steps in order.
 fn make_all<A: Allocator + Copy>(state: &mut ScriptState<A>, steps: &[Step<'_>])
     ensures { DoesSteps state.old steps.now state.new }
 {

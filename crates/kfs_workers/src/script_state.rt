@@ -1,4 +1,5 @@
-//! Where a script stands: the desk, what waits, what the workers hold, and the replies so far.
+//! The state of a script: the desk, the submissions that wait, what the workers hold, and the replies
+//! so far.
 ghost use Rattle.std.specs.Prelude.{◌≡◌, ◌≤◌, ◌<◌, [], IfErr, IfOk, IsTrue, ◌↔◌, None, Some, get_or, length, map, option_map, replicate, set};
 ghost use Rattle.std.specs.List.{slice_get};
 ghost use Rattle.kfs_plan.specs.Judging.{submission_of};
@@ -19,23 +20,23 @@ use std::marker::Model;
 /// How many workers there are.
 pub const WORKERS: usize = 8;
 
-/// What a worker holds under a ticket.
+/// What a worker holds. The ticket is that of the submission.
 #[derive(Drop)]
 pub enum Holding<A: Allocator> {
-    /// A submission, and what the worker saw of the desk.
+    /// A submission, and the view of the desk that the worker took with it.
     Taken {
         ticket: usize,
         submission: Submission<A>,
         view: DeskView<A>,
     },
-    /// The verdict on it.
+    /// The verdict on the submission.
     Decided {
         ticket: usize,
         judged: Judged<A>,
     },
 }
 
-/// The desk, and by ticket what waits and what was replied; and what each worker holds.
+/// The state of a script. `waiting` and `replies` go by ticket, `hands` by worker.
 #[derive(Drop)]
 pub struct ScriptState<A: Allocator> {
     alloc: A,
@@ -57,7 +58,8 @@ impl<A: Allocator> Model for ScriptState<A> {
 }
 
 impl<A: Allocator + Copy> ScriptState<A> {
-    /// All submissions wait. Makes room for all that the steps put down.
+    /// The start of a script: all submissions wait. Takes the memory for all lists; `Err` where it is
+    /// refused.
     pub fn begin(
         alloc: A,
         desk: Desk<A>,
@@ -96,7 +98,7 @@ impl<A: Allocator + Copy> ScriptState<A> {
         }
     }
 
-    /// What is left, with what the workers still hold.
+    /// The end of a script. Submissions that workers still hold are left.
     pub fn end(self) -> ScriptEnd<A>
         ensures desk { result.desk ≡ self.desk }
         ensures replies { result.replies.items ≡ self.replies }
@@ -120,7 +122,8 @@ impl<A: Allocator + Copy> ScriptState<A> {
         }
     }
 
-    /// The worker takes what waits under the ticket, where it holds nothing.
+    /// The worker takes the ticket's submission and a view, if it holds nothing and the submission
+    /// waits.
     fn look(&mut self, worker: usize, ticket: usize)
         ensures { DoesLook self.old worker ticket (slice_get self.old.hands worker) (get_or self.old.waiting ticket None) self.new }
     {
@@ -140,7 +143,7 @@ impl<A: Allocator + Copy> ScriptState<A> {
         }
     }
 
-    /// The worker judges what it took.
+    /// The worker judges the submission that it took.
     fn judge(&mut self, worker: usize)
         ensures { DoesJudge self.old worker (get_or self.old.hands worker None) self.new }
     {
@@ -162,7 +165,7 @@ impl<A: Allocator + Copy> ScriptState<A> {
         }
     }
 
-    /// The worker's verdict is landed.
+    /// The worker lands its verdict.
     fn land(&mut self, worker: usize)
         ensures { DoesLand self.old worker (get_or self.old.hands worker None) self.new }
     {
@@ -189,14 +192,14 @@ impl<A: Allocator + Copy> ScriptState<A> {
         }
     }
 
-    /// Makes a call for the leases. Its answer stands in the docket alone.
+    /// Makes a call for leases. Its answer is only in the docket.
     fn ask(&mut self, act: Act<'_>)
         ensures { DoesAct self.old act.entry self.new }
     {
         let _answer = self.desk.act(act);
     }
 
-    /// Whether this is one of the workers, who holds nothing.
+    /// Whether the number is a worker's who holds nothing.
     fn is_free(&self, worker: usize) -> bool
         ensures { IsTrue result ↔ (worker < length self.now.hands) × (get_or self.now.hands worker None ≡ None) }
     {
@@ -204,7 +207,7 @@ impl<A: Allocator + Copy> ScriptState<A> {
     }
 }
 
-/// What a script's steps need memory for: lists for so many tickets, and empty hands.
+/// The lists that a script needs: for all tickets, and for eight workers who hold nothing.
 #[derive(Drop)]
 struct Room<A: Allocator> {
     waiting: Vec<Option<Submission<A>>, A>,
@@ -227,7 +230,7 @@ impl<A: Allocator + Copy> Room<A> {
     }
 }
 
-/// So many times none.
+/// A list of `count` empty places.
 fn none_of<T: Drop, A: Allocator>(alloc: A, count: usize) -> Result<Vec<Option<T>, A>, AllocError>
     ensures { IfOk result (λ list. list.items ≡ replicate count None) }
 {
@@ -238,7 +241,7 @@ fn none_of<T: Drop, A: Allocator>(alloc: A, count: usize) -> Result<Vec<Option<T
     Ok(list)
 }
 
-/// Puts all down in this list, which has room for them.
+/// Fills the list, which has room for them, with the submissions.
 fn all_waiting<T: Drop, A: Allocator>(
     submissions: Vec<T, A>,
     room: Vec<Option<T>, A>,
@@ -254,7 +257,7 @@ fn all_waiting<T: Drop, A: Allocator>(
     waiting
 }
 
-/// Takes what stands at this place, and leaves none there.
+/// Removes and answers what is at this index, if anything.
 fn take_at<T: Drop, A: Allocator>(list: &mut Vec<Option<T>, A>, at: usize) -> Option<T>
     ensures taken { result ≡ get_or list.old.items at None }
     ensures left { list.new.items ≡ set list.old.items at None }
@@ -265,7 +268,7 @@ fn take_at<T: Drop, A: Allocator>(list: &mut Vec<Option<T>, A>, at: usize) -> Op
     }
 }
 
-/// Puts it at this place of the list, where the list has such a place.
+/// Puts the value at this index, if the list is long enough.
 fn put_at<T: Drop, A: Allocator>(list: &mut Vec<Option<T>, A>, at: usize, value: T)
     ensures { list.new.items ≡ set list.old.items at (Some value) }
 {
@@ -274,7 +277,7 @@ fn put_at<T: Drop, A: Allocator>(list: &mut Vec<Option<T>, A>, at: usize, value:
     }
 }
 
-/// What a worker holds waits again under its ticket.
+/// Puts the submission that a worker holds back under its ticket.
 fn put_back<A: Allocator>(waiting: &mut Vec<Option<Submission<A>>, A>, hand: Option<Holding<A>>)
     ensures { map (option_map submission_of) waiting.new.items ≡ returned (option_map held_of hand) (map (option_map submission_of) waiting.old.items) }
 {

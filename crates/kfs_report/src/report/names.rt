@@ -1,4 +1,4 @@
-//! The refusals by their names, with their numbers in brackets. The caller has made room for them.
+//! The names of refusals, with their numbers in brackets. The caller has made room for them.
 ghost use Rattle.std.specs.Prelude.{◌≡◌, ◌+◌, ◌≤◌, ◌++◌, length};
 ghost use Rattle.kfs_report.specs.Text.{fault_text, spell_text, row_text, reason_name, reason_text, lease_name, lease_text, client_text, begin_text};
 ghost use Rattle.kfs_entry_value.specs.Room.{Appends, spare_of};
@@ -12,7 +12,7 @@ use kfs_plan::{Fault, RowFault};
 use kfs_program_text::parts::{number, numbered, text};
 use std::alloc::Allocator;
 
-/// Appends why a submission was refused.
+/// Appends why a submission is refused.
 pub fn judgement_fault<A: Allocator>(out: &mut Vec<u8, A>, fault: Fault)
     requires { 90 ≤ spare_of out.old }
     ensures { Appends out.old out.new 90 (fault_text fault) }
@@ -41,7 +41,7 @@ pub fn judgement_fault<A: Allocator>(out: &mut Vec<u8, A>, fault: Fault)
     }
 }
 
-/// Appends why bytes are no log or no plan.
+/// Appends why bytes aren't a log or a plan.
 fn spell_fault<A: Allocator>(out: &mut Vec<u8, A>, fault: SpellFault)
     requires { 60 ≤ spare_of out.old }
     ensures { Appends out.old out.new 60 (spell_text fault) }
@@ -74,7 +74,7 @@ fn row_fault<A: Allocator>(out: &mut Vec<u8, A>, fault: RowFault)
     }
 }
 
-/// Appends why an entry of a log was refused.
+/// Appends why an entry is refused.
 #[tactic(auto, using(crate::proofs::Texts::reason_without_number))]
 fn entry_reason<A: Allocator>(out: &mut Vec<u8, A>, reason: Reason)
     requires { 60 ≤ spare_of out.old }
@@ -110,7 +110,7 @@ fn reason_name(reason: Reason) -> &'static [u8]
     }
 }
 
-/// Appends why a lease was refused.
+/// Appends why a call for leases is refused.
 #[tactic(auto, using(crate::proofs::Texts::lease_without_number))]
 pub fn lease_fault<A: Allocator>(out: &mut Vec<u8, A>, fault: LeaseFault)
     requires { 60 ≤ spare_of out.old }
@@ -144,7 +144,7 @@ fn lease_name(fault: LeaseFault) -> &'static [u8]
     }
 }
 
-/// Appends why a client was refused.
+/// Appends why a client is refused.
 pub fn client_fault<A: Allocator>(out: &mut Vec<u8, A>, fault: ClientFault)
     requires { 60 ≤ spare_of out.old }
     ensures { Appends out.old out.new 60 (client_text fault) }
@@ -155,7 +155,7 @@ pub fn client_fault<A: Allocator>(out: &mut Vec<u8, A>, fault: ClientFault)
     }
 }
 
-/// Appends why the desk was not begun.
+/// Appends why a desk wasn't begun.
 pub fn begin_fault<A: Allocator>(out: &mut Vec<u8, A>, fault: BeginFault)
     requires { 60 ≤ spare_of out.old }
     ensures { Appends out.old out.new 60 (begin_text fault) }
