@@ -71,7 +71,7 @@ impl<A: Allocator> Drop for LeaseRows<A> {
 
 impl<A: Allocator + Copy> LeaseRows<A> {
     /// No rows. Takes no memory.
-    #[tactic(auto, unfolding(crate::specs::LeaseRows::table_of))]
+    #[tactic(auto, unfolding(crate::specs::Rows::table_of))]
     pub fn empty(alloc: A) -> LeaseRows<A>
         ensures table { table_in result ≡ empty }
         ensures indexed { EndsAreExact result }
