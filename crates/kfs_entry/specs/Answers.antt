@@ -1,4 +1,4 @@
--- What a decoder answered, as the definitions say it.
+-- What a decoder answered, in terms of the definitions.
 use Rattle.std.specs.Prelude.{ℕ, List, map, Result, Ok, Err}
 use Rattle.std.specs.List.{AllByRecursion}
 use Rattle.kfs_entry.specs.declared.fault.SpellFault.{SpellFault}
@@ -10,7 +10,7 @@ use Rattle.kfs_model.specs.PlanRow.{Plan}
 use Rattle.kfs_model.specs.Spelling.{SpellingFault, BadHeader, BadEntry, Trailing, BadRow}
 use Rattle.kfs_entry_value.specs.Views.{entry_of, name_row_of, node_row_of, piece_of, IsWithin}
 
--- the log, with each payload's bytes in the source in place of their span
+-- the log, with the payloads' bytes in place of their spans
 abbrev pub log_of : {A : Type 0} → List ℕ → CodeLog A → Log
 log_of source l = record { client = l.client; entries = map (entry_of source) l.entries }
 
@@ -21,7 +21,7 @@ SpansAreWithin len l = AllByRecursion (IsWithin len) l.entries
 abbrev pub plan_of : {A : Type 0} → CodePlan A → Plan
 plan_of p = record { names = map name_row_of p.names; nodes = map node_row_of p.nodes; pieces = map piece_of p.pieces }
 
--- P holds of the refusal, unless memory ran out
+-- P holds of the refusal, unless it is that memory was refused
 abbrev pub OnRefusal : {M : Type 0} → (Result M SpellingFault → Type 0) → SpellFault → Type 0
 OnRefusal P faults.BadHeader = P (Err BadHeader)
 OnRefusal P (faults.BadEntry k) = P (Err (BadEntry k))
@@ -29,7 +29,7 @@ OnRefusal P faults.Trailing = P (Err Trailing)
 OnRefusal P (faults.BadRow part k) = P (Err (BadRow part k))
 OnRefusal P faults.OutOfMemory = Unit {0}
 
--- P holds of the answer, unless memory ran out
+-- P holds of the answer, unless it is that memory was refused
 abbrev pub OnAnswer : {V M : Type 0} → (V → M) → (Result M SpellingFault → Type 0) → Result V SpellFault → Type 0
 OnAnswer view P (Ok v) = P (Ok (view v))
 OnAnswer view P (Err fault) = OnRefusal P fault
