@@ -1,4 +1,4 @@
--- Logs and plans of the code as the values of the definitions.
+-- The code's logs and plans as values of the definitions.
 use Rattle.std.specs.Prelude.{ℕ, ◌≤◌, List, slice_range}
 use Rattle.std.specs.Option.{option_map}
 use Rattle.kfs_entry_value.specs.declared.header.Kind.{Kind as CodeKind}
@@ -20,11 +20,11 @@ abbrev pub kind_of : CodeKind → Kind
 kind_of kinds.File = File
 kind_of kinds.Directory = Directory
 
--- the bytes that a span has in the source
+-- the bytes of the source that a span points to
 abbrev pub span_bytes : List ℕ → Span → List ℕ
 span_bytes source s = slice_range source s.start s.end
 
--- the entry, with the payload's bytes in place of their span
+-- the entry, with the payload's bytes in place of its span
 abbrev pub entry_of : List ℕ → CodeEntry Span → Entry
 entry_of source (entries.Create d m n k mode) = Create d m n (kind_of k) mode
 entry_of source (entries.Write n offset p) = Write n offset (span_bytes source p)
@@ -34,7 +34,7 @@ entry_of source (entries.Unlink d m k) = Unlink d m (kind_of k)
 entry_of source (entries.Rename d m e k) = Rename d m e k
 entry_of source (entries.Chmod n mode) = Chmod n mode
 
--- a payload's span lies in a source of this length
+-- the payload's span lies in a source of this length
 abbrev pub IsWithin : ℕ → CodeEntry Span → Type 0
 IsWithin len (entries.Write n offset p) = (p.start ≤ p.end) × (p.end ≤ len)
 IsWithin len (entries.Create d m n k mode) = Unit {0}

@@ -3,7 +3,9 @@
 /// Whether a node is a regular file or a directory. There are no other kinds.
 #[derive(Clone, Copy, Debug, PartialEq, Eq)]
 pub enum Kind {
+    /// A regular file.
     File,
+    /// A directory.
     Directory,
 }
 

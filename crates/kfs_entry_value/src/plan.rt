@@ -10,6 +10,7 @@ use std::alloc::Allocator;
 pub struct NameRow {
     /// The number of the name's directory.
     pub dir: u32,
+    /// The name.
     pub name: Name,
     /// The node's number after the log, or 0 where the name is gone.
     pub number: u32,
