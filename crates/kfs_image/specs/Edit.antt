@@ -1,4 +1,4 @@
--- What edits make of an image, one after the other.
+-- What edits do to an image.
 use Rattle.std.specs.Prelude.{◌≡◌, ◌<◌, All, List, [], ◌∷◌, vec_len, option_map}
 use Rattle.kfs_model.specs.Limits.{block_size}
 use Rattle.kfs_model.specs.Table.{changed, insert}
@@ -22,14 +22,14 @@ module _ {A : Type 0} where
   edited_all [] image = image
   edited_all (e ∷ es) image = edited_all es (edited e image)
 
-  -- what is written lies in its tier, and is a whole block
+  -- a block that is written lies in its tier, and is whole
   abbrev pub WritesWholeBlocks : TierSizes → Edit A → Type 0
   WritesWholeBlocks sizes (Header number header) = Unit
   WritesWholeBlocks sizes (Name dir name number) = Unit
   WritesWholeBlocks sizes (Map number block pair) = Unit
   WritesWholeBlocks sizes (Bytes tier place bytes) = (place < tier_size sizes tier) × (vec_len bytes ≡ block_size)
 
-  -- the image after is lawful, and each block that is written lies in its tier and is whole
+  -- the image is lawful after the edits, and each block that is written lies in its tier and is whole
   pub record CanEdit (edits : List (Edit A)) (image : DeviceImage) : Type 0 where
     pub lawful : IsLawful (edited_all edits image)
     pub whole : All (WritesWholeBlocks image.sizes) edits

@@ -1,4 +1,4 @@
--- What contracts see of an image: its nodes and names, which views share, and its blocks.
+-- An image in contracts: its nodes and names, which views share, and its blocks.
 use Rattle.std.specs.Prelude.{ℕ}
 use Rattle.kfs_model.specs.Table.{empty}
 use Rattle.kfs_model.specs.Placement.{Place, TierSizes}
@@ -6,7 +6,7 @@ use Rattle.kfs_model_device.specs.ShownTree.{DeviceImage}
 use Rattle.kfs_image_blocks.specs.Blocks.{BlocksShown}
 use Rattle.kfs_image_nodes.specs.Contents.{Contents, root_alone}
 
--- the place of a pair of tier and place
+-- a pair of tier and number, as a place
 abbrev pub place_at : ℕ × ℕ → Place
 place_at pair = record { tier = pair.0; place = pair.1 }
 
@@ -20,11 +20,11 @@ image_with contents blocks = record {
   devices = blocks.devices;
 }
 
--- an image's nodes and names
+-- the nodes and names of an image
 abbrev pub contents_of : DeviceImage → Contents
 contents_of image = record { heads = image.heads; names = image.names }
 
--- where its blocks lie, and what was written
+-- the blocks of an image: their places, and what was written
 abbrev pub blocks_of : DeviceImage → BlocksShown
 blocks_of image = record { sizes = image.sizes; placement = image.placement; devices = image.devices }
 

@@ -1,4 +1,4 @@
--- Raw images of the code as the values of the definitions.
+-- The code's raw images as values of the definitions.
 use Rattle.std.specs.Prelude.{map}
 use Rattle.kfs_image.specs.declared.raw.RawNode.{RawNode as CodeNodeRow}
 use Rattle.kfs_image.specs.declared.raw.ExtentRow.{ExtentRow as CodeExtentRow}
