@@ -1,4 +1,4 @@
--- What contracts see of the blocks of files, and what a change of them makes of it.
+-- The blocks of files in contracts, and what a change makes of them.
 use Rattle.std.specs.Prelude.{◌≡◌, ◌<◌, All, List, vec_len}
 use Rattle.kfs_model.specs.Limits.{block_size}
 use Rattle.kfs_model.specs.Table.{numbers, pairs}
@@ -11,26 +11,26 @@ use Rattle.kfs_image_tier.specs.Tiers.{TiersShown, with_blocks}
 use Rattle.kfs_image_tier.specs.Unused.{FreeIsUnused}
 use Rattle.kfs_image_blocks.specs.Moves.{BlockEdit}
 
--- the sizes of the tiers, where the blocks of files lie, and the blocks that were written
+-- the tiers' sizes, the places of files' blocks, and the written blocks
 pub record BlocksShown : Type 0 where
   pub sizes : TierSizes
   pub placement : Placement
   pub devices : Devices
 
--- the tiers beside the placement: free are the places in which no block lies, and what was written lies in its tier and is whole
+-- a place is free exactly where no block lies, and each written block lies in its tier and is whole
 pub record AreHeld (placement : Placement) (tiers : TiersShown) : Type 0 where
   pub unused : FreeIsUnused placement tiers
   pub laid : IsLaid tiers.sizes placement
   pub blocks : AreBlocks tiers.sizes tiers.devices
 
--- The edits ascend, and leave each place in its tier and with one block at the most. The blocks that are written lie in their tiers
--- and are whole.
+-- The edits ascend, and after them each place is in its tier and holds one block at most. The blocks to
+-- be written lie in their tiers and are whole.
 pub record CanChange {A : Type 0} (blocks : BlocksShown) (edits : List BlockEdit) (written : List (NewBlock A)) : Type 0 where
   pub ascend : KeysAscend (pairs numbers numbers).compare edits
   pub laid : IsLaid blocks.sizes (table_after blocks.placement edits)
   pub in_tier : All (λ b. b.place.place < tier_size blocks.sizes b.place.tier) written
   pub whole : All (λ b. vec_len b.bytes ≡ block_size) written
 
--- the blocks once the placement is edited, and these are written
+-- the blocks after the edits of their places, with these blocks written
 abbrev pub changed : {A : Type 0} → List BlockEdit → List (NewBlock A) → BlocksShown → BlocksShown
 changed edits written blocks = record { sizes = blocks.sizes; placement = table_after blocks.placement edits; devices = with_blocks written blocks.devices }

@@ -1,21 +1,21 @@
--- The places that blocks leave and those that they enter where their placement is edited.
+-- The places that blocks leave and enter when their placement is edited.
 use Rattle.std.specs.Prelude.{ℕ, List, [], ◌∷◌, ◌++◌, Option, Some, None, if◌then◌else◌}
 use Rattle.kfs_model.specs.Table.{get}
 use Rattle.kfs_model.specs.Placement.{Place, Placement}
 use Rattle.kfs_map_chunks.specs.declared.edit.KeyEdit.{KeyEdit}
 use Rattle.kfs_image_tier.specs.Tiers.{is_place}
 
--- what a block comes to have: a place, or none
+-- an edit of a block's place: the new place, or none
 abbrev pub BlockEdit : Type 0
 BlockEdit = KeyEdit (ℕ × ℕ) Place
 
--- the place that is left, where a block was there and is here
+-- the place that a block leaves, if it was there before and isn't now
 abbrev pub left_by : (was is : Option Place) → List Place
 left_by None is = []
 left_by (Some place) None = place ∷ []
 left_by (Some place) (Some other) = if is_place place other then [] else place ∷ []
 
--- the places that are left by the edits' blocks, where the first says at which place each was, and the second at which it is
+-- the places that the edits' blocks leave; the two functions say where each block was, and where it is
 unfoldable pub left_in : (was is : BlockEdit → Option Place) → List BlockEdit → List Place
 left_in was is [] = []
 left_in was is (e ∷ es) = left_by (was e) (is e) ++ left_in was is es
@@ -24,6 +24,6 @@ left_in was is (e ∷ es) = left_by (was e) (is e) ++ left_in was is es
 abbrev pub given_by : Placement → List BlockEdit → List Place
 given_by placement edits = left_in (λ e. get placement e.key) (λ e. e.value) edits
 
--- and those that they enter
+-- the places that blocks enter by these edits
 abbrev pub taken_by : Placement → List BlockEdit → List Place
 taken_by placement edits = left_in (λ e. e.value) (λ e. get placement e.key) edits

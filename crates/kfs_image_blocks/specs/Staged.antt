@@ -5,7 +5,7 @@ use Rattle.kfs_image_tier.specs.Tiers.{IsInTier, CanMove, changed}
 use Rattle.kfs_image_blocks.specs.declared.staged.StagedTiers.{StagedTiers}
 use Rattle.kfs_image_blocks.specs.declared.staged.TiersChange.{TiersChange}
 
--- the tiers can make it
+-- the tiers can make the change
 pub record CanTurn {A : Type 0} (tiers : StagedTiers A) (change : TiersChange A) : Type 0 where
   pub places : CanMove tiers.tiers.free change.moves.given.items change.moves.taken.items
   pub in_tier : All (λ b. IsInTier tiers.tiers.free b.place) change.written.items
