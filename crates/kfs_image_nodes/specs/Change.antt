@@ -1,4 +1,4 @@
--- What the rows of a net make of contents.
+-- What the rows of a net do to nodes and names.
 use Rattle.std.specs.Prelude.{ℕ, ◌==◌, List, [], ◌∷◌, Option, Some, None, option_map, if◌then◌else◌}
 use Rattle.kfs_entry_value.specs.declared.plan.NameRow.{NameRow}
 use Rattle.kfs_entry_value.specs.declared.plan.NodeRow.{NodeRow}
@@ -8,7 +8,7 @@ use Rattle.kfs_model.specs.Table.{Table, numbers, changed}
 use Rattle.kfs_model.specs.Tree.{NameTable}
 use Rattle.kfs_image_nodes.specs.Contents.{Contents}
 
--- a row's number, where 0 stands for none
+-- the number in a row; 0 stands for none
 abbrev pub led_to : ℕ → Option ℕ
 led_to number = if number == 0 then None else Some number
 

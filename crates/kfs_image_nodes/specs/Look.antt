@@ -1,4 +1,4 @@
--- What a look at a cell answers.
+-- The answer of a look at a cell.
 use Rattle.std.specs.Prelude.{◌≡◌, ℕ, ◌<◌, List, Option, Some, None, IsSome, option_map, false}
 use Rattle.std.specs.declared.cmp.Ordering.TheVariants.{Less}
 use Rattle.std.specs.Ordering.{nat_cmp, is_lt}
@@ -15,7 +15,7 @@ use Rattle.kfs_image_nodes.specs.declared.cell.Answer.{Answer}
 use Rattle.kfs_image_nodes.specs.declared.cell.Answer.TheVariants as answers
 use Rattle.kfs_image_nodes.specs.Contents.{Contents}
 
--- the answer is of the cell's case, and says what the contents show there
+-- the answer is of the cell's case and right for these nodes and names
 abbrev pub IsAnswer : Contents → Cell → Answer → Type 0
 IsAnswer c (cells.Header number) answer = IsHeader c number answer
   where
@@ -46,18 +46,18 @@ IsAnswer c (cells.Parent number) answer = IsParent c number answer
     IsParent c number (answers.Count count) = ⊥
     IsParent c number (answers.Parent parent) = parent ≡ parent_in (get c.heads) c.names number
 
--- the name comes after this one, where there is one
+-- the name comes after the given one, if one is given
 abbrev pub IsAfter : Option (Bor (List ℕ)) → List ℕ → Type 0
 IsAfter None name = Unit {0}
 IsAfter (Some before) name = slice_cmp nat_cmp before.now name ≡ Less
 
--- the name is the least in the directory of those that come after, and it leads to the number
+-- the name is the directory's least after the given one, and leads to the number
 pub record IsNext (names : NameTable) (directory : ℕ) (after : Option (Bor (List ℕ))) (name : List ℕ) (number : ℕ) : Type 0 where
   pub leads : target names directory name ≡ Some number
   pub later : IsAfter after name
   pub least : (m : List ℕ) (n : ℕ) → target names directory m ≡ Some n → IsAfter after m → is_lt (slice_cmp nat_cmp m name) ≡ false
 
--- a node has the number, the least above this one that a node has
+-- the number is a node's, and the least one above `after`
 pub record IsNextNode (heads : Table numbers Header) (after number : ℕ) : Type 0 where
   pub node : IsSome (get heads number)
   pub later : after < number

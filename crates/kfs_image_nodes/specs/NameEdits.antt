@@ -1,4 +1,4 @@
--- What overlays of the names, and of the counts beside them, show over the maps.
+-- What overlays of names and counts show over the maps.
 use Rattle.std.specs.Prelude.{ℕ, List}
 use Rattle.kfs_model.specs.Table.{Table, numbers}
 use Rattle.kfs_model.specs.Tree.{NameTable, name_order}
@@ -19,11 +19,11 @@ module _ {A : Type 0} where
   abbrev pub counts_seen : Overlays A → Table numbers ℕ → Table numbers ℕ
   counts_seen said counts = overlaid counts said.counts.latest.entries
 
-  -- the counts of ways up that they show
+  -- the counts of uplinks that they show
   abbrev pub ways_seen : Overlays A → List ((ℕ × ℕ) × ℕ) → Table by_node ℕ
   ways_seen said uplinks = overlaid (table by_node uplinks) said.uplinks.latest.entries
 
-  -- the counts that they show are those of the names that they show
+  -- the counts that they show are right for the names that they show
   abbrev pub IsCountedOver : (names : List ((ℕ × List ℕ) × ℕ)) (counts : Table numbers ℕ) (uplinks : List ((ℕ × ℕ) × ℕ)) → Overlays A → Type 0
   IsCountedOver names counts uplinks said = IsCounted (names_seen said names) (counts_seen said counts) (ways_seen said uplinks)
 
@@ -31,16 +31,16 @@ module _ {A : Type 0} where
   abbrev pub names_edited : List ((ℕ × List ℕ) × ℕ) → NameEdits A → NameTable
   names_edited names edits = table name_order (keyed.rewritten name_order names edits.names.items)
 
-  -- the counts of directories after them
+  -- the counts of directories after the edits
   abbrev pub counts_edited : Table numbers ℕ → NameEdits A → Table numbers ℕ
   counts_edited counts edits = numbered.rewritten counts edits.counts.items
 
-  -- the counts of ways up after them
+  -- the counts of uplinks after the edits
   abbrev pub ways_edited : List ((ℕ × ℕ) × ℕ) → NameEdits A → Table by_node ℕ
   ways_edited uplinks edits = table by_node (keyed.rewritten by_node uplinks edits.uplinks.items)
 
-  -- the counts after the edits are those of the names after them, where each directory that has a name,
-  -- before or after, is a number that pages have
+  -- the counts after the edits are right for the names after them, if each directory that has a name,
+  -- before or after, has a number that pages have
   abbrev pub IsCountedAfter : (names : List ((ℕ × List ℕ) × ℕ)) (counts : Table numbers ℕ) (uplinks : List ((ℕ × ℕ) × ℕ)) → NameEdits A → Type 0
   IsCountedAfter names counts uplinks edits =
       AreInPages (table name_order names) → AreInPages (names_edited names edits) → IsCounted (names_edited names edits) (counts_edited counts edits) (ways_edited uplinks edits)

@@ -1,4 +1,4 @@
--- What node rows leave at a number, and the edits that say so.
+-- The header of a number after node rows, and the edits that make it so.
 use Rattle.std.specs.Prelude.{◌≡◌, ℕ, ◌≤◌, ◌&&◌, nat_le, List, [], ◌∷◌, Option, Some, if◌then◌else◌}
 use Rattle.std.specs.Ordering.{nat_cmp, eq_by_cmp}
 use Rattle.kfs_entry_value.specs.declared.header.Header.{Header as CodeHeader}
@@ -8,12 +8,12 @@ use Rattle.kfs_model.specs.Limits.{greatest_number}
 use Rattle.kfs_model.specs.Table.{Table, numbers, get}
 use Rattle.kfs_map_pages.specs.declared.edit.NumberEdit.{NumberEdit}
 
--- what the rows, one after the other, leave at a number where this stood
+-- the header of a number after the rows, given its header before
 abbrev pub left_by : List NodeRow → ℕ → Option CodeHeader → Option CodeHeader
 left_by [] q there = there
 left_by (row ∷ rows) q there = left_by rows q (if eq_by_cmp nat_cmp q row.number then row.now else there)
 
--- one of the numbers that pages have
+-- pages have this number: it is 1 to 65,536
 abbrev pub IsNumber : ℕ → Type 0
 IsNumber number = (1 ≤ number) × (number ≤ greatest_number)
 
@@ -22,7 +22,7 @@ abbrev pub AreNumbered : Table numbers Header → Type 0
 AreNumbered heads = (number : ℕ) (h : Header) → get heads number ≡ Some h → IsNumber number
 
 module _ {X : Type 0} where
-  -- the edits to what was said, of numbers that pages have
+  -- the edits with the set values, for numbers that pages have
   unfoldable pub edits_from : List (ℕ × Option X) → List (NumberEdit X)
   edits_from [] = []
   edits_from (e ∷ es) = if nat_le 1 e.0 && nat_le e.0 greatest_number then record { number = e.0; value = e.1 } ∷ edits_from es else edits_from es

@@ -10,7 +10,7 @@ use Rattle.kfs_image_nodes.specs.declared.rows.NodeTables.{NodeTables}
 use Rattle.kfs_image_nodes.specs.Indexes.{by_node, AreNames, AreInPages, IsCounted}
 use Rattle.kfs_image_nodes.specs.NodeEdits.{AreNumbered}
 
--- the headers as the model has them
+-- the headers as values of the definitions
 abbrev pub heads_of : Table numbers CodeHeader → Table numbers Header
 heads_of headers = mapped (λ number header. header_of header) headers
 
@@ -25,11 +25,11 @@ module _ {A : Type 0} where
   abbrev pub names_in : NodeTables A → NameTable
   names_in rows = table name_order rows.names
 
-  -- how many names of a directory lead to a node
+  -- the counts of uplinks
   abbrev pub ways_in : NodeTables A → Table by_node ℕ
   ways_in rows = table by_node rows.uplinks
 
-  -- each name is one, and the counts are those of the names
+  -- each name is a valid name, and the counts are right for the names
   pub record CountsAreExact (rows : NodeTables A) : Type 0 where
     pub names : AreNames (names_in rows)
     pub counted : IsCounted (names_in rows) rows.counts (ways_in rows)
