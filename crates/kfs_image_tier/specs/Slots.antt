@@ -13,7 +13,7 @@ Slots = BTreeMap ℕ (Option (List ℕ))
 abbrev pub held_at : Slots → (place : ℕ) → Option (List ℕ)
 held_at slots place = unwrap_or (get nat_cmp slots place) None
 
--- the place has this slot now, or none, and the others keep theirs
+-- the place has this slot now, or none; all other places have what they had
 abbrev pub SetsSlot : (old new : Slots) (place : ℕ) → Option (Option (List ℕ)) → Type 0
 SetsSlot old new place slot = (q : ℕ) → get nat_cmp new q ≡ (if eq_by_cmp nat_cmp q place then slot else get nat_cmp old q)
 

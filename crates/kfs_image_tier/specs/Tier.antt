@@ -1,4 +1,4 @@
--- What contracts see of a tier: its places, and the blocks that lie there.
+-- A tier in contracts: its places, and its blocks.
 use Rattle.std.specs.Prelude.{ℕ, ◌<◌, Bool, List, length}
 use Rattle.kfs_image_tier.specs.Blocks.{BlockTable, HasRoomForBlock}
 

@@ -1,4 +1,4 @@
--- What contracts see of three tiers, and what a change of several of their places makes of it.
+-- Three tiers in contracts, and what a change of several places makes of them.
 use Rattle.std.specs.Prelude.{◌≡◌, ℕ, ◌<◌, ◌&&◌, ◌==◌, Bool, true, false, IsTrue, List, [], ◌∷◌, All, length, replicate, slice_index_or, slice_set}
 use Rattle.std.specs.List.{list_any}
 use Rattle.kfs_model.specs.Table.{empty, insert}
@@ -7,13 +7,14 @@ use Rattle.kfs_model_device.specs.Device.{Devices}
 use Rattle.kfs_image_tier.specs.Places.{is_free_in}
 use Rattle.kfs_image_tier.specs.declared.change.NewBlock.{NewBlock}
 
--- the sizes of the tiers, of each tier a list that says of each place whether it is free, and the blocks that were written
+-- the tiers' sizes, for each tier a list that says of each place whether it is free, and the written
+-- blocks
 pub record TiersShown : Type 0 where
   pub sizes : TierSizes
   pub free : List (List Bool)
   pub devices : Devices
 
--- of these sizes: all places are free and no block is written
+-- new tiers of these sizes: all places are free, and no block is written
 abbrev pub new_tiers : TierSizes → TiersShown
 new_tiers sizes = record {
   sizes = sizes;
@@ -21,35 +22,35 @@ new_tiers sizes = record {
   devices = empty;
 }
 
--- the places of the tier, none for a tier over 2
+-- the places of the tier; no places for a tier over 2
 abbrev pub places_in : List (List Bool) → (tier : ℕ) → List Bool
 places_in free tier = slice_index_or free tier []
 
--- the place is one of its tier's, and free
+-- whether the place exists and is free
 abbrev pub is_free_at : List (List Bool) → Place → Bool
 is_free_at free place = is_free_in (places_in free place.tier) place.place
 
--- the place is one of its tier's
+-- the place is in its tier
 abbrev pub IsInTier : List (List Bool) → Place → Type 0
 IsInTier free place = place.place < length (places_in free place.tier)
 
--- it is the same place
+-- whether the two are the same place
 abbrev pub is_place : (place other : Place) → Bool
 is_place place other = (place.tier == other.tier) && (place.place == other.place)
 
 abbrev pub is_among : List Place → Place → Bool
 is_among places place = list_any (λ p. is_place p place) places
 
--- no place stands twice
+-- no place is listed twice
 abbrev pub PlacesAreDistinct : List Place → Type 0
 PlacesAreDistinct [] = Unit {0}
 PlacesAreDistinct (place ∷ places) = (is_among places place ≡ false) × PlacesAreDistinct places
 
--- the same, and this place is free, or is used
+-- the lists, with this place free, or used
 abbrev pub with_place : (value : Bool) → Place → List (List Bool) → List (List Bool)
 with_place value place free = slice_set free place.tier (slice_set (places_in free place.tier) place.place value)
 
--- the same, and each of these places is free, or is used
+-- the lists, with each of these places free, or used
 unfoldable pub with_places : (value : Bool) → List Place → List (List Bool) → List (List Bool)
 with_places value [] free = free
 with_places value (place ∷ places) free = with_places value places (with_place value place free)
@@ -64,18 +65,18 @@ pub record TiersAreSized (sizes : TierSizes) (free : List (List Bool)) : Type 0 
   pub tiers : length free ≡ 3
   pub places : (tier : ℕ) → length (places_in free tier) ≡ tier_size sizes tier
 
--- Places can be given back and others taken: those given back are used ones of their tiers, those taken are free once these are,
--- and none stands twice among the ones or among the others.
+-- The places in `given` can be made free, and then those in `taken` used. The given ones are in use,
+-- the taken ones are free by then, and no place is twice in either list.
 pub record CanMove (free : List (List Bool)) (given taken : List Place) : Type 0 where
   pub given_used : All (λ p. IsInTier free p × (is_free_at free p ≡ false)) given
   pub given_once : PlacesAreDistinct given
   pub taken_free : All (λ p. IsTrue (is_free_at (with_places true given free) p)) taken
   pub taken_once : PlacesAreDistinct taken
 
--- the places once these are given back and those taken
+-- the lists after the given places become free and the taken ones used
 abbrev pub moved : (given taken : List Place) → List (List Bool) → List (List Bool)
 moved given taken free = with_places false taken (with_places true given free)
 
--- the tiers once these places are given back, those taken, and the blocks written
+-- the tiers after these places become free, those used, and the blocks are written
 abbrev pub changed : {A : Type 0} (given taken : List Place) → List (NewBlock A) → TiersShown → TiersShown
 changed given taken written tiers = record { sizes = tiers.sizes; free = moved given taken tiers.free; devices = with_blocks written tiers.devices }

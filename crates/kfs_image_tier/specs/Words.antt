@@ -1,10 +1,10 @@
--- The words of bits in which the code keeps the places of a tier.
+-- The words of bits in which the code keeps a tier's places.
 use Rattle.std.specs.Prelude.{◌≡◌, ℕ, ◌+◌, ◌/◌, ◌%◌, ◌*◌, ◌<◌, ◌≤◌, ◌==◌, not, Bool, true, false, List, map, length, slice_index}
 use Rattle.std.specs.Int.{bit_at}
 use Rattle.std.specs.List.{range_with_len}
 use Rattle.kfs_image_tier.specs.Places.{free_count}
 
--- the bit of the place is set; a word has the bits of 64 places, the least place in its lowest bit
+-- whether the place's bit is set; a word has the bits of 64 places, the least place in its lowest bit
 abbrev pub is_marked : List ℕ → (place : ℕ) → Bool
 is_marked words place = bit_at (slice_index words (place / 64)) (place % 64) == 1
 
@@ -12,13 +12,13 @@ is_marked words place = bit_at (slice_index words (place / 64)) (place % 64) == 
 unfoldable pub places_of : List ℕ → (size : ℕ) → List Bool
 places_of words size = map (λ place. not (is_marked words place)) (range_with_len 0 size)
 
--- the words have a bit for each place and no word is without a place, and so many places are free
+-- the words have a bit for each place, no more words than needed, and `free` bits are clear
 pub record AreCounted (words : List ℕ) (size free : ℕ) : Type 0 where
   pub cover : size ≤ 64 * length words
   pub close : 64 * length words < size + 64
   pub counted : free ≡ free_count (places_of words size)
 
--- it is the least place that isn't below `from` and whose bit is clear
+-- the place is the least one from `from` on whose bit is clear
 pub record IsNextClear (words : List ℕ) (from place : ℕ) : Type 0 where
   pub reached : from ≤ place
   pub within : place < 64 * length words
