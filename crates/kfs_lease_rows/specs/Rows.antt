@@ -1,4 +1,4 @@
--- The leases that the rows of the code show, and what ties their ends to them.
+-- The table of leases that the code's rows show, and how the ends belong to them.
 use Rattle.std.specs.Prelude.{◌≡◌, ℕ, Bool, ◌==◌, List, [], ◌∷◌, Option}
 use Rattle.std.specs.BTreeMap as slots_of
 use Rattle.std.specs.BTreeSet as set
@@ -17,15 +17,15 @@ kind_of Write = model.WriteLease
 abbrev pub lease_of : Lease → model.Lease
 lease_of lease = record { kind = kind_of lease.kind; end = lease.end }
 
--- the order of the rows, by the node's number and then the client's
+-- the order of rows: by node number, then by client
 abbrev pub by_node : Order (ℕ × ℕ)
 by_node = pairs numbers numbers
 
--- the order of the ends, each with the key of its row
+-- the order of ends: by moment, then by the row's key
 abbrev pub by_end : Order (ℕ × (ℕ × ℕ))
 by_end = pairs numbers by_node
 
--- the table that rows by node and client show
+-- the table of leases that the rows show
 unfoldable pub table_of : List ((ℕ × ℕ) × Lease) → model.LeaseTable
 table_of [] = empty
 table_of (row ∷ rows) = insert (table_of rows) (row.0.1, row.0.0) (lease_of row.1)
@@ -34,11 +34,11 @@ table_of (row ∷ rows) = insert (table_of rows) (row.0.1, row.0.0) (lease_of ro
 abbrev pub row_count : {A : Type 0} → LeaseRows A → ℕ
 row_count rows = slots_of.btree_map_len rows.leases
 
--- whether this end stands beside the key
+-- whether this end is listed for the key
 abbrev pub has_end : set.BTreeSet (ℕ × (ℕ × ℕ)) → (end : ℕ) → (key : ℕ × ℕ) → Bool
 has_end ends end key = set.contains by_end.compare ends (end, key)
 
--- whether a row has this end
+-- whether the row has this end
 abbrev pub ends_at : Option Lease → (end : ℕ) → Bool
 ends_at row end = is_some_and row (λ (lease : Lease). lease.end == end)
 
@@ -46,6 +46,6 @@ module _ {A : Type 0} where
   abbrev pub table_in : LeaseRows A → model.LeaseTable
   table_in rows = table_of rows.leases.entries
 
-  -- the ends are those of the rows
+  -- the ends listed are exactly those of the rows
   pub record EndsAreExact (rows : LeaseRows A) : Type 0 where
     pub ends : (end : ℕ) (key : ℕ × ℕ) → set.contains by_end.compare rows.ends (end, key) ≡ ends_at (slots_of.get by_node.compare rows.leases key) end
