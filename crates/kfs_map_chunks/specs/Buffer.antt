@@ -1,4 +1,4 @@
--- What a chunk holds.
+-- What a chunk is in contracts.
 use Rattle.std.specs.Prelude.{ℕ, List}
 
 -- entries, and for how many more there is room

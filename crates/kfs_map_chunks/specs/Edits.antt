@@ -8,7 +8,7 @@ use Rattle.kfs_model.specs.Table.{Order}
 use Rattle.kfs_map_chunks.specs.declared.edit.KeyEdit.{KeyEdit}
 
 module _ {K V : Type 0} (cmp : K → K → Ordering) where
-  -- the entries with this at the key
+  -- the entries with this value at the key, or without the key
   abbrev pub entered : List (K × V) → K → Option V → List (K × V)
   entered entries key None = where_key cmp (λ k. not (eq_by_cmp cmp key k)) entries
   entered entries key (Some value) = put cmp key value entries
@@ -18,8 +18,8 @@ module _ {K V : Type 0} (cmp : K → K → Ordering) where
   entered_all entries [] = entries
   entered_all entries (e ∷ es) = entered_all (entered entries e.key e.value) es
 
-  -- the edit is made in what moved from the left list to the one before: so, whatever edits come later, these
-  -- make the same of what is left
+  -- A merge has gone past the edit: `old` has grown to `new` and `left` has shrunk to `rest`, so that
+  -- the later edits lead to the same entries.
   abbrev pub IsPassed : KeyEdit K V → (old left : List (K × V)) → (new rest : List (K × V)) → Type 0
   IsPassed edit old left new rest = (later : List (KeyEdit K V)) → All (λ e. cmp edit.key e.key ≡ Less) later → new ++ entered_all rest later ≡ old ++ entered_all left (edit ∷ later)
 
@@ -29,7 +29,7 @@ module _ {K V : Type 0} (R : Order K) where
   rewritten entries edits = entered_all R.compare entries edits
 
 module _ {K V : Type 0} (cmp : K → K → Ordering) where
-  -- what the edits make of what a key had
+  -- the value of a key after the edits, given its value before
   abbrev pub edited : List (KeyEdit K V) → K → Option V → Option V
   edited [] q v = v
   edited (e ∷ es) q v = edited es q (if eq_by_cmp cmp q e.key then e.value else v)

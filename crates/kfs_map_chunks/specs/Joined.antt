@@ -1,4 +1,4 @@
--- What chunks hold, one behind the other.
+-- The entries of chunks in a row.
 use Rattle.std.specs.Prelude.{ℕ, ◌≤◌, Bool, false, Result, Ok, Err, List, [], ◌∷◌, ◌++◌, length, if◌then◌else◌}
 use Rattle.std.specs.declared.cmp.Ordering.{Ordering}
 use Rattle.std.specs.declared.ops.Bound.{Bound}
@@ -6,11 +6,11 @@ use Rattle.std.specs.declared.sync.Arc.{Arc}
 use Rattle.kfs_map_chunks.specs.Buffer.{Buffer}
 use Rattle.kfs_map_chunks.specs.Starts.{before, reaches}
 
--- as many entries as a chunk may have: one at least, and at most 256
+-- a chunk may have so many entries: 1 to 256
 abbrev pub IsSized : {X : Type 0} → List X → Type 0
 IsSized entries = (1 ≤ length entries) × (length entries ≤ 256)
 
--- one at least
+-- there is at least one entry
 abbrev pub IsNotEmpty : {X : Type 0} → List X → Type 0
 IsNotEmpty entries = 1 ≤ length entries
 
@@ -20,12 +20,12 @@ module _ {K V A : Type 0} where
   joined [] = []
   joined (chunk ∷ chunks) = chunk.value.pairs ++ joined chunks
 
-  -- the entries of each are so
+  -- P holds of the entries of each chunk
   abbrev pub Each : (List (K × V) → Type 0) → List (Arc (Buffer K V) A) → Type 0
   Each P [] = Unit {0}
   Each P (chunk ∷ chunks) = P chunk.value.pairs × Each P chunks
 
-  -- each chunk has as many entries as it may have
+  -- each chunk has 1 to 256 entries
   abbrev pub AreSized : List (Arc (Buffer K V) A) → Type 0
   AreSized chunks = Each IsSized chunks
 
@@ -34,15 +34,15 @@ module _ {K V A : Type 0} where
   AreFilled parts = Each IsNotEmpty parts
 
 module _ {K V A : Type 0} (cmp : K → K → Ordering) where
-  -- the index of the first chunk that has an entry from the start on, or else their number
+  -- the index of the first chunk with an entry at the start or behind it, or the number of chunks
   abbrev pub first_chunk_from : Bound K → List (Arc (Buffer K V) A) → ℕ
   first_chunk_from start chunks = before (λ chunk. reaches cmp start chunk.value.pairs) chunks
 
--- whether edits were made in the chunks as they are cut
+-- whether the edits were made in the present chunks
 abbrev pub were_made : {E : Type 0} → Result Bool E → Bool
 were_made (Ok made) = made
 were_made (Err error) = false
 
--- the one where they were made, and else the other
+-- the first value if the edits were made, else the second
 abbrev pub if_made : {E X : Type 0} → Result Bool E → X → X → X
 if_made result made kept = if were_made result then made else kept

@@ -1,4 +1,4 @@
--- What was said of the keys of a table, laid over it, and the edits that say so.
+-- New values of keys, laid over a table, and the edits with these values.
 use Rattle.std.specs.Prelude.{◌≡◌, List, [], ◌∷◌, Option, Some, None}
 use Rattle.std.specs.declared.cmp.Ordering.{Ordering}
 use Rattle.std.specs.BTreeMap.{BTreeMap, get}
@@ -7,23 +7,23 @@ use Rattle.kfs_map_chunks.specs.declared.edit.KeyEdit.{KeyEdit}
 use Rattle.kfs_map_chunks.specs.Edits.{edited}
 
 module _ {X : Type 0} where
-  -- what was said last of a key, or else what stood there
+  -- the value set for a key, or what the table has there if none was set
   abbrev pub said_or : Option (Option X) → Option X → Option X
   said_or None there = there
   said_or (Some now) there = now
 
 module _ {K X : Type 0} where
-  -- the edits make of each key what was said of it
+  -- the edits give each key the value set for it
   abbrev pub Say : (K → K → Ordering) → List (KeyEdit K X) → BTreeMap K (Option X) → Type 0
   Say cmp edits latest = (q : K) (there : Option X) → edited cmp edits q there ≡ said_or (get cmp latest q) there
 
-  -- the edits to what was said
+  -- the edits with these values
   abbrev pub key_edits : List (K × Option X) → List (KeyEdit K X)
   key_edits [] = []
   key_edits (e ∷ es) = record { key = e.0; value = e.1 } ∷ key_edits es
 
 module _ {K X : Type 0} {R : Order K} where
-  -- the table with what was said of each key in place of what stood there
+  -- the table with the set values in place of its own
   unfoldable pub overlaid : Table R X → List (K × Option X) → Table R X
   overlaid t [] = t
   overlaid t (e ∷ es) = changed (overlaid t es) e.0 e.1

@@ -1,4 +1,4 @@
--- Where a walk over entries in the order of their keys begins.
+-- Where a walk over sorted entries begins.
 use Rattle.std.specs.Prelude.{◌≡◌, ℕ, suc, Bool, true, false, not, List, [], ◌∷◌, Option, Some, None, IsSome, is_some, if◌then◌else◌}
 use Rattle.std.specs.declared.cmp.Ordering.{Ordering}
 use Rattle.std.specs.declared.ops.Bound.{Bound}
@@ -7,7 +7,7 @@ use Rattle.std.specs.Ordering.{is_lt, is_gt}
 use Rattle.std.specs.FinMap.Entries.{find}
 
 module _ {X : Type 0} where
-  -- how many come before the first that passes the test
+  -- how many elements come before the first that passes the test
   abbrev pub before : (X → Bool) → List X → ℕ
   before test [] = 0
   before test (x ∷ xs) = if test x then 0 else suc (before test xs)
@@ -19,20 +19,20 @@ module _ {K : Type 0} (cmp : K → K → Ordering) where
   is_from (Excluded last) key = is_gt (cmp key last)
   is_from Unbounded key = true
 
-  -- the index of the first entry from the start on, or else their number
+  -- the index of the first entry at the start or behind it, or the number of entries
   abbrev pub first_from : {V : Type 0} → Bound K → List (K × V) → ℕ
   first_from start entries = before (λ e. is_from start e.0) entries
 
-  -- the first entry from the start on
+  -- the first entry at the start or behind it
   abbrev pub entry_from : {V : Type 0} → Bound K → List (K × V) → Option (K × V)
   entry_from start [] = None
   entry_from start (e ∷ es) = if is_from start e.0 then Some e else entry_from start es
 
-  -- whether there is one
+  -- whether there is such an entry
   abbrev pub reaches : {V : Type 0} → Bound K → List (K × V) → Bool
   reaches start entries = is_some (entry_from start entries)
 
-  -- the entry is the first from the start on
+  -- the entry is the first at the start or behind it
   pub record IsNextEntry {V : Type 0} (start : Bound K) (entries : List (K × V)) (key : K) (value : V) : Type 0 where
     pub found : find cmp key entries ≡ Some value
     pub within : is_from start key ≡ true

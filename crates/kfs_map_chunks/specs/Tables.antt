@@ -1,4 +1,5 @@
--- The table that a list of entries makes, the first of two with one key, and a table after edits.
+-- The table of a list of entries (of two with the same key, the first one counts), and a table after
+-- edits.
 use Rattle.std.specs.Prelude.{List, [], ◌∷◌}
 use Rattle.kfs_model.specs.Table.{Order, Table, empty, insert, changed}
 use Rattle.kfs_map_chunks.specs.declared.edit.KeyEdit.{KeyEdit}
