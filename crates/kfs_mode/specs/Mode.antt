@@ -1,4 +1,4 @@
--- The classes and wants of the code as those of the definitions.
+-- The code's classes and wants as those of the definitions.
 use Rattle.kfs_model.specs.Access as access
 use Rattle.kfs_mode.specs.declared.class.Class.{Class}
 use Rattle.kfs_mode.specs.declared.class.Class.TheVariants.{Owner, Group, Other}
