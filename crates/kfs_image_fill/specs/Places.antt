@@ -4,7 +4,7 @@ use Rattle.kfs_model.specs.Judgement.{State}
 use Rattle.kfs_model.specs.Machine.{are_chosen}
 use Rattle.kfs_model.specs.Placement.{TierSizes, Placement}
 
--- with these sizes and this placement the places can be those of as many blocks: they are free, and no two of them the same
+-- the places are free and no two are the same, so as many blocks can be put there
 abbrev pub CanBeChosen : TierSizes → Placement → List ℕ → Type 0
 CanBeChosen sizes placement places =
     (s : State) (blocks : List (ℕ × ℕ)) → s.sizes ≡ sizes → s.placement ≡ placement → length places ≡ length blocks → IsTrue (are_chosen s blocks places)
