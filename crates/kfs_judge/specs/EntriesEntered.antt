@@ -1,4 +1,4 @@
--- What a log's judge has made of entries one after another.
+-- What a log's judge has done with several entries in a row.
 use Rattle.std.specs.Prelude.{ℕ, List, map, length, Option}
 use Rattle.std.specs.List.{AllByRecursion}
 use Rattle.kfs_model.specs.Looked.{looked_cells}
@@ -16,13 +16,13 @@ use Rattle.kfs_judge.specs.Walks.{EndsAt}
 abbrev pub AreWithin : List ℕ → List (CodeEntry Span) → Type 0
 AreWithin source entries = AllByRecursion (IsWithin (length source)) entries
 
--- the judge's draft has each file that the entries reach
+-- the draft has the header of each file that the entries reach
 abbrev pub HasTheirFiles : {A : Type 0} → LogJudge A → List (CodeEntry Span) → Type 0
 HasTheirFiles judge entries = (source : List ℕ) → AreWithin source entries → HasFilesOf judge.draft (map (entry_of source) entries)
 
--- entries, from a judge that has entered none
+-- entries, entered by a judge that has entered none before
 module _ {A : Type 0} (old new : LogJudge A) (entries : List (CodeEntry Span)) where
-  -- the run over the cells stops at this fault, or ends at what the draft shows
+  -- the run over the cells stops at this fault, or ends with what the draft shows
   abbrev pub RunStopsAt : Option EntryFault → Type 0
   RunStopsAt fault = Known new.recorder (λ before. (source : List ℕ) → AreWithin source entries → EndsAt old.client.now new.draft before (map (entry_of source) entries) fault)
 

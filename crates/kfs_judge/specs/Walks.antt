@@ -1,4 +1,4 @@
--- What a walk over a log's entries has found, in a state.
+-- What a walk over a log's entries found, in terms of a state.
 use Rattle.std.specs.Prelude.{◌≡◌, ℕ, List, [], map, length, Option, None, Some, Result, Ok, Err, IsErr, Bool}
 use Rattle.std.specs.List.{AllByRecursion}
 use Rattle.kfs_judge_check.specs.Reads.{Agrees, Always, AreAmong}
@@ -31,38 +31,40 @@ abbrev pub fault_of : CodeEntryFault → EntryFault
 fault_of fault = record { entry = fault.index; reason = reason_of fault.reason }
 
 module _ {A : Type 0} where
-  -- the run over the cells stops at this fault, or ends at what the draft shows
+  -- the run over the cells stops at this fault, or ends with what the draft shows
   abbrev pub EndsAt : Client → Draft A → ClientSight → List Entry → Option CodeEntryFault → Type 0
   EndsAt client draft before entries None = seen_run client before entries ≡ Ok (over draft before.sight)
   EndsAt client draft before entries (Some fault) = seen_run client before entries ≡ Err (fault_of fault)
 
-  -- the run over the cells stops at this fault, or shows what differs, and sizes of the files that are changed or reached
+  -- the run over the cells stops at this fault; or this is its net change, and these are the sizes of
+  -- the files that it changes or reaches
   abbrev pub WalkEndsIn : Client → ClientSight → List Entry → Result (Net A) CodeEntryFault → List FileSize → Type 0
   WalkEndsIn client before entries (Err fault) sizes = seen_run client before entries ≡ Err (fault_of fault)
   WalkEndsIn client before entries (Ok net) sizes = (after : Sight) × (seen_run client before entries ≡ Ok after) × IsNetOf before.sight after net × AreSizesBetween before.sight after entries sizes
 
-  -- the entries one by one stop at this fault, or leave a sound tree of which this is the net, each of them allowed; the sizes
-  -- are those of the files that they change or reach
+  -- the entries in turn stop at this fault; or each is allowed, they lead to a sound tree with this net
+  -- change, and the sizes are those of the files that they change or reach
   abbrev pub ComesToTree : Client → (ℕ → Bool) → Tree ℕ → List Entry → Result (Net A) CodeEntryFault → List FileSize → Type 0
   ComesToTree client held t entries (Err fault) sizes = run over_bytes client (client_sight t held) t entries ≡ Err (fault_of fault)
   ComesToTree client held t entries (Ok net) sizes = (after : Tree ℕ) × (run over_bytes client (client_sight t held) t entries ≡ Ok after) × IsSound after × OneByOne client (client_sight t held) 0 [] t entries after × IsNetOf (sight t) (sight after) net × AreSizesBetween (sight t) (sight after) entries sizes
 
--- the client is the one of the rows that has the number
+-- the client is the one with this number
 abbrev pub IsRowOf : List Client → ℕ → Client → Type 0
 IsRowOf rows wanted client = row_of rows wanted ≡ Some client
 
--- the client's walk over the log: whatever bytes the payloads' spans are of, at every fitting tree and all leases that agree
--- with its reads, the entries come to its outcome
+-- The outcome is right for the client's log: at every sound tree and all leases that agree with the
+-- reads, and whatever bytes the payloads are.
 abbrev pub IsWalkOf : {A : Type 0} → Client → CodeLog A → Walk A → Type 0
 IsWalkOf client log walk =
     (source : List ℕ) → SpansAreWithin (length source) log → (tree : Tree ℕ) (held : ℕ → Bool) → Fits client tree (map (entry_of source) log.entries) → Agrees walk.reads.entries (client_sight tree held)
     → ComesToTree client held tree (map (entry_of source) log.entries) walk.outcome walk.sizes.items
 
--- the same over cells: in every state that agrees with the reads, the run over its cells comes to the outcome
+-- the same over cells: the outcome is right in every state that agrees with the reads
 abbrev pub IsCellWalkOf : {A : Type 0} → Client → CodeLog A → Walk A → Type 0
 IsCellWalkOf client log walk = Always walk.reads.entries (λ before. (source : List ℕ) → SpansAreWithin (length source) log → WalkEndsIn client before (map (entry_of source) log.entries) walk.outcome walk.sizes.items)
 
--- the walk's sizes ascend by number, and none is over the greatest of a file; where an entry is bad there are none
+-- the walk's sizes ascend by number, and none is over the greatest; where there is a bad entry there
+-- are no sizes
 pub record HasOrderedSizes {A : Type 0} (walk : Walk A) : Type 0 where
   pub ascending : SizesAscend 0 walk.sizes.items
   pub short : AllByRecursion IsSize walk.sizes.items
