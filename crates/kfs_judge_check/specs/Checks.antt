@@ -1,4 +1,4 @@
--- The code's checks, reasons and entry contexts as those of the definitions.
+-- The code's checks, reasons and points of a log as those of the definitions.
 use Rattle.std.specs.Prelude.{◌≡◌, ℕ, Bool, List, map, Option, Result}
 use Rattle.std.specs.Option.{option_map}
 use Rattle.kfs_judge_check.specs.Recorders.{LooksAlong}
@@ -53,14 +53,14 @@ check_of (variants.IsNotAbove n d) = checks.IsNotAbove n d
 abbrev pub climbed_cells : (ℕ → Option ℕ) → (fuel from : ℕ) → List Cell
 climbed_cells parent fuel from = map ParentOf (climbed parent fuel from)
 
--- the check asks what the client may do, by a header
+-- the check asks what the client may do, given a header
 abbrev pub IsOfRight : Check → Type 0
 IsOfRight (variants.MaySearch n) = Unit {0}
 IsOfRight (variants.MayWrite n) = Unit {0}
 IsOfRight (variants.MayChangeMode n) = Unit {0}
 IsOfRight _ = ⊥
 
--- the check asks what a header says, whoever the client is
+-- the check asks what a header says, for any client
 abbrev pub IsOfHeader : Check → Type 0
 IsOfHeader (variants.Exists n) = Unit {0}
 IsOfHeader (variants.IsADirectory n) = Unit {0}
@@ -68,7 +68,7 @@ IsOfHeader (variants.IsAFile n) = Unit {0}
 IsOfHeader (variants.HasRoomForLink n) = Unit {0}
 IsOfHeader _ = ⊥
 
--- where the entry is judged, by what the client saw before the log
+-- the point at which the entry is judged, given what the client saw before the log
 abbrev pub entry_context_in : {A : Type 0} → EntryJudge A → ClientSight → checks.EntryContext
 entry_context_in judge before = entry_context_of judge.client.now judge.draft.now before
 
@@ -77,29 +77,31 @@ module _ {A : Type 0} (judge : EntryJudge A) where
   abbrev pub sight_in : ClientSight → Sight
   sight_in before = (entry_context_in judge before).now
 
-  -- the directory in which a directory stands now
+  -- the parent of a directory now
   abbrev pub parent_in : ClientSight → ℕ → Option ℕ
   parent_in before = (sight_in before).parent
 
-  -- whether the client is granted this of the node now
+  -- whether the client may use the node in this way now
   abbrev pub is_granted_in : ClientSight → Want → (number : ℕ) → Bool
   is_granted_in before want number = checks.is_permitted (entry_context_in judge before) (want_shown want) number
 
-  -- whether the climb from the directory meets the node, looked at the parents of those that it passes
+  -- the answer says whether a climb from the directory meets the node; only parents on the way were
+  -- read
   abbrev pub AnswersClimb : {E : Type 0} → (old new : Recorder A) → Result Bool E → (node directory : ℕ) → Type 0
   AnswersClimb old new result node directory =
       LooksAlong old new result (λ before. climbed_cells (parent_in before) climb_limit directory) (λ meets before. climb_meets (parent_in before) climb_limit node directory ≡ meets)
 
-  -- what the check finds wrong, looked at its cells
+  -- the answer is the reason of the check, if it fails; only the check's cells were read
   abbrev pub JudgesCheck : {E : Type 0} → (old new : Recorder A) → Result (Option Reason) E → Check → Type 0
   JudgesCheck old new result check =
       LooksAlong old new result (λ before. checks.cells (entry_context_in judge before) (check_of check)) (λ reason before. checks.fault (entry_context_in judge before) (check_of check) ≡ option_map reason_of reason)
 
-  -- the first of the listed checks that fails, looked at the cells of the checks up to it
+  -- the answer is the reason of the first check that fails; only the cells of the checks up to that one
+  -- were read
   abbrev pub JudgesAll : {E : Type 0} → (old new : Recorder A) → Result (Option Reason) E → (checks.EntryContext → List checks.Check) → Type 0
   JudgesAll old new result listed =
       LooksAlong old new result (λ before. looked (entry_context_in judge before) (listed (entry_context_in judge before))) (λ reason before. first_failing (entry_context_in judge before) (listed (entry_context_in judge before)) ≡ option_map reason_of reason)
 
--- the entry's first fault, looked at the cells of its checks
+-- the answer is the entry's first fault; only the cells of its checks were read
 abbrev pub AnswersEntry : {A E : Type 0} → EntryJudge A → (old new : Recorder A) → Result (Option Reason) E → Entry → Type 0
 AnswersEntry judge old new result entry = JudgesAll judge old new result (λ p. checks_of p entry)

@@ -1,4 +1,4 @@
--- Recorded reads as the cells of the definitions with their answers, and the states that agree with them.
+-- Recorded reads as cells with their answers, and the states that agree with them.
 use Rattle.std.specs.Prelude.{◌≡◌, ◌≢◌, ◌⊎◌, pos, List, All, AllPairs, Contains}
 use Rattle.std.specs.Option.{option_map}
 use Rattle.std.specs.List.{AllByRecursion}
@@ -33,22 +33,22 @@ abbrev pub answer_of : ReadAnswer → Answer
 answer_of (read_answers.Look a) = look_answer_of a
 answer_of (read_answers.Lease held) = Held held
 
--- the state has, at each recorded cell, the recorded answer
+-- the state gives each recorded answer at its cell
 abbrev pub AgreesAlong : List (Read × ReadAnswer) → ClientSight → Type 0
 AgreesAlong entries state = AllByRecursion (λ e. answer state (cell_of e.0) ≡ answer_of e.1) entries
 
 pub record Agrees (entries : List (Read × ReadAnswer)) (state : ClientSight) : Type 0 where
   pub each : AgreesAlong entries state
 
--- P of each state that agrees
+-- P holds of each state that agrees
 abbrev pub Always : List (Read × ReadAnswer) → (ClientSight → Type 0) → Type 0
 Always entries P = (state : ClientSight) → Agrees entries state → P state
 
--- what agrees with the later reads agrees with the earlier
+-- a state that agrees with the new reads agrees with the old ones
 abbrev pub Grows : List (Read × ReadAnswer) → List (Read × ReadAnswer) → Type 0
 Grows old new = (state : ClientSight) → Agrees new state → Agrees old state
 
--- each of the later reads is an earlier one, or at one of these cells
+-- each new read is an old one, or is at one of these cells
 pub record Within (old new : List (Read × ReadAnswer)) (among : List Cell) : Type 0 where
   pub each : (e : Read × ReadAnswer) → Contains new e → Contains old e ⊎ Contains among (cell_of e.0)
 
@@ -56,10 +56,10 @@ pub record Within (old new : List (Read × ReadAnswer)) (among : List Cell) : Ty
 abbrev pub AreAmong : List (Read × ReadAnswer) → List Cell → Type 0
 AreAmong entries among = All (λ e. Contains among (cell_of e.0)) entries
 
--- no read stands twice
+-- no read is recorded twice
 abbrev pub AreOnce : List (Read × ReadAnswer) → Type 0
 AreOnce entries = AllPairs (λ e f. e.0 ≢ f.0) entries
 
--- each of the few cells is one of the many
+-- each cell of the first list is in the second
 abbrev pub IsPart : List Cell → List Cell → Type 0
 IsPart few many = (cell : Cell) → Contains few cell → Contains many cell

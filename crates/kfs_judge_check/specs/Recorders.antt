@@ -6,27 +6,28 @@ use Rattle.kfs_judge_check.specs.Reads.{Agrees, AreOnce, Grows, Always, Within}
 use Rattle.kfs_judge_check.specs.View.{client_sight_in}
 
 module _ {A : Type 0} where
-  -- what the recorder's view shows to its client
+  -- what the recorder's client sees in its view
   abbrev pub seen_by : Recorder A → ClientSight
   seen_by recorder = client_sight_in recorder.view.now recorder.client
 
-  -- the reads go on over the same view, agree with it if they did, and stand once if they did
+  -- the view stays the same; if the old reads agree with it, so do the new ones; if none was recorded
+  -- twice, none is now
   pub record GoesOn (old new : Recorder A) : Type 0 where
     pub grows : Grows old.reads.entries new.reads.entries
     pub same : seen_by new ≡ seen_by old
     pub agrees : Agrees old.reads.entries (seen_by old) → Agrees new.reads.entries (seen_by new)
     pub once : AreOnce old.reads.entries → AreOnce new.reads.entries
 
-  -- P of each state that agrees with what was read
+  -- P holds of each state that agrees with what was read
   abbrev pub Known : Recorder A → (ClientSight → Type 0) → Type 0
   Known recorder P = Always recorder.reads.entries P
 
-  -- the further reads are at these cells
+  -- what was read between the two is at these cells
   abbrev pub ReadsAt : (old new : Recorder A) → List Cell → Type 0
   ReadsAt old new cells = Within old.reads.entries new.reads.entries cells
 
-  -- a look that answers so, or memory is refused: the reads go on, the answer is true of each state that agrees with
-  -- what was read, and the further reads are at these cells
+  -- a look: its answer is true of each state that agrees with what was read, and only these cells were
+  -- read; or memory is refused
   pub record AnswersLook {X E : Type 0} (old new : Recorder A) (result : Result X E) (cells : List Cell) (says : X → ClientSight → Type 0) : Type 0 where
     pub goes : GoesOn old new
     pub known : IfOk result (λ x. Known new (says x))

@@ -1,4 +1,4 @@
--- What a view of a state is made of.
+-- The parts of a view of a state.
 use Rattle.std.specs.Prelude.{ℕ, List}
 use Rattle.kfs_model.specs.Access.{Client}
 use Rattle.kfs_model.specs.Lease.{Leases, holds}
@@ -18,6 +18,6 @@ module _ {A : Type 0} where
   abbrev pub clients_of : View A → List Client
   clients_of view = view.clients.value.items
 
-  -- what the client of this number sees
+  -- what the client with this number sees
   abbrev pub client_sight_in : View A → (client : ℕ) → ClientSight
   client_sight_in view client = record { sight = sight_of (contents_of view); held = holds (leases_of view) client }
