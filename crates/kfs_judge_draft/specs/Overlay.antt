@@ -1,4 +1,5 @@
--- What a draft shows over a state: the cells that entries have written, and the state's own where they have not.
+-- What a draft shows over a state: the cells that entries have written, and the state's own cells
+-- elsewhere.
 use Rattle.std.specs.Prelude.{◌≡◌, ℕ, ◌-◌, Bool, cond, ℤ, pos, negsuc, neg_ℤ, ◌+ℤ◌, ◌≤ℤ◌, List, Contains, Option, Some, None, IsTrue, unwrap_or, ◌==◌, ◌+◌, true, nat_lt}
 use Rattle.std.specs.Option.{option_map, is_some}
 use Rattle.std.specs.declared.cmp.Ordering.{Ordering}
@@ -18,11 +19,11 @@ use Rattle.kfs_entry_value.specs.declared.header.Header.{Header as CodeHeader}
 use Rattle.kfs_judge_draft.specs.declared.draft.Draft.{Draft}
 
 module _ {A : Type 0} where
-  -- by how much a directory's count of names differs
+  -- by how much a directory's count of names has changed
   abbrev pub shift_of : Draft A → ℕ → ℤ
   shift_of draft d = unwrap_or (get nat_cmp draft.shifts d) (pos 0)
 
-  -- what shows over a state: what the draft has put into a cell, and else what the state has there
+  -- the cells over a state: what the draft has written, and elsewhere what the state has
   abbrev pub over : Draft A → Sight → Sight
   over draft s = record {
     head = λ n. unwrap_or (option_map (option_map header_of) (get nat_cmp draft.heads n)) (s.head n);
@@ -34,23 +35,23 @@ module _ {A : Type 0} where
   abbrev pub has_created : Draft A → ℕ → Bool
   has_created draft n = contains nat_cmp draft.created n
 
-  -- an entry has written the number's header, or that it has none
+  -- whether an entry has written the header of the number
   abbrev pub has_header : Draft A → ℕ → Bool
   has_header draft n = is_some (get nat_cmp draft.heads n)
 
-  -- no header that was written is forgotten
+  -- each header that was written before is written now
   abbrev pub KeepsHeaders : (old new : Draft A) → Type 0
   KeepsHeaders old new = (n : ℕ) → IsTrue (has_header old n) → IsTrue (has_header new n)
 
-  -- the log has created the same numbers
+  -- the log has created the same numbers in both
   abbrev pub KeepsCreated : (old new : Draft A) → Type 0
   KeepsCreated old new = (n : ℕ) → has_created new n ≡ has_created old n
 
-  -- the log has created exactly these
+  -- the log has created exactly these numbers
   abbrev pub AreCreated : Draft A → List ℕ → Type 0
   AreCreated draft numbers = (n : ℕ) → has_created draft n ≡ list_any (λ c. c == n) numbers
 
-  -- where an entry is judged, by what the client saw before the log
+  -- the point at which an entry is judged, given what the client saw before the log
   abbrev pub entry_context_of : Client → Draft A → ClientSight → EntryContext
   entry_context_of client draft before = record {
     client = client;
@@ -59,11 +60,11 @@ module _ {A : Type 0} where
     created = has_created draft;
   }
 
--- the map has this value at the key, and at all others what it had
+-- the new map has this value at the key, and elsewhere what the old one has
 abbrev pub PutsAt : {K X : Type 0} → (K → K → Ordering) → BTreeMap K X → BTreeMap K X → K → X → Type 0
 PutsAt {K} cmp old new key value = (q : K) → get cmp new q ≡ cond (eq_by_cmp cmp key q) (Some value) (get cmp old q)
 
--- ---- the state with another answer in one cell
+-- ---- the cells with one changed
 
 abbrev pub with_header : (number : ℕ) → Option Header → Sight → Sight
 with_header n header s = record s { head = put_at n header s.head }
@@ -71,20 +72,20 @@ with_header n header s = record s { head = put_at n header s.head }
 abbrev pub with_target : (directory : ℕ) (name : List ℕ) → Option ℕ → Sight → Sight
 with_target d m target s = record s { name = put_name d m target s.name }
 
--- the directory has so many names more
+-- the cells with so many more names in the directory
 abbrev pub with_more_names : (directory : ℕ) → ℤ → Sight → Sight
 with_more_names d by s = record s { count = shifted d by s.count }
 
 abbrev pub with_parent : (number : ℕ) → Option ℕ → Sight → Sight
 with_parent n parent s = record s { parent = put_at n parent s.parent }
 
--- where the node is a directory it now stands in this one
+-- the cells in which the node, if it is a directory, has this parent
 abbrev pub with_directory_in : Kind → (number directory : ℕ) → Sight → Sight
 with_directory_in kind n d s = record s { parent = put_parent kind n d s.parent }
 
--- ---- the state after a change of names
+-- ---- the cells after a change of names
 
--- with a new node under a name
+-- the cells with a new node and its name
 abbrev pub with_node : (directory : ℕ) (name : List ℕ) (number : ℕ) → Header → Sight → Sight
 with_node d m n header s = record {
   head = put_at n (Some header) s.head;
@@ -93,7 +94,7 @@ with_node d m n header s = record {
   parent = put_parent header.kind n d s.parent;
 }
 
--- with one name more for a node, which has this header then
+-- the cells with one more name of a node, whose header is this
 abbrev pub with_name : (directory : ℕ) (name : List ℕ) (number : ℕ) → Option Header → Sight → Sight
 with_name d m n header s = record {
   head = put_at n header s.head;
@@ -102,11 +103,11 @@ with_name d m n header s = record {
   parent = s.parent;
 }
 
--- a header with room for one link more has it
+-- the header has one link more, if there is room for it
 abbrev pub IsLinked : (before after : Option Header) → Type 0
 IsLinked before after = is_some_and before (λ h. nat_lt h.links link_limit) ≡ true → after ≡ option_map (λ (h : Header). record h { links = h.links + 1 }) before
 
--- without a name of a node, which has this header then, or is gone
+-- the cells with one name of a node fewer, whose header is this, or which is gone
 abbrev pub without_name : (directory : ℕ) (name : List ℕ) (number : ℕ) → Option Header → Sight → Sight
 without_name d m n header s = record {
   head = put_at n header s.head;
@@ -115,7 +116,7 @@ without_name d m n header s = record {
   parent = put_at n None s.parent;
 }
 
--- with the second name in place of the first for a node of this kind
+-- the cells with a node of this kind moved from the first name to the second
 abbrev pub with_name_moved : (d : ℕ) (m : List ℕ) (e : ℕ) (k : List ℕ) (number : ℕ) → Kind → Sight → Sight
 with_name_moved d m e k n kind s = record {
   head = s.head;
@@ -125,32 +126,32 @@ with_name_moved d m e k n kind s = record {
 }
 
 module _ {A : Type 0} where
-  -- no count differs by more, upwards or downwards
+  -- no count has changed by more than `most`, up or down
   pub record ShiftsBy (most : ℕ) (draft : Draft A) : Type 0 where
     pub above : (d : ℕ) → shift_of draft d ≤ℤ pos most
     pub below : (d : ℕ) → neg_ℤ (pos most) ≤ℤ shift_of draft d
 
-  -- after so many further changes of one name each, every difference still fits into 32 bits
+  -- after so many more changes of one name each, every count's change still fits 32 bits
   abbrev pub HasRoom : (changes : ℕ) → Draft A → Type 0
   HasRoom changes draft = ShiftsBy (2147483647 - changes) draft
 
-  -- no count differs by more than before
+  -- no count's change is larger than before
   abbrev pub KeepsShifts : (old new : Draft A) → Type 0
   KeepsShifts old new = (most : ℕ) → ShiftsBy most old → ShiftsBy most new
 
-  -- none differs by so many names more than before
+  -- no count's change is larger than before by more than so many names
   abbrev pub ShiftsFurther : (names : ℕ) → (old new : Draft A) → Type 0
   ShiftsFurther names old new = (most : ℕ) → ShiftsBy most old → ShiftsBy (most + names) new
 
-  -- the names and headers that the draft has are among these cells
+  -- each name and header that the draft has written is among these cells
   pub record ChangesAreAmong (draft : Draft A) (among : List Cell) : Type 0 where
     pub names : (key : ℕ × List ℕ) (value : Option ℕ) → get name_order.compare draft.names key ≡ Some value → Contains among (NameIn key.0 key.1)
     pub heads : (n : ℕ) (value : Option CodeHeader) → get nat_cmp draft.heads n ≡ Some value → Contains among (HeaderOf n)
 
-  -- the draft's names and headers were there before, or are this name and this header
+  -- each name and header in the new draft was in the old one, or is this name or this header
   abbrev pub WritesNameAndHeader : (old new : Draft A) (directory : ℕ) (name : List ℕ) (number : ℕ) → Type 0
   WritesNameAndHeader old new d m n = (among : List Cell) → ChangesAreAmong old among → Contains among (NameIn d m) → Contains among (HeaderOf n) → ChangesAreAmong new among
 
-  -- the draft's names and headers were there before, or are these two names
+  -- each name and header in the new draft was in the old one, or is one of these two names
   abbrev pub WritesTwoNames : (old new : Draft A) (d : ℕ) (m : List ℕ) (e : ℕ) (k : List ℕ) → Type 0
   WritesTwoNames old new d m e k = (among : List Cell) → ChangesAreAmong old among → Contains among (NameIn d m) → Contains among (NameIn e k) → ChangesAreAmong new among
