@@ -1,4 +1,4 @@
--- What a log's judge has made of an entry, and of entries one after another.
+-- What a log's judge has done with one entry, and with several in a row.
 use Rattle.std.specs.Prelude.{◌≡◌, ◌==◌, ℕ, List, ◌∷◌, [], Contains, if◌then◌else◌, ◌++◌, Option, Some, None, Result, Ok, IfOk, OnOk}
 use Rattle.std.specs.Option.{option_map}
 use Rattle.std.specs.declared.alloc.AllocError.{AllocError}
@@ -15,22 +15,22 @@ use Rattle.kfs_judge_draft.specs.Overlay.{over, entry_context_of, AreCreated, Ch
 use Rattle.kfs_judge_check.specs.Reads.{IsPart}
 use Rattle.kfs_judge_check.specs.Recorders.{GoesOn, Known, ReadsAt}
 
--- where the next entry is judged, by what the client saw before the log
+-- the point at which the next entry is judged, given what the client saw before the log
 abbrev pub next_context : {A : Type 0} → LogJudge A → ClientSight → EntryContext
 next_context judge before = entry_context_of judge.client.now judge.draft before
 
--- the header of the node that loses a name
+-- the cell of the header of the node that loses a name
 abbrev pub headers_unlinked : (there : Option ℕ) → List Cell
 headers_unlinked None = []
 headers_unlinked (Some t) = HeaderOf t ∷ []
 
--- the headers that a Rename looks at: of the node moved, and of the one that it replaces
+-- the cells of the headers that a Rename looks at: the moved node's and the replaced one's
 abbrev pub headers_renamed : (from to : Option ℕ) → List Cell
 headers_renamed None to = []
 headers_renamed (Some s) None = HeaderOf s ∷ []
 headers_renamed (Some s) (Some t) = if t == s then [] else HeaderOf s ∷ HeaderOf t ∷ []
 
--- an entry, and the judge before it and behind it
+-- an entry, and the judge before and after it
 module _ {A : Type 0} (old new : LogJudge A) (entry : Entry) where
   abbrev pub IsFirstFault : Option Reason → Type 0
   IsFirstFault reason = Known new.recorder (λ before. first_fault (next_context old before) entry ≡ option_map reason_of reason)
@@ -41,16 +41,17 @@ module _ {A : Type 0} (old new : LogJudge A) (entry : Entry) where
   abbrev pub ShowsItsChange : Type 0
   ShowsItsChange = Known new.recorder (λ before. over new.draft before.sight ≡ seen_after old.client.now (over old.draft before.sight) entry)
 
-  -- what the draft has was there before, or the entry looked at it
+  -- each name and header that the draft has was there before, or the entry looked at it
   abbrev pub WritesItsCells : Type 0
   WritesItsCells = Known new.recorder (λ before. (among : List Cell) → ChangesAreAmong old.draft among → ChangesAreAmong new.draft (entry_cells (next_context old before) entry ++ among))
 
   abbrev pub CreatesItsNumber : Type 0
   CreatesItsNumber = (numbers : List ℕ) → AreCreated old.draft numbers → AreCreated new.draft (created_by entry numbers)
 
--- an entry, the judge before it and behind it, and what is answered
+-- an entry, the judge before and after it, and the answer
 module _ {A : Type 0} (old new : LogJudge A) (entry : Entry) where
-  -- the draft has the entry's change, all of it at cells that were looked at, and the file that the entry reaches
+  -- the draft has the entry's change, only at cells that were looked at, and the header of the file
+  -- that the entry reaches
   pub record MakesItsChange : Type 0 where
     pub shown : ShowsItsChange old new entry
     pub written : WritesItsCells old new entry
@@ -59,7 +60,7 @@ module _ {A : Type 0} (old new : LogJudge A) (entry : Entry) where
     pub reached : HasFileOf new.draft entry
     pub shifts : ShiftsFurther 3 old.draft new.draft
 
-  -- the reason is the entry's first fault; where there is none, its change is made
+  -- the answer is the entry's first fault; where there is none, the change is made
   pub record IsEntered (answer : Result (Option Reason) AllocError) : Type 0 where
     pub goes : GoesOn old.recorder new.recorder
     pub client : new.client.now ≡ old.client.now
@@ -67,7 +68,7 @@ module _ {A : Type 0} (old new : LogJudge A) (entry : Entry) where
     pub among : OnOk answer (ReadsItsCells old new entry)
     pub change : answer ≡ Ok None → MakesItsChange
 
--- a name goes, which leads to this node
+-- a name that leads to this node is removed
 module _ {A : Type 0} (old new : LogJudge A) (d : ℕ) (m : List ℕ) (there : Option ℕ) where
   abbrev pub ShowsUnlink : Type 0
   ShowsUnlink = Known new.recorder (λ before. over new.draft before.sight ≡ seen_unlinked d m there (over old.draft before.sight))
@@ -75,7 +76,7 @@ module _ {A : Type 0} (old new : LogJudge A) (d : ℕ) (m : List ℕ) (there : O
   abbrev pub WritesUnlink : Type 0
   WritesUnlink = (among : List Cell) → ChangesAreAmong old.draft among → Contains among (NameIn d m) → IsPart (headers_unlinked there) among → ChangesAreAmong new.draft among
 
--- a name moves to a second one, where the two lead to these nodes
+-- a name moves to a second one; the two lead to these nodes
 module _ {A : Type 0} (old new : LogJudge A) (d : ℕ) (m : List ℕ) (e : ℕ) (k : List ℕ) (from to : Option ℕ) where
   abbrev pub ShowsRename : Type 0
   ShowsRename = Known new.recorder (λ before. over new.draft before.sight ≡ seen_renamed d m e k from to (over old.draft before.sight))
