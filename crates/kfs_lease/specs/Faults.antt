@@ -1,10 +1,10 @@
--- The refusals of the code as those of the definitions.
+-- The code's refusals as those of the definitions.
 use Rattle.std.specs.Prelude.{◌≡◌, Option, Some, None, IfSome, Err}
 use Rattle.kfs_model.specs.Lease as model
 use Rattle.kfs_lease.specs.declared.leases.LeaseFault.{LeaseFault}
 use Rattle.kfs_lease.specs.declared.leases.LeaseFault.TheVariants.{UnknownClient, BadPath, NoSuchName, NotDirectory, NoSearch, Past, LeaseHeld, NoLeaseHeld, Backwards, OutOfMemory}
 
--- the refusal, or none where memory ran out
+-- the refusal, or none where memory was refused
 abbrev pub fault_of : LeaseFault → Option model.LeaseFault
 fault_of UnknownClient = Some model.UnknownClient
 fault_of BadPath = Some model.BadPath
@@ -17,6 +17,6 @@ fault_of NoLeaseHeld = Some model.NoLeaseHeld
 fault_of Backwards = Some model.Backwards
 fault_of OutOfMemory = None
 
--- the outcome is this refusal, memory aside, with these leases
+-- the outcome is this refusal, unless memory was refused, with these leases
 abbrev pub Refuses : model.LeaseOutcome → LeaseFault → model.Leases → Type 0
 Refuses outcome fault leases = IfSome (fault_of fault) (λ refusal. outcome ≡ (Err refusal, leases))
