@@ -1,4 +1,4 @@
--- What is left of right pieces.
+-- What is left of right pieces while a plan's pieces are compared with them.
 use Rattle.std.specs.Prelude.{ℕ, ◌+◌, ◌<◌, ◌≤◌, ◌^◌, List, [], ◌∷◌, drop, map, Some, None}
 use Rattle.kfs_model.specs.Limits.{size_limit}
 use Rattle.kfs_model.specs.PlanRow.{Piece, Source, Zero, Payload}
@@ -6,11 +6,11 @@ use Rattle.kfs_entry_value.specs.Views.{piece_of}
 use Rattle.kfs_entry_value.specs.declared.plan.Piece.{Piece as CodePiece}
 use Rattle.kfs_plan_sweep.specs.declared.compare.Left.{Left}
 
--- the first piece, perhaps without its front, and those behind it
+-- the pieces left: a first one, perhaps without its front, and those after it
 abbrev pub left_of : List CodePiece → Left → List CodePiece
 left_of right left = elim left.front [ None ↦ [] | Some front ↦ front ∷ drop left.next right ]
 
--- what they say
+-- the same, as pieces of the definitions
 abbrev pub pieces_left : List CodePiece → Left → List Piece
 pieces_left right left = map piece_of (left_of right left)
 
@@ -18,12 +18,12 @@ abbrev pub IsPlaceShort : Source → ℕ → Type 0
 IsPlaceShort Zero distance = Unit {0}
 IsPlaceShort (Payload entry place) distance = place + distance < 2 ^ 32
 
--- so many bytes of the piece end in range, in the file and in the payload
+-- the first `distance` bytes of the piece end in range, in the file and in the payload
 pub record FrontIsInRange (p : Piece) (distance : ℕ) : Type 0 where
   pub start : p.start + distance ≤ size_limit
   pub place : IsPlaceShort p.source distance
 
--- all of the piece ends in range
+-- the whole piece ends in range
 abbrev pub PieceIsInRange : CodePiece → Type 0
 PieceIsInRange p = FrontIsInRange (piece_of p) p.len
 

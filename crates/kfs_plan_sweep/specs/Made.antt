@@ -1,4 +1,4 @@
--- The ranges that a log makes, and the pieces that they are.
+-- The byte ranges that a log changes, and the pieces that they are.
 use Rattle.std.specs.Prelude.{◌≡◌, ℕ, ◌+◌, ◌-◌, ◌<◌, ◌≤◌, ◌++◌, ◌==◌, min, List, [], ◌∷◌, length, IfOk, IsTrue}
 use Rattle.std.specs.List.{list_any}
 use Rattle.kfs_model.specs.Limits.{payload_limit, size_limit}
@@ -14,7 +14,7 @@ use Rattle.kfs_plan_sweep.specs.declared.byte_range.Origin.{Origin}
 use Rattle.kfs_plan_sweep.specs.declared.byte_range.Origin.TheVariants.{Zero, Payload}
 use Rattle.kfs_plan_sweep.specs.declared.byte_range.ByteRange.{ByteRange}
 
--- what a piece that begins at this byte comes from
+-- the source of a piece that begins at this byte
 abbrev pub source_at : Origin → (start : ℕ) → Source
 source_at Zero start = Source.Zero
 source_at (Payload entry offset) start = Source.Payload entry (start - offset)
@@ -26,17 +26,17 @@ abbrev pub pieces_made : List ByteRange → List Piece
 pieces_made [] = []
 pieces_made (s ∷ ss) = piece_made s ∷ pieces_made ss
 
--- a payload stands at its offset, at most 65,536 bytes long
+-- the payload begins at its offset, and has at most 65,536 bytes
 abbrev pub IsPlacedAt : Origin → (start end : ℕ) → Type 0
 IsPlacedAt Zero start end = Unit {0}
 IsPlacedAt (Payload entry offset) start end = (offset ≤ start) × (end ≤ offset + payload_limit)
 
--- the range lies in a file of the greatest size, and in its entry's payload
+-- the range lies in a file of at most the greatest size, and in its entry's payload
 pub record IsFit (s : ByteRange) : Type 0 where
   pub end : s.end ≤ size_limit
   pub placed : IsPlacedAt s.origin s.start s.end
 
--- what each Write and each Truncate reaches of its file, below the file's end after the log
+-- the ranges that Writes and Truncates change, each cut off at its file's size after the log
 unfoldable pub made : (ends : ℕ → ℕ) → (index : ℕ) → List Entry → List ByteRange
 made ends index [] = []
 made ends index (Create d m n kind mode ∷ entries) = made ends (index + 1) entries
@@ -47,18 +47,19 @@ made ends index (Unlink d m kind ∷ entries) = made ends (index + 1) entries
 made ends index (Rename d m e k ∷ entries) = made ends (index + 1) entries
 made ends index (Chmod n mode ∷ entries) = made ends (index + 1) entries
 
--- what files grew by, between their ends before and after the log
+-- the ranges by which files grew
 unfoldable pub grown : (before ends : ℕ → ℕ) → (numbers : List ℕ) → List ByteRange
 grown before ends [] = []
 grown before ends (n ∷ ns) = record { number = n; start = before n; end = ends n; origin = Zero } ∷ grown before ends ns
 
--- what a run made: the growth of files, those that grew among them, and then what each entry reaches
+-- the ranges that a run changed: first what files grew by, with all that grew listed, then what each
+-- entry changes
 pub record AreMade (tree : Tree ℕ) (entries : List Entry) (after : Tree Mark) (ranges : List ByteRange) : Type 0 where
   pub numbers : List ℕ
   pub grew : (n : ℕ) → file_size tree n < file_size after n → IsTrue (list_any (λ k. n == k) numbers)
   pub are : ranges ≡ grown (file_size tree) (file_size after) numbers ++ made (file_size after) 0 entries
 
--- whichever run made the ranges, the pieces are right ones of its log
+-- the pieces are right for the log of any run that changed these ranges
 abbrev pub AreRightOf : List ByteRange → List Piece → Type 0
 AreRightOf ranges pieces = EachRun (λ client before tree entries. before.sight ≡ sight tree
     → IfOk (run over_marks client before (marked tree) entries) (λ after. AreMade tree entries after ranges → ArePieces after pieces))

@@ -8,16 +8,17 @@ use Rattle.kfs_entry_value.specs.declared.plan.Piece.{Piece as CodePiece}
 use Rattle.kfs_plan_sweep.specs.declared.sizes.FileSize.{FileSize}
 use Rattle.kfs_plan_sweep.specs.Sizes.{AreSwept}
 
--- in the order of their files' numbers, each at least this one
+-- the pieces ascend by file number, from `least` on
 abbrev pub AreByNumber : (least : ℕ) → List CodePiece → Type 0
 AreByNumber least [] = Unit {0}
 AreByNumber least (p ∷ ps) = (least ≤ p.number) × AreByNumber p.number ps
 
--- how many at the front are of this file
+-- how many pieces at the front are of this file
 abbrev pub front_len : (number : ℕ) → List CodePiece → ℕ
 front_len number [] = 0
 front_len number (p ∷ ps) = if p.number == number then suc (front_len number ps) else 0
 
--- the count is the need of each tree of which these are right pieces, of files whose sizes are listed
+-- the count is the need of each tree of which these are right pieces, where the sizes of its files are
+-- these
 abbrev pub IsNeedOf : List FileSize → List Piece → (count : ℕ) → Type 0
 IsNeedOf sizes pieces count = (after : Tree Mark) → AreSwept sizes after pieces → count ≡ need after

@@ -1,4 +1,4 @@
--- What is left of a list of ranges.
+-- What is left of a list of byte ranges.
 use Rattle.std.specs.Prelude.{List, [], ◌∷◌, drop, Some, None}
 use Rattle.kfs_plan_sweep.specs.declared.byte_range.ByteRange.{ByteRange}
 use Rattle.kfs_plan_sweep.specs.declared.merge.Rest.{Rest}

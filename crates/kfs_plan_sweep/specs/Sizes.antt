@@ -1,4 +1,5 @@
--- The sizes of files before and after a log, and the ranges that its entries make below the sizes after.
+-- The sizes of files before and after a log, and the byte ranges that its entries change below the
+-- sizes after.
 use Rattle.std.specs.Prelude.{◌≡◌, ℕ, ◌+◌, ◌-◌, ◌<◌, ◌≤◌, ◌==◌, min, Bool, false, List, [], ◌∷◌, length, map, Option, Some, None, IfOk, IsTrue, if◌then◌else◌}
 use Rattle.std.specs.List.{list_any, AllByRecursion}
 use Rattle.kfs_model.specs.Access.{Client}
@@ -18,21 +19,21 @@ use Rattle.kfs_plan_sweep.specs.declared.sizes.FileSize.{FileSize}
 use Rattle.kfs_plan_sweep.specs.declared.byte_range.Origin.TheVariants.{Zero, Payload}
 use Rattle.kfs_plan_sweep.specs.declared.byte_range.ByteRange.{ByteRange}
 
--- by number, each of them at least this one, and no number twice
+-- the sizes ascend by file number, from `least` on, none twice
 abbrev pub SizesAscend : (least : ℕ) → List FileSize → Type 0
 SizesAscend least [] = Unit {0}
 SizesAscend least (s ∷ ss) = (least ≤ s.number) × SizesAscend (s.number + 1) ss
 
--- the size after the log, 0 of a file that isn't listed
+-- the file's size after the log, 0 where it isn't listed
 abbrev pub length_after : List FileSize → (number : ℕ) → ℕ
 length_after [] number = 0
 length_after (s ∷ ss) number = if s.number == number then s.after else length_after ss number
 
--- no file is longer
+-- no size after the log is over the greatest
 abbrev pub IsSize : FileSize → Type 0
 IsSize s = s.after ≤ size_limit
 
--- a payload's span isn't turned round, and no longer than a payload may be
+-- a payload's span doesn't end before it starts, and is no longer than a payload may be
 abbrev pub IsSpanned : CodeEntry Span → Type 0
 IsSpanned (entries.Write n offset p) = (p.start ≤ p.end) × (p.end ≤ p.start + payload_limit)
 IsSpanned (entries.Create d m n k mode) = Unit {0}
@@ -42,14 +43,14 @@ IsSpanned (entries.Unlink d m k) = Unit {0}
 IsSpanned (entries.Rename d m e k) = Unit {0}
 IsSpanned (entries.Chmod n mode) = Unit {0}
 
--- what a file grew by
+-- the range by which a file grew
 abbrev pub growth_of : FileSize → ByteRange
 growth_of s = record { number = s.number; start = s.before; end = s.after; origin = Zero }
 
 abbrev pub growths : List FileSize → List ByteRange
 growths sizes = map growth_of sizes
 
--- what an entry reaches of its file
+-- the range that an entry changes, if it is a Write or a Truncate of a listed file
 abbrev pub reach_of : List FileSize → (index : ℕ) → CodeEntry Span → Option ByteRange
 reach_of sizes index (entries.Write n offset p) =
     Some (record { number = n; start = offset; end = min (offset + (p.end - p.start)) (length_after sizes n); origin = Payload index offset })
@@ -64,12 +65,12 @@ abbrev pub put_before : Option ByteRange → List ByteRange → List ByteRange
 put_before None ranges = ranges
 put_before (Some range) ranges = range ∷ ranges
 
--- what the entries reach, the first of them having this index
+-- the ranges that the entries change; the first entry has this index
 abbrev pub reaches : List FileSize → (index : ℕ) → List (CodeEntry Span) → List ByteRange
 reaches sizes index [] = []
 reaches sizes index (entry ∷ rest) = put_before (reach_of sizes index entry) (reaches sizes (index + 1) rest)
 
--- a Write or a Truncate of this file
+-- whether the entry is a Write or a Truncate of this file
 abbrev pub reaches_file : (number : ℕ) → Entry → Bool
 reaches_file number (Write n offset payload) = number == n
 reaches_file number (Truncate n size) = number == n
@@ -79,32 +80,34 @@ reaches_file number (Unlink d m kind) = false
 reaches_file number (Rename d m e k) = false
 reaches_file number (Chmod n mode) = false
 
--- the sizes are those of a run; each file that grew is listed, and each that an entry reaches, if it is there after the log
+-- the sizes are right for the run, and each file is listed that grew, or that an entry reaches and is
+-- there after the log
 pub record AreSizes (tree : Tree ℕ) (entries : List Entry) (after : Tree Mark) (sizes : List FileSize) : Type 0 where
   pub own : AllByRecursion (λ (s : FileSize). (s.before ≡ file_size tree s.number) × (s.after ≡ file_size after s.number)) sizes
   pub grew : (n : ℕ) → file_size tree n < file_size after n → IsTrue (list_any (λ k. n == k) (map (λ (s : FileSize). s.number) sizes))
   pub reached : (n : ℕ) → IsTrue (list_any (reaches_file n) entries) → length_after sizes n ≡ file_size after n
 
--- the size that the header says, 0 of none
+-- the size in the header, 0 where there is none
 abbrev pub size_in : Sight → ℕ → ℕ
 size_in sight n = elim (sight.head n) [ None ↦ 0 | Some header ↦ header.size ]
 
--- the sizes are those of two sights, the later one cut off at the greatest of a file; each number whose size grew is listed, and each that an entry reaches
+-- the sizes are those before and after, the latter cut off at the greatest size, and each file is
+-- listed that grew or that an entry reaches
 pub record AreSizesBetween (before after : Sight) (entries : List Entry) (sizes : List FileSize) : Type 0 where
   pub own : AllByRecursion (λ (s : FileSize). (s.before ≡ size_in before s.number) × (s.after ≡ min (size_in after s.number) size_limit)) sizes
   pub grew : (n : ℕ) → size_in before n < size_in after n → IsTrue (list_any (λ k. n == k) (map (λ (s : FileSize). s.number) sizes))
   pub reached : (n : ℕ) → IsTrue (list_any (reaches_file n) entries) → IsTrue (list_any (λ k. n == k) (map (λ (s : FileSize). s.number) sizes))
 
--- right pieces, of files whose sizes are listed
+-- the pieces are right, and the sizes of their files are these
 pub record AreSwept (sizes : List FileSize) (after : Tree Mark) (pieces : List Piece) : Type 0 where
   pub right : ArePieces after pieces
   pub listed : AllByRecursion (λ (p : Piece). length_after sizes p.number ≡ file_size after p.number) pieces
 
--- whichever run of the entries has these sizes, the pieces are right ones of it
+-- the pieces are right for each run of the entries with these sizes
 abbrev pub AreRightFor : List FileSize → List Entry → List Piece → Type 0
 AreRightFor sizes entries pieces = (client : Client) (before : ClientSight) (tree : Tree ℕ) → before.sight ≡ sight tree
     → IfOk (run over_marks client before (marked tree) entries) (λ after. AreSizes tree entries after sizes → AreSwept sizes after pieces)
 
--- whatever bytes the payloads' spans are of, the pieces are right ones for the entries
+-- the same, whatever bytes the payloads are
 abbrev pub AreRightFrom : List FileSize → List (CodeEntry Span) → List Piece → Type 0
 AreRightFrom sizes entries pieces = (source : List ℕ) → AllByRecursion (IsWithin (length source)) entries → AreRightFor sizes (map (entry_of source) entries) pieces
