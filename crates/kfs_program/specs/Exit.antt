@@ -11,24 +11,24 @@ status_of (Err WriteFault) = 3
 status_of (Err LongLine) = 3
 status_of (Err OutOfMemory) = 4
 
--- nothing is read and nothing written
+-- nothing was read, and nothing written
 abbrev pub IsUntouched : (input text : List ℕ) → Type 0
 IsUntouched input text = (input ≡ []) × (text ≡ [])
 
--- the engine ended in this way, with its status
+-- the engine ended in this way, and this is its status
 pub record IsEnded (status : ℕ) (input text : List ℕ) : Type 0 where
   pub ended : Result (Unit {0}) EngineFault
   pub status_is : status ≡ status_of ended
   pub session : IsSession ended input text
 
--- The words are refused before anything is read, always where there are more than two, or there is no memory for them, or
--- else the engine runs.
+-- The words are refused, as they are where there are more than two, or memory for them is; then nothing
+-- was read. Or else the engine ran.
 abbrev pub IsExit : (words status : ℕ) → (input text : List ℕ) → Type 0
 IsExit words status input text =
     ((status ≡ 2) × IsUntouched input text)
     ⊎ (((status ≡ 4) × IsUntouched input text) ⊎ ((words ≤ 2) × IsEnded status input text))
 
--- what a person is told of a status
+-- the message for a status, if there is one
 abbrev pub message_of : (status : ℕ) → Option (List ℕ)
 message_of status =
     if status == 2 then Some (codes "usage: kfs [run]")
