@@ -13,13 +13,13 @@ use Rattle.kfs_program_text.specs.Cut.{cut, space}
 use Rattle.kfs_program_text.specs.Decimals.{decimal32, decimal64, decimal_within, decimals32, hexadecimal}
 use Rattle.kfs_program_text.specs.Reading.{are_words}
 
--- before the desk is begun
+-- a command that comes before the desk is begun
 pub data OpeningCommand : Type 0 where
   New : (sizes : TierSizes) → OpeningCommand
   Row : (client : Result Client ClientFault) → OpeningCommand
   Begin : (limit : ℕ) → OpeningCommand
 
--- to the desk
+-- a command to the desk
 pub data DeskCommand : Type 0 where
   Lease : (client : ℕ) (path : List ℕ) (kind : LeaseKind) (end : ℕ) → DeskCommand
   Drop : (client number : ℕ) → DeskCommand
@@ -43,7 +43,8 @@ kind_named word = if bytes_eq word (codes "r") then Some ReadLease else if bytes
 
 -- ---- commands, by the words behind their name
 
--- the row of a client: too many groups before a grant out of range
+-- the client with these parts, or why it is refused; too many groups are found before a grant out of
+-- range
 abbrev pub client_row : (number uid gid : ℕ) (groups : List ℕ) (privileged : Bool) (first last : ℕ) → Result Client ClientFault
 client_row number uid gid groups privileged first last =
     if nat_lt group_limit (length groups) then Err TooManyGroups
@@ -85,7 +86,7 @@ drop_of (a ∷ b ∷ []) = do
   Some (Request (Drop client number))
 drop_of words = None
 
--- a client's number, a log and a plan
+-- the submission in the words: a client's number, a log, a plan
 abbrev pub submission_in : List (List ℕ) → Option Submission
 submission_in (a ∷ b ∷ c ∷ []) = do
   client ← decimal32 a
@@ -99,7 +100,7 @@ submit_of words = do
   submission ← submission_in words
   Some (Request (Submit submission))
 
--- workers are numbered from 0 to this
+-- the greatest number of a worker
 abbrev pub last_worker : ℕ
 last_worker = 7
 
@@ -110,7 +111,7 @@ judge_of (a ∷ words) = do
   submission ← submission_in words
   Some (Request (Judge worker submission))
 
--- at most this many bytes are asked for at once
+-- the most bytes that a line may ask for
 abbrev pub read_limit : ℕ
 read_limit = 65536
 
@@ -122,12 +123,12 @@ read_of (a ∷ b ∷ c ∷ []) = do
   Some (Request (Bytes number start count))
 read_of words = None
 
--- a command of no word
+-- a command without words
 abbrev pub alone : Command → List (List ℕ) → Option Command
 alone command [] = Some command
 alone command words = None
 
--- a command with one number alone
+-- a command with exactly one number
 abbrev pub with_number : (List ℕ → Option ℕ) → (ℕ → Command) → List (List ℕ) → Option Command
 with_number number command (a ∷ []) = option_map command (number a)
 with_number number command words = None
@@ -155,6 +156,6 @@ abbrev pub asked_in : List (List ℕ) → Option Command
 asked_in [] = None
 asked_in (name ∷ words) = if are_words (name ∷ words) then command_of name words else None
 
--- what the line asks for, none where it is no command
+-- the command in a line, none where the line isn't a command
 abbrev pub asked_by : (line : List ℕ) → Option Command
 asked_by line = asked_in (cut space line)

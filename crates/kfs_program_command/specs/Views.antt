@@ -1,4 +1,4 @@
--- What was read of a command line is, in the definitions.
+-- The code's commands in terms of the definitions.
 use Rattle.kfs_lease_rows.specs.Rows.{kind_of}
 use Rattle.kfs_lease.specs.declared.act.Act.{Act}
 use Rattle.kfs_lease.specs.declared.act.Act.TheVariants as acts
