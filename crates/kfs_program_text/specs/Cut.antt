@@ -1,8 +1,8 @@
--- Bytes cut at a mark: lines at their ends, words at the spaces between them.
+-- Bytes cut at a mark: into lines at line ends, into words at spaces.
 use Rattle.std.specs.Prelude.{ℕ, ◌==◌, List, [], ◌∷◌}
 use Rattle.std.specs.List.{slice_split}
 
--- the parts before, between and behind the marks: one more than there are marks
+-- the parts between the marks, one more than there are marks
 unfoldable pub cut : (mark : ℕ) → List ℕ → List (List ℕ)
 cut mark bytes = slice_split (λ byte. byte == mark) bytes
 
@@ -12,17 +12,17 @@ line_end = 10
 abbrev pub space : ℕ
 space = 32
 
--- the last part of the input is a line where it isn't empty
+-- the last part of an input counts as a line if it isn't empty
 abbrev pub unended : List ℕ → List (List ℕ)
 unended [] = []
 unended (byte ∷ bytes) = (byte ∷ bytes) ∷ []
 
--- the parts are lines, but for a last one that is empty
+-- the parts as lines, without a last one that is empty
 abbrev pub lines_in : List (List ℕ) → List (List ℕ)
 lines_in [] = []
 lines_in (rest ∷ []) = unended rest
 lines_in (line ∷ next ∷ parts) = line ∷ lines_in (next ∷ parts)
 
--- all lines of an input, the last one also where it lacks its end
+-- the lines of an input; a last line without an end counts
 abbrev pub lines_of : List ℕ → List (List ℕ)
 lines_of input = lines_in (cut line_end input)

@@ -1,7 +1,7 @@
--- The parts that a line is made of.
+-- The parts of a line.
 use Rattle.std.specs.Prelude.{ℕ, ◌+◌, ◌/◌, ◌%◌, List, [], ◌∷◌, ◌++◌, Bool, if◌then◌else◌, codes, decimal}
 
--- a name, and a number in brackets
+-- a name with a number in brackets
 abbrev pub numbered_text : List ℕ → ℕ → List ℕ
 numbered_text name n = name ++ (codes "(" ++ (decimal n ++ codes ")"))
 
@@ -15,6 +15,6 @@ field_text n = codes " " ++ decimal n
 abbrev pub octal_text : ℕ → List ℕ
 octal_text mode = (48 + mode / 512 % 8) ∷ (48 + mode / 64 % 8) ∷ (48 + mode / 8 % 8) ∷ (48 + mode % 8) ∷ []
 
--- the line's end
+-- the text with a line's end
 abbrev pub line_of : List ℕ → List ℕ
 line_of text = text ++ codes "\n"

@@ -1,4 +1,4 @@
--- What is read of words, one after the other.
+-- Reading words one after another.
 use Rattle.std.specs.Prelude.{◌≡◌, ℕ, nat_lt, Bool, List, [], ◌∷◌, length, Option, Some, None, option_map, Result, MatchResult, if◌then◌else◌}
 use Rattle.std.specs.List.{list_all}
 use Rattle.kfs_model.specs.Steps.{◌>>=◌}
@@ -7,7 +7,7 @@ use Rattle.kfs_program_text.specs.declared.words.Refusal.{Refusal}
 use Rattle.kfs_program_text.specs.declared.words.Refusal.TheVariants.{BadLine}
 use Rattle.kfs_program_text.specs.declared.words.Words.{Words}
 
--- the words that are still to be read
+-- the words that aren't read yet
 abbrev pub words_left : Words → List (List ℕ)
 words_left words = elim words.rest [ None ↦ [] | Some rest ↦ cut space rest.now ]
 
@@ -15,24 +15,25 @@ words_left words = elim words.rest [ None ↦ [] | Some rest ↦ cut space rest.
 abbrev pub are_words : List (List ℕ) → Bool
 are_words parts = list_all (λ word. nat_lt 0 (length word)) parts
 
--- this reading of the first word, and the words behind it: none where no word is left, or it is empty or no such word
+-- what the reading makes of the first word, and the words after it; none where there is no word, or it
+-- is empty or can't be read so
 unfoldable pub first_by : {T : Type 0} → (List ℕ → Option T) → List (List ℕ) → Option (T × List (List ℕ))
 first_by read [] = None
 first_by read (word ∷ words) = if nat_lt 0 (length word) then option_map (λ x. (x, words)) (read word) else None
 
--- no word is left
+-- there is no word left
 unfoldable pub ended : List (List ℕ) → Option (Unit {0})
 ended [] = Some tt
 ended (word ∷ words) = None
 
--- this reading of the only word
+-- what the reading makes of the only word
 abbrev pub only : {T : Type 0} → (List ℕ → Option T) → List (List ℕ) → Option T
 only read words = first_by read words >>= λ x. ended x.1 >>= λ done. Some x.0
 
--- this reading of words, none where one of them is empty
+-- what the reading makes of the words; none where one of them is empty
 unfoldable pub checked : {T : Type 0} → (List (List ℕ) → Option T) → List (List ℕ) → Option T
 checked read words = if are_words words then read words else None
 
--- what is read is what was to be read, and the line is bad only where that is none
+-- the result is what the words say, and the line is bad only where they say nothing
 abbrev pub ReadsAs : {T V : Type 0} → (T → V) → Option V → Result T Refusal → Type 0
 ReadsAs view expected result = MatchResult result (λ x. expected ≡ Some (view x)) (λ refusal. refusal ≡ BadLine → expected ≡ None)
