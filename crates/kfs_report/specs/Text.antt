@@ -58,7 +58,7 @@ reason_name reason.NoWrite = codes "NoWrite"
 reason_name reason.NotOwner = codes "NotOwner"
 reason_name (reason.NoLease node) = codes "NoLease"
 
--- the name with its number, where it has one
+-- the reason's name, with its number if it has one
 abbrev pub reason_text : Reason → List ℕ
 reason_text (reason.NoLease node) = numbered_text (reason_name (reason.NoLease node)) node
 reason_text other = reason_name other
@@ -75,7 +75,7 @@ lease_name lease.NoLeaseHeld = codes "NoLeaseHeld"
 lease_name lease.Backwards = codes "Backwards"
 lease_name lease.OutOfMemory = codes "OutOfMemory"
 
--- the name with its number, where it has one
+-- the refusal's name, with its number if it has one
 abbrev pub lease_text : LeaseFault → List ℕ
 lease_text (lease.NoSuchName i) = numbered_text (lease_name (lease.NoSuchName i)) i
 lease_text (lease.NotDirectory i) = numbered_text (lease_name (lease.NotDirectory i)) i
@@ -137,7 +137,8 @@ node_text node header = codes "node " ++ (decimal node ++ header_text header)
 
 -- ---- lines
 
--- the line of a text stands behind what was there, and a refused growth leaves that; none is refused where 128 bytes fit
+-- the line is appended; where memory is refused nothing is; memory isn't refused where 128 bytes are
+-- spare
 pub record AddsLine {Z : Type 0} (old new : Vec ℕ Z) (line : List ℕ) (result : Result Unit AllocError) : Type 0 where
   pub room : 128 ≤ spare_of old → IsOk result
   pub ok : OnOk result (new.items ≡ old.items ++ line_of line)
