@@ -1,23 +1,23 @@
--- For each number of a node the one that a number of steps up from it leads to.
+-- For each number the ancestor that a list leads it to.
 use Rattle.std.specs.Prelude.{◌≡◌, ℕ, ◌<◌, ◌==◌, ◌&&◌, Bool, false, List, length, slice_get, Option, Some, None, if◌then◌else◌}
 use Rattle.kfs_model.specs.Table.{option_or}
 use Rattle.kfs_model_device.specs.RawImage.{RawImage}
 use Rattle.kfs_model_device.specs.Rules.{parent_of}
 
--- where the list leads from a number; nowhere from one past its end
+-- where the list leads from a number; nowhere for a number past its end
 abbrev pub ancestor_at : List (Option ℕ) → (number : ℕ) → Option ℕ
 ancestor_at ancestors number = elim (slice_get ancestors number) [ None ↦ None | Some up ↦ up ]
 
--- where the list leads from there
+-- where the list leads from there, if anywhere
 abbrev pub ancestor_from : List (Option ℕ) → Option ℕ → Option ℕ
 ancestor_from ancestors None = None
 ancestor_from ancestors (Some number) = ancestor_at ancestors number
 
--- each directory leads to that of its name, and the root to itself
+-- the list leads each directory to its parent, and the root to itself
 abbrev pub ParentsOf : List (Option ℕ) → RawImage → Type 0
 ParentsOf ancestors raw = (number : ℕ) → ancestor_at ancestors number ≡ (if number == 1 then Some 1 else parent_of raw number)
 
--- if it is taken, the number leads up where it led nowhere; the others lead where they did
+-- the number leads to `up`, if it is taken and led nowhere; all others lead where they did
 pub record LeadsFirst (old new : List (Option ℕ)) (taken : Bool) (number up : ℕ) : Type 0 where
   pub len : length new ≡ length old
   pub each : (n : ℕ) → n < length old → ancestor_at new n ≡ option_or (ancestor_at old n) (if taken && (number == n) then Some up else None)

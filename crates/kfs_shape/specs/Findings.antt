@@ -1,4 +1,4 @@
--- What the check of an image answers, beside the finding of the definitions.
+-- What the check of an image answers, next to the finding of the definitions.
 use Rattle.std.specs.Prelude.{◌≡◌, ℕ, List, [], ◌∷◌, Option, Some, None, Result, Ok, Err}
 use Rattle.kfs_model_device.specs.RawImage.{RawImage}
 use Rattle.kfs_model_device.specs.Rules.{Test, rule_1, rule_2, rule_3, rule_4, rule_5, rule_6, rule_7, rule_8, rule_9, rule_10}
@@ -10,17 +10,17 @@ use Rattle.kfs_shape.specs.declared.fault.ShapeFault.TheVariants.{Found, OutOfMe
 abbrev pub finding_shown : CodeFinding → Finding
 finding_shown finding = record { rule = finding.rule; number = finding.number }
 
--- the rule is broken at the least number at which one of its tests fails
+-- the finding of a rule whose tests fail at this least number
 abbrev pub found_at : (rule : ℕ) → (least : Option ℕ) → Option Finding
 found_at rule None = None
 found_at rule (Some number) = Some (record { rule = rule; number = number })
 
--- what is found is this finding; of refused memory nothing follows
+-- the fault names this finding; where memory was refused it says nothing
 abbrev pub Names : ShapeFault → Option Finding → Type 0
 Names (Found found) finding = finding ≡ Some (finding_shown found)
 Names OutOfMemory finding = Unit {0}
 
--- a value is there only where nothing is found
+-- there is a value only where nothing is found
 abbrev pub FindsNoneWhere : {T : Type 0} → Result T ShapeFault → Option Finding → Type 0
 FindsNoneWhere (Ok value) finding = finding ≡ None
 FindsNoneWhere (Err fault) finding = Names fault finding

@@ -1,4 +1,4 @@
--- What is asked of a name row beside the one before it.
+-- What is asked of a name row, given the one before it.
 use Rattle.std.specs.Prelude.{◌&&◌, Bool, Option}
 use Rattle.kfs_model.specs.Header.{Header}
 use Rattle.kfs_model.specs.PlanRow.{NameRow}
@@ -6,6 +6,6 @@ use Rattle.kfs_model.specs.Sight.{is_directory}
 use Rattle.kfs_model.specs.Tree.{name_order}
 use Rattle.kfs_model_device.specs.Rules.{is_above}
 
--- the name row, whose directory's number has this header, stands in a directory, above the row before
+-- whether the row is above the row before, and its directory, whose header is given, is one
 abbrev pub is_in_place : Option Header → Option NameRow × NameRow → Bool
 is_in_place head e = is_above name_order (λ row. (row.directory, row.name)) e && is_directory head

@@ -1,4 +1,4 @@
--- The places of all tiers as positions one after another, and how many extents have one.
+-- The places of all tiers numbered in a row, and how many extents have each.
 use Rattle.std.specs.Prelude.{◌≡◌, ℕ, ◌+◌, ◌*◌, ◌<◌, ◌≤◌, ◌&&◌, nat_le, nat_lt, Bool, true, false}
 use Rattle.std.specs.BTreeMap.{BTreeMap}
 use Rattle.kfs_model_device.specs.RawImage.{ExtentRow}
@@ -6,7 +6,7 @@ use Rattle.kfs_image.specs.declared.raw.ExtentRow.{ExtentRow as CodeExtentRow}
 use Rattle.kfs_shape.specs.Counts.{count_at}
 use Rattle.kfs_image.specs.RawImages.{extent_row_of}
 
--- more than any place and count of blocks come to
+-- a number above the sum of any place and count of blocks
 abbrev pub tier_span : ℕ
 tier_span = 8589934592
 
@@ -19,7 +19,7 @@ has_position position row = nat_le (first_position row) position && nat_lt posit
 abbrev pub lies_at : {A : Type 0} → (position : ℕ) → CodeExtentRow A → Bool
 lies_at position row = has_position position (extent_row_of row)
 
--- a position of the extent that was counted twice
+-- a place of the extent was counted twice
 abbrev pub TakenTwice : BTreeMap ℕ ℕ → ExtentRow → Type 0
 TakenTwice uses row = (position : ℕ) × (has_position position row ≡ true) × (1 < count_at uses position)
 
