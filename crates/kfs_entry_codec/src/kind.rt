@@ -43,6 +43,7 @@ pub fn write<A: Allocator>(
 pub fn len(_source: &[u8], value: &Kind) -> usize
     ensures { result ≡ length (kind_bytes (kind_of value.now)) }
 {
+    // For the prover: whichever kind it is, its spelling is one byte.
     let _kind = *value;
     1
 }
