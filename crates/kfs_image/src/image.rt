@@ -28,9 +28,10 @@ use std::alloc::{AllocError, Allocator};
 use std::marker::Model;
 use std::sync::Arc;
 
-/// The image that the desk owns: nodes, names, and the blocks of files on three tiers. It is always
-/// lawful: its tree is sound and has these headers; each block belongs to a file, begins below the
-/// file's size, and has a place of its own; a place is free exactly where no block lies.
+/// The image that the desk owns: nodes, names, and the blocks of files on three tiers.
+///
+/// It is always lawful. Its tree is sound and has these headers. Each block belongs to a file, begins
+/// below the file's size, and has a place of its own. A place is free exactly where no block lies.
 ///
 /// Views share the nodes and names, and keep showing what they showed when they were taken.
 #[derive(Drop)]
