@@ -12,8 +12,11 @@ use std::mem;
 /// A fill of blocks: the runs that are unmapped, and the rows that are mapped and written.
 #[derive(Drop)]
 pub struct FillBlocks<'a, A: Allocator> {
+    /// The blocks that are changed.
     pub blocks: &'a mut FileBlocks<A>,
+    /// The runs of blocks to be unmapped.
     pub released: &'a [BlockRun],
+    /// The blocks to be mapped, with their places and bytes.
     pub rows: &'a [BlockRow<A>],
 }
 
@@ -38,8 +41,11 @@ impl<'a, A: Allocator + Clone> Change for FillBlocks<'a, A> {
 /// list.
 #[derive(Drop)]
 pub struct ChangeBlocks<'a, A: Allocator> {
+    /// The blocks that are changed.
     pub blocks: &'a mut FileBlocks<A>,
+    /// The new places of blocks, ascending.
     pub edits: &'a [KeyEdit<(u32, u32), Place>],
+    /// The blocks to be written.
     pub written: &'a mut Vec<NewBlock<A>, A>,
 }
 
