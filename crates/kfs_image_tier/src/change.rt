@@ -13,7 +13,9 @@ use std::alloc::{AllocError, Allocator};
 /// A block to be written: its place, and its 4,096 bytes.
 #[derive(Debug, Drop)]
 pub struct NewBlock<A: Allocator> {
+    /// Where it is written.
     pub place: Place,
+    /// Its bytes.
     pub bytes: Vec<u8, A>,
 }
 
