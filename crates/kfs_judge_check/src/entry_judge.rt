@@ -23,7 +23,9 @@ use std::alloc::{AllocError, Allocator};
 /// Judges the next entry of a log: it has the log's client, and what the entries so far have changed.
 #[derive(Clone, Copy)]
 pub struct EntryJudge<'a, A: Allocator> {
+    /// The log's client.
     pub client: &'a Client,
+    /// What the entries so far have changed.
     pub draft: &'a Draft<A>,
 }
 
