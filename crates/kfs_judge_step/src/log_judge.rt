@@ -56,8 +56,11 @@ fn copied(name: &Name) -> Result<Name, AllocError>
 /// and what was read of the view.
 #[derive(Drop)]
 pub struct LogJudge<'a, A: Allocator> {
+    /// The log's client.
     pub client: &'a Client,
+    /// What the entries so far have changed.
     pub draft: Draft<A>,
+    /// The view, and what was read of it.
     pub recorder: Recorder<'a, A>,
 }
 
