@@ -10,8 +10,11 @@ use std::alloc::{AllocError, Allocator};
 /// Edits of a map in chunks, and the change to be made together with them.
 #[derive(Drop)]
 pub struct EditChunks<'a, K: Key, V: Copy, A: Allocator, T> {
+    /// The map that is changed.
     pub chunks: &'a mut Chunks<K, V, A>,
+    /// Its edits, ascending by key.
     pub edits: &'a [KeyEdit<K, V>],
+    /// The change made with them.
     pub then: T,
 }
 
