@@ -103,7 +103,7 @@ pub fn run_is_seen_in_cells()
 {}
 
 /// The cells that a log looks at decide its run. If two states give one client the same answers there,
-/// the log has the same first fault in both, or none and the same changes of names and headers; and it
+/// the log has the same first fault in both, or none and the same changes of names and headers. It
 /// looks at the same cells in both.
 ///
 /// For two sound trees, whatever bytes they hold, the log also changes the same bytes and needs the
