@@ -19,8 +19,8 @@ pub fn create_in_the_root()
 
 /// File 5 holds ABCDEFGHIJ. The log writes twice over one place, cuts the file to 4 bytes, lengthens it
 /// to 8, and writes behind its end. The plan is wrong without its last piece, without its second piece,
-/// without its node row, with a piece that begins before the one above it ends, and with a first piece
-/// that covers the second one's byte.
+/// and without its node row. It is wrong with a piece that begins before the one above it ends, and
+/// with a first piece that covers the second one's byte.
 #[tactic(auto, unfolding(crate::specs::Example::computing))]
 pub fn overlapping_writes()
     ensures accepted { Replies (file_state letters) 7 edits (edits_plan (first_piece 1) (last_piece ∷ [])) (Accepted 1) }
