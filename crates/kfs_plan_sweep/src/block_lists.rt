@@ -18,7 +18,9 @@ use std::alloc::{AllocError, Allocator};
 /// Blocks of a file: from `first` on, below `end`.
 #[derive(Clone, Copy, Debug, PartialEq, Eq)]
 pub struct BlockRange {
+    /// The first block, from 0.
     pub first: u32,
+    /// The block after the last.
     pub end: u32,
 }
 
