@@ -22,7 +22,9 @@ const READ_LIMIT: u64 = 65_536;
 /// A command, with its words read.
 #[derive(Drop)]
 pub enum Command<'a, A: Allocator> {
+    /// It comes before the desk is begun.
     Opening(OpeningCommand),
+    /// It is for the desk.
     Desk(DeskCommand<'a, A>),
 }
 

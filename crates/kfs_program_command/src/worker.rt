@@ -20,6 +20,7 @@ impl Worker {
         Worker { number }
     }
 
+    /// The number, 0 to 7.
     pub fn number(self) -> usize
         ensures value { result ≡ self.number }
         ensures within { result ≤ 7 }
