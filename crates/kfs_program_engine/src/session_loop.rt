@@ -25,6 +25,7 @@ pub struct SessionLoop<A: Allocator> {
 }
 
 impl<A: Allocator + Copy> SessionLoop<A> {
+    /// At the start of a session, with no line begun. Takes no memory.
     pub fn new(alloc: A) -> SessionLoop<A>
         ensures { HasAnsweredSoFar result [] [] [] }
     {
