@@ -36,6 +36,7 @@ pub(crate) fn write_out<W: Write>(writer: &mut W, bytes: &[u8]) -> (usize, Resul
     (count, Err(OutputFault))
 }
 
+/// Flushes the writer. Nothing is written by that.
 pub fn flush<W: Write>(writer: &mut W) -> Result<(), OutputFault>
     ensures { Keeps (W.contents writer.old) (W.contents writer.new) }
 {
