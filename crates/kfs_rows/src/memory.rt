@@ -1,26 +1,26 @@
-//! Scripts in little memory: with each growth refused in turn, and with few bytes.
+//! Scripts in little memory: with each growth of memory refused in turn, and with few bytes.
 
 use kfs_program::run_words;
 use kfs_test_scripts::{Case, Script, ScriptFault};
 use kfs_test_support::refusing::Refusing;
 use std::alloc::{AllocError, Allocator, Global};
 
-/// As many growths as no script makes.
+/// More growths than any script asks for.
 const AMPLE: u64 = 1 << 40;
 
-/// More growths than a script makes of which each is refused.
+/// The most growths of a script that are refused in turn.
 const MANY: u64 = 1 << 20;
 
-/// The reply to a line for which memory was wanted.
+/// The reply to a line for which memory is refused.
 const REFUSED: &[u8] = b"memory";
 
-/// The exit status where the engine comes to the end of its input.
+/// The exit status where the engine reaches the end of its input.
 const DONE: u8 = 0;
 
-/// The exit status where the engine ends for want of memory.
+/// The exit status where the engine ends because memory is refused.
 const ENDED: u8 = 4;
 
-/// What a run comes to.
+/// The outcome of a run.
 #[derive(Drop)]
 struct Outcome {
     status: u8,
@@ -43,19 +43,19 @@ fn run<R: AllocGlobal, A: Allocator + Copy>(
     Outcome { status, written }
 }
 
-/// The line of this index, without its end.
+/// The line with this index, without its end.
 fn line_at(text: &[u8], index: usize) -> Option<&[u8]> {
     let mut lines = text.split(|byte| *byte == b'\n');
     lines.nth(index)
 }
 
-/// The index of the line that was answered that memory was wanted.
+/// The index of the line that was answered that memory was refused.
 fn refused_line(written: &[u8]) -> Option<usize> {
     let mut lines = written.split(|byte| *byte == b'\n');
     lines.position(|line| line == REFUSED)
 }
 
-/// The index of the line before this one that was answered that this worker holds a verdict, the last of them.
+/// The index of the last line before this one whose reply is that this worker holds a verdict.
 fn judged_line(written: &[u8], index: usize, worker: &[u8]) -> Option<usize> {
     let mut judged = None;
     let lines = written.split(|byte| *byte == b'\n');
@@ -67,7 +67,7 @@ fn judged_line(written: &[u8], index: usize, worker: &[u8]) -> Option<usize> {
     judged
 }
 
-/// The text but for the line of this index.
+/// The text without the line with this index.
 fn without_line(alloc: Global, text: &[u8], index: usize) -> Result<Vec<u8>, AllocError> {
     let mut left = Vec::new(alloc);
     let lines = text.split_inclusive(|byte| *byte == b'\n');
@@ -79,7 +79,7 @@ fn without_line(alloc: Global, text: &[u8], index: usize) -> Result<Vec<u8>, All
     Ok(left)
 }
 
-/// Lines, and what they were answered one by one.
+/// Lines with their replies.
 #[derive(Drop)]
 struct Transcript {
     lines: Vec<u8>,
@@ -87,7 +87,7 @@ struct Transcript {
 }
 
 impl Transcript {
-    /// The session but for the line of this index and its reply.
+    /// The lines and replies without those of this index.
     fn without(
         alloc: Global,
         lines: &[u8],
@@ -100,15 +100,15 @@ impl Transcript {
         })
     }
 
-    /// Whether these are the replies with memory.
+    /// Whether these are the replies that are given with enough memory.
     fn is_due<R: AllocGlobal>(&self, rt: &R, words: &[&str]) -> bool {
         let due = run(rt, rt.alloc(), words, &self.lines);
         due.status == DONE && due.written.as_slice() == self.replies.as_slice()
     }
 }
 
-/// Whether the other lines are answered as though that of this index, which found no memory, didn't stand there; or, where
-/// it lands a verdict, as though that had never been made.
+/// Whether the other lines are answered as if the line with this index, for which memory was refused,
+/// weren't there. If it lands a verdict, they are answered as if that verdict had never been made.
 fn is_due_without<R: AllocGlobal>(
     rt: &R,
     lines: &[u8],
@@ -130,8 +130,8 @@ fn is_due_without<R: AllocGlobal>(
     Ok(left.is_due(rt, words))
 }
 
-/// Whether a run in which a growth was refused is as it is due: it is as with memory, or ended early with the first
-/// replies, or one line found no memory.
+/// Whether a run in which a growth was refused ended rightly: as with memory; or early, with the first
+/// replies; or with one line for which memory was refused.
 fn is_due<R: AllocGlobal>(
     rt: &R,
     case: &Case,
@@ -149,7 +149,7 @@ fn is_due<R: AllocGlobal>(
     }
 }
 
-/// Refuses each growth of the script in turn. Answers how many there are.
+/// Refuses each growth of the script in turn, and answers how many there are.
 fn growths<R: AllocGlobal>(rt: &R, case: &Case, words: &[&str]) -> Result<u64, ScriptFault> {
     for growth in 0..MANY {
         let heap = Refusing::new(rt.alloc(), growth);
@@ -164,14 +164,14 @@ fn growths<R: AllocGlobal>(rt: &R, case: &Case, words: &[&str]) -> Result<u64, S
     Err(ScriptFault::Growth(MANY))
 }
 
-/// Runs the script where at most so many bytes are held at one time.
+/// Runs the script with at most this many bytes held at one time.
 fn run_within<R: AllocGlobal>(rt: &R, case: &Case, words: &[&str], bytes: u64) -> Outcome {
     let heap = Refusing::new(rt.alloc(), AMPLE);
     heap.leave(bytes);
     run(rt, &heap, words, case.lines())
 }
 
-/// Runs the script in so many bytes, and in none, which ends it.
+/// Runs the script with this many bytes, and with none, where it must end early.
 fn run_in_room<R: AllocGlobal>(
     rt: &R,
     case: &Case,
@@ -188,7 +188,7 @@ fn run_in_room<R: AllocGlobal>(
     }
 }
 
-/// Runs the script in little memory, where its files ask for that.
+/// Runs the script in little memory, if its files ask for that.
 pub fn run_in_little_memory<R: AllocGlobal>(
     rt: &R,
     case: &Case,
