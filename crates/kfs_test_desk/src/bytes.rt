@@ -1,4 +1,4 @@
-//! Bytes that land over others: what is then read, and where the blocks lie.
+//! Bytes that are landed over others: what is read then, and where the blocks are.
 
 use crate::desks::{create, is_accepted, is_answered, is_leased, landed, opening_over, submission};
 use kfs_desk::{Desk, Reply};
@@ -15,7 +15,7 @@ const LETTERS_PLAN: &[u8] = b"KPLN\x01\0\0\0\x01\0\0\0\x01\0\0\0\x05\x01\x01\xa4
       \xe8\0\0\x03\xe8\0\x01\0\0\0\0\0\0\0\x0a\0\0\0\x05\0\0\0\0\0\0\0\0\0\0\0\0\0\
       \0\0\x0a\x01\0\0\0\0\0\0";
 
-/// What stands in a buffer where nothing is read.
+/// What is in a buffer before a read.
 const UNREAD: u8 = 7;
 
 /// What an image shows of file 5 and of tier 0.
@@ -49,8 +49,8 @@ fn shows(desk: &Desk<Global>, shown: &Shown<'_>) -> bool {
         && desk.image().free(0) == shown.free
 }
 
-/// A desk with so many blocks on tier 0, with the empty file 5, on which client 7 holds a write lease.
-/// The next row is 3.
+/// A desk with this many blocks on tier 0, and with the empty file 5, on which client 7 holds a write
+/// lease. The docket's next row is row 3.
 pub fn desk_with_file(alloc: Global, blocks: u32) -> Option<Desk<Global>> {
     let mut desk = opening_over(alloc, blocks, 100)?;
     let create = create(alloc).ok()?;
@@ -61,7 +61,7 @@ pub fn desk_with_file(alloc: Global, blocks: u32) -> Option<Desk<Global>> {
     }
 }
 
-/// Whether the desk answers the log and its plan so, and then shows this.
+/// Whether the desk answers the log and its plan so, and shows this afterwards.
 fn lands(
     desk: &mut Desk<Global>,
     submission: Result<Submission<Global>, AllocError>,

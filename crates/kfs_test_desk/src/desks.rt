@@ -1,4 +1,4 @@
-//! The calls of the desk and of the image, each in a function without clauses.
+//! Calls of the desk and of the image, each in a function without clauses.
 
 use kfs_desk::{Act, ActReply, Desk, Done, Reply};
 use kfs_image::{Answer, Cell, Header, Image, Kind, Name, Shape, TierSizes, look};
@@ -8,27 +8,29 @@ use kfs_plan::{Back, Submission, Why};
 use kfs_test_support::vectors::{CREATE_LOG, CREATE_PLAN};
 use std::alloc::{AllocError, Allocator};
 
-/// As many growths as nothing here makes.
+/// More growths than anything here asks for.
 pub const AMPLE: u64 = 1 << 40;
 
-/// A client of uid and gid 1000, which has the numbers from 2 to `last`.
+/// A client of uid and gid 1000 with the numbers 2 to `last`.
 pub fn client(number: u32, last: u32) -> Result<Client, ClientFault> {
     Client::new(number, 1000, 1000, &[], false, 2, last)
 }
 
-/// The desk of a fresh image with so many blocks on tier 0, and of client 7, which has the numbers from 2 on.
+/// A desk with a new image that has this many blocks on tier 0, and with client 7, whose numbers begin
+/// at 2.
 fn begun<A: Allocator + Copy>(alloc: A, blocks: u32, limit: u32) -> Option<Desk<A>> {
     let image = Image::fresh(alloc, TierSizes::new(blocks, 8, 8)?).ok()?;
     let clients = vec![in alloc; client(7, 65_536).ok()?].ok()?;
     Desk::begin(alloc, image, clients, limit).ok()
 }
 
-/// Whether both are one.
+/// Whether both are the same.
 fn is_reply(reply: &ActReply, wanted: &ActReply) -> bool {
     reply == wanted
 }
 
-/// Whether client 7 is given a write lease on the node of this number at the path, in the row of this position.
+/// Whether client 7 is granted a write lease on the node with this number at the path, in this row of
+/// the docket.
 pub fn is_leased<A: Allocator + Copy>(
     desk: &mut Desk<A>,
     path: &[u8],
@@ -48,13 +50,13 @@ pub fn is_leased<A: Allocator + Copy>(
     }
 }
 
-/// Such a desk with 8 blocks, whose docket takes `limit` rows, and of which client 7 holds a write lease
-/// on the root. The lease is row 0.
+/// Such a desk with 8 blocks and a docket of at most `limit` rows. Client 7 holds a write lease on the
+/// root, which is row 0.
 pub fn opening<A: Allocator + Copy>(alloc: A, limit: u32) -> Option<Desk<A>> {
     opening_over(alloc, 8, limit)
 }
 
-/// The same with so many blocks on tier 0.
+/// The same with this many blocks on tier 0.
 pub fn opening_over<A: Allocator + Copy>(alloc: A, blocks: u32, limit: u32) -> Option<Desk<A>> {
     let mut desk = begun(alloc, blocks, limit)?;
     if is_leased(&mut desk, b"/", 1, 0) {
@@ -64,7 +66,7 @@ pub fn opening_over<A: Allocator + Copy>(alloc: A, blocks: u32, limit: u32) -> O
     }
 }
 
-/// Such a desk of 100 rows, which has answered yes to this log and this plan. That is row 1.
+/// Such a desk with at most 100 rows. It has answered Yes to this log and plan, in row 1.
 pub fn grown<A: Allocator + Copy>(alloc: A, log: &[u8], plan: &[u8]) -> Option<Desk<A>> {
     let mut desk = opening(alloc, 100)?;
     let submission = submission(alloc, log, plan).ok()?;
@@ -75,7 +77,7 @@ pub fn grown<A: Allocator + Copy>(alloc: A, log: &[u8], plan: &[u8]) -> Option<D
     }
 }
 
-/// What client 7 hands in.
+/// A submission of client 7.
 pub fn submission<A: Allocator + Copy>(
     alloc: A,
     log: &[u8],
@@ -88,7 +90,7 @@ pub fn submission<A: Allocator + Copy>(
     })
 }
 
-/// The Create of the file 5, named `a`, in the root.
+/// The Create of file 5, named `a`, in the root.
 pub fn create<A: Allocator + Copy>(alloc: A) -> Result<Submission<A>, AllocError> {
     submission(alloc, CREATE_LOG, CREATE_PLAN)
 }
@@ -105,7 +107,7 @@ pub fn is_answer<A: Allocator>(
     }
 }
 
-/// Hands the submission in. Answers whether it is answered so.
+/// Hands in the submission, and answers whether the reply is this.
 pub fn is_answered<A: Allocator + Copy>(
     desk: &mut Desk<A>,
     submission: Submission<A>,
@@ -118,7 +120,7 @@ pub fn yes(position: u32) -> Reply {
     landed(position, 0)
 }
 
-/// A yes to a log that writes so many blocks.
+/// A Yes to a log that writes this many blocks.
 pub fn landed(position: u32, need: u64) -> Reply {
     Reply::Yes {
         position,
@@ -127,7 +129,7 @@ pub fn landed(position: u32, need: u64) -> Reply {
     }
 }
 
-/// Hands the submission in. Answers whether this is accepted, at this position.
+/// Hands in the submission, and answers whether it is accepted, in this row of the docket.
 pub fn is_accepted<A: Allocator + Copy>(
     desk: &mut Desk<A>,
     submission: Submission<A>,
@@ -136,22 +138,22 @@ pub fn is_accepted<A: Allocator + Copy>(
     is_answered(desk, submission, &Ok(yes(position)))
 }
 
-/// What an image shows at a place.
+/// What an image shows.
 #[derive(Clone, Copy)]
 pub enum Shown<'a> {
-    /// The node is of uid and gid 1000, of this kind and this mode, and has one name and no byte.
+    /// A node of uid and gid 1000, of this kind and mode, with one name and no bytes.
     Node(u32, Kind, u16),
-    /// No node has this number.
+    /// There is no node with this number.
     NoNode(u32),
-    /// The name of a directory leads to this number, or to none.
+    /// A name of a directory leads to this number, or nowhere.
     Name(u32, &'a [u8], Option<u32>),
-    /// A directory has so many names.
+    /// How many names a directory has.
     Count(u32, u64),
-    /// The directory that a directory stands in.
+    /// The parent of a directory.
     Parent(u32, Option<u32>),
 }
 
-/// The cell of a header, and the header of uid and gid 1000, of one name and no byte.
+/// The cell of a header, and the header of uid and gid 1000 with one name and no bytes.
 fn header_cell(number: u32, kind: Kind, mode: u16) -> (Cell, Answer) {
     let header = Header {
         kind,
@@ -192,14 +194,14 @@ pub fn shows<A: Allocator>(shape: &Shape<A>, all: &[Shown<'_>]) -> bool {
     true
 }
 
-/// No file 5, and no name in the root.
+/// There is no file 5, and no name in the root.
 pub const NO_FILE: [Shown<'static>; 3] = [
     Shown::NoNode(5),
     Shown::Name(1, b"a", None),
     Shown::Count(1, 0),
 ];
 
-/// The file 5 of the first Create, the only name of the root.
+/// File 5 of the Create, with the only name of the root.
 pub const FILE: [Shown<'static>; 3] = [
     Shown::Node(5, Kind::File, 0o644),
     Shown::Name(1, b"a", Some(5)),

@@ -1,4 +1,4 @@
-//! Submissions that are handed in at once, one after another.
+//! Several submissions handed in at once.
 
 use crate::desks::{is_answer, landed, opening, submission};
 use kfs_desk::{Desk, Reply};
@@ -7,7 +7,8 @@ use kfs_plan::{Fault, RowFault, Submission, Why};
 use kfs_test_support::vectors::{CREATE_LOG, CREATE_PLAN};
 use std::alloc::{AllocError, Global};
 
-/// The Create of client 7, and then a Truncate of the file to no byte. The Create's plan is right for it.
+/// The Create of client 7, and then a Truncate of the file to 0 bytes. The Create's plan is right for
+/// it.
 const TRUNCATE_LOG: &[u8] = b"KLOG\x01\0\0\0\x07\0\x02\x01\0\0\0\x01\x01a\0\0\0\x05\0\x01\xa4\
       \x03\0\0\0\x05\0\0\0\0\0\0\0\0";
 
@@ -15,19 +16,19 @@ const TRUNCATE_LOG: &[u8] = b"KLOG\x01\0\0\0\x07\0\x02\x01\0\0\0\x01\x01a\0\0\0\
 const WRITE_LOG: &[u8] = b"KLOG\x01\0\0\0\x07\0\x02\x01\0\0\0\x01\x01a\0\0\0\x05\0\x01\xa4\
       \x02\0\0\0\x05\0\0\0\0\0\0\0\x02\0\0\0\x02xy";
 
-/// Its right plan: two zero bytes, and then two of the payload.
+/// Its right plan: two zero bytes, and then two bytes of the payload.
 const WRITE_PLAN: &[u8] = b"KPLN\x01\0\x01\0\x01\0\0\0\x02\0\0\0\x01\x01a\0\0\0\x05\0\0\0\x05\
       \x01\x01\xa4\0\0\x03\xe8\0\0\x03\xe8\0\x01\0\0\0\0\0\0\0\x04\
       \0\0\0\x05\0\0\0\0\0\0\0\0\0\0\0\0\0\0\0\x02\0\
       \0\0\0\x05\0\0\0\0\0\0\0\x02\0\0\0\0\0\0\0\x02\x01\0\x01\0\0\0\0";
 
-/// The same with one zero byte alone.
+/// The same plan with one zero byte only.
 const GAP_PLAN: &[u8] = b"KPLN\x01\0\x01\0\x01\0\0\0\x02\0\0\0\x01\x01a\0\0\0\x05\0\0\0\x05\
       \x01\x01\xa4\0\0\x03\xe8\0\0\x03\xe8\0\x01\0\0\0\0\0\0\0\x04\
       \0\0\0\x05\0\0\0\0\0\0\0\0\0\0\0\0\0\0\0\x01\0\
       \0\0\0\x05\0\0\0\0\0\0\0\x02\0\0\0\0\0\0\0\x02\x01\0\x01\0\0\0\0";
 
-/// The answer that the name of the first Create is taken.
+/// The reply that the name of the Create is taken.
 fn taken(position: u32) -> Reply {
     Reply::No {
         position,
@@ -39,7 +40,7 @@ fn taken(position: u32) -> Reply {
     }
 }
 
-/// The answer that the second piece of a plan is wrong.
+/// The reply that the second piece of a plan is wrong.
 fn wrong_piece(position: u32) -> Reply {
     Reply::No {
         position,
@@ -89,7 +90,7 @@ const PAIRS: [(&[u8], &[u8]); 5] = [
     (CREATE_LOG, CREATE_PLAN),
 ];
 
-/// Whether a desk of five rows answers them as is due.
+/// Whether a desk with at most five rows answers them as it should.
 fn are_pairs_answered(alloc: Global) -> Option<bool> {
     let submissions = submissions(alloc, &PAIRS).ok()?;
     let answers = [

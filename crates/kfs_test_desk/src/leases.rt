@@ -1,5 +1,5 @@
-//! Leases by calls: paths that no line can say, a node that goes, and copies. All clients here have uid and gid 1000, as all
-//! nodes below the root.
+//! Leases through calls: paths that no command line can hold, a node that is removed, and copies. All
+//! clients here, and all nodes below the root, have uid and gid 1000.
 
 use crate::desks::{client, grown};
 use kfs_desk::Desk;
@@ -29,12 +29,12 @@ const TREE_PLAN: &[u8] =
       \x03\xe8\0\x01\0\0\0\0\0\0\0\0\0\0\0z\x01\0\0\0\0\x03\xe8\0\0\x03\xe8\0\x01\0\0\
       \0\0\0\0\0\0";
 
-/// A desk with these nodes, where there is memory.
+/// A desk with these nodes, if there is memory.
 fn tree<A: Allocator + Copy>(alloc: A) -> Option<Desk<A>> {
     grown(alloc, TREE_LOG, TREE_PLAN)
 }
 
-/// Asks for a lease, of a client that is known.
+/// Asks for a lease; the client is a known one.
 fn grant<A: Allocator + Clone>(
     leases: &mut Leases<A>,
     shape: &Shape<A>,
@@ -49,7 +49,7 @@ fn grant<A: Allocator + Clone>(
     leases.grant(shape, &[client], number, path.as_bytes(), kind, end)
 }
 
-/// Gives up a lease, of a client that is known.
+/// Gives up a lease; the client is a known one.
 fn drop_lease<A: Allocator>(
     leases: &mut Leases<A>,
     number: u32,
@@ -61,7 +61,7 @@ fn drop_lease<A: Allocator>(
     leases.drop_lease(&[client], number, node)
 }
 
-/// A call of the leases, and what it answers where it answers.
+/// A call for leases, with the answer that is expected.
 #[derive(Clone, Copy)]
 enum LeaseCall<'a> {
     Grant(u32, &'a str, LeaseKind, u64, Result<u32, LeaseFault>),
@@ -72,7 +72,7 @@ enum LeaseCall<'a> {
     RemoveNode(u32),
 }
 
-/// Makes the call, and answers whether it is answered as it says.
+/// Makes the call, and says whether the answer is the expected one.
 fn is_answered<A: Allocator + Clone>(
     leases: &mut Leases<A>,
     shape: &Shape<A>,
@@ -93,7 +93,7 @@ fn is_answered<A: Allocator + Clone>(
     }
 }
 
-/// Makes the calls one after another. Answers how many stand before the first that isn't answered as it says.
+/// Makes the calls in order, and answers how many come before the first one with another answer.
 fn make_calls<A: Allocator + Clone>(
     leases: &mut Leases<A>,
     shape: &Shape<A>,
@@ -109,14 +109,15 @@ fn make_calls<A: Allocator + Clone>(
     count
 }
 
-/// Makes the calls on the tree of this module, from no leases on. Answers how many are answered as they say.
+/// Makes the calls on the tree of this module, with no leases at first. Answers how many are answered
+/// as expected.
 fn answered(alloc: Global, calls: &[LeaseCall<'_>]) -> Option<usize> {
     let desk = tree(alloc)?;
     let mut leases = Leases::new(alloc);
     Some(make_calls(&mut leases, desk.image().shape(), calls))
 }
 
-/// Each of the calls is answered as it says.
+/// Expects that all calls are answered as expected.
 fn expect_calls(rt: &(impl Abort + AllocGlobal), calls: &[LeaseCall<'_>]) {
     let count = answered(rt.alloc(), calls);
     assert!(rt; count == Some(calls.len()), "{count:?}");
@@ -189,8 +190,8 @@ const ON_THE_COPY_THEN: [LeaseCall<'static>; 3] = [
     LeaseCall::Grant(7, "/m", Write, 20, Ok(30)),
 ];
 
-/// Makes these calls on the table and on a copy of it, one table after the other. Answers how many calls of each list are
-/// answered as they say.
+/// Makes these calls on a table and on a copy of it, one table after the other. Answers how many calls
+/// of each list are answered as expected.
 fn answered_apart<A: Allocator + Clone>(
     leases: &mut Leases<A>,
     shape: &Shape<A>,
@@ -203,7 +204,7 @@ fn answered_apart<A: Allocator + Clone>(
     Some([before, on_the_copy, on_the_table, then])
 }
 
-/// The same on the tree of this module, from no leases on.
+/// The same on the tree of this module, with no leases at first.
 fn answered_on_both(alloc: Global) -> Option<[usize; 4]> {
     let desk = tree(alloc)?;
     let mut leases = Leases::new(alloc);

@@ -1,4 +1,5 @@
-//! Views: from before a landing in the first and the second page of nodes, and made without a growth.
+//! Views taken before a landing, in the first and the second page of nodes; and a view that is taken
+//! without a growth of memory.
 
 use crate::desks::{AMPLE, Shown, is_accepted, opening, shows, submission};
 use kfs_desk::Desk;
@@ -27,12 +28,12 @@ const AFTER: [Shown<'static>; 4] = [
     Shown::Name(1, b"n", Some(65)),
 ];
 
-/// The header of 65 in the second page, where the shape has that page.
+/// The header of node 65 in the second page, if there is that page.
 fn header_in_second_page(shape: &Shape<Global>) -> Option<Option<Header>> {
     Some(shape.page(1)?.header(65))
 }
 
-/// Whether the second page has the file 65.
+/// Whether the second page has file 65.
 fn has_second_page(shape: &Shape<Global>) -> bool {
     match header_in_second_page(shape) {
         Some(Some(header)) => header.kind == Kind::File && header.mode == 0o644,
@@ -72,7 +73,7 @@ fn a_view_from_before_a_page(rt: HostRuntime) -> Result<(), Fail> {
     Ok(())
 }
 
-/// Whether a view is made where the next growth is refused.
+/// Whether a view is taken although the next growth is refused.
 fn is_viewed<A: Allocator + Copy>(heap: &Refusing<Global>, desk: &Desk<A>) -> bool {
     heap.refuse_after(0);
     let is_viewed = desk.view().is_ok();
@@ -80,7 +81,7 @@ fn is_viewed<A: Allocator + Copy>(heap: &Refusing<Global>, desk: &Desk<A>) -> bo
     is_viewed
 }
 
-/// The same of a new desk.
+/// The same for a new desk.
 fn is_new_viewed(heap: &Refusing<Global>) -> Option<bool> {
     let desk = opening(heap, 100)?;
     Some(is_viewed(heap, &desk))

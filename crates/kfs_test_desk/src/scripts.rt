@@ -1,4 +1,5 @@
-//! Scripts of workers: steps in and out of their place, calls among them, and each growth of a script refused in turn.
+//! Scripts of workers: steps at their place and out of place, with calls between them, and scripts with
+//! each growth of memory refused in turn.
 
 use crate::desks::{AMPLE, FILE, NO_FILE, Shown, opening, shows, submission, yes};
 use kfs_desk::{Act, Desk, Reply};
@@ -10,10 +11,10 @@ use kfs_test_support::vectors::{CREATE_LOG, CREATE_PLAN};
 use kfs_workers::{ScriptBack, ScriptEnd, Step, run_script};
 use std::alloc::{Allocator, Global};
 
-/// More growths than a script makes.
+/// More growths than a script asks for.
 const MANY: u64 = 400;
 
-/// The Create of the file 5 under each of so many tickets.
+/// This many submissions of the Create of file 5.
 fn creates<A: Allocator + Copy>(alloc: A, count: usize) -> Option<Vec<Submission<A>, A>> {
     let mut all = Vec::new(alloc);
     for _ in 0..count {
@@ -23,7 +24,7 @@ fn creates<A: Allocator + Copy>(alloc: A, count: usize) -> Option<Vec<Submission
     Some(all)
 }
 
-/// Whether each ticket has its reply, and is left where it has none.
+/// Whether each ticket has its reply, and those without one are left.
 fn are_settled<A: Allocator>(end: &ScriptEnd<A>, replies: &[Option<Reply>]) -> bool {
     if end.replies.as_slice() != replies || end.left.len() != replies.len() {
         return false;
@@ -36,8 +37,8 @@ fn are_settled<A: Allocator>(end: &ScriptEnd<A>, replies: &[Option<Reply>]) -> b
     true
 }
 
-/// Whether the script over such Creates, at a desk whose docket takes `limit` rows, gives these replies, and
-/// its image shows this then.
+/// Whether a script over such Creates gives these replies, and its image shows this at the end; the
+/// docket has at most `limit` rows.
 fn gives_within(
     alloc: Global,
     limit: u32,
@@ -51,7 +52,7 @@ fn gives_within(
     Some(are_settled(&end, replies) && shows(end.desk.image().shape(), shown))
 }
 
-/// The same at a desk whose docket doesn't become full.
+/// The same with a docket that doesn't become full.
 fn gives(
     alloc: Global,
     steps: &[Step<'_>],
@@ -121,7 +122,7 @@ const ROOT_LEASED: Step<'static> = Step::Act(Act::Lease {
     end: 100,
 });
 
-/// The only entry is refused, since no lease on the root is held.
+/// The reply that the entry is refused, since no lease on the root is held.
 fn without_a_lease(position: u32) -> Reply {
     let reason = Reason::NoLease(1);
     Reply::No {
@@ -147,15 +148,15 @@ fn calls_of_a_script_are_made_in_their_place(rt: HostRuntime) {
     assert!(rt; gives(rt.alloc(), &steps, &replies, &FILE) == Some(true));
 }
 
-/// Whether it is the Create as it was handed in.
+/// Whether it is the Create, as it was handed in.
 fn is_create<A: Allocator>(submission: &Submission<A>) -> bool {
     submission.client == 7
         && submission.log.as_slice() == CREATE_LOG
         && submission.plan.as_slice() == CREATE_PLAN
 }
 
-/// Whether the first ticket has a yes, or else is left as it was handed in, in the state that goes with it; the other one is
-/// left.
+/// Whether the first ticket has a Yes, or else is left as it was handed in, and the state goes with
+/// that; the other ticket is left.
 fn is_lawful<A: Allocator + Copy>(end: &ScriptEnd<A>) -> bool {
     let shape = end.desk.image().shape();
     match (end.replies.as_slice(), end.left.as_slice()) {
@@ -179,8 +180,8 @@ fn is_back<A: Allocator + Copy>(back: &ScriptBack<A>) -> bool {
     }
 }
 
-/// Looks, judges and lands, twice where the first time it came back, beside a view that is held to the end; the moment goes on
-/// while a view is held, too.
+/// Looks, judges and lands, twice, so that a submission that came back the first time is tried again.
+/// Another worker holds a view to the end, and the moment goes on meanwhile.
 fn twice() -> [Step<'static>; 8] {
     [
         look(7, 1),
@@ -194,8 +195,8 @@ fn twice() -> [Step<'static>; 8] {
     ]
 }
 
-/// Runs the script with the growth of this index refused, that one alone. Answers whether there was such a
-/// growth; none where what comes out isn't lawful.
+/// Runs the script with only the growth of this index refused. Answers whether there was such a growth;
+/// none where the outcome is wrong.
 fn script_from<A: Allocator + Copy>(
     alloc: A,
     heap: &Refusing<Global>,
@@ -215,21 +216,21 @@ fn script_from<A: Allocator + Copy>(
     }
 }
 
-/// The same from the desk on.
+/// The same, starting with the desk.
 fn script_with_one_refused(heap: &Refusing<Global>, growth: u64) -> Option<bool> {
     let desk = opening(heap, 100)?;
     let creates = creates(heap, 2)?;
     script_from(heap, heap, desk, creates, growth)
 }
 
-/// The same on a heap of its own.
+/// The same with a heap of its own.
 fn script_on_a_heap(alloc: Global, growth: u64) -> Option<bool> {
     let heap = Refusing::new(alloc, AMPLE);
     script_with_one_refused(&heap, growth)
 }
 
-/// How many growths the script makes, each of which is refused in turn; or the index of one at which what comes out
-/// isn't lawful.
+/// How many growths the script asks for, each refused in turn; or as an error the index of one at which
+/// the outcome is wrong.
 fn growths(alloc: Global) -> Result<u64, u64> {
     for growth in 0..MANY {
         match script_on_a_heap(alloc, growth) {

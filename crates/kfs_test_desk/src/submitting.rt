@@ -1,4 +1,4 @@
-//! Submissions of as many Creates as a log may have, and images of as many nodes as there may be.
+//! Logs with as many Creates as a log may have, and images with as many nodes as there may be.
 
 use crate::desks::{Shown, is_accepted, opening, shows, submission};
 use kfs_desk::Desk;
@@ -6,10 +6,10 @@ use kfs_image::Kind;
 use kfs_plan::Submission;
 use std::alloc::{AllocError, Global};
 
-/// The numbers of the nodes that a log creates: from the first on, and how many.
+/// The numbers of the nodes that a log creates: the first one, and how many.
 type Numbers = (u32, u16);
 
-/// The first 4,096 that a client may have.
+/// The first 4,096 numbers that a client may have.
 const FIRST: Numbers = (2, 4_096);
 
 /// The greatest number of a node.
@@ -19,7 +19,7 @@ fn letter(number: u32) -> u8 {
     b'a'.wrapping_add((number % 16) as u8)
 }
 
-/// A name of four letters; those of numbers up to 65,536 ascend with them.
+/// A name of four letters. Names ascend with the numbers, up to 65,536.
 fn letters(number: u32) -> [u8; 4] {
     let place = number.saturating_sub(1);
     [
@@ -30,8 +30,8 @@ fn letters(number: u32) -> [u8; 4] {
     ]
 }
 
-/// The directory, the name and the number of a Create, which are a name row, too. The directory is the
-/// root, or the node before in a chain.
+/// The directory, the name and the number of a Create; they are a name row, too. The directory is the
+/// root, or in a chain the node before.
 fn name_row(is_chain: bool, number: u32) -> [u8; 13] {
     let directory = if is_chain { number.max(2) - 1 } else { 1 };
     let [a, b, c, d] = directory.to_be_bytes();
@@ -40,8 +40,7 @@ fn name_row(is_chain: bool, number: u32) -> [u8; 13] {
     [a, b, c, d, 4, e, f, g, h, i, j, k, l]
 }
 
-/// Pushes a row of each number: what stands before, the number itself or its name row, and what stands
-/// behind.
+/// Adds a row for each number: some bytes, the number itself or its name row, and more bytes.
 fn push_rows(
     bytes: &mut Vec<u8, Global>,
     numbers: Numbers,
@@ -61,8 +60,8 @@ fn push_rows(
     Ok(())
 }
 
-/// A log of client 7 that creates nodes with these numbers, and its right plan: files of mode 0o644 in
-/// the root, or a chain of directories of mode 0o755, each in the one before.
+/// A log of client 7 that creates nodes with these numbers, and its right plan. The nodes are files of
+/// mode 0o644 in the root, or a chain of directories of mode 0o755, each in the one before.
 fn creates(
     alloc: Global,
     numbers: Numbers,
@@ -91,14 +90,14 @@ fn creates(
     Ok(made)
 }
 
-/// Whether after 4,096 Creates the image shows this.
+/// Whether the image shows this after 4,096 Creates.
 fn are_created(alloc: Global, is_chain: bool, shown: &[Shown<'_>]) -> Option<bool> {
     let mut desk = opening(alloc, 100)?;
     let submission = creates(alloc, FIRST, is_chain).ok()?;
     Some(is_accepted(&mut desk, submission, 1) && shows(desk.image().shape(), shown))
 }
 
-/// The desk once each number that a client may have is that of a file in the root.
+/// A desk in which each number that a client may have is a file in the root.
 fn filled(alloc: Global) -> Option<Desk<Global>> {
     let mut desk = opening(alloc, 100)?;
     for position in 1..17u32 {
@@ -112,17 +111,17 @@ fn filled(alloc: Global) -> Option<Desk<Global>> {
     Some(desk)
 }
 
-/// The least node behind each of these numbers.
+/// The least node above each of these numbers.
 fn nodes_behind(desk: &Desk<Global>, numbers: [u32; 3]) -> [Option<u32>; 3] {
     numbers.map(|number| desk.image().next_node(number))
 }
 
-/// The last of the files of the first log, and the last directory of the second.
+/// The last file of the first log, and the last directory of the second.
 const FILES: [Shown<'static>; 2] = [Shown::Count(1, 4_096), Shown::Name(1, b"baaa", Some(4_097))];
 
 const CHAIN: [Shown<'static>; 2] = [Shown::Count(1, 1), Shown::Parent(4_097, Some(4_096))];
 
-/// The first and the last file of an image with all numbers, and none behind it.
+/// The first and the last file of an image with all numbers; and there is no node above.
 const ALL: [Shown<'static>; 6] = [
     Shown::Count(1, 65_535),
     Shown::Node(2, Kind::File, 0o644),

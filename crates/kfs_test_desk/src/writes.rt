@@ -1,4 +1,4 @@
-//! The log of the most entries, each of which writes one byte.
+//! A log with as many entries as there may be, each of which writes one byte.
 
 use crate::bytes::desk_with_file;
 use crate::desks::{is_answered, landed, submission};
@@ -9,7 +9,7 @@ use std::alloc::{AllocError, Global};
 /// The greatest index of an entry.
 const LAST: u16 = 4_095;
 
-/// The index of the entry that writes byte `2 * place`, and the other way round.
+/// The index of the entry that writes byte 2 * place, in this order or in the reverse one.
 fn entry_at(is_backward: bool, place: u16) -> u16 {
     if is_backward {
         LAST.saturating_sub(place)
@@ -18,14 +18,14 @@ fn entry_at(is_backward: bool, place: u16) -> u16 {
     }
 }
 
-/// Pushes a Write of `x` to file 5.
+/// Adds a Write of `x` to file 5.
 fn push_write(log: &mut Vec<u8, Global>, offset: u64) -> Result<(), AllocError> {
     log.extend_from_slice(b"\x02\0\0\0\x05")?;
     log.extend_from_slice(&offset.to_be_bytes())?;
     log.extend_from_slice(b"\0\0\0\x01x")
 }
 
-/// Pushes a piece of one byte of file 5: the payload of this entry, or zero.
+/// Adds a piece of one byte of file 5: this entry's payload, or zero.
 fn push_piece(
     plan: &mut Vec<u8, Global>,
     start: u64,
@@ -44,7 +44,7 @@ fn push_piece(
     }
 }
 
-/// Writes at every second place, from the first one on or from the last one back.
+/// Adds Writes at every second byte, from the first one on or from the last one back.
 fn push_writes(log: &mut Vec<u8, Global>, is_backward: bool) -> Result<(), AllocError> {
     for entry in 0..=LAST {
         push_write(log, u64::from(entry_at(is_backward, entry)) * 2)?;
@@ -52,7 +52,8 @@ fn push_writes(log: &mut Vec<u8, Global>, is_backward: bool) -> Result<(), Alloc
     Ok(())
 }
 
-/// The bytes that they write, and the zero bytes between them: all, or without the piece of index 1.
+/// Adds the pieces of the bytes written and of the zero bytes between them: all, or all but the one
+/// with index 1.
 fn push_pieces(
     plan: &mut Vec<u8, Global>,
     is_backward: bool,
@@ -68,7 +69,7 @@ fn push_pieces(
     Ok(())
 }
 
-/// What client 7 hands in: 4,096 entries; the header of file 5 of 8,191 bytes, and its pieces.
+/// The submission of client 7: 4,096 entries, the header of file 5 with 8,191 bytes, and its pieces.
 fn writes(
     alloc: Global,
     is_backward: bool,
@@ -89,7 +90,7 @@ fn writes(
     Ok(made)
 }
 
-/// Whether they are refused without the piece, and then accepted with it.
+/// Whether it is refused without the piece, and then accepted with it.
 fn are_answered(alloc: Global, is_backward: bool) -> Option<bool> {
     let mut desk = desk_with_file(alloc, 2)?;
     let missing = Reply::No {
