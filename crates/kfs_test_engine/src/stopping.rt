@@ -5,7 +5,7 @@ use std::io;
 use std::io::{ErrorKind, Read, Write};
 use std::test::Fail;
 
-/// Gives its bytes one at a time, and then fails, ends, or gives `x` without an end.
+/// A reader that gives its bytes one at a time, and then fails, ends, or gives `x` without end.
 #[derive(Drop)]
 struct Slow<'a> {
     bytes: &'a [u8],
@@ -42,7 +42,7 @@ impl Read for Slow<'_> {
     }
 }
 
-/// Takes `room` bytes, and then none, or fails.
+/// A writer that takes `room` bytes, and then takes none, or fails.
 #[derive(Drop)]
 struct Narrow {
     room: usize,
@@ -64,7 +64,7 @@ impl Write for Narrow {
     }
 }
 
-/// Takes all, and counts the writes.
+/// A writer that takes all, and counts the writes.
 #[derive(Drop)]
 struct Counting {
     writes: u32,
@@ -81,7 +81,7 @@ impl Write for Counting {
     }
 }
 
-/// How the engine ends over this reader and this writer.
+/// How the engine ends with this reader and this writer.
 fn ended<I: Read, O: Write>(
     rt: &impl AllocGlobal,
     reader: &mut I,
@@ -90,7 +90,7 @@ fn ended<I: Read, O: Write>(
     engine(rt, rt.alloc(), reader, writer)
 }
 
-/// Whether the engine ends like this over the reader, and has written these replies.
+/// Whether the engine ends so with the reader, having written these replies.
 fn ends<I: Read>(
     rt: &impl AllocGlobal,
     reader: &mut I,
