@@ -1,4 +1,5 @@
-//! Edits of an image: as many blocks of a tier as there may be, and edits of which each growth is refused in turn.
+//! Edits of an image: a tier with all its blocks in use, and edits in which each growth of memory is
+//! refused in turn.
 ghost use Rattle.std.specs.Prelude.{◌≡◌, [], ◌∷◌, IfOk, IfSome};
 ghost use Rattle.kfs_image.specs.Edit.{CanEdit};
 ghost use Rattle.kfs_test_image.specs.Edits.{each_kind};
@@ -9,10 +10,10 @@ use kfs_image::{Edit, Header, Image, Name, Place, header};
 use std::alloc::{AllocError, Allocator, Global};
 use std::process::Abort;
 
-/// How many bytes a block has.
+/// The bytes of a block.
 const BLOCK_LEN: usize = 4_096;
 
-/// How many blocks a tier may have.
+/// The most blocks of a tier.
 const GREATEST: u32 = 65_536;
 
 /// File 5 of mode 0o644 at `/a`, as long as a tier.
@@ -24,10 +25,11 @@ const LONG: Made<'static> = Made {
           \0\0\0\x05\0\0\0\0\0\0\0\0\0\0\0\0\x10\0\0\0\0",
 };
 
-/// The edit that lays a block of a file at a place, where the image is lawful after it.
+/// The edit that puts a block of a file at a place, if the image is lawful after it.
 fn mapping<A: Allocator>(image: &Image<A>, number: u32, block: u32, place: Place) -> Option<Edit<A>>
     ensures { IfSome result (λ edit. CanEdit (edit ∷ []) image.now) }
 {
+    // Tells the prover that the image is lawful.
     let _shape = image.shape();
     let is_free = is_place_free(image, place);
     if is_free && u64::from(block) < block_count(header(image, number)) {
@@ -37,15 +39,16 @@ fn mapping<A: Allocator>(image: &Image<A>, number: u32, block: u32, place: Place
     }
 }
 
-/// The edit after which the block lies nowhere.
+/// The edit that unmaps a block.
 fn unmapping<A: Allocator>(image: &Image<A>, number: u32, block: u32) -> Edit<A>
     ensures { CanEdit (result ∷ []) image.now }
 {
+    // Tells the prover that the image is lawful.
     let _shape = image.shape();
     Edit::Map(number, block, None)
 }
 
-/// Makes the one edit.
+/// Makes one edit.
 fn make<A: Allocator + Copy>(alloc: A, image: &mut Image<A>, edit: Edit<A>) -> Option<()>
     requires { CanEdit (edit ∷ []) image.old }
 {
@@ -54,8 +57,8 @@ fn make<A: Allocator + Copy>(alloc: A, image: &mut Image<A>, edit: Edit<A>) -> O
     image.edit(edits.as_slice()).ok()
 }
 
-/// An edit of each kind: the header of the root and its name `a` as they are, block 1 of file 5 at a place with these bytes,
-/// and block 0 nowhere.
+/// An edit of each kind: the header of the root and its name `a` stay as they are, block 1 of file 5 is
+/// put at a place, these bytes are written there, and block 0 is unmapped.
 fn of_each_kind<A: Allocator>(
     alloc: A,
     header: Option<Header>,
@@ -75,7 +78,7 @@ fn of_each_kind<A: Allocator>(
     Ok(edits)
 }
 
-/// The bytes of a block, each one more than the one before it, and every hundredth 128 again.
+/// A block's bytes: each is one more than the one before it, and every hundredth is 128 again.
 fn block_bytes<A: Allocator>(alloc: A) -> Option<Vec<u8, A>> {
     let mut bytes = Vec::new(alloc);
     for k in 0..4_096u16 {
@@ -84,7 +87,7 @@ fn block_bytes<A: Allocator>(alloc: A) -> Option<Vec<u8, A>> {
     Some(bytes)
 }
 
-/// Such edits of place 2, where the image is lawful after them.
+/// Such edits with place 2, if the image is lawful after them.
 pub fn edits_of_each_kind<A: Allocator + Copy>(
     alloc: A,
     image: &Image<A>,
@@ -92,6 +95,7 @@ pub fn edits_of_each_kind<A: Allocator + Copy>(
     ensures { IfSome result (λ edits. CanEdit edits.items image.now) }
 {
     let place = Place { tier: 0, place: 2 };
+    // Tells the prover that the image is lawful.
     let _shape = image.shape();
     let bytes = block_bytes(alloc)?;
     let is_free = is_place_free(image, place);
@@ -103,7 +107,7 @@ pub fn edits_of_each_kind<A: Allocator + Copy>(
     of_each_kind(alloc, header(image, 1), name.1, target, place, bytes).ok()
 }
 
-/// Lays the block of file 5 at the least free place of tier 0 that isn't below `from`, and answers it.
+/// Puts the block of file 5 at the least free place of tier 0 from `from` on, and answers the place.
 pub fn lay<A: Allocator + Copy>(
     alloc: A,
     image: &mut Image<A>,
@@ -116,7 +120,7 @@ pub fn lay<A: Allocator + Copy>(
     Some(place)
 }
 
-/// The image in which all blocks of file 5 lie on tier 0, each at the place of its own number.
+/// An image in which each block of file 5 is on tier 0, at the place with the block's number.
 fn filled(alloc: Global) -> Option<Image<Global>> {
     let mut image = image_with(alloc, GREATEST, LONG)?;
     for block in 0..GREATEST {
@@ -146,7 +150,7 @@ fn a_tier_of_which_each_place_is_used(rt: HostRuntime) {
     }
 }
 
-/// A block that is freed is the one that is found, and is used again.
+/// A block is unmapped. Its place is the next free one then, and is used again.
 fn expect_one_freed(rt: &(impl Abort + AllocGlobal), image: &mut Image<Global>) {
     assert!(rt; found(image, 40_000) == (0, None, Some(40_000)));
     let edit = unmapping(image, 5, 40_000);

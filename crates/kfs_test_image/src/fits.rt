@@ -1,4 +1,4 @@
-//! Whether a block can lie at a place: found out as a test runs.
+//! Whether a block can be put at a place, found out as a test runs.
 ghost use Rattle.std.specs.Prelude.{◌≡◌, ◌<◌, true, option_map, IsTrue};
 ghost use Rattle.kfs_entry_value.specs.Views.{header_of};
 ghost use Rattle.kfs_model.specs.Placement.{tier_size, is_free};
@@ -8,7 +8,7 @@ use kfs_entry_value::BLOCK_SIZE;
 use kfs_image::{Header, Image, Kind, Place};
 use std::alloc::Allocator;
 
-/// How many blocks the file has, none where there is no file.
+/// How many blocks the file has; 0 where there is no file.
 pub fn block_count(header: Option<Header>) -> u64
     ensures { result ≡ blocks_in (option_map header_of header) }
 {
@@ -18,7 +18,7 @@ pub fn block_count(header: Option<Header>) -> u64
     }
 }
 
-/// Whether the place is one of its tier's, and free.
+/// Whether the place exists and is free.
 pub fn is_place_free<A: Allocator>(image: &Image<A>, place: Place) -> bool
     ensures in_tier { IsTrue result → place.place < tier_size image.now.sizes place.tier }
     ensures free { IsTrue result → is_free image.now.placement place ≡ true }

@@ -14,14 +14,14 @@ use kfs_plan::{Outcome, Submission, judge};
 use std::alloc::{AllocError, Allocator};
 use std::sync::Arc;
 
-/// What client 7 hands in where the root is alone: a log, and its right plan.
+/// What client 7 hands in at an image with the root alone: a log, and its right plan.
 #[derive(Clone, Copy)]
 pub struct Made<'a> {
     pub log: &'a [u8],
     pub plan: &'a [u8],
 }
 
-/// Client 7, with the numbers from 2 to 99.
+/// Client 7, with the numbers 2 to 99.
 fn clients<A: Allocator>(alloc: A) -> Option<Vec<Client, A>>
     ensures { IfSome result (λ clients. ClientsAreDistinct clients.items) }
 {
@@ -29,7 +29,7 @@ fn clients<A: Allocator>(alloc: A) -> Option<Vec<Client, A>>
     vec![in alloc; client].ok()
 }
 
-/// The view of the image of now, with a write lease of client 7 on the root.
+/// A view of the image, in which client 7 holds a write lease on the root.
 fn view_of<A: Allocator + Copy>(
     alloc: A,
     image: &Image<A>,
@@ -55,7 +55,8 @@ fn view_of<A: Allocator + Copy>(
     Some(View::of(shape, leases, clients))
 }
 
-/// The net of what is judged right. A view of an image shows its tree, so the net keeps that sound.
+/// The net of a submission that is judged right. Since the view shows the image's tree, the tree is
+/// sound after the net.
 fn right_net<A: Allocator + Copy>(
     alloc: A,
     image: &Image<A>,
@@ -65,6 +66,7 @@ fn right_net<A: Allocator + Copy>(
     requires contents { contents_of view.now ≡ images.contents_of image.now }
     ensures lawful { IfSome result (λ net. IsLawful (after_net net image.now)) }
 {
+    // Tells the prover that the image is lawful.
     let _shape = image.shape();
     let Ok(judged) = judge(alloc, view, submission) else {
         return None;
@@ -88,7 +90,7 @@ fn net_of<A: Allocator + Copy>(alloc: A, image: &Image<A>, made: Made<'_>) -> Op
     right_net(alloc, image, &view, submission)
 }
 
-/// Makes the change of the net, with no block written.
+/// Makes the change of the net, without writing blocks.
 fn apply_alone<A: Allocator + Clone>(
     alloc: &A,
     image: &mut Image<A>,
@@ -100,7 +102,7 @@ fn apply_alone<A: Allocator + Clone>(
     net_apply(alloc.clone()?, image, net, &fill)
 }
 
-/// A new image with so many blocks on tier 0, and the nodes that are made.
+/// A new image with this many blocks on tier 0, and with the nodes that the log makes.
 pub fn image_with<A: Allocator + Copy>(alloc: A, blocks: u32, made: Made<'_>) -> Option<Image<A>> {
     let mut image = Image::fresh(alloc, TierSizes::new(blocks, 0, 0)?).ok()?;
     let net = net_of(alloc, &image, made)?;

@@ -1,4 +1,5 @@
-//! Edits of which each growth is refused in turn: the image shows what it showed, and then the same edits are made.
+//! Edits with each growth of memory refused in turn: the image shows what it showed, and then the same
+//! edits are made.
 ghost use Rattle.kfs_image.specs.Edit.{CanEdit};
 
 use crate::edits::{edits_of_each_kind, lay};
@@ -8,10 +9,10 @@ use kfs_test_support::refusing::Refusing;
 use std::alloc::{Allocator, Global};
 use std::process::Abort;
 
-/// As many growths as nothing here makes.
+/// More growths than anything here asks for.
 const AMPLE: u64 = 1 << 40;
 
-/// More growths than edits make.
+/// More growths than the edits ask for.
 const MANY: u64 = 400;
 
 /// File 5 of two blocks at `/a`.
@@ -26,10 +27,10 @@ const TWO_BLOCKS: Made<'static> = Made {
 /// The places on tier 0 of the two blocks, the bytes of the file from 4,090 on, and how many places are free.
 type Shown = ((Option<u32>, Option<u32>), [u8; 20], u32);
 
-/// The first block lies somewhere.
+/// The first block is mapped, the second isn't.
 const BEFORE: Shown = ((Some(0), None), [0; 20], 2);
 
-/// After the edits of each kind: block 1 lies at place 2, and block 0 nowhere.
+/// After the edits of each kind: block 1 is at place 2, and block 0 is unmapped.
 const EDITED: Shown = (
     (None, Some(2)),
     [
@@ -58,14 +59,14 @@ fn shows<A: Allocator>(image: &Image<A>, wanted: &Shown) -> bool {
     }
 }
 
-/// Whether a growth was refused, and the image shows what it showed. The heap then refuses none.
+/// Whether a growth was refused, and the image shows what it showed. No further growth is refused then.
 fn is_kept<A: Allocator>(heap: &Refusing<Global>, image: &Image<A>) -> bool {
     let has_refused = heap.has_refused();
     heap.refuse_after(AMPLE);
     has_refused && shows(image, &BEFORE)
 }
 
-/// Whether there was a growth that was refused in these edits; none where an answer isn't due.
+/// Whether a growth was refused in these edits; none where the answer is wrong.
 fn is_edit_refused<A: Allocator + Clone>(
     heap: &Refusing<Global>,
     image: &mut Image<A>,
@@ -84,7 +85,7 @@ fn is_edit_refused<A: Allocator + Clone>(
     shows(image, &EDITED).then_some(true)
 }
 
-/// The same of the edits of each kind, of which the heap refuses the growth of this index.
+/// The same for the edits of each kind, with the growth of this index refused.
 fn are_edits_refused<'a>(
     heap: &'a Refusing<Global>,
     image: &mut Image<&'a Refusing<Global>>,
@@ -100,7 +101,7 @@ fn has_file<A: Allocator>(shape: &Shape<A>) -> bool {
     matches!(look(shape, &Cell::Header(5)), Answer::Header(Some(_)))
 }
 
-/// The same, while a view may share the shape, and shows what it showed.
+/// The same, while a view may share the nodes and names, and shows what it showed.
 fn is_refused(alloc: Global, is_shared: bool, growth: u64) -> Option<bool> {
     let heap = Refusing::new(alloc, AMPLE);
     let mut image = image_with(&heap, 3, TWO_BLOCKS)?;
@@ -114,7 +115,8 @@ fn is_refused(alloc: Global, is_shared: bool, growth: u64) -> Option<bool> {
     has_file(&view).then_some(has_refused)
 }
 
-/// How many growths the edits make, each of which is refused in turn; or the index of one at which an answer isn't due.
+/// How many growths the edits ask for, each refused in turn; or as an error the index of one at which
+/// the answer is wrong.
 fn growths(alloc: Global, is_shared: bool) -> Result<u64, u64> {
     for growth in 0..MANY {
         match is_refused(alloc, is_shared, growth) {
