@@ -1,4 +1,4 @@
-//! A script, the words and the status that go with it, and the replies that are expected.
+//! A script with its words, the exit status and the replies that are expected.
 ghost use Rattle.std.specs.Prelude.{◌≡◌, ◌≤◌, length, OnOk};
 ghost use Rattle.kfs_test_scripts.specs.Differences.{line_behind};
 
@@ -10,10 +10,10 @@ use std::io::ErrorKind;
 use std::rt::Files;
 use std::{fs, io};
 
-/// The exit status where no other one is expected.
+/// The exit status that is expected where no file says another.
 const DONE: u64 = 0;
 
-/// How many bytes a script has at most of which each growth is refused without its being asked for.
+/// Scripts of at most this many bytes are also run with each growth of memory refused in turn.
 const SMALL: usize = 3_000;
 
 /// A script and what is expected of it.
@@ -45,10 +45,16 @@ pub fn script_names<R: Files + AllocGlobal + Clone + Drop>(
 }
 
 impl Case {
-    /// Reads the files of a name: `.kfs`, the script; `.out`, the replies; and where they are there
-    /// `.words`, the words behind the program's name, one a line, `run` without it; `.status`, the exit
-    /// status, 0 without it; `.broken`, with which reading fails behind the script's last byte; `.growths`,
-    /// how many growths of memory it makes at least; and `.room`, the bytes that are enough for it.
+    /// Reads the files with this name. Each script has two:
+    /// - `.kfs`, the script;
+    /// - `.out`, the replies that are expected.
+    ///
+    /// And it may have:
+    /// - `.words`, the words after the program's name, one a line (else `run`);
+    /// - `.status`, the exit status (else 0);
+    /// - `.broken`: reading fails after the script's last byte;
+    /// - `.growths`, the least number of growths of memory that the script asks for;
+    /// - `.room`, a number of bytes of memory that is enough for it.
     pub fn read<R: Files + AllocGlobal>(rt: &R, name: &str) -> Result<Case, ScriptFault> {
         let script = needed_file(rt, name, ".kfs")?;
         let replies = needed_file(rt, name, ".out")?;
@@ -107,15 +113,16 @@ impl Case {
         &self.replies
     }
 
-    /// How many growths of memory the script makes at least, where each is to be refused in turn: where `.growths`
-    /// says so, and of each small script that runs to its end.
+    /// The least number of growths of memory that the script asks for, if each is to be refused in
+    /// turn. That is so where `.growths` gives a number, and for each small script that runs to its
+    /// end.
     pub fn growths(&self) -> Option<u64> {
         let is_whole = !self.is_broken && self.words.is_none();
         let is_small = is_whole && self.script.len() <= SMALL;
         self.growths.or(is_small.then_some(0))
     }
 
-    /// The bytes of memory that are enough for the script, where that is to be seen.
+    /// The bytes of memory that are enough for the script, if that is to be tested.
     pub fn room(&self) -> Option<u64>
         ensures { result ≡ self.now.room }
     {
@@ -139,7 +146,7 @@ impl Case {
     }
 }
 
-/// The bytes of a file that each script has.
+/// The bytes of a file that each script must have.
 fn needed_file<R: Files + AllocGlobal>(
     rt: &R,
     name: &str,
@@ -162,7 +169,7 @@ fn optional_file<R: Files + AllocGlobal>(
     }
 }
 
-/// The number that a file has which a script may have.
+/// The number in a file that a script may have.
 fn optional_number<R: Files + AllocGlobal>(
     rt: &R,
     name: &str,
@@ -179,7 +186,7 @@ fn optional_number<R: Files + AllocGlobal>(
     }
 }
 
-/// Finds the first byte in which what was written differs from what is expected.
+/// The first byte at which what was written differs from what is expected.
 fn compare_replies(written: &[u8], expected: &[u8]) -> Result<(), ScriptFault>
     ensures { OnOk result (written.now ≡ expected.now) }
 {
@@ -193,13 +200,13 @@ fn compare_replies(written: &[u8], expected: &[u8]) -> Result<(), ScriptFault>
     })
 }
 
-/// How many bytes are alike before the first that differs.
+/// How many bytes at the front are the same in both.
 fn alike(written: &[u8], expected: &[u8]) -> usize {
     let pairs = written.iter().zip(expected.iter());
     pairs.take_while(|(left, right)| left == right).count()
 }
 
-/// The line, from 1, in which the byte behind the first ones stands.
+/// The line, from 1, of the byte with this index.
 fn line_behind(expected: &[u8], same: usize) -> usize
     ensures { same ≤ length expected.now → result ≡ line_behind expected.now same }
 {

@@ -5,23 +5,23 @@ use thiserror::Error;
 
 #[derive(Clone, Copy, Debug, PartialEq, Eq, Error)]
 pub enum ScriptFault {
-    /// The line and the byte, both counted from 1, of the first difference.
+    /// The line and the byte of the first difference, both counted from 1.
     #[error("differs at line {line} (byte {byte})")]
     Differs { line: usize, byte: usize },
     #[error("status {ended}, not {status}")]
     Status { ended: u8, status: u8 },
-    /// A file with this ending has to be there.
+    /// A file with this ending is missing.
     #[error("has no file {0}")]
     Missing(&'static str),
-    /// The file with this ending is there, but isn't what it has to be.
+    /// A file with this ending has the wrong content.
     #[error("its file {0} can't be read")]
     Unreadable(&'static str),
-    /// Where the growth of this index alone is refused, another line is answered otherwise.
+    /// With the growth of this index refused, other lines are answered differently.
     #[error("isn't as it is due with growth {0} refused")]
     Growth(u64),
     #[error("makes {made} growths, not {least}")]
     FewGrowths { made: u64, least: u64 },
-    /// The file `.room` has too small a number.
+    /// The number in `.room` is too small.
     #[error("has too little room in {0} bytes")]
     Room(u64),
     #[error("out of memory")]
