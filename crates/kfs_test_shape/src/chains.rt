@@ -1,4 +1,4 @@
-//! Images of as many nodes as there may be: directories one in another.
+//! Images with as many nodes as there may be: directories inside each other.
 
 use kfs_shape::{
     Header, Kind, Name, NameRow, RawImage, RawNode, ShapeFault, TierSizes, check_shape,
@@ -30,7 +30,8 @@ fn directories<A: Allocator>(alloc: A) -> Option<Vec<RawNode, A>> {
     Some(nodes)
 }
 
-/// The names by which each directory from `first` on leads to the next one, and the last one to `last`.
+/// The names with which each directory from `first` on leads to the next one, and the last one to
+/// `last`.
 fn names<A: Allocator>(alloc: A, first: u32, last: Option<u32>) -> Option<Vec<NameRow, A>> {
     let mut names = Vec::new(alloc);
     for dir in first..GREATEST {
@@ -54,7 +55,7 @@ fn names<A: Allocator>(alloc: A, first: u32, last: Option<u32>) -> Option<Vec<Na
     Some(names)
 }
 
-/// What is found where each directory from `first` on leads to the next one, and the last one to `last`.
+/// The finding where each directory from `first` on leads to the next one, and the last one to `last`.
 fn found<A: Allocator + Copy>(
     alloc: A,
     first: u32,

@@ -1,4 +1,4 @@
-//! Logs and plans as bytes: what decodes to what, what encodes back, and what each refused growth is answered.
+//! Logs and plans as bytes: what they decode to, what they encode to, and the answers without memory.
 
 mod decoded;
 mod memory;

@@ -1,4 +1,4 @@
-//! What is found in images that break a rule, and in such as break none.
+//! Findings in images that break a rule, and images that break none.
 
 use crate::images::{ExtentLine, NameLine, NodeLine, SmallImage, found};
 use NodeLine::{Directory, Empty, File};
@@ -15,7 +15,7 @@ const ONE: &[NameLine] = &[(1, A, 5)];
 
 const TWO: &[NameLine] = &[(1, A, 5), (1, B, 7)];
 
-/// Rule, number, and an image in which they are found.
+/// Images with the rule and the number that are found in them.
 const BROKEN: [(u8, u32, SmallImage); 12] = [
     (
         1,

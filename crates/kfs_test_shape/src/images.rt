@@ -1,4 +1,4 @@
-//! Raw images, row by row.
+//! Small raw images, row by row.
 
 use kfs_shape::{
     Extent, ExtentRow, Header, Kind, Name, NameRow, RawImage, RawNode, ShapeFault, TierSizes,
@@ -9,20 +9,20 @@ use std::alloc::Allocator;
 /// The number of the root directory.
 pub const ROOT: u32 = 1;
 
-/// A node of mode 0o777 or 0o644, unless its mode is said.
+/// A node, with mode 0o777 or 0o644 unless a mode is given.
 #[derive(Clone, Copy)]
 pub enum NodeLine {
     Directory(u32),
-    /// Number and size, with one link.
+    /// Number and size; it has one link.
     File(u32, u64),
-    /// Number, mode and links, without a size.
+    /// Number, kind, mode and links; its size is 0.
     Empty(u32, Kind, u16, u16),
 }
 
-/// Directory, name and number.
+/// A name: directory, name, number.
 pub type NameLine = (u32, &'static [u8], u32);
 
-/// Number, block, tier, place, count, and how many bytes there are.
+/// An extent: number, block, tier, place, count, and the number of its bytes.
 #[derive(Clone, Copy)]
 pub struct ExtentLine(pub u32, pub u32, pub u8, pub u32, pub u32, pub usize);
 
@@ -83,7 +83,7 @@ fn extent<A: Allocator>(alloc: A, line: ExtentLine) -> Option<ExtentRow<A>> {
     })
 }
 
-/// Takes in the names of a part that stand in the root, or those that stand elsewhere.
+/// Adds the names of a part that are in the root, or those that aren't.
 fn push_names<A: Allocator>(
     names: &mut Vec<NameRow, A>,
     part: &SmallImage,
@@ -97,7 +97,7 @@ fn push_names<A: Allocator>(
     Some(())
 }
 
-/// The names of the parts, those in the root first.
+/// The names of all parts, those in the root first.
 fn names_of<A: Allocator + Copy>(alloc: A, parts: &[SmallImage]) -> Option<Vec<NameRow, A>> {
     let mut names = Vec::new(alloc);
     for in_root in [true, false] {
@@ -128,7 +128,7 @@ fn extents_of<A: Allocator + Copy>(alloc: A, parts: &[SmallImage]) -> Option<Vec
     Some(extents)
 }
 
-/// The image with the rows of all parts.
+/// An image with the rows of all parts.
 pub fn image<A: Allocator + Copy>(alloc: A, parts: &[SmallImage]) -> Option<RawImage<A>> {
     Some(RawImage {
         sizes: TierSizes::new(8, 8, 8)?,
@@ -138,7 +138,8 @@ pub fn image<A: Allocator + Copy>(alloc: A, parts: &[SmallImage]) -> Option<RawI
     })
 }
 
-/// What is found in the image with the rows of all parts: rule and number, none where it is well formed.
+/// The rule and the number found in the image with the rows of all parts; an inner none where it is
+/// well formed.
 pub fn found<A: Allocator + Copy>(alloc: A, parts: &[SmallImage]) -> Option<Option<(u8, u32)>> {
     let raw = image(alloc, parts)?;
     match check_shape(alloc, &raw) {

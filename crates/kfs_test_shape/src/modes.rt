@@ -9,13 +9,13 @@ fn client(ids: (u32, u32), groups: &[u32], privileged: bool) -> Result<Client, C
     Client::new(7, ids.0, ids.1, groups, privileged, 2, 99)
 }
 
-/// The class that such a client, not privileged, is in, to a node of these ids.
+/// The class of such a client, not privileged, on a node with these ids.
 fn class(ids: (u32, u32), groups: &[u32], node: (u32, u32)) -> Result<Class, ClientFault> {
     let client = client(ids, groups, false)?;
     Ok(class_of(&client, node.0, node.1))
 }
 
-/// Whether a node of these ids and this mode grants it to such a client, privileged or not.
+/// Whether such a client, privileged or not, may do this with a node of these ids and this mode.
 fn is_granted(
     ids: (u32, u32),
     groups: &[u32],
@@ -27,7 +27,7 @@ fn is_granted(
     Ok(may(&client, node.0, node.1, node.2, want))
 }
 
-/// The groups of a client of uid and gid 1000, a node, and whether it is granted.
+/// Groups of a client with uid and gid 1000, a node, and whether the client may do this.
 const ONE_CLASS: [(&[u32], u32, u32, u16, Want, bool); 13] = [
     // its owner may not write, though its group and the others may
     (&[], 1000, 1000, 0o077, Write, false),
@@ -49,15 +49,15 @@ const ONE_CLASS: [(&[u32], u32, u32, u16, Want, bool); 13] = [
     (&[], 0, 0, 0o700, Search, false),
 ];
 
-/// The same for user 0 without the flag, which has no privilege.
+/// The same for a client with uid 0 that isn't privileged.
 const USER_0: [(&[u32], u32, u32, u16, Want, bool); 3] = [
     (&[], 0, 1, 0o700, Write, true),
     (&[], 1, 1, 0o770, Write, false),
     (&[], 0, 0, 0o077, Search, false),
 ];
 
-/// The ids of a node, the class of a client of uid 1000, gid 2000 and the groups 3000 and 4000, and the
-/// place of its bits.
+/// A node's ids, the class of a client with uid 1000, gid 2000 and groups 3000 and 4000, and the place
+/// of the class's bits.
 const CLASSES: [(u32, u32, Class, u16); 8] = [
     (1000, 1, Class::Owner, 0o100),
     (1000, 2000, Class::Owner, 0o100),
@@ -69,7 +69,8 @@ const CLASSES: [(u32, u32, Class, u16); 8] = [
     (0, 0, Class::Other, 0o001),
 ];
 
-/// Whether of nine bits this one alone grants it to that client, and a privileged one needs none.
+/// Whether exactly this one of nine bits grants it to that client, while a privileged client needs
+/// none.
 fn is_the_bit(node: (u32, u32), bit: u16, want: Want) -> Result<bool, ClientFault> {
     let (uid, gid) = node;
     let ids = (1000, 2000);
@@ -80,7 +81,7 @@ fn is_the_bit(node: (u32, u32), bit: u16, want: Want) -> Result<bool, ClientFaul
     Ok(by_the_bit && !by_the_others && by_privilege)
 }
 
-/// Whether that client is in this class to the node, and its three bits grant one thing each.
+/// Whether that client is in this class, and each of the class's three bits grants one thing.
 fn is_class(row: (u32, u32, Class, u16)) -> Result<bool, ClientFault> {
     let (uid, gid, wanted, unit) = row;
     let node = (uid, gid);
@@ -92,13 +93,13 @@ fn is_class(row: (u32, u32, Class, u16)) -> Result<bool, ClientFault> {
     )
 }
 
-/// Whether a client of these ids and groups, not privileged, is granted what the row says.
+/// Whether a client with these ids and groups, not privileged, is granted what the row says.
 fn is_row(ids: (u32, u32), row: (&[u32], u32, u32, u16, Want, bool)) -> Result<bool, ClientFault> {
     let (groups, uid, gid, mode, want, granted) = row;
     Ok(is_granted(ids, groups, false, (uid, gid, mode), want)? == granted)
 }
 
-/// Each row holds, for a client of these ids.
+/// Expects each row of a client with these ids.
 fn expect_rows(rt: &impl Abort, ids: (u32, u32), rows: &[(&[u32], u32, u32, u16, Want, bool)]) {
     for row in rows {
         assert!(rt;
@@ -111,7 +112,7 @@ fn expect_rows(rt: &impl Abort, ids: (u32, u32), rows: &[(&[u32], u32, u32, u16,
     }
 }
 
-/// Each row holds.
+/// Expects each row.
 fn expect_classes(rt: &impl Abort, rows: &[(u32, u32, Class, u16)]) {
     for row in rows {
         assert!(rt; is_class(*row) == Ok(true), "{} {}", row.0, row.1);

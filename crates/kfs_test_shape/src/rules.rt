@@ -1,5 +1,5 @@
-//! Each rule of an image broken alone, and together with each later one, of which the least is found; and the check with
-//! one growth refused.
+//! Each rule of an image broken alone, and together with each later rule; the least is found. And the
+//! check with one growth of memory refused.
 
 use crate::images::{ExtentLine, NameLine, NodeLine, SmallImage, found, image};
 use NodeLine::{Directory, Empty, File};
@@ -11,7 +11,7 @@ use std::process::Abort;
 /// How many rules there are.
 const RULES: usize = 10;
 
-/// More growths than a check makes.
+/// More growths than a check asks for.
 const MANY: u64 = 2000;
 
 const NO_ROWS: SmallImage = SmallImage {
@@ -26,8 +26,8 @@ const ROOT_ALONE: SmallImage = SmallImage {
     extents: &[],
 };
 
-/// For each rule a number, and rows that stand beside a root directory and break this rule alone, there; the second has no
-/// rows, since what breaks it is that there is no root directory.
+/// For each rule a number, and rows that, next to a root directory, break this rule alone, at this
+/// number. Rule 2 has no rows, since a missing root directory breaks it.
 const BREAKS: [(u32, SmallImage); RULES] = [
     (
         11,
@@ -107,7 +107,7 @@ const BREAKS: [(u32, SmallImage); RULES] = [
     ),
 ];
 
-/// The rows that break the rule of this index.
+/// The rows that break the rule with this index.
 fn breaking(index: usize) -> SmallImage {
     match BREAKS.get(index) {
         Some((_, rows)) => *rows,
@@ -115,7 +115,7 @@ fn breaking(index: usize) -> SmallImage {
     }
 }
 
-/// Rows in which the rules of both indexes are broken, or the one if they are the same.
+/// Rows that break the rules of both indexes, or the one if they are the same.
 fn broken(first: usize, second: usize) -> [SmallImage; 3] {
     let has_root = first != 1 && second != 1;
     let root = if has_root { ROOT_ALONE } else { NO_ROWS };
@@ -124,14 +124,14 @@ fn broken(first: usize, second: usize) -> [SmallImage; 3] {
     [root, breaking(first), others]
 }
 
-/// The finding of the rule of this index.
+/// The finding of the rule with this index.
 fn due(index: usize) -> Option<(u8, u32)> {
     let (number, _) = BREAKS.get(index)?;
     let rule = u8::try_from(index).ok()?.checked_add(1)?;
     Some((rule, *number))
 }
 
-/// What is found where the rules of both indexes are broken.
+/// The finding where the rules of both indexes are broken.
 fn found_of_both<A: Allocator + Copy>(alloc: A, first: usize, second: usize) -> Option<(u8, u32)> {
     found(alloc, &broken(first, second))?
 }
@@ -149,7 +149,7 @@ fn the_least_broken_rule_is_found(rt: HostRuntime) {
     }
 }
 
-/// What the check of the rows tells where one growth of it is refused.
+/// The answer of the check of these rows with one growth refused.
 fn told<B: Allocator>(
     heap: &Refusing<B>,
     parts: &[SmallImage],
@@ -160,7 +160,7 @@ fn told<B: Allocator>(
     Some(check_shape(heap, &raw))
 }
 
-/// Whether the check told this, or, where a growth was refused, want of memory.
+/// Whether the answer is this, or, if a growth was refused, that memory was refused.
 fn is_as_due(
     answer: Option<Result<(), ShapeFault>>,
     due: Result<(), ShapeFault>,
@@ -169,7 +169,7 @@ fn is_as_due(
     answer == Some(due) || (has_refused && answer == Some(Err(ShapeFault::OutOfMemory)))
 }
 
-/// How many growths the check of the rows makes, each of which is refused in turn.
+/// How many growths the check of the rows asks for, each refused in turn.
 fn growths(
     rt: &(impl Abort + AllocGlobal),
     parts: &[SmallImage],

@@ -1,4 +1,4 @@
-//! Bytes that are logs and plans, what they say, and that this encodes to the same bytes.
+//! Bytes of logs and plans, their values, and that these encode to the same bytes.
 
 use crate::codec::memory::is_same_again;
 use kfs_entry::{
@@ -41,14 +41,14 @@ fn is_plan(
     }
 }
 
-/// Each of these is the same after it is decoded and encoded.
+/// Expects that each of these is the same after it is decoded and encoded.
 fn expect_same_again(rt: &(impl Abort + AllocGlobal), all: &[&[u8]]) {
     for bytes in all {
         assert!(rt; is_same_again(rt.alloc(), bytes) == Ok(true), "{bytes:?}");
     }
 }
 
-/// A Write to file 5 of the bytes at this place of the log.
+/// A Write to file 5 with the payload at these positions of the log.
 fn write(offset: u64, start: usize, end: usize) -> Entry<Span> {
     Entry::Write {
         number: 5,
@@ -196,7 +196,7 @@ fn plans(rt: HostRuntime) {
     );
 }
 
-/// What a log of one Write with a payload of `len` zero bytes is refused with.
+/// The refusal of a log with one Write of `len` zero bytes.
 fn write_fault(rt: &impl AllocGlobal, len: u32) -> Result<Option<SpellFault>, AllocError> {
     let head = b"KLOG\x01\0\0\0\x07\0\x01\x02\0\0\0\x05\0\0\0\0\0\0\0\0";
     let mut bytes = Vec::from_slice(rt.alloc(), head)?;

@@ -1,14 +1,15 @@
-//! Logs and plans with one growth refused: want of memory is said, and the same call then succeeds.
+//! Logs and plans with one growth of memory refused: the answer is that memory was refused, and the
+//! same call then succeeds.
 
 use kfs_entry::{SpellFault, decode_log, decode_plan, encode_log, encode_plan};
 use kfs_test_support::refusing::Refusing;
 use std::alloc::{AllocError, Allocator, Global};
 use std::process::Abort;
 
-/// More growths than any of these calls makes.
+/// More growths than any of these calls asks for.
 const MANY: u64 = 100;
 
-/// A log of 300 Truncates, whose entries grow several times.
+/// A log of 300 Truncates, whose list of entries grows several times.
 fn long_log(alloc: Global) -> Result<Vec<u8>, AllocError> {
     let mut bytes = Vec::from_slice(alloc, b"KLOG\x01\0\0\0\x07\x01\x2c")?;
     for size in 0..300u64 {
@@ -18,7 +19,7 @@ fn long_log(alloc: Global) -> Result<Vec<u8>, AllocError> {
     Ok(bytes)
 }
 
-/// 40 rows of names, of nodes that are gone, and of pieces of zero bytes.
+/// Adds 40 rows: of names, of removed nodes, or of zero pieces.
 fn push_rows(bytes: &mut Vec<u8, Global>, before: &[u8], behind: &[u8]) -> Result<(), AllocError> {
     for number in 0..40u32 {
         bytes.extend_from_slice(before)?;
@@ -28,7 +29,7 @@ fn push_rows(bytes: &mut Vec<u8, Global>, before: &[u8], behind: &[u8]) -> Resul
     Ok(())
 }
 
-/// A plan of 40 rows in each part, each of which grows several times.
+/// A plan with 40 rows in each part, whose lists each grow several times.
 fn long_plan(alloc: Global) -> Result<Vec<u8>, AllocError> {
     let mut bytes = Vec::from_slice(alloc, b"KPLN\x01\0\x28\0\x28\0\0\0\x28")?;
     push_rows(&mut bytes, b"\0\0\0\x01\x01a", b"")?;
@@ -37,13 +38,13 @@ fn long_plan(alloc: Global) -> Result<Vec<u8>, AllocError> {
     Ok(bytes)
 }
 
-/// What the log that the bytes are encodes to.
+/// The log in the bytes, encoded again.
 fn log_again<A: Allocator + Copy>(alloc: A, bytes: &[u8]) -> Result<Vec<u8, A>, SpellFault> {
     let log = decode_log(alloc, bytes)?;
     Ok(encode_log(alloc, &log, bytes)?)
 }
 
-/// What the plan that the bytes are encodes to.
+/// The plan in the bytes, encoded again.
 fn plan_again<A: Allocator + Copy>(alloc: A, bytes: &[u8]) -> Result<Vec<u8, A>, SpellFault> {
     let plan = decode_plan(alloc, bytes)?;
     Ok(encode_plan(alloc, &plan)?)
@@ -59,12 +60,12 @@ pub fn is_same_again<A: Allocator + Copy>(alloc: A, bytes: &[u8]) -> Result<bool
     Ok(again.as_slice() == bytes)
 }
 
-/// Whether the bytes came out the same, or, where a growth was refused, want of memory was said.
+/// Whether the bytes are the same; or, if a growth was refused, the answer is that memory was refused.
 fn is_as_due(answer: Result<bool, SpellFault>, has_refused: bool) -> bool {
     answer == Ok(true) || (has_refused && answer == Err(SpellFault::OutOfMemory))
 }
 
-/// How many growths it takes to decode and encode the bytes, each of which is refused in turn.
+/// How many growths are asked for in decoding and encoding the bytes, each refused in turn.
 fn growths(rt: &(impl Abort + AllocGlobal), bytes: &[u8]) -> u64 {
     for growth in 0..MANY {
         let heap = Refusing::new(rt.alloc(), growth);
@@ -78,7 +79,7 @@ fn growths(rt: &(impl Abort + AllocGlobal), bytes: &[u8]) -> u64 {
     MANY
 }
 
-/// How many it takes for the long log, and for the long plan, where there is memory for these.
+/// How many growths the long log and the long plan ask for, if there is memory for them.
 fn growths_of_both(rt: &(impl Abort + AllocGlobal)) -> Result<(u64, u64), AllocError> {
     let of_the_log = growths(rt, &long_log(rt.alloc())?);
     let of_the_plan = growths(rt, &long_plan(rt.alloc())?);
@@ -92,7 +93,7 @@ fn each_growth_refused_in_turn(rt: HostRuntime) {
     assert!(rt; 6 < of_the_plan && of_the_plan < MANY, "{of_the_plan}");
 }
 
-/// What the bytes are refused with where no growth is granted, and whether one was asked for.
+/// The refusal of the bytes where no growth is granted, and whether one was asked for.
 fn fault_without_memory(rt: &impl AllocGlobal, bytes: &[u8]) -> (Option<SpellFault>, bool) {
     let heap = Refusing::new(rt.alloc(), 0);
     let fault = if bytes.starts_with(b"KLOG") {
