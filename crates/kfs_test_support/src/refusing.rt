@@ -1,26 +1,27 @@
-//! An allocator that refuses one growth, or those that leave no room, for tests of what a call does without memory.
+//! An allocator that refuses one growth, or growths for which no bytes are left, for tests of calls
+//! without memory. A growth is one request for memory.
 
 use std::alloc::{AllocError, Allocator};
 use std::cell::Cell;
 
-/// What may still be given.
+/// What may still be granted.
 #[derive(Drop)]
 struct Allowed {
-    /// The growths before the one that is refused.
+    /// How many growths come before the one that is refused.
     growths: Cell<u64>,
-    /// The bytes beside those that are held.
+    /// How many bytes may be held beyond those that are.
     bytes: Cell<u64>,
 }
 
-/// Passes each growth on to another allocator, but for one, and for those of more bytes than are left. Take a `&` to it as
-/// the allocator.
+/// Passes each growth on to another allocator, except for one, and for growths of more bytes than are
+/// left. Use a `&` to it as the allocator.
 pub struct Refusing<B: Allocator> {
     inner: B,
     allowed: Allowed,
 }
 
 impl<B: Allocator> Refusing<B> {
-    /// Lets `left` growths pass, refuses the next one, and lets all others pass again, of as many bytes as there are.
+    /// Grants `left` growths, refuses the next one, and grants all others, of any number of bytes.
     pub fn new(inner: B, left: u64) -> Refusing<B> {
         Refusing {
             inner,
@@ -31,18 +32,18 @@ impl<B: Allocator> Refusing<B> {
         }
     }
 
-    /// Lets `left` growths pass from now on, refuses the next one, and lets all others pass again.
+    /// The same from now on: grants `left` growths, refuses the next one, and grants all others.
     pub fn refuse_after(&self, left: u64) {
         self.allowed.growths.set(left);
     }
 
-    /// Lets at most `bytes` bytes more be held at one time from now on, and refuses a growth that exceeds that. What the
-    /// inner allocator refuses counts as held.
+    /// From now on grants only growths with which at most `bytes` more bytes are held at one time. A
+    /// growth that the inner allocator refuses counts as held.
     pub fn leave(&self, bytes: u64) {
         self.allowed.bytes.set(bytes);
     }
 
-    /// Whether the growth has come that is refused.
+    /// Whether the growth that is refused has been asked for.
     pub fn has_refused(&self) -> bool {
         self.allowed.growths.get() > u64::MAX / 2
     }
@@ -57,7 +58,7 @@ impl<B: Allocator> Drop for Refusing<B> {
     }
 }
 
-/// Whether the next growth, of so many bytes, is refused; else they are held.
+/// Whether the next growth, of this many bytes, is refused. If not, they are held.
 fn refuses(allowed: &Allowed, size: usize) -> bool {
     let growths = allowed.growths.get();
     allowed.growths.set(growths.wrapping_sub(1));
@@ -70,7 +71,7 @@ fn refuses(allowed: &Allowed, size: usize) -> bool {
     }
 }
 
-/// So many bytes are held no more.
+/// This many bytes aren't held any more.
 fn give_back(allowed: &Allowed, size: usize) {
     let bytes = allowed.bytes.get().saturating_add(size as u64);
     allowed.bytes.set(bytes);
