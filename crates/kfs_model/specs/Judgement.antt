@@ -37,8 +37,7 @@ pub data Verdict : Type 0 where
 abbrev pub client_sight_of : State → (number : ℕ) → ClientSight
 client_sight_of s number = client_sight s.tree (holds s.leases number)
 
--- ---- the order of the judgement: client, log's bytes, the log's client, plan's bytes, entries, plan
--- rows
+-- ---- the judgement, in order: client, log's bytes, log's client, plan's bytes, entries, plan's rows
 
 abbrev pub judged_rows : State → Plan → Tree ℕ → Tree Mark → Verdict
 judged_rows s plan after marked_after = elim (first_wrong_row s.tree marked_after plan) [ None ↦ Yes after marked_after | Some fault ↦ No (AtRow fault) ]

@@ -2,7 +2,8 @@
 -- are equal by `refl`.
 --     get t k, insert t k v, remove t k      the value at a key; the table with an entry added or removed
 --     changed t k value      the table with this value at the key, or without an entry there
---     retain p t, mapped f t      the entries whose keys pass a test; the table with each value changed by a function of its key
+--     retain p t      the entries whose keys pass a test
+--     mapped f t      the table with each value changed by a function of its key
 --     united old new      the entries of both tables; at a common key the one of `new`
 use Rattle.std.specs.Prelude.{◌≡◌, ℕ, Bool, not, ◌&&◌, T, List, [], ◌∷◌, refl, Option, Some, None}
 use Rattle.std.specs.declared.cmp.Ordering.{Ordering}

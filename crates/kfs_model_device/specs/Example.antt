@@ -1,4 +1,5 @@
--- The images of the worked examples. Each has three tiers of eight blocks; nodes have uid and gid 1000, but the root 0.
+-- The images of the worked examples. Each has three tiers of eight blocks. The root has uid and gid 0,
+-- all other nodes have 1000.
 use Rattle.std.specs.Prelude.{◌≡◌, ℕ, zero, suc, List, [], ◌∷◌, ◌++◌, replicate, Some, option_map, filter_map}
 use Rattle.kfs_model.specs.Header.{Kind, File, Directory}
 use Rattle.kfs_model.specs.Limits.{block_size}
