@@ -228,8 +228,8 @@ impl<A: Allocator + Copy> Desk<A> {
         Ok(reply)
     }
 
-    /// A view of the state now, to be judged against. It shares the tables and doesn't change when the
-    /// desk goes on. Takes little memory, whatever the image's size; `Err` where it is refused.
+    /// A view of the state now, to be judged against. It shares the desk's tables and copies none of
+    /// them, and it doesn't change when the desk goes on. `Err` where memory is refused.
     pub fn view(&self) -> Result<View<A>, AllocError>
         ensures { IfOk result (λ view. IsViewOf view self.now.state) }
     {

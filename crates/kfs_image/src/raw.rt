@@ -36,8 +36,8 @@ pub struct ExtentRow<A: Allocator> {
     pub bytes: Vec<u8, A>,
 }
 
-/// An image as rows, in any order and with any numbers. docs/FORMATS.md has the rules that a well
-/// formed image fulfills.
+/// An image as rows, in any order and with any numbers. A well formed image fulfills the ten rules of
+/// crates/kfs_model_device/specs/Rules.antt.
 #[derive(Debug, Drop)]
 pub struct RawImage<A: Allocator> {
     /// The sizes of the tiers, in blocks.

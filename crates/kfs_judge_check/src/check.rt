@@ -3,8 +3,8 @@
 use kfs_image_nodes::Name;
 use thiserror::Error;
 
-/// Why an entry is refused. docs/FORMATS.md says in which order an entry's checks are made; the first
-/// that fails is the reason.
+/// Why an entry is refused: the first of its checks that fails. `checks_of` in
+/// crates/kfs_model/specs/Check.antt lists the checks of each entry in order.
 #[derive(Clone, Copy, Debug, PartialEq, Eq, Error)]
 pub enum Reason {
     /// 1: no node has the number.

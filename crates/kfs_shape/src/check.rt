@@ -73,7 +73,7 @@ fn check_extents<A: Allocator + Copy>(
     no_failure(10, least_shared(alloc, raw)?)
 }
 
-/// Checks whether an image is well formed. docs/FORMATS.md has the ten rules.
+/// Checks whether an image is well formed. crates/kfs_model_device/specs/Rules.antt has the ten rules.
 ///
 /// Refused with `Found`, the least rule that is broken and the least number at which it is, or with
 /// `OutOfMemory` where memory is refused. The image isn't changed.
