@@ -3,7 +3,7 @@ ghost use Rattle.std.specs.Prelude.{◌≡◌, ◌≤◌, length, drop, IfSome};
 ghost use Rattle.kfs_model.proofs.Reading.{byte_read};
 ghost use Rattle.kfs_entry_codec.specs.Reading.{seen};
 
-/// The field that stands at `at`, and the place after it.
+/// The field at position `at`, and the position after it; none where no such field is there.
 #[tactic(auto, unfolding(kfs_model::proofs::Reading::byte_read))]
 pub fn read(source: &[u8], at: usize) -> Option<(u8, usize)>
     requires { at ≤ length source.now }

@@ -33,7 +33,7 @@ fn read_present(source: &[u8], at: usize, kind: Kind) -> Option<(Header, usize)>
     Some((header, at))
 }
 
-/// The field that stands at `at`, and the place after it.
+/// The field at position `at`, and the position after it; none where no such field is there.
 #[tactic(auto, unfolding(kfs_model::proofs::Reading::header_read))]
 pub fn read(source: &[u8], at: usize) -> Option<(Option<Header>, usize)>
     requires { at ≤ length source.now }
@@ -51,7 +51,7 @@ pub fn read(source: &[u8], at: usize) -> Option<(Option<Header>, usize)>
     Some((Some(header), at))
 }
 
-/// Appends the spelling of the value.
+/// Appends the bytes of the value. `Err` where memory is refused.
 pub fn write<A: Allocator>(
     out: &mut Vec<u8, A>,
     source: &[u8],
@@ -75,7 +75,7 @@ pub fn write<A: Allocator>(
     number64::write(out, source, &header.size)
 }
 
-/// The length of the spelling in bytes.
+/// How many bytes the value has.
 #[tactic(auto, unfolding(kfs_model::specs::Spelling::number16, kfs_model::specs::Spelling::number32, kfs_model::specs::Spelling::number64))]
 pub fn len(_source: &[u8], header: &Option<Header>) -> usize
     ensures { result ≡ length (header_bytes (option_map header_of header.now)) }

@@ -9,7 +9,7 @@ use crate::byte;
 use kfs_entry_value::Kind;
 use std::alloc::{AllocError, Allocator};
 
-/// The field that stands at `at`, and the place after it.
+/// The field at position `at`, and the position after it; none where no such field is there.
 #[tactic(auto, unfolding(kfs_model::proofs::Reading::kind_read))]
 pub fn read(source: &[u8], at: usize) -> Option<(Kind, usize)>
     requires { at ≤ length source.now }
@@ -23,7 +23,7 @@ pub fn read(source: &[u8], at: usize) -> Option<(Kind, usize)>
     }
 }
 
-/// Appends the spelling of the value.
+/// Appends the bytes of the value. `Err` where memory is refused.
 pub fn write<A: Allocator>(
     out: &mut Vec<u8, A>,
     _source: &[u8],
@@ -39,7 +39,7 @@ pub fn write<A: Allocator>(
     Ok(())
 }
 
-/// The length of the spelling in bytes.
+/// How many bytes the value has.
 pub fn len(_source: &[u8], value: &Kind) -> usize
     ensures { result ≡ length (kind_bytes (kind_of value.now)) }
 {

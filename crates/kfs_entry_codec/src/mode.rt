@@ -8,7 +8,7 @@ use crate::number16;
 use kfs_entry_value::GREATEST_MODE;
 use std::alloc::{AllocError, Allocator};
 
-/// The field that stands at `at`, and the place after it.
+/// The field at position `at`, and the position after it; none where no such field is there.
 #[tactic(auto, unfolding(kfs_model::proofs::Reading::mode_read))]
 pub fn read(source: &[u8], at: usize) -> Option<(u16, usize)>
     requires { at ≤ length source.now }
@@ -22,7 +22,7 @@ pub fn read(source: &[u8], at: usize) -> Option<(u16, usize)>
     Some((mode, at))
 }
 
-/// Appends the spelling of the value.
+/// Appends the bytes of the value. `Err` where memory is refused.
 pub fn write<A: Allocator>(
     out: &mut Vec<u8, A>,
     source: &[u8],
@@ -33,7 +33,7 @@ pub fn write<A: Allocator>(
     number16::write(out, source, value)
 }
 
-/// The length of the spelling in bytes.
+/// How many bytes the value has.
 pub fn len(source: &[u8], value: &u16) -> usize
     ensures { result ≡ length (number16 value.now) }
 {

@@ -8,7 +8,7 @@ use crate::{byte, bytes};
 use kfs_entry_value::Name;
 use std::alloc::{AllocError, Allocator};
 
-/// The field that stands at `at`, and the place after it.
+/// The field at position `at`, and the position after it; none where no such field is there.
 #[tactic(auto, using(kfs_model::proofs::NameTest::name_tests), unfolding(kfs_model::proofs::Reading::name_read))]
 pub fn read(source: &[u8], at: usize) -> Option<(Name, usize)>
     requires { at ≤ length source.now }
@@ -20,7 +20,7 @@ pub fn read(source: &[u8], at: usize) -> Option<(Name, usize)>
     Some((Name::new(bytes)?, at))
 }
 
-/// Appends the spelling of the value.
+/// Appends the bytes of the value. `Err` where memory is refused.
 pub fn write<A: Allocator>(
     out: &mut Vec<u8, A>,
     _source: &[u8],
@@ -33,7 +33,7 @@ pub fn write<A: Allocator>(
     out.extend_from_slice(bytes)
 }
 
-/// The length of the spelling in bytes.
+/// How many bytes the value has.
 pub fn len(_source: &[u8], value: &Name) -> usize
     ensures value { result ≡ length (name_bytes value.now) }
     ensures bound { result ≤ 256 }

@@ -7,7 +7,7 @@ ghost use Rattle.kfs_entry_codec.specs.Reading.{seen};
 use crate::bytes::chunk;
 use std::alloc::{AllocError, Allocator};
 
-/// The field that stands at `at`, and the place after it.
+/// The field at position `at`, and the position after it; none where no such field is there.
 #[tactic(auto, unfolding(kfs_model::proofs::Reading::number32_read))]
 pub fn read(source: &[u8], at: usize) -> Option<(u32, usize)>
     requires { at ≤ length source.now }
@@ -18,7 +18,7 @@ pub fn read(source: &[u8], at: usize) -> Option<(u32, usize)>
     Some((u32::from_be_bytes(*bytes), at))
 }
 
-/// Appends the spelling of the value.
+/// Appends the bytes of the value. `Err` where memory is refused.
 #[tactic(auto, unfolding(kfs_model::specs::Spelling::number32))]
 pub fn write<A: Allocator>(
     out: &mut Vec<u8, A>,
@@ -30,7 +30,7 @@ pub fn write<A: Allocator>(
     out.extend_from_slice(&value.to_be_bytes())
 }
 
-/// The length of the spelling in bytes.
+/// How many bytes the value has.
 #[tactic(auto, unfolding(kfs_model::specs::Spelling::number32))]
 pub fn len(_source: &[u8], value: &u32) -> usize
     ensures { result ≡ length (number32 value.now) }

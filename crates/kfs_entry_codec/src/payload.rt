@@ -10,7 +10,7 @@ use crate::{bytes, number32};
 use kfs_entry_value::{PAYLOAD_LIMIT, Span};
 use std::alloc::{AllocError, Allocator};
 
-/// The field that stands at `at`, and the place after it.
+/// The field at position `at`, and the position after it; none where no such field is there.
 #[tactic(auto, unfolding(kfs_model::proofs::Reading::payload_read))]
 pub fn read(source: &[u8], at: usize) -> Option<(Span, usize)>
     requires { at ≤ length source.now }
@@ -25,7 +25,7 @@ pub fn read(source: &[u8], at: usize) -> Option<(Span, usize)>
     Some((Span { start, end }, end))
 }
 
-/// Appends the spelling of the value.
+/// Appends the bytes of the value. `Err` where memory is refused.
 pub fn write<A: Allocator>(
     out: &mut Vec<u8, A>,
     source: &[u8],
@@ -40,7 +40,7 @@ pub fn write<A: Allocator>(
     out.extend_from_slice(bytes)
 }
 
-/// The length of the spelling in bytes.
+/// How many bytes the value has.
 #[tactic(auto, unfolding(kfs_model::specs::Spelling::number32))]
 pub fn len(source: &[u8], value: &Span) -> usize
     requires { (value.now.start ≤ value.now.end) × (value.now.end ≤ length source.now) }

@@ -28,9 +28,11 @@ enum WordsFault {
 /// Does what the words ask for, over `reader` and `writer`. The first word is the program's name. The
 /// words are looked at before any input is read.
 ///
-/// Answers the exit status: 0 done; 2 the words were refused, and nothing was read or written; 3 a read
-/// or a write failed, or a line was too long; 4 memory for the words or for a line of the input was
-/// refused.
+/// Answers the exit status:
+/// - 0: done;
+/// - 2: the words were refused, and nothing was read or written;
+/// - 3: a read or a write failed, or a line was too long;
+/// - 4: memory for the words or for a line of the input was refused.
 pub fn run_words<R, A, I, O>(rt: &R, alloc: A, words: &[&str], reader: &mut I, writer: &mut O) -> u8
 where
     R: AllocGlobal,

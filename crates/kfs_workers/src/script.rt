@@ -49,12 +49,14 @@ pub struct ScriptBack<A: Allocator> {
 
 /// Makes the steps of a script in order.
 ///
-/// These steps change nothing: any step of a worker over 7; a Look of a worker that holds something, or
-/// at a ticket without a submission; a Judge or Land of a worker that holds nothing; a Judge of what is
-/// judged; a Land of what isn't.
+/// These steps change nothing:
+/// - any step of a worker over 7;
+/// - a Look of a worker that holds something, or at a ticket without a submission;
+/// - a Judge or a Land of a worker that holds nothing;
+/// - a Judge of what is judged, and a Land of what isn't.
 ///
-/// A step for which memory is refused, or the docket is full, changes nothing but this: a submission
-/// that the worker holds goes back under its ticket. What workers hold at the end is left.
+/// Where memory is refused for a step, or the docket is full, the step changes only this: a submission
+/// that its worker holds goes back under its ticket. What workers hold at the end is left.
 ///
 /// Takes memory for its lists before the first step; `Err` where that is refused, with desk and
 /// submissions. Memory refused later is no error.
