@@ -15,7 +15,7 @@ use Rattle.kfs_program_command.specs.Views.{act_of, asked_of_desk}
 use Rattle.kfs_program_command.specs.declared.command.DeskCommand.{DeskCommand}
 use Rattle.kfs_program_engine.specs.HeldVerdicts.{HeldVerdicts, held_by, with_held}
 use Rattle.kfs_program_engine.specs.Holding.{hands_of}
-use Rattle.kfs_program_engine.specs.Session.{After, DeskOutcome, AnswersCommand, IsCallAnswered, IsLandingAnswered, IsReplied, IsSaid, AnswersJudge, AnswersLand, LineOutcome, AnswersDeskCommand, Stage, WithHands, opened}
+use Rattle.kfs_program_engine.specs.Session.{After, DeskOutcome, AnswersCommand, IsCallAnswered, IsLandingAnswered, IsReplied, IsSaid, AnswersJudge, AnswersLand, LineOutcome, DeskAnswers, Stage, WithHands, opened}
 use Rattle.kfs_program_engine.specs.Views.{stage_in, start_of}
 use Rattle.kfs_program_engine.specs.declared.opening.Opening.{Opening}
 use Rattle.kfs_program_engine.specs.declared.session.Stage.{Stage as CodeStage}
@@ -39,25 +39,25 @@ none_shown (Some judged) is = cc
 
 module _ (desk : Desk) (old new : HeldVerdicts) (worker : ℕ) where
   pub judged_held : (submission : Submission) (verdict : HeldVerdict) → held_by old worker ≡ None → new ≡ with_held old worker (Some verdict) → IsVerdictOn desk.state submission verdict
-      → AnswersDeskCommand desk old (commands.Judge worker submission) (line_of (codes "judged " ++ decimal worker), After desk new)
+      → DeskAnswers desk old (commands.Judge worker submission) (line_of (codes "judged " ++ decimal worker), After desk new)
   judged_held submission verdict empty put is =
       let text = line_of (codes "judged " ++ decimal worker) in
       subst (λ hand. AnswersJudge desk old worker hand submission (text, After desk new)) (sym empty) (verdict, is, ap (λ hands. (text, After desk hands)) put)
 
-  pub full_hand : (submission : Submission) → held_by old worker ≢ None → new ≡ old → AnswersDeskCommand desk old (commands.Judge worker submission) (line_of (codes "bad line"), After desk new)
+  pub full_hand : (submission : Submission) → held_by old worker ≢ None → new ≡ old → DeskAnswers desk old (commands.Judge worker submission) (line_of (codes "bad line"), After desk new)
   full_hand submission full same = by (held_by old worker) full
     where
       by : (hand : Option HeldVerdict) → hand ≢ None → AnswersJudge desk old worker hand submission (line_of (codes "bad line"), After desk new)
       by None some = absurd (some refl)
       by (Some verdict) some = ap (λ hands. (line_of (codes "bad line"), After desk hands)) same
 
-  pub empty_hand : held_by old worker ≡ None → new ≡ with_held old worker None → AnswersDeskCommand desk old (commands.Land worker) (line_of (codes "bad line"), After desk new)
+  pub empty_hand : held_by old worker ≡ None → new ≡ with_held old worker None → DeskAnswers desk old (commands.Land worker) (line_of (codes "bad line"), After desk new)
   empty_hand empty left =
       let text = line_of (codes "bad line") in
       let same : new ≡ old = left ∙ ap (set old worker) (sym empty) ∙ set-get_or old worker None in
       subst (λ hand. AnswersLand desk old worker hand (text, After desk new)) (sym empty) (ap (λ hands. (text, After desk hands)) same)
 
-  pub landed : (verdict : HeldVerdict) → held_by old worker ≡ Some verdict → new ≡ with_held old worker None → (said : DeskOutcome) → IsLandingAnswered desk verdict said → AnswersDeskCommand desk old (commands.Land worker) (said.0, After said.1 new)
+  pub landed : (verdict : HeldVerdict) → held_by old worker ≡ Some verdict → new ≡ with_held old worker None → (said : DeskOutcome) → IsLandingAnswered desk verdict said → DeskAnswers desk old (commands.Land worker) (said.0, After said.1 new)
   landed verdict is left said answered =
       subst (λ hand. AnswersLand desk old worker hand (said.0, After said.1 new)) (sym is) (said, answered, ap (λ hands. (said.0, After said.1 hands)) left)
 
@@ -74,10 +74,10 @@ taken_as fault (Some other) judged hand is shown =
     sym shown ∙ ap (λ it. Some (verdict_of it)) same
 
 module _ {A T E : Type 0} (result : Result T E) (desk : Desk) (old new : HeldVerdicts) (worker : ℕ) (judged : Judged A) (is : held_by old worker ≡ Some (verdict_of judged)) (left : new ≡ with_held old worker None) where
-  pub landed_as : (before after : List ℕ) (next : Desk) → OnOk result (IsReplied (IsLandingAnswered desk (verdict_of judged)) before after next) → OnOk result (IsReplied (AnswersDeskCommand desk old (commands.Land worker)) before after (After next new))
+  pub landed_as : (before after : List ℕ) (next : Desk) → OnOk result (IsReplied (IsLandingAnswered desk (verdict_of judged)) before after next) → OnOk result (IsReplied (DeskAnswers desk old (commands.Land worker)) before after (After next new))
   landed_as before after next = on_ok_weaker result (λ said. (said.0, said.1, landed desk old new worker (verdict_of judged) is left (said.0, next) said.2))
 
-  pub landing_undone : (fault other : E) (next : Desk) → IfErr result (λ why. (why ≡ fault) × (next ≡ desk)) → result ≡ Err other → AnswersDeskCommand desk old (commands.Land worker) (line_of (codes "memory"), After next new)
+  pub landing_undone : (fault other : E) (next : Desk) → IfErr result (λ why. (why ≡ fault) × (next ≡ desk)) → result ≡ Err other → DeskAnswers desk old (commands.Land worker) (line_of (codes "memory"), After next new)
   landing_undone fault other next undone out =
       let text = line_of (codes "memory") in
       landed desk old new worker (verdict_of judged) is left (text, next) (inr (inr (ap (λ d. (text, d)) (undone_same result fault other next desk undone out))))
@@ -89,7 +89,7 @@ with_hands result hands Holds before after desk = on_ok_weaker result (λ is. (i
 
 -- a call for the leases
 pub act_served : {T E : Type 0} (result : Result T E) (desk : Desk) (hands : HeldVerdicts) (act : Act) (before after : List ℕ) (next : Desk) → OnOk result (IsReplied (IsCallAnswered desk (call_of act) (done_by act)) before after next)
-    → OnOk result (IsReplied (AnswersDeskCommand desk hands (act_of act)) before after (After next hands))
+    → OnOk result (IsReplied (DeskAnswers desk hands (act_of act)) before after (After next hands))
 act_served result desk hands (acts.Lease client path kind end) before after next is = with_hands result hands _ before after next is
 act_served result desk hands (acts.Drop client number) before after next is = with_hands result hands _ before after next is
 act_served result desk hands (acts.Tick moment) before after next is = with_hands result hands _ before after next is
@@ -99,8 +99,8 @@ pub said_with_hands : (hands : HeldVerdicts) (text : List ℕ) (before after : L
 said_with_hands hands text before after desk is = (line_of text, is, ((line_of text, desk), refl, refl))
 
 -- of this command, which the line's is
-pub replied_as : {A : Type 0} (desk : Desk) (hands : HeldVerdicts) (command known : DeskCommand A) (before after : List ℕ) (stage : Stage) → command ≡ known → IsReplied (AnswersDeskCommand desk hands (asked_of_desk known)) before after stage → IsReplied (AnswersDeskCommand desk hands (asked_of_desk command)) before after stage
-replied_as desk hands command known before after stage is = subst (λ it. IsReplied (AnswersDeskCommand desk hands (asked_of_desk it)) before after stage) (sym is)
+pub replied_as : {A : Type 0} (desk : Desk) (hands : HeldVerdicts) (command known : DeskCommand A) (before after : List ℕ) (stage : Stage) → command ≡ known → IsReplied (DeskAnswers desk hands (asked_of_desk known)) before after stage → IsReplied (DeskAnswers desk hands (asked_of_desk command)) before after stage
+replied_as desk hands command known before after stage is = subst (λ it. IsReplied (DeskAnswers desk hands (asked_of_desk it)) before after stage) (sym is)
 
 -- ---- before the beginning
 

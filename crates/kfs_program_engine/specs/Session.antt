@@ -161,24 +161,24 @@ AnswersLand desk hands worker (Some verdict) outcome = WithHands (with_held hand
 -- ---- lines
 
 -- the outcome of a command to the desk, once it is begun
-abbrev pub AnswersDeskCommand : Desk → HeldVerdicts → DeskCommand → LineOutcome → Type 0
-AnswersDeskCommand desk hands (Lease client path kind end) outcome = WithHands hands (IsCallAnswered desk (machine.Lease client path kind end) Leased) outcome
-AnswersDeskCommand desk hands (Drop client number) outcome = WithHands hands (IsCallAnswered desk (machine.Drop client number) Dropped) outcome
-AnswersDeskCommand desk hands (Tick moment) outcome = WithHands hands (IsCallAnswered desk (machine.Tick moment) Ticked) outcome
-AnswersDeskCommand desk hands (Submit submission) outcome = WithHands hands (IsSubmissionAnswered desk submission) outcome
-AnswersDeskCommand desk hands (Node number) outcome = WithHands hands (IsNodeShown desk number) outcome
-AnswersDeskCommand desk hands (Listing directory) outcome = WithHands hands (IsSaid (names_line desk directory) desk) outcome
-AnswersDeskCommand desk hands (Bytes number start count) outcome = WithHands hands (IsSaid (read_text desk.state.tree number start count) desk) outcome
-AnswersDeskCommand desk hands DocketLength outcome = WithHands hands (IsSaid (docket_line desk) desk) outcome
-AnswersDeskCommand desk hands (Judge worker submission) outcome = AnswersJudge desk hands worker (held_by hands worker) submission outcome
-AnswersDeskCommand desk hands (Land worker) outcome = AnswersLand desk hands worker (held_by hands worker) outcome
+abbrev pub DeskAnswers : Desk → HeldVerdicts → DeskCommand → LineOutcome → Type 0
+DeskAnswers desk hands (Lease client path kind end) outcome = WithHands hands (IsCallAnswered desk (machine.Lease client path kind end) Leased) outcome
+DeskAnswers desk hands (Drop client number) outcome = WithHands hands (IsCallAnswered desk (machine.Drop client number) Dropped) outcome
+DeskAnswers desk hands (Tick moment) outcome = WithHands hands (IsCallAnswered desk (machine.Tick moment) Ticked) outcome
+DeskAnswers desk hands (Submit submission) outcome = WithHands hands (IsSubmissionAnswered desk submission) outcome
+DeskAnswers desk hands (Node number) outcome = WithHands hands (IsNodeShown desk number) outcome
+DeskAnswers desk hands (Listing directory) outcome = WithHands hands (IsSaid (names_line desk directory) desk) outcome
+DeskAnswers desk hands (Bytes number start count) outcome = WithHands hands (IsSaid (read_text desk.state.tree number start count) desk) outcome
+DeskAnswers desk hands DocketLength outcome = WithHands hands (IsSaid (docket_line desk) desk) outcome
+DeskAnswers desk hands (Judge worker submission) outcome = AnswersJudge desk hands worker (held_by hands worker) submission outcome
+DeskAnswers desk hands (Land worker) outcome = AnswersLand desk hands worker (held_by hands worker) outcome
 
 -- the outcome of a command; one that comes at the wrong time is a bad line
 abbrev pub AnswersCommand : Stage → Command → LineOutcome → Type 0
 AnswersCommand (Before start) (Setup command) outcome = outcome ≡ opened start command
 AnswersCommand (Before start) (Request command) outcome = IsSaid (codes "bad line") (Before start) outcome
 AnswersCommand (After desk hands) (Setup command) outcome = IsSaid (codes "bad line") (After desk hands) outcome
-AnswersCommand (After desk hands) (Request command) outcome = AnswersDeskCommand desk hands command outcome
+AnswersCommand (After desk hands) (Request command) outcome = DeskAnswers desk hands command outcome
 
 -- the line is a command, and this is its outcome
 abbrev pub Obeys : Stage → Option Command → LineOutcome → Type 0

@@ -6,7 +6,7 @@ ghost use Rattle.kfs_entry_value.specs.Views.{header_of};
 ghost use Rattle.kfs_plan.specs.Judging.{submission_of};
 ghost use Rattle.kfs_desk.specs.Machine.{call_of, done_by};
 ghost use Rattle.kfs_program_command.specs.Command as commands;
-ghost use Rattle.kfs_program_engine.specs.Session.{After, AnswersLine, IsCallAnswered, IsNodeShown, IsReplied, IsSubmissionAnswered, AnswersDeskCommand, docket_line, fresh, names_line};
+ghost use Rattle.kfs_program_engine.specs.Session.{After, AnswersLine, IsCallAnswered, IsNodeShown, IsReplied, IsSubmissionAnswered, DeskAnswers, docket_line, fresh, names_line};
 ghost use Rattle.kfs_program_command.specs.Views.{asked_of_desk, opening_of};
 ghost use Rattle.kfs_program_engine.specs.Views.{CommandIsDone, IsOutOfPlace, IsUndone, stage_of};
 ghost use Rattle.kfs_program_text.specs.Parts.{line_of};
@@ -117,8 +117,8 @@ fn answer_due<A: Allocator + Copy>(
     reply: &mut Vec<u8, A>,
 ) -> Result<(), Refusal>
     requires { 128 ≤ spare_of reply.old }
-    ensures ok { OnOk result (IsReplied (AnswersDeskCommand desk.old hands.old (asked_of_desk command.entry)) reply.old.items reply.new.items (After desk.new hands.new)) }
-    ensures bad { IsErrOf result Refusal.BadLine → AnswersDeskCommand desk.old hands.old (asked_of_desk command.entry) (line_of (codes "bad line"), After desk.new hands.new) }
+    ensures ok { OnOk result (IsReplied (DeskAnswers desk.old hands.old (asked_of_desk command.entry)) reply.old.items reply.new.items (After desk.new hands.new)) }
+    ensures bad { IsErrOf result Refusal.BadLine → DeskAnswers desk.old hands.old (asked_of_desk command.entry) (line_of (codes "bad line"), After desk.new hands.new) }
     ensures memory { IsErrOf result Refusal.OutOfMemory → IsUndone (After desk.old hands.old) (commands.Request (asked_of_desk command.entry)) (After desk.new hands.new) }
 {
     match command {

@@ -5,7 +5,7 @@ ghost use Rattle.kfs_plan.specs.Judging.{submission_of};
 ghost use Rattle.kfs_program_command.specs.Command as commands;
 ghost use Rattle.kfs_workers.specs.Holding.{verdict_of};
 ghost use Rattle.kfs_workers.specs.Verdict.{IsVerdictOn};
-ghost use Rattle.kfs_program_engine.specs.Session.{After, IsLandingAnswered, IsReplied, AnswersDeskCommand};
+ghost use Rattle.kfs_program_engine.specs.Session.{After, IsLandingAnswered, IsReplied, DeskAnswers};
 ghost use Rattle.kfs_program_text.specs.Parts.{line_of};
 ghost use Rattle.kfs_entry_value.specs.Room.{spare_of};
 
@@ -29,8 +29,8 @@ pub fn judge_for<A: Allocator + Copy>(
     reply: &mut Vec<u8, A>,
 ) -> Result<(), Refusal>
     requires { 128 ≤ spare_of reply.old }
-    ensures ok { OnOk result (IsReplied (AnswersDeskCommand desk.now hands.old (commands.Judge worker.number (submission_of submission))) reply.old.items reply.new.items (After desk.now hands.new)) }
-    ensures bad { IsErrOf result Refusal.BadLine → AnswersDeskCommand desk.now hands.old (commands.Judge worker.number (submission_of submission)) (line_of (codes "bad line"), After desk.now hands.new) }
+    ensures ok { OnOk result (IsReplied (DeskAnswers desk.now hands.old (commands.Judge worker.number (submission_of submission))) reply.old.items reply.new.items (After desk.now hands.new)) }
+    ensures bad { IsErrOf result Refusal.BadLine → DeskAnswers desk.now hands.old (commands.Judge worker.number (submission_of submission)) (line_of (codes "bad line"), After desk.now hands.new) }
     ensures memory { IsErrOf result Refusal.OutOfMemory → hands.new ≡ hands.old }
 {
     if !hands.is_empty(worker) {
@@ -69,9 +69,9 @@ pub fn land_for<A: Allocator + Copy>(
     reply: &mut Vec<u8, A>,
 ) -> Result<(), Refusal>
     requires { 128 ≤ spare_of reply.old }
-    ensures ok { OnOk result (IsReplied (AnswersDeskCommand desk.old hands.old (commands.Land worker.number)) reply.old.items reply.new.items (After desk.new hands.new)) }
-    ensures bad { IsErrOf result Refusal.BadLine → AnswersDeskCommand desk.old hands.old (commands.Land worker.number) (line_of (codes "bad line"), After desk.new hands.new) }
-    ensures memory { IsErrOf result Refusal.OutOfMemory → AnswersDeskCommand desk.old hands.old (commands.Land worker.number) (line_of (codes "memory"), After desk.new hands.new) }
+    ensures ok { OnOk result (IsReplied (DeskAnswers desk.old hands.old (commands.Land worker.number)) reply.old.items reply.new.items (After desk.new hands.new)) }
+    ensures bad { IsErrOf result Refusal.BadLine → DeskAnswers desk.old hands.old (commands.Land worker.number) (line_of (codes "bad line"), After desk.new hands.new) }
+    ensures memory { IsErrOf result Refusal.OutOfMemory → DeskAnswers desk.old hands.old (commands.Land worker.number) (line_of (codes "memory"), After desk.new hands.new) }
 {
     let judged = hands.take(worker).ok_or(Refusal::BadLine)?;
     land_judged(desk, judged, reply)
