@@ -14,7 +14,7 @@ use Rattle.kfs_model.specs.Judgement.{State, Submission}
 use Rattle.kfs_model.specs.Machine.{leases_after}
 use Rattle.kfs_model.proofs.Tables.{found_from_any, any_from_found}
 use Rattle.kfs_model.proofs.Heads.{get-headers}
-use Rattle.kfs_entry_value.specs.Views.{node_header as shown_header}
+use Rattle.kfs_entry_value.specs.Views.{header_of as shown_header}
 use Rattle.kfs_entry_value.specs.declared.header.Header.{Header as CodeHeader}
 use Rattle.kfs_entry_value.specs.declared.plan.NodeRow.{NodeRow}
 use Rattle.kfs_entry_value.specs.declared.entry.Log.{Log as CodeLog}

@@ -7,11 +7,11 @@ use Rattle.std.specs.FinMap.Entries.{find}
 use Rattle.std.specs.declared.ops.Bound.{Bound}
 use Rattle.kfs_model.specs.Spelling.{IsName}
 use Rattle.kfs_model.specs.Tree.{name_order, target}
-use Rattle.kfs_map_chunks.specs.Starts.{is_from, IsNextEntry as IsNextEntry}
+use Rattle.kfs_map_chunks.specs.Starts.{is_from, IsNextEntry}
 use Rattle.kfs_map_chunks.specs.Tables.{table}
 use Rattle.kfs_map_chunks.proofs.Tables.{get-table}
 use Rattle.kfs_image_nodes.specs.Indexes.{AreNames}
-use Rattle.kfs_image_nodes.specs.Look.{IsAfter, IsNextEntry}
+use Rattle.kfs_image_nodes.specs.Look.{IsAfter, IsNext}
 use Rattle.kfs_image_nodes.proofs.NameOrder.{in_directory, earlier_directory}
 
 module _ (names : List ((ℕ × List ℕ) × ℕ)) (named : AreNames (table name_order names)) (start : Bound (ℕ × List ℕ)) (dir : ℕ) (after : Option (Bor (List ℕ)))
@@ -27,7 +27,7 @@ module _ (names : List ((ℕ × List ℕ) × ℕ)) (named : AreNames (table name
         next.least (dir, m) (within m (named (dir, m) n leads) later) (ap is_some (sym (get-table name_order names (dir, m)) ∙ leads))
 
     -- an entry of the directory is its next name
-    pub next_here : key.0 ≡ dir → ((m : List ℕ) → is_from name_order.compare start (dir, m) ≡ true → IsAfter after m) → IsNextEntry (table name_order names) dir after key.1 number
+    pub next_here : key.0 ≡ dir → ((m : List ℕ) → is_from name_order.compare start (dir, m) ≡ true → IsAfter after m) → IsNext (table name_order names) dir after key.1 number
     next_here is later =
         let here : key ≡ (dir, key.1) = λ i. (is i, key.1) in
         record {

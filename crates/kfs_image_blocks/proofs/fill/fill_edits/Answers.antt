@@ -40,5 +40,5 @@ loop-row-preserved g c =
 
 pub returns-clause-placed : goal.returns-clause-placed
 returns-clause-placed g c =
-    table_after_said (table (pairs numbers numbers) c.args.placement.now) c.in_ok-edits.edits.items c.loop-row.overlay.latest c.in_ok-edits.ensures.overlay
+    table_after_said (table (pairs numbers numbers) c.args.placement.now) c.in_ok-edits.edits.items c.loop-row.overlay.latest c.in_ok-edits.ensures.said
     ∙ mapped_all c.args.rows.now c.loop-row.row-index (seen c.loop-row.overlay c.args.placement.now) _ c.loop-row-test.false c.loop-row.invariant

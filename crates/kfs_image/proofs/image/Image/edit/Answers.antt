@@ -18,7 +18,7 @@ change_shared-requires-clause-after g c =
     let blocks = c.self.inside.blocks in
     let can : CanEdit c.args.edits.now (image_with contents blocks) = subst (CanEdit c.args.edits.now) (sym c.self.view_is) c.requires in
     let are : AreMade c.args.edits.now parts c.as_slice-2.result.now c.as_slice-3.result.now c.in_ok-places.places.items c.as_slice.result.now =
-    record { of = c.in_ok-names.ensures; names_are = c.as_slice-2.ensures.value; nodes_are = c.as_slice-3.ensures.value; places_are = c.as_slice.ensures.value; ascend = c.in_ok-places.ensures.ascend; block_places = c.in_ok-places.ensures.block_places } in
+    record { of = c.in_ok-names.ensures; names_are = c.as_slice-2.ensures.value; nodes_are = c.as_slice-3.ensures.value; places_are = c.as_slice.ensures.value; ascend = c.in_ok-places.ensures.ascend; block_places = c.in_ok-places.ensures.said } in
     edits_fit c.args.edits.now parts c.as_slice-2.result.now c.as_slice-3.result.now c.in_ok-places.places.items c.as_slice.result.now are contents blocks c.self.invariant can
 
 pub change_shared-requires-clause-then : goal.change_shared-requires-clause-then
@@ -28,7 +28,7 @@ change_shared-requires-clause-then g c =
     let blocks = c.self.inside.blocks in
     let can : CanEdit c.args.edits.now (image_with contents blocks) = subst (CanEdit c.args.edits.now) (sym c.self.view_is) c.requires in
     let are : AreMade c.args.edits.now parts c.as_slice-2.result.now c.as_slice-3.result.now c.in_ok-places.places.items c.as_slice.result.now =
-    record { of = c.in_ok-names.ensures; names_are = c.as_slice-2.ensures.value; nodes_are = c.as_slice-3.ensures.value; places_are = c.as_slice.ensures.value; ascend = c.in_ok-places.ensures.ascend; block_places = c.in_ok-places.ensures.block_places } in
+    record { of = c.in_ok-names.ensures; names_are = c.as_slice-2.ensures.value; nodes_are = c.as_slice-3.ensures.value; places_are = c.as_slice.ensures.value; ascend = c.in_ok-places.ensures.ascend; block_places = c.in_ok-places.ensures.said } in
     can_change c.args.edits.now parts c.as_slice-2.result.now c.as_slice-3.result.now c.in_ok-places.places.items c.as_slice.result.now are contents blocks c.self.invariant can
 
 pub invariant_of-self : goal.invariant_of-self
@@ -38,7 +38,7 @@ invariant_of-self g c =
     let blocks = c.self.inside.blocks in
     let can : CanEdit c.args.edits.now (image_with contents blocks) = subst (CanEdit c.args.edits.now) (sym c.self.view_is) c.requires in
     let are : AreMade c.args.edits.now parts c.as_slice-2.result.now c.as_slice-3.result.now c.in_ok-places.places.items c.as_slice.result.now =
-    record { of = c.in_ok-names.ensures; names_are = c.as_slice-2.ensures.value; nodes_are = c.as_slice-3.ensures.value; places_are = c.as_slice.ensures.value; ascend = c.in_ok-places.ensures.ascend; block_places = c.in_ok-places.ensures.block_places } in
+    record { of = c.in_ok-names.ensures; names_are = c.as_slice-2.ensures.value; nodes_are = c.as_slice-3.ensures.value; places_are = c.as_slice.ensures.value; ascend = c.in_ok-places.ensures.ascend; block_places = c.in_ok-places.ensures.said } in
     let after = edited_is c.args.edits.now parts c.as_slice-2.result.now c.as_slice-3.result.now c.in_ok-places.places.items c.as_slice.result.now are contents blocks c.self.invariant can in
     changed_lawful c.change_shared.result contents _ c.change_shared.new.shape.value blocks _ c.change_shared.new.then.blocks.now _ after _ _ c.self.invariant can.lawful c.change_shared.ensures.ok c.change_shared.ensures.err c.change_shared.ensures.made c.change_shared.ensures.kept
 
@@ -49,7 +49,7 @@ returns-clause-ok g c =
     let blocks = c.self.inside.blocks in
     let can : CanEdit c.args.edits.now (image_with contents blocks) = subst (CanEdit c.args.edits.now) (sym c.self.view_is) c.requires in
     let are : AreMade c.args.edits.now parts c.as_slice-2.result.now c.as_slice-3.result.now c.in_ok-places.places.items c.as_slice.result.now =
-    record { of = c.in_ok-names.ensures; names_are = c.as_slice-2.ensures.value; nodes_are = c.as_slice-3.ensures.value; places_are = c.as_slice.ensures.value; ascend = c.in_ok-places.ensures.ascend; block_places = c.in_ok-places.ensures.block_places } in
+    record { of = c.in_ok-names.ensures; names_are = c.as_slice-2.ensures.value; nodes_are = c.as_slice-3.ensures.value; places_are = c.as_slice.ensures.value; ascend = c.in_ok-places.ensures.ascend; block_places = c.in_ok-places.ensures.said } in
     let after = edited_is c.args.edits.now parts c.as_slice-2.result.now c.as_slice-3.result.now c.in_ok-places.places.items c.as_slice.result.now are contents blocks c.self.invariant can in
     subst (λ (image : DeviceImage). OnOk c.change_shared.result (image_with c.change_shared.new.shape.value c.change_shared.new.then.blocks.now ≡ edited_all c.args.edits.now image)) c.self.view_is
     (changed_ok c.change_shared.result contents _ c.change_shared.new.shape.value blocks _ c.change_shared.new.then.blocks.now _ after _ c.change_shared.ensures.ok c.change_shared.ensures.made)
@@ -61,7 +61,7 @@ returns-clause-err g c =
     let blocks = c.self.inside.blocks in
     let can : CanEdit c.args.edits.now (image_with contents blocks) = subst (CanEdit c.args.edits.now) (sym c.self.view_is) c.requires in
     let are : AreMade c.args.edits.now parts c.as_slice-2.result.now c.as_slice-3.result.now c.in_ok-places.places.items c.as_slice.result.now =
-    record { of = c.in_ok-names.ensures; names_are = c.as_slice-2.ensures.value; nodes_are = c.as_slice-3.ensures.value; places_are = c.as_slice.ensures.value; ascend = c.in_ok-places.ensures.ascend; block_places = c.in_ok-places.ensures.block_places } in
+    record { of = c.in_ok-names.ensures; names_are = c.as_slice-2.ensures.value; nodes_are = c.as_slice-3.ensures.value; places_are = c.as_slice.ensures.value; ascend = c.in_ok-places.ensures.ascend; block_places = c.in_ok-places.ensures.said } in
     let after = edited_is c.args.edits.now parts c.as_slice-2.result.now c.as_slice-3.result.now c.in_ok-places.places.items c.as_slice.result.now are contents blocks c.self.invariant can in
     subst (λ (image : DeviceImage). OnErr c.change_shared.result (image_with c.change_shared.new.shape.value c.change_shared.new.then.blocks.now ≡ image)) c.self.view_is
     (changed_err c.change_shared.result contents _ c.change_shared.new.shape.value blocks _ c.change_shared.new.then.blocks.now _ after _ c.change_shared.ensures.err c.change_shared.ensures.kept)
