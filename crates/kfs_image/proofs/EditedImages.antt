@@ -30,7 +30,7 @@ use Rattle.kfs_image.specs.declared.edit.Edit.{Edit}
 use Rattle.kfs_image.specs.declared.edit.Edit.TheVariants as edits
 use Rattle.kfs_image.specs.declared.edit.Parts.{Parts}
 use Rattle.kfs_image.specs.Edit.{CanEdit, edited, edited_all}
-use Rattle.kfs_image.specs.Image.{image_with}
+use Rattle.kfs_image.specs.Image.{image_with, place_at}
 use Rattle.kfs_image.specs.Parts.{PartsAreOf, BlocksAreWhole, above_zero, plain, with_parts}
 use Rattle.kfs_image.proofs.NetTables.{led_back}
 use Rattle.kfs_image.proofs.ShownTrees.{lawful_fits}
@@ -112,19 +112,19 @@ module _ {A : Type 0} where
     placement = alike.placement;
     devices = alike.devices;
   }
-  plain_one (edits.Map number block place) image other alike = record {
+  plain_one (edits.Map number block pair) image other alike = record {
     sizes = alike.sizes;
     heads = alike.heads;
     names = alike.names;
-    placement = ap (λ (placement : Placement). changed placement (number, block) place) alike.placement;
+    placement = ap (λ (placement : Placement). changed placement (number, block) (option_map place_at pair)) alike.placement;
     devices = alike.devices;
   }
-  plain_one (edits.Bytes place bytes) image other alike = record {
+  plain_one (edits.Bytes tier place bytes) image other alike = record {
     sizes = alike.sizes;
     heads = alike.heads;
     names = alike.names;
     placement = alike.placement;
-    devices = ap (λ (devices : Devices). insert devices (place.tier, place.place) bytes.items) alike.devices;
+    devices = ap (λ (devices : Devices). insert devices (tier, place) bytes.items) alike.devices;
   }
 
   plain_all : (es : List (Edit A)) (image other : DeviceImage) → IsPlain image other → IsPlain (edited_all (map plain es) image) (edited_all es other)

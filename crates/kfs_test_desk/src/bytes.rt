@@ -31,12 +31,8 @@ struct Shown<'a> {
 
 /// The place on tier 0 of a block of file 5.
 fn place(desk: &Desk<Global>, block: u32) -> Option<u32> {
-    let place = desk.image().place_of(5, block)?;
-    if place.tier == 0 {
-        Some(place.place)
-    } else {
-        None
-    }
+    let (tier, place) = desk.image().place_of(5, block)?;
+    if tier == 0 { Some(place) } else { None }
 }
 
 fn shows(desk: &Desk<Global>, shown: &Shown<'_>) -> bool {

@@ -48,10 +48,10 @@ module _ {A : Type 0} (image : DeviceImage) (lawful : IsLawful image) (header : 
     whole =
         let is_whole : Edit A → Type 0 = WritesWholeBlocks image.sizes in
         let last = All-cons is_whole (Map 5 0 None) [] tt (All-nil is_whole) in
-        let written = All-cons is_whole (Bytes place bytes) (Map 5 0 None ∷ []) (inside, whole) last in
-        let mapped = All-cons is_whole (Map 5 1 (Some place)) (Bytes place bytes ∷ Map 5 0 None ∷ []) tt written in
-        let named = All-cons is_whole (Name 1 name target) (Map 5 1 (Some place) ∷ Bytes place bytes ∷ Map 5 0 None ∷ []) tt mapped in
-        All-cons is_whole (Header 1 header) (Name 1 name target ∷ Map 5 1 (Some place) ∷ Bytes place bytes ∷ Map 5 0 None ∷ []) tt named;
+        let written = All-cons is_whole (Bytes place.tier place.place bytes) (Map 5 0 None ∷ []) (inside, whole) last in
+        let mapped = All-cons is_whole (Map 5 1 (Some (place.tier, place.place))) (Bytes place.tier place.place bytes ∷ Map 5 0 None ∷ []) tt written in
+        let named = All-cons is_whole (Name 1 name target) (Map 5 1 (Some (place.tier, place.place)) ∷ Bytes place.tier place.place bytes ∷ Map 5 0 None ∷ []) tt mapped in
+        All-cons is_whole (Header 1 header) (Name 1 name target ∷ Map 5 1 (Some (place.tier, place.place)) ∷ Bytes place.tier place.place bytes ∷ Map 5 0 None ∷ []) tt named;
   }
 
 -- edits that were listed can be made

@@ -1,28 +1,29 @@
 -- One edit of where a block lies leaves a lawful image lawful.
-use Rattle.std.proofs.Common.{◌≡◌, ℕ, ◌<◌, true, [], ◌∷◌, Option, Some, None}
+use Rattle.std.proofs.Common.{◌≡◌, ℕ, ◌<◌, true, [], ◌∷◌, Option, Some, None, option_map}
 use Rattle.std.proofs.lemmas.List.Elements.{All-cons, All-nil}
 use Rattle.kfs_model.specs.Table.{changed}
 use Rattle.kfs_model.specs.Placement.{Place, tier_size, is_free}
 use Rattle.kfs_model_device.specs.ShownTree.{DeviceImage, IsLawful}
 use Rattle.kfs_image.specs.declared.edit.Edit.{Edit}
 use Rattle.kfs_image.specs.declared.edit.Edit.TheVariants.{Map}
+use Rattle.kfs_image.specs.Image.{place_at}
 use Rattle.kfs_image.specs.Edit.{CanEdit, WritesWholeBlocks, edited_all}
 use Rattle.kfs_image.specs.Net.{is_block}
 use Rattle.kfs_image.proofs.FilledImages.{mapped_is_lawful, unmapped_is_lawful}
 
 module _ {A : Type 0} (image : DeviceImage) (lawful : IsLawful image) (number block : ℕ) where
-  abbrev pub moved : Option Place → Edit A
-  moved place = Map number block place
+  abbrev pub moved : Option (ℕ × ℕ) → Edit A
+  moved pair = Map number block pair
 
-  can_move : (place : Option Place) → IsLawful (record image { placement = changed image.placement (number, block) place }) → CanEdit (moved place ∷ []) image
+  can_move : (pair : Option (ℕ × ℕ)) → IsLawful (record image { placement = changed image.placement (number, block) (option_map place_at pair) }) → CanEdit (moved pair ∷ []) image
   unfolding edited_all
-  can_move place after = record {
+  can_move pair after = record {
     lawful = after;
-    whole = All-cons (WritesWholeBlocks image.sizes) (moved place) [] tt (All-nil (WritesWholeBlocks {A = A} image.sizes));
+    whole = All-cons (WritesWholeBlocks image.sizes) (moved pair) [] tt (All-nil (WritesWholeBlocks {A = A} image.sizes));
   }
 
-  pub can_lay : (place : Place) → place.place < tier_size image.sizes place.tier → is_free image.placement place ≡ true → is_block image.heads (number, block) ≡ true → CanEdit (moved (Some place) ∷ []) image
-  can_lay place inside free of_file = can_move (Some place) (mapped_is_lawful image lawful (number, block) place inside free of_file)
+  pub can_lay : (place : Place) → place.place < tier_size image.sizes place.tier → is_free image.placement place ≡ true → is_block image.heads (number, block) ≡ true → CanEdit (moved (Some (place.tier, place.place)) ∷ []) image
+  can_lay place inside free of_file = can_move (Some (place.tier, place.place)) (mapped_is_lawful image lawful (number, block) place inside free of_file)
 
   pub can_take_up : CanEdit (moved None ∷ []) image
   can_take_up = can_move None (unmapped_is_lawful image lawful (number, block))

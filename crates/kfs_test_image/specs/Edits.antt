@@ -7,4 +7,4 @@ use Rattle.kfs_image.specs.declared.edit.Edit.TheVariants.{Header, Name, Map, By
 
 -- a header of the root and a name of it, block 1 of file 5 at a place, the bytes there, and block 0 nowhere
 abbrev pub each_kind : {A : Type 0} → Option CodeHeader → (name : List ℕ) → Option ℕ → Place → Vec ℕ A → List (Edit A)
-each_kind header name target place bytes = Header 1 header ∷ Name 1 name target ∷ Map 5 1 (Some place) ∷ Bytes place bytes ∷ Map 5 0 None ∷ []
+each_kind header name target place bytes = Header 1 header ∷ Name 1 name target ∷ Map 5 1 (Some (place.tier, place.place)) ∷ Bytes place.tier place.place bytes ∷ Map 5 0 None ∷ []

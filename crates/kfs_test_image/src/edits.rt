@@ -33,7 +33,7 @@ fn mapping<A: Allocator>(image: &Image<A>, number: u32, block: u32, place: Place
     let _shape = image.shape();
     let is_free = is_place_free(image, place);
     if is_free && u64::from(block) < block_count(header(image, number)) {
-        Some(Edit::Map(number, block, Some(place)))
+        Some(Edit::Map(number, block, Some((place.tier, place.place))))
     } else {
         None
     }
@@ -72,8 +72,8 @@ fn of_each_kind<A: Allocator>(
     let mut edits = Vec::new(alloc);
     edits.push(Edit::Header(1, header))?;
     edits.push(Edit::Name(1, name, target))?;
-    edits.push(Edit::Map(5, 1, Some(place)))?;
-    edits.push(Edit::Bytes(place, bytes))?;
+    edits.push(Edit::Map(5, 1, Some((place.tier, place.place))))?;
+    edits.push(Edit::Bytes(place.tier, place.place, bytes))?;
     edits.push(Edit::Map(5, 0, None))?;
     Ok(edits)
 }
@@ -137,7 +137,7 @@ fn found(image: &Image<Global>, block: u32) -> (u32, Option<u32>, Option<u32>) {
     (
         image.free(0),
         image.next_free(0, 0),
-        place.map(|place| place.place),
+        place.map(|place| place.1),
     )
 }
 

@@ -40,8 +40,8 @@ const EDITED: Shown = (
 );
 
 fn place<A: Allocator>(image: &Image<A>, block: u32) -> Option<u32> {
-    let place = image.place_of(5, block)?;
-    Some(place.place)
+    let (_tier, place) = image.place_of(5, block)?;
+    Some(place)
 }
 
 fn shown_by<A: Allocator>(image: &Image<A>) -> Option<Shown> {

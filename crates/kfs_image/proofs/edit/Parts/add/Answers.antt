@@ -4,12 +4,13 @@ use Rattle.std.specs.Prelude.{◌≡◌, ◌<◌, vec_len}
 use Rattle.kfs_entry_value.specs.declared.plan.NameRow.{NameRow}
 use Rattle.kfs_entry_value.specs.declared.plan.NodeRow.{NodeRow}
 use Rattle.kfs_model.specs.Limits.{block_size}
-use Rattle.kfs_model.specs.Placement.{tier_size}
+use Rattle.kfs_model.specs.Placement.{Place, tier_size}
 use Rattle.kfs_model.specs.Table.{changed, insert}
 use Rattle.kfs_image_nodes.specs.Change.{led_to, renamed, reheaded}
 use Rattle.kfs_image_tier.specs.declared.change.NewBlock.{NewBlock}
 use Rattle.kfs_image_tier.specs.Tiers.{with_blocks}
 use Rattle.kfs_map_chunks.specs.Keys.{same_items}
+use Rattle.kfs_map_chunks.specs.Overlays.{overlaid}
 use Rattle.kfs_map_chunks.proofs.Overlays.{overlaid_set}
 use Rattle.kfs_image.specs.Edit.{edited, WritesWholeBlocks}
 use Rattle.kfs_image.specs.Parts.{plain, with_parts, BlocksAreWhole}
@@ -38,13 +39,15 @@ returns-in_ok-push-in-Name-clause-made g c = λ image.
 pub returns-in_ok-set-in-Map-clause-made : goal.returns-in_ok-set-in-Map-clause-made
 returns-in_ok-set-in-Map-clause-made g c = λ image.
     let parts = c.args.self.now in
-    let placement = overlaid_set image.placement parts.block_places.latest c.set.new.self.latest (c.in-Map.number, c.in-Map.block) c.in-Map.place c.in_ok-set-in-Map.ensures in
+    let placement =
+    overlaid_set image.placement parts.block_places.latest c.set.new.self.latest (c.in-Map.number, c.in-Map.block) c.place_in.result c.in_ok-set-in-Map.ensures
+    ∙ ap (changed (overlaid image.placement parts.block_places.latest.entries) (c.in-Map.number, c.in-Map.block)) c.place_in.ensures in
     (λ i. record (with_parts parts image) { placement = placement i }) ∙ ap (λ e. edited (plain e) (with_parts parts image)) (sym c.in-Map.is)
 
 pub returns-in_ok-push-in-Bytes-clause-made : goal.returns-in_ok-push-in-Bytes-clause-made
 returns-in_ok-push-in-Bytes-clause-made g c = λ image.
     let parts = c.args.self.now in
-    let place = c.in-Bytes.place in
+    let place : Place = record { tier = c.in-Bytes.tier; place = c.in-Bytes.place } in
     let block : NewBlock _ = record { place = place; bytes = c.in_ok-copy_of-in-Bytes.field-0 } in
     let devices =
     ap (λ blocks. with_blocks blocks image.devices) c.in_ok-push-in-Bytes.ensures.items
@@ -55,7 +58,8 @@ returns-in_ok-push-in-Bytes-clause-made g c = λ image.
 pub returns-in_ok-push-in-Bytes-clause-whole : goal.returns-in_ok-push-in-Bytes-clause-whole
 returns-in_ok-push-in-Bytes-clause-whole g c = λ sizes whole written.
     let copy = c.in_ok-copy_of-in-Bytes.field-0 in
-    let block : NewBlock _ = record { place = c.in-Bytes.place; bytes = copy } in
+    let place : Place = record { tier = c.in-Bytes.tier; place = c.in-Bytes.place } in
+    let block : NewBlock _ = record { place = place; bytes = copy } in
     let (in_tier, long) = subst (WritesWholeBlocks sizes) c.in-Bytes.is whole in
     subst (BlocksAreWhole sizes) (sym c.in_ok-push-in-Bytes.ensures.items)
     (All-push (λ (b : NewBlock _). (b.place.place < tier_size sizes b.place.tier) × (vec_len b.bytes ≡ block_size)) c.args.self.now.written.items block written
