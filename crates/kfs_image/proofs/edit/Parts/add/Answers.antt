@@ -40,8 +40,8 @@ pub returns-in_ok-set-in-Map-clause-made : goal.returns-in_ok-set-in-Map-clause-
 returns-in_ok-set-in-Map-clause-made g c = λ image.
     let parts = c.args.self.now in
     let placement =
-    overlaid_set image.placement parts.block_places.latest c.set.new.self.latest (c.in-Map.number, c.in-Map.block) c.place_in.result c.in_ok-set-in-Map.ensures
-    ∙ ap (changed (overlaid image.placement parts.block_places.latest.entries) (c.in-Map.number, c.in-Map.block)) c.place_in.ensures in
+    overlaid_set image.placement parts.block_places.latest c.set.new.self.latest (c.in-Map.number, c.in-Map.block) c.place_in-place.result c.in_ok-set-in-Map.ensures
+    ∙ ap (changed (overlaid image.placement parts.block_places.latest.entries) (c.in-Map.number, c.in-Map.block)) c.place_in-place.ensures in
     (λ i. record (with_parts parts image) { placement = placement i }) ∙ ap (λ e. edited (plain e) (with_parts parts image)) (sym c.in-Map.is)
 
 pub returns-in_ok-push-in-Bytes-clause-made : goal.returns-in_ok-push-in-Bytes-clause-made
