@@ -1,9 +1,11 @@
 """What the benchmarks share: a program over the public calls, built on a copy of this folder, its runs, and logs."""
 import os
+import re
 import shutil
 import struct
 import subprocess
 import sys
+import tempfile
 import time
 
 TOP = os.path.dirname(os.path.dirname(os.path.realpath(__file__)))
@@ -18,8 +20,24 @@ def plan_of(names, nodes, pieces):
     return b"KPLN\x01" + struct.pack(">HHI", len(names), len(nodes), len(pieces)) + b"".join(names + nodes + pieces)
 
 
+def write(number, offset, payload):
+    return b"\2" + struct.pack(">IQI", number, offset, len(payload)) + payload
+
+
+def truncate(number, size):
+    return b"\3" + struct.pack(">IQ", number, size)
+
+
 def node(number, size):
     return struct.pack(">IBHIIHQ", number, 1, 0o644, 1000, 1000, 1, size)
+
+
+def zero(number, start, length):
+    return struct.pack(">IQQB", number, start, length, 0)
+
+
+def put(number, start, length, entry, place):
+    return struct.pack(">IQQBHI", number, start, length, 1, entry, place)
 
 
 def files_made(names, first=2):
@@ -37,22 +55,46 @@ def put_files(folder, named):
             it.write(content)
 
 
-def build(room, uses, program, changed=None):
-    """Returns the path of the program, proved and built on a copy of this folder in `room`, in which first `changed` is
-    called with the copy's path."""
-    shutil.copytree(TOP, room, symlinks=True, ignore=lambda folder, names: [".git"] if folder == TOP else [])
-    if changed:
-        changed(room)
-    source = f"{room}/crates/{NAME}/src"
-    os.makedirs(source)
-    with open(f"{source}/main.rt", "w") as it:
+def copy_with(program, uses, room, left_out):
+    """Copies this folder to `room`, but for folders of these names, and adds a crate. Returns the crate's folder."""
+    shutil.copytree(TOP, room, symlinks=True, ignore=lambda _, names: left_out & set(names))
+    crate = f"{room}/crates/{NAME}"
+    os.makedirs(f"{crate}/src")
+    with open(f"{crate}/src/main.rt", "w") as it:
         it.write(program)
     with open(f"{room}/crates.txt", "a") as it:
         it.write(f"{NAME}: {uses}\n")
-    subprocess.run(
-        ["rt", "run"], cwd=f"{room}/crates/{NAME}", stdin=subprocess.DEVNULL, stdout=sys.stderr, stderr=sys.stderr, check=True
-    )
-    return f"{room}/crates/{NAME}/out/{NAME}"
+    return crate
+
+
+def build(program, uses, room):
+    """Returns the path of the program, proved and built on a copy of this folder in `room`."""
+    crate = copy_with(program, uses, room, {".git"})
+    subprocess.run(["rt", "run"], cwd=crate, stdin=subprocess.DEVNULL, stdout=sys.stderr, stderr=sys.stderr, check=True)
+    return f"{crate}/out/{NAME}"
+
+
+def try_once(program, uses, named, cases):
+    """Runs the program once with each list of words, on these files and built by the kit's quick build, which proves
+    nothing. Returns an exit status."""
+    with tempfile.TemporaryDirectory(prefix="bench-") as room:
+        crate = copy_with(program, uses, f"{room}/copy", {".git", "out"})
+        for folder in ("data", "cases"):
+            os.mkdir(f"{room}/{folder}")
+        put_files(f"{room}/data", named)
+        for index, words in enumerate(cases):
+            lines = "".join(f"{word}\n" for word in words)
+            put_files(f"{room}/cases", {str(index): b"", f"{index}.args": lines.encode()})
+        words = ["rt", "try", "--cases", f"{room}/cases"]
+        for name in named:
+            words += ["--data", f"{name}={room}/data/{name}"]
+        ran = subprocess.run(words, cwd=crate, stdin=subprocess.DEVNULL, stdout=subprocess.DEVNULL, stderr=subprocess.PIPE, text=True)
+    ended = len(re.findall(r"^case=\d+ run=ended status=0 ", ran.stderr, re.M))
+    print(f"{ended} of {len(cases)} runs of the unproved program ended well")
+    if ended == len(cases):
+        return 0
+    print(ran.stderr, end="", file=sys.stderr)
+    return 1
 
 
 def run(words, folder):
