@@ -26,14 +26,20 @@ const LONG: Made<'static> = Made {
 };
 
 /// The edit that puts a block of a file at a place, if the image is lawful after it.
-fn mapping<A: Allocator>(image: &Image<A>, number: u32, block: u32, place: Place) -> Option<Edit<A>>
+fn mapping<A: Allocator>(
+    image: &Image<A>,
+    number: u32,
+    block: u32,
+    tier: u8,
+    place: u32,
+) -> Option<Edit<A>>
     ensures { IfSome result (λ edit. CanEdit (edit ∷ []) image.now) }
 {
     // Tells the prover that the image is lawful.
     let _shape = image.shape();
-    let is_free = is_place_free(image, place);
+    let is_free = is_place_free(image, Place { tier, place });
     if is_free && u64::from(block) < block_count(header(image, number)) {
-        Some(Edit::Map(number, block, Some((place.tier, place.place))))
+        Some(Edit::Map(number, block, Some((tier, place))))
     } else {
         None
     }
@@ -115,7 +121,7 @@ pub fn lay<A: Allocator + Copy>(
     from: u32,
 ) -> Option<u32> {
     let place = image.next_free(0, from)?;
-    let edit = mapping(image, 5, block, Place { tier: 0, place })?;
+    let edit = mapping(image, 5, block, 0, place)?;
     make(alloc, image, edit)?;
     Some(place)
 }

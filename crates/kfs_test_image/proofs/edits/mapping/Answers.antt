@@ -10,4 +10,4 @@ returns-then-from-block_count g c =
     let image = c.args.image.now in
     let many : c.block_count.result ≡ blocks_in (get image.heads c.args.number) = c.block_count.ensures ∙ ap blocks_in c.header.ensures in
     let inside : is_block image.heads (c.args.number, c.args.block) ≡ true = lt-ltb _ _ (subst (λ count. c.args.block < count) many (omega (arith, c.from.ensures, c.if-from-block_count.true))) in
-    can_lay image c.shape-shape.ensures.lawful c.args.number c.args.block c.args.place (c.is_place_free-is_free.ensures.in_tier c.if-is_free.true) (c.is_place_free-is_free.ensures.free c.if-is_free.true) inside
+    can_lay image c.shape-shape.ensures.lawful c.args.number c.args.block (record { tier = c.args.tier; place = c.args.place }) (c.is_place_free-is_free.ensures.in_tier c.if-is_free.true) (c.is_place_free-is_free.ensures.free c.if-is_free.true) inside
