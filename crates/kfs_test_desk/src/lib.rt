@@ -23,6 +23,4 @@ mod pages;
 #[cfg(test)]
 mod scripts;
 #[cfg(test)]
-mod submitting;
-#[cfg(test)]
 mod writes;

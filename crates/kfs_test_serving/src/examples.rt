@@ -257,6 +257,48 @@ fn submit_all<A: Allocator + Copy>(
     desk.submit_all(submissions)
 }
 
+/// The reply, or why the submission came back.
+fn reply(answer: &Result<Reply, Back<Global>>) -> Result<Reply, Why> {
+    match answer {
+        Ok(reply) => Ok(*reply),
+        Err(back) => Err(back.why),
+    }
+}
+
+/// What a desk with a docket of three rows answers to the Create of file 5, handed in three times at once.
+fn created_three_times(alloc: Global) -> Option<[Result<Reply, Why>; 3]> {
+    let mut desk = opened(alloc, 3)?;
+    let mut submissions = Vec::new(alloc);
+    for _ in 0..3 {
+        let create = submission(alloc, CREATE_LOG, CREATE_PLAN)?;
+        submissions.push(create).ok()?;
+    }
+    let answers = submit_all(&mut desk, submissions).ok()?;
+    match answers.as_slice() {
+        [first, second, third] => Some([reply(first), reply(second), reply(third)]),
+        _ => None,
+    }
+}
+
+#[test]
+fn submissions_one_after_another(rt: HostRuntime) {
+    let yes = Reply::Yes {
+        position: 1,
+        rejudged: false,
+        need: 0,
+    };
+    let taken = Reply::No {
+        position: 2,
+        rejudged: false,
+        fault: Fault::Entry(EntryFault {
+            index: 0,
+            reason: Reason::NameTaken,
+        }),
+    };
+    let answers = created_three_times(rt.alloc());
+    assert!(rt; answers == Some([Ok(yes), Ok(taken), Err(Why::DocketFull)]));
+}
+
 /// How many submissions come back where the desk finds no room for their answers.
 fn sent_back(alloc: Global) -> Option<usize> {
     let heap = Refusing::new(alloc, 1 << 40);

@@ -49,10 +49,3 @@ fn a_create_is_landed(rt: HostRuntime) {
     };
     assert!(rt; reply == Some(yes));
 }
-
-#[test]
-fn a_log_that_is_cut_is_refused(rt: HostRuntime) {
-    let reply = serve(rt.alloc(), &LOG[..20], PLAN);
-    let is_refused = matches!(reply, Some(Reply::No { position: 1, .. }));
-    assert!(rt; is_refused);
-}
