@@ -3,3 +3,4 @@ pub mod RowLaws
 pub mod Answered
 pub mod DecodedLog
 pub mod DecodedPlan
+pub mod Ranges

@@ -3,14 +3,17 @@
 
 ghost use Rattle.std.specs.Prelude.{◌≡◌};
 ghost use Rattle.kfs_model.specs.MarkedRuns.{HaveSameNewMarks, MarksEnd};
-ghost use Rattle.kfs_model.specs.Laws.{CellsDecide, CleanIsAllowed, EachTwoTrees, MarksGiveBytes};
-ghost use Rattle.kfs_model.specs.Looked.{TreesEndInAgreement};
+ghost use Rattle.kfs_model.specs.Laws.{CellsDecide, CleanIsAllowed, EachTwoTrees, KeepsSound, MarksGiveBytes};
+ghost use Rattle.kfs_model.specs.Looked.{TreesEndInAgreement, TreesHaveSameNet};
 ghost use Rattle.kfs_model.specs.Placement.{need};
+ghost use Rattle.kfs_model.specs.Run.{over_bytes, over_marks};
 
-/// An entry without a failed check is allowed to its client by mode bits and leases. This holds for all
-/// seven kinds of entry.
+/// An entry without a failed check is allowed to its client by mode bits and leases. Where it is in range,
+/// it leaves a sound tree sound, of bytes and of marks. This holds for all seven kinds of entry.
 pub fn clean_is_allowed()
-    ensures { CleanIsAllowed }
+    ensures allowed { CleanIsAllowed }
+    ensures sound { KeepsSound over_bytes }
+    ensures sound_marks { KeepsSound over_marks }
 {}
 
 /// A run over bytes and a run over marks agree. They stop at the same entry for the same reason, or
@@ -20,11 +23,12 @@ pub fn marks_give_bytes()
 {}
 
 /// The cells that a log looks at decide its run. Two states that give the same answers there have the
-/// same first fault, or none and the same changes of names and headers. For two sound trees, the log
-/// also changes the same bytes and needs the same room.
+/// same first fault, or none and the same changes of names and headers. For two sound trees, the same is
+/// said of the runs over them. The log also changes the same bytes and needs the same room.
 pub fn cells_decide()
     ensures decides { CellsDecide }
     ensures of_trees { EachTwoTrees TreesEndInAgreement }
+    ensures net { EachTwoTrees TreesHaveSameNet }
     ensures marks { EachTwoTrees (MarksEnd HaveSameNewMarks) }
     ensures need { EachTwoTrees (MarksEnd (λ after other_after. need after ≡ need other_after)) }
 {}

@@ -2,12 +2,15 @@
 use Rattle.std.proofs.Common.{◌≡◌, ℕ, ◌+◌, List, [], ◌∷◌, ◌++◌, Option, Some, None, Result, Ok, Err, refl, sym, subst, ◌⊎◌, inl, inr, ⊎_elim}
 use Rattle.kfs_model.specs.Access.{Client}
 use Rattle.kfs_model.specs.Entry.{Entry}
-use Rattle.kfs_model.specs.Sight.{Sight, Cell, HeaderOf, NameIn, ClientSight, answer}
+use Rattle.kfs_model.specs.Tree.{Tree}
+use Rattle.kfs_model.specs.CleanStep.{Fits}
+use Rattle.kfs_model.specs.Sight.{Sight, Cell, HeaderOf, NameIn, ClientSight, answer, client_sight}
 use Rattle.kfs_model.specs.Check.{Reason, checks_of, first_fault, looked}
 use Rattle.kfs_model.specs.Run.{EntryFault, entry_context, created_by}
 use Rattle.kfs_model.specs.SeenAfter.{seen_after, seen_run_from}
-use Rattle.kfs_model.specs.Looked.{looked_from, looked_cells, seen_run, AgreeAt, AgreeWhereLooked, EndInAgreement, IsSameChange, HaveSameNet, HaveSameRun}
+use Rattle.kfs_model.specs.Looked.{looked_from, looked_cells, seen_run, AgreeAt, AgreeWhereLooked, EndInAgreement, IsSameChange, HaveSameNet, HaveSameRun, TreesHaveSameNet}
 use Rattle.kfs_model.proofs.SameLooked.{same_looked}
+use Rattle.kfs_model.proofs.SeenRun.{of_two_trees}
 use Rattle.kfs_model.proofs.Unlooked.{Among, among_front, among_back, Touches, touches_nothing, touches_then, touches_wider, entry_touches}
 
 module _ (client : Client) (before : ClientSight) where
@@ -66,6 +69,12 @@ module _ (client : Client) (s u : ClientSight) (entries : List Entry) (alike : A
           }
       at (Ok now) (Err fault) is also ends = ends
       at (Err fault) end is also ends = tt
+
+pub same_net_of_trees : (client : Client) (one other : Tree ℕ) (entries : List Entry) → Fits client one entries → Fits client other entries → TreesHaveSameNet client one other entries
+same_net_of_trees client one other entries fits also held other_held alike =
+    let s = client_sight one held in
+    let u = client_sight other other_held in
+    of_two_trees client one other entries fits also held other_held (HaveSameNet s u) (same_net client s u entries alike)
 
 pub goes_alike : (client : Client) (s u : ClientSight) (entries : List Entry) → AgreeWhereLooked client s u entries → HaveSameRun client s u entries
 goes_alike client s u entries alike =

@@ -3,7 +3,7 @@ use Rattle.std.proofs.Common.{◌≡◌, ℕ, suc, ◌+◌, List, [], ◌∷◌,
 use Rattle.std.specs.List.{AllByRecursion}
 use Rattle.kfs_model.specs.Tree.{Tree}
 use Rattle.kfs_model.specs.Entry.{Entry, Create, Write, Truncate, Link, Unlink, Rename, Chmod}
-use Rattle.kfs_model.specs.Sight.{ClientSight, client_sight, sight}
+use Rattle.kfs_model.specs.Sight.{Sight, ClientSight, client_sight, sight}
 use Rattle.kfs_model.specs.Check.{EntryContext, Reason, first_fault}
 use Rattle.kfs_model.specs.Effect.{Filling, effect}
 use Rattle.kfs_model.specs.Run.{EntryFault, Mark, entry_context, created_by, run_from, run, over_bytes, over_marks, places_from}
@@ -77,11 +77,23 @@ module _ {B : Type 0} (filling : Filling B) (faithful : IsFaithful filling) (cli
 
 -- ---- two sound trees that answer alike at the looked cells
 
+module _ (client : Client) (one other : Tree ℕ) (entries : List Entry) (fits : Fits client one entries) (also : Fits client other entries) (held other_held : ℕ → Bool) where
+  abbrev s : ClientSight
+  s = client_sight one held
+
+  abbrev u : ClientSight
+  u = client_sight other other_held
+
+  -- what the runs over the cells have in common, the runs over the trees have
+  pub of_two_trees : (P : Result Sight EntryFault → Result Sight EntryFault → Type 0) → P (seen_run client s entries) (seen_run client u entries)
+      → P (shown_run (run over_bytes client s one entries)) (shown_run (run over_bytes client u other entries))
+  of_two_trees P seen =
+      let here = run_is_seen over_bytes bytes_faithful client s fits.in_range 0 [] one entries fits.sound fits.fitting in
+      let there = run_is_seen over_bytes bytes_faithful client u also.in_range 0 [] other entries also.sound also.fitting in
+      subst (λ end. P end (shown_run (run over_bytes client u other entries))) (sym here) (subst (P (seen_run client s entries)) (sym there) seen)
+
 pub same_looked_trees : (client : Client) (one other : Tree ℕ) (entries : List Entry) → Fits client one entries → Fits client other entries → TreesEndInAgreement client one other entries
 same_looked_trees client one other entries fits also held other_held alike =
     let s = client_sight one held in
     let u = client_sight other other_held in
-    let here = run_is_seen over_bytes bytes_faithful client s fits.in_range 0 [] one entries fits.sound fits.fitting in
-    let there = run_is_seen over_bytes bytes_faithful client u also.in_range 0 [] other entries also.sound also.fitting in
-    subst (λ end. EndInAgreement s u end (shown_run (run over_bytes client u other entries))) (sym here)
-    (subst (λ end. EndInAgreement s u (seen_run client s entries) end) (sym there) (same_looked client s u entries alike).0)
+    of_two_trees client one other entries fits also held other_held (EndInAgreement s u) (same_looked client s u entries alike).0

@@ -61,6 +61,13 @@ HaveSameNet s u (Ok now) (Ok other) = HaveSameChanges s u now other
 HaveSameNet s u (Ok now) (Err fault) = ⊥
 HaveSameNet s u (Err fault) end = Unit {0}
 
+-- where the looked-at cells have the same answers, the log changes the same names and headers of the two
+-- trees, whatever leases the client holds in each
+abbrev pub TreesHaveSameNet : Client → (one other : Tree ℕ) → List Entry → Type 0
+TreesHaveSameNet client one other entries = (held other_held : ℕ → Bool) → AgreeWhereLooked client (client_sight one held) (client_sight other other_held) entries
+    → HaveSameNet (client_sight one held) (client_sight other other_held)
+    (shown_run (run over_bytes client (client_sight one held) one entries)) (shown_run (run over_bytes client (client_sight other other_held) other entries))
+
 -- the log ends alike in both states, makes the same changes, and looks at the same cells
 pub record HaveSameRun (client : Client) (one other : ClientSight) (entries : List Entry) : Type 0 where
   pub ends : EndInAgreement one other (seen_run client one entries) (seen_run client other entries)

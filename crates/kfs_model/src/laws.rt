@@ -21,7 +21,7 @@ ghost use Rattle.std.specs.List.{AllByRecursion};
 ghost use Rattle.kfs_model.specs.Sight.{sight};
 ghost use Rattle.kfs_model.specs.LastCover.{LastEntryDecides};
 ghost use Rattle.kfs_model.specs.Access.{Client, ClientsAreDistinct};
-ghost use Rattle.kfs_model.specs.Looked.{TreesEndInAgreement};
+ghost use Rattle.kfs_model.specs.Looked.{TreesEndInAgreement, TreesHaveSameNet};
 ghost use Rattle.kfs_model.specs.MarkedRuns.{HaveSameNewMarks, MarksEnd};
 ghost use Rattle.kfs_model.specs.Soundness.{IsSound};
 ghost use Rattle.kfs_model.specs.Fresh.{fresh_tree};
@@ -106,11 +106,12 @@ pub fn run_is_seen_in_cells()
 /// the log has the same first fault in both, or none and the same changes of names and headers. It
 /// looks at the same cells in both.
 ///
-/// For two sound trees, whatever bytes they hold, the log also changes the same bytes and needs the
-/// same room.
+/// For two sound trees, whatever bytes they hold, the same is said of the runs over them. The log also
+/// changes the same bytes and needs the same room.
 pub fn looked_cells_decide()
     ensures decides { CellsDecide }
     ensures of_trees { EachTwoTrees TreesEndInAgreement }
+    ensures net { EachTwoTrees TreesHaveSameNet }
     ensures marks { EachTwoTrees (MarksEnd HaveSameNewMarks) }
     ensures need { EachTwoTrees (MarksEnd (λ after other_after. need after ≡ need other_after)) }
 {}

@@ -1,6 +1,5 @@
 -- Lemmas on the comparison of a plan, and on verdicts.
 pub mod MarkedRuns
-pub mod Ranges
 pub mod RowsCompared
 pub mod PlanChecked
 pub mod Verdicts

@@ -4,16 +4,8 @@ use crate::desks::{create, is_accepted, is_answered, is_leased, landed, opening_
 use kfs_desk::{Desk, Reply};
 use kfs_image::{ReadFault, read_file};
 use kfs_plan::Submission;
-use kfs_test_support::vectors::{EDITS_LOG, EDITS_PLAN};
+use kfs_test_support::vectors::{EDITS_LOG, EDITS_PLAN, LETTERS_LOG, LETTERS_PLAN};
 use std::alloc::{AllocError, Global};
-
-/// Client 7 writes ten letters to file 5, from its first byte on.
-const LETTERS_LOG: &[u8] = b"KLOG\x01\0\0\0\x07\0\x01\x02\0\0\0\x05\0\0\0\0\0\0\0\0\
-      \0\0\0\x0aABCDEFGHIJ";
-
-const LETTERS_PLAN: &[u8] = b"KPLN\x01\0\0\0\x01\0\0\0\x01\0\0\0\x05\x01\x01\xa4\0\0\x03\
-      \xe8\0\0\x03\xe8\0\x01\0\0\0\0\0\0\0\x0a\0\0\0\x05\0\0\0\0\0\0\0\0\0\0\0\0\0\
-      \0\0\x0a\x01\0\0\0\0\0\0";
 
 /// What is in a buffer before a read.
 const UNREAD: u8 = 7;

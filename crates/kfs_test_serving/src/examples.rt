@@ -31,14 +31,14 @@ fn lease<A: Allocator + Copy>(desk: &mut Desk<A>) -> Result<ActReply, Unanswered
 }
 
 /// Such a desk, of which client 7 holds the root: row 0.
-fn opened<A: Allocator + Copy>(alloc: A, limit: u32) -> Option<Desk<A>> {
+pub fn opened<A: Allocator + Copy>(alloc: A, limit: u32) -> Option<Desk<A>> {
     let mut desk = begun(alloc, limit)?;
     lease(&mut desk).ok()?.answer.ok()?;
     Some(desk)
 }
 
 /// What client 7 hands in.
-fn submission<A: Allocator + Copy>(alloc: A, log: &[u8], plan: &[u8]) -> Option<Submission<A>> {
+pub fn submission<A: Allocator + Copy>(alloc: A, log: &[u8], plan: &[u8]) -> Option<Submission<A>> {
     Some(Submission {
         client: 7,
         log: Vec::from_slice(alloc, log).ok()?,
@@ -165,7 +165,7 @@ fn a_verdict_of_yes_and_two_of_no(rt: HostRuntime) {
 
 // ---- the desk's answers
 
-fn submit<A: Allocator + Copy>(
+pub fn submit<A: Allocator + Copy>(
     desk: &mut Desk<A>,
     submission: Submission<A>,
 ) -> Result<Reply, Back<A>> {

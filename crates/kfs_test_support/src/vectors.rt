@@ -7,6 +7,15 @@ pub const CREATE_LOG: &[u8] = b"KLOG\x01\0\0\0\x07\0\x01\x01\0\0\0\x01\x01a\0\0\
 pub const CREATE_PLAN: &[u8] = b"KPLN\x01\0\x01\0\x01\0\0\0\0\0\0\0\x01\x01a\0\0\0\x05\0\0\0\x05\
       \x01\x01\xa4\0\0\x03\xe8\0\0\x03\xe8\0\x01\0\0\0\0\0\0\0\0";
 
+/// Client 7 writes ten letters to file 5, from its first byte on.
+pub const LETTERS_LOG: &[u8] = b"KLOG\x01\0\0\0\x07\0\x01\x02\0\0\0\x05\0\0\0\0\0\0\0\0\
+      \0\0\0\x0aABCDEFGHIJ";
+
+/// The header of 5, and one piece.
+pub const LETTERS_PLAN: &[u8] = b"KPLN\x01\0\0\0\x01\0\0\0\x01\0\0\0\x05\x01\x01\xa4\0\0\x03\
+      \xe8\0\0\x03\xe8\0\x01\0\0\0\0\0\0\0\x0a\0\0\0\x05\0\0\0\0\0\0\0\0\0\0\0\0\0\
+      \0\0\x0a\x01\0\0\0\0\0\0";
+
 /// Client 7 writes "xy" at 2 and "QRS" at 3 of file 5, cuts it to 4 bytes, lengthens it to 8, writes "Z" at 12.
 pub const EDITS_LOG: &[u8] = b"KLOG\x01\0\0\0\x07\0\x05\x02\0\0\0\x05\0\0\0\0\0\0\0\x02\0\0\0\
       \x02xy\x02\0\0\0\x05\0\0\0\0\0\0\0\x03\0\0\0\x03QRS\x03\0\0\0\

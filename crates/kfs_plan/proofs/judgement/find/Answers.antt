@@ -14,7 +14,7 @@ use Rattle.kfs_plan.specs.Judging.{submission_with, AreSpelled, IsEarly, IsVerdi
 use Rattle.kfs_judge_check.specs.Reads.{Agrees, AreAmong}
 use Rattle.kfs_judge_check.specs.View.{clients_of, client_sight_in}
 use Rattle.kfs_judge_check.proofs.Lists.{row_has_number}
-use Rattle.kfs_plan.proofs.Ranges.{spans_fit, entries_fit}
+use Rattle.kfs_entry.proofs.Ranges.{spans_fit, entries_fit}
 use Rattle.kfs_plan.proofs.Verdicts.{unknown_client, walked_verdict, nothing_read, unread_looked, settled_looked}
 use Rattle.kfs_plan.proofs.judgement.find.Goals as goal
 

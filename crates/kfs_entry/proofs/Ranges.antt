@@ -1,16 +1,16 @@
 -- The entries of a log that was read are in the ranges of the log format.
-use Rattle.std.proofs.Common.{◌≡◌, ℕ, ◌+◌, ◌-◌, ◌≤◌, List, [], ◌∷◌, length, map, drop, length-drop, subst, arith}
+use Rattle.std.proofs.Common.{◌≡◌, ℕ, ◌+◌, ◌-◌, ◌≤◌, List, [], ◌∷◌, length, map, drop, length-drop, IfOk, Result, Ok, Err, subst, arith}
 use Rattle.std.specs.List.{AllByRecursion}
 use Rattle.std.proofs.lemmas.List.{length-map, length-take-le}
 use Rattle.kfs_model.specs.Limits.{entry_limit, payload_limit}
-use Rattle.kfs_model.specs.Spelling.{IsEntry, IsLog}
-use Rattle.kfs_entry.specs.Answers.{SpansAreWithin, log_of}
-use Rattle.kfs_entry_value.specs.Views.{entry_of, span_bytes, IsWithin}
+use Rattle.kfs_model.specs.Spelling.{IsEntry, IsLog, LogAnswer}
+use Rattle.kfs_entry.specs.Answers.{OnAnswer, SpansAreWithin, log_of}
+use Rattle.kfs_entry.specs.declared.fault.SpellFault.{SpellFault}
+use Rattle.kfs_entry_value.specs.Views.{entry_of, span_bytes, IsSpanned, IsWithin}
 use Rattle.kfs_entry_value.specs.declared.entry.Entry.{Entry as CodeEntry}
 use Rattle.kfs_entry_value.specs.declared.entry.Entry.TheVariants as entries
 use Rattle.kfs_entry_value.specs.declared.entry.Log.{Log as CodeLog}
 use Rattle.kfs_entry_value.specs.declared.entry.Span.{Span}
-use Rattle.kfs_plan_sweep.specs.Sizes.{IsSpanned}
 
 -- a span in the source has as many bytes as it is long
 span_length : (source : List ℕ) (p : Span) → p.start ≤ p.end → p.end ≤ length source → length (span_bytes source p) ≡ p.end - p.start
@@ -39,3 +39,14 @@ module _ {A : Type 0} (source : List ℕ) (log : CodeLog A) (spelled : IsLog (lo
 
   pub entries_fit : length log.entries ≤ entry_limit
   entries_fit = subst (λ n. n ≤ entry_limit) (length-map log.entries (entry_of source)) spelled.0.1
+
+-- ---- of a decoder's answer
+
+module _ {A : Type 0} (source : List ℕ) where
+  pub answer_is_spanned : (result : Result (CodeLog A) SpellFault) → OnAnswer (log_of source) (LogAnswer source) result → IfOk result (SpansAreWithin (length source)) → IfOk result (λ log. AllByRecursion IsSpanned log.entries)
+  answer_is_spanned (Ok log) found within = spans_fit source log found.0 within
+  answer_is_spanned (Err fault) found within = tt
+
+  pub answer_is_short : (result : Result (CodeLog A) SpellFault) → OnAnswer (log_of source) (LogAnswer source) result → IfOk result (λ log. length log.entries ≤ entry_limit)
+  answer_is_short (Ok log) found = entries_fit source log found.0
+  answer_is_short (Err fault) found = tt
