@@ -76,6 +76,7 @@ module _ (image : DeviceImage) (placement : Placement) (devices : Devices) where
   -- the image with its blocks at these places, and these bytes there
   pub relaid_is_lawful : IsLawful image → IsPlacement image.sizes (get image.heads) placement → AreBlocks image.sizes devices → IsLawful (record image { placement = placement; devices = devices })
   relaid_is_lawful lawful placed blocks = record {
+    sizes = lawful.sizes;
     tree = record { sound = subst (λ (heads : Table numbers Header). AreSound (get heads) image.names) (sym heads_alike) lawful.tree.sound; counted = heads_alike ∙ lawful.tree.counted };
     placed = placed;
     blocks = blocks;

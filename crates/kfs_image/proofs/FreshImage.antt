@@ -9,7 +9,7 @@ use Rattle.kfs_model.specs.Soundness.{IsSound}
 use Rattle.kfs_model.specs.Fresh.{fresh_tree}
 use Rattle.kfs_model.proofs.FreshTree.{fresh_is_sound}
 use Rattle.kfs_model.proofs.Heads.{get-headers}
-use Rattle.kfs_model.specs.Placement.{TierSizes, Place, Placement}
+use Rattle.kfs_model.specs.Placement.{TierSizes, AreTierSizes, Place, Placement}
 use Rattle.kfs_model_device.specs.Device.{Devices}
 use Rattle.kfs_model_device.specs.ShownTree.{IsLawful, file_bytes, shown_tree}
 use Rattle.kfs_image_blocks.specs.Blocks.{BlocksShown}
@@ -55,8 +55,9 @@ module _ (sizes : TierSizes) where
   unfolding get
   no_bytes tier place bytes is = cc
 
-  fresh_is_lawful : IsLawful (fresh_image sizes)
-  fresh_is_lawful = record {
+  fresh_is_lawful : AreTierSizes sizes → IsLawful (fresh_image sizes)
+  fresh_is_lawful in_range = record {
+    sizes = in_range;
     tree = record { sound = subst IsSound (sym fresh_is_shown) (fresh_is_sound ℕ); counted = ap (λ (t : Tree ℕ). headers t) fresh_is_shown };
     placed = record {
       laid = record { apart = λ block other place is also. absurd (no_place block place is); in_tier = λ block place is. absurd (no_place block place is) };
@@ -69,5 +70,5 @@ module _ (sizes : TierSizes) where
   abbrev pub no_block : BlocksShown
   no_block = record { sizes = sizes; placement = empty; devices = empty }
 
-  pub fresh_from : (contents : Contents) (blocks : BlocksShown) → contents ≡ root_alone → blocks ≡ no_block → IsLawful (image_with contents blocks)
-  fresh_from contents blocks root none = subst IsLawful (λ i. image_with (sym root i) (sym none i)) fresh_is_lawful
+  pub fresh_from : AreTierSizes sizes → (contents : Contents) (blocks : BlocksShown) → contents ≡ root_alone → blocks ≡ no_block → IsLawful (image_with contents blocks)
+  fresh_from in_range contents blocks root none = subst IsLawful (λ i. image_with (sym root i) (sym none i)) (fresh_is_lawful in_range)

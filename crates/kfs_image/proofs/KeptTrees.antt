@@ -172,6 +172,7 @@ module _ (image : DeviceImage) (lawful : IsLawful image) (after : Tree ℕ) (sou
   kept_is_lawful =
       let again = headers_again left image.devices after in
       record {
+        sizes = lawful.sizes;
         tree = record { sound = subst (λ (heads : Table numbers Header). AreSound (get heads) after.names) (sym again) sound; counted = again };
         placed = record { laid = record { apart = apart_after; in_tier = in_tier_after }; of_files = of_files_after };
         blocks = lawful.blocks;

@@ -1,12 +1,10 @@
 -- What a call comes to makes a row that fits.
 use Rattle.std.proofs.Common.{◌≡◌, true, cond, Option, Some, None, refl, ap, ◌∙◌}
-use native.Mathlib.Decide.{ℕ_discrete}
-use Rattle.kfs_model.specs.Lease.{LeaseFault-discrete}
-use Rattle.kfs_model.specs.Judgement.{State, Reply-equality, is_yes}
-use Rattle.kfs_model.specs.Machine.{CallAnswer, CallAnswer-discrete, same_answer, CallOutcome, outcome_of, Row, answered, next}
+use Rattle.kfs_model.specs.Judgement.{State, is_yes}
+use Rattle.kfs_model.specs.Machine.{CallAnswer, CallAnswer-equality, same_answer, CallOutcome, outcome_of, Row, answered, next}
 
 same_answer_itself : (a : CallAnswer) → same_answer a a ≡ true
-same_answer_itself a = by (CallAnswer-discrete Reply-equality ℕ_discrete (LeaseFault-discrete ℕ_discrete) a a)
+same_answer_itself a = by (CallAnswer-equality a a)
   where
     by : (d : Dec (a ≡ a)) → is_yes d ≡ true
     by (yes same) = refl

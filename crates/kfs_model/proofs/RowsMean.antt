@@ -1,15 +1,14 @@
 -- What the machine's step of a row makes of the state.
 use Rattle.std.proofs.Common.{◌≡◌, ℕ, ◌==◌, Bool, true, false, cond, List, [], ◌∷◌, Option, Some, None, Result, Ok, Err, refl, sym, ap, subst, ◌∙◌}
 use Rattle.std.specs.Prelude.{length, nat_lt}
-use native.Mathlib.Decide.{ℕ_discrete}
 use Rattle.kfs_model.proofs.OneByOne.{run_is_one_by_one}
 use Rattle.kfs_model.proofs.OrderKept.{IsYes, yes_means}
 use Rattle.kfs_model.specs.Access.{Client}
 use Rattle.kfs_model.specs.Entry.{Log}
 use Rattle.kfs_model.specs.FirstWrong.{RowFault, first_wrong_row}
-use Rattle.kfs_model.specs.Judgement.{State, Submission, Reading, IsReadAs, Verdict, Yes, No, AtRow, ClientUnknown, ClientWrong, Accepted, NoRoom, Refused, Reply-equality, is_yes, free_places, client_sight_of, judged, judged_log, judged_plan, judged_run, reply_to, verdict_on}
-use Rattle.kfs_model.specs.Lease.{Leases, LeaseFault, LeaseFault-discrete, dropped, granted, row_of, ticked}
-use Rattle.kfs_model.specs.Machine.{Call, Submit, Lease, Drop, Tick, CallAnswer, CallAnswer-discrete, CallOutcome, Done, NotDone, OneByOne, Replied, Row, IsRead, answered, are_chosen, landed, leased, next, outcome_of, replied, same_answer, unplaced}
+use Rattle.kfs_model.specs.Judgement.{State, Submission, Reading, IsReadAs, Verdict, Yes, No, AtRow, ClientUnknown, ClientWrong, Accepted, NoRoom, Refused, is_yes, free_places, client_sight_of, judged, judged_log, judged_plan, judged_run, reply_to, verdict_on}
+use Rattle.kfs_model.specs.Lease.{Leases, LeaseFault, dropped, granted, row_of, ticked}
+use Rattle.kfs_model.specs.Machine.{Call, Submit, Lease, Drop, Tick, CallAnswer, CallAnswer-equality, CallFault, LeaseRefused, CallOutcome, Done, NotDone, OneByOne, Replied, Row, IsRead, answered, are_chosen, landed, leased, next, outcome_of, replied, same_answer, unplaced}
 use Rattle.kfs_model.specs.Placement.{need, written_blocks}
 use Rattle.kfs_model.specs.PlanRow.{Plan}
 use Rattle.kfs_model.specs.Run.{EntryFault, Mark, marked, over_bytes, over_marks, run}
@@ -26,7 +25,7 @@ module _ (s t : State) (row : Row) where
   fitted is = by (outcome_of s row.call row.places) refl is
     where
       alike : (a b : CallAnswer) (outcome : CallOutcome) → outcome.0 ≡ a → cond (same_answer a b) (Some outcome.1) None ≡ Some t → (outcome.0 ≡ b) × (outcome.1 ≡ t)
-      alike a b outcome first is = at (CallAnswer-discrete Reply-equality ℕ_discrete (LeaseFault-discrete ℕ_discrete) a b) is
+      alike a b outcome first is = at (CallAnswer-equality a b) is
         where
           at : (d : Dec (a ≡ b)) → cond (is_yes d) (Some outcome.1) None ≡ Some t → (outcome.0 ≡ b) × (outcome.1 ≡ t)
           at (yes same) is = (first ∙ same, cc)
@@ -83,18 +82,19 @@ module _ (s : State) (places : List ℕ) where
               subst (λ (o : CallOutcome). MeansOf s (Submit submission reading) o.0 o.1) same (done s submission reading read after marks judged_so (landed s after marks places) refl)
           by_places false is = cc
 
-  leased_means : (told : Result ℕ LeaseFault) (leases : Leases) (outcome : CallOutcome) → leased s places (told, leases) ≡ Some outcome → DiffersInLeases s outcome.1
-  leased_means (Ok number) leases outcome is = let same = unplaced_is places (Done number, record s { leases = leases }) outcome is in (leases, ap (λ (o : CallOutcome). o.1) (sym same))
-  leased_means (Err fault) leases outcome is = let same = unplaced_is places (NotDone fault, record s { leases = leases }) outcome is in (leases, ap (λ (o : CallOutcome). o.1) (sym same))
+  module _ (call : Call) (done : (number : ℕ) (leases : Leases) → MeansOf s call (Done number) (record s { leases = leases })) (not_done : (fault : CallFault) (leases : Leases) → MeansOf s call (NotDone fault) (record s { leases = leases })) where
+    leased_means : (told : Result ℕ LeaseFault) (leases : Leases) (outcome : CallOutcome) → leased s places (told, leases) ≡ Some outcome → MeansOf s call outcome.0 outcome.1
+    leased_means (Ok number) leases outcome is = subst (λ (o : CallOutcome). MeansOf s call o.0 o.1) (unplaced_is places (Done number, record s { leases = leases }) outcome is) (done number leases)
+    leased_means (Err fault) leases outcome is = subst (λ (o : CallOutcome). MeansOf s call o.0 o.1) (unplaced_is places (NotDone (LeaseRefused fault), record s { leases = leases }) outcome is) (not_done (LeaseRefused fault) leases)
 
   outcome_means : (call : Call) (row : Row) → row.call ≡ call → IsRead row → (outcome : CallOutcome) → outcome_of s call places ≡ Some outcome → MeansOf s call outcome.0 outcome.1
   unfolding outcome_of
   outcome_means (Submit submission reading) row at read outcome is =
       let read_as : IsReadAs submission reading = subst (λ (c : Call). IsRead (record row { call = c })) at read in
       replied_means submission reading read_as (verdict_on s submission.client reading) refl outcome is
-  outcome_means (Lease client path kind end) row at read outcome is = let all = granted s.leases (sight s.tree) s.clients client path kind end in leased_means all.0 all.1 outcome is
-  outcome_means (Drop client number) row at read outcome is = let all = dropped s.leases s.clients client number in leased_means all.0 all.1 outcome is
-  outcome_means (Tick moment) row at read outcome is = let all = ticked s.leases moment in leased_means all.0 all.1 outcome is
+  outcome_means (Lease client path kind end) row at read outcome is = let all = granted s.leases (sight s.tree) s.clients client path kind end in leased_means (Lease client path kind end) (λ number leases. (leases, refl)) (λ fault leases. (leases, refl)) all.0 all.1 outcome is
+  outcome_means (Drop client number) row at read outcome is = let all = dropped s.leases s.clients client number in leased_means (Drop client number) (λ told leases. (leases, refl)) (λ fault leases. (leases, refl)) all.0 all.1 outcome is
+  outcome_means (Tick moment) row at read outcome is = let all = ticked s.leases moment in leased_means (Tick moment) (λ told leases. (leases, refl)) (λ fault leases. (leases, refl)) all.0 all.1 outcome is
 
 pub row_means : (s t : State) (row : Row) → IsRead row → next s row ≡ Some t → Means s row t
 row_means s t row read is =

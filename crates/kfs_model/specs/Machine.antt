@@ -55,15 +55,24 @@ pub data Call : Type 0 where
   Drop : (client number : ℕ) → Call
   Tick : (moment : ℕ) → Call
 
+-- why a call that is no submission was refused
+pub data CallFault : Type 0 where
+  LeaseRefused : (fault : LeaseFault) → CallFault
+  deriving Discrete as CallFault-discrete
+
 pub data CallAnswer : Type 0 where
   Replied : (reply : Reply) → CallAnswer
   -- the call was carried out; the number is the node's, or the moment
   Done : (number : ℕ) → CallAnswer
-  NotDone : (fault : LeaseFault) → CallAnswer
+  NotDone : (fault : CallFault) → CallAnswer
   deriving Discrete as CallAnswer-discrete
 
+-- whether two answers are the same
+abbrev pub CallAnswer-equality : Discrete CallAnswer
+CallAnswer-equality = CallAnswer-discrete Reply-equality ℕ_discrete (CallFault-discrete (LeaseFault-discrete ℕ_discrete))
+
 abbrev pub same_answer : CallAnswer → CallAnswer → Bool
-same_answer a b = is_yes (CallAnswer-discrete Reply-equality ℕ_discrete (LeaseFault-discrete ℕ_discrete) a b)
+same_answer a b = is_yes (CallAnswer-equality a b)
 
 -- ---- one step
 
@@ -84,7 +93,7 @@ replied s places verdict reply = unplaced places (Replied reply, s)
 
 abbrev pub leased : State → (places : List ℕ) → Result ℕ LeaseFault × Leases → Option CallOutcome
 leased s places (Ok number, leases) = unplaced places (Done number, record s { leases = leases })
-leased s places (Err fault, leases) = unplaced places (NotDone fault, record s { leases = leases })
+leased s places (Err fault, leases) = unplaced places (NotDone (LeaseRefused fault), record s { leases = leases })
 
 -- the answer of the call and the state afterwards; none where the places aren't one free place for each
 -- written block

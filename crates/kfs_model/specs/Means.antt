@@ -2,9 +2,9 @@
 use Rattle.std.specs.Prelude.{◌≡◌, [], Some, Ok}
 use Rattle.kfs_model.specs.Access.{Client}
 use Rattle.kfs_model.specs.Entry.{Log}
-use Rattle.kfs_model.specs.Judgement.{State, Submission, Accepted, client_sight_of}
+use Rattle.kfs_model.specs.Judgement.{State, Submission, Reply, Accepted, NoRoom, Refused, client_sight_of}
 use Rattle.kfs_model.specs.Lease.{Leases, row_of}
-use Rattle.kfs_model.specs.Machine.{Call, Submit, CallAnswer, Replied, OneByOne, Row}
+use Rattle.kfs_model.specs.Machine.{Call, Submit, Lease, Drop, Tick, CallAnswer, Replied, Done, NotDone, OneByOne, Row}
 use Rattle.kfs_model.specs.Spelling.{LogAnswer}
 
 -- the submission spells a log, and the tree results from its entries in turn, each one allowed to the
@@ -20,11 +20,26 @@ pub record HasEntriesDone (s : State) (submission : Submission) (t : State) : Ty
 abbrev pub DiffersInLeases : (s t : State) → Type 0
 DiffersInLeases s t = (leases : Leases) × (t ≡ record s { leases = leases })
 
--- a Yes has applied its log's entries; another reply changes nothing; a lease call changes leases only
+-- a Yes has applied its log's entries, and another reply changes nothing
+abbrev pub ReplyMeans : State → Submission → Reply → State → Type 0
+ReplyMeans s submission (Accepted need) t = HasEntriesDone s submission t
+ReplyMeans s submission (NoRoom need free) t = t ≡ s
+ReplyMeans s submission (Refused fault) t = t ≡ s
+
+-- a submission has a reply; a call for the leases has an answer of its own, and changes leases only
 abbrev pub MeansOf : State → Call → CallAnswer → State → Type 0
-MeansOf s (Submit submission reading) (Replied (Accepted need)) t = HasEntriesDone s submission t
-MeansOf s (Submit submission reading) answer t = t ≡ s
-MeansOf s call answer t = DiffersInLeases s t
+MeansOf s (Submit submission reading) (Replied reply) t = ReplyMeans s submission reply t
+MeansOf s (Submit submission reading) (Done number) t = ⊥
+MeansOf s (Submit submission reading) (NotDone fault) t = ⊥
+MeansOf s (Lease client path kind end) (Replied reply) t = ⊥
+MeansOf s (Lease client path kind end) (Done number) t = DiffersInLeases s t
+MeansOf s (Lease client path kind end) (NotDone fault) t = DiffersInLeases s t
+MeansOf s (Drop client number) (Replied reply) t = ⊥
+MeansOf s (Drop client number) (Done told) t = DiffersInLeases s t
+MeansOf s (Drop client number) (NotDone fault) t = DiffersInLeases s t
+MeansOf s (Tick moment) (Replied reply) t = ⊥
+MeansOf s (Tick moment) (Done told) t = DiffersInLeases s t
+MeansOf s (Tick moment) (NotDone fault) t = DiffersInLeases s t
 
 abbrev pub Means : State → Row → State → Type 0
 Means s row t = MeansOf s row.call row.answer t

@@ -1,8 +1,8 @@
 -- Where the blocks of files lie, which of them a log writes and clears, and how much room it needs.
-use Rattle.std.specs.Prelude.{◌≡◌, ℕ, zero, suc, ◌+◌, ◌-◌, ◌*◌, ◌/◌, ◌<◌, ◌&&◌, ◌||◌, ◌==◌, not, Bool, true, false, List, [], ◌∷◌, length, take, drop, filter, map, flat_map, Option, Some, IsTrue, if◌then◌else◌}
+use Rattle.std.specs.Prelude.{◌≡◌, ℕ, zero, suc, ◌+◌, ◌-◌, ◌*◌, ◌/◌, ◌<◌, ◌≤◌, ◌&&◌, ◌||◌, ◌==◌, not, Bool, true, false, List, [], ◌∷◌, length, take, drop, filter, map, flat_map, Option, Some, IsTrue, if◌then◌else◌}
 use Rattle.std.specs.List.{list_any, list_all}
 use Rattle.kfs_model.specs.Header.{Header}
-use Rattle.kfs_model.specs.Limits.{block_size}
+use Rattle.kfs_model.specs.Limits.{block_size, tier_limit}
 use Rattle.kfs_model.specs.Table.{Table, numbers, pairs, get}
 use Rattle.kfs_model.specs.Tree.{Tree, Node, content_of}
 use Rattle.kfs_model.specs.Sight.{is_file}
@@ -14,6 +14,10 @@ pub record TierSizes : Type 0 where
   pub first : ℕ
   pub second : ℕ
   pub third : ℕ
+
+-- no tier has more blocks than a tier may have
+abbrev pub AreTierSizes : TierSizes → Type 0
+AreTierSizes sizes = (sizes.first ≤ tier_limit) × (sizes.second ≤ tier_limit) × (sizes.third ≤ tier_limit)
 
 -- the number of blocks of this tier, 0 for a tier over 2
 abbrev pub tier_size : TierSizes → (tier : ℕ) → ℕ

@@ -231,6 +231,7 @@ module _ (image : DeviceImage) (lawful : IsLawful image) where
 
   pub rows_spelled : IsSpelled raw
   rows_spelled = record {
+    sizes = lawful.sizes;
     names = each_row name_row (λ row. IsName row.name) image.names.entries (each_entry name_order (λ (e : (ℕ × List ℕ) × ℕ). IsName e.0.1) image.names (λ key number is. (sound.names_sound key.0 key.1 number is).spelled));
     ids = each_row raw_node (λ row. (row.header.uid < 2 ^ 32) × (row.header.gid < 2 ^ 32)) image.heads.entries
         (each_entry numbers (λ (e : ℕ × Header). (e.1.uid < 2 ^ 32) × (e.1.gid < 2 ^ 32)) image.heads (λ number h is. let range = sound.ranges number h is in (range.uid, range.gid)));

@@ -8,7 +8,7 @@ use Rattle.kfs_model.specs.Tree.{NameTable, name_order}
 use Rattle.kfs_model.specs.PlanRow.{NameRow}
 use Rattle.kfs_model.specs.Plan.{keyed_name}
 use Rattle.kfs_model.specs.Spelling.{IsName}
-use Rattle.kfs_model.specs.Placement.{TierSizes, Place, Placement, below}
+use Rattle.kfs_model.specs.Placement.{TierSizes, AreTierSizes, Place, Placement, below}
 use Rattle.kfs_model_device.specs.Device.{Devices}
 use Rattle.kfs_model_device.specs.ShownTree.{DeviceImage}
 
@@ -31,8 +31,10 @@ pub record RawImage : Type 0 where
   pub names : List NameRow
   pub extents : List ExtentRow
 
--- the rows can be spelled: names are names, and uids and gids fit 32 bits
+-- the sizes and rows can be spelled: no tier is larger than it may be, names are names, and uids and gids
+-- fit 32 bits
 pub record IsSpelled (raw : RawImage) : Type 0 where
+  pub sizes : AreTierSizes raw.sizes
   pub names : AllByRecursion (λ (row : NameRow). IsName row.name) raw.names
   pub ids : AllByRecursion (λ (row : RawNode). (row.header.uid < 2 ^ 32) × (row.header.gid < 2 ^ 32)) raw.nodes
 

@@ -5,7 +5,7 @@ use Rattle.kfs_model.specs.Limits.{block_size}
 use Rattle.kfs_model.specs.Table.{Table, numbers, get}
 use Rattle.kfs_model.specs.Tree.{Tree, NameTable, tree_over}
 use Rattle.kfs_model.specs.Soundness.{IsSoundOver}
-use Rattle.kfs_model.specs.Placement.{TierSizes, Placement, IsPlacement, below}
+use Rattle.kfs_model.specs.Placement.{TierSizes, AreTierSizes, Placement, IsPlacement, below}
 use Rattle.kfs_model_device.specs.Device.{Devices, AreBlocks, byte_on}
 
 -- an image: headers, names, where the blocks of files lie, and the bytes on the devices
@@ -29,9 +29,10 @@ file_bytes placement devices number size = map (file_byte placement devices numb
 abbrev pub shown_tree : DeviceImage → Tree ℕ
 shown_tree image = tree_over (file_bytes image.placement image.devices) image.heads image.names
 
--- the tree is sound, and its headers are the image's; each block has a place of its own, within a tier;
--- devices hold whole blocks
+-- the tiers are no larger than they may be; the tree is sound, and its headers are the image's; each block
+-- has a place of its own, within a tier; devices hold whole blocks
 pub record IsLawful (image : DeviceImage) : Type 0 where
+  pub sizes : AreTierSizes image.sizes
   pub tree : IsSoundOver image.heads (shown_tree image)
   pub placed : IsPlacement image.sizes (get image.heads) image.placement
   pub blocks : AreBlocks image.sizes image.devices

@@ -1,5 +1,5 @@
 -- The verdict on a submission, case by case of the judgement's order.
-use Rattle.std.specs.Prelude.{◌≡◌, ◌≢◌, ℕ, true, false, cond, List, [], Option, Some, None, Result, Ok, Err, refl}
+use Rattle.std.specs.Prelude.{◌≡◌, ◌≢◌, ℕ, true, false, cond, List, [], Option, Some, None, IsSome, Result, Ok, Err, refl}
 use Rattle.std.specs.Option.{option_map}
 use Rattle.std.proofs.Common.{ap, sym, subst, ◌∙◌}
 use Rattle.std.proofs.lemmas.Bool.{eq-eqb, ne_eqb}
@@ -32,7 +32,7 @@ use Rattle.kfs_plan.specs.declared.submission.Fault.TheVariants as faults
 use Rattle.kfs_plan.specs.declared.submission.Outcome.{Outcome}
 use Rattle.kfs_plan.specs.declared.submission.Outcome.TheVariants as outcomes
 use Rattle.kfs_judge.specs.declared.walk.EntryFault.{EntryFault as CodeEntryFault}
-use Rattle.kfs_plan.specs.Judging.{row_fault_of, refusal_of, is_before_entries, stops_before, AreOfLog, AreLooked, AreSpelled, AgreesWithReads, IsVerdict, OutcomeIsSettled}
+use Rattle.kfs_plan.specs.Judging.{row_fault_of, spelling_fault_of, refusal_of, RefusesByFault, is_before_entries, stops_before, AreOfLog, AreLooked, AreSpelled, AgreesWithReads, IsVerdict, OutcomeIsSettled}
 use Rattle.kfs_judge.specs.declared.walk.Walk.{Walk}
 use Rattle.kfs_judge_check.specs.declared.reads.Read.{Read}
 use Rattle.kfs_judge_check.specs.declared.reads.ReadAnswer.{ReadAnswer}
@@ -256,3 +256,40 @@ module _ {A : Type 0} (view : View A) (submission : Submission) where
   settled_looked log plan sizes (Ok net) (outcomes.No (faults.BadPlan fault)) reads is of = absurd is
   settled_looked log plan sizes (Ok net) (outcomes.No (faults.Entry fault)) reads is of = absurd is
   settled_looked log plan sizes (Ok net) (outcomes.Yes l p n told) reads is of = of_log (outcomes.Yes l p n told) reads refl of
+
+-- ---- a refusal names a fault of the submission
+
+mapped_is_some : {X Y : Type 0} (f : X → Y) (o : Option X) → IsSome o → IsSome (option_map f o)
+mapped_is_some f (Some x) is = refl
+mapped_is_some f None is = is
+
+-- bytes without a value have a fault, where memory wasn't refused
+spelling_is_some : (fault : SpellFault) → fault ≢ spelling.OutOfMemory → IsSome (spelling_fault_of fault)
+spelling_is_some spelling.BadHeader memory = refl
+spelling_is_some (spelling.BadEntry k) memory = refl
+spelling_is_some spelling.Trailing memory = refl
+spelling_is_some (spelling.BadRow part k) memory = refl
+spelling_is_some spelling.OutOfMemory memory = absurd (memory refl)
+
+pub bad_log_is_fault : (fault : SpellFault) → fault ≢ spelling.OutOfMemory → IsSome (refusal_of (faults.BadLog fault))
+bad_log_is_fault fault memory = mapped_is_some BadLog (spelling_fault_of fault) (spelling_is_some fault memory)
+
+pub bad_plan_is_fault : (fault : SpellFault) → fault ≢ spelling.OutOfMemory → IsSome (refusal_of (faults.BadPlan fault))
+bad_plan_is_fault fault memory = mapped_is_some BadPlan (spelling_fault_of fault) (spelling_is_some fault memory)
+
+row_is_fault : (fault : CodeRowFault) → fault ≢ rows.OutOfMemory → IsSome (refusal_of (faults.Row fault))
+row_is_fault (rows.Names index) memory = refl
+row_is_fault (rows.Nodes index) memory = refl
+row_is_fault (rows.Pieces index) memory = refl
+row_is_fault rows.OutOfMemory memory = absurd (memory refl)
+
+pub settled_is_fault : {A : Type 0} (log : CodeLog A) (plan : CodePlan A) (sizes : List FileSize) (walked : Result (Net A) CodeEntryFault) (outcome : Outcome A) → OutcomeIsSettled log plan sizes walked outcome → RefusesByFault outcome
+settled_is_fault log plan sizes (Err fault) (outcomes.No refusal) is = subst (λ f. IsSome (refusal_of f)) (sym is) refl
+settled_is_fault log plan sizes (Ok net) (outcomes.No (faults.Row fault)) is = row_is_fault fault is.0
+settled_is_fault log plan sizes (Ok net) (outcomes.No faults.UnknownClient) is = absurd is
+settled_is_fault log plan sizes (Ok net) (outcomes.No (faults.BadLog fault)) is = absurd is
+settled_is_fault log plan sizes (Ok net) (outcomes.No faults.WrongClient) is = absurd is
+settled_is_fault log plan sizes (Ok net) (outcomes.No (faults.BadPlan fault)) is = absurd is
+settled_is_fault log plan sizes (Ok net) (outcomes.No (faults.Entry fault)) is = absurd is
+settled_is_fault log plan sizes (Err fault) (outcomes.Yes l p n told) is = tt
+settled_is_fault log plan sizes (Ok net) (outcomes.Yes l p n told) is = tt

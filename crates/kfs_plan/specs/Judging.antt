@@ -1,5 +1,5 @@
 -- What a judgement answered, in terms of the definitions.
-use Rattle.std.specs.Prelude.{◌≡◌, ◌≢◌, ℕ, Bool, true, false, List, [], length, Option, None, Some, Result, Ok, Err}
+use Rattle.std.specs.Prelude.{◌≡◌, ◌≢◌, ℕ, Bool, true, false, List, [], length, Option, None, Some, IsSome, Result, Ok, Err}
 use Rattle.std.specs.Option.{option_map}
 use Rattle.kfs_model.specs.Access.{Client}
 use Rattle.kfs_model.specs.Entry.{Entry, Log}
@@ -63,6 +63,16 @@ refusal_of faults.WrongClient = Some ClientWrong
 refusal_of (faults.BadPlan fault) = option_map BadPlan (spelling_fault_of fault)
 refusal_of (faults.Entry fault) = Some (AtEntry (fault_of fault))
 refusal_of (faults.Row fault) = option_map AtRow (row_fault_of fault)
+
+-- a refusal is by a fault of the submission, and never for want of memory
+abbrev pub RefusesByFault : {A : Type 0} → Outcome A → Type 0
+RefusesByFault (outcomes.No fault) = IsSome (refusal_of fault)
+RefusesByFault (outcomes.Yes log plan net told) = Unit {0}
+
+-- the same of what the bytes decode to
+abbrev pub StopsByFault : {A : Type 0} → Spelled A → Type 0
+StopsByFault (readings.No fault) = IsSome (refusal_of fault)
+StopsByFault (readings.Yes log plan) = Unit {0}
 
 -- ---- submissions
 

@@ -8,7 +8,7 @@ ghost use Rattle.kfs_entry_value.specs.Views.{IsSpanned};
 ghost use Rattle.kfs_judge_check.specs.Reads.{Agrees};
 ghost use Rattle.kfs_judge.specs.Walks.{HasOrderedSizes};
 ghost use Rattle.kfs_judge_check.specs.View.{clients_of, client_sight_in};
-ghost use Rattle.kfs_plan.specs.Judging.{AreLooked, AgreesWithReads, OutcomeIsSettled, IsVerdict, submission_of, submission_with};
+ghost use Rattle.kfs_plan.specs.Judging.{AreLooked, AgreesWithReads, OutcomeIsSettled, IsVerdict, RefusesByFault, submission_of, submission_with};
 
 use crate::judged::Judged;
 use crate::rows::{RowFault, check_rows};
@@ -25,7 +25,8 @@ use std::hash::{BuildHasherDefault, FoldHasher};
 /// log's client, the plan's bytes, the entries, the plan's rows. It changes nothing but memory of its
 /// own, and takes no lock.
 ///
-/// A bad submission is a verdict, not an error. The submission comes back only where memory is refused.
+/// A bad submission is a verdict, not an error. The submission comes back only where memory is refused; no verdict is a
+/// No for that.
 pub fn judge<A: Allocator + Copy>(
     alloc: A,
     view: &View<A>,
@@ -39,6 +40,8 @@ pub fn judge<A: Allocator + Copy>(
     ensures known { IfOk result (λ j. (s : State) → AgreesWithReads s submission.client j.client j.reads → IsVerdict s (submission_of submission) j.outcome) }
     ensures view_agrees { IfOk result (λ j. Agrees j.reads (client_sight_in view.now submission.client)) }
     ensures among { IfOk result (λ j. AreLooked view.now (submission_of submission) j.outcome j.reads) }
+    // A No names a fault of the submission.
+    ensures fault { IfOk result (λ j. RefusesByFault j.outcome) }
     ensures memory { IfErr result (λ b. b.why ≡ Why.OutOfMemory) }
 {
     let (log, plan) = (submission.log.as_slice(), submission.plan.as_slice());
@@ -89,6 +92,7 @@ fn find<A: Allocator + Copy>(
     ensures known { IfOk result (λ f. (s : State) → AgreesWithReads s number f.client f.reads.entries → IsVerdict s (submission_with number log.now plan.now) f.outcome) }
     ensures view_agrees { IfOk result (λ f. Agrees f.reads.entries (client_sight_in view.now number)) }
     ensures among { IfOk result (λ f. AreLooked view.now (submission_with number log.now plan.now) f.outcome f.reads.entries) }
+    ensures fault { IfOk result (λ f. RefusesByFault f.outcome) }
     ensures memory { IfErr result (λ why. why ≡ Why.OutOfMemory) }
 {
     let Some(client) = view.client(number) else {

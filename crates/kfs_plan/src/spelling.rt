@@ -1,6 +1,6 @@
 //! The bytes of a submission, decoded.
 ghost use Rattle.std.specs.Prelude.{◌≡◌, ◌≢◌, IfOk, IfErr};
-ghost use Rattle.kfs_plan.specs.Judging.{IsEarly, IsReading, submission_with};
+ghost use Rattle.kfs_plan.specs.Judging.{IsEarly, IsReading, StopsByFault, submission_with};
 
 use crate::submission::{Fault, Why};
 use kfs_entry::{Log, Plan, SpellFault, decode_log, decode_plan};
@@ -25,6 +25,7 @@ pub fn read_submission<A: Allocator + Copy>(
 ) -> Result<Spelled<A>, Why>
     ensures read { IfOk result (IsReading (submission_with number log.now plan.now)) }
     ensures early { IfOk result IsEarly }
+    ensures fault { IfOk result StopsByFault }
     ensures memory { IfErr result (λ why. why ≡ Why.OutOfMemory) }
 {
     let log = match decode_log(alloc, log) {

@@ -4,6 +4,7 @@ use Rattle.kfs_model_device.proofs.laws.well_formed_image_is_lawful.Goals as goa
 
 pub returns : goal.returns
 returns c raw spelled well_formed = record {
+  sizes = spelled.sizes;
   tree = record { sound = tree_sound raw well_formed spelled; counted = heads_counted raw well_formed };
   placed = extents_placed raw well_formed;
   blocks = blocks_written raw well_formed;

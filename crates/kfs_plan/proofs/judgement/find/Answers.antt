@@ -10,12 +10,12 @@ use Rattle.kfs_entry.specs.Answers.{log_of}
 use Rattle.kfs_entry_value.specs.Views.{entry_of}
 use Rattle.kfs_plan.specs.declared.submission.Fault.TheVariants as faults
 use Rattle.kfs_plan.specs.declared.spelling.Spelled.TheVariants as readings
-use Rattle.kfs_plan.specs.Judging.{submission_with, AreSpelled, IsEarly, IsVerdict, IsReading}
+use Rattle.kfs_plan.specs.Judging.{submission_with, AreSpelled, IsEarly, IsVerdict, IsReading, RefusesByFault, StopsByFault}
 use Rattle.kfs_judge_check.specs.Reads.{Agrees, AreAmong}
 use Rattle.kfs_judge_check.specs.View.{clients_of, client_sight_in}
 use Rattle.kfs_judge_check.proofs.Lists.{row_has_number}
 use Rattle.kfs_entry.proofs.Ranges.{spans_fit, entries_fit}
-use Rattle.kfs_plan.proofs.Verdicts.{unknown_client, walked_verdict, nothing_read, unread_looked, settled_looked}
+use Rattle.kfs_plan.proofs.Verdicts.{unknown_client, walked_verdict, nothing_read, unread_looked, settled_is_fault, settled_looked}
 use Rattle.kfs_plan.proofs.judgement.find.Goals as goal
 
 pub returns-in_default-clause-client : goal.returns-in_default-clause-client
@@ -106,3 +106,15 @@ returns-in_ok-finding-in-Yes-clause-among g c =
           (subst (λ r. AreAmong r.entries (looked_cells c.in-Some.client.now (client_sight_in view c.in-Yes.log.client) entries)) (sym c.in_ok-finding-in-Yes.ensures.reads)
           (c.in_ok-walk-in-Yes.ensures.among c.in-Some.client.now (ap (row_of (clients_of view)) own ∙ row) c.args.log.now read.within));
     })
+
+pub returns-in_default-clause-fault : goal.returns-in_default-clause-fault
+returns-in_default-clause-fault g c = subst (λ o. RefusesByFault {A = g.row.A.Denot} o) (sym c.unread.ensures.outcome) refl
+
+pub returns-in-No-clause-fault : goal.returns-in-No-clause-fault
+returns-in-No-clause-fault g c =
+    let stops = subst (λ r. StopsByFault {A = g.row.A.Denot} r) c.in-No.is c.in_ok-fault.ensures.fault in
+    subst (λ o. RefusesByFault {A = g.row.A.Denot} o) (sym c.unread-in-No.ensures.outcome) stops
+
+pub returns-in_ok-finding-in-Yes-clause-fault : goal.returns-in_ok-finding-in-Yes-clause-fault
+returns-in_ok-finding-in-Yes-clause-fault g c =
+    settled_is_fault c.in-Yes.log c.in-Yes.plan c.in_ok-walk-in-Yes.walk.sizes.items c.in_ok-walk-in-Yes.walk.outcome c.in_ok-finding-in-Yes.finding.outcome c.in_ok-finding-in-Yes.ensures.outcome

@@ -1,11 +1,11 @@
 -- What the decoders found, as the verdict that it is or as what the entries are judged by.
-use Rattle.std.proofs.Common.{◌≢◌, subst, sym, arith}
+use Rattle.std.proofs.Common.{◌≢◌, IsSome, subst, sym, arith}
 use Rattle.kfs_entry.specs.declared.fault.SpellFault.TheVariants as spelling
 use Rattle.kfs_model.specs.Spelling.{IsBytes}
-use Rattle.kfs_plan.specs.Judging.{submission_with, IsVerdict}
+use Rattle.kfs_plan.specs.Judging.{submission_with, IsVerdict, refusal_of}
 use Rattle.kfs_plan.specs.declared.submission.Outcome.TheVariants as outcomes
 use Rattle.kfs_plan.specs.declared.submission.Fault.TheVariants as faults
-use Rattle.kfs_plan.proofs.Verdicts.{bad_log, wrong_client, bad_plan}
+use Rattle.kfs_plan.proofs.Verdicts.{bad_log, bad_log_is_fault, wrong_client, bad_plan, bad_plan_is_fault}
 use Rattle.kfs_plan.proofs.spelling.read_submission.Goals as goal
 
 pub returns-in-Err-clause-read : goal.returns-in-Err-clause-read
@@ -33,3 +33,13 @@ returns-clause-read g c = record {
   plan_read = c.in-Ok-decode_plan.ensures.found;
   within = c.in-Ok.ensures.spans;
 }
+
+pub returns-in-Err-clause-fault : goal.returns-in-Err-clause-fault
+returns-in-Err-clause-fault g c =
+    let told = c.in_ok-unless_refused-in-Err.ensures.fault in
+    subst (λ f. IsSome (refusal_of (faults.BadLog f))) (sym told.0) (bad_log_is_fault c.in-Err.fault (subst (λ f. f ≢ spelling.OutOfMemory) told.0 told.1))
+
+pub returns-in-Err-decode_plan-clause-fault : goal.returns-in-Err-decode_plan-clause-fault
+returns-in-Err-decode_plan-clause-fault g c =
+    let told = c.in_ok-unless_refused-in-Err-decode_plan.ensures.fault in
+    subst (λ f. IsSome (refusal_of (faults.BadPlan f))) (sym told.0) (bad_plan_is_fault c.in-Err-decode_plan.fault (subst (λ f. f ≢ spelling.OutOfMemory) told.0 told.1))
