@@ -10,7 +10,7 @@ use Rattle.std.proofs.lemmas.Bool.{both_ways, eq-eqb, eqb-false, ne_eqb}
 use Rattle.std.proofs.lemmas.Cmp.{ranked}
 use Rattle.std.proofs.lemmas.List.{append-nil, append_assoc}
 use Rattle.std.proofs.lemmas.List.Folds.{list_any-append}
-use Rattle.kfs_model.specs.Blocks.{BlockInterval, of_file, touches}
+use Rattle.kfs_plan_sweep.specs.TouchedBlocks.{BlockInterval, of_file, touches}
 use Rattle.kfs_model.specs.Header.{Header}
 use Rattle.kfs_model.specs.LastCover.{file_size}
 use Rattle.kfs_model.specs.Placement.{block_count, numbers_from}

@@ -16,7 +16,7 @@ use Rattle.kfs_model.specs.Tree.{Tree, Node, content_of}
 use Rattle.kfs_model.specs.Run.{Mark, Zero}
 use Rattle.kfs_model.specs.Plan.{is_base}
 use Rattle.kfs_model.specs.Placement.{block_count, blocks_from, blocks_of, blocks_that, cleared_blocks, is_cleared, is_payload, is_written, is_zero, written_blocks}
-use Rattle.kfs_model.proofs.Blocks.{block_at}
+use Rattle.kfs_plan_sweep.proofs.BlockCounts.{block_at}
 use Rattle.kfs_model.proofs.Tables.{find_below, left_part, right_part}
 
 -- ---- blocks in a list

@@ -2,7 +2,7 @@
 ghost use Rattle.std.specs.Prelude.{◌≡◌, ◌++◌, IfOk, map};
 ghost use Rattle.std.specs.List.{AllByRecursion};
 ghost use Rattle.kfs_entry_value.specs.Views.{piece_of};
-ghost use Rattle.kfs_model.specs.Blocks.{touches};
+ghost use Rattle.kfs_plan_sweep.specs.TouchedBlocks.{touches};
 ghost use Rattle.kfs_model.specs.Plan.{PiecesAscend};
 ghost use Rattle.kfs_plan_sweep.specs.BlockLists.{cleared_runs, listed};
 ghost use Rattle.kfs_plan_sweep.specs.Lefts.{IsFilled, PieceIsInRange};

@@ -59,10 +59,5 @@ pub mod OnePlanAnswer
 pub mod AnswersExist
 pub mod ReadingIs
 pub mod LastCover
-pub mod Follow
-pub mod Compare
-pub mod Blocks
-pub mod Touches
 pub mod SameNeed
-pub mod Need
 pub mod RowsMean

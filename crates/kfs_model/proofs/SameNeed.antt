@@ -1,22 +1,19 @@
 -- Two sound trees that answer alike at the cells that a log looks at have the same need after it.
-use Rattle.std.proofs.Common.{◌≡◌, ℕ, Bool, true, false, cond, List, [], ◌∷◌, ◌++◌, length, map, filter, flat_map, get_or, Option, Some, None, option_map, is_some, inl, ⊎_elim, refl, sym, ap, ◌∙◌, arith}
-use Rattle.std.specs.List.{AllByRecursion}
+use Rattle.std.proofs.Common.{◌≡◌, ℕ, zero, suc, ◌+◌, ◌&&◌, ◌||◌, Bool, true, false, cond, List, [], ◌∷◌, ◌++◌, length, take, drop, map, filter, flat_map, Option, Some, None, option_map, is_some, ⊎_elim, refl, sym, ap, ◌∙◌}
+use Rattle.std.specs.List.{AllByRecursion, list_any, slice_get}
 use Rattle.std.specs.FinMap.Entries.{find, where_key}
-use Rattle.std.proofs.lemmas.List.{nil_from_length}
-use Rattle.std.proofs.lemmas.Option.{slice_get-get_or}
 use Rattle.kfs_model.specs.Access.{Client}
 use Rattle.kfs_model.specs.MarkedRuns.{MarksEnd}
-use Rattle.kfs_model.specs.Blocks.{counted, touches}
 use Rattle.kfs_model.specs.Entry.{Entry}
 use Rattle.kfs_model.specs.Laws.{BothFit}
-use Rattle.kfs_model.specs.Placement.{is_payload, is_zero, is_written, blocks_of, blocks_that, written_blocks, need}
+use Rattle.kfs_model.specs.Limits.{block_size}
+use Rattle.kfs_model.specs.Placement.{is_payload, is_zero, is_written, block_count, blocks_from, blocks_of, blocks_that, written_blocks, need}
 use Rattle.kfs_model.specs.Plan.{is_base}
 use Rattle.kfs_model.specs.Run.{Mark}
 use Rattle.kfs_model.specs.Table.{Order, Table, changed_entries, empty, get, mapped, retain}
 use Rattle.kfs_model.specs.Tree.{Tree, Node, content_of}
 use Rattle.kfs_model.proofs.SameMarks.{IsOld, IsSameOrOld, runs_end}
 use Rattle.kfs_model.proofs.TableLaws.{same_table, get-mapped, get-retain}
-use Rattle.kfs_model.proofs.Touches.{Classes, file_count}
 use Rattle.kfs_model.proofs.WrittenBlocks.{all_found, all_more}
 
 -- ---- lists made of the entries of tables
@@ -93,19 +90,58 @@ no_zero (Mark.Base n p) old = refl
 no_zero Mark.Zero old = cc
 no_zero (Mark.Payload e p) old = cc
 
--- a file of old bytes is one without pieces
+-- each mark is a byte from before the log
+abbrev AreOld : List Mark → Type 0
+AreOld marks = AllByRecursion (λ mark. is_base mark ≡ true) marks
+
+old_front : (count : ℕ) (marks : List Mark) → AreOld marks → AreOld (take count marks)
+old_front zero marks old = tt
+old_front (suc count) [] old = tt
+old_front (suc count) (mark ∷ marks) old = (old.0, old_front count marks old.1)
+
+old_behind : (count : ℕ) (marks : List Mark) → AreOld marks → AreOld (drop count marks)
+old_behind zero marks old = old
+old_behind (suc count) [] old = tt
+old_behind (suc count) (mark ∷ marks) old = old_behind count marks old.1
+
+each_old : (marks : List Mark) → ((place : ℕ) (mark : Mark) → slice_get marks place ≡ Some mark → is_base mark ≡ true) → AreOld marks
+each_old [] old = tt
+each_old (mark ∷ marks) old = (old 0 mark refl, each_old marks (λ place other is. old (suc place) other is))
+
+none_passes : (test : Mark → Bool) → ((mark : Mark) → is_base mark ≡ true → test mark ≡ false) → (marks : List Mark) → AreOld marks → list_any test marks ≡ false
+none_passes test fails [] old = refl
+none_passes test fails (mark ∷ marks) old = at (test mark) (fails mark old.0) (none_passes test fails marks old.1)
+  where
+    at : (b : Bool) → b ≡ false → list_any test marks ≡ false → (b || list_any test marks) ≡ false
+    at true is rest = cc
+    at false is rest = rest
+
+not_written : (marks : List Mark) → AreOld marks → is_written marks ≡ false
+not_written marks old = at (list_any is_payload marks) (list_any is_zero marks) (none_passes is_payload no_payload marks old) (none_passes is_zero no_zero marks old)
+  where
+    at : (payload zeros : Bool) → payload ≡ false → zeros ≡ false → (payload || (zeros && list_any is_base marks)) ≡ false
+    at true zeros is also = cc
+    at false true is also = cc
+    at false false is also = refl
+
+none_chosen : (count first : ℕ) (marks : List Mark) → AreOld marks → filter (λ (block : ℕ × List Mark). is_written block.1) (blocks_from count first marks) ≡ []
+none_chosen zero first marks old = refl
+none_chosen (suc count) first marks old =
+    at (is_written (take block_size marks)) (not_written (take block_size marks) (old_front block_size marks old)) (none_chosen count (first + 1) (drop block_size marks) (old_behind block_size marks old))
+  where
+    rest : List (ℕ × List Mark)
+    rest = filter (λ (block : ℕ × List Mark). is_written block.1) (blocks_from count (first + 1) (drop block_size marks))
+
+    at : (b : Bool) → b ≡ false → rest ≡ [] → cond b ((first, take block_size marks) ∷ rest) rest ≡ []
+    at true is none = cc
+    at false is none = none
+
+-- a file of old bytes has no written block
 none_written : (t : Tree Mark) (n : ℕ) → IsOld t n → written_in n (content_of (get t.nodes n)) ≡ []
-unfolding written_in counted touches
+unfolding written_in
 none_written t n old =
     let cells = content_of (get t.nodes n) in
-    let none : Classes cells 0 0 [] = record {
-      parts = omega arith;
-      payload = λ q low below. no_payload _ (old q (get_or cells q Mark.Zero) (slice_get-get_or cells q Mark.Zero below));
-      zero = λ q low below. no_zero _ (old q (get_or cells q Mark.Zero) (slice_get-get_or cells q Mark.Zero below));
-      before = λ h. absurd (omega arith);
-      until_is = inl refl;
-    } in
-    nil_from_length (written_in n cells) (file_count n cells [] none)
+    ap (map (λ (block : ℕ × List Mark). (n, block.0))) (none_chosen (block_count (length cells)) 0 cells (each_old cells old))
 
 -- ---- of trees
 

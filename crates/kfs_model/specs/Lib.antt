@@ -19,14 +19,12 @@ pub mod LastCover
 pub mod PlanCut
 pub mod FirstAnswer
 pub mod FirstWrong
-pub mod Compare
 pub mod SeenAfter
 pub mod CleanStep
 pub mod Limits
 pub mod Looked
 pub mod MarkedRuns
 pub mod Placement
-pub mod Blocks
 pub mod Spelling
 pub mod Judgement
 pub mod Machine

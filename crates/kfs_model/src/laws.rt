@@ -5,15 +5,13 @@ ghost use Rattle.std.specs.Prelude.{◌≡◌, ℕ, List, [], Some, None, Result
 ghost use Rattle.kfs_model.specs.Tree.{Tree};
 ghost use Rattle.kfs_model.specs.Entry.{Log};
 ghost use Rattle.kfs_model.specs.Run.{Mark, marks_after, run, over_bytes, over_marks};
-ghost use Rattle.kfs_model.specs.PlanRow.{Piece, Plan};
-ghost use Rattle.kfs_model.specs.Plan.{ArePieces, IsRight, OldBytesStay};
-ghost use Rattle.kfs_model.specs.Compare.{first_apart};
+ghost use Rattle.kfs_model.specs.PlanRow.{Plan};
+ghost use Rattle.kfs_model.specs.Plan.{IsRight, OldBytesStay};
 ghost use Rattle.kfs_model.specs.PlanCut.{SaySame, IsCutAnew};
-ghost use Rattle.kfs_model.specs.FirstWrong.{first_wrong_piece, first_wrong_row};
+ghost use Rattle.kfs_model.specs.FirstWrong.{first_wrong_row};
 ghost use Rattle.kfs_model.specs.Judgement.{State};
 ghost use Rattle.kfs_model.specs.Machine.{OneByOne, Row, IsRead, next, after};
 ghost use Rattle.kfs_model.specs.Placement.{TierSizes, need};
-ghost use Rattle.kfs_model.specs.Blocks.{counted_files};
 ghost use Rattle.kfs_model.specs.Lease.{KeepsCompatible, dropped, ticked};
 ghost use Rattle.kfs_model.specs.Means.{Means};
 ghost use Rattle.kfs_model.specs.Order.{IsInOrder};
@@ -63,18 +61,6 @@ pub fn right_plan_has_no_wrong_row()
 pub fn right_plans_differ_in_their_cut()
     ensures same { (before : Tree ℕ) (after : Tree Mark) (plan other : Plan) → IsRight before after plan → IsRight before after other → SaySame plan other }
     ensures cut_anew { (before : Tree ℕ) (after : Tree Mark) (plan other : Plan) → IsRight before after plan → IsCutAnew plan other → IsRight before after other }
-{}
-
-/// The first wrong piece is found by comparing the plan's pieces with any right pieces, however those
-/// are cut.
-pub fn pieces_are_followed()
-    ensures { (after : Tree Mark) (right pieces : List Piece) → ArePieces after right → first_wrong_piece after pieces ≡ first_apart 0 pieces right }
-{}
-
-/// The room that a landing takes can be counted over right pieces, file by file, however they are cut.
-/// No byte is looked at.
-pub fn need_is_counted_over_pieces()
-    ensures { (after : Tree Mark) (right : List Piece) → ArePieces after right → need after ≡ counted_files right after.nodes.entries }
 {}
 
 /// Where a run has no fault, its tree results from the entries in turn, each one allowed at its point

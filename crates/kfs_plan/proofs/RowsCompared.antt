@@ -7,11 +7,11 @@ use Rattle.std.proofs.Common.{ap, sym, ◌∙◌, arith, inl, inr}
 use Rattle.std.proofs.lemmas.Bool.{eq-eqb, ne_eqb, cases_eq}
 use Rattle.std.proofs.lemmas.Iterator.Adapters.{position_from-zero}
 use Rattle.kfs_model.specs.FirstWrong.{Names, Nodes, Pieces, same_kind, same_header, same_headers, same_place, same_pair, first_difference, first_wrong_piece, or_else}
-use Rattle.kfs_model.specs.Compare.{first_apart}
+use Rattle.kfs_plan_sweep.specs.PiecesApart.{first_apart}
 use Rattle.kfs_model.specs.Plan.{ArePieces}
 use Rattle.kfs_model.specs.Run.{Mark}
 use Rattle.kfs_model.specs.Tree.{Tree}
-use Rattle.kfs_model.proofs.Compare.{first_wrong_is_apart}
+use Rattle.kfs_plan_sweep.proofs.PiecesApart.{first_wrong_is_apart}
 use Rattle.kfs_entry_value.specs.Views.{header_of, kind_of, piece_of}
 use Rattle.kfs_entry_value.specs.declared.header.Kind.{Kind as CodeKind}
 use Rattle.kfs_entry_value.specs.declared.header.Kind.TheVariants as kinds

@@ -5,7 +5,7 @@ use Rattle.std.proofs.Math.Bool.{or-false}
 use Rattle.std.proofs.lemmas.Bool.{and_from, and_parts, both_ways, eq-eqb, leb-true, leb-false, le-leb, lt-ltb, ltb-true, or_cases, or_left, or_right, true_from_ne_false}
 use Rattle.std.proofs.lemmas.List.{get_or-take, get_or-drop, length-take}
 use Rattle.std.proofs.lemmas.List.Folds.{list_all_at, list_any-append}
-use Rattle.kfs_model.specs.Blocks.{goes_on, is_zero_source, of_file}
+use Rattle.kfs_plan_sweep.specs.TouchedBlocks.{goes_on, is_zero_source, of_file}
 use Rattle.kfs_model.specs.LastCover.{file_size}
 use Rattle.kfs_model.specs.Placement.{is_cleared, is_zero, block_count, blocks_that, cleared_blocks, numbers_from}
 use Rattle.kfs_model.specs.Plan.{ArePieces, end_of}
@@ -13,12 +13,12 @@ use Rattle.kfs_model.specs.PlanRow.{Piece}
 use Rattle.kfs_model.specs.Run.{Mark, Zero}
 use Rattle.kfs_model.specs.Table.{numbers, get}
 use Rattle.kfs_model.specs.Tree.{Tree, Node, content_of}
-use Rattle.kfs_model.proofs.Blocks.{block_at}
-use Rattle.kfs_model.proofs.Need.{classes}
+use Rattle.kfs_plan_sweep.proofs.BlockCounts.{block_at}
+use Rattle.kfs_plan_sweep.proofs.NeedCounted.{classes}
 use Rattle.kfs_model.proofs.Pieces.{list_any-filter}
 use Rattle.kfs_model.proofs.Tables.{any_from_found, found_from_any}
 use Rattle.kfs_model.proofs.Tape.{below_or_not}
-use Rattle.kfs_model.proofs.Touches.{Classes, behind_part_classes, stops_at, zero_before, zero_in}
+use Rattle.kfs_plan_sweep.proofs.TouchedBlocks.{Classes, behind_part_classes, stops_at, zero_before, zero_in}
 use Rattle.kfs_plan_sweep.specs.BlockLists.{blocks_between, cleared_from, cleared_runs, is_in_range, whole_until, zeros_start}
 use Rattle.kfs_plan_sweep.specs.declared.block_lists.BlockRange.{BlockRange}
 use Rattle.kfs_plan_sweep.proofs.WrittenLists.{blocks_by_number}

@@ -7,7 +7,7 @@ use Rattle.kfs_model.specs.Plan.{end_of}
 use Rattle.kfs_plan_sweep.specs.PieceBlocks.{piece_blocks, zeros_until}
 use Rattle.std.proofs.lemmas.List.{drop_all}
 use Rattle.kfs_plan_sweep.proofs.Lists.{drop_next}
-use Rattle.kfs_model.specs.Blocks.{BlockInterval, counted, goes_on, touches}
+use Rattle.kfs_plan_sweep.specs.TouchedBlocks.{BlockInterval, counted, goes_on, touches}
 
 counted_next : (next : ℕ) (r : BlockInterval) (rs : List BlockInterval) → counted next (r ∷ rs) ≡ (r.last + 1 - max r.first next) + counted (max next (r.last + 1)) rs
 unfolding counted

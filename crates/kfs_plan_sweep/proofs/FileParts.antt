@@ -7,7 +7,7 @@ use Rattle.std.proofs.lemmas.Bool.{eq-eqb, ne_eqb, eqb-false, both_ways}
 use Rattle.std.proofs.lemmas.List.{append-nil, map-append, take-append-drop}
 use Rattle.std.proofs.lemmas.List.Elements.{filter-append}
 use Rattle.kfs_plan_sweep.proofs.Lists.{all_at, all_drop}
-use Rattle.kfs_model.specs.Blocks.{counted, touches, of_file, node_blocks, counted_files}
+use Rattle.kfs_plan_sweep.specs.TouchedBlocks.{counted, touches, of_file, node_blocks, counted_files}
 use Rattle.kfs_model.specs.LastCover.{file_size}
 use Rattle.kfs_model.specs.Placement.{need}
 use Rattle.kfs_model.specs.Plan.{mark_of_source, ArePieces, IsTrueOf}
@@ -16,7 +16,7 @@ use Rattle.kfs_model.specs.Run.{Mark}
 use Rattle.kfs_model.specs.Table.{numbers, get}
 use Rattle.kfs_model.specs.Tree.{Tree, Node, content_of}
 use Rattle.kfs_model.proofs.NameTable.{ties_decide}
-use Rattle.kfs_model.proofs.Need.{need_is_counted}
+use Rattle.kfs_plan_sweep.proofs.NeedCounted.{need_is_counted}
 use Rattle.kfs_model.proofs.Tables.{find_below, left_part, right_part}
 use Rattle.kfs_entry_value.specs.Views.{piece_of}
 use Rattle.kfs_entry_value.specs.declared.plan.Piece.{Piece as CodePiece}

@@ -4,7 +4,7 @@ use Rattle.std.proofs.lemmas.Bool.{eq-eqb, ne_eqb, lt-ltb, le-ltb}
 use Rattle.std.proofs.lemmas.List.{drop_all}
 use Rattle.kfs_plan_sweep.proofs.Lists.{drop_next}
 use Rattle.kfs_model.specs.PlanRow.{Piece}
-use Rattle.kfs_model.specs.Compare.{begins_alike, behind_piece, first_apart, without_front}
+use Rattle.kfs_plan_sweep.specs.PiecesApart.{begins_alike, behind_piece, first_apart, without_front}
 use Rattle.kfs_entry_value.specs.declared.plan.Piece.{Piece as CodePiece}
 use Rattle.kfs_entry_value.specs.Views.{piece_of}
 use Rattle.kfs_plan_sweep.specs.declared.compare.Left.{Left}

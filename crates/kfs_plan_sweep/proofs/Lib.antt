@@ -16,3 +16,8 @@ pub mod ClearedRuns
 pub mod FileParts
 pub mod Listed
 pub mod SizesBetween
+pub mod BlockCounts
+pub mod NeedCounted
+pub mod PiecesApart
+pub mod PiecesFollowed
+pub mod TouchedBlocks

@@ -3,7 +3,7 @@ use Rattle.std.proofs.Common.{◌≡◌, ℕ, suc, ◌+◌, ◌-◌, ◌<◌, �
 use Rattle.std.proofs.lemmas.List.{append-nil, drop_all}
 use Rattle.kfs_entry_value.specs.Views.{piece_of}
 use Rattle.kfs_entry_value.specs.declared.plan.Piece.{Piece as CodePiece}
-use Rattle.kfs_model.specs.Blocks.{BlockInterval, goes_on, touches}
+use Rattle.kfs_plan_sweep.specs.TouchedBlocks.{BlockInterval, goes_on, touches}
 use Rattle.kfs_model.specs.Placement.{numbers_from}
 use Rattle.kfs_model.specs.Plan.{end_of}
 use Rattle.kfs_model.specs.PlanRow.{Piece}

@@ -4,7 +4,7 @@ use Rattle.std.specs.List.{list_any, AllByRecursion}
 use Rattle.std.proofs.lemmas.Bool.{or_left, or_right}
 use Rattle.std.proofs.lemmas.Bool.Decides.{nat_tests}
 use Rattle.std.proofs.lemmas.List.{drop_all, length-map}
-use Rattle.kfs_model.specs.Blocks.{BlockInterval, counted, of_file, touches}
+use Rattle.kfs_plan_sweep.specs.TouchedBlocks.{BlockInterval, counted, of_file, touches}
 use Rattle.kfs_model.specs.Limits.{block_size}
 use Rattle.kfs_model.specs.Placement.{is_written, block_count, blocks_from, blocks_of, blocks_that, numbers_from, written_blocks}
 use Rattle.kfs_model.specs.Plan.{ArePieces}
@@ -12,10 +12,10 @@ use Rattle.kfs_model.specs.PlanRow.{Piece}
 use Rattle.kfs_model.specs.Run.{Mark}
 use Rattle.kfs_model.specs.Table.{numbers, get}
 use Rattle.kfs_model.specs.Tree.{Tree, Node, content_of}
-use Rattle.kfs_model.proofs.Blocks.{has_block, block_at, numbered, passes}
-use Rattle.kfs_model.proofs.Need.{classes}
+use Rattle.kfs_plan_sweep.proofs.BlockCounts.{has_block, block_at, numbered, passes}
+use Rattle.kfs_plan_sweep.proofs.NeedCounted.{classes}
 use Rattle.kfs_model.proofs.Tape.{below_or_not}
-use Rattle.kfs_model.proofs.Touches.{Classes, before_or_same, exact, file_count}
+use Rattle.kfs_plan_sweep.proofs.TouchedBlocks.{Classes, before_or_same, exact, file_count}
 use Rattle.kfs_model.proofs.WrittenBlocks.{all_found}
 use Rattle.kfs_plan_sweep.specs.BlockLists.{listed, node_written}
 

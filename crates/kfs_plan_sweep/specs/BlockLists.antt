@@ -2,7 +2,7 @@
 -- all zero.
 use Rattle.std.specs.Prelude.{◌≡◌, ℕ, ◌+◌, ◌-◌, ◌/◌, ◌<◌, ◌++◌, ◌==◌, ◌&&◌, max, nat_le, nat_lt, Bool, List, [], ◌∷◌, length, map, Some, if◌then◌else◌}
 use Rattle.std.specs.List.{list_any}
-use Rattle.kfs_model.specs.Blocks.{BlockInterval, goes_on, is_zero_source, of_file, touches}
+use Rattle.kfs_plan_sweep.specs.TouchedBlocks.{BlockInterval, goes_on, is_zero_source, of_file, touches}
 use Rattle.kfs_model.specs.LastCover.{file_size}
 use Rattle.kfs_model.specs.Limits.{block_size}
 use Rattle.kfs_model.specs.Placement.{block_count, cleared_blocks, numbers_from}

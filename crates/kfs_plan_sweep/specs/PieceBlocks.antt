@@ -3,7 +3,7 @@ use Rattle.std.specs.Prelude.{◌≡◌, ℕ, ◌+◌, ◌-◌, ◌/◌, ◌%◌
 use Rattle.kfs_model.specs.Limits.{block_size}
 use Rattle.kfs_model.specs.PlanRow.{Piece, Source}
 use Rattle.kfs_model.specs.Plan.{end_of}
-use Rattle.kfs_model.specs.Blocks.{BlockInterval, block_of, counted}
+use Rattle.kfs_plan_sweep.specs.TouchedBlocks.{BlockInterval, block_of, counted}
 use Rattle.kfs_plan_sweep.specs.declared.blocks.Count.{Count}
 use Rattle.kfs_plan_sweep.specs.declared.touched.Touched.{Touched}
 

@@ -2,7 +2,7 @@
 //! make all zero.
 ghost use Rattle.std.specs.Prelude.{◌≡◌, ◌+◌, ◌++◌, ◌≤◌, ◌^◌, IfOk, map};
 ghost use Rattle.std.specs.List.{AllByRecursion};
-ghost use Rattle.kfs_model.specs.Blocks.{touches};
+ghost use Rattle.kfs_plan_sweep.specs.TouchedBlocks.{touches};
 ghost use Rattle.kfs_model.specs.Limits.{size_limit};
 ghost use Rattle.kfs_model.specs.Placement.{block_count};
 ghost use Rattle.kfs_entry_value.specs.Views.{piece_of};

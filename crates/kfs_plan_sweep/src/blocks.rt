@@ -2,7 +2,7 @@
 ghost use Rattle.std.specs.Prelude.{◌≡◌, ◌+◌, ◌<◌, ◌≤◌, ◌^◌, ◌++◌, [], ◌∷◌, drop, map, if◌then◌else◌};
 ghost use Rattle.std.specs.List.{AllByRecursion};
 ghost use Rattle.kfs_entry_value.specs.Views.{piece_of};
-ghost use Rattle.kfs_model.specs.Blocks.{block_of, counted, goes_on, touches};
+ghost use Rattle.kfs_plan_sweep.specs.TouchedBlocks.{block_of, counted, goes_on, touches};
 ghost use Rattle.kfs_model.specs.Limits.{size_limit};
 ghost use Rattle.kfs_plan_sweep.specs.Lefts.{IsFilled, PieceIsInRange};
 ghost use Rattle.kfs_plan_sweep.specs.PieceBlocks.{HasCounted, blocks_in, piece_blocks, zeros_until};

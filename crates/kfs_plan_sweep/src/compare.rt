@@ -3,7 +3,7 @@ ghost use Rattle.std.specs.Prelude.{◌≡◌, ◌+◌, ◌<◌, ◌≤◌, ◌^
 ghost use Rattle.std.specs.Option.{option_map};
 ghost use Rattle.std.specs.List.{AllByRecursion};
 ghost use Rattle.kfs_entry_value.specs.Views.{piece_of};
-ghost use Rattle.kfs_model.specs.Compare.{begins_alike, behind_piece, first_apart, without_front};
+ghost use Rattle.kfs_plan_sweep.specs.PiecesApart.{begins_alike, behind_piece, first_apart, without_front};
 ghost use Rattle.kfs_plan_sweep.specs.Lefts.{FrontIsInRange, PieceIsInRange, left_of, pieces_left};
 
 use kfs_entry_value::{Piece, Source};

@@ -2,7 +2,7 @@ use Rattle.std.proofs.Common.{◌≡◌, ℕ, ◌<◌, ◌≤◌, ◌++◌, fals
 use Rattle.std.specs.Prelude.{is_some}
 use Rattle.std.specs.List.{AllByRecursion}
 use Rattle.std.proofs.lemmas.Bool.{ltb-true, ltb-false}
-use Rattle.kfs_model.specs.Blocks.{touches}
+use Rattle.kfs_plan_sweep.specs.TouchedBlocks.{touches}
 use Rattle.kfs_entry_value.specs.Views.{piece_of}
 use Rattle.kfs_plan_sweep.specs.BlockLists.{cleared_runs, listed}
 use Rattle.kfs_plan_sweep.specs.Lefts.{IsFilled, PieceIsInRange}

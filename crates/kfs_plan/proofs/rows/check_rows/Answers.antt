@@ -1,6 +1,6 @@
 -- Names before nodes before pieces: the first search that finds a row tells it.
 use Rattle.std.proofs.Common.{map, Some, None, Ok, Err, sym, ap, subst, ◌∙◌}
-use Rattle.kfs_model.specs.Compare.{first_apart}
+use Rattle.kfs_plan_sweep.specs.PiecesApart.{first_apart}
 use Rattle.kfs_model.specs.Run.{run, over_marks, marked}
 use Rattle.kfs_model.specs.Placement.{need}
 use Rattle.kfs_model.proofs.Ends.{each_end}

@@ -2,7 +2,7 @@ use Rattle.std.proofs.Common.{◌+◌, ◌++◌, sym, ap, ◌∙◌, map, drop, 
 use Rattle.kfs_entry_value.specs.declared.plan.Piece.{Piece}
 use Rattle.kfs_entry_value.specs.declared.plan.Source.TheVariants as sources
 use Rattle.kfs_entry_value.specs.Views.{piece_of}
-use Rattle.kfs_model.specs.Blocks.{touches}
+use Rattle.kfs_plan_sweep.specs.TouchedBlocks.{touches}
 use Rattle.kfs_plan_sweep.specs.BlockLists.{listed}
 use Rattle.kfs_plan_sweep.specs.PieceBlocks.{blocks_in, piece_blocks, zeros_until}
 use Rattle.kfs_plan_sweep.proofs.Counting.{touches_row}

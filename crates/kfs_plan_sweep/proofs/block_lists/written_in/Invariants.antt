@@ -1,6 +1,6 @@
 use Rattle.std.proofs.Common.{◌≡◌, ◌++◌, ◌+◌, ◌≤◌, ◌^◌, map, drop}
 use Rattle.kfs_entry_value.specs.Views.{piece_of}
-use Rattle.kfs_model.specs.Blocks.{touches}
+use Rattle.kfs_plan_sweep.specs.TouchedBlocks.{touches}
 use Rattle.kfs_plan_sweep.specs.BlockLists.{listed}
 use Rattle.kfs_plan_sweep.proofs.block_lists.written_in.Given as goal
 

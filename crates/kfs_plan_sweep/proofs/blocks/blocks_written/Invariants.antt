@@ -1,6 +1,6 @@
 use Rattle.std.proofs.Common.{◌≡◌, ◌+◌, ◌≤◌, ◌^◌, map, drop}
 use Rattle.kfs_entry_value.specs.Views.{piece_of}
-use Rattle.kfs_model.specs.Blocks.{counted, touches}
+use Rattle.kfs_plan_sweep.specs.TouchedBlocks.{counted, touches}
 use Rattle.kfs_plan_sweep.proofs.blocks.blocks_written.Given as goal
 
 abbrev pub invariant-loop-index : goal.invariant-loop-index

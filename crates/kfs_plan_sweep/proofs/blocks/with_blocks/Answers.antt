@@ -1,5 +1,5 @@
 use Rattle.std.proofs.Common.{◌≡◌, ◌<◌, ◌≤◌, max, arith, ◌+◌, ◌-◌, ◌++◌, sym, ap, ◌∙◌}
-use Rattle.kfs_model.specs.Blocks.{counted}
+use Rattle.kfs_plan_sweep.specs.TouchedBlocks.{counted}
 use Rattle.kfs_plan_sweep.specs.PieceBlocks.{blocks_in}
 use Rattle.kfs_plan_sweep.proofs.Counting.{none_new, some_new}
 use Rattle.kfs_plan_sweep.proofs.blocks.with_blocks.Goals as goal

@@ -1,7 +1,7 @@
 use Rattle.std.proofs.Common.{◌≡◌, map, drop}
 use Rattle.std.specs.List.{AllByRecursion}
 use Rattle.kfs_entry_value.specs.Views.{piece_of}
-use Rattle.kfs_model.specs.Compare.{first_apart}
+use Rattle.kfs_plan_sweep.specs.PiecesApart.{first_apart}
 use Rattle.kfs_plan_sweep.specs.Lefts.{PieceIsInRange, left_of}
 use Rattle.kfs_plan_sweep.proofs.compare.first_piece_apart.Given as goal
 

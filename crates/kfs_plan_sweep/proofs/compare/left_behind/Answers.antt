@@ -2,7 +2,7 @@ use Rattle.std.proofs.Common.{subst, sym, ap, ◌∙◌, drop, map, Some, ◌∷
 use Rattle.std.specs.List.{AllByRecursion}
 use Rattle.kfs_plan_sweep.specs.Lefts.{PieceIsInRange}
 use Rattle.kfs_entry_value.specs.Views.{piece_of}
-use Rattle.kfs_model.specs.Compare.{behind_piece}
+use Rattle.kfs_plan_sweep.specs.PiecesApart.{behind_piece}
 use Rattle.kfs_plan_sweep.proofs.Following.{left_some, left_none, behind_other, behind_shorter, behind_equal, behind_longer, behind_nothing}
 use Rattle.kfs_plan_sweep.proofs.compare.left_behind.Goals as goal
 

@@ -1,7 +1,7 @@
 use Rattle.std.proofs.Common.{◌≡◌, map, length}
 use Rattle.std.specs.List.{AllByRecursion}
 use Rattle.kfs_entry_value.specs.Views.{piece_of}
-use Rattle.kfs_model.specs.Compare.{behind_piece}
+use Rattle.kfs_plan_sweep.specs.PiecesApart.{behind_piece}
 use Rattle.kfs_plan_sweep.specs.Lefts.{PieceIsInRange, left_of}
 use Rattle.kfs_plan_sweep.proofs.compare.left_behind.Given as goal
 

@@ -9,9 +9,9 @@ use Rattle.kfs_model.specs.Run.{Mark, Zero}
 use Rattle.kfs_model.specs.PlanRow.{Piece, Source}
 use Rattle.kfs_model.specs.Plan.{end_of}
 use Rattle.kfs_model.specs.Placement.{is_zero, is_payload, is_written, block_count, blocks_of}
-use Rattle.kfs_model.specs.Blocks.{BlockInterval, counted, is_zero_source, goes_on, block_of, touches}
+use Rattle.kfs_plan_sweep.specs.TouchedBlocks.{BlockInterval, counted, is_zero_source, goes_on, block_of, touches}
 use Rattle.kfs_model.proofs.Tape.{below_or_not}
-use Rattle.kfs_model.proofs.Blocks.{differ, has_block, InOrder, TurnsAt, block_at, numbered, passes, file_needs, touched_is_written, written_is_touched}
+use Rattle.kfs_plan_sweep.proofs.BlockCounts.{differ, has_block, InOrder, TurnsAt, block_at, numbered, passes, file_needs, touched_is_written, written_is_touched}
 
 -- ---- the pieces of one file
 

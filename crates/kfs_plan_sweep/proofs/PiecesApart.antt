@@ -11,14 +11,14 @@ use Rattle.kfs_model.specs.PlanRow.{Piece}
 use Rattle.kfs_model.specs.Plan.{mark_at, mark_of_source, is_base, end_of, covers, ComesBy, PiecesAscend, IsTrueOf, ArePieces}
 use Rattle.kfs_model.specs.PlanCut.{mark_in_pieces}
 use Rattle.kfs_model.specs.FirstWrong.{begins_early, is_missed, is_wrong, lies_before, changed_bytes, missed_by, wrong_below, first_wrong_piece}
-use Rattle.kfs_model.specs.Compare.{behind_piece, first_apart}
+use Rattle.kfs_plan_sweep.specs.PiecesApart.{behind_piece, first_apart}
 use Rattle.kfs_model.proofs.ChangedBytes.{IsChanged, none_changed, none_from_changed}
 use Rattle.kfs_model.proofs.Cut.{changed_mark, changed_mark-said, is_changed, stays_changed, said_of_pieces}
 use Rattle.kfs_model.specs.Check.{is_some_and}
 use Rattle.kfs_model.specs.FirstAnswer.{first_answer}
 use Rattle.kfs_model.proofs.FirstAnswer.{first_is, none_more}
 use Rattle.kfs_model.proofs.Pieces.{HasMark, IsWell, well_parts, well_from, all_along, along_all, list_any-filter, early_parts, early_from, before_parts, last_is, none_from_false, none_from_covered}
-use Rattle.kfs_model.proofs.Follow.{IsBefore, AreFrom, Follows, either_side, none_said, first_said, follows, differs}
+use Rattle.kfs_plan_sweep.proofs.PiecesFollowed.{IsBefore, AreFrom, Follows, either_side, none_said, first_said, follows, differs}
 
 -- ---- over plain numbers
 

@@ -9,12 +9,12 @@ use Rattle.kfs_model.specs.PlanRow.{Piece, Source}
 use Rattle.kfs_model.specs.Plan.{mark_at, mark_of_source, end_of, ComesBy, IsTrueOf, ArePieces}
 use Rattle.kfs_model.specs.PlanCut.{mark_in_pieces}
 use Rattle.kfs_model.specs.Placement.{is_zero, is_payload, is_written, blocks_that, written_blocks, need}
-use Rattle.kfs_model.specs.Blocks.{is_zero_source, of_file, counted_files}
+use Rattle.kfs_plan_sweep.specs.TouchedBlocks.{is_zero_source, of_file, counted_files}
 use Rattle.kfs_model.proofs.WrittenBlocks.{all_found}
 use Rattle.kfs_model.proofs.Cut.{changed_mark, said_of_pieces}
-use Rattle.kfs_model.proofs.Follow.{AreFrom, comes_then}
-use Rattle.kfs_model.proofs.Compare.{all_from}
-use Rattle.kfs_model.proofs.Touches.{part_at, is_zero_part, is_payload_part, AreParts, Classes, file_count}
+use Rattle.kfs_plan_sweep.proofs.PiecesFollowed.{AreFrom, comes_then}
+use Rattle.kfs_plan_sweep.proofs.PiecesApart.{all_from}
+use Rattle.kfs_plan_sweep.proofs.TouchedBlocks.{part_at, is_zero_part, is_payload_part, AreParts, Classes, file_count}
 
 -- ---- the pieces of one file
 

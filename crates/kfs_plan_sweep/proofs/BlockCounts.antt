@@ -9,7 +9,7 @@ use Rattle.kfs_model.specs.Run.{Mark, Base, Zero, Payload}
 use Rattle.kfs_model.specs.Plan.{is_base}
 use Rattle.kfs_model.specs.Limits.{block_size}
 use Rattle.kfs_model.specs.Placement.{is_zero, is_payload, is_written, block_count, blocks_from, blocks_of}
-use Rattle.kfs_model.specs.Blocks.{BlockInterval, counted}
+use Rattle.kfs_plan_sweep.specs.TouchedBlocks.{BlockInterval, counted}
 use Rattle.kfs_model.proofs.Tape.{below_or_not}
 
 -- ---- turns, and ranges of blocks
