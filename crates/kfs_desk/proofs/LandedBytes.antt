@@ -156,11 +156,13 @@ module _ (desk : Parts) (is_desk : IsDesk desk) (lawful : IsLawful desk.image) (
 
     pub done_filled : IsDone s submission state_filled
     done_filled = record {
-      client = yes.client;
-      row = yes.row;
-      log = log_of submission.log log;
-      spelled = yes.spelled.log_read;
-      one_by_one = subst (OneByOne yes.client sight_before 0 [] s.tree entries) (sym tree_is) yes.comes.allowed;
+      done = record {
+        client = yes.client;
+        row = yes.row;
+        log = log_of submission.log log;
+        spelled = yes.spelled.log_read;
+        holds = subst (OneByOne yes.client sight_before 0 [] s.tree entries) (sym tree_is) yes.comes.allowed;
+      };
       sound = subst IsSound (sym tree_is) yes.comes.sound;
     }
 

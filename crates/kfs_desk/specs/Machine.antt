@@ -1,15 +1,14 @@
 -- The desk as a state of the machine, and its calls as rows that fit it.
 use Rattle.std.specs.Prelude.{◌≡◌, ◌≢◌, ◌↔◌, ℕ, ◌≤◌, Bool, false, List, [], ◌∷◌, ◌++◌, length, take, Option, Some, option_map, Result, Ok, Err, IfOk, IsErrOf, OnErr}
 use Rattle.kfs_model.specs.Access.{Client}
-use Rattle.kfs_model.specs.Entry.{Log}
 use Rattle.kfs_model.specs.Lease.{Leases, row_of}
 use Rattle.kfs_model.specs.Lease as leases
 use Rattle.kfs_model.specs.Sight.{Sight, sight}
 use Rattle.kfs_model.specs.Soundness.{IsSound}
-use Rattle.kfs_model.specs.Spelling.{LogAnswer}
 use Rattle.kfs_model.specs.Judgement.{State, Submission, Reading, IsReadAs, Reply, Accepted, NoRoom, Refused, client_sight_of}
-use Rattle.kfs_model.specs.Machine.{Call, Submit, Lease, Drop, Tick, CallAnswer, Replied, OneByOne, Row, after, next}
+use Rattle.kfs_model.specs.Machine.{Call, Submit, Lease, Drop, Tick, CallAnswer, Replied, Row, after, next}
 use Rattle.kfs_model.specs.Machine as machine
+use Rattle.kfs_model.specs.Means.{HasEntriesDone}
 use Rattle.kfs_model.specs.Order.{IsInOrder}
 use Rattle.kfs_desk_docket.specs.Legal.{IsLegalDocket}
 use Rattle.kfs_lease.specs.Faults.{fault_of}
@@ -122,11 +121,7 @@ pub record IsStep (s : State) (submission : Submission) (answer : CodeReply) (ro
 
 -- the new tree results from the log's entries in turn, each one allowed, and is sound
 pub record IsDone (s : State) (submission : Submission) (t : State) : Type 0 where
-  pub client : Client
-  pub row : row_of s.clients submission.client ≡ Some client
-  pub log : Log
-  pub spelled : LogAnswer submission.log (Ok log)
-  pub one_by_one : OneByOne client (client_sight_of s client.number) 0 [] s.tree log.entries t.tree
+  pub done : HasEntriesDone s submission t
   pub sound : IsSound t.tree
 
 -- a Yes has applied the log's entries; any other answer leaves the state as it was
@@ -201,7 +196,7 @@ IsTold words (Err fault) (Err refusal) = fault_of fault ≡ Some refusal
 
 abbrev pub row_answer : Result ℕ leases.LeaseFault → CallAnswer
 row_answer (Ok number) = machine.Done number
-row_answer (Err fault) = machine.NotDone fault
+row_answer (Err fault) = machine.NotDone (machine.LeaseRefused fault)
 
 -- the answer, and the leases after it, are this outcome
 pub record IsChange (outcome : leases.LeaseOutcome) (words : ℕ → Done) (answer : Result Done LeaseFault) (new : Leases) : Type 0 where

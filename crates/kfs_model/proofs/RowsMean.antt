@@ -52,7 +52,7 @@ module _ (s : State) (submission : Submission) (reading : Reading) (read : IsRea
         row = yes.row;
         log = yes.read;
         spelled = subst (LogAnswer submission.log) yes.log_is read.log;
-        one_by_one = subst (OneByOne yes.client (client_sight_of s yes.client.number) 0 [] s.tree yes.read.entries) (sym at)
+        holds = subst (OneByOne yes.client (client_sight_of s yes.client.number) 0 [] s.tree yes.read.entries) (sym at)
             (run_is_one_by_one yes.client (client_sight_of s yes.client.number) 0 [] s.tree yes.read.entries after yes.ran);
       }
 

@@ -140,8 +140,17 @@ IsRead row = IsReadCall row.call
 
 -- ---- what a Yes means
 
--- the tree results from the entries in turn, each one allowed at its point of the log
+-- the entries in turn lead from the one tree to the other
+abbrev pub Gives : Client → (index : ℕ) → Tree ℕ → List Entry → Tree ℕ → Type 0
+Gives client index t [] after = after ≡ t
+Gives client index t (entry ∷ entries) after = Gives client (index + 1) (effect over_bytes client index entry t) entries after
+
+-- each entry is allowed at its own point of the log
+abbrev pub AreAllowed : Client → (before : ClientSight) → (index : ℕ) → (created : List ℕ) → Tree ℕ → List Entry → Type 0
+AreAllowed client before index created t [] = Unit {0}
+AreAllowed client before index created t (entry ∷ entries) =
+    IsAllowed (entry_context client before (sight t) created) entry × AreAllowed client before (index + 1) (created_by entry created) (effect over_bytes client index entry t) entries
+
+-- the tree results from the entries in turn, each one allowed
 abbrev pub OneByOne : Client → (before : ClientSight) → (index : ℕ) → (created : List ℕ) → Tree ℕ → List Entry → Tree ℕ → Type 0
-OneByOne client before index created t [] after = after ≡ t
-OneByOne client before index created t (entry ∷ entries) after =
-    IsAllowed (entry_context client before (sight t) created) entry × OneByOne client before (index + 1) (created_by entry created) (effect over_bytes client index entry t) entries after
+OneByOne client before index created t entries after = AreAllowed client before index created t entries × Gives client index t entries after

@@ -1,20 +1,23 @@
 -- What a row of the docket means for the state.
-use Rattle.std.specs.Prelude.{◌≡◌, [], Some, Ok}
+use Rattle.std.specs.Prelude.{◌≡◌, List, [], Some, Ok}
 use Rattle.kfs_model.specs.Access.{Client}
-use Rattle.kfs_model.specs.Entry.{Log}
+use Rattle.kfs_model.specs.Entry.{Entry, Log}
 use Rattle.kfs_model.specs.Judgement.{State, Submission, Reply, Accepted, NoRoom, Refused, client_sight_of}
 use Rattle.kfs_model.specs.Lease.{Leases, row_of}
 use Rattle.kfs_model.specs.Machine.{Call, Submit, Lease, Drop, Tick, CallAnswer, Replied, Done, NotDone, OneByOne, Row}
 use Rattle.kfs_model.specs.Spelling.{LogAnswer}
 
--- the submission spells a log, and the tree results from its entries in turn, each one allowed to the
--- log's client
-pub record HasEntriesDone (s : State) (submission : Submission) (t : State) : Type 0 where
+-- the submission spells a log of a known client, and P holds of that client and of the log's entries
+pub record OfItsLog (s : State) (submission : Submission) (P : Client → List Entry → Type 0) : Type 0 where
   pub client : Client
   pub row : row_of s.clients submission.client ≡ Some client
   pub log : Log
   pub spelled : LogAnswer submission.log (Ok log)
-  pub one_by_one : OneByOne client (client_sight_of s client.number) 0 [] s.tree log.entries t.tree
+  pub holds : P client log.entries
+
+-- the tree results from the log's entries in turn, each one allowed to the client
+abbrev pub HasEntriesDone : (s : State) → Submission → (t : State) → Type 0
+HasEntriesDone s submission t = OfItsLog s submission (λ client entries. OneByOne client (client_sight_of s client.number) 0 [] s.tree entries t.tree)
 
 -- the two states differ in their leases at most
 abbrev pub DiffersInLeases : (s t : State) → Type 0

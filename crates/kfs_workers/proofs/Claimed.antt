@@ -2,35 +2,19 @@
 use Rattle.std.proofs.Common.{◌≡◌, ℕ, ◌+◌, ◌<◌, List, [], ◌∷◌, length, take, get_or, ◌⊎◌, inl, inr, Option, Some, None, is_some, true, false, refl, sym, ap, subst, ◌∙◌}
 use Rattle.std.specs.List.{slice_get}
 use Rattle.std.proofs.lemmas.Option.{slice_get_within}
-use Rattle.kfs_model.specs.Access.{Client}
-use Rattle.kfs_model.specs.Effect.{effect}
-use Rattle.kfs_model.specs.Entry.{Entry}
-use Rattle.kfs_model.specs.Judgement.{State, Submission, client_sight_of}
-use Rattle.kfs_model.specs.Machine.{OneByOne, after}
-use Rattle.kfs_model.specs.Run.{created_by, over_bytes}
-use Rattle.kfs_model.specs.Sight.{ClientSight}
-use Rattle.kfs_model.specs.Tree.{Tree}
+use Rattle.kfs_model.specs.Judgement.{State, Submission}
+use Rattle.kfs_model.specs.Machine.{after}
 use Rattle.kfs_desk_docket.specs.Legal.{IsLegalDocket}
 use Rattle.kfs_plan.specs.declared.answers.Reply.{Reply}
 use Rattle.kfs_plan.specs.declared.answers.Reply.TheVariants as answers
 use Rattle.kfs_desk.specs.Docket.{position_of}
 use Rattle.kfs_desk.specs.Machine.{AreShown, Desk, AnswerMeans}
-use Rattle.kfs_workers.specs.Claims.{AreAllowed, AreSettled, AtReply, EachReply, ElseChangesNothing, Gives, HasAllowedEntries, IsSettled, ShowsItsEntries, StandsAt}
+use Rattle.kfs_workers.specs.Claims.{AreSettled, AtReply, EachReply, ElseChangesNothing, HasAllowedEntries, IsSettled, ShowsItsEntries, StandsAt}
 use Rattle.kfs_workers.specs.Script.{Holding, IsRun, all_returned, begun}
 use Rattle.kfs_workers.specs.declared.script.Step.{Step}
 use Rattle.kfs_workers.proofs.Places.{AreInPlace, Place, Waits, With, Answered, in_place_at_first, is_answered, submission_in, ticket_of, waiting_at}
 use Rattle.kfs_workers.proofs.Replies.{AreStanding, run_stands, stands_at_first}
 use Rattle.kfs_workers.proofs.Settled.{given_at_end, kept_back}
-
--- ---- what a Yes says, in its two parts
-
-gives : (client : Client) (before : ClientSight) (index : ℕ) (created : List ℕ) (t : Tree ℕ) (entries : List Entry) (after_it : Tree ℕ) → OneByOne client before index created t entries after_it → Gives client index t entries after_it
-gives client before index created t [] after_it is = is
-gives client before index created t (entry ∷ entries) after_it is = gives client before (index + 1) (created_by entry created) (effect over_bytes client index entry t) entries after_it is.1
-
-allowed : (client : Client) (before : ClientSight) (index : ℕ) (created : List ℕ) (t : Tree ℕ) (entries : List Entry) (after_it : Tree ℕ) → OneByOne client before index created t entries after_it → AreAllowed client before index created t entries
-allowed client before index created t [] after_it is = tt
-allowed client before index created t (entry ∷ entries) after_it is = (is.0, allowed client before (index + 1) (created_by entry created) (effect over_bytes client index entry t) entries after_it is.1)
 
 module _ (desk last : Desk) (submissions : List Submission) (script : List Step) (replies : List (Option Reply)) (left : List (Option Submission)) (run : IsRun desk submissions script replies left last)
     (legal : IsLegalDocket desk.opening desk.docket desk.state) where
@@ -99,7 +83,7 @@ module _ (desk last : Desk) (submissions : List Submission) (script : List Step)
     where
       by : (submission : Submission) (reply : Reply) (before after_it : State) → after last.opening (take (position_of reply + 1) last.docket) ≡ Some after_it → AnswerMeans before submission reply after_it → ShowsItsEntries submission reply before after_it
       by submission (answers.Yes position rejudged need) before after_it leads is =
-          (shown (position + 1) after_it leads, record { client = is.client; row = is.row; log = is.log; spelled = is.spelled; holds = gives is.client (client_sight_of before is.client.number) 0 [] before.tree is.log.entries after_it.tree is.one_by_one })
+          (shown (position + 1) after_it leads, record { client = is.done.client; row = is.done.row; log = is.done.log; spelled = is.done.spelled; holds = is.done.holds.1 })
       by submission (answers.No position rejudged fault) before after_it leads is = tt
       by submission (answers.NoRoom position rejudged need free) before after_it leads is = tt
 
@@ -108,7 +92,7 @@ module _ (desk last : Desk) (submissions : List Submission) (script : List Step)
     where
       by : (submission : Submission) (reply : Reply) (before after_it : State) → after last.opening (take (position_of reply + 1) last.docket) ≡ Some after_it → AnswerMeans before submission reply after_it → HasAllowedEntries submission reply before after_it
       by submission (answers.Yes position rejudged need) before after_it leads is =
-          record { client = is.client; row = is.row; log = is.log; spelled = is.spelled; holds = allowed is.client (client_sight_of before is.client.number) 0 [] before.tree is.log.entries after_it.tree is.one_by_one }
+          record { client = is.done.client; row = is.done.row; log = is.done.log; spelled = is.done.spelled; holds = is.done.holds.0 }
       by submission (answers.No position rejudged fault) before after_it leads is = tt
       by submission (answers.NoRoom position rejudged need free) before after_it leads is = tt
 

@@ -1,18 +1,10 @@
 -- What the replies of a script say: each ticket is answered once or left, a Yes does what its entries
 -- say, and no other reply changes the tree.
-use Rattle.std.specs.Prelude.{◌≡◌, ◌≢◌, ℕ, ◌+◌, List, [], ◌∷◌, take, get_or, Option, Some, None, Ok}
+use Rattle.std.specs.Prelude.{◌≡◌, ◌≢◌, ℕ, ◌+◌, List, [], take, get_or, Option, Some, None}
 use Rattle.std.specs.List.{slice_get}
-use Rattle.kfs_model.specs.Access.{Client}
-use Rattle.kfs_model.specs.Allowed.{IsAllowed}
-use Rattle.kfs_model.specs.Effect.{effect}
-use Rattle.kfs_model.specs.Entry.{Entry, Log}
 use Rattle.kfs_model.specs.Judgement.{State, Submission, client_sight_of}
-use Rattle.kfs_model.specs.Lease.{row_of}
-use Rattle.kfs_model.specs.Machine.{Row, after}
-use Rattle.kfs_model.specs.Run.{created_by, entry_context, over_bytes}
-use Rattle.kfs_model.specs.Sight.{ClientSight, sight}
-use Rattle.kfs_model.specs.Spelling.{LogAnswer}
-use Rattle.kfs_model.specs.Tree.{Tree}
+use Rattle.kfs_model.specs.Machine.{AreAllowed, Gives, Row, after}
+use Rattle.kfs_model.specs.Means.{OfItsLog}
 use Rattle.kfs_plan.specs.declared.answers.Reply.{Reply}
 use Rattle.kfs_plan.specs.declared.answers.Reply.TheVariants as replies
 use Rattle.kfs_desk.specs.Docket.{position_of}
@@ -53,25 +45,6 @@ EachReply last submissions replies P =
     (ticket : ℕ) (submission : Submission) (reply : Reply) → slice_get submissions ticket ≡ Some submission → get_or replies ticket None ≡ Some reply → AtReply last submission reply (P submission reply)
 
 -- ---- what a Yes does
-
--- the entries in turn lead from the one tree to the other
-abbrev pub Gives : Client → (index : ℕ) → Tree ℕ → List Entry → Tree ℕ → Type 0
-Gives client index t [] after_it = after_it ≡ t
-Gives client index t (entry ∷ entries) after_it = Gives client (index + 1) (effect over_bytes client index entry t) entries after_it
-
--- each entry is allowed at its own point of the log
-abbrev pub AreAllowed : Client → (before : ClientSight) → (index : ℕ) → (created : List ℕ) → Tree ℕ → List Entry → Type 0
-AreAllowed client before index created t [] = Unit {0}
-AreAllowed client before index created t (entry ∷ entries) =
-    IsAllowed (entry_context client before (sight t) created) entry × AreAllowed client before (index + 1) (created_by entry created) (effect over_bytes client index entry t) entries
-
--- P holds of the client and of the entries of the log that the submission spells
-pub record OfItsLog (s : State) (submission : Submission) (P : Client → List Entry → Type 0) : Type 0 where
-  pub client : Client
-  pub row : row_of s.clients submission.client ≡ Some client
-  pub log : Log
-  pub spelled : LogAnswer submission.log (Ok log)
-  pub holds : P client log.entries
 
 -- after a Yes, a well formed image shows the tree that results from the entries in turn
 abbrev pub ShowsItsEntries : Submission → Reply → (before after_it : State) → Type 0
