@@ -6,7 +6,7 @@ ghost use Rattle.kfs_plan_sweep.specs.TouchedBlocks.{touches};
 ghost use Rattle.kfs_model.specs.Plan.{PiecesAscend};
 ghost use Rattle.kfs_plan_sweep.specs.BlockLists.{cleared_runs, listed};
 ghost use Rattle.kfs_plan_sweep.specs.Lefts.{IsFilled, PieceIsInRange};
-ghost use Rattle.kfs_plan_sweep.specs.Parts.{AreByNumber, front_len};
+ghost use Rattle.kfs_plan_sweep.specs.Parts.{AreByNumber};
 ghost use Rattle.kfs_image_nodes.specs.Change.{reheaded};
 ghost use Rattle.kfs_image_fill.specs.Bytes.{pieces_of, BlocksAscend, HasPayloads};
 ghost use Rattle.kfs_image_fill.specs.FillOf.{AreMadeZero, AreWritten, IsFillOf, run_of, size_among};
@@ -16,7 +16,7 @@ use crate::places::free_places;
 use crate::rows::block_rows;
 use kfs_entry_value::{NodeRow, Piece};
 use kfs_image::{BlockRun, Fill, Image, header_after};
-use kfs_plan_sweep::{cleared_in, written_in};
+use kfs_plan_sweep::{cleared_in, front_len, written_in};
 use std::alloc::{AllocError, Allocator};
 
 /// The blocks that a log writes, ascending, and the runs of those that it makes zero.
@@ -34,17 +34,6 @@ fn size_after<A: Allocator>(image: &Image<A>, nodes: &[NodeRow], number: u32) ->
         Some(header) => header.size,
         None => 0,
     }
-}
-
-/// How many pieces at the front are of this file.
-fn front_len(pieces: &[Piece], number: u32) -> usize
-    ensures { result ≡ front_len number pieces.now }
-{
-    let mut len = 0;
-    while len < pieces.len() && pieces[len].number == number {
-        len += 1;
-    }
-    len
 }
 
 /// Adds the blocks that the pieces of one file write; `size` is the file's size after the log.

@@ -10,8 +10,8 @@ use crate::blocks::blocks_written;
 use crate::sizes::{FileSize, size_after};
 use kfs_entry_value::Piece;
 
-/// How many pieces at the front are of this file.
-fn front_len(pieces: &[Piece], number: u32) -> usize
+/// How many pieces at the front are of this file. Takes no memory.
+pub fn front_len(pieces: &[Piece], number: u32) -> usize
     ensures { result ≡ front_len number pieces.now }
 {
     let mut len = 0;
