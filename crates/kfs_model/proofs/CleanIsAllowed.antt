@@ -94,7 +94,7 @@ module _ (p : EntryContext) where
   unfolding fault
   unprotected d n e = elim (either _ _ (passed _ _ e)) [
     | inl by_directory ↦ elim (either _ _ by_directory) [
-      | inl open ↦ inl (found (p.now.head d) (λ h. not (is_sticky h.mode)) open)
+      | inl free ↦ inl (found (p.now.head d) (λ h. not (is_sticky h.mode)) free)
       | inr owner ↦ inr (inl (found (p.now.head d) (λ h. owns p.client h.uid) owner))
     ]
     | inr owner ↦ inr (inr (found (p.now.head n) (λ h. owns p.client h.uid) owner))
