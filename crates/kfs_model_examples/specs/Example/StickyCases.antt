@@ -18,12 +18,12 @@ shared_tree mode = tree
 abbrev pub sticky_held_by_7 : List ℕ → State
 sticky_held_by_7 numbers = state (shared_tree 1023) (leases numbers [])
 
-abbrev pub sticky : State
-sticky = sticky_held_by_7 (1 ∷ 120 ∷ 121 ∷ 6 ∷ [])
+abbrev pub sticky_directory : State
+sticky_directory = sticky_held_by_7 (1 ∷ 120 ∷ 121 ∷ 6 ∷ [])
 
 -- with mode 0o777
-abbrev pub not_sticky : State
-not_sticky = state (shared_tree 511) (leases (120 ∷ 121 ∷ 6 ∷ []) [])
+abbrev pub plain_directory : State
+plain_directory = state (shared_tree 511) (leases (120 ∷ 121 ∷ 6 ∷ []) [])
 
 -- client 8 holds the directory and client 7's file
 abbrev pub sticky_held_by_8 : State
@@ -31,7 +31,7 @@ sticky_held_by_8 = state (shared_tree 1023) (leases [] (120 ∷ 6 ∷ []))
 
 -- client 7 with privilege
 abbrev pub sticky_and_privileged : State
-sticky_and_privileged = record sticky { clients = record client_7 { privileged = true } ∷ [] }
+sticky_and_privileged = record sticky_directory { clients = record client_7 { privileged = true } ∷ [] }
 
 -- file 121 has the names "f" and "g" in the directory
 abbrev pub two_names_of_8 : State
