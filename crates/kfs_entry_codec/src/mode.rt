@@ -1,11 +1,11 @@
-//! A mode, 0 to 0o777, as two bytes.
+//! The mode of an entry, 0 to 0o777, as two bytes.
 ghost use Rattle.std.specs.Prelude.{◌≡◌, ◌≤◌, ◌++◌, length, drop, IfSome, OnOk};
 ghost use Rattle.kfs_model.specs.Spelling.{number16};
 ghost use Rattle.kfs_model.proofs.Reading.{mode_read};
 ghost use Rattle.kfs_entry_codec.specs.Reading.{seen};
 
 use crate::number16;
-use kfs_entry_value::GREATEST_MODE;
+use kfs_entry_value::GREATEST_ENTRY_MODE;
 use std::alloc::{AllocError, Allocator};
 
 /// The field at position `at`, and the position after it; none where no such field is there.
@@ -16,7 +16,7 @@ pub fn read(source: &[u8], at: usize) -> Option<(u16, usize)>
     ensures within { IfSome result (λ x. x.1 ≤ length source.now) }
 {
     let (mode, at) = number16::read(source, at)?;
-    if mode > GREATEST_MODE {
+    if mode > GREATEST_ENTRY_MODE {
         return None;
     }
     Some((mode, at))

@@ -6,8 +6,14 @@ pub const ROOT: u32 = 1;
 /// The greatest number of a node; the least is 1.
 pub const GREATEST_NUMBER: u32 = 65_536;
 
-/// The greatest mode: all nine permission bits (POSIX `<sys/stat.h>`).
-pub const GREATEST_MODE: u16 = 0o777;
+/// The greatest mode of a node: all nine permission bits, and `S_ISVTX` (POSIX `<sys/stat.h>`).
+pub const GREATEST_MODE: u16 = 0o1777;
+
+/// The greatest mode in an entry of a log: all nine permission bits.
+pub const GREATEST_ENTRY_MODE: u16 = 0o777;
+
+/// The mode of the root directory of a new image.
+pub const ROOT_MODE: u16 = 0o777;
 
 /// The most bytes of a name (POSIX `NAME_MAX`).
 pub const NAME_LIMIT: usize = 255;

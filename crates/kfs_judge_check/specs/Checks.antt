@@ -32,6 +32,7 @@ reason_of reasons.NoSearch = checks.NoSearch
 reason_of reasons.NoWrite = checks.NoWrite
 reason_of reasons.NotOwner = checks.NotOwner
 reason_of (reasons.NoLease n) = checks.NoLease n
+reason_of reasons.Sticky = checks.Sticky
 
 abbrev pub check_of : Check → checks.Check
 check_of (variants.Exists n) = checks.Exists n
@@ -40,6 +41,7 @@ check_of (variants.IsAFile n) = checks.IsAFile n
 check_of (variants.MaySearch n) = checks.MaySearch n
 check_of (variants.MayWrite n) = checks.MayWrite n
 check_of (variants.MayChangeMode n) = checks.MayChangeMode n
+check_of (variants.MayRemove d n) = checks.MayRemove d n
 check_of (variants.IsLeased n) = checks.IsLeased n
 check_of (variants.HasNoNames n) = checks.HasNoNames n
 check_of (variants.HasRoomForLink n) = checks.HasRoomForLink n
@@ -53,11 +55,12 @@ check_of (variants.IsNotAbove n d) = checks.IsNotAbove n d
 abbrev pub climbed_cells : (ℕ → Option ℕ) → (fuel from : ℕ) → List Cell
 climbed_cells parent fuel from = map ParentOf (climbed parent fuel from)
 
--- the check asks what the client may do, given a header
+-- the check asks what the client may do, given headers
 abbrev pub IsOfRight : Check → Type 0
 IsOfRight (variants.MaySearch n) = Unit {0}
 IsOfRight (variants.MayWrite n) = Unit {0}
 IsOfRight (variants.MayChangeMode n) = Unit {0}
+IsOfRight (variants.MayRemove d n) = Unit {0}
 IsOfRight _ = ⊥
 
 -- the check asks what a header says, for any client

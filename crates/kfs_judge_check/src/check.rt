@@ -52,6 +52,9 @@ pub enum Reason {
     /// 15: the client holds no live write lease on the node with this number.
     #[error("NoLease({0})")]
     NoLease(u32),
+    /// 16: the directory is sticky, and the client owns neither it nor the node, and isn't privileged.
+    #[error("Sticky")]
+    Sticky,
 }
 
 /// One check: what must hold at an entry's point of the log. Nodes are given by number.
@@ -69,6 +72,9 @@ pub enum Check<'a> {
     MayWrite(u32),
     /// The client is the node's owner, or privileged.
     MayChangeMode(u32),
+    /// The client may take a name of the node out of the directory (POSIX.1-2017, XBD 4.3, "Directory
+    /// Protection").
+    MayRemove { dir: u32, number: u32 },
     /// The client holds a live write lease on the node, or the log created it.
     IsLeased(u32),
     /// The directory has no names.

@@ -4,10 +4,10 @@ ghost use Rattle.std.specs.Option.{option_map};
 ghost use Rattle.std.specs.Ordering.{int_eq};
 ghost use Rattle.kfs_model.specs.Limits.{link_limit};
 ghost use Rattle.kfs_entry_value.specs.Views.{header_of, kind_of};
-ghost use Rattle.kfs_model.specs.Access.{may_header, owns};
+ghost use Rattle.kfs_model.specs.Access.{is_sticky, may_header};
 ghost use Rattle.kfs_model.specs.Check as checks;
 ghost use Rattle.kfs_model.specs.Sight as sight;
-ghost use Rattle.kfs_model.specs.Sight.{CountOf, LeaseOn, ParentOf};
+ghost use Rattle.kfs_model.specs.Sight.{CountOf, HeaderOf, LeaseOn, ParentOf};
 ghost use Rattle.kfs_mode.specs.Mode.{want_shown};
 ghost use Rattle.kfs_judge_check.specs.Recorders.{AnswersLook, LooksAtHeader, LooksAtName};
 ghost use Rattle.kfs_judge_check.specs.Checks.{check_of, reason_of, entry_context_in, AnswersClimb, JudgesAll, JudgesCheck, IsOfHeader, IsOfRight, is_granted_in, parent_in, sight_in};
@@ -19,6 +19,9 @@ use kfs_image_nodes::{Header, Kind, Name};
 use kfs_judge_draft::Draft;
 use kfs_mode::{Client, Want, may};
 use std::alloc::{AllocError, Allocator};
+
+/// The bit of a mode that is the restricted deletion flag, `S_ISVTX` (POSIX `<sys/stat.h>`).
+const STICKY: u16 = 0o1000;
 
 /// Judges the next entry of a log: it has the log's client, and what the entries so far have changed.
 #[derive(Clone, Copy)]
@@ -128,9 +131,10 @@ impl<A: Allocator + Copy> EntryJudge<'_, A> {
                 let meets = self.climb_meets(recorder, *node, *dir)?;
                 Ok(unless(!meets, Reason::BelowItself))
             }
-            Check::MaySearch(_) | Check::MayWrite(_) | Check::MayChangeMode(_) => {
-                self.right_fault(recorder, check)
-            }
+            Check::MaySearch(_)
+            | Check::MayWrite(_)
+            | Check::MayChangeMode(_)
+            | Check::MayRemove { .. } => self.right_fault(recorder, check),
             _ => self.header_fault(recorder, check),
         }
     }
@@ -157,6 +161,10 @@ impl<A: Allocator + Copy> EntryJudge<'_, A> {
             Check::MayChangeMode(number) => {
                 let header = self.header(recorder, *number)?;
                 Ok(unless(owns(self.client, header), Reason::NotOwner))
+            }
+            Check::MayRemove { dir, number } => {
+                let allowed = self.may_remove(recorder, *dir, *number)?;
+                Ok(unless(allowed, Reason::Sticky))
             }
             _ => unreachable!(),
         }
@@ -199,6 +207,21 @@ impl<A: Allocator + Copy> EntryJudge<'_, A> {
         let header = self.header(recorder, number)?;
         let own_file = self.draft.has_created(number) && is_file(header);
         Ok(own_file || may_want(self.client, header, Want::Write))
+    }
+
+    /// Whether the client may take a name of the node out of the directory. Reads both headers, also
+    /// where the one tells enough.
+    fn may_remove(
+        &self,
+        recorder: &mut Recorder<'_, A>,
+        dir: u32,
+        number: u32,
+    ) -> Result<bool, AllocError>
+        ensures { AnswersLook recorder.old recorder.new result (HeaderOf dir ∷ HeaderOf number ∷ []) (λ allowed before. checks.may_remove self.now.client.now ((sight_in self.now before).head dir) ((sight_in self.now before).head number) ≡ allowed) }
+    {
+        let directory = self.header(recorder, dir)?;
+        let node = self.header(recorder, number)?;
+        Ok(may_be_removed(self.client, directory, node))
     }
 
     fn is_leased(&self, recorder: &mut Recorder<'_, A>, number: u32) -> Result<bool, AllocError>
@@ -276,14 +299,38 @@ fn may_want(client: &Client, header: Option<Header>, want: Want) -> bool
     }
 }
 
-/// Whether the client may change the mode: it is the node's owner, or privileged.
+/// Whether the client is the node's owner, or privileged.
 fn owns(client: &Client, header: Option<Header>) -> bool
-    ensures { result ≡ checks.is_some_and (option_map header_of header) (λ h. owns client.now h.uid) }
+    ensures { result ≡ checks.is_owner client.now (option_map header_of header) }
 {
     match header {
         Some(header) => client.uid() == header.uid || client.is_privileged(),
         None => false,
     }
+}
+
+/// Whether the client may take a name of this node out of this directory (POSIX.1-2017, XBD 4.3): the
+/// directory isn't sticky, or the client owns the one or the other, or is privileged.
+fn may_be_removed(client: &Client, directory: Option<Header>, node: Option<Header>) -> bool
+    ensures { result ≡ checks.may_remove client.now (option_map header_of directory) (option_map header_of node) }
+{
+    is_not_sticky(directory) || owns(client, directory) || owns(client, node)
+}
+
+/// Whether a node has this header, and its mode lacks `S_ISVTX`.
+fn is_not_sticky(header: Option<Header>) -> bool
+    ensures { result ≡ checks.is_some_and (option_map header_of header) (λ h. not (is_sticky h.mode)) }
+{
+    match header {
+        Some(header) => !is_sticky(header.mode),
+        None => false,
+    }
+}
+
+fn is_sticky(mode: u16) -> bool
+    ensures { result ≡ is_sticky mode }
+{
+    mode / STICKY % 2 == 1
 }
 
 /// Whether a file with this header may have one more name.

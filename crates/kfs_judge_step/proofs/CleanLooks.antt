@@ -56,10 +56,10 @@ module _ (p : EntryContext) where
   unfolding checks_of fault
   link_has_room n d m clean = passed _ _ ((all_pass p _ clean).1.1.1.1.1.1.1.1.1.0)
 
-  going_looks : (front : List Check) (wanted : Kind) (t : ℕ) → AllPass p (front ++ may_go wanted t) → IsPart (HeaderOf t ∷ []) (looked p (front ++ may_go wanted t))
+  going_looks : (front : List Check) (wanted : Kind) (d t : ℕ) → AllPass p (front ++ may_go wanted d t) → IsPart (HeaderOf t ∷ []) (looked p (front ++ may_go wanted d t))
   unfolding cells
-  going_looks front File t pass = looks_at p front (Check.IsAFile t) (Check.IsLeased t ∷ []) pass
-  going_looks front Directory t pass = looks_at p front (Check.IsADirectory t) (Check.IsLeased t ∷ Check.HasNoNames t ∷ []) pass
+  going_looks front File d t pass = looks_at p front (Check.IsAFile t) (Check.MayRemove d t ∷ Check.IsLeased t ∷ []) pass
+  going_looks front Directory d t pass = looks_at p front (Check.IsADirectory t) (Check.MayRemove d t ∷ Check.IsLeased t ∷ Check.HasNoNames t ∷ []) pass
 
   module _ (d : ℕ) (m : List ℕ) (kind : Kind) (clean : first_fault p (Unlink d m kind) ≡ None) where
     abbrev by_directory : List Check
@@ -67,15 +67,15 @@ module _ (p : EntryContext) where
 
     pub unlink_looks_at_name : IsPart (NameIn d m ∷ []) (looked p (checks_of p (Unlink d m kind)))
     unfolding checks_of cells
-    unlink_looks_at_name = looks_at p by_directory (Check.NameIsThere d m) (on_number (p.now.name d m) (may_go kind)) (all_pass p _ clean)
+    unlink_looks_at_name = looks_at p by_directory (Check.NameIsThere d m) (on_number (p.now.name d m) (may_go kind d)) (all_pass p _ clean)
 
     pub unlink_looks_at_header : IsPart (headers_unlinked (p.now.name d m)) (looked p (checks_of p (Unlink d m kind)))
     unfolding checks_of
     unlink_looks_at_header = by_target (p.now.name d m) (all_pass p _ clean)
       where
-        by_target : (there : Option ℕ) → AllPass p (by_directory ++ (Check.NameIsThere d m ∷ on_number there (may_go kind))) → IsPart (headers_unlinked there) (looked p (by_directory ++ (Check.NameIsThere d m ∷ on_number there (may_go kind))))
+        by_target : (there : Option ℕ) → AllPass p (by_directory ++ (Check.NameIsThere d m ∷ on_number there (may_go kind d))) → IsPart (headers_unlinked there) (looked p (by_directory ++ (Check.NameIsThere d m ∷ on_number there (may_go kind d))))
         by_target None pass = none_is_part _
-        by_target (Some t) pass = going_looks (by_directory ++ (Check.NameIsThere d m ∷ [])) kind t pass
+        by_target (Some t) pass = going_looks (by_directory ++ (Check.NameIsThere d m ∷ [])) kind d t pass
 
   module _ (d : ℕ) (m : List ℕ) (e : ℕ) (k : List ℕ) where
     abbrev by_names : List Check
@@ -83,15 +83,15 @@ module _ (p : EntryContext) where
 
     -- the checks of a move up to the kind of the node moved
     abbrev by_move : ℕ → List Check
-    by_move s = by_names ++ (Check.MayWrite d ∷ Check.MayWrite e ∷ Check.IsLeased d ∷ Check.IsLeased e ∷ Check.IsLeased s ∷ [])
+    by_move s = by_names ++ (Check.MayWrite d ∷ Check.MayWrite e ∷ Check.MayRemove d s ∷ Check.IsLeased d ∷ Check.IsLeased e ∷ Check.IsLeased s ∷ [])
 
     at_moved : (s : ℕ) (back : List Check) → AllPass p (by_move s ++ (Check.Sees (HeaderOf s) ∷ back)) → IsPart (HeaderOf s ∷ []) (looked p (by_move s ++ (Check.Sees (HeaderOf s) ∷ back)))
     unfolding cells
     at_moved s back pass = looks_at p (by_move s) (Check.Sees (HeaderOf s)) back pass
 
     at_replaced : (s : ℕ) (wanted : Kind) (t : ℕ) → AllPass p (by_move s ++ (Check.Sees (HeaderOf s) ∷ arrival_checks wanted s e (Some t))) → IsPart (HeaderOf t ∷ []) (looked p (by_move s ++ (Check.Sees (HeaderOf s) ∷ arrival_checks wanted s e (Some t))))
-    at_replaced s File t pass = going_looks (by_move s ++ (Check.Sees (HeaderOf s) ∷ [])) File t pass
-    at_replaced s Directory t pass = going_looks (by_move s ++ (Check.Sees (HeaderOf s) ∷ Check.IsNotAbove s e ∷ [])) Directory t pass
+    at_replaced s File t pass = going_looks (by_move s ++ (Check.Sees (HeaderOf s) ∷ [])) File e t pass
+    at_replaced s Directory t pass = going_looks (by_move s ++ (Check.Sees (HeaderOf s) ∷ Check.IsNotAbove s e ∷ [])) Directory e t pass
 
     at_headers : (from to : Option ℕ) → AllPass p (by_names ++ rename_checks p d e from to) → IsPart (headers_renamed from to) (looked p (by_names ++ rename_checks p d e from to))
     at_headers None to pass = none_is_part _

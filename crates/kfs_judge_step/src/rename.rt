@@ -59,6 +59,7 @@ fn move_fault<A: Allocator + Copy>(
     check!(judge, recorder;
         MayWrite(dir),
         MayWrite(new_dir),
+        MayRemove { dir, number: moved },
         IsLeased(dir),
         IsLeased(new_dir),
         IsLeased(moved),
@@ -89,7 +90,7 @@ fn arrival_fault<A: Allocator + Copy>(
     if let Some(reason) = place_fault(judge, recorder, kind, moved, new_dir)? {
         return Ok(Some(reason));
     }
-    let rest = replaced_fault(judge, recorder, kind, there)?;
+    let rest = replaced_fault(judge, recorder, kind, new_dir, there)?;
     Ok(rest)
 }
 
@@ -114,19 +115,20 @@ fn place_fault<A: Allocator + Copy>(
     }
 }
 
-/// Why `there` can't be replaced by a node of this kind; none if it can.
+/// Why `there` can't be replaced in `new_dir` by a node of this kind; none if it can.
 #[tactic(auto, unfolding(kfs_model::specs::Check::first_failing))]
 fn replaced_fault<A: Allocator + Copy>(
     judge: &EntryJudge<'_, A>,
     recorder: &mut Recorder<'_, A>,
     kind: Kind,
+    new_dir: u32,
     there: Option<u32>,
 ) -> Result<Option<Reason>, AllocError>
-    ensures { JudgesAll judge.now recorder.old recorder.new result (λ _. on_number there (may_go (kind_of kind))) }
+    ensures { JudgesAll judge.now recorder.old recorder.new result (λ _. on_number there (may_go (kind_of kind) new_dir)) }
 {
     match there {
         Some(replaced) => {
-            let rest = going_fault(judge, recorder, kind, replaced)?;
+            let rest = going_fault(judge, recorder, kind, new_dir, replaced)?;
             Ok(rest)
         }
         None => Ok(None),

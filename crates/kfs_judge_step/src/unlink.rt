@@ -36,25 +36,31 @@ fn unlink_fault<A: Allocator + Copy>(
     let Some(number) = judge.target(recorder, key)? else {
         return Ok(Some(Reason::NoSuchName));
     };
-    let rest = going_fault(judge, recorder, kind, number)?;
+    let rest = going_fault(judge, recorder, kind, dir, number)?;
     Ok(rest)
 }
 
-/// Why node `number`, which should be of this kind, can't lose a name; none if it can.
+/// Why node `number`, which should be of this kind, can't lose a name in `dir`; none if it can.
 pub fn going_fault<A: Allocator + Copy>(
     judge: &EntryJudge<'_, A>,
     recorder: &mut Recorder<'_, A>,
     kind: Kind,
+    dir: u32,
     number: u32,
 ) -> Result<Option<Reason>, AllocError>
-    ensures { JudgesAll judge.now recorder.old recorder.new result (λ _. may_go (kind_of kind) number) }
+    ensures { JudgesAll judge.now recorder.old recorder.new result (λ _. may_go (kind_of kind) dir number) }
 {
     match kind {
         Kind::File => {
-            check!(judge, recorder; IsAFile(number), IsLeased(number));
+            check!(judge, recorder; IsAFile(number), MayRemove { dir, number }, IsLeased(number));
         }
         Kind::Directory => {
-            check!(judge, recorder; IsADirectory(number), IsLeased(number), HasNoNames(number));
+            check!(judge, recorder;
+                IsADirectory(number),
+                MayRemove { dir, number },
+                IsLeased(number),
+                HasNoNames(number),
+            );
         }
     }
     Ok(None)

@@ -77,10 +77,10 @@ link_facts p n d m clean =
 -- ---- what the checks of an Unlink say, and of what a Rename replaces
 
 -- what is to go has no names where it is a directory
-pub goes_empty : (p : EntryContext) (kind : Kind) (t : ℕ) → AllPass p (may_go kind t) → IsTrue (is_directory (p.now.head t)) → p.now.count t ≡ pos 0
+pub goes_empty : (p : EntryContext) (kind : Kind) (d t : ℕ) → AllPass p (may_go kind d t) → IsTrue (is_directory (p.now.head t)) → p.now.count t ≡ pos 0
 unfolding fault
-goes_empty p File t pass directory = let file = not-true _ (passed _ _ pass.0) in absurd (false≢true (sym file ∙ directory))
-goes_empty p Directory t pass directory = (Decides-int_eq (p.now.count t) (pos 0)).0 (passed _ _ pass.1.1.0)
+goes_empty p File d t pass directory = let file = not-true _ (passed _ _ pass.0) in absurd (false≢true (sym file ∙ directory))
+goes_empty p Directory d t pass directory = (Decides-int_eq (p.now.count t) (pos 0)).0 (passed _ _ pass.1.1.1.0)
 
 pub record UnlinkFacts (s : Sight) (d : ℕ) (m : List ℕ) : Type 0 where
   pub number : ℕ
@@ -93,9 +93,9 @@ unlink_facts p d m kind clean =
     let pass = all_pass p _ clean in
     at (p.now.name d m) refl (passed _ _ pass.1.1.1.1.1.0) pass.1.1.1.1.1.1
   where
-    at : (o : Option ℕ) → p.now.name d m ≡ o → IsTrue (is_some o) → AllPass p (on_number o (may_go kind)) → UnlinkFacts p.now d m
+    at : (o : Option ℕ) → p.now.name d m ≡ o → IsTrue (is_some o) → AllPass p (on_number o (may_go kind d)) → UnlinkFacts p.now d m
     at None is some pass = cc
-    at (Some t) is some pass = record { number = t; there = is; empty = goes_empty p kind t pass }
+    at (Some t) is some pass = record { number = t; there = is; empty = goes_empty p kind d t pass }
 
 -- ---- what the checks of a Rename say
 
@@ -120,7 +120,7 @@ is_kind (Some h) directory = at h.kind directory
     at Directory directory = refl
 
 -- a directory is kept apart, and what is there may go
-arrives : (p : EntryContext) (kind : Kind) (n e : ℕ) (there : Option ℕ) → AllPass p (arrival_checks kind n e there) → (kind ≡ Directory → climb_meets p.now.parent climb_limit n e ≡ false) × AllPass p (on_number there (may_go kind))
+arrives : (p : EntryContext) (kind : Kind) (n e : ℕ) (there : Option ℕ) → AllPass p (arrival_checks kind n e there) → (kind ≡ Directory → climb_meets p.now.parent climb_limit n e ≡ false) × AllPass p (on_number there (may_go kind e))
 unfolding fault
 arrives p File n e there pass = (λ is. cc, pass)
 arrives p Directory n e there pass = (λ is. not-true _ (passed _ _ pass.0), pass.1)
@@ -132,9 +132,9 @@ rename_facts p d m e k clean =
     let to = pass.1.1.1.0 in
     at (p.now.name d m) (p.now.name e k) refl refl (passed _ _ pass.1.1.1.1.1.1.0) (passed _ _ to) pass.1.1.1.1.1.1.1.1
   where
-    arrived : (n : ℕ) (there : Option ℕ) → AllPass p (move_checks p d e n there) → (IsTrue (is_directory (p.now.head n)) → climb_meets p.now.parent climb_limit n e ≡ false) × AllPass p (on_number there (may_go (kind_shown (p.now.head n))))
+    arrived : (n : ℕ) (there : Option ℕ) → AllPass p (move_checks p d e n there) → (IsTrue (is_directory (p.now.head n)) → climb_meets p.now.parent climb_limit n e ≡ false) × AllPass p (on_number there (may_go (kind_shown (p.now.head n)) e))
     arrived n there pass =
-        let facts = arrives p (kind_shown (p.now.head n)) n e there pass.1.1.1.1.1.1 in
+        let facts = arrives p (kind_shown (p.now.head n)) n e there pass.1.1.1.1.1.1.1 in
         (λ directory. facts.0 (is_kind (p.now.head n) directory), facts.1)
 
     at : (o there : Option ℕ) → p.now.name d m ≡ o → p.now.name e k ≡ there → IsTrue (is_some o) → IsTrue (is_directory (p.now.head e)) → AllPass p (rename_checks p d e o there) → RenameFacts p.now d m e k
@@ -146,4 +146,4 @@ rename_facts p d m e k clean =
         by_test true same pass = Same t also (eqb-true t n same)
         by_test false other pass =
             let facts = arrived n (Some t) pass in
-            Over t also (eqb-false t n other) facts.0 (goes_empty p (kind_shown (p.now.head n)) t facts.1)
+            Over t also (eqb-false t n other) facts.0 (goes_empty p (kind_shown (p.now.head n)) e t facts.1)

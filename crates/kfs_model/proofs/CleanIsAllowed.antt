@@ -1,14 +1,14 @@
 -- A clean entry is allowed: each condition follows from a check that did not fail.
-use Rattle.std.specs.Prelude.{◌≡◌, ℕ, Bool, true, false, ◌==◌, if◌then◌else◌, ◌&&◌, ◌||◌, ◌≤◌, List, [], ◌∷◌, Option, Some, None, is_some, refl, IsTrue, ◌⊎◌}
+use Rattle.std.specs.Prelude.{◌≡◌, ℕ, Bool, true, false, ◌==◌, if◌then◌else◌, ◌&&◌, ◌||◌, not, ◌≤◌, List, [], ◌∷◌, Option, Some, None, is_some, refl, IsTrue, ◌⊎◌}
 use Rattle.std.specs.List.{AllByRecursion}
 use Rattle.std.proofs.Common.{subst, ap, inl, inr, ◌∙◌}
 use Rattle.std.proofs.lemmas.Bool.{leb-true, eqb-true}
 use Rattle.kfs_model.specs.Header.{Kind, File, Directory, Header}
-use Rattle.kfs_model.specs.Access.{Want, Search, may_header, owns}
+use Rattle.kfs_model.specs.Access.{Want, Search, may_header, owns, is_sticky}
 use Rattle.kfs_model.specs.Entry.{Entry, Create, Write, Truncate, Link, Unlink, Rename, Chmod}
 use Rattle.kfs_model.specs.Sight.{is_directory, is_file, kind_shown}
-use Rattle.kfs_model.specs.Check.{EntryContext, Reason, Check, MaySearch, MayWrite, IsLeased, IsADirectory, NumberIsGranted, NoSuchName, unless, fault, is_some_and, on_number, may_go, arrival_checks, move_checks, rename_checks, checks_of, first_failing, first_fault}
-use Rattle.kfs_model.specs.Allowed.{IsGrantedBit, IsLeasedTo, MayChangeDirectory, MayChangeFile, NameLeadsTo, MayMove, IsAllowed}
+use Rattle.kfs_model.specs.Check.{EntryContext, Reason, Check, MaySearch, MayWrite, MayRemove, IsLeased, IsADirectory, NumberIsGranted, NoSuchName, unless, fault, is_some_and, on_number, may_go, arrival_checks, move_checks, rename_checks, checks_of, first_failing, first_fault}
+use Rattle.kfs_model.specs.Allowed.{IsGrantedBit, IsLeasedTo, IsNotSticky, IsOwner, MayChangeDirectory, MayChangeFile, MayLoseName, NameLeadsTo, MayMove, IsAllowed}
 
 -- none of the checks fails
 abbrev pub AllPass : EntryContext → List Check → Type 0
@@ -90,6 +90,16 @@ module _ (p : EntryContext) where
     leased = leased n lease;
   }
 
+  unprotected : (d n : ℕ) → fault p (MayRemove d n) ≡ None → IsNotSticky p d ⊎ (IsOwner p d ⊎ IsOwner p n)
+  unfolding fault
+  unprotected d n e = elim (either _ _ (passed _ _ e)) [
+    | inl by_directory ↦ elim (either _ _ by_directory) [
+      | inl free ↦ inl (found (p.now.head d) (λ h. not (is_sticky h.mode)) free)
+      | inr owner ↦ inr (inl (found (p.now.head d) (λ h. owns p.client h.uid) owner))
+    ]
+    | inr owner ↦ inr (inr (found (p.now.head n) (λ h. owns p.client h.uid) owner))
+  ]
+
   granted_number : (n : ℕ) → fault p (NumberIsGranted n) ≡ None → (p.client.first ≤ n) × (n ≤ p.client.last)
   unfolding fault
   granted_number n e =
@@ -132,10 +142,10 @@ clean_chmod p n mode clean =
     let pass = all_pass p _ clean in
     record { owner = found (p.now.head n) (λ h. owns p.client h.uid) (passed _ _ pass.1.0); leased = leased p n pass.1.1.0 }
 
--- the node that a name leads to is leased, whichever kind is to go
-goes_leased : (p : EntryContext) (kind : Kind) (t : ℕ) → AllPass p (may_go kind t) → IsLeasedTo p t
-goes_leased p File t pass = leased p t pass.1.0
-goes_leased p Directory t pass = leased p t pass.1.0
+-- the node that a name leads to may lose it, whichever kind is to go
+goes : (p : EntryContext) (kind : Kind) (d t : ℕ) → AllPass p (may_go kind d t) → MayLoseName p d t
+goes p File d t pass = record { unprotected = unprotected p d t pass.1.0; leased = leased p t pass.1.1.0 }
+goes p Directory d t pass = record { unprotected = unprotected p d t pass.1.0; leased = leased p t pass.1.1.0 }
 
 clean_unlink : (p : EntryContext) (d : ℕ) (m : List ℕ) (kind : Kind) → first_fault p (Unlink d m kind) ≡ None → IsAllowed p (Unlink d m kind)
 unfolding checks_of fault
@@ -143,36 +153,36 @@ clean_unlink p d m kind clean =
     let pass = all_pass p _ clean in
     record {
       in_directory = changes_directory p d pass.1.0 pass.1.1.0 pass.1.1.1.0 pass.1.1.1.1.0;
-      leased = by_target (p.now.name d m) refl pass.1.1.1.1.1.0 pass.1.1.1.1.1.1;
+      removed = by_target (p.now.name d m) refl pass.1.1.1.1.1.0 pass.1.1.1.1.1.1;
     }
   where
-    by_target : (target : Option ℕ) → p.now.name d m ≡ target → unless (is_some target) NoSuchName ≡ None → AllPass p (on_number target (may_go kind)) → (number : ℕ) × NameLeadsTo p d m number × IsLeasedTo p number
+    by_target : (target : Option ℕ) → p.now.name d m ≡ target → unless (is_some target) NoSuchName ≡ None → AllPass p (on_number target (may_go kind d)) → (number : ℕ) × NameLeadsTo p d m number × MayLoseName p d number
     by_target None is there pass = cc
-    by_target (Some t) is there pass = (t, is, goes_leased p kind t pass)
+    by_target (Some t) is there pass = (t, is, goes p kind d t pass)
 
 -- ---- a Rename
 
-what_goes : (p : EntryContext) (kind : Kind) (s e : ℕ) (there : Option ℕ) → AllPass p (arrival_checks kind s e there) → AllPass p (on_number there (may_go kind))
+what_goes : (p : EntryContext) (kind : Kind) (s e : ℕ) (there : Option ℕ) → AllPass p (arrival_checks kind s e there) → AllPass p (on_number there (may_go kind e))
 what_goes p File s e there pass = pass
 what_goes p Directory s e there pass = pass.1
 
 module _ (p : EntryContext) (d : ℕ) (m : List ℕ) (e : ℕ) (k : List ℕ) where
   -- what is there beside the checks of the node that moves
   abbrev Replaced : (s : ℕ) (to : Option ℕ) → Type 0
-  Replaced s to = AllPass p (on_number to (may_go (kind_shown (p.now.head s))))
+  Replaced s to = AllPass p (on_number to (may_go (kind_shown (p.now.head s)) e))
 
-  replaced_leased : (s : ℕ) (to : Option ℕ) → p.now.name e k ≡ to → Replaced s to → (number : ℕ) → NameLeadsTo p e k number → IsLeasedTo p number
-  replaced_leased s None is pass number leads = cc
-  replaced_leased s (Some t) is pass number leads =
+  replaced_goes : (s : ℕ) (to : Option ℕ) → p.now.name e k ≡ to → Replaced s to → (number : ℕ) → NameLeadsTo p e k number → MayLoseName p e number
+  replaced_goes s None is pass number leads = cc
+  replaced_goes s (Some t) is pass number leads =
       let same : t ≡ number = cc in
-      subst (IsLeasedTo p) same (goes_leased p (kind_shown (p.now.head s)) t pass)
+      subst (MayLoseName p e) same (goes p (kind_shown (p.now.head s)) e t pass)
 
   moves : IsTrue (is_directory (p.now.head d)) → IsTrue (is_directory (p.now.head e)) → IsGrantedBit p Search d → IsGrantedBit p Search e → (s : ℕ) → NameLeadsTo p d m s → (to : Option ℕ) → p.now.name e k ≡ to → AllPass p (move_checks p d e s to) → MayMove p d m e k
   moves directory_d directory_e search_d search_e s from to is pass = record {
-    from = record { search = search_d; write = bit d directory_d (writes p d pass.0); leased = leased p d pass.1.1.0 };
-    to = record { search = search_e; write = bit e directory_e (writes p e pass.1.0); leased = leased p e pass.1.1.1.0 };
-    moved = (s, from, leased p s pass.1.1.1.1.0);
-    replaced = replaced_leased s to is (what_goes p (kind_shown (p.now.head s)) s e to pass.1.1.1.1.1.1);
+    from = record { search = search_d; write = bit d directory_d (writes p d pass.0); leased = leased p d pass.1.1.1.0 };
+    to = record { search = search_e; write = bit e directory_e (writes p e pass.1.0); leased = leased p e pass.1.1.1.1.0 };
+    moved = (s, from, record { unprotected = unprotected p d s pass.1.1.0; leased = leased p s pass.1.1.1.1.1.0 });
+    replaced = replaced_goes s to is (what_goes p (kind_shown (p.now.head s)) s e to pass.1.1.1.1.1.1.1);
   }
     where
       bit : (n : ℕ) → IsTrue (is_directory (p.now.head n)) → IsGrantedBit p Want.Write n ⊎ (IsTrue (p.created n) × IsTrue (is_file (p.now.head n))) → IsGrantedBit p Want.Write n

@@ -14,6 +14,7 @@ use Rattle.kfs_model.specs.Soundness.{Climbs, InRange, NameIsSound, AreSound, Is
 use Rattle.kfs_model.specs.Spelling.{IsEntry, IsName}
 use Rattle.kfs_model.specs.SeenAfter.{put_at, put_parent, new_header, seen_after}
 use Rattle.kfs_model.specs.CleanStep.{IsClient, IsClean, StaysSound}
+use Rattle.kfs_model.proofs.EntryLaws.{mode_in_range}
 use Rattle.kfs_model.proofs.CleanFacts.{at_tree, clean_at, CreateFacts, create_facts}
 use Rattle.kfs_model.proofs.NameTable.{at_number-insert, target-insert}
 use Rattle.kfs_model.proofs.NameAdded.{new_target, kept_target, new_or_old, others_count, own_count, count_shifted}
@@ -150,7 +151,7 @@ module _ {B : Type 0} (filling : Filling B) (client : Client) (index : ℕ) (t :
   new_in_range fits entry_fits = record {
     least = let least = facts.least in let first = (grant_ends client.first client.last fits.grant).0 in omega arith;
     greatest = let greatest = facts.greatest in let last = (grant_ends client.first client.last fits.grant).1 in omega arith;
-    mode = entry_fits.3;
+    mode = mode_in_range mode entry_fits.3;
     uid = fits.uid;
     gid = fits.gid;
     size = omega arith;

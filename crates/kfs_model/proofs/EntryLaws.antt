@@ -1,5 +1,5 @@
 -- The laws of an entry: what is read is an entry that stands there, and what is spelled is read.
-use Rattle.std.proofs.Common.{◌≡◌, ℕ, List, ◌∷◌, ◌++◌, Some, None, refl, inl, inr}
+use Rattle.std.proofs.Common.{◌≡◌, ◌≤◌, ℕ, List, ◌∷◌, ◌++◌, Some, None, refl, inl, inr, arith}
 use Rattle.kfs_model.specs.Entry.{Entry, Create, Write, Truncate, Link, Unlink, Rename, Chmod}
 use Rattle.kfs_model.specs.Spelling.{IsBytes, entry_bytes, IsEntry}
 use Rattle.kfs_model.proofs.Reading.{create_of, write_of, truncate_of, link_of, unlink_of, rename_of, chmod_of, byte_read, create_read, write_read, truncate_read, link_read, unlink_read, rename_read, chmod_read, tagged_read, entry_read}
@@ -61,6 +61,10 @@ entry_again (Rename d m e k) rest h =
     made_again rename_of (both (both (both number32_field name_field) number32_field) name_field) (((d, m), e), k) rest (((h.0, h.1), h.2), h.3)
 entry_again (Chmod n mode) rest h =
     made_again chmod_of (both number32_field mode_field) (n, mode) rest (h.0, h.1)
+
+-- a mode of an entry is one of a node
+pub mode_in_range : (mode : ℕ) → mode ≤ 511 → mode ≤ 1023
+mode_in_range mode fits = omega arith
 
 pub entry_field : IsField IsEntry entry_bytes entry_read
 entry_field = record { takes = entry_takes; again = entry_again }

@@ -8,7 +8,7 @@ use Rattle.kfs_model.specs.Sight.{Sight, ClientSight, Cell, HeaderOf, NameIn, Pa
 use Rattle.kfs_model.specs.Check
 use Rattle.kfs_model.proofs.CleanIsAllowed.{AllPass, all_pass}
 use Rattle.kfs_model.proofs.SameSteps.{MovedAlike, ReadsAlike}
-use Rattle.kfs_model.specs.Check.{EntryContext, Reason, Check, fault, cells, unless, is_some_and, first_failing, first_fault, looked, checks_of, may_go, on_number, arrival_checks, move_checks, rename_checks}
+use Rattle.kfs_model.specs.Check.{EntryContext, Reason, Check, fault, cells, unless, is_some_and, may_remove, first_failing, first_fault, looked, checks_of, may_go, on_number, arrival_checks, move_checks, rename_checks}
 
 -- one client at two spots, with the same numbers created
 module _ (client : Client) (created : ℕ → Bool) (before : ClientSight) (now : Sight) (other_before : ClientSight) (other_now : Sight) where
@@ -83,6 +83,7 @@ module _ (client : Client) (created : ℕ → Bool) (before : ClientSight) (now 
   same_fault (Check.NumberIsFree n) same = let e = same_head n same.0 in let first = same_head_before n same.0 in cc
   same_fault (Check.NameIsThere d m) same = let e = same_name d m same.0 in cc
   same_fault (Check.NameIsFree d m) same = let e = same_name d m same.0 in cc
+  same_fault (Check.MayRemove d n) same = ap₂ (λ directory node. unless (may_remove client directory node) Check.Sticky) (same_head d same.0) (same_head n same.1.0)
   same_fault (Check.EndIsInRange end) same = refl
   same_fault (Check.IsNotAbove n d) same = ap (λ b. unless (not b) Check.BelowItself) (same_meets n climb_limit d same)
   same_fault (Check.Sees cell) same = refl
@@ -102,6 +103,7 @@ module _ (client : Client) (created : ℕ → Bool) (before : ClientSight) (now 
   same_cells (Check.NumberIsFree n) same = refl
   same_cells (Check.NameIsThere d m) same = refl
   same_cells (Check.NameIsFree d m) same = refl
+  same_cells (Check.MayRemove d n) same = refl
   same_cells (Check.EndIsInRange end) same = refl
   same_cells (Check.IsNotAbove n d) same = ap (map ParentOf) (same_passes climb_limit d same)
   same_cells (Check.Sees cell) same = refl
@@ -154,8 +156,8 @@ module _ (client : Client) (created : ℕ → Bool) (before : ClientSight) (now 
   unfolding checks_of cells
   unlink_alike d m kind =
       alike_behind (Check.Exists d ∷ Check.IsADirectory d ∷ Check.MaySearch d ∷ Check.MayWrite d ∷ Check.IsLeased d ∷ []) _ _
-      (alike_more (Check.NameIsThere d m) (on_number (now.name d m) (may_go kind)) (on_number (other_now.name d m) (may_go kind)) (λ same.
-      subst (λ o. Alike (on_number (now.name d m) (may_go kind)) (on_number o (may_go kind))) (same_name d m same.0) (alike_itself (on_number (now.name d m) (may_go kind)))))
+      (alike_more (Check.NameIsThere d m) (on_number (now.name d m) (may_go kind d)) (on_number (other_now.name d m) (may_go kind d)) (λ same.
+      subst (λ o. Alike (on_number (now.name d m) (may_go kind d)) (on_number o (may_go kind d))) (same_name d m same.0) (alike_itself (on_number (now.name d m) (may_go kind d)))))
 
   -- what is checked of the nodes that a Rename moves and replaces, by what the header of the one shows
   moved_by : (e n : ℕ) → Option ℕ → Option Header → List Check
@@ -164,7 +166,7 @@ module _ (client : Client) (created : ℕ → Bool) (before : ClientSight) (now 
   move_alike : (d e n : ℕ) (there : Option ℕ) → Alike (move_checks p d e n there) (move_checks q d e n there)
   unfolding cells moved_by
   move_alike d e n there =
-      alike_behind (Check.MayWrite d ∷ Check.MayWrite e ∷ Check.IsLeased d ∷ Check.IsLeased e ∷ Check.IsLeased n ∷ []) _ _
+      alike_behind (Check.MayWrite d ∷ Check.MayWrite e ∷ Check.MayRemove d n ∷ Check.IsLeased d ∷ Check.IsLeased e ∷ Check.IsLeased n ∷ []) _ _
       (alike_more (Check.Sees (HeaderOf n)) (moved_by e n there (now.head n)) (moved_by e n there (other_now.head n)) (λ same.
       subst (λ h. Alike (moved_by e n there (now.head n)) (moved_by e n there h)) (same_head n same.0) (alike_itself (moved_by e n there (now.head n)))))
 
@@ -216,12 +218,12 @@ module _ (client : Client) (created : ℕ → Bool) (before : ClientSight) (now 
   moved_reads : (d e : ℕ) (o there : Option ℕ) → EachSame (rename_checks p d e o there) → MovedAlike now other_now o there
   unfolding EachSame cells
   moved_reads d e None there same = tt
-  moved_reads d e (Some n) None same = same_head n same.1.1.1.1.1.0.0
+  moved_reads d e (Some n) None same = same_head n same.1.1.1.1.1.1.0.0
   moved_reads d e (Some n) (Some t) same = at (t == n) same
     where
       at : (b : Bool) → EachSame (if b then [] else move_checks p d e n (Some t)) → b ≡ false → now.head n ≡ other_now.head n
       at true same apart = cc
-      at false same apart = same_head n same.1.1.1.1.1.0.0
+      at false same apart = same_head n same.1.1.1.1.1.1.0.0
 
   pub reads_alike : (entry : Entry) → first_fault p entry ≡ None → SameAtAll (looked p (checks_of p entry)) → ReadsAlike client now other_now entry
   unfolding checks_of EachSame cells

@@ -90,29 +90,29 @@ touches_wider few many now next wider touches = record {
 -- ---- the entries
 
 module _ (p : EntryContext) where
-  goes_among : (kind : Kind) (t : ℕ) (front : List Check) → AllPass p (front ++ may_go kind t) → Among (HeaderOf t) (looked p (front ++ may_go kind t))
+  goes_among : (kind : Kind) (d t : ℕ) (front : List Check) → AllPass p (front ++ may_go kind d t) → Among (HeaderOf t) (looked p (front ++ may_go kind d t))
   unfolding cells
-  goes_among File t front pass = among_at p front (Check.IsAFile t) (Check.IsLeased t ∷ []) (HeaderOf t) pass (inl refl)
-  goes_among Directory t front pass = among_at p front (Check.IsADirectory t) (Check.IsLeased t ∷ Check.HasNoNames t ∷ []) (HeaderOf t) pass (inl refl)
+  goes_among File d t front pass = among_at p front (Check.IsAFile t) (Check.MayRemove d t ∷ Check.IsLeased t ∷ []) (HeaderOf t) pass (inl refl)
+  goes_among Directory d t front pass = among_at p front (Check.IsADirectory t) (Check.MayRemove d t ∷ Check.IsLeased t ∷ Check.HasNoNames t ∷ []) (HeaderOf t) pass (inl refl)
 
   -- of an Unlink, by what the name leads to
-  unlink_touches : (d : ℕ) (m : List ℕ) (kind : Kind) (front : List Check) (o : Option ℕ) → AllPass p (front ++ (Check.NameIsThere d m ∷ on_number o (may_go kind)))
-      → Touches (looked p (front ++ (Check.NameIsThere d m ∷ on_number o (may_go kind)))) p.now (seen_unlinked d m o p.now)
+  unlink_touches : (d : ℕ) (m : List ℕ) (kind : Kind) (front : List Check) (o : Option ℕ) → AllPass p (front ++ (Check.NameIsThere d m ∷ on_number o (may_go kind d)))
+      → Touches (looked p (front ++ (Check.NameIsThere d m ∷ on_number o (may_go kind d)))) p.now (seen_unlinked d m o p.now)
   unfolding cells
   unlink_touches d m kind front None pass = touches_nothing (looked p (front ++ (Check.NameIsThere d m ∷ []))) p.now
   unlink_touches d m kind front (Some t) pass =
-      without_touches (looked p (front ++ (Check.NameIsThere d m ∷ may_go kind t))) d m t p.now
-      (among_at p front (Check.NameIsThere d m) (may_go kind t) (NameIn d m) pass (inl refl))
-      (among_behind p front (Check.NameIsThere d m ∷ may_go kind t) (HeaderOf t) pass (goes_among kind t (Check.NameIsThere d m ∷ [])))
+      without_touches (looked p (front ++ (Check.NameIsThere d m ∷ may_go kind d t))) d m t p.now
+      (among_at p front (Check.NameIsThere d m) (may_go kind d t) (NameIn d m) pass (inl refl))
+      (among_behind p front (Check.NameIsThere d m ∷ may_go kind d t) (HeaderOf t) pass (goes_among kind d t (Check.NameIsThere d m ∷ [])))
 
   -- the header of the node that a Rename replaces
   arrives_among : (kind : Kind) (e n t : ℕ) → AllPass p (arrival_checks kind n e (Some t)) → Among (HeaderOf t) (looked p (arrival_checks kind n e (Some t)))
-  arrives_among File e n t = goes_among File t []
-  arrives_among Directory e n t = goes_among Directory t (Check.IsNotAbove n e ∷ [])
+  arrives_among File e n t = goes_among File e t []
+  arrives_among Directory e n t = goes_among Directory e t (Check.IsNotAbove n e ∷ [])
 
   replaced_among : (d e n t : ℕ) → AllPass p (move_checks p d e n (Some t)) → Among (HeaderOf t) (looked p (move_checks p d e n (Some t)))
   replaced_among d e n t pass =
-      among_behind p (Check.MayWrite d ∷ Check.MayWrite e ∷ Check.IsLeased d ∷ Check.IsLeased e ∷ Check.IsLeased n ∷ Check.Sees (HeaderOf n) ∷ []) _ (HeaderOf t) pass
+      among_behind p (Check.MayWrite d ∷ Check.MayWrite e ∷ Check.MayRemove d n ∷ Check.IsLeased d ∷ Check.IsLeased e ∷ Check.IsLeased n ∷ Check.Sees (HeaderOf n) ∷ []) _ (HeaderOf t) pass
       (arrives_among (kind_shown (p.now.head n)) e n t)
 
   -- of a Rename, by what the two names lead to

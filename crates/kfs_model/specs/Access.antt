@@ -1,4 +1,5 @@
--- Who may do what: file access permissions by class (POSIX.1-2017, XBD 4.5).
+-- Who may do what: file access permissions by class, and directory protection (POSIX.1-2017, XBD 4.5 and
+-- 4.3).
 use Rattle.std.specs.Prelude.{ℕ, ◌*◌, ◌/◌, ◌%◌, Bool, ◌==◌, ◌&&◌, ◌||◌, nat_le, if◌then◌else◌, List, map, IsTrue}
 use Rattle.std.specs.List.{list_any}
 use Rattle.kfs_model.specs.Header.{Header}
@@ -59,6 +60,10 @@ may_header client h want = may client h.uid h.gid h.mode want
 -- whether the client owns a node of this uid, or is privileged
 abbrev pub owns : Client → (uid : ℕ) → Bool
 owns client uid = (client.uid == uid) || client.privileged
+
+-- whether the mode has the restricted deletion flag, S_ISVTX (0o1000); of a file's mode it means nothing
+abbrev pub is_sticky : (mode : ℕ) → Bool
+is_sticky mode = (mode / 512) % 2 == 1
 
 -- whether a client's grant may be first to last: no number below 1, none above the greatest
 abbrev pub is_grant : (first last : ℕ) → Bool

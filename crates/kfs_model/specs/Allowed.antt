@@ -1,8 +1,8 @@
 -- What an entry needs: facts about the client, its leases, the tree and the numbers created so far,
 -- with no order among them.
-use Rattle.std.specs.Prelude.{◌≡◌, ◌≤◌, ◌⊎◌, ℕ, List, Some, IsTrue}
+use Rattle.std.specs.Prelude.{◌≡◌, ◌≤◌, ◌⊎◌, not, ℕ, List, Some, IsTrue}
 use Rattle.kfs_model.specs.Header.{Header}
-use Rattle.kfs_model.specs.Access.{Want, may_header, owns, Search}
+use Rattle.kfs_model.specs.Access.{Want, may_header, owns, is_sticky, Search}
 use Rattle.kfs_model.specs.Entry.{Entry, Create, Write, Truncate, Link, Unlink, Rename, Chmod}
 use Rattle.kfs_model.specs.Check.{EntryContext}
 
@@ -14,6 +14,13 @@ IsGrantedBit context want n = (h : Header) × (context.now.head n ≡ Some h) ×
 abbrev pub IsLeasedTo : EntryContext → ℕ → Type 0
 IsLeasedTo context n = IsTrue (context.created n) ⊎ IsTrue (context.before.held n)
 
+-- the client owns the node, or is privileged
+abbrev pub IsOwner : EntryContext → ℕ → Type 0
+IsOwner context n = (h : Header) × (context.now.head n ≡ Some h) × IsTrue (owns context.client h.uid)
+
+abbrev pub IsNotSticky : EntryContext → ℕ → Type 0
+IsNotSticky context n = (h : Header) × (context.now.head n ≡ Some h) × IsTrue (not (is_sticky h.mode))
+
 pub record MayChangeDirectory (context : EntryContext) (directory : ℕ) : Type 0 where
   pub search : IsGrantedBit context Search directory
   pub write : IsGrantedBit context Want.Write directory
@@ -21,6 +28,12 @@ pub record MayChangeDirectory (context : EntryContext) (directory : ℕ) : Type 
 
 pub record MayChangeFile (context : EntryContext) (number : ℕ) : Type 0 where
   pub write : IsGrantedBit context Want.Write number ⊎ IsTrue (context.created number)
+  pub leased : IsLeasedTo context number
+
+-- the node may lose a name in the directory: it is leased, and the directory isn't sticky or the client
+-- owns the one or the other (POSIX.1-2017, XBD 4.3, Directory Protection)
+pub record MayLoseName (context : EntryContext) (directory number : ℕ) : Type 0 where
+  pub unprotected : IsNotSticky context directory ⊎ (IsOwner context directory ⊎ IsOwner context number)
   pub leased : IsLeasedTo context number
 
 -- the name leads to this node
@@ -38,13 +51,13 @@ pub record MayLink (context : EntryContext) (number directory : ℕ) : Type 0 wh
 
 pub record MayUnlink (context : EntryContext) (directory : ℕ) (name : List ℕ) : Type 0 where
   pub in_directory : MayChangeDirectory context directory
-  pub leased : (number : ℕ) × NameLeadsTo context directory name number × IsLeasedTo context number
+  pub removed : (number : ℕ) × NameLeadsTo context directory name number × MayLoseName context directory number
 
 pub record MayMove (context : EntryContext) (d : ℕ) (m : List ℕ) (e : ℕ) (k : List ℕ) : Type 0 where
   pub from : MayChangeDirectory context d
   pub to : MayChangeDirectory context e
-  pub moved : (number : ℕ) × NameLeadsTo context d m number × IsLeasedTo context number
-  pub replaced : (number : ℕ) → NameLeadsTo context e k number → IsLeasedTo context number
+  pub moved : (number : ℕ) × NameLeadsTo context d m number × MayLoseName context d number
+  pub replaced : (number : ℕ) → NameLeadsTo context e k number → MayLoseName context e number
 
 -- both names lead to the same node, so that a Rename changes nothing
 pub record MayKeep (context : EntryContext) (d : ℕ) (m : List ℕ) (e : ℕ) (k : List ℕ) : Type 0 where
@@ -53,7 +66,7 @@ pub record MayKeep (context : EntryContext) (d : ℕ) (m : List ℕ) (e : ℕ) (
   pub to : IsGrantedBit context Search e
 
 pub record MayChmod (context : EntryContext) (number : ℕ) : Type 0 where
-  pub owner : (h : Header) × (context.now.head number ≡ Some h) × IsTrue (owns context.client h.uid)
+  pub owner : IsOwner context number
   pub leased : IsLeasedTo context number
 
 abbrev pub IsAllowed : EntryContext → Entry → Type 0

@@ -2,15 +2,15 @@
 use Rattle.std.specs.Prelude.{ℕ, ◌+◌, ◌==◌, ◌&&◌, ◌||◌, not, nat_le, nat_lt, pos, Bool, true, false, List, [], ◌∷◌, ◌++◌, map, length, Option, Some, None, is_some, is_none, if◌then◌else◌}
 use Rattle.std.specs.Ordering.{int_eq}
 use Rattle.kfs_model.specs.Limits.{link_limit, size_limit}
-use Rattle.kfs_model.specs.Header.{Kind}
+use Rattle.kfs_model.specs.Header.{Kind, Header}
 use Rattle.kfs_model.specs.Header.Kind.{File, Directory}
-use Rattle.kfs_model.specs.Access.{Client, Want, Search, may_header, owns, is_granted}
+use Rattle.kfs_model.specs.Access.{Client, Want, Search, may_header, owns, is_sticky, is_granted}
 use Rattle.kfs_model.specs.Entry.{Entry, Create, Write, Truncate, Link, Unlink, Rename, Chmod}
 use Rattle.kfs_model.specs.Sight.{Sight, ClientSight, Cell, HeaderOf, NameIn, CountOf, ParentOf, LeaseOn, is_directory, is_file, kind_shown, climb_limit, climb_meets, climbed}
 
 -- why an entry is refused
 pub data Reason : Type 0 where
-  NoSuchNode NotDirectory IsDirectory NoSuchName NameTaken NumberTaken NumberNotGranted NotEmpty BelowItself TooManyLinks TooBig NoSearch NoWrite NotOwner : Reason
+  NoSuchNode NotDirectory IsDirectory NoSuchName NameTaken NumberTaken NumberNotGranted NotEmpty BelowItself TooManyLinks TooBig NoSearch NoWrite NotOwner Sticky : Reason
   NoLease : (number : ℕ) → Reason
   deriving Discrete as Reason-discrete
 
@@ -25,6 +25,9 @@ pub record EntryContext : Type 0 where
 pub data Check : Type 0 where
   Exists IsADirectory IsAFile MaySearch MayWrite MayChangeMode IsLeased HasNoNames HasRoomForLink NumberIsGranted NumberIsFree : (number : ℕ) → Check
   NameIsThere NameIsFree : (directory : ℕ) (name : List ℕ) → Check
+  -- the client may take a name of the node out of the directory (POSIX.1-2017, XBD 4.3, Directory
+  -- Protection)
+  MayRemove : (directory number : ℕ) → Check
   -- a file may end at this byte
   EndIsInRange : (end : ℕ) → Check
   -- the node isn't the directory and doesn't lie above it
@@ -49,6 +52,14 @@ is_permitted context want n = is_some_and (context.now.head n) (λ h. may_header
 abbrev pub may_write : EntryContext → ℕ → Bool
 may_write context n = (context.created n && is_file (context.now.head n)) || is_permitted context Want.Write n
 
+-- whether the client owns the node, or is privileged
+abbrev pub is_owner : Client → Option Header → Bool
+is_owner client header = is_some_and header (λ h. owns client h.uid)
+
+-- whether the directory isn't sticky, or the client owns the directory or the node, or is privileged
+abbrev pub may_remove : Client → (directory node : Option Header) → Bool
+may_remove client directory node = (is_some_and directory (λ h. not (is_sticky h.mode)) || is_owner client directory) || is_owner client node
+
 -- whether the client holds a live write lease on the node, or the log created it
 abbrev pub is_leased : EntryContext → ℕ → Bool
 is_leased context n = context.created n || context.before.held n
@@ -64,7 +75,7 @@ fault context (IsADirectory n) = unless (is_directory (context.now.head n)) NotD
 fault context (IsAFile n) = unless (not (is_directory (context.now.head n))) IsDirectory
 fault context (MaySearch n) = unless (is_permitted context Search n) NoSearch
 fault context (MayWrite n) = unless (may_write context n) NoWrite
-fault context (MayChangeMode n) = unless (is_some_and (context.now.head n) (λ h. owns context.client h.uid)) NotOwner
+fault context (MayChangeMode n) = unless (is_owner context.client (context.now.head n)) NotOwner
 fault context (IsLeased n) = unless (is_leased context n) (NoLease n)
 fault context (HasNoNames n) = unless (int_eq (context.now.count n) (pos 0)) NotEmpty
 fault context (HasRoomForLink n) = unless (is_some_and (context.now.head n) (λ h. nat_lt h.links link_limit)) TooManyLinks
@@ -72,6 +83,7 @@ fault context (NumberIsGranted n) = unless (is_granted context.client n) NumberN
 fault context (NumberIsFree n) = unless (is_number_free context n) NumberTaken
 fault context (NameIsThere d m) = unless (is_some (context.now.name d m)) NoSuchName
 fault context (NameIsFree d m) = unless (is_none (context.now.name d m)) NameTaken
+fault context (MayRemove d n) = unless (may_remove context.client (context.now.head d) (context.now.head n)) Sticky
 fault context (EndIsInRange end) = unless (nat_le end size_limit) TooBig
 fault context (IsNotAbove n d) = unless (not (climb_meets context.now.parent climb_limit n d)) BelowItself
 fault context (Sees cell) = None
@@ -91,6 +103,7 @@ cells context (NumberIsGranted n) = []
 cells context (NumberIsFree n) = HeaderOf n ∷ []
 cells context (NameIsThere d m) = NameIn d m ∷ []
 cells context (NameIsFree d m) = NameIn d m ∷ []
+cells context (MayRemove d n) = HeaderOf d ∷ HeaderOf n ∷ []
 cells context (EndIsInRange end) = []
 cells context (IsNotAbove n d) = map ParentOf (climbed context.now.parent climb_limit d)
 cells context (Sees cell) = cell ∷ []
@@ -105,11 +118,11 @@ is_directory_node d = Exists d ∷ IsADirectory d ∷ []
 abbrev pub is_file_node : ℕ → List Check
 is_file_node n = Exists n ∷ IsAFile n ∷ []
 
--- the checks of a node that loses a name by Unlink, or that a Rename replaces: it has the wanted kind,
--- is leased, and is empty where it is a directory
-abbrev pub may_go : Kind → ℕ → List Check
-may_go File t = IsAFile t ∷ IsLeased t ∷ []
-may_go Directory t = IsADirectory t ∷ IsLeased t ∷ HasNoNames t ∷ []
+-- the checks of a node that loses its name in a directory by Unlink, or that a Rename replaces there: it
+-- has the wanted kind, may be removed, is leased, and is empty where it is a directory
+abbrev pub may_go : Kind → (directory number : ℕ) → List Check
+may_go File d t = IsAFile t ∷ MayRemove d t ∷ IsLeased t ∷ []
+may_go Directory d t = IsADirectory t ∷ MayRemove d t ∷ IsLeased t ∷ HasNoNames t ∷ []
 
 abbrev pub on_number : Option ℕ → (ℕ → List Check) → List Check
 on_number None checks = []
@@ -123,12 +136,13 @@ payload_fits offset (b ∷ bs) = EndIsInRange (offset + length (b ∷ bs)) ∷ [
 -- the checks of where a Rename moves a node: a directory doesn't go below itself, and a node that is
 -- replaced has the same kind
 abbrev pub arrival_checks : Kind → (moved directory : ℕ) → Option ℕ → List Check
-arrival_checks File s e there = on_number there (may_go File)
-arrival_checks Directory s e there = IsNotAbove s e ∷ on_number there (may_go Directory)
+arrival_checks File s e there = on_number there (may_go File e)
+arrival_checks Directory s e there = IsNotAbove s e ∷ on_number there (may_go Directory e)
 
 abbrev pub move_checks : EntryContext → (d e moved : ℕ) → Option ℕ → List Check
 move_checks context d e s there =
-    MayWrite d ∷ MayWrite e ∷ IsLeased d ∷ IsLeased e ∷ IsLeased s ∷ Sees (HeaderOf s) ∷ arrival_checks (kind_shown (context.now.head s)) s e there
+    MayWrite d ∷ MayWrite e ∷ MayRemove d s ∷ IsLeased d ∷ IsLeased e ∷ IsLeased s ∷ Sees (HeaderOf s)
+    ∷ arrival_checks (kind_shown (context.now.head s)) s e there
 
 -- the further checks of a Rename, given what its two names lead to; there are none where that is one
 -- node
@@ -143,7 +157,7 @@ checks_of context (Create d m n kind mode) = is_directory_node d ++ (may_change_
 checks_of context (Write n offset payload) = is_file_node n ++ (MayWrite n ∷ IsLeased n ∷ payload_fits offset payload)
 checks_of context (Truncate n size) = is_file_node n ++ (MayWrite n ∷ IsLeased n ∷ EndIsInRange size ∷ [])
 checks_of context (Link n d m) = is_file_node n ++ (is_directory_node d ++ (may_change_directory d ++ (IsLeased n ∷ NameIsFree d m ∷ HasRoomForLink n ∷ [])))
-checks_of context (Unlink d m kind) = is_directory_node d ++ (may_change_directory d ++ (NameIsThere d m ∷ on_number (context.now.name d m) (may_go kind)))
+checks_of context (Unlink d m kind) = is_directory_node d ++ (may_change_directory d ++ (NameIsThere d m ∷ on_number (context.now.name d m) (may_go kind d)))
 checks_of context (Rename d m e k) =
     is_directory_node d ++ (is_directory_node e ++ (MaySearch d ∷ MaySearch e ∷ NameIsThere d m ∷ Sees (NameIn e k)
     ∷ rename_checks context d e (context.now.name d m) (context.now.name e k)))

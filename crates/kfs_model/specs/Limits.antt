@@ -13,9 +13,13 @@ root_number = 1
 abbrev pub group_limit : ℕ
 group_limit = 16
 
--- the greatest mode, 0o777
+-- the greatest mode of a node, 0o1777: all permission bits and the restricted deletion flag
 abbrev pub greatest_mode : ℕ
-greatest_mode = 511
+greatest_mode = 1023
+
+-- the greatest mode in an entry of a log, 0o777: all permission bits
+abbrev pub greatest_entry_mode : ℕ
+greatest_entry_mode = 511
 
 -- the most bytes of a file, 2^32
 abbrev pub size_limit : ℕ

@@ -4,7 +4,7 @@ use Rattle.std.specs.Prelude.{◌≡◌, ◌≢◌, ℕ, zero, suc, ◌^◌, ◌
 use Rattle.std.specs.List.{list_all, flat_map, AllByRecursion}
 use Rattle.std.specs.Int.{w16, w32, w64, to_be_bytes}
 use Rattle.kfs_model.specs.Header.{Kind, File, Directory, Header}
-use Rattle.kfs_model.specs.Limits.{entry_limit, greatest_mode, name_limit, payload_limit}
+use Rattle.kfs_model.specs.Limits.{entry_limit, greatest_entry_mode, name_limit, payload_limit}
 use Rattle.kfs_model.specs.Entry.{Entry, Log, Create, Write, Truncate, Link, Unlink, Rename, Chmod}
 use Rattle.kfs_model.specs.PlanRow.{NameRow, NodeRow, Source, Zero, Payload, Piece, Plan}
 
@@ -67,7 +67,7 @@ kind_bytes File = byte 0
 kind_bytes Directory = byte 1
 
 abbrev pub IsMode : ℕ → Type 0
-IsMode mode = mode ≤ greatest_mode
+IsMode mode = mode ≤ greatest_entry_mode
 
 -- ---- rows, one after another
 

@@ -7,6 +7,7 @@ pub mod LeaseCases
 pub mod NameCases
 pub mod PlacementCases
 pub mod SpellingCases
+pub mod StickyCases
 use Rattle.std.specs.Prelude.{◌≡◌, ℕ, Bool, true, false, List, [], ◌∷◌, ◌++◌, map, Option, Some, None, Result, Ok, Err}
 use Rattle.kfs_model.specs.Header.{Kind, File, Directory}
 use Rattle.kfs_model.specs.Access.{Client}
@@ -80,6 +81,9 @@ name_d = 100 ∷ []
 abbrev pub name_f : List ℕ
 name_f = 102 ∷ []
 
+abbrev pub name_g : List ℕ
+name_g = 103 ∷ []
+
 abbrev pub name_p : List ℕ
 name_p = 112 ∷ []
 
@@ -88,6 +92,9 @@ name_q = 113 ∷ []
 
 abbrev pub name_r : List ℕ
 name_r = 114 ∷ []
+
+abbrev pub name_t : List ℕ
+name_t = 116 ∷ []
 
 abbrev pub name_x : List ℕ
 name_x = 120 ∷ []

@@ -11,3 +11,4 @@ pub mod leases;
 pub mod names;
 pub mod placement;
 pub mod spellings;
+pub mod sticky;

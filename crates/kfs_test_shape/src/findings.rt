@@ -16,7 +16,7 @@ const ONE: &[NameLine] = &[(1, A, 5)];
 const TWO: &[NameLine] = &[(1, A, 5), (1, B, 7)];
 
 /// Images with the rule and the number that are found in them.
-const BROKEN: [(u8, u32, SmallImage); 12] = [
+const BROKEN: [(u8, u32, SmallImage); 13] = [
     (
         1,
         5,
@@ -49,6 +49,15 @@ const BROKEN: [(u8, u32, SmallImage); 12] = [
         5,
         SmallImage {
             nodes: &[Directory(1), File(5, 4_294_967_297), File(7, 4_294_967_297)],
+            names: TWO,
+            extents: &[],
+        },
+    ),
+    (
+        3,
+        7,
+        SmallImage {
+            nodes: &[Directory(1), File(5, 0), Empty(7, Kind::File, 0o2000, 1)],
             names: TWO,
             extents: &[],
         },
@@ -137,9 +146,14 @@ const BROKEN: [(u8, u32, SmallImage); 12] = [
 ];
 
 /// Images that break no rule.
-const RIGHT: [SmallImage; 3] = [
+const RIGHT: [SmallImage; 4] = [
     SmallImage {
         nodes: &[Directory(1)],
+        names: &[],
+        extents: &[],
+    },
+    SmallImage {
+        nodes: &[Empty(1, Kind::Directory, 0o1777, 1)],
         names: &[],
         extents: &[],
     },

@@ -3,8 +3,9 @@
 /// Logs and plans.
 pub mod entry {
     pub use kfs_entry::{
-        ENTRY_LIMIT, Entry, Header, Kind, Log, Name, NameRow, NodeRow, PAYLOAD_LIMIT, Piece, Plan,
-        RowList, Source, Span, SpellFault, decode_log, decode_plan, encode_log, encode_plan,
+        ENTRY_LIMIT, Entry, GREATEST_ENTRY_MODE, Header, Kind, Log, Name, NameRow, NodeRow,
+        PAYLOAD_LIMIT, Piece, Plan, RowList, Source, Span, SpellFault, decode_log, decode_plan,
+        encode_log, encode_plan,
     };
 }
 
@@ -16,9 +17,9 @@ pub mod mode {
 /// Images.
 pub mod image {
     pub use kfs_image::{
-        Answer, BLOCK_SIZE, Cell, Edit, Extent, ExtentRow, GREATEST_NUMBER, Header, HeaderPage,
-        Image, Kind, LINK_LIMIT, Name, Page, RawImage, RawNode, ReadFault, SIZE_LIMIT, Shape,
-        TIER_LIMIT, TierSizes, look, read_file,
+        Answer, BLOCK_SIZE, Cell, Edit, Extent, ExtentRow, GREATEST_MODE, GREATEST_NUMBER, Header,
+        HeaderPage, Image, Kind, LINK_LIMIT, Name, Page, RawImage, RawNode, ReadFault, SIZE_LIMIT,
+        Shape, TIER_LIMIT, TierSizes, look, read_file,
     };
 }
 

@@ -107,6 +107,7 @@ fn reason_name(reason: Reason) -> &'static [u8]
         Reason::NoWrite => b"NoWrite",
         Reason::NotOwner => b"NotOwner",
         Reason::NoLease(_) => b"NoLease",
+        Reason::Sticky => b"Sticky",
     }
 }
 

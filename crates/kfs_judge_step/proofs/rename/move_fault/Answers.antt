@@ -12,7 +12,7 @@ use Rattle.kfs_judge_check.proofs.Recording.{cut_short, goes_nowhere, goes_then,
 use Rattle.kfs_judge_step.proofs.rename.move_fault.Goals as goal
 
 abbrev by_directories : (d e s : ℕ) → EntryContext → List Check
-by_directories d e s p = Check.MayWrite d ∷ Check.MayWrite e ∷ Check.IsLeased d ∷ Check.IsLeased e ∷ Check.IsLeased s ∷ []
+by_directories d e s p = Check.MayWrite d ∷ Check.MayWrite e ∷ Check.MayRemove d s ∷ Check.IsLeased d ∷ Check.IsLeased e ∷ Check.IsLeased s ∷ []
 
 abbrev arriving : (s e : ℕ) → Option ℕ → EntryContext → List Check
 arriving s e there p = arrival_checks (kind_shown (p.now.head s)) s e there

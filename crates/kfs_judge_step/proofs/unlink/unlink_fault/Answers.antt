@@ -11,11 +11,11 @@ use Rattle.kfs_judge_step.proofs.unlink.unlink_fault.Goals as goal
 abbrev by_directory : ℕ → EntryContext → List Check
 by_directory d p = Check.Exists d ∷ Check.IsADirectory d ∷ Check.MaySearch d ∷ Check.MayWrite d ∷ Check.IsLeased d ∷ []
 
-abbrev going : Kind → Option ℕ → EntryContext → List Check
-going kind there p = on_number there (may_go kind)
+abbrev going : Kind → (d : ℕ) → Option ℕ → EntryContext → List Check
+going kind d there p = on_number there (may_go kind d)
 
 abbrev by_name : ℕ → List ℕ → Kind → EntryContext → List Check
-by_name d m kind p = Check.NameIsThere d m ∷ going kind (p.now.name d m) p
+by_name d m kind p = Check.NameIsThere d m ∷ going kind d (p.now.name d m) p
 
 pub returns-in-Some : goal.returns-in-Some
 unfolding checks_of
@@ -37,7 +37,7 @@ returns-in_default-2 g c =
     let kind = kind_of c.args.kind in
     let front = by_directory d in
     then_back judge front (by_name d m kind) (Some NoSuchName) (found_is judge front _ None c.in_default.is c.in_ok-reason.ensures)
-    (no_name judge d m (going kind) _ c.in_default-2.is c.in_ok-number.ensures)
+    (no_name judge d m (going kind d) _ c.in_default-2.is c.in_ok-number.ensures)
 
 pub returns-in_err-rest : goal.returns-in_err-rest
 returns-in_err-rest g c = cut_short (goes_then c.in_ok-reason.ensures.goes (goes_then c.in_ok-number.ensures.goes c.in_err-rest.ensures.goes)) _ _ _ c.from_residual-in_err-rest.ensures.0
@@ -51,4 +51,4 @@ returns g c =
     let kind = kind_of c.args.kind in
     let front = by_directory d in
     then_back judge front (by_name d m kind) c.in_ok-rest.rest (found_is judge front _ None c.in_default.is c.in_ok-reason.ensures)
-    (behind_name judge d m (going kind) c.in-Some-2.number _ c.in_ok-rest.rest c.in-Some-2.is c.in_ok-number.ensures c.in_ok-rest.ensures)
+    (behind_name judge d m (going kind d) c.in-Some-2.number _ c.in_ok-rest.rest c.in-Some-2.is c.in_ok-number.ensures c.in_ok-rest.ensures)
