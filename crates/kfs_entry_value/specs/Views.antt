@@ -1,5 +1,5 @@
 -- The code's logs and plans as values of the definitions.
-use Rattle.std.specs.Prelude.{ℕ, ◌≤◌, List, slice_range}
+use Rattle.std.specs.Prelude.{ℕ, ◌+◌, ◌≤◌, List, slice_range}
 use Rattle.std.specs.Option.{option_map}
 use Rattle.kfs_entry_value.specs.declared.header.Kind.{Kind as CodeKind}
 use Rattle.kfs_entry_value.specs.declared.header.Kind.TheVariants as kinds
@@ -13,6 +13,7 @@ use Rattle.kfs_entry_value.specs.declared.entry.Span.{Span}
 use Rattle.kfs_entry_value.specs.declared.entry.Entry.{Entry as CodeEntry}
 use Rattle.kfs_entry_value.specs.declared.entry.Entry.TheVariants as entries
 use Rattle.kfs_model.specs.Header.{Kind, File, Directory, Header}
+use Rattle.kfs_model.specs.Limits.{payload_limit}
 use Rattle.kfs_model.specs.Entry.{Entry, Create, Write, Truncate, Link, Unlink, Rename, Chmod}
 use Rattle.kfs_model.specs.PlanRow.{NameRow, NodeRow, Source, Zero, Payload, Piece}
 
@@ -43,6 +44,16 @@ IsWithin len (entries.Link n d m) = Unit {0}
 IsWithin len (entries.Unlink d m k) = Unit {0}
 IsWithin len (entries.Rename d m e k) = Unit {0}
 IsWithin len (entries.Chmod n mode) = Unit {0}
+
+-- a payload's span doesn't end before it starts, and is no longer than a payload may be
+abbrev pub IsSpanned : CodeEntry Span → Type 0
+IsSpanned (entries.Write n offset p) = (p.start ≤ p.end) × (p.end ≤ p.start + payload_limit)
+IsSpanned (entries.Create d m n k mode) = Unit {0}
+IsSpanned (entries.Truncate n size) = Unit {0}
+IsSpanned (entries.Link n d m) = Unit {0}
+IsSpanned (entries.Unlink d m k) = Unit {0}
+IsSpanned (entries.Rename d m e k) = Unit {0}
+IsSpanned (entries.Chmod n mode) = Unit {0}
 
 abbrev pub header_of : CodeHeader → Header
 header_of h = record { kind = kind_of h.kind; mode = h.mode; uid = h.uid; gid = h.gid; links = h.links; size = h.size }

@@ -17,8 +17,8 @@ mod sizes;
 pub use entry::{Entry, Log, Span};
 pub use header::{Header, Kind};
 pub use limits::{
-    BLOCK_SIZE, CLIMB_LIMIT, ENTRY_LIMIT, GREATEST_MODE, GREATEST_NUMBER, LINK_LIMIT,
-    PAYLOAD_LIMIT, ROOT, SIZE_LIMIT, TIER_LIMIT,
+    BLOCK_SIZE, CLIMB_LIMIT, ENTRY_LIMIT, GREATEST_MODE, GREATEST_MODE_OF_VERSION_1,
+    GREATEST_NUMBER, LATEST_VERSION, LINK_LIMIT, PAYLOAD_LIMIT, ROOT, SIZE_LIMIT, TIER_LIMIT,
 };
 pub use name::Name;
 pub use plan::{NameRow, NodeRow, Piece, Plan, Source};

@@ -2,9 +2,10 @@
 -- spelled is read.
 use Rattle.std.proofs.Common.{◌≡◌, ℕ, List, ◌∷◌, ◌++◌, Some, None, refl, inl, inr}
 use Rattle.kfs_model.specs.Entry.{Entry, Create, Write, Truncate, Link, Unlink, Rename, Chmod}
+use Rattle.kfs_model.specs.Limits.{latest_version}
 use Rattle.kfs_model.specs.Spelling.{IsBytes, entry_bytes, IsEntry}
 use Rattle.kfs_model.proofs.Reading.{create_of, write_of, truncate_of, link_of, unlink_of, rename_of, chmod_of, byte_read, create_read, write_read, truncate_read, link_read, unlink_read, rename_read, chmod_read, tagged_read, entry_read}
-use Rattle.kfs_model.proofs.Fields.{some_from, Stands, IsField, both, made_again, byte_field, byte_is, number32_field, number64_field, mode_field, name_field, payload_field, kind_field, tagged_takes}
+use Rattle.kfs_model.proofs.Fields.{some_from, Stands, IsField, both, made_again, byte_field, byte_is, number32_field, number64_field, mode_field, mode_in_range, name_field, payload_field, kind_field, tagged_takes}
 
 module _ (version : ℕ) where
   chosen_takes : (bytes after : List ℕ) (tag : ℕ) (x : Entry × List ℕ) → bytes ≡ tag ∷ after → IsBytes after → tagged_read version tag after ≡ Some x → Stands (IsEntry version) entry_bytes bytes x.0 x.1
@@ -66,3 +67,13 @@ module _ (version : ℕ) where
 
   pub entry_field : IsField (IsEntry version) entry_bytes (entry_read version)
   entry_field = record { takes = entry_takes; again = entry_again }
+
+-- an entry of a log of any version is one of the latest
+pub is_of_latest : (version : ℕ) (e : Entry) → IsEntry version e → IsEntry latest_version e
+is_of_latest version (Create d m n k mode) h = (h.0, h.1, h.2, mode_in_range version mode h.3)
+is_of_latest version (Write n offset p) h = h
+is_of_latest version (Truncate n size) h = h
+is_of_latest version (Link n d m) h = h
+is_of_latest version (Unlink d m k) h = h
+is_of_latest version (Rename d m e k) h = h
+is_of_latest version (Chmod n mode) h = (h.0, mode_in_range version mode h.1)

@@ -4,7 +4,7 @@ ghost use Rattle.std.specs.List.{AllByRecursion};
 ghost use Rattle.kfs_model.specs.Judgement.{State};
 ghost use Rattle.kfs_model.specs.Lease.{row_of};
 ghost use Rattle.kfs_model.specs.Limits.{entry_limit};
-ghost use Rattle.kfs_plan_sweep.specs.Sizes.{IsSpanned};
+ghost use Rattle.kfs_entry_value.specs.Views.{IsSpanned};
 ghost use Rattle.kfs_judge_check.specs.Reads.{Agrees};
 ghost use Rattle.kfs_judge.specs.Walks.{HasOrderedSizes};
 ghost use Rattle.kfs_judge_check.specs.View.{clients_of, client_sight_in};

@@ -5,7 +5,7 @@ use Rattle.std.specs.List.{list_any, AllByRecursion}
 use Rattle.kfs_model.specs.Access.{Client}
 use Rattle.kfs_model.specs.Entry.{Entry, Create, Write, Truncate, Link, Unlink, Rename, Chmod}
 use Rattle.kfs_model.specs.LastCover.{file_size}
-use Rattle.kfs_model.specs.Limits.{payload_limit, size_limit}
+use Rattle.kfs_model.specs.Limits.{size_limit}
 use Rattle.kfs_model.specs.Plan.{ArePieces}
 use Rattle.kfs_model.specs.PlanRow.{Piece}
 use Rattle.kfs_model.specs.Run.{Mark, run, over_marks, marked}
@@ -32,16 +32,6 @@ length_after (s ∷ ss) number = if s.number == number then s.after else length_
 -- no size after the log is over the greatest
 abbrev pub IsSize : FileSize → Type 0
 IsSize s = s.after ≤ size_limit
-
--- a payload's span doesn't end before it starts, and is no longer than a payload may be
-abbrev pub IsSpanned : CodeEntry Span → Type 0
-IsSpanned (entries.Write n offset p) = (p.start ≤ p.end) × (p.end ≤ p.start + payload_limit)
-IsSpanned (entries.Create d m n k mode) = Unit {0}
-IsSpanned (entries.Truncate n size) = Unit {0}
-IsSpanned (entries.Link n d m) = Unit {0}
-IsSpanned (entries.Unlink d m k) = Unit {0}
-IsSpanned (entries.Rename d m e k) = Unit {0}
-IsSpanned (entries.Chmod n mode) = Unit {0}
 
 -- the range by which a file grew
 abbrev pub growth_of : FileSize → ByteRange

@@ -2,11 +2,11 @@
 ghost use Rattle.std.specs.Prelude.{◌≡◌, ◌≤◌, ◌++◌, IfOk, IfSome, length, map};
 ghost use Rattle.std.specs.List.{AllByRecursion};
 ghost use Rattle.kfs_model.specs.Limits.{entry_limit};
-ghost use Rattle.kfs_entry_value.specs.Views.{piece_of};
+ghost use Rattle.kfs_entry_value.specs.Views.{piece_of, IsSpanned};
 ghost use Rattle.kfs_plan_sweep.specs.Lefts.{IsFilled, PieceIsInRange};
 ghost use Rattle.kfs_plan_sweep.specs.Made.{IsFit};
 ghost use Rattle.kfs_plan_sweep.specs.Parts.{AreByNumber};
-ghost use Rattle.kfs_plan_sweep.specs.Sizes.{AreRightFrom, SizesAscend, IsSize, IsSpanned, growth_of, growths, reach_of, reaches};
+ghost use Rattle.kfs_plan_sweep.specs.Sizes.{AreRightFrom, SizesAscend, IsSize, growth_of, growths, reach_of, reaches};
 
 use crate::byte_range::{ByteRange, Origin};
 use crate::pieces::right_pieces;

@@ -1,6 +1,6 @@
 use Rattle.std.proofs.Common.{◌≤◌, ◌+◌, subst, arith}
 use Rattle.kfs_model.specs.Limits.{payload_limit, size_limit}
-use Rattle.kfs_plan_sweep.specs.Sizes.{IsSpanned}
+use Rattle.kfs_entry_value.specs.Views.{IsSpanned}
 use Rattle.kfs_plan_sweep.proofs.SizeOrder.{size_is_short}
 use Rattle.kfs_plan_sweep.proofs.log.reach.Goals as goal
 
