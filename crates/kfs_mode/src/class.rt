@@ -69,7 +69,7 @@ pub fn class_of(client: &Client, uid: u32, gid: u32) -> Class
     }
 }
 
-/// Whether the client may do this with a node of this uid, gid and mode (0 to 0o777). A privileged
+/// Whether the client may do this with a node of this uid, gid and mode (0 to 0o1777). A privileged
 /// client always may; any other may where the mode has the bit in the one class that counts. Takes no
 /// memory.
 pub fn may(client: &Client, uid: u32, gid: u32, mode: u16, want: Want) -> bool

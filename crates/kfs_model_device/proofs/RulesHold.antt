@@ -97,10 +97,10 @@ module _ (raw : RawImage) (well_formed : IsWellFormed raw) where
   pub root_there : IsTrue (is_directory (get (heads_of raw) 1))
   root_there = holds_2.0
 
-  pub headers_fit : AllByRecursion (λ row. (row.header.mode ≤ 511) × (row.header.size ≤ 4294967296) × (kind_fits row.header.kind row.header.links row.header.size ≡ true)) raw.nodes
+  pub headers_fit : AllByRecursion (λ row. (row.header.mode ≤ 1023) × (row.header.size ≤ 4294967296) × (kind_fits row.header.kind row.header.links row.header.size ≡ true)) raw.nodes
   headers_fit =
-      each_tested (λ row. (row.header.mode ≤ 511) × (row.header.size ≤ 4294967296) × (kind_fits row.header.kind row.header.links row.header.size ≡ true)) header_test
-      (λ row holds. (leb-true row.header.mode 511 (left _ _ (left _ _ holds)), leb-true row.header.size 4294967296 (right _ _ (left _ _ holds)), right _ _ holds))
+      each_tested (λ row. (row.header.mode ≤ 1023) × (row.header.size ≤ 4294967296) × (kind_fits row.header.kind row.header.links row.header.size ≡ true)) header_test
+      (λ row holds. (leb-true row.header.mode 1023 (left _ _ (left _ _ holds)), leb-true row.header.size 4294967296 (right _ _ (left _ _ holds)), right _ _ holds))
       raw.nodes holds_3
 
   pub named_rightly : AllByRecursion (λ row. names_fit row.header.kind row.number row.header.links (name_count (names_of raw) row.number) ≡ true) raw.nodes

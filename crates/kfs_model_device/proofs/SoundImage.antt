@@ -68,7 +68,7 @@ module _ (raw : RawImage) where
   module _ (well_formed : IsWellFormed raw) where
     fit : (number : ℕ) (h : Header) → get (heads_of raw) number ≡ Some h → HeaderFits (names_of raw) number h
     fit number h is = record {
-      as_kind = (each_head (λ number h. (h.mode ≤ 511) × (h.size ≤ 4294967296) × (kind_fits h.kind h.links h.size ≡ true)) (headers_fit raw well_formed) number h is).2;
+      as_kind = (each_head (λ number h. (h.mode ≤ 1023) × (h.size ≤ 4294967296) × (kind_fits h.kind h.links h.size ≡ true)) (headers_fit raw well_formed) number h is).2;
       as_named = each_head (λ number h. names_fit h.kind number h.links (name_count (names_of raw) number) ≡ true) (named_rightly raw well_formed) number h is;
     }
 
@@ -131,7 +131,7 @@ module _ (raw : RawImage) where
       ranges : (number : ℕ) (h : Header) → head number ≡ Some h → InRange number h
       ranges number h is =
           let numbered = each_head (λ number h. (1 ≤ number) × (number ≤ 65536)) (numbers_in_range raw well_formed) number h is in
-          let fitting = each_head (λ number h. (h.mode ≤ 511) × (h.size ≤ 4294967296) × (kind_fits h.kind h.links h.size ≡ true)) (headers_fit raw well_formed) number h is in
+          let fitting = each_head (λ number h. (h.mode ≤ 1023) × (h.size ≤ 4294967296) × (kind_fits h.kind h.links h.size ≡ true)) (headers_fit raw well_formed) number h is in
           let ids = each_head (λ number h. (h.uid < 2 ^ 32) × (h.gid < 2 ^ 32)) spelled.ids number h is in
           record { least = numbered.0; greatest = numbered.1; mode = fitting.0; uid = ids.0; gid = ids.1; size = fitting.1 }
 

@@ -47,7 +47,7 @@ fn is_header_in_range(row: &RawNode) -> bool
     header.mode <= GREATEST_MODE && u128::from(header.size) <= SIZE_LIMIT && fits
 }
 
-/// Rule 3: the least number of a node whose mode is over 0o777 or whose size is over 2^32, or of a
+/// Rule 3: the least number of a node whose mode is over 0o1777 or whose size is over 2^32, or of a
 /// directory with other links than 1 or another size than 0. None if there is no such node. Takes no
 /// memory.
 pub fn least_bad_header<A: Allocator>(raw: &RawImage<A>) -> Option<u32>
