@@ -70,7 +70,7 @@ module _ (desk : Parts) (is_desk : IsDesk desk) (lawful : IsLawful desk.image) (
 
   -- the plan's pieces can be cut into blocks
   pub plan_whole : AllByRecursion PieceIsInRange plan.pieces
-  plan_whole = whole.pieces_whole yes.client sight_before s.tree entries marked_after refl yes.comes.ran_marked yes.spelled.log_read.0.1 after yes.comes.sound heads_alike plan.pieces yes.right.pieces.said
+  plan_whole = whole.pieces_whole yes.client sight_before s.tree entries marked_after refl yes.comes.ran_marked log.version yes.spelled.log_read.0.1 after yes.comes.sound heads_alike plan.pieces yes.right.pieces.said
 
   pub plan_filled : AllByRecursion IsFilled plan.pieces
   plan_filled = whole.pieces_filled marked_after plan.pieces yes.right.pieces.said

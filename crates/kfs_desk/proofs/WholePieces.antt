@@ -26,10 +26,10 @@ use Rattle.kfs_plan_sweep.specs.Lefts.{IsFilled, IsPlaceShort, PieceIsInRange}
 -- ---- marks of payloads
 
 -- an entry gives a mark of its payload at a place in it
-covered_short : (index : ℕ) (entry : Entry) (number place e q : ℕ) → IsEntry entry → covered_by index entry number place ≡ Some (Payload e q) → q < payload_limit
+covered_short : (version index : ℕ) (entry : Entry) (number place e q : ℕ) → IsEntry version entry → covered_by index entry number place ≡ Some (Payload e q) → q < payload_limit
 unfolding covered_by
-covered_short index (Create d m n kind mode) number place e q fits is = cc
-covered_short index (Write n offset payload) number place e q fits is = at ((number == n) && leb offset place && ltb place (offset + length payload)) refl is
+covered_short version index (Create d m n kind mode) number place e q fits is = cc
+covered_short version index (Write n offset payload) number place e q fits is = at ((number == n) && leb offset place && ltb place (offset + length payload)) refl is
   where
     at : (b : Bool) → ((number == n) && leb offset place && ltb place (offset + length payload)) ≡ b → cond b (Some (Payload index (place - offset))) None ≡ Some (Payload e q) → q < payload_limit
     at true inside is =
@@ -40,27 +40,27 @@ covered_short index (Write n offset payload) number place e q fits is = at ((num
         let there : place - offset ≡ q = cc in
         subst (λ k. k < payload_limit) there (omega (arith, end, low, short))
     at false inside is = cc
-covered_short index (Truncate n size) number place e q fits is = at ((number == n) && leb size place) is
+covered_short version index (Truncate n size) number place e q fits is = at ((number == n) && leb size place) is
   where
     at : (b : Bool) → ◌≡◌ {A = Option Mark} (cond b (Some Mark.Zero) None) (Some (Payload e q)) → q < payload_limit
     at true is = cc
     at false is = cc
-covered_short index (Link n d m) number place e q fits is = cc
-covered_short index (Unlink d m kind) number place e q fits is = cc
-covered_short index (Rename d m o k) number place e q fits is = cc
-covered_short index (Chmod n mode) number place e q fits is = cc
+covered_short version index (Link n d m) number place e q fits is = cc
+covered_short version index (Unlink d m kind) number place e q fits is = cc
+covered_short version index (Rename d m o k) number place e q fits is = cc
+covered_short version index (Chmod n mode) number place e q fits is = cc
 
-last_short : (index : ℕ) (entries : List Entry) (number place e q : ℕ) → AllByRecursion IsEntry entries → last_cover index entries number place ≡ Some (Payload e q) → q < payload_limit
+last_short : (version index : ℕ) (entries : List Entry) (number place e q : ℕ) → AllByRecursion (IsEntry version) entries → last_cover index entries number place ≡ Some (Payload e q) → q < payload_limit
 unfolding last_cover
-last_short index [] number place e q fit is = cc
-last_short index (entry ∷ entries) number place e q fit is = at (last_cover (index + 1) entries number place) (last_short (index + 1) entries number place e q fit.1) is
+last_short version index [] number place e q fit is = cc
+last_short version index (entry ∷ entries) number place e q fit is = at (last_cover (index + 1) entries number place) (last_short version (index + 1) entries number place e q fit.1) is
   where
     at : (o : Option Mark) → (o ≡ Some (Payload e q) → q < payload_limit) → option_or o (covered_by index entry number place) ≡ Some (Payload e q) → q < payload_limit
-    at None more is = covered_short index entry number place e q fit.0 is
+    at None more is = covered_short version index entry number place e q fit.0 is
     at (Some mark) more is = more is
 
 module _ (client : Client) (seen : ClientSight) (before : Tree ℕ) (entries : List Entry) (marked_after : Tree Mark) (opens : seen.sight ≡ sight before)
-    (ran : run over_marks client seen (marked before) entries ≡ Ok marked_after) (fit : AllByRecursion IsEntry entries) where
+    (ran : run over_marks client seen (marked before) entries ≡ Ok marked_after) (version : ℕ) (fit : AllByRecursion (IsEntry version) entries) where
   payload_short : (number place e q : ℕ) → mark_at marked_after number place ≡ Some (Payload e q) → q < payload_limit
   payload_short number place e q there = at (ltb place (file_size marked_after number)) (sym (mark_is client seen before entries marked_after opens ran number place) ∙ there)
     where
@@ -70,7 +70,7 @@ module _ (client : Client) (seen : ClientSight) (before : Tree ℕ) (entries : L
 
       of_cover : (found : Option Mark) → last_cover 0 entries number place ≡ found → unwrap_or found (start_mark before number place) ≡ Payload e q → q < payload_limit
       of_cover None is same = from_start (ltb place (file_size before number)) same
-      of_cover (Some mark) is same = last_short 0 entries number place e q fit (is ∙ ap Some same)
+      of_cover (Some mark) is same = last_short version 0 entries number place e q fit (is ∙ ap Some same)
 
       at : (b : Bool) → ◌≡◌ {A = Option Mark} (cond b (Some (unwrap_or (last_cover 0 entries number place) (start_mark before number place))) None) (Some (Payload e q)) → q < payload_limit
       at true is = of_cover (last_cover 0 entries number place) refl (let same : unwrap_or (last_cover 0 entries number place) (start_mark before number place) ≡ Payload e q = cc in same)

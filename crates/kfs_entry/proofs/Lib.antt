@@ -1,5 +1,6 @@
 -- Lemmas on what was decoded and encoded.
 pub mod RowLaws
+pub mod Spans
 pub mod Answered
 pub mod DecodedLog
 pub mod DecodedPlan

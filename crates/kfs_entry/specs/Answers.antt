@@ -8,18 +8,22 @@ use Rattle.kfs_entry_value.specs.declared.plan.Plan.{Plan as CodePlan}
 use Rattle.kfs_model.specs.Entry.{Log}
 use Rattle.kfs_model.specs.PlanRow.{Plan}
 use Rattle.kfs_model.specs.Spelling.{SpellingFault, BadHeader, BadEntry, Trailing, BadRow}
-use Rattle.kfs_entry_value.specs.Views.{entry_of, name_row_of, node_row_of, piece_of, IsWithin}
+use Rattle.kfs_entry_value.specs.Views.{entry_of, name_row_of, node_row_of, piece_of, IsSpanned, IsWithin}
 
 -- the log, with the payloads' bytes in place of their spans
 abbrev pub log_of : {A : Type 0} → List ℕ → CodeLog A → Log
-log_of source l = record { client = l.client; entries = map (entry_of source) l.entries }
+log_of source l = record { version = l.version; client = l.client; entries = map (entry_of source) l.entries }
 
 -- each payload's span lies in a source of this length
 abbrev pub SpansAreWithin : {A : Type 0} → ℕ → CodeLog A → Type 0
 SpansAreWithin len l = AllByRecursion (IsWithin len) l.entries
 
+-- no payload's span ends before it starts or is longer than a payload may be
+abbrev pub AreSpanned : {A : Type 0} → CodeLog A → Type 0
+AreSpanned l = AllByRecursion IsSpanned l.entries
+
 abbrev pub plan_of : {A : Type 0} → CodePlan A → Plan
-plan_of p = record { names = map name_row_of p.names; nodes = map node_row_of p.nodes; pieces = map piece_of p.pieces }
+plan_of p = record { version = p.version; names = map name_row_of p.names; nodes = map node_row_of p.nodes; pieces = map piece_of p.pieces }
 
 -- P holds of the refusal, unless it is that memory was refused
 abbrev pub OnRefusal : {M : Type 0} → (Result M SpellingFault → Type 0) → SpellFault → Type 0

@@ -8,69 +8,74 @@ ghost use Rattle.kfs_model.specs.PlanRow.{Plan as PlanValue};
 ghost use Rattle.kfs_model.specs.Spelling.{SpellingFault, LogAnswer, PlanAnswer};
 ghost use Rattle.kfs_entry_codec.specs.RowList.{AreRead};
 ghost use Rattle.kfs_entry.specs.Missing.{EntryMissing, PartRowMissing};
-ghost use Rattle.kfs_entry.specs.Answers.{OnAnswer, log_of, plan_of, SpansAreWithin};
+ghost use Rattle.kfs_entry.specs.Answers.{OnAnswer, log_of, plan_of, AreSpanned, SpansAreWithin};
 
 use crate::fault::SpellFault;
 use kfs_entry_codec::{RowsFault, SpelledRow, headers, read_rows};
 use kfs_entry_value::{Entry, Log, NameRow, NodeRow, Piece, Plan, RowList, Span};
 use std::alloc::Allocator;
 
-/// Reads the entries of a log.
+/// Reads the entries of a log of this version.
 fn entries<R: SpelledRow, A: Allocator>(
     alloc: A,
+    version: u8,
     source: &[u8],
     at: usize,
     count: u16,
 ) -> Result<(Vec<R, A>, usize), SpellFault>
     requires { at ≤ length source.now }
-    ensures found { IfOk result (λ x. AreRead (R.fits source.now) (R.spelling source.now) source.now at count x.0.items x.1) }
-    ensures missing { IfErr result (EntryMissing (R.fits source.now) (R.spelling source.now) R.begins count (drop at source.now)) }
+    ensures found { IfOk result (λ x. AreRead (R.fits version source.now) (R.spelling source.now) source.now at count x.0.items x.1) }
+    ensures missing { IfErr result (EntryMissing (R.fits version source.now) (R.spelling source.now) (R.begins version) count (drop at source.now)) }
 {
-    match read_rows(alloc, source, at, u32::from(count)) {
+    match read_rows(alloc, version, source, at, u32::from(count)) {
         Ok(read) => Ok(read),
         Err(RowsFault::BadRow(k)) => Err(SpellFault::BadEntry(k as u16)),
         Err(RowsFault::OutOfMemory) => Err(SpellFault::OutOfMemory),
     }
 }
 
-/// Reads the rows of one part of a plan.
+/// Reads the rows of one part of a plan of this version.
 fn part<R: SpelledRow, A: Allocator>(
     alloc: A,
+    version: u8,
     source: &[u8],
     at: usize,
     count: u32,
     number: u8,
 ) -> Result<(Vec<R, A>, usize), SpellFault>
     requires { at ≤ length source.now }
-    ensures found { IfOk result (λ x. AreRead (R.fits source.now) (R.spelling source.now) source.now at count x.0.items x.1) }
-    ensures missing { IfErr result (PartRowMissing (R.fits source.now) (R.spelling source.now) R.begins count number (drop at source.now)) }
+    ensures found { IfOk result (λ x. AreRead (R.fits version source.now) (R.spelling source.now) source.now at count x.0.items x.1) }
+    ensures missing { IfErr result (PartRowMissing (R.fits version source.now) (R.spelling source.now) (R.begins version) count number (drop at source.now)) }
 {
-    match read_rows(alloc, source, at, count) {
+    match read_rows(alloc, version, source, at, count) {
         Ok(read) => Ok(read),
         Err(RowsFault::BadRow(k)) => Err(SpellFault::BadRow(number, k)),
         Err(RowsFault::OutOfMemory) => Err(SpellFault::OutOfMemory),
     }
 }
 
-/// `decode_log`, with the clauses `found` and `spans`.
+/// `decode_log`, without the second of its clauses.
 fn log_in<A: Allocator>(alloc: A, source: &[u8]) -> Result<Log<A>, SpellFault>
     ensures found { OnAnswer (log_of source.now) (LogAnswer source.now) result }
     ensures spans { IfOk result (SpansAreWithin (length source.now)) }
+    ensures spanned { IfOk result AreSpanned }
 {
     let Some((header, at)) = headers::read_log(source) else {
         return Err(SpellFault::BadHeader);
     };
-    let (entries, end) = entries::<Entry<Span>, A>(alloc, source, at, header.entries)?;
+    let version = header.version;
+    let (entries, end) = entries::<Entry<Span>, A>(alloc, version, source, at, header.entries)?;
     if end < source.len() {
         return Err(SpellFault::Trailing);
     }
     Ok(Log {
+        version,
         client: header.client,
         entries: RowList::from_vec(entries),
     })
 }
 
-/// Reads a log from bytes. All of `source` must be the log.
+/// Reads a log of version 1 or 2 from bytes. All of `source` must be the log.
 ///
 /// The entries hold spans of `source`: no payload byte is copied or looked at. The list of entries
 /// grows from `alloc` as entries are read. Refused with `BadHeader`, `BadEntry(k)` or `Trailing` where
@@ -81,9 +86,7 @@ pub fn decode_log<A: Allocator>(alloc: A, source: &[u8]) -> Result<Log<A>, Spell
     // Completeness: the right answer is given, unless memory is refused.
     ensures only { (answer : Result LogValue SpellingFault) → LogAnswer source.now answer → OnAnswer (log_of source.now) (λ given. given ≡ answer) result }
     ensures spans { IfOk result (SpansAreWithin (length source.now)) }
-    // What calls over a log's entries ask for.
-    ensures spanned { IfOk result (λ log. AllByRecursion IsSpanned log.entries) }
-    ensures count { IfOk result (λ log. length log.entries ≤ entry_limit) }
+    ensures spanned { IfOk result AreSpanned }
 {
     log_in(alloc, source)
 }
@@ -92,25 +95,27 @@ pub fn decode_log<A: Allocator>(alloc: A, source: &[u8]) -> Result<Log<A>, Spell
 fn plan_in<A: Allocator + Clone>(alloc: A, source: &[u8]) -> Result<Plan<A>, SpellFault>
     ensures { OnAnswer plan_of (PlanAnswer source.now) result }
 {
-    let Some((counts, at)) = headers::read_plan(source) else {
+    let Some((header, at)) = headers::read_plan(source) else {
         return Err(SpellFault::BadHeader);
     };
+    let version = header.version;
     let first = alloc.clone()?;
     let second = alloc.clone()?;
-    let (names, at) = part::<NameRow, A>(first, source, at, u32::from(counts.names), 0)?;
-    let (nodes, at) = part::<NodeRow, A>(second, source, at, u32::from(counts.nodes), 1)?;
-    let (pieces, end) = part::<Piece, A>(alloc, source, at, counts.pieces, 2)?;
+    let (names, at) = part::<NameRow, A>(first, version, source, at, u32::from(header.names), 0)?;
+    let (nodes, at) = part::<NodeRow, A>(second, version, source, at, u32::from(header.nodes), 1)?;
+    let (pieces, end) = part::<Piece, A>(alloc, version, source, at, header.pieces, 2)?;
     if end < source.len() {
         return Err(SpellFault::Trailing);
     }
     Ok(Plan {
+        version,
         names: RowList::from_vec(names),
         nodes: RowList::from_vec(nodes),
         pieces: RowList::from_vec(pieces),
     })
 }
 
-/// Reads a plan from bytes. All of `source` must be the plan.
+/// Reads a plan of version 1 or 2 from bytes. All of `source` must be the plan.
 ///
 /// The three lists grow from `alloc` as rows are read. Refused with `BadHeader`, `BadRow(part, k)` or
 /// `Trailing` where the bytes leave the format, and with `OutOfMemory` where memory is refused; nothing

@@ -8,8 +8,8 @@ use thiserror::Error;
 /// Why bytes weren't decoded. Nothing of them is kept.
 #[derive(Clone, Copy, Debug, PartialEq, Eq, Error)]
 pub enum SpellFault {
-    /// 1: the bytes don't begin with a header: there are too few, the magic or the version is another,
-    /// or a log's count is over 4,096.
+    /// 1: the bytes don't begin with a header. There are too few, the magic is another, the version is
+    /// neither 1 nor 2, or a log's count is over 4,096.
     #[error("BadHeader")]
     BadHeader,
     /// 2: this many entries were read, fewer than the log's count, and no entry follows.

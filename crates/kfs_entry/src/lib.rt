@@ -12,6 +12,6 @@ pub use decoding::{decode_log, decode_plan};
 pub use encoding::{encode_log, encode_plan};
 pub use fault::SpellFault;
 pub use kfs_entry_value::{
-    ENTRY_LIMIT, Entry, GREATEST_ENTRY_MODE, GREATEST_MODE, Header, Kind, Log, Name, NameRow,
-    NodeRow, PAYLOAD_LIMIT, Piece, Plan, RowList, Source, Span,
+    ENTRY_LIMIT, Entry, GREATEST_MODE, GREATEST_MODE_OF_VERSION_1, Header, Kind, LATEST_VERSION,
+    Log, Name, NameRow, NodeRow, PAYLOAD_LIMIT, Piece, Plan, RowList, Source, Span,
 };

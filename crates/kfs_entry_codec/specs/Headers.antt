@@ -1,10 +1,10 @@
--- The counts that the code reads and writes, as headers of the definitions.
-use Rattle.kfs_entry_codec.specs.declared.headers.LogCounts.{LogCounts}
-use Rattle.kfs_entry_codec.specs.declared.headers.PlanCounts.{PlanCounts}
-use Rattle.kfs_model.specs.Spelling.{LogHeader, Counts}
+-- The headers that the code reads and writes, as values of the definitions.
+use Rattle.kfs_entry_codec.specs.declared.headers.LogHeader.{LogHeader as CodeLogHeader}
+use Rattle.kfs_entry_codec.specs.declared.headers.PlanHeader.{PlanHeader as CodePlanHeader}
+use Rattle.kfs_model.specs.Spelling.{LogHeader, PlanHeader}
 
-abbrev pub log_header_of : LogCounts → LogHeader
-log_header_of h = record { client = h.client; count = h.entries }
+abbrev pub log_header_of : CodeLogHeader → LogHeader
+log_header_of h = record { version = h.version; client = h.client; count = h.entries }
 
-abbrev pub counts_of : PlanCounts → Counts
-counts_of c = record { names = c.names; nodes = c.nodes; pieces = c.pieces }
+abbrev pub plan_header_of : CodePlanHeader → PlanHeader
+plan_header_of h = record { version = h.version; names = h.names; nodes = h.nodes; pieces = h.pieces }

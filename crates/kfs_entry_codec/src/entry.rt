@@ -16,11 +16,21 @@ const TRUNCATE: u8 = 3;
 
 const CHMOD: u8 = 7;
 
+/// Reads an entry's field. The range of a mode depends on the log's version.
+macro_rules! read_field {
+    (mode $version:ident, $source:ident, $at:ident) => {
+        mode::read($version, $source, $at)
+    };
+    ($codec:ident $version:ident, $source:ident, $at:ident) => {
+        $codec::read($source, $at)
+    };
+}
+
 macro_rules! read_case {
-    ([$tag:ident, $source:ident, $at:ident] $($number:literal $variant:ident $call:ident { $($field:ident: $codec:ident),* })*) => {
+    ([$version:ident, $tag:ident, $source:ident, $at:ident] $($number:literal $variant:ident $call:ident { $($field:ident: $codec:ident),* })*) => {
         match $tag {
             $($number => {
-                $(let ($field, $at) = $codec::read($source, $at)?;)*
+                $(let ($field, $at) = read_field!($codec $version, $source, $at)?;)*
                 Some((Entry::$variant { $($field),* }, $at))
             })*
             _ => None,
@@ -47,63 +57,70 @@ macro_rules! len_case {
     };
 }
 
-/// The entry with this tag whose fields are at position `at`, and the position after it.
+/// The entry with this tag, of a log of this version, whose fields are at position `at`, and the
+/// position after it.
 #[inline(always)]
-fn read_fields(tag: u8, source: &[u8], at: usize) -> Option<(Entry<Span>, usize)>
+fn read_fields(version: u8, tag: u8, source: &[u8], at: usize) -> Option<(Entry<Span>, usize)>
     requires { at ≤ length source.now }
-    ensures value { seen (entry_of source.now) source.now result ≡ tagged_read tag (drop at source.now) }
+    ensures value { seen (entry_of source.now) source.now result ≡ tagged_read version tag (drop at source.now) }
     ensures within { IfSome result (λ x. IsWithin (length source.now) x.0 × (x.1 ≤ length source.now)) }
 {
-    entry_table!(read_case(tag, source, at))
+    entry_table!(read_case(version, tag, source, at))
 }
 
 /// The same, as a call of its own.
 #[inline(never)]
-fn read_fields_apart(tag: u8, source: &[u8], at: usize) -> Option<(Entry<Span>, usize)>
+fn read_fields_apart(
+    version: u8,
+    tag: u8,
+    source: &[u8],
+    at: usize,
+) -> Option<(Entry<Span>, usize)>
     requires { at ≤ length source.now }
-    ensures value { seen (entry_of source.now) source.now result ≡ tagged_read tag (drop at source.now) }
+    ensures value { seen (entry_of source.now) source.now result ≡ tagged_read version tag (drop at source.now) }
     ensures within { IfSome result (λ x. IsWithin (length source.now) x.0 × (x.1 ≤ length source.now)) }
 {
-    read_fields(tag, source, at)
+    read_fields(version, tag, source, at)
 }
 
 // A function's frame is cleared at each call, and names are long. So an entry without a name is read in
 // a function whose frame holds none.
 #[tactic(auto, unfolding(kfs_model::proofs::Reading::entry_read))]
-fn read_entry(source: &[u8], at: usize) -> Option<(Entry<Span>, usize)>
+fn read_entry(version: u8, source: &[u8], at: usize) -> Option<(Entry<Span>, usize)>
     requires { at ≤ length source.now }
-    ensures value { seen (entry_of source.now) source.now result ≡ entry_read (drop at source.now) }
+    ensures value { seen (entry_of source.now) source.now result ≡ entry_read version (drop at source.now) }
     ensures within { IfSome result (λ x. IsWithin (length source.now) x.0 × (x.1 ≤ length source.now)) }
 {
     let (tag, at) = byte::read(source, at)?;
     match tag {
-        WRITE => read_fields(WRITE, source, at),
-        TRUNCATE => read_fields(TRUNCATE, source, at),
+        WRITE => read_fields(version, WRITE, source, at),
+        TRUNCATE => read_fields(version, TRUNCATE, source, at),
         CHMOD => {
             let (number, at) = number32::read(source, at)?;
-            let (mode, at) = mode::read(source, at)?;
+            let (mode, at) = mode::read(version, source, at)?;
             Some((Entry::Chmod { number, mode }, at))
         }
-        _ => read_fields_apart(tag, source, at),
+        _ => read_fields_apart(version, tag, source, at),
     }
 }
 
 impl SpelledRow for Entry<Span> {
     ghost use Rattle.std.specs.Prelude.{length};
+    ghost use Rattle.kfs_model.specs.Limits.{latest_version};
     ghost use Rattle.kfs_model.specs.Spelling.{IsEntry, entry_bytes};
     ghost use Rattle.kfs_entry_value.specs.Views.{entry_of, IsWithin};
     ghost use Rattle.kfs_model.specs.Spelling.{Begins};
 
     ghost spelling = { λ source entry. entry_bytes (entry_of source entry) };
 
-    ghost fits = { λ source entry. IsWithin (length source) entry × IsEntry (entry_of source entry) };
+    ghost fits = { λ version source entry. IsWithin (length source) entry × IsEntry version (entry_of source entry) };
 
-    ghost can_write = { λ source entry. IsWithin (length source) entry × IsEntry (entry_of source entry) };
+    ghost can_write = { λ source entry. IsWithin (length source) entry × IsEntry latest_version (entry_of source entry) };
 
-    ghost begins = { Begins IsEntry entry_bytes };
+    ghost begins = { λ version. Begins (IsEntry version) entry_bytes };
 
-    fn read(source: &[u8], at: usize) -> Option<(Self, usize)> {
-        read_entry(source, at)
+    fn read(version: u8, source: &[u8], at: usize) -> Option<(Self, usize)> {
+        read_entry(version, source, at)
     }
 
     fn write<A: Allocator>(&self, out: &mut Vec<u8, A>, source: &[u8]) -> Result<(), AllocError> {

@@ -1,22 +1,35 @@
-//! The mode of an entry, 0 to 0o777, as two bytes.
+//! The mode that an entry sets, as two bytes: 0 to 0o777 in a log of version 1, 0 to 0o1777 in one of
+//! version 2.
 ghost use Rattle.std.specs.Prelude.{◌≡◌, ◌≤◌, ◌++◌, length, drop, IfSome, OnOk};
-ghost use Rattle.kfs_model.specs.Spelling.{number16};
+ghost use Rattle.kfs_model.specs.Spelling.{number16, greatest_mode_of};
 ghost use Rattle.kfs_model.proofs.Reading.{mode_read};
 ghost use Rattle.kfs_entry_codec.specs.Reading.{seen};
 
 use crate::number16;
-use kfs_entry_value::GREATEST_ENTRY_MODE;
+use kfs_entry_value::{GREATEST_MODE, GREATEST_MODE_OF_VERSION_1};
 use std::alloc::{AllocError, Allocator};
 
-/// The field at position `at`, and the position after it; none where no such field is there.
+/// The greatest mode in a log of this version.
+fn greatest_of(version: u8) -> u16
+    ensures { result ≡ greatest_mode_of version }
+{
+    if version == 1 {
+        GREATEST_MODE_OF_VERSION_1
+    } else {
+        GREATEST_MODE
+    }
+}
+
+/// The field at position `at` of a log of this version, and the position after it; none where no such
+/// field is there.
 #[tactic(auto, unfolding(kfs_model::proofs::Reading::mode_read))]
-pub fn read(source: &[u8], at: usize) -> Option<(u16, usize)>
+pub fn read(version: u8, source: &[u8], at: usize) -> Option<(u16, usize)>
     requires { at ≤ length source.now }
-    ensures value { seen (λ n. n) source.now result ≡ mode_read (drop at source.now) }
+    ensures value { seen (λ n. n) source.now result ≡ mode_read version (drop at source.now) }
     ensures within { IfSome result (λ x. x.1 ≤ length source.now) }
 {
     let (mode, at) = number16::read(source, at)?;
-    if mode > GREATEST_ENTRY_MODE {
+    if mode > greatest_of(version) {
         return None;
     }
     Some((mode, at))

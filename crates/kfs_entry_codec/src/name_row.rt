@@ -29,13 +29,13 @@ impl SpelledRow for NameRow {
 
     ghost spelling = { λ _ row. name_row_bytes (name_row_of row) };
 
-    ghost fits = { λ _ row. IsNameRow (name_row_of row) };
+    ghost fits = { λ _ _ row. IsNameRow (name_row_of row) };
 
     ghost can_write = { λ _ _. Unit {0} };
 
-    ghost begins = { Begins IsNameRow name_row_bytes };
+    ghost begins = { λ _. Begins IsNameRow name_row_bytes };
 
-    fn read(source: &[u8], at: usize) -> Option<(Self, usize)> {
+    fn read(_version: u8, source: &[u8], at: usize) -> Option<(Self, usize)> {
         read_row(source, at)
     }
 

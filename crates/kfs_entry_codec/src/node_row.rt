@@ -28,13 +28,13 @@ impl SpelledRow for NodeRow {
 
     ghost spelling = { λ _ row. node_row_bytes (node_row_of row) };
 
-    ghost fits = { λ _ row. IsNodeRow (node_row_of row) };
+    ghost fits = { λ _ _ row. IsNodeRow (node_row_of row) };
 
     ghost can_write = { λ _ _. Unit {0} };
 
-    ghost begins = { Begins IsNodeRow node_row_bytes };
+    ghost begins = { λ _. Begins IsNodeRow node_row_bytes };
 
-    fn read(source: &[u8], at: usize) -> Option<(Self, usize)> {
+    fn read(_version: u8, source: &[u8], at: usize) -> Option<(Self, usize)> {
         read_row(source, at)
     }
 

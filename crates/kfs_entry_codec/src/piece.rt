@@ -71,13 +71,13 @@ impl SpelledRow for Piece {
 
     ghost spelling = { λ _ piece. piece_bytes (piece_of piece) };
 
-    ghost fits = { λ _ piece. IsPiece (piece_of piece) };
+    ghost fits = { λ _ _ piece. IsPiece (piece_of piece) };
 
     ghost can_write = { λ _ _. Unit {0} };
 
-    ghost begins = { Begins IsPiece piece_bytes };
+    ghost begins = { λ _. Begins IsPiece piece_bytes };
 
-    fn read(source: &[u8], at: usize) -> Option<(Self, usize)> {
+    fn read(_version: u8, source: &[u8], at: usize) -> Option<(Self, usize)> {
         read_piece(source, at)
     }
 

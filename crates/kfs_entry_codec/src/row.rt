@@ -13,21 +13,22 @@ pub trait SpelledRow: Drop {
     /// The bytes that spell the row.
     ghost spelling: { List ℕ → Self → List ℕ };
 
-    /// The row has a spelling, and its spans lie in the source.
-    ghost fits: { List ℕ → Self → Type 0 };
+    /// The row has a spelling in this version of its format, and its spans lie in the source.
+    ghost fits: { ℕ → List ℕ → Self → Type 0 };
 
     /// What `write` requires of a row. It is nothing where any value of the fields' types can be
     /// written.
     ghost can_write: { List ℕ → Self → Type 0 };
 
-    /// The bytes begin with a row.
-    ghost begins: { List ℕ → Type 0 };
+    /// The bytes begin with a row of this version.
+    ghost begins: { ℕ → List ℕ → Type 0 };
 
-    /// The row at position `at`, and the position after it; none where no row stands there.
-    fn read(source: &[u8], at: usize) -> Option<(Self, usize)>
+    /// The row of this version at position `at`, and the position after it; none where no such row
+    /// stands there.
+    fn read(version: u8, source: &[u8], at: usize) -> Option<(Self, usize)>
         requires { at ≤ length source.now }
-        ensures found { IfSome result (λ x. fits source.now x.0 × StandsIn source.now at x.1 (spelling source.now x.0)) }
-        ensures none { IfNone result (begins (drop at source.now) → ⊥) };
+        ensures found { IfSome result (λ x. fits version source.now x.0 × StandsIn source.now at x.1 (spelling source.now x.0)) }
+        ensures none { IfNone result (begins version (drop at source.now) → ⊥) };
 
     /// Appends the row's bytes. `Err` where memory is refused.
     fn write<A: Allocator>(&self, out: &mut Vec<u8, A>, source: &[u8]) -> Result<(), AllocError>
@@ -71,22 +72,23 @@ impl<T: Drop> From<AllocFailed<T>> for RowsFault {
     }
 }
 
-/// Reads `count` rows from position `at` on, and answers them with the position after the last. The
-/// list grows as rows are read: `count` comes from the input and reserves nothing.
+/// Reads `count` rows of this version from position `at` on, and answers them with the position after
+/// the last. The list grows as rows are read: `count` comes from the input and reserves nothing.
 pub fn read_rows<R: SpelledRow, A: Allocator>(
     alloc: A,
+    version: u8,
     source: &[u8],
     at: usize,
     count: u32,
 ) -> Result<(Vec<R, A>, usize), RowsFault>
     requires { at ≤ length source.now }
-    ensures found { IfOk result (λ x. AreRead (R.fits source.now) (R.spelling source.now) source.now at count x.0.items x.1) }
-    ensures missing { IfErr result (RowMissing (R.fits source.now) (R.spelling source.now) R.begins count (drop at source.now)) }
+    ensures found { IfOk result (λ x. AreRead (R.fits version source.now) (R.spelling source.now) source.now at count x.0.items x.1) }
+    ensures missing { IfErr result (RowMissing (R.fits version source.now) (R.spelling source.now) (R.begins version) count (drop at source.now)) }
 {
     let mut rows = Vec::new(alloc);
     let mut end = at;
     for k in 0..count {
-        let Some((row, after)) = R::read(source, end) else {
+        let Some((row, after)) = R::read(version, source, end) else {
             return Err(RowsFault::BadRow(k));
         };
         if rows.push(row).is_err() {

@@ -21,7 +21,8 @@ pub struct Span {
 #[derive(Clone, Debug, PartialEq, Eq, Drop)]
 pub enum Entry<P> {
     /// Makes the empty node `number` with the name `name` in the directory `dir`, with the client's uid
-    /// and gid and the permission bits `mode`, 0 to 0o777 (POSIX `open` with `O_CREAT`, `mkdir`).
+    /// and gid and the permission bits `mode` (POSIX `open` with `O_CREAT`, `mkdir`). A mode is 0 to
+    /// 0o777 in a log of version 1, and 0 to 0o1777 in one of version 2.
     Create {
         dir: u32,
         name: Name,
@@ -64,7 +65,7 @@ pub enum Entry<P> {
         new_dir: u32,
         new_name: Name,
     },
-    /// Sets the permission bits of the node `number` to `mode`, 0 to 0o777 (POSIX `fchmod`).
+    /// Sets the permission bits of the node `number` to `mode`, in the same range (POSIX `fchmod`).
     Chmod {
         number: u32,
         mode: u16,
@@ -74,6 +75,8 @@ pub enum Entry<P> {
 /// A client's update log. The payloads are spans of the bytes that it was read from.
 #[derive(Debug, Drop)]
 pub struct Log<A: Allocator> {
+    /// The version of its format, 1 or 2. It says which modes the entries may have.
+    pub version: u8,
     /// The number of the client whose log it is, any of 32 bits.
     pub client: u32,
     /// At most 4,096, in the order in which they take effect.

@@ -14,7 +14,7 @@ pub enum Kind {
 pub struct Header {
     /// File or directory.
     pub kind: Kind,
-    /// The file permission bits (POSIX.1-2017, XBD 4.5), 0 to 0o1777 in a tree.
+    /// The file permission bits (POSIX.1-2017, XBD 4.5) and the bit 0o1000, 0 to 0o1777 in a tree.
     pub mode: u16,
     /// The user id of the owner, any of 32 bits.
     pub uid: u32,

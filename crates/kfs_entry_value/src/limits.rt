@@ -6,14 +6,15 @@ pub const ROOT: u32 = 1;
 /// The greatest number of a node; the least is 1.
 pub const GREATEST_NUMBER: u32 = 65_536;
 
-/// The greatest mode of a node: all nine permission bits, and `S_ISVTX` (POSIX `<sys/stat.h>`).
+/// The latest version of the formats of logs and plans; the first is 1.
+pub const LATEST_VERSION: u8 = 2;
+
+/// The greatest mode of a node, and in a log of version 2: the nine permission bits, and the bit that
+/// POSIX calls `S_ISVTX` (`<sys/stat.h>`).
 pub const GREATEST_MODE: u16 = 0o1777;
 
-/// The greatest mode in an entry of a log: all nine permission bits.
-pub const GREATEST_ENTRY_MODE: u16 = 0o777;
-
-/// The mode of the root directory of a new image.
-pub const ROOT_MODE: u16 = 0o777;
+/// The greatest mode in a log of version 1, and the mode of a new root: the nine permission bits.
+pub const GREATEST_MODE_OF_VERSION_1: u16 = 0o777;
 
 /// The most bytes of a name (POSIX `NAME_MAX`).
 pub const NAME_LIMIT: usize = 255;

@@ -52,6 +52,8 @@ pub struct Piece {
 /// and the desk only checks it.
 #[derive(Debug, Drop)]
 pub struct Plan<A: Allocator> {
+    /// The version of its format, 1 or 2. It may differ from the log's.
+    pub version: u8,
     /// The names that lead elsewhere, ascending by directory and name.
     pub names: RowList<NameRow, A>,
     /// The nodes with another header, ascending by number.

@@ -1,6 +1,7 @@
 -- A new image shows the tree of the root directory alone, and is lawful.
 use Rattle.std.proofs.Common.{◌≡◌, ℕ, Bool, true, false, cond, List, Option, Some, None, option_map, refl, sym, ap, subst, ◌∙◌}
 use Rattle.std.specs.Ordering.{eq_by_cmp}
+use Rattle.kfs_model.specs.Limits.{greatest_mode_of_version_1}
 use Rattle.kfs_model.specs.Table.{numbers, empty, get}
 use Rattle.kfs_model.proofs.TableLaws.{same_table, get-mapped}
 use Rattle.kfs_model.specs.Tree.{Tree, Node, DirectoryBody, headers, node_header, node_over}
@@ -30,7 +31,7 @@ unfolding get
 node_back content number = by (eq_by_cmp numbers.compare number 1)
   where
     root : Option (Node ℕ)
-    root = Some (record { mode = root_mode; uid = 0; gid = 0; body = DirectoryBody })
+    root = Some (record { mode = greatest_mode_of_version_1; uid = 0; gid = 0; body = DirectoryBody })
 
     by : (at_root : Bool) → option_map (node_over content number) (option_map (node_header fresh.names number) (cond at_root root None)) ≡ cond at_root root None
     by true = refl

@@ -12,7 +12,7 @@ ghost use Rattle.kfs_image_nodes.specs.Rows.{FitPages};
 
 use crate::cell::{Answer, Cell};
 use crate::rows::{NodeTables, name_key};
-use kfs_entry_value::{Header, Kind, Name, NameRow, NodeRow, ROOT, ROOT_MODE};
+use kfs_entry_value::{GREATEST_MODE_OF_VERSION_1, Header, Kind, Name, NameRow, NodeRow, ROOT};
 use kfs_map_pages::{Change, Page};
 use std::alloc::{AllocError, Allocator};
 use std::marker::Model;
@@ -124,7 +124,7 @@ impl<A: Allocator + Clone> Shape<A> {
     {
         let root = Header {
             kind: Kind::Directory,
-            mode: ROOT_MODE,
+            mode: GREATEST_MODE_OF_VERSION_1,
             uid: 0,
             gid: 0,
             links: 1,

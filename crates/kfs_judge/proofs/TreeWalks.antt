@@ -27,7 +27,7 @@ ended shown (Err fault) is = cc
 
 module _ (client : Client) (held : ℕ → Bool) (t : Tree ℕ) (entries : List Entry) (fits : Fits client t entries) where
   seen : shown_run (run over_bytes client (client_sight t held) t entries) ≡ seen_run_from client (client_sight t held) 0 [] (sight t) entries
-  seen = run_is_seen over_bytes bytes_faithful client (client_sight t held) fits.in_range 0 [] t entries fits.sound fits.fitting
+  seen = run_is_seen over_bytes bytes_faithful client (client_sight t held) fits.in_range 0 [] t fits.version entries fits.sound fits.fitting
 
   pub comes_to_tree : {A : Type 0} (outcome : Result (Net A) CodeEntryFault) (sizes : List FileSize) → WalkEndsIn client (client_sight t held) entries outcome sizes → ComesToTree client held t entries outcome sizes
   comes_to_tree (Err fault) sizes comes = stopped (fault_of fault) _ (seen ∙ comes)
@@ -35,7 +35,7 @@ module _ (client : Client) (held : ℕ → Bool) (t : Tree ℕ) (entries : List 
       let (after, is, shown) = ended comes.0 _ (seen ∙ comes.1) in (
         after,
         is,
-        run_keeps_sound over_bytes bytes_faithful client (client_sight t held) fits.in_range 0 [] t entries fits.sound fits.fitting after is,
+        run_keeps_sound over_bytes bytes_faithful client (client_sight t held) fits.in_range 0 [] t fits.version entries fits.sound fits.fitting after is,
         run_is_one_by_one client (client_sight t held) 0 [] t entries after is,
         subst (λ s. IsNetOf (sight t) s net) (sym shown) comes.2,
         subst (λ s. AreSizesBetween (sight t) s entries sizes) (sym shown) comes.3,

@@ -15,6 +15,7 @@ use Rattle.kfs_model.specs.CleanStep.{IsClean, StaysSound}
 use Rattle.kfs_model.proofs.CleanIsAllowed.{AllPass, all_pass, passed}
 use Rattle.kfs_model.proofs.EntryLaws.{mode_in_range}
 use Rattle.kfs_model.proofs.CleanFacts.{some_is, at_tree, clean_at}
+use Rattle.kfs_model.proofs.Fields.{mode_in_range}
 use Rattle.kfs_model.proofs.Heads.{get-headers}
 use Rattle.kfs_model.proofs.NodeStep.{node_seen, node_sound}
 
@@ -74,7 +75,7 @@ module _ {B : Type 0} (filling : Filling B) (context : EntryContext) (index : 鈩
       let (node, there) = node_there t n (passed _ _ pass.0) in
       record {
         sound = node_sound t h.sound n node there (位 node. record node { mode = mode }) (位 h. record h { mode = mode }) (位 h. refl) refl
-            (位 g is. let old = h.sound.ranges n g is in record { least = old.least; greatest = old.greatest; mode = mode_in_range mode h.entry_fits.1; uid = old.uid; gid = old.gid; size = old.size });
+            (位 g is. let old = h.sound.ranges n g is in record { least = old.least; greatest = old.greatest; mode = mode_in_range h.version mode h.entry_fits.1; uid = old.uid; gid = old.gid; size = old.size });
         seen = node_seen t h.sound n node there (位 node. record node { mode = mode }) (位 h. record h { mode = mode }) (位 h. refl) refl;
       }
 

@@ -16,6 +16,7 @@ use Rattle.kfs_model.specs.SeenAfter.{put_at, put_parent, new_header, seen_after
 use Rattle.kfs_model.specs.CleanStep.{IsClient, IsClean, StaysSound}
 use Rattle.kfs_model.proofs.EntryLaws.{mode_in_range}
 use Rattle.kfs_model.proofs.CleanFacts.{at_tree, clean_at, CreateFacts, create_facts}
+use Rattle.kfs_model.proofs.Fields.{mode_in_range}
 use Rattle.kfs_model.proofs.NameTable.{at_number-insert, target-insert}
 use Rattle.kfs_model.proofs.NameAdded.{new_target, kept_target, new_or_old, others_count, own_count, count_shifted}
 use Rattle.kfs_model.proofs.Heads.{stays, named_stays, unnamed, root_is_node, get-swept_headers, kept_head, parent_kept, parent_is, parent_of_none, has_parent, climbs_with, put_parent_elsewhere, put_parent_here}
@@ -147,18 +148,18 @@ module _ {B : Type 0} (filling : Filling B) (client : Client) (index : ℕ) (t :
       let (steps, climb) = reach d facts.directory in
       (suc steps, (d, parent_is heads after n d m (ap is_directory (head_new n refl) ∙ directory) (root_is_node head t.names sound n facts.free_number) new_is_named_once (new_target t.names d m n facts.free_name), climb))
 
-  new_in_range : IsClient client → IsEntry entry → InRange n (new_header client kind mode)
-  new_in_range fits entry_fits = record {
+  new_in_range : IsClient client → (version : ℕ) → IsEntry version entry → InRange n (new_header client kind mode)
+  new_in_range fits version entry_fits = record {
     least = let least = facts.least in let first = (grant_ends client.first client.last fits.grant).0 in omega arith;
     greatest = let greatest = facts.greatest in let last = (grant_ends client.first client.last fits.grant).1 in omega arith;
-    mode = mode_in_range mode entry_fits.3;
+    mode = mode_in_range version mode entry_fits.3;
     uid = fits.uid;
     gid = fits.gid;
     size = omega arith;
   }
 
-  heads_sound : IsClient client → IsEntry entry → AreSound heads after
-  heads_sound fits entry_fits = record {
+  heads_sound : IsClient client → (version : ℕ) → IsEntry version entry → AreSound heads after
+  heads_sound fits version entry_fits = record {
     root = ap is_directory (head_other 1 (ne_eqb 1 n (λ same. root_is_node head t.names sound n facts.free_number (sym same)))) ∙ sound.root;
     names_sound = λ e k number there. name_is_sound e k number entry_fits.1 there;
     directories = λ k directory other.
@@ -176,17 +177,17 @@ module _ {B : Type 0} (filling : Filling B) (client : Client) (index : ℕ) (t :
       range_at : (k : ℕ) (h : Header) (b : Bool) → (k == n) ≡ b → heads k ≡ Some h → InRange k h
       range_at k h true same shown =
           let header_is : new_header client kind mode ≡ h = cc (head_new k (eqb-true k n same)) in
-          subst (λ k. InRange k h) (sym (eqb-true k n same)) (subst (InRange n) header_is (new_in_range fits entry_fits))
+          subst (λ k. InRange k h) (sym (eqb-true k n same)) (subst (InRange n) header_is (new_in_range fits version entry_fits))
       range_at k h false other shown = sound.ranges k h (sym (head_other k other) ∙ shown)
 
-  pub create_sound : IsClient client → IsEntry entry → IsSound (effect filling client index entry t)
+  pub create_sound : IsClient client → (version : ℕ) → IsEntry version entry → IsSound (effect filling client index entry t)
   unfolding change_of without_unnamed
-  create_sound fits entry_fits = subst (λ heads. AreSound heads after) (λ i k. sym (head_after k) i) (heads_sound fits entry_fits)
+  create_sound fits version entry_fits = subst (λ heads. AreSound heads after) (λ i k. sym (head_after k) i) (heads_sound fits version entry_fits)
 
 pub create_kept : {B : Type 0} (filling : Filling B) (context : EntryContext) (index : ℕ) (t : Tree B) (d : ℕ) (m : List ℕ) (n : ℕ) (kind : Kind) (mode : ℕ) → IsClean context t (Create d m n kind mode) → StaysSound filling context.client index t (Create d m n kind mode)
 create_kept filling context index t d m n kind mode h =
     let facts = create_facts (at_tree context t) d m n kind mode (clean_at context t h) in
     record {
-      sound = create_sound filling context.client index t d m n kind mode h.sound facts h.client h.entry_fits;
+      sound = create_sound filling context.client index t d m n kind mode h.sound facts h.client h.version h.entry_fits;
       seen = create_seen filling context.client index t d m n kind mode h.sound facts;
     }

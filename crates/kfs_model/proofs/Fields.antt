@@ -6,8 +6,8 @@ use Rattle.std.proofs.lemmas.List.{take_at, drop_at, take-append-drop, length-ap
 use Rattle.std.proofs.lemmas.Nat.{be_bytes_2, be_bytes_4, be_bytes_8, from_be_bytes-to_be_bytes_2, from_be_bytes-to_be_bytes_4, from_be_bytes-to_be_bytes_8}
 use Rattle.kfs_model.specs.Header.{Kind, File, Directory}
 use Rattle.kfs_model.specs.Steps.{◌>>=◌}
-use Rattle.kfs_model.specs.Spelling.{IsBytes, is_name, byte, number16, number32, number64, IsName, name_bytes, IsPayload, payload_bytes, kind_bytes, IsMode}
-use Rattle.kfs_model.proofs.Reading.{◌&◌, made, byte_read, number_read, number16_read, number32_read, number64_read, bytes_read, name_read, payload_read, kind_read, mode_read}
+use Rattle.kfs_model.specs.Spelling.{IsBytes, is_name, byte, number16, number32, number64, IsName, name_bytes, IsPayload, payload_bytes, kind_bytes, IsVersion, greatest_mode_of, IsMode}
+use Rattle.kfs_model.proofs.Reading.{◌&◌, made, byte_read, number_read, number16_read, number32_read, number64_read, bytes_read, name_read, payload_read, kind_read, mode_read, version_read}
 use Rattle.kfs_model.proofs.NameTest.{is_name_true, is_name_sound}
 
 pub IsBytes-drop : (n : ℕ) (bytes : List ℕ) → IsBytes bytes → IsBytes (drop n bytes)
@@ -111,6 +111,24 @@ byte_again value rest fits = refl
 pub byte_field : IsField any_byte byte byte_read
 byte_field = record { takes = byte_takes; again = byte_again }
 
+-- a byte that is a version
+version_takes : (bytes : List ℕ) (x : ℕ × List ℕ) → IsBytes bytes → version_read bytes ≡ Some x → Stands IsVersion byte bytes x.0 x.1
+unfolding version_read
+version_takes bytes x fits e =
+    let a = some_from (byte_read bytes) (λ v. cond (ltb v.0 1) None (cond (leb v.0 2) (Some v) None)) x e in
+    let least = some_if_not (ltb a.0.0 1) (cond (leb a.0.0 2) (Some a.0) None) x a.2 in
+    let greatest = some_if (leb a.0.0 2) (Some a.0) x least.1 in
+    let m = byte_field.takes bytes a.0 fits a.1 in
+    let stands : Stands IsVersion byte bytes a.0.0 a.0.1 = record { parts = m.parts; fits = (ltb-false a.0.0 1 least.0, leb-true a.0.0 2 greatest.0); rest_bytes = m.rest_bytes } in
+    subst (λ (y : ℕ × List ℕ). Stands IsVersion byte bytes y.0 y.1) (some_is a.0 x greatest.1) stands
+
+version_again : (version : ℕ) (rest : List ℕ) → IsVersion version → version_read (byte version ++ rest) ≡ Some (version, rest)
+unfolding version_read byte_read
+version_again version rest fits = rw (le-ltb version 1 fits.0, le-leb version 2 fits.1) refl
+
+pub version_field : IsField IsVersion byte version_read
+version_field = record { takes = version_takes; again = version_again }
+
 -- ---- numbers
 
 record IsWide (w : Width) (limit : ℕ) : Type 0 where
@@ -174,21 +192,32 @@ pub number64_field : IsField (λ n. n < 2 ^ 64) number64 number64_read
 unfolding number64 number64_read
 number64_field = record { takes = number_takes w64 (2 ^ 64) wide64; again = number_again w64 (2 ^ 64) wide64 }
 
-mode_takes : (bytes : List ℕ) (x : ℕ × List ℕ) → IsBytes bytes → mode_read bytes ≡ Some x → Stands IsMode number16 bytes x.0 x.1
-unfolding mode_read
-mode_takes bytes x fits e =
-    let a = some_from (number16_read bytes) (λ n. cond (leb n.0 511) (Some n) None) x e in
-    let g = some_if (leb a.0.0 511) (Some a.0) x a.2 in
-    let m = number16_field.takes bytes a.0 fits a.1 in
-    let stands : Stands IsMode number16 bytes a.0.0 a.0.1 = record { parts = m.parts; fits = leb-true a.0.0 511 g.0; rest_bytes = m.rest_bytes } in
-    subst (λ (y : ℕ × List ℕ). Stands IsMode number16 bytes y.0 y.1) (some_is a.0 x g.1) stands
+-- a mode of any version is in the range of a tree
+pub mode_in_range : (version mode : ℕ) → IsMode version mode → mode ≤ 1023
+mode_in_range version mode fits = at (eqb version 1) fits
+  where
+    at : (first : Bool) → mode ≤ cond first 511 1023 → mode ≤ 1023
+    at true below = omega (arith, below)
+    at false below = below
 
-mode_again : (mode : ℕ) (rest : List ℕ) → IsMode mode → mode_read (number16 mode ++ rest) ≡ Some (mode, rest)
-unfolding mode_read
-mode_again mode rest fits = rw (number16_field.again mode rest (omega arith), le-leb mode 511 fits) refl
+module _ (version : ℕ) where
+  mode_takes : (bytes : List ℕ) (x : ℕ × List ℕ) → IsBytes bytes → mode_read version bytes ≡ Some x → Stands (IsMode version) number16 bytes x.0 x.1
+  unfolding mode_read
+  mode_takes bytes x fits e =
+      let a = some_from (number16_read bytes) (λ n. cond (leb n.0 (greatest_mode_of version)) (Some n) None) x e in
+      let g = some_if (leb a.0.0 (greatest_mode_of version)) (Some a.0) x a.2 in
+      let m = number16_field.takes bytes a.0 fits a.1 in
+      let stands : Stands (IsMode version) number16 bytes a.0.0 a.0.1 = record { parts = m.parts; fits = leb-true a.0.0 (greatest_mode_of version) g.0; rest_bytes = m.rest_bytes } in
+      subst (λ (y : ℕ × List ℕ). Stands (IsMode version) number16 bytes y.0 y.1) (some_is a.0 x g.1) stands
 
-pub mode_field : IsField IsMode number16 mode_read
-mode_field = record { takes = mode_takes; again = mode_again }
+  mode_again : (mode : ℕ) (rest : List ℕ) → IsMode version mode → mode_read version (number16 mode ++ rest) ≡ Some (mode, rest)
+  unfolding mode_read
+  mode_again mode rest fits =
+      let small : mode ≤ 1023 = mode_in_range version mode fits in
+      rw (number16_field.again mode rest (omega (arith, small)), le-leb mode (greatest_mode_of version) fits) refl
+
+  pub mode_field : IsField (IsMode version) number16 (mode_read version)
+  mode_field = record { takes = mode_takes; again = mode_again }
 
 -- ---- runs of bytes
 

@@ -6,9 +6,9 @@ use Rattle.std.proofs.lemmas.Bool.{leb-true, le-leb}
 use Rattle.std.proofs.lemmas.Bool.Decides.{Decides-eqb}
 use Rattle.std.proofs.lemmas.Slice.Eq.{starts_is}
 use Rattle.std.proofs.lemmas.List.{drop_at}
-use Rattle.kfs_model.specs.Spelling.{IsBytes, IsLogHeader, log_header, AreCounts, plan_header, number16}
+use Rattle.kfs_model.specs.Spelling.{IsBytes, IsLogHeader, log_header, IsPlanHeader, plan_header, number16}
 use Rattle.kfs_model.proofs.Reading.{number16_read, mark_read, count_read, log_header_read, plan_header_read}
-use Rattle.kfs_model.proofs.Fields.{IsBytes-drop, some_from, some_if, some_is, Stands, IsField, both, number16_field, number32_field, record_field}
+use Rattle.kfs_model.proofs.Fields.{IsBytes-drop, some_from, some_if, some_is, Stands, IsField, both, version_field, number16_field, number32_field, record_field}
 
 abbrev is_count : ℕ → Type 0
 is_count n = n ≤ 4096
@@ -53,10 +53,11 @@ count_field = record { takes = count_takes; again = count_again }
 
 pub log_header_field : IsField IsLogHeader log_header log_header_read
 unfolding log_header_read
-log_header_field = record_field (λ f. record { client = f.0.1; count = f.1 }) (λ h. ((tt, h.client), h.count)) (both (both (mark_field (75 ∷ 76 ∷ 79 ∷ 71 ∷ 1 ∷ [])) number32_field) count_field)
-    (λ h. refl) (λ v. refl) (λ h. refl) (λ h f. (f.0.1, f.1)) (λ h f. ((tt, f.0), f.1))
-
-pub plan_header_field : IsField AreCounts plan_header plan_header_read
-unfolding plan_header_read
-plan_header_field = record_field (λ f. record { names = f.0.0.1; nodes = f.0.1; pieces = f.1 }) (λ c. (((tt, c.names), c.nodes), c.pieces)) (both (both (both (mark_field (75 ∷ 80 ∷ 76 ∷ 78 ∷ 1 ∷ [])) number16_field) number16_field) number32_field)
+log_header_field = record_field (λ f. record { version = f.0.0.1; client = f.0.1; count = f.1 }) (λ h. (((tt, h.version), h.client), h.count)) (both (both (both (mark_field (75 ∷ 76 ∷ 79 ∷ 71 ∷ [])) version_field) number32_field) count_field)
     (λ h. refl) (λ v. refl) (λ h. refl) (λ h f. (f.0.0.1, f.0.1, f.1)) (λ h f. (((tt, f.0), f.1), f.2))
+
+pub plan_header_field : IsField IsPlanHeader plan_header plan_header_read
+unfolding plan_header_read
+plan_header_field = record_field (λ f. record { version = f.0.0.0.1; names = f.0.0.1; nodes = f.0.1; pieces = f.1 }) (λ h. ((((tt, h.version), h.names), h.nodes), h.pieces))
+    (both (both (both (both (mark_field (75 ∷ 80 ∷ 76 ∷ 78 ∷ [])) version_field) number16_field) number16_field) number32_field)
+    (λ h. refl) (λ v. refl) (λ h. refl) (λ h f. (f.0.0.0.1, f.0.0.1, f.0.1, f.1)) (λ h f. ((((tt, f.0), f.1), f.2), f.3))

@@ -93,7 +93,7 @@ heads_alike client before tree entries after marked_after ran ran_marked =
     let same : recut byte marked_after ≡ after = cc in
     sym (headers-recut byte marked_after) ∙ ap (λ (t : Tree ℕ). headers t) same
 
-entries_fit : (submission : List ℕ) (log : Result Log SpellingFault) (read : Log) → LogAnswer submission log → log ≡ Ok read → AllByRecursion IsEntry read.entries
+entries_fit : (submission : List ℕ) (log : Result Log SpellingFault) (read : Log) → LogAnswer submission log → log ≡ Ok read → AllByRecursion (IsEntry read.version) read.entries
 entries_fit submission log read answer is = let fit = subst (LogAnswer submission) is answer in fit.0.1
 
 -- ---- the outcomes of a state in order
@@ -133,7 +133,7 @@ module _ (s : State) (order : IsInOrder s) (places : List ℕ) where
   landed_in_order : (number : ℕ) (log : Result Log SpellingFault) (submission : List ℕ) (after : Tree ℕ) (marked_after : Tree Mark) → LogAnswer submission log → IsYes s number log after marked_after
       → are_chosen s (written_blocks marked_after) places ≡ true → IsInOrder (landed s after marked_after places)
   landed_in_order number log submission after marked_after answer said chosen = record {
-    sound = run_keeps_sound over_bytes bytes_faithful said.client (client_sight_of s said.client.number) (client_in_range s.clients number said.client order.clients said.row) 0 [] s.tree said.read.entries order.sound (entries_fit submission log said.read answer said.log_is) after said.ran;
+    sound = run_keeps_sound over_bytes bytes_faithful said.client (client_sight_of s said.client.number) (client_in_range s.clients number said.client order.clients said.row) 0 [] s.tree said.read.version said.read.entries order.sound (entries_fit submission log said.read answer said.log_is) after said.ran;
     on_nodes = without_gone_on_nodes s.leases after;
     compatible = without_gone_compatible s.leases (λ n. is_some (get after.nodes n)) order.compatible;
     distinct = order.distinct;

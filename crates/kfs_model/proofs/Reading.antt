@@ -5,7 +5,7 @@ use Rattle.std.specs.Int.{Width, w16, w32, w64, byte_len, from_be_bytes}
 use Rattle.kfs_model.specs.Header.{Kind, File, Directory, Header}
 use Rattle.kfs_model.specs.Entry.{Entry, Create, Write, Truncate, Link, Unlink, Rename, Chmod}
 use Rattle.kfs_model.specs.Steps.{◌>>=◌}
-use Rattle.kfs_model.specs.Spelling.{is_name, LogHeader, Counts}
+use Rattle.kfs_model.specs.Spelling.{is_name, greatest_mode_of, LogHeader, PlanHeader}
 use Rattle.kfs_model.specs.PlanRow.{NameRow, NodeRow, Source, Zero, Payload, Piece}
 
 -- one reader after the other
@@ -46,8 +46,9 @@ payload_read bytes = number32_read bytes >>= λ len. if nat_le len.0 65536 then 
 unfoldable pub kind_read : List ℕ → Option (Kind × List ℕ)
 kind_read bytes = byte_read bytes >>= λ b. if b.0 == 0 then Some (File, b.1) else if b.0 == 1 then Some (Directory, b.1) else None
 
-unfoldable pub mode_read : List ℕ → Option (ℕ × List ℕ)
-mode_read bytes = number16_read bytes >>= λ n. if nat_le n.0 511 then Some n else None
+-- a mode in a log of this version
+unfoldable pub mode_read : (version : ℕ) → List ℕ → Option (ℕ × List ℕ)
+mode_read version bytes = number16_read bytes >>= λ n. if nat_le n.0 (greatest_mode_of version) then Some n else None
 
 -- ---- entries, each made of its fields
 
@@ -72,8 +73,8 @@ rename_of f = Rename f.0.0.0 f.0.0.1 f.0.1 f.1
 abbrev pub chmod_of : (ℕ × ℕ) → Entry
 chmod_of f = Chmod f.0 f.1
 
-abbrev pub create_read : List ℕ → Option (Entry × List ℕ)
-create_read bytes = made create_of (number32_read & name_read & number32_read & kind_read & mode_read) bytes
+abbrev pub create_read : (version : ℕ) → List ℕ → Option (Entry × List ℕ)
+create_read version bytes = made create_of (number32_read & name_read & number32_read & kind_read & mode_read version) bytes
 
 abbrev pub write_read : List ℕ → Option (Entry × List ℕ)
 write_read bytes = made write_of (number32_read & number64_read & payload_read) bytes
@@ -90,23 +91,23 @@ unlink_read bytes = made unlink_of (number32_read & name_read & kind_read) bytes
 abbrev pub rename_read : List ℕ → Option (Entry × List ℕ)
 rename_read bytes = made rename_of (number32_read & name_read & number32_read & name_read) bytes
 
-abbrev pub chmod_read : List ℕ → Option (Entry × List ℕ)
-chmod_read bytes = made chmod_of (number32_read & mode_read) bytes
+abbrev pub chmod_read : (version : ℕ) → List ℕ → Option (Entry × List ℕ)
+chmod_read version bytes = made chmod_of (number32_read & mode_read version) bytes
 
--- the entry of a tag
-abbrev pub tagged_read : ℕ → List ℕ → Option (Entry × List ℕ)
-tagged_read tag bytes =
-    if tag == 1 then create_read bytes
+-- the entry of a tag, in a log of this version
+abbrev pub tagged_read : (version : ℕ) → ℕ → List ℕ → Option (Entry × List ℕ)
+tagged_read version tag bytes =
+    if tag == 1 then create_read version bytes
     else if tag == 2 then write_read bytes
     else if tag == 3 then truncate_read bytes
     else if tag == 4 then link_read bytes
     else if tag == 5 then unlink_read bytes
     else if tag == 6 then rename_read bytes
-    else if tag == 7 then chmod_read bytes
+    else if tag == 7 then chmod_read version bytes
     else None
 
-unfoldable pub entry_read : List ℕ → Option (Entry × List ℕ)
-entry_read bytes = byte_read bytes >>= λ tag. tagged_read tag.0 tag.1
+unfoldable pub entry_read : (version : ℕ) → List ℕ → Option (Entry × List ℕ)
+entry_read version bytes = byte_read bytes >>= λ tag. tagged_read version tag.0 tag.1
 
 -- ---- rows of a plan
 
@@ -143,11 +144,14 @@ piece_read bytes = made (λ f. record { number = f.0.0.0; start = f.0.0.1; lengt
 unfoldable pub mark_read : List ℕ → List ℕ → Option (Unit {0} × List ℕ)
 mark_read mark bytes = if starts_with nat_eq bytes mark then Some (tt, drop (length mark) bytes) else None
 
+unfoldable pub version_read : List ℕ → Option (ℕ × List ℕ)
+version_read bytes = byte_read bytes >>= λ v. if nat_lt v.0 1 then None else if nat_le v.0 2 then Some v else None
+
 unfoldable pub count_read : List ℕ → Option (ℕ × List ℕ)
 count_read bytes = number16_read bytes >>= λ n. if nat_le n.0 4096 then Some n else None
 
 unfoldable pub log_header_read : List ℕ → Option (LogHeader × List ℕ)
-log_header_read bytes = made (λ f. record { client = f.0.1; count = f.1 }) (mark_read (75 ∷ 76 ∷ 79 ∷ 71 ∷ 1 ∷ []) & number32_read & count_read) bytes
+log_header_read bytes = made (λ f. record { version = f.0.0.1; client = f.0.1; count = f.1 }) (mark_read (75 ∷ 76 ∷ 79 ∷ 71 ∷ []) & version_read & number32_read & count_read) bytes
 
-unfoldable pub plan_header_read : List ℕ → Option (Counts × List ℕ)
-plan_header_read bytes = made (λ f. record { names = f.0.0.1; nodes = f.0.1; pieces = f.1 }) (mark_read (75 ∷ 80 ∷ 76 ∷ 78 ∷ 1 ∷ []) & number16_read & number16_read & number32_read) bytes
+unfoldable pub plan_header_read : List ℕ → Option (PlanHeader × List ℕ)
+plan_header_read bytes = made (λ f. record { version = f.0.0.0.1; names = f.0.0.1; nodes = f.0.1; pieces = f.1 }) (mark_read (75 ∷ 80 ∷ 76 ∷ 78 ∷ []) & version_read & number16_read & number16_read & number32_read) bytes

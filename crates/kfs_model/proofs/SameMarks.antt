@@ -88,7 +88,7 @@ marks_seen : (client : Client) (tree : Tree ℕ) (entries : List Entry) (held : 
 marks_seen client tree entries held fits =
     sym (shown_looked_up (byte_of tree entries) (run over_marks client (client_sight tree held) (marked tree) entries))
     ∙ ap shown_run (marks_give_bytes client (client_sight tree held) tree entries)
-    ∙ run_is_seen over_bytes bytes_faithful client (client_sight tree held) fits.in_range 0 [] tree entries fits.sound fits.fitting
+    ∙ run_is_seen over_bytes bytes_faithful client (client_sight tree held) fits.in_range 0 [] tree fits.version entries fits.sound fits.fitting
 
 -- ---- the marks of a byte after two runs
 

@@ -41,14 +41,14 @@ module _ {B : Type 0} (filling : Filling B) (faithful : IsFaithful filling) wher
   clean_step context index t (Chmod n mode) h = chmod_kept filling context index t n mode h
 
 module _ {B : Type 0} (filling : Filling B) (faithful : IsFaithful filling) (client : Client) (before : ClientSight) where
-  pub run_is_seen : IsClient client → (index : ℕ) (created : List ℕ) (t : Tree B) (entries : List Entry) → IsSound t → AllByRecursion IsEntry entries
+  pub run_is_seen : IsClient client → (index : ℕ) (created : List ℕ) (t : Tree B) (version : ℕ) (entries : List Entry) → IsSound t → AllByRecursion (IsEntry version) entries
       → shown_run (run_from filling client before index created t entries) ≡ seen_run_from client before index created (sight t) entries
   unfolding run_from seen_run_from
-  run_is_seen in_range index created t [] sound fit = refl
-  run_is_seen in_range index created t (entry ∷ entries) sound fit =
+  run_is_seen in_range index created t version [] sound fit = refl
+  run_is_seen in_range index created t version (entry ∷ entries) sound fit =
       at (first_fault (entry_context client before (sight t) created) entry) (λ clean.
-      let kept = clean_step filling faithful (entry_context client before (sight t) created) index t entry (record { sound = sound; client = in_range; entry_fits = fit.0; shown = refl; clean = clean }) in
-      run_is_seen in_range (index + 1) (created_by entry created) (effect filling client index entry t) entries kept.sound fit.1
+      let kept = clean_step filling faithful (entry_context client before (sight t) created) index t entry (record { sound = sound; client = in_range; version = version; entry_fits = fit.0; shown = refl; clean = clean }) in
+      run_is_seen in_range (index + 1) (created_by entry created) (effect filling client index entry t) version entries kept.sound fit.1
       ∙ ap (λ now. seen_run_from client before (index + 1) (created_by entry created) now entries) kept.seen) refl
     where
       at : (o : Option Reason)
@@ -59,13 +59,13 @@ module _ {B : Type 0} (filling : Filling B) (faithful : IsFaithful filling) (cli
       at None rest is = rest is
       at (Some reason) rest is = refl
 
-  pub run_keeps_sound : IsClient client → (index : ℕ) (created : List ℕ) (t : Tree B) (entries : List Entry) → IsSound t → AllByRecursion IsEntry entries → (after : Tree B) → run_from filling client before index created t entries ≡ Ok after → IsSound after
+  pub run_keeps_sound : IsClient client → (index : ℕ) (created : List ℕ) (t : Tree B) (version : ℕ) (entries : List Entry) → IsSound t → AllByRecursion (IsEntry version) entries → (after : Tree B) → run_from filling client before index created t entries ≡ Ok after → IsSound after
   unfolding run_from
-  run_keeps_sound in_range index created t [] sound fit after is = let same : t ≡ after = cc in subst IsSound same sound
-  run_keeps_sound in_range index created t (entry ∷ entries) sound fit after is =
+  run_keeps_sound in_range index created t version [] sound fit after is = let same : t ≡ after = cc in subst IsSound same sound
+  run_keeps_sound in_range index created t version (entry ∷ entries) sound fit after is =
       at (first_fault (entry_context client before (sight t) created) entry) (λ clean.
-      let kept = clean_step filling faithful (entry_context client before (sight t) created) index t entry (record { sound = sound; client = in_range; entry_fits = fit.0; shown = refl; clean = clean }) in
-      run_keeps_sound in_range (index + 1) (created_by entry created) (effect filling client index entry t) entries kept.sound fit.1 after) refl is
+      let kept = clean_step filling faithful (entry_context client before (sight t) created) index t entry (record { sound = sound; client = in_range; version = version; entry_fits = fit.0; shown = refl; clean = clean }) in
+      run_keeps_sound in_range (index + 1) (created_by entry created) (effect filling client index entry t) version entries kept.sound fit.1 after) refl is
     where
       at : (o : Option Reason)
           → (first_fault (entry_context client before (sight t) created) entry ≡ None → run_from filling client before (index + 1) (created_by entry created) (effect filling client index entry t) entries ≡ Ok after → IsSound after)
@@ -96,4 +96,7 @@ pub same_looked_trees : (client : Client) (one other : Tree ℕ) (entries : List
 same_looked_trees client one other entries fits also held other_held alike =
     let s = client_sight one held in
     let u = client_sight other other_held in
-    of_two_trees client one other entries fits also held other_held (EndInAgreement s u) (same_looked client s u entries alike).0
+    let here = run_is_seen over_bytes bytes_faithful client s fits.in_range 0 [] one fits.version entries fits.sound fits.fitting in
+    let there = run_is_seen over_bytes bytes_faithful client u also.in_range 0 [] other also.version entries also.sound also.fitting in
+    subst (λ end. EndInAgreement s u end (shown_run (run over_bytes client u other entries))) (sym here)
+    (subst (λ end. EndInAgreement s u (seen_run client s entries) end) (sym there) (same_looked client s u entries alike).0)

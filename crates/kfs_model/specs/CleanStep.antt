@@ -19,12 +19,13 @@ pub record IsClient (client : Client) : Type 0 where
   pub gid : client.gid < 2 ^ 32
   pub grant : IsTrue (is_grant client.first client.last)
 
--- the tree is sound, client and entry are in range, the cells show this tree, and no check of the entry
--- fails
+-- the tree is sound, the client is in range, the entry is one of a log of this version, the cells show
+-- this tree, and no check of the entry fails
 pub record IsClean {B : Type 0} (context : EntryContext) (t : Tree B) (entry : Entry) : Type 0 where
   pub sound : IsSound t
   pub client : IsClient context.client
-  pub entry_fits : IsEntry entry
+  pub version : ℕ
+  pub entry_fits : IsEntry version entry
   pub shown : context.now ≡ sight t
   pub clean : first_fault context entry ≡ None
 
@@ -35,11 +36,12 @@ pub record StaysSound {B : Type 0} (filling : Filling B) (client : Client) (inde
 
 -- ---- a log
 
--- the tree is sound, and the client and all entries are in range
+-- the tree is sound, the client is in range, and all entries are in the range of a log of this version
 pub record Fits (client : Client) (t : Tree ℕ) (entries : List Entry) : Type 0 where
   pub in_range : IsClient client
   pub sound : IsSound t
-  pub fitting : AllByRecursion IsEntry entries
+  pub version : ℕ
+  pub fitting : AllByRecursion (IsEntry version) entries
 
 -- the run over the tree and the run over its cells end alike: with the same fault, or with the same
 -- cells

@@ -13,6 +13,8 @@ pub data Entry : Type 0 where
   Rename : (directory : ℕ) (name : List ℕ) (target : ℕ) (new_name : List ℕ) → Entry
   Chmod : (number mode : ℕ) → Entry
 
+-- the version is that of the log's format
 pub record Log : Type 0 where
+  pub version : ℕ
   pub client : ℕ
   pub entries : List Entry

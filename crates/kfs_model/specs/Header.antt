@@ -6,8 +6,8 @@ pub data Kind : Type 0 where
   deriving Discrete as Kind-discrete
   deriving IsSet as Kind-set
 
--- the header of a node: the mode is 0 to 0o1777; a file has as many links as names; a directory has
--- 1 link and size 0
+-- the header of a node: the mode is 0 to 0o1777; a file has as many links as names; a directory has 1
+-- link and size 0
 pub record Header : Type 0 where
   pub kind : Kind
   pub mode : ℕ

@@ -13,13 +13,18 @@ root_number = 1
 abbrev pub group_limit : ℕ
 group_limit = 16
 
--- the greatest mode of a node, 0o1777: all permission bits and the restricted deletion flag
+-- the latest version of the formats; the first is 1
+abbrev pub latest_version : ℕ
+latest_version = 2
+
+-- the greatest mode of a tree and of a log of version 2, 0o1777: the sticky bit and the nine permission
+-- bits
 abbrev pub greatest_mode : ℕ
 greatest_mode = 1023
 
--- the greatest mode in an entry of a log, 0o777: all permission bits
-abbrev pub greatest_entry_mode : ℕ
-greatest_entry_mode = 511
+-- the greatest mode of a log of version 1, and the mode of a new root, 0o777: the permission bits
+abbrev pub greatest_mode_of_version_1 : ℕ
+greatest_mode_of_version_1 = 511
 
 -- the most bytes of a file, 2^32
 abbrev pub size_limit : ℕ

@@ -25,7 +25,9 @@ pub record Piece : Type 0 where
   pub length : ℕ
   pub source : Source
 
+-- the version is that of the plan's format
 pub record Plan : Type 0 where
+  pub version : ℕ
   pub names : List NameRow
   pub nodes : List NodeRow
   pub pieces : List Piece

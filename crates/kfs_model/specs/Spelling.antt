@@ -1,10 +1,10 @@
--- How logs and plans are written as bytes, and what a decoder answers. Numbers are big-endian.
--- Each value has one spelling.
-use Rattle.std.specs.Prelude.{◌≡◌, ◌≢◌, ℕ, zero, suc, ◌^◌, ◌<◌, ◌≤◌, ◌==◌, ◌&&◌, not, nat_lt, nat_le, Bool, false, List, [], ◌∷◌, ◌++◌, length, get_or, All, Option, None, Some, Result, Ok, Err}
+-- How logs and plans are written as bytes, and what a decoder answers. Numbers are big-endian. There
+-- are two versions. Each value has one spelling.
+use Rattle.std.specs.Prelude.{◌≡◌, ◌≢◌, ℕ, zero, suc, ◌^◌, ◌<◌, ◌≤◌, ◌==◌, ◌&&◌, not, nat_lt, nat_le, Bool, false, List, [], ◌∷◌, ◌++◌, length, get_or, All, Option, None, Some, Result, Ok, Err, if◌then◌else◌}
 use Rattle.std.specs.List.{list_all, flat_map, AllByRecursion}
 use Rattle.std.specs.Int.{w16, w32, w64, to_be_bytes}
 use Rattle.kfs_model.specs.Header.{Kind, File, Directory, Header}
-use Rattle.kfs_model.specs.Limits.{entry_limit, greatest_entry_mode, name_limit, payload_limit}
+use Rattle.kfs_model.specs.Limits.{entry_limit, greatest_mode, greatest_mode_of_version_1, latest_version, name_limit, payload_limit}
 use Rattle.kfs_model.specs.Entry.{Entry, Log, Create, Write, Truncate, Link, Unlink, Rename, Chmod}
 use Rattle.kfs_model.specs.PlanRow.{NameRow, NodeRow, Source, Zero, Payload, Piece, Plan}
 
@@ -66,8 +66,16 @@ abbrev pub kind_bytes : Kind → List ℕ
 kind_bytes File = byte 0
 kind_bytes Directory = byte 1
 
-abbrev pub IsMode : ℕ → Type 0
-IsMode mode = mode ≤ greatest_entry_mode
+-- the versions are 1 and 2
+abbrev pub IsVersion : ℕ → Type 0
+IsVersion version = (1 ≤ version) × (version ≤ latest_version)
+
+-- the greatest mode that an entry sets in a log of this version
+abbrev pub greatest_mode_of : (version : ℕ) → ℕ
+greatest_mode_of version = if version == 1 then greatest_mode_of_version_1 else greatest_mode
+
+abbrev pub IsMode : (version mode : ℕ) → Type 0
+IsMode version mode = mode ≤ greatest_mode_of version
 
 -- ---- rows, one after another
 
@@ -110,37 +118,38 @@ entry_bytes (Unlink d m flag) = byte 5 ++ number32 d ++ name_bytes m ++ kind_byt
 entry_bytes (Rename d m e k) = byte 6 ++ number32 d ++ name_bytes m ++ number32 e ++ name_bytes k
 entry_bytes (Chmod n mode) = byte 7 ++ number32 n ++ number16 mode
 
--- the entry has a spelling: its modes, names and payload are in range, and its other numbers fit their
--- widths
-abbrev pub IsEntry : Entry → Type 0
-IsEntry (Create d m n k mode) = (d < 2 ^ 32) × IsName m × (n < 2 ^ 32) × IsMode mode
-IsEntry (Write n offset p) = (n < 2 ^ 32) × (offset < 2 ^ 64) × IsPayload p
-IsEntry (Truncate n size) = (n < 2 ^ 32) × (size < 2 ^ 64)
-IsEntry (Link n d m) = (n < 2 ^ 32) × (d < 2 ^ 32) × IsName m
-IsEntry (Unlink d m flag) = (d < 2 ^ 32) × IsName m
-IsEntry (Rename d m e k) = (d < 2 ^ 32) × IsName m × (e < 2 ^ 32) × IsName k
-IsEntry (Chmod n mode) = (n < 2 ^ 32) × IsMode mode
+-- the entry has a spelling in a log of this version: its modes, names and payload are in range, and its
+-- other numbers fit their widths
+abbrev pub IsEntry : (version : ℕ) → Entry → Type 0
+IsEntry version (Create d m n k mode) = (d < 2 ^ 32) × IsName m × (n < 2 ^ 32) × IsMode version mode
+IsEntry version (Write n offset p) = (n < 2 ^ 32) × (offset < 2 ^ 64) × IsPayload p
+IsEntry version (Truncate n size) = (n < 2 ^ 32) × (size < 2 ^ 64)
+IsEntry version (Link n d m) = (n < 2 ^ 32) × (d < 2 ^ 32) × IsName m
+IsEntry version (Unlink d m flag) = (d < 2 ^ 32) × IsName m
+IsEntry version (Rename d m e k) = (d < 2 ^ 32) × IsName m × (e < 2 ^ 32) × IsName k
+IsEntry version (Chmod n mode) = (n < 2 ^ 32) × IsMode version mode
 
--- the header of a log: the client's number, and the number of entries
+-- the header of a log: the version, the client's number, and the number of entries
 pub record LogHeader : Type 0 where
+  pub version : ℕ
   pub client : ℕ
   pub count : ℕ
 
--- the spelling of a log's header: "KLOG", version 1, the client, the count
+-- the spelling of a log's header: "KLOG", the version, the client, the count
 abbrev pub log_header : LogHeader → List ℕ
-log_header h = 75 ∷ 76 ∷ 79 ∷ 71 ∷ 1 ∷ number32 h.client ++ number16 h.count
+log_header h = 75 ∷ 76 ∷ 79 ∷ 71 ∷ h.version ∷ number32 h.client ++ number16 h.count
 
 abbrev pub IsLogHeader : LogHeader → Type 0
-IsLogHeader h = (h.client < 2 ^ 32) × (h.count ≤ entry_limit)
+IsLogHeader h = IsVersion h.version × (h.client < 2 ^ 32) × (h.count ≤ entry_limit)
 
 abbrev pub log_header_of : Log → LogHeader
-log_header_of l = record { client = l.client; count = length l.entries }
+log_header_of l = record { version = l.version; client = l.client; count = length l.entries }
 
 abbrev pub log_bytes : Log → List ℕ
 log_bytes l = log_header (log_header_of l) ++ flat_map entry_bytes l.entries
 
 abbrev pub IsLog : Log → Type 0
-IsLog l = IsLogHeader (log_header_of l) × AllByRecursion IsEntry l.entries
+IsLog l = IsLogHeader (log_header_of l) × AllByRecursion (IsEntry l.version) l.entries
 
 -- ---- plans
 
@@ -184,27 +193,28 @@ piece_bytes p = number32 p.number ++ number64 p.start ++ number64 p.length ++ so
 abbrev pub IsPiece : Piece → Type 0
 IsPiece p = (p.number < 2 ^ 32) × (p.start < 2 ^ 64) × (p.length < 2 ^ 64) × IsSource p.source
 
--- how many rows each part of a plan has
-pub record Counts : Type 0 where
+-- the header of a plan: the version, and how many rows each part has
+pub record PlanHeader : Type 0 where
+  pub version : ℕ
   pub names : ℕ
   pub nodes : ℕ
   pub pieces : ℕ
 
--- the spelling of a plan's header: "KPLN", version 1, the three counts
-abbrev pub plan_header : Counts → List ℕ
-plan_header c = 75 ∷ 80 ∷ 76 ∷ 78 ∷ 1 ∷ number16 c.names ++ number16 c.nodes ++ number32 c.pieces
+-- the spelling of a plan's header: "KPLN", the version, the three counts
+abbrev pub plan_header : PlanHeader → List ℕ
+plan_header h = 75 ∷ 80 ∷ 76 ∷ 78 ∷ h.version ∷ number16 h.names ++ number16 h.nodes ++ number32 h.pieces
 
-abbrev pub AreCounts : Counts → Type 0
-AreCounts c = (c.names < 2 ^ 16) × (c.nodes < 2 ^ 16) × (c.pieces < 2 ^ 32)
+abbrev pub IsPlanHeader : PlanHeader → Type 0
+IsPlanHeader h = IsVersion h.version × (h.names < 2 ^ 16) × (h.nodes < 2 ^ 16) × (h.pieces < 2 ^ 32)
 
-abbrev pub counts_of : Plan → Counts
-counts_of p = record { names = length p.names; nodes = length p.nodes; pieces = length p.pieces }
+abbrev pub plan_header_of : Plan → PlanHeader
+plan_header_of p = record { version = p.version; names = length p.names; nodes = length p.nodes; pieces = length p.pieces }
 
 abbrev pub plan_bytes : Plan → List ℕ
-plan_bytes p = plan_header (counts_of p) ++ flat_map name_row_bytes p.names ++ flat_map node_row_bytes p.nodes ++ flat_map piece_bytes p.pieces
+plan_bytes p = plan_header (plan_header_of p) ++ flat_map name_row_bytes p.names ++ flat_map node_row_bytes p.nodes ++ flat_map piece_bytes p.pieces
 
 abbrev pub IsPlan : Plan → Type 0
-IsPlan p = AreCounts (counts_of p) × AllByRecursion IsNameRow p.names × AllByRecursion IsNodeRow p.nodes × AllByRecursion IsPiece p.pieces
+IsPlan p = IsPlanHeader (plan_header_of p) × AllByRecursion IsNameRow p.names × AllByRecursion IsNodeRow p.nodes × AllByRecursion IsPiece p.pieces
 
 -- ---- what a decoder answers
 
@@ -223,20 +233,20 @@ abbrev pub LogAnswer : List ℕ → Result Log SpellingFault → Type 0
 LogAnswer bytes (Ok l) = IsLog l × (bytes ≡ log_bytes l)
 LogAnswer bytes (Err Trailing) = (l : Log) × (more : List ℕ) × IsLog l × (more ≢ []) × (bytes ≡ log_bytes l ++ more)
 LogAnswer bytes (Err BadHeader) = BeginsWithNo IsLogHeader log_header bytes
-LogAnswer bytes (Err (BadEntry k)) = (h : LogHeader) × (rest : List ℕ) × IsLogHeader h × (bytes ≡ log_header h ++ rest) × LacksRow IsEntry entry_bytes h.count k rest
+LogAnswer bytes (Err (BadEntry k)) = (h : LogHeader) × (rest : List ℕ) × IsLogHeader h × (bytes ≡ log_header h ++ rest) × LacksRow (IsEntry h.version) entry_bytes h.count k rest
 LogAnswer bytes (Err (BadRow part k)) = ⊥
 
 -- all rows of the parts before this one stand behind the header, then k rows of this part, and then no
 -- row
-abbrev pub PartLacksRow : Counts → ℕ → ℕ → List ℕ → Type 0
-PartLacksRow c zero k rows = LacksRow IsNameRow name_row_bytes c.names k rows
-PartLacksRow c (suc zero) k rows = (nodes : List ℕ) × BeginsWithRows IsNameRow name_row_bytes c.names rows nodes × LacksRow IsNodeRow node_row_bytes c.nodes k nodes
-PartLacksRow c (suc (suc zero)) k rows = (nodes pieces : List ℕ) × BeginsWithRows IsNameRow name_row_bytes c.names rows nodes × BeginsWithRows IsNodeRow node_row_bytes c.nodes nodes pieces × LacksRow IsPiece piece_bytes c.pieces k pieces
-PartLacksRow c (suc (suc (suc part))) k rows = ⊥
+abbrev pub PartLacksRow : PlanHeader → ℕ → ℕ → List ℕ → Type 0
+PartLacksRow h zero k rows = LacksRow IsNameRow name_row_bytes h.names k rows
+PartLacksRow h (suc zero) k rows = (nodes : List ℕ) × BeginsWithRows IsNameRow name_row_bytes h.names rows nodes × LacksRow IsNodeRow node_row_bytes h.nodes k nodes
+PartLacksRow h (suc (suc zero)) k rows = (nodes pieces : List ℕ) × BeginsWithRows IsNameRow name_row_bytes h.names rows nodes × BeginsWithRows IsNodeRow node_row_bytes h.nodes nodes pieces × LacksRow IsPiece piece_bytes h.pieces k pieces
+PartLacksRow h (suc (suc (suc part))) k rows = ⊥
 
 abbrev pub PlanAnswer : List ℕ → Result Plan SpellingFault → Type 0
 PlanAnswer bytes (Ok p) = IsPlan p × (bytes ≡ plan_bytes p)
 PlanAnswer bytes (Err Trailing) = (p : Plan) × (more : List ℕ) × IsPlan p × (more ≢ []) × (bytes ≡ plan_bytes p ++ more)
-PlanAnswer bytes (Err BadHeader) = BeginsWithNo AreCounts plan_header bytes
-PlanAnswer bytes (Err (BadRow part k)) = (c : Counts) × (rows : List ℕ) × AreCounts c × (bytes ≡ plan_header c ++ rows) × PartLacksRow c part k rows
+PlanAnswer bytes (Err BadHeader) = BeginsWithNo IsPlanHeader plan_header bytes
+PlanAnswer bytes (Err (BadRow part k)) = (h : PlanHeader) × (rows : List ℕ) × IsPlanHeader h × (bytes ≡ plan_header h ++ rows) × PartLacksRow h part k rows
 PlanAnswer bytes (Err (BadEntry k)) = ⊥

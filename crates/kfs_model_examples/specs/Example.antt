@@ -150,8 +150,9 @@ zero_piece number start length = record { number = number; start = start; length
 abbrev pub log_piece : (number start length entry place : ℕ) → Piece
 log_piece number start length entry place = record { number = number; start = start; length = length; source = Payload entry place }
 
+-- of version 1
 abbrev pub plan : List NameRow → List NodeRow → List Piece → Plan
-plan names nodes pieces = record { names = names; nodes = nodes; pieces = pieces }
+plan names nodes pieces = record { version = 1; names = names; nodes = nodes; pieces = pieces }
 
 abbrev pub no_plan : Plan
 no_plan = plan [] [] []
@@ -159,7 +160,7 @@ no_plan = plan [] [] []
 -- ---- outcomes
 
 abbrev pub verdict : State → (client : ℕ) → List Entry → Plan → Verdict
-verdict s client entries rows = judged s client (Ok (record { client = client; entries = entries })) (Ok rows)
+verdict s client entries rows = judged s client (Ok (record { version = 1; client = client; entries = entries })) (Ok rows)
 
 -- what a landing answers to the client's log and plan
 abbrev pub Replies : State → (client : ℕ) → List Entry → Plan → Reply → Type 0

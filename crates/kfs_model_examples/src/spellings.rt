@@ -5,7 +5,7 @@ ghost use Rattle.kfs_model.specs.Spelling.{BadEntry, BadHeader, BadRow, LogAnswe
 ghost use Rattle.kfs_model_examples.specs.Example.{no_plan};
 ghost use Rattle.kfs_model_examples.specs.Example.FileCases.{create_a, create_a_plan, edits, edits_plan, first_piece, last_piece};
 ghost use Rattle.kfs_model_examples.specs.Example.NameCases.{move_7, plan_7};
-ghost use Rattle.kfs_model_examples.specs.Example.SpellingCases.{cut_log, cut_plan, log_of_7, create_a_log_bytes, create_a_plan_bytes, edits_log_bytes, edits_plan_bytes, move_7_log_bytes, plan_7_bytes, empty_log_bytes, empty_plan_bytes};
+ghost use Rattle.kfs_model_examples.specs.Example.SpellingCases.{cut_log, cut_plan, in_version, log_in_2, log_of_7, plan_in_2, set_mode, set_mode_bytes, create_a_log_bytes, create_a_plan_bytes, edits_log_bytes, edits_plan_bytes, move_7_log_bytes, plan_7_bytes, empty_log_bytes, empty_plan_bytes};
 
 /// Client 7 creates file 5 named "a" in the root: 25 bytes of log, 48 bytes of plan.
 #[tactic(auto, unfolding(kfs_model::specs::Spelling::number16, kfs_model::specs::Spelling::number32, kfs_model::specs::Spelling::number64))]
@@ -35,17 +35,38 @@ pub fn nothing()
     ensures plan { PlanAnswer empty_plan_bytes (Ok no_plan) }
 {}
 
-/// Bytes that are no log: too few for a header, the last one missing, one too many.
+/// The same log and plan in version 2: one byte differs.
+#[tactic(auto, unfolding(kfs_model::specs::Spelling::number16, kfs_model::specs::Spelling::number32, kfs_model::specs::Spelling::number64))]
+pub fn create_in_version_2()
+    ensures log { LogAnswer (in_version 2 create_a_log_bytes) (Ok (log_in_2 (log_of_7 create_a))) }
+    ensures plan { PlanAnswer (in_version 2 create_a_plan_bytes) (Ok (plan_in_2 (create_a_plan 5))) }
+{}
+
+/// The greatest modes: 0o777 of version 1, and 0o1777 of version 2.
+#[tactic(auto, unfolding(kfs_model::specs::Spelling::number16, kfs_model::specs::Spelling::number32, kfs_model::specs::Spelling::number64))]
+pub fn greatest_modes()
+    ensures first { LogAnswer (set_mode_bytes 1 255) (Ok (log_of_7 (set_mode 511))) }
+    ensures second { LogAnswer (in_version 2 (set_mode_bytes 3 255)) (Ok (log_in_2 (log_of_7 (set_mode 1023)))) }
+{}
+
+/// Bytes that are no log: too few for a header, a version that there isn't, the last one missing, a mode
+/// out of the version's range, one byte too many.
 pub fn no_logs()
     ensures header { LogAnswer (cut_log 10) (Err BadHeader) }
+    ensures version_0 { LogAnswer (in_version 0 create_a_log_bytes) (Err BadHeader) }
+    ensures version_3 { LogAnswer (in_version 3 create_a_log_bytes) (Err BadHeader) }
+    ensures first_mode { LogAnswer (set_mode_bytes 3 255) (Err (BadEntry 0)) }
+    ensures second_mode { LogAnswer (in_version 2 (set_mode_bytes 4 0)) (Err (BadEntry 0)) }
     ensures entry { LogAnswer (cut_log 24) (Err (BadEntry 0)) }
     ensures trailing { LogAnswer (create_a_log_bytes ++ 0 ∷ []) (Err Trailing) }
 {}
 
-/// Bytes that are no plan: too few for a header, cut in the name row, cut in the node row, one too
-/// many, and four pieces cut in the last one.
+/// Bytes that are no plan: too few for a header, a version that there isn't, cut in the name row, cut in
+/// the node row, one too many, and four pieces cut in the last one.
 pub fn no_plans()
     ensures header { PlanAnswer (cut_plan 12) (Err BadHeader) }
+    ensures version_0 { PlanAnswer (in_version 0 create_a_plan_bytes) (Err BadHeader) }
+    ensures version_3 { PlanAnswer (in_version 3 create_a_plan_bytes) (Err BadHeader) }
     ensures name_row { PlanAnswer (cut_plan 22) (Err (BadRow 0 0)) }
     ensures node_row { PlanAnswer (cut_plan 47) (Err (BadRow 1 0)) }
     ensures piece { PlanAnswer (take 139 edits_plan_bytes) (Err (BadRow 2 3)) }

@@ -224,7 +224,7 @@ pub walked_verdict : (A : Type 0) (s : State) (submission : Submission) (client 
     → AgreesWithReads s submission.client found reads → IsVerdict s submission outcome
 walked_verdict A s submission client found log plan walk reads outcome spelled in_range is same_reads walks is_settled alike =
     let agrees = subst (λ es. Agrees es (client_sight_of s submission.client)) same_reads alike.agrees in
-    let fits : Fits client s.tree (log_of submission.log log).entries = record { in_range = in_range; sound = alike.sound; fitting = spelled.log_read.0.1 } in
+    let fits : Fits client s.tree (log_of submission.log log).entries = record { in_range = in_range; sound = alike.sound; version = log.version; fitting = spelled.log_read.0.1 } in
     settled A s submission client (alike.row ∙ is) log plan spelled walk.sizes.items walk.outcome outcome (walks submission.log spelled.within s.tree (holds s.leases submission.client) fits agrees) is_settled
 
 -- any state agrees with no reads

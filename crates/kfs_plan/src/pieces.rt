@@ -3,7 +3,7 @@ ghost use Rattle.std.specs.Prelude.{◌≤◌, IfOk, IsOk, length, map};
 ghost use Rattle.std.specs.List.{AllByRecursion};
 ghost use Rattle.kfs_model.specs.Access.{Client as ClientRow};
 ghost use Rattle.kfs_model.specs.Limits.{entry_limit};
-ghost use Rattle.kfs_entry_value.specs.Views.{IsSpanned, piece_of};
+ghost use Rattle.kfs_entry_value.specs.Views.{piece_of, IsSpanned};
 ghost use Rattle.kfs_judge.specs.Walks.{HasOrderedSizes, IsWalkOf};
 ghost use Rattle.kfs_plan.specs.PlanCheck.{ArePiecesOf};
 

@@ -2,7 +2,7 @@
 ghost use Rattle.std.specs.Prelude.{◌≡◌, ◌≤◌, ◌++◌, IfOk, IfSome, length, map};
 ghost use Rattle.std.specs.List.{AllByRecursion};
 ghost use Rattle.kfs_model.specs.Limits.{entry_limit};
-ghost use Rattle.kfs_entry_value.specs.Views.{IsSpanned, piece_of};
+ghost use Rattle.kfs_entry_value.specs.Views.{piece_of, IsSpanned};
 ghost use Rattle.kfs_plan_sweep.specs.Lefts.{IsFilled, PieceIsInRange};
 ghost use Rattle.kfs_plan_sweep.specs.Made.{IsFit};
 ghost use Rattle.kfs_plan_sweep.specs.Parts.{AreByNumber};

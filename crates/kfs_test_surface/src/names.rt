@@ -3,9 +3,9 @@
 /// Logs and plans.
 pub mod entry {
     pub use kfs_entry::{
-        ENTRY_LIMIT, Entry, GREATEST_ENTRY_MODE, Header, Kind, Log, Name, NameRow, NodeRow,
-        PAYLOAD_LIMIT, Piece, Plan, RowList, Source, Span, SpellFault, decode_log, decode_plan,
-        encode_log, encode_plan,
+        ENTRY_LIMIT, Entry, GREATEST_MODE, GREATEST_MODE_OF_VERSION_1, Header, Kind,
+        LATEST_VERSION, Log, Name, NameRow, NodeRow, PAYLOAD_LIMIT, Piece, Plan, RowList, Source,
+        Span, SpellFault, decode_log, decode_plan, encode_log, encode_plan,
     };
 }
 

@@ -36,7 +36,7 @@ pub fn rule_2()
 /// lesser number is named.
 #[tactic(auto, unfolding(crate::specs::Example::computing))]
 pub fn rule_3()
-    ensures mode { Breaks (root_alone 4095) (at 3 1) [] }
+    ensures mode { Breaks (root_alone 1535) (at 3 1) [] }
     ensures least_mode { Breaks (root_alone 1024) (at 3 1) [] }
     ensures size { Breaks (one_file 4294967297 []) (at 3 5) [] }
     ensures links { Breaks (raw (node 1 Directory 511 0 2 0 ∷ []) [] []) (at 3 1) [] }

@@ -26,8 +26,8 @@ pub fn block_never_written()
     ensures elsewhere { file_bytes one_place (devices_of with_hole) 5 3 ≡ 0 ∷ 0 ∷ 0 ∷ [] }
 {}
 
-/// An extent of two blocks at the end of a tier: each block has its own bytes. And an image with the
-/// root alone, also where it is sticky (0o1777).
+/// An extent of two blocks at the end of a tier: each block has its own bytes. And images with the root
+/// alone, of which one has the greatest mode.
 #[tactic(auto, unfolding(crate::specs::Example::computing))]
 pub fn blocks_side_by_side()
     ensures well_formed { IsWellFormed two_blocks }
@@ -35,7 +35,7 @@ pub fn blocks_side_by_side()
     ensures of_the_second { file_byte (placement_of two_blocks) (devices_of two_blocks) 5 4096 ≡ 121 }
     ensures free { free_runs sizes (placement_of two_blocks) 2 ≡ run 0 6 ∷ [] }
     ensures root_alone { IsWellFormed (root_alone 511) }
-    ensures sticky { IsWellFormed (root_alone 1023) }
+    ensures greatest_mode { IsWellFormed (root_alone 1023) }
 {}
 
 /// Blocks of two files may lie at places with the same number on two tiers, or next to each other on

@@ -13,7 +13,7 @@ use Rattle.kfs_model_examples.specs.Example.FileCases.{letters, file_state}
 -- a docket's row: what a log and its plan are answered, and the places of its written blocks
 abbrev pub row : List Entry → Plan → Reply → (places : List ℕ) → Row
 row entries rows reply places = record {
-  call = Submit (record { client = 7; log = []; plan = [] }) (record { log = Ok (record { client = 7; entries = entries }); plan = Ok rows });
+  call = Submit (record { client = 7; log = []; plan = [] }) (record { log = Ok (record { version = 1; client = 7; entries = entries }); plan = Ok rows });
   answer = Replied reply;
   places = places;
 }

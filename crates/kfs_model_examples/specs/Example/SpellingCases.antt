@@ -1,10 +1,22 @@
 -- The bytes of some of the examples' logs and plans.
-use Rattle.std.specs.Prelude.{ℕ, List, [], ◌∷◌, take}
-use Rattle.kfs_model.specs.Entry.{Entry, Log}
+use Rattle.std.specs.Prelude.{ℕ, List, [], ◌∷◌, ◌++◌, take, drop}
+use Rattle.kfs_model.specs.Entry.{Entry, Log, Chmod}
+use Rattle.kfs_model.specs.PlanRow.{Plan}
 
--- the log that client 7 hands in
+-- the log that client 7 hands in, of version 1
 abbrev pub log_of_7 : List Entry → Log
-log_of_7 entries = record { client = 7; entries = entries }
+log_of_7 entries = record { version = 1; client = 7; entries = entries }
+
+-- the same log and plan in version 2
+abbrev pub log_in_2 : Log → Log
+log_in_2 log = record log { version = 2 }
+
+abbrev pub plan_in_2 : Plan → Plan
+plan_in_2 plan = record plan { version = 2 }
+
+-- the bytes with this version in place of theirs
+abbrev pub in_version : (version : ℕ) → List ℕ → List ℕ
+in_version version bytes = take 4 bytes ++ (version ∷ drop 5 bytes)
 
 -- client 7 creates file 5 named "a" in the root
 abbrev pub create_a_log_bytes : List ℕ
@@ -33,6 +45,14 @@ plan_7_bytes = 75 ∷ 80 ∷ 76 ∷ 78 ∷ 1 ∷ 0 ∷ 2 ∷ 0 ∷ 0 ∷ 0 ∷ 0
 -- no entry of client 7
 abbrev pub empty_log_bytes : List ℕ
 empty_log_bytes = 75 ∷ 76 ∷ 79 ∷ 71 ∷ 1 ∷ 0 ∷ 0 ∷ 0 ∷ 7 ∷ 0 ∷ 0 ∷ []
+
+-- client 7 sets the mode of 5
+abbrev pub set_mode : (mode : ℕ) → List Entry
+set_mode mode = Chmod 5 mode ∷ []
+
+-- the same in bytes, with the two bytes of the mode
+abbrev pub set_mode_bytes : (high low : ℕ) → List ℕ
+set_mode_bytes high low = 75 ∷ 76 ∷ 79 ∷ 71 ∷ 1 ∷ 0 ∷ 0 ∷ 0 ∷ 7 ∷ 0 ∷ 1 ∷ 7 ∷ 0 ∷ 0 ∷ 0 ∷ 5 ∷ high ∷ low ∷ []
 
 -- no row
 abbrev pub empty_plan_bytes : List ℕ

@@ -2,7 +2,7 @@ use Rattle.std.proofs.Common.{drop}
 use Rattle.std.proofs.lemmas.Result.{err_from_is_err_and}
 use Rattle.kfs_model.specs.Spelling.{log_bytes}
 use Rattle.kfs_entry_codec.specs.Headers.{log_header_of}
-use Rattle.kfs_entry.proofs.DecodedLog.{log_from, log_is_spelled, spans_are_within, no_rest, some_rest, entry_is_missing}
+use Rattle.kfs_entry.proofs.DecodedLog.{log_from, log_is_spelled, are_spanned, spans_are_within, no_rest, some_rest, entry_is_missing}
 use Rattle.kfs_entry.proofs.decoding.log_in.Goals as goal
 
 pub returns-in_err-entries-clause-found : goal.returns-in_err-entries-clause-found
@@ -32,4 +32,10 @@ pub returns-clause-spans : goal.returns-clause-spans
 returns-clause-spans g c =
     let source = c.args.source.now in
     let entries = c.in_ok-entries.ensures.found in
-    rw c.from_vec.ensures (spans_are_within source c.in_ok-entries.entries.items (drop c.in-Some.at source) (drop c.in_ok-entries.end source) entries.are)
+    rw c.from_vec.ensures (spans_are_within c.in-Some.header.version source c.in_ok-entries.entries.items (drop c.in-Some.at source) (drop c.in_ok-entries.end source) entries.are)
+
+pub returns-clause-spanned : goal.returns-clause-spanned
+returns-clause-spanned g c =
+    let source = c.args.source.now in
+    let entries = c.in_ok-entries.ensures.found in
+    rw c.from_vec.ensures (are_spanned c.in-Some.header.version source c.in_ok-entries.entries.items (drop c.in-Some.at source) (drop c.in_ok-entries.end source) entries.are)

@@ -7,10 +7,10 @@ use Rattle.kfs_entry.proofs.DecodedLog.{entries_can_be_written}
 use Rattle.kfs_entry.proofs.encoding.encode_log.Goals as goal
 
 pub rows_len-requires : goal.rows_len-requires
-rows_len-requires g c = rw c.as_slice-entries.ensures (entries_can_be_written c.args.source.now c.args.log.now.entries c.requires.spans c.requires.ranges.1)
+rows_len-requires g c = rw c.as_slice-entries.ensures (entries_can_be_written c.args.log.now.version c.args.source.now c.args.log.now.entries c.requires.spans c.requires.ranges.1)
 
 pub write_rows-requires : goal.write_rows-requires
-write_rows-requires g c = rw c.as_slice-entries.ensures (entries_can_be_written c.args.source.now c.args.log.now.entries c.requires.spans c.requires.ranges.1)
+write_rows-requires g c = rw c.as_slice-entries.ensures (entries_can_be_written c.args.log.now.version c.args.source.now c.args.log.now.entries c.requires.spans c.requires.ranges.1)
 
 pub returns : goal.returns
 returns g c =

@@ -6,9 +6,9 @@ use Rattle.kfs_entry_codec.proofs.headers.read_log.Goals as goal
 
 pub returns-clause-found : goal.returns-clause-found
 returns-clause-found c =
-    is_found log_header_of log_header_field c.args.source.now 0 c.log_counts.result (λ i. omega (arith, c.type_inv.source i)) c.log_counts.ensures.value c.log_counts.ensures.within
+    is_found log_header_of log_header_field c.args.source.now 0 c.header_of_log.result (λ i. omega (arith, c.type_inv.source i)) c.header_of_log.ensures.value c.header_of_log.ensures.within
 
 pub returns-clause-none : goal.returns-clause-none
 returns-clause-none c =
     let source = c.args.source.now in
-    is_none log_header_of log_header_field source source c.log_counts.result c.log_counts.ensures.value
+    is_none log_header_of log_header_field source source c.header_of_log.result c.header_of_log.ensures.value
