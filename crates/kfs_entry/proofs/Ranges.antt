@@ -1,10 +1,11 @@
 -- The entries of a log that was read are in the ranges of the log format.
-use Rattle.std.proofs.Common.{ℕ, ◌≤◌, List, length, subst}
+use Rattle.std.proofs.Common.{ℕ, ◌≤◌, List, length, IfOk, Result, Ok, Err, subst}
 use Rattle.std.specs.List.{AllByRecursion}
 use Rattle.std.proofs.lemmas.List.{length-map}
 use Rattle.kfs_model.specs.Limits.{entry_limit}
-use Rattle.kfs_model.specs.Spelling.{IsEntry, IsLog}
-use Rattle.kfs_entry.specs.Answers.{SpansAreWithin, log_of}
+use Rattle.kfs_model.specs.Spelling.{IsEntry, IsLog, LogAnswer}
+use Rattle.kfs_entry.specs.Answers.{OnAnswer, SpansAreWithin, log_of}
+use Rattle.kfs_entry.specs.declared.fault.SpellFault.{SpellFault}
 use Rattle.kfs_entry.proofs.DecodedLog.{Fit}
 use Rattle.kfs_entry.proofs.RowLaws.{AllByRecursion-weaker, both_hold}
 use Rattle.kfs_entry.proofs.Spans.{is_spanned}
@@ -19,3 +20,8 @@ module _ {A : Type 0} (source : List ℕ) (log : CodeLog A) (spelled : IsLog (lo
 
   pub entries_fit : length log.entries ≤ entry_limit
   entries_fit = subst (λ n. n ≤ entry_limit) (length-map log.entries (entry_of source)) spelled.0.2
+
+-- the log of a decoder's answer has no more entries than a log may have
+pub answer_is_short : {A : Type 0} (source : List ℕ) (result : Result (CodeLog A) SpellFault) → OnAnswer (log_of source) (LogAnswer source) result → IfOk result (λ log. length log.entries ≤ entry_limit)
+answer_is_short source (Ok log) found = entries_fit source log found.0
+answer_is_short source (Err fault) found = tt

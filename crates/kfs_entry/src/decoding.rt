@@ -1,8 +1,6 @@
 //! Logs and plans from bytes.
 ghost use Rattle.std.specs.Prelude.{◌≡◌, ◌≤◌, Result, length, drop, IfOk, IfErr};
-ghost use Rattle.std.specs.List.{AllByRecursion};
 ghost use Rattle.kfs_model.specs.Limits.{entry_limit};
-ghost use Rattle.kfs_entry_value.specs.Views.{IsSpanned};
 ghost use Rattle.kfs_model.specs.Entry.{Log as LogValue};
 ghost use Rattle.kfs_model.specs.PlanRow.{Plan as PlanValue};
 ghost use Rattle.kfs_model.specs.Spelling.{SpellingFault, LogAnswer, PlanAnswer};
@@ -54,7 +52,7 @@ fn part<R: SpelledRow, A: Allocator>(
     }
 }
 
-/// `decode_log`, without the second of its clauses.
+/// `decode_log`, without the clauses `only` and `count`.
 fn log_in<A: Allocator>(alloc: A, source: &[u8]) -> Result<Log<A>, SpellFault>
     ensures found { OnAnswer (log_of source.now) (LogAnswer source.now) result }
     ensures spans { IfOk result (SpansAreWithin (length source.now)) }
@@ -86,7 +84,9 @@ pub fn decode_log<A: Allocator>(alloc: A, source: &[u8]) -> Result<Log<A>, Spell
     // Completeness: the right answer is given, unless memory is refused.
     ensures only { (answer : Result LogValue SpellingFault) → LogAnswer source.now answer → OnAnswer (log_of source.now) (λ given. given ≡ answer) result }
     ensures spans { IfOk result (SpansAreWithin (length source.now)) }
+    // What calls over a log's entries ask for.
     ensures spanned { IfOk result AreSpanned }
+    ensures count { IfOk result (λ log. length log.entries ≤ entry_limit) }
 {
     log_in(alloc, source)
 }

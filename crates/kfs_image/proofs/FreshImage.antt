@@ -6,7 +6,7 @@ use Rattle.kfs_model.specs.Table.{numbers, empty, get}
 use Rattle.kfs_model.proofs.TableLaws.{same_table, get-mapped}
 use Rattle.kfs_model.specs.Tree.{Tree, Node, DirectoryBody, headers, node_header, node_over}
 use Rattle.kfs_model.specs.Soundness.{IsSound}
-use Rattle.kfs_model.specs.Fresh.{fresh_tree, root_mode}
+use Rattle.kfs_model.specs.Fresh.{fresh_tree}
 use Rattle.kfs_model.proofs.FreshTree.{fresh_is_sound}
 use Rattle.kfs_model.proofs.Heads.{get-headers}
 use Rattle.kfs_model.specs.Placement.{TierSizes, AreTierSizes, Place, Placement}

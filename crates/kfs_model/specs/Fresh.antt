@@ -3,10 +3,6 @@ use Rattle.std.specs.Prelude.{[], ◌∷◌}
 use Rattle.kfs_model.specs.Limits.{greatest_mode_of_version_1, root_number}
 use Rattle.kfs_model.specs.Tree.{Tree, DirectoryBody}
 
--- all permission bits, and not the restricted deletion flag
-abbrev pub root_mode : ℕ
-root_mode = 511
-
 abbrev pub fresh_tree : {B : Type 0} → Tree B
 fresh_tree = record {
   nodes = record { entries = (root_number, record { mode = greatest_mode_of_version_1; uid = 0; gid = 0; body = DirectoryBody }) ∷ []; sorted = tt };
