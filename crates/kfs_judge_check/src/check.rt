@@ -71,7 +71,7 @@ pub enum Check<'a> {
     /// The client may write the node, or the log created it as a file.
     MayWrite(u32),
     /// The client is the node's owner, or privileged.
-    MayChangeMode(u32),
+    IsOwned(u32),
     /// The client may take a name of the node out of the directory (POSIX.1-2017, XBD 4.3, "Directory
     /// Protection").
     MayRemove { dir: u32, number: u32 },

@@ -133,7 +133,7 @@ impl<A: Allocator + Copy> EntryJudge<'_, A> {
             }
             Check::MaySearch(_)
             | Check::MayWrite(_)
-            | Check::MayChangeMode(_)
+            | Check::IsOwned(_)
             | Check::MayRemove { .. } => self.right_fault(recorder, check),
             _ => self.header_fault(recorder, check),
         }
@@ -158,7 +158,7 @@ impl<A: Allocator + Copy> EntryJudge<'_, A> {
                 let granted = self.may_write(recorder, *number)?;
                 Ok(unless(granted, Reason::NoWrite))
             }
-            Check::MayChangeMode(number) => {
+            Check::IsOwned(number) => {
                 let header = self.header(recorder, *number)?;
                 Ok(unless(owns(self.client, header), Reason::NotOwner))
             }

@@ -2,7 +2,7 @@
 use Rattle.std.specs.Prelude.{◌≡◌, ℕ, ◌+◌, ◌-◌, ◌<◌, ◌≤◌, ◌++◌, ◌==◌, min, List, [], ◌∷◌, length, IfOk, IsTrue}
 use Rattle.std.specs.List.{list_any}
 use Rattle.kfs_model.specs.Limits.{payload_limit, size_limit}
-use Rattle.kfs_model.specs.Entry.{Entry, Create, Write, Truncate, Link, Unlink, Rename, Chmod}
+use Rattle.kfs_model.specs.Entry.{Entry, Create, Write, Truncate, Link, Unlink, Rename, Chmod, Regroup}
 use Rattle.kfs_model.specs.Laws.{EachRun}
 use Rattle.kfs_model.specs.LastCover.{file_size}
 use Rattle.kfs_model.specs.Plan.{ArePieces}
@@ -46,6 +46,7 @@ made ends index (Link n d m ∷ entries) = made ends (index + 1) entries
 made ends index (Unlink d m kind ∷ entries) = made ends (index + 1) entries
 made ends index (Rename d m e k ∷ entries) = made ends (index + 1) entries
 made ends index (Chmod n mode ∷ entries) = made ends (index + 1) entries
+made ends index (Regroup n group ∷ entries) = made ends (index + 1) entries
 
 -- the ranges by which files grew
 unfoldable pub grown : (before ends : ℕ → ℕ) → (numbers : List ℕ) → List ByteRange

@@ -1,6 +1,6 @@
 -- The bytes of some of the examples' logs and plans.
 use Rattle.std.specs.Prelude.{ℕ, List, [], ◌∷◌, ◌++◌, take, drop}
-use Rattle.kfs_model.specs.Entry.{Entry, Log, Chmod}
+use Rattle.kfs_model.specs.Entry.{Entry, Log, Chmod, Regroup}
 use Rattle.kfs_model.specs.PlanRow.{Plan}
 
 -- the log that client 7 hands in, of version 1
