@@ -33,6 +33,7 @@ reason_of reasons.NoWrite = checks.NoWrite
 reason_of reasons.NotOwner = checks.NotOwner
 reason_of (reasons.NoLease n) = checks.NoLease n
 reason_of reasons.Sticky = checks.Sticky
+reason_of reasons.NotInGroup = checks.NotInGroup
 
 abbrev pub check_of : Check → checks.Check
 check_of (variants.Exists n) = checks.Exists n
@@ -42,6 +43,7 @@ check_of (variants.MaySearch n) = checks.MaySearch n
 check_of (variants.MayWrite n) = checks.MayWrite n
 check_of (variants.IsOwned n) = checks.IsOwned n
 check_of (variants.MayRemove d n) = checks.MayRemove d n
+check_of (variants.MaySetGroup group) = checks.MaySetGroup group
 check_of (variants.IsLeased n) = checks.IsLeased n
 check_of (variants.HasNoNames n) = checks.HasNoNames n
 check_of (variants.HasRoomForLink n) = checks.HasRoomForLink n

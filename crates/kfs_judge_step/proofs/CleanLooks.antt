@@ -29,6 +29,11 @@ module _ (p : EntryContext) where
   unfolding checks_of cells
   chmod_looks n mode = looks_here p (Check.Exists n) (Check.IsOwned n ∷ Check.IsLeased n ∷ [])
 
+  -- a Regroup, whatever its checks find
+  pub regroup_looks : (n group : ℕ) → IsPart (HeaderOf n ∷ []) (looked p (checks_of p (Regroup n group)))
+  unfolding checks_of cells
+  regroup_looks n group = looks_here p (Check.Exists n) (Check.IsOwned n ∷ Check.MaySetGroup group ∷ Check.IsLeased n ∷ [])
+
   -- a Write and a Truncate, whatever their checks find
   pub write_looks : (n offset : ℕ) (payload : List ℕ) → IsPart (HeaderOf n ∷ []) (looked p (checks_of p (Write n offset payload)))
   unfolding checks_of cells

@@ -3,7 +3,7 @@ use Rattle.std.specs.Prelude.{refl}
 use Rattle.std.specs.Option.{option_map}
 use Rattle.std.proofs.Common.{ap, sym, ◌∙◌}
 use Rattle.kfs_model.specs.Header.{Header}
-use Rattle.kfs_model.specs.Entry.{Chmod, Regroup}
+use Rattle.kfs_model.specs.Entry.{Chmod}
 use Rattle.kfs_model.specs.SeenAfter.{put_at, seen_after}
 use Rattle.kfs_judge_draft.specs.Overlay.{over}
 use Rattle.kfs_judge_check.specs.Checks.{reason_of}
