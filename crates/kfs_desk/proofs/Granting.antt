@@ -1,5 +1,5 @@
 -- A call for the leases is the machine's step, and so keeps the desk's state in order.
-use Rattle.std.proofs.Common.{◌≡◌, ℕ, ◌<◌, List, [], ◌∷◌, ◌++◌, length, Some, Result, Ok, Err, refl, sym, ap, subst, ◌∙◌, arith}
+use Rattle.std.proofs.Common.{◌≡◌, ℕ, ◌<◌, false, List, [], ◌∷◌, ◌++◌, length, Some, Result, Ok, Err, refl, sym, ap, subst, ◌∙◌, arith}
 use Rattle.kfs_model.specs.Access.{Client}
 use Rattle.kfs_model.specs.Sight.{sight}
 use Rattle.kfs_model.specs.Lease.{LeaseFault, Leases}
@@ -27,7 +27,7 @@ leased_is s (Err fault) new = refl
 module _ (act : Act) (answer : Result Done CodeFault) (new : Leases) where
   change_is_step : (s : State) → IsChange (outcome_at s.leases (sight s.tree) s.clients act) (done_by act) answer new → (row : Row) × IsLeaseStep s (call_of act) (done_by act) answer row (with_leases s new)
   unfolding outcome_of
-  change_is_step s is = (record { call = call_of act; answer = row_answer is.told; places = [] }, record { outcome = is.told; said = is.said; asked = refl; answered = refl; fits = row_fits s (with_leases s new) _ (by act is.is) })
+  change_is_step s is = (record { call = call_of act; answer = row_answer is.told; rejudged = false; places = [] }, record { outcome = is.told; said = is.said; asked = refl; answered = refl; rejudged = refl; fits = row_fits s (with_leases s new) _ (by act is.is) })
     where
       by : (a : Act) → outcome_at s.leases (sight s.tree) s.clients a ≡ (is.told, new) → outcome_of s (call_of a) [] ≡ Some (row_answer is.told, with_leases s new)
       by (acts.Lease client path kind end) same = ap (leased s []) same ∙ leased_is s is.told new

@@ -109,7 +109,8 @@ reply_of (replies.Yes position rejudged need) = Some (Accepted need)
 reply_of (replies.No position rejudged fault) = option_map Refused (refusal_of fault)
 reply_of (replies.NoRoom position rejudged need free) = Some (NoRoom need free)
 
--- the row is the submission with this answer, and leads from state s to state t
+-- the row is the submission with this answer, told as judged again or not, and leads from state s to
+-- state t
 pub record IsStep (s : State) (submission : Submission) (answer : CodeReply) (row : Row) (t : State) : Type 0 where
   pub reading : Reading
   pub read : IsReadAs submission reading
@@ -117,6 +118,7 @@ pub record IsStep (s : State) (submission : Submission) (answer : CodeReply) (ro
   pub reply : Reply
   pub said : reply_of answer ≡ Some reply
   pub answered : row.answer ≡ Replied reply
+  pub rejudged : row.rejudged ≡ is_rejudged answer
   pub fits : next s row ≡ Some t
 
 -- the new tree results from the log's entries in turn, each one allowed, and is sound
@@ -208,13 +210,14 @@ pub record IsChange (outcome : leases.LeaseOutcome) (words : ℕ → Done) (answ
 abbrev pub IsChangeOf : Leases → Sight → List Client → Act → (answer : Result Done LeaseFault) → (new : Leases) → Type 0
 IsChangeOf table sight clients act answer new = IsChange (outcome_at table sight clients act) (done_by act) answer new
 
--- the answer says what was done, in these words; the row is the call with that outcome, and leads from
--- state s to state t
+-- the answer says what was done, in these words; the row is the call with that outcome, with nothing
+-- judged again, and leads from state s to state t
 pub record IsLeaseStep (s : State) (call : Call) (words : ℕ → Done) (answer : Result Done LeaseFault) (row : Row) (t : State) : Type 0 where
   pub outcome : Result ℕ leases.LeaseFault
   pub said : IsTold words answer outcome
   pub asked : row.call ≡ call
   pub answered : row.answer ≡ row_answer outcome
+  pub rejudged : row.rejudged ≡ false
   pub fits : next s row ≡ Some t
 
 -- the answer to the call is such a step, and the docket has the step's row, at the answer's position
