@@ -11,7 +11,6 @@ use Rattle.kfs_program_text.specs.Decimals.{decimal32, decimal64, decimals32}
 use Rattle.kfs_program_text.specs.Reading.{are_words, checked, ended, first_by}
 use Rattle.kfs_program_text.proofs.WordByWord.{decimals_then, nothing_then, word_then}
 use Rattle.kfs_program_command.proofs.Readings.{asked_named, client_then, command_by_name, docket_then, drop_then, judge_then, lease_then, nameless, new_then, nothing_asked, number_then, read_then}
-use Rattle.kfs_program_command.proofs.Rows.{sizes_by}
 
 -- ---- what is read word by word, and never asks for a landing
 

@@ -4,7 +4,7 @@ use Rattle.std.specs.List.{slice_get}
 use Rattle.std.proofs.lemmas.List.{get_or-set_same, get_or-set_other, take-append-le, take_all}
 use Rattle.std.proofs.lemmas.Option.{slice_get_within}
 use Rattle.kfs_model.specs.Judgement.{State, Submission}
-use Rattle.kfs_model.specs.Machine.{Call, IsRead, Row, after}
+use Rattle.kfs_model.specs.Machine.{Call, IsRead, after}
 use Rattle.kfs_desk_docket.specs.Legal.{IsLegalDocket}
 use Rattle.kfs_desk_docket.proofs.Longer.{leads_on}
 use Rattle.kfs_lease.specs.declared.act.Act.{Act}
