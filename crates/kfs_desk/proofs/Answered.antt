@@ -66,7 +66,7 @@ module _ (desk : Parts) (is_desk : IsDesk desk) (lawful : IsLawful desk.image) (
           by (Yes after marked_after) judgement told = absurd told
           by (No refusal) judgement told = record {
             step = (
-              record { call = Submit submission judgement.reading; answer = Replied (Refused refusal); places = [] },
+              record { call = Submit submission judgement.reading; answer = Replied (Refused refusal); rejudged = again; places = [] },
               record {
                 reading = judgement.reading;
                 read = judgement.read;
@@ -74,6 +74,7 @@ module _ (desk : Parts) (is_desk : IsDesk desk) (lawful : IsLawful desk.image) (
                 reply = Refused refusal;
                 said = ap (option_map Refused) told;
                 answered = refl;
+                rejudged = refl;
                 fits = row_fits s s _ (ap (λ verdict. replied s [] verdict (reply_to s verdict)) (sym judgement.judgement));
               },
             );
@@ -90,7 +91,7 @@ module _ (desk : Parts) (is_desk : IsDesk desk) (lawful : IsLawful desk.image) (
                 → IsAnswer s submission again position (replies.NoRoom position again told (free_in desk.image)) s
             by (Yes after marked_after) judgement told_so = record {
               step = (
-                record { call = Submit submission judgement.reading; answer = Replied (NoRoom told (free_in desk.image)); places = [] },
+                record { call = Submit submission judgement.reading; answer = Replied (NoRoom told (free_in desk.image)); rejudged = again; places = [] },
                 record {
                   reading = judgement.reading;
                   read = judgement.read;
@@ -98,7 +99,8 @@ module _ (desk : Parts) (is_desk : IsDesk desk) (lawful : IsLawful desk.image) (
                   reply = NoRoom told (free_in desk.image);
                   said = refl;
                   answered = refl;
-                  fits = fits_full desk is_desk lawful submission log plan net told after marked_after told_so full judgement.reading judgement.judgement;
+                  rejudged = refl;
+                  fits = fits_full desk is_desk lawful submission log plan net told after marked_after told_so full again judgement.reading judgement.judgement;
                 },
               );
               judged = refl;

@@ -1,12 +1,12 @@
 -- A call for the leases is the machine's step, and so keeps the desk's state in order.
-use Rattle.std.proofs.Common.{◌≡◌, ℕ, ◌<◌, List, [], ◌∷◌, ◌++◌, length, Some, Result, Ok, Err, refl, sym, ap, subst, ◌∙◌, arith}
+use Rattle.std.proofs.Common.{◌≡◌, ℕ, ◌<◌, false, List, [], ◌∷◌, ◌++◌, length, Some, Result, Ok, Err, refl, sym, ap, subst, ◌∙◌, arith}
 use Rattle.kfs_model.specs.Access.{Client}
 use Rattle.kfs_model.specs.Sight.{sight}
 use Rattle.kfs_model.specs.Lease.{LeaseFault, Leases}
 use Rattle.kfs_model.specs.Judgement.{State}
 use Rattle.kfs_model.specs.Machine.{Call, IsRead, Row, outcome_of, leased}
 use Rattle.kfs_model.proofs.RowFits.{row_fits}
-use Rattle.kfs_lease.specs.declared.leases.LeaseFault.{LeaseFault as CodeFault}
+use Rattle.kfs_plan.specs.declared.answers.ActFault.{ActFault}
 use Rattle.kfs_image_nodes.specs.Contents.{Contents, sight_of}
 use Rattle.kfs_model_device.specs.ShownTree.{IsLawful, shown_tree}
 use Rattle.kfs_image.specs.Image.{contents_of}
@@ -24,10 +24,10 @@ leased_is : (s : State) (told : Result ℕ LeaseFault) (new : Leases) → leased
 leased_is s (Ok number) new = refl
 leased_is s (Err fault) new = refl
 
-module _ (act : Act) (answer : Result Done CodeFault) (new : Leases) where
+module _ (act : Act) (answer : Result Done ActFault) (new : Leases) where
   change_is_step : (s : State) → IsChange (outcome_at s.leases (sight s.tree) s.clients act) (done_by act) answer new → (row : Row) × IsLeaseStep s (call_of act) (done_by act) answer row (with_leases s new)
   unfolding outcome_of
-  change_is_step s is = (record { call = call_of act; answer = row_answer is.told; places = [] }, record { outcome = is.told; said = is.said; asked = refl; answered = refl; fits = row_fits s (with_leases s new) _ (by act is.is) })
+  change_is_step s is = (record { call = call_of act; answer = row_answer is.told; rejudged = false; places = [] }, record { outcome = is.told; said = is.said; asked = refl; answered = refl; rejudged = refl; fits = row_fits s (with_leases s new) _ (by act is.is) })
     where
       by : (a : Act) → outcome_at s.leases (sight s.tree) s.clients a ≡ (is.told, new) → outcome_of s (call_of a) [] ≡ Some (row_answer is.told, with_leases s new)
       by (acts.Lease client path kind end) same = ap (leased s []) same ∙ leased_is s is.told new
@@ -42,7 +42,7 @@ module _ (act : Act) (answer : Result Done CodeFault) (new : Leases) where
       let looked = subst (λ s. IsChange (outcome_at desk.leases s clients act) (done_by act) answer new) shown is in
       change_is_step (state_of desk) (subst (λ rows. IsChange (outcome_at desk.leases (sight (shown_tree desk.image)) rows act) (done_by act) answer new) clients_are looked)
 
-module _ (act : Act) (answer : Result Done CodeFault) where
+module _ (act : Act) (answer : Result Done ActFault) where
   -- a call for the leases has no bytes
   act_read : (s t : State) (row : Row) → IsLeaseStep s (call_of act) (done_by act) answer row t → IsRead row
   act_read s t row step = subst (λ (call : Call). IsRead (record row { call = call })) (sym step.asked) (read act)

@@ -132,18 +132,18 @@ module _ (desk : Parts) (is_desk : IsDesk desk) (lawful : IsLawful desk.image) (
         ∙ ap Accepted (sym yes.need_told)
 
     -- the submission with the places of the fill
-    abbrev row_filled : Reading → Row
-    row_filled reading = record { call = Submit submission reading; answer = Replied (Accepted told); places = places }
+    abbrev row_filled : (again : Bool) → Reading → Row
+    row_filled again reading = record { call = Submit submission reading; answer = Replied (Accepted told); rejudged = again; places = places }
 
-    fits_filled : (reading : Reading) → Yes after marked_after ≡ verdict_on s submission.client reading → next s (row_filled reading) ≡ Some (landed s after marked_after places)
+    fits_filled : (again : Bool) (reading : Reading) → Yes after marked_after ≡ verdict_on s submission.client reading → next s (row_filled again reading) ≡ Some (landed s after marked_after places)
     unfolding outcome_of
-    fits_filled reading judged = row_fits s (landed s after marked_after places) _ (
+    fits_filled again reading judged = row_fits s (landed s after marked_after places) _ (
         ap (λ verdict. replied s places verdict (reply_to s verdict)) (sym judged)
         ∙ ap (replied s places (Yes after marked_after)) answer
         ∙ ap (λ b. cond b (Some (Replied (Accepted told), landed s after marked_after places)) None) fills.chosen
         )
 
-    pub step_filled : (judgement : IsJudgement s submission (Yes after marked_after)) → (position : ℕ) (again : Bool) → IsStep s submission (replies.Yes position again told) (row_filled judgement.reading) state_filled
+    pub step_filled : (judgement : IsJudgement s submission (Yes after marked_after)) → (position : ℕ) (again : Bool) → IsStep s submission (replies.Yes position again told) (row_filled again judgement.reading) state_filled
     step_filled judgement position again = record {
       reading = judgement.reading;
       read = judgement.read;
@@ -151,7 +151,8 @@ module _ (desk : Parts) (is_desk : IsDesk desk) (lawful : IsLawful desk.image) (
       reply = Accepted told;
       said = refl;
       answered = refl;
-      fits = fits_filled judgement.reading judgement.judgement ∙ ap Some (sym filled_is);
+      rejudged = refl;
+      fits = fits_filled again judgement.reading judgement.judgement ∙ ap Some (sym filled_is);
     }
 
     pub done_filled : IsDone s submission state_filled
@@ -198,10 +199,10 @@ module _ (desk : Parts) (is_desk : IsDesk desk) (lawful : IsLawful desk.image) (
         ∙ ap (λ n. NoRoom n free) (sym yes.need_told)
 
     -- A row without places fits, and leaves the state as it is.
-    pub fits_full : (reading : Reading) → Yes after marked_after ≡ verdict_on s submission.client reading
-        → next s (record { call = Submit submission reading; answer = Replied (NoRoom told free); places = [] }) ≡ Some s
+    pub fits_full : (again : Bool) (reading : Reading) → Yes after marked_after ≡ verdict_on s submission.client reading
+        → next s (record { call = Submit submission reading; answer = Replied (NoRoom told free); rejudged = again; places = [] }) ≡ Some s
     unfolding outcome_of
-    fits_full reading judged = row_fits s s _ (
+    fits_full again reading judged = row_fits s s _ (
         ap (λ verdict. replied s [] verdict (reply_to s verdict)) (sym judged)
         ∙ ap (replied s [] (Yes after marked_after)) no_room
         )

@@ -13,7 +13,8 @@ use Rattle.kfs_model.specs.Order.{IsInOrder}
 use Rattle.kfs_desk_docket.specs.Legal.{IsLegalDocket}
 use Rattle.kfs_lease.specs.Faults.{fault_of}
 use Rattle.kfs_lease_rows.specs.Rows.{kind_of}
-use Rattle.kfs_lease.specs.declared.leases.LeaseFault.{LeaseFault}
+use Rattle.kfs_plan.specs.declared.answers.ActFault.{ActFault}
+use Rattle.kfs_plan.specs.declared.answers.ActFault.TheVariants as act_faults
 use Rattle.kfs_model_device.specs.ShownTree.{DeviceImage, IsLawful, shown_tree}
 use Rattle.kfs_plan.specs.Judging.{refusal_of, submission_of}
 use Rattle.kfs_plan.specs.declared.submission.Back.{Back}
@@ -109,7 +110,8 @@ reply_of (replies.Yes position rejudged need) = Some (Accepted need)
 reply_of (replies.No position rejudged fault) = option_map Refused (refusal_of fault)
 reply_of (replies.NoRoom position rejudged need free) = Some (NoRoom need free)
 
--- the row is the submission with this answer, and leads from state s to state t
+-- the row is the submission with this answer, told as judged again or not, and leads from state s to
+-- state t
 pub record IsStep (s : State) (submission : Submission) (answer : CodeReply) (row : Row) (t : State) : Type 0 where
   pub reading : Reading
   pub read : IsReadAs submission reading
@@ -117,6 +119,7 @@ pub record IsStep (s : State) (submission : Submission) (answer : CodeReply) (ro
   pub reply : Reply
   pub said : reply_of answer ≡ Some reply
   pub answered : row.answer ≡ Replied reply
+  pub rejudged : row.rejudged ≡ is_rejudged answer
   pub fits : next s row ≡ Some t
 
 -- the new tree results from the log's entries in turn, each one allowed, and is sound
@@ -188,33 +191,34 @@ outcome_at table sight clients (acts.Drop client number) = leases.dropped table 
 outcome_at table sight clients (acts.Tick moment) = leases.ticked table moment
 
 -- the code's answer says what the machine's answer says: what was done, in these words, or the refusal
-abbrev pub IsTold : (words : ℕ → Done) → Result Done LeaseFault → Result ℕ leases.LeaseFault → Type 0
+abbrev pub IsTold : (words : ℕ → Done) → Result Done ActFault → Result ℕ leases.LeaseFault → Type 0
 IsTold words (Ok done) (Ok number) = done ≡ words number
 IsTold words (Ok done) (Err refusal) = ⊥
-IsTold words (Err fault) (Ok number) = ⊥
-IsTold words (Err fault) (Err refusal) = fault_of fault ≡ Some refusal
+IsTold words (Err (act_faults.Lease fault)) (Ok number) = ⊥
+IsTold words (Err (act_faults.Lease fault)) (Err refusal) = fault_of fault ≡ Some refusal
 
 abbrev pub row_answer : Result ℕ leases.LeaseFault → CallAnswer
 row_answer (Ok number) = machine.Done number
 row_answer (Err fault) = machine.NotDone (machine.LeaseRefused fault)
 
 -- the answer, and the leases after it, are this outcome
-pub record IsChange (outcome : leases.LeaseOutcome) (words : ℕ → Done) (answer : Result Done LeaseFault) (new : Leases) : Type 0 where
+pub record IsChange (outcome : leases.LeaseOutcome) (words : ℕ → Done) (answer : Result Done ActFault) (new : Leases) : Type 0 where
   pub told : Result ℕ leases.LeaseFault
   pub said : IsTold words answer told
   pub is : outcome ≡ (told, new)
 
 -- the answer and the new leases are what the call leads to
-abbrev pub IsChangeOf : Leases → Sight → List Client → Act → (answer : Result Done LeaseFault) → (new : Leases) → Type 0
+abbrev pub IsChangeOf : Leases → Sight → List Client → Act → (answer : Result Done ActFault) → (new : Leases) → Type 0
 IsChangeOf table sight clients act answer new = IsChange (outcome_at table sight clients act) (done_by act) answer new
 
--- the answer says what was done, in these words; the row is the call with that outcome, and leads from
--- state s to state t
-pub record IsLeaseStep (s : State) (call : Call) (words : ℕ → Done) (answer : Result Done LeaseFault) (row : Row) (t : State) : Type 0 where
+-- the answer says what was done, in these words; the row is the call with that outcome, with nothing
+-- judged again, and leads from state s to state t
+pub record IsLeaseStep (s : State) (call : Call) (words : ℕ → Done) (answer : Result Done ActFault) (row : Row) (t : State) : Type 0 where
   pub outcome : Result ℕ leases.LeaseFault
   pub said : IsTold words answer outcome
   pub asked : row.call ≡ call
   pub answered : row.answer ≡ row_answer outcome
+  pub rejudged : row.rejudged ≡ false
   pub fits : next s row ≡ Some t
 
 -- the answer to the call is such a step, and the docket has the step's row, at the answer's position

@@ -35,7 +35,9 @@ use kfs_image_fill::{LogBytes, land_bytes};
 use kfs_judge::View;
 use kfs_lease::{LeaseFault, LeaseKind, Leases};
 use kfs_mode::Client;
-use kfs_plan::answers::{Act, ActReply, BeginFault, Done, Reply, SubmissionsBack, Unanswered};
+use kfs_plan::answers::{
+    Act, ActFault, ActReply, BeginFault, Done, Reply, SubmissionsBack, Unanswered,
+};
 use kfs_plan::{Back, Judged, Outcome, Submission, Why, judge};
 use std::alloc::{AllocError, Allocator};
 use std::marker::Model;
@@ -401,7 +403,7 @@ fn change<A: Allocator + Clone>(
     shape: &Shape<A>,
     clients: &[Client],
     act: Act<'_>,
-) -> Result<Result<Done, LeaseFault>, Unanswered>
+) -> Result<Result<Done, ActFault>, Unanswered>
     requires distinct { ClientsAreDistinct clients.now }
     ensures ok { IfOk result (λ answer. IsChangeOf leases.old.value (sight_of shape.now) clients.now act.entry answer leases.new.value) }
     ensures err { OnErr result (leases.new.value ≡ leases.old.value) }
@@ -411,7 +413,7 @@ fn change<A: Allocator + Clone>(
     match made(leases, shape, clients, act) {
         Ok(done) => Ok(Ok(done)),
         Err(LeaseFault::OutOfMemory) => Err(Unanswered::OutOfMemory),
-        Err(fault) => Ok(Err(fault)),
+        Err(fault) => Ok(Err(ActFault::Lease(fault))),
     }
 }
 

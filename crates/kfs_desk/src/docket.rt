@@ -6,9 +6,9 @@ ghost use Rattle.kfs_desk.specs.Machine.{IsLeaseStep, IsStep, call_of, done_by};
 
 use crate::state::ShownState;
 use kfs_desk_docket::{Docket, OneRow, RowRule};
-use kfs_lease::{Act, LeaseFault};
+use kfs_lease::Act;
 use kfs_plan::Submission;
-use kfs_plan::answers::{Done, Reply};
+use kfs_plan::answers::{ActFault, Done, Reply};
 use std::alloc::Allocator;
 use std::snapshot::Snapshot;
 
@@ -51,7 +51,7 @@ pub fn add_answer<A: Allocator>(
 struct Acted<'a, A: Allocator> {
     before: &'a ShownState<A>,
     act: &'a Act<'a>,
-    answer: &'a Result<Done, LeaseFault>,
+    answer: &'a Result<Done, ActFault>,
     after: &'a ShownState<A>,
 }
 
@@ -64,7 +64,7 @@ pub fn add_act<A: Allocator>(
     docket: &mut Docket,
     before: &ShownState<A>,
     act: &Act<'_>,
-    answer: &Result<Done, LeaseFault>,
+    answer: &Result<Done, ActFault>,
     after: &ShownState<A>,
 )
     requires room { length docket.old + 1 < 2 ^ 32 }

@@ -13,5 +13,7 @@ mod state;
 pub use back::BeginBack;
 pub use desk::Desk;
 pub use kfs_desk_docket::Docket;
-pub use kfs_plan::answers::{Act, ActReply, BeginFault, Done, Reply, SubmissionsBack, Unanswered};
+pub use kfs_plan::answers::{
+    Act, ActFault, ActReply, BeginFault, Done, Reply, SubmissionsBack, Unanswered,
+};
 pub use kfs_plan::{Back, Why};

@@ -13,7 +13,6 @@ use Rattle.kfs_model.specs.Effect.{Filling, change_of, overwritten, resized, len
 use Rattle.kfs_model.specs.SeenAfter.{written_size, seen_after}
 use Rattle.kfs_model.specs.CleanStep.{IsClean, StaysSound}
 use Rattle.kfs_model.proofs.CleanIsAllowed.{AllPass, all_pass, passed}
-use Rattle.kfs_model.proofs.EntryLaws.{mode_in_range}
 use Rattle.kfs_model.proofs.CleanFacts.{some_is, at_tree, clean_at}
 use Rattle.kfs_model.proofs.Fields.{mode_in_range}
 use Rattle.kfs_model.proofs.Heads.{get-headers}

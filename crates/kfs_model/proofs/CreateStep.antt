@@ -14,7 +14,6 @@ use Rattle.kfs_model.specs.Soundness.{Climbs, InRange, NameIsSound, AreSound, Is
 use Rattle.kfs_model.specs.Spelling.{IsEntry, IsName}
 use Rattle.kfs_model.specs.SeenAfter.{put_at, put_parent, new_header, seen_after}
 use Rattle.kfs_model.specs.CleanStep.{IsClient, IsClean, StaysSound}
-use Rattle.kfs_model.proofs.EntryLaws.{mode_in_range}
 use Rattle.kfs_model.proofs.CleanFacts.{at_tree, clean_at, CreateFacts, create_facts}
 use Rattle.kfs_model.proofs.Fields.{mode_in_range}
 use Rattle.kfs_model.proofs.NameTable.{at_number-insert, target-insert}

@@ -2,20 +2,16 @@
 use Rattle.std.proofs.Common.{◌≡◌, ℕ, ◌==◌, Bool, true, false, cond, List, [], ◌∷◌, Option, Some, None, Result, Ok, Err, refl, sym, ap, subst, ◌∙◌}
 use Rattle.std.specs.Prelude.{length, nat_lt}
 use Rattle.kfs_model.proofs.OneByOne.{run_is_one_by_one}
-use Rattle.kfs_model.proofs.OrderKept.{IsYes, yes_means}
-use Rattle.kfs_model.specs.Access.{Client}
-use Rattle.kfs_model.specs.Entry.{Log}
-use Rattle.kfs_model.specs.FirstWrong.{RowFault, first_wrong_row}
-use Rattle.kfs_model.specs.Judgement.{State, Submission, Reading, IsReadAs, Verdict, Yes, No, AtRow, ClientUnknown, ClientWrong, Accepted, NoRoom, Refused, is_yes, free_places, client_sight_of, judged, judged_log, judged_plan, judged_run, reply_to, verdict_on}
-use Rattle.kfs_model.specs.Lease.{Leases, LeaseFault, dropped, granted, row_of, ticked}
+use Rattle.kfs_model.proofs.OrderKept.{yes_means}
+use Rattle.kfs_model.specs.Judgement.{State, Submission, Reading, IsReadAs, Verdict, Yes, No, Accepted, NoRoom, Refused, is_yes, free_places, client_sight_of, judged, reply_to, verdict_on}
+use Rattle.kfs_model.specs.Lease.{Leases, LeaseFault, dropped, granted, ticked}
 use Rattle.kfs_model.specs.Machine.{Call, Submit, Lease, Drop, Tick, CallAnswer, CallAnswer-equality, CallFault, LeaseRefused, CallOutcome, Done, NotDone, OneByOne, Replied, Row, IsRead, answered, are_chosen, landed, leased, next, outcome_of, replied, same_answer, unplaced}
 use Rattle.kfs_model.specs.Placement.{need, written_blocks}
-use Rattle.kfs_model.specs.PlanRow.{Plan}
-use Rattle.kfs_model.specs.Run.{EntryFault, Mark, marked, over_bytes, over_marks, run}
+use Rattle.kfs_model.specs.Run.{Mark, run}
 use Rattle.kfs_model.specs.Sight.{sight}
-use Rattle.kfs_model.specs.Spelling.{LogAnswer, SpellingFault}
+use Rattle.kfs_model.specs.Spelling.{LogAnswer}
 use Rattle.kfs_model.specs.Tree.{Tree}
-use Rattle.kfs_model.specs.Means.{DiffersInLeases, HasEntriesDone, Means, MeansOf}
+use Rattle.kfs_model.specs.Means.{HasEntriesDone, Means, MeansOf}
 
 -- ---- what fits is what the call comes to
 

@@ -8,7 +8,7 @@ use Rattle.kfs_model.specs.Sight.{Sight, ClientSight, Cell, HeaderOf, NameIn, Pa
 use Rattle.kfs_model.specs.Check
 use Rattle.kfs_model.proofs.CleanIsAllowed.{AllPass, all_pass}
 use Rattle.kfs_model.proofs.SameSteps.{MovedAlike, ReadsAlike}
-use Rattle.kfs_model.specs.Check.{EntryContext, Reason, Check, fault, cells, unless, is_some_and, may_remove, first_failing, first_fault, looked, checks_of, may_go, on_number, arrival_checks, move_checks, rename_checks}
+use Rattle.kfs_model.specs.Check.{EntryContext, Reason, Check, fault, cells, unless, may_remove, first_failing, first_fault, looked, checks_of, may_go, on_number, arrival_checks, move_checks, rename_checks}
 
 -- one client at two spots, with the same numbers created
 module _ (client : Client) (created : ℕ → Bool) (before : ClientSight) (now : Sight) (other_before : ClientSight) (other_now : Sight) where

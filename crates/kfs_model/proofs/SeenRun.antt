@@ -89,15 +89,12 @@ module _ (client : Client) (one other : Tree ℕ) (entries : List Entry) (fits :
   pub of_two_trees : (P : Result Sight EntryFault → Result Sight EntryFault → Type 0) → P (seen_run client s entries) (seen_run client u entries)
       → P (shown_run (run over_bytes client s one entries)) (shown_run (run over_bytes client u other entries))
   of_two_trees P seen =
-      let here = run_is_seen over_bytes bytes_faithful client s fits.in_range 0 [] one entries fits.sound fits.fitting in
-      let there = run_is_seen over_bytes bytes_faithful client u also.in_range 0 [] other entries also.sound also.fitting in
+      let here = run_is_seen over_bytes bytes_faithful client s fits.in_range 0 [] one fits.version entries fits.sound fits.fitting in
+      let there = run_is_seen over_bytes bytes_faithful client u also.in_range 0 [] other also.version entries also.sound also.fitting in
       subst (λ end. P end (shown_run (run over_bytes client u other entries))) (sym here) (subst (P (seen_run client s entries)) (sym there) seen)
 
 pub same_looked_trees : (client : Client) (one other : Tree ℕ) (entries : List Entry) → Fits client one entries → Fits client other entries → TreesEndInAgreement client one other entries
 same_looked_trees client one other entries fits also held other_held alike =
     let s = client_sight one held in
     let u = client_sight other other_held in
-    let here = run_is_seen over_bytes bytes_faithful client s fits.in_range 0 [] one fits.version entries fits.sound fits.fitting in
-    let there = run_is_seen over_bytes bytes_faithful client u also.in_range 0 [] other also.version entries also.sound also.fitting in
-    subst (λ end. EndInAgreement s u end (shown_run (run over_bytes client u other entries))) (sym here)
-    (subst (λ end. EndInAgreement s u (seen_run client s entries) end) (sym there) (same_looked client s u entries alike).0)
+    of_two_trees client one other entries fits also held other_held (EndInAgreement s u) (same_looked client s u entries alike).0

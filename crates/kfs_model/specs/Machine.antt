@@ -103,17 +103,18 @@ outcome_of s (Lease client path kind end) places = leased s places (granted s.le
 outcome_of s (Drop client number) places = leased s places (dropped s.leases s.clients client number)
 outcome_of s (Tick moment) places = leased s places (ticked s.leases moment)
 
--- a row of the docket: a call, its answer, and for a Yes the places of the written blocks in tier 0,
--- ascending by block
+-- a row of the docket: a call and its answer; whether the answer says that a submission was judged again;
+-- and for a Yes the places of the written blocks in tier 0, ascending by block
 pub record Row : Type 0 where
   pub call : Call
   pub answer : CallAnswer
+  pub rejudged : Bool
   pub places : List ℕ
 
 abbrev pub answered : CallAnswer → CallOutcome → Option State
 answered answer outcome = if same_answer outcome.0 answer then Some outcome.1 else None
 
--- the state after the row, if the row fits the state
+-- the state after the row, if the row fits the state; that doesn't look at `rejudged`
 unfoldable pub next : State → Row → Option State
 next s row = elim (outcome_of s row.call row.places) [ None ↦ None | Some outcome ↦ answered row.answer outcome ]
 

@@ -44,13 +44,21 @@ pub enum Done {
     Ticked(u64),
 }
 
+/// Why a call was refused. What the call would have changed is as it was.
+#[derive(Clone, Copy, Debug, PartialEq, Eq, Error)]
+pub enum ActFault {
+    /// A call for leases.
+    #[error("{0}")]
+    Lease(LeaseFault),
+}
+
 /// The answer to a call for leases.
 #[derive(Clone, Copy, Debug, PartialEq, Eq)]
 pub struct ActReply {
     /// Its row in the docket, from 0.
     pub position: u32,
     /// What was done, or why nothing was; the leases are as they were then.
-    pub answer: Result<Done, LeaseFault>,
+    pub answer: Result<Done, ActFault>,
 }
 
 /// Why a call for leases wasn't answered. It has no row in the docket, and the desk is as it was.

@@ -14,8 +14,8 @@ use Rattle.kfs_entry_value.specs.declared.entry.Entry.TheVariants as entries
 use Rattle.kfs_plan_sweep.specs.declared.sizes.FileSize.{FileSize}
 use Rattle.kfs_plan_sweep.specs.declared.byte_range.Origin.TheVariants.{Zero, Payload}
 use Rattle.kfs_plan_sweep.specs.declared.byte_range.ByteRange.{ByteRange}
-use Rattle.kfs_plan_sweep.specs.Made.{AreMade, grown, made}
-use Rattle.kfs_plan_sweep.specs.Sizes.{AreSizes, growths, length_after, reaches, reaches_file}
+use Rattle.kfs_plan_sweep.specs.Made.{AreMade, grown, made, reach_of}
+use Rattle.kfs_plan_sweep.specs.Sizes.{AreSizes, growths, length_after, reach_in, reaches_file}
 
 growths_are : (before ends : ℕ → ℕ) (sizes : List FileSize) → AllByRecursion (λ (s : FileSize). (s.before ≡ before s.number) × (s.after ≡ ends s.number)) sizes
     → growths sizes ≡ grown before ends (map (λ (s : FileSize). s.number) sizes)
@@ -35,8 +35,7 @@ module _ (source : List ℕ) (sizes : List FileSize) (ends : ℕ → ℕ) where
   first : (e : CodeEntry Span) (es : List (CodeEntry Span)) (n : ℕ) → Reached (e ∷ es) → reaches_file n (entry_of source e) ≡ true → length_after sizes n ≡ ends n
   first e es n reached is = reached n (or_left (reaches_file n (entry_of source e)) (list_any (reaches_file n) (map (entry_of source) es)) is)
 
-  pub reaches_are : (index : ℕ) (es : List (CodeEntry Span)) → AllByRecursion (IsWithin (length source)) es → Reached es → reaches sizes index es ≡ made ends index (map (entry_of source) es)
-  unfolding made
+  pub reaches_are : (index : ℕ) (es : List (CodeEntry Span)) → AllByRecursion (IsWithin (length source)) es → Reached es → made (length_after sizes) index (map reach_in es) ≡ made ends index (map reach_of (map (entry_of source) es))
   reaches_are index [] within reached = refl
   reaches_are index (entries.Write n offset p ∷ es) within reached =
       let end = first (entries.Write n offset p) es n reached (eq-eqb n n refl) in
@@ -55,7 +54,7 @@ module _ (source : List ℕ) (sizes : List FileSize) (ends : ℕ → ℕ) where
 
 -- what the code lists is what the log made
 pub log_made : (source : List ℕ) (sizes : List FileSize) (es : List (CodeEntry Span)) (tree : Tree ℕ) (after : Tree Mark) (ranges : List ByteRange) → AllByRecursion (IsWithin (length source)) es
-    → AreSizes tree (map (entry_of source) es) after sizes → ranges ≡ growths sizes ++ reaches sizes 0 es → AreMade tree (map (entry_of source) es) after ranges
+    → AreSizes tree (map (entry_of source) es) after sizes → ranges ≡ growths sizes ++ made (length_after sizes) 0 (map reach_in es) → AreMade tree (map (entry_of source) es) after ranges
 log_made source sizes es tree after ranges within all is = record {
   numbers = map (λ (s : FileSize). s.number) sizes;
   grew = all.grew;

@@ -22,7 +22,7 @@ use Rattle.kfs_entry_value.specs.Views.{piece_of}
 use Rattle.kfs_entry_value.specs.declared.plan.Piece.{Piece as CodePiece}
 use Rattle.kfs_plan_sweep.specs.Parts.{AreByNumber}
 use Rattle.kfs_plan_sweep.specs.ByteRanges.{has_byte, origin_at, last_origin, AreFrom}
-use Rattle.kfs_plan_sweep.specs.Made.{source_at, piece_made, pieces_made, IsPlacedAt, IsFit, made, grown}
+use Rattle.kfs_plan_sweep.specs.Made.{source_at, piece_made, pieces_made, IsPlacedAt, IsFit, reach_of, made, grown}
 use Rattle.kfs_plan_sweep.proofs.LastOrigin.{last_origin-append, option_or_none}
 
 -- ---- the mark of a byte
@@ -85,8 +85,8 @@ module _ (ends : ℕ → ℕ) (n p : ℕ) where
   made_same : (rest : Option Origin) (a : Option Mark) → option_map (λ o. mark_of o p) rest ≡ cond (ltb p (ends n)) a None → option_map (λ o. mark_of o p) rest ≡ cond (ltb p (ends n)) (option_or a None) None
   made_same rest a more = more ∙ ap (λ o. cond (ltb p (ends n)) o None) (sym (option_or_none a))
 
-  pub made_marks : (index : ℕ) (entries : List Entry) → option_map (λ o. mark_of o p) (last_origin (made ends index entries) n p) ≡ cond (ltb p (ends n)) (last_cover index entries n p) None
-  unfolding made last_cover covered_by
+  pub made_marks : (index : ℕ) (entries : List Entry) → option_map (λ o. mark_of o p) (last_origin (made ends index (map reach_of entries)) n p) ≡ cond (ltb p (ends n)) (last_cover index entries n p) None
+  unfolding last_cover covered_by
   made_marks index [] = nothing (ltb p (ends n))
     where
       nothing : (b : Bool) → ◌≡◌ {A = Option Mark} None (cond b None None)
@@ -167,7 +167,7 @@ module _ (client : Client) (seen : ClientSight) (before : Tree ℕ) (entries : L
     (numbers : List ℕ) (all : (n : ℕ) → file_size before n < file_size after n → list_any (λ k. n == k) numbers ≡ true) where
   -- what the log made, the growth of files below all
   abbrev pub all_made : List ByteRange
-  all_made = grown (file_size before) (file_size after) numbers ++ made (file_size after) 0 entries
+  all_made = grown (file_size before) (file_size after) numbers ++ made (file_size after) 0 (map reach_of entries)
 
   both_conds : (b : Bool) (a c : Option Mark) → option_or (cond b a None) (cond b c None) ≡ cond b (option_or a c) None
   both_conds true a c = refl
@@ -176,8 +176,8 @@ module _ (client : Client) (seen : ClientSight) (before : Tree ℕ) (entries : L
   -- the last of the ranges that has a byte says its mark, and it is in none exactly where the log didn't change it
   pub ranges_say : (n p : ℕ) → option_map (λ o. mark_of o p) (last_origin all_made n p) ≡ changed_mark (mark_at after n p)
   ranges_say n p =
-      ap (option_map (λ o. mark_of o p)) (last_origin-append (grown (file_size before) (file_size after) numbers) (made (file_size after) 0 entries) n p)
-      ∙ marked_or p (last_origin (made (file_size after) 0 entries) n p) (last_origin (grown (file_size before) (file_size after) numbers) n p)
+      ap (option_map (λ o. mark_of o p)) (last_origin-append (grown (file_size before) (file_size after) numbers) (made (file_size after) 0 (map reach_of entries)) n p)
+      ∙ marked_or p (last_origin (made (file_size after) 0 (map reach_of entries)) n p) (last_origin (grown (file_size before) (file_size after) numbers) n p)
       ∙ (λ i. option_or (made_marks (file_size after) n p 0 entries i) (grown_marks (file_size before) (file_size after) n p numbers (all n) i))
       ∙ both_conds (ltb p (file_size after n)) (last_cover 0 entries n p) (growth_mark before n p)
       ∙ sym (changed_mark_is client seen before entries after opens ran n p)
@@ -224,7 +224,7 @@ pieces_in_order ss from = record { ascending = ascending_pieces ss 0 0 from; fil
 module _ (client : Client) (seen : ClientSight) (before : Tree ℕ) (entries : List Entry) (after : Tree Mark) (opens : seen.sight ≡ sight before) (ran : run over_marks client seen (marked before) entries ≡ Ok after)
     (numbers : List ℕ) (all : (n : ℕ) → file_size before n < file_size after n → list_any (λ k. n == k) numbers ≡ true) where
   pub laid_pieces_are_right : (ss : List ByteRange) → AreFrom 0 0 ss → AllByRecursion IsFit ss
-      → ((n p : ℕ) → origin_at ss n p ≡ last_origin (grown (file_size before) (file_size after) numbers ++ made (file_size after) 0 entries) n p) → ArePieces after (pieces_made ss)
+      → ((n p : ℕ) → origin_at ss n p ≡ last_origin (grown (file_size before) (file_size after) numbers ++ made (file_size after) 0 (map reach_of entries)) n p) → ArePieces after (pieces_made ss)
   laid_pieces_are_right ss from fit says = pieces_from_said after (pieces_made ss) (pieces_in_order ss from) (λ n p.
       pieces_say ss 0 0 from fit n p ∙ ap (option_map (λ o. mark_of o p)) (says n p) ∙ ranges_say client seen before entries after opens ran numbers all n p)
 

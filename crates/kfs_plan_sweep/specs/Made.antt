@@ -1,5 +1,5 @@
 -- The byte ranges that a log changes, and the pieces that they are.
-use Rattle.std.specs.Prelude.{◌≡◌, ℕ, ◌+◌, ◌-◌, ◌<◌, ◌≤◌, ◌++◌, ◌==◌, min, List, [], ◌∷◌, length, IfOk, IsTrue}
+use Rattle.std.specs.Prelude.{◌≡◌, ℕ, ◌+◌, ◌-◌, ◌<◌, ◌≤◌, ◌++◌, ◌==◌, min, List, [], ◌∷◌, length, map, Option, Some, None, IfOk, IsTrue}
 use Rattle.std.specs.List.{list_any}
 use Rattle.kfs_model.specs.Limits.{payload_limit, size_limit}
 use Rattle.kfs_model.specs.Entry.{Entry, Create, Write, Truncate, Link, Unlink, Rename, Chmod, Regroup}
@@ -36,17 +36,36 @@ pub record IsFit (s : ByteRange) : Type 0 where
   pub end : s.end ≤ size_limit
   pub placed : IsPlacedAt s.origin s.start s.end
 
--- the ranges that Writes and Truncates change, each cut off at its file's size after the log
-unfoldable pub made : (ends : ℕ → ℕ) → (index : ℕ) → List Entry → List ByteRange
+-- which bytes of which file an entry reaches: so many from a place on, all from a size on, or none
+pub data Reach : Type 0 where
+  Overwrites : (number start count : ℕ) → Reach
+  Cuts : (number size : ℕ) → Reach
+  ReachesNone : Reach
+
+abbrev pub reach_of : Entry → Reach
+reach_of (Write n offset payload) = Overwrites n offset (length payload)
+reach_of (Truncate n size) = Cuts n size
+reach_of (Create d m n kind mode) = ReachesNone
+reach_of (Link n d m) = ReachesNone
+reach_of (Unlink d m kind) = ReachesNone
+reach_of (Rename d m e k) = ReachesNone
+reach_of (Chmod n mode) = ReachesNone
+reach_of (Regroup n group) = ReachesNone
+
+-- the range that the entry with this index so changes, cut off at its file's size after the log
+abbrev pub range_of : (ends : ℕ → ℕ) → (index : ℕ) → Reach → Option ByteRange
+range_of ends index (Overwrites n start count) = Some (record { number = n; start = start; end = min (start + count) (ends n); origin = Payload index start })
+range_of ends index (Cuts n size) = Some (record { number = n; start = size; end = ends n; origin = Zero })
+range_of ends index ReachesNone = None
+
+abbrev pub put_before : Option ByteRange → List ByteRange → List ByteRange
+put_before None ranges = ranges
+put_before (Some range) ranges = range ∷ ranges
+
+-- the ranges that entries with these reaches change; the first entry has this index
+abbrev pub made : (ends : ℕ → ℕ) → (index : ℕ) → List Reach → List ByteRange
 made ends index [] = []
-made ends index (Create d m n kind mode ∷ entries) = made ends (index + 1) entries
-made ends index (Write n offset payload ∷ entries) = record { number = n; start = offset; end = min (offset + length payload) (ends n); origin = Payload index offset } ∷ made ends (index + 1) entries
-made ends index (Truncate n size ∷ entries) = record { number = n; start = size; end = ends n; origin = Zero } ∷ made ends (index + 1) entries
-made ends index (Link n d m ∷ entries) = made ends (index + 1) entries
-made ends index (Unlink d m kind ∷ entries) = made ends (index + 1) entries
-made ends index (Rename d m e k ∷ entries) = made ends (index + 1) entries
-made ends index (Chmod n mode ∷ entries) = made ends (index + 1) entries
-made ends index (Regroup n group ∷ entries) = made ends (index + 1) entries
+made ends index (reach ∷ reaches) = put_before (range_of ends index reach) (made ends (index + 1) reaches)
 
 -- the ranges by which files grew
 unfoldable pub grown : (before ends : ℕ → ℕ) → (numbers : List ℕ) → List ByteRange
@@ -58,7 +77,7 @@ grown before ends (n ∷ ns) = record { number = n; start = before n; end = ends
 pub record AreMade (tree : Tree ℕ) (entries : List Entry) (after : Tree Mark) (ranges : List ByteRange) : Type 0 where
   pub numbers : List ℕ
   pub grew : (n : ℕ) → file_size tree n < file_size after n → IsTrue (list_any (λ k. n == k) numbers)
-  pub are : ranges ≡ grown (file_size tree) (file_size after) numbers ++ made (file_size after) 0 entries
+  pub are : ranges ≡ grown (file_size tree) (file_size after) numbers ++ made (file_size after) 0 (map reach_of entries)
 
 -- the pieces are right for the log of any run that changed these ranges
 abbrev pub AreRightOf : List ByteRange → List Piece → Type 0

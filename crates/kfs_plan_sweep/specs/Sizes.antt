@@ -15,8 +15,9 @@ use Rattle.kfs_entry_value.specs.Views.{entry_of, IsWithin}
 use Rattle.kfs_entry_value.specs.declared.entry.Span.{Span}
 use Rattle.kfs_entry_value.specs.declared.entry.Entry.{Entry as CodeEntry}
 use Rattle.kfs_entry_value.specs.declared.entry.Entry.TheVariants as entries
+use Rattle.kfs_plan_sweep.specs.Made.{Reach, Overwrites, Cuts, ReachesNone}
 use Rattle.kfs_plan_sweep.specs.declared.sizes.FileSize.{FileSize}
-use Rattle.kfs_plan_sweep.specs.declared.byte_range.Origin.TheVariants.{Zero, Payload}
+use Rattle.kfs_plan_sweep.specs.declared.byte_range.Origin.TheVariants.{Zero}
 use Rattle.kfs_plan_sweep.specs.declared.byte_range.ByteRange.{ByteRange}
 
 -- the sizes ascend by file number, from `least` on, none twice
@@ -40,26 +41,16 @@ growth_of s = record { number = s.number; start = s.before; end = s.after; origi
 abbrev pub growths : List FileSize → List ByteRange
 growths sizes = map growth_of sizes
 
--- the range that an entry changes, if it is a Write or a Truncate of a listed file
-abbrev pub reach_of : List FileSize → (index : ℕ) → CodeEntry Span → Option ByteRange
-reach_of sizes index (entries.Write n offset p) =
-    Some (record { number = n; start = offset; end = min (offset + (p.end - p.start)) (length_after sizes n); origin = Payload index offset })
-reach_of sizes index (entries.Truncate n size) = Some (record { number = n; start = size; end = length_after sizes n; origin = Zero })
-reach_of sizes index (entries.Create d m n k mode) = None
-reach_of sizes index (entries.Link n d m) = None
-reach_of sizes index (entries.Unlink d m k) = None
-reach_of sizes index (entries.Rename d m e k) = None
-reach_of sizes index (entries.Chmod n mode) = None
-reach_of sizes index (entries.Regroup n group) = None
-
-abbrev pub put_before : Option ByteRange → List ByteRange → List ByteRange
-put_before None ranges = ranges
-put_before (Some range) ranges = range ∷ ranges
-
--- the ranges that the entries change; the first entry has this index
-abbrev pub reaches : List FileSize → (index : ℕ) → List (CodeEntry Span) → List ByteRange
-reaches sizes index [] = []
-reaches sizes index (entry ∷ rest) = put_before (reach_of sizes index entry) (reaches sizes (index + 1) rest)
+-- which bytes an entry of the code reaches
+abbrev pub reach_in : CodeEntry Span → Reach
+reach_in (entries.Write n offset p) = Overwrites n offset (p.end - p.start)
+reach_in (entries.Truncate n size) = Cuts n size
+reach_in (entries.Create d m n k mode) = ReachesNone
+reach_in (entries.Link n d m) = ReachesNone
+reach_in (entries.Unlink d m k) = ReachesNone
+reach_in (entries.Rename d m e k) = ReachesNone
+reach_in (entries.Chmod n mode) = ReachesNone
+reach_in (entries.Regroup n group) = ReachesNone
 
 -- whether the entry is a Write or a Truncate of this file
 abbrev pub reaches_file : (number : ℕ) → Entry → Bool

@@ -4,9 +4,9 @@ ghost use Rattle.std.specs.List.{AllByRecursion};
 ghost use Rattle.kfs_model.specs.Limits.{entry_limit};
 ghost use Rattle.kfs_entry_value.specs.Views.{piece_of, IsSpanned};
 ghost use Rattle.kfs_plan_sweep.specs.Lefts.{IsFilled, PieceIsInRange};
-ghost use Rattle.kfs_plan_sweep.specs.Made.{IsFit};
+ghost use Rattle.kfs_plan_sweep.specs.Made.{IsFit, made, range_of};
 ghost use Rattle.kfs_plan_sweep.specs.Parts.{AreByNumber};
-ghost use Rattle.kfs_plan_sweep.specs.Sizes.{AreRightFrom, SizesAscend, IsSize, growth_of, growths, reach_of, reaches};
+ghost use Rattle.kfs_plan_sweep.specs.Sizes.{AreRightFrom, SizesAscend, IsSize, growth_of, growths, length_after, reach_in};
 
 use crate::byte_range::{ByteRange, Origin};
 use crate::pieces::right_pieces;
@@ -34,7 +34,7 @@ fn reach(sizes: &[FileSize], index: u16, entry: &Entry<Span>) -> Option<ByteRang
     requires ascending { SizesAscend 0 sizes.now }
     requires sizes { AllByRecursion IsSize sizes.now }
     requires span { IsSpanned entry.now }
-    ensures made { result ≡ reach_of sizes.now index entry.now }
+    ensures made { result ≡ range_of (length_after sizes.now) index (reach_in entry.now) }
     ensures fit { IfSome result IsFit }
 {
     match entry {
@@ -75,7 +75,7 @@ fn ranges_of<A: Allocator>(
     requires sizes { AllByRecursion IsSize sizes.now }
     requires spans { AllByRecursion IsSpanned entries.now }
     requires count { length entries.now ≤ entry_limit }
-    ensures made { IfOk result (λ out. out.items ≡ growths sizes.now ++ reaches sizes.now 0 entries.now) }
+    ensures made { IfOk result (λ out. out.items ≡ growths sizes.now ++ made (length_after sizes.now) 0 (map reach_in entries.now)) }
     ensures fit { IfOk result (λ out. AllByRecursion IsFit out.items) }
 {
     let mut out = Vec::new(alloc);

@@ -1,4 +1,5 @@
 -- Lemmas on the reading of commands.
 pub mod Asked
+pub mod Landings
 pub mod Readings
 pub mod Rows

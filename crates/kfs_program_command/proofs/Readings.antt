@@ -15,7 +15,7 @@ use Rattle.kfs_program_command.proofs.Rows.{sizes_by, new_by_sizes, kept_groups}
 
 -- ---- one number
 
-number_then : (number : List ℕ → Option ℕ) (command : ℕ → Command) (words : List (List ℕ)) → with_number number command words ≡ word_then number (λ n. nothing_then (Some (command n))) words
+pub number_then : (number : List ℕ → Option ℕ) (command : ℕ → Command) (words : List (List ℕ)) → with_number number command words ≡ word_then number (λ n. nothing_then (Some (command n))) words
 unfolding ended word_then nothing_then
 number_then number command [] = refl
 number_then number command (a ∷ []) = elim (number a) as (λ o. option_map command o ≡ (o >>= λ n. Some (command n))) [ None ↦ refl | Some n ↦ refl ]
@@ -54,7 +54,7 @@ land_steps words = number_steps (decimal_within last_worker) (λ worker. Request
 
 -- ---- new
 
-new_then : (words : List (List ℕ)) → new_of words ≡ word_then decimal32 (λ a. word_then decimal32 (λ b. word_then decimal32 (λ c. nothing_then (sizes_by a b c)))) words
+pub new_then : (words : List (List ℕ)) → new_of words ≡ word_then decimal32 (λ a. word_then decimal32 (λ b. word_then decimal32 (λ c. nothing_then (sizes_by a b c)))) words
 unfolding ended word_then nothing_then
 new_then [] = refl
 new_then (a ∷ []) = bind_none (decimal32 a) _ (λ x. refl)
@@ -71,7 +71,7 @@ new_steps words =
 
 -- ---- drop
 
-drop_then : (words : List (List ℕ)) → drop_of words ≡ word_then decimal32 (λ a. word_then decimal32 (λ b. nothing_then (Some (Request (Drop a b))))) words
+pub drop_then : (words : List (List ℕ)) → drop_of words ≡ word_then decimal32 (λ a. word_then decimal32 (λ b. nothing_then (Some (Request (Drop a b))))) words
 unfolding ended word_then nothing_then
 drop_then [] = refl
 drop_then (a ∷ []) = bind_none (decimal32 a) _ (λ x. refl)
@@ -86,7 +86,7 @@ drop_steps words =
 
 -- ---- read
 
-read_then : (words : List (List ℕ)) → read_of words ≡ word_then decimal32 (λ a. word_then decimal64 (λ b. word_then (decimal_within read_limit) (λ c. nothing_then (Some (Request (Bytes a b c)))))) words
+pub read_then : (words : List (List ℕ)) → read_of words ≡ word_then decimal32 (λ a. word_then decimal64 (λ b. word_then (decimal_within read_limit) (λ c. nothing_then (Some (Request (Bytes a b c)))))) words
 unfolding ended word_then nothing_then
 read_then [] = refl
 read_then (a ∷ []) = bind_none (decimal32 a) _ (λ x. refl)
@@ -103,7 +103,7 @@ read_steps words =
 
 -- ---- docket
 
-docket_then : (words : List (List ℕ)) → docket_of words ≡ nothing_then (Some (Request DocketLength)) words
+pub docket_then : (words : List (List ℕ)) → docket_of words ≡ nothing_then (Some (Request DocketLength)) words
 unfolding docket_of ended nothing_then
 docket_then [] = refl
 docket_then (a ∷ words) = refl
@@ -140,7 +140,7 @@ checked_next read next words = next_if (are_words words) (read words) next
 pub submit_steps : (words : List (List ℕ)) → checked submit_of words ≡ (checked submission_in words >>= λ submission. Some (Request (Submit submission)))
 submit_steps words = checked_next submission_in (λ submission. Some (Request (Submit submission))) words
 
-judge_then : (words : List (List ℕ)) → judge_of words ≡ word_then (decimal_within last_worker) (λ worker left. submission_in left >>= λ submission. Some (Request (Judge worker submission))) words
+pub judge_then : (words : List (List ℕ)) → judge_of words ≡ word_then (decimal_within last_worker) (λ worker left. submission_in left >>= λ submission. Some (Request (Judge worker submission))) words
 unfolding word_then
 judge_then [] = refl
 judge_then (a ∷ words) = refl
@@ -155,7 +155,7 @@ judge_steps words =
 abbrev word_itself : List ℕ → Option (List ℕ)
 word_itself word = Some word
 
-lease_then : (words : List (List ℕ)) → lease_of words ≡ word_then decimal32 (λ a. word_then word_itself (λ path. word_then kind_named (λ kind. word_then decimal64 (λ end. nothing_then (Some (Request (Lease a path kind end))))))) words
+pub lease_then : (words : List (List ℕ)) → lease_of words ≡ word_then decimal32 (λ a. word_then word_itself (λ path. word_then kind_named (λ kind. word_then decimal64 (λ end. nothing_then (Some (Request (Lease a path kind end))))))) words
 unfolding ended word_then nothing_then
 lease_then [] = refl
 lease_then (a ∷ []) = bind_none (decimal32 a) _ (λ x. refl)
@@ -174,7 +174,7 @@ lease_steps words =
 
 -- ---- client
 
-client_then : (words : List (List ℕ)) → client_of words ≡ word_then decimal32 (λ a. word_then decimal32 (λ b. word_then decimal32 (λ c. word_then (decimal_within 1) (λ d. word_then decimal32 (λ e. word_then decimal32 (λ f.
+pub client_then : (words : List (List ℕ)) → client_of words ≡ word_then decimal32 (λ a. word_then decimal32 (λ b. word_then decimal32 (λ c. word_then (decimal_within 1) (λ d. word_then decimal32 (λ e. word_then decimal32 (λ f.
     decimals_then (λ groups. Setup (Row (client_row a b c groups (d == 1) e f))))))))) words
 unfolding word_then decimals_then
 client_then [] = refl

@@ -159,3 +159,8 @@ asked_in (name ∷ words) = if are_words (name ∷ words) then command_of name w
 -- the command in a line, none where the line isn't a command
 abbrev pub asked_by : (line : List ℕ) → Option Command
 asked_by line = asked_in (cut space line)
+
+-- the worker whose verdict is to be landed, none where that isn't asked for
+abbrev pub landing_worker : Option Command → Option ℕ
+landing_worker (Some (Request (Land worker))) = Some worker
+landing_worker asked = None

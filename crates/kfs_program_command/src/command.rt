@@ -1,12 +1,12 @@
 //! The commands of a session.
-ghost use Rattle.std.specs.Prelude.{◌≡◌, ℕ, List, true, false, IfOk, IsErrOf, None, Some};
+ghost use Rattle.std.specs.Prelude.{◌≡◌, ℕ, List, true, false, IfOk, IsErrOf, None, Some, option_map};
 ghost use Rattle.kfs_lease_rows.specs.Rows.{kind_of};
 ghost use Rattle.kfs_plan.specs.Judging.{submission_of};
-ghost use Rattle.kfs_program_command.specs.Command.{Listing as ListingLine, Node as NodeLine, Request, Setup, Submit as SubmitLine, asked_by, client_of, drop_of, judge_of, kind_named, last_worker, lease_of, new_of, read_of, submission_in, submit_of};
+ghost use Rattle.kfs_program_command.specs.Command.{Land as LandLine, Listing as ListingLine, Node as NodeLine, Request, Setup, Submit as SubmitLine, asked_by, client_of, drop_of, judge_of, kind_named, landing_worker, last_worker, lease_of, new_of, read_of, submission_in, submit_of};
 ghost use Rattle.kfs_program_command.specs.Reading.{begin_of, command_named, docket_of, land_of, listing_of, named_by, node_of, tick_of};
 ghost use Rattle.kfs_program_command.specs.Views.{act_of, asked_of, asked_of_desk, opening_of};
 ghost use Rattle.kfs_program_text.specs.Decimals.{decimal_within};
-ghost use Rattle.kfs_program_text.specs.Reading.{ReadsAs, checked, first_by, words_left};
+ghost use Rattle.kfs_program_text.specs.Reading.{ReadsAs, ReadsExactly, checked, first_by, words_left};
 
 use crate::worker::{LAST_WORKER, Worker};
 use kfs_image_nodes::TierSizes;
@@ -105,6 +105,23 @@ impl<'a, A: Allocator + Copy> Command<'a, A> {
             Keyword::Judge => Ok(Command::Desk(read_judge(alloc, words)?)),
             Keyword::Land => Ok(Command::Desk(read_land(words)?)),
         }
+    }
+}
+
+/// The worker whose verdict the line asks to land, if it asks for that. Takes no memory.
+pub fn worker_to_land(line: &[u8]) -> Option<Worker>
+    ensures { option_map (λ worker. worker.number) result ≡ landing_worker (asked_by line.now) }
+{
+    let mut words = Words::new(line);
+    let Ok(word) = words.word() else {
+        return None;
+    };
+    let Some(name) = name_in(word) else {
+        return None;
+    };
+    match name {
+        Keyword::Land => only_worker(&mut words),
+        _ => None,
     }
 }
 
@@ -306,7 +323,7 @@ fn read_submission<A: Allocator + Copy>(
 
 /// The number of a worker.
 fn read_worker(words: &mut Words<'_>) -> Result<Worker, Refusal>
-    ensures { ReadsAs (λ worker. (worker.number, words_left words.new)) (first_by (decimal_within last_worker) (words_left words.old)) result }
+    ensures { ReadsExactly (λ worker. (worker.number, words_left words.new)) (first_by (decimal_within last_worker) (words_left words.old)) result }
 {
     let number = words.number(LAST_WORKER)?;
     Ok(Worker::of(number as u8))
@@ -324,11 +341,25 @@ fn read_judge<A: Allocator + Copy>(
     Ok(DeskCommand::Judge { worker, submission })
 }
 
+/// The number of a worker, and no other word.
 #[tactic(auto, using(crate::proofs::Readings::land_steps))]
+fn only_worker(words: &mut Words<'_>) -> Option<Worker>
+    ensures { checked land_of (words_left words.old) ≡ option_map (λ worker. Request (LandLine worker.number)) result }
+{
+    let Ok(worker) = read_worker(words) else {
+        return None;
+    };
+    match words.end() {
+        Ok(()) => Some(worker),
+        Err(_) => None,
+    }
+}
+
 fn read_land<A: Allocator>(words: &mut Words<'_>) -> Result<DeskCommand<'static, A>, Refusal>
     ensures { ReadsAs (λ command. Request (asked_of_desk command)) (checked land_of (words_left words.old)) result }
 {
-    let worker = read_worker(words)?;
-    words.end()?;
-    Ok(DeskCommand::Land { worker })
+    match only_worker(words) {
+        Some(worker) => Ok(DeskCommand::Land { worker }),
+        None => Err(Refusal::BadLine),
+    }
 }

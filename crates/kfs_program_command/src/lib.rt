@@ -8,5 +8,5 @@ mod command;
 pub mod examples;
 mod worker;
 
-pub use command::{Command, DeskCommand, OpeningCommand};
+pub use command::{Command, DeskCommand, OpeningCommand, worker_to_land};
 pub use worker::Worker;

@@ -34,6 +34,11 @@ only read words = first_by read words >>= λ x. ended x.1 >>= λ done. Some x.0
 unfoldable pub checked : {T : Type 0} → (List (List ℕ) → Option T) → List (List ℕ) → Option T
 checked read words = if are_words words then read words else None
 
+-- the result is what the words say, and the line is bad exactly where they say nothing; memory isn't
+-- wanted
+abbrev pub ReadsExactly : {T V : Type 0} → (T → V) → Option V → Result T Refusal → Type 0
+ReadsExactly view expected result = MatchResult result (λ x. expected ≡ Some (view x)) (λ refusal. (refusal ≡ BadLine) × (expected ≡ None))
+
 -- the result is what the words say, and the line is bad only where they say nothing
 abbrev pub ReadsAs : {T V : Type 0} → (T → V) → Option V → Result T Refusal → Type 0
 ReadsAs view expected result = MatchResult result (λ x. expected ≡ Some (view x)) (λ refusal. refusal ≡ BadLine → expected ≡ None)

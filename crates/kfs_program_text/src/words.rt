@@ -4,7 +4,7 @@ ghost use Rattle.std.specs.Prelude.{◌≡◌, ◌==◌, ◌≤◌, [], ◌∷�
 ghost use Rattle.std.specs.List.{list_all};
 ghost use Rattle.kfs_program_text.specs.Cut.{cut, space};
 ghost use Rattle.kfs_program_text.specs.Decimals.{decimal32, decimal64, decimal_within, decimals32, hexadecimal, is_digit};
-ghost use Rattle.kfs_program_text.specs.Reading.{ReadsAs, ended, first_by, only, words_left};
+ghost use Rattle.kfs_program_text.specs.Reading.{ReadsAs, ReadsExactly, ended, first_by, only, words_left};
 
 use arrayvec::ArrayVec;
 use std::alloc::{AllocError, AllocFailed, Allocator};
@@ -58,7 +58,7 @@ impl<'a> Words<'a> {
     /// The next word.
     #[tactic(auto, unfolding(crate::specs::Reading::first_by))]
     pub fn word(&mut self) -> Result<&'a [u8], Refusal>
-        ensures { ReadsAs (λ word. (word.now, words_left self.new)) (first_by (λ word. Some word) (words_left self.old)) result }
+        ensures { ReadsExactly (λ word. (word.now, words_left self.new)) (first_by (λ word. Some word) (words_left self.old)) result }
     {
         let rest = self.rest.ok_or(Refusal::BadLine)?;
         let (word, behind) = first_part(rest);
@@ -73,7 +73,7 @@ impl<'a> Words<'a> {
     #[tactic(auto, unfolding(crate::specs::Reading::first_by))]
     pub fn number(&mut self, most: u64) -> Result<u64, Refusal>
         ensures range { IfOk result (λ n. n ≤ most) }
-        ensures read { ReadsAs (λ n. (n, words_left self.new)) (first_by (decimal_within most) (words_left self.old)) result }
+        ensures read { ReadsExactly (λ n. (n, words_left self.new)) (first_by (decimal_within most) (words_left self.old)) result }
     {
         number_in(self.word()?, most).ok_or(Refusal::BadLine)
     }
@@ -132,7 +132,7 @@ impl<'a> Words<'a> {
     /// Refuses the line, if a word is left.
     #[tactic(auto, using(crate::proofs::WordsCut::cut_not_ended), unfolding(crate::specs::Reading::ended))]
     pub fn end(&self) -> Result<(), Refusal>
-        ensures { ReadsAs (λ done. done) (ended (words_left self.now)) result }
+        ensures { ReadsExactly (λ done. done) (ended (words_left self.now)) result }
     {
         match self.rest {
             Some(_) => Err(Refusal::BadLine),

@@ -16,6 +16,8 @@ use Rattle.kfs_plan.specs.declared.submission.Fault.{Fault}
 use Rattle.kfs_plan.specs.declared.submission.Fault.TheVariants.{UnknownClient, BadLog, WrongClient, BadPlan, Entry, Row}
 use Rattle.kfs_plan.specs.declared.rows.RowFault.{RowFault}
 use Rattle.kfs_plan.specs.declared.rows.RowFault.TheVariants as row
+use Rattle.kfs_plan.specs.declared.answers.ActFault.{ActFault}
+use Rattle.kfs_plan.specs.declared.answers.ActFault.TheVariants as act_fault
 use Rattle.kfs_plan.specs.declared.answers.ActReply.{ActReply}
 use Rattle.kfs_plan.specs.declared.answers.BeginFault.{BeginFault}
 use Rattle.kfs_plan.specs.declared.answers.BeginFault.TheVariants as begin
@@ -117,9 +119,9 @@ done_text (done.Leased node) = codes " leased " ++ decimal node
 done_text (done.Dropped node) = codes " dropped " ++ decimal node
 done_text (done.Ticked moment) = codes " ticked " ++ decimal moment
 
-abbrev pub act_answer_text : Result Done LeaseFault → List ℕ
+abbrev pub act_answer_text : Result Done ActFault → List ℕ
 act_answer_text (Ok did) = done_text did
-act_answer_text (Err fault) = codes " refused " ++ lease_text fault
+act_answer_text (Err (act_fault.Lease fault)) = codes " refused " ++ lease_text fault
 
 abbrev pub act_text : ActReply → List ℕ
 act_text reply = decimal reply.position ++ act_answer_text reply.answer

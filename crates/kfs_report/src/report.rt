@@ -10,7 +10,7 @@ mod names;
 
 use kfs_image_nodes::{Header, Kind};
 use kfs_mode::ClientFault;
-use kfs_plan::answers::{ActReply, BeginFault, Done, Reply};
+use kfs_plan::answers::{ActFault, ActReply, BeginFault, Done, Reply};
 use kfs_program_text::parts::{field, flag, number, octal, text};
 use names::{begin_fault, client_fault, judgement_fault, lease_fault};
 use std::alloc::{AllocError, Allocator};
@@ -85,7 +85,7 @@ pub fn act_line<A: Allocator>(out: &mut Vec<u8, A>, reply: &ActReply) -> Result<
     number(out, u64::from(reply.position));
     match reply.answer {
         Ok(done) => push_done(out, done),
-        Err(fault) => {
+        Err(ActFault::Lease(fault)) => {
             text(out, b" refused ");
             lease_fault(out, fault);
         }

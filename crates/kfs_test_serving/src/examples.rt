@@ -1,7 +1,8 @@
 //! An example of each public type of `kfs_judge`, `kfs_plan` and `kfs_desk`: how it comes about, and what it holds.
 
 use kfs_desk::{
-    Act, ActReply, Back, BeginBack, BeginFault, Desk, Done, Reply, SubmissionsBack, Unanswered, Why,
+    Act, ActFault, ActReply, Back, BeginBack, BeginFault, Desk, Done, Reply, SubmissionsBack,
+    Unanswered, Why,
 };
 use kfs_entry::{ENTRY_LIMIT, Log, SpellFault, decode_log};
 use kfs_image::{Answer, Cell, Image, TierSizes};
@@ -215,7 +216,7 @@ fn answers_to_calls_for_leases(rt: HostRuntime) {
         assert!(rt; lease(&mut desk) == Ok(leased));
         let refused = ActReply {
             position: 1,
-            answer: Err(LeaseFault::NoLeaseHeld),
+            answer: Err(ActFault::Lease(LeaseFault::NoLeaseHeld)),
         };
         let drop = Act::Drop {
             client: 7,

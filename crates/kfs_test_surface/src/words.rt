@@ -1,6 +1,6 @@
 //! What each fault says of itself as an `Error`: the words of docs/FORMATS.md, where these have some.
 
-use kfs_desk::{BeginFault, Unanswered, Why};
+use kfs_desk::{ActFault, BeginFault, Unanswered, Why};
 use kfs_entry::SpellFault;
 use kfs_image::ReadFault;
 use kfs_judge::{EntryFault, Reason};
@@ -108,6 +108,13 @@ fn faults_of_leases(rt: HostRuntime) {
         (LeaseFault::OutOfMemory, "memory"),
     ];
     assert!(rt; say(rt.alloc(), &faults));
+    assert!(rt;
+        says(
+            rt.alloc(),
+            &ActFault::Lease(LeaseFault::LeaseHeld(7)),
+            "LeaseHeld(7)"
+        )
+    );
 }
 
 #[test]

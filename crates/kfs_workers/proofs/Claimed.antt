@@ -9,7 +9,7 @@ use Rattle.kfs_plan.specs.declared.answers.Reply.{Reply}
 use Rattle.kfs_plan.specs.declared.answers.Reply.TheVariants as answers
 use Rattle.kfs_desk.specs.Docket.{position_of}
 use Rattle.kfs_desk.specs.Machine.{AreShown, Desk, AnswerMeans}
-use Rattle.kfs_workers.specs.Claims.{AreSettled, AtReply, EachReply, ElseChangesNothing, HasAllowedEntries, IsSettled, ShowsItsEntries, StandsAt}
+use Rattle.kfs_workers.specs.Claims.{AreSettled, AtReply, EachReply, ElseChangesNothing, GoesOnFrom, HasAllowedEntries, IsSettled, ShowsItsEntries, StandsAt}
 use Rattle.kfs_workers.specs.Script.{Holding, IsRun, all_returned, begun}
 use Rattle.kfs_workers.specs.declared.script.Step.{Step}
 use Rattle.kfs_workers.proofs.Places.{AreInPlace, Place, Waits, With, Answered, in_place_at_first, is_answered, submission_in, ticket_of, waiting_at}
@@ -18,8 +18,13 @@ use Rattle.kfs_workers.proofs.Settled.{given_at_end, kept_back}
 
 module _ (desk last : Desk) (submissions : List Submission) (script : List Step) (replies : List (Option Reply)) (left : List (Option Submission)) (run : IsRun desk submissions script replies left last)
     (legal : IsLegalDocket desk.opening desk.docket desk.state) where
-  both : AreInPlace submissions run.state × AreStanding submissions run.state
-  both = run_stands submissions (begun desk submissions) run.state script (in_place_at_first desk submissions) (stands_at_first desk submissions legal) run.runs
+  both : AreInPlace submissions run.state × AreStanding desk submissions run.state
+  both = run_stands desk submissions (begun desk submissions) run.state script (in_place_at_first desk submissions) (stands_at_first desk submissions legal) run.runs
+
+  -- ---- the desk at the end
+
+  pub goes_on : GoesOnFrom desk last
+  goes_on = subst (GoesOnFrom desk) (sym run.ends) both.1.on
 
   -- ---- each ticket is answered once or left
 

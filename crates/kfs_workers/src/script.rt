@@ -3,7 +3,7 @@ ghost use Rattle.std.specs.Prelude.{◌≡◌, IfErr, IfOk, map, option_map};
 ghost use Rattle.kfs_desk_docket.specs.Legal.{IsLegalDocket};
 ghost use Rattle.kfs_plan.specs.Judging.{submission_of};
 ghost use Rattle.kfs_desk.specs.Machine.{};
-ghost use Rattle.kfs_workers.specs.Claims.{AreSettled, EachReply, ElseChangesNothing, HasAllowedEntries, ShowsItsEntries};
+ghost use Rattle.kfs_workers.specs.Claims.{AreSettled, EachReply, ElseChangesNothing, GoesOnFrom, HasAllowedEntries, ShowsItsEntries};
 ghost use Rattle.kfs_workers.specs.Script.{IsRun, DoesSteps};
 
 use crate::script_state::ScriptState;
@@ -67,6 +67,9 @@ pub fn run_script<A: Allocator + Copy>(
     steps: &[Step<'_>],
 ) -> Result<ScriptEnd<A>, ScriptBack<A>>
     ensures run { IfOk result (λ end. IsRun desk (map submission_of submissions.items) steps.now end.replies.items (map (option_map submission_of) end.left.items) end.desk) }
+
+    // The desk is the one that was handed in, with the rows of the script behind its own.
+    ensures goes_on { IfOk result (λ end. GoesOnFrom desk end.desk) }
     ensures tickets { IfOk result (λ end. AreSettled end.desk (map submission_of submissions.items) end.replies.items (map (option_map submission_of) end.left.items)) }
 
     // After a Yes, a well formed image shows the tree that results from the log's entries in turn, from

@@ -1,5 +1,5 @@
 -- The states and rows of the examples on where blocks lie. Each landing is client 7's.
-use Rattle.std.specs.Prelude.{ℕ, List, [], ◌∷◌, replicate, Ok}
+use Rattle.std.specs.Prelude.{ℕ, false, List, [], ◌∷◌, replicate, Ok}
 use Rattle.kfs_model.specs.Header.{File}
 use Rattle.kfs_model.specs.Entry.{Entry, Write, Truncate, Unlink}
 use Rattle.kfs_model.specs.PlanRow.{Piece, Plan}
@@ -15,6 +15,7 @@ abbrev pub row : List Entry → Plan → Reply → (places : List ℕ) → Row
 row entries rows reply places = record {
   call = Submit (record { client = 7; log = []; plan = [] }) (record { log = Ok (record { version = 1; client = 7; entries = entries }); plan = Ok rows });
   answer = Replied reply;
+  rejudged = false;
   places = places;
 }
 
@@ -102,7 +103,7 @@ abbrev pub held_to_10 : State
 held_to_10 = record (file_state []) { leases = record { rows = table (((7, 5), record { kind = WriteLease; end = 10 }) ∷ []); moment = 0 } }
 
 abbrev pub tick_10 : Row
-tick_10 = record { call = Tick 10; answer = Done 10; places = [] }
+tick_10 = record { call = Tick 10; answer = Done 10; rejudged = false; places = [] }
 
 abbrev pub at_10 : State
 at_10 = record (file_state []) { leases = record { rows = empty; moment = 10 } }

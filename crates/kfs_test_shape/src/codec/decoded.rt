@@ -1,4 +1,5 @@
-//! Bytes of logs and plans, their values, and that these encode to the same bytes.
+//! Bytes of logs and plans, their values, and that these encode to the same bytes. Each stands in both
+//! versions.
 
 use crate::codec::memory::is_same_again;
 use kfs_entry::{
@@ -12,12 +13,38 @@ use kfs_test_support::vectors::{
 use std::alloc::{AllocError, Global};
 use std::process::Abort;
 
-/// Whether the bytes are a log of this client with these entries.
-fn is_log(alloc: Global, bytes: &[u8], client: u32, entries: &[Entry<Span>]) -> bool {
+/// The same bytes with version 2.
+fn in_version_2(alloc: Global, bytes: &[u8]) -> Result<Vec<u8>, AllocError> {
+    let mut twin = Vec::new(alloc);
+    for (place, byte) in bytes.iter().enumerate() {
+        twin.push(if place == 4 { 2 } else { *byte })?;
+    }
+    Ok(twin)
+}
+
+/// Whether the bytes are a log of this version and client with these entries.
+fn is_log_of(
+    alloc: Global,
+    bytes: &[u8],
+    version: u8,
+    client: u32,
+    entries: &[Entry<Span>],
+) -> bool {
     match decode_log(alloc, bytes) {
-        Ok(log) => log.client == client && log.entries.as_slice() == entries,
+        Ok(log) => {
+            log.version == version && log.client == client && log.entries.as_slice() == entries
+        }
         Err(_) => false,
     }
+}
+
+/// Whether the bytes are a log of version 1 with this client and these entries, and with version 2 a log
+/// of version 2 with the same.
+fn is_log(alloc: Global, bytes: &[u8], client: u32, entries: &[Entry<Span>]) -> bool {
+    let Ok(twin) = in_version_2(alloc, bytes) else {
+        return false;
+    };
+    is_log_of(alloc, bytes, 1, client, entries) && is_log_of(alloc, &twin, 2, client, entries)
 }
 
 /// Whether the plan has these rows.
@@ -27,7 +54,23 @@ fn has_rows(plan: &Plan<Global>, names: &[NameRow], nodes: &[NodeRow], pieces: &
         && plan.pieces.as_slice() == pieces
 }
 
-/// Whether the bytes are a plan with these rows.
+/// Whether the bytes are a plan of this version with these rows.
+fn is_plan_of(
+    alloc: Global,
+    bytes: &[u8],
+    version: u8,
+    names: &[NameRow],
+    nodes: &[NodeRow],
+    pieces: &[Piece],
+) -> bool {
+    match decode_plan(alloc, bytes) {
+        Ok(plan) => plan.version == version && has_rows(&plan, names, nodes, pieces),
+        Err(_) => false,
+    }
+}
+
+/// Whether the bytes are a plan of version 1 with these rows, and with version 2 a plan of version 2 with
+/// the same.
 fn is_plan(
     alloc: Global,
     bytes: &[u8],
@@ -35,16 +78,23 @@ fn is_plan(
     nodes: &[NodeRow],
     pieces: &[Piece],
 ) -> bool {
-    match decode_plan(alloc, bytes) {
-        Ok(plan) => has_rows(&plan, names, nodes, pieces),
-        Err(_) => false,
-    }
+    let Ok(twin) = in_version_2(alloc, bytes) else {
+        return false;
+    };
+    is_plan_of(alloc, bytes, 1, names, nodes, pieces)
+        && is_plan_of(alloc, &twin, 2, names, nodes, pieces)
 }
 
-/// Expects that each of these is the same after it is decoded and encoded.
+/// Whether the bytes are the same after they are decoded and encoded, and so with version 2.
+fn are_both_same_again(alloc: Global, bytes: &[u8]) -> Result<bool, SpellFault> {
+    let twin = in_version_2(alloc, bytes)?;
+    Ok(is_same_again(alloc, bytes)? && is_same_again(alloc, &twin)?)
+}
+
+/// Expects that each of these is the same after it is decoded and encoded, in both versions.
 fn expect_same_again(rt: &(impl Abort + AllocGlobal), all: &[&[u8]]) {
     for bytes in all {
-        assert!(rt; is_same_again(rt.alloc(), bytes) == Ok(true), "{bytes:?}");
+        assert!(rt; are_both_same_again(rt.alloc(), bytes) == Ok(true), "{bytes:?}");
     }
 }
 
@@ -205,6 +255,30 @@ fn write_fault(rt: &impl AllocGlobal, len: u32) -> Result<Option<SpellFault>, Al
         bytes.push(0)?;
     }
     Ok(decode_log(rt.alloc(), &bytes).err())
+}
+
+/// The refusal of a log of one Chmod.
+fn chmod_fault(alloc: Global, version: u8, mode: [u8; 2]) -> Result<Option<SpellFault>, AllocError> {
+    let mut bytes = Vec::from_slice(alloc, b"KLOG")?;
+    bytes.push(version)?;
+    bytes.extend_from_slice(b"\0\0\0\x07\0\x01\x07\0\0\0\x05")?;
+    bytes.extend_from_slice(&mode)?;
+    Ok(decode_log(alloc, &bytes).err())
+}
+
+#[test]
+fn greatest_modes(rt: HostRuntime) {
+    let cases: [(u8, [u8; 2], Option<SpellFault>); 6] = [
+        (1, [0x01, 0xff], None),
+        (1, [0x02, 0x00], Some(SpellFault::BadEntry(0))),
+        (2, [0x03, 0xff], None),
+        (2, [0x04, 0x00], Some(SpellFault::BadEntry(0))),
+        (0, [0x01, 0xff], Some(SpellFault::BadHeader)),
+        (3, [0x01, 0xff], Some(SpellFault::BadHeader)),
+    ];
+    for (version, mode, fault) in cases {
+        assert!(rt; chmod_fault(rt.alloc(), version, mode) == Ok(fault), "{version} {mode:?}");
+    }
 }
 
 #[test]

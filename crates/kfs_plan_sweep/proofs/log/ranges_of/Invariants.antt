@@ -1,7 +1,7 @@
-use Rattle.std.proofs.Common.{◌≡◌, ◌++◌, drop}
+use Rattle.std.proofs.Common.{◌≡◌, ◌++◌, drop, map}
 use Rattle.std.specs.List.{AllByRecursion}
-use Rattle.kfs_plan_sweep.specs.Made.{IsFit}
-use Rattle.kfs_plan_sweep.specs.Sizes.{growths, reaches}
+use Rattle.kfs_plan_sweep.specs.Made.{IsFit, made}
+use Rattle.kfs_plan_sweep.specs.Sizes.{growths, length_after, reach_in}
 use Rattle.kfs_plan_sweep.proofs.log.ranges_of.Given as goal
 
 abbrev pub invariant-loop-size : goal.invariant-loop-size
@@ -12,6 +12,6 @@ invariant-loop-size g l = record {
 
 abbrev pub invariant-loop-index : goal.invariant-loop-index
 invariant-loop-index g l = record {
-  made : l.out.items ++ reaches l.sizes l.index (drop l.index l.entries) ≡ growths l.sizes ++ reaches l.sizes 0 l.entries;
+  made : l.out.items ++ made (length_after l.sizes) l.index (map reach_in (drop l.index l.entries)) ≡ growths l.sizes ++ made (length_after l.sizes) 0 (map reach_in l.entries);
   fit : AllByRecursion IsFit l.out.items;
 }

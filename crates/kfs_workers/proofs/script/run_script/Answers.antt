@@ -2,7 +2,7 @@
 use Rattle.std.proofs.Common.{map, option_map, subst}
 use Rattle.kfs_plan.specs.Judging.{submission_of}
 use Rattle.kfs_workers.specs.Script.{IsRun, DoesSteps}
-use Rattle.kfs_workers.proofs.Claimed.{all_allowed, else_nothing, settled, shows}
+use Rattle.kfs_workers.proofs.Claimed.{all_allowed, else_nothing, goes_on, settled, shows}
 use Rattle.kfs_workers.proofs.script.run_script.Given as given
 use Rattle.kfs_workers.proofs.script.run_script.Goals as goal
 
@@ -20,6 +20,9 @@ returns-clause-run g c =
 module _ (g : given.Over) (c : goal.After-docket-docket-2 g) where
   run : IsRun c.args.desk (map submission_of c.args.submissions.items) c.args.steps.now c.end-end.result.replies.items (map (option_map submission_of) c.end-end.result.left.items) c.end-end.result.desk
   run = returns-clause-run g c
+
+pub returns-clause-goes_on : goal.returns-clause-goes_on
+returns-clause-goes_on g c = goes_on c.args.desk c.end-end.result.desk (map submission_of c.args.submissions.items) c.args.steps.now c.end-end.result.replies.items (map (option_map submission_of) c.end-end.result.left.items) (run g c) c.docket-docket.ensures.legal
 
 pub returns-clause-tickets : goal.returns-clause-tickets
 returns-clause-tickets g c = settled c.args.desk c.end-end.result.desk (map submission_of c.args.submissions.items) c.args.steps.now c.end-end.result.replies.items (map (option_map submission_of) c.end-end.result.left.items) (run g c) c.docket-docket.ensures.legal
