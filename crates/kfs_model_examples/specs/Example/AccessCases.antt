@@ -1,7 +1,7 @@
 -- The clients, trees and logs of the examples on permissions and limits.
 use Rattle.std.specs.Prelude.{ℕ, ◌==◌, true, false, List, [], ◌∷◌, Some}
 use Rattle.kfs_model.specs.Header.{File}
-use Rattle.kfs_model.specs.Entry.{Entry, Create, Write, Link, Chmod, Regroup}
+use Rattle.kfs_model.specs.Entry.{Entry, Create, Write, Link, Chmod}
 use Rattle.kfs_model.specs.PlanRow.{Plan}
 use Rattle.kfs_model.specs.Sight.{Sight, sight}
 use Rattle.kfs_model.specs.Check.{EntryContext}

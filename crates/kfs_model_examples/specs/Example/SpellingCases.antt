@@ -54,6 +54,13 @@ set_mode mode = Chmod 5 mode ∷ []
 abbrev pub set_mode_bytes : (high low : ℕ) → List ℕ
 set_mode_bytes high low = 75 ∷ 76 ∷ 79 ∷ 71 ∷ 1 ∷ 0 ∷ 0 ∷ 0 ∷ 7 ∷ 0 ∷ 1 ∷ 7 ∷ 0 ∷ 0 ∷ 0 ∷ 5 ∷ high ∷ low ∷ []
 
+-- client 7 makes 50 the group of 5
+abbrev pub set_group : List Entry
+set_group = Regroup 5 50 ∷ []
+
+abbrev pub set_group_bytes : List ℕ
+set_group_bytes = 75 ∷ 76 ∷ 79 ∷ 71 ∷ 1 ∷ 0 ∷ 0 ∷ 0 ∷ 7 ∷ 0 ∷ 1 ∷ 8 ∷ 0 ∷ 0 ∷ 0 ∷ 5 ∷ 0 ∷ 0 ∷ 0 ∷ 50 ∷ []
+
 -- no row
 abbrev pub empty_plan_bytes : List ℕ
 empty_plan_bytes = 75 ∷ 80 ∷ 76 ∷ 78 ∷ 1 ∷ 0 ∷ 0 ∷ 0 ∷ 0 ∷ 0 ∷ 0 ∷ 0 ∷ 0 ∷ []
