@@ -57,11 +57,12 @@ check_of (variants.IsNotAbove n d) = checks.IsNotAbove n d
 abbrev pub climbed_cells : (ℕ → Option ℕ) → (fuel from : ℕ) → List Cell
 climbed_cells parent fuel from = map ParentOf (climbed parent fuel from)
 
--- the check asks what the client may do, given headers
+-- the check asks what the client may do
 abbrev pub IsOfRight : Check → Type 0
 IsOfRight (variants.MaySearch n) = Unit {0}
 IsOfRight (variants.MayWrite n) = Unit {0}
 IsOfRight (variants.IsOwned n) = Unit {0}
+IsOfRight (variants.MaySetGroup group) = Unit {0}
 IsOfRight (variants.MayRemove d n) = Unit {0}
 IsOfRight _ = ⊥
 

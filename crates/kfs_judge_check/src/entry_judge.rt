@@ -126,10 +126,6 @@ impl<A: Allocator + Copy> EntryJudge<'_, A> {
                 let free = self.is_number_free(recorder, *number)?;
                 Ok(unless(free, Reason::NumberTaken))
             }
-            Check::MaySetGroup(group) => {
-                let allowed = may_set_group(self.client, *group);
-                Ok(unless(allowed, Reason::NotInGroup))
-            }
             Check::EndIsInRange(end) => Ok(unless(*end <= SIZE_LIMIT, Reason::TooBig)),
             Check::IsNotAbove { node, dir } => {
                 let meets = self.climb_meets(recorder, *node, *dir)?;
@@ -138,6 +134,7 @@ impl<A: Allocator + Copy> EntryJudge<'_, A> {
             Check::MaySearch(_)
             | Check::MayWrite(_)
             | Check::IsOwned(_)
+            | Check::MaySetGroup(_)
             | Check::MayRemove { .. } => self.right_fault(recorder, check),
             _ => self.header_fault(recorder, check),
         }
@@ -165,6 +162,10 @@ impl<A: Allocator + Copy> EntryJudge<'_, A> {
             Check::IsOwned(number) => {
                 let header = self.header(recorder, *number)?;
                 Ok(unless(owns(self.client, header), Reason::NotOwner))
+            }
+            Check::MaySetGroup(group) => {
+                let allowed = may_set_group(self.client, *group);
+                Ok(unless(allowed, Reason::NotInGroup))
             }
             Check::MayRemove { dir, number } => {
                 let allowed = self.may_remove(recorder, *dir, *number)?;
