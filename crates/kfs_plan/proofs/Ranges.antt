@@ -1,21 +1,11 @@
--- The entries of a log that was read are in the ranges of the log format.
+-- A log that was read has no more entries than the log format allows.
 use Rattle.std.proofs.Common.{ℕ, ◌≤◌, List, length, subst}
-use Rattle.std.specs.List.{AllByRecursion}
 use Rattle.std.proofs.lemmas.List.{length-map}
 use Rattle.kfs_model.specs.Limits.{entry_limit}
-use Rattle.kfs_model.specs.Spelling.{IsEntry, IsLog}
-use Rattle.kfs_entry.specs.Answers.{SpansAreWithin, log_of}
-use Rattle.kfs_entry.proofs.DecodedLog.{Fit}
-use Rattle.kfs_entry.proofs.RowLaws.{AllByRecursion-weaker, both_hold}
-use Rattle.kfs_entry.proofs.Spans.{is_spanned}
-use Rattle.kfs_entry_value.specs.Views.{entry_of, IsSpanned, IsWithin}
+use Rattle.kfs_model.specs.Spelling.{IsLog}
+use Rattle.kfs_entry.specs.Answers.{log_of}
+use Rattle.kfs_entry_value.specs.Views.{entry_of}
 use Rattle.kfs_entry_value.specs.declared.entry.Log.{Log as CodeLog}
 
-module _ {A : Type 0} (source : List ℕ) (log : CodeLog A) (spelled : IsLog (log_of source log)) where
-  pub spans_fit : SpansAreWithin (length source) log → AllByRecursion IsSpanned log.entries
-  spans_fit within =
-      AllByRecursion-weaker (Fit log.version source) IsSpanned (λ e f. is_spanned log.version source e f.0 f.1) log.entries
-      (both_hold (entry_of source) (IsWithin (length source)) (IsEntry log.version) log.entries within spelled.1)
-
-  pub entries_fit : length log.entries ≤ entry_limit
-  entries_fit = subst (λ n. n ≤ entry_limit) (length-map log.entries (entry_of source)) spelled.0.2
+pub entries_fit : {A : Type 0} (source : List ℕ) (log : CodeLog A) → IsLog (log_of source log) → length log.entries ≤ entry_limit
+entries_fit source log spelled = subst (λ n. n ≤ entry_limit) (length-map log.entries (entry_of source)) spelled.0.2

@@ -32,4 +32,5 @@ returns-clause-read g c = record {
   log_read = c.in-Ok.ensures.found;
   plan_read = c.in-Ok-decode_plan.ensures.found;
   within = c.in-Ok.ensures.spans;
+  spanned = c.in-Ok.ensures.spanned;
 }
