@@ -70,12 +70,7 @@ fn read_fields(version: u8, tag: u8, source: &[u8], at: usize) -> Option<(Entry<
 
 /// The same, as a call of its own.
 #[inline(never)]
-fn read_fields_apart(
-    version: u8,
-    tag: u8,
-    source: &[u8],
-    at: usize,
-) -> Option<(Entry<Span>, usize)>
+fn read_fields_apart(version: u8, tag: u8, source: &[u8], at: usize) -> Option<(Entry<Span>, usize)>
     requires { at ≤ length source.now }
     ensures value { seen (entry_of source.now) source.now result ≡ tagged_read version tag (drop at source.now) }
     ensures within { IfSome result (λ x. IsWithin (length source.now) x.0 × (x.1 ≤ length source.now)) }

@@ -94,7 +94,10 @@ fn are_both_same_again(alloc: Global, bytes: &[u8]) -> Result<bool, SpellFault> 
 /// Expects that each of these is the same after it is decoded and encoded, in both versions.
 fn expect_same_again(rt: &(impl Abort + AllocGlobal), all: &[&[u8]]) {
     for bytes in all {
-        assert!(rt; are_both_same_again(rt.alloc(), bytes) == Ok(true), "{bytes:?}");
+        assert!(rt;
+            are_both_same_again(rt.alloc(), bytes) == Ok(true),
+            "{bytes:?}"
+        );
     }
 }
 
@@ -258,7 +261,11 @@ fn write_fault(rt: &impl AllocGlobal, len: u32) -> Result<Option<SpellFault>, Al
 }
 
 /// The refusal of a log of one Chmod.
-fn chmod_fault(alloc: Global, version: u8, mode: [u8; 2]) -> Result<Option<SpellFault>, AllocError> {
+fn chmod_fault(
+    alloc: Global,
+    version: u8,
+    mode: [u8; 2],
+) -> Result<Option<SpellFault>, AllocError> {
     let mut bytes = Vec::from_slice(alloc, b"KLOG")?;
     bytes.push(version)?;
     bytes.extend_from_slice(b"\0\0\0\x07\0\x01\x07\0\0\0\x05")?;
@@ -277,7 +284,10 @@ fn greatest_modes(rt: HostRuntime) {
         (3, [0x01, 0xff], Some(SpellFault::BadHeader)),
     ];
     for (version, mode, fault) in cases {
-        assert!(rt; chmod_fault(rt.alloc(), version, mode) == Ok(fault), "{version} {mode:?}");
+        assert!(rt;
+            chmod_fault(rt.alloc(), version, mode) == Ok(fault),
+            "{version} {mode:?}"
+        );
     }
 }
 
