@@ -111,13 +111,13 @@ given_up_once (Some worker) (Before start) = refl
 given_up_once (Some worker) (After desk hands) = ap (After desk) (set-set hands worker None None)
 
 -- given up at last, if it wasn't before
-pub given_up_last : (landing : Option ℕ) (before mid last : Stage) → IsUndone landing before mid → last ≡ left_without_memory landing mid → last ≡ left_without_memory landing before
-given_up_last landing before mid last (inl same) is = is ∙ ap (left_without_memory landing) same
-given_up_last landing before mid last (inr gone) is = is ∙ ap (left_without_memory landing) gone ∙ given_up_once landing before
+given_up_last : (asked : Option commands.Command) (before mid last : Stage) → IsUndone asked before mid → last ≡ left_without_memory (landing_worker asked) mid → last ≡ left_without_memory (landing_worker asked) before
+given_up_last asked before mid last (inl same) is = is ∙ ap (left_without_memory (landing_worker asked)) same
+given_up_last asked before mid last (inr gone) is = is ∙ ap (left_without_memory (landing_worker asked)) gone ∙ given_up_once (landing_worker asked) before
 
 -- so the line is answered, as one for which memory is refused
-pub without_memory : (before mid last : Stage) (line : List ℕ) → IsUndone (landing_worker (asked_by line)) before mid → last ≡ left_without_memory (landing_worker (asked_by line)) mid → AnswersLine before line (line_of (codes "memory"), last)
-without_memory before mid last line undone is = inr (inr (ap (λ s. (line_of (codes "memory"), s)) (given_up_last (landing_worker (asked_by line)) before mid last undone is)))
+pub without_memory : (before mid last : Stage) (line : List ℕ) → IsUndone (asked_by line) before mid → last ≡ left_without_memory (landing_worker (asked_by line)) mid → AnswersLine before line (line_of (codes "memory"), last)
+without_memory before mid last line undone is = inr (inr (ap (λ s. (line_of (codes "memory"), s)) (given_up_last (asked_by line) before mid last undone is)))
 
 -- ---- before the beginning
 

@@ -185,8 +185,8 @@ abbrev pub Obeys : Stage → Option Command → LineOutcome → Type 0
 Obeys s None outcome = ⊥
 Obeys s (Some command) outcome = AnswersCommand s command outcome
 
--- what a line leaves for which memory is refused: the stage as it was, but that a worker whose verdict was
--- to be landed holds none
+-- what a line leaves for which memory is refused: the stage as it was, but that a worker whose verdict
+-- was to be landed holds none
 abbrev pub left_without_memory : (landing : Option ℕ) → Stage → Stage
 left_without_memory None s = s
 left_without_memory (Some worker) (Before start) = Before start

@@ -27,8 +27,8 @@ pub record StopsBefore (next : List ℕ) (later : List (List ℕ)) (input text :
   pub parts : IsCut input lines (next ∷ later)
   pub answered : IsText lines text
 
--- these are first lines of the input, each with its end; or all of its lines, where the reader has come to
--- its end: then the last one may lack its own
+-- these are first lines of the input, each with its end; or all of its lines, where the reader has come
+-- to its end: then the last one may lack its own
 abbrev pub AreFirstLines : (at_end : Type 0) → (input : List ℕ) → (lines : List (List ℕ)) → Type 0
 AreFirstLines at_end input lines = ((next : List ℕ) × (later : List (List ℕ)) × IsCut input lines (next ∷ later)) ⊎ (at_end × (lines ≡ lines_of input))
 
@@ -39,8 +39,8 @@ pub record BreaksOff (at_end : Type 0) (input text : List ℕ) : Type 0 where
   pub first : AreFirstLines at_end input lines
   pub answered : IsText lines (text ++ unwritten)
 
--- the text that was written for what was read, by how the engine ended, and whether the reader had come to
--- its end
+-- the text that was written for what was read, by how the engine ended, and whether the reader had come
+-- to its end
 abbrev pub IsSession : {T : Type 0} → (at_end : Type 0) → Result T EngineFault → (input text : List ℕ) → Type 0
 IsSession at_end (Ok done) input text = IsText (lines_of input) text
 IsSession at_end (Err ReadFault) input text = (rest : List ℕ) × StopsBefore rest [] input text

@@ -26,8 +26,8 @@ module _ {A : Type 0} where
   stage_of session = stage_in session.stage
 
 -- where memory is refused, the stage is as it was, or the verdict that was to be landed is given up
-abbrev pub IsUndone : (landing : Option ℕ) → (before after : Stage) → Type 0
-IsUndone landing before after = (after ≡ before) ⊎ (after ≡ left_without_memory landing before)
+abbrev pub IsUndone : (asked : Option commands.Command) → (before after : Stage) → Type 0
+IsUndone asked before after = (after ≡ before) ⊎ (after ≡ left_without_memory (commands.landing_worker asked) before)
 
 -- the stage afterwards: the desk, if one was begun, else still before it
 abbrev pub stage_after : Option Desk → Start → Stage

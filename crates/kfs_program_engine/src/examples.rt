@@ -53,8 +53,8 @@ pub fn verdict_without_memory()
     ensures { AnswersLines (After full_docket held_by_3) (codes "land 3" ∷ codes "land 3" ∷ []) (codes "memory\nbad line\n") (After full_docket no_verdict) }
 {}
 
-/// The writer failed after the reply to one line. The line has its end, or the reader has come to its end.
-/// A part of a line has no reply while the reader may still give more of it.
+/// The writer failed after the reply to one line. The line has its end, or the reader has come to its
+/// own. A part of a line has no reply while the reader may still give more of it.
 pub fn write_broken_off()
     ensures whole { BreaksOff ⊥ (codes "x\n") (codes "bad line\n") }
     ensures at_end { BreaksOff (Unit {0}) (codes "x") (codes "bad line\n") }

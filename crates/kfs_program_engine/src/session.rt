@@ -59,7 +59,7 @@ impl<A: Allocator + Copy> Session<A> {
         requires { 128 ≤ spare_of reply.old }
         ensures ok { OnOk result (IsReplied (AnswersLine (stage_of self.old) line.now) reply.old.items reply.new.items (stage_of self.new)) }
         ensures bad { IsErrOf result Refusal.BadLine → AnswersLine (stage_of self.old) line.now (line_of (codes "bad line"), stage_of self.new) }
-        ensures memory { IsErrOf result Refusal.OutOfMemory → IsUndone (commands.landing_worker (commands.asked_by line.now)) (stage_of self.old) (stage_of self.new) }
+        ensures memory { IsErrOf result Refusal.OutOfMemory → IsUndone (commands.asked_by line.now) (stage_of self.old) (stage_of self.new) }
     {
         match Command::read(self.alloc, line)? {
             Command::Opening(command) => self.answer_before(command, reply),
@@ -114,7 +114,7 @@ impl<A: Allocator + Copy> Session<A> {
         requires { 128 ≤ spare_of reply.old }
         ensures ok { OnOk result (CommandIsDone self.old (commands.Request (asked_of_desk command.entry)) reply.old.items reply.new.items self.new) }
         ensures bad { IsErrOf result Refusal.BadLine → IsOutOfPlace self.old (commands.Request (asked_of_desk command.entry)) self.new }
-        ensures memory { IsErrOf result Refusal.OutOfMemory → IsUndone (commands.landing_worker (Some (commands.Request (asked_of_desk command.entry)))) (stage_of self.old) (stage_of self.new) }
+        ensures memory { IsErrOf result Refusal.OutOfMemory → IsUndone (Some (commands.Request (asked_of_desk command.entry))) (stage_of self.old) (stage_of self.new) }
     {
         match &mut self.stage {
             Stage::Before(_) => Err(Refusal::BadLine),
@@ -134,7 +134,7 @@ fn answer_due<A: Allocator + Copy>(
     requires { 128 ≤ spare_of reply.old }
     ensures ok { OnOk result (IsReplied (DeskAnswers desk.old hands.old (asked_of_desk command.entry)) reply.old.items reply.new.items (After desk.new hands.new)) }
     ensures bad { IsErrOf result Refusal.BadLine → DeskAnswers desk.old hands.old (asked_of_desk command.entry) (line_of (codes "bad line"), After desk.new hands.new) }
-    ensures memory { IsErrOf result Refusal.OutOfMemory → IsUndone (commands.landing_worker (Some (commands.Request (asked_of_desk command.entry)))) (After desk.old hands.old) (After desk.new hands.new) }
+    ensures memory { IsErrOf result Refusal.OutOfMemory → IsUndone (Some (commands.Request (asked_of_desk command.entry))) (After desk.old hands.old) (After desk.new hands.new) }
 {
     match command {
         DeskCommand::Act(act) => make_call(desk, act, reply),

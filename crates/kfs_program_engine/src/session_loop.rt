@@ -1,6 +1,6 @@
 //! Cuts the input into lines, and writes the reply to each.
 ghost use Rattle.std.specs.Prelude.{◌≡◌, ◌++◌, [], codes, IsErrOf, OnOk};
-ghost use Rattle.kfs_program_command.specs.Command.{asked_by, landing_worker};
+ghost use Rattle.kfs_program_command.specs.Command.{asked_by};
 ghost use Rattle.kfs_program_engine.specs.Progress.{Ends, IsHeldAnswered, LineIsKept, IsLineAnswered, HasAnsweredSoFar, Takes, reply_written};
 ghost use Rattle.kfs_program_engine.specs.Session.{AnswersLine};
 ghost use Rattle.kfs_program_engine.specs.Views.{IsUndone, stage_of};
@@ -122,7 +122,7 @@ impl<A: Allocator + Copy> SessionLoop<A> {
     fn reply_in_room(&mut self) -> Result<(), Refusal>
         ensures ok { OnOk result (AnswersLine (stage_of self.old.session) self.old.line.items (self.new.reply.items, stage_of self.new.session)) }
         ensures bad { IsErrOf result Refusal.BadLine → AnswersLine (stage_of self.old.session) self.old.line.items (line_of (codes "bad line"), stage_of self.new.session) }
-        ensures memory { IsErrOf result Refusal.OutOfMemory → IsUndone (landing_worker (asked_by self.old.line.items)) (stage_of self.old.session) (stage_of self.new.session) }
+        ensures memory { IsErrOf result Refusal.OutOfMemory → IsUndone (asked_by self.old.line.items) (stage_of self.old.session) (stage_of self.new.session) }
         ensures line { self.new.line ≡ self.old.line }
     {
         self.reply.clear();
