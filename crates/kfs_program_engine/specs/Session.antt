@@ -19,7 +19,7 @@ use Rattle.kfs_plan.specs.declared.answers.BeginFault.{BeginFault}
 use Rattle.kfs_plan.specs.declared.answers.Done.{Done}
 use Rattle.kfs_plan.specs.declared.answers.Done.TheVariants.{Leased, Dropped, Ticked}
 use Rattle.kfs_plan.specs.declared.answers.Reply.{Reply}
-use Rattle.kfs_program_command.specs.Command.{Command, Setup, Request, OpeningCommand, New, Row, Begin, DeskCommand, Lease, Drop, Tick, Submit, Node, Listing, Bytes, DocketLength, Judge, Land, asked_by}
+use Rattle.kfs_program_command.specs.Command.{Command, Setup, Request, OpeningCommand, New, Row, Begin, DeskCommand, Lease, Drop, Tick, Submit, Node, Listing, Bytes, DocketLength, Judge, Land, asked_by, landing_worker}
 use Rattle.kfs_program_engine.specs.Bytes.{read_text}
 use Rattle.kfs_program_engine.specs.HeldVerdicts.{HeldVerdicts, held_by, no_verdict, with_held}
 use Rattle.kfs_workers.specs.Verdict.{IsUpToDate, IsVerdictOn, HeldVerdict}
@@ -148,9 +148,9 @@ pub record IsLanded (desk : Desk) (verdict : HeldVerdict) (outcome : DeskOutcome
   pub why : IsFalse again ↔ IsUpToDate desk.state verdict
   pub submitted : IsSubmitted desk verdict.submission again outcome
 
--- the verdict is landed, or the docket is full, or memory is refused, which leaves the desk as it was
+-- the verdict is landed, or the docket is full
 abbrev pub IsLandingAnswered : Desk → HeldVerdict → DeskOutcome → Type 0
-IsLandingAnswered desk verdict outcome = IsFull desk outcome ⊎ (IsLanded desk verdict outcome ⊎ IsSaid (codes "memory") desk outcome)
+IsLandingAnswered desk verdict outcome = IsFull desk outcome ⊎ IsLanded desk verdict outcome
 
 -- whatever becomes of the worker's verdict, the worker holds none afterwards; for a worker who holds
 -- none it is a bad line
@@ -185,12 +185,19 @@ abbrev pub Obeys : Stage → Option Command → LineOutcome → Type 0
 Obeys s None outcome = ⊥
 Obeys s (Some command) outcome = AnswersCommand s command outcome
 
+-- what a line leaves for which memory is refused: the stage as it was, but that a worker whose verdict
+-- was to be landed holds none
+abbrev pub left_without_memory : (landing : Option ℕ) → Stage → Stage
+left_without_memory None s = s
+left_without_memory (Some worker) (Before start) = Before start
+left_without_memory (Some worker) (After desk hands) = After desk (with_held hands worker None)
+
 -- the outcome of a line: it is no command, or its command is carried out, or memory is refused, which
--- may be so at any line and leaves the stage as it was
+-- may be so at any line
 abbrev pub AnswersLine : Stage → (line : List ℕ) → LineOutcome → Type 0
 AnswersLine s line outcome =
     ((asked_by line ≡ None) × IsSaid (codes "bad line") s outcome)
-    ⊎ (Obeys s (asked_by line) outcome ⊎ IsSaid (codes "memory") s outcome)
+    ⊎ (Obeys s (asked_by line) outcome ⊎ IsSaid (codes "memory") (left_without_memory (landing_worker (asked_by line)) s) outcome)
 
 -- the lines one after another are answered with this text, and leave this stage
 abbrev pub AnswersLines : Stage → (lines : List (List ℕ)) → (text : List ℕ) → Stage → Type 0

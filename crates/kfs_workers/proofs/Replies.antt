@@ -45,8 +45,8 @@ pub record Stands (desk : Desk) (submission : Submission) (reply : Reply) : Type
   pub within : position_of reply < length desk.docket
   pub means : AnswerMeans before submission reply after_it
 
--- the desk has gone on from the first one; the replies stand in the docket, which is legal, each at a row of
--- its own
+-- the desk has gone on from the first one; the replies stand in the docket, which is legal, each at a row
+-- of its own
 pub record AreStanding (first_desk : Desk) (submissions : List Submission) (state : ScriptState) : Type 0 where
   pub on : GoesOnFrom first_desk state.desk
   pub legal : IsLegalDocket state.desk.opening state.desk.docket state.desk.state

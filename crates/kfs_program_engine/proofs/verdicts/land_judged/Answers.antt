@@ -1,4 +1,4 @@
-use Rattle.std.proofs.Common.{inl, inr, refl}
+use Rattle.std.proofs.Common.{inr, refl}
 use Rattle.kfs_desk.specs.Docket.{is_rejudged}
 use Rattle.kfs_report.specs.Text.{reply_text}
 use Rattle.kfs_program_text.specs.Parts.{line_of}
@@ -11,7 +11,7 @@ returns-in-Ok-clause-ok g c =
     let now = c.args.desk.now.state in (
       line_of (reply_text c.in-Ok.answer),
       c.in_ok-reply_line-in-Ok.ensures.ok,
-      inr (inl (record {
+      inr (record {
         again = is_rejudged c.in-Ok.answer;
         why = (λ once. up_to_date now c.args.judged (landed.rejudged.0 once), λ is. landed.rejudged.1 (current now c.args.judged is));
         submitted = record {
@@ -21,5 +21,5 @@ returns-in-Ok-clause-ok g c =
           answered = landed.answered;
           is = refl;
         };
-      })),
+      }),
     )
