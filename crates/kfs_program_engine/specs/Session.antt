@@ -1,5 +1,5 @@
 -- A session: the reply to each line, and the state that the line leaves.
-use Rattle.std.specs.Prelude.{◌≡◌, ◌≢◌, ◌⊎◌, ◌↔◌, ℕ, Bool, List, [], ◌∷◌, ◌++◌, length, codes, decimal, false, IsFalse, Option, Some, None, Result, Ok, Err, if◌then◌else◌}
+use Rattle.std.specs.Prelude.{◌≡◌, ◌≢◌, ◌⊎◌, ℕ, List, [], ◌∷◌, ◌++◌, length, codes, decimal, false, Option, Some, None, Result, Ok, Err, if◌then◌else◌}
 use Rattle.kfs_model.specs.Access.{Client}
 use Rattle.kfs_model.specs.Table.{get}
 use Rattle.kfs_model.specs.Tree.{headers}
@@ -22,7 +22,7 @@ use Rattle.kfs_plan.specs.declared.answers.Reply.{Reply}
 use Rattle.kfs_program_command.specs.Command.{Command, Setup, Request, OpeningCommand, New, Row, Begin, DeskCommand, Lease, Drop, Tick, Submit, Node, Listing, Bytes, DocketLength, Judge, Land, asked_by, landing_worker}
 use Rattle.kfs_program_engine.specs.Bytes.{read_text}
 use Rattle.kfs_program_engine.specs.HeldVerdicts.{HeldVerdicts, held_by, no_verdict, with_held}
-use Rattle.kfs_workers.specs.Verdict.{IsUpToDate, IsVerdictOn, HeldVerdict}
+use Rattle.kfs_workers.specs.Verdict.{IsVerdictOn, HeldVerdict, LandsVerdict}
 use Rattle.kfs_program_engine.specs.Listing.{list_text}
 use Rattle.kfs_report.specs.Text.{act_text, begin_text, client_text, node_text, reply_text}
 use Rattle.kfs_program_text.specs.Parts.{line_of}
@@ -97,15 +97,15 @@ abbrev pub IsCallAnswered : Desk → machine.Call → (ℕ → Done) → DeskOut
 IsCallAnswered desk call words outcome = IsFull desk outcome ⊎ IsCalled desk call words outcome
 
 -- the submission is answered by the desk, and the reply is its line
-pub record IsSubmitted (desk : Desk) (submission : Submission) (again : Bool) (outcome : DeskOutcome) : Type 0 where
+pub record IsSubmitted (desk : Desk) (submission : Submission) (outcome : DeskOutcome) : Type 0 where
   pub answer : Reply
   pub next : Desk
   pub below : length desk.docket ≢ desk.limit
-  pub answered : IsAnswered desk submission again answer next
+  pub answered : IsAnswered desk submission false answer next
   pub is : outcome ≡ (line_of (reply_text answer), next)
 
 abbrev pub IsSubmissionAnswered : Desk → Submission → DeskOutcome → Type 0
-IsSubmissionAnswered desk submission outcome = IsFull desk outcome ⊎ IsSubmitted desk submission false outcome
+IsSubmissionAnswered desk submission outcome = IsFull desk outcome ⊎ IsSubmitted desk submission outcome
 
 -- ---- what is looked up
 
@@ -142,11 +142,12 @@ AnswersJudge desk hands worker (Some verdict) submission outcome = IsSaid (codes
 AnswersJudge desk hands worker None submission outcome =
     (verdict : HeldVerdict) × IsVerdictOn desk.state submission verdict × IsSaid (codes "judged " ++ decimal worker) (After desk (with_held hands worker (Some verdict))) outcome
 
--- the verdict's submission is answered; it is judged again exactly where the verdict isn't up to date
+-- the verdict is landed, and the reply is its line
 pub record IsLanded (desk : Desk) (verdict : HeldVerdict) (outcome : DeskOutcome) : Type 0 where
-  pub again : Bool
-  pub why : IsFalse again ↔ IsUpToDate desk.state verdict
-  pub submitted : IsSubmitted desk verdict.submission again outcome
+  pub answer : Reply
+  pub next : Desk
+  pub landed : LandsVerdict desk verdict answer next
+  pub is : outcome ≡ (line_of (reply_text answer), next)
 
 -- the verdict is landed, or the docket is full
 abbrev pub IsLandingAnswered : Desk → HeldVerdict → DeskOutcome → Type 0
