@@ -4,7 +4,7 @@ use Rattle.std.specs.List.{AllByRecursion}
 use Rattle.std.proofs.lemmas.Bool.{and_parts}
 use Rattle.std.proofs.lemmas.Option.{slice_get_within}
 use Rattle.kfs_model.specs.Access.{Client}
-use Rattle.kfs_model.specs.Entry.{Entry, Create, Write, Truncate, Link, Unlink, Rename, Chmod}
+use Rattle.kfs_model.specs.Entry.{Entry, Create, Write, Truncate, Link, Unlink, Rename, Chmod, Regroup}
 use Rattle.kfs_model.specs.Header.{Header}
 use Rattle.kfs_model.specs.LastCover.{covered_by, file_size, last_cover, start_mark}
 use Rattle.kfs_model.specs.Limits.{payload_limit, size_limit}
@@ -49,6 +49,7 @@ covered_short version index (Link n d m) number place e q fits is = cc
 covered_short version index (Unlink d m kind) number place e q fits is = cc
 covered_short version index (Rename d m o k) number place e q fits is = cc
 covered_short version index (Chmod n mode) number place e q fits is = cc
+covered_short version index (Regroup n group) number place e q fits is = cc
 
 last_short : (version index : ℕ) (entries : List Entry) (number place e q : ℕ) → AllByRecursion (IsEntry version) entries → last_cover index entries number place ≡ Some (Payload e q) → q < payload_limit
 unfolding last_cover

@@ -24,3 +24,4 @@ is_spanned version source (entries.Link n d m) within fits = tt
 is_spanned version source (entries.Unlink d m k) within fits = tt
 is_spanned version source (entries.Rename d m e k) within fits = tt
 is_spanned version source (entries.Chmod n mode) within fits = tt
+is_spanned version source (entries.Regroup n group) within fits = tt

@@ -5,7 +5,7 @@ ghost use Rattle.kfs_model.proofs.Reading.{tagged_read, entry_read};
 ghost use Rattle.kfs_entry_codec.specs.Reading.{seen};
 
 use crate::row::SpelledRow;
-use crate::{byte, entry_table, kind, mode, name, number32, number64, payload};
+use crate::{byte, entry_table, group, kind, mode, name, number32, number64, payload};
 use kfs_entry_value::{Entry, Span};
 use std::alloc::{AllocError, Allocator};
 
@@ -16,10 +16,16 @@ const TRUNCATE: u8 = 3;
 
 const CHMOD: u8 = 7;
 
-/// Reads an entry's field. The range of a mode depends on the log's version.
+const REGROUP: u8 = 8;
+
+/// Reads an entry's field. The range of a mode depends on the log's version, and whether there are
+/// groups.
 macro_rules! read_field {
     (mode $version:ident, $source:ident, $at:ident) => {
         mode::read($version, $source, $at)
+    };
+    (group $version:ident, $source:ident, $at:ident) => {
+        group::read($version, $source, $at)
     };
     ($codec:ident $version:ident, $source:ident, $at:ident) => {
         $codec::read($source, $at)
@@ -94,6 +100,11 @@ fn read_entry(version: u8, source: &[u8], at: usize) -> Option<(Entry<Span>, usi
             let (number, at) = number32::read(source, at)?;
             let (mode, at) = mode::read(version, source, at)?;
             Some((Entry::Chmod { number, mode }, at))
+        }
+        REGROUP => {
+            let (number, at) = number32::read(source, at)?;
+            let (group, at) = group::read(version, source, at)?;
+            Some((Entry::Regroup { number, group }, at))
         }
         _ => read_fields_apart(version, tag, source, at),
     }

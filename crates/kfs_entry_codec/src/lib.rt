@@ -11,6 +11,7 @@
 mod byte;
 mod bytes;
 mod entry;
+mod group;
 mod header;
 pub mod headers;
 mod kind;

@@ -16,6 +16,7 @@ macro_rules! entry_table {
             5 Unlink unlink { dir: number32, name: name, kind: kind }
             6 Rename rename { dir: number32, name: name, new_dir: number32, new_name: name }
             7 Chmod chmod { number: number32, mode: mode }
+            8 Regroup regroup { number: number32, group: group }
         }
     };
 }

@@ -15,7 +15,7 @@ use Rattle.kfs_entry_value.specs.declared.entry.Entry.TheVariants as entries
 use Rattle.kfs_model.specs.Limits.{payload_limit}
 use Rattle.kfs_model.specs.Header.{Kind, File, Directory, Header}
 use Rattle.kfs_model.specs.Limits.{payload_limit}
-use Rattle.kfs_model.specs.Entry.{Entry, Create, Write, Truncate, Link, Unlink, Rename, Chmod}
+use Rattle.kfs_model.specs.Entry.{Entry, Create, Write, Truncate, Link, Unlink, Rename, Chmod, Regroup}
 use Rattle.kfs_model.specs.PlanRow.{NameRow, NodeRow, Source, Zero, Payload, Piece}
 
 abbrev pub kind_of : CodeKind → Kind
@@ -35,6 +35,7 @@ entry_of source (entries.Link n d m) = Link n d m
 entry_of source (entries.Unlink d m k) = Unlink d m (kind_of k)
 entry_of source (entries.Rename d m e k) = Rename d m e k
 entry_of source (entries.Chmod n mode) = Chmod n mode
+entry_of source (entries.Regroup n group) = Regroup n group
 
 -- the payload's span lies in a source of this length
 abbrev pub IsWithin : ℕ → CodeEntry Span → Type 0
@@ -45,6 +46,7 @@ IsWithin len (entries.Link n d m) = Unit {0}
 IsWithin len (entries.Unlink d m k) = Unit {0}
 IsWithin len (entries.Rename d m e k) = Unit {0}
 IsWithin len (entries.Chmod n mode) = Unit {0}
+IsWithin len (entries.Regroup n group) = Unit {0}
 
 -- a payload's span doesn't end before it starts, and is no longer than a payload may be
 abbrev pub IsSpanned : CodeEntry Span → Type 0
@@ -55,6 +57,7 @@ IsSpanned (entries.Link n d m) = Unit {0}
 IsSpanned (entries.Unlink d m k) = Unit {0}
 IsSpanned (entries.Rename d m e k) = Unit {0}
 IsSpanned (entries.Chmod n mode) = Unit {0}
+IsSpanned (entries.Regroup n group) = Unit {0}
 
 abbrev pub header_of : CodeHeader → Header
 header_of h = record { kind = kind_of h.kind; mode = h.mode; uid = h.uid; gid = h.gid; links = h.links; size = h.size }

@@ -70,12 +70,19 @@ pub enum Entry<P> {
         number: u32,
         mode: u16,
     },
+    /// Sets the group of the node `number` to `group`, and leaves its owner (POSIX `fchown` with an
+    /// owner of -1). It stands in logs of version 2 alone.
+    Regroup {
+        number: u32,
+        group: u32,
+    },
 }
 
 /// A client's update log. The payloads are spans of the bytes that it was read from.
 #[derive(Debug, Drop)]
 pub struct Log<A: Allocator> {
-    /// The version of its format, 1 or 2. It says which modes the entries may have.
+    /// The version of its format, 1 or 2. It says which modes the entries may have, and whether a
+    /// Regroup may be among them.
     pub version: u8,
     /// The number of the client whose log it is, any of 32 bits.
     pub client: u32,

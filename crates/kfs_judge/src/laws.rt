@@ -9,7 +9,7 @@ ghost use Rattle.kfs_model.specs.Placement.{need};
 ghost use Rattle.kfs_model.specs.Run.{over_bytes, over_marks};
 
 /// An entry without a failed check is allowed to its client by mode bits and leases. Where it is in range,
-/// it leaves a sound tree sound, of bytes and of marks. This holds for all seven kinds of entry.
+/// it leaves a sound tree sound, of bytes and of marks. This holds for all eight kinds of entry.
 pub fn clean_is_allowed()
     ensures allowed { CleanIsAllowed }
     ensures sound { KeepsSound over_bytes }

@@ -33,6 +33,7 @@ reason_of reasons.NoWrite = checks.NoWrite
 reason_of reasons.NotOwner = checks.NotOwner
 reason_of (reasons.NoLease n) = checks.NoLease n
 reason_of reasons.Sticky = checks.Sticky
+reason_of reasons.NotInGroup = checks.NotInGroup
 
 abbrev pub check_of : Check → checks.Check
 check_of (variants.Exists n) = checks.Exists n
@@ -40,8 +41,9 @@ check_of (variants.IsADirectory n) = checks.IsADirectory n
 check_of (variants.IsAFile n) = checks.IsAFile n
 check_of (variants.MaySearch n) = checks.MaySearch n
 check_of (variants.MayWrite n) = checks.MayWrite n
-check_of (variants.MayChangeMode n) = checks.MayChangeMode n
+check_of (variants.IsOwned n) = checks.IsOwned n
 check_of (variants.MayRemove d n) = checks.MayRemove d n
+check_of (variants.MaySetGroup group) = checks.MaySetGroup group
 check_of (variants.IsLeased n) = checks.IsLeased n
 check_of (variants.HasNoNames n) = checks.HasNoNames n
 check_of (variants.HasRoomForLink n) = checks.HasRoomForLink n
@@ -59,7 +61,7 @@ climbed_cells parent fuel from = map ParentOf (climbed parent fuel from)
 abbrev pub IsOfRight : Check → Type 0
 IsOfRight (variants.MaySearch n) = Unit {0}
 IsOfRight (variants.MayWrite n) = Unit {0}
-IsOfRight (variants.MayChangeMode n) = Unit {0}
+IsOfRight (variants.IsOwned n) = Unit {0}
 IsOfRight (variants.MayRemove d n) = Unit {0}
 IsOfRight _ = ⊥
 

@@ -55,6 +55,9 @@ pub enum Reason {
     /// 16: the directory is sticky, and the client owns neither it nor the node, and isn't privileged.
     #[error("Sticky")]
     Sticky,
+    /// 17: the group is none of the client's, and the client isn't privileged.
+    #[error("NotInGroup")]
+    NotInGroup,
 }
 
 /// One check: what must hold at an entry's point of the log. Nodes are given by number.
@@ -71,10 +74,12 @@ pub enum Check<'a> {
     /// The client may write the node, or the log created it as a file.
     MayWrite(u32),
     /// The client is the node's owner, or privileged.
-    MayChangeMode(u32),
+    IsOwned(u32),
     /// The client may take a name of the node out of the directory (POSIX.1-2017, XBD 4.3, "Directory
     /// Protection").
     MayRemove { dir: u32, number: u32 },
+    /// The client may make this a node's group: it is in the group, or privileged.
+    MaySetGroup(u32),
     /// The client holds a live write lease on the node, or the log created it.
     IsLeased(u32),
     /// The directory has no names.

@@ -4,7 +4,7 @@ ghost use Rattle.std.specs.Option.{option_map};
 ghost use Rattle.std.specs.Ordering.{int_eq};
 ghost use Rattle.kfs_model.specs.Limits.{link_limit};
 ghost use Rattle.kfs_entry_value.specs.Views.{header_of, kind_of};
-ghost use Rattle.kfs_model.specs.Access.{is_sticky, may_header};
+ghost use Rattle.kfs_model.specs.Access.{is_sticky, may_header, may_set_group};
 ghost use Rattle.kfs_model.specs.Check as checks;
 ghost use Rattle.kfs_model.specs.Sight as sight;
 ghost use Rattle.kfs_model.specs.Sight.{CountOf, LeaseOn, ParentOf};
@@ -126,6 +126,10 @@ impl<A: Allocator + Copy> EntryJudge<'_, A> {
                 let free = self.is_number_free(recorder, *number)?;
                 Ok(unless(free, Reason::NumberTaken))
             }
+            Check::MaySetGroup(group) => {
+                let allowed = may_set_group(self.client, *group);
+                Ok(unless(allowed, Reason::NotInGroup))
+            }
             Check::EndIsInRange(end) => Ok(unless(*end <= SIZE_LIMIT, Reason::TooBig)),
             Check::IsNotAbove { node, dir } => {
                 let meets = self.climb_meets(recorder, *node, *dir)?;
@@ -133,7 +137,7 @@ impl<A: Allocator + Copy> EntryJudge<'_, A> {
             }
             Check::MaySearch(_)
             | Check::MayWrite(_)
-            | Check::MayChangeMode(_)
+            | Check::IsOwned(_)
             | Check::MayRemove { .. } => self.right_fault(recorder, check),
             _ => self.header_fault(recorder, check),
         }
@@ -158,7 +162,7 @@ impl<A: Allocator + Copy> EntryJudge<'_, A> {
                 let granted = self.may_write(recorder, *number)?;
                 Ok(unless(granted, Reason::NoWrite))
             }
-            Check::MayChangeMode(number) => {
+            Check::IsOwned(number) => {
                 let header = self.header(recorder, *number)?;
                 Ok(unless(owns(self.client, header), Reason::NotOwner))
             }
@@ -307,6 +311,13 @@ fn owns(client: &Client, header: Option<Header>) -> bool
         Some(header) => client.uid() == header.uid || client.is_privileged(),
         None => false,
     }
+}
+
+/// Whether the client may make this the group of a node that it owns (POSIX.1-2017, `chown`).
+fn may_set_group(client: &Client, group: u32) -> bool
+    ensures { result ≡ may_set_group client.now group }
+{
+    client.has_group(group) || client.is_privileged()
 }
 
 /// Whether the client may take a name of this node out of this directory (POSIX.1-2017, XBD 4.3): the

@@ -2,7 +2,7 @@
 use Rattle.std.specs.Prelude.{◌≡◌, ℕ, List, [], ◌∷◌, ◌++◌, ◌+◌, ◌^◌, ◌<◌, ◌==◌, length, Bool, true, false, Contains, Option, Some, None, nat_lt, if◌then◌else◌}
 use Rattle.std.proofs.Common.{arith}
 use Rattle.std.proofs.lemmas.Bool.{leb-true}
-use Rattle.kfs_model.specs.Entry.{Create, Write, Truncate, Link, Unlink, Rename, Chmod}
+use Rattle.kfs_model.specs.Entry.{Create, Write, Truncate, Link, Unlink, Rename, Chmod, Regroup}
 use Rattle.kfs_model.specs.Header.{Kind, File, Directory}
 use Rattle.kfs_model.specs.Limits.{link_limit, size_limit}
 use Rattle.kfs_model.specs.Sight.{HeaderOf, NameIn, kind_shown}
@@ -27,7 +27,12 @@ module _ (p : EntryContext) where
   -- a Chmod, whatever its checks find
   pub chmod_looks : (n mode : ℕ) → IsPart (HeaderOf n ∷ []) (looked p (checks_of p (Chmod n mode)))
   unfolding checks_of cells
-  chmod_looks n mode = looks_here p (Check.Exists n) (Check.MayChangeMode n ∷ Check.IsLeased n ∷ [])
+  chmod_looks n mode = looks_here p (Check.Exists n) (Check.IsOwned n ∷ Check.IsLeased n ∷ [])
+
+  -- a Regroup, whatever its checks find
+  pub regroup_looks : (n group : ℕ) → IsPart (HeaderOf n ∷ []) (looked p (checks_of p (Regroup n group)))
+  unfolding checks_of cells
+  regroup_looks n group = looks_here p (Check.Exists n) (Check.IsOwned n ∷ Check.MaySetGroup group ∷ Check.IsLeased n ∷ [])
 
   -- a Write and a Truncate, whatever their checks find
   pub write_looks : (n offset : ℕ) (payload : List ℕ) → IsPart (HeaderOf n ∷ []) (looked p (checks_of p (Write n offset payload)))

@@ -26,7 +26,7 @@ fn chmod_fault<A: Allocator + Copy>(
 {
     check!(judge, recorder;
         Exists(number),
-        MayChangeMode(number),
+        IsOwned(number),
         IsLeased(number),
     );
     Ok(None)

@@ -10,6 +10,7 @@ mod create;
 mod link;
 mod log_judge;
 mod net;
+mod regroup;
 mod rename;
 mod sizes;
 mod truncate;

@@ -1,6 +1,5 @@
 //! Clients: who they are, and which numbers they may give to new nodes.
-ghost use Rattle.std.specs.Prelude.{◌≡◌, ◌<◌, ◌≤◌, ◌↔◌, ◌==◌, ◌||◌, length, IfOk, IsErrOf, IsFalse};
-ghost use Rattle.std.specs.List.{list_any};
+ghost use Rattle.std.specs.Prelude.{◌≡◌, ◌<◌, ◌≤◌, ◌↔◌, length, IfOk, IsErrOf, IsFalse};
 ghost use Rattle.std.specs.Option.{option_map};
 ghost use Rattle.kfs_model.specs.Limits.{group_limit};
 ghost use Rattle.kfs_model.specs.Access as access;
@@ -134,7 +133,7 @@ impl Client {
 
     /// Whether the group is the client's own or a supplementary one.
     pub fn has_group(&self, gid: u32) -> bool
-        ensures { result ≡ (self.now.gid == gid) || list_any (λ g. g == gid) self.now.groups }
+        ensures { result ≡ access.is_in_group self.now gid }
     {
         self.gid == gid || self.groups.as_slice().contains(&gid)
     }

@@ -1,11 +1,11 @@
--- A clean Chmod, Truncate or Write keeps a sound tree sound and moves what the cells show as said.
+-- A clean Chmod, Regroup, Truncate or Write keeps a sound tree sound and moves what the cells show as said.
 use Rattle.std.proofs.Common.{◌≡◌, ℕ, ◌+◌, ◌-◌, ◌≤◌, true, false, List, [], ◌∷◌, ◌++◌, length, take, drop, replicate, Option, Some, None, is_some, option_map, IsTrue, refl, sym, ap, ◌∙◌, arith, length-append, length-drop}
 use Rattle.std.proofs.lemmas.List.{length-take-le, length-replicate}
 use Rattle.std.proofs.lemmas.Bool.{leb-true, not-true}
 use Rattle.kfs_model.specs.Header.{File}
 use Rattle.kfs_model.specs.Table.{get}
 use Rattle.kfs_model.specs.Tree.{Tree, Node, Body, FileBody, DirectoryBody, NameTable, headers, node_header, size_of, name_count}
-use Rattle.kfs_model.specs.Entry.{Write, Truncate, Chmod}
+use Rattle.kfs_model.specs.Entry.{Write, Truncate, Chmod, Regroup}
 use Rattle.kfs_model.specs.Sight.{is_directory}
 use Rattle.kfs_model.specs.Limits.{size_limit}
 use Rattle.kfs_model.specs.Check.{EntryContext, fault, checks_of, payload_fits}
@@ -76,6 +76,17 @@ module _ {B : Type 0} (filling : Filling B) (context : EntryContext) (index : �
         sound = node_sound t h.sound n node there (λ node. record node { mode = mode }) (λ h. record h { mode = mode }) (λ h. refl) refl
             (λ g is. let old = h.sound.ranges n g is in record { least = old.least; greatest = old.greatest; mode = mode_in_range h.version mode h.entry_fits.1; uid = old.uid; gid = old.gid; size = old.size });
         seen = node_seen t h.sound n node there (λ node. record node { mode = mode }) (λ h. record h { mode = mode }) (λ h. refl) refl;
+      }
+
+  pub regroup_kept : (n group : ℕ) → IsClean context t (Regroup n group) → StaysSound filling context.client index t (Regroup n group)
+  unfolding checks_of fault change_of seen_after
+  regroup_kept n group h =
+      let pass = all_pass (at_tree context t) _ (clean_at context t h) in
+      let (node, there) = node_there t n (passed _ _ pass.0) in
+      record {
+        sound = node_sound t h.sound n node there (λ node. record node { gid = group }) (λ h. record h { gid = group }) (λ h. refl) refl
+            (λ g is. let old = h.sound.ranges n g is in record { least = old.least; greatest = old.greatest; mode = old.mode; uid = old.uid; gid = h.entry_fits.1.1; size = old.size });
+        seen = node_seen t h.sound n node there (λ node. record node { gid = group }) (λ h. record h { gid = group }) (λ h. refl) refl;
       }
 
   shown_as_file : (n : ℕ) (node : Node B) → get t.nodes n ≡ Some node → is_directory (get (headers t) n) ≡ false → is_directory (Some (node_header t.names n node)) ≡ false

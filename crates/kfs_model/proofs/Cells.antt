@@ -12,7 +12,7 @@ use Rattle.kfs_model.specs.Table.{Order, Table, get, insert, retain, mapped, cha
 use Rattle.kfs_model.proofs.TableLaws.{same_table, same_entries_table, get-insert, get-retain, get-mapped}
 use Rattle.kfs_model.specs.Tree.{Tree, Node, Body, FileBody, DirectoryBody, NameTable, headers, node_header, name_count, entry_count, target, is_named}
 use Rattle.kfs_model.specs.Sight.{sight, parent_in, ClientSight}
-use Rattle.kfs_model.specs.Entry.{Entry, Create, Write, Truncate, Link, Unlink, Rename, Chmod}
+use Rattle.kfs_model.specs.Entry.{Entry, Create, Write, Truncate, Link, Unlink, Rename, Chmod, Regroup}
 use Rattle.kfs_model.specs.Effect.{Filling, lengthened, overwritten, resized, change_of, effect, without_unnamed, new_body, on_content, changed_node}
 use Rattle.kfs_model.specs.Run.{EntryFault, mapped_tree, mapped_body, payload_of, run_from, created_by, entry_context}
 use Rattle.kfs_model.specs.Check.{Reason, first_fault}
@@ -143,6 +143,7 @@ module _ {B C : Type 0} (f : B → C) (from : Filling B) (to : Filling C) (gap :
   change_of-recut client index (Unlink d m kind) same t = refl
   change_of-recut client index (Rename d m e k) same t = refl
   change_of-recut client index (Chmod n mode) same t = changed_node-recut f _ _ (λ n node. refl) n t
+  change_of-recut client index (Regroup n group) same t = changed_node-recut f _ _ (λ n node. refl) n t
 
   effect-recut : (client : Client) (index : ℕ) (entry : Entry) → SamePayload index entry → (t : Tree B) → recut f (effect from client index entry t) ≡ effect to client index entry (recut f t)
   effect-recut client index entry same t = without_unnamed-recut f (change_of from client index entry t) ∙ ap without_unnamed (change_of-recut client index entry same t)

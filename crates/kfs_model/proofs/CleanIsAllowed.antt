@@ -4,8 +4,8 @@ use Rattle.std.specs.List.{AllByRecursion}
 use Rattle.std.proofs.Common.{subst, ap, inl, inr, ◌∙◌}
 use Rattle.std.proofs.lemmas.Bool.{leb-true, eqb-true}
 use Rattle.kfs_model.specs.Header.{Kind, File, Directory, Header}
-use Rattle.kfs_model.specs.Access.{Want, Search, may_header, owns, is_sticky}
-use Rattle.kfs_model.specs.Entry.{Entry, Create, Write, Truncate, Link, Unlink, Rename, Chmod}
+use Rattle.kfs_model.specs.Access.{Want, Search, may_header, is_in_group, owns, is_sticky}
+use Rattle.kfs_model.specs.Entry.{Entry, Create, Write, Truncate, Link, Unlink, Rename, Chmod, Regroup}
 use Rattle.kfs_model.specs.Sight.{is_directory, is_file, kind_shown}
 use Rattle.kfs_model.specs.Check.{EntryContext, Reason, Check, MaySearch, MayWrite, MayRemove, IsLeased, IsADirectory, NumberIsGranted, NoSuchName, unless, fault, is_some_and, on_number, may_go, arrival_checks, move_checks, rename_checks, checks_of, first_failing, first_fault}
 use Rattle.kfs_model.specs.Allowed.{IsGrantedBit, IsLeasedTo, IsNotSticky, IsOwner, MayChangeDirectory, MayChangeFile, MayLoseName, NameLeadsTo, MayMove, IsAllowed}
@@ -142,6 +142,16 @@ clean_chmod p n mode clean =
     let pass = all_pass p _ clean in
     record { owner = found (p.now.head n) (λ h. owns p.client h.uid) (passed _ _ pass.1.0); leased = leased p n pass.1.1.0 }
 
+clean_regroup : (p : EntryContext) (n group : ℕ) → first_fault p (Regroup n group) ≡ None → IsAllowed p (Regroup n group)
+unfolding checks_of fault
+clean_regroup p n group clean =
+    let pass = all_pass p _ clean in
+    record {
+      owner = found (p.now.head n) (λ h. owns p.client h.uid) (passed _ _ pass.1.0);
+      member = either (is_in_group p.client group) p.client.privileged (passed _ _ pass.1.1.0);
+      leased = leased p n pass.1.1.1.0;
+    }
+
 -- the node that a name leads to may lose it, whichever kind is to go
 goes : (p : EntryContext) (kind : Kind) (d t : ℕ) → AllPass p (may_go kind d t) → MayLoseName p d t
 goes p File d t pass = record { unprotected = unprotected p d t pass.1.0; leased = leased p t pass.1.1.0 }
@@ -221,3 +231,4 @@ clean_is_allowed p (Link n d m) clean = clean_link p n d m clean
 clean_is_allowed p (Unlink d m kind) clean = clean_unlink p d m kind clean
 clean_is_allowed p (Rename d m e k) clean = clean_rename p d m e k clean
 clean_is_allowed p (Chmod n mode) clean = clean_chmod p n mode clean
+clean_is_allowed p (Regroup n group) clean = clean_regroup p n group clean

@@ -6,8 +6,8 @@ use Rattle.std.proofs.lemmas.List.{take_at, drop_at, take-append-drop, length-ap
 use Rattle.std.proofs.lemmas.Nat.{be_bytes_2, be_bytes_4, be_bytes_8, from_be_bytes-to_be_bytes_2, from_be_bytes-to_be_bytes_4, from_be_bytes-to_be_bytes_8}
 use Rattle.kfs_model.specs.Header.{Kind, File, Directory}
 use Rattle.kfs_model.specs.Steps.{◌>>=◌}
-use Rattle.kfs_model.specs.Spelling.{IsBytes, is_name, byte, number16, number32, number64, IsName, name_bytes, IsPayload, payload_bytes, kind_bytes, IsVersion, greatest_mode_of, IsMode}
-use Rattle.kfs_model.proofs.Reading.{◌&◌, made, byte_read, number_read, number16_read, number32_read, number64_read, bytes_read, name_read, payload_read, kind_read, mode_read, version_read}
+use Rattle.kfs_model.specs.Spelling.{IsBytes, is_name, byte, number16, number32, number64, IsName, name_bytes, IsPayload, payload_bytes, kind_bytes, IsVersion, greatest_mode_of, IsMode, IsGroup}
+use Rattle.kfs_model.proofs.Reading.{◌&◌, made, byte_read, number_read, number16_read, number32_read, number64_read, bytes_read, name_read, payload_read, kind_read, mode_read, group_read, version_read}
 use Rattle.kfs_model.proofs.NameTest.{is_name_true, is_name_sound}
 
 pub IsBytes-drop : (n : ℕ) (bytes : List ℕ) → IsBytes bytes → IsBytes (drop n bytes)
@@ -218,6 +218,20 @@ module _ (version : ℕ) where
 
   pub mode_field : IsField (IsMode version) number16 (mode_read version)
   mode_field = record { takes = mode_takes; again = mode_again }
+
+  group_takes : (bytes : List ℕ) (x : ℕ × List ℕ) → IsBytes bytes → group_read version bytes ≡ Some x → Stands (IsGroup version) number32 bytes x.0 x.1
+  unfolding group_read
+  group_takes bytes x fits e =
+      let a = some_if_not (ltb version 2) (number32_read bytes) x e in
+      let m = number32_field.takes bytes x fits a.1 in
+      record { parts = m.parts; fits = (ltb-false version 2 a.0, m.fits); rest_bytes = m.rest_bytes }
+
+  group_again : (group : ℕ) (rest : List ℕ) → IsGroup version group → group_read version (number32 group ++ rest) ≡ Some (group, rest)
+  unfolding group_read
+  group_again group rest fits = rw (le-ltb version 2 fits.0) (number32_field.again group rest fits.1)
+
+  pub group_field : IsField (IsGroup version) number32 (group_read version)
+  group_field = record { takes = group_takes; again = group_again }
 
 -- ---- runs of bytes
 

@@ -10,7 +10,7 @@ use Rattle.kfs_model.proofs.TableLaws.{get-mapped, get-retain}
 use Rattle.kfs_model.specs.Tree.{Tree, Node, Body, FileBody, DirectoryBody, headers, node_header, content_of, is_named}
 use Rattle.kfs_model.specs.Sight.{Sight, ClientSight, sight, is_directory}
 use Rattle.kfs_model.specs.Access.{Client}
-use Rattle.kfs_model.specs.Entry.{Entry, Create, Write, Truncate, Link, Unlink, Rename, Chmod}
+use Rattle.kfs_model.specs.Entry.{Entry, Create, Write, Truncate, Link, Unlink, Rename, Chmod, Regroup}
 use Rattle.kfs_model.specs.Check.{Reason, first_fault, checks_of, fault}
 use Rattle.kfs_model.specs.Effect.{effect, change_of, without_unnamed, changed_node, new_body, on_content, overwritten, resized}
 use Rattle.kfs_model.specs.Run.{Mark, Base, Zero, Payload, places_from, over_marks, marked, base_marks, mapped_body, EntryFault, entry_context, created_by, run_from, run}
@@ -35,6 +35,9 @@ rewritten change node = record node { body = on_content over_marks change node.b
 abbrev with_mode : ℕ → Node Mark → Node Mark
 with_mode mode node = record node { mode = mode }
 
+abbrev with_group : ℕ → Node Mark → Node Mark
+with_group group node = record node { gid = group }
+
 module _ (client : Client) (index : ℕ) where
   abbrev changed_at : Entry → (k : ℕ) → Option (Node Mark) → Option (Node Mark)
   changed_at (Create d m n kind mode) k o = cond (k == n) (Some (record { mode = mode; uid = client.uid; gid = client.gid; body = new_body over_marks kind })) o
@@ -44,6 +47,7 @@ module _ (client : Client) (index : ℕ) where
   changed_at (Unlink d m kind) k o = o
   changed_at (Rename d m e l) k o = o
   changed_at (Chmod n mode) k o = cond (k == n) (option_map (with_mode mode) o) o
+  changed_at (Regroup n group) k o = cond (k == n) (option_map (with_group group) o) o
 
 module _ (change : Node Mark → Node Mark) (n : ℕ) (t : Tree Mark) (k : ℕ) where
   abbrev put_in : Option (Node Mark) → Tree Mark
@@ -78,6 +82,7 @@ module _ (client : Client) (index : ℕ) (t : Tree Mark) (k : ℕ) where
   get-change_of (Unlink d m kind) = refl
   get-change_of (Rename d m e l) = refl
   get-change_of (Chmod n mode) = get-changed_node (with_mode mode) n t k
+  get-change_of (Regroup n group) = get-changed_node (with_group group) n t k
 
   get-effect : (entry : Entry) → get (effect over_marks client index entry t).nodes k ≡ cond (stays (change_of over_marks client index entry t).names k) (changed_at client index entry k (get t.nodes k)) None
   unfolding without_unnamed
@@ -107,6 +112,7 @@ Meets t (Link n d m) = Unit {0}
 Meets t (Unlink d m kind) = Unit {0}
 Meets t (Rename d m e k) = Unit {0}
 Meets t (Chmod n mode) = Unit {0}
+Meets t (Regroup n group) = Unit {0}
 
 created_reads : (client : Client) (mode : ℕ) (kind : Kind) (place : ℕ) → reads (Some (record { mode = mode; uid = client.uid; gid = client.gid; body = new_body over_marks kind })) place ≡ Zero
 created_reads client mode File place = refl
@@ -123,6 +129,10 @@ truncated_reads size (Some node) place = at node.body
 mode_reads : (mode : ℕ) (o : Option (Node Mark)) (place : ℕ) → reads (option_map (with_mode mode) o) place ≡ reads o place
 mode_reads mode None place = refl
 mode_reads mode (Some node) place = refl
+
+group_reads : (group : ℕ) (o : Option (Node Mark)) (place : ℕ) → reads (option_map (with_group group) o) place ≡ reads o place
+group_reads group None place = refl
+group_reads group (Some node) place = refl
 
 module _ (client : Client) (index : ℕ) (t : Tree Mark) (k place : ℕ) where
   reads_after : (entry : Entry) → Meets t entry → reads (changed_at client index entry k (get t.nodes k)) place ≡ unwrap_or (covered_by index entry k place) (reads (get t.nodes k) place)
@@ -160,6 +170,11 @@ module _ (client : Client) (index : ℕ) (t : Tree Mark) (k place : ℕ) where
       at : (b : Bool) → reads (cond b (option_map (with_mode mode) (get t.nodes k)) (get t.nodes k)) place ≡ reads (get t.nodes k) place
       at true = mode_reads mode (get t.nodes k) place
       at false = refl
+  reads_after (Regroup n group) meets = at (k == n)
+    where
+      at : (b : Bool) → reads (cond b (option_map (with_group group) (get t.nodes k)) (get t.nodes k)) place ≡ reads (get t.nodes k) place
+      at true = group_reads group (get t.nodes k) place
+      at false = refl
 
 -- ---- what a clean entry finds
 
@@ -191,6 +206,7 @@ module _ (client : Client) (seen : ClientSight) (created : List ℕ) (t : Tree M
   clean_meets (Unlink d m kind) clean = tt
   clean_meets (Rename d m e k) clean = tt
   clean_meets (Chmod n mode) clean = tt
+  clean_meets (Regroup n group) clean = tt
 
 -- ---- a number that was a node once is none again after it went
 
@@ -212,6 +228,7 @@ module _ (client : Client) (seen : ClientSight) (k : ℕ) where
   known_after (Unlink d m kind) created h = h
   known_after (Rename d m e l) created h = h
   known_after (Chmod n mode) created h = h
+  known_after (Regroup n group) created h = h
 
   made_known : (n : ℕ) (created : List ℕ) → (k == n) ≡ true → known (n ∷ created) ≡ true
   made_known n created e = at (is_some (seen.sight.head k)) (n == k) (eq-eqb n k (sym (eqb-true k n e)))
@@ -251,6 +268,11 @@ module _ (client : Client) (seen : ClientSight) (k : ℕ) where
       at : (b : Bool) → cond b (option_map (with_mode mode) o) o ≡ Some node → known created ≡ true
       at true is = let (old, was) = option_map_some (with_mode mode) o node is in before old was
       at false is = before node is
+  known_at index (Regroup n group) created o before node is = at (k == n) is
+    where
+      at : (b : Bool) → cond b (option_map (with_group group) o) o ≡ Some node → known created ≡ true
+      at true is = let (old, was) = option_map_some (with_group group) o node is in before old was
+      at false is = before node is
 
   -- a known number is created by no clean entry
   unknown : {X : Type 0} (o : Option X) (b c : Bool) → (is_none o && b && not c) ≡ true → (is_some o || c) ≡ true → ⊥
@@ -278,6 +300,7 @@ module _ (client : Client) (seen : ClientSight) (k : ℕ) where
   none_at index t (Unlink d m kind) created is clean = refl
   none_at index t (Rename d m e l) created is clean = refl
   none_at index t (Chmod n mode) created is clean = cond_same (k == n) None
+  none_at index t (Regroup n group) created is clean = cond_same (k == n) None
 
   -- one step of a run without a fault
   record RunStep (index : ℕ) (created : List ℕ) (t : Tree Mark) (entry : Entry) (entries : List Entry) (after : Tree Mark) : Type 0 where

@@ -8,7 +8,7 @@ use Rattle.kfs_model.proofs.TableLaws.{get-mapped, get-retain}
 use Rattle.kfs_model.specs.Tree.{Tree, Node, Body, FileBody, DirectoryBody, content_of, is_named}
 use Rattle.kfs_model.specs.Sight.{sight, ClientSight}
 use Rattle.kfs_model.specs.Access.{Client}
-use Rattle.kfs_model.specs.Entry.{Entry, Create, Write, Truncate, Link, Unlink, Rename, Chmod}
+use Rattle.kfs_model.specs.Entry.{Entry, Create, Write, Truncate, Link, Unlink, Rename, Chmod, Regroup}
 use Rattle.kfs_model.specs.Check.{Reason, first_fault}
 use Rattle.kfs_model.specs.Effect.{effect, change_of, without_unnamed, changed_node, new_body, on_content, overwritten, resized}
 use Rattle.kfs_model.specs.Run.{Mark, Base, Zero, Payload, over_marks, marked, base_marks, mapped_body, EntryFault, entry_context, created_by, run_from, run}
@@ -113,6 +113,7 @@ change_own client index (Link n d m) t own = record { each = own.each }
 change_own client index (Unlink d m kind) t own = record { each = own.each }
 change_own client index (Rename d m e k) t own = record { each = own.each }
 change_own client index (Chmod n mode) t own = changed_own t n (λ node. record node { mode = mode }) (λ node here. here) own
+change_own client index (Regroup n group) t own = changed_own t n (λ node. record node { gid = group }) (λ node here. here) own
 
 -- ---- of a run
 

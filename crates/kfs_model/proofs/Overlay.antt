@@ -2,7 +2,7 @@
 use Rattle.std.specs.Prelude.{ℕ, ◌+◌, ◌==◌, ℤ, pos, negsuc, ◌+ℤ◌, List, Option, Some, None, option_map, option_and_then, unwrap_or, if◌then◌else◌}
 use Rattle.kfs_model.specs.Header.{Header}
 use Rattle.kfs_model.specs.Access.{Client}
-use Rattle.kfs_model.specs.Entry.{Entry, Create, Write, Truncate, Link, Unlink, Rename, Chmod}
+use Rattle.kfs_model.specs.Entry.{Entry, Create, Write, Truncate, Link, Unlink, Rename, Chmod, Regroup}
 use Rattle.kfs_model.specs.Sight.{Sight, kind_shown}
 use Rattle.kfs_model.specs.SeenAfter.{put_at, put_name, put_of_directory, shifted, new_header, unlinked, written_size, seen_without}
 
@@ -75,3 +75,4 @@ laid_after client (Link n d m) now o = record {
 laid_after client (Unlink d m kind) now o = laid_unlinked d m (now.name d m) now o
 laid_after client (Rename d m e k) now o = laid_renamed d m e k (now.name d m) (now.name e k) now o
 laid_after client (Chmod n mode) now o = laid_header n (λ h. record h { mode = mode }) now o
+laid_after client (Regroup n group) now o = laid_header n (λ h. record h { gid = group }) now o

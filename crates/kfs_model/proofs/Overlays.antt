@@ -3,7 +3,7 @@ use Rattle.std.proofs.Common.{◌≡◌, ℕ, ◌+◌, ◌==◌, Bool, true, fal
 use Rattle.std.proofs.lemmas.Int.{ints}
 use Rattle.kfs_model.specs.Header.{Kind, File, Directory, Header}
 use Rattle.kfs_model.specs.Access.{Client}
-use Rattle.kfs_model.specs.Entry.{Entry, Create, Write, Truncate, Link, Unlink, Rename, Chmod}
+use Rattle.kfs_model.specs.Entry.{Entry, Create, Write, Truncate, Link, Unlink, Rename, Chmod, Regroup}
 use Rattle.kfs_model.specs.Sight.{Sight, kind_shown}
 use Rattle.kfs_model.specs.FirstWrong.{same_place}
 use Rattle.kfs_model.specs.SeenAfter.{put_at, put_name, put_header, put_of_directory, shifted, unlinked, seen_without, seen_moved, seen_renamed, seen_unlinked, seen_after, new_header, written_size}
@@ -108,3 +108,4 @@ module _ (o : Overlay) (s : Sight) where
   over_laid client (Unlink d m kind) = over_unlinked d m ((over o s).name d m)
   over_laid client (Rename d m e k) = over_renamed d m e k ((over o s).name d m) ((over o s).name e k)
   over_laid client (Chmod n mode) = over_header o s n (λ h. record h { mode = mode })
+  over_laid client (Regroup n group) = over_header o s n (λ h. record h { gid = group })

@@ -3,7 +3,7 @@ use Rattle.std.specs.Prelude.{ℕ, List, [], ◌∷◌, length, take, drop, Opti
 use Rattle.std.specs.List.{starts_with}
 use Rattle.std.specs.Int.{Width, w16, w32, w64, byte_len, from_be_bytes}
 use Rattle.kfs_model.specs.Header.{Kind, File, Directory, Header}
-use Rattle.kfs_model.specs.Entry.{Entry, Create, Write, Truncate, Link, Unlink, Rename, Chmod}
+use Rattle.kfs_model.specs.Entry.{Entry, Create, Write, Truncate, Link, Unlink, Rename, Chmod, Regroup}
 use Rattle.kfs_model.specs.Steps.{◌>>=◌}
 use Rattle.kfs_model.specs.Spelling.{is_name, greatest_mode_of, LogHeader, PlanHeader}
 use Rattle.kfs_model.specs.PlanRow.{NameRow, NodeRow, Source, Zero, Payload, Piece}
@@ -50,6 +50,10 @@ kind_read bytes = byte_read bytes >>= λ b. if b.0 == 0 then Some (File, b.1) el
 unfoldable pub mode_read : (version : ℕ) → List ℕ → Option (ℕ × List ℕ)
 mode_read version bytes = number16_read bytes >>= λ n. if nat_le n.0 (greatest_mode_of version) then Some n else None
 
+-- a group in a log of this version
+unfoldable pub group_read : (version : ℕ) → List ℕ → Option (ℕ × List ℕ)
+group_read version bytes = if nat_lt version 2 then None else number32_read bytes
+
 -- ---- entries, each made of its fields
 
 abbrev pub create_of : ((((ℕ × List ℕ) × ℕ) × Kind) × ℕ) → Entry
@@ -73,6 +77,9 @@ rename_of f = Rename f.0.0.0 f.0.0.1 f.0.1 f.1
 abbrev pub chmod_of : (ℕ × ℕ) → Entry
 chmod_of f = Chmod f.0 f.1
 
+abbrev pub regroup_of : (ℕ × ℕ) → Entry
+regroup_of f = Regroup f.0 f.1
+
 abbrev pub create_read : (version : ℕ) → List ℕ → Option (Entry × List ℕ)
 create_read version bytes = made create_of (number32_read & name_read & number32_read & kind_read & mode_read version) bytes
 
@@ -94,6 +101,9 @@ rename_read bytes = made rename_of (number32_read & name_read & number32_read & 
 abbrev pub chmod_read : (version : ℕ) → List ℕ → Option (Entry × List ℕ)
 chmod_read version bytes = made chmod_of (number32_read & mode_read version) bytes
 
+abbrev pub regroup_read : (version : ℕ) → List ℕ → Option (Entry × List ℕ)
+regroup_read version bytes = made regroup_of (number32_read & group_read version) bytes
+
 -- the entry of a tag, in a log of this version
 abbrev pub tagged_read : (version : ℕ) → ℕ → List ℕ → Option (Entry × List ℕ)
 tagged_read version tag bytes =
@@ -104,6 +114,7 @@ tagged_read version tag bytes =
     else if tag == 5 then unlink_read bytes
     else if tag == 6 then rename_read bytes
     else if tag == 7 then chmod_read version bytes
+    else if tag == 8 then regroup_read version bytes
     else None
 
 unfoldable pub entry_read : (version : ℕ) → List ℕ → Option (Entry × List ℕ)

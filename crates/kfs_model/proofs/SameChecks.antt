@@ -3,7 +3,7 @@ use Rattle.std.proofs.Common.{◌≡◌, ℕ, zero, suc, Bool, true, false, not,
 use Rattle.std.specs.List.{AllByRecursion}
 use Rattle.kfs_model.specs.Header.{Kind, Header}
 use Rattle.kfs_model.specs.Access.{Client}
-use Rattle.kfs_model.specs.Entry.{Entry, Create, Write, Truncate, Link, Unlink, Rename, Chmod}
+use Rattle.kfs_model.specs.Entry.{Entry, Create, Write, Truncate, Link, Unlink, Rename, Chmod, Regroup}
 use Rattle.kfs_model.specs.Sight.{Sight, ClientSight, Cell, HeaderOf, NameIn, ParentOf, answer, kind_shown, climb_limit, climb_meets, climbed}
 use Rattle.kfs_model.specs.Check
 use Rattle.kfs_model.proofs.CleanIsAllowed.{AllPass, all_pass}
@@ -75,7 +75,7 @@ module _ (client : Client) (created : ℕ → Bool) (before : ClientSight) (now 
   same_fault (Check.IsAFile n) same = let e = same_head n same.0 in cc
   same_fault (Check.MaySearch n) same = let e = same_head n same.0 in cc
   same_fault (Check.MayWrite n) same = let e = same_head n same.0 in cc
-  same_fault (Check.MayChangeMode n) same = let e = same_head n same.0 in cc
+  same_fault (Check.IsOwned n) same = let e = same_head n same.0 in cc
   same_fault (Check.IsLeased n) same = let same_held : before.held n ≡ other_before.held n = (let e = same.0.at_now in cc) in cc
   same_fault (Check.HasNoNames n) same = let same_count : now.count n ≡ other_now.count n = (let e = same.0.at_now in cc) in cc
   same_fault (Check.HasRoomForLink n) same = let e = same_head n same.0 in cc
@@ -84,6 +84,7 @@ module _ (client : Client) (created : ℕ → Bool) (before : ClientSight) (now 
   same_fault (Check.NameIsThere d m) same = let e = same_name d m same.0 in cc
   same_fault (Check.NameIsFree d m) same = let e = same_name d m same.0 in cc
   same_fault (Check.MayRemove d n) same = ap₂ (λ directory node. unless (may_remove client directory node) Check.Sticky) (same_head d same.0) (same_head n same.1.0)
+  same_fault (Check.MaySetGroup group) same = refl
   same_fault (Check.EndIsInRange end) same = refl
   same_fault (Check.IsNotAbove n d) same = ap (λ b. unless (not b) Check.BelowItself) (same_meets n climb_limit d same)
   same_fault (Check.Sees cell) same = refl
@@ -95,7 +96,7 @@ module _ (client : Client) (created : ℕ → Bool) (before : ClientSight) (now 
   same_cells (Check.IsAFile n) same = refl
   same_cells (Check.MaySearch n) same = refl
   same_cells (Check.MayWrite n) same = refl
-  same_cells (Check.MayChangeMode n) same = refl
+  same_cells (Check.IsOwned n) same = refl
   same_cells (Check.IsLeased n) same = refl
   same_cells (Check.HasNoNames n) same = refl
   same_cells (Check.HasRoomForLink n) same = refl
@@ -104,6 +105,7 @@ module _ (client : Client) (created : ℕ → Bool) (before : ClientSight) (now 
   same_cells (Check.NameIsThere d m) same = refl
   same_cells (Check.NameIsFree d m) same = refl
   same_cells (Check.MayRemove d n) same = refl
+  same_cells (Check.MaySetGroup group) same = refl
   same_cells (Check.EndIsInRange end) same = refl
   same_cells (Check.IsNotAbove n d) same = ap (map ParentOf) (same_passes climb_limit d same)
   same_cells (Check.Sees cell) same = refl
@@ -198,6 +200,7 @@ module _ (client : Client) (created : ℕ → Bool) (before : ClientSight) (now 
   checks_alike (Unlink d m kind) = unlink_alike d m kind
   checks_alike (Rename d m e k) = rename_alike d m e k
   checks_alike (Chmod n mode) = alike_itself (checks_of p (Chmod n mode))
+  checks_alike (Regroup n group) = alike_itself (checks_of p (Regroup n group))
 
   pub same_end : (entry : Entry) → SameAtAll (looked p (checks_of p entry)) → SameEnd (checks_of p entry) (checks_of q entry)
   unfolding Alike
@@ -236,3 +239,4 @@ module _ (client : Client) (created : ℕ → Bool) (before : ClientSight) (now 
       let each = each_same _ (all_pass p _ clean) same in
       (same_name d m each.1.1.1.1.1.1.0.0, same_name e k each.1.1.1.1.1.1.1.0.0, moved_reads d e (now.name d m) (now.name e k) each.1.1.1.1.1.1.1.1)
   reads_alike (Chmod n mode) clean same = tt
+  reads_alike (Regroup n group) clean same = tt

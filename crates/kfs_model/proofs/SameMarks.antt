@@ -7,7 +7,7 @@ use Rattle.kfs_model.specs.Access.{Client}
 use Rattle.kfs_model.specs.MarkedRuns.{HaveSameNewMarks, BothEnd, MarksEnd}
 use Rattle.kfs_model.specs.Check.{EntryContext, Reason, Check, checks_of, cells, first_fault, looked}
 use Rattle.kfs_model.specs.CleanStep.{Fits}
-use Rattle.kfs_model.specs.Entry.{Entry, Create, Write, Truncate, Link, Unlink, Rename, Chmod}
+use Rattle.kfs_model.specs.Entry.{Entry, Create, Write, Truncate, Link, Unlink, Rename, Chmod, Regroup}
 use Rattle.kfs_model.specs.LastCover.{file_size, covered_by, last_cover, start_mark}
 use Rattle.kfs_model.specs.Laws.{BothFit}
 use Rattle.kfs_model.specs.Looked.{looked_from, looked_cells, seen_run, AgreeWhereLooked, EndInAgreement, HaveSameNet}
@@ -50,6 +50,7 @@ entry_reaches p (Link k d m) clean n index = inr (λ place. refl)
 entry_reaches p (Unlink d m kind) clean n index = inr (λ place. refl)
 entry_reaches p (Rename d m e k) clean n index = inr (λ place. refl)
 entry_reaches p (Chmod k mode) clean n index = inr (λ place. refl)
+entry_reaches p (Regroup k group) clean n index = inr (λ place. refl)
 
 module _ (client : Client) (before : ClientSight) (n : ℕ) where
   run_reaches : (index : ℕ) (created : List ℕ) (now : Sight) (entries : List Entry) (after : Sight) → seen_run_from client before index created now entries ≡ Ok after

@@ -2,7 +2,7 @@
 use Rattle.std.proofs.Common.{◌≡◌, ℕ, ◌+◌, ◌==◌, Bool, true, false, cond, ℤ, pos, negsuc, ◌+ℤ◌, List, Option, Some, None, option_map, option_and_then, refl, sym, ap, subst, ◌∙◌, eqb-true}
 use Rattle.kfs_model.specs.Header.{Kind, File, Directory, Header}
 use Rattle.kfs_model.specs.Access.{Client}
-use Rattle.kfs_model.specs.Entry.{Entry, Create, Write, Truncate, Link, Unlink, Rename, Chmod}
+use Rattle.kfs_model.specs.Entry.{Entry, Create, Write, Truncate, Link, Unlink, Rename, Chmod, Regroup}
 use Rattle.kfs_model.specs.Sight.{Sight, Cell, HeaderOf, NameIn, CountOf, ParentOf, LeaseOn, Head, Number, Count, answer, kind_shown}
 use Rattle.kfs_model.specs.FirstWrong.{same_place}
 use Rattle.kfs_model.specs.SeenAfter.{put_at, put_name, put_header, put_parent, shifted, unlinked, new_header, written_size, seen_without, seen_moved, seen_renamed, seen_unlinked, seen_after}
@@ -117,6 +117,7 @@ module _ (client : Client) (now other : Sight) where
   ReadsAlike (Unlink d m kind) = now.name d m ≡ other.name d m
   ReadsAlike (Rename d m e k) = (now.name d m ≡ other.name d m) × (now.name e k ≡ other.name e k) × MovedAlike now other (now.name d m) (now.name e k)
   ReadsAlike (Chmod n mode) = Unit {0}
+  ReadsAlike (Regroup n group) = Unit {0}
 
   pub entry_follows : (entry : Entry) → ReadsAlike entry → Follows now other (seen_after client now entry) (seen_after client other entry)
   unfolding seen_after
@@ -140,3 +141,4 @@ module _ (client : Client) (now other : Sight) where
       (subst (λ there. Follows now other (seen_renamed d m e k (now.name d m) (now.name e k) now) (seen_renamed d m e k (now.name d m) there other)) reads.1
       (renamed_follows d m e k (now.name d m) (now.name e k) reads.2))
   entry_follows (Chmod n mode) reads = header_follows now other n (λ h. record h { mode = mode })
+  entry_follows (Regroup n group) reads = header_follows now other n (λ h. record h { gid = group })

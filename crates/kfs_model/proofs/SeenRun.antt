@@ -2,7 +2,7 @@
 use Rattle.std.proofs.Common.{◌≡◌, ℕ, suc, ◌+◌, List, [], ◌∷◌, length, Option, Some, None, Result, Ok, Err, refl, sym, ap, subst, ◌∙◌}
 use Rattle.std.specs.List.{AllByRecursion}
 use Rattle.kfs_model.specs.Tree.{Tree}
-use Rattle.kfs_model.specs.Entry.{Entry, Create, Write, Truncate, Link, Unlink, Rename, Chmod}
+use Rattle.kfs_model.specs.Entry.{Entry, Create, Write, Truncate, Link, Unlink, Rename, Chmod, Regroup}
 use Rattle.kfs_model.specs.Sight.{Sight, ClientSight, client_sight, sight}
 use Rattle.kfs_model.specs.Check.{EntryContext, Reason, first_fault}
 use Rattle.kfs_model.specs.Effect.{Filling, effect}
@@ -15,7 +15,7 @@ use Rattle.kfs_model.specs.Access.{Client}
 use Rattle.kfs_model.specs.Looked.{seen_run, EndInAgreement, TreesEndInAgreement}
 use Rattle.kfs_model.proofs.SameLooked.{same_looked}
 use Rattle.kfs_model.proofs.CreateStep.{create_kept}
-use Rattle.kfs_model.proofs.CellSteps.{IsFaithful, chmod_kept, truncate_kept, write_kept}
+use Rattle.kfs_model.proofs.CellSteps.{IsFaithful, chmod_kept, regroup_kept, truncate_kept, write_kept}
 use Rattle.kfs_model.proofs.LinkStep.{link_kept}
 use Rattle.kfs_model.proofs.RenameStep.{unlink_kept, rename_kept}
 
@@ -39,6 +39,7 @@ module _ {B : Type 0} (filling : Filling B) (faithful : IsFaithful filling) wher
   clean_step context index t (Unlink d m kind) h = unlink_kept filling context index t d m kind h
   clean_step context index t (Rename d m e k) h = rename_kept filling context index t d m e k h
   clean_step context index t (Chmod n mode) h = chmod_kept filling context index t n mode h
+  clean_step context index t (Regroup n group) h = regroup_kept filling context index t n group h
 
 module _ {B : Type 0} (filling : Filling B) (faithful : IsFaithful filling) (client : Client) (before : ClientSight) where
   pub run_is_seen : IsClient client → (index : ℕ) (created : List ℕ) (t : Tree B) (version : ℕ) (entries : List Entry) → IsSound t → AllByRecursion (IsEntry version) entries

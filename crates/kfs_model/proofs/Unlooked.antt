@@ -1,7 +1,7 @@
 -- What a log doesn't look at stays as it was.
 use Rattle.std.proofs.Common.{◌≡◌, ℕ, ◌+◌, ◌==◌, Bool, true, false, cond, List, [], ◌∷◌, ◌++◌, Option, Some, None, option_map, option_and_then, if◌then◌else◌, refl, sym, subst, ◌∙◌, ◌⊎◌, inl, inr, ⊎_elim, eqb-true}
 use Rattle.kfs_model.specs.Header.{Kind, File, Directory, Header}
-use Rattle.kfs_model.specs.Entry.{Entry, Create, Write, Truncate, Link, Unlink, Rename, Chmod}
+use Rattle.kfs_model.specs.Entry.{Entry, Create, Write, Truncate, Link, Unlink, Rename, Chmod, Regroup}
 use Rattle.kfs_model.specs.Sight.{Sight, Cell, HeaderOf, NameIn, kind_shown}
 use Rattle.kfs_model.specs.Check.{EntryContext, Check, fault, cells, first_fault, looked, checks_of, may_go, on_number, move_checks, arrival_checks, rename_checks}
 use Rattle.kfs_model.specs.FirstWrong.{same_place}
@@ -170,3 +170,4 @@ module _ (p : EntryContext) where
   entry_touches (Unlink d m kind) clean = unlink_touches d m kind (Check.Exists d ∷ Check.IsADirectory d ∷ Check.MaySearch d ∷ Check.MayWrite d ∷ Check.IsLeased d ∷ []) (p.now.name d m) (all_pass p _ clean)
   entry_touches (Rename d m e k) clean = rename_touches d m e k (Check.Exists d ∷ Check.IsADirectory d ∷ Check.Exists e ∷ Check.IsADirectory e ∷ Check.MaySearch d ∷ Check.MaySearch e ∷ []) (p.now.name d m) (p.now.name e k) (all_pass p _ clean)
   entry_touches (Chmod n mode) clean = header_touches n _ (λ h. record h { mode = mode }) (all_pass p _ clean)
+  entry_touches (Regroup n group) clean = header_touches n _ (λ h. record h { gid = group }) (all_pass p _ clean)

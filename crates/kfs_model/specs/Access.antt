@@ -27,12 +27,16 @@ pub data Class : Type 0 where
 pub data Want : Type 0 where
   Read Write Search : Want
 
+-- whether the group is the client's own or a supplementary one
+abbrev pub is_in_group : Client → (group : ℕ) → Bool
+is_in_group client group = (client.gid == group) || list_any (λ g. g == group) client.groups
+
 -- the class that counts for the client: owner where the uids are equal, else group where one of the
 -- client's groups is the node's, else other
 abbrev pub class_of : Client → (uid gid : ℕ) → Class
 class_of client uid gid =
     if client.uid == uid then Owner
-    else (if (client.gid == gid) || list_any (λ g. g == gid) client.groups then Group else Other)
+    else (if is_in_group client gid then Group else Other)
 
 -- the value of the class's lowest bit in a mode: 0o100, 0o10 or 1
 abbrev pub class_unit : Class → ℕ
@@ -60,6 +64,10 @@ may_header client h want = may client h.uid h.gid h.mode want
 -- whether the client owns a node of this uid, or is privileged
 abbrev pub owns : Client → (uid : ℕ) → Bool
 owns client uid = (client.uid == uid) || client.privileged
+
+-- whether the client may make this the group of a node that it owns (chown() with _POSIX_CHOWN_RESTRICTED)
+abbrev pub may_set_group : Client → (group : ℕ) → Bool
+may_set_group client group = is_in_group client group || client.privileged
 
 -- whether the mode has the restricted deletion flag, S_ISVTX (0o1000); of a file's mode it means nothing
 abbrev pub is_sticky : (mode : ℕ) → Bool

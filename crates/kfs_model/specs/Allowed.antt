@@ -2,8 +2,8 @@
 -- with no order among them.
 use Rattle.std.specs.Prelude.{◌≡◌, ◌≤◌, ◌⊎◌, not, ℕ, List, Some, IsTrue}
 use Rattle.kfs_model.specs.Header.{Header}
-use Rattle.kfs_model.specs.Access.{Want, may_header, owns, is_sticky, Search}
-use Rattle.kfs_model.specs.Entry.{Entry, Create, Write, Truncate, Link, Unlink, Rename, Chmod}
+use Rattle.kfs_model.specs.Access.{Want, may_header, is_in_group, owns, is_sticky, Search}
+use Rattle.kfs_model.specs.Entry.{Entry, Create, Write, Truncate, Link, Unlink, Rename, Chmod, Regroup}
 use Rattle.kfs_model.specs.Check.{EntryContext}
 
 -- the client may use the node in this way
@@ -69,6 +69,11 @@ pub record MayChmod (context : EntryContext) (number : ℕ) : Type 0 where
   pub owner : IsOwner context number
   pub leased : IsLeasedTo context number
 
+pub record MayRegroup (context : EntryContext) (number group : ℕ) : Type 0 where
+  pub owner : IsOwner context number
+  pub member : IsTrue (is_in_group context.client group) ⊎ IsTrue context.client.privileged
+  pub leased : IsLeasedTo context number
+
 abbrev pub IsAllowed : EntryContext → Entry → Type 0
 IsAllowed context (Create d m n kind mode) = MayCreate context d n
 IsAllowed context (Write n offset payload) = MayChangeFile context n
@@ -77,3 +82,4 @@ IsAllowed context (Link n d m) = MayLink context n d
 IsAllowed context (Unlink d m kind) = MayUnlink context d m
 IsAllowed context (Rename d m e k) = MayKeep context d m e k ⊎ MayMove context d m e k
 IsAllowed context (Chmod n mode) = MayChmod context n
+IsAllowed context (Regroup n group) = MayRegroup context n group

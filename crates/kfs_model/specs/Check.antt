@@ -4,13 +4,13 @@ use Rattle.std.specs.Ordering.{int_eq}
 use Rattle.kfs_model.specs.Limits.{link_limit, size_limit}
 use Rattle.kfs_model.specs.Header.{Kind, Header}
 use Rattle.kfs_model.specs.Header.Kind.{File, Directory}
-use Rattle.kfs_model.specs.Access.{Client, Want, Search, may_header, owns, is_sticky, is_granted}
-use Rattle.kfs_model.specs.Entry.{Entry, Create, Write, Truncate, Link, Unlink, Rename, Chmod}
+use Rattle.kfs_model.specs.Access.{Client, Want, Search, may_header, may_set_group, owns, is_sticky, is_granted}
+use Rattle.kfs_model.specs.Entry.{Entry, Create, Write, Truncate, Link, Unlink, Rename, Chmod, Regroup}
 use Rattle.kfs_model.specs.Sight.{Sight, ClientSight, Cell, HeaderOf, NameIn, CountOf, ParentOf, LeaseOn, is_directory, is_file, kind_shown, climb_limit, climb_meets, climbed}
 
 -- why an entry is refused
 pub data Reason : Type 0 where
-  NoSuchNode NotDirectory IsDirectory NoSuchName NameTaken NumberTaken NumberNotGranted NotEmpty BelowItself TooManyLinks TooBig NoSearch NoWrite NotOwner Sticky : Reason
+  NoSuchNode NotDirectory IsDirectory NoSuchName NameTaken NumberTaken NumberNotGranted NotEmpty BelowItself TooManyLinks TooBig NoSearch NoWrite NotOwner Sticky NotInGroup : Reason
   NoLease : (number : ℕ) → Reason
   deriving Discrete as Reason-discrete
 
@@ -23,11 +23,13 @@ pub record EntryContext : Type 0 where
   pub created : ℕ → Bool
 
 pub data Check : Type 0 where
-  Exists IsADirectory IsAFile MaySearch MayWrite MayChangeMode IsLeased HasNoNames HasRoomForLink NumberIsGranted NumberIsFree : (number : ℕ) → Check
+  Exists IsADirectory IsAFile MaySearch MayWrite IsOwned IsLeased HasNoNames HasRoomForLink NumberIsGranted NumberIsFree : (number : ℕ) → Check
   NameIsThere NameIsFree : (directory : ℕ) (name : List ℕ) → Check
   -- the client may take a name of the node out of the directory (POSIX.1-2017, XBD 4.3, Directory
   -- Protection)
   MayRemove : (directory number : ℕ) → Check
+  -- the client may make this a node's group
+  MaySetGroup : (group : ℕ) → Check
   -- a file may end at this byte
   EndIsInRange : (end : ℕ) → Check
   -- the node isn't the directory and doesn't lie above it
@@ -75,7 +77,7 @@ fault context (IsADirectory n) = unless (is_directory (context.now.head n)) NotD
 fault context (IsAFile n) = unless (not (is_directory (context.now.head n))) IsDirectory
 fault context (MaySearch n) = unless (is_permitted context Search n) NoSearch
 fault context (MayWrite n) = unless (may_write context n) NoWrite
-fault context (MayChangeMode n) = unless (is_owner context.client (context.now.head n)) NotOwner
+fault context (IsOwned n) = unless (is_owner context.client (context.now.head n)) NotOwner
 fault context (IsLeased n) = unless (is_leased context n) (NoLease n)
 fault context (HasNoNames n) = unless (int_eq (context.now.count n) (pos 0)) NotEmpty
 fault context (HasRoomForLink n) = unless (is_some_and (context.now.head n) (λ h. nat_lt h.links link_limit)) TooManyLinks
@@ -84,6 +86,7 @@ fault context (NumberIsFree n) = unless (is_number_free context n) NumberTaken
 fault context (NameIsThere d m) = unless (is_some (context.now.name d m)) NoSuchName
 fault context (NameIsFree d m) = unless (is_none (context.now.name d m)) NameTaken
 fault context (MayRemove d n) = unless (may_remove context.client (context.now.head d) (context.now.head n)) Sticky
+fault context (MaySetGroup group) = unless (may_set_group context.client group) NotInGroup
 fault context (EndIsInRange end) = unless (nat_le end size_limit) TooBig
 fault context (IsNotAbove n d) = unless (not (climb_meets context.now.parent climb_limit n d)) BelowItself
 fault context (Sees cell) = None
@@ -95,7 +98,7 @@ cells context (IsADirectory n) = HeaderOf n ∷ []
 cells context (IsAFile n) = HeaderOf n ∷ []
 cells context (MaySearch n) = HeaderOf n ∷ []
 cells context (MayWrite n) = HeaderOf n ∷ []
-cells context (MayChangeMode n) = HeaderOf n ∷ []
+cells context (IsOwned n) = HeaderOf n ∷ []
 cells context (IsLeased n) = LeaseOn n ∷ []
 cells context (HasNoNames n) = CountOf n ∷ []
 cells context (HasRoomForLink n) = HeaderOf n ∷ []
@@ -104,6 +107,7 @@ cells context (NumberIsFree n) = HeaderOf n ∷ []
 cells context (NameIsThere d m) = NameIn d m ∷ []
 cells context (NameIsFree d m) = NameIn d m ∷ []
 cells context (MayRemove d n) = HeaderOf d ∷ HeaderOf n ∷ []
+cells context (MaySetGroup group) = []
 cells context (EndIsInRange end) = []
 cells context (IsNotAbove n d) = map ParentOf (climbed context.now.parent climb_limit d)
 cells context (Sees cell) = cell ∷ []
@@ -161,7 +165,8 @@ checks_of context (Unlink d m kind) = is_directory_node d ++ (may_change_directo
 checks_of context (Rename d m e k) =
     is_directory_node d ++ (is_directory_node e ++ (MaySearch d ∷ MaySearch e ∷ NameIsThere d m ∷ Sees (NameIn e k)
     ∷ rename_checks context d e (context.now.name d m) (context.now.name e k)))
-checks_of context (Chmod n mode) = Exists n ∷ MayChangeMode n ∷ IsLeased n ∷ []
+checks_of context (Chmod n mode) = Exists n ∷ IsOwned n ∷ IsLeased n ∷ []
+checks_of context (Regroup n group) = Exists n ∷ IsOwned n ∷ MaySetGroup group ∷ IsLeased n ∷ []
 
 -- the reason of the first check that fails
 unfoldable pub first_failing : EntryContext → List Check → Option Reason

@@ -1,12 +1,12 @@
 -- What an entry without a failed check does to the tree (POSIX.1-2017: open, write, ftruncate, link,
--- unlink and rmdir, rename, chmod).
+-- unlink and rmdir, rename, chmod, chown).
 use Rattle.std.specs.Prelude.{ℕ, ◌+◌, ◌-◌, ◌==◌, ◌||◌, true, false, List, [], ◌∷◌, ◌++◌, length, take, drop, replicate, Option, Some, None}
 use Rattle.kfs_model.specs.Header.{Kind, File, Directory}
 use Rattle.kfs_model.specs.Limits.{root_number}
 use Rattle.kfs_model.specs.Access.{Client}
 use Rattle.kfs_model.specs.Table.{get, insert, remove, retain}
 use Rattle.kfs_model.specs.Tree.{Tree, Node, Body, FileBody, DirectoryBody, NameTable, target, is_named}
-use Rattle.kfs_model.specs.Entry.{Entry, Create, Write, Truncate, Link, Unlink, Rename, Chmod}
+use Rattle.kfs_model.specs.Entry.{Entry, Create, Write, Truncate, Link, Unlink, Rename, Chmod, Regroup}
 
 -- what new content is made of: the filler of a gap, and the payload of the entry with this index
 pub record Filling (B : Type 0) : Type 0 where
@@ -73,6 +73,7 @@ module _ {B : Type 0} (filling : Filling B) (client : Client) where
   change_of index (Unlink d m kind) t = with_names (remove t.names (d, m)) t
   change_of index (Rename d m e k) t = with_names (moved_name t.names d m e k) t
   change_of index (Chmod n mode) t = changed_node (λ node. record node { mode = mode }) n t
+  change_of index (Regroup n group) t = changed_node (λ node. record node { gid = group }) n t
 
   abbrev pub effect : (index : ℕ) → Entry → Tree B → Tree B
   effect index entry t = without_unnamed (change_of index entry t)

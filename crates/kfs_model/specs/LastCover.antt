@@ -4,7 +4,7 @@
 use Rattle.std.specs.Prelude.{◌≡◌, ℕ, ◌+◌, ◌-◌, ◌==◌, ◌&&◌, nat_le, nat_lt, List, [], ◌∷◌, length, Option, Some, None, unwrap_or, if◌then◌else◌}
 use Rattle.kfs_model.specs.Table.{get, option_or}
 use Rattle.kfs_model.specs.Tree.{Tree, content_of}
-use Rattle.kfs_model.specs.Entry.{Entry, Create, Write, Truncate, Link, Unlink, Rename, Chmod}
+use Rattle.kfs_model.specs.Entry.{Entry, Create, Write, Truncate, Link, Unlink, Rename, Chmod, Regroup}
 use Rattle.kfs_model.specs.Run.{Mark, Base, Zero, Payload}
 use Rattle.kfs_model.specs.Plan.{mark_at}
 
@@ -22,6 +22,7 @@ covered_by index (Link n d m) number place = None
 covered_by index (Unlink d m kind) number place = None
 covered_by index (Rename d m e k) number place = None
 covered_by index (Chmod n mode) number place = None
+covered_by index (Regroup n group) number place = None
 
 -- the mark that the last entry that reaches the byte gives it; the first entry has this index
 unfoldable pub last_cover : (index : ℕ) → List Entry → (number place : ℕ) → Option Mark

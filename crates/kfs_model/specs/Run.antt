@@ -8,7 +8,7 @@ use Rattle.kfs_model.specs.Sight.{Sight, ClientSight, sight}
 use Rattle.kfs_model.specs.Check.{Reason, Reason-discrete, EntryContext, first_fault}
 use mathlib.Core.Path.{ap}
 use native.Mathlib.Decide.{ℕ_discrete}
-use Rattle.kfs_model.specs.Entry.{Entry, Create, Write, Truncate, Link, Unlink, Rename, Chmod}
+use Rattle.kfs_model.specs.Entry.{Entry, Create, Write, Truncate, Link, Unlink, Rename, Chmod, Regroup}
 use Rattle.kfs_model.specs.Effect.{Filling, effect}
 
 -- the numbers that the log has created so far, the latest first
@@ -20,6 +20,7 @@ created_by (Link n d m) numbers = numbers
 created_by (Unlink d m kind) numbers = numbers
 created_by (Rename d m e k) numbers = numbers
 created_by (Chmod n mode) numbers = numbers
+created_by (Regroup n group) numbers = numbers
 
 abbrev pub entry_context : Client → (before : ClientSight) → (now : Sight) → (created : List ℕ) → EntryContext
 entry_context client before now created = record {

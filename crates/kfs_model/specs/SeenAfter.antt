@@ -3,7 +3,7 @@
 use Rattle.std.specs.Prelude.{ℕ, ◌+◌, ◌-◌, ◌==◌, nat_le, max, ℤ, pos, negsuc, ◌+ℤ◌, List, [], ◌∷◌, length, Option, Some, None, option_map, option_and_then, Result, Ok, Err, if◌then◌else◌}
 use Rattle.kfs_model.specs.Header.{Kind, File, Directory, Header}
 use Rattle.kfs_model.specs.Access.{Client}
-use Rattle.kfs_model.specs.Entry.{Entry, Create, Write, Truncate, Link, Unlink, Rename, Chmod}
+use Rattle.kfs_model.specs.Entry.{Entry, Create, Write, Truncate, Link, Unlink, Rename, Chmod, Regroup}
 use Rattle.kfs_model.specs.Tree.{Tree}
 use Rattle.kfs_model.specs.Sight.{Sight, ClientSight, sight, kind_shown}
 use Rattle.kfs_model.specs.Check.{first_fault}
@@ -101,6 +101,7 @@ seen_after client s (Link n d m) = record s {
 seen_after client s (Unlink d m kind) = seen_unlinked d m (s.name d m) s
 seen_after client s (Rename d m e k) = seen_renamed d m e k (s.name d m) (s.name e k) s
 seen_after client s (Chmod n mode) = record s { head = put_header n (λ h. record h { mode = mode }) s.head }
+seen_after client s (Regroup n group) = record s { head = put_header n (λ h. record h { gid = group }) s.head }
 
 module _ (client : Client) (before : ClientSight) where
   -- the run over cells, from the entry with this index on

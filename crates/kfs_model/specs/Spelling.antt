@@ -5,7 +5,7 @@ use Rattle.std.specs.List.{list_all, flat_map, AllByRecursion}
 use Rattle.std.specs.Int.{w16, w32, w64, to_be_bytes}
 use Rattle.kfs_model.specs.Header.{Kind, File, Directory, Header}
 use Rattle.kfs_model.specs.Limits.{entry_limit, greatest_mode, greatest_mode_of_version_1, latest_version, name_limit, payload_limit}
-use Rattle.kfs_model.specs.Entry.{Entry, Log, Create, Write, Truncate, Link, Unlink, Rename, Chmod}
+use Rattle.kfs_model.specs.Entry.{Entry, Log, Create, Write, Truncate, Link, Unlink, Rename, Chmod, Regroup}
 use Rattle.kfs_model.specs.PlanRow.{NameRow, NodeRow, Source, Zero, Payload, Piece, Plan}
 
 -- each of the numbers is below 256
@@ -77,6 +77,10 @@ greatest_mode_of version = if version == 1 then greatest_mode_of_version_1 else 
 abbrev pub IsMode : (version mode : ℕ) → Type 0
 IsMode version mode = mode ≤ greatest_mode_of version
 
+-- logs of version 1 set no group
+abbrev pub IsGroup : (version group : ℕ) → Type 0
+IsGroup version group = (2 ≤ version) × (group < 2 ^ 32)
+
 -- ---- rows, one after another
 
 -- the bytes begin with the spelling of such a value
@@ -117,9 +121,10 @@ entry_bytes (Link n d m) = byte 4 ++ number32 n ++ number32 d ++ name_bytes m
 entry_bytes (Unlink d m flag) = byte 5 ++ number32 d ++ name_bytes m ++ kind_bytes flag
 entry_bytes (Rename d m e k) = byte 6 ++ number32 d ++ name_bytes m ++ number32 e ++ name_bytes k
 entry_bytes (Chmod n mode) = byte 7 ++ number32 n ++ number16 mode
+entry_bytes (Regroup n group) = byte 8 ++ number32 n ++ number32 group
 
--- the entry has a spelling in a log of this version: its modes, names and payload are in range, and its
--- other numbers fit their widths
+-- the entry has a spelling in a log of this version: the version has such entries, modes, names and
+-- payload are in range, and other numbers fit their widths
 abbrev pub IsEntry : (version : ℕ) → Entry → Type 0
 IsEntry version (Create d m n k mode) = (d < 2 ^ 32) × IsName m × (n < 2 ^ 32) × IsMode version mode
 IsEntry version (Write n offset p) = (n < 2 ^ 32) × (offset < 2 ^ 64) × IsPayload p
@@ -128,6 +133,7 @@ IsEntry version (Link n d m) = (n < 2 ^ 32) × (d < 2 ^ 32) × IsName m
 IsEntry version (Unlink d m flag) = (d < 2 ^ 32) × IsName m
 IsEntry version (Rename d m e k) = (d < 2 ^ 32) × IsName m × (e < 2 ^ 32) × IsName k
 IsEntry version (Chmod n mode) = (n < 2 ^ 32) × IsMode version mode
+IsEntry version (Regroup n group) = (n < 2 ^ 32) × IsGroup version group
 
 -- the header of a log: the version, the client's number, and the number of entries
 pub record LogHeader : Type 0 where

@@ -28,7 +28,7 @@ ghost use Rattle.kfs_model.specs.CleanStep.{IsClient, Fits, IsSeenInCells};
 ghost use Rattle.kfs_model.specs.Laws.{CellsDecide, CleanIsAllowed, EachGrant, EachRun, EachTwoTrees, KeepsOrder, KeepsSound, MarksGiveBytes, opening_of_new};
 
 /// An entry without a failed check is allowed to its client by mode bits and leases. This holds for all
-/// seven kinds of entry.
+/// eight kinds of entry.
 pub fn clean_is_allowed()
     ensures { CleanIsAllowed }
 {}

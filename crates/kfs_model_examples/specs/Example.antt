@@ -6,6 +6,7 @@ pub mod FileCases
 pub mod LeaseCases
 pub mod NameCases
 pub mod PlacementCases
+pub mod RegroupCases
 pub mod SpellingCases
 pub mod StickyCases
 use Rattle.std.specs.Prelude.{◌≡◌, ℕ, Bool, true, false, List, [], ◌∷◌, ◌++◌, map, Option, Some, None, Result, Ok, Err}

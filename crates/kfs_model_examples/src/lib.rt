@@ -10,5 +10,6 @@ pub mod files;
 pub mod leases;
 pub mod names;
 pub mod placement;
+pub mod regroup;
 pub mod spellings;
 pub mod sticky;

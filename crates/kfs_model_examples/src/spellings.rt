@@ -5,7 +5,7 @@ ghost use Rattle.kfs_model.specs.Spelling.{BadEntry, BadHeader, BadRow, LogAnswe
 ghost use Rattle.kfs_model_examples.specs.Example.{no_plan};
 ghost use Rattle.kfs_model_examples.specs.Example.FileCases.{create_a, create_a_plan, edits, edits_plan, first_piece, last_piece};
 ghost use Rattle.kfs_model_examples.specs.Example.NameCases.{move_7, plan_7};
-ghost use Rattle.kfs_model_examples.specs.Example.SpellingCases.{cut_log, cut_plan, in_version, log_in_2, log_of_7, plan_in_2, set_mode, set_mode_bytes, create_a_log_bytes, create_a_plan_bytes, edits_log_bytes, edits_plan_bytes, move_7_log_bytes, plan_7_bytes, empty_log_bytes, empty_plan_bytes};
+ghost use Rattle.kfs_model_examples.specs.Example.SpellingCases.{cut_log, cut_plan, in_version, log_in_2, log_of_7, plan_in_2, set_group, set_group_bytes, set_mode, set_mode_bytes, create_a_log_bytes, create_a_plan_bytes, edits_log_bytes, edits_plan_bytes, move_7_log_bytes, plan_7_bytes, empty_log_bytes, empty_plan_bytes};
 
 /// Client 7 creates file 5 named "a" in the root: 25 bytes of log, 48 bytes of plan.
 #[tactic(auto, unfolding(kfs_model::specs::Spelling::number16, kfs_model::specs::Spelling::number32, kfs_model::specs::Spelling::number64))]
@@ -49,14 +49,21 @@ pub fn greatest_modes()
     ensures second { LogAnswer (in_version 2 (set_mode_bytes 3 255)) (Ok (log_in_2 (log_of_7 (set_mode 1023)))) }
 {}
 
+/// Client 7 makes 50 the group of file 5. Only a log of version 2 can say so.
+#[tactic(auto, unfolding(kfs_model::specs::Spelling::number16, kfs_model::specs::Spelling::number32, kfs_model::specs::Spelling::number64))]
+pub fn group_in_version_2()
+    ensures { LogAnswer (in_version 2 set_group_bytes) (Ok (log_in_2 (log_of_7 set_group))) }
+{}
+
 /// Bytes that are no log: too few for a header, a version that there isn't, the last one missing, a mode
-/// out of the version's range, one byte too many.
+/// out of the version's range, a group in version 1, one byte too many.
 pub fn no_logs()
     ensures header { LogAnswer (cut_log 10) (Err BadHeader) }
     ensures version_0 { LogAnswer (in_version 0 create_a_log_bytes) (Err BadHeader) }
     ensures version_3 { LogAnswer (in_version 3 create_a_log_bytes) (Err BadHeader) }
     ensures first_mode { LogAnswer (set_mode_bytes 3 255) (Err (BadEntry 0)) }
     ensures second_mode { LogAnswer (in_version 2 (set_mode_bytes 4 0)) (Err (BadEntry 0)) }
+    ensures group { LogAnswer set_group_bytes (Err (BadEntry 0)) }
     ensures entry { LogAnswer (cut_log 24) (Err (BadEntry 0)) }
     ensures trailing { LogAnswer (create_a_log_bytes ++ 0 ∷ []) (Err Trailing) }
 {}

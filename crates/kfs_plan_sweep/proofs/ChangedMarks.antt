@@ -1,7 +1,7 @@
 -- The mark of a byte that a log changed: of the last entry that covers it, or zero where its file grew.
 use Rattle.std.proofs.Common.{◌≡◌, ℕ, ◌+◌, ◌-◌, Bool, true, false, cond, ◌==◌, ◌&&◌, ltb, leb, List, [], ◌∷◌, length, Option, Some, None, unwrap_or, Ok, refl, ap, subst, ◌∙◌}
 use Rattle.kfs_model.specs.Access.{Client}
-use Rattle.kfs_model.specs.Entry.{Entry, Create, Write, Truncate, Link, Unlink, Rename, Chmod}
+use Rattle.kfs_model.specs.Entry.{Entry, Create, Write, Truncate, Link, Unlink, Rename, Chmod, Regroup}
 use Rattle.kfs_model.specs.LastCover.{file_size, covered_by, last_cover, start_mark}
 use Rattle.kfs_model.specs.Plan.{mark_at}
 use Rattle.kfs_model.specs.Run.{Mark, Base, Zero, Payload, over_marks, marked, run}
@@ -37,6 +37,7 @@ changed_covered index (Link n d m) k place = changed_none
 changed_covered index (Unlink d m kind) k place = changed_none
 changed_covered index (Rename d m e l) k place = changed_none
 changed_covered index (Chmod n mode) k place = changed_none
+changed_covered index (Regroup n group) k place = changed_none
 
 changed_or : (a b : Option Mark) → changed_of a → changed_of b → changed_of (option_or a b)
 changed_or None b h i = i

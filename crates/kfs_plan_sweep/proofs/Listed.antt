@@ -3,7 +3,7 @@ use Rattle.std.proofs.Common.{◌≡◌, ℕ, ◌+◌, ◌-◌, ◌<◌, Bool, t
 use Rattle.std.specs.List.{AllByRecursion, list_any}
 use Rattle.std.proofs.lemmas.Bool.{eqb-false, ne_eqb, ltb-true, ltb-false, or_left, or_right}
 use Rattle.kfs_model.specs.Access.{Client}
-use Rattle.kfs_model.specs.Entry.{Entry, Create, Write, Truncate, Link, Unlink, Rename, Chmod}
+use Rattle.kfs_model.specs.Entry.{Entry, Create, Write, Truncate, Link, Unlink, Rename, Chmod, Regroup}
 use Rattle.kfs_model.specs.LastCover.{file_size, covered_by, last_cover}
 use Rattle.kfs_model.specs.Plan.{mark_at, mark_of_source, IsTrueOf}
 use Rattle.kfs_model.specs.PlanRow.{Piece}
@@ -35,6 +35,7 @@ cover_reaches index (Link k d m) n p mark is = cc
 cover_reaches index (Unlink d m kind) n p mark is = cc
 cover_reaches index (Rename d m e k) n p mark is = cc
 cover_reaches index (Chmod k mode) n p mark is = cc
+cover_reaches index (Regroup k group) n p mark is = cc
 
 last_reaches : (index : ℕ) (entries : List Entry) (n p : ℕ) (mark : Mark) → last_cover index entries n p ≡ Some mark → list_any (reaches_file n) entries ≡ true
 unfolding last_cover

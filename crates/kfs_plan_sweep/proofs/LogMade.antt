@@ -50,6 +50,7 @@ module _ (source : List ℕ) (sizes : List FileSize) (ends : ℕ → ℕ) where
   reaches_are index (entries.Unlink d m k ∷ es) within reached = reaches_are (index + 1) es within.1 (later (entries.Unlink d m k) es reached)
   reaches_are index (entries.Rename d m e k ∷ es) within reached = reaches_are (index + 1) es within.1 (later (entries.Rename d m e k) es reached)
   reaches_are index (entries.Chmod n mode ∷ es) within reached = reaches_are (index + 1) es within.1 (later (entries.Chmod n mode) es reached)
+  reaches_are index (entries.Regroup n group ∷ es) within reached = reaches_are (index + 1) es within.1 (later (entries.Regroup n group) es reached)
 
 -- what the code lists is what the log made
 pub log_made : (source : List ℕ) (sizes : List FileSize) (es : List (CodeEntry Span)) (tree : Tree ℕ) (after : Tree Mark) (ranges : List ByteRange) → AllByRecursion (IsWithin (length source)) es

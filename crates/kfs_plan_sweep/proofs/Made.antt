@@ -6,7 +6,7 @@ use Rattle.std.proofs.Math.Bool.{and_assoc, and-false}
 use Rattle.kfs_model.specs.Table.{option_or}
 use Rattle.kfs_model.specs.Tree.{Tree}
 use Rattle.kfs_model.specs.Sight.{ClientSight, sight}
-use Rattle.kfs_model.specs.Entry.{Entry, Create, Write, Truncate, Link, Unlink, Rename, Chmod}
+use Rattle.kfs_model.specs.Entry.{Entry, Create, Write, Truncate, Link, Unlink, Rename, Chmod, Regroup}
 use Rattle.kfs_model.specs.Access.{Client}
 use Rattle.kfs_model.specs.Run.{Mark, run, over_marks, marked}
 use Rattle.kfs_model.specs.PlanRow.{Piece}
@@ -99,6 +99,7 @@ module _ (ends : ℕ → ℕ) (n p : ℕ) where
   made_marks index (Unlink d m kind ∷ entries) = made_same _ _ (made_marks (index + 1) entries)
   made_marks index (Rename d m e k ∷ entries) = made_same _ _ (made_marks (index + 1) entries)
   made_marks index (Chmod k mode ∷ entries) = made_same _ _ (made_marks (index + 1) entries)
+  made_marks index (Regroup k group ∷ entries) = made_same _ _ (made_marks (index + 1) entries)
 
 -- ---- growth
 

@@ -2,7 +2,7 @@
 use Rattle.std.specs.Prelude.{◌≡◌, ℕ, ◌+◌, ◌-◌, ◌<◌, ◌≤◌, ◌++◌, ◌==◌, min, List, [], ◌∷◌, length, map, Option, Some, None, IfOk, IsTrue}
 use Rattle.std.specs.List.{list_any}
 use Rattle.kfs_model.specs.Limits.{payload_limit, size_limit}
-use Rattle.kfs_model.specs.Entry.{Entry, Create, Write, Truncate, Link, Unlink, Rename, Chmod}
+use Rattle.kfs_model.specs.Entry.{Entry, Create, Write, Truncate, Link, Unlink, Rename, Chmod, Regroup}
 use Rattle.kfs_model.specs.Laws.{EachRun}
 use Rattle.kfs_model.specs.LastCover.{file_size}
 use Rattle.kfs_model.specs.Plan.{ArePieces}
@@ -50,6 +50,7 @@ reach_of (Link n d m) = ReachesNone
 reach_of (Unlink d m kind) = ReachesNone
 reach_of (Rename d m e k) = ReachesNone
 reach_of (Chmod n mode) = ReachesNone
+reach_of (Regroup n group) = ReachesNone
 
 -- the range that the entry with this index so changes, cut off at its file's size after the log
 abbrev pub range_of : (ends : ℕ → ℕ) → (index : ℕ) → Reach → Option ByteRange

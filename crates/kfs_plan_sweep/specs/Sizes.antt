@@ -3,7 +3,7 @@
 use Rattle.std.specs.Prelude.{◌≡◌, ℕ, ◌+◌, ◌-◌, ◌<◌, ◌≤◌, ◌==◌, min, Bool, false, List, [], ◌∷◌, length, map, Option, Some, None, IfOk, IsTrue, if◌then◌else◌}
 use Rattle.std.specs.List.{list_any, AllByRecursion}
 use Rattle.kfs_model.specs.Access.{Client}
-use Rattle.kfs_model.specs.Entry.{Entry, Create, Write, Truncate, Link, Unlink, Rename, Chmod}
+use Rattle.kfs_model.specs.Entry.{Entry, Create, Write, Truncate, Link, Unlink, Rename, Chmod, Regroup}
 use Rattle.kfs_model.specs.LastCover.{file_size}
 use Rattle.kfs_model.specs.Limits.{size_limit}
 use Rattle.kfs_model.specs.Plan.{ArePieces}
@@ -50,6 +50,7 @@ reach_in (entries.Link n d m) = ReachesNone
 reach_in (entries.Unlink d m k) = ReachesNone
 reach_in (entries.Rename d m e k) = ReachesNone
 reach_in (entries.Chmod n mode) = ReachesNone
+reach_in (entries.Regroup n group) = ReachesNone
 
 -- whether the entry is a Write or a Truncate of this file
 abbrev pub reaches_file : (number : ℕ) → Entry → Bool
@@ -60,6 +61,7 @@ reaches_file number (Link n d m) = false
 reaches_file number (Unlink d m kind) = false
 reaches_file number (Rename d m e k) = false
 reaches_file number (Chmod n mode) = false
+reaches_file number (Regroup n group) = false
 
 -- the sizes are right for the run, and each file is listed that grew, or that an entry reaches and is
 -- there after the log

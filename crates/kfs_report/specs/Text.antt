@@ -60,6 +60,7 @@ reason_name reason.NoWrite = codes "NoWrite"
 reason_name reason.NotOwner = codes "NotOwner"
 reason_name (reason.NoLease node) = codes "NoLease"
 reason_name reason.Sticky = codes "Sticky"
+reason_name reason.NotInGroup = codes "NotInGroup"
 
 -- the reason's name, with its number if it has one
 abbrev pub reason_text : Reason → List ℕ

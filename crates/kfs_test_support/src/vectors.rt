@@ -41,6 +41,17 @@ pub const MOVE_PLAN: &[u8] = b"KPLN\x01\0\x02\0\0\0\0\0\0\0\0\0\x0c\x01x\0\0\0\x
 pub const OTHERS_LOG: &[u8] = b"KLOG\x01\0\0\0\x09\0\x03\x04\0\0\0\x05\0\0\0\x01\x02bb\
       \x05\0\0\0\x01\x01c\x01\x07\0\0\0\x05\x01\xff";
 
+/// Client 7 makes 50 the group of file 5, in version 2.
+pub const REGROUP_LOG: &[u8] = b"KLOG\x02\0\0\0\x07\0\x01\x08\0\0\0\x05\0\0\0\x32";
+
+/// The header of 5 with group 50, in version 2.
+pub const REGROUP_PLAN: &[u8] = b"KPLN\x02\0\0\0\x01\0\0\0\0\0\0\0\x05\x01\x01\xa4\0\0\x03\
+      \xe8\0\0\0\x32\0\x01\0\0\0\0\0\0\0\0";
+
+/// The log with its version 1, which has no such entry.
+pub const REGROUP_IN_VERSION_1: &[u8] =
+    b"KLOG\x01\0\0\0\x07\0\x01\x08\0\0\0\x05\0\0\0\x32";
+
 /// Node 20 is gone.
 pub const GONE_PLAN: &[u8] = b"KPLN\x01\0\0\0\x01\0\0\0\0\0\0\0\x14\0";
 

@@ -67,6 +67,7 @@ fn faults_of_entries(rt: HostRuntime) {
         (Reason::NotOwner, "NotOwner"),
         (Reason::NoLease(9), "NoLease(9)"),
         (Reason::Sticky, "Sticky"),
+        (Reason::NotInGroup, "NotInGroup"),
     ];
     assert!(rt; say(rt.alloc(), &reasons));
     assert!(rt; says(rt.alloc(), &ENTRY, "entry 1 NoLease(5)"));

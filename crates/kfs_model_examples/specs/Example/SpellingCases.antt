@@ -1,6 +1,6 @@
 -- The bytes of some of the examples' logs and plans.
 use Rattle.std.specs.Prelude.{ℕ, List, [], ◌∷◌, ◌++◌, take, drop}
-use Rattle.kfs_model.specs.Entry.{Entry, Log, Chmod}
+use Rattle.kfs_model.specs.Entry.{Entry, Log, Chmod, Regroup}
 use Rattle.kfs_model.specs.PlanRow.{Plan}
 
 -- the log that client 7 hands in, of version 1
@@ -53,6 +53,13 @@ set_mode mode = Chmod 5 mode ∷ []
 -- the same in bytes, with the two bytes of the mode
 abbrev pub set_mode_bytes : (high low : ℕ) → List ℕ
 set_mode_bytes high low = 75 ∷ 76 ∷ 79 ∷ 71 ∷ 1 ∷ 0 ∷ 0 ∷ 0 ∷ 7 ∷ 0 ∷ 1 ∷ 7 ∷ 0 ∷ 0 ∷ 0 ∷ 5 ∷ high ∷ low ∷ []
+
+-- client 7 makes 50 the group of 5
+abbrev pub set_group : List Entry
+set_group = Regroup 5 50 ∷ []
+
+abbrev pub set_group_bytes : List ℕ
+set_group_bytes = 75 ∷ 76 ∷ 79 ∷ 71 ∷ 1 ∷ 0 ∷ 0 ∷ 0 ∷ 7 ∷ 0 ∷ 1 ∷ 8 ∷ 0 ∷ 0 ∷ 0 ∷ 5 ∷ 0 ∷ 0 ∷ 0 ∷ 50 ∷ []
 
 -- no row
 abbrev pub empty_plan_bytes : List ℕ

@@ -108,6 +108,7 @@ fn reason_name(reason: Reason) -> &'static [u8]
         Reason::NotOwner => b"NotOwner",
         Reason::NoLease(_) => b"NoLease",
         Reason::Sticky => b"Sticky",
+        Reason::NotInGroup => b"NotInGroup",
     }
 }
 

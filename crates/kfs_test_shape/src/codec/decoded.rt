@@ -8,7 +8,7 @@ use kfs_entry::{
 };
 use kfs_test_support::vectors::{
     CREATE_LOG, CREATE_PLAN, EDITS_LOG, EDITS_PLAN, EMPTY_LOG, EMPTY_PLAN, GONE_PLAN, MOVE_LOG,
-    MOVE_PLAN, OTHERS_LOG,
+    MOVE_PLAN, OTHERS_LOG, REGROUP_IN_VERSION_1, REGROUP_LOG, REGROUP_PLAN,
 };
 use std::alloc::{AllocError, Global};
 use std::process::Abort;
@@ -173,6 +173,19 @@ fn logs(rt: HostRuntime) {
         &rt,
         &[CREATE_LOG, EDITS_LOG, MOVE_LOG, OTHERS_LOG, EMPTY_LOG],
     );
+}
+
+#[test]
+fn regroup_in_version_2_alone(rt: HostRuntime) {
+    let regroup = Entry::Regroup {
+        number: 5,
+        group: 50,
+    };
+    assert!(rt; is_log_of(rt.alloc(), REGROUP_LOG, 2, 7, &[regroup]));
+    assert!(rt; is_same_again(rt.alloc(), REGROUP_LOG) == Ok(true));
+    assert!(rt; is_same_again(rt.alloc(), REGROUP_PLAN) == Ok(true));
+    let fault = decode_log(rt.alloc(), REGROUP_IN_VERSION_1).err();
+    assert!(rt; fault == Some(SpellFault::BadEntry(0)));
 }
 
 /// The header of file 5 of client 7, with mode 0o644 and one name.
