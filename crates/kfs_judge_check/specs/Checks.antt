@@ -91,6 +91,10 @@ module _ {A : Type 0} (judge : EntryJudge A) where
   abbrev pub is_granted_in : ClientSight → Want → (number : ℕ) → Bool
   is_granted_in before want number = checks.is_permitted (entry_context_in judge before) (want_shown want) number
 
+  -- whether the client may take a name of the node out of the directory now
+  abbrev pub may_remove_in : ClientSight → (directory number : ℕ) → Bool
+  may_remove_in before directory number = checks.may_remove judge.client.now ((sight_in before).head directory) ((sight_in before).head number)
+
   -- the answer says whether a climb from the directory meets the node; only parents on the way were
   -- read
   abbrev pub AnswersClimb : {E : Type 0} → (old new : Recorder A) → Result Bool E → (node directory : ℕ) → Type 0

@@ -44,6 +44,10 @@ module _ {A X E : Type 0} (old new : Recorder A) (result : Result X E) where
   abbrev pub LooksAtHeader : (number : ℕ) → (X → ClientSight → Type 0) → Type 0
   LooksAtHeader number says = AnswersLook old new result (HeaderOf number ∷ []) says
 
+  -- a look at two headers
+  abbrev pub LooksAtHeaders : (first second : ℕ) → (X → ClientSight → Type 0) → Type 0
+  LooksAtHeaders first second says = AnswersLook old new result (HeaderOf first ∷ HeaderOf second ∷ []) says
+
   -- a look at one name
   abbrev pub LooksAtName : (key : ℕ × List ℕ) → (X → ClientSight → Type 0) → Type 0
   LooksAtName key says = AnswersLook old new result (NameIn key.0 key.1 ∷ []) says

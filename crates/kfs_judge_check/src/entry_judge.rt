@@ -7,10 +7,10 @@ ghost use Rattle.kfs_entry_value.specs.Views.{header_of, kind_of};
 ghost use Rattle.kfs_model.specs.Access.{is_sticky, may_header, may_set_group};
 ghost use Rattle.kfs_model.specs.Check as checks;
 ghost use Rattle.kfs_model.specs.Sight as sight;
-ghost use Rattle.kfs_model.specs.Sight.{CountOf, HeaderOf, LeaseOn, ParentOf};
+ghost use Rattle.kfs_model.specs.Sight.{CountOf, LeaseOn, ParentOf};
 ghost use Rattle.kfs_mode.specs.Mode.{want_shown};
-ghost use Rattle.kfs_judge_check.specs.Recorders.{AnswersLook, LooksAtHeader, LooksAtName};
-ghost use Rattle.kfs_judge_check.specs.Checks.{check_of, reason_of, entry_context_in, AnswersClimb, JudgesAll, JudgesCheck, IsOfHeader, IsOfRight, is_granted_in, parent_in, sight_in};
+ghost use Rattle.kfs_judge_check.specs.Recorders.{AnswersLook, LooksAtHeader, LooksAtHeaders, LooksAtName};
+ghost use Rattle.kfs_judge_check.specs.Checks.{check_of, reason_of, entry_context_in, AnswersClimb, JudgesAll, JudgesCheck, IsOfHeader, IsOfRight, is_granted_in, may_remove_in, parent_in, sight_in};
 
 use crate::check::{Check, Reason};
 use crate::reads::Recorder;
@@ -222,7 +222,7 @@ impl<A: Allocator + Copy> EntryJudge<'_, A> {
         dir: u32,
         number: u32,
     ) -> Result<bool, AllocError>
-        ensures { AnswersLook recorder.old recorder.new result (HeaderOf dir ∷ HeaderOf number ∷ []) (λ allowed before. checks.may_remove self.now.client.now ((sight_in self.now before).head dir) ((sight_in self.now before).head number) ≡ allowed) }
+        ensures { LooksAtHeaders recorder.old recorder.new result dir number (λ allowed before. may_remove_in self.now before dir number ≡ allowed) }
     {
         let directory = self.header(recorder, dir)?;
         let node = self.header(recorder, number)?;

@@ -197,7 +197,7 @@ pub mode_in_range : (version mode : ℕ) → IsMode version mode → mode ≤ 10
 mode_in_range version mode fits = at (eqb version 1) fits
   where
     at : (first : Bool) → mode ≤ cond first 511 1023 → mode ≤ 1023
-    at true below = omega (arith, below)
+    at true below = let small : mode ≤ 511 = below in omega (arith, small)
     at false below = below
 
 module _ (version : ℕ) where

@@ -103,8 +103,8 @@ outcome_of s (Lease client path kind end) places = leased s places (granted s.le
 outcome_of s (Drop client number) places = leased s places (dropped s.leases s.clients client number)
 outcome_of s (Tick moment) places = leased s places (ticked s.leases moment)
 
--- a row of the docket: a call and its answer; whether the answer says that a submission was judged again;
--- and for a Yes the places of the written blocks in tier 0, ascending by block
+-- a row of the docket: a call and its answer; whether that says that a submission was judged again; and
+-- for a Yes the places of the written blocks in tier 0, ascending by block
 pub record Row : Type 0 where
   pub call : Call
   pub answer : CallAnswer

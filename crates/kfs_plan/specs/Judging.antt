@@ -15,7 +15,7 @@ use Rattle.kfs_model.specs.Soundness.{IsSound}
 use Rattle.kfs_model.specs.Machine.{OneByOne}
 use Rattle.kfs_model.specs.Spelling.{SpellingFault, BadHeader, BadEntry, Trailing, BadRow, LogAnswer, PlanAnswer}
 use Rattle.kfs_model.specs.Judgement.{State, Submission, Fault, ClientUnknown, ClientWrong, BadLog, BadPlan, AtEntry, AtRow, Verdict, Yes, No, IsJudgement, client_sight_of}
-use Rattle.kfs_entry.specs.Answers.{SpansAreWithin, log_of, plan_of}
+use Rattle.kfs_entry.specs.Answers.{AreSpanned, SpansAreWithin, log_of, plan_of}
 use Rattle.kfs_entry_value.specs.declared.entry.Log.{Log as CodeLog}
 use Rattle.kfs_entry_value.specs.declared.plan.Plan.{Plan as CodePlan}
 use Rattle.kfs_entry.specs.declared.fault.SpellFault.{SpellFault}
@@ -82,12 +82,14 @@ submission_with client log plan = record { client = client; log = log; plan = pl
 abbrev pub submission_of : {A : Type 0} → CodeSubmission A → Submission
 submission_of submission = submission_with submission.client submission.log.items submission.plan.items
 
--- the bytes are this client's log and this plan, and the payloads' spans lie in the log's bytes
+-- the bytes are this client's log and this plan, and the payloads' spans lie in the log's bytes and are
+-- no longer than payloads may be
 pub record AreSpelled {A : Type 0} (submission : Submission) (log : CodeLog A) (plan : CodePlan A) : Type 0 where
   pub owner : log.client ≡ submission.client
   pub log_read : LogAnswer submission.log (Ok (log_of submission.log log))
   pub plan_read : PlanAnswer submission.plan (Ok (plan_of plan))
   pub within : SpansAreWithin (length submission.log) log
+  pub spanned : AreSpanned log
 
 -- ---- verdicts
 

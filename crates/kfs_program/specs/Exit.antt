@@ -15,18 +15,18 @@ status_of (Err OutOfMemory) = 4
 abbrev pub IsUntouched : (input text : List ℕ) → Type 0
 IsUntouched input text = (input ≡ []) × (text ≡ [])
 
--- the engine ended in this way, and this is its status
-pub record IsEnded (status : ℕ) (input text : List ℕ) : Type 0 where
+-- the engine ended in this way, with the reader at its end or not, and this is its status
+pub record IsEnded (at_end : Type 0) (status : ℕ) (input text : List ℕ) : Type 0 where
   pub ended : Result (Unit {0}) EngineFault
   pub status_is : status ≡ status_of ended
-  pub session : IsSession ended input text
+  pub session : IsSession at_end ended input text
 
 -- The words are refused, as they are where there are more than two, or memory for them is; then nothing
 -- was read. Or else the engine ran.
-abbrev pub IsExit : (words status : ℕ) → (input text : List ℕ) → Type 0
-IsExit words status input text =
+abbrev pub IsExit : (at_end : Type 0) → (words status : ℕ) → (input text : List ℕ) → Type 0
+IsExit at_end words status input text =
     ((status ≡ 2) × IsUntouched input text)
-    ⊎ (((status ≡ 4) × IsUntouched input text) ⊎ ((words ≤ 2) × IsEnded status input text))
+    ⊎ (((status ≡ 4) × IsUntouched input text) ⊎ ((words ≤ 2) × IsEnded at_end status input text))
 
 -- the message for a status, if there is one
 abbrev pub message_of : (status : ℕ) → Option (List ℕ)

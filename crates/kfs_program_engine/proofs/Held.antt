@@ -1,9 +1,9 @@
 -- What the workers of a session hold.
-use Rattle.std.proofs.Common.{◌≡◌, ◌≢◌, inr, ℕ, ◌++◌, List, Option, Some, None, option_map, Result, Ok, Err, refl, sym, ap, subst, ◌∙◌}
+use Rattle.std.proofs.Common.{◌≡◌, ◌≢◌, inl, inr, ℕ, ◌++◌, List, Option, Some, None, option_map, Result, Ok, Err, refl, sym, ap, subst, ◌∙◌}
 use Rattle.std.specs.Prelude.{get_or, set, codes, decimal, IfErr, OnOk}
 use Rattle.std.specs.Option.{ok_or}
 use Rattle.std.proofs.Math.ListN.{get_or-map}
-use Rattle.std.proofs.lemmas.List.{map-set, set-get_or}
+use Rattle.std.proofs.lemmas.List.{map-set, set-get_or, set-set}
 use Rattle.std.proofs.lemmas.Result.{on_ok_weaker}
 use Rattle.kfs_model.specs.Judgement.{Submission}
 use Rattle.kfs_plan.specs.Judged.{Judged}
@@ -11,12 +11,13 @@ use Rattle.kfs_lease.specs.declared.act.Act.{Act}
 use Rattle.kfs_lease.specs.declared.act.Act.TheVariants as acts
 use Rattle.kfs_desk.specs.Machine.{Desk, call_of, done_by}
 use Rattle.kfs_program_command.specs.Command as commands
+use Rattle.kfs_program_command.specs.Command.{asked_by, landing_worker}
 use Rattle.kfs_program_command.specs.Views.{act_of, asked_of_desk}
 use Rattle.kfs_program_command.specs.declared.command.DeskCommand.{DeskCommand}
 use Rattle.kfs_program_engine.specs.HeldVerdicts.{HeldVerdicts, held_by, with_held}
 use Rattle.kfs_program_engine.specs.Holding.{hands_of}
-use Rattle.kfs_program_engine.specs.Session.{After, DeskOutcome, AnswersCommand, IsCallAnswered, IsLandingAnswered, IsReplied, IsSaid, AnswersJudge, AnswersLand, LineOutcome, DeskAnswers, Stage, WithHands, opened}
-use Rattle.kfs_program_engine.specs.Views.{stage_in, start_of}
+use Rattle.kfs_program_engine.specs.Session.{After, Before, DeskOutcome, AnswersCommand, AnswersLine, IsCallAnswered, IsLandingAnswered, IsReplied, IsSaid, AnswersJudge, AnswersLand, LineOutcome, DeskAnswers, Stage, WithHands, left_without_memory, opened}
+use Rattle.kfs_program_engine.specs.Views.{IsUndone, stage_in, start_of}
 use Rattle.kfs_program_engine.specs.declared.opening.Opening.{Opening}
 use Rattle.kfs_program_engine.specs.declared.session.Stage.{Stage as CodeStage}
 use Rattle.kfs_program_engine.specs.declared.session.Stage.TheVariants as stages
@@ -73,14 +74,14 @@ taken_as fault (Some other) judged hand is shown =
     let same : other ≡ judged = cc in
     sym shown ∙ ap (λ it. Some (verdict_of it)) same
 
+-- where memory is refused, the verdict is gone
+pub landing_undone : {T E : Type 0} (result : Result T E) (desk next : Desk) (old new : HeldVerdicts) (worker : ℕ) (fault other : E) → new ≡ with_held old worker None → IfErr result (λ why. (why ≡ fault) × (next ≡ desk)) → result ≡ Err other
+    → After next new ≡ left_without_memory (Some worker) (After desk old)
+landing_undone result desk next old new worker fault other left undone out = ap (λ d. After d new) (undone_same result fault other next desk undone out) ∙ ap (After desk) left
+
 module _ {A T E : Type 0} (result : Result T E) (desk : Desk) (old new : HeldVerdicts) (worker : ℕ) (judged : Judged A) (is : held_by old worker ≡ Some (verdict_of judged)) (left : new ≡ with_held old worker None) where
   pub landed_as : (before after : List ℕ) (next : Desk) → OnOk result (IsReplied (IsLandingAnswered desk (verdict_of judged)) before after next) → OnOk result (IsReplied (DeskAnswers desk old (commands.Land worker)) before after (After next new))
   landed_as before after next = on_ok_weaker result (λ said. (said.0, said.1, landed desk old new worker (verdict_of judged) is left (said.0, next) said.2))
-
-  pub landing_undone : (fault other : E) (next : Desk) → IfErr result (λ why. (why ≡ fault) × (next ≡ desk)) → result ≡ Err other → DeskAnswers desk old (commands.Land worker) (line_of (codes "memory"), After next new)
-  landing_undone fault other next undone out =
-      let text = line_of (codes "memory") in
-      landed desk old new worker (verdict_of judged) is left (text, next) (inr (inr (ap (λ d. (text, d)) (undone_same result fault other next desk undone out))))
 
 -- ---- what the desk answers, where the workers hold what they held
 
@@ -101,6 +102,22 @@ said_with_hands hands text before after desk is = (line_of text, is, ((line_of t
 -- of this command, which the line's is
 pub replied_as : {A : Type 0} (desk : Desk) (hands : HeldVerdicts) (command known : DeskCommand A) (before after : List ℕ) (stage : Stage) → command ≡ known → IsReplied (DeskAnswers desk hands (asked_of_desk known)) before after stage → IsReplied (DeskAnswers desk hands (asked_of_desk command)) before after stage
 replied_as desk hands command known before after stage is = subst (λ it. IsReplied (DeskAnswers desk hands (asked_of_desk it)) before after stage) (sym is)
+
+-- ---- what is given up where memory is refused
+
+given_up_once : (landing : Option ℕ) (s : Stage) → left_without_memory landing (left_without_memory landing s) ≡ left_without_memory landing s
+given_up_once None s = refl
+given_up_once (Some worker) (Before start) = refl
+given_up_once (Some worker) (After desk hands) = ap (After desk) (set-set hands worker None None)
+
+-- given up at last, if it wasn't before
+given_up_last : (asked : Option commands.Command) (before mid last : Stage) → IsUndone asked before mid → last ≡ left_without_memory (landing_worker asked) mid → last ≡ left_without_memory (landing_worker asked) before
+given_up_last asked before mid last (inl same) is = is ∙ ap (left_without_memory (landing_worker asked)) same
+given_up_last asked before mid last (inr gone) is = is ∙ ap (left_without_memory (landing_worker asked)) gone ∙ given_up_once (landing_worker asked) before
+
+-- so the line is answered, as one for which memory is refused
+pub without_memory : (before mid last : Stage) (line : List ℕ) → IsUndone (asked_by line) before mid → last ≡ left_without_memory (landing_worker (asked_by line)) mid → AnswersLine before line (line_of (codes "memory"), last)
+without_memory before mid last line undone is = inr (inr (ap (λ s. (line_of (codes "memory"), s)) (given_up_last (asked_by line) before mid last undone is)))
 
 -- ---- before the beginning
 

@@ -1,7 +1,8 @@
 -- How a conversation goes on.
-use Rattle.std.proofs.Common.{◌≡◌, ◌≢◌, ℕ, List, [], ◌∷◌, ◌++◌, refl, sym, ap, ◌∙◌, append_assoc, append-nil, subst, Result, Ok, Err, IfErr, MatchResult, arith}
+use Rattle.std.proofs.Common.{◌≡◌, ◌≢◌, ℕ, List, [], ◌∷◌, ◌++◌, refl, sym, ap, ◌∙◌, append_assoc, append-nil, subst, inl, inr, Result, Ok, Err, IfErr, MatchResult, arith}
+use Rattle.std.specs.Prelude.{OnOk}
 use Rattle.std.specs.List.{AllByRecursion}
-use Rattle.kfs_program_engine.specs.Transcript.{IsSession, LineIsShort, IsText}
+use Rattle.kfs_program_engine.specs.Transcript.{AreFirstLines, IsSession, LineIsShort, IsText}
 use Rattle.kfs_program_text.specs.Cut.{cut, line_end, lines_in, lines_of}
 use Rattle.kfs_program_engine.specs.Progress.{IsStopped, IsTaken, HasAnswered}
 use Rattle.kfs_program_engine.specs.Session.{AnswersLine, AnswersLines, Stage, fresh}
@@ -88,51 +89,50 @@ lines_in-line : (line : List ℕ) → line ≢ [] → lines_in (line ∷ []) ≡
 lines_in-line [] some = absurd (some refl)
 lines_in-line (byte ∷ bytes) some = refl
 
--- a line before other parts, or one that isn't empty
-HasLine : (line : List ℕ) (later : List (List ℕ)) → Type 0
-HasLine line [] = line ≢ []
-HasLine line (part ∷ parts) = Unit {0}
+-- a line with its end, before other parts; or one that isn't empty, at the reader's end
+CountsAsLine : (at_end : Type 0) (line : List ℕ) (later : List (List ℕ)) → Type 0
+CountsAsLine at_end line [] = at_end × (line ≢ [])
+CountsAsLine at_end line (part ∷ parts) = Unit {0}
 
-first_lines : (lines : List (List ℕ)) (line : List ℕ) (later : List (List ℕ)) → HasLine line later → lines_in (lines ++ line ∷ later) ≡ (lines ++ line ∷ []) ++ lines_in later
-unfolding HasLine
-first_lines lines line [] some = lines_in-front lines line [] ∙ ap (λ rest. lines ++ rest) (lines_in-line line some) ∙ sym (append-nil (lines ++ line ∷ []))
-first_lines lines line (part ∷ parts) some = lines_in-front lines line (part ∷ parts) ∙ sym (append_assoc lines (line ∷ []) (lines_in (part ∷ parts)))
+first_lines : (at_end : Type 0) (input : List ℕ) (lines : List (List ℕ)) (line : List ℕ) (later : List (List ℕ)) → cut line_end input ≡ lines ++ line ∷ later → CountsAsLine at_end line later → AreFirstLines at_end input (lines ++ line ∷ [])
+unfolding CountsAsLine
+first_lines at_end input lines line [] parts counts = inr (counts.0, sym (ap lines_in parts ∙ lines_in-front lines line [] ∙ ap (λ rest. lines ++ rest) (lines_in-line line counts.1)))
+first_lines at_end input lines line (part ∷ later) parts counts = inl (part, later, parts ∙ sym (append_assoc lines (line ∷ []) (part ∷ later)))
 
 -- the session ends at a line
-HasAnswered-stopped : (T : Type 0) (fault : EngineFault) (s : Stage) (held rest line input text more : List ℕ) (later : List (List ℕ)) → cut line_end (held ++ rest) ≡ line ∷ later
-    → (fault ≡ WriteFault → HasLine line later) → IsStopped fault s line more → HasAnswered s held rest input text → IsSession {T = T} (Err fault) input (text ++ more)
-HasAnswered-stopped T ReadFault s held rest line input text more later parts some stop h = absurd stop
-HasAnswered-stopped T WriteFault s held rest line input text more later parts some stop h = record {
+HasAnswered-stopped : (T at_end : Type 0) (fault : EngineFault) (s : Stage) (held rest line input text more : List ℕ) (later : List (List ℕ)) → cut line_end (held ++ rest) ≡ line ∷ later
+    → (fault ≡ WriteFault → CountsAsLine at_end line later) → IsStopped fault s line more → HasAnswered s held rest input text → IsSession {T = T} at_end (Err fault) input (text ++ more)
+HasAnswered-stopped T at_end ReadFault s held rest line input text more later parts some stop h = absurd stop
+HasAnswered-stopped T at_end WriteFault s held rest line input text more later parts some stop h = record {
   lines = h.lines ++ line ∷ [];
-  later = lines_in later;
   unwritten = stop.0;
-  first = ap lines_in (h.parts ∙ ap (λ parts. h.lines ++ parts) parts) ∙ first_lines h.lines line later (some refl);
+  first = first_lines at_end input h.lines line later (h.parts ∙ ap (λ parts. h.lines ++ parts) parts) (some refl);
   answered = (stop.1, rw (append_assoc text more stop.0) (AnswersLines-more fresh h.lines text s line (more ++ stop.0) stop.1 h.answered stop.2), short-more h.lines line h.short stop.3);
 }
-HasAnswered-stopped T LongLine s held rest line input text more later parts some stop h =
+HasAnswered-stopped T at_end LongLine s held rest line input text more later parts some stop h =
     (line, later, stop.0, record { lines = h.lines; parts = h.parts ∙ ap (λ parts. h.lines ++ parts) parts; answered = (s, rw (stop.1, append-nil text) h.answered, h.short) })
-HasAnswered-stopped T OutOfMemory s held rest line input text more later parts some stop h =
+HasAnswered-stopped T at_end OutOfMemory s held rest line input text more later parts some stop h =
     (line, later, record { lines = h.lines; parts = h.parts ∙ ap (λ parts. h.lines ++ parts) parts; answered = (s, rw (stop, append-nil text) h.answered, h.short) })
 
--- the session ends at the first line of the rest
+-- the session ends at the first line of the rest, which has its end
 pub HasAnswered-stopped_line : (T : Type 0) (fault : EngineFault) (s : Stage) (held rest front back input text more last : List ℕ) → cut line_end rest ≡ front ∷ cut line_end back
-    → IsStopped fault s (held ++ front) last → HasAnswered s held rest input (text ++ more) → IsSession {T = T} (Err fault) input (text ++ (more ++ last))
-unfolding HasLine
+    → IsStopped fault s (held ++ front) last → HasAnswered s held rest input (text ++ more) → IsSession {T = T} ⊥ (Err fault) input (text ++ (more ++ last))
+unfolding CountsAsLine
 HasAnswered-stopped_line T fault s held rest front back input text more last first stop h =
-    let P : List ℕ → Type 0 = λ t. IsSession {T = T} (Err fault) input t in
+    let P : List ℕ → Type 0 = λ t. IsSession {T = T} ⊥ (Err fault) input t in
     let joined = cut-joined line_end held rest front (cut line_end back) h.endless first in
-    subst P (append_assoc text more last) (HasAnswered-stopped T fault s held rest (held ++ front) input (text ++ more) last (cut line_end back) joined (λ _. before (cut line_end back) (cut-some line_end back)) stop h)
+    subst P (append_assoc text more last) (HasAnswered-stopped T ⊥ fault s held rest (held ++ front) input (text ++ more) last (cut line_end back) joined (λ _. before (cut line_end back) (cut-some line_end back)) stop h)
   where
-    before : (parts : List (List ℕ)) → parts ≢ [] → HasLine (held ++ front) parts
+    before : (parts : List (List ℕ)) → parts ≢ [] → CountsAsLine ⊥ (held ++ front) parts
     before [] some = absurd (some refl)
     before (part ∷ parts) some = tt
 
--- the session ends at the line that is held
+-- the session ends at the line that is held, at the reader's end
 pub HasAnswered-stopped_last : (T : Type 0) (fault : EngineFault) (s : Stage) (held input text more : List ℕ) → held ≢ [] → IsStopped fault s held more → HasAnswered s held [] input text
-    → IsSession {T = T} (Err fault) input (text ++ more)
-unfolding HasLine
+    → IsSession {T = T} (Unit {0}) (Err fault) input (text ++ more)
+unfolding CountsAsLine
 HasAnswered-stopped_last T fault s held input text more some stop h =
-    HasAnswered-stopped T fault s held [] held input text more [] (rw (append-nil held) h.endless) (λ _. some) stop h
+    HasAnswered-stopped T (Unit {0}) fault s held [] held input text more [] (rw (append-nil held) h.endless) (λ _. (tt, some)) stop h
 
 -- the rest without a line's end is kept, or the session ends at it
 pub HasAnswered-rest : {A T : Type 0} (ended : Result T EngineFault) (session_loop : SessionLoop A) (s : Stage) (held rest input text : List ℕ) → stage_of session_loop.session ≡ s
@@ -141,26 +141,26 @@ pub HasAnswered-rest : {A T : Type 0} (ended : Result T EngineFault) (session_lo
 HasAnswered-rest (Ok done) session_loop s held rest input text stage none kept h =
     HasAnswered-same s _ (held ++ rest) _ [] input text stage kept.0 (HasAnswered-kept s held rest input text none kept.1 h)
 HasAnswered-rest {T} (Err fault) session_loop s held rest input text stage none stop h =
-    let P : List ℕ → Type 0 = λ t. IsSession {T = T} (Err fault) input t in
-    subst P (append-nil text) (HasAnswered-stopped T fault s held rest (held ++ rest) input text [] [] (cut-joined line_end held rest rest [] h.endless none) (λ is. absurd (stop.1 is)) stop.0 h)
+    let P : List ℕ → Type 0 = λ t. IsSession {T = T} ⊥ (Err fault) input t in
+    subst P (append-nil text) (HasAnswered-stopped T ⊥ fault s held rest (held ++ rest) input text [] [] (cut-joined line_end held rest rest [] h.endless none) (λ is. absurd (stop.1 is)) stop.0 h)
 
 -- the reader fails
-pub HasAnswered-unread : (T : Type 0) (fault : EngineFault) (s : Stage) (held input text : List ℕ) → fault ≡ ReadFault → HasAnswered s held [] input text → IsSession {T = T} (Err fault) input text
+pub HasAnswered-unread : (T : Type 0) (fault : EngineFault) (s : Stage) (held input text : List ℕ) → fault ≡ ReadFault → HasAnswered s held [] input text → IsSession {T = T} ⊥ (Err fault) input text
 HasAnswered-unread T fault s held input text is h =
-    let P : EngineFault → Type 0 = λ f. IsSession {T = T} (Err f) input text in
+    let P : EngineFault → Type 0 = λ f. IsSession {T = T} ⊥ (Err f) input text in
     let parts : cut line_end input ≡ h.lines ++ held ∷ [] = rw (append-nil held, h.endless) at h.parts in
     subst P (sym is) (held, record { lines = h.lines; parts = parts; answered = (s, h.answered, h.short) })
 
 -- the writer fails behind all that was answered
-HasAnswered-unflushed : (T : Type 0) (fault : EngineFault) (s : Stage) (lines later : List (List ℕ)) (input text : List ℕ) → fault ≡ WriteFault → lines_of input ≡ lines ++ later
-    → AnswersLines fresh lines text s → AllByRecursion LineIsShort lines → IsSession {T = T} (Err fault) input text
-HasAnswered-unflushed T fault s lines later input text is parts run short =
-    let P : EngineFault → Type 0 = λ f. IsSession {T = T} (Err f) input text in
-    subst P (sym is) (record { lines = lines; later = later; unwritten = []; first = parts; answered = (s, rw (append-nil text) run, short) })
+HasAnswered-unflushed : (T at_end : Type 0) (fault : EngineFault) (s : Stage) (lines : List (List ℕ)) (input text : List ℕ) → fault ≡ WriteFault → AreFirstLines at_end input lines
+    → AnswersLines fresh lines text s → AllByRecursion LineIsShort lines → IsSession {T = T} at_end (Err fault) input text
+HasAnswered-unflushed T at_end fault s lines input text is first run short =
+    let P : EngineFault → Type 0 = λ f. IsSession {T = T} at_end (Err f) input text in
+    subst P (sym is) (record { lines = lines; unwritten = []; first = first; answered = (s, rw (append-nil text) run, short) })
 
 -- the input ends at a line's end
 pub HasAnswered-ended : {T : Type 0} (ended : Result T EngineFault) (s : Stage) (held input text : List ℕ) → held ≡ [] → IfErr ended (λ fault. fault ≡ WriteFault)
-    → HasAnswered s held [] input text → IsSession ended input (text ++ [])
+    → HasAnswered s held [] input text → IsSession (Unit {0}) ended input (text ++ [])
 HasAnswered-ended ended s held input text none flushed h = by ended flushed
   where
     parts : cut line_end input ≡ h.lines ++ [] ∷ []
@@ -169,13 +169,13 @@ HasAnswered-ended ended s held input text none flushed h = by ended flushed
     lines : lines_of input ≡ h.lines
     lines = ap lines_in parts ∙ lines_in-front h.lines [] [] ∙ append-nil h.lines
 
-    by : {T : Type 0} (ended : Result T EngineFault) → IfErr ended (λ fault. fault ≡ WriteFault) → IsSession ended input (text ++ [])
+    by : {T : Type 0} (ended : Result T EngineFault) → IfErr ended (λ fault. fault ≡ WriteFault) → IsSession (Unit {0}) ended input (text ++ [])
     by (Ok done) flushed = (s, rw (lines, append-nil text) h.answered, rw lines h.short)
-    by {T} (Err fault) flushed = HasAnswered-unflushed T fault s h.lines [] input (text ++ []) flushed (lines ∙ sym (append-nil h.lines)) (rw (append-nil text) h.answered) h.short
+    by {T} (Err fault) flushed = HasAnswered-unflushed T (Unit {0}) fault s h.lines input (text ++ []) flushed (inl ([], [], parts)) (rw (append-nil text) h.answered) h.short
 
 -- the last line lacks its end
 pub HasAnswered-last : {T : Type 0} (ended : Result T EngineFault) (s next : Stage) (held input text reply : List ℕ) → held ≢ [] → AnswersLine s held (reply, next) × LineIsShort held
-    → IfErr ended (λ fault. fault ≡ WriteFault) → HasAnswered s held [] input text → IsSession ended input (text ++ reply)
+    → IfErr ended (λ fault. fault ≡ WriteFault) → HasAnswered s held [] input text → IsSession (Unit {0}) ended input (text ++ reply)
 HasAnswered-last ended s next held input text reply some answer flushed h = by ended flushed
   where
     lines : lines_of input ≡ h.lines ++ held ∷ []
@@ -187,31 +187,40 @@ HasAnswered-last ended s next held input text reply some answer flushed h = by e
     short : AllByRecursion LineIsShort (h.lines ++ held ∷ [])
     short = short-more h.lines held h.short answer.1
 
-    by : {T : Type 0} (ended : Result T EngineFault) → IfErr ended (λ fault. fault ≡ WriteFault) → IsSession ended input (text ++ reply)
+    by : {T : Type 0} (ended : Result T EngineFault) → IfErr ended (λ fault. fault ≡ WriteFault) → IsSession (Unit {0}) ended input (text ++ reply)
     by (Ok done) flushed = (next, rw lines run, rw lines short)
-    by {T} (Err fault) flushed = HasAnswered-unflushed T fault next (h.lines ++ held ∷ []) [] input (text ++ reply) flushed (lines ∙ sym (append-nil (h.lines ++ held ∷ []))) run short
+    by {T} (Err fault) flushed = HasAnswered-unflushed T (Unit {0}) fault next (h.lines ++ held ∷ []) input (text ++ reply) flushed (inr (tt, sym lines)) run short
 
 -- there is no memory to read anything
-pub nothing-read : (T : Type 0) (fault : EngineFault) → fault ≡ OutOfMemory → IsSession {T = T} (Err fault) [] []
+pub nothing-read : (T at_end : Type 0) (fault : EngineFault) → fault ≡ OutOfMemory → IsSession {T = T} at_end (Err fault) [] []
 unfolding cut
-nothing-read T fault is =
-    let P : EngineFault → Type 0 = λ f. IsSession {T = T} (Err f) [] [] in
+nothing-read T at_end fault is =
+    let P : EngineFault → Type 0 = λ f. IsSession {T = T} at_end (Err f) [] [] in
     subst P (sym is) ([], [], record { lines = []; parts = refl; answered = (fresh, (refl, refl), tt) })
 
 -- the writer fails behind all lines that were answered, before the bytes that are held
-pub HasAnswered-unsent : (T : Type 0) (s : Stage) (held input text : List ℕ) → HasAnswered s held [] input text → IsSession {T = T} (Err WriteFault) input text
-HasAnswered-unsent T s held input text h =
+pub HasAnswered-unsent : (T at_end : Type 0) (s : Stage) (held input text : List ℕ) → HasAnswered s held [] input text → IsSession {T = T} at_end (Err WriteFault) input text
+HasAnswered-unsent T at_end s held input text h =
     let parts : cut line_end input ≡ h.lines ++ held ∷ [] = rw (append-nil held, h.endless) at h.parts in
-    HasAnswered-unflushed T WriteFault s h.lines (lines_in (held ∷ [])) input text refl (ap lines_in parts ∙ lines_in-front h.lines held []) h.answered h.short
+    HasAnswered-unflushed T at_end WriteFault s h.lines input text refl (inl (held, [], parts)) h.answered h.short
 
 -- of a session's text a first part is written, where the writer fails
-pub first_written : {T : Type 0} (U : Type 0) (ended : Result T EngineFault) (input text rest : List ℕ) → IsSession ended input (text ++ rest) → IsSession {T = U} (Err WriteFault) input text
-first_written U (Ok done) input text rest is = record { lines = lines_of input; later = []; unwritten = rest; first = sym (append-nil (lines_of input)); answered = is }
-first_written U (Err ReadFault) input text rest (next, is) =
-    record { lines = is.lines; later = lines_in (next ∷ []); unwritten = rest; first = ap lines_in is.parts ∙ lines_in-front is.lines next []; answered = is.answered }
-first_written U (Err WriteFault) input text rest is =
-    record { lines = is.lines; later = is.later; unwritten = rest ++ is.unwritten; first = is.first; answered = subst (IsText is.lines) (append_assoc text rest is.unwritten) is.answered }
-first_written U (Err LongLine) input text rest (long, later, over, is) =
-    record { lines = is.lines; later = lines_in (long ∷ later); unwritten = rest; first = ap lines_in is.parts ∙ lines_in-front is.lines long later; answered = is.answered }
-first_written U (Err OutOfMemory) input text rest (next, later, is) =
-    record { lines = is.lines; later = lines_in (next ∷ later); unwritten = rest; first = ap lines_in is.parts ∙ lines_in-front is.lines next later; answered = is.answered }
+pub first_written : {T : Type 0} (U at_end : Type 0) (ended : Result T EngineFault) (input text rest : List ℕ) → OnOk ended at_end → IsSession at_end ended input (text ++ rest) → IsSession {T = U} at_end (Err WriteFault) input text
+first_written U at_end (Ok done) input text rest at is = record { lines = lines_of input; unwritten = rest; first = inr (at, refl); answered = is }
+first_written U at_end (Err ReadFault) input text rest at (next, is) = record { lines = is.lines; unwritten = rest; first = inl (next, [], is.parts); answered = is.answered }
+first_written U at_end (Err WriteFault) input text rest at is =
+    record { lines = is.lines; unwritten = rest ++ is.unwritten; first = is.first; answered = subst (IsText is.lines) (append_assoc text rest is.unwritten) is.answered }
+first_written U at_end (Err LongLine) input text rest at (long, later, over, is) = record { lines = is.lines; unwritten = rest; first = inl (long, later, is.parts); answered = is.answered }
+first_written U at_end (Err OutOfMemory) input text rest at (next, later, is) = record { lines = is.lines; unwritten = rest; first = inl (next, later, is.parts); answered = is.answered }
+
+first_at : (one other : Type 0) (input : List ℕ) (lines : List (List ℕ)) → (one → other) → AreFirstLines one input lines → AreFirstLines other input lines
+first_at one other input lines follows (inl whole) = inl whole
+first_at one other input lines follows (inr (at, all)) = inr (follows at, all)
+
+-- a session is one, too, where more is known of the reader
+pub session_at : {T : Type 0} (one other : Type 0) (ended : Result T EngineFault) (input text : List ℕ) → (one → other) → IsSession one ended input text → IsSession other ended input text
+session_at one other (Ok done) input text follows is = is
+session_at one other (Err ReadFault) input text follows is = is
+session_at one other (Err WriteFault) input text follows is = record { lines = is.lines; unwritten = is.unwritten; first = first_at one other input is.lines follows is.first; answered = is.answered }
+session_at one other (Err LongLine) input text follows is = is
+session_at one other (Err OutOfMemory) input text follows is = is

@@ -1,5 +1,5 @@
 -- The desk of the worked sessions: a new image with three tiers of eight blocks, and client 7.
-use Rattle.std.specs.Prelude.{ℕ, List, [], ◌∷◌, codes, None, Some}
+use Rattle.std.specs.Prelude.{ℕ, false, List, [], ◌∷◌, codes, None, Some}
 use Rattle.kfs_model.specs.Access.{Client}
 use Rattle.kfs_model_examples.specs.Example.{client_7}
 use Rattle.kfs_model.specs.Lease.{WriteLease}
@@ -30,7 +30,7 @@ desk_of_7 = desk_with (client_7 ∷ []) 100
 
 -- the row of a grant: client 7 gets a write lease on the root, up to moment 100
 abbrev pub root_row : Row
-root_row = record { call = Lease 7 (codes "/") WriteLease 100; answer = Done 1; places = [] }
+root_row = record { call = Lease 7 (codes "/") WriteLease 100; answer = Done 1; rejudged = false; places = [] }
 
 -- the desk after that row
 abbrev pub root_leased : Desk

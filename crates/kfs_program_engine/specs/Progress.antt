@@ -39,18 +39,18 @@ module _ {A : Type 0} where
   abbrev pub HasAnsweredSoFar : SessionLoop A → (rest input text : List ℕ) → Type 0
   HasAnsweredSoFar session_loop rest input text = HasAnswered (stage_of session_loop.session) session_loop.line.items rest input text
 
-  -- all input is looked at, or the session has ended
+  -- all input is looked at, or the session has ended, which may be before the reader's end
   abbrev pub IsTaken : {T : Type 0} → Result T EngineFault → SessionLoop A → (input text : List ℕ) → Type 0
   IsTaken (Ok done) session_loop input text = HasAnsweredSoFar session_loop [] input text
-  IsTaken {T} (Err fault) session_loop input text = IsSession {T = T} (Err fault) input text
+  IsTaken {T} (Err fault) session_loop input text = IsSession {T = T} ⊥ (Err fault) input text
 
   -- wherever the loop was before these bytes, they are all looked at, or the session has ended
   abbrev pub Takes : {T : Type 0} → SessionLoop A → (bytes : List ℕ) → Result T EngineFault → SessionLoop A → (more : List ℕ) → Type 0
   Takes before bytes result after more = (input text : List ℕ) → HasAnsweredSoFar before bytes input text → IsTaken result after input (text ++ more)
 
-  -- wherever the loop was, the session has ended
+  -- wherever the loop was, the session has ended, and the reader has come to its end
   abbrev pub Ends : {T : Type 0} → SessionLoop A → Result T EngineFault → (more : List ℕ) → Type 0
-  Ends before result more = (input text : List ℕ) → HasAnsweredSoFar before [] input text → IsSession result input (text ++ more)
+  Ends before result more = (input text : List ℕ) → HasAnsweredSoFar before [] input text → IsSession (Unit {0}) result input (text ++ more)
 
   -- the line is answered with this text, or stopped at
   abbrev pub IsLineAnswered : {T : Type 0} → Result T EngineFault → SessionLoop A → (line : List ℕ) → SessionLoop A → (text : List ℕ) → Type 0

@@ -1,5 +1,5 @@
 -- A session: the reply to each line, and the state that the line leaves.
-use Rattle.std.specs.Prelude.{◌≡◌, ◌≢◌, ◌⊎◌, ◌↔◌, ℕ, Bool, List, [], ◌∷◌, ◌++◌, length, codes, decimal, false, IsFalse, Option, Some, None, Result, Ok, Err, if◌then◌else◌}
+use Rattle.std.specs.Prelude.{◌≡◌, ◌≢◌, ◌⊎◌, ℕ, List, [], ◌∷◌, ◌++◌, length, codes, decimal, false, Option, Some, None, Result, Ok, Err, if◌then◌else◌}
 use Rattle.kfs_model.specs.Access.{Client}
 use Rattle.kfs_model.specs.Table.{get}
 use Rattle.kfs_model.specs.Tree.{headers}
@@ -19,10 +19,10 @@ use Rattle.kfs_plan.specs.declared.answers.BeginFault.{BeginFault}
 use Rattle.kfs_plan.specs.declared.answers.Done.{Done}
 use Rattle.kfs_plan.specs.declared.answers.Done.TheVariants.{Leased, Dropped, Ticked}
 use Rattle.kfs_plan.specs.declared.answers.Reply.{Reply}
-use Rattle.kfs_program_command.specs.Command.{Command, Setup, Request, OpeningCommand, New, Row, Begin, DeskCommand, Lease, Drop, Tick, Submit, Node, Listing, Bytes, DocketLength, Judge, Land, asked_by}
+use Rattle.kfs_program_command.specs.Command.{Command, Setup, Request, OpeningCommand, New, Row, Begin, DeskCommand, Lease, Drop, Tick, Submit, Node, Listing, Bytes, DocketLength, Judge, Land, asked_by, landing_worker}
 use Rattle.kfs_program_engine.specs.Bytes.{read_text}
 use Rattle.kfs_program_engine.specs.HeldVerdicts.{HeldVerdicts, held_by, no_verdict, with_held}
-use Rattle.kfs_workers.specs.Verdict.{IsUpToDate, IsVerdictOn, HeldVerdict}
+use Rattle.kfs_workers.specs.Verdict.{IsVerdictOn, HeldVerdict, LandsVerdict}
 use Rattle.kfs_program_engine.specs.Listing.{list_text}
 use Rattle.kfs_report.specs.Text.{act_text, begin_text, client_text, node_text, reply_text}
 use Rattle.kfs_program_text.specs.Parts.{line_of}
@@ -97,15 +97,15 @@ abbrev pub IsCallAnswered : Desk → machine.Call → (ℕ → Done) → DeskOut
 IsCallAnswered desk call words outcome = IsFull desk outcome ⊎ IsCalled desk call words outcome
 
 -- the submission is answered by the desk, and the reply is its line
-pub record IsSubmitted (desk : Desk) (submission : Submission) (again : Bool) (outcome : DeskOutcome) : Type 0 where
+pub record IsSubmitted (desk : Desk) (submission : Submission) (outcome : DeskOutcome) : Type 0 where
   pub answer : Reply
   pub next : Desk
   pub below : length desk.docket ≢ desk.limit
-  pub answered : IsAnswered desk submission again answer next
+  pub answered : IsAnswered desk submission false answer next
   pub is : outcome ≡ (line_of (reply_text answer), next)
 
 abbrev pub IsSubmissionAnswered : Desk → Submission → DeskOutcome → Type 0
-IsSubmissionAnswered desk submission outcome = IsFull desk outcome ⊎ IsSubmitted desk submission false outcome
+IsSubmissionAnswered desk submission outcome = IsFull desk outcome ⊎ IsSubmitted desk submission outcome
 
 -- ---- what is looked up
 
@@ -142,15 +142,16 @@ AnswersJudge desk hands worker (Some verdict) submission outcome = IsSaid (codes
 AnswersJudge desk hands worker None submission outcome =
     (verdict : HeldVerdict) × IsVerdictOn desk.state submission verdict × IsSaid (codes "judged " ++ decimal worker) (After desk (with_held hands worker (Some verdict))) outcome
 
--- the verdict's submission is answered; it is judged again exactly where the verdict isn't up to date
+-- the verdict is landed, and the reply is its line
 pub record IsLanded (desk : Desk) (verdict : HeldVerdict) (outcome : DeskOutcome) : Type 0 where
-  pub again : Bool
-  pub why : IsFalse again ↔ IsUpToDate desk.state verdict
-  pub submitted : IsSubmitted desk verdict.submission again outcome
+  pub answer : Reply
+  pub next : Desk
+  pub landed : LandsVerdict desk verdict answer next
+  pub is : outcome ≡ (line_of (reply_text answer), next)
 
--- the verdict is landed, or the docket is full, or memory is refused, which leaves the desk as it was
+-- the verdict is landed, or the docket is full
 abbrev pub IsLandingAnswered : Desk → HeldVerdict → DeskOutcome → Type 0
-IsLandingAnswered desk verdict outcome = IsFull desk outcome ⊎ (IsLanded desk verdict outcome ⊎ IsSaid (codes "memory") desk outcome)
+IsLandingAnswered desk verdict outcome = IsFull desk outcome ⊎ IsLanded desk verdict outcome
 
 -- whatever becomes of the worker's verdict, the worker holds none afterwards; for a worker who holds
 -- none it is a bad line
@@ -185,12 +186,19 @@ abbrev pub Obeys : Stage → Option Command → LineOutcome → Type 0
 Obeys s None outcome = ⊥
 Obeys s (Some command) outcome = AnswersCommand s command outcome
 
+-- what a line leaves for which memory is refused: the stage as it was, but that a worker whose verdict
+-- was to be landed holds none
+abbrev pub left_without_memory : (landing : Option ℕ) → Stage → Stage
+left_without_memory None s = s
+left_without_memory (Some worker) (Before start) = Before start
+left_without_memory (Some worker) (After desk hands) = After desk (with_held hands worker None)
+
 -- the outcome of a line: it is no command, or its command is carried out, or memory is refused, which
--- may be so at any line and leaves the stage as it was
+-- may be so at any line
 abbrev pub AnswersLine : Stage → (line : List ℕ) → LineOutcome → Type 0
 AnswersLine s line outcome =
     ((asked_by line ≡ None) × IsSaid (codes "bad line") s outcome)
-    ⊎ (Obeys s (asked_by line) outcome ⊎ IsSaid (codes "memory") s outcome)
+    ⊎ (Obeys s (asked_by line) outcome ⊎ IsSaid (codes "memory") (left_without_memory (landing_worker (asked_by line)) s) outcome)
 
 -- the lines one after another are answered with this text, and leave this stage
 abbrev pub AnswersLines : Stage → (lines : List (List ℕ)) → (text : List ℕ) → Stage → Type 0

@@ -1,5 +1,5 @@
 -- What the engine writes, given what it reads.
-use Rattle.std.specs.Prelude.{◌≡◌, ◌<◌, ◌≤◌, ℕ, List, [], ◌∷◌, ◌++◌, length, Result, Ok, Err}
+use Rattle.std.specs.Prelude.{◌≡◌, ◌⊎◌, ◌<◌, ◌≤◌, ℕ, List, [], ◌∷◌, ◌++◌, length, Result, Ok, Err}
 use Rattle.std.specs.List.{AllByRecursion}
 use Rattle.kfs_program_text.specs.Cut.{cut, line_end, lines_of}
 use Rattle.kfs_program_engine.specs.Session.{Stage, AnswersLines, fresh}
@@ -27,19 +27,23 @@ pub record StopsBefore (next : List ℕ) (later : List (List ℕ)) (input text :
   pub parts : IsCut input lines (next ∷ later)
   pub answered : IsText lines text
 
--- The text is a first part of the answers to some first lines of the input. Bytes behind the last
--- line's end count as a line only where there are any.
-pub record BreaksOff (input text : List ℕ) : Type 0 where
+-- these are first lines of the input, each with its end; or all of its lines, where the reader has come
+-- to its end: then the last one may lack its own
+abbrev pub AreFirstLines : (at_end : Type 0) → (input : List ℕ) → (lines : List (List ℕ)) → Type 0
+AreFirstLines at_end input lines = ((next : List ℕ) × (later : List (List ℕ)) × IsCut input lines (next ∷ later)) ⊎ (at_end × (lines ≡ lines_of input))
+
+-- the text is a first part of the answers to such lines
+pub record BreaksOff (at_end : Type 0) (input text : List ℕ) : Type 0 where
   pub lines : List (List ℕ)
-  pub later : List (List ℕ)
   pub unwritten : List ℕ
-  pub first : lines_of input ≡ lines ++ later
+  pub first : AreFirstLines at_end input lines
   pub answered : IsText lines (text ++ unwritten)
 
--- the text that was written for what was read, by how the engine ended
-abbrev pub IsSession : {T : Type 0} → Result T EngineFault → (input text : List ℕ) → Type 0
-IsSession (Ok done) input text = IsText (lines_of input) text
-IsSession (Err ReadFault) input text = (rest : List ℕ) × StopsBefore rest [] input text
-IsSession (Err WriteFault) input text = BreaksOff input text
-IsSession (Err LongLine) input text = (long : List ℕ) × (later : List (List ℕ)) × (longest_line < length long) × StopsBefore long later input text
-IsSession (Err OutOfMemory) input text = (next : List ℕ) × (later : List (List ℕ)) × StopsBefore next later input text
+-- the text that was written for what was read, by how the engine ended, and whether the reader had come
+-- to its end
+abbrev pub IsSession : {T : Type 0} → (at_end : Type 0) → Result T EngineFault → (input text : List ℕ) → Type 0
+IsSession at_end (Ok done) input text = IsText (lines_of input) text
+IsSession at_end (Err ReadFault) input text = (rest : List ℕ) × StopsBefore rest [] input text
+IsSession at_end (Err WriteFault) input text = BreaksOff at_end input text
+IsSession at_end (Err LongLine) input text = (long : List ℕ) × (later : List (List ℕ)) × (longest_line < length long) × StopsBefore long later input text
+IsSession at_end (Err OutOfMemory) input text = (next : List ℕ) × (later : List (List ℕ)) × StopsBefore next later input text

@@ -3,7 +3,7 @@ use Rattle.std.specs.Prelude.{◌≡◌, ◌⊎◌, ℕ, List, codes, Option, No
 use Rattle.kfs_desk.specs.Machine.{Desk}
 use Rattle.kfs_program_command.specs.Command as commands
 use Rattle.kfs_program_engine.specs.HeldVerdicts.{no_verdict}
-use Rattle.kfs_program_engine.specs.Session.{AnswersCommand, IsReplied, LineOutcome, Stage, Start, Before, After, opened}
+use Rattle.kfs_program_engine.specs.Session.{AnswersCommand, IsReplied, LineOutcome, Stage, Start, Before, After, left_without_memory, opened}
 use Rattle.kfs_program_text.specs.Parts.{line_of}
 use Rattle.kfs_program_engine.specs.declared.opening.Opening.{Opening}
 use Rattle.kfs_program_engine.specs.declared.session.Session.{Session}
@@ -25,9 +25,9 @@ module _ {A : Type 0} where
   abbrev pub stage_of : Session A → Stage
   stage_of session = stage_in session.stage
 
--- where memory is refused, the stage is as it was, or is what the command leaves then
-abbrev pub IsUndone : (before : Stage) → commands.Command → (after : Stage) → Type 0
-IsUndone before command after = (after ≡ before) ⊎ AnswersCommand before command (line_of (codes "memory"), after)
+-- where memory is refused, the stage is as it was, or the verdict that was to be landed is given up
+abbrev pub IsUndone : (asked : Option commands.Command) → (before after : Stage) → Type 0
+IsUndone asked before after = (after ≡ before) ⊎ (after ≡ left_without_memory (commands.landing_worker asked) before)
 
 -- the stage afterwards: the desk, if one was begun, else still before it
 abbrev pub stage_after : Option Desk → Start → Stage

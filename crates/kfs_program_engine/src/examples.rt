@@ -48,8 +48,15 @@ pub fn verdict_at_a_full_docket()
     ensures { AnswersLines (After full_docket held_by_3) (codes "land 3" ∷ codes "land 3" ∷ []) (codes "full\nbad line\n") (After full_docket no_verdict) }
 {}
 
-/// The reader gave one line with its end, and the writer failed after the reply: there is no further
-/// line.
+/// Where memory is refused at the landing of a verdict, the worker holds none afterwards.
+pub fn verdict_without_memory()
+    ensures { AnswersLines (After full_docket held_by_3) (codes "land 3" ∷ codes "land 3" ∷ []) (codes "memory\nbad line\n") (After full_docket no_verdict) }
+{}
+
+/// The writer failed after the reply to one line. The line has its end, or the reader has come to its
+/// own. A part of a line has no reply while the reader may still give more of it.
 pub fn write_broken_off()
-    ensures { BreaksOff (codes "x\n") (codes "bad line\n") }
+    ensures whole { BreaksOff ⊥ (codes "x\n") (codes "bad line\n") }
+    ensures at_end { BreaksOff (Unit {0}) (codes "x") (codes "bad line\n") }
+    ensures part { BreaksOff ⊥ (codes "x") (codes "bad line\n") → ⊥ }
 {}

@@ -49,7 +49,7 @@ where
     A: Allocator + Copy,
     I: Read,
     O: Write,
-    ensures session { Exchanges (I.remaining reader.old) (I.remaining reader.new) (O.contents writer.old) (O.contents writer.new) (IsSession result) }
+    ensures session { Exchanges (I.remaining reader.old) (I.remaining reader.new) (O.contents writer.old) (O.contents writer.new) (IsSession (IsAtEnd (I.remaining reader.new)) result) }
     ensures end { OnOk result (IsAtEnd (I.remaining reader.new)) }
 {
     let mut chunk = new_chunk(alloc)?;
@@ -77,7 +77,7 @@ where
     I: Read,
     O: Write,
     requires { 0 < length chunk.old }
-    ensures session { Exchanges (I.remaining reader.old) (I.remaining reader.new) (O.contents writer.old) (O.contents result.0.now) (IsSession result.1) }
+    ensures session { Exchanges (I.remaining reader.old) (I.remaining reader.new) (O.contents writer.old) (O.contents result.0.now) (IsSession (IsAtEnd (I.remaining reader.new)) result.1) }
     ensures reference { result.0.ghost_name ≡ writer.entry.ghost_name }
     ensures end { OnOk result.1 (IsAtEnd (I.remaining reader.new)) }
 {
@@ -102,7 +102,7 @@ where
     I: Read,
     O: Write,
     requires { 0 < length chunk.old }
-    ensures session { Exchanges (I.remaining reader.old) (I.remaining reader.new) (contents_with O.contents writer.old) (contents_with O.contents writer.new) (IsSession result) }
+    ensures session { Exchanges (I.remaining reader.old) (I.remaining reader.new) (contents_with O.contents writer.old) (contents_with O.contents writer.new) (IsSession (IsAtEnd (I.remaining reader.new)) result) }
     ensures first { writer.new.first ≡ writer.old.first }
     ensures end { OnOk result (IsAtEnd (I.remaining reader.new)) }
 {

@@ -6,7 +6,7 @@ ghost use Rattle.kfs_entry_value.specs.Views.{header_of};
 ghost use Rattle.kfs_plan.specs.Judging.{submission_of};
 ghost use Rattle.kfs_desk.specs.Machine.{call_of, done_by};
 ghost use Rattle.kfs_program_command.specs.Command as commands;
-ghost use Rattle.kfs_program_engine.specs.Session.{After, AnswersLine, IsCallAnswered, IsNodeShown, IsReplied, IsSubmissionAnswered, DeskAnswers, docket_line, fresh, names_line};
+ghost use Rattle.kfs_program_engine.specs.Session.{After, AnswersLine, IsCallAnswered, IsNodeShown, IsReplied, IsSubmissionAnswered, DeskAnswers, docket_line, fresh, left_without_memory, names_line};
 ghost use Rattle.kfs_program_command.specs.Views.{asked_of_desk, opening_of};
 ghost use Rattle.kfs_program_engine.specs.Views.{CommandIsDone, IsOutOfPlace, IsUndone, stage_of};
 ghost use Rattle.kfs_program_text.specs.Parts.{line_of};
@@ -21,7 +21,7 @@ use kfs_desk::Desk;
 use kfs_image_nodes::{Answer, Cell, Header, Kind, look};
 use kfs_plan::answers::{Act, Unanswered};
 use kfs_plan::{Submission, Why};
-use kfs_program_command::{Command, DeskCommand, OpeningCommand};
+use kfs_program_command::{Command, DeskCommand, OpeningCommand, worker_to_land};
 use kfs_program_text::Refusal;
 use kfs_program_text::parts::{number, text};
 use kfs_report::{act_line, node_line, reply_line};
@@ -54,16 +54,31 @@ impl<A: Allocator + Copy> Session<A> {
     /// Answers a line: appends its reply. Condition: the reply has room for 128 bytes.
     ///
     /// A refusal leaves the state as it was, with one exception: a verdict for whose landing memory is
-    /// refused is given up.
+    /// refused may be given up.
     pub fn answer(&mut self, line: &[u8], reply: &mut Vec<u8, A>) -> Result<(), Refusal>
         requires { 128 ≤ spare_of reply.old }
         ensures ok { OnOk result (IsReplied (AnswersLine (stage_of self.old) line.now) reply.old.items reply.new.items (stage_of self.new)) }
         ensures bad { IsErrOf result Refusal.BadLine → AnswersLine (stage_of self.old) line.now (line_of (codes "bad line"), stage_of self.new) }
-        ensures memory { IsErrOf result Refusal.OutOfMemory → AnswersLine (stage_of self.old) line.now (line_of (codes "memory"), stage_of self.new) }
+        ensures memory { IsErrOf result Refusal.OutOfMemory → IsUndone (commands.asked_by line.now) (stage_of self.old) (stage_of self.new) }
     {
         match Command::read(self.alloc, line)? {
             Command::Opening(command) => self.answer_before(command, reply),
             Command::Desk(command) => self.answer_after(command, reply),
+        }
+    }
+
+    /// Gives up the verdict that the line asks to land, if it asks for that.
+    pub fn give_up(&mut self, line: &[u8])
+        ensures { stage_of self.new ≡ left_without_memory (commands.landing_worker (commands.asked_by line.now)) (stage_of self.old) }
+    {
+        let Some(worker) = worker_to_land(line) else {
+            return;
+        };
+        match &mut self.stage {
+            Stage::Before(_) => (),
+            Stage::After(_, hands) => {
+                let _verdict = hands.take(worker);
+            }
         }
     }
 
@@ -99,7 +114,7 @@ impl<A: Allocator + Copy> Session<A> {
         requires { 128 ≤ spare_of reply.old }
         ensures ok { OnOk result (CommandIsDone self.old (commands.Request (asked_of_desk command.entry)) reply.old.items reply.new.items self.new) }
         ensures bad { IsErrOf result Refusal.BadLine → IsOutOfPlace self.old (commands.Request (asked_of_desk command.entry)) self.new }
-        ensures memory { IsErrOf result Refusal.OutOfMemory → IsUndone (stage_of self.old) (commands.Request (asked_of_desk command.entry)) (stage_of self.new) }
+        ensures memory { IsErrOf result Refusal.OutOfMemory → IsUndone (Some (commands.Request (asked_of_desk command.entry))) (stage_of self.old) (stage_of self.new) }
     {
         match &mut self.stage {
             Stage::Before(_) => Err(Refusal::BadLine),
@@ -119,7 +134,7 @@ fn answer_due<A: Allocator + Copy>(
     requires { 128 ≤ spare_of reply.old }
     ensures ok { OnOk result (IsReplied (DeskAnswers desk.old hands.old (asked_of_desk command.entry)) reply.old.items reply.new.items (After desk.new hands.new)) }
     ensures bad { IsErrOf result Refusal.BadLine → DeskAnswers desk.old hands.old (asked_of_desk command.entry) (line_of (codes "bad line"), After desk.new hands.new) }
-    ensures memory { IsErrOf result Refusal.OutOfMemory → IsUndone (After desk.old hands.old) (commands.Request (asked_of_desk command.entry)) (After desk.new hands.new) }
+    ensures memory { IsErrOf result Refusal.OutOfMemory → IsUndone (Some (commands.Request (asked_of_desk command.entry))) (After desk.old hands.old) (After desk.new hands.new) }
 {
     match command {
         DeskCommand::Act(act) => make_call(desk, act, reply),

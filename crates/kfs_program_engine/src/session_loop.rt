@@ -1,9 +1,11 @@
 //! Cuts the input into lines, and writes the reply to each.
-ghost use Rattle.std.specs.Prelude.{◌≡◌, ◌++◌, [], OnOk};
+ghost use Rattle.std.specs.Prelude.{◌≡◌, ◌++◌, [], codes, IsErrOf, OnOk};
+ghost use Rattle.kfs_program_command.specs.Command.{asked_by};
 ghost use Rattle.kfs_program_engine.specs.Progress.{Ends, IsHeldAnswered, LineIsKept, IsLineAnswered, HasAnsweredSoFar, Takes, reply_written};
 ghost use Rattle.kfs_program_engine.specs.Session.{AnswersLine};
-ghost use Rattle.kfs_program_engine.specs.Views.{stage_of};
+ghost use Rattle.kfs_program_engine.specs.Views.{IsUndone, stage_of};
 ghost use Rattle.kfs_program_text.specs.HeldOutput.{contents_with};
+ghost use Rattle.kfs_program_text.specs.Parts.{line_of};
 ghost use Rattle.kfs_program_text.specs.Streams.{Writes};
 
 use crate::fault::EngineFault;
@@ -101,9 +103,26 @@ impl<A: Allocator + Copy> SessionLoop<A> {
         Ok(written?)
     }
 
-    /// Answers the line, with room for the reply made before anything changes.
+    /// Answers the line. Where memory is refused, the verdict that it asks to land is given up.
     fn reply(&mut self) -> Result<(), Refusal>
         ensures session { AnswersLine (stage_of self.old.session) self.old.line.items (reply_written result self.new.reply.items, stage_of self.new.session) }
+        ensures line { self.new.line ≡ self.old.line }
+    {
+        match self.reply_in_room() {
+            Ok(()) => Ok(()),
+            Err(Refusal::BadLine) => Err(Refusal::BadLine),
+            Err(Refusal::OutOfMemory) => {
+                self.session.give_up(&self.line);
+                Err(Refusal::OutOfMemory)
+            }
+        }
+    }
+
+    /// Answers the line, with room for the reply made before anything changes.
+    fn reply_in_room(&mut self) -> Result<(), Refusal>
+        ensures ok { OnOk result (AnswersLine (stage_of self.old.session) self.old.line.items (self.new.reply.items, stage_of self.new.session)) }
+        ensures bad { IsErrOf result Refusal.BadLine → AnswersLine (stage_of self.old.session) self.old.line.items (line_of (codes "bad line"), stage_of self.new.session) }
+        ensures memory { IsErrOf result Refusal.OutOfMemory → IsUndone (asked_by self.old.line.items) (stage_of self.old.session) (stage_of self.new.session) }
         ensures line { self.new.line ≡ self.old.line }
     {
         self.reply.clear();

@@ -1,11 +1,11 @@
 //! The commands `judge` and `land`: a verdict is made from a view of the desk now, is held by a worker,
 //! and is landed later.
-ghost use Rattle.std.specs.Prelude.{◌≡◌, ◌≤◌, codes, IfErr, IfOk, IsErrOf, OnOk};
+ghost use Rattle.std.specs.Prelude.{◌≡◌, ◌≤◌, codes, IfErr, IfOk, IsErrOf, OnOk, Some};
 ghost use Rattle.kfs_plan.specs.Judging.{submission_of};
 ghost use Rattle.kfs_program_command.specs.Command as commands;
 ghost use Rattle.kfs_workers.specs.Holding.{verdict_of};
 ghost use Rattle.kfs_workers.specs.Verdict.{IsVerdictOn};
-ghost use Rattle.kfs_program_engine.specs.Session.{After, IsLandingAnswered, IsReplied, DeskAnswers};
+ghost use Rattle.kfs_program_engine.specs.Session.{After, IsLandingAnswered, IsReplied, DeskAnswers, left_without_memory};
 ghost use Rattle.kfs_program_text.specs.Parts.{line_of};
 ghost use Rattle.kfs_entry_value.specs.Room.{spare_of};
 
@@ -71,7 +71,7 @@ pub fn land_for<A: Allocator + Copy>(
     requires { 128 ≤ spare_of reply.old }
     ensures ok { OnOk result (IsReplied (DeskAnswers desk.old hands.old (commands.Land worker.number)) reply.old.items reply.new.items (After desk.new hands.new)) }
     ensures bad { IsErrOf result Refusal.BadLine → DeskAnswers desk.old hands.old (commands.Land worker.number) (line_of (codes "bad line"), After desk.new hands.new) }
-    ensures memory { IsErrOf result Refusal.OutOfMemory → DeskAnswers desk.old hands.old (commands.Land worker.number) (line_of (codes "memory"), After desk.new hands.new) }
+    ensures memory { IsErrOf result Refusal.OutOfMemory → After desk.new hands.new ≡ left_without_memory (Some worker.number) (After desk.old hands.old) }
 {
     let judged = hands.take(worker).ok_or(Refusal::BadLine)?;
     land_judged(desk, judged, reply)

@@ -45,8 +45,8 @@ pub record Stands (desk : Desk) (submission : Submission) (reply : Reply) : Type
   pub within : position_of reply < length desk.docket
   pub means : AnswerMeans before submission reply after_it
 
--- the desk has gone on from the first one; the replies stand in the docket, which is legal, each at a row of
--- its own
+-- the desk has gone on from the first one; the replies stand in the docket, which is legal, each at a row
+-- of its own
 pub record AreStanding (first_desk : Desk) (submissions : List Submission) (state : ScriptState) : Type 0 where
   pub on : GoesOnFrom first_desk state.desk
   pub legal : IsLegalDocket state.desk.opening state.desk.docket state.desk.state
@@ -220,8 +220,8 @@ module _ (first_desk : Desk) (submissions : List Submission) (state next_scene :
   lands worker (Some (Decided ticket verdict)) at (inl landed) =
       let (there, of) = in_place.holds worker (Decided ticket verdict) at in
       let within : ticket < length state.replies = subst (λ n. ticket < n) (sym in_place.replies_length) (slice_get_within submissions ticket verdict.submission of) in
-      let (grows, stands) = answer_stands state.desk next_scene.desk are.legal verdict.submission (is_rejudged landed.answer) landed.answer landed.answered in
-      reply_added first_desk submissions state next_scene are ticket verdict.submission landed.answer of within (ap (λ (s : ScriptState). s.replies) landed.is) landed.answered.position grows stands
+      let (grows, stands) = answer_stands state.desk next_scene.desk are.legal verdict.submission (is_rejudged landed.answer) landed.answer landed.landed.answered in
+      reply_added first_desk submissions state next_scene are ticket verdict.submission landed.answer of within (ap (λ (s : ScriptState). s.replies) landed.is) landed.landed.answered.position grows stands
 
   asks : (act : Act) → DoesAct state act next_scene → AreStanding first_desk submissions next_scene
   asks act (inr is) = same_state is

@@ -17,7 +17,7 @@ use Rattle.kfs_workers.specs.Script.{DoesJudge, DoesLand, DoesLook, ScriptState,
 use Rattle.kfs_workers.specs.Verdict.{IsVerdictOn}
 use Rattle.kfs_workers.specs.declared.script_state.Holding.{Holding as CodeHeld}
 use Rattle.kfs_workers.specs.declared.script_state.Holding.TheVariants as holdings
-use Rattle.kfs_workers.proofs.Verdicts.{current, up_to_date}
+use Rattle.kfs_workers.proofs.Verdicts.{lands_verdict}
 
 -- a second store at one place is the only one
 set-twice : {X : Type 0} (xs : List X) (i : ℕ) (x y : X) → set (set xs i x) i y ≡ set xs i y
@@ -95,9 +95,7 @@ module _ {A : Type 0} (desk : Desk) (waiting : List (Option (CodeSubmission A)))
             subst (λ h. DoesLand script_state_of worker h (record { desk = new_desk; waiting = script_state_of.waiting; hands = map (option_map held_of) new_hands; replies = new_replies })) decided_in_hand
             (inl (record {
               answer = reply;
-              room = room;
-              rejudged = (λ once. up_to_date desk.state judged (again.0 once), λ is. again.1 (current desk.state judged is));
-              answered = answered;
+              landed = lands_verdict desk new_desk judged reply room again answered;
               is = ap (λ h. record { desk = new_desk; waiting = script_state_of.waiting; hands = h; replies = new_replies }) (shown_taken new_hands left) ∙ ap (λ r. record { desk = new_desk; waiting = script_state_of.waiting; hands = set script_state_of.hands worker None; replies = r }) put;
             }))
 

@@ -1,6 +1,6 @@
 -- Verdicts of the code as they are held.
 use Rattle.std.proofs.Common.{◌≡◌, ◌⊎◌, inl, inr, ℕ, Bool, true, false, List, [], ◌∷◌, map, Some, Result, Ok, Err, IfOk, refl, sym, ap, subst, ◌∙◌}
-use Rattle.std.specs.Prelude.{All, Contains}
+use Rattle.std.specs.Prelude.{◌≢◌, ◌↔◌, length, All, Contains, IsFalse}
 use Rattle.std.specs.List.{AllByRecursion}
 use Rattle.std.proofs.lemmas.List.Elements.{All-map}
 use Rattle.kfs_model.specs.Judgement.{State, Submission, Fault, Verdict, Yes, No, IsJudgement, client_sight_of}
@@ -19,9 +19,11 @@ use Rattle.kfs_plan.specs.declared.submission.Fault.{Fault as CodeFault}
 use Rattle.kfs_plan.specs.declared.submission.Outcome.{Outcome}
 use Rattle.kfs_plan.specs.declared.submission.Outcome.TheVariants as outcomes
 use Rattle.kfs_plan.specs.declared.submission.Submission.{Submission as CodeSubmission}
-use Rattle.kfs_desk.specs.Machine.{IsCurrent, IsViewOf}
+use Rattle.kfs_plan.specs.declared.answers.Reply.{Reply}
+use Rattle.kfs_desk.specs.Docket.{is_rejudged}
+use Rattle.kfs_desk.specs.Machine.{Desk, IsAnswered, IsCurrent, IsViewOf}
 use Rattle.kfs_workers.specs.Holding.{verdict_of}
-use Rattle.kfs_workers.specs.Verdict.{AreLookedAt, ComesTo, IsUpToDate, IsVerdictOn}
+use Rattle.kfs_workers.specs.Verdict.{AreLookedAt, ComesTo, IsUpToDate, IsVerdictOn, LandsVerdict}
 
 -- ---- what a verdict of the code rests on
 
@@ -42,6 +44,15 @@ module _ {A : Type 0} (s : State) (judged : Judged A) where
 
   pub current : IsUpToDate s (verdict_of judged) → IsCurrent s judged
   current is = record { row = is.row; agrees = record { each = from_cells judged.reads _ is.answers } }
+
+-- a landing of the code is the landing of the held verdict
+pub lands_verdict : {A : Type 0} (desk next : Desk) (judged : Judged A) (reply : Reply) → length desk.docket ≢ desk.limit → ◌↔◌ (IsFalse (is_rejudged reply)) (IsCurrent desk.state judged)
+    → IsAnswered desk (submission_of judged.submission) (is_rejudged reply) reply next → LandsVerdict desk (verdict_of judged) reply next
+lands_verdict desk next judged reply room again answered = record {
+  room = room;
+  rejudged = (λ once. up_to_date desk.state judged (again.0 once), λ is. again.1 (current desk.state judged is));
+  answered = answered;
+}
 
 -- ---- what a submission comes to
 

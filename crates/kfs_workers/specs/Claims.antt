@@ -1,5 +1,5 @@
--- What a script leaves: the desk that was handed in, with more rows. And what its replies say: each ticket
--- is answered once or left, a Yes does what its entries say, and no other reply changes the tree.
+-- What a script leaves: the desk that was handed in, with more rows. And what its replies say: each
+-- ticket is answered once or left, a Yes does what its entries say, and no other reply changes the tree.
 use Rattle.std.specs.Prelude.{◌≡◌, ◌≢◌, ℕ, ◌+◌, List, [], ◌++◌, take, get_or, Option, Some, None}
 use Rattle.std.specs.List.{slice_get}
 use Rattle.kfs_model.specs.Judgement.{State, Submission, client_sight_of}
@@ -12,8 +12,8 @@ use Rattle.kfs_desk.specs.Machine.{Desk, IsShown, IsStep}
 
 -- ---- the desk at the end
 
--- the last desk goes on from this one: opening and limit are the same, and the docket begins with the rows
--- that were there
+-- the last desk goes on from this one: opening and limit are the same, and the docket begins with the
+-- rows that were there
 pub record GoesOnFrom (desk last : Desk) : Type 0 where
   pub opening : last.opening ≡ desk.opening
   pub limit : last.limit ≡ desk.limit

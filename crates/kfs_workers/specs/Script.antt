@@ -1,13 +1,12 @@
 -- A script: the steps of eight workers, and calls for leases, in one order; and what its runs lead to.
-use Rattle.std.specs.Prelude.{◌≡◌, ◌≢◌, ◌⊎◌, ◌↔◌, ℕ, List, [], ◌∷◌, length, map, replicate, get_or, set, IsFalse, Option, Some, None}
+use Rattle.std.specs.Prelude.{◌≡◌, ◌≢◌, ◌⊎◌, ℕ, List, [], ◌∷◌, length, map, replicate, get_or, set, Option, Some, None}
 use Rattle.std.specs.List.{slice_get}
 use Rattle.kfs_model.specs.Judgement.{State, Submission}
 use Rattle.kfs_lease.specs.declared.act.Act.{Act}
 use Rattle.kfs_plan.specs.declared.answers.ActReply.{ActReply}
 use Rattle.kfs_plan.specs.declared.answers.Reply.{Reply}
-use Rattle.kfs_desk.specs.Docket.{is_rejudged}
-use Rattle.kfs_desk.specs.Machine.{Desk, IsActed, IsAnswered, call_of, done_by}
-use Rattle.kfs_workers.specs.Verdict.{HeldVerdict, IsUpToDate, IsVerdictOn}
+use Rattle.kfs_desk.specs.Machine.{Desk, IsActed, call_of, done_by}
+use Rattle.kfs_workers.specs.Verdict.{HeldVerdict, IsVerdictOn, LandsVerdict}
 use Rattle.kfs_workers.specs.declared.script.Step.{Step}
 use Rattle.kfs_workers.specs.declared.script.Step.TheVariants as steps
 
@@ -55,13 +54,10 @@ DoesJudge state worker (Some (Taken ticket submission seen)) next =
     ((verdict : HeldVerdict) × IsVerdictOn seen submission verdict × (next ≡ with_hand state worker (Some (Decided ticket verdict)))) ⊎ (next ≡ given_back state worker ticket submission)
 DoesJudge state worker hand next = next ≡ state
 
--- the verdict's submission is answered at the desk now; it is judged again exactly where the verdict
--- isn't up to date
+-- the verdict is landed at the desk now, its ticket has the reply, and the worker holds nothing
 pub record VerdictIsLanded (state : ScriptState) (worker ticket : ℕ) (verdict : HeldVerdict) (next : ScriptState) : Type 0 where
   pub answer : Reply
-  pub room : length state.desk.docket ≢ state.desk.limit
-  pub rejudged : IsFalse (is_rejudged answer) ↔ IsUpToDate state.desk.state verdict
-  pub answered : IsAnswered state.desk verdict.submission (is_rejudged answer) answer next.desk
+  pub landed : LandsVerdict state.desk verdict answer next.desk
   pub is : next ≡ record { desk = next.desk; waiting = state.waiting; hands = set state.hands worker None; replies = set state.replies ticket (Some answer) }
 
 -- a Land: a verdict is landed, or its submission goes back where memory is refused or the docket is

@@ -1,5 +1,5 @@
 -- Verdicts that workers hold, and what they rest on.
-use Rattle.std.specs.Prelude.{◌≡◌, ◌⊎◌, ℕ, List, [], Option, Some, Result, Ok, Err, All, Contains}
+use Rattle.std.specs.Prelude.{◌≡◌, ◌≢◌, ◌⊎◌, ◌↔◌, ℕ, List, [], length, IsFalse, Option, Some, Result, Ok, Err, All, Contains}
 use Rattle.std.specs.List.{AllByRecursion}
 use Rattle.kfs_model.specs.Access.{Client}
 use Rattle.kfs_model.specs.Entry.{Log}
@@ -12,6 +12,9 @@ use Rattle.kfs_model.specs.Sight.{Cell, Answer, answer}
 use Rattle.kfs_model.specs.Soundness.{IsSound}
 use Rattle.kfs_model.specs.Spelling.{LogAnswer}
 use Rattle.kfs_model.specs.Tree.{Tree}
+use Rattle.kfs_plan.specs.declared.answers.Reply.{Reply}
+use Rattle.kfs_desk.specs.Docket.{is_rejudged}
+use Rattle.kfs_desk.specs.Machine.{Desk, IsAnswered}
 
 -- a held verdict: the submission, and what the verdict rests on, namely the client and the answers at
 -- the cells that were read
@@ -48,3 +51,10 @@ pub record IsVerdictOn (s : State) (submission : Submission) (verdict : HeldVerd
   pub told : Result ℕ Fault
   pub enough : (t : State) → IsSound t.tree → IsUpToDate t verdict → ComesTo t submission told
   pub looked : (verdict.reads ≡ []) ⊎ AreLookedAt s submission verdict.reads
+
+-- the verdict's submission is answered at a desk whose docket has room, and the desk goes on to the next; it
+-- is judged again exactly where the verdict isn't up to date
+pub record LandsVerdict (desk : Desk) (verdict : HeldVerdict) (answer : Reply) (next : Desk) : Type 0 where
+  pub room : length desk.docket ≢ desk.limit
+  pub rejudged : IsFalse (is_rejudged answer) ↔ IsUpToDate desk.state verdict
+  pub answered : IsAnswered desk verdict.submission (is_rejudged answer) answer next

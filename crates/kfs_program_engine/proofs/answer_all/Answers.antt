@@ -1,8 +1,9 @@
 use Rattle.std.proofs.Common.{◌++◌, [], Result, Ok, Err, OnOk, refl, take, append-nil, ◌∙◌}
+use Rattle.std.specs.Io.KnownBytes.{IsAtEnd}
 use Rattle.std.proofs.KnownBytes.{Appends-kept, Appends-nil, Appends-trans, Consumes-kept, Consumes-nil, Consumes-trans}
 use Rattle.std.proofs.lemmas.Result.{err_from_is_err_and}
 use Rattle.kfs_program_engine.specs.declared.fault.EngineFault.TheVariants.{ReadFault}
-use Rattle.kfs_program_engine.proofs.SessionLoops.{HasAnswered-read, HasAnswered-unread, HasAnswered-unsent}
+use Rattle.kfs_program_engine.proofs.SessionLoops.{HasAnswered-read, HasAnswered-unread, HasAnswered-unsent, session_at}
 use Rattle.kfs_program_engine.proofs.answer_all.Goals as goal
 
 on_ok : {T E P : Type 0} (result : Result T E) → P → OnOk result P
@@ -23,7 +24,13 @@ returns-then-count-eq0-clause-session g c =
     let done = c.reads.invariant in
     let last = c.finish.ensures.session in
     let none = rw (c.in-Some.is, c.if-count-eq0.true) at c.in_ok-count.ensures.bytes in
-    (done.0, done.1 ++ last.0, rw (append-nil done.0) at (Consumes-trans _ _ _ _ _ done.2 none), Appends-trans _ _ _ _ _ done.3 last.1, last.2 done.0 done.1 done.4)
+    let ended = rw c.in-Some.is at c.in_ok-count.ensures.end in (
+      done.0,
+      done.1 ++ last.0,
+      rw (append-nil done.0) at (Consumes-trans _ _ _ _ _ done.2 none),
+      Appends-trans _ _ _ _ _ done.3 last.1,
+      session_at (Unit {0}) (IsAtEnd (g.I.Read.remaining c.read_some.new.reader)) c.finish.result done.0 (done.1 ++ last.0) (λ at_end. ended c.if-count-eq0.true) (last.2 done.0 done.1 done.4),
+    )
 
 pub returns-then-count-eq0-clause-end : goal.returns-then-count-eq0-clause-end
 returns-then-count-eq0-clause-end g c =
@@ -41,7 +48,7 @@ returns-in_err-take-clause-session g c =
       done.1 ++ taken.0,
       Consumes-trans _ _ _ _ _ done.2 read,
       Appends-trans _ _ _ _ _ done.3 taken.1,
-      rw (p.1, p.2) (taken.2 (done.0 ++ bytes) done.1 (HasAnswered-read _ _ bytes done.0 done.1 done.4)),
+      rw (p.1, p.2) (session_at {T = Unit {0}} ⊥ _ (Err _) _ _ (λ never. absurd never) (taken.2 (done.0 ++ bytes) done.1 (HasAnswered-read _ _ bytes done.0 done.1 done.4))),
     )
 
 pub returns-in_err-flush-clause-session : goal.returns-in_err-flush-clause-session
@@ -56,7 +63,7 @@ returns-in_err-flush-clause-session g c =
       done.1 ++ taken.0,
       Consumes-trans _ _ _ _ _ done.2 read,
       Appends-kept _ _ _ _ (Appends-trans _ _ _ _ _ done.3 taken.1) c.in_err-flush.ensures.bytes,
-      rw (p.1, p.2) (HasAnswered-unsent (Unit {0}) _ _ (done.0 ++ bytes) (done.1 ++ taken.0) stands),
+      rw (p.1, p.2) (HasAnswered-unsent (Unit {0}) _ _ _ (done.0 ++ bytes) (done.1 ++ taken.0) stands),
     )
 
 pub reads-preserved : goal.reads-preserved

@@ -1,6 +1,7 @@
 -- What was held back is written at the end, or a first part of it.
 use Rattle.std.proofs.Common.{ap, subst, ◌∙◌}
 use Rattle.std.proofs.lemmas.Result.{IfErr-at_err, IfOk-at_ok}
+use Rattle.std.specs.Io.KnownBytes.{IsAtEnd}
 use Rattle.kfs_program_text.specs.HeldOutput.{HasGrown}
 use Rattle.kfs_program_engine.specs.Transcript.{IsSession}
 use Rattle.kfs_program_engine.proofs.SessionLoops.{first_written}
@@ -23,4 +24,5 @@ returns-in-Err-clause-session g c =
     let grown = subst (λ w. HasGrown (contents w) (contents last)) first c.close-writer.ensures.grown in
     let part = IfErr-at_err _ c.in-Err.is c.close-writer.ensures.part in
     let (front, back, wrote, parts) = first_part (contents c.args.writer.now) _ _ (contents last) text grown.0 part.0 c.new-held.ensures.contents appended part.1 grown.1 in
-    (input, front, consumed, wrote, first_written (Unit {0}) c.answer_all-ended.result input front back (subst (IsSession c.answer_all-ended.result input) parts is))
+    let at_end = IsAtEnd (g.I.Read.remaining c.answer_all-ended.new.reader) in
+    (input, front, consumed, wrote, first_written (Unit {0}) at_end c.answer_all-ended.result input front back c.answer_all-ended.ensures.end (subst (IsSession at_end c.answer_all-ended.result input) parts is))

@@ -7,4 +7,4 @@ use Rattle.kfs_program_engine.proofs.engine.Goals as goal
 pub returns-in_err-chunk-clause-session : goal.returns-in_err-chunk-clause-session
 returns-in_err-chunk-clause-session g c =
     let p = err_from_is_err_and c.from_residual.result c.from_residual.ensures.1 in
-    ([], [], Consumes-nil _, Appends-nil _, rw (p.1, p.2) (nothing-read (Unit {0}) _ c.in_err-chunk.ensures.fault))
+    ([], [], Consumes-nil _, Appends-nil _, rw (p.1, p.2) (nothing-read (Unit {0}) _ _ c.in_err-chunk.ensures.fault))

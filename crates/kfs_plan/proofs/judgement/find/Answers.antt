@@ -14,7 +14,7 @@ use Rattle.kfs_plan.specs.Judging.{submission_with, AreSpelled, IsEarly, IsVerdi
 use Rattle.kfs_judge_check.specs.Reads.{Agrees, AreAmong}
 use Rattle.kfs_judge_check.specs.View.{clients_of, client_sight_in}
 use Rattle.kfs_judge_check.proofs.Lists.{row_has_number}
-use Rattle.kfs_entry.proofs.Ranges.{spans_fit, entries_fit}
+use Rattle.kfs_entry.proofs.Ranges.{entries_fit}
 use Rattle.kfs_plan.proofs.Verdicts.{unknown_client, walked_verdict, nothing_read, unread_looked, settled_is_fault, settled_looked}
 use Rattle.kfs_plan.proofs.judgement.find.Goals as goal
 
@@ -47,7 +47,7 @@ judge_entries-requires-clause-client g c =
 pub settle-requires-clause-spans : goal.settle-requires-clause-spans
 settle-requires-clause-spans g c =
     let read = subst (λ r. IsReading {A = g.row.A.Denot} (submission_with c.number.result c.args.log.now c.args.plan.now) r) c.in-Yes.is c.in_ok-fault.ensures.read in
-    spans_fit c.args.log.now c.in-Yes.log read.log_read.0 read.within
+    read.spanned
 
 pub settle-requires-clause-count : goal.settle-requires-clause-count
 settle-requires-clause-count g c =

@@ -32,6 +32,7 @@ returns-clause-read g c = record {
   log_read = c.in-Ok.ensures.found;
   plan_read = c.in-Ok-decode_plan.ensures.found;
   within = c.in-Ok.ensures.spans;
+  spanned = c.in-Ok.ensures.spanned;
 }
 
 pub returns-in-Err-clause-fault : goal.returns-in-Err-clause-fault
