@@ -1,8 +1,12 @@
 -- The clients, trees and logs of the examples on a node's group. Logs and plans are of version 2.
-use Rattle.std.specs.Prelude.{◌≡◌, ℕ, true, List, [], ◌∷◌, Some, Ok}
+use Rattle.std.specs.Prelude.{◌≡◌, ℕ, true, false, List, [], ◌∷◌, Some, Ok}
 use Rattle.kfs_model.specs.Header.{File}
-use Rattle.kfs_model.specs.Entry.{Entry, Regroup}
+use Rattle.kfs_model.specs.Check.{EntryContext}
+use Rattle.kfs_model.specs.Effect.{effect}
+use Rattle.kfs_model.specs.Entry.{Entry, Write, Regroup}
 use Rattle.kfs_model.specs.PlanRow.{NodeRow, Plan}
+use Rattle.kfs_model.specs.Run.{over_bytes}
+use Rattle.kfs_model.specs.Sight.{sight}
 use Rattle.kfs_model.specs.Tree.{Tree}
 use Rattle.kfs_model.specs.Judgement.{State, Verdict, Reply, judged, reply_to}
 use Rattle.kfs_model_examples.specs.Example.{client_7, client_8, name_a, plan, log_piece, tree, root, file, named, state, leases, held_by_7, tree_after}
@@ -43,6 +47,25 @@ file_of_1_unheld = members (file_of 1 1) [] []
 -- a file of uid 1, client 7 holding it and with privilege
 abbrev pub with_privilege : State
 with_privilege = record (held_by_7 (file_of 1 1) (5 ∷ [])) { clients = record client_7 { privileged = true } ∷ [] }
+
+-- client 7's file before a Regroup to group 50, and behind that entry of a log
+abbrev pub ungrouped : Tree ℕ
+ungrouped = file_of 1000 1000
+
+abbrev pub grouped : Tree ℕ
+grouped = effect over_bytes client_7 0 (Regroup 5 50) ungrouped
+
+-- where client 8 is judged at this tree, had it every lease
+abbrev pub point_of_8 : Tree ℕ → EntryContext
+point_of_8 t = record {
+  client = record client_8 { groups = 50 ∷ [] };
+  before = record { sight = sight ungrouped; held = λ n. true };
+  now = sight t;
+  created = λ n. false;
+}
+
+abbrev pub one_byte : Entry
+one_byte = Write 5 0 (120 ∷ [])
 
 -- a file of client 7 and this group, client 8 holding it
 abbrev pub held_by_8 : (gid : ℕ) → State
