@@ -77,7 +77,7 @@ greatest_mode_of version = if version == 1 then greatest_mode_of_version_1 else 
 abbrev pub IsMode : (version mode : ℕ) → Type 0
 IsMode version mode = mode ≤ greatest_mode_of version
 
--- logs of version 1 set no group
+-- a group that an entry sets; in a log of version 1 none does
 abbrev pub IsGroup : (version group : ℕ) → Type 0
 IsGroup version group = (2 ≤ version) × (group < 2 ^ 32)
 
