@@ -58,6 +58,8 @@ impl<A: Allocator + Clone> Image<A> {
     pub fn fresh(alloc: A, sizes: TierSizes) -> Result<Image<A>, AllocError>
         ensures { IfOk result (λ image. image ≡ fresh_image sizes) }
     {
+        // Tells the prover that no tier is larger than it may be.
+        let _blocks = [sizes.size(0), sizes.size(1), sizes.size(2)];
         let shape = Shape::with_root(alloc.clone()?)?;
         let shape = Arc::new(alloc.clone()?, shape)?;
         let blocks = FileBlocks::new(alloc.clone()?, sizes)?;

@@ -16,6 +16,6 @@ returns-in-Land c =
     let word = c.in-Ok.word.now in
     land_named c.args.line.now word (words_left c.word.new.self) (rw c.new-words.ensures at c.in-Ok.ensures) (subst (λ name. Some name ≡ named_by word) c.in-Land.is c.in-Some.ensures) c.only_worker.result c.only_worker.ensures
 
-pub returns-in_default-2 : goal.returns-in_default-2
-returns-in_default-2 c =
-    another_name c.args.line.now c.in-Ok.word.now (words_left c.word.new.self) (rw c.new-words.ensures at c.in-Ok.ensures) c.in-Some.name c.in-Some.ensures c.in_default-2.not-Land
+pub returns-in_default-name : goal.returns-in_default-name
+returns-in_default-name c =
+    another_name c.args.line.now c.in-Ok.word.now (words_left c.word.new.self) (rw c.new-words.ensures at c.in-Ok.ensures) c.in-Some.name c.in-Some.ensures c.in_default-name.not-Land

@@ -11,7 +11,7 @@ use Rattle.kfs_program_command.proofs.command.Command.read.Goals as goal
 pub returns-in_err-word-clause-bad : goal.returns-in_err-word-clause-bad
 returns-in_err-word-clause-bad g c =
     let bad : c.in_err-word.field-0.0 ≡ BadLine → asked_by c.args.line.now ≡ None =
-    λ is. nothing_asked c.args.line.now (rw c.new-words.ensures at (c.in_err-word.ensures is)) in
+    λ is. nothing_asked c.args.line.now (rw c.new-words.ensures at c.in_err-word.ensures.1) in
     grind (arith, bad)
 
 pub returns-clause-ok : goal.returns-clause-ok
