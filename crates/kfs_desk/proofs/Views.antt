@@ -1,5 +1,5 @@
 -- A view of the state of now, and the verdicts that hold there.
-use Rattle.std.proofs.Common.{◌≡◌, ℕ, List, sym, ap, subst, ◌∙◌}
+use Rattle.std.proofs.Common.{◌≡◌, ℕ, List, IfOk, Result, Ok, Err, sym, ap, subst, ◌∙◌}
 use Rattle.kfs_model.specs.Access.{Client}
 use Rattle.kfs_model.specs.Judgement.{State, client_sight_of}
 use Rattle.kfs_model.specs.Lease.{Leases, holds, row_of}
@@ -41,3 +41,10 @@ module _ (image : DeviceImage) (lawful : IsLawful image) (clients : List Client)
   verdict_by judged known is =
       let current = current_by judged is in
       known s (record { sound = lawful.tree.sound; row = current.row; agrees = current.agrees })
+
+-- the view that was taken, if there is one, shows the state
+pub viewed : {A E : Type 0} (image : DeviceImage) → IsLawful image → (clients : List Client) (leases : Leases) (result : Result (View A) E)
+    → IfOk result (λ view. contents_of view ≡ images.contents_of image) → IfOk result (λ view. leases_of view ≡ leases) → IfOk result (λ view. clients_of view ≡ clients)
+    → (s : State) → s ≡ state_at image clients leases → IfOk result (λ view. IsViewOf view s)
+viewed image lawful clients leases (Ok view) same_contents same_leases same_clients s is = subst (IsViewOf view) (sym is) (is_view image lawful clients leases view same_contents same_leases same_clients)
+viewed image lawful clients leases (Err error) same_contents same_leases same_clients s is = tt
