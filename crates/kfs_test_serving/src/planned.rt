@@ -3,7 +3,7 @@
 
 use crate::examples::{opened, submission, submit};
 use kfs_desk::{Desk, Reply};
-use kfs_entry::{Plan, decode_log, decode_plan};
+use kfs_entry::{Plan, RowList, decode_log, decode_plan};
 use kfs_judge::{View, judge_entries};
 use kfs_lease::LeaseKind;
 use kfs_plan::{RowFault, check_plan, sweep};
@@ -50,7 +50,7 @@ fn lettered<A: Allocator + Copy>(alloc: A) -> Option<Desk<A>> {
 /// A call on the log of five edits, with the answer that is expected.
 #[derive(Clone, Copy)]
 enum Call {
-    /// The pieces of the right plan.
+    /// Pieces, with which the check says of the right plan that it is.
     Sweep,
     /// What the check of the right plan says.
     Check(Result<u64, RowFault>),
@@ -83,7 +83,7 @@ fn called<A: Allocator + Copy>(
     call: Call,
     growth: u64,
 ) -> Option<bool> {
-    let plan = plan(alloc, call)?;
+    let mut plan = plan(alloc, call)?;
     let log = decode_log(alloc, EDITS_LOG).ok()?;
     let is_known = view.client(log.client).is_some();
     if !is_known {
@@ -96,7 +96,10 @@ fn called<A: Allocator + Copy>(
     heap.refuse_after(growth);
     let is_right = match call {
         Call::Sweep => match sweep(alloc, &log, &walk) {
-            Ok(pieces) => Some(pieces.as_slice() == plan.pieces.as_slice()),
+            Ok(pieces) => {
+                plan.pieces = RowList::from_vec(pieces);
+                is_checked(check_plan(alloc, &log, &walk, &plan), Ok(1))
+            }
             Err(_) => None,
         },
         Call::Check(wanted) | Call::CheckOther(wanted) => {
