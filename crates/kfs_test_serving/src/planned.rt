@@ -3,14 +3,12 @@
 
 use crate::examples::{opened, submission, submit};
 use kfs_desk::{Desk, Reply};
-use kfs_entry::{Plan, RowList, decode_log, decode_plan};
+use kfs_entry::{Plan, decode_log, decode_plan};
 use kfs_judge::{View, judge_entries};
 use kfs_lease::LeaseKind;
 use kfs_plan::{RowFault, check_plan, sweep};
 use kfs_test_support::refusing::Refusing;
-use kfs_test_support::vectors::{
-    CREATE_LOG, CREATE_PLAN, EDITS_LOG, EDITS_PLAN, LETTERS_LOG, LETTERS_PLAN,
-};
+use kfs_test_support::vectors::{CREATE_LOG, CREATE_PLAN, LETTERS_LOG, LETTERS_PLAN};
 use std::alloc::{Allocator, Global};
 
 /// More growths than anything here asks for.
@@ -34,23 +32,20 @@ fn is_leased<A: Allocator + Copy>(desk: &mut Desk<A>) -> bool {
     }
 }
 
-/// A desk whose file 5 has ten letters. Client 7 holds it.
-fn lettered<A: Allocator + Copy>(alloc: A) -> Option<Desk<A>> {
+/// A desk with the empty file 5. Client 7 holds it.
+fn with_file<A: Allocator + Copy>(alloc: A) -> Option<Desk<A>> {
     let mut desk = opened(alloc, 9)?;
-    if is_landed(alloc, &mut desk, CREATE_LOG, CREATE_PLAN)
-        && is_leased(&mut desk)
-        && is_landed(alloc, &mut desk, LETTERS_LOG, LETTERS_PLAN)
-    {
+    if is_landed(alloc, &mut desk, CREATE_LOG, CREATE_PLAN) && is_leased(&mut desk) {
         Some(desk)
     } else {
         None
     }
 }
 
-/// A call on the log of five edits, with the answer that is expected.
+/// A call on the log that writes ten letters, with the answer that is expected.
 #[derive(Clone, Copy)]
 enum Call {
-    /// Pieces, with which the check says of the right plan that it is.
+    /// The pieces of the right plan.
     Sweep,
     /// What the check of the right plan says.
     Check(Result<u64, RowFault>),
@@ -70,7 +65,7 @@ fn is_checked(answer: Result<u64, RowFault>, wanted: Result<u64, RowFault>) -> O
 fn plan<A: Allocator + Copy>(alloc: A, call: Call) -> Option<Plan<A>> {
     match call {
         Call::CheckOther(_) => decode_plan(alloc, CREATE_PLAN).ok(),
-        _ => decode_plan(alloc, EDITS_PLAN).ok(),
+        _ => decode_plan(alloc, LETTERS_PLAN).ok(),
     }
 }
 
@@ -83,8 +78,8 @@ fn called<A: Allocator + Copy>(
     call: Call,
     growth: u64,
 ) -> Option<bool> {
-    let mut plan = plan(alloc, call)?;
-    let log = decode_log(alloc, EDITS_LOG).ok()?;
+    let plan = plan(alloc, call)?;
+    let log = decode_log(alloc, LETTERS_LOG).ok()?;
     let is_known = view.client(log.client).is_some();
     if !is_known {
         return None;
@@ -96,10 +91,7 @@ fn called<A: Allocator + Copy>(
     heap.refuse_after(growth);
     let is_right = match call {
         Call::Sweep => match sweep(alloc, &log, &walk) {
-            Ok(pieces) => {
-                plan.pieces = RowList::from_vec(pieces);
-                is_checked(check_plan(alloc, &log, &walk, &plan), Ok(1))
-            }
+            Ok(pieces) => Some(pieces.as_slice() == plan.pieces.as_slice()),
             Err(_) => None,
         },
         Call::Check(wanted) | Call::CheckOther(wanted) => {
@@ -115,7 +107,7 @@ fn called<A: Allocator + Copy>(
 
 /// The same on a desk of its own.
 fn called_on_a_desk(heap: &Refusing<Global>, call: Call, growth: u64) -> Option<bool> {
-    let desk = lettered(heap)?;
+    let desk = with_file(heap)?;
     let view = desk.view().ok()?;
     called(heap, heap, &view, call, growth)
 }
