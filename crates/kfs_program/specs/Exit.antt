@@ -1,6 +1,8 @@
 -- The exit status of the program, and what a person is told of it.
 use Rattle.std.specs.Prelude.{◌≡◌, ◌⊎◌, ◌≤◌, ◌==◌, ℕ, List, [], codes, Option, Some, None, Result, Ok, Err, if◌then◌else◌}
+use Rattle.std.specs.Io.KnownBytes.{IsAtEnd}
 use Rattle.kfs_program_engine.specs.Transcript.{IsSession}
+use Rattle.kfs_program_text.specs.Streams.{Exchanges}
 use Rattle.kfs_program_engine.specs.declared.fault.EngineFault.{EngineFault}
 use Rattle.kfs_program_engine.specs.declared.fault.EngineFault.TheVariants.{ReadFault, WriteFault, LongLine, OutOfMemory}
 
@@ -27,6 +29,11 @@ abbrev pub IsExit : (at_end : Type 0) → (words status : ℕ) → (input text :
 IsExit at_end words status input text =
     ((status ≡ 2) × IsUntouched input text)
     ⊎ (((status ≡ 4) × IsUntouched input text) ⊎ ((words ≤ 2) × IsEnded at_end status input text))
+
+-- so the words are run; `after_reads` is what the reader has left
+abbrev pub Exits : (before_reads after_reads before_writes after_writes : Option (List ℕ)) → (words status : ℕ) → Type 0
+Exits before_reads after_reads before_writes after_writes words status =
+    Exchanges before_reads after_reads before_writes after_writes (IsExit (IsAtEnd after_reads) words status)
 
 -- the message for a status, if there is one
 abbrev pub message_of : (status : ℕ) → Option (List ℕ)

@@ -1,8 +1,6 @@
 //! The words of the command line, and the exit status.
 ghost use Rattle.std.specs.Prelude.{◌≡◌, ◌≤◌, length, MatchOption, None, OnOk, Some};
-ghost use Rattle.std.specs.Io.KnownBytes.{IsAtEnd};
-ghost use Rattle.kfs_program.specs.Exit.{IsExit, message_of, status_of};
-ghost use Rattle.kfs_program_text.specs.Streams.{Exchanges};
+ghost use Rattle.kfs_program.specs.Exit.{Exits, message_of, status_of};
 
 use clap::Command;
 use clap::error::ErrorKind;
@@ -40,7 +38,7 @@ where
     A: Allocator + Copy,
     I: Read,
     O: Write,
-    ensures { Exchanges (I.remaining reader.old) (I.remaining reader.new) (O.contents writer.old) (O.contents writer.new) (IsExit (IsAtEnd (I.remaining reader.new)) (length words.now) result) }
+    ensures { Exits (I.remaining reader.old) (I.remaining reader.new) (O.contents writer.old) (O.contents writer.new) (length words.now) result }
 {
     match asked_of(rt.alloc(), words) {
         Ok(Subcommand::Run) => exit_status(engine(rt, alloc, reader, writer)),

@@ -1,9 +1,8 @@
 -- What the workers of a session hold.
 use Rattle.std.proofs.Common.{◌≡◌, ◌≢◌, inl, inr, ℕ, ◌++◌, List, Option, Some, None, option_map, Result, Ok, Err, refl, sym, ap, subst, ◌∙◌}
-use Rattle.std.specs.Prelude.{get_or, set, codes, decimal, IfErr, OnOk}
+use Rattle.std.specs.Prelude.{set, codes, decimal, IfErr, OnOk}
 use Rattle.std.specs.Option.{ok_or}
-use Rattle.std.proofs.Math.ListN.{get_or-map}
-use Rattle.std.proofs.lemmas.List.{map-set, set-get_or, set-set}
+use Rattle.std.proofs.lemmas.List.{set-get_or, set-set}
 use Rattle.std.proofs.lemmas.Result.{on_ok_weaker}
 use Rattle.kfs_model.specs.Judgement.{Submission}
 use Rattle.kfs_plan.specs.Judged.{Judged}
@@ -14,8 +13,7 @@ use Rattle.kfs_program_command.specs.Command as commands
 use Rattle.kfs_program_command.specs.Command.{asked_by, landing_worker}
 use Rattle.kfs_program_command.specs.Views.{act_of, asked_of_desk}
 use Rattle.kfs_program_command.specs.declared.command.DeskCommand.{DeskCommand}
-use Rattle.kfs_program_engine.specs.HeldVerdicts.{HeldVerdicts, held_by, with_held}
-use Rattle.kfs_program_engine.specs.Holding.{hands_of}
+use Rattle.kfs_program_verdicts.specs.HeldVerdicts.{HeldVerdicts, held_by, with_held}
 use Rattle.kfs_program_engine.specs.Session.{After, Before, DeskOutcome, AnswersCommand, AnswersLine, IsCallAnswered, IsLandingAnswered, IsReplied, IsSaid, AnswersJudge, AnswersLand, LineOutcome, DeskAnswers, Stage, WithHands, left_without_memory, opened}
 use Rattle.kfs_program_engine.specs.Views.{IsUndone, stage_in, start_of}
 use Rattle.kfs_program_engine.specs.declared.opening.Opening.{Opening}
@@ -26,17 +24,6 @@ use Rattle.kfs_workers.specs.Holding.{verdict_of}
 use Rattle.kfs_workers.specs.Verdict.{HeldVerdict, IsVerdictOn}
 
 -- ---- hands
-
--- what is written into a hand, as it is shown
-pub shown_with : {A : Type 0} (held : List (Option (Judged A))) (worker : ℕ) (hand : Option (Judged A)) → hands_of (set held worker hand) ≡ with_held (hands_of held) worker (option_map verdict_of hand)
-shown_with held worker hand = map-set (option_map verdict_of) held worker hand
-
-pub shown_at : {A : Type 0} (held : List (Option (Judged A))) (worker : ℕ) → held_by (hands_of held) worker ≡ option_map verdict_of (get_or held worker None)
-shown_at held worker = get_or-map (option_map verdict_of) held worker None
-
-pub none_shown : {A : Type 0} (hand : Option (Judged A)) → option_map verdict_of hand ≡ None → hand ≡ None
-none_shown None is = refl
-none_shown (Some judged) is = cc
 
 module _ (desk : Desk) (old new : HeldVerdicts) (worker : ℕ) where
   pub judged_held : (submission : Submission) (verdict : HeldVerdict) → held_by old worker ≡ None → new ≡ with_held old worker (Some verdict) → IsVerdictOn desk.state submission verdict

@@ -10,7 +10,7 @@ use Rattle.kfs_model.specs.Tree.{NameTable}
 use Rattle.kfs_model_device.specs.ShownTree.{shown_tree}
 use Rattle.kfs_image.specs.Image.{fresh_image}
 use Rattle.kfs_desk.specs.Machine.{Desk, opened_at}
-use Rattle.kfs_program_engine.specs.HeldVerdicts.{HeldVerdicts, no_verdict, with_held}
+use Rattle.kfs_program_verdicts.specs.HeldVerdicts.{HeldVerdicts, no_verdict, with_held}
 use Rattle.kfs_program_engine.specs.Session.{Start}
 
 -- three tiers of eight blocks

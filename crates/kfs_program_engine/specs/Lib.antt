@@ -1,8 +1,6 @@
 pub mod Bytes
 pub mod Transcript
 pub mod Example
-pub mod HeldVerdicts
-pub mod Holding
 pub mod Listing
 pub mod Progress
 pub mod Session

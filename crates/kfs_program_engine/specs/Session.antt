@@ -21,7 +21,7 @@ use Rattle.kfs_plan.specs.declared.answers.Done.TheVariants.{Leased, Dropped, Ti
 use Rattle.kfs_plan.specs.declared.answers.Reply.{Reply}
 use Rattle.kfs_program_command.specs.Command.{Command, Setup, Request, OpeningCommand, New, Row, Begin, DeskCommand, Lease, Drop, Tick, Submit, Node, Listing, Bytes, DocketLength, Judge, Land, asked_by, landing_worker}
 use Rattle.kfs_program_engine.specs.Bytes.{read_text}
-use Rattle.kfs_program_engine.specs.HeldVerdicts.{HeldVerdicts, held_by, no_verdict, with_held}
+use Rattle.kfs_program_verdicts.specs.HeldVerdicts.{HeldVerdicts, held_by, no_verdict, with_held}
 use Rattle.kfs_workers.specs.Verdict.{IsVerdictOn, HeldVerdict, LandsVerdict}
 use Rattle.kfs_program_engine.specs.Listing.{list_text}
 use Rattle.kfs_report.specs.Text.{act_text, begin_text, client_text, node_text, reply_text}

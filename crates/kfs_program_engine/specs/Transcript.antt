@@ -1,7 +1,9 @@
 -- What the engine writes, given what it reads.
-use Rattle.std.specs.Prelude.{◌≡◌, ◌⊎◌, ◌<◌, ◌≤◌, ℕ, List, [], ◌∷◌, ◌++◌, length, Result, Ok, Err}
+use Rattle.std.specs.Prelude.{◌≡◌, ◌⊎◌, ◌<◌, ◌≤◌, ℕ, List, [], ◌∷◌, ◌++◌, length, Option, Result, Ok, Err}
+use Rattle.std.specs.Io.KnownBytes.{IsAtEnd}
 use Rattle.std.specs.List.{AllByRecursion}
 use Rattle.kfs_program_text.specs.Cut.{cut, line_end, lines_of}
+use Rattle.kfs_program_text.specs.Streams.{Exchanges}
 use Rattle.kfs_program_engine.specs.Session.{Stage, AnswersLines, fresh}
 use Rattle.kfs_program_engine.specs.declared.fault.EngineFault.{EngineFault}
 use Rattle.kfs_program_engine.specs.declared.fault.EngineFault.TheVariants.{ReadFault, WriteFault, LongLine, OutOfMemory}
@@ -47,3 +49,9 @@ IsSession at_end (Err ReadFault) input text = (rest : List ℕ) × StopsBefore r
 IsSession at_end (Err WriteFault) input text = BreaksOff at_end input text
 IsSession at_end (Err LongLine) input text = (long : List ℕ) × (later : List (List ℕ)) × (longest_line < length long) × StopsBefore long later input text
 IsSession at_end (Err OutOfMemory) input text = (next : List ℕ) × (later : List (List ℕ)) × StopsBefore next later input text
+
+-- a session is read and its replies are written, by how the engine ended; `after_reads` is what the
+-- reader has left
+abbrev pub Converses : {T : Type 0} → (before_reads after_reads before_writes after_writes : Option (List ℕ)) → Result T EngineFault → Type 0
+Converses before_reads after_reads before_writes after_writes result =
+    Exchanges before_reads after_reads before_writes after_writes (IsSession (IsAtEnd after_reads) result)

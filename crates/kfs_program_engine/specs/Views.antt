@@ -2,7 +2,7 @@
 use Rattle.std.specs.Prelude.{◌≡◌, ◌⊎◌, ℕ, List, codes, Option, None, Some}
 use Rattle.kfs_desk.specs.Machine.{Desk}
 use Rattle.kfs_program_command.specs.Command as commands
-use Rattle.kfs_program_engine.specs.HeldVerdicts.{no_verdict}
+use Rattle.kfs_program_verdicts.specs.HeldVerdicts.{no_verdict}
 use Rattle.kfs_program_engine.specs.Session.{AnswersCommand, IsReplied, LineOutcome, Stage, Start, Before, After, left_without_memory, opened}
 use Rattle.kfs_program_text.specs.Parts.{line_of}
 use Rattle.kfs_program_engine.specs.declared.opening.Opening.{Opening}

@@ -7,7 +7,7 @@ ghost use Rattle.kfs_mode.specs.declared.client.ClientFault.TheVariants.{TooMany
 ghost use Rattle.kfs_program_command.specs.Command.{Begin, New, Row};
 ghost use Rattle.kfs_program_engine.specs.Transcript.{BreaksOff};
 ghost use Rattle.kfs_program_engine.specs.Example.{desk_of_7, desk_with, eight_blocks_each, full_docket, held_by_3, names_of_two_directories, opening_with, root_leased};
-ghost use Rattle.kfs_program_engine.specs.HeldVerdicts.{no_verdict};
+ghost use Rattle.kfs_program_verdicts.specs.HeldVerdicts.{no_verdict};
 ghost use Rattle.kfs_program_engine.specs.Listing.{list_text};
 ghost use Rattle.kfs_program_engine.specs.Session.{After, Before, AnswersLines, fresh, opened};
 ghost use Rattle.kfs_program_text.specs.Cut.{lines_of};

@@ -1,19 +1,17 @@
 //! The engine: reads command lines, and writes the desk's replies.
 //!
-//! It stands on `kfs_workers` (desk and verdicts), `kfs_program_command` (lines) and `kfs_report`
-//! (replies); `kfs_program` stands on it. Begin with `engine`, then `session.rt`.
+//! It stands on `kfs_workers` (desk and views), `kfs_program_verdicts` (verdicts that are held),
+//! `kfs_program_command` (lines) and `kfs_report` (replies); `kfs_program` stands on it. Begin with `engine`, then `session.rt`.
 #![tactic(auto)]
 
 ghost use Rattle.std.specs.Prelude.{◌≡◌, ◌<◌, length, IfErr, IfOk, OnOk};
 ghost use Rattle.std.specs.Io.KnownBytes.{IsAtEnd};
-ghost use Rattle.kfs_program_engine.specs.Transcript.{IsSession};
+ghost use Rattle.kfs_program_engine.specs.Transcript.{Converses};
 ghost use Rattle.kfs_program_text.specs.HeldOutput.{contents_with};
-ghost use Rattle.kfs_program_text.specs.Streams.{Exchanges};
 
 mod bytes;
 pub mod examples;
 mod fault;
-mod held_verdicts;
 mod listing;
 mod opening;
 mod session;
@@ -49,7 +47,7 @@ where
     A: Allocator + Copy,
     I: Read,
     O: Write,
-    ensures session { Exchanges (I.remaining reader.old) (I.remaining reader.new) (O.contents writer.old) (O.contents writer.new) (IsSession (IsAtEnd (I.remaining reader.new)) result) }
+    ensures session { Converses (I.remaining reader.old) (I.remaining reader.new) (O.contents writer.old) (O.contents writer.new) result }
     ensures end { OnOk result (IsAtEnd (I.remaining reader.new)) }
 {
     let mut chunk = new_chunk(alloc)?;
@@ -77,7 +75,7 @@ where
     I: Read,
     O: Write,
     requires { 0 < length chunk.old }
-    ensures session { Exchanges (I.remaining reader.old) (I.remaining reader.new) (O.contents writer.old) (O.contents result.0.now) (IsSession (IsAtEnd (I.remaining reader.new)) result.1) }
+    ensures session { Converses (I.remaining reader.old) (I.remaining reader.new) (O.contents writer.old) (O.contents result.0.now) result.1 }
     ensures reference { result.0.ghost_name ≡ writer.entry.ghost_name }
     ensures end { OnOk result.1 (IsAtEnd (I.remaining reader.new)) }
 {
@@ -102,7 +100,7 @@ where
     I: Read,
     O: Write,
     requires { 0 < length chunk.old }
-    ensures session { Exchanges (I.remaining reader.old) (I.remaining reader.new) (contents_with O.contents writer.old) (contents_with O.contents writer.new) (IsSession (IsAtEnd (I.remaining reader.new)) result) }
+    ensures session { Converses (I.remaining reader.old) (I.remaining reader.new) (contents_with O.contents writer.old) (contents_with O.contents writer.new) result }
     ensures first { writer.new.first ≡ writer.old.first }
     ensures end { OnOk result (IsAtEnd (I.remaining reader.new)) }
 {

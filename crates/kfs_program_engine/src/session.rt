@@ -13,7 +13,6 @@ ghost use Rattle.kfs_program_text.specs.Parts.{line_of};
 ghost use Rattle.kfs_entry_value.specs.Room.{spare_of};
 
 use crate::bytes::bytes_line;
-use crate::held_verdicts::HeldVerdicts;
 use crate::listing::list_line;
 use crate::opening::Opening;
 use crate::verdicts::{judge_for, land_for};
@@ -24,6 +23,7 @@ use kfs_plan::{Submission, Why};
 use kfs_program_command::{Command, DeskCommand, OpeningCommand, worker_to_land};
 use kfs_program_text::Refusal;
 use kfs_program_text::parts::{number, text};
+use kfs_program_verdicts::HeldVerdicts;
 use kfs_report::{act_line, node_line, reply_line};
 use std::alloc::Allocator;
 
@@ -53,8 +53,8 @@ impl<A: Allocator + Copy> Session<A> {
 
     /// Answers a line: appends its reply. Condition: the reply has room for 128 bytes.
     ///
-    /// A refusal leaves the state as it was, with one exception: a verdict for whose landing memory is
-    /// refused may be given up.
+    /// A refusal leaves the state as it was, with one exception: where memory is refused for a landing,
+    /// the verdict may be given up already. `give_up` makes that sure.
     pub fn answer(&mut self, line: &[u8], reply: &mut Vec<u8, A>) -> Result<(), Refusal>
         requires { 128 ≤ spare_of reply.old }
         ensures ok { OnOk result (IsReplied (AnswersLine (stage_of self.old) line.now) reply.old.items reply.new.items (stage_of self.new)) }
@@ -76,9 +76,7 @@ impl<A: Allocator + Copy> Session<A> {
         };
         match &mut self.stage {
             Stage::Before(_) => (),
-            Stage::After(_, hands) => {
-                let _verdict = hands.take(worker);
-            }
+            Stage::After(_, hands) => hands.give_up(worker),
         }
     }
 

@@ -9,12 +9,12 @@ ghost use Rattle.kfs_program_engine.specs.Session.{After, IsLandingAnswered, IsR
 ghost use Rattle.kfs_program_text.specs.Parts.{line_of};
 ghost use Rattle.kfs_entry_value.specs.Room.{spare_of};
 
-use crate::held_verdicts::HeldVerdicts;
 use kfs_desk::Desk;
 use kfs_plan::{Judged, Submission, Why};
 use kfs_program_command::Worker;
 use kfs_program_text::Refusal;
 use kfs_program_text::parts::{number, text};
+use kfs_program_verdicts::HeldVerdicts;
 use kfs_report::reply_line;
 use kfs_workers::DeskView;
 use std::alloc::Allocator;

@@ -55,12 +55,15 @@ fn refused_line(written: &[u8]) -> Option<usize> {
     lines.position(|line| line == REFUSED)
 }
 
-/// The index of the last line before this one whose reply is that this worker holds a verdict.
-fn judged_line(written: &[u8], index: usize, worker: &[u8]) -> Option<usize> {
+/// The index of the line that made the verdict which the line with this index lands, if it lands one.
+fn verdict_line(lines: &[u8], written: &[u8], index: usize) -> Option<usize> {
+    let landing = line_at(lines, index)?;
+    let worker = landing.strip_prefix(b"land ")?;
     let mut judged = None;
-    let lines = written.split(|byte| *byte == b'\n');
-    for (at, line) in lines.enumerate() {
-        if at < index && line.strip_prefix(b"judged ") == Some(worker) {
+    for at in 0..index {
+        if line_at(lines, at) == Some(landing) {
+            judged = None;
+        } else if line_at(written, at)?.strip_prefix(b"judged ") == Some(worker) {
             judged = Some(at);
         }
     }
@@ -116,17 +119,10 @@ fn is_due_without<R: AllocGlobal>(
     written: &[u8],
     index: usize,
 ) -> Result<bool, AllocError> {
-    let left = Transcript::without(rt.alloc(), lines, written, index)?;
-    if left.is_due(rt, words) {
-        return Ok(true);
+    let mut left = Transcript::without(rt.alloc(), lines, written, index)?;
+    if let Some(judged) = verdict_line(lines, written, index) {
+        left = Transcript::without(rt.alloc(), &left.lines, &left.replies, judged)?;
     }
-    let Some(worker) = line_at(lines, index).and_then(|line| line.strip_prefix(b"land ")) else {
-        return Ok(false);
-    };
-    let Some(judged) = judged_line(written, index, worker) else {
-        return Ok(false);
-    };
-    let left = Transcript::without(rt.alloc(), &left.lines, &left.replies, judged)?;
     Ok(left.is_due(rt, words))
 }
 

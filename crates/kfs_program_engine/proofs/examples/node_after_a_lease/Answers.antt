@@ -10,7 +10,7 @@ use Rattle.kfs_plan.specs.declared.answers.Done.TheVariants.{Leased}
 use Rattle.kfs_program_text.specs.Cut.{cut}
 use Rattle.kfs_program_text.specs.Decimals.{decimals32}
 use Rattle.kfs_program_engine.specs.Example.{root_leased, root_row}
-use Rattle.kfs_program_engine.specs.HeldVerdicts.{no_verdict}
+use Rattle.kfs_program_verdicts.specs.HeldVerdicts.{no_verdict}
 use Rattle.kfs_program_engine.specs.Session.{After}
 use Rattle.kfs_program_engine.proofs.examples.node_after_a_lease.Goals as goal
 

@@ -3,7 +3,7 @@ use Rattle.std.proofs.Common.{ℕ, List, [], inl, inr, refl}
 use Rattle.std.specs.Prelude.{codes}
 use Rattle.kfs_program_text.specs.Cut.{cut}
 use Rattle.kfs_program_engine.specs.Example.{full_docket}
-use Rattle.kfs_program_engine.specs.HeldVerdicts.{no_verdict}
+use Rattle.kfs_program_verdicts.specs.HeldVerdicts.{no_verdict}
 use Rattle.kfs_program_engine.specs.Session.{After}
 use Rattle.kfs_program_engine.proofs.examples.verdict_without_memory.Goals as goal
 

@@ -1,9 +1,9 @@
 use Rattle.std.proofs.Common.{◌∙◌, ap, Some}
-use Rattle.kfs_program_engine.specs.HeldVerdicts.{with_held}
-use Rattle.kfs_program_engine.specs.Holding.{hands_of}
+use Rattle.kfs_program_verdicts.specs.HeldVerdicts.{with_held}
+use Rattle.kfs_program_verdicts.specs.Holding.{hands_of}
 use Rattle.kfs_workers.specs.Holding.{verdict_of}
-use Rattle.kfs_program_engine.proofs.Held.{shown_with}
-use Rattle.kfs_program_engine.proofs.held_verdicts.HeldVerdicts.put.Goals as goal
+use Rattle.kfs_program_verdicts.proofs.Hands.{shown_with}
+use Rattle.kfs_program_verdicts.proofs.held_verdicts.HeldVerdicts.put.Goals as goal
 
 pub returns : goal.returns
 returns g c =

@@ -1,6 +1,6 @@
 //! The verdicts that workers hold: each worker one, or none.
 ghost use Rattle.std.specs.Prelude.{◌≡◌, ◌↔◌, IfOk, IsTrue, None, Some, option_map};
-ghost use Rattle.kfs_program_engine.specs.HeldVerdicts.{held_by, no_verdict, with_held};
+ghost use Rattle.kfs_program_verdicts.specs.HeldVerdicts.{held_by, no_verdict, with_held};
 ghost use Rattle.kfs_workers.specs.Holding.{verdict_of};
 
 use kfs_plan::Judged;
@@ -16,12 +16,12 @@ pub struct HeldVerdicts<A: Allocator> {
 }
 
 impl<A: Allocator> Model for HeldVerdicts<A> {
-    ghost use Rattle.kfs_program_engine.specs.HeldVerdicts.{HeldVerdicts as VerdictsShown};
+    ghost use Rattle.kfs_program_verdicts.specs.HeldVerdicts.{HeldVerdicts as VerdictsShown};
     ghost use Rattle.std.specs.Prelude.{◌≡◌, length};
 
     ghost Value = { VerdictsShown };
 
-    ghost use Rattle.kfs_program_engine.specs.Holding.{hands_of};
+    ghost use Rattle.kfs_program_verdicts.specs.Holding.{hands_of};
 
     ghost view = { λ h. hands_of h.held.items };
 
@@ -60,5 +60,12 @@ impl<A: Allocator> HeldVerdicts<A> {
         ensures left { self.new ≡ with_held self.old worker.number None }
     {
         self.held[worker.number()].take()
+    }
+
+    /// Gives up the worker's verdict, if it holds one.
+    pub fn give_up(&mut self, worker: Worker)
+        ensures { self.new ≡ with_held self.old worker.number None }
+    {
+        let _verdict = self.take(worker);
     }
 }

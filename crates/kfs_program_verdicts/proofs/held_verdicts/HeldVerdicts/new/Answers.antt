@@ -1,7 +1,7 @@
 use Rattle.std.proofs.Common.{◌∙◌, ◌∷◌, ◌++◌, [], ap, arith, length, replicate, None}
 use Rattle.std.proofs.lemmas.List.{replicate_more}
-use Rattle.kfs_program_engine.specs.Holding.{hands_of}
-use Rattle.kfs_program_engine.proofs.held_verdicts.HeldVerdicts.new.Goals as goal
+use Rattle.kfs_program_verdicts.specs.Holding.{hands_of}
+use Rattle.kfs_program_verdicts.proofs.held_verdicts.HeldVerdicts.new.Goals as goal
 
 pub loop-preserved : goal.loop-preserved
 loop-preserved g c = c.in_ok-push.ensures.items ∙ ap (λ held. held ++ None ∷ []) c.loop.invariant ∙ replicate_more c.loop.counter None

@@ -2,7 +2,7 @@
 use Rattle.std.specs.Prelude.{List, map, Option, option_map}
 use Rattle.kfs_plan.specs.Judged.{Judged}
 use Rattle.kfs_workers.specs.Holding.{verdict_of}
-use Rattle.kfs_program_engine.specs.HeldVerdicts.{HeldVerdicts}
+use Rattle.kfs_program_verdicts.specs.HeldVerdicts.{HeldVerdicts}
 
 abbrev pub hands_of : {A : Type 0} → List (Option (Judged A)) → HeldVerdicts
 hands_of held = map (option_map verdict_of) held

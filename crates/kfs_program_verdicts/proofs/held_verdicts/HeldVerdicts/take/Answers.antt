@@ -1,9 +1,9 @@
 use Rattle.std.proofs.Common.{◌∙◌, ap, None}
 use Rattle.std.specs.Prelude.{set}
-use Rattle.kfs_program_engine.specs.HeldVerdicts.{with_held}
-use Rattle.kfs_program_engine.specs.Holding.{hands_of}
-use Rattle.kfs_program_engine.proofs.Held.{shown_with}
-use Rattle.kfs_program_engine.proofs.held_verdicts.HeldVerdicts.take.Goals as goal
+use Rattle.kfs_program_verdicts.specs.HeldVerdicts.{with_held}
+use Rattle.kfs_program_verdicts.specs.Holding.{hands_of}
+use Rattle.kfs_program_verdicts.proofs.Hands.{shown_with}
+use Rattle.kfs_program_verdicts.proofs.held_verdicts.HeldVerdicts.take.Goals as goal
 
 pub returns-clause-left : goal.returns-clause-left
 returns-clause-left g c =

@@ -1,0 +1,2 @@
+-- Lemmas on hands.
+pub mod Hands

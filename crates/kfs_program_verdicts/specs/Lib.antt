@@ -1,0 +1,2 @@
+pub mod HeldVerdicts
+pub mod Holding
