@@ -96,7 +96,7 @@ pub fn create<A: Allocator + Copy>(alloc: A) -> Result<Submission<A>, AllocError
 }
 
 /// Whether the submission was answered so, or came back for this reason.
-pub fn is_answer<A: Allocator>(
+fn is_answer<A: Allocator>(
     given: &Result<Reply, Back<A>>,
     wanted: &Result<Reply, Why>,
 ) -> bool {

@@ -15,8 +15,6 @@ mod bytes;
 #[cfg(test)]
 mod desks;
 #[cfg(test)]
-mod judging;
-#[cfg(test)]
 mod leases;
 #[cfg(test)]
 mod pages;
