@@ -103,9 +103,9 @@ def run(words, folder):
     return [[int(word) / 1000 for word in line.split()] for line in ran.stdout.splitlines()]
 
 
-def peak(words, folder):
-    """Returns the greatest resident size in KiB of a process that goes on for a second."""
-    greatest, end = 0, time.monotonic() + 1
+def peak(words, folder, seconds=1):
+    """Returns the greatest resident size in KiB of a process that goes on for so many seconds."""
+    greatest, end = 0, time.monotonic() + seconds
     with subprocess.Popen(words, cwd=folder, stdin=subprocess.DEVNULL, stdout=subprocess.DEVNULL) as process:
         while time.monotonic() < end:
             with open(f"/proc/{process.pid}/status") as it:

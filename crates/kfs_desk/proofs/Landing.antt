@@ -1,5 +1,5 @@
 -- What the rows of a Yes make of names, headers and leases.
-use Rattle.std.proofs.Common.{◌≡◌, ◌≢◌, ℕ, ◌==◌, ◌&&◌, ◌||◌, not, Bool, true, false, cond, T, List, [], ◌∷◌, map, Option, Some, None, option_map, is_some, refl, sym, ap, subst, ◌∙◌, eqb-true}
+use Rattle.std.proofs.Common.{◌≡◌, ◌≢◌, ℕ, ◌==◌, ◌&&◌, ◌||◌, not, Bool, true, false, cond, T, List, [], ◌∷◌, ◌++◌, map, Option, Some, None, option_map, is_some, refl, sym, ap, subst, ◌∙◌, eqb-true}
 use Rattle.std.specs.Prelude.{is_none}
 use Rattle.std.specs.List.{list_any}
 use Rattle.std.proofs.lemmas.Bool.{and_parts, and_from, both_ways, false_from_ne_true, eq-eqb}
@@ -27,7 +27,8 @@ use Rattle.kfs_image_nodes.specs.Contents.{contents_in}
 use Rattle.kfs_image.proofs.NetTables.{net_makes}
 use Rattle.kfs_judge_step.specs.Rows.{keyed_node_row}
 use Rattle.kfs_plan.specs.Judging.{TellsYes}
-use Rattle.kfs_desk.specs.Landing.{ended_by, ended_with}
+use Rattle.kfs_lease.specs.Removed.{without_nodes_in}
+use Rattle.kfs_desk.specs.Landing.{ended_by, ended_with, removed_by, removed_with}
 use Rattle.kfs_desk.specs.Machine.{Parts, IsDesk, state_of}
 
 -- ---- leases on nodes that go
@@ -69,6 +70,17 @@ left_on leases (row ∷ rows) key = by row.now (λ left. left_on left rows key)
         at : (b : Bool) → cond (list_any (says_gone key.1) rows) None (get leases.rows key) ≡ cond ((b && false) || list_any (says_gone key.1) rows) None (get leases.rows key)
         at true = refl
         at false = refl
+
+-- the leases on the nodes that the rows remove end, one row after another
+pub ends_on_removed : (leases : Leases) (rows : List NodeRow) → without_nodes_in leases (removed_by rows) ≡ ended_by leases rows
+unfolding without_gone
+ends_on_removed leases [] = refl
+ends_on_removed leases (row ∷ rows) = by row.now (λ left. ends_on_removed left rows)
+  where
+    by : (now : Option CodeHeader) → ((left : Leases) → without_nodes_in left (removed_by rows) ≡ ended_by left rows)
+        → without_nodes_in leases (removed_with row.number now ++ removed_by rows) ≡ ended_by (ended_with leases row.number now) rows
+    by None rest = rest (without_gone leases (λ node. not (node == row.number)))
+    by (Some header) rest = rest leases
 
 same_moment : (leases : Leases) (rows : List NodeRow) → (ended_by leases rows).moment ≡ leases.moment
 unfolding without_gone on_those

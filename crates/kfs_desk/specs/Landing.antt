@@ -1,5 +1,5 @@
 -- What the outcome of a verdict does to an image and its leases, and the answer to it.
-use Rattle.std.specs.Prelude.{◌≡◌, ℕ, ◌≤◌, ◌<◌, ◌==◌, not, Bool, List, [], ◌∷◌, length, Option, None, Some}
+use Rattle.std.specs.Prelude.{◌≡◌, ℕ, ◌≤◌, ◌<◌, ◌==◌, not, Bool, List, [], ◌∷◌, ◌++◌, length, Option, None, Some}
 use Rattle.std.specs.List.{AllByRecursion}
 use Rattle.kfs_model.specs.Lease.{Leases, without_gone}
 use Rattle.kfs_model.specs.Plan.{PiecesAscend}
@@ -13,7 +13,7 @@ use Rattle.kfs_image_tier.specs.Unused.{unused_places}
 use Rattle.kfs_image_nodes.specs.declared.net.Net.{Net}
 use Rattle.kfs_model_device.specs.ShownTree.{DeviceImage}
 use Rattle.kfs_image_fill.specs.declared.bytes.LogBytes.{LogBytes}
-use Rattle.kfs_image_fill.specs.Bytes.{entries_of, pieces_of}
+use Rattle.kfs_image_fill.specs.Bytes.{entries_of, pieces_of, HasPayloads}
 use Rattle.kfs_image_fill.specs.FillOf.{CanLandWith, HasLandedWith}
 use Rattle.kfs_plan.specs.declared.submission.Outcome.{Outcome}
 use Rattle.kfs_plan.specs.declared.submission.Outcome.TheVariants as outcomes
@@ -29,6 +29,15 @@ ended_with leases number (Some header) = leases
 abbrev pub ended_by : Leases → List NodeRow → Leases
 ended_by leases [] = leases
 ended_by leases (row ∷ rows) = ended_by (ended_with leases row.number row.now) rows
+
+-- the numbers of the nodes that the rows remove
+abbrev pub removed_with : (number : ℕ) → Option Header → List ℕ
+removed_with number None = number ∷ []
+removed_with number (Some header) = []
+
+abbrev pub removed_by : List NodeRow → List ℕ
+removed_by [] = []
+removed_by (row ∷ rows) = removed_with row.number row.now ++ removed_by rows
 
 -- how many places of tier 0 hold no block
 abbrev pub free_in : DeviceImage → ℕ
@@ -52,6 +61,14 @@ module _ {A : Type 0} where
   abbrev pub CanLand : DeviceImage → (source : List ℕ) → Outcome A → Type 0
   CanLand image source (outcomes.No fault) = Unit {0}
   CanLand image source (outcomes.Yes log plan net need) = CanLandYes image source log plan net need
+
+  -- what is asked of the bytes of a log and its net before they land
+  pub record CanLandBytes (image : DeviceImage) (bytes : LogBytes) (net : Net A) : Type 0 where
+    pub payloads : HasPayloads bytes
+    pub pieces : PiecesAscend (pieces_of bytes)
+    pub whole : AllByRecursion PieceIsInRange bytes.pieces.now
+    pub filled : AllByRecursion IsFilled bytes.pieces.now
+    pub fits : CanLandWith image bytes net
 
   -- the net was applied, with a fill of its log
   pub record HasLanded (old : DeviceImage) (source : List ℕ) (log : Log A) (plan : Plan A) (net : Net A) (new : DeviceImage) : Type 0 where

@@ -1,8 +1,6 @@
 //! The desk: it owns the image and the leases, and lands what was judged right.
 ghost use Rattle.std.specs.Prelude.{◌≡◌, ◌↔◌, ◌⊎◌, false, ◌+◌, ◌≤◌, ◌<◌, ◌++◌, ◌∷◌, [], IfOk, IfErr, OnErr, OnOk, IsErrOf, IsFalse, IsTrue, Ok, Err, None, Some, length};
-ghost use Rattle.std.specs.List.{AllByRecursion};
 ghost use Rattle.kfs_model.specs.Order.{IsInOrder};
-ghost use Rattle.kfs_model.specs.Plan.{PiecesAscend};
 ghost use Rattle.kfs_model.specs.Machine as machine;
 ghost use Rattle.kfs_model.specs.Machine.{opening};
 ghost use Rattle.kfs_model.specs.Table.{empty};
@@ -13,12 +11,9 @@ ghost use Rattle.kfs_lease_rows.specs.Rows.{kind_of};
 ghost use Rattle.kfs_image_nodes.specs.Contents.{sight_of};
 ghost use Rattle.kfs_model_device.specs.ShownTree.{IsLawful, shown_tree};
 ghost use Rattle.kfs_image.specs.Image as images;
-ghost use Rattle.kfs_plan_sweep.specs.Lefts.{IsFilled, PieceIsInRange};
-ghost use Rattle.kfs_image_fill.specs.Bytes.{HasPayloads, pieces_of};
-ghost use Rattle.kfs_image_fill.specs.FillOf.{CanLandWith, HasLandedWith};
 ghost use Rattle.kfs_judge_check.specs.View.{clients_of, contents_of, leases_of};
 ghost use Rattle.kfs_plan.specs.Judging.{IsVerdict, submission_of};
-ghost use Rattle.kfs_desk.specs.Landing.{AnswersOutcome, CanLand, ended_by, ended_with, leases_left};
+ghost use Rattle.kfs_desk.specs.Landing.{AnswersOutcome, CanLand, leases_left};
 ghost use Rattle.kfs_desk.specs.Machine.{AreShown, IsAnswered, IsBackFor, IsCallOf, IsChangeOf, IsCurrent, IsImageOf, IsViewOf, RunsThrough, call_of, done_by, number_of, opened_at, outcome_at, state_at};
 ghost use Rattle.kfs_desk.specs.Docket.{is_rejudged};
 ghost use Rattle.kfs_desk.specs.Opening.{begin_fault};
@@ -26,12 +21,12 @@ ghost use Rattle.kfs_desk.specs.Opening.{begin_fault};
 use crate::back::BeginBack;
 use crate::docket::{add_act, add_answer};
 use crate::first_fault::first_fault;
+use crate::landing::change_state;
 use crate::state::ShownState;
 use kfs_desk_docket::Docket;
-use kfs_entry::NodeRow;
 use kfs_entry_value::push_within;
-use kfs_image::{Image, Net, Shape};
-use kfs_image_fill::{LogBytes, land_bytes};
+use kfs_image::{Image, Shape};
+use kfs_image_fill::LogBytes;
 use kfs_judge::View;
 use kfs_lease::{LeaseFault, LeaseKind, Leases};
 use kfs_mode::Client;
@@ -397,8 +392,9 @@ fn view_of<A: Allocator + Copy>(
     Ok(View::of(shape, leases.clone()?, clients.clone()?))
 }
 
-/// Makes the call's change of the leases. They are copied first where a view shares them.
-fn change<A: Allocator + Clone>(
+/// Makes the call's change of the leases. Where a view shares them, a copy is made first, which shares
+/// their rows.
+fn change<A: Allocator + Copy>(
     leases: &mut Arc<Leases<A>, A>,
     shape: &Shape<A>,
     clients: &[Client],
@@ -418,7 +414,7 @@ fn change<A: Allocator + Clone>(
 }
 
 /// Makes the call's change of the leases.
-fn made<A: Allocator + Clone>(
+fn made<A: Allocator + Copy>(
     leases: &mut Leases<A>,
     shape: &Shape<A>,
     clients: &[Client],
@@ -505,45 +501,4 @@ fn land<A: Allocator + Copy>(
         rejudged,
         need,
     })
-}
-
-/// Makes a net's change, with the bytes of its log. All memory is taken before the first change: the
-/// leases are copied first where a view shares them.
-fn change_state<A: Allocator + Copy>(
-    alloc: A,
-    image: &mut Image<A>,
-    leases: &mut Arc<Leases<A>, A>,
-    bytes: &LogBytes<'_>,
-    net: &Net<A>,
-) -> Result<(), AllocError>
-    requires payloads { HasPayloads bytes.now }
-    requires pieces { PiecesAscend (pieces_of bytes.now) }
-    requires whole { AllByRecursion PieceIsInRange bytes.now.pieces.now }
-    requires filled { AllByRecursion IsFilled bytes.now.pieces.now }
-    requires fits { CanLandWith image.old bytes.now net.now }
-    ensures image { OnOk result (HasLandedWith image.old bytes.now net.now image.new) }
-    ensures leases { OnOk result (leases.new.value ≡ ended_by leases.old.value net.now.nodes.items) }
-    ensures err { OnErr result ((image.new ≡ image.old) × (leases.new.value ≡ leases.old.value)) }
-{
-    let leases = Arc::make_mut(leases)?;
-    land_bytes(alloc, image, bytes, net)?;
-    end_leases(leases, net.nodes.as_slice());
-    Ok(())
-}
-
-/// Ends the leases on the nodes that the rows remove.
-fn end_leases<A: Allocator>(leases: &mut Leases<A>, nodes: &[NodeRow])
-    ensures { leases.new ≡ ended_by leases.old nodes.now }
-{
-    for row in nodes {
-        end_leases_on(leases, row);
-    }
-}
-
-fn end_leases_on<A: Allocator>(leases: &mut Leases<A>, row: &NodeRow)
-    ensures { leases.new ≡ ended_with leases.old row.entry.now.number row.entry.now.now }
-{
-    if row.now.is_none() {
-        leases.remove_node(row.number);
-    }
 }

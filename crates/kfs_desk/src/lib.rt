@@ -8,6 +8,7 @@ mod back;
 mod desk;
 mod docket;
 mod first_fault;
+mod landing;
 mod state;
 
 pub use back::BeginBack;

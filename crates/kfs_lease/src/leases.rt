@@ -1,22 +1,25 @@
 //! Leases of clients on nodes, each up to an end moment. Read leases are shared, write leases
 //! exclusive.
-ghost use Rattle.std.specs.Prelude.{◌≡◌, ◌==◌, not, Ok, Err, IfOk, IfErr, OnOk, OnErr, IfSome, IsSomeAnd};
-ghost use Rattle.kfs_model.specs.Lease.{no_leases, holds, granted, dropped, ticked, without_gone};
+ghost use Rattle.std.specs.Prelude.{◌≡◌, Ok, IfOk, IfErr, OnOk, OnErr};
+ghost use Rattle.kfs_model.specs.Lease.{no_leases, holds, granted, dropped, ticked};
 ghost use Rattle.kfs_mode.specs.Clients.{ClientsAreDistinct};
 ghost use Rattle.kfs_image_nodes.specs.Contents.{sight_of};
-ghost use Rattle.kfs_lease.specs.Faults.{fault_of, Refuses};
+ghost use Rattle.kfs_lease.specs.Faults.{Refuses};
 ghost use Rattle.kfs_lease_rows.specs.Rows.{kind_of};
+ghost use Rattle.kfs_lease.specs.Removed.{without_nodes_in};
 ghost use Rattle.kfs_lease.specs.declared.leases.LeaseFault.TheVariants.{OutOfMemory};
 
 use crate::path::{names_of, walk};
 use kfs_image_nodes::Shape;
 use kfs_lease_rows::{Lease, LeaseKind, LeaseRows};
+use kfs_map_pages::Change;
 use kfs_mode::{Client, find_client};
 use std::alloc::{AllocError, AllocFailed, Allocator};
 use std::marker::Model;
 use thiserror::Error;
 
 /// The leases that clients hold on nodes, and the moment. A client has at most one lease on a node.
+/// Copies share what isn't changed.
 ///
 /// Moments are numbers that the caller counts, from 0; no clock is read. A lease is live while its end
 /// is above the moment.
@@ -37,12 +40,12 @@ impl<A: Allocator> Model for Leases<A> {
     ghost invariant = { λ l. EndsAreExact l.rows };
 }
 
-impl<A: Allocator + Clone> Clone for Leases<A> {
+impl<A: Allocator + Copy> Clone for Leases<A> {
     ghost is_clone = { λ leases copy. copy ≡ leases };
 
     fn clone(&self) -> Result<Leases<A>, AllocError> {
         Ok(Leases {
-            rows: self.rows.copy()?,
+            rows: self.rows.clone()?,
             moment: self.moment,
         })
     }
@@ -110,9 +113,7 @@ impl<A: Allocator + Copy> Leases<A> {
             moment: 0,
         }
     }
-}
 
-impl<A: Allocator> Leases<A> {
     /// Whether the client holds a live write lease on the node; false where there is no such client or
     /// node. Takes no memory.
     pub fn holds(&self, client: u32, number: u32) -> bool
@@ -131,8 +132,17 @@ impl<A: Allocator> Leases<A> {
         self.moment
     }
 
-    /// Ends the client's lease on the node. Refused with `UnknownClient` or `NoLeaseHeld`. Condition:
-    /// no two clients have the same number. Takes no memory.
+    /// An equal table, which shares this one's rows until either is changed. `Err` where memory is
+    /// refused.
+    pub fn copy(&self) -> Result<Leases<A>, AllocError>
+        ensures { IfOk result (λ copy. copy ≡ self.now) }
+    {
+        self.clone()
+    }
+
+    /// Ends the client's lease on the node. Refused with `UnknownClient` or `NoLeaseHeld`; with
+    /// `OutOfMemory` where memory is refused for what a copy shares, or for rows that are laid out
+    /// anew. Condition: no two clients have the same number.
     pub fn drop_lease(
         &mut self,
         clients: &[Client],
@@ -141,46 +151,49 @@ impl<A: Allocator> Leases<A> {
     ) -> Result<(), LeaseFault>
         requires distinct { ClientsAreDistinct clients.now }
         ensures ok { OnOk result (dropped self.old clients.now client number ≡ (Ok number, self.new)) }
-        ensures err { IfErr result (λ fault. IsSomeAnd (fault_of fault) (λ f. dropped self.old clients.now client number ≡ (Err f, self.new))) }
+        ensures err { IfErr result (λ fault. Refuses (dropped self.old clients.now client number) fault self.new) }
+        ensures unchanged { OnErr result (self.new ≡ self.old) }
     {
         if find_client(clients, client).is_none() {
             return Err(LeaseFault::UnknownClient);
         }
-        if !self.rows.take(client, number) {
+        if !self.rows.take(client, number)? {
             return Err(LeaseFault::NoLeaseHeld);
         }
         Ok(())
     }
 
     /// Goes to a moment, the same or a later one, and ends the leases that are no longer live. Refused
-    /// with `Backwards`. Takes no memory.
+    /// with `Backwards`, or with `OutOfMemory` where leases end and memory is refused.
     #[tactic(auto, unfolding(kfs_model::specs::Lease::ticked, kfs_model::specs::Lease::live_at))]
     pub fn tick(&mut self, moment: u64) -> Result<(), LeaseFault>
         ensures ok { OnOk result (ticked self.old moment ≡ (Ok moment, self.new)) }
-        ensures err { IfErr result (λ fault. IsSomeAnd (fault_of fault) (λ f. ticked self.old moment ≡ (Err f, self.new))) }
+        ensures err { IfErr result (λ fault. Refuses (ticked self.old moment) fault self.new) }
+        ensures unchanged { OnErr result (self.new ≡ self.old) }
     {
         if moment < self.moment {
             return Err(LeaseFault::Backwards);
         }
+        self.rows.end_until(moment)?;
         self.moment = moment;
-        self.rows.end_until(moment);
         Ok(())
     }
 
-    /// Ends all leases on a node that is removed. Takes no memory.
-    pub fn remove_node(&mut self, number: u32)
-        ensures { self.new ≡ without_gone self.old (λ node. not (node == number)) }
+    /// Ends all leases on nodes that are removed, together with another change, or makes neither. All
+    /// memory is taken first; then comes the other change, then the leases end. `Err` where memory is
+    /// refused.
+    pub fn remove_nodes<T: Change>(
+        &mut self,
+        numbers: &[u32],
+        then: &mut T,
+    ) -> Result<(), AllocError>
+        requires then { T.can_make then.old }
+        ensures ok { OnOk result (self.new ≡ without_nodes_in self.old numbers.now) }
+        ensures err { OnErr result (self.new ≡ self.old) }
+        ensures made { OnOk result (T.made then.old then.new) }
+        ensures kept { OnErr result (T.kept then.old then.new) }
     {
-        self.rows.remove_node(number);
-    }
-}
-
-impl<A: Allocator + Clone> Leases<A> {
-    /// An equal table, as a copy. `Err` where memory is refused.
-    pub fn copy(&self) -> Result<Leases<A>, AllocError>
-        ensures { IfOk result (λ copy. copy ≡ self.now) }
-    {
-        self.clone()
+        self.rows.remove_nodes(numbers, then)
     }
 
     /// Gives the client a lease on the node at the path, up to the moment `end`, and answers the node's
@@ -214,10 +227,12 @@ impl<A: Allocator + Clone> Leases<A> {
         if end <= self.moment {
             return Err(LeaseFault::Past);
         }
-        if let Some(holder) = self.rows.least_conflict(client, number, kind, self.moment) {
-            return Err(LeaseFault::LeaseHeld(holder));
+        match self.rows.contest(client, number, kind, self.moment) {
+            Ok(own) => {
+                self.rows.put(client, number, own, Lease { kind, end })?;
+                Ok(number)
+            }
+            Err(holder) => Err(LeaseFault::LeaseHeld(holder)),
         }
-        self.rows.put(client, number, Lease { kind, end })?;
-        Ok(number)
     }
 }

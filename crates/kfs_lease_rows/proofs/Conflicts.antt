@@ -1,57 +1,32 @@
--- The least client in conflict with a lease: the first one that a walk over a node's rows meets.
-use Rattle.std.proofs.Common.{◌≡◌, ℕ, suc, ◌<◌, ◌≤◌, Bool, true, false, cond, not, ◌&&◌, ◌||◌, ◌==◌, T, List, [], ◌∷◌, Option, Some, None, option_map, refl, sym, ap, subst, ◌∙◌, eq-eqb, arith}
+-- What a walk over a node's rows meets: the least client in conflict with a lease, or the client's own one.
+use Rattle.std.proofs.Common.{◌≡◌, ℕ, suc, ◌<◌, ◌≤◌, Bool, true, false, cond, not, ◌&&◌, ◌||◌, ◌==◌, T, List, [], ◌∷◌, Option, Some, None, option_map, inl, inr, refl, sym, ap, ◌∙◌, eq-eqb, arith}
 use Rattle.std.specs.Prelude.{find}
-use Rattle.std.specs.List.{All, AllByRecursion}
+use Rattle.std.specs.List.{AllByRecursion}
 use Rattle.std.specs.declared.cmp.Ordering.{Ordering}
 use Rattle.std.specs.declared.cmp.Ordering.TheVariants.{Less, Equal, Greater}
-use Rattle.std.specs.declared.ops.Bound.TheVariants.{Included, Unbounded}
-use Rattle.std.specs.Ordering.{nat_cmp, is_lt, is_gt, is_le, eq_by_cmp}
-use Rattle.std.specs.Cmp.{nat_cmp_is}
+use Rattle.std.specs.declared.ops.Bound.TheVariants.{Excluded}
+use Rattle.std.specs.Ordering.{nat_cmp, is_lt, is_gt, eq_by_cmp}
+use Rattle.std.specs.Cmp.{tied_itself}
 use Rattle.std.specs.FinMap.Entries as sorted_entries
 use Rattle.std.specs.List.Sorted.{IsStrictlySortedBy}
 use Rattle.std.specs.Map.{lookup, keys_of}
-use Rattle.std.specs.BTreeMap.{BTreeMap, is_at, IsOrdered}
-use Rattle.std.specs.BTreeMap.Range.{IsRangeOf, range_contains, entries_between}
-use Rattle.std.proofs.lemmas.Map.Entries.{lookup-filter-keys}
-use Rattle.std.proofs.lemmas.List.Kept.{IsStrictlySortedBy-filter}
-use Rattle.std.proofs.lemmas.Bool.Decides.{nat_tests}
+use Rattle.std.specs.BTreeMap.{is_at}
+use Rattle.std.proofs.lemmas.Bool.{both_ways, cases_lt}
 use borrow.Author.Tests.{eqb-true}
-use Rattle.kfs_model.specs.Table.{Table, pairs, numbers, get}
+use Rattle.kfs_model.specs.Table.{pairs, numbers, get}
 use Rattle.kfs_model.specs.Check.{is_some_and}
 use Rattle.kfs_model.specs.Lease as model
-use Rattle.kfs_model.proofs.Tables.{keys_of-filter, left_part}
+use Rattle.kfs_model.proofs.Tables.{left_part, right_part}
+use Rattle.kfs_map_chunks.specs.Starts.{is_from, IsNextEntry}
+use Rattle.kfs_map_chunks.specs.Tables.{table}
+use Rattle.kfs_map_chunks.proofs.Tables.{get-table}
 use Rattle.kfs_lease_rows.specs.declared.rows.Lease.{Lease}
-use Rattle.kfs_lease_rows.specs.Rows.{by_node, lease_of, table_of}
-use Rattle.kfs_lease_rows.proofs.RowTables.{get-table_of}
-use Rattle.kfs_lease_rows.proofs.KeyOrder.{first_part, from_first, same_first, less_first}
-use Rattle.kfs_lease_rows.proofs.Least.{IsLine, passes, first_is_least, one_least, least_alike, as_equal}
-
-right_part : (a b : Bool) → T (a && b) → T b
-right_part true b t = t
-right_part false b t = absurd t
-
-less_number : (c d : ℕ) → c < d → nat_cmp c d ≡ Less
-less_number c d less = sym (nat_cmp_is c d Less less)
-
-module _ (number : ℕ) where
-  abbrev on_node : ℕ → ℕ × ℕ
-  on_node c = (number, c)
-
-  node_line : IsLine by_node on_node (λ k. k.1) (λ k. k.0 == number)
-  node_line = record {
-    within = λ c. eq-eqb number number refl;
-    again = λ c. refl;
-    back = λ k is. let same : k.0 ≡ number = eqb-true k.0 number is in (λ i. (sym same i, k.1));
-    rising = λ c d less. same_first number (nat_cmp c d) ∙ less_number c d less;
-  }
-
-  table_line : IsLine (pairs numbers numbers) (λ c. (c, number)) (λ k. k.0) (λ k. k.1 == number)
-  table_line = record {
-    within = λ c. eq-eqb number number refl;
-    again = λ c. refl;
-    back = λ k is. let same : k.1 ≡ number = eqb-true k.1 number is in (λ i. (k.0, sym same i));
-    rising = λ c d less. less_first c d (nat_cmp number number) less;
-  }
+use Rattle.kfs_lease_rows.specs.Ending.{start_on, NoneOn}
+use Rattle.kfs_lease_rows.specs.Rows.{bars, by_node, lease_of, shown}
+use Rattle.kfs_lease_rows.proofs.RowTables.{get-shown}
+use Rattle.kfs_lease_rows.proofs.KeyOrder.{from_first, same_first, less_first, less_number}
+use Rattle.kfs_lease_rows.proofs.Least.{IsLeast, IsLine, passes, first_is_least, one_least, least_alike}
+use Rattle.kfs_lease_rows.proofs.Walks.{behind_is_less, passed, still_from}
 
 is_less : (o : Ordering) → T (is_lt o) → o ≡ Less
 is_less Less t = refl
@@ -72,113 +47,150 @@ module _ {K X : Type 0} (R : K → K → Ordering) where
   sorted_keys [] t = tt
   sorted_keys (e ∷ es) t = (below e.0 es (left_part (sorted_entries.below_all R e.0 es) (sorted_entries.is_sorted R es) t), sorted_keys es (right_part (sorted_entries.below_all R e.0 es) (sorted_entries.is_sorted R es) t))
 
-to_recursion : {X : Type 0} (P : X → Type 0) (xs : List X) → All P xs → AllByRecursion P xs
-to_recursion P [] all = tt
-to_recursion P (x ∷ xs) all = (all 0 x (omega arith), to_recursion P xs (λ k d less. all (suc k) d (omega arith)))
-
-regrouped : (a b c d : Bool) → (a && (b && c && d)) ≡ (a && b && c && d)
-regrouped true b c d = refl
+regrouped : (a b c d : Bool) → (a && (b && (c && d))) ≡ (a && b && c && d)
+regrouped true true c d = refl
+regrouped true false c d = refl
 regrouped false b c d = refl
 
-abbrev Row : Type 0
-Row = (ℕ × ℕ) × Lease
-
 module _ (client number moment : ℕ) (kind : model.LeaseKind) where
-  -- whether another client's lease keeps the client from one of this kind
-  abbrev pub bars : ℕ → model.Lease → Bool
-  bars other lease = not (other == client) && model.is_live moment lease && (model.is_write kind || model.is_write lease.kind)
+  -- the table's keys of the node, by their clients
+  table_line : IsLine (pairs numbers numbers) (λ c. (c, number)) (λ k. k.0) (λ k. k.1 == number)
+  table_line = record {
+    within = λ c. eq-eqb number number refl;
+    again = λ c. refl;
+    back = λ k is. let same : k.1 ≡ number = eqb-true k.1 number is in (λ i. (k.0, sym same i));
+    rising = λ c d less. less_first c d (nat_cmp number number) less;
+  }
 
-  -- the first client in conflict, in rows of which those of the node come first
-  abbrev pub first_ahead : List Row → Option ℕ
-  first_ahead [] = None
-  first_ahead (row ∷ rows) = cond (row.0.0 == number) (cond (bars row.0.1 (lease_of row.1)) (Some row.0.1) (first_ahead rows)) None
+  abbrev barred : ℕ → Lease → Bool
+  barred other lease = bars client moment kind other (lease_of lease)
 
-  abbrev bars_row : ℕ → Lease → Bool
-  bars_row other lease = bars other (lease_of lease)
+  -- whether another client has a lease on the node that keeps the client from one of this kind
+  abbrev pub is_barred : List ((ℕ × ℕ) × Lease) → ℕ → Bool
+  is_barred leases other = is_some_and (sorted_entries.find by_node.compare (number, other) leases) (barred other)
 
-  abbrev test : Row → Bool
-  test row = (row.0.0 == number) && bars_row row.0.1 row.1
-
-  -- the walk ends at another node's row
-  pub ahead_at_other : (row : Row) (rows : List Row) → (row.0.0 ≡ number → ⊥) → first_ahead (row ∷ rows) ≡ None
-  ahead_at_other row rows other =
-      let apart : (row.0.0 == number) ≡ false = grind (arith, nat_tests) in
-      ap (λ b. cond b (cond (bars row.0.1 (lease_of row.1)) (Some row.0.1) (first_ahead rows)) None) apart
-
-  -- the walk ends at a row in conflict
-  pub ahead_at_first : (row : Row) (rows : List Row) → row.0.0 ≡ number → (row.0.1 ≡ client → ⊥) → (model.is_live moment (lease_of row.1) && (model.is_write kind || model.is_write (lease_of row.1).kind)) ≡ true
-      → first_ahead (row ∷ rows) ≡ Some row.0.1
-  ahead_at_first row rows here other excludes =
-      let on : (row.0.0 == number) ≡ true = grind (arith, nat_tests) in
-      let apart : (row.0.1 == client) ≡ false = grind (arith, nat_tests) in
-      let barred : bars row.0.1 (lease_of row.1) ≡ true =
-      ap (λ b. not b && model.is_live moment (lease_of row.1) && (model.is_write kind || model.is_write (lease_of row.1).kind)) apart ∙ excludes in
-      ap (λ b. cond b (cond (bars row.0.1 (lease_of row.1)) (Some row.0.1) (first_ahead rows)) None) on ∙ ap (λ b. cond b (Some row.0.1) (first_ahead rows)) barred
-
-  none_later : (k : ℕ × ℕ) → number < k.0 → (rows : List Row) → AllByRecursion (λ q. by_node.compare k q ≡ Less) (keys_of rows) → find test rows ≡ None
-  none_later k after [] below = refl
-  none_later k after (row ∷ rows) below =
-      let at_least : k.0 ≤ row.0.0 = first_part k.0 row.0.0 _ (ap is_gt below.0) in
-      let other : (row.0.0 == number) ≡ false = grind (arith, nat_tests) in
-      ap (λ b. cond (b && bars_row row.0.1 row.1) (Some row) (find test rows)) other ∙ none_later k after rows below.1
-
-  ahead_is_first : (rows : List Row) → IsStrictlySortedBy by_node.compare (keys_of rows) → AllByRecursion (λ (row : Row). number ≤ row.0.0) rows
-      → first_ahead rows ≡ option_map (λ (row : Row). row.0.1) (find test rows)
-  unfolding IsStrictlySortedBy
-  ahead_is_first [] sorted from = refl
-  ahead_is_first (row ∷ rows) sorted from = at (row.0.0 == number) refl (ahead_is_first rows sorted.1 from.1)
-    where
-      at : (b : Bool) → (row.0.0 == number) ≡ b → first_ahead rows ≡ option_map (λ (row : Row). row.0.1) (find test rows)
-          → cond b (cond (bars row.0.1 (lease_of row.1)) (Some row.0.1) (first_ahead rows)) None ≡ option_map (λ (row : Row). row.0.1) (cond (b && bars_row row.0.1 row.1) (Some row) (find test rows))
-      at true is rest = elim (bars_row row.0.1 row.1) as (λ b. cond b (Some row.0.1) (first_ahead rows) ≡ option_map (λ (row : Row). row.0.1) (cond b (Some row) (find test rows))) [ true ↦ refl | false ↦ rest ]
-      at false other rest =
-          let from_here : number ≤ row.0.0 = from.0 in
-          let after : number < row.0.0 = grind (arith, nat_tests) in
-          sym (ap (option_map (λ (row : Row). row.0.1)) (none_later row.0 after rows sorted.0))
-
-  conflicts_here : (t : Table (pairs numbers numbers) model.Lease) (row : (ℕ × ℕ) × model.Lease)
-      → ((row.0.1 == number) && bars row.0.0 row.1) ≡ model.conflicts (record { rows = t; moment = moment }) client number kind row
+  conflicts_here : (t : model.LeaseTable) (row : (ℕ × ℕ) × model.Lease)
+      → ((row.0.1 == number) && bars client moment kind row.0.0 row.1) ≡ model.conflicts (record { rows = t; moment = moment }) client number kind row
   conflicts_here t row = regrouped (row.0.1 == number) (not (row.0.0 == client)) (model.is_live moment row.1) (model.is_write kind || model.is_write row.1.kind)
 
-  shown : (c : ℕ) (o : Option Lease) → is_some_and (option_map lease_of o) (bars c) ≡ is_some_and o (bars_row c)
-  shown c None = refl
-  shown c (Some lease) = refl
+  module _ (leases : List ((ℕ × ℕ) × Lease)) where
+    abbrev t : model.LeaseTable
+    t = shown (table by_node leases)
 
-  module _ (rows : BTreeMap (ℕ × ℕ) Lease) where
-    abbrev from_node : List Row
-    from_node = entries_between by_node.compare (Included (number, 0)) Unbounded rows.entries
+    abbrev table_passes : ℕ → Bool
+    table_passes other = passes (pairs numbers numbers) (λ c. (c, number)) (λ k. k.0) (λ k. k.1 == number) (bars client moment kind) t.entries other
 
-    found_from_node : (c : ℕ) → lookup (is_at (by_node.compare (number, c))) from_node ≡ lookup (is_at (by_node.compare (number, c))) rows.entries
-    found_from_node c =
-        lookup-filter-keys (is_at (by_node.compare (number, c))) (range_contains by_node.compare (Included (number, 0)) Unbounded) true within rows.entries
-      where
-        within : (k : ℕ × ℕ) → is_at (by_node.compare (number, c)) k ≡ true → range_contains by_node.compare (Included (number, 0)) Unbounded k ≡ true
-        within k tied =
-            let same : (number, c) ≡ k = by_node.exact (number, c) k (as_equal (by_node.compare (number, c) k) tied) in
-            ap (range_contains by_node.compare (Included (number, 0)) Unbounded) (sym same) ∙ ap (λ b. b && true) (at_most (by_node.compare (number, 0) (number, c)) (from_first number c))
-          where
-            at_most : (o : Ordering) → is_gt o ≡ false → is_le o ≡ true
-            at_most Less is = refl
-            at_most Equal is = refl
-            at_most Greater is = sym is
-
-    same_passing : (c : ℕ) → passes (pairs numbers numbers) (λ c. (c, number)) (λ k. k.0) (λ k. k.1 == number) bars (table_of rows.entries).entries c ≡ passes by_node (on_node number) (λ k. k.1) (λ k. k.0 == number) bars_row from_node c
+    in_both : (other : ℕ) → table_passes other ≡ is_barred leases other
     unfolding get
-    same_passing c =
-        ap (λ o. is_some_and o (bars c)) (sym (same_find (pairs numbers numbers).compare (c, number) (table_of rows.entries).entries) ∙ get-table_of rows.entries (c, number))
-        ∙ shown c (lookup (is_at (by_node.compare (number, c))) rows.entries)
-        ∙ ap (λ o. is_some_and o (bars_row c)) (sym (found_from_node c))
+    in_both other =
+        ap (λ o. is_some_and o (bars client moment kind other))
+        (sym (same_find (pairs numbers numbers).compare (other, number) t.entries) ∙ get-shown (table by_node leases) (other, number) ∙ ap (option_map lease_of) (get-table by_node leases (number, other)))
+        ∙ at (sorted_entries.find by_node.compare (number, other) leases)
+      where
+        at : (o : Option Lease) → is_some_and (option_map lease_of o) (bars client moment kind other) ≡ is_some_and o (barred other)
+        at None = refl
+        at (Some lease) = refl
 
-    pub first_is_conflict : IsOrdered by_node.compare rows → (left : List Row) → left ≡ from_node → IsRangeOf by_node.compare (Included (number, 0)) Unbounded rows left
-        → first_ahead from_node ≡ option_map (λ row. row.0.0) (model.in_conflict (record { rows = table_of rows.entries; moment = moment }) client number kind)
-    first_is_conflict ordered left is within =
-        let range = subst (IsRangeOf by_node.compare (Included (number, 0)) Unbounded rows) is within in
-        let sorted = subst (IsStrictlySortedBy by_node.compare) (sym (keys_of-filter (range_contains by_node.compare (Included (number, 0)) Unbounded) rows.entries)) (IsStrictlySortedBy-filter by_node.compare (range_contains by_node.compare (Included (number, 0)) Unbounded) (keys_of rows.entries) ordered) in
-        let from = to_recursion (λ (row : Row). number ≤ row.0.0) from_node (λ k d less. first_part number _ _ (range.0 k d less).0.0) in
-        let t = table_of rows.entries in
-        let ahead = first_is_least by_node (on_node number) (λ k. k.1) (λ k. k.0 == number) bars_row (node_line number) from_node sorted in
-        let first = first_is_least (pairs numbers numbers) (λ c. (c, number)) (λ k. k.0) (λ k. k.1 == number) bars (table_line number) t.entries (sorted_keys (pairs numbers numbers).compare t.entries t.sorted) in
-        ahead_is_first from_node sorted from
-        ∙ one_least (passes (pairs numbers numbers) (λ c. (c, number)) (λ k. k.0) (λ k. k.1 == number) bars t.entries) _ _
-        (least_alike _ _ same_passing _ ahead) first
+    -- the least client with such a lease is the one in conflict
+    pub is_conflict : (least : Option ℕ) → IsLeast (is_barred leases) least → least ≡ option_map (λ row. row.0.0) (model.in_conflict (record { rows = t; moment = moment }) client number kind)
+    is_conflict least is =
+        one_least table_passes least _
+        (least_alike (is_barred leases) table_passes in_both least is)
+        (first_is_least (pairs numbers numbers) (λ c. (c, number)) (λ k. k.0) (λ k. k.1 == number) (bars client moment kind) table_line t.entries (sorted_keys (pairs numbers numbers).compare t.entries t.sorted))
         ∙ (λ i. option_map (λ row. row.0.0) (find (λ row. conflicts_here t row i) t.entries))
+
+    -- ---- a walk over the clients of the node
+
+    -- no client before this start has such a lease
+    abbrev pub NoneBefore : (after : Option ℕ) → Type 0
+    NoneBefore after = (other : ℕ) → is_from by_node.compare (start_on number after) (number, other) ≡ false → is_barred leases other ≡ false
+
+    pub none_at_first : NoneBefore None
+    none_at_first other out = absurd (both_ways _ out (from_first number other))
+
+    -- no client has one, where none comes from the start on
+    pub none_left : (after : Option ℕ) → NoneBefore after → NoneOn leases number after → IsLeast (is_barred leases) None
+    none_left after before none other = at (is_from by_node.compare (start_on number after) (number, other)) refl
+      where
+        at : (b : Bool) → is_from by_node.compare (start_on number after) (number, other) ≡ b → is_barred leases other ≡ false
+        at true within = ap (λ o. is_some_and o (barred other)) (none other within)
+        at false out = before other out
+
+    module _ (after : Option ℕ) (before : NoneBefore after) (next : ℕ) (lease : Lease) (is_next : IsNextEntry by_node.compare (start_on number after) leases (number, next) lease) where
+      here : is_barred leases next ≡ barred next lease
+      here = ap (λ o. is_some_and o (barred next)) is_next.found
+
+      none_up_to : (other : ℕ) → is_from by_node.compare (Excluded (number, next)) (number, other) ≡ false → (other ≡ next → is_barred leases other ≡ false) → is_barred leases other ≡ false
+      none_up_to other not_behind at_next =
+          passed by_node (start_on number after) leases (number, next) lease is_next (number, other) not_behind (is_barred leases other ≡ false)
+          (λ same. at_next (ap (λ (k : ℕ × ℕ). k.1) same))
+          (before other)
+          (λ none. ap (λ o. is_some_and o (barred other)) none)
+
+      -- the walk goes past a client without one
+      pub none_before_next : barred next lease ≡ false → NoneBefore (Some next)
+      none_before_next free other not_behind = none_up_to other not_behind (λ same. ap (is_barred leases) same ∙ here ∙ free)
+
+      -- the walk meets the least client with one
+      pub met_is_least : barred next lease ≡ true → IsLeast (is_barred leases) (Some next)
+      met_is_least held = (here ∙ held, not_less)
+        where
+          not_less : (other : ℕ) → is_barred leases other ≡ true → next ≤ other
+          not_less other is = elim (cases_lt other next) [
+            | inl less ↦
+                let lower : is_from by_node.compare (Excluded (number, next)) (number, other) ≡ false = ap is_gt (same_first number (nat_cmp other next) ∙ less_number other next less) in
+                absurd (both_ways _ (none_up_to other lower (λ same. absurd (omega (arith, less, same)))) is)
+            | inr others ↦ others
+          ]
+
+    -- ---- the client's own lease, met on the way
+
+    -- what a walk up to this start has met of the client's own
+    abbrev pub own_before : (after : Option ℕ) → Option Lease
+    own_before after = cond (is_from by_node.compare (start_on number after) (number, client)) None (sorted_entries.find by_node.compare (number, client) leases)
+
+    pub own_at_first : None ≡ own_before None
+    own_at_first = sym (ap (λ b. cond b None (sorted_entries.find by_node.compare (number, client) leases)) (from_first number client))
+
+    -- where none comes from the start on, it is what the client has
+    pub own_is_met : (after : Option ℕ) → NoneOn leases number after → own_before after ≡ sorted_entries.find by_node.compare (number, client) leases
+    own_is_met after none = at (is_from by_node.compare (start_on number after) (number, client)) refl
+      where
+        at : (b : Bool) → is_from by_node.compare (start_on number after) (number, client) ≡ b
+            → cond b None (sorted_entries.find by_node.compare (number, client) leases) ≡ sorted_entries.find by_node.compare (number, client) leases
+        at true within = sym (none client within)
+        at false out = refl
+
+    module _ (after : Option ℕ) (next : ℕ) (lease : Lease) (is_next : IsNextEntry by_node.compare (start_on number after) leases (number, next) lease) where
+      abbrev own : Option Lease
+      own = sorted_entries.find by_node.compare (number, client) leases
+
+      abbrev behind : Bool
+      behind = is_from by_node.compare (Excluded (number, next)) (number, client)
+
+      -- the client's own lease is met, or another's is gone past
+      pub own_met : cond (next == client) (Some lease) (own_before after) ≡ own_before (Some next)
+      own_met = at (next == client) refl
+        where
+          here : next ≡ client → Some lease ≡ own_before (Some next)
+          here same =
+              let out : behind ≡ false = ap is_gt (ap (λ n. by_node.compare (number, n) (number, next)) (sym same) ∙ tied_itself by_node.total (number, next)) in
+              sym (ap (λ b. cond b None own) out ∙ ap (λ n. sorted_entries.find by_node.compare (number, n) leases) (sym same) ∙ is_next.found)
+
+          past : (next == client) ≡ false → (b : Bool) → behind ≡ b → own_before after ≡ cond b None own
+          past other true is =
+              let less : by_node.compare (number, next) (number, client) ≡ Less = behind_is_less by_node (number, next) (number, client) is in
+              ap (λ b. cond b None own) (still_from by_node (start_on number after) (number, next) (number, client) less is_next.within (is_from by_node.compare (start_on number after) (number, client)) refl)
+          past other false is =
+              passed by_node (start_on number after) leases (number, next) lease is_next (number, client) is (own_before after ≡ own)
+              (λ same. absurd (both_ways _ other (eq-eqb next client (sym (ap (λ (k : ℕ × ℕ). k.1) same)))))
+              (λ out. ap (λ b. cond b None own) out)
+              (λ none. either (is_from by_node.compare (start_on number after) (number, client)) none)
+            where
+              either : (b : Bool) → own ≡ None → cond b None own ≡ own
+              either true none = sym none
+              either false none = refl
+
+          at : (b : Bool) → (next == client) ≡ b → cond b (Some lease) (own_before after) ≡ own_before (Some next)
+          at true is = here (eqb-true next client is)
+          at false is = past is behind refl

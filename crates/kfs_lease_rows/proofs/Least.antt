@@ -14,6 +14,7 @@ use Rattle.std.proofs.lemmas.Map.Entries.{none_below_head, none_past_head}
 use Rattle.std.proofs.lemmas.Map.Keys.{IsDistinct-from_sorted}
 use Rattle.kfs_model.specs.Table.{Order}
 use Rattle.kfs_model.specs.Check.{is_some_and}
+use Rattle.kfs_lease_rows.proofs.RowTables.{as_equal}
 
 -- the number passes, and no lesser one does; none where no number does
 abbrev pub IsLeast : (ℕ → Bool) → Option ℕ → Type 0
@@ -33,11 +34,6 @@ one_least p (Some c) (Some d) a b =
 pub least_alike : (p q : ℕ → Bool) → ((c : ℕ) → q c ≡ p c) → (o : Option ℕ) → IsLeast p o → IsLeast q o
 least_alike p q same None least = λ c. same c ∙ least c
 least_alike p q same (Some c) least = (same c ∙ least.0, λ d is. least.1 d (sym (same d) ∙ is))
-
-pub as_equal : (o : Ordering) → is_eq o ≡ true → o ≡ Equal
-as_equal Less t = cc
-as_equal Equal t = refl
-as_equal Greater t = cc
 
 -- a line of keys that rises with its numbers
 pub record IsLine (R : Order (ℕ × ℕ)) (line : ℕ → ℕ × ℕ) (part : ℕ × ℕ → ℕ) (on : ℕ × ℕ → Bool) : Type 0 where

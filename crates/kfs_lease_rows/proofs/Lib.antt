@@ -1,6 +1,8 @@
-pub mod Conflicts
-pub mod KeyOrder
-pub mod Least
-pub mod NodeRows
-pub mod RowSteps
-pub mod RowTables
+mod Conflicts
+mod Edits
+mod Endings
+mod KeyOrder
+mod Least
+mod RowSteps
+mod RowTables
+mod Walks

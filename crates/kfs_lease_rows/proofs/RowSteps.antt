@@ -1,153 +1,143 @@
 -- The ends stay those of the rows.
-use Rattle.std.proofs.Common.{◌≡◌, ℕ, Bool, true, false, cond, ◌&&◌, ◌||◌, ◌==◌, Option, Some, None, refl, sym, ap, ◌∙◌, arith}
-use Rattle.std.specs.declared.cmp.Ordering.{Ordering}
-use Rattle.std.specs.declared.cmp.Ordering.TheVariants.{Less, Equal, Greater}
-use Rattle.std.specs.Ordering.{nat_cmp, is_eq, eq_by_cmp}
+use Rattle.std.proofs.Common.{◌≡◌, ℕ, ◌<◌, Bool, true, false, cond, ◌&&◌, ◌==◌, Option, Some, None, refl, sym, ap, subst, ◌∙◌, eq-eqb, arith}
+use Rattle.std.specs.Prelude.{is_some}
+use Rattle.std.specs.Ordering.{nat_cmp, eq_by_cmp}
 use Rattle.std.specs.Cmp.{eq_by_cmp_equiv, unsigned_ties}
-use Rattle.std.specs.Map.{lookup}
-use Rattle.std.specs.BTreeMap as slots_of
-use Rattle.std.specs.BTreeMap.{is_at}
-use Rattle.std.specs.BTreeSet as set
-use Rattle.std.specs.BTreeSet.{BTreeSet}
-use Rattle.std.proofs.lemmas.Bool.Decides.{nat_tests}
-use borrow.Author.Tests.{eqb-true, eq-eqb}
+use Rattle.std.proofs.lemmas.Bool.{both_ways}
+use borrow.Author.Tests.{eqb-true}
+use Rattle.kfs_model.specs.Table.{Order, Table, get, changed}
+use Rattle.kfs_model.proofs.TableLaws.{get-changed, same_table}
 use Rattle.kfs_lease_rows.specs.declared.rows.Lease.{Lease}
-use Rattle.kfs_lease_rows.specs.declared.rows.LeaseRows.{LeaseRows}
-use Rattle.kfs_lease_rows.specs.Rows.{by_node, by_end, ends_at, EndsAreExact}
-use Rattle.kfs_lease_rows.proofs.RowTables.{both_equal}
+use Rattle.kfs_lease_rows.specs.Rows.{by_node, by_end, row_end, ends_at, AreEndsOf, RowTable, EndTable}
+use Rattle.kfs_lease_rows.proofs.RowTables.{both_equal, tied}
 
 -- two ends are one where they are one moment of one row
-pub end_ties : (end end' : ℕ) (key key' : ℕ × ℕ) → eq_by_cmp by_end.compare (end, key) (end', key') ≡ ((end == end') && eq_by_cmp by_node.compare key key')
+end_ties : (end end' : ℕ) (key key' : ℕ × ℕ) → eq_by_cmp by_end.compare (row_end end key) (row_end end' key') ≡ ((end == end') && eq_by_cmp by_node.compare key key')
 end_ties end end' key key' = both_equal (nat_cmp end end') (by_node.compare key key') ∙ ap (λ b. b && eq_by_cmp by_node.compare key key') (sym (unsigned_ties end end'))
 
-as_equal : (o : Ordering) → is_eq o ≡ true → o ≡ Equal
-as_equal Less t = cc
-as_equal Equal t = refl
-as_equal Greater t = cc
-
--- where two keys tie they are one
-tied_key : (key q : ℕ × ℕ) → eq_by_cmp by_node.compare key q ≡ true → key ≡ q
-tied_key key q tied = by_node.exact key q (as_equal (by_node.compare key q) tied)
-
-apart : (a b : ℕ) → (a ≡ b → ⊥) → (a == b) ≡ false
-apart a b other = grind (arith, nat_tests)
-
--- a moment isn't two moments
-not_both : (a b end : ℕ) → (a == b) ≡ false → ((a == end) && (b == end)) ≡ false
-not_both a b end other = at (a == end) (b == end) refl refl
+-- one test of equality, either way round
+turned : (a b : ℕ) → (a == b) ≡ (b == a)
+turned a b = at (a == b) (b == a) refl refl
   where
-    at : (x y : Bool) → (a == end) ≡ x → (b == end) ≡ y → (x && y) ≡ false
-    at true true first second =
-        let same : a ≡ b = eqb-true a end first ∙ sym (eqb-true b end second) in
-        sym (eq-eqb a b same) ∙ other
-    at true false first second = refl
-    at false y first second = refl
+    at : (x y : Bool) → (a == b) ≡ x → (b == a) ≡ y → x ≡ y
+    at true true p q = refl
+    at true false p q = absurd (both_ways (b == a) q (eq-eqb b a (sym (eqb-true a b p))))
+    at false true p q = absurd (both_ways (a == b) p (eq-eqb a b (sym (eqb-true b a q))))
+    at false false p q = refl
 
--- a row's end is its only one
-pub only_end : (row : Option Lease) (last : ℕ) → ends_at row last ≡ true → (end : ℕ) → ends_at row end ≡ (last == end)
-only_end None last is end = cc
-only_end (Some lease) last is end = ap (λ e. e == end) (eqb-true lease.end last is)
+-- of two values set at one key the later one counts
+set_twice : {K X : Type 0} {R : Order K} (t : Table R X) (k : K) (v w : Option X) → changed (changed t k v) k w ≡ changed t k w
+set_twice {X = X} {R = R} t k v w =
+    same_table _ _ (λ q.
+    get-changed (changed t k v) k w q
+    ∙ ap (cond (eq_by_cmp R.compare q k) w) (get-changed t k v q)
+    ∙ at (eq_by_cmp R.compare q k) (get t q)
+    ∙ sym (get-changed t k w q))
+  where
+    at : (b : Bool) (o : Option X) → cond b w (cond b v o) ≡ cond b w o
+    at true o = refl
+    at false o = refl
 
-module _ {A : Type 0} (old new : LeaseRows A) (indexed : EndsAreExact old) (key : ℕ × ℕ) where
+-- values at two keys may be set in either order
+set_apart : {K X : Type 0} {R : Order K} (t : Table R X) (j k : K) (v w : Option X) → eq_by_cmp R.compare j k ≡ false → changed (changed t j v) k w ≡ changed (changed t k w) j v
+set_apart {K = K} {X = X} {R = R} t j k v w other =
+    same_table _ _ (λ q.
+    get-changed (changed t j v) k w q
+    ∙ ap (cond (eq_by_cmp R.compare q k) w) (get-changed t j v q)
+    ∙ at q (eq_by_cmp R.compare q j) (eq_by_cmp R.compare q k) refl refl
+    ∙ sym (ap (cond (eq_by_cmp R.compare q j) v) (get-changed t k w q))
+    ∙ sym (get-changed (changed t k w) j v q))
+  where
+    at : (q : K) (a b : Bool) → eq_by_cmp R.compare q j ≡ a → eq_by_cmp R.compare q k ≡ b → cond b w (cond a v (get t q)) ≡ cond a v (cond b w (get t q))
+    at q true true is also = absurd (both_ways _ other (ap (λ (p : K). eq_by_cmp R.compare p k) (sym (tied R q j is)) ∙ also))
+    at q true false is also = refl
+    at q false b is also = refl
+
+module _ (rows : RowTable) (ends : EndTable) (exact : AreEndsOf rows ends) (key : ℕ × ℕ) where
   -- a row with its end
-  pub indexed_set : (w : Option Lease) → ((q : ℕ × ℕ) → slots_of.get by_node.compare new.leases q ≡ cond (is_at (by_node.compare key) q) w (slots_of.get by_node.compare old.leases q))
-      → ((end : ℕ) (q : ℕ × ℕ) → set.contains by_end.compare new.ends (end, q) ≡ cond (is_at (by_node.compare key) q) (ends_at w end) (set.contains by_end.compare old.ends (end, q)))
-      → EndsAreExact new
-  indexed_set w rows ends = record {
-    ends = λ end q. ends end q ∙ at end q (is_at (by_node.compare key) q) ∙ sym (ap (λ o. ends_at o end) (rows q));
-  }
+  exact_set : (row : Option Lease) (new : EndTable) → ((end : ℕ) (q : ℕ × ℕ) → is_some (get new (row_end end q)) ≡ cond (eq_by_cmp by_node.compare q key) (ends_at row end) (is_some (get ends (row_end end q)))) → AreEndsOf (changed rows key row) new
+  exact_set row new has end q =
+      has end q ∙ at (eq_by_cmp by_node.compare q key) ∙ sym (ap (λ o. ends_at o end) (get-changed rows key row q))
     where
-      at : (end : ℕ) (q : ℕ × ℕ) (b : Bool) → cond b (ends_at w end) (set.contains by_end.compare old.ends (end, q)) ≡ ends_at (cond b w (slots_of.get by_node.compare old.leases q)) end
-      at end q true = refl
-      at end q false = indexed.ends end q
+      at : (b : Bool) → cond b (ends_at row end) (is_some (get ends (row_end end q))) ≡ ends_at (cond b row (get rows q)) end
+      at true = refl
+      at false = exact end q
 
-module _ (key : ℕ × ℕ) where
-  -- a row's one end goes
-  pub end_left : (old new : BTreeSet (ℕ × (ℕ × ℕ))) (last : ℕ) → ((end : ℕ) → set.contains by_end.compare old (end, key) ≡ (last == end))
-      → ((e : ℕ × (ℕ × ℕ)) → set.contains by_end.compare new e ≡ cond (is_at (by_end.compare (last, key)) e) false (set.contains by_end.compare old e))
-      → (end : ℕ) (q : ℕ × ℕ) → set.contains by_end.compare new (end, q) ≡ cond (is_at (by_node.compare key) q) false (set.contains by_end.compare old (end, q))
-  end_left old new last one gone end q =
-      gone (end, q) ∙ ap (λ b. cond b false (set.contains by_end.compare old (end, q))) (end_ties last end key q)
-      ∙ at (eq_by_cmp by_node.compare key q) refl
-    where
-      at : (b : Bool) → eq_by_cmp by_node.compare key q ≡ b → cond ((last == end) && b) false (set.contains by_end.compare old (end, q)) ≡ cond b false (set.contains by_end.compare old (end, q))
-      at false apart = elim (last == end) as (λ c. cond (c && false) false (set.contains by_end.compare old (end, q)) ≡ set.contains by_end.compare old (end, q)) [ true ↦ refl | false ↦ refl ]
-      at true tied =
-          ap (λ c. cond ((last == end) && true) false c) (ap (λ k. set.contains by_end.compare old (end, k)) (sym (tied_key key q tied)) ∙ one end)
-          ∙ elim (last == end) as (λ c. cond (c && true) false c ≡ false) [ true ↦ refl | false ↦ refl ]
+  -- no end is listed that the row hasn't
+  not_listed : (end : ℕ) → ends_at (get rows key) end ≡ false → (q : ℕ × ℕ) → q ≡ key → is_some (get ends (row_end end q)) ≡ false
+  not_listed end other q same = exact end q ∙ ap (λ k. ends_at (get rows k) end) same ∙ other
 
-  -- a row's end where it is another than the new one goes, and the new one stays
-  pub old_end_left : (old new : BTreeSet (ℕ × (ℕ × ℕ))) (last to : ℕ) → (last ≡ to → ⊥)
-      → ((end : ℕ) → set.contains by_end.compare old (end, key) ≡ ((to == end) || (last == end)))
-      → ((e : ℕ × (ℕ × ℕ)) → set.contains by_end.compare new e ≡ cond (is_at (by_end.compare (last, key)) e) false (set.contains by_end.compare old e))
-      → (end : ℕ) (q : ℕ × ℕ) → set.contains by_end.compare new (end, q) ≡ cond (is_at (by_node.compare key) q) (to == end) (set.contains by_end.compare old (end, q))
-  old_end_left old new last to other both gone end q =
-      gone (end, q) ∙ ap (λ b. cond b false (set.contains by_end.compare old (end, q))) (end_ties last end key q)
-      ∙ at (eq_by_cmp by_node.compare key q) refl
+  -- a row goes with its end
+  pub exact_without : (last : ℕ) → ((end : ℕ) → ends_at (get rows key) end ≡ true → last ≡ end) → AreEndsOf (changed rows key None) (changed ends (row_end last key) None)
+  exact_without last only =
+      exact_set None (changed ends (row_end last key) None) (λ end q.
+      ap is_some (get-changed ends (row_end last key) None (row_end end q))
+      ∙ ap (λ b. is_some (cond b None (get ends (row_end end q)))) (end_ties end last q key)
+      ∙ at end q (end == last) (eq_by_cmp by_node.compare q key) refl refl)
     where
-      at : (b : Bool) → eq_by_cmp by_node.compare key q ≡ b → cond ((last == end) && b) false (set.contains by_end.compare old (end, q)) ≡ cond b (to == end) (set.contains by_end.compare old (end, q))
-      at false apart = elim (last == end) as (λ c. cond (c && false) false (set.contains by_end.compare old (end, q)) ≡ set.contains by_end.compare old (end, q)) [ true ↦ refl | false ↦ refl ]
-      at true tied =
-          ap (λ c. cond ((last == end) && true) false c) (ap (λ k. set.contains by_end.compare old (end, k)) (sym (tied_key key q tied)) ∙ both end)
-          ∙ one (last == end) (to == end) (not_both last to end (apart last to other))
+      others : (end : ℕ) → (end == last) ≡ false → (b : Bool) → ends_at (get rows key) end ≡ b → ends_at (get rows key) end ≡ false
+      others end other true is = absurd (both_ways _ other (eq-eqb end last (sym (only end is))))
+      others end other false is = is
+
+      at : (end : ℕ) (q : ℕ × ℕ) (a b : Bool) → (end == last) ≡ a → eq_by_cmp by_node.compare q key ≡ b → is_some (cond (a && b) None (get ends (row_end end q))) ≡ cond b (ends_at None end) (is_some (get ends (row_end end q)))
+      at end q true true now is = refl
+      at end q true false now is = refl
+      at end q false true now is = not_listed end (others end now (ends_at (get rows key) end) refl) q (tied by_node q key is)
+      at end q false false now is = refl
+
+  -- a row comes with its end
+  pub exact_with : (lease : Lease) → get rows key ≡ None → AreEndsOf (changed rows key (Some lease)) (changed ends (row_end lease.end key) (Some tt))
+  exact_with lease none =
+      exact_set (Some lease) (changed ends (row_end lease.end key) (Some tt)) (λ end q.
+      ap is_some (get-changed ends (row_end lease.end key) (Some tt) (row_end end q))
+      ∙ ap (λ b. is_some (cond b (Some tt) (get ends (row_end end q)))) (end_ties end lease.end q key)
+      ∙ at end q (end == lease.end) (eq_by_cmp by_node.compare q key) refl refl)
+    where
+      at : (end : ℕ) (q : ℕ × ℕ) (a b : Bool) → (end == lease.end) ≡ a → eq_by_cmp by_node.compare q key ≡ b
+          → is_some (cond (a && b) (Some tt) (get ends (row_end end q))) ≡ cond b (lease.end == end) (is_some (get ends (row_end end q)))
+      at end q true true now is = sym (turned lease.end end ∙ now)
+      at end q true false now is = refl
+      at end q false true now is = not_listed end (ap (λ o. ends_at o end) none) q (tied by_node q key is) ∙ sym (turned lease.end end ∙ now)
+      at end q false false now is = refl
+
+  -- a row comes in place of one with the same end
+  pub exact_same : (old new : Lease) → get rows key ≡ Some old → old.end ≡ new.end → AreEndsOf (changed rows key (Some new)) ends
+  exact_same old new there same = exact_set (Some new) ends (λ end q. at end q (eq_by_cmp by_node.compare q key) refl)
+    where
+      at : (end : ℕ) (q : ℕ × ℕ) (b : Bool) → eq_by_cmp by_node.compare q key ≡ b → is_some (get ends (row_end end q)) ≡ cond b (new.end == end) (is_some (get ends (row_end end q)))
+      at end q true is = exact end q ∙ ap (λ k. ends_at (get rows k) end) (tied by_node q key is) ∙ ap (λ o. ends_at o end) there ∙ ap (λ n. n == end) same
+      at end q false is = refl
+
+-- the end of a row that is there
+pub only_end : (row : Option Lease) (lease : Lease) → row ≡ Some lease → (end : ℕ) → ends_at row end ≡ true → lease.end ≡ end
+only_end row lease there end is = eqb-true lease.end end (sym (ap (λ o. ends_at o end) there) ∙ is)
+
+module _ (rows : RowTable) (ends : EndTable) (exact : AreEndsOf rows ends) (key : ℕ × ℕ) (old new : Lease) (there : get rows key ≡ Some old) where
+  -- a row comes in place of one with another end
+  pub exact_moved : AreEndsOf (changed rows key (Some new)) (changed (changed ends (row_end old.end key) None) (row_end new.end key) (Some tt))
+  exact_moved =
+      subst (λ (t : RowTable). AreEndsOf t (changed (changed ends (row_end old.end key) None) (row_end new.end key) (Some tt))) (set_twice rows key None (Some new))
+      (exact_with (changed rows key None) (changed ends (row_end old.end key) None) (exact_without rows ends exact key old.end (only_end (get rows key) old there)) key new gone)
+    where
+      gone : get (changed rows key None) key ≡ None
+      gone = get-changed rows key None key ∙ ap (λ b. cond b None (get rows key)) ((eq_by_cmp_equiv by_node.total).refl key)
+
+  -- and so it does where the new end is listed first
+  pub exact_moved_back : new.end < old.end → AreEndsOf (changed rows key (Some new)) (changed (changed ends (row_end new.end key) (Some tt)) (row_end old.end key) None)
+  exact_moved_back earlier =
+      subst (AreEndsOf (changed rows key (Some new))) (set_apart ends (row_end old.end key) (row_end new.end key) None (Some tt) other) exact_moved
+    where
+      other : eq_by_cmp by_end.compare (row_end old.end key) (row_end new.end key) ≡ false
+      other = end_ties old.end new.end key key ∙ at (old.end == new.end) refl
         where
-          one : (a b : Bool) → (a && b) ≡ false → cond (a && true) false (b || a) ≡ b
-          one true true never = sym never
-          one true false never = refl
-          one false true never = refl
-          one false false never = refl
+          at : (b : Bool) → (old.end == new.end) ≡ b → (b && eq_by_cmp by_node.compare key key) ≡ false
+          at true is = let same : old.end ≡ new.end = eqb-true old.end new.end is in absurd (omega (arith, earlier, same))
+          at false is = refl
 
--- ---- the ends of a row that is put
-
-module _ {A : Type 0} (rows : LeaseRows A) (indexed : EndsAreExact rows) (key : ℕ × ℕ) (to : ℕ) (with_end : BTreeSet (ℕ × (ℕ × ℕ)))
-    (added : (e : ℕ × (ℕ × ℕ)) → set.contains by_end.compare with_end e ≡ cond (is_at (by_end.compare (to, key)) e) true (set.contains by_end.compare rows.ends e)) where
-  -- the new end stands beside the old one
-  pub both_ends : (end : ℕ) → set.contains by_end.compare with_end (end, key) ≡ ((to == end) || ends_at (slots_of.get by_node.compare rows.leases key) end)
-  both_ends end =
-      added (end, key)
-      ∙ ap (λ b. cond b true (set.contains by_end.compare rows.ends (end, key))) (end_ties to end key key ∙ ap (λ b. (to == end) && b) ((eq_by_cmp_equiv by_node.total).refl key))
-      ∙ ap (λ b. cond ((to == end) && true) true b) (indexed.ends end key)
-      ∙ either (to == end) (ends_at (slots_of.get by_node.compare rows.leases key) end)
-    where
-      either : (a b : Bool) → cond (a && true) true b ≡ (a || b)
-      either true b = refl
-      either false b = refl
-
-  -- other rows keep their ends
-  pub other_ends : (end : ℕ) (q : ℕ × ℕ) → eq_by_cmp by_node.compare key q ≡ false → set.contains by_end.compare with_end (end, q) ≡ set.contains by_end.compare rows.ends (end, q)
-  other_ends end q apart =
-      added (end, q)
-      ∙ ap (λ b. cond b true (set.contains by_end.compare rows.ends (end, q))) (end_ties to end key q ∙ ap (λ b. (to == end) && b) apart)
-      ∙ elim (to == end) as (λ c. cond (c && false) true (set.contains by_end.compare rows.ends (end, q)) ≡ set.contains by_end.compare rows.ends (end, q)) [ true ↦ refl | false ↦ refl ]
-
-  -- where the row got no room, the end that was added goes again
-  pub end_taken_back : (again : BTreeSet (ℕ × (ℕ × ℕ))) → slots_of.get by_node.compare rows.leases key ≡ None
-      → ((e : ℕ × (ℕ × ℕ)) → set.contains by_end.compare again e ≡ cond (is_at (by_end.compare (to, key)) e) false (set.contains by_end.compare with_end e))
-      → (end : ℕ) (q : ℕ × ℕ) → set.contains by_end.compare again (end, q) ≡ set.contains by_end.compare rows.ends (end, q)
-  end_taken_back again none gone end q =
-      gone (end, q)
-      ∙ ap (λ b. cond (is_at (by_end.compare (to, key)) (end, q)) false b) (added (end, q))
-      ∙ at (is_at (by_end.compare (to, key)) (end, q)) refl
-    where
-      at : (b : Bool) → is_at (by_end.compare (to, key)) (end, q) ≡ b → cond b false (cond b true (set.contains by_end.compare rows.ends (end, q))) ≡ set.contains by_end.compare rows.ends (end, q)
-      at false apart = refl
-      at true tied =
-          let one : (to, key) ≡ (end, q) = by_end.exact (to, key) (end, q) (as_equal (by_end.compare (to, key) (end, q)) tied) in
-          sym (ap (λ e. set.contains by_end.compare rows.ends e) (sym one) ∙ indexed.ends to key ∙ ap (λ o. ends_at o to) none)
-
-  -- where the row got room, its old end goes
-  pub new_end_stays : (after : BTreeSet (ℕ × (ℕ × ℕ)))
-      → ((end : ℕ) (q : ℕ × ℕ) → set.contains by_end.compare after (end, q) ≡ cond (is_at (by_node.compare key) q) (to == end) (set.contains by_end.compare with_end (end, q)))
-      → (end : ℕ) (q : ℕ × ℕ) → set.contains by_end.compare after (end, q) ≡ cond (is_at (by_node.compare key) q) (to == end) (set.contains by_end.compare rows.ends (end, q))
-  new_end_stays after left end q = left end q ∙ at (is_at (by_node.compare key) q) refl
-    where
-      at : (b : Bool) → is_at (by_node.compare key) q ≡ b → cond b (to == end) (set.contains by_end.compare with_end (end, q)) ≡ cond b (to == end) (set.contains by_end.compare rows.ends (end, q))
-      at true is = refl
-      at false other = other_ends end q other
-
--- rows with the same leases and ends
-pub same_rows : {A : Type 0} (old new : LeaseRows A) → EndsAreExact old → new.leases.entries ≡ old.leases.entries
-    → ((end : ℕ) (q : ℕ × ℕ) → set.contains by_end.compare new.ends (end, q) ≡ set.contains by_end.compare old.ends (end, q)) → EndsAreExact new
-same_rows old new indexed leases ends = record {
-  ends = λ end q. ends end q ∙ indexed.ends end q ∙ ap (λ es. ends_at (lookup (is_at (by_node.compare q)) es) end) (sym leases);
-}
+-- what isn't there needn't go
+pub without_absent : {K X : Type 0} {R : Order K} (t : Table R X) (k : K) → get t k ≡ None → changed t k None ≡ t
+without_absent {K = K} {X = X} {R = R} t k none = same_table _ _ (λ q. get-changed t k None q ∙ at q (eq_by_cmp R.compare q k) refl)
+  where
+    at : (q : K) (b : Bool) → eq_by_cmp R.compare q k ≡ b → cond b None (get t q) ≡ get t q
+    at q true is = sym (ap (get t) (tied R q k is) ∙ none)
+    at q false other = refl

@@ -1,8 +1,14 @@
-//! The rows of a table of leases, found by node and client, and their ends in order.
+//! The rows of a table of leases, found by node and client, and their ends in order. Copies share what
+//! isn't changed.
 //!
-//! It stands on definitions alone, and `kfs_lease` on it. Begin with `rows.rt`.
+//! It stands on `kfs_map_chunks` (the sorted maps), and `kfs_lease` on it. Begin with `rows.rt`.
 #![tactic(auto)]
 
+mod change;
+mod ending;
+mod row_end;
 mod rows;
+mod walk;
 
+pub use row_end::RowEnd;
 pub use rows::{Lease, LeaseKind, LeaseRows};

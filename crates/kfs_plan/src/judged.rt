@@ -94,7 +94,9 @@ impl<A: Allocator> Judged<A> {
     {
         (self.submission, self.outcome)
     }
+}
 
+impl<A: Allocator + Copy> Judged<A> {
     /// Whether the verdict holds in this view: it has the same client, and answers each read as
     /// recorded. Takes no memory.
     pub fn holds_in(&self, view: &View<A>) -> bool
@@ -107,7 +109,7 @@ impl<A: Allocator> Judged<A> {
 }
 
 /// Whether the view has the same client with this number, or likewise none.
-fn has_row<A: Allocator>(view: &View<A>, number: u32, row: Option<&Client>) -> bool
+fn has_row<A: Allocator + Copy>(view: &View<A>, number: u32, row: Option<&Client>) -> bool
     ensures { IsTrue result ↔ (row_of (clients_of view.now) number ≡ option_map (λ r. r.now) row.entry) }
 {
     match (view.client(number), row) {
@@ -118,7 +120,7 @@ fn has_row<A: Allocator>(view: &View<A>, number: u32, row: Option<&Client>) -> b
 }
 
 /// Whether the view answers each of the client's reads as recorded.
-fn agrees<A: Allocator>(
+fn agrees<A: Allocator + Copy>(
     view: &View<A>,
     client: u32,
     reads: &IndexMap<Read, ReadAnswer, BuildHasherDefault<FoldHasher>, A>,
@@ -134,7 +136,7 @@ fn agrees<A: Allocator>(
 }
 
 /// The view's answer to a read.
-fn shown<A: Allocator>(view: &View<A>, client: u32, read: &Read) -> ReadAnswer
+fn shown<A: Allocator + Copy>(view: &View<A>, client: u32, read: &Read) -> ReadAnswer
     ensures { sights.answer (client_sight_in view.now client) (cell_of read.now) ≡ answer_of result }
 {
     match read {

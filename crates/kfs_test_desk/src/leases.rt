@@ -1,11 +1,13 @@
-//! Leases through calls: paths that no command line can hold, a node that is removed, and copies. All
+//! Leases through calls: paths that no command line can hold, nodes that are removed, and copies. All
 //! clients here, and all nodes below the root, have uid and gid 1000.
 
-use crate::desks::{client, grown};
+use crate::desks::{AMPLE, client, grown};
 use kfs_desk::Desk;
 use kfs_image_nodes::Shape;
 use kfs_lease::LeaseKind::{Read, Write};
 use kfs_lease::{LeaseFault, LeaseKind, Leases};
+use kfs_map_pages::Nothing;
+use kfs_test_support::refusing::Refusing;
 use std::alloc::{Allocator, Global};
 use std::process::Abort;
 
@@ -35,7 +37,7 @@ fn tree<A: Allocator + Copy>(alloc: A) -> Option<Desk<A>> {
 }
 
 /// Asks for a lease; the client is a known one.
-fn grant<A: Allocator + Clone>(
+fn grant<A: Allocator + Copy>(
     leases: &mut Leases<A>,
     shape: &Shape<A>,
     number: u32,
@@ -50,7 +52,7 @@ fn grant<A: Allocator + Clone>(
 }
 
 /// Gives up a lease; the client is a known one.
-fn drop_lease<A: Allocator>(
+fn drop_lease<A: Allocator + Copy>(
     leases: &mut Leases<A>,
     number: u32,
     node: u32,
@@ -69,11 +71,11 @@ enum LeaseCall<'a> {
     Tick(u64, Result<(), LeaseFault>),
     Holds(u32, u32, bool),
     Moment(u64),
-    RemoveNode(u32),
+    RemoveNodes(&'a [u32]),
 }
 
 /// Makes the call, and says whether the answer is the expected one.
-fn is_answered<A: Allocator + Clone>(
+fn is_answered<A: Allocator + Copy>(
     leases: &mut Leases<A>,
     shape: &Shape<A>,
     call: LeaseCall<'_>,
@@ -86,15 +88,12 @@ fn is_answered<A: Allocator + Clone>(
         LeaseCall::Tick(moment, wanted) => leases.tick(moment) == wanted,
         LeaseCall::Holds(client, number, wanted) => leases.holds(client, number) == wanted,
         LeaseCall::Moment(wanted) => leases.moment() == wanted,
-        LeaseCall::RemoveNode(number) => {
-            leases.remove_node(number);
-            true
-        }
+        LeaseCall::RemoveNodes(numbers) => leases.remove_nodes(numbers, &mut Nothing).is_ok(),
     }
 }
 
 /// Makes the calls in order, and answers how many come before the first one with another answer.
-fn make_calls<A: Allocator + Clone>(
+fn make_calls<A: Allocator + Copy>(
     leases: &mut Leases<A>,
     shape: &Shape<A>,
     calls: &[LeaseCall<'_>],
@@ -129,18 +128,17 @@ const PATHS_THAT_NO_LINE_CAN_SAY: [LeaseCall<'static>; 3] = [
     LeaseCall::Grant(7, "/a\0", Write, 1, Err(LeaseFault::BadPath)),
 ];
 
-const CALLS_AND_NODES_THAT_GO: [LeaseCall<'static>; 14] = [
+const CALLS_AND_NODES_THAT_GO: [LeaseCall<'static>; 13] = [
     LeaseCall::Grant(7, "/a", Read, 100, Ok(5)),
     LeaseCall::Grant(9, "/a", Read, 100, Ok(5)),
     LeaseCall::Grant(7, "/", Write, 100, Ok(1)),
     LeaseCall::Grant(8, "/d", Write, 100, Ok(20)),
-    LeaseCall::RemoveNode(5),
+    LeaseCall::RemoveNodes(&[5]),
     LeaseCall::Drop(7, 5, Err(LeaseFault::NoLeaseHeld)),
     LeaseCall::Drop(9, 5, Err(LeaseFault::NoLeaseHeld)),
     LeaseCall::Holds(7, 1, true),
     LeaseCall::Holds(8, 20, true),
-    LeaseCall::RemoveNode(6),
-    LeaseCall::RemoveNode(20),
+    LeaseCall::RemoveNodes(&[6, 20]),
     LeaseCall::Holds(7, 1, true),
     LeaseCall::Holds(8, 20, false),
     LeaseCall::Grant(9, "/d", Write, 100, Ok(20)),
@@ -192,7 +190,7 @@ const ON_THE_COPY_THEN: [LeaseCall<'static>; 3] = [
 
 /// Makes these calls on a table and on a copy of it, one table after the other. Answers how many calls
 /// of each list are answered as expected.
-fn answered_apart<A: Allocator + Clone>(
+fn answered_apart<A: Allocator + Copy>(
     leases: &mut Leases<A>,
     shape: &Shape<A>,
 ) -> Option<[usize; 4]> {
@@ -215,4 +213,99 @@ fn answered_on_both(alloc: Global) -> Option<[usize; 4]> {
 fn a_copy_and_the_table_go_on_apart(rt: HostRuntime) {
     let counts = answered_on_both(rt.alloc());
     assert!(rt; counts == Some([6, 6, 7, 3]), "{counts:?}");
+}
+
+/// More growths than the calls of this module ask for.
+const MANY: u64 = 400;
+
+const BEFORE_THE_GROWTHS: [LeaseCall<'static>; 8] = [
+    LeaseCall::Grant(7, "/a", Read, 10, Ok(5)),
+    LeaseCall::Grant(8, "/a", Read, 20, Ok(5)),
+    LeaseCall::Grant(9, "/a", Read, 30, Ok(5)),
+    LeaseCall::Grant(7, "/d", Read, 40, Ok(20)),
+    LeaseCall::Grant(8, "/d", Read, 50, Ok(20)),
+    LeaseCall::Grant(9, "/m", Write, 60, Ok(30)),
+    LeaseCall::Grant(7, "/n", Write, 70, Ok(31)),
+    LeaseCall::Grant(8, "/p", Write, 80, Ok(120)),
+];
+
+const WITH_A_GROWTH_REFUSED: [LeaseCall<'static>; 12] = [
+    LeaseCall::Grant(9, "/d", Read, 15, Ok(20)),
+    LeaseCall::Grant(8, "/a", Read, 90, Ok(5)),
+    LeaseCall::Drop(7, 31, Ok(())),
+    LeaseCall::Tick(40, Ok(())),
+    LeaseCall::Drop(9, 20, Err(LeaseFault::NoLeaseHeld)),
+    LeaseCall::Drop(7, 20, Err(LeaseFault::NoLeaseHeld)),
+    LeaseCall::RemoveNodes(&[20, 6, 120, 5]),
+    LeaseCall::Drop(8, 5, Err(LeaseFault::NoLeaseHeld)),
+    LeaseCall::Drop(8, 20, Err(LeaseFault::NoLeaseHeld)),
+    LeaseCall::Drop(8, 120, Err(LeaseFault::NoLeaseHeld)),
+    LeaseCall::Grant(8, "/n", Write, 90, Ok(31)),
+    LeaseCall::Drop(9, 30, Ok(())),
+];
+
+const ON_THE_COPY_HELD: [LeaseCall<'static>; 8] = [
+    LeaseCall::Moment(0),
+    LeaseCall::Holds(7, 31, true),
+    LeaseCall::Holds(8, 120, true),
+    LeaseCall::Drop(7, 5, Ok(())),
+    LeaseCall::Tick(20, Ok(())),
+    LeaseCall::Drop(8, 5, Err(LeaseFault::NoLeaseHeld)),
+    LeaseCall::Drop(9, 20, Err(LeaseFault::NoLeaseHeld)),
+    LeaseCall::Drop(7, 20, Ok(())),
+];
+
+/// Makes the call, and once more where it was the one for which memory was refused.
+fn is_answered_at_last(
+    heap: &Refusing<Global>,
+    leases: &mut Leases<&Refusing<Global>>,
+    shape: &Shape<&Refusing<Global>>,
+    call: LeaseCall<'_>,
+) -> bool {
+    let was_refused = heap.has_refused();
+    is_answered(leases, shape, call)
+        || (!was_refused && heap.has_refused() && is_answered(leases, shape, call))
+}
+
+/// Makes the calls beside a copy, with only the growth of this index refused. Answers whether there was
+/// such a growth; none where the outcome is wrong.
+fn calls_with_one_refused(heap: &Refusing<Global>, growth: u64) -> Option<bool> {
+    let desk = tree(heap)?;
+    let shape = desk.image().shape();
+    let mut leases = Leases::new(heap);
+    let before = make_calls(&mut leases, shape, &BEFORE_THE_GROWTHS);
+    let mut copied = leases.copy().ok()?;
+    heap.refuse_after(growth);
+    let all = WITH_A_GROWTH_REFUSED
+        .iter()
+        .all(|call| is_answered_at_last(heap, &mut leases, shape, *call));
+    let is_refused = heap.has_refused();
+    heap.refuse_after(AMPLE);
+    let on_the_copy = make_calls(&mut copied, shape, &ON_THE_COPY_HELD);
+    let is_right = all && before == 8 && on_the_copy == 8;
+    is_right.then_some(is_refused)
+}
+
+/// How many growths the calls ask for, each refused in turn; or as an error the index of one at which
+/// the outcome is wrong.
+fn growths(alloc: Global) -> Result<u64, u64> {
+    for growth in 0..MANY {
+        let heap = Refusing::new(alloc, AMPLE);
+        match calls_with_one_refused(&heap, growth) {
+            Some(true) => {}
+            Some(false) => return Ok(growth),
+            None => return Err(growth),
+        }
+    }
+    Err(MANY)
+}
+
+#[test]
+fn each_growth_of_calls_beside_a_copy_refused(rt: HostRuntime) {
+    let count = growths(rt.alloc());
+    let is_right = match count {
+        Ok(count) => 20 < count,
+        Err(_) => false,
+    };
+    assert!(rt; is_right, "{count:?}");
 }

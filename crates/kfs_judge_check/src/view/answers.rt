@@ -13,7 +13,7 @@ use kfs_mode::{Client, find_client};
 use std::alloc::Allocator;
 use std::sync::Arc;
 
-impl<A: Allocator> View<A> {
+impl<A: Allocator + Copy> View<A> {
     /// The view of these. Condition: no two clients have the same number; where their numbers ascend, a
     /// client is found faster. Takes no memory.
     pub fn of(

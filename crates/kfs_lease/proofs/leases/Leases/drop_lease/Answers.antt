@@ -15,8 +15,8 @@ returns-then-not-take-clause-err g c =
     ap (λ (l : Leases). dropped l c.args.clients.now c.args.client c.args.number) (sym c.self.view_is)
     ∙ drop_without_lease old c.args.clients.now c.args.client c.args.number
     (none_shown _ c.find_client.result _ c.find_client.ensures ∙ ap not c.if-is_none.ensures)
-    (some_not_none _ ∙ ap not (sym c.take.ensures.found ∙ c.if-not-take.true))
-    ∙ (λ i. (Err NoLeaseHeld, record { rows = sym (c.take.ensures.kept c.if-not-take.true) i; moment = c.self.inside.moment }))
+    (some_not_none _ ∙ ap not (sym c.in_ok-take.ensures.found ∙ c.if-not-take.true))
+    ∙ (λ i. (Err NoLeaseHeld, record { rows = table_in (sym (c.in_ok-take.ensures.kept c.if-not-take.true) i); moment = c.self.inside.moment }))
 
 pub returns-clause-ok : goal.returns-clause-ok
 returns-clause-ok g c =
@@ -24,5 +24,5 @@ returns-clause-ok g c =
     ap (λ (l : Leases). dropped l c.args.clients.now c.args.client c.args.number) (sym c.self.view_is)
     ∙ lease_dropped old c.args.clients.now c.args.client c.args.number
     (none_shown _ c.find_client.result _ c.find_client.ensures ∙ ap not c.if-is_none.ensures)
-    (some_not_none _ ∙ ap not (sym c.take.ensures.found ∙ c.if-not-take.false))
-    ∙ (λ i. (Ok c.args.number, record { rows = sym c.take.ensures.table i; moment = c.self.inside.moment }))
+    (some_not_none _ ∙ ap not (sym c.in_ok-take.ensures.found ∙ c.if-not-take.false))
+    ∙ (λ i. (Ok c.args.number, record { rows = sym c.in_ok-take.ensures.table i; moment = c.self.inside.moment }))

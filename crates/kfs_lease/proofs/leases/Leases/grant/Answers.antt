@@ -33,19 +33,19 @@ returns-then-end-self-clause-err g c =
     c.in-Some.row.now c.in-Some.ensures (parts_left c.in-Some-names_of.names) c.in-Some-names_of.ensures c.in_ok-number.number c.in_ok-number.ensures.ok
     (subst (λ (l : Leases). c.args.end ≤ l.moment) c.self.view_is c.if-end-self.true)
 
-pub returns-in-Some-least_conflict-clause-err : goal.returns-in-Some-least_conflict-clause-err
-returns-in-Some-least_conflict-clause-err g c =
+pub returns-in-Err-clause-err : goal.returns-in-Err-clause-err
+returns-in-Err-clause-err g c =
     let old : Leases = record { rows = table_in c.self.inside.rows; moment = c.self.inside.moment } in
-    subst (λ (l : Leases). granted l (sight_of c.args.shape.now) c.args.clients.now c.args.client c.args.path.now (kind_of c.args.kind) c.args.end ≡ (Err (LeaseHeld c.in-Some-least_conflict.holder), l)) c.self.view_is
+    subst (λ (l : Leases). granted l (sight_of c.args.shape.now) c.args.clients.now c.args.client c.args.path.now (kind_of c.args.kind) c.args.end ≡ (Err (LeaseHeld c.in-Err.holder), l)) c.self.view_is
     (held_by_another old (sight_of c.args.shape.now) c.args.clients.now c.args.client c.args.path.now (kind_of c.args.kind) c.args.end
     c.in-Some.row.now c.in-Some.ensures (parts_left c.in-Some-names_of.names) c.in-Some-names_of.ensures c.in_ok-number.number c.in_ok-number.ensures.ok
-    c.if-end-self.false c.in-Some-least_conflict.holder c.in-Some-least_conflict.ensures)
+    c.if-end-self.false c.in-Err.holder c.in-Err.ensures.held)
 
-pub returns-clause-ok : goal.returns-clause-ok
-returns-clause-ok g c =
+pub returns-in-Ok-clause-ok : goal.returns-in-Ok-clause-ok
+returns-in-Ok-clause-ok g c =
     let old : Leases = record { rows = table_in c.self.inside.rows; moment = c.self.inside.moment } in
     ap (λ (l : Leases). granted l (sight_of c.args.shape.now) c.args.clients.now c.args.client c.args.path.now (kind_of c.args.kind) c.args.end) (sym c.self.view_is)
     ∙ given old (sight_of c.args.shape.now) c.args.clients.now c.args.client c.args.path.now (kind_of c.args.kind) c.args.end
     c.in-Some.row.now c.in-Some.ensures (parts_left c.in-Some-names_of.names) c.in-Some-names_of.ensures c.in_ok-number.number c.in_ok-number.ensures.ok
-    c.if-end-self.false c.in_default-least_conflict.ensures
+    c.if-end-self.false c.in-Ok.ensures.free
     ∙ (λ i. (Ok c.in_ok-number.number, record { rows = sym c.in_ok-put.ensures.table i; moment = c.self.inside.moment }))

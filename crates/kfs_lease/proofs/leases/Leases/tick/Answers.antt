@@ -13,4 +13,4 @@ returns-clause-ok g c =
     let after : LeaseOutcome = (Ok c.args.moment, record { rows = live_at c.args.moment old.rows; moment = c.args.moment }) in
     ap (λ (l : Leases). ticked l c.args.moment) (sym c.self.view_is)
     ∙ ap (λ (b : Bool). if b then refused Backwards old else after) later
-    ∙ (λ i. (Ok c.args.moment, record { rows = sym c.end_until.ensures.table i; moment = c.args.moment }))
+    ∙ (λ i. (Ok c.args.moment, record { rows = sym c.in_ok-end_until.ensures.table i; moment = c.args.moment }))

@@ -1,30 +1,19 @@
-use Rattle.std.proofs.Common.{ℕ, None, sym, ap, ◌∙◌}
-use Rattle.kfs_lease_rows.specs.Rows.{table_of}
+use Rattle.std.proofs.Common.{◌≡◌, Ok, Err, ap, ◌∙◌}
+use Rattle.std.specs.Prelude.{OnOk}
 use Rattle.kfs_model.specs.Lease.{live_at}
-use Rattle.kfs_lease_rows.proofs.RowTables.{get-table_of, table_removed, if_live, not_live, live_at-remove, all_live}
-use Rattle.kfs_lease_rows.proofs.RowSteps.{indexed_set, end_left, only_end}
+use Rattle.kfs_lease_rows.specs.Ending.{rows_left}
+use Rattle.kfs_lease_rows.specs.Rows.{row_table, table_in, shown, RowTable}
+use Rattle.kfs_lease_rows.proofs.Endings.{all_rows_left, none_listed}
 use Rattle.kfs_lease_rows.proofs.rows.LeaseRows.end_until.Goals as goal
 
-pub loop-key-preserved : goal.loop-key-preserved
-loop-key-preserved g c =
-    let key = c.in-Some.key in
-    let end = c.in-Some.field-0-0 in
-    let rows = c.loop-key.self in
-    let row_ends = sym (c.loop-key.invariant.indexed.ends end key) ∙ c.in-Some.ensures.member in
-    let one = λ (e : ℕ). c.loop-key.invariant.indexed.ends e key ∙ only_end _ end row_ends e in
-    let over = ap (if_live c.args.moment) (get-table_of rows.leases.entries (key.1, key.0)) ∙ not_live c.args.moment _ end row_ends c.in-Some.ensures.ended in
-    record {
-      indexed =
-          indexed_set rows _ c.loop-key.invariant.indexed key None c.remove.ensures.updates.0
-          (end_left key rows.ends c.take_ended.new.ends end one c.in-Some.ensures.taken.0);
-      same =
-          ap (live_at c.args.moment) (table_removed rows.leases c.remove.new.self key c.remove.ensures.updates.0)
-          ∙ live_at-remove c.args.moment (table_of rows.leases.entries) (key.1, key.0) over
-          ∙ c.loop-key.invariant.same;
-    }
+pub list_ended-requires-clause-listed : goal.list_ended-requires-clause-listed
+list_ended-requires-clause-listed g c = none_listed c.args.self.now c.none-ending.result c.requires c.none-ending.ensures.rows c.none-ending.ensures.ends
 
 pub returns-clause-table : goal.returns-clause-table
 returns-clause-table g c =
-    let rows = c.loop-key.self in
-    sym (all_live c.args.moment rows.leases (λ end key is. c.in_default.ensures.live end key (c.loop-key.invariant.indexed.ends end key ∙ is)))
-    ∙ c.loop-key.invariant.same
+    let rows = c.args.self.now in
+    let left = c.in_ok-list_ended.ensures.left ∙ ap (λ (t : RowTable). live_at c.args.moment (shown t)) (all_rows_left rows c.none-ending.result c.none-ending.ensures.rows) in
+    elim c.end_all.result as (λ r. OnOk r (row_table c.end_all.new.self ≡ rows_left rows c.list_ended.new.ending) → OnOk r (table_in c.end_all.new.self ≡ live_at c.args.moment (table_in rows))) [
+      | Ok done ↦ λ ended. ap shown ended ∙ left
+      | Err e ↦ λ none. none
+    ] c.end_all.ensures.rows

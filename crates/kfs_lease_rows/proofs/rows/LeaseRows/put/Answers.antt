@@ -1,23 +1,25 @@
-use Rattle.std.proofs.Common.{Some, ◌==◌, ◌||◌, sym, ap, ◌∙◌}
-use Rattle.kfs_lease_rows.specs.Rows.{ends_at}
-use Rattle.kfs_lease_rows.proofs.RowTables.{table_inserted}
-use Rattle.kfs_lease_rows.proofs.RowSteps.{indexed_set, both_ends, new_end_stays, end_taken_back, same_rows}
+use Rattle.std.proofs.Common.{◌≡◌, ℕ, Some, None, sym, subst, ◌∙◌}
+use Rattle.kfs_model.specs.Table.{get, changed}
+use Rattle.kfs_map_chunks.specs.Tables.{table_after}
+use Rattle.kfs_lease_rows.specs.Rows.{by_end, row_table, end_table, AreEndsOf}
+use Rattle.kfs_lease_rows.proofs.Edits.{one_ascends}
+use Rattle.kfs_lease_rows.proofs.RowSteps.{exact_with}
 use Rattle.kfs_lease_rows.proofs.rows.LeaseRows.put.Goals as goal
 
-pub leave_end-requires : goal.leave_end-requires
-leave_end-requires g c = λ e.
-    both_ends c.args.self.now c.requires (c.args.number, c.args.client) c.args.lease.end c.insert.new.self c.in_ok-insert.ensures.updates.0 e
-    ∙ ap (λ row. (c.args.lease.end == e) || ends_at row e) (sym c.in-Ok.ensures.old)
+pub replace-requires-clause-there : goal.replace-requires-clause-there
+replace-requires-clause-there g c = sym c.requires.old ∙ c.in-Some.is
 
-pub returns-in_default-clause-indexed : goal.returns-in_default-clause-indexed
-returns-in_default-clause-indexed g c =
-    same_rows c.args.self.now _ c.requires c.in_default.ensures.err
-    (end_taken_back c.args.self.now c.requires (c.args.number, c.args.client) c.args.lease.end c.insert.new.self c.in_ok-insert.ensures.updates.0 c.remove.new.self c.in_default.ensures.absent c.remove.ensures.updates.0)
+pub change_row-requires-clause-ends : goal.change_row-requires-clause-ends
+change_row-requires-clause-ends g c = one_ascends by_end.compare c.listed.result
 
-pub returns-clause-indexed : goal.returns-clause-indexed
-returns-clause-indexed g c =
-    indexed_set c.args.self.now _ c.requires (c.args.number, c.args.client) (Some c.args.lease) c.in-Ok.ensures.updates.0
-    (new_end_stays c.args.self.now c.requires (c.args.number, c.args.client) c.args.lease.end c.insert.new.self c.in_ok-insert.ensures.updates.0 c.leave_end.new.ends c.leave_end.ensures)
+pub change_row-requires-clause-exact : goal.change_row-requires-clause-exact
+unfolding table_after
+change_row-requires-clause-exact g c =
+    let rows = c.args.self.now in
+    let key : ℕ × ℕ = (c.args.number, c.args.client) in
+    subst (λ e. AreEndsOf (changed (row_table rows) key (Some c.args.lease)) (changed (end_table rows) e.key e.value)) (sym c.listed.ensures)
+    (exact_with (row_table rows) (end_table rows) c.requires.indexed.ends key c.args.lease (sym c.requires.old ∙ c.in-None.is))
 
-pub returns-clause-table : goal.returns-clause-table
-returns-clause-table g c = table_inserted c.args.self.now.leases c.insert-2.new.self (c.args.number, c.args.client) c.args.lease c.in-Ok.ensures.updates.0
+pub returns-in-None-clause-table : goal.returns-in-None-clause-table
+unfolding changed
+returns-in-None-clause-table g c = c.change_row.ensures.table

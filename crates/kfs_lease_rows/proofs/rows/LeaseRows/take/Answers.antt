@@ -1,27 +1,46 @@
-use Rattle.std.proofs.Common.{ℕ, option_map, sym, ap, ◌∙◌, None}
+use Rattle.std.proofs.Common.{◌≡◌, ℕ, Some, None, option_map, sym, ap, subst, ◌∙◌}
 use Rattle.std.specs.Prelude.{is_some}
-use Rattle.kfs_lease_rows.specs.Rows.{lease_of, table_of, ends_at}
-use Rattle.kfs_lease_rows.proofs.RowTables.{get-table_of, table_removed}
-use Rattle.kfs_lease_rows.proofs.RowSteps.{indexed_set, end_left}
+use Rattle.kfs_model.specs.Table.{get, changed}
+use Rattle.kfs_map_chunks.specs.Tables.{table_after}
+use Rattle.kfs_map_chunks.proofs.Tables.{get-table}
+use Rattle.kfs_lease_rows.specs.Rows.{by_node, by_end, lease_of, row_table, end_table, table_in, AreEndsOf}
+use Rattle.kfs_lease_rows.proofs.Edits.{one_ascends}
+use Rattle.kfs_lease_rows.proofs.RowSteps.{exact_without, only_end, without_absent}
+use Rattle.kfs_lease_rows.proofs.RowTables.{get-shown}
 use Rattle.kfs_lease_rows.proofs.rows.LeaseRows.take.Goals as goal
 
-pub returns-in-Some-clause-indexed : goal.returns-in-Some-clause-indexed
-returns-in-Some-clause-indexed g c =
-    let one = λ (end : ℕ). c.requires.ends end (c.args.number, c.args.client) ∙ sym (ap (λ o. ends_at o end) c.in-Some.ensures.value) in
-    indexed_set c.args.self.now _ c.requires (c.args.number, c.args.client) None c.remove.ensures.updates.0
-    (end_left (c.args.number, c.args.client) c.args.self.now.ends c.remove-in-Some.new.self c.in-Some.lease.end one c.remove-in-Some.ensures.updates.0)
+pub change_row-requires-clause-ends : goal.change_row-requires-clause-ends
+change_row-requires-clause-ends g c = one_ascends by_end.compare c.unlisted.result
 
-pub returns-in-Some-clause-found : goal.returns-in-Some-clause-found
-returns-in-Some-clause-found g c = ap is_some (ap (option_map lease_of) c.in-Some.ensures.value ∙ sym (get-table_of c.args.self.now.leases.entries (c.args.client, c.args.number)))
+pub change_row-requires-clause-exact : goal.change_row-requires-clause-exact
+unfolding table_after
+change_row-requires-clause-exact g c =
+    let rows = c.args.self.now in
+    let key : ℕ × ℕ = (c.args.number, c.args.client) in
+    let there : get (row_table rows) key ≡ Some c.in-Some.lease = get-table by_node rows.leases key ∙ sym (c.in-Some.ensures ∙ c.get.ensures) in
+    subst (λ e. AreEndsOf (changed (row_table rows) key None) (changed (end_table rows) e.key e.value)) (sym c.unlisted.ensures)
+    (exact_without (row_table rows) (end_table rows) c.requires.ends key c.in-Some.lease.end (only_end (get (row_table rows) key) c.in-Some.lease there))
 
-pub returns-in-Some-clause-table : goal.returns-in-Some-clause-table
-returns-in-Some-clause-table g c = table_removed c.args.self.now.leases c.remove.new.self (c.args.number, c.args.client) c.remove.ensures.updates.0
+pub returns-clause-found : goal.returns-clause-found
+returns-clause-found g c =
+    let rows = c.args.self.now in
+    let key : ℕ × ℕ = (c.args.number, c.args.client) in
+    let there : get (row_table rows) key ≡ Some c.in-Some.lease = get-table by_node rows.leases key ∙ sym (c.in-Some.ensures ∙ c.get.ensures) in
+    sym (ap is_some (get-shown (row_table rows) (c.args.client, c.args.number) ∙ ap (option_map lease_of) there))
 
-pub returns-in-None-clause-found : goal.returns-in-None-clause-found
-returns-in-None-clause-found g c = ap is_some (ap (option_map lease_of) c.in-None.ensures.value ∙ sym (get-table_of c.args.self.now.leases.entries (c.args.client, c.args.number)))
+pub returns-clause-table : goal.returns-clause-table
+unfolding changed
+returns-clause-table g c = c.in_ok-change_row.ensures.table
 
-pub returns-in-None-clause-table : goal.returns-in-None-clause-table
-returns-in-None-clause-table g c = table_removed c.args.self.now.leases c.remove.new.self (c.args.number, c.args.client) c.remove.ensures.updates.0
+pub returns-in_default-clause-found : goal.returns-in_default-clause-found
+returns-in_default-clause-found g c =
+    let rows = c.args.self.now in
+    let none : get (row_table rows) (c.args.number, c.args.client) ≡ None = get-table by_node rows.leases (c.args.number, c.args.client) ∙ sym (c.in_default.ensures ∙ c.get.ensures) in
+    sym (ap is_some (get-shown (row_table rows) (c.args.client, c.args.number) ∙ ap (option_map lease_of) none))
 
-pub returns-in-None-clause-kept : goal.returns-in-None-clause-kept
-returns-in-None-clause-kept g c = λ none. ap table_of c.in-None.ensures.unchanged
+pub returns-in_default-clause-table : goal.returns-in_default-clause-table
+unfolding changed
+returns-in_default-clause-table g c =
+    let rows = c.args.self.now in
+    let none : get (row_table rows) (c.args.number, c.args.client) ≡ None = get-table by_node rows.leases (c.args.number, c.args.client) ∙ sym (c.in_default.ensures ∙ c.get.ensures) in
+    sym (without_absent (table_in rows) (c.args.client, c.args.number) (get-shown (row_table rows) (c.args.client, c.args.number) ∙ ap (option_map lease_of) none))

@@ -1,0 +1,113 @@
+//! The change of a landing: the image changes, and leases on nodes that go end.
+ghost use Rattle.std.specs.Prelude.{◌≡◌, ◌++◌, IfOk, OnErr, OnOk};
+ghost use Rattle.std.specs.List.{AllByRecursion};
+ghost use Rattle.kfs_model.specs.Plan.{PiecesAscend};
+ghost use Rattle.kfs_plan_sweep.specs.Lefts.{IsFilled, PieceIsInRange};
+ghost use Rattle.kfs_image_fill.specs.Bytes.{HasPayloads, pieces_of};
+ghost use Rattle.kfs_image_fill.specs.FillOf.{CanLandWith, HasLandedWith};
+ghost use Rattle.kfs_lease.specs.Removed.{without_nodes_in};
+ghost use Rattle.kfs_desk.specs.Landing.{ended_by, removed_by, removed_with};
+
+use kfs_entry::NodeRow;
+use kfs_image::{Image, Net};
+use kfs_image_fill::{LogBytes, land_bytes};
+use kfs_lease::Leases;
+use kfs_map_pages::Change;
+use std::alloc::{AllocError, Allocator};
+use std::sync::Arc;
+
+/// The change that a log makes of the image, with its bytes.
+#[derive(Drop)]
+struct ImageChange<'a, A: Allocator> {
+    alloc: A,
+    image: &'a mut Image<A>,
+    bytes: LogBytes<'a>,
+    net: &'a Net<A>,
+}
+
+impl<'a, A: Allocator + Copy> Change for ImageChange<'a, A> {
+    ghost use Rattle.std.specs.Prelude.{◌≡◌, refl};
+    ghost use Rattle.kfs_map_pages.specs.Nested.{Becomes};
+    ghost use Rattle.kfs_image_fill.specs.FillOf.{HasLandedWith};
+    ghost use Rattle.kfs_desk.specs.Landing.{CanLandBytes};
+
+    ghost can_make = { λ before. CanLandBytes before.image.now before.bytes before.net.now };
+
+    ghost made = { λ before after. HasLandedWith before.image.now before.bytes before.net.now after.image.now × (after.image.ghost_name ≡ before.image.ghost_name) };
+
+    ghost kept = { λ before after. Becomes before.image after.image before.image.now };
+
+    ghost not_tried = { λ before. (refl, refl) };
+
+    fn make(&mut self) -> Result<(), AllocError> {
+        land_bytes(self.alloc, self.image, &self.bytes, self.net)
+    }
+}
+
+/// Makes a net's change, with the bytes of its log. All memory is taken before the first change of
+/// image or leases.
+pub(crate) fn change_state<A: Allocator + Copy>(
+    alloc: A,
+    image: &mut Image<A>,
+    leases: &mut Arc<Leases<A>, A>,
+    bytes: &LogBytes<'_>,
+    net: &Net<A>,
+) -> Result<(), AllocError>
+    requires payloads { HasPayloads bytes.now }
+    requires pieces { PiecesAscend (pieces_of bytes.now) }
+    requires whole { AllByRecursion PieceIsInRange bytes.now.pieces.now }
+    requires filled { AllByRecursion IsFilled bytes.now.pieces.now }
+    requires fits { CanLandWith image.old bytes.now net.now }
+    ensures image { OnOk result (HasLandedWith image.old bytes.now net.now image.new) }
+    ensures leases { OnOk result (leases.new.value ≡ ended_by leases.old.value net.now.nodes.items) }
+    ensures err { OnErr result ((image.new ≡ image.old) × (leases.new.value ≡ leases.old.value)) }
+{
+    let removed = removed_nodes(alloc, net.nodes.as_slice())?;
+    let mut change = ImageChange {
+        alloc,
+        image,
+        bytes: *bytes,
+        net,
+    };
+    end_leases(leases, removed.as_slice(), &mut change)
+}
+
+/// The numbers of the nodes that the rows remove.
+fn removed_nodes<A: Allocator + Copy>(
+    alloc: A,
+    nodes: &[NodeRow],
+) -> Result<Vec<u32, A>, AllocError>
+    ensures { IfOk result (λ removed. removed.items ≡ removed_by nodes.now) }
+{
+    let mut removed = Vec::new(alloc);
+    for row in nodes {
+        push_removed(&mut removed, row)?;
+    }
+    Ok(removed)
+}
+
+fn push_removed<A: Allocator>(removed: &mut Vec<u32, A>, row: &NodeRow) -> Result<(), AllocError>
+    ensures { OnOk result (removed.new.items ≡ removed.old.items ++ removed_with row.entry.now.number row.entry.now.now) }
+{
+    if row.now.is_none() {
+        removed.push(row.number)?;
+    }
+    Ok(())
+}
+
+/// Ends the leases on the nodes, together with another change. Where a view shares the leases, a copy
+/// is made first, which shares their rows.
+fn end_leases<A: Allocator + Copy, T: Change>(
+    leases: &mut Arc<Leases<A>, A>,
+    removed: &[u32],
+    then: &mut T,
+) -> Result<(), AllocError>
+    requires then { T.can_make then.old }
+    ensures ok { OnOk result (leases.new.value ≡ without_nodes_in leases.old.value removed.now) }
+    ensures err { OnErr result (leases.new.value ≡ leases.old.value) }
+    ensures made { OnOk result (T.made then.old then.new) }
+    ensures kept { OnErr result (T.kept then.old then.new) }
+{
+    let leases = Arc::make_mut(leases)?;
+    leases.remove_nodes(removed, then)
+}
