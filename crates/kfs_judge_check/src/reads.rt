@@ -103,8 +103,15 @@ impl<'a, A: Allocator + Copy> Recorder<'a, A> {
         ensures { LooksAtName self.old self.new result key.now (λ number before. before.sight.name key.now.0 key.now.1 ≡ number) }
     {
         let name = copied(&key.1)?;
-        let answer = self.read(Read::Look(Cell::Name(key.0, name)))?;
-        Ok(number_in(answer))
+        let read = Read::Look(Cell::Name(key.0, name));
+        if let Some(answer) = self.reads.get(&read) {
+            return Ok(number_in(*answer));
+        }
+        // What `look` answers, but without one more copy of the name.
+        let number = self.view.target(key);
+        let answer = ReadAnswer::Look(Answer::Name(number));
+        record(&mut self.reads, read, answer)?;
+        Ok(number)
     }
 
     /// How many names a directory has.
