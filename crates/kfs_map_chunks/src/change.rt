@@ -22,7 +22,7 @@ use std::sync::Arc;
 const GREATEST_SIZE: usize = 256;
 
 /// The most bytes of a chunk, as long as it has more than 32 entries.
-const MOST_BYTES: usize = 16_384;
+const MOST_BYTES: usize = 8_192;
 
 /// How many entries a chunk may get: fewer, where they are long. An entry that is put into a chunk moves
 /// those behind it.
