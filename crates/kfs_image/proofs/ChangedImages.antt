@@ -26,6 +26,12 @@ pub record AreOf {A : Type 0} (net : Net A) (fill : Fill A) (names : List NameRo
   pub rows_are : rows ≡ fill.rows.items
   pub released_are : AreReleased net.nodes.items fill.zero.items released
 
+-- runs found by lists that are those of the net and the fill
+pub are_released : {A : Type 0} (net : Net A) (fill : Fill A) (nodes : List NodeRow) (zero found released : List BlockRun) → nodes ≡ net.nodes.items → zero ≡ fill.zero.items → released ≡ found
+    → AreReleased nodes zero found → AreReleased net.nodes.items fill.zero.items released
+are_released net fill nodes zero found released nodes_are zero_are same are =
+    subst (AreReleased net.nodes.items fill.zero.items) (sym same) (subst (λ runs. AreReleased net.nodes.items runs found) zero_are (subst (λ rows. AreReleased rows zero found) nodes_are are))
+
 module _ {A : Type 0} (net : Net A) (fill : Fill A) (names : List NameRow) (nodes : List NodeRow) (released : List BlockRun) (rows : List (BlockRow A)) (of : AreOf net fill names nodes released rows)
     (contents : Contents) (blocks : BlocksShown) (lawful : IsLawful (image_with contents blocks)) where
   abbrev image : DeviceImage

@@ -20,7 +20,7 @@ use crate::net::Fill;
 use crate::read::ReadFault;
 use crate::released::released_blocks;
 use kfs_entry_value::{Header, Kind, Name, NameRow, NodeRow, TierSizes};
-use kfs_image_blocks::{ChangeBlocks, FileBlocks, FillBlocks};
+use kfs_image_blocks::{ChangeBlocks, FileBlocks, FillBlocks, MoveBlocks};
 use kfs_image_nodes::{Answer, Cell, Net, Shape, look};
 use kfs_map_chunks::key_edits;
 use kfs_map_pages::Change;
@@ -118,6 +118,32 @@ impl<A: Allocator + Clone> Image<A> {
             blocks: &mut self.blocks,
             released: released.as_slice(),
             rows: fill.rows.as_slice(),
+        };
+        change_shared(
+            &mut self.shape,
+            alloc,
+            net.names.as_slice(),
+            net.nodes.as_slice(),
+            &mut then,
+        )
+    }
+
+    /// The same, where the fill is given away: no byte of its blocks is copied.
+    pub(crate) fn change_moving(
+        &mut self,
+        alloc: &A,
+        net: &Net<A>,
+        mut fill: Fill<A>,
+    ) -> Result<(), AllocError>
+        requires { CanApply net.now fill self.old }
+        ensures ok { OnOk result (self.new ≡ applied net.now fill self.old) }
+        ensures err { OnErr result (self.new ≡ self.old) }
+    {
+        let released = released_blocks(alloc, net.nodes.as_slice(), fill.zero.as_slice())?;
+        let mut then = MoveBlocks {
+            blocks: &mut self.blocks,
+            released: released.as_slice(),
+            rows: &mut fill.rows,
         };
         change_shared(
             &mut self.shape,

@@ -22,6 +22,8 @@ pub use kfs_entry_value::{
 };
 pub use kfs_image_blocks::{BlockRow, BlockRun, Place};
 pub use kfs_image_nodes::{Answer, Cell, HeaderPage, Net, Page, Shape, look};
+#[doc(hidden)]
+pub use net::net_apply_moving;
 pub use net::{Fill, net_apply};
 pub use raw::{Extent, ExtentRow, RawImage, RawNode};
 pub use read::{ReadFault, read_file};

@@ -47,3 +47,17 @@ pub fn net_apply<A: Allocator + Clone>(
 {
     image.change(&alloc, net, fill)
 }
+
+/// `net_apply`, where the fill is given away: no byte of its blocks is copied.
+pub fn net_apply_moving<A: Allocator + Clone>(
+    alloc: A,
+    image: &mut Image<A>,
+    net: &Net<A>,
+    fill: Fill<A>,
+) -> Result<(), AllocError>
+    requires { CanApply net.now fill image.old }
+    ensures ok { OnOk result (image.new ≡ applied net.now fill image.old) }
+    ensures err { OnErr result (image.new ≡ image.old) }
+{
+    image.change_moving(&alloc, net, fill)
+}

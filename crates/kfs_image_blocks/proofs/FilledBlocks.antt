@@ -61,7 +61,23 @@ module _ (released : List BlockRun) (i : ℕ) where
   pub less_all : (now all : Placement) → length released ≤ i → less (drop i released) now ≡ all → now ≡ all
   less_all now all past so_far = sym (less_nothing now) ∙ sym (ap (λ runs. less runs now) (drop_all i released past)) ∙ so_far
 
--- ---- mapped by rows, and copied from them
+-- ---- mapped by rows, and made of them
+
+module _ {A : Type 0} where
+  -- one row more has become a block
+  pub next_row : (row : BlockRow A) (block : NewBlock A) (old new : List (NewBlock A)) (left later : List (BlockRow A)) (all : List (Place × List ℕ)) → left ≡ row ∷ later → new ≡ old ++ block ∷ [] → new_part block ≡ row_part row
+      → map new_part old ++ map row_part left ≡ all
+      → map new_part new ++ map row_part later ≡ all
+  next_row row block old new left later all is added alike so_far =
+      ap (λ blocks. map new_part blocks ++ map row_part later) added
+      ∙ ap (λ parts. parts ++ map row_part later) (map-append new_part old (block ∷ []))
+      ∙ append_assoc (map new_part old) (new_part block ∷ []) (map row_part later)
+      ∙ ap (λ part. map new_part old ++ part ∷ map row_part later) alike
+      ∙ ap (λ rest. map new_part old ++ map row_part rest) (sym is)
+      ∙ so_far
+
+  pub no_row_left : (blocks : List (NewBlock A)) (left : List (BlockRow A)) (all : List (Place × List ℕ)) → left ≡ [] → map new_part blocks ++ map row_part left ≡ all → map new_part blocks ≡ all
+  no_row_left blocks left all none so_far = sym (ap (λ rest. map new_part blocks ++ map row_part rest) none ∙ append-nil (map new_part blocks)) ∙ so_far
 
 module _ {A : Type 0} (rows : List (BlockRow A)) (i : ℕ) where
   pub mapped_row : (row : BlockRow A) (old new all : Placement) → i < length rows → row ≡ get_or rows i row → new ≡ changed old (row.number, row.block) (Some row.place) → mapped_by (drop i rows) old ≡ all
@@ -77,16 +93,10 @@ module _ {A : Type 0} (rows : List (BlockRow A)) (i : ℕ) where
   pub copied_row : (row : BlockRow A) (block : NewBlock A) (old new : List (NewBlock A)) (all : List (Place × List ℕ)) → i < length rows → row ≡ get_or rows i row → new ≡ old ++ block ∷ [] → new_part block ≡ row_part row
       → map new_part old ++ map row_part (drop i rows) ≡ all
       → map new_part new ++ map row_part (drop (i + 1) rows) ≡ all
-  copied_row row block old new all below here added alike so_far =
-      ap (λ blocks. map new_part blocks ++ map row_part (drop (i + 1) rows)) added
-      ∙ ap (λ parts. parts ++ map row_part (drop (i + 1) rows)) (map-append new_part old (block ∷ []))
-      ∙ append_assoc (map new_part old) (new_part block ∷ []) (map row_part (drop (i + 1) rows))
-      ∙ ap (λ part. map new_part old ++ part ∷ map row_part (drop (i + 1) rows)) alike
-      ∙ ap (λ rest. map new_part old ++ map row_part rest) (sym (rest_at rows i row below here))
-      ∙ so_far
+  copied_row row block old new all below here = next_row row block old new (drop i rows) (drop (i + 1) rows) all (rest_at rows i row below here)
 
   pub copied_all : (blocks : List (NewBlock A)) (all : List (Place × List ℕ)) → length rows ≤ i → map new_part blocks ++ map row_part (drop i rows) ≡ all → map new_part blocks ≡ all
-  copied_all blocks all past so_far = sym (ap (λ rest. map new_part blocks ++ map row_part rest) (drop_all i rows past) ∙ append-nil (map new_part blocks)) ∙ so_far
+  copied_all blocks all past = no_row_left blocks (drop i rows) all (drop_all i rows past)
 
 -- ---- as one change of the blocks
 

@@ -11,7 +11,7 @@ ghost use Rattle.kfs_map_chunks.specs.Tables.{table_after};
 ghost use Rattle.kfs_image_blocks.specs.Blocks.{CanChange, changed};
 ghost use Rattle.kfs_image_blocks.specs.Fill.{CanFill, filled, placement_after};
 
-use crate::fill::{BlockRow, BlockRun, copies, fill_edits};
+use crate::fill::{BlockRow, BlockRun, copies, fill_edits, moved};
 use crate::moves::Moves;
 use crate::staged::{StagedTiers, TiersChange};
 use kfs_entry_value::TierSizes;
@@ -132,6 +132,21 @@ impl<A: Allocator + Clone> FileBlocks<A> {
     {
         let edits = self.edits_of(released, rows)?;
         let written = copies(edits.allocator(), rows)?;
+        self.change(edits.as_slice(), written)
+    }
+
+    /// The same, where the rows are given away: no byte of theirs is copied.
+    pub fn fill_moving(
+        &mut self,
+        released: &[BlockRun],
+        rows: Vec<BlockRow<A>, A>,
+    ) -> Result<(), AllocError>
+        requires { CanFill self.old released.now rows.items }
+        ensures ok { OnOk result (self.new ≡ filled released.now rows.items self.old) }
+        ensures err { OnErr result (self.new ≡ self.old) }
+    {
+        let edits = self.edits_of(released, rows.as_slice())?;
+        let written = moved(edits.allocator(), rows)?;
         self.change(edits.as_slice(), written)
     }
 

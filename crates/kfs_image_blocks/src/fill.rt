@@ -110,3 +110,23 @@ pub(crate) fn copies<A: Allocator + Clone>(
     }
     Ok(written)
 }
+
+/// The rows' blocks with their bytes, none of which is copied.
+pub(crate) fn moved<A: Allocator + Clone>(
+    alloc: &A,
+    rows: Vec<BlockRow<A>, A>,
+) -> Result<Vec<NewBlock<A>, A>, AllocError>
+    ensures { IfOk result (λ written. map new_part written.items ≡ map row_part rows.items) }
+{
+    let mut written = Vec::with_capacity(alloc.clone()?, rows.len())?;
+    for row in rows {
+        let BlockRow {
+            number: _,
+            block: _,
+            place,
+            bytes,
+        } = row;
+        written.push(NewBlock { place, bytes })?;
+    }
+    Ok(written)
+}

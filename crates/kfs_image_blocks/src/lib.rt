@@ -15,4 +15,4 @@ pub use blocks::FileBlocks;
 pub use fill::{BlockRow, BlockRun};
 pub use kfs_image_tier::{NewBlock, Place};
 pub use kfs_map_chunks::KeyEdit;
-pub use nested::{ChangeBlocks, FillBlocks};
+pub use nested::{ChangeBlocks, FillBlocks, MoveBlocks};

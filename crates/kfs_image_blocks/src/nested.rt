@@ -37,6 +37,37 @@ impl<'a, A: Allocator + Clone> Change for FillBlocks<'a, A> {
     }
 }
 
+/// A fill of blocks whose bytes are moved to their places, and not copied. The rows are taken out of the
+/// list.
+#[derive(Drop)]
+pub struct MoveBlocks<'a, A: Allocator> {
+    /// The blocks that are changed.
+    pub blocks: &'a mut FileBlocks<A>,
+    /// The runs of blocks to be unmapped.
+    pub released: &'a [BlockRun],
+    /// The blocks to be mapped, with their places and bytes.
+    pub rows: &'a mut Vec<BlockRow<A>, A>,
+}
+
+impl<'a, A: Allocator + Clone> Change for MoveBlocks<'a, A> {
+    ghost use Rattle.kfs_map_pages.specs.Nested.{Becomes};
+    ghost use Rattle.kfs_image_blocks.specs.Fill.{CanFill, filled};
+
+    ghost can_make = { λ before. CanFill before.blocks.now before.released.now before.rows.now.items };
+
+    ghost made = { λ before after. Becomes before.blocks after.blocks (filled before.released.now before.rows.now.items before.blocks.now) };
+
+    ghost kept = { λ before after. Becomes before.blocks after.blocks before.blocks.now };
+
+    ghost not_tried = { λ before. Prim.search rules };
+
+    fn make(&mut self) -> Result<(), AllocError> {
+        let none = Vec::new(self.rows.allocator().clone()?);
+        let rows = mem::replace(self.rows, none);
+        self.blocks.fill_moving(self.released, rows)
+    }
+}
+
 /// A change of blocks: new places of blocks, and blocks to be written. The latter are taken out of the
 /// list.
 #[derive(Drop)]

@@ -15,7 +15,7 @@ use Rattle.kfs_model.specs.Table.{get}
 use Rattle.kfs_model.specs.Tree.{Tree, content_of, node_over}
 use Rattle.kfs_model.proofs.TableLaws.{get-mapped}
 use Rattle.kfs_model_device.specs.ShownTree.{DeviceImage, file_bytes, shown_tree}
-use Rattle.kfs_image_fill.specs.Bytes.{byte_over, ArePut}
+use Rattle.kfs_image_fill.specs.Bytes.{byte_over, ArePut, ArePutOnAny}
 use Rattle.kfs_image_fill.specs.Fill.{byte_after}
 use Rattle.kfs_image.specs.Read.{FileIsRead}
 use Rattle.kfs_image.specs.declared.read.ReadFault.{ReadFault}
@@ -44,6 +44,17 @@ block_is before entries pieces number block size start len old new behind begins
     each k below =
         put before k (omega (arith, below, old_long))
         ∙ ap (byte_over before entries pieces number (start + k)) (stood k below)
+        ∙ ap (byte_after before entries pieces number) (let same : start + k ≡ block * size + (0 + k) = omega (arith, begins) in same)
+
+-- the bytes of a block that pieces cover are those of the pieces
+pub covered_is : (before : Tree ℕ) (entries : List Entry) (pieces : List Piece) (number block size start : ℕ) (bytes : List ℕ)
+    → start ≡ block * size → length bytes ≡ size → ArePutOnAny entries pieces number start bytes
+    → bytes ≡ map (λ k. byte_after before entries pieces number (block * size + k)) (below size)
+covered_is before entries pieces number block size start bytes begins long put = listed_from (λ k. byte_after before entries pieces number (block * size + k)) 0 bytes size long each
+  where
+    each : (k : ℕ) → k < size → get_or bytes k 0 ≡ byte_after before entries pieces number (block * size + (0 + k))
+    each k below =
+        put before k (byte_at (content_of (get before.nodes number)) (start + k)) (omega (arith, below, long))
         ∙ ap (byte_after before entries pieces number) (let same : start + k ≡ block * size + (0 + k) = omega (arith, begins) in same)
 
 -- ---- what a read leaves in bytes that were zero

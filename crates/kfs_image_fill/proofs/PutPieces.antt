@@ -1,12 +1,14 @@
 -- Pieces put over bytes of a file, each over those behind it.
 use Rattle.std.proofs.Common.{append_assoc, ◌≡◌, ℕ, map, ◌+◌, ◌-◌, ◌<◌, ◌≤◌, ◌++◌, ◌⊎◌, ◌&&◌, inl, inr, subst, min, Bool, true, false, cond, ltb, leb, eqb, List, [], ◌∷◌, length, take, drop, Option, Some, None, refl, sym, ap, ◌∙◌, ⊎_elim, arith}
-use Rattle.std.specs.Prelude.{slice_index}
+use Rattle.std.specs.Prelude.{slice_index, IfSome}
+use Rattle.std.specs.Borrow.{Bor}
 use Rattle.std.proofs.Math.ListN.{get_or, get_or-append}
 use Rattle.std.proofs.lemmas.Bool.{cases_lt}
 use Rattle.std.proofs.lemmas.Bool.Decides.{nat_tests}
 use Rattle.std.proofs.lemmas.List.{get_or-take, get_or-drop, get_or-append_right, length-take-le, append-nil}
 use borrow.Rule.Slice.PartMut.{put_mid}
 use Rattle.kfs_model.specs.Entry.{Entry}
+use Rattle.kfs_model.specs.Limits.{block_size}
 use Rattle.kfs_model.specs.Plan.{covers, end_of, mark_of_source}
 use Rattle.kfs_model.specs.PlanCut.{mark_in_pieces}
 use Rattle.kfs_model.specs.PlanRow.{Piece}
@@ -14,7 +16,7 @@ use Rattle.kfs_model.specs.Run.{Mark, byte_of}
 use Rattle.kfs_model.specs.Tree.{Tree}
 use Rattle.kfs_entry_value.specs.Views.{piece_of}
 use Rattle.kfs_entry_value.specs.declared.plan.Piece.{Piece as CodePiece}
-use Rattle.kfs_image_fill.specs.Bytes.{byte_over, ArePut}
+use Rattle.kfs_image_fill.specs.Bytes.{byte_over, AreGivenBy, ArePut, ArePutOnAny}
 
 module _ (before : Tree ℕ) (entries : List Entry) where
   abbrev byte_said : (old : ℕ) → Option Mark → ℕ
@@ -126,3 +128,32 @@ put_part entries p n start old part first distance count width number begins far
 
     at : {x y z : ℕ} → x ≡ y → z ≡ y → x ≡ z
     at a b = a ∙ sym b
+
+-- ---- a piece that covers all
+
+pub put_on_any : (entries : List Entry) (p : Piece) (ps : List Piece) (n start : ℕ) (bytes : List ℕ) (distance : ℕ)
+    → p.number ≡ n → p.start ≤ start → distance ≡ start - p.start → start + length bytes ≤ end_of p
+    → ((before : Tree ℕ) (k : ℕ) → k < length bytes → slice_index bytes k ≡ byte_of before entries (mark_of_source p.source (distance + k)))
+    → ArePutOnAny entries (p ∷ ps) n start bytes
+put_on_any entries p ps n start bytes distance number begins far ends each before k old below =
+    each before k below
+    ∙ sym (over_first before entries p ps n (start + k) old
+    ∙ over_covered before entries p n (start + k) (byte_over before entries ps n (start + k) old) (distance + k)
+    (inside p.number p.start (end_of p) n (start + k) number (omega (arith, begins)) (omega (arith, below, ends)))
+    (omega (arith, begins, far)))
+
+-- the first of the pieces covers all
+pub put_by_first : (entries : List Entry) (pieces : List CodePiece) (first : CodePiece) (n start : ℕ) (bytes : List ℕ) (distance : ℕ) → 0 < length pieces → first ≡ get_or pieces 0 first
+    → first.number ≡ n → first.start ≤ start → distance ≡ start - first.start → start + length bytes ≤ first.start + first.len
+    → ((before : Tree ℕ) (k : ℕ) → k < length bytes → slice_index bytes k ≡ byte_of before entries (mark_of_source (piece_of first).source (distance + k)))
+    → ArePutOnAny entries (map piece_of pieces) n start bytes
+put_by_first entries [] first n start bytes distance some is number begins far ends each = absurd (omega (arith, some))
+put_by_first entries (p ∷ ps) first n start bytes distance some is number begins far ends each =
+    subst (λ q. ArePutOnAny entries (piece_of q ∷ map piece_of ps) n start bytes) is (put_on_any entries (piece_of first) (map piece_of ps) n start bytes distance number begins far ends each)
+
+pub put_where_found : (entries : List Entry) (pieces : List CodePiece) (first : CodePiece) (n start distance : ℕ) (found : Option (Bor (List ℕ))) → 0 < length pieces → first ≡ get_or pieces 0 first
+    → first.number ≡ n → first.start ≤ start → distance ≡ start - first.start → start + block_size ≤ first.start + first.len
+    → IfSome found (λ bytes. length bytes.now ≡ block_size) → IfSome found (λ bytes. AreGivenBy entries (piece_of first).source distance bytes.now)
+    → IfSome found (λ bytes. ArePutOnAny entries (map piece_of pieces) n start bytes.now)
+put_where_found entries pieces first n start distance None some is number begins far ends whole given = tt
+put_where_found entries pieces first n start distance (Some bytes) some is number begins far ends whole given = put_by_first entries pieces first n start bytes.now distance some is number begins far (omega (arith, whole, ends)) given

@@ -41,6 +41,11 @@ abbrev pub ArePut : List Entry → List Piece → (number start : ℕ) → (old 
 ArePut entries pieces number start old new =
     (before : Tree ℕ) (k : ℕ) → k < length old → slice_index new k ≡ byte_over before entries pieces number (start + k) (slice_index old k)
 
+-- these are the bytes of a file from `start` on once the pieces are laid over it, whatever stood there
+abbrev pub ArePutOnAny : List Entry → List Piece → (number start : ℕ) → List ℕ → Type 0
+ArePutOnAny entries pieces number start bytes =
+    (before : Tree ℕ) (k old : ℕ) → k < length bytes → slice_index bytes k ≡ byte_over before entries pieces number (start + k) old
+
 -- whether the piece ends at this byte of the file, or before it
 abbrev pub ends_by : (number place : ℕ) → Piece → Bool
 ends_by n q p = nat_lt p.number n || ((p.number == n) && nat_le (end_of p) q)

@@ -4,7 +4,7 @@ ghost use Rattle.kfs_model_device.specs.ShownTree.{shown_tree};
 ghost use Rattle.kfs_image_fill.specs.Bytes.{entries_of, pieces_of, AreBytesOf, HasPayloads};
 ghost use Rattle.kfs_image_fill.specs.Fill.{block_after};
 
-use crate::bytes::{LogBytes, put_pieces};
+use crate::bytes::{LogBytes, covering_bytes, put_pieces};
 use kfs_entry_value::BLOCK_SIZE;
 use kfs_image::{Image, read_file};
 use std::alloc::{AllocError, Allocator};
@@ -29,8 +29,33 @@ fn bytes_before<A: Allocator>(
     Ok(bytes)
 }
 
-/// The bytes of a block of a file after the log.
+/// The bytes of a block of a file after the log. Where one payload covers the block, its bytes are
+/// copied, and the file isn't read.
 pub(crate) fn block_bytes<A: Allocator + Copy>(
+    alloc: A,
+    image: &Image<A>,
+    log: &LogBytes<'_>,
+    number: u32,
+    block: u32,
+) -> Result<Vec<u8, A>, AllocError>
+    requires { HasPayloads log.now }
+    ensures { IfOk result (λ bytes. bytes.items ≡ block_after (shown_tree image.now) (entries_of log.now) (pieces_of log.now) number block) }
+{
+    let start = u64::from(block) * BLOCK_SIZE;
+    match covering_bytes(log, number, start) {
+        Some(whole) => {
+            let bytes = Vec::from_slice(alloc, whole)?;
+            Ok(bytes)
+        }
+        None => {
+            let bytes = patched_bytes(alloc, image, log, number, block)?;
+            Ok(bytes)
+        }
+    }
+}
+
+/// The bytes of a block of the file, with the log's pieces laid over them.
+fn patched_bytes<A: Allocator + Copy>(
     alloc: A,
     image: &Image<A>,
     log: &LogBytes<'_>,

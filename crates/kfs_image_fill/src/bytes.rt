@@ -1,10 +1,11 @@
 //! A log's pieces, laid over the bytes of a file.
-ghost use Rattle.std.specs.Prelude.{◌≡◌, ◌∷◌, [], drop, slice_get, slice_index, EachIndex};
+ghost use Rattle.std.specs.Prelude.{◌≡◌, ◌+◌, ◌≤◌, ◌∷◌, [], drop, length, slice_get, slice_index, EachIndex, IfSome, IsTrue};
 ghost use Rattle.kfs_entry_value.specs.Views.{piece_of, source_of};
+ghost use Rattle.kfs_model.specs.Limits.{block_size};
 ghost use Rattle.kfs_model.specs.Run.{byte_at, payload_of};
-ghost use Rattle.kfs_image_fill.specs.Bytes.{entries_of, pieces_of, HasPayloads, ArePut, AreGivenBy};
+ghost use Rattle.kfs_image_fill.specs.Bytes.{entries_of, pieces_of, HasPayloads, ArePut, ArePutOnAny, AreGivenBy};
 
-use kfs_entry_value::{Entry, Piece, Source, Span};
+use kfs_entry_value::{BLOCK_SIZE, Entry, Piece, Source, Span};
 
 /// A log, and the pieces that say which bytes it changes.
 #[derive(Clone, Copy)]
@@ -93,4 +94,57 @@ pub(crate) fn put_pieces(bytes: &mut [u8], log: &LogBytes<'_>, number: u32, star
     for piece in log.pieces.iter().rev() {
         put_piece(bytes, log, piece, number, start);
     }
+}
+
+/// The bytes of the block that begins at position `start` of the file, where one piece of a payload
+/// covers it. What stood there doesn't matter then.
+pub(crate) fn covering_bytes<'a>(log: &LogBytes<'a>, number: u32, start: u64) -> Option<&'a [u8]>
+    requires { HasPayloads log.now }
+    ensures whole { IfSome result (λ bytes. length bytes.now ≡ block_size) }
+    ensures put { IfSome result (λ bytes. ArePutOnAny (entries_of log.now) (pieces_of log.now) number start bytes.now) }
+{
+    let piece = log.pieces.first()?;
+    if !covers_block(piece, number, start) {
+        return None;
+    }
+    let distance = start - piece.start;
+    block_of(log, piece.source, distance as usize)
+}
+
+/// Whether the piece covers the whole block that begins at this byte of the file.
+fn covers_block(piece: &Piece, number: u32, start: u64) -> bool
+    ensures number { IsTrue result → piece.now.number ≡ number }
+    ensures begins { IsTrue result → piece.now.start ≤ start }
+    ensures ends { IsTrue result → start + block_size ≤ piece.now.start + piece.now.len }
+{
+    piece.number == number
+        && piece.start <= start
+        && piece.len >= BLOCK_SIZE
+        && start - piece.start <= piece.len - BLOCK_SIZE
+}
+
+/// A block's bytes of a source, from `distance` bytes behind its piece's start on, if they are all of
+/// one payload.
+fn block_of<'a>(log: &LogBytes<'a>, source: Source, distance: usize) -> Option<&'a [u8]>
+    requires { HasPayloads log.now }
+    ensures whole { IfSome result (λ bytes. length bytes.now ≡ block_size) }
+    ensures given { IfSome result (λ bytes. AreGivenBy (entries_of log.now) (source_of source) distance bytes.now) }
+{
+    match source {
+        Source::Zero => None,
+        Source::Payload { entry, place } => {
+            let from_place = behind(payload(log, entry), place as usize);
+            front_block(behind(from_place, distance))
+        }
+    }
+}
+
+/// The first 4,096 bytes, if there are so many.
+fn front_block(bytes: &[u8]) -> Option<&[u8]>
+    ensures { IfSome result (λ front. (length front.now ≡ block_size) × EachIndex front.now (λ k. slice_index front.now k ≡ byte_at bytes.now k)) }
+{
+    if bytes.len() < BLOCK_SIZE as usize {
+        return None;
+    }
+    Some(&bytes[..BLOCK_SIZE as usize])
 }

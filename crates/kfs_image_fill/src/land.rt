@@ -8,7 +8,7 @@ ghost use Rattle.kfs_image_fill.specs.FillOf.{CanLandWith, HasLandedWith};
 
 use crate::bytes::LogBytes;
 use crate::fill::fill_of;
-use kfs_image::{Image, Net, net_apply};
+use kfs_image::{Image, Net, net_apply_moving};
 use std::alloc::{AllocError, Allocator};
 
 /// Makes the change that a log makes: the names and headers of its net, and its bytes. Condition: that
@@ -29,5 +29,5 @@ pub fn land_bytes<A: Allocator + Copy>(
     ensures err { OnErr result (image.new ≡ image.old) }
 {
     let fill = fill_of(alloc, image, log, net.nodes.as_slice())?;
-    net_apply(alloc, image, net, &fill)
+    net_apply_moving(alloc, image, net, fill)
 }

@@ -28,7 +28,7 @@ pub fn block_rows<A: Allocator + Copy>(
     requires count { length blocks.now ≡ length places.now }
     ensures { IfOk result (λ rows. AreRowsOf (shown_tree image.now) (entries_of log.now) (pieces_of log.now) blocks.now places.now rows.items) }
 {
-    let mut rows = Vec::new(alloc);
+    let mut rows = Vec::with_capacity(alloc, blocks.len())?;
     let mut pieces = log.pieces;
     for (index, &(number, block)) in blocks.iter().enumerate() {
         let start = u64::from(block) * BLOCK_SIZE;

@@ -1,5 +1,5 @@
 //! The changes of headers that node rows make.
-ghost use Rattle.std.specs.Prelude.{◌≡◌, ℕ, Option, IfOk};
+ghost use Rattle.std.specs.Prelude.{◌≡◌, ◌↔◌, ℕ, [], ◌∷◌, Option, IfOk, IsTrue};
 ghost use Rattle.std.specs.Ordering.{nat_cmp};
 ghost use Rattle.std.specs.BTreeMap.{get};
 ghost use Rattle.kfs_map_pages.specs.Edits.{edited, AreEdits};
@@ -7,7 +7,7 @@ ghost use Rattle.kfs_image_nodes.specs.NodeEdits.{left_by, IsNumber};
 ghost use Rattle.kfs_map_chunks.specs.Overlays.{said_or};
 
 use crate::overlay::number_edits;
-use kfs_entry_value::{Header, NodeRow};
+use kfs_entry_value::{GREATEST_NUMBER, Header, NodeRow};
 use kfs_map_chunks::Overlay;
 use kfs_map_pages::NumberEdit;
 use std::alloc::{AllocError, Allocator};
@@ -21,8 +21,38 @@ pub fn header_edits<A: Allocator + Clone>(
     ensures edits { IfOk result (λ edits. AreEdits edits.items) }
     ensures made { IfOk result (λ edits. (q : ℕ) (there : Option Header) → IsNumber q → edited edits.items q there ≡ left_by nodes.now q there) }
 {
-    let latest = latest_rows(alloc, nodes)?;
-    number_edits(alloc, &latest)
+    match nodes {
+        [row] => edit_alone(alloc, row),
+        _ => {
+            let latest = latest_rows(alloc, nodes)?;
+            number_edits(alloc, &latest)
+        }
+    }
+}
+
+/// The edit of one row alone; none where pages don't have its number.
+fn edit_alone<A: Allocator + Clone>(
+    alloc: &A,
+    row: &NodeRow,
+) -> Result<Vec<NumberEdit<Header>, A>, AllocError>
+    ensures edits { IfOk result (λ edits. AreEdits edits.items) }
+    ensures made { IfOk result (λ edits. (q : ℕ) (there : Option Header) → IsNumber q → edited edits.items q there ≡ left_by (row.now ∷ []) q there) }
+{
+    let mut edits = Vec::new(alloc.clone()?);
+    if is_number(row.number) {
+        edits.push(NumberEdit {
+            number: row.number,
+            value: row.now,
+        })?;
+    }
+    Ok(edits)
+}
+
+/// Whether pages have this number.
+fn is_number(number: u32) -> bool
+    ensures { IsTrue result ↔ IsNumber number }
+{
+    1 <= number && number <= GREATEST_NUMBER
 }
 
 /// The last row of each number.

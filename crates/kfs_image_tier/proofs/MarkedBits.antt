@@ -1,12 +1,10 @@
 -- What the bits of places are once a word is written, and where the next clear one is.
 use Rattle.std.proofs.Common.{◌≡◌, ◌≢◌, ℕ, ◌+◌, ◌-◌, ◌*◌, ◌/◌, ◌%◌, ◌^◌, ◌<◌, ◌≤◌, ◌==◌, Bool, true, false, cond, List, length, get_or, set, drop, sym, ap, subst, ◌∙◌, arith, inl, inr}
-use Rattle.std.specs.List.{enumerate_from}
 use Rattle.std.specs.Int.{w64, bit_at, bit_not, trailing_ones}
 use Rattle.std.specs.Prelude.{bit_and, bit_or}
 use Rattle.std.proofs.lemmas.Bool.{cases_eq, cases_lt, eq-eqb, ne_eqb, cond-true, cond-false}
-use Rattle.std.proofs.lemmas.List.{get_or-set_same, get_or-set_other, get_or-drop, get_or_default, length-drop}
-use Rattle.std.proofs.lemmas.List.FromFn.{length-enumerate_from, get_or-enumerate_from}
-use Rattle.std.proofs.lemmas.Nat.{one_shl, or_lt}
+use Rattle.std.proofs.lemmas.List.{get_or-set_same, get_or-set_other}
+use Rattle.std.proofs.lemmas.Nat.{one_shl}
 use Rattle.std.proofs.lemmas.Nat.Bits.{bit_at-zero, bit_at_or, bit_at_ones, bit_at_ones_above, bit_at_set_same, bit_at_set_other, bit_at_clear_same, bit_at_clear_other, bit_at-trailing_ones}
 use Rattle.kfs_image_tier.specs.Words.{is_marked, IsNextClear}
 
@@ -66,23 +64,6 @@ passed_first words from =
       after = λ i below late. ap (λ n. bit_at (n - 1) i) low ∙ bit_at_ones_above (from % 64) i (omega arith);
     }
 
--- what an iterator over the words with their indexes gives, so many steps behind the first one
-pub record IsItem (words : List ℕ) (first count : ℕ) (item : ℕ × ℕ) : Type 0 where
-  pub index : item.0 ≡ first + count
-  pub word : item.1 ≡ get_or words (first + count) 0
-  pub inside : first + count < length words
-
-pub item_at : (words : List ℕ) (first count : ℕ) (item : ℕ × ℕ) → (count < length (drop first (enumerate_from 0 words))) × (item ≡ get_or (drop first (enumerate_from 0 words)) count item)
-    → IsItem words first count item
-item_at words first count item there =
-    let within : first + count < length words = omega (arith, there.0, length-drop first (enumerate_from 0 words), length-enumerate_from 0 words) in
-    let same = there.1 ∙ get_or-drop first (enumerate_from 0 words) count item ∙ get_or-enumerate_from 0 words (first + count) item within in
-    record {
-      index = ap (λ p. p.0) same ∙ omega arith;
-      word = ap (λ p. p.1) same ∙ get_or_default words (first + count) item.1 0 within;
-      inside = within;
-    }
-
 -- the place of a bit
 spot_of : (index i : ℕ) → i < 64 → ((64 * index + i) / 64 ≡ index) × ((64 * index + i) % 64 ≡ i)
 spot_of index i below = (omega arith, omega arith)
@@ -97,7 +78,7 @@ module _ (words : List ℕ) (from index passed word : ℕ) (has : HasPassed word
       let bit : bit_at word (q % 64) ≡ 1 = omega arith in
       ap (λ i. bit_at (get_or words i 0) (q % 64) == 1) here ∙ ap (λ w. bit_at w (q % 64) == 1) (sym own) ∙ ap (λ b. b == 1) bit
 
-  passed_next : from / 64 ≤ index → bit_or word passed ≡ 2 ^ 64 - 1 → HasPassed words from (index + 1) 0
+  pub passed_next : from / 64 ≤ index → bit_or word passed ≡ 2 ^ 64 - 1 → HasPassed words from (index + 1) 0
   passed_next begun full = record {
     behind = λ q reached before.
         elim (cases_lt q (64 * index)) [
@@ -108,7 +89,7 @@ module _ (words : List ℕ) (from index passed word : ℕ) (has : HasPassed word
     after = λ i below late. bit_at-zero i;
   }
 
-  found_clear : index < length words → bit_or word passed + 1 < 2 ^ 64 → IsNextClear words from (64 * index + trailing_ones w64 (bit_or word passed))
+  pub found_clear : index < length words → bit_or word passed + 1 < 2 ^ 64 → IsNextClear words from (64 * index + trailing_ones w64 (bit_or word passed))
   found_clear inside short =
       let bit = trailing_ones w64 (bit_or word passed) in
       let lowest = bit_at-trailing_ones w64 (bit_or word passed) short in
@@ -133,21 +114,3 @@ module _ (words : List ℕ) (from index passed word : ℕ) (has : HasPassed word
               | inr here ↦ marked_here other reached (omega arith) (lowest.2 (other % 64) (omega arith))
             ];
       }
-
--- the steps of the search
-module _ (words : List ℕ) (from count passed : ℕ) (item : ℕ × ℕ) (has : HasPassed words from (from / 64 + count) passed) (is : IsItem words (from / 64) count item) where
-  pub passed_item : (steps : ℕ) → steps ≡ count + 1 → bit_or item.1 passed ≡ 2 ^ 64 - 1 → HasPassed words from (from / 64 + steps) 0
-  passed_item steps more full =
-      subst (λ index. HasPassed words from index 0) (omega arith) (passed_next words from (from / 64 + count) passed item.1 has is.word (omega arith) full)
-
-  pub found_item : (bit : ℕ) → get_or words (from / 64 + count) 0 < 2 ^ 64 → passed < 2 ^ 64 → (bit_or item.1 passed ≡ 2 ^ 64 - 1 → ⊥) → bit ≡ trailing_ones w64 (bit_or item.1 passed) → IsNextClear words from (64 * item.0 + bit)
-  found_item bit word_fits passed_fits partly lowest =
-      let fits = or_lt 64 item.1 passed (omega (arith, is.word)) passed_fits in
-      subst (IsNextClear words from) (omega (arith, is.index))
-      (found_clear words from (from / 64 + count) passed item.1 has is.word is.inside (omega (arith, fits, partly)))
-
--- the iterator has come to its end
-pub all_passed : (words : List ℕ) (from count passed : ℕ) → HasPassed words from (from / 64 + count) passed → count ≡ length (drop (from / 64) (enumerate_from 0 words))
-    → (q : ℕ) → from ≤ q → q < 64 * length words → is_marked words q ≡ true
-all_passed words from count passed has all q reached inside =
-    has.behind q reached (omega (arith, length-drop (from / 64) (enumerate_from 0 words), length-enumerate_from 0 words))

@@ -34,12 +34,14 @@ pub(crate) fn next_clear(words: &[u64], from: u32) -> Option<usize>
 {
     // Bits below the place, in its own word, count as set.
     let mut passed = (1 << (from % 64)) - 1;
-    for (index, word) in words.iter().enumerate().skip(from as usize / 64) {
-        let word = word | passed;
+    let mut index = from as usize / 64;
+    while index < words.len() {
+        let word = words[index] | passed;
         if word != u64::MAX {
             return Some(64 * index + word.trailing_ones() as usize);
         }
         passed = 0;
+        index += 1;
     }
     None
 }

@@ -16,11 +16,7 @@ use Rattle.kfs_image_nodes.specs.declared.cell.Cell.{Cell as CodeCell}
 use Rattle.kfs_image_nodes.specs.declared.cell.Cell.TheVariants as cells
 use Rattle.kfs_judge_check.specs.declared.reads.Read.{Read}
 use Rattle.kfs_judge_check.specs.declared.reads.Read.TheVariants as reads
-use Rattle.kfs_judge_check.specs.contracts.reads.ReadPartialEq.TheImpl as impl
-
--- the keys' own test
-abbrev pub same_read : Read → Read → Bool
-same_read = impl.eq-value.it
+use Rattle.kfs_judge_check.specs.SameReads.{same_read}
 
 same_read_exact : (x y : Read) → same_read x y ≡ true → x ≡ y
 same_read_exact (reads.Lease n) (reads.Lease k) e = ap reads.Lease (eqb-true n k e)

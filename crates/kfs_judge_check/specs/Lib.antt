@@ -1,4 +1,5 @@
-pub mod View
+pub mod Checks
 pub mod Reads
 pub mod Recorders
-pub mod Checks
+pub mod SameReads
+pub mod View

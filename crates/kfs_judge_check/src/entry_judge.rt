@@ -7,7 +7,7 @@ ghost use Rattle.kfs_entry_value.specs.Views.{header_of, kind_of};
 ghost use Rattle.kfs_model.specs.Access.{is_sticky, may_header, may_set_group};
 ghost use Rattle.kfs_model.specs.Check as checks;
 ghost use Rattle.kfs_model.specs.Sight as sight;
-ghost use Rattle.kfs_model.specs.Sight.{CountOf, LeaseOn, ParentOf};
+ghost use Rattle.kfs_model.specs.Sight.{ClientSight, CountOf, LeaseOn, ParentOf};
 ghost use Rattle.kfs_mode.specs.Mode.{want_shown};
 ghost use Rattle.kfs_judge_check.specs.Recorders.{AnswersLook, LooksAtHeader, LooksAtHeaders, LooksAtName};
 ghost use Rattle.kfs_judge_check.specs.Checks.{check_of, reason_of, entry_context_in, AnswersClimb, JudgesAll, JudgesCheck, IsOfHeader, IsOfRight, is_granted_in, may_remove_in, parent_in, sight_in};
@@ -289,9 +289,19 @@ impl<A: Allocator + Copy> EntryJudge<'_, A> {
         ensures { LooksAtHeader recorder.old recorder.new result number (λ free before. checks.is_number_free (entry_context_in self.now before) number ≡ free) }
     {
         let before = recorder.header(number)?;
-        let now = self.header(recorder, number)?;
+        let now = self.header_over(number, before);
         let created = self.draft.has_created(number);
         Ok(is_free(before, now, created))
+    }
+
+    /// The node's header now, where `before` is the one before the log.
+    fn header_over(&self, number: u32, before: Option<Header>) -> Option<Header>
+        ensures { (state : ClientSight) → state.sight.head number ≡ option_map header_of before → (sight_in self.now state).head number ≡ option_map header_of result }
+    {
+        match self.draft.header(number) {
+            Some(header) => header,
+            None => before,
+        }
     }
 }
 

@@ -1,11 +1,13 @@
 //! The reads of a judgement: each is made once, and recorded with its answer.
 
-ghost use Rattle.std.specs.Prelude.{◌≡◌, ℕ, ℤ, pos, Bool, [], ◌∷◌, Option, IfOk, OnOk};
+ghost use Rattle.std.specs.Prelude.{◌≡◌, ℕ, ℤ, pos, Bool, [], ◌∷◌, Option, IfOk, OnErr, OnOk};
 ghost use Rattle.std.specs.Option.{option_map};
 ghost use Rattle.kfs_entry_value.specs.Views.{header_of};
 ghost use Rattle.kfs_model.specs.Header.{Header as HeaderShown};
 ghost use Rattle.kfs_model.specs.Sight.{answer, Head, Number, Count, Held, CountOf, ParentOf, LeaseOn};
+ghost use Rattle.indexmap.specs.IndexMap.{insert_entry};
 ghost use Rattle.kfs_judge_check.specs.Reads.{cell_of, answer_of};
+ghost use Rattle.kfs_judge_check.specs.SameReads.{same_read};
 ghost use Rattle.kfs_judge_check.specs.Recorders.{seen_by, AnswersLook, LooksAtHeader, LooksAtName};
 ghost use Rattle.kfs_judge_check.specs.View.{client_sight_in};
 
@@ -66,6 +68,7 @@ impl<'a, A: Allocator + Copy> Recorder<'a, A> {
     }
 
     /// The recorded answer to a read, or else the view's, which is then recorded.
+    #[inline(always)]
     fn read(&mut self, read: Read) -> Result<ReadAnswer, AllocError>
         ensures { AnswersLook self.old self.new result (cell_of read ∷ []) (λ told before. answer before (cell_of read) ≡ answer_of told) }
     {
@@ -73,7 +76,7 @@ impl<'a, A: Allocator + Copy> Recorder<'a, A> {
             return Ok(*answer);
         }
         let answer = self.view_answer(&read);
-        self.reads.insert(read, answer)?;
+        record(&mut self.reads, read, answer)?;
         Ok(answer)
     }
 
@@ -100,8 +103,15 @@ impl<'a, A: Allocator + Copy> Recorder<'a, A> {
         ensures { LooksAtName self.old self.new result key.now (λ number before. before.sight.name key.now.0 key.now.1 ≡ number) }
     {
         let name = copied(&key.1)?;
-        let answer = self.read(Read::Look(Cell::Name(key.0, name)))?;
-        Ok(number_in(answer))
+        let read = Read::Look(Cell::Name(key.0, name));
+        if let Some(answer) = self.reads.get(&read) {
+            return Ok(number_in(*answer));
+        }
+        // What `look` answers, but without one more copy of the name.
+        let number = self.view.target(key);
+        let answer = ReadAnswer::Look(Answer::Name(number));
+        record(&mut self.reads, read, answer)?;
+        Ok(number)
     }
 
     /// How many names a directory has.
@@ -134,6 +144,22 @@ impl<'a, A: Allocator + Copy> Recorder<'a, A> {
     {
         self.reads
     }
+}
+
+/// Records an answer. `Err` where memory is refused; nothing is recorded then.
+// A function's frame is cleared at each call, and reads are long. So a read that is recorded already is
+// answered without the frame of this function.
+#[inline(never)]
+fn record<A: Allocator + Copy>(
+    reads: &mut IndexMap<Read, ReadAnswer, BuildHasherDefault<FoldHasher>, A>,
+    read: Read,
+    answer: ReadAnswer,
+) -> Result<(), AllocError>
+    ensures ok { OnOk result (reads.new.entries ≡ insert_entry same_read reads.old.entries read answer) }
+    ensures err { OnErr result (reads.new.entries ≡ reads.old.entries) }
+{
+    reads.insert(read, answer)?;
+    Ok(())
 }
 
 /// The header in an answer.

@@ -21,7 +21,8 @@ pub(crate) fn merged<K: Key, V: Copy, A: Allocator>(
     requires ascend { KeysAscend K.cmp edits.now }
     ensures { IfOk result (λ merged. merged.items ≡ entered_all K.cmp entries.now edits.now) }
 {
-    let mut merged = Vec::with_capacity(alloc, entries.len())?;
+    let room = entries.len().saturating_add(edits.len());
+    let mut merged = Vec::with_capacity(alloc, room)?;
     let mut left = entries;
     for edit in edits {
         left = enter(&mut merged, left, edit)?;

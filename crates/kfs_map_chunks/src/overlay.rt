@@ -55,7 +55,7 @@ pub fn key_edits<K: Key, V: Copy, A: Allocator + Clone>(
     ensures ascend { IfOk result (λ edits. KeysAscend K.cmp edits.items) }
     ensures said { IfOk result (λ edits. Say K.cmp edits.items overlay.now.latest) }
 {
-    let mut edits = Vec::new(alloc.clone()?);
+    let mut edits = Vec::with_capacity(alloc.clone()?, overlay.latest.len())?;
     list_keys(&overlay.latest, &mut edits)?;
     Ok(edits)
 }

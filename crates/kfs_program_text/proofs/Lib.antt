@@ -1,5 +1,6 @@
 -- Lemmas on cuts, words and numbers.
 pub mod Cuts
+pub mod FirstPlace
 pub mod HeldBytes
 pub mod NumbersRead
 pub mod Numerals

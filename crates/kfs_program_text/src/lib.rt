@@ -1,7 +1,7 @@
 //! Text for the program: lines and their words, the parts of a reply, and reads and writes of whole
 //! texts.
 //!
-//! It stands on `kfs_entry_value`, `hex` and `itoa`; `kfs_program_command`, `kfs_report` and
+//! It stands on `kfs_entry_value`, `hex`, `itoa` and `memchr`; `kfs_program_command`, `kfs_report` and
 //! `kfs_program_engine` stand on it. Begin with `words.rt`.
 #![tactic(auto)]
 
@@ -9,6 +9,7 @@ mod fault;
 mod held;
 mod lines;
 pub mod parts;
+mod place;
 mod reading;
 mod words;
 mod writing;

@@ -6,6 +6,7 @@ ghost use Rattle.kfs_program_text.specs.Cut.{cut, space};
 ghost use Rattle.kfs_program_text.specs.Decimals.{decimal32, decimal64, decimal_within, decimals32, hexadecimal, is_digit};
 ghost use Rattle.kfs_program_text.specs.Reading.{ReadsAs, ReadsExactly, ended, first_by, only, words_left};
 
+use crate::place::first_place;
 use arrayvec::ArrayVec;
 use std::alloc::{AllocError, AllocFailed, Allocator};
 
@@ -154,7 +155,7 @@ fn first_part(text: &[u8]) -> (&[u8], Option<&[u8]>)
 fn first_space(text: &[u8]) -> Option<usize>
     ensures { result ≡ position (λ byte. byte == space) text.now }
 {
-    text.iter().position(|byte| *byte == b' ')
+    first_place(b' ', text)
 }
 
 /// The word as a decimal number of at most `most`; none where it isn't one.

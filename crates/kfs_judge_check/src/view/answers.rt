@@ -3,11 +3,12 @@ ghost use Rattle.std.specs.Prelude.{◌≡◌};
 ghost use Rattle.std.specs.Option.{option_map};
 ghost use Rattle.kfs_image_nodes.specs.Look.{IsAnswer};
 ghost use Rattle.kfs_model.specs.Lease.{holds, row_of};
+ghost use Rattle.kfs_model.specs.Tree.{target};
 ghost use Rattle.kfs_mode.specs.Clients.{ClientsAreDistinct};
 ghost use Rattle.kfs_judge_check.specs.View.{contents_of, leases_of, clients_of};
 
 use crate::view::View;
-use kfs_image_nodes::{Answer, Cell, Shape, look};
+use kfs_image_nodes::{Answer, Cell, Name, Shape, look};
 use kfs_lease::Leases;
 use kfs_mode::{Client, find_client};
 use std::alloc::Allocator;
@@ -45,6 +46,13 @@ impl<A: Allocator + Copy> View<A> {
         ensures { IsAnswer (contents_of self.now) cell.now result }
     {
         look(&self.shape, cell)
+    }
+
+    /// The number that a name of a directory leads to, or none. Takes no memory.
+    pub(crate) fn target(&self, key: &(u32, Name)) -> Option<u32>
+        ensures { result ≡ target (contents_of self.now).names key.now.0 key.now.1 }
+    {
+        self.shape.target(key)
     }
 
     /// Whether the client holds a live write lease on the node; false where there is no such client or

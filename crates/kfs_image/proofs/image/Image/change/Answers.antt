@@ -2,10 +2,9 @@ use Rattle.std.proofs.Common.{sym, subst}
 use Rattle.kfs_model_device.specs.ShownTree.{DeviceImage}
 use Rattle.kfs_image_nodes.specs.Change.{renamed, reheaded}
 use Rattle.kfs_image_nodes.specs.Rows.{FitPages}
-use Rattle.kfs_image.specs.Released.{AreReleased}
 use Rattle.kfs_image.specs.Image.{image_with}
 use Rattle.kfs_image.specs.Net.{CanApply, applied}
-use Rattle.kfs_image.proofs.ChangedImages.{AreOf, can_fill, applied_is, changed_lawful}
+use Rattle.kfs_image.proofs.ChangedImages.{AreOf, are_released, can_fill, applied_is, changed_lawful}
 use Rattle.kfs_image.proofs.ShownTrees.{lawful_fits}
 use Rattle.kfs_image.proofs.image.Image.change.Goals as goal
 
@@ -21,10 +20,7 @@ change_shared-requires-clause-after g c =
 
 pub change_shared-requires-clause-then : goal.change_shared-requires-clause-then
 change_shared-requires-clause-then g c =
-    let are : AreReleased c.args.net.now.nodes.items c.args.fill.now.zero.items c.as_slice-3.result.now =
-    subst (AreReleased c.args.net.now.nodes.items c.args.fill.now.zero.items) (sym c.as_slice-3.ensures.value)
-    (subst (λ zero. AreReleased c.args.net.now.nodes.items zero c.in_ok-released.released.items) c.as_slice-2.ensures.value
-    (subst (λ nodes. AreReleased nodes c.as_slice-2.result.now c.in_ok-released.released.items) c.as_slice.ensures.value c.in_ok-released.ensures)) in
+    let are = are_released c.args.net.now c.args.fill.now c.as_slice.result.now c.as_slice-2.result.now c.in_ok-released.released.items c.as_slice-3.result.now c.as_slice.ensures.value c.as_slice-2.ensures.value c.as_slice-3.ensures.value c.in_ok-released.ensures in
     let of : AreOf c.args.net.now c.args.fill.now c.as_slice-5.result.now c.as_slice-6.result.now c.as_slice-3.result.now c.as_slice-4.result.now =
     record { names_are = c.as_slice-5.ensures.value; nodes_are = c.as_slice-6.ensures.value; rows_are = c.as_slice-4.ensures.value; released_are = are } in
     let can : CanApply c.args.net.now c.args.fill.now (image_with c.self.inside.shape.value c.self.inside.blocks) = subst (CanApply c.args.net.now c.args.fill.now) (sym c.self.view_is) c.requires in
@@ -32,10 +28,7 @@ change_shared-requires-clause-then g c =
 
 pub invariant_of-self : goal.invariant_of-self
 invariant_of-self g c =
-    let are : AreReleased c.args.net.now.nodes.items c.args.fill.now.zero.items c.as_slice-3.result.now =
-    subst (AreReleased c.args.net.now.nodes.items c.args.fill.now.zero.items) (sym c.as_slice-3.ensures.value)
-    (subst (λ zero. AreReleased c.args.net.now.nodes.items zero c.in_ok-released.released.items) c.as_slice-2.ensures.value
-    (subst (λ nodes. AreReleased nodes c.as_slice-2.result.now c.in_ok-released.released.items) c.as_slice.ensures.value c.in_ok-released.ensures)) in
+    let are = are_released c.args.net.now c.args.fill.now c.as_slice.result.now c.as_slice-2.result.now c.in_ok-released.released.items c.as_slice-3.result.now c.as_slice.ensures.value c.as_slice-2.ensures.value c.as_slice-3.ensures.value c.in_ok-released.ensures in
     let of : AreOf c.args.net.now c.args.fill.now c.as_slice-5.result.now c.as_slice-6.result.now c.as_slice-3.result.now c.as_slice-4.result.now =
     record { names_are = c.as_slice-5.ensures.value; nodes_are = c.as_slice-6.ensures.value; rows_are = c.as_slice-4.ensures.value; released_are = are } in
     let can : CanApply c.args.net.now c.args.fill.now (image_with c.self.inside.shape.value c.self.inside.blocks) = subst (CanApply c.args.net.now c.args.fill.now) (sym c.self.view_is) c.requires in
