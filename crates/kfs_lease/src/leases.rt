@@ -157,7 +157,8 @@ impl<A: Allocator + Copy> Leases<A> {
         if find_client(clients, client).is_none() {
             return Err(LeaseFault::UnknownClient);
         }
-        if !self.rows.take(client, number)? {
+        let found = self.rows.take(client, number)?;
+        if !found {
             return Err(LeaseFault::NoLeaseHeld);
         }
         Ok(())

@@ -9,14 +9,14 @@ returns-then-is_none-clause-err g c =
     drop_without_client c.args.self.now c.args.clients.now c.args.client c.args.number
     (none_shown _ c.find_client.result _ c.find_client.ensures ∙ ap not c.if-is_none.ensures)
 
-pub returns-then-not-take-clause-err : goal.returns-then-not-take-clause-err
-returns-then-not-take-clause-err g c =
+pub returns-then-not-found-clause-err : goal.returns-then-not-found-clause-err
+returns-then-not-found-clause-err g c =
     let old : Leases = record { rows = table_in c.self.inside.rows; moment = c.self.inside.moment } in
     ap (λ (l : Leases). dropped l c.args.clients.now c.args.client c.args.number) (sym c.self.view_is)
     ∙ drop_without_lease old c.args.clients.now c.args.client c.args.number
     (none_shown _ c.find_client.result _ c.find_client.ensures ∙ ap not c.if-is_none.ensures)
-    (some_not_none _ ∙ ap not (sym c.in_ok-take.ensures.found ∙ c.if-not-take.true))
-    ∙ (λ i. (Err NoLeaseHeld, record { rows = table_in (sym (c.in_ok-take.ensures.kept c.if-not-take.true) i); moment = c.self.inside.moment }))
+    (some_not_none _ ∙ ap not (sym c.in_ok-found.ensures.found ∙ c.if-not-found.true))
+    ∙ (λ i. (Err NoLeaseHeld, record { rows = table_in (sym (c.in_ok-found.ensures.kept c.if-not-found.true) i); moment = c.self.inside.moment }))
 
 pub returns-clause-ok : goal.returns-clause-ok
 returns-clause-ok g c =
@@ -24,5 +24,5 @@ returns-clause-ok g c =
     ap (λ (l : Leases). dropped l c.args.clients.now c.args.client c.args.number) (sym c.self.view_is)
     ∙ lease_dropped old c.args.clients.now c.args.client c.args.number
     (none_shown _ c.find_client.result _ c.find_client.ensures ∙ ap not c.if-is_none.ensures)
-    (some_not_none _ ∙ ap not (sym c.in_ok-take.ensures.found ∙ c.if-not-take.false))
-    ∙ (λ i. (Ok c.args.number, record { rows = sym c.in_ok-take.ensures.table i; moment = c.self.inside.moment }))
+    (some_not_none _ ∙ ap not (sym c.in_ok-found.ensures.found ∙ c.if-not-found.false))
+    ∙ (λ i. (Ok c.args.number, record { rows = sym c.in_ok-found.ensures.table i; moment = c.self.inside.moment }))

@@ -41,11 +41,11 @@ returns-in-Err-clause-err g c =
     c.in-Some.row.now c.in-Some.ensures (parts_left c.in-Some-names_of.names) c.in-Some-names_of.ensures c.in_ok-number.number c.in_ok-number.ensures.ok
     c.if-end-self.false c.in-Err.holder c.in-Err.ensures.held)
 
-pub returns-in-Ok-clause-ok : goal.returns-in-Ok-clause-ok
-returns-in-Ok-clause-ok g c =
+pub returns-in_ok-put-in-Ok-clause-ok : goal.returns-in_ok-put-in-Ok-clause-ok
+returns-in_ok-put-in-Ok-clause-ok g c =
     let old : Leases = record { rows = table_in c.self.inside.rows; moment = c.self.inside.moment } in
     ap (λ (l : Leases). granted l (sight_of c.args.shape.now) c.args.clients.now c.args.client c.args.path.now (kind_of c.args.kind) c.args.end) (sym c.self.view_is)
     ∙ given old (sight_of c.args.shape.now) c.args.clients.now c.args.client c.args.path.now (kind_of c.args.kind) c.args.end
     c.in-Some.row.now c.in-Some.ensures (parts_left c.in-Some-names_of.names) c.in-Some-names_of.ensures c.in_ok-number.number c.in_ok-number.ensures.ok
     c.if-end-self.false c.in-Ok.ensures.free
-    ∙ (λ i. (Ok c.in_ok-number.number, record { rows = sym c.in_ok-put.ensures.table i; moment = c.self.inside.moment }))
+    ∙ (λ i. (Ok c.in_ok-number.number, record { rows = sym c.in_ok-put-in-Ok.ensures.table i; moment = c.self.inside.moment }))
