@@ -1,6 +1,6 @@
 //! A change of a map within its present chunks: memory is taken while the calls go inwards, values are
 //! set while they return.
-ghost use Rattle.std.specs.Prelude.{◌≡◌, ◌≤◌, ◌++◌, T, All, Ok, None, true, false, OnErr};
+ghost use Rattle.std.specs.Prelude.{◌≡◌, ◌+◌, ◌≤◌, ◌++◌, T, All, Ok, None, true, false, OnErr};
 ghost use Rattle.std.specs.FinMap.Entries.{is_sorted, below_all};
 ghost use Rattle.std.specs.declared.ops.Bound.TheVariants.{Included};
 ghost use Rattle.kfs_map_chunks.specs.Edits.{entered_all, KeysAscend};
@@ -14,25 +14,14 @@ use crate::part::Part;
 use crate::place::{place, place_part, run_of, run_of_part};
 use kfs_map_pages::Change;
 use std::alloc::{AllocError, Allocator};
-use std::mem::size_of;
 use std::ops::Bound;
 use std::sync::Arc;
 
-/// The most entries of a chunk.
-const GREATEST_SIZE: usize = 256;
-
-/// The most bytes of a chunk, as long as it has more than 32 entries.
-const MOST_BYTES: usize = 8_192;
-
-/// How many entries a chunk may get: fewer, where they are long. An entry that is put into a chunk moves
-/// those behind it.
-pub(crate) fn most_entries<K: Key, V: Copy>() -> usize
-    ensures least { 2 ≤ result }
-    ensures most { result ≤ 256 }
+/// For how many more entries a chunk of this length has room.
+fn room_beside<K: Key>(len: usize) -> usize
+    ensures { len ≤ 256 → len + result ≤ 256 }
 {
-    (MOST_BYTES / size_of::<(K, V)>().max(1))
-        .max(32)
-        .min(GREATEST_SIZE)
+    K::most_entries().saturating_sub(len)
 }
 
 /// Makes the edits and the other change, if each chunk has room for its own edits. Answers whether that
@@ -162,8 +151,7 @@ fn change_from<K: Key, V: Copy, A: Allocator + Clone, C: Change>(
     ensures not_tried { result ≡ Ok false → then.new ≡ then.old }
     ensures kept { OnErr result (C.kept then.old then.new) }
 {
-    let room = most_entries::<K, V>().saturating_sub(chunk.len());
-    if chunk.len() <= mine.len() || mine.len() > room {
+    if chunk.len() <= mine.len() || mine.len() > room_beside::<K>(chunk.len()) {
         return Ok(false);
     }
     let chunk = Arc::make_mut(chunk)?;

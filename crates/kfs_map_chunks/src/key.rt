@@ -1,5 +1,5 @@
 //! What a type must offer to be the key of a map in chunks.
-ghost use Rattle.std.specs.Prelude.{◌≡◌, refl};
+ghost use Rattle.std.specs.Prelude.{◌≡◌, ◌≤◌, refl};
 ghost use Rattle.std.proofs.Common.{rules, sym, ◌∙◌};
 ghost use Rattle.kfs_map_chunks.specs.Keys.{same_items};
 ghost use Rattle.kfs_model.specs.Table.{Order, pairs, numbers};
@@ -16,6 +16,12 @@ pub trait Key: Ord + Clone + Drop {
     /// The same key once more. Takes no memory.
     fn duplicate(&self) -> Self
         ensures { result ≡ self.now };
+
+    /// How many entries with such keys a chunk may have. A new entry moves those behind it in its chunk.
+    /// So a chunk of long keys has fewer.
+    fn most_entries() -> usize
+        ensures least { 2 ≤ result }
+        ensures most { result ≤ 256 };
 
     /// The order is that of `cmp`.
     ghost compared: { Self.cmp ≡ order.compare };
@@ -34,6 +40,10 @@ impl Key for (u32, u32) {
     fn duplicate(&self) -> (u32, u32) {
         *self
     }
+
+    fn most_entries() -> usize {
+        256
+    }
 }
 
 impl Key for (u32, Name) {
@@ -45,5 +55,9 @@ impl Key for (u32, Name) {
 
     fn duplicate(&self) -> (u32, Name) {
         (self.0, self.1.clone().unwrap())
+    }
+
+    fn most_entries() -> usize {
+        32
     }
 }

@@ -4,7 +4,6 @@ ghost use Rattle.std.specs.FinMap.Entries.{is_sorted};
 ghost use Rattle.kfs_map_chunks.specs.Edits.{entered_all, KeysAscend};
 ghost use Rattle.kfs_map_chunks.specs.Joined.{joined, IsSized, AreSized};
 
-use crate::change::most_entries;
 use crate::edit::KeyEdit;
 use crate::entries::Entries;
 use crate::key::Key;
@@ -79,7 +78,7 @@ fn cut<K: Key, V: Copy, A: Allocator + Clone>(
     ensures joined { OnOk result (joined new.new.items ≡ joined new.old.items ++ entries.now.pairs) }
     ensures sized { OnOk result (AreSized new.new.items) }
 {
-    let size = size_for(entries.len(), most_entries::<K, V>());
+    let size = size_for(entries.len(), K::most_entries());
     let mut from = 0;
     while from < entries.len() {
         let count = size.min(entries.len() - from);

@@ -5,6 +5,7 @@
 //! `kfs_program_engine` stand on it. Begin with `words.rt`.
 #![tactic(auto)]
 
+mod digits;
 mod fault;
 mod held;
 mod lines;

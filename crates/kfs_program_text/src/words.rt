@@ -6,6 +6,7 @@ ghost use Rattle.kfs_program_text.specs.Cut.{cut, space};
 ghost use Rattle.kfs_program_text.specs.Decimals.{decimal32, decimal64, decimal_within, decimals32, hexadecimal, is_digit};
 ghost use Rattle.kfs_program_text.specs.Reading.{ReadsAs, ReadsExactly, ended, first_by, only, words_left};
 
+use crate::digits::decode_into;
 use crate::place::first_place;
 use arrayvec::ArrayVec;
 use std::alloc::{AllocError, AllocFailed, Allocator};
@@ -194,8 +195,12 @@ fn bytes_in<A: Allocator>(alloc: A, word: &[u8]) -> Result<Vec<u8, A>, Refusal>
     if word == b"-".as_slice() {
         return Ok(Vec::new(alloc));
     }
-    hex::decode(alloc, word).map_err(|fault| match fault {
-        hex::FromHexError::OutOfMemory => Refusal::OutOfMemory,
-        _ => Refusal::BadLine,
-    })
+    if word.len() % 2 != 0 {
+        return Err(Refusal::BadLine);
+    }
+    let mut bytes = vec![in alloc; 0u8; word.len() / 2]?;
+    if !decode_into(word, bytes.as_mut_slice()) {
+        return Err(Refusal::BadLine);
+    }
+    Ok(bytes)
 }

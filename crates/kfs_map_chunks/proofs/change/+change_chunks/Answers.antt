@@ -172,7 +172,7 @@ change_from-returns-in-Ok-true-clause-size g t c =
     let len : c.len.result ≡ length old = c.len.ensures ∙ ap (λ (x : Buffer _ _). length x.pairs) c.deref.ensures in
     let len_too : c.len-else-len-mine.result ≡ length old = c.len-else-len-mine.ensures ∙ ap (λ (x : Buffer _ _). length x.pairs) c.deref-else-len-mine.ensures in
     let fewer : length mine < length old = omega (arith, c.if-len-mine.false, len) in
-    let room : length old + length mine ≤ 256 = omega (arith, c.if-mine-len.false, len_too, c.requires.size.1) in
+    let room : length old + length mine ≤ 256 = omega (arith, c.if-mine-room_beside.false, c.room_beside.ensures (omega (arith, len_too, c.requires.size.1)), len_too) in
     subst IsSized (sym made) (sized_still order old mine c.requires.chunk fewer room)
 
 pub change_from_part-invariant_of-part : goal.change_from_part-invariant_of-part
