@@ -24,4 +24,8 @@ impl Key for RowEnd {
     fn duplicate(&self) -> RowEnd {
         *self
     }
+
+    fn most_entries() -> usize {
+        256
+    }
 }
