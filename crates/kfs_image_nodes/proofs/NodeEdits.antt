@@ -141,25 +141,6 @@ module _ {X : Type 0} where
       at rest true tied = absurd (out (subst IsNumber (sym (eqb-true q e.number (sym (unsigned_tied q e.number) ∙ tied))) (within 0 e (omega arith))))
       at rest false apart = rest
 
--- ---- the edit of one row
-
-pub one_edit : {X : Type 0} (e : NumberEdit X) → IsNumber e.number → AreEdits (e ∷ [])
-one_edit {X} e within = record {
-  ascend = λ i j d less below. absurd (omega (arith, less, below));
-  range = All-cons (λ (x : NumberEdit X). IsNumber x.number) e [] within (λ k d below. absurd (omega (arith, below)));
-}
-
-pub no_edit : {X : Type 0} → AreEdits {X} []
-no_edit = record { ascend = λ i j d less below. absurd (omega (arith, below)); range = λ k d below. absurd (omega (arith, below)) }
-
--- a row of another number leaves what is there
-pub left_beside : (row : NodeRow) (q : ℕ) (there : Option CodeHeader) → IsNumber q → (IsNumber row.number → ⊥) → there ≡ left_by (row ∷ []) q there
-left_beside row q there within out = at (eq_by_cmp nat_cmp q row.number) refl
-  where
-    at : (b : Bool) → eq_by_cmp nat_cmp q row.number ≡ b → there ≡ cond b row.now there
-    at true tied = absurd (out (subst IsNumber (eqb-true q row.number (sym (unsigned_tied q row.number) ∙ tied)) within))
-    at false apart = refl
-
 viewed : (b : Bool) (w o : Option CodeHeader) → option_map header_of (cond b w o) ≡ cond b (option_map header_of w) (option_map header_of o)
 viewed true w o = refl
 viewed false w o = refl

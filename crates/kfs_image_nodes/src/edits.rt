@@ -36,7 +36,7 @@ fn edit_alone<A: Allocator + Clone>(
     row: &NodeRow,
 ) -> Result<Vec<NumberEdit<Header>, A>, AllocError>
     ensures edits { IfOk result (λ edits. AreEdits edits.items) }
-    ensures made { IfOk result (λ edits. (q : ℕ) (there : Option Header) → IsNumber q → edited edits.items q there ≡ left_by (row.now ∷ []) q there) }
+    ensures made { IfOk result (λ edits. (q : ℕ) (there : Option Header) → IsNumber q → edited edits.items q there ≡ left_by (row.entry.now ∷ []) q there) }
 {
     let mut edits = Vec::new(alloc.clone()?);
     if is_number(row.number) {
