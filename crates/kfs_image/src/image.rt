@@ -133,17 +133,18 @@ impl<A: Allocator + Clone> Image<A> {
         &mut self,
         alloc: &A,
         net: &Net<A>,
-        mut fill: Fill<A>,
+        fill: Fill<A>,
     ) -> Result<(), AllocError>
         requires { CanApply net.now fill self.old }
         ensures ok { OnOk result (self.new ≡ applied net.now fill self.old) }
         ensures err { OnErr result (self.new ≡ self.old) }
     {
-        let released = released_blocks(alloc, net.nodes.as_slice(), fill.zero.as_slice())?;
+        let Fill { mut rows, zero } = fill;
+        let released = released_blocks(alloc, net.nodes.as_slice(), zero.as_slice())?;
         let mut then = MoveBlocks {
             blocks: &mut self.blocks,
             released: released.as_slice(),
-            rows: &mut fill.rows,
+            rows: &mut rows,
         };
         change_shared(
             &mut self.shape,
