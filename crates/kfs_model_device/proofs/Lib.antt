@@ -14,3 +14,8 @@ pub mod Entries
 pub mod ListedTables
 pub mod ListedRules
 pub mod ListedTree
+pub mod ImageReading
+pub mod ImageFields
+pub mod OneImageAnswer
+pub mod ImageAnswers
+pub mod JoinedExtents

@@ -132,9 +132,9 @@ module _ (image : DeviceImage) (lawful : IsLawful image) where
   holds_2 = (at_heads (λ heads. IsTrue (is_directory (get heads 1))) sound.root, tt)
 
   holds_3 : AllHold (rule_3 raw)
-  holds_3 = hold_each raw_node header_test image.heads.entries (each_entry numbers (λ (e : ℕ × Header). (header_test (raw_node e)).holds ≡ true) image.heads each)
+  holds_3 = hold_each raw_node (header_test 2) image.heads.entries (each_entry numbers (λ (e : ℕ × Header). (header_test 2 (raw_node e)).holds ≡ true) image.heads each)
     where
-      each : (number : ℕ) (h : Header) → head number ≡ Some h → (header_test (raw_node (number, h))).holds ≡ true
+      each : (number : ℕ) (h : Header) → head number ≡ Some h → (header_test 2 (raw_node (number, h))).holds ≡ true
       each number h is = let range = sound.ranges number h is in and_from _ _ (and_from _ _ (le-leb h.mode 1023 range.mode) (le-leb h.size 4294967296 range.size)) (fits number h is).as_kind
 
   holds_4 : AllHold (rule_4 raw)

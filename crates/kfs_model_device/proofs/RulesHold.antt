@@ -6,7 +6,9 @@ use Rattle.kfs_model.specs.Table.{numbers, pairs, get}
 use Rattle.kfs_model.specs.Tree.{name_order, name_count}
 use Rattle.kfs_model.specs.Sight.{is_directory, is_file}
 use Rattle.kfs_model.specs.Placement.{tier_size}
+use Rattle.kfs_model.specs.Spelling.{greatest_mode_of}
 use Rattle.kfs_model.proofs.CleanIsAllowed.{left, right}
+use Rattle.kfs_model.proofs.Fields.{mode_in_range}
 use Rattle.kfs_model.specs.Plan.{keyed_name}
 use Rattle.kfs_model_device.specs.RawImage.{ExtentRow, RawImage, node_entry, heads_of, names_of}
 use Rattle.kfs_model_device.specs.Rules.{Test, with_previous, is_above, number_test, rule_1, rule_2, kind_fits, header_test, rule_3, directory_test, rule_4, target_test, rule_5, names_fit, names_test, rule_6, reaches_root, climb_test, rule_7, share_block, share_place, ends_in_file, is_extent, extent_test, rule_8, tier_test, rule_9, place_test, rule_10}
@@ -99,8 +101,8 @@ module _ (raw : RawImage) (well_formed : IsWellFormed raw) where
 
   pub headers_fit : AllByRecursion (λ row. (row.header.mode ≤ 1023) × (row.header.size ≤ 4294967296) × (kind_fits row.header.kind row.header.links row.header.size ≡ true)) raw.nodes
   headers_fit =
-      each_tested (λ row. (row.header.mode ≤ 1023) × (row.header.size ≤ 4294967296) × (kind_fits row.header.kind row.header.links row.header.size ≡ true)) header_test
-      (λ row holds. (leb-true row.header.mode 1023 (left _ _ (left _ _ holds)), leb-true row.header.size 4294967296 (right _ _ (left _ _ holds)), right _ _ holds))
+      each_tested (λ row. (row.header.mode ≤ 1023) × (row.header.size ≤ 4294967296) × (kind_fits row.header.kind row.header.links row.header.size ≡ true)) (header_test raw.version)
+      (λ row holds. (mode_in_range raw.version row.header.mode (leb-true row.header.mode (greatest_mode_of raw.version) (left _ _ (left _ _ holds))), leb-true row.header.size 4294967296 (right _ _ (left _ _ holds)), right _ _ holds))
       raw.nodes holds_3
 
   pub named_rightly : AllByRecursion (λ row. names_fit row.header.kind row.number row.header.links (name_count (names_of raw) row.number) ≡ true) raw.nodes

@@ -5,5 +5,7 @@ pub mod RawImage
 pub mod Rules
 pub mod Finding
 pub mod Listed
+pub mod Spelling
+pub mod Canonical
 pub mod Laws
 pub mod Example

@@ -1,7 +1,8 @@
--- The rows of an image: its nodes, its names, and for each block that lies somewhere an extent.
+-- The rows of an image: its nodes, its names, and for each block that lies somewhere an extent. An image
+-- counts as one of the latest version.
 use Rattle.std.specs.Prelude.{◌≡◌, ℕ, List, map}
 use Rattle.kfs_model.specs.Header.{Header}
-use Rattle.kfs_model.specs.Limits.{block_size}
+use Rattle.kfs_model.specs.Limits.{block_size, latest_version}
 use Rattle.kfs_model.specs.PlanRow.{NameRow}
 use Rattle.kfs_model.specs.Placement.{Place, below}
 use Rattle.kfs_model_device.specs.Device.{Devices, byte_on}
@@ -25,6 +26,7 @@ extent_row devices e = record { number = e.0.0; block = e.0.1; tier = e.1.tier; 
 
 abbrev pub rows_of : DeviceImage → RawImage
 rows_of image = record {
+  version = latest_version;
   sizes = image.sizes;
   nodes = map raw_node image.heads.entries;
   names = map name_row image.names.entries;

@@ -25,7 +25,9 @@ pub record ExtentRow : Type 0 where
   pub count : ℕ
   pub bytes : List ℕ
 
+-- the version is that of the image's format
 pub record RawImage : Type 0 where
+  pub version : ℕ
   pub sizes : TierSizes
   pub nodes : List RawNode
   pub names : List NameRow

@@ -5,12 +5,13 @@
 use Rattle.std.specs.Prelude.{ℕ, ◌+◌, ◌-◌, ◌*◌, ◌==◌, ◌&&◌, ◌||◌, not, nat_lt, nat_le, Bool, true, List, [], ◌∷◌, length, map, count_by, Option, Some, None, is_some}
 use Rattle.std.specs.Ordering.{is_lt}
 use Rattle.kfs_model.specs.Header.{Kind, File, Directory, Header}
-use Rattle.kfs_model.specs.Limits.{greatest_number, root_number, greatest_mode, size_limit, link_limit, block_size}
+use Rattle.kfs_model.specs.Limits.{greatest_number, root_number, size_limit, link_limit, block_size}
 use Rattle.kfs_model.specs.Table.{Order, Table, numbers, pairs, get}
 use Rattle.kfs_model.specs.Tree.{NameTable, name_order, name_count}
 use Rattle.kfs_model.specs.Sight.{is_directory, is_file, parent_in, climb_meets}
 use Rattle.kfs_model.specs.Check.{is_some_and}
 use Rattle.kfs_model.specs.PlanRow.{NameRow}
+use Rattle.kfs_model.specs.Spelling.{greatest_mode_of}
 use Rattle.kfs_model.specs.Placement.{TierSizes, tier_size}
 use Rattle.kfs_model_device.specs.RawImage.{RawNode, ExtentRow, RawImage, heads_of, names_of}
 
@@ -51,12 +52,13 @@ abbrev pub kind_fits : Kind → (links size : ℕ) → Bool
 kind_fits File links size = true
 kind_fits Directory links size = (links == 1) && (size == 0)
 
-abbrev pub header_test : RawNode → Test
-header_test row = test (nat_le row.header.mode greatest_mode && nat_le row.header.size size_limit && kind_fits row.header.kind row.header.links row.header.size) row.number
+abbrev pub header_test : (version : ℕ) → RawNode → Test
+header_test version row = test (nat_le row.header.mode (greatest_mode_of version) && nat_le row.header.size size_limit && kind_fits row.header.kind row.header.links row.header.size) row.number
 
--- rule 3: modes and sizes are in range, and a directory has 1 link and size 0
+-- rule 3: modes are in the range of the image's version, sizes are in range, and a directory has 1 link
+-- and size 0
 abbrev pub rule_3 : RawImage → List Test
-rule_3 raw = map header_test raw.nodes
+rule_3 raw = map (header_test raw.version) raw.nodes
 
 -- ---- names
 

@@ -1,7 +1,7 @@
 //! Laws of the definitions. Each is the contract of a function that has nothing to do when it is
 //! called.
 
-ghost use Rattle.std.specs.Prelude.{◌≡◌, ℕ, not, true, false, List, map, Some};
+ghost use Rattle.std.specs.Prelude.{◌≡◌, ℕ, not, true, false, List, map, Some, Result};
 ghost use Rattle.std.specs.List.{list_any, AllByRecursion};
 ghost use Rattle.kfs_model.specs.Tree.{headers};
 ghost use Rattle.kfs_model.specs.Sight.{sight, sight_over};
@@ -11,7 +11,10 @@ ghost use Rattle.kfs_model_device.specs.Device.{Devices};
 ghost use Rattle.kfs_model_device.specs.ShownTree.{DeviceImage, IsLawful, shown_tree};
 ghost use Rattle.kfs_model_device.specs.FreeRuns.{AreApart, free_runs};
 ghost use Rattle.kfs_model.specs.Plan.{keyed_name};
-ghost use Rattle.kfs_model_device.specs.RawImage.{RawImage, IsSpelled, node_entry, heads_of, names_of, placement_of, image_of, has_place, IsLaidOut};
+ghost use Rattle.kfs_model.specs.Spelling.{IsBytes};
+ghost use Rattle.kfs_model_device.specs.Spelling.{IsRawImage, ImageSpellingFault, ImageAnswer};
+ghost use Rattle.kfs_model_device.specs.Canonical.{joined_extents, AreJoined};
+ghost use Rattle.kfs_model_device.specs.RawImage.{ExtentRow, RawImage, IsSpelled, node_entry, heads_of, names_of, placement_of, image_of, has_place, IsLaidOut};
 ghost use Rattle.kfs_model_device.specs.Rules.{parent_of, reaches_root};
 ghost use Rattle.kfs_model_device.specs.Finding.{Finding, finding_of, is_broken_at, IsLeastBroken, IsWellFormed};
 ghost use Rattle.kfs_model_device.specs.Listed.{rows_of, AreRowsOfImage};
@@ -71,4 +74,17 @@ pub fn finding_is_the_least()
 pub fn climb_test_is_exact()
     ensures found { (raw : RawImage) (number : ℕ) → reaches_root raw number ≡ true → (steps : ℕ) × Climbs (parent_of raw) steps number 1 }
     ensures only { (raw : RawImage) (number steps : ℕ) → Climbs (parent_of raw) steps number 1 → reaches_root raw number ≡ true }
+{}
+
+/// Any bytes have exactly one reading as a raw image: the answer of the decoder. What is read fulfills the
+/// premise on names, uids and gids.
+pub fn bytes_have_one_reading()
+    ensures exists { (bytes : List ℕ) → IsBytes bytes → (answer : Result RawImage ImageSpellingFault) × ImageAnswer bytes answer }
+    ensures is_one { (bytes : List ℕ) → IsBytes bytes → (one other : Result RawImage ImageSpellingFault) → ImageAnswer bytes one → ImageAnswer bytes other → one ≡ other }
+    ensures spelled { (raw : RawImage) → IsRawImage raw → IsSpelled raw }
+{}
+
+/// Extents that were joined are as long as can be: none goes on from the one before it.
+pub fn joined_extents_are_joined()
+    ensures { (rows : List ExtentRow) → AreJoined (joined_extents rows) }
 {}

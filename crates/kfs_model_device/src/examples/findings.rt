@@ -5,7 +5,7 @@ ghost use Rattle.std.specs.Prelude.{◌≡◌, List, [], ◌∷◌, Some, None, 
 ghost use Rattle.kfs_model.specs.Header.{File, Directory};
 ghost use Rattle.kfs_model_examples.specs.Example.{name_row, name_a, name_b, name_x};
 ghost use Rattle.kfs_model_device.specs.Rules.{names_fit};
-ghost use Rattle.kfs_model_device.specs.Example.{Breaks, at, raw, node, root, directory, file, extent, letters, block_at, one_file, two_files, shared_block, ring, root_alone};
+ghost use Rattle.kfs_model_device.specs.Example.{Breaks, at, raw, in_version_1, node, root, directory, file, extent, letters, block_at, one_file, two_files, shared_block, ring, root_alone};
 
 /// Two files share a device block: the lesser number is named. If the other file's mode is out of range
 /// too, that lower rule is the finding.
@@ -32,12 +32,14 @@ pub fn rule_2()
     ensures a_file { Breaks (raw (file 1 0 ∷ []) [] []) (at 2 1) (at 6 1 ∷ []) }
 {}
 
-/// A mode or a size out of range; a directory with two links or with a size. Of two such nodes the
-/// lesser number is named.
+/// A mode or a size out of range, and a mode that only version 2 has; a directory with two links or with
+/// a size. Of two such nodes the lesser number is named.
 #[tactic(auto, unfolding(crate::specs::Example::computing))]
 pub fn rule_3()
     ensures mode { Breaks (root_alone 1535) (at 3 1) [] }
     ensures least_mode { Breaks (root_alone 1024) (at 3 1) [] }
+    ensures mode_of_version_2 { Breaks (in_version_1 (root_alone 1023)) (at 3 1) [] }
+    ensures least_mode_of_version_2 { Breaks (in_version_1 (root_alone 512)) (at 3 1) [] }
     ensures size { Breaks (one_file 4294967297 []) (at 3 5) [] }
     ensures links { Breaks (raw (node 1 Directory 511 0 2 0 ∷ []) [] []) (at 3 1) [] }
     ensures directory_size { Breaks (raw (node 1 Directory 511 0 1 1 ∷ []) [] []) (at 3 1) [] }

@@ -6,7 +6,7 @@ ghost use Rattle.kfs_model_device.specs.ShownTree.{file_byte, file_bytes, shown_
 ghost use Rattle.kfs_model_device.specs.FreeRuns.{free_runs};
 ghost use Rattle.kfs_model_device.specs.RawImage.{image_of, placement_of, devices_of};
 ghost use Rattle.kfs_model_device.specs.Finding.{IsWellFormed};
-ghost use Rattle.kfs_model_device.specs.Example.{sizes, root_alone, two_files, block_at, extent, letters, with_hole, two_blocks, shown_file, run, one_place};
+ghost use Rattle.kfs_model_device.specs.Example.{sizes, root_alone, in_version_1, two_files, block_at, extent, letters, with_hole, two_blocks, shown_file, run, one_place};
 
 /// A file whose first block isn't mapped begins with zero bytes. Bytes of its last block past its size
 /// aren't shown.
@@ -27,7 +27,7 @@ pub fn block_never_written()
 {}
 
 /// An extent of two blocks at the end of a tier: each block has its own bytes. And images with the root
-/// alone, of which one has the greatest mode.
+/// alone, of which one has the greatest mode, and one the greatest of version 1.
 #[tactic(auto, unfolding(crate::specs::Example::computing))]
 pub fn blocks_side_by_side()
     ensures well_formed { IsWellFormed two_blocks }
@@ -36,6 +36,7 @@ pub fn blocks_side_by_side()
     ensures free { free_runs sizes (placement_of two_blocks) 2 ≡ run 0 6 ∷ [] }
     ensures root_alone { IsWellFormed (root_alone 511) }
     ensures greatest_mode { IsWellFormed (root_alone 1023) }
+    ensures greatest_mode_of_version_1 { IsWellFormed (in_version_1 (root_alone 511)) }
 {}
 
 /// Blocks of two files may lie at places with the same number on two tiers, or next to each other on
