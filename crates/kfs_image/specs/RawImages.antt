@@ -21,6 +21,7 @@ extent_row_of row = record {
 
 abbrev pub raw_of : {A : Type 0} → CodeRawImage A → RawImage
 raw_of raw = record {
+  version = raw.version;
   sizes = raw.sizes;
   nodes = map raw_node_of raw.nodes.items;
   names = map name_row_of raw.names.items;

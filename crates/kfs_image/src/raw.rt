@@ -40,6 +40,8 @@ pub struct ExtentRow<A: Allocator> {
 /// crates/kfs_model_device/specs/Rules.antt.
 #[derive(Debug, Drop)]
 pub struct RawImage<A: Allocator> {
+    /// The version of its format, 1 or 2. Modes are at most 0o777 in version 1, and else at most 0o1777.
+    pub version: u8,
     /// The sizes of the tiers, in blocks.
     pub sizes: TierSizes,
     /// The nodes.

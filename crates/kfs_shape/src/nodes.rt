@@ -1,12 +1,15 @@
 //! Rules 1 and 3: the node rows by themselves.
 ghost use Rattle.std.specs.Prelude.{◌≡◌};
 ghost use Rattle.std.specs.Option.{option_copied, option_map};
+ghost use Rattle.kfs_model.specs.Spelling.{greatest_mode_of};
 ghost use Rattle.kfs_model_device.specs.Rules.{number_test, header_test, rule_1, rule_3};
 ghost use Rattle.kfs_model_device.specs.Finding.{least_failed};
 ghost use Rattle.kfs_image.specs.RawImages.{raw_node_of, raw_of};
 
 use crate::least::{noted, previous};
-use kfs_entry_value::{GREATEST_MODE, GREATEST_NUMBER, Kind, SIZE_LIMIT};
+use kfs_entry_value::{
+    GREATEST_MODE, GREATEST_MODE_OF_VERSION_1, GREATEST_NUMBER, Kind, SIZE_LIMIT,
+};
 use kfs_image::{RawImage, RawNode};
 use std::alloc::Allocator;
 
@@ -35,28 +38,40 @@ pub fn least_out_of_order<A: Allocator>(raw: &RawImage<A>) -> Option<u32>
     least
 }
 
-/// Whether mode and size are in range, and a directory has 1 link and size 0.
-fn is_header_in_range(row: &RawNode) -> bool
-    ensures { result ≡ (header_test (raw_node_of row.now)).holds }
+/// The greatest mode of a node in an image of this version.
+fn greatest_mode(version: u8) -> u16
+    ensures { result ≡ greatest_mode_of version }
+{
+    if version == 1 {
+        GREATEST_MODE_OF_VERSION_1
+    } else {
+        GREATEST_MODE
+    }
+}
+
+/// Whether mode and size are in the range of an image of this version, and a directory has 1 link and
+/// size 0.
+fn is_header_in_range(version: u8, row: &RawNode) -> bool
+    ensures { result ≡ (header_test version (raw_node_of row.now)).holds }
 {
     let header = row.header;
     let fits = match header.kind {
         Kind::File => true,
         Kind::Directory => header.links == 1 && header.size == 0,
     };
-    header.mode <= GREATEST_MODE && u128::from(header.size) <= SIZE_LIMIT && fits
+    header.mode <= greatest_mode(version) && u128::from(header.size) <= SIZE_LIMIT && fits
 }
 
-/// Rule 3: the least number of a node whose mode is over 0o1777 or whose size is over 2^32, or of a
-/// directory with other links than 1 or another size than 0. None if there is no such node. Takes no
-/// memory.
+/// Rule 3: the least number of a node whose mode is over 0o1777 (over 0o777 in version 1) or whose size
+/// is over 2^32, or of a directory with other links than 1 or another size than 0. None if there is no
+/// such node. Takes no memory.
 pub fn least_bad_header<A: Allocator>(raw: &RawImage<A>) -> Option<u32>
     ensures { result ≡ least_failed (rule_3 (raw_of raw.now)) }
 {
     let rows = raw.nodes.as_slice();
     let mut least = None;
     for row in rows.iter() {
-        least = noted(least, is_header_in_range(row), row.number);
+        least = noted(least, is_header_in_range(raw.version, row), row.number);
     }
     least
 }

@@ -62,6 +62,7 @@ fn found<A: Allocator + Copy>(
     last: Option<u32>,
 ) -> Option<Option<(u8, u32)>> {
     let raw = RawImage {
+        version: 2,
         sizes: TierSizes::new(1, 1, 1)?,
         nodes: directories(alloc)?,
         names: names(alloc, first, last)?,

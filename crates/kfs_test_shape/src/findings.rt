@@ -1,6 +1,6 @@
 //! Findings in images that break a rule, and images that break none.
 
-use crate::images::{ExtentLine, NameLine, NodeLine, SmallImage, found};
+use crate::images::{ExtentLine, NameLine, NodeLine, SmallImage, found, found_in};
 use NodeLine::{Directory, Empty, File};
 use kfs_shape::Kind;
 use std::process::Abort;
@@ -187,4 +187,11 @@ fn right_images_are_well_formed(rt: HostRuntime) {
     for rows in RIGHT {
         assert!(&rt; found(rt.alloc(), &[rows]) == Some(None));
     }
+}
+
+#[test]
+fn modes_go_by_the_version(rt: HostRuntime) {
+    let sticky = [RIGHT[1]];
+    assert!(&rt; found_in(rt.alloc(), 1, &sticky) == Some(Some((3, 1))));
+    assert!(&rt; found_in(rt.alloc(), 2, &sticky) == Some(None));
 }

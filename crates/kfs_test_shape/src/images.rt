@@ -128,9 +128,10 @@ fn extents_of<A: Allocator + Copy>(alloc: A, parts: &[SmallImage]) -> Option<Vec
     Some(extents)
 }
 
-/// An image with the rows of all parts.
+/// An image of version 2 with the rows of all parts.
 pub fn image<A: Allocator + Copy>(alloc: A, parts: &[SmallImage]) -> Option<RawImage<A>> {
     Some(RawImage {
+        version: 2,
         sizes: TierSizes::new(8, 8, 8)?,
         nodes: nodes_of(alloc, parts)?,
         names: names_of(alloc, parts)?,
@@ -141,7 +142,17 @@ pub fn image<A: Allocator + Copy>(alloc: A, parts: &[SmallImage]) -> Option<RawI
 /// The rule and the number found in the image with the rows of all parts; an inner none where it is
 /// well formed.
 pub fn found<A: Allocator + Copy>(alloc: A, parts: &[SmallImage]) -> Option<Option<(u8, u32)>> {
-    let raw = image(alloc, parts)?;
+    found_in(alloc, 2, parts)
+}
+
+/// The same of an image of this version.
+pub fn found_in<A: Allocator + Copy>(
+    alloc: A,
+    version: u8,
+    parts: &[SmallImage],
+) -> Option<Option<(u8, u32)>> {
+    let mut raw = image(alloc, parts)?;
+    raw.version = version;
     match check_shape(alloc, &raw) {
         Ok(()) => Some(None),
         Err(ShapeFault::Found(finding)) => Some(Some((finding.rule, finding.number))),
