@@ -176,6 +176,10 @@ short number block tier place byte = extent number block tier place 1 (byte ∷ 
 abbrev pub in_two_extents : RawImage
 in_two_extents = in_version_1 (one_file 4098 (block_at 5 0 2 ∷ block_at 5 1 3 ∷ []))
 
+-- a tree with such a file
+abbrev pub in_two_blocks : Tree ℕ
+in_two_blocks = shown_file (letters 1 ++ 120 ∷ 120 ∷ [])
+
 -- the same in one extent of version 2
 abbrev pub in_one_extent : RawImage
 in_one_extent = one_file 4098 (extent 5 0 0 2 2 (letters 1 ++ 120 ∷ 120 ∷ replicate 4094 0) ∷ [])

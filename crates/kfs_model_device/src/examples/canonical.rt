@@ -3,8 +3,8 @@
 ghost use Rattle.std.specs.Prelude.{◌≡◌, List, [], ◌∷◌, ◌++◌, replicate, true, false};
 ghost use Rattle.kfs_model_device.specs.RawImage.{image_of, placement_of};
 ghost use Rattle.kfs_model_device.specs.ShownTree.{shown_tree};
-ghost use Rattle.kfs_model_device.specs.Canonical.{block_of, joined_extents, AreJoined, canonical_rows, image_bytes};
-ghost use Rattle.kfs_model_device.specs.Example.{sizes, root_alone, in_version_1, extent, letters, root_bytes, short, block_at, in_two_extents, in_one_extent, names_across};
+ghost use Rattle.kfs_model_device.specs.Canonical.{block_of, joined_extents, AreJoined, extents_of, canonical_rows, image_bytes};
+ghost use Rattle.kfs_model_device.specs.Example.{sizes, root_alone, in_version_1, extent, letters, root_bytes, short, block_at, in_two_extents, in_two_blocks, in_one_extent, names_across};
 
 /// An image of version 1 is spelled in version 2: one byte differs.
 #[tactic(auto, unfolding(crate::specs::Example::computing))]
@@ -33,10 +33,9 @@ pub fn extents_that_go_on()
     ensures apart { AreJoined (short 5 0 0 2 1 ∷ short 5 1 0 3 2 ∷ []) → ⊥ }
 {}
 
-/// An image whose extents go on is spelled as the same image with one extent, and bytes past the file's
-/// size as zero. Names ascend by directory and name, whatever they lead to.
+/// An image whose extents go on is spelled with one extent, and bytes past the file's size are zero. Names ascend by directory and name, whatever they lead to.
 #[tactic(auto, unfolding(crate::specs::Example::computing))]
 pub fn rows_of_a_state()
-    ensures joined { canonical_rows sizes (shown_tree (image_of in_two_extents)) (placement_of in_two_extents) ≡ in_one_extent }
+    ensures joined { extents_of in_two_blocks (placement_of in_two_extents) ≡ in_one_extent.extents }
     ensures names { canonical_rows sizes (shown_tree (image_of names_across)) (placement_of names_across) ≡ names_across }
 {}
