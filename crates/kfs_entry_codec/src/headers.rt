@@ -45,8 +45,9 @@ pub struct PlanHeader {
     pub pieces: u32,
 }
 
+/// The position after these bytes, where they stand at position `at`; none where others do.
 #[tactic(auto, unfolding(kfs_model::proofs::Reading::mark_read))]
-fn read_mark(source: &[u8], at: usize, mark: &[u8]) -> Option<usize>
+pub fn read_mark(source: &[u8], at: usize, mark: &[u8]) -> Option<usize>
     requires { at ≤ length source.now }
     ensures value { option_map (λ next. (tt, drop next source.now)) result ≡ mark_read mark.now (drop at source.now) }
     ensures within { IfSome result (λ next. next ≤ length source.now) }
@@ -57,8 +58,9 @@ fn read_mark(source: &[u8], at: usize, mark: &[u8]) -> Option<usize>
     Some(at + mark.len())
 }
 
+/// The version at position `at`, and the position after it; none where there is no such version.
 #[tactic(auto, unfolding(kfs_model::proofs::Reading::version_read))]
-fn read_version(source: &[u8], at: usize) -> Option<(u8, usize)>
+pub fn read_version(source: &[u8], at: usize) -> Option<(u8, usize)>
     requires { at ≤ length source.now }
     ensures value { seen (λ n. n) source.now result ≡ version_read (drop at source.now) }
     ensures within { IfSome result (λ x. x.1 ≤ length source.now) }

@@ -8,20 +8,20 @@
 //! `table.rt`, which lists the entries, and `row.rt`.
 #![tactic(auto)]
 
-mod byte;
-mod bytes;
+pub mod byte;
+pub mod bytes;
 mod entry;
 mod group;
 mod header;
 pub mod headers;
-mod kind;
+pub mod kind;
 mod mode;
-mod name;
+pub mod name;
 mod name_row;
 mod node_row;
-mod number16;
-mod number32;
-mod number64;
+pub mod number16;
+pub mod number32;
+pub mod number64;
 mod payload;
 mod piece;
 mod row;

@@ -4,4 +4,3 @@ pub mod Image
 pub mod Net
 pub mod Parts
 pub mod Read
-pub mod RawImages

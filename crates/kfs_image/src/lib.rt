@@ -8,7 +8,6 @@ mod edit;
 mod headers;
 mod image;
 mod net;
-mod raw;
 mod read;
 mod released;
 
@@ -21,9 +20,11 @@ pub use kfs_entry_value::{
     ROOT, SIZE_LIMIT, TIER_LIMIT, TierSizes,
 };
 pub use kfs_image_blocks::{BlockRow, BlockRun, Place};
+pub use kfs_image_codec::{
+    Extent, ExtentRow, ImageFault, RawImage, RawNode, decode_image,
+};
 pub use kfs_image_nodes::{Answer, Cell, HeaderPage, Net, Page, Shape, look};
 #[doc(hidden)]
 pub use net::net_apply_moving;
 pub use net::{Fill, net_apply};
-pub use raw::{Extent, ExtentRow, RawImage, RawNode};
 pub use read::{ReadFault, read_file};

@@ -9,8 +9,8 @@ use Rattle.kfs_model.specs.Header.{Header}
 use Rattle.kfs_model.specs.Table.{numbers, get, option_or}
 use Rattle.kfs_model.proofs.TableLaws.{get-insert}
 use Rattle.kfs_model_device.specs.RawImage.{table_of, node_entry}
-use Rattle.kfs_image.specs.declared.raw.RawNode.{RawNode}
-use Rattle.kfs_image.specs.RawImages.{raw_node_of}
+use Rattle.kfs_image_codec.specs.declared.raw.RawNode.{RawNode}
+use Rattle.kfs_image_codec.specs.RawImages.{raw_node_of}
 
 -- what the rows from an index on show at a number
 abbrev pub head_in : List RawNode → (index number : ℕ) → Option Header

@@ -9,8 +9,8 @@ use Rattle.kfs_entry_value.specs.Views.{header_of}
 use Rattle.kfs_model.specs.Header.{Header}
 use Rattle.kfs_model.specs.Table.{get, option_or}
 use Rattle.kfs_model_device.specs.RawImage.{heads_of}
-use Rattle.kfs_image.specs.declared.raw.RawImage.{RawImage as CodeRawImage}
-use Rattle.kfs_image.specs.RawImages.{raw_of}
+use Rattle.kfs_image_codec.specs.declared.raw.RawImage.{RawImage as CodeRawImage}
+use Rattle.kfs_image_codec.specs.RawImages.{raw_of}
 
 -- the header that the map has at a number
 abbrev pub head_at : BTreeMap ℕ CodeHeader → (number : ℕ) → Option Header

@@ -4,7 +4,7 @@ ghost use Rattle.kfs_model_device.specs.Rules.{rule_1};
 ghost use Rattle.kfs_model_device.specs.Finding.{finding_from, finding_of, least_failed};
 ghost use Rattle.kfs_shape.specs.Findings.{found_at, node_rules, name_rules, extent_rules, FindsNoneWhere};
 ghost use Rattle.kfs_shape.specs.Heads.{ShowsHeads};
-ghost use Rattle.kfs_image.specs.RawImages.{raw_of};
+ghost use Rattle.kfs_image_codec.specs.RawImages.{raw_of};
 
 use crate::climbs::least_unrooted;
 use crate::extents::{least_misplaced, least_past_tier};
@@ -14,7 +14,7 @@ use crate::names::{least_lost_target, least_miscounted};
 use crate::places::least_shared;
 use crate::{names, nodes};
 use kfs_entry_value::Header;
-use kfs_image::RawImage;
+use kfs_image_codec::RawImage;
 use std::alloc::Allocator;
 use std::collections::BTreeMap;
 

@@ -5,12 +5,12 @@ ghost use Rattle.kfs_model_device.specs.Rules.{rule_1, rule_4, rule_7, reaches_r
 ghost use Rattle.kfs_model_device.specs.Finding.{least_failed};
 ghost use Rattle.kfs_shape.specs.Climbs.{ancestor_at, ancestor_from, is_root, LeadsFirst, ParentsOf};
 ghost use Rattle.kfs_shape.specs.Heads.{head_at, ShowsHeads};
-ghost use Rattle.kfs_image.specs.RawImages.{raw_node_of, raw_of};
+ghost use Rattle.kfs_image_codec.specs.RawImages.{raw_node_of, raw_of};
 
 use crate::heads::has_directory;
 use crate::least::noted;
 use kfs_entry_value::{Header, Kind, NameRow, ROOT};
-use kfs_image::{RawImage, RawNode};
+use kfs_image_codec::{RawImage, RawNode};
 use std::alloc::{AllocError, Allocator};
 use std::collections::BTreeMap;
 

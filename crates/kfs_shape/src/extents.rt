@@ -6,11 +6,11 @@ ghost use Rattle.kfs_model_device.specs.Rules.{is_above, ends_in_file, tier_test
 ghost use Rattle.kfs_model_device.specs.Finding.{least_failed};
 ghost use Rattle.kfs_shape.specs.Heads.{head_at, ShowsHeads};
 ghost use Rattle.kfs_shape.specs.Extents.{is_behind, is_full, is_in_place};
-ghost use Rattle.kfs_image.specs.RawImages.{extent_row_of, raw_of};
+ghost use Rattle.kfs_image_codec.specs.RawImages.{extent_row_of, raw_of};
 
 use crate::least::{noted, previous};
 use kfs_entry_value::{BLOCK_SIZE, Header, Kind, TierSizes};
-use kfs_image::{ExtentRow, RawImage};
+use kfs_image_codec::{ExtentRow, RawImage};
 use std::alloc::Allocator;
 use std::collections::BTreeMap;
 

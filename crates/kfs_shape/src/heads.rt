@@ -8,12 +8,12 @@ ghost use Rattle.kfs_model.specs.Sight.{is_directory};
 ghost use Rattle.kfs_entry_value.specs.Views.{header_of};
 ghost use Rattle.kfs_model_device.specs.Rules.{rule_2};
 ghost use Rattle.kfs_model_device.specs.Finding.{least_failed};
-ghost use Rattle.kfs_image.specs.RawImages.{raw_of};
+ghost use Rattle.kfs_image_codec.specs.RawImages.{raw_of};
 ghost use Rattle.kfs_shape.specs.Heads.{head_at, ShowsHeads, TakesFirst};
 
 use crate::least::noted;
 use kfs_entry_value::{Header, Kind, ROOT};
-use kfs_image::RawImage;
+use kfs_image_codec::RawImage;
 use std::alloc::{AllocError, Allocator};
 use std::collections::BTreeMap;
 

@@ -7,7 +7,7 @@ ghost use Rattle.kfs_entry_value.specs.Views.{kind_of, name_row_of};
 ghost use Rattle.kfs_model_device.specs.Rules.{is_above, names_fit, rule_4, rule_5, rule_6};
 ghost use Rattle.kfs_model_device.specs.Finding.{least_failed};
 ghost use Rattle.kfs_shape.specs.Names.{is_in_place};
-ghost use Rattle.kfs_image.specs.RawImages.{raw_of};
+ghost use Rattle.kfs_image_codec.specs.RawImages.{raw_of};
 ghost use Rattle.kfs_shape.specs.Counts.{count_at, leads_to};
 ghost use Rattle.kfs_shape.specs.Heads.{head_at, ShowsHeads};
 
@@ -15,7 +15,7 @@ use crate::counts::{count_more, count_of};
 use crate::heads::{has_directory, has_node};
 use crate::least::{noted, previous};
 use kfs_entry_value::{Header, Kind, LINK_LIMIT, NameRow, ROOT};
-use kfs_image::{RawImage, RawNode};
+use kfs_image_codec::{RawImage, RawNode};
 use std::alloc::{AllocError, Allocator};
 use std::collections::BTreeMap;
 

@@ -59,3 +59,7 @@ pub const EMPTY_LOG: &[u8] = b"KLOG\x01\0\0\0\x07\0\0";
 
 /// No row.
 pub const EMPTY_PLAN: &[u8] = b"KPLN\x01\0\0\0\0\0\0\0\0";
+
+/// An image of version 1 over three tiers of eight blocks, with the root alone.
+pub const ROOT_IMAGE: &[u8] = b"KIMG\x01\0\0\0\x08\0\0\0\x08\0\0\0\x08\0\0\0\x01\0\0\0\0\0\0\0\0\
+    \0\0\0\x01\x01\x01\xff\0\0\0\0\0\0\0\0\0\x01\0\0\0\0\0\0\0\0";

@@ -3,8 +3,8 @@ use Rattle.kfs_entry_value.specs.declared.header.Kind.TheVariants as kinds
 use Rattle.kfs_model.specs.Sight.{is_file}
 use Rattle.kfs_model_device.specs.Rules.{climb_test}
 use Rattle.kfs_shape.specs.Climbs.{ancestor_at, is_root}
-use Rattle.kfs_image.specs.declared.raw.RawNode.{RawNode}
-use Rattle.kfs_image.specs.RawImages.{raw_node_of, raw_of}
+use Rattle.kfs_image_codec.specs.declared.raw.RawNode.{RawNode}
+use Rattle.kfs_image_codec.specs.RawImages.{raw_node_of, raw_of}
 use Rattle.kfs_shape.proofs.Tests.{rest_step, taken_in, rest_failed}
 use Rattle.kfs_shape.proofs.climbs.least_unrooted.Goals as goal
 

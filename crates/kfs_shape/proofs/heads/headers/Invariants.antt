@@ -5,7 +5,7 @@ use Rattle.std.specs.BTreeMap as shown
 use Rattle.kfs_entry_value.specs.Views.{header_of}
 use Rattle.kfs_model.specs.Table.{numbers, option_or, get}
 use Rattle.kfs_model_device.specs.RawImage.{table_of, node_entry, heads_of}
-use Rattle.kfs_image.specs.RawImages.{raw_node_of, raw_of}
+use Rattle.kfs_image_codec.specs.RawImages.{raw_node_of, raw_of}
 use Rattle.kfs_shape.proofs.heads.headers.Given as goal
 
 abbrev pub invariant-loop-row : goal.invariant-loop-row

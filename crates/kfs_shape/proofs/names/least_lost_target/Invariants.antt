@@ -4,7 +4,7 @@ use Rattle.kfs_model_device.specs.RawImage.{heads_of}
 use Rattle.kfs_model_device.specs.Rules.{target_test, rule_5}
 use Rattle.kfs_model_device.specs.Finding.{least_failed}
 use Rattle.kfs_shape.specs.Least.{merged}
-use Rattle.kfs_image.specs.RawImages.{raw_of}
+use Rattle.kfs_image_codec.specs.RawImages.{raw_of}
 use Rattle.kfs_shape.proofs.Tests.{rest_failed}
 use Rattle.kfs_shape.proofs.names.least_lost_target.Given as goal
 

@@ -4,8 +4,8 @@ use Rattle.kfs_entry_value.specs.Views.{kind_of, name_row_of}
 use Rattle.kfs_model_device.specs.RawImage.{names_of}
 use Rattle.kfs_model_device.specs.Rules.{names_test, names_fit}
 use Rattle.kfs_shape.specs.Counts.{count_at}
-use Rattle.kfs_image.specs.declared.raw.RawNode.{RawNode}
-use Rattle.kfs_image.specs.RawImages.{raw_node_of, raw_of}
+use Rattle.kfs_image_codec.specs.declared.raw.RawNode.{RawNode}
+use Rattle.kfs_image_codec.specs.RawImages.{raw_node_of, raw_of}
 use Rattle.kfs_shape.proofs.NameCounts.{rows_counted}
 use Rattle.kfs_shape.proofs.Tests.{rest_step, taken_in, rest_failed}
 use Rattle.kfs_shape.proofs.names.least_miscounted.Goals as goal

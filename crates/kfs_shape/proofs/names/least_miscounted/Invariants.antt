@@ -3,7 +3,7 @@ use Rattle.kfs_model_device.specs.RawImage.{names_of}
 use Rattle.kfs_model_device.specs.Rules.{names_test, rule_6}
 use Rattle.kfs_model_device.specs.Finding.{least_failed}
 use Rattle.kfs_shape.specs.Least.{merged}
-use Rattle.kfs_image.specs.RawImages.{raw_node_of, raw_of}
+use Rattle.kfs_image_codec.specs.RawImages.{raw_node_of, raw_of}
 use Rattle.kfs_shape.proofs.Tests.{rest_failed}
 use Rattle.kfs_shape.proofs.names.least_miscounted.Given as goal
 

@@ -1,8 +1,8 @@
 -- The code's raw images as values of the definitions.
 use Rattle.std.specs.Prelude.{map}
-use Rattle.kfs_image.specs.declared.raw.RawNode.{RawNode as CodeNodeRow}
-use Rattle.kfs_image.specs.declared.raw.ExtentRow.{ExtentRow as CodeExtentRow}
-use Rattle.kfs_image.specs.declared.raw.RawImage.{RawImage as CodeRawImage}
+use Rattle.kfs_image_codec.specs.declared.raw.RawNode.{RawNode as CodeNodeRow}
+use Rattle.kfs_image_codec.specs.declared.raw.ExtentRow.{ExtentRow as CodeExtentRow}
+use Rattle.kfs_image_codec.specs.declared.raw.RawImage.{RawImage as CodeRawImage}
 use Rattle.kfs_entry_value.specs.Views.{header_of, name_row_of}
 use Rattle.kfs_model_device.specs.RawImage.{RawNode, ExtentRow, RawImage}
 

@@ -1,0 +1,2 @@
+-- Lemmas on what was decoded.
+pub mod DecodedImage

@@ -1,0 +1,4 @@
+pub mod RawImages
+pub mod Headers
+pub mod Extents
+pub mod Answers
