@@ -20,9 +20,7 @@ pub use kfs_entry_value::{
     ROOT, SIZE_LIMIT, TIER_LIMIT, TierSizes,
 };
 pub use kfs_image_blocks::{BlockRow, BlockRun, Place};
-pub use kfs_image_codec::{
-    Extent, ExtentRow, ImageFault, RawImage, RawNode, decode_image,
-};
+pub use kfs_image_codec::{Extent, ExtentRow, ImageFault, RawImage, RawNode, decode_image};
 pub use kfs_image_nodes::{Answer, Cell, HeaderPage, Net, Page, Shape, look};
 #[doc(hidden)]
 pub use net::net_apply_moving;

@@ -50,8 +50,14 @@ fn image_in<A: Allocator + Clone>(alloc: A, source: &[u8]) -> Result<RawImage<A>
     let third = alloc.clone()?;
     let (nodes, at) = part::<RawNode, A>(first, version, source, at, header.nodes, 0)?;
     let (names, at) = part::<NameRow, A>(second, version, source, at, header.names, before_names)?;
-    let (spanned, end) =
-        part::<SpannedExtent, A>(third, version, source, at, header.extents, before_extents)?;
+    let (spanned, end) = part::<SpannedExtent, A>(
+        third,
+        version,
+        source,
+        at,
+        header.extents,
+        before_extents,
+    )?;
     if end < source.len() {
         return Err(ImageFault::ImageTrailing);
     }

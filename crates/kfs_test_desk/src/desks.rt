@@ -96,10 +96,7 @@ pub fn create<A: Allocator + Copy>(alloc: A) -> Result<Submission<A>, AllocError
 }
 
 /// Whether the submission was answered so, or came back for this reason.
-fn is_answer<A: Allocator>(
-    given: &Result<Reply, Back<A>>,
-    wanted: &Result<Reply, Why>,
-) -> bool {
+fn is_answer<A: Allocator>(given: &Result<Reply, Back<A>>, wanted: &Result<Reply, Why>) -> bool {
     match (given, wanted) {
         (Ok(reply), Ok(wanted)) => reply == wanted,
         (Err(back), Err(why)) => back.why == *why,

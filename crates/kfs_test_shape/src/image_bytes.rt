@@ -14,12 +14,7 @@ const MANY: u64 = 100;
 const HEADER: usize = 29;
 
 /// The bytes with one of them set to a value.
-fn with_byte(
-    alloc: Global,
-    bytes: &[u8],
-    place: usize,
-    value: u8,
-) -> Result<Vec<u8>, AllocError> {
+fn with_byte(alloc: Global, bytes: &[u8], place: usize, value: u8) -> Result<Vec<u8>, AllocError> {
     let mut twin = Vec::new(alloc);
     for (at, byte) in bytes.iter().enumerate() {
         twin.push(if at == place { value } else { *byte })?;
@@ -125,7 +120,10 @@ fn cuts_are_named(rt: HostRuntime) {
         } else {
             ImageFault::BadImageRow(0)
         };
-        assert!(&rt; fault_of(rt.alloc(), &ROOT_IMAGE[..len]) == Some(due), "{len}");
+        assert!(&rt;
+            fault_of(rt.alloc(), &ROOT_IMAGE[..len]) == Some(due),
+            "{len}"
+        );
     }
 }
 

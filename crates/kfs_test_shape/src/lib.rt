@@ -15,9 +15,9 @@ mod codec;
 #[cfg(test)]
 mod findings;
 #[cfg(test)]
-mod images;
-#[cfg(test)]
 mod image_bytes;
+#[cfg(test)]
+mod images;
 #[cfg(test)]
 mod modes;
 #[cfg(test)]

@@ -18,8 +18,8 @@ pub mod mode {
 pub mod image {
     pub use kfs_image::{
         Answer, BLOCK_SIZE, Cell, Edit, Extent, ExtentRow, GREATEST_MODE, GREATEST_NUMBER, Header,
-        HeaderPage, Image, ImageFault, Kind, LINK_LIMIT, Name, Page, RawImage, RawNode, ReadFault, SIZE_LIMIT,
-        Shape, TIER_LIMIT, TierSizes, decode_image, look, read_file,
+        HeaderPage, Image, ImageFault, Kind, LINK_LIMIT, Name, Page, RawImage, RawNode, ReadFault,
+        SIZE_LIMIT, Shape, TIER_LIMIT, TierSizes, decode_image, look, read_file,
     };
 }
 
