@@ -276,9 +276,12 @@ fn calls_with_one_refused(heap: &Refusing<Global>, growth: u64) -> Option<bool> 
     let before = make_calls(&mut leases, shape, &BEFORE_THE_GROWTHS);
     let mut copied = leases.copy().ok()?;
     heap.refuse_after(growth);
-    let all = WITH_A_GROWTH_REFUSED
-        .iter()
-        .all(|call| is_answered_at_last(heap, &mut leases, shape, *call));
+    let all = WITH_A_GROWTH_REFUSED.iter().all(|call| is_answered_at_last(
+        heap,
+        &mut leases,
+        shape,
+        *call,
+    ));
     let is_refused = heap.has_refused();
     heap.refuse_after(AMPLE);
     let on_the_copy = make_calls(&mut copied, shape, &ON_THE_COPY_HELD);
