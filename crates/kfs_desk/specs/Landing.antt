@@ -70,6 +70,10 @@ module _ {A : Type 0} where
     pub filled : AllByRecursion IsFilled bytes.pieces.now
     pub fits : CanLandWith image bytes net
 
+  -- the same as `HasLandedWith`, of which a proof sees no part
+  unfoldable pub IsLandedWith : (old : DeviceImage) → LogBytes → Net A → (new : DeviceImage) → Type 0
+  IsLandedWith old bytes net new = HasLandedWith old bytes net new
+
   -- the net was applied, with a fill of its log
   pub record HasLanded (old : DeviceImage) (source : List ℕ) (log : Log A) (plan : Plan A) (net : Net A) (new : DeviceImage) : Type 0 where
     pub bytes : LogBytes

@@ -8,8 +8,8 @@ mod back;
 mod desk;
 mod docket;
 mod first_fault;
-mod landing;
 mod state;
+mod state_change;
 
 pub use back::BeginBack;
 pub use desk::Desk;

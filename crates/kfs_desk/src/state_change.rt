@@ -6,7 +6,7 @@ ghost use Rattle.kfs_plan_sweep.specs.Lefts.{IsFilled, PieceIsInRange};
 ghost use Rattle.kfs_image_fill.specs.Bytes.{HasPayloads, pieces_of};
 ghost use Rattle.kfs_image_fill.specs.FillOf.{CanLandWith, HasLandedWith};
 ghost use Rattle.kfs_lease.specs.Removed.{without_nodes_in};
-ghost use Rattle.kfs_desk.specs.Landing.{ended_by, removed_by, removed_with};
+ghost use Rattle.kfs_desk.specs.Landing.{ended_by, removed_by, removed_with, CanLandBytes, IsLandedWith};
 
 use kfs_entry::NodeRow;
 use kfs_image::{Image, Net};
@@ -18,34 +18,35 @@ use std::sync::Arc;
 
 /// The change that a log makes of the image, with its bytes.
 #[derive(Drop)]
-struct ImageChange<'a, A: Allocator> {
-    alloc: A,
+struct ImageChange<'a, 'b, A: Allocator> {
     image: &'a mut Image<A>,
-    bytes: LogBytes<'a>,
-    net: &'a Net<A>,
+    bytes: LogBytes<'b>,
+    net: &'b Net<A>,
 }
 
-impl<'a, A: Allocator + Copy> Change for ImageChange<'a, A> {
+impl<'a, 'b, A: Allocator + Copy> Change for ImageChange<'a, 'b, A> {
     ghost use Rattle.std.specs.Prelude.{◌≡◌, refl};
     ghost use Rattle.kfs_map_pages.specs.Nested.{Becomes};
-    ghost use Rattle.kfs_image_fill.specs.FillOf.{HasLandedWith};
-    ghost use Rattle.kfs_desk.specs.Landing.{CanLandBytes};
+    ghost use Rattle.kfs_desk.specs.Landing.{CanLandBytes, IsLandedWith};
 
     ghost can_make = { λ before. CanLandBytes before.image.now before.bytes before.net.now };
 
-    ghost made = { λ before after. HasLandedWith before.image.now before.bytes before.net.now after.image.now × (after.image.ghost_name ≡ before.image.ghost_name) };
+    ghost made = { λ before after. IsLandedWith before.image.now before.bytes before.net.now after.image.now × (after.image.ghost_name ≡ before.image.ghost_name) };
 
     ghost kept = { λ before after. Becomes before.image after.image before.image.now };
 
     ghost not_tried = { λ before. (refl, refl) };
 
+    #[tactic(auto, unfolding(crate::specs::Landing::IsLandedWith))]
     fn make(&mut self) -> Result<(), AllocError> {
-        land_bytes(self.alloc, self.image, &self.bytes, self.net)
+        let alloc = *self.net.nodes.allocator();
+        land_bytes(alloc, self.image, &self.bytes, self.net)
     }
 }
 
 /// Makes a net's change, with the bytes of its log. All memory is taken before the first change of
 /// image or leases.
+#[tactic(auto, unfolding(crate::specs::Landing::IsLandedWith))]
 pub(crate) fn change_state<A: Allocator + Copy>(
     alloc: A,
     image: &mut Image<A>,
@@ -63,13 +64,29 @@ pub(crate) fn change_state<A: Allocator + Copy>(
     ensures err { OnErr result ((image.new ≡ image.old) × (leases.new.value ≡ leases.old.value)) }
 {
     let removed = removed_nodes(alloc, net.nodes.as_slice())?;
+    change_both(image, leases, bytes, net, removed.as_slice())
+}
+
+/// Makes the change of the image, and ends the leases on these nodes.
+fn change_both<A: Allocator + Copy>(
+    image: &mut Image<A>,
+    leases: &mut Arc<Leases<A>, A>,
+    bytes: &LogBytes<'_>,
+    net: &Net<A>,
+    removed: &[u32],
+) -> Result<(), AllocError>
+    requires { CanLandBytes image.old bytes.now net.now }
+    ensures image { OnOk result (IsLandedWith image.old bytes.now net.now image.new) }
+    ensures leases { OnOk result (leases.new.value ≡ without_nodes_in leases.old.value removed.now) }
+    ensures err { OnErr result ((image.new ≡ image.old) × (leases.new.value ≡ leases.old.value)) }
+{
     let mut change = ImageChange {
-        alloc,
         image,
         bytes: *bytes,
         net,
     };
-    end_leases(leases, removed.as_slice(), &mut change)
+    end_leases(leases, removed, &mut change)?;
+    Ok(())
 }
 
 /// The numbers of the nodes that the rows remove.

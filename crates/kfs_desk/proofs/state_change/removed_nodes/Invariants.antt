@@ -1,6 +1,6 @@
 use Rattle.std.proofs.Common.{◌≡◌, ◌++◌, drop}
 use Rattle.kfs_desk.specs.Landing.{removed_by}
-use Rattle.kfs_desk.proofs.landing.removed_nodes.Given as goal
+use Rattle.kfs_desk.proofs.state_change.removed_nodes.Given as goal
 
 -- the numbers so far, with those of the rows that are left, are those of all rows
 abbrev pub invariant-loop-row : goal.invariant-loop-row
