@@ -5,8 +5,8 @@ use Rattle.kfs_image_fill.specs.Bytes.{entries_of, pieces_of}
 use Rattle.kfs_image_fill.proofs.BlockBytes.{covered_is}
 use Rattle.kfs_image_fill.proofs.block.block_bytes.Goals as goal
 
-pub returns-in_ok-bytes : goal.returns-in_ok-bytes
-returns-in_ok-bytes g c =
-    c.in_ok-bytes.ensures.items
-    ∙ covered_is (shown_tree c.args.image.now) (entries_of c.args.log.now) (pieces_of c.args.log.now) c.args.number c.args.block block_size c.from-start.result c.in-Some.whole.now
+pub returns-in_ok-bytes-in-Some : goal.returns-in_ok-bytes-in-Some
+returns-in_ok-bytes-in-Some g c =
+    c.in_ok-bytes-in-Some.ensures.items
+    ∙ covered_is (shown_tree c.args.image.now) (entries_of c.args.log.now) (pieces_of c.args.log.now) c.args.number c.args.block block_size (c.from-start.result * 4096) c.in-Some.whole.now
     (omega (arith, c.from-start.ensures)) c.in-Some.ensures.whole c.in-Some.ensures.put

@@ -8,6 +8,6 @@ pub returns-clause-put : goal.returns-clause-put
 returns-clause-put c =
     let piece = c.in_ok-piece.piece.now in
     put_where_found (entries_of c.args.log.now) c.args.log.now.pieces.now piece c.args.number c.args.start _ c.block_of.result
-    (ltb-true _ _ (sym c.in_ok-piece.ensures.item.0)) (sym c.in_ok-piece.ensures.item.1)
-    (c.covers_block.ensures.number (omega arith)) (c.covers_block.ensures.begins (omega arith)) (omega arith) (c.covers_block.ensures.ends (omega arith))
+    (ltb-true _ _ (sym c.in_ok-piece.ensures.item.0)) c.in_ok-piece.ensures.item.1
+    (c.covers_block.ensures.number c.if-not-covers_block.false) (c.covers_block.ensures.begins c.if-not-covers_block.false) (omega arith) (c.covers_block.ensures.ends c.if-not-covers_block.false)
     c.block_of.ensures.whole c.block_of.ensures.given
