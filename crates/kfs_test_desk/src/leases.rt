@@ -256,10 +256,10 @@ const ON_THE_COPY_HELD: [LeaseCall<'static>; 8] = [
 ];
 
 /// Makes the call, and once more where it was the one for which memory was refused.
-fn is_answered_at_last(
-    heap: &Refusing<Global>,
-    leases: &mut Leases<&Refusing<Global>>,
-    shape: &Shape<&Refusing<Global>>,
+fn is_answered_at_last<'a>(
+    heap: &'a Refusing<Global>,
+    leases: &mut Leases<&'a Refusing<Global>>,
+    shape: &Shape<&'a Refusing<Global>>,
     call: LeaseCall<'_>,
 ) -> bool {
     let was_refused = heap.has_refused();
