@@ -3,14 +3,12 @@
 
 use crate::examples::{opened, submission, submit};
 use kfs_desk::{Desk, Reply};
-use kfs_entry::{Plan, RowList, decode_log, decode_plan};
+use kfs_entry::{Plan, decode_log, decode_plan};
 use kfs_judge::{View, judge_entries};
 use kfs_lease::LeaseKind;
 use kfs_plan::{RowFault, check_plan, sweep};
 use kfs_test_support::refusing::Refusing;
-use kfs_test_support::vectors::{
-    CREATE_LOG, CREATE_PLAN, EDITS_LOG, EDITS_PLAN, LETTERS_LOG, LETTERS_PLAN,
-};
+use kfs_test_support::vectors::{CREATE_LOG, CREATE_PLAN, LETTERS_LOG, LETTERS_PLAN};
 use std::alloc::{Allocator, Global};
 
 /// More growths than anything here asks for.
@@ -123,40 +121,6 @@ fn growths(alloc: Global, call: Call) -> Option<u64> {
         }
     }
     None
-}
-
-/// The need of the plan of five edits, with the pieces that `sweep` gives in place of its own.
-fn need_of_swept_pieces(alloc: Global, view: &View<Global>) -> Option<u64> {
-    let log = decode_log(alloc, EDITS_LOG).ok()?;
-    let is_known = view.client(log.client).is_some();
-    if !is_known {
-        return None;
-    }
-    let walk = judge_entries(alloc, view, &log).ok()?;
-    if walk.outcome.is_err() {
-        return None;
-    }
-    let swept = sweep(alloc, &log, &walk).ok()?;
-    let plan = decode_plan(alloc, EDITS_PLAN).ok()?;
-    let plan = Plan {
-        version: plan.version,
-        names: plan.names,
-        nodes: plan.nodes,
-        pieces: RowList::from_vec(swept),
-    };
-    check_plan(alloc, &log, &walk, &plan).ok()
-}
-
-/// The same on a desk of its own.
-fn need_on_a_desk(alloc: Global) -> Option<u64> {
-    let desk = with_file(alloc)?;
-    let view = desk.view().ok()?;
-    need_of_swept_pieces(alloc, &view)
-}
-
-#[test]
-fn swept_pieces_make_a_right_plan(rt: HostRuntime) {
-    assert!(rt; need_on_a_desk(rt.alloc()) == Some(1));
 }
 
 #[test]
