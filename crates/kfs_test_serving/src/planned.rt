@@ -3,12 +3,14 @@
 
 use crate::examples::{opened, submission, submit};
 use kfs_desk::{Desk, Reply};
-use kfs_entry::{Plan, decode_log, decode_plan};
+use kfs_entry::{Plan, RowList, decode_log, decode_plan};
 use kfs_judge::{View, judge_entries};
 use kfs_lease::LeaseKind;
 use kfs_plan::{RowFault, check_plan, sweep};
 use kfs_test_support::refusing::Refusing;
-use kfs_test_support::vectors::{CREATE_LOG, CREATE_PLAN, LETTERS_LOG, LETTERS_PLAN};
+use kfs_test_support::vectors::{
+    CREATE_LOG, CREATE_PLAN, EDITS_LOG, EDITS_PLAN, LETTERS_LOG, LETTERS_PLAN,
+};
 use std::alloc::{Allocator, Global};
 
 /// More growths than anything here asks for.
@@ -121,6 +123,54 @@ fn growths(alloc: Global, call: Call) -> Option<u64> {
         }
     }
     None
+}
+
+/// The plan of five edits, with the pieces that `sweep` gives in place of its own.
+fn plan_with_swept_pieces(alloc: Global, view: &View<Global>) -> Option<Plan<Global>> {
+    let plan = decode_plan(alloc, EDITS_PLAN).ok()?;
+    let log = decode_log(alloc, EDITS_LOG).ok()?;
+    let is_known = view.client(log.client).is_some();
+    if !is_known {
+        return None;
+    }
+    let walk = judge_entries(alloc, view, &log).ok()?;
+    if walk.outcome.is_err() {
+        return None;
+    }
+    let swept = sweep(alloc, &log, &walk).ok()?;
+    Some(Plan {
+        version: plan.version,
+        names: plan.names,
+        nodes: plan.nodes,
+        pieces: RowList::from_vec(swept),
+    })
+}
+
+/// The need of a plan of five edits, if it is right.
+fn need_of(alloc: Global, view: &View<Global>, plan: &Plan<Global>) -> Option<u64> {
+    let log = decode_log(alloc, EDITS_LOG).ok()?;
+    let is_known = view.client(log.client).is_some();
+    if !is_known {
+        return None;
+    }
+    let walk = judge_entries(alloc, view, &log).ok()?;
+    if walk.outcome.is_err() {
+        return None;
+    }
+    check_plan(alloc, &log, &walk, plan).ok()
+}
+
+/// The need of that plan, on a desk of its own.
+fn need_on_a_desk(alloc: Global) -> Option<u64> {
+    let desk = with_file(alloc)?;
+    let view = desk.view().ok()?;
+    let plan = plan_with_swept_pieces(alloc, &view)?;
+    need_of(alloc, &view, &plan)
+}
+
+#[test]
+fn swept_pieces_make_a_right_plan(rt: HostRuntime) {
+    assert!(rt; need_on_a_desk(rt.alloc()) == Some(1));
 }
 
 #[test]
