@@ -33,7 +33,7 @@ returns g c =
     ap (λ key. changed before key edit.value) c.name_key-key.ensures.key ∙ ap (changed before (dir, name)) c.target_of-to.ensures in
     let once : table name_order (rewritten name_order c.args.names.now c.push.new.self.items) ≡ changed before edit.key edit.value =
     ap (λ edits. table name_order (rewritten name_order c.args.names.now edits)) items ∙ edited_once name_order c.args.names.now edit in
-    let uplinks = c.in_ok-key_edits.uplinks.items in
+    let uplinks = c.in_ok-key_edits.field-0.items in
     let ways = edited_seen by_node c.args.uplinks.now uplinks overlays.uplinks.latest c.in_ok-key_edits.ensures.said in
     let none = overlaid_none before c.in_ok-overlays.overlays.names.latest.entries c.in_ok-overlays.ensures.names in
     record {
@@ -49,5 +49,5 @@ returns g c =
           (subst (λ (t : NameTable). IsCounted t (counts_seen overlays c.args.counts.now) (table by_node (rewritten by_node c.args.uplinks.now uplinks)))
           (ap (λ (t : NameTable). changed t edit.key edit.value) none ∙ sym once)
           (subst (IsCounted (changed (names_seen c.in_ok-overlays.overlays c.args.names.now) edit.key edit.value) (counts_seen overlays c.args.counts.now)) (sym ways) c.in_ok-recount.ensures.counted))
-          c.in_ok-number_edits.counts.items c.in_ok-number_edits.ensures.edits c.in_ok-number_edits.ensures.said within within_now;
+          c.in_ok-number_edits.field-0.items c.in_ok-number_edits.ensures.edits c.in_ok-number_edits.ensures.said within within_now;
     }
