@@ -1,0 +1,2 @@
+-- Lemmas on tests in parts.
+pub mod Parts
