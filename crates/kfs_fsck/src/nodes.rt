@@ -35,11 +35,7 @@ pub(crate) fn least_miscounted<A: Allocator + Copy>(
     ensures { IfOk result (λ least. least ≡ least_failed (rule_6 (raw_of raw.now))) }
 {
     let counts = count_names(alloc, raw)?;
-    Ok(parts::least_miscounted(
-        rt,
-        counts.as_slice(),
-        raw.nodes.as_slice(),
-    ))
+    Ok(parts::least_miscounted(rt, counts.as_slice(), raw.nodes.as_slice()))
 }
 
 /// Rule 7: the least number of a directory from which a climb doesn't reach the root. `Err` where
@@ -56,9 +52,5 @@ pub(crate) fn least_unrooted<A: Allocator + Copy>(
     ensures { IfOk result (λ least. least ≡ least_failed (rule_7 (raw_of raw.now))) }
 {
     let tops = tops(alloc, raw, headers)?;
-    Ok(parts::least_unrooted(
-        rt,
-        tops.as_slice(),
-        raw.nodes.as_slice(),
-    ))
+    Ok(parts::least_unrooted(rt, tops.as_slice(), raw.nodes.as_slice()))
 }

@@ -1,6 +1,6 @@
 -- Rows that are made a batch after another make what they make together.
 use Rattle.std.proofs.Common.{◌≡◌, ℕ, ◌+◌, ◌<◌, ◌≤◌, All, List, [], ◌∷◌, ◌++◌, length, map, drop, get_or, append_assoc, append-nil, Some, refl, sym, ap, ◌∙◌}
-use Rattle.std.proofs.lemmas.List.{drop_all}
+use Rattle.std.proofs.lemmas.List.{drop_all, at_drop_more}
 use Rattle.std.proofs.lemmas.List.Elements.{recursion_from_All}
 use Rattle.std.specs.List.{AllByRecursion}
 use Rattle.kfs_entry_value.specs.Views.{header_of}
@@ -15,7 +15,6 @@ use Rattle.kfs_image_nodes.specs.Change.{led_to, renamed, reheaded, after_rows}
 use Rattle.kfs_image_nodes.specs.Indexes.{AreInPages}
 use Rattle.kfs_image_nodes.specs.NodeEdits.{IsNumber, AreNumbered}
 use Rattle.kfs_image_nodes.specs.Rows.{FitPages}
-use Rattle.kfs_image_tier.proofs.TierLists.{rest_at}
 use Rattle.kfs_image_raw.specs.Rows.{as_node_row}
 use Rattle.kfs_image_raw.proofs.Inserted.{changed_keys}
 
@@ -71,12 +70,12 @@ names_fit c rows fit all = (fit.0, in_pages_by c.names rows fit.1 (recursion_fro
 
 -- ---- rows as changes, one after another
 
-pub row_made : (rows : List CodeRawNode) (i : ℕ) (row : CodeRawNode) (old new all : List NodeRow) → i < length rows → row ≡ get_or rows i row → new ≡ old ++ as_node_row row ∷ [] → old ++ map as_node_row (drop i rows) ≡ all
+pub row_made : (rows : List CodeRawNode) (i : ℕ) (d : CodeRawNode) (old new all : List NodeRow) → i < length rows → new ≡ old ++ as_node_row (get_or rows i d) ∷ [] → old ++ map as_node_row (drop i rows) ≡ all
     → new ++ map as_node_row (drop (i + 1) rows) ≡ all
-row_made rows i row old new all less here is so_far =
+row_made rows i d old new all less is so_far =
     ap (λ made. made ++ map as_node_row (drop (i + 1) rows)) is
-    ∙ append_assoc old (as_node_row row ∷ []) (map as_node_row (drop (i + 1) rows))
-    ∙ ap (λ rest. old ++ map as_node_row rest) (sym (rest_at rows i row less here))
+    ∙ append_assoc old (as_node_row (get_or rows i d) ∷ []) (map as_node_row (drop (i + 1) rows))
+    ∙ sym (at_drop_more (λ rest. old ++ map as_node_row rest) rows i d less)
     ∙ so_far
 
 pub rows_made : (rows : List CodeRawNode) (i : ℕ) (made all : List NodeRow) → length rows ≤ i → made ++ map as_node_row (drop i rows) ≡ all → made ≡ all

@@ -1,11 +1,12 @@
 -- The blocks of a well formed image's extents, put at their places one after another.
-use Rattle.std.proofs.Common.{◌≡◌, ℕ, zero, suc, ◌+◌, ◌-◌, ◌*◌, ◌<◌, ◌≤◌, ◌^◌, ◌==◌, Bool, true, false, cond, All, List, [], ◌∷◌, length, map, get_or, Option, Some, None, inl, inr, refl, sym, ap, subst, ◌∙◌, arith, ltb-true}
+use Rattle.std.proofs.Common.{◌≡◌, ℕ, zero, suc, ◌+◌, ◌-◌, ◌*◌, ◌<◌, ◌≤◌, ◌^◌, ◌==◌, ◌&&◌, nat_lt, Bool, true, false, cond, All, List, [], ◌∷◌, length, map, get_or, Option, Some, None, inl, inr, refl, sym, ap, subst, ◌∙◌, arith, ltb-true}
 use Rattle.std.specs.Prelude.{vec_len}
 use Rattle.std.specs.List.{flat_map, AllByRecursion}
 use Rattle.kfs_model.specs.Header.{Header}
 use Rattle.kfs_model.specs.Limits.{block_size, tier_limit}
 use Rattle.kfs_model.specs.Table.{pairs, numbers, empty, get, insert, retain, changed}
 use Rattle.kfs_model.proofs.TableLaws.{same_entries_table}
+use Rattle.kfs_model.specs.Sight.{is_file}
 use Rattle.kfs_model.specs.Placement.{Place, Placement, TierSizes, AreTierSizes, tier_size, IsLaid, below}
 use Rattle.kfs_model.proofs.CleanIsAllowed.{found, left, right}
 use Rattle.kfs_model_device.specs.Device.{Devices, AreBlocks}
@@ -47,7 +48,7 @@ module _ (raw : RawImage) (spelled : IsSpelled raw) (well_formed : IsWellFormed 
 
   fits_of : (row : ExtentRow) → IsLaidRow raw well_formed row → Fits row
   fits_of row laid =
-      let (h, shown, fits) = found (get (heads_of raw) row.number) _ laid.in_file in
+      let (h, shown, fits) = found (get (heads_of raw) row.number) (λ h. is_file (Some h) && nat_lt ((row.block + row.count - 1) * block_size) h.size) laid.in_file in
       let ends : (row.block + row.count - 1) * 4096 < h.size = ltb-true ((row.block + row.count - 1) * 4096) h.size (right _ _ fits) in
       let size : h.size ≤ 4294967296 = (each_head raw (λ number h. (h.mode ≤ 1023) × (h.size ≤ 4294967296) × (kind_fits h.kind h.links h.size ≡ true)) (headers_fit raw well_formed) row.number h shown).1 in
       let inside = laid.in_tier in
@@ -75,9 +76,19 @@ less_of_none : (placement : Placement) → placement ≡ empty → less [] place
 unfolding retain
 less_of_none placement none = ap (less []) none ∙ same_entries_table (less [] empty) empty refl
 
-none_in_empty : {X : Type 0} (key : ℕ × ℕ) → get (empty {R = pairs numbers numbers} {X = X}) key ≡ None
+abbrev no_blocks : Placement
+no_blocks = empty
+
+abbrev none_written : Devices
+none_written = empty
+
+no_place : (key : ℕ × ℕ) → get no_blocks key ≡ None
 unfolding get
-none_in_empty key = refl
+no_place key = refl
+
+no_bytes : (key : ℕ × ℕ) → get none_written key ≡ None
+unfolding get
+no_bytes key = refl
 
 module _ {A : Type 0} (raw : CodeRawImage A) (spelled : IsSpelled (raw_of raw)) (well_formed : IsWellFormed (raw_of raw)) where
   abbrev shown : RawImage
@@ -110,17 +121,17 @@ module _ {A : Type 0} (raw : CodeRawImage A) (spelled : IsSpelled (raw_of raw)) 
     bytes_are : map written_row rows ≡ flat_map blocks_in shown.extents
     bytes_are = written ∙ flat_mapped blocks_in extent_row_of extents ∙ ap (λ es. flat_map blocks_in (map extent_row_of es)) are
 
-    placement_made : mapped_by rows empty ≡ placement_of shown
+    placement_made : mapped_by rows no_blocks ≡ placement_of shown
     placement_made =
-        mapped_are rows empty
-        ∙ ap (inserted (pairs numbers numbers) empty) placed_are
-        ∙ inserted_are (pairs numbers numbers) empty (flat_map places_in shown.extents) each_placed (λ key none. none_in_empty key)
+        mapped_are rows no_blocks
+        ∙ ap (inserted (pairs numbers numbers) no_blocks) placed_are
+        ∙ inserted_are (pairs numbers numbers) no_blocks (flat_map places_in shown.extents) each_placed (λ key none. no_place key)
 
-    devices_made : written_by rows empty ≡ devices_of shown
+    devices_made : written_by rows none_written ≡ devices_of shown
     devices_made =
-        written_are rows empty
-        ∙ ap (inserted (pairs numbers numbers) empty) bytes_are
-        ∙ inserted_are (pairs numbers numbers) empty (flat_map blocks_in shown.extents) each_written (λ key none. none_in_empty key)
+        written_are rows none_written
+        ∙ ap (inserted (pairs numbers numbers) none_written) bytes_are
+        ∙ inserted_are (pairs numbers numbers) none_written (flat_map blocks_in shown.extents) each_written (λ key none. no_bytes key)
 
     module _ (before : BlocksShown) (fresh : before ≡ record { sizes = raw.sizes; placement = empty; devices = empty }) where
       placed_after : placement_after [] rows before.placement ≡ placement_of shown

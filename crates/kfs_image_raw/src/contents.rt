@@ -18,10 +18,7 @@ use std::alloc::{AllocError, Allocator};
 const BATCH: usize = 4_096;
 
 /// The nodes and names of a raw image's rows. `Err` where memory is refused.
-pub fn raw_shape<A: Allocator + Clone>(
-    alloc: &A,
-    raw: &RawImage<A>,
-) -> Result<Shape<A>, AllocError>
+pub fn raw_shape<A: Allocator + Clone>(alloc: &A, raw: &RawImage<A>) -> Result<Shape<A>, AllocError>
     requires { IsWellFormed (raw_of raw.now) }
     ensures { IfOk result (λ shape. shape ≡ contents_of_raw (raw_of raw.now)) }
 {

@@ -79,10 +79,7 @@ pub fn least_lost_target<A: Allocator>(
 }
 
 /// How many names lead to each number that a node can have. `Err` where memory is refused.
-fn name_counts<A: Allocator + Copy>(
-    alloc: A,
-    rows: &[NameRow],
-) -> Result<Vec<u64, A>, AllocError>
+fn name_counts<A: Allocator + Copy>(alloc: A, rows: &[NameRow]) -> Result<Vec<u64, A>, AllocError>
     ensures { IfOk result (λ counts. CountsLeads counts.items rows.now) }
 {
     let mut counts = vec![in alloc; 0u64; NUMBERS]?;

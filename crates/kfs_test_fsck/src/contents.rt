@@ -1,11 +1,11 @@
 //! What an image that was let in shows.
 
 use crate::shown::shows_right;
+use NodeLine::{Directory, File};
 use kfs_fsck::fsck;
 use kfs_image::{Image, read_file};
 use kfs_test_images::broken::RIGHT;
 use kfs_test_images::small::{ExtentLine, NodeLine, SmallImage, image};
-use NodeLine::{Directory, File};
 use std::alloc::Allocator;
 use std::process::Abort;
 use std::thread::Threads;

@@ -73,10 +73,7 @@ fn is_making_refused(alloc: Global, growth: u64) -> Option<bool> {
 
 /// Whether a growth was refused as the rows were checked and let in, with the growth of this index
 /// refused; none where the answer is wrong.
-fn is_check_refused(
-    rt: &(impl Threads + AllocGlobal + Sync),
-    growth: u64,
-) -> Option<bool> {
+fn is_check_refused(rt: &(impl Threads + AllocGlobal + Sync), growth: u64) -> Option<bool> {
     let heap = Refusing::new(rt.alloc(), AMPLE);
     let raw = image(&heap, &[RIGHT])?;
     heap.refuse_after(growth);
