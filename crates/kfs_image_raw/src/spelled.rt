@@ -31,6 +31,13 @@ fn tell_ids(rows: &[RawNode])
     ensures { All (λ row. (row.header.uid < 2 ^ 32) × (row.header.gid < 2 ^ 32)) rows.now }
 {
     for row in rows {
-        let _ids = (row.header.uid, row.header.gid);
+        let _ids = ids_of(row);
     }
+}
+
+/// The node's uid and gid.
+fn ids_of(row: &RawNode) -> (u32, u32)
+    ensures { (row.now.header.uid < 2 ^ 32) × (row.now.header.gid < 2 ^ 32) }
+{
+    (row.header.uid, row.header.gid)
 }

@@ -84,7 +84,10 @@ pub all_counted : {E A : Type 0} (raw : RawImage) (rows : List CodeNameRow) → 
 all_counted raw rows are ascend (Ok counts) counted = λ number within. counted number within ∙ sym (rows_counted raw rows are ascend number)
 all_counted raw rows are ascend (Err refused) counted = tt
 
+abbrev never : ℕ
+never = 0
+
 pub zero_counts : (many n : ℕ) → n < many → count_in (replicate many 0) n ≡ 0
 zero_counts many n within =
-    let long : length (replicate many 0) ≡ many = length-replicate many 0 in
-    ap (λ o. elim o [ None ↦ 0 | Some count ↦ count ]) (slice_get-get_or {X = ℕ} (replicate many 0) n 0 (omega arith)) ∙ get_or-replicate many n 0 0 within
+    let long : length (replicate many never) ≡ many = length-replicate many never in
+    ap (λ o. elim o [ None ↦ 0 | Some count ↦ count ]) (slice_get-get_or {X = ℕ} (replicate many never) n never (omega (arith, long, within))) ∙ get_or-replicate many n never never within

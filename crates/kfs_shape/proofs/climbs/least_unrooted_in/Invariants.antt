@@ -7,4 +7,4 @@ use Rattle.kfs_shape.proofs.Tests.{rest_failed}
 use Rattle.kfs_shape.proofs.climbs.least_unrooted_in.Given as goal
 
 abbrev pub invariant-loop-row : goal.invariant-loop-row
-invariant-loop-row g l = merged l.least (rest_failed raw_node_of (top_test l.tops) l.rows l.row-index) ≡ least_failed (map (top_test l.tops) (map raw_node_of l.rows))
+invariant-loop-row l = merged l.least (rest_failed raw_node_of (top_test l.tops) l.rows l.row-index) ≡ least_failed (map (top_test l.tops) (map raw_node_of l.rows))

@@ -12,7 +12,7 @@ abbrev none : RawNode
 none = record { number = 0; header = record { kind = kinds.File; mode = 0; uid = 0; gid = 0; links = 0; size = 0 } }
 
 pub loop-row-preserved : goal.loop-row-preserved
-loop-row-preserved g c =
+loop-row-preserved c =
     let rows = c.args.rows.now in
     let counts = c.args.counts.now in
     let row : RawNode = get_or rows c.loop-row.row-index none in

@@ -7,4 +7,4 @@ use Rattle.kfs_shape.proofs.Tests.{rest_failed}
 use Rattle.kfs_shape.proofs.names.least_miscounted_in.Given as goal
 
 abbrev pub invariant-loop-row : goal.invariant-loop-row
-invariant-loop-row g l = merged l.least (rest_failed raw_node_of (counted_test l.counts) l.rows l.row-index) ≡ least_failed (map (counted_test l.counts) (map raw_node_of l.rows))
+invariant-loop-row l = merged l.least (rest_failed raw_node_of (counted_test l.counts) l.rows l.row-index) ≡ least_failed (map (counted_test l.counts) (map raw_node_of l.rows))

@@ -6,14 +6,16 @@ use Rattle.kfs_shape.proofs.Parents.{written}
 use Rattle.kfs_shape.proofs.names.name_counts.Goals as goal
 
 pub loop-row-init : goal.loop-row-init
-loop-row-init g c = record {
-  many = c.in_ok-counts.ensures.len;
-  counts = λ number within.
-      let none = ap (λ counts. count_in counts number) c.in_ok-counts.ensures.items ∙ zero_counts 65537 number within in
-      let all = is_tally (leads_to number) c.args.rows.now in
-      omega arith;
-  few = λ number within. let none = ap (λ counts. count_in counts number) c.in_ok-counts.ensures.items ∙ zero_counts 65537 number within in omega arith;
-}
+loop-row-init g c =
+    let zeros = c.in_ok-counts.ensures.items_if_clones_equal (λ y copied. copied) in
+    record {
+      many = omega (arith, c.in_ok-counts.ensures.len, c.in_ok-counts.counts.ok.0);
+      counts = λ number within.
+          let none = ap (λ counts. count_in counts number) zeros ∙ zero_counts 65537 number within in
+          let all = is_tally (leads_to number) c.args.rows.now in
+          omega arith;
+      few = λ number within. let none = ap (λ counts. count_in counts number) zeros ∙ zero_counts 65537 number within in omega arith;
+    }
 
 pub count_one-requires : goal.count_one-requires
 count_one-requires g c within =
