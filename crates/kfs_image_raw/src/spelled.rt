@@ -39,5 +39,12 @@ fn tell_ids(rows: &[RawNode])
 fn ids_of(row: &RawNode) -> (u32, u32)
     ensures { (row.now.header.uid < 2 ^ 32) × (row.now.header.gid < 2 ^ 32) }
 {
-    (row.header.uid, row.header.gid)
+    (in_range(row.header.uid), in_range(row.header.gid))
+}
+
+/// The id as it is, with what its type says of it.
+fn in_range(id: u32) -> u32
+    ensures { id < 2 ^ 32 }
+{
+    id
 }
