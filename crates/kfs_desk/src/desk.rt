@@ -67,7 +67,8 @@ impl<A: Allocator> Model for Desk<A> {
 
 impl<A: Allocator + Copy> Desk<A> {
     /// Begins a desk with an image and its clients: no lease, moment 0, and a docket that will have at
-    /// most `limit` rows.
+    /// most `limit` rows. Each image is lawful: a new one, and each that `kfs_fsck` let in. So what a
+    /// desk promises holds for every opening image.
     ///
     /// Refused, at the least client, with `ClientTwice` or `GrantOverlap`, or with `OutOfMemory`. Image
     /// and clients come back then.

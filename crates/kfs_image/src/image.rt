@@ -1,11 +1,14 @@
 //! The image: nodes and names, which views share, and the blocks of files.
-ghost use Rattle.std.specs.Prelude.{◌≡◌, ◌↔◌, ℕ, ◌<◌, true, List, length, option_map, Err, Some, None, IsTrue, IfSome, IfNone, IfOk, OnOk, OnErr};
+ghost use Rattle.std.specs.Prelude.{◌≡◌, ◌↔◌, ℕ, ◌<◌, true, List, length, option_map, Err, Some, None, IsTrue, IfSome, IfNone, IfOk, IfErr, OnOk, OnErr};
 ghost use Rattle.kfs_entry_value.specs.Views.{header_of};
 ghost use Rattle.kfs_model.specs.Table.{get, pairs, numbers};
 ghost use Rattle.kfs_model.specs.Tree.{target};
 ghost use Rattle.kfs_model.specs.Placement.{tier_size};
 ghost use Rattle.kfs_model.specs.Sight.{is_directory};
 ghost use Rattle.kfs_model_device.specs.ShownTree.{IsLawful};
+ghost use Rattle.kfs_model_device.specs.RawImage.{image_of};
+ghost use Rattle.kfs_model_device.specs.Finding.{IsWellFormed};
+ghost use Rattle.kfs_image_codec.specs.RawImages.{raw_of};
 ghost use Rattle.kfs_map_chunks.specs.Starts.{is_from, IsNextEntry};
 ghost use Rattle.kfs_image_tier.specs.Unused.{IsNextUnused, AreTakenFrom, unused_places};
 ghost use Rattle.kfs_image_nodes.specs.Change.{after_rows, renamed, reheaded};
@@ -22,9 +25,12 @@ use crate::read::ReadFault;
 use crate::released::released_blocks;
 use kfs_entry_value::{Header, Kind, Name, NameRow, NodeRow, TierSizes};
 use kfs_image_blocks::{ChangeBlocks, FileBlocks, FillBlocks, MoveBlocks, Place};
+use kfs_image_codec::RawImage;
 use kfs_image_nodes::{Answer, Cell, Net, Shape, look};
+use kfs_image_raw::{raw_blocks, raw_shape, tell_spelled};
 use kfs_map_chunks::key_edits;
 use kfs_map_pages::Change;
+use kfs_model_device::laws::well_formed_image_is_lawful;
 use std::alloc::{AllocError, Allocator};
 use std::marker::Model;
 use std::ops::Bound;
@@ -65,6 +71,39 @@ impl<A: Allocator + Clone> Image<A> {
         let shape = Shape::with_root(alloc.clone()?)?;
         let shape = Arc::new(alloc.clone()?, shape)?;
         let blocks = FileBlocks::new(alloc.clone()?, sizes)?;
+        Ok(Image {
+            shape,
+            blocks,
+            alloc,
+        })
+    }
+
+    /// The image that the rows of a raw image make: their nodes, names and places of blocks, with the
+    /// extents' bytes. Condition: the ten rules hold of the rows.
+    ///
+    /// `Err` only where memory is refused; it gives back the raw image as it was. The bytes are copied
+    /// once.
+    pub fn from_raw(alloc: A, raw: RawImage<A>) -> Result<Image<A>, RawImage<A>>
+        requires { IsWellFormed (raw_of raw) }
+        ensures ok { IfOk result (λ image. image ≡ image_of (raw_of raw)) }
+        ensures err { IfErr result (λ back. back ≡ raw) }
+    {
+        match Image::of_rows(alloc, &raw) {
+            Ok(image) => Ok(image),
+            Err(_refused) => Err(raw),
+        }
+    }
+
+    /// The image of the rows, which stay as they are.
+    fn of_rows(alloc: A, raw: &RawImage<A>) -> Result<Image<A>, AllocError>
+        requires { IsWellFormed (raw_of raw.now) }
+        ensures { IfOk result (λ image. image ≡ image_of (raw_of raw.now)) }
+    {
+        tell_spelled(raw);
+        well_formed_image_is_lawful();
+        let shape = raw_shape(&alloc, raw)?;
+        let shape = Arc::new(alloc.clone()?, shape)?;
+        let blocks = raw_blocks(&alloc, raw)?;
         Ok(Image {
             shape,
             blocks,

@@ -7,4 +7,5 @@ pub mod NameCounts
 pub mod SharedPlaces
 pub mod Doubling
 pub mod Parents
+pub mod NodeRules
 pub mod OneFinding

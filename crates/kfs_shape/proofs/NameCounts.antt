@@ -1,10 +1,11 @@
 -- Names counted by the number that they lead to.
-use Rattle.std.proofs.Common.{◌≡◌, ℕ, ◌+◌, ◌<◌, ◌≤◌, ◌==◌, Bool, true, false, cond, List, [], ◌∷◌, length, map, drop, get_or, count_by, Option, Some, None, unwrap_or, refl, sym, ap, ◌∙◌, arith}
-use Rattle.std.specs.Ordering.{eq_by_cmp, nat_cmp}
+use Rattle.std.proofs.Common.{◌≡◌, ℕ, ◌+◌, ◌<◌, ◌≤◌, ◌==◌, Bool, true, false, cond, List, [], ◌∷◌, length, map, drop, replicate, get_or, count_by, Option, Some, None, unwrap_or, Result, Ok, Err, refl, sym, ap, ◌∙◌, arith}
+use Rattle.std.specs.Prelude.{IfOk, Vec}
+use Rattle.std.specs.Ordering.{nat_cmp}
 use Rattle.std.specs.BTreeMap.{BTreeMap, IsEmpty, is_at}
 use Rattle.std.specs.Map.{lookup}
-use Rattle.std.proofs.lemmas.List.{drop_more, drop_all}
-use Rattle.std.specs.Cmp.{unsigned_tied, nat_eq_equiv}
+use Rattle.std.proofs.lemmas.List.{drop_more, drop_all, get_or-replicate, length-replicate}
+use Rattle.std.proofs.lemmas.Option.{slice_get-get_or}
 use Rattle.kfs_entry_value.specs.declared.plan.NameRow.{NameRow as CodeNameRow}
 use Rattle.kfs_entry_value.specs.Views.{name_row_of}
 use Rattle.kfs_model.specs.Header.{Header}
@@ -19,12 +20,10 @@ use Rattle.kfs_model_device.specs.Rules.{Test, with_previous, directory_test, ru
 use Rattle.kfs_model_device.specs.Finding.{least_of, least_failed}
 use Rattle.kfs_model_device.proofs.RowTables.{AreAbove, sorted_entries, sorted_rows}
 use Rattle.kfs_model_device.proofs.RulesHold.{AllHold}
-use Rattle.kfs_shape.specs.Counts.{count_at, leads_to}
+use Rattle.kfs_shape.specs.Counts.{count_at}
+use Rattle.kfs_shape.specs.NameCounts.{leads_to, count_in, CountsLeads, CountsNames}
 
 -- ---- one row after another
-
-tie : (a b : ℕ) → eq_by_cmp nat_cmp a b ≡ (b == a)
-tie a b = unsigned_tied a b ∙ nat_eq_equiv.symm a b
 
 module _ {X : Type 0} (test : X → Bool) where
   pub counted_rest : (rows : List X) (index : ℕ) (row : X) → index < length rows → row ≡ get_or rows index row → tally test (drop index rows) ≡ cond (test row) 1 0 + tally test (drop (index + 1) rows)
@@ -36,12 +35,6 @@ module _ {X : Type 0} (test : X → Bool) where
   pub counted_end : (rows : List X) (index : ℕ) → length rows ≤ index → tally test (drop index rows) ≡ 0
   unfolding tally
   counted_end rows index past = ap (tally test) (drop_all index rows past)
-
-pub counted_next : (rows : List CodeNameRow) (index number : ℕ) (row : CodeNameRow) → index < length rows → row ≡ get_or rows index row
-    → tally (leads_to number) (drop index rows) ≡ cond (eq_by_cmp nat_cmp number row.number) 1 0 + tally (leads_to number) (drop (index + 1) rows)
-counted_next rows index number row within is =
-    counted_rest (leads_to number) rows index row within is
-    ∙ ap (λ b. cond b 1 0 + tally (leads_to number) (drop (index + 1) rows)) (sym (tie number row.number))
 
 pub none_counted : (counts : BTreeMap ℕ ℕ) → IsEmpty counts → (number : ℕ) → count_at counts number ≡ 0
 none_counted counts empty number = ap (λ es. unwrap_or (lookup (is_at (nat_cmp number)) es) 0) empty
@@ -84,3 +77,17 @@ rows_counted raw rows are ascend number =
     ∙ ap (tally (λ row. row.number == number)) are
     ∙ tally_map (λ row. row.number == number) name_row_of rows
     ∙ sym (is_tally (leads_to number) rows)
+
+-- counts of the rows are the counts of the names
+pub all_counted : {E A : Type 0} (raw : RawImage) (rows : List CodeNameRow) → raw.names ≡ map name_row_of rows → least_failed (rule_4 raw) ≡ None
+    → (result : Result (Vec ℕ A) E) → IfOk result (λ counts. CountsLeads counts.items rows) → IfOk result (λ counts. CountsNames counts.items raw)
+all_counted raw rows are ascend (Ok counts) counted = λ number within. counted number within ∙ sym (rows_counted raw rows are ascend number)
+all_counted raw rows are ascend (Err refused) counted = tt
+
+abbrev never : ℕ
+never = 0
+
+pub zero_counts : (many n : ℕ) → n < many → count_in (replicate many 0) n ≡ 0
+zero_counts many n within =
+    let long : length (replicate many never) ≡ many = length-replicate many never in
+    ap (λ o. elim o [ None ↦ 0 | Some count ↦ count ]) (slice_get-get_or {X = ℕ} (replicate many never) n never (omega (arith, long, within))) ∙ get_or-replicate many n never never within

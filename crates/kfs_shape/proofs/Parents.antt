@@ -40,7 +40,7 @@ leads_nowhere many n within =
 
 -- ---- numbers in range
 
-nodes_in_range : (previous : Option RawNode) (rows : List RawNode) → AllHold (map number_test (with_previous previous rows)) → AllByRecursion (λ row. row.number ≤ 65536) rows
+pub nodes_in_range : (previous : Option RawNode) (rows : List RawNode) → AllHold (map number_test (with_previous previous rows)) → AllByRecursion (λ row. row.number ≤ 65536) rows
 nodes_in_range previous [] hold = tt
 nodes_in_range previous (row ∷ rows) hold = (leb-true row.number 65536 (right _ _ hold.0), nodes_in_range (Some row) rows hold.1)
 

@@ -1,8 +1,9 @@
 -- For each number the ancestor that a list leads it to.
-use Rattle.std.specs.Prelude.{◌≡◌, ℕ, ◌<◌, ◌==◌, ◌&&◌, Bool, false, List, length, slice_get, Option, Some, None, if◌then◌else◌}
+use Rattle.std.specs.Prelude.{◌≡◌, ℕ, ◌<◌, ◌==◌, ◌&&◌, ◌||◌, Bool, false, List, length, slice_get, Option, Some, None, if◌then◌else◌}
 use Rattle.kfs_model.specs.Table.{option_or}
-use Rattle.kfs_model_device.specs.RawImage.{RawImage}
-use Rattle.kfs_model_device.specs.Rules.{parent_of}
+use Rattle.kfs_model.specs.Sight.{is_file}
+use Rattle.kfs_model_device.specs.RawImage.{RawNode, RawImage}
+use Rattle.kfs_model_device.specs.Rules.{Test, test, parent_of}
 
 -- where the list leads from a number; nowhere for a number past its end
 abbrev pub ancestor_at : List (Option ℕ) → (number : ℕ) → Option ℕ
@@ -25,3 +26,7 @@ pub record LeadsFirst (old new : List (Option ℕ)) (taken : Bool) (number up : 
 abbrev pub is_root : Option ℕ → Bool
 is_root None = false
 is_root (Some number) = number == 1
+
+-- whether the node is a file, or the list leads it to the root
+abbrev pub top_test : List (Option ℕ) → RawNode → Test
+top_test tops row = test (is_file (Some row.header) || is_root (ancestor_at tops row.number)) row.number

@@ -2,6 +2,7 @@ pub mod Least
 pub mod Heads
 pub mod Names
 pub mod Counts
+pub mod NameCounts
 pub mod Extents
 pub mod Places
 pub mod Climbs

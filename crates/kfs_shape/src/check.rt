@@ -19,7 +19,7 @@ use std::alloc::Allocator;
 use std::collections::BTreeMap;
 
 /// A finding, if there is a number at which the rule is broken.
-fn no_failure(rule: u8, least: Option<u32>) -> Result<(), ShapeFault>
+pub fn no_failure(rule: u8, least: Option<u32>) -> Result<(), ShapeFault>
     ensures { FindsNoneWhere result (found_at rule least) }
 {
     match least {
@@ -59,8 +59,8 @@ fn check_names<A: Allocator + Copy>(
     no_failure(7, least_unrooted(alloc, raw, headers)?)
 }
 
-/// Checks rules 8 to 10.
-fn check_extents<A: Allocator + Copy>(
+/// Checks rules 8 to 10. The image isn't changed.
+pub fn check_extents<A: Allocator + Copy>(
     alloc: A,
     raw: &RawImage<A>,
     headers: &BTreeMap<u32, Header, A>,

@@ -1,21 +1,19 @@
 //! Rule 7: from each directory a climb along the parents reaches the root.
-ghost use Rattle.std.specs.Prelude.{◌≡◌, ◌||◌, ◌<◌, ◌≤◌, ℕ, IfOk, None, length, Some, true};
+ghost use Rattle.std.specs.Prelude.{◌≡◌, ◌||◌, ◌<◌, ◌≤◌, ℕ, IfOk, None, length, map, Some, true};
 ghost use Rattle.kfs_model.specs.Sight.{is_directory, is_file};
 ghost use Rattle.kfs_model_device.specs.Rules.{rule_1, rule_4, rule_7, reaches_root};
 ghost use Rattle.kfs_model_device.specs.Finding.{least_failed};
-ghost use Rattle.kfs_shape.specs.Climbs.{ancestor_at, ancestor_from, is_root, LeadsFirst, ParentsOf};
+ghost use Rattle.kfs_shape.specs.Climbs.{ancestor_at, ancestor_from, is_root, top_test, LeadsFirst, ParentsOf};
 ghost use Rattle.kfs_shape.specs.Heads.{head_at, ShowsHeads};
 ghost use Rattle.kfs_image_codec.specs.RawImages.{raw_node_of, raw_of};
 
+use crate::counts::NUMBERS;
 use crate::heads::has_directory;
 use crate::least::noted;
 use kfs_entry_value::{Header, Kind, NameRow, ROOT};
 use kfs_image_codec::{RawImage, RawNode};
 use std::alloc::{AllocError, Allocator};
 use std::collections::BTreeMap;
-
-/// How many numbers there are from 0 to the greatest number of a node.
-const NUMBERS: usize = 65_537;
 
 /// 2 to the power of this is more steps than any climb without a circle takes.
 const DOUBLINGS: u32 = 17;
@@ -100,7 +98,7 @@ fn doubled<A: Allocator>(
 
 /// The list in which each number from which a climb reaches the root leads to the root. `Err` where
 /// memory is refused.
-fn tops<A: Allocator + Copy>(
+pub fn tops<A: Allocator + Copy>(
     alloc: A,
     raw: &RawImage<A>,
     headers: &BTreeMap<u32, Header, A>,
@@ -124,8 +122,8 @@ fn is_below_root(tops: &[Option<u32>], row: &RawNode) -> bool
     row.header.kind == Kind::File || ancestor_at(tops, row.number) == Some(ROOT)
 }
 
-/// The least number of a directory from which a climb doesn't reach the root, if there is one. `Err`
-/// where memory is refused.
+/// Rule 7: the least number of a directory from which a climb doesn't reach the root, if there is one.
+/// `Err` where memory is refused.
 pub fn least_unrooted<A: Allocator + Copy>(
     alloc: A,
     raw: &RawImage<A>,
@@ -137,10 +135,16 @@ pub fn least_unrooted<A: Allocator + Copy>(
     ensures { IfOk result (λ least. least ≡ least_failed (rule_7 (raw_of raw.now))) }
 {
     let tops = tops(alloc, raw, headers)?;
-    let rows = raw.nodes.as_slice();
+    Ok(least_unrooted_in(tops.as_slice(), raw.nodes.as_slice()))
+}
+
+/// Rule 7 for some node rows, given the list of where climbs lead. Takes no memory.
+pub fn least_unrooted_in(tops: &[Option<u32>], rows: &[RawNode]) -> Option<u32>
+    ensures { result ≡ least_failed (map (top_test tops.now) (map raw_node_of rows.now)) }
+{
     let mut least = None;
     for row in rows.iter() {
-        least = noted(least, is_below_root(&tops, row), row.number);
+        least = noted(least, is_below_root(tops, row), row.number);
     }
-    Ok(least)
+    least
 }

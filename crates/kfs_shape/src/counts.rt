@@ -6,6 +6,9 @@ ghost use Rattle.kfs_shape.specs.Counts.{count_at};
 use std::alloc::{AllocError, Allocator};
 use std::collections::BTreeMap;
 
+/// How many numbers there are from 0 to the greatest number of a node.
+pub(crate) const NUMBERS: usize = 65_537;
+
 /// Counts the number once more.
 pub(crate) fn count_more<A: Allocator + Clone>(
     counts: &mut BTreeMap<u64, u64, A>,

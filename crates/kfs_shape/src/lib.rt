@@ -5,7 +5,8 @@
 //! but tests. Begin with `check_shape`.
 #![tactic(auto)]
 
-mod check;
+#[doc(hidden)]
+pub mod check;
 #[doc(hidden)]
 pub mod climbs;
 mod counts;

@@ -1,17 +1,16 @@
 //! Rules 4 to 6: the name rows.
-ghost use Rattle.std.specs.Prelude.{◌≡◌, ◌+◌, ◌<◌, ◌^◌, ℕ, IfOk, None, count_by, if◌then◌else◌};
+ghost use Rattle.std.specs.Prelude.{◌≡◌, ◌+◌, ◌<◌, ◌^◌, IfOk, None, length, map};
 ghost use Rattle.std.specs.Option.{option_copied, option_map};
 ghost use Rattle.kfs_model.specs.Tree.{name_order};
-ghost use Rattle.std.specs.Ordering.{eq_by_cmp, nat_cmp};
 ghost use Rattle.kfs_entry_value.specs.Views.{kind_of, name_row_of};
-ghost use Rattle.kfs_model_device.specs.Rules.{is_above, names_fit, rule_4, rule_5, rule_6};
+ghost use Rattle.kfs_model_device.specs.Rules.{is_above, names_fit, rule_1, rule_4, rule_5, rule_6};
 ghost use Rattle.kfs_model_device.specs.Finding.{least_failed};
 ghost use Rattle.kfs_shape.specs.Names.{is_in_place};
-ghost use Rattle.kfs_image_codec.specs.RawImages.{raw_of};
-ghost use Rattle.kfs_shape.specs.Counts.{count_at, leads_to};
+ghost use Rattle.kfs_image_codec.specs.RawImages.{raw_node_of, raw_of};
+ghost use Rattle.kfs_shape.specs.NameCounts.{CountsLeads, CountsNames, CountsOne, count_in, counted_test};
 ghost use Rattle.kfs_shape.specs.Heads.{head_at, ShowsHeads};
 
-use crate::counts::{count_more, count_of};
+use crate::counts::NUMBERS;
 use crate::heads::{has_directory, has_node};
 use crate::least::{noted, previous};
 use kfs_entry_value::{Header, Kind, LINK_LIMIT, NameRow, ROOT};
@@ -79,18 +78,36 @@ pub fn least_lost_target<A: Allocator>(
     least
 }
 
-/// How many names lead to each number. `Err` where memory is refused.
-fn name_counts<A: Allocator + Copy>(
-    alloc: A,
-    rows: &[NameRow],
-) -> Result<BTreeMap<u64, u64, A>, AllocError>
-    ensures { IfOk result (λ counts. (number : ℕ) → count_at counts number ≡ count_by (leads_to number) rows.now) }
+/// How many names lead to each number that a node can have. `Err` where memory is refused.
+fn name_counts<A: Allocator + Copy>(alloc: A, rows: &[NameRow]) -> Result<Vec<u64, A>, AllocError>
+    ensures { IfOk result (λ counts. CountsLeads counts.items rows.now) }
 {
-    let mut counts = BTreeMap::new(alloc);
+    let mut counts = vec![in alloc; 0u64; NUMBERS]?;
     for row in rows.iter() {
-        count_more(&mut counts, u64::from(row.number))?;
+        count_one(&mut counts, row.number);
     }
     Ok(counts)
+}
+
+/// Counts the number once more, if the list has it.
+fn count_one(counts: &mut [u64], number: u32)
+    requires { number < length counts.old → count_in counts.old number + 1 < 2 ^ 64 }
+    ensures { CountsOne counts.old counts.new number }
+{
+    let at = number as usize;
+    if at < counts.len() {
+        counts[at] += 1;
+    }
+}
+
+/// How often the list has counted the number.
+fn count_in(counts: &[u64], number: u32) -> u64
+    ensures { result ≡ count_in counts.now number }
+{
+    match counts.get(number as usize) {
+        Some(count) => *count,
+        None => 0,
+    }
 }
 
 /// Whether the node may have this many names.
@@ -113,15 +130,34 @@ pub fn least_miscounted<A: Allocator + Copy>(
     alloc: A,
     raw: &RawImage<A>,
 ) -> Result<Option<u32>, AllocError>
+    requires in_range { least_failed (rule_1 (raw_of raw.now)) ≡ None }
     requires ascend { least_failed (rule_4 (raw_of raw.now)) ≡ None }
     ensures { IfOk result (λ least. least ≡ least_failed (rule_6 (raw_of raw.now))) }
 {
-    let counts = name_counts(alloc, &raw.names)?;
-    let rows = raw.nodes.as_slice();
+    let counts = count_names(alloc, raw)?;
+    Ok(least_miscounted_in(counts.as_slice(), raw.nodes.as_slice()))
+}
+
+/// How many names lead to each number that a node can have, in an image whose name rows ascend. `Err`
+/// where memory is refused.
+pub fn count_names<A: Allocator + Copy>(
+    alloc: A,
+    raw: &RawImage<A>,
+) -> Result<Vec<u64, A>, AllocError>
+    requires { least_failed (rule_4 (raw_of raw.now)) ≡ None }
+    ensures { IfOk result (λ counts. CountsNames counts.items (raw_of raw.now)) }
+{
+    name_counts(alloc, raw.names.as_slice())
+}
+
+/// Rule 6 for some node rows, given how many names lead to each number. Takes no memory.
+pub fn least_miscounted_in(counts: &[u64], rows: &[RawNode]) -> Option<u32>
+    ensures { result ≡ least_failed (map (counted_test counts.now) (map raw_node_of rows.now)) }
+{
     let mut least = None;
     for row in rows.iter() {
-        let holds = may_have_names(row, count_of(&counts, u64::from(row.number)));
+        let holds = may_have_names(row, count_in(counts, row.number));
         least = noted(least, holds, row.number);
     }
-    Ok(least)
+    least
 }

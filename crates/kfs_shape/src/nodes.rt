@@ -1,5 +1,5 @@
 //! Rules 1 and 3: the node rows by themselves.
-ghost use Rattle.std.specs.Prelude.{◌≡◌};
+ghost use Rattle.std.specs.Prelude.{◌≡◌, map};
 ghost use Rattle.std.specs.Option.{option_copied, option_map};
 ghost use Rattle.kfs_model.specs.Spelling.{greatest_mode_of};
 ghost use Rattle.kfs_model_device.specs.Rules.{number_test, header_test, rule_1, rule_3};
@@ -68,10 +68,16 @@ fn is_header_in_range(version: u8, row: &RawNode) -> bool
 pub fn least_bad_header<A: Allocator>(raw: &RawImage<A>) -> Option<u32>
     ensures { result ≡ least_failed (rule_3 (raw_of raw.now)) }
 {
-    let rows = raw.nodes.as_slice();
+    least_bad_header_in(raw.version, raw.nodes.as_slice())
+}
+
+/// The same for some node rows of an image of this version.
+pub fn least_bad_header_in(version: u8, rows: &[RawNode]) -> Option<u32>
+    ensures { result ≡ least_failed (map (header_test version) (map raw_node_of rows.now)) }
+{
     let mut least = None;
     for row in rows.iter() {
-        least = noted(least, is_header_in_range(raw.version, row), row.number);
+        least = noted(least, is_header_in_range(version, row), row.number);
     }
     least
 }

@@ -1,8 +1,8 @@
 //! Findings in images that break a rule, and images that break none.
 
-use crate::images::{ExtentLine, NameLine, NodeLine, SmallImage, found, found_in};
 use NodeLine::{Directory, Empty, File};
 use kfs_shape::Kind;
+use kfs_test_images::small::{ExtentLine, NameLine, NodeLine, SmallImage, found, found_in};
 use std::process::Abort;
 
 const A: &[u8] = b"a";

@@ -2,7 +2,7 @@
 //! check of raw images. The expected values come from docs/FORMATS.md and from the examples of
 //! `kfs_model_examples` and `kfs_model_device`, never from the program's own output.
 //!
-//! It stands on `kfs_entry`, `kfs_mode`, `kfs_image`, `kfs_shape` and `kfs_test_support`. Begin with `codec.rt`.
+//! It stands on `kfs_entry`, `kfs_mode`, `kfs_image`, `kfs_shape`, `kfs_test_images` and `kfs_test_support`. Begin with `codec.rt`.
 //!
 //! A test is proved too, and would have to carry the clauses of each call that it makes. So each call
 //! is in a small function without clauses, which a test then makes for each row of a table.
@@ -16,8 +16,6 @@ mod codec;
 mod findings;
 #[cfg(test)]
 mod image_bytes;
-#[cfg(test)]
-mod images;
 #[cfg(test)]
 mod modes;
 #[cfg(test)]

@@ -30,6 +30,12 @@ pub mod shape {
     };
 }
 
+/// The checker that lets images in.
+pub mod fsck {
+    pub use kfs_fsck::laws::{least_of_two_lists, old_image};
+    pub use kfs_fsck::{Finding, FsckFault, Image, RawImage, fsck};
+}
+
 /// Leases.
 pub mod lease {
     pub use kfs_lease::{Act, LeaseFault, LeaseKind, Leases};

@@ -1,0 +1,14 @@
+use Rattle.std.proofs.Common.{map, ap, ◌∙◌}
+use Rattle.kfs_model_device.specs.Finding.{least_failed}
+use Rattle.kfs_image_codec.specs.RawImages.{raw_node_of, raw_of}
+use Rattle.kfs_shape.specs.Climbs.{top_test}
+use Rattle.kfs_shape.proofs.NodeRules.{top_is_rule_7}
+use Rattle.kfs_fsck.proofs.nodes.least_unrooted.Goals as goal
+
+pub returns : goal.returns
+returns g c =
+    let tops = c.in_ok-tops.tops.items in
+    c.least_unrooted.ensures
+    ∙ ap (λ tops. least_failed (map (top_test tops) (map raw_node_of c.as_slice-2.result.now))) c.as_slice.ensures.value
+    ∙ ap (λ rows. least_failed (map (top_test tops) (map raw_node_of rows))) c.as_slice-2.ensures.value
+    ∙ top_is_rule_7 (raw_of c.args.raw.now) c.requires.in_range tops c.in_ok-tops.ensures

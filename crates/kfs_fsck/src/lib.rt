@@ -1,0 +1,16 @@
+//! The checker that lets images in: it tests the ten rules of a raw image, the rules of single nodes in
+//! several threads, and makes the image of one that breaks none.
+//!
+//! It stands on `kfs_shape` (the tests) and `kfs_image`. Begin with `fsck`.
+#![tactic(auto)]
+
+mod check;
+mod fault;
+pub mod laws;
+mod nodes;
+mod parts;
+
+pub use check::fsck;
+pub use fault::FsckFault;
+pub use kfs_image::{Image, RawImage};
+pub use kfs_shape::Finding;

@@ -1,0 +1,30 @@
+-- How many names lead to each number that a node can have, as a list by number.
+use Rattle.std.specs.Prelude.{◌≡◌, ℕ, ◌+◌, ◌<◌, ◌==◌, Bool, List, length, count_by, slice_get, Some, None, if◌then◌else◌}
+use Rattle.kfs_entry_value.specs.declared.plan.NameRow.{NameRow}
+use Rattle.kfs_model.specs.Tree.{name_count}
+use Rattle.kfs_model_device.specs.RawImage.{RawNode, RawImage, names_of}
+use Rattle.kfs_model_device.specs.Rules.{Test, test, names_fit}
+
+abbrev pub leads_to : (number : ℕ) → NameRow → Bool
+leads_to number row = row.number == number
+
+-- how often the list has counted a number; 0 for a number past its end
+abbrev pub count_in : List ℕ → (number : ℕ) → ℕ
+count_in counts number = elim (slice_get counts number) [ None ↦ 0 | Some count ↦ count ]
+
+-- the number is counted once more, if the list has it; all others keep their counts
+pub record CountsOne (old new : List ℕ) (number : ℕ) : Type 0 where
+  pub len : length new ≡ length old
+  pub each : (n : ℕ) → n < length old → count_in new n ≡ count_in old n + (if number == n then 1 else 0)
+
+-- the list counts the rows by the numbers that they lead to
+abbrev pub CountsLeads : List ℕ → List NameRow → Type 0
+CountsLeads counts rows = (number : ℕ) → number < 65537 → count_in counts number ≡ count_by (leads_to number) rows
+
+-- the list counts the names of the image
+abbrev pub CountsNames : List ℕ → RawImage → Type 0
+CountsNames counts raw = (number : ℕ) → number < 65537 → count_in counts number ≡ name_count (names_of raw) number
+
+-- whether a node has as many names as it should, by these counts
+abbrev pub counted_test : List ℕ → RawNode → Test
+counted_test counts row = test (names_fit row.header.kind row.number row.header.links (count_in counts row.number)) row.number
