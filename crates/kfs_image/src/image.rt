@@ -1,11 +1,12 @@
 //! The image: nodes and names, which views share, and the blocks of files.
-ghost use Rattle.std.specs.Prelude.{◌≡◌, ◌↔◌, ℕ, ◌<◌, List, length, option_map, Err, Some, None, IsTrue, IfSome, IfNone, IfOk, OnOk, OnErr};
+ghost use Rattle.std.specs.Prelude.{◌≡◌, ◌↔◌, ℕ, ◌<◌, true, List, length, option_map, Err, Some, None, IsTrue, IfSome, IfNone, IfOk, OnOk, OnErr};
 ghost use Rattle.kfs_entry_value.specs.Views.{header_of};
-ghost use Rattle.kfs_model.specs.Table.{get};
+ghost use Rattle.kfs_model.specs.Table.{get, pairs, numbers};
 ghost use Rattle.kfs_model.specs.Tree.{target};
 ghost use Rattle.kfs_model.specs.Placement.{tier_size};
 ghost use Rattle.kfs_model.specs.Sight.{is_directory};
 ghost use Rattle.kfs_model_device.specs.ShownTree.{IsLawful};
+ghost use Rattle.kfs_map_chunks.specs.Starts.{is_from, IsNextEntry};
 ghost use Rattle.kfs_image_tier.specs.Unused.{IsNextUnused, AreTakenFrom, unused_places};
 ghost use Rattle.kfs_image_nodes.specs.Change.{after_rows, renamed, reheaded};
 ghost use Rattle.kfs_image_nodes.specs.Look.{IsAfter, IsNext, IsNextNode};
@@ -20,12 +21,13 @@ use crate::net::Fill;
 use crate::read::ReadFault;
 use crate::released::released_blocks;
 use kfs_entry_value::{Header, Kind, Name, NameRow, NodeRow, TierSizes};
-use kfs_image_blocks::{ChangeBlocks, FileBlocks, FillBlocks, MoveBlocks};
+use kfs_image_blocks::{ChangeBlocks, FileBlocks, FillBlocks, MoveBlocks, Place};
 use kfs_image_nodes::{Answer, Cell, Net, Shape, look};
 use kfs_map_chunks::key_edits;
 use kfs_map_pages::Change;
 use std::alloc::{AllocError, Allocator};
 use std::marker::Model;
+use std::ops::Bound;
 use std::sync::Arc;
 
 /// The image that the desk owns: nodes, names, and the blocks of files on three tiers.
@@ -230,6 +232,16 @@ impl<A: Allocator> Image<A> {
         ensures none { IfNone result ((m : List ℕ) (n : ℕ) → target self.now.names dir m ≡ Some n → IsAfter after.entry m → ⊥) }
     {
         self.shape.next_name(dir, after)
+    }
+
+    /// The first mapped block at the bound or behind it, as file number and block, and where it lies;
+    /// or none. Takes no memory.
+    #[doc(hidden)]
+    pub fn next_block(&self, start: &Bound<(u32, u32)>) -> Option<((u32, u32), Place)>
+        ensures found { IfSome result (λ p. IsNextEntry (pairs numbers numbers).compare start.now self.now.placement.entries p.0 p.1) }
+        ensures none { IfNone result ((q : ℕ × ℕ) → is_from (pairs numbers numbers).compare start.now q ≡ true → get self.now.placement q ≡ None) }
+    {
+        self.blocks.next_block(start)
     }
 
     /// `read_file`.

@@ -1,5 +1,5 @@
 //! The blocks of files.
-ghost use Rattle.std.specs.Prelude.{◌≡◌, ◌+◌, ◌*◌, ◌≤◌, length, slice_index, IfSome, IfNone, IfOk, OnOk, OnErr, EachIndex};
+ghost use Rattle.std.specs.Prelude.{◌≡◌, ℕ, ◌+◌, ◌*◌, ◌≤◌, true, None, length, slice_index, IfSome, IfNone, IfOk, OnOk, OnErr, EachIndex};
 ghost use Rattle.kfs_model.specs.Limits.{block_size};
 ghost use Rattle.kfs_model.specs.Placement.{tier_size, IsLaid};
 ghost use Rattle.kfs_model.specs.Table.{empty, get, pairs, numbers};
@@ -7,6 +7,7 @@ ghost use Rattle.kfs_model_device.specs.Device.{AreBlocks};
 ghost use Rattle.kfs_model_device.specs.ShownTree.{file_byte};
 ghost use Rattle.kfs_image_tier.specs.Unused.{IsNextUnused, AreTakenFrom, unused_places};
 ghost use Rattle.kfs_map_chunks.specs.Edits.{KeysAscend};
+ghost use Rattle.kfs_map_chunks.specs.Starts.{is_from, IsNextEntry};
 ghost use Rattle.kfs_map_chunks.specs.Tables.{table_after};
 ghost use Rattle.kfs_image_blocks.specs.Blocks.{CanChange, changed};
 ghost use Rattle.kfs_image_blocks.specs.Fill.{CanFill, filled, placement_after};
@@ -19,6 +20,7 @@ use kfs_image_tier::{NewBlock, Place, Tiers};
 use kfs_map_chunks::{Chunks, KeyEdit};
 use std::alloc::{AllocError, Allocator};
 use std::marker::Model;
+use std::ops::Bound;
 
 /// Where the blocks of files lie, and the three tiers. A place is marked free exactly where no block
 /// lies. The blocks of a file are numbered from 0, and each has 4,096 bytes.
@@ -87,6 +89,16 @@ impl<A: Allocator> FileBlocks<A> {
         ensures { result ≡ get self.now.placement (number, block) }
     {
         self.placement.get(&(number, block)).copied()
+    }
+
+    /// The first mapped block at the bound or behind it, as file number and block, and where it lies;
+    /// or none. Takes no memory.
+    pub fn next_block(&self, start: &Bound<(u32, u32)>) -> Option<((u32, u32), Place)>
+        ensures found { IfSome result (λ p. IsNextEntry (pairs numbers numbers).compare start.now self.now.placement.entries p.0 p.1) }
+        ensures none { IfNone result ((q : ℕ × ℕ) → is_from (pairs numbers numbers).compare start.now q ≡ true → get self.now.placement q ≡ None) }
+    {
+        let (block, place) = self.placement.next(start.as_ref())?;
+        Some((*block, *place))
     }
 
     /// Fills the buffer with the block's bytes from `offset` on; they are zero where the block isn't
