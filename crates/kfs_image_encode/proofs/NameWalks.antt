@@ -1,6 +1,6 @@
 -- A walk over the names of an image: directory after directory, and in each name after name.
-use Rattle.std.proofs.Common.{◌≡◌, ℕ, ◌+◌, ◌<◌, ◌≤◌, Bool, true, false, cond, not, nat_le, List, [], ◌∷◌, Option, Some, None, Bor, refl, sym, ap, subst, ◌∙◌, arith, le-leb, leb-true, leb-false}
-use Rattle.std.specs.Prelude.{IsSome, is_some, IsTrue}
+use Rattle.std.proofs.Common.{◌≡◌, ℕ, ◌+◌, ◌<◌, ◌≤◌, Bool, true, false, not, nat_le, List, [], ◌∷◌, Option, Some, None, Bor, refl, sym, ap, subst, ◌∙◌, arith, le-leb, leb-true, leb-false}
+use Rattle.std.specs.Prelude.{IsSome, IsTrue}
 use Rattle.std.specs.declared.cmp.Ordering.{Ordering}
 use Rattle.std.specs.declared.cmp.Ordering.TheVariants.{Less, Equal, Greater}
 use Rattle.std.specs.declared.ops.Bound.{Bound}
@@ -15,7 +15,7 @@ use Rattle.kfs_model.specs.Table.{Table, numbers, get}
 use Rattle.kfs_model.specs.Tree.{NameTable, name_order, target}
 use Rattle.kfs_map_chunks.specs.Starts.{is_from, IsNextEntry}
 use Rattle.kfs_image_nodes.specs.Look.{IsAfter, IsNext, IsNextNode}
-use Rattle.kfs_image_nodes.proofs.NameOrder.{in_directory, earlier_directory, behind_in_directory}
+use Rattle.kfs_image_nodes.proofs.NameOrder.{behind_in_directory}
 use Rattle.kfs_model_device.specs.ShownTree.{DeviceImage, IsLawful}
 use Rattle.kfs_image_encode.specs.Rows.{entries_from, names_from}
 use Rattle.kfs_image_encode.proofs.Walks.{nothing_from, next_from, each_from, same_from}

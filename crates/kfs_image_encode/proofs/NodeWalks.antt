@@ -1,5 +1,5 @@
 -- A walk over the nodes of an image, by their numbers.
-use Rattle.std.proofs.Common.{◌≡◌, ℕ, ◌+◌, ◌<◌, ◌≤◌, length, Bool, true, false, List, [], ◌∷◌, Option, Some, None, refl, sym, ap, subst, ◌∙◌, arith}
+use Rattle.std.proofs.Common.{◌≡◌, ℕ, ◌+◌, ◌<◌, length, true, false, [], ◌∷◌, Option, Some, None, refl, sym, ap, ◌∙◌, arith}
 use Rattle.std.specs.Prelude.{IsSome, is_some}
 use Rattle.std.specs.declared.cmp.Ordering.{Ordering}
 use Rattle.std.specs.declared.cmp.Ordering.TheVariants.{Less, Equal, Greater}
@@ -10,7 +10,7 @@ use Rattle.std.proofs.lemmas.Cmp.{ranked}
 use Rattle.kfs_model.specs.Header.{Header}
 use Rattle.kfs_model.specs.Table.{Table, numbers, get}
 use Rattle.kfs_image_nodes.specs.Look.{IsNextNode}
-use Rattle.kfs_map_chunks.specs.Starts.{is_from, IsNextEntry}
+use Rattle.kfs_map_chunks.specs.Starts.{IsNextEntry}
 use Rattle.kfs_model_device.specs.ShownTree.{DeviceImage, IsLawful}
 use Rattle.kfs_image_encode.specs.Rows.{entries_from}
 use Rattle.kfs_image_encode.proofs.Walks.{nothing_from, next_from, each_from}

@@ -33,10 +33,6 @@ module _ {E : Type 0} where
   pub counted_all : (count all : ℕ) (left : List E) → left ≡ [] → count + length left ≡ all → count ≡ all
   counted_all count all left none whole = omega (arith, whole, ap length none)
 
-  -- one row fewer is left
-  pub fewer_left : (e : E) (left rest : List E) → left ≡ e ∷ rest → length left ≡ length rest + 1
-  fewer_left e left rest next = ap length next ∙ omega arith
-
 flat_map-map : {E F : Type 0} (spelling : F → List ℕ) (f : E → F) (es : List E) → flat_map (λ e. spelling (f e)) es ≡ flat_map spelling (map f es)
 flat_map-map spelling f [] = refl
 flat_map-map spelling f (e ∷ es) = ap (λ rest. spelling (f e) ++ rest) (flat_map-map spelling f es)

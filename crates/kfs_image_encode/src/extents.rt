@@ -33,7 +33,7 @@ fn goes_on<A: Allocator>(image: &Image<A>, run: &Run) -> bool
     ensures end { IsFalse result → Ends image.now run.now }
 {
     match image.next_block(&Bound::Excluded(run.last())) {
-        Some((block, place)) => run.is_next(block, place),
+        Some(mapped) => run.is_next(mapped),
         None => false,
     }
 }
@@ -45,8 +45,8 @@ fn next_run<A: Allocator>(image: &Image<A>, start: &Bound<(u32, u32)>) -> Option
     ensures small { IfSome result (λ run. run.block + run.more ≤ greatest_block) }
     ensures none { IfNone result (extents_from image.now start.now ≡ []) }
 {
-    let (block, place) = image.next_block(start)?;
-    let mut run = Run::of(block, place);
+    let first = image.next_block(start)?;
+    let mut run = Run::of(first);
     'longer: while goes_on(image, &run) {
         run.more += 1;
     }
@@ -60,9 +60,9 @@ pub(crate) fn count_extents<A: Allocator>(image: &Image<A>) -> Result<Rows, Allo
 {
     let mut rows = Rows::none();
     let mut start = Bound::Unbounded;
-    while let Some(run) = next_run(image, &start) {
-        rows = rows.and_one(LEN + (run.more as usize + 1) * BLOCK_LEN)?;
-        start = Bound::Excluded(run.last());
+    while let Some(extent) = next_run(image, &start) {
+        rows = rows.and_one(LEN + (extent.more as usize + 1) * BLOCK_LEN)?;
+        start = Bound::Excluded(extent.last());
     }
     Ok(rows)
 }
@@ -76,9 +76,9 @@ pub(crate) fn write_extents<A: Allocator, B: Allocator>(
     ensures { OnOk result (out.new.items ≡ out.old.items ++ flat_map extent_bytes (extents_of (shown_tree image.now) image.now.placement)) }
 {
     let mut start = Bound::Unbounded;
-    while let Some(run) = next_run(image, &start) {
-        write_run(out, image, &run)?;
-        start = Bound::Excluded(run.last());
+    while let Some(extent) = next_run(image, &start) {
+        write_run(out, image, &extent)?;
+        start = Bound::Excluded(extent.last());
     }
     Ok(())
 }

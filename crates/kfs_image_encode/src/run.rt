@@ -22,9 +22,10 @@ pub(crate) struct Run {
 
 impl Run {
     /// The run of one block.
-    pub(crate) fn of(block: (u32, u32), place: Place) -> Run
-        ensures { result ≡ run_from (block, place) }
+    pub(crate) fn of(mapped: ((u32, u32), Place)) -> Run
+        ensures { result ≡ run_from mapped }
     {
+        let (block, place) = mapped;
         Run {
             number: block.0,
             block: block.1,
@@ -42,10 +43,11 @@ impl Run {
         (self.number, self.block + self.more)
     }
 
-    /// Whether a block at this place goes on from the last.
-    pub(crate) fn is_next(&self, block: (u32, u32), place: Place) -> bool
-        ensures { result ≡ is_next self.now (block, place) }
+    /// Whether a block at its place goes on from the last.
+    pub(crate) fn is_next(&self, mapped: ((u32, u32), Place)) -> bool
+        ensures { result ≡ is_next self.now mapped }
     {
+        let (block, place) = mapped;
         let count = u64::from(self.more) + 1;
         block.0 == self.number
             && u64::from(block.1) == u64::from(self.block) + count

@@ -1,4 +1,3 @@
-use Rattle.std.proofs.Common.{refl}
 use Rattle.kfs_image_codec.specs.Headers.{image_header_of}
 use Rattle.kfs_image_encode.proofs.Spelled.{image_written}
 use Rattle.kfs_image_encode.proofs.encode.encode_image.Goals as goal

@@ -5,8 +5,8 @@ use Rattle.kfs_image_encode.specs.Runs.{extents_from}
 use Rattle.kfs_image_encode.proofs.extents.count_extents.Given as goal
 
 -- those counted and those left are all
-abbrev pub invariant-loop-run : goal.invariant-loop-run
-invariant-loop-run g l = l.rows.count + length (extents_from l.image l.start) ≡ length (extents_of (shown_tree l.image) l.image.placement)
+abbrev pub invariant-loop-extent : goal.invariant-loop-extent
+invariant-loop-extent g l = l.rows.count + length (extents_from l.image l.start) ≡ length (extents_of (shown_tree l.image) l.image.placement)
 
-abbrev pub decreases-loop-run : goal.decreases-loop-run
-decreases-loop-run g l = length (extents_from l.image l.start)
+abbrev pub decreases-loop-extent : goal.decreases-loop-extent
+decreases-loop-extent g l = length (extents_from l.image l.start)

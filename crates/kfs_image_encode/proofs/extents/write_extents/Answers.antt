@@ -8,19 +8,19 @@ use Rattle.kfs_image_encode.proofs.RunExtents.{all_extents}
 use Rattle.kfs_image_encode.proofs.Spelled.{written_next, written_all}
 use Rattle.kfs_image_encode.proofs.extents.write_extents.Goals as goal
 
-pub loop-run-init : goal.loop-run-init
-loop-run-init g c = ap (λ rows. c.args.out.now.items ++ flat_map extent_bytes rows) (all_extents c.args.image.now)
+pub loop-extent-init : goal.loop-extent-init
+loop-extent-init g c = ap (λ rows. c.args.out.now.items ++ flat_map extent_bytes rows) (all_extents c.args.image.now)
 
-pub loop-run-smaller : goal.loop-run-smaller
-loop-run-smaller g c = omega (arith, ap length c.in-Some.ensures.first, ap (λ block. length (extents_from c.args.image.now (Excluded block))) c.last.ensures)
+pub loop-extent-smaller : goal.loop-extent-smaller
+loop-extent-smaller g c = omega (arith, ap length c.in-Some.ensures.first, ap (λ block. length (extents_from c.args.image.now (Excluded block))) c.last.ensures)
 
-pub loop-run-preserved : goal.loop-run-preserved
-loop-run-preserved g c =
+pub loop-extent-preserved : goal.loop-extent-preserved
+loop-extent-preserved g c =
     let image = c.args.image.now in
-    let row = run_extent (shown_tree image) c.in-Some.run in
-    let left = extents_from image c.loop-run.start in
-    written_next extent_bytes c.loop-run.out.items c.write_run.new.out.items _ row left (extents_from image (Excluded c.last.result))
-    (subst (λ block. left ≡ row ∷ extents_from image (Excluded block)) (sym c.last.ensures) c.in-Some.ensures.first) c.in_ok-write_run.ensures c.loop-run.invariant
+    let row = run_extent (shown_tree image) c.in-Some.extent in
+    let left = extents_from image c.loop-extent.start in
+    written_next extent_bytes c.loop-extent.out.items c.write_run.new.out.items _ row left (extents_from image (Excluded c.last.result))
+    (subst (λ block. left ≡ row ∷ extents_from image (Excluded block)) (sym c.last.ensures) c.in-Some.ensures.first) c.in_ok-write_run.ensures c.loop-extent.invariant
 
 pub returns : goal.returns
-returns g c = written_all extent_bytes c.loop-run.out.items _ (extents_from c.args.image.now c.loop-run.start) c.in_default.ensures.none c.loop-run.invariant
+returns g c = written_all extent_bytes c.loop-extent.out.items _ (extents_from c.args.image.now c.loop-extent.start) c.in_default.ensures.none c.loop-extent.invariant

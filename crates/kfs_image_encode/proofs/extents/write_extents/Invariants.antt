@@ -7,9 +7,9 @@ use Rattle.kfs_image_encode.specs.Runs.{extents_from}
 use Rattle.kfs_image_encode.proofs.extents.write_extents.Given as goal
 
 -- what is written and what is left to write are all
-abbrev pub invariant-loop-run : goal.invariant-loop-run
-invariant-loop-run g l =
+abbrev pub invariant-loop-extent : goal.invariant-loop-extent
+invariant-loop-extent g l =
     l.out.items ++ flat_map extent_bytes (extents_from l.image l.start) ≡ l.fn.out.items ++ flat_map extent_bytes (extents_of (shown_tree l.image) l.image.placement)
 
-abbrev pub decreases-loop-run : goal.decreases-loop-run
-decreases-loop-run g l = length (extents_from l.image l.start)
+abbrev pub decreases-loop-extent : goal.decreases-loop-extent
+decreases-loop-extent g l = length (extents_from l.image l.start)

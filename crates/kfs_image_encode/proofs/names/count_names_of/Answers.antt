@@ -1,5 +1,5 @@
-use Rattle.std.proofs.Common.{rules, ◌≡◌, false, ◌+◌, length, ap, ◌∙◌, arith, Some}
-use Rattle.kfs_image_encode.specs.Rows.{entries_from, names_from}
+use Rattle.std.proofs.Common.{rules, ◌≡◌, false, ◌+◌, length, ap, arith, Some}
+use Rattle.kfs_image_encode.specs.Rows.{entries_from}
 use Rattle.kfs_model.specs.Sight.{is_directory}
 use Rattle.kfs_model.specs.Table.{get}
 use Rattle.kfs_image_encode.proofs.NameWalks.{start_of, name_next, directory_done, past_file}

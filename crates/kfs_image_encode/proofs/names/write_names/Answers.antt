@@ -1,4 +1,4 @@
-use Rattle.std.proofs.Common.{◌+◌, ◌++◌, length, sym, ap, ◌∙◌, arith}
+use Rattle.std.proofs.Common.{◌+◌, ◌++◌, sym, ap, ◌∙◌, arith}
 use Rattle.std.specs.List.{flat_map}
 use Rattle.kfs_image_encode.specs.Rows.{names_from, name_spelling}
 use Rattle.kfs_image_encode.proofs.NodeWalks.{fewer_nodes}

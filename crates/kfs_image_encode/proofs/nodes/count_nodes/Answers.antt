@@ -1,8 +1,8 @@
-use Rattle.std.proofs.Common.{length, ap, arith, ◌∙◌}
+use Rattle.std.proofs.Common.{length, ap, arith}
 use Rattle.std.specs.declared.ops.Bound.TheVariants.{Excluded}
 use Rattle.kfs_image_encode.specs.Rows.{entries_from, node_entry_of}
 use Rattle.kfs_image_encode.proofs.NodeWalks.{all_nodes}
-use Rattle.kfs_image_encode.proofs.Spelled.{counted_next, counted_all, fewer_left}
+use Rattle.kfs_image_encode.proofs.Spelled.{counted_next, counted_all}
 use Rattle.kfs_image_encode.proofs.nodes.count_nodes.Goals as goal
 
 pub loop-row-init : goal.loop-row-init

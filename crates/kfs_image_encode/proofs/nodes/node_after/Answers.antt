@@ -1,6 +1,7 @@
-use Rattle.std.proofs.Common.{◌≡◌, [], Some, None, sym, ap, subst, ◌∙◌}
+use Rattle.std.proofs.Common.{◌≡◌, [], sym, subst}
 use Rattle.std.specs.Prelude.{IfNone}
 use Rattle.std.specs.declared.ops.Bound.TheVariants.{Excluded}
+use Rattle.kfs_entry_value.specs.Views.{header_of}
 use Rattle.kfs_image_encode.specs.Rows.{entries_from}
 use Rattle.kfs_image_encode.proofs.NodeWalks.{no_node, node_next, never_none}
 use Rattle.kfs_image_encode.proofs.nodes.node_after.Goals as goal
@@ -14,4 +15,4 @@ pub returns-in_err-header-clause-none : goal.returns-in_err-header-clause-none
 returns-in_err-header-clause-none g c = absurd (never_none c.args.image.now.heads c.args.after c.in_ok-number.number c.in_ok-number.ensures.found (sym c.in_err-header.ensures))
 
 pub returns-clause-found : goal.returns-clause-found
-returns-clause-found g c = node_next c.args.image.now.heads c.args.after c.in_ok-number.number _ c.in_ok-number.ensures.found (sym c.in_ok-header.ensures)
+returns-clause-found g c = node_next c.args.image.now.heads c.args.after c.in_ok-number.number c.in_ok-number.ensures.found (header_of c.in_ok-header.header) (sym c.in_ok-header.ensures)
