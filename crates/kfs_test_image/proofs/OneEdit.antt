@@ -1,15 +1,17 @@
--- One edit of where a block lies leaves a lawful image lawful.
-use Rattle.std.proofs.Common.{◌≡◌, ℕ, ◌<◌, true, [], ◌∷◌, Option, Some, None, option_map}
+-- One edit of where a block lies, or of a block's bytes, leaves a lawful image lawful.
+use Rattle.std.proofs.Common.{◌≡◌, ℕ, ◌<◌, true, [], ◌∷◌, Option, Some, None, option_map, arith}
+use Rattle.std.specs.Prelude.{Vec, vec_len}
 use Rattle.std.proofs.lemmas.List.Elements.{All-cons, All-nil}
+use Rattle.kfs_model.specs.Limits.{block_size}
 use Rattle.kfs_model.specs.Table.{changed}
 use Rattle.kfs_model.specs.Placement.{Place, tier_size, is_free}
 use Rattle.kfs_model_device.specs.ShownTree.{DeviceImage, IsLawful}
 use Rattle.kfs_image.specs.declared.edit.Edit.{Edit}
-use Rattle.kfs_image.specs.declared.edit.Edit.TheVariants.{Map}
+use Rattle.kfs_image.specs.declared.edit.Edit.TheVariants.{Map, Bytes}
 use Rattle.kfs_image.specs.Image.{place_at}
 use Rattle.kfs_image.specs.Edit.{CanEdit, WritesWholeBlocks, edited_all}
 use Rattle.kfs_image.specs.Net.{is_block}
-use Rattle.kfs_image.proofs.FilledImages.{mapped_is_lawful, unmapped_is_lawful}
+use Rattle.kfs_image.proofs.FilledImages.{mapped_is_lawful, unmapped_is_lawful, written_is_lawful}
 
 module _ {A : Type 0} (image : DeviceImage) (lawful : IsLawful image) (number block : ℕ) where
   abbrev pub moved : Option (ℕ × ℕ) → Edit A
@@ -27,3 +29,11 @@ module _ {A : Type 0} (image : DeviceImage) (lawful : IsLawful image) (number bl
 
   pub can_take_up : CanEdit (moved None ∷ []) image
   can_take_up = can_move None (unmapped_is_lawful image lawful (number, block))
+
+module _ {A : Type 0} (image : DeviceImage) (lawful : IsLawful image) (place : Place) (bytes : Vec ℕ A) where
+  pub can_write : place.place < tier_size image.sizes place.tier → vec_len bytes ≡ block_size → CanEdit (Bytes place.tier place.place bytes ∷ []) image
+  unfolding edited_all
+  can_write inside whole = record {
+    lawful = written_is_lawful image lawful place bytes.items inside (omega (arith, bytes.ok.0, whole));
+    whole = All-cons (WritesWholeBlocks image.sizes) (Bytes place.tier place.place bytes) [] (inside, whole) (All-nil (WritesWholeBlocks {A = A} image.sizes));
+  }

@@ -54,6 +54,20 @@ fn unmapping<A: Allocator>(image: &Image<A>, number: u32, block: u32) -> Edit<A>
     Edit::Map(number, block, None)
 }
 
+/// The edit that writes bytes at a place, if the place exists and they are a block's.
+fn writing<A: Allocator>(image: &Image<A>, place: Place, bytes: Vec<u8, A>) -> Option<Edit<A>>
+    ensures { IfSome result (λ edit. CanEdit (edit ∷ []) image.now) }
+{
+    // Tells the prover that the image is lawful.
+    let _shape = image.shape();
+    let is_there = place.place < image.tier_size(place.tier);
+    if is_there && bytes.len() == BLOCK_LEN {
+        Some(Edit::Bytes(place.tier, place.place, bytes))
+    } else {
+        None
+    }
+}
+
 /// Makes one edit.
 fn make<A: Allocator + Copy>(alloc: A, image: &mut Image<A>, edit: Edit<A>) -> Option<()>
     requires { CanEdit (edit ∷ []) image.old }
@@ -124,6 +138,12 @@ pub fn lay<A: Allocator + Copy>(
     let edit = mapping(image, 5, block, 0, place)?;
     make(alloc, image, edit)?;
     Some(place)
+}
+
+/// Writes bytes that aren't zero at a place, a block's.
+pub fn write<A: Allocator + Copy>(alloc: A, image: &mut Image<A>, place: Place) -> Option<()> {
+    let edit = writing(image, place, block_bytes(alloc)?)?;
+    make(alloc, image, edit)
 }
 
 /// An image in which each block of file 5 is on tier 0, at the place with the block's number.

@@ -1,4 +1,5 @@
-//! Tests of edits of an image: a tier that is full, and each growth refused in turn. The expected
+//! Tests of edits of an image: a tier that is full, each growth refused in turn, and the bytes after
+//! edits. The expected
 //! values come from docs/DEFINITIONS.md, never from the program's own output. The scripts of `kfs_rows`
 //! show what a landing does to blocks.
 //!
@@ -11,6 +12,8 @@
 
 #[cfg(test)]
 mod edits;
+#[cfg(test)]
+mod encoded;
 #[cfg(test)]
 mod fits;
 #[cfg(test)]
