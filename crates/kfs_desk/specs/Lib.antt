@@ -1,3 +1,4 @@
+pub mod Beginning
 pub mod Docket
 pub mod Grants
 pub mod Landing

@@ -119,10 +119,11 @@ impl<A: Allocator + Copy> Desk<A> {
         }
     }
 
-    /// The docket. It leads from the opening state to the state now, and a well formed image shows each
-    /// state on the way. Takes no memory.
+    /// The docket, of at most `limit` rows. It leads from the opening state to the state now, and a well
+    /// formed image shows each state on the way. Takes no memory.
     pub fn docket(&self) -> &Docket
         ensures shown { result.now ≡ self.now.docket }
+        ensures within { length self.now.docket ≤ self.now.limit }
         ensures legal { IsLegalDocket self.now.opening self.now.docket self.now.state }
         ensures images { AreShown self.now.opening self.now.docket }
     {
