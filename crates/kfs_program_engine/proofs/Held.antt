@@ -20,8 +20,7 @@ use Rattle.kfs_program_engine.specs.declared.opening.Opening.{Opening}
 use Rattle.kfs_program_engine.specs.declared.session.Stage.{Stage as CodeStage}
 use Rattle.kfs_program_engine.specs.declared.session.Stage.TheVariants as stages
 use Rattle.kfs_program_text.specs.Parts.{line_of}
-use Rattle.kfs_workers.specs.Holding.{verdict_of}
-use Rattle.kfs_workers.specs.Verdict.{HeldVerdict, IsVerdictOn}
+use Rattle.kfs_workers_verdict.specs.Verdict.{HeldVerdict, IsVerdictOn, verdict_of}
 
 -- ---- hands
 

@@ -22,7 +22,7 @@ use Rattle.kfs_plan.specs.declared.answers.Reply.{Reply}
 use Rattle.kfs_program_command.specs.Command.{Command, Setup, Request, OpeningCommand, New, Row, Begin, DeskCommand, Lease, Drop, Tick, Submit, Node, Listing, Bytes, DocketLength, Judge, Land, asked_by, landing_worker}
 use Rattle.kfs_program_engine.specs.Bytes.{read_text}
 use Rattle.kfs_program_verdicts.specs.HeldVerdicts.{HeldVerdicts, held_by, no_verdict, with_held}
-use Rattle.kfs_workers.specs.Verdict.{IsVerdictOn, HeldVerdict, LandsVerdict}
+use Rattle.kfs_workers_verdict.specs.Verdict.{IsVerdictOn, HeldVerdict, LandsVerdict}
 use Rattle.kfs_program_engine.specs.Listing.{list_text}
 use Rattle.kfs_report.specs.Text.{act_text, begin_text, client_text, node_text, reply_text}
 use Rattle.kfs_program_text.specs.Parts.{line_of}

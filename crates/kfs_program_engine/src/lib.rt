@@ -1,6 +1,6 @@
 //! The engine: reads command lines, and writes the desk's replies.
 //!
-//! It stands on `kfs_workers` (desk and views), `kfs_program_verdicts` (verdicts that are held),
+//! It stands on `kfs_workers_verdict` (desk and views), `kfs_program_verdicts` (verdicts that are held),
 //! `kfs_program_command` (lines) and `kfs_report` (replies); `kfs_program` stands on it. Begin with `engine`, then `session.rt`.
 #![tactic(auto)]
 

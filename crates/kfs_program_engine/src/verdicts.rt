@@ -3,8 +3,7 @@
 ghost use Rattle.std.specs.Prelude.{◌≡◌, ◌≤◌, codes, IfErr, IfOk, IsErrOf, OnOk, Some};
 ghost use Rattle.kfs_plan.specs.Judging.{submission_of};
 ghost use Rattle.kfs_program_command.specs.Command as commands;
-ghost use Rattle.kfs_workers.specs.Holding.{verdict_of};
-ghost use Rattle.kfs_workers.specs.Verdict.{IsVerdictOn};
+ghost use Rattle.kfs_workers_verdict.specs.Verdict.{IsVerdictOn, verdict_of};
 ghost use Rattle.kfs_program_engine.specs.Session.{After, IsLandingAnswered, IsReplied, DeskAnswers, left_without_memory};
 ghost use Rattle.kfs_program_text.specs.Parts.{line_of};
 ghost use Rattle.kfs_entry_value.specs.Room.{spare_of};
@@ -16,7 +15,7 @@ use kfs_program_text::Refusal;
 use kfs_program_text::parts::{number, text};
 use kfs_program_verdicts::HeldVerdicts;
 use kfs_report::reply_line;
-use kfs_workers::DeskView;
+use kfs_workers_verdict::DeskView;
 use std::alloc::Allocator;
 
 /// Judges the submission for a worker who holds nothing; the worker holds the verdict then.

@@ -5,7 +5,7 @@ use Rattle.std.proofs.lemmas.List.{map-set}
 use Rattle.kfs_plan.specs.Judged.{Judged}
 use Rattle.kfs_program_verdicts.specs.HeldVerdicts.{with_held}
 use Rattle.kfs_program_verdicts.specs.Holding.{hands_of}
-use Rattle.kfs_workers.specs.Holding.{verdict_of}
+use Rattle.kfs_workers_verdict.specs.Verdict.{verdict_of}
 
 -- what is written into a hand, as it is shown
 pub shown_with : {A : Type 0} (held : List (Option (Judged A))) (worker : ℕ) (hand : Option (Judged A)) → hands_of (set held worker hand) ≡ with_held (hands_of held) worker (option_map verdict_of hand)

@@ -1,6 +1,6 @@
 -- The verdicts that the workers of a session hold.
 use Rattle.std.specs.Prelude.{ℕ, List, replicate, get_or, set, Option, None}
-use Rattle.kfs_workers.specs.Verdict.{HeldVerdict}
+use Rattle.kfs_workers_verdict.specs.Verdict.{HeldVerdict}
 
 -- the verdict that each worker holds, if any, by the worker's number
 abbrev pub HeldVerdicts : Type 0

@@ -1,13 +1,15 @@
 //! The verdicts that workers hold: each worker one, or none.
 ghost use Rattle.std.specs.Prelude.{◌≡◌, ◌↔◌, IfOk, IsTrue, None, Some, option_map};
 ghost use Rattle.kfs_program_verdicts.specs.HeldVerdicts.{held_by, no_verdict, with_held};
-ghost use Rattle.kfs_workers.specs.Holding.{verdict_of};
+ghost use Rattle.kfs_workers_verdict.specs.Verdict.{verdict_of};
 
 use kfs_plan::Judged;
 use kfs_program_command::Worker;
-use kfs_workers::WORKERS;
 use std::alloc::{AllocError, Allocator};
 use std::marker::Model;
+
+/// How many workers a session has: one for each number of a `Worker`.
+const WORKERS: usize = 8;
 
 /// The verdict of each worker, by the worker's number.
 #[derive(Drop)]

@@ -3,7 +3,7 @@
 //! `kfs_rows`. The expected values come from docs/FORMATS.md and from the examples of
 //! `kfs_model_examples`, never from the program's own output.
 //!
-//! It stands on `kfs_workers`, `kfs_desk` and `kfs_test_support`. Begin with `desks.rt`, which has the
+//! It stands on `kfs_workers_script`, `kfs_desk` and `kfs_test_support`. Begin with `desks.rt`, which has the
 //! calls.
 //!
 //! A test is proved too, and would have to carry the clauses of each call that it makes. So each call

@@ -1,7 +1,7 @@
 use Rattle.std.proofs.Common.{inr, refl}
 use Rattle.kfs_report.specs.Text.{reply_text}
 use Rattle.kfs_program_text.specs.Parts.{line_of}
-use Rattle.kfs_workers.proofs.Verdicts.{lands_verdict}
+use Rattle.kfs_workers_verdict.proofs.Verdicts.{lands_verdict}
 use Rattle.kfs_program_engine.proofs.verdicts.land_judged.Goals as goal
 
 pub returns-in-Ok-clause-ok : goal.returns-in-Ok-clause-ok

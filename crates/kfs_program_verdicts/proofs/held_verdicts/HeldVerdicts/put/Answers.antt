@@ -1,7 +1,7 @@
 use Rattle.std.proofs.Common.{◌∙◌, ap, Some}
 use Rattle.kfs_program_verdicts.specs.HeldVerdicts.{with_held}
 use Rattle.kfs_program_verdicts.specs.Holding.{hands_of}
-use Rattle.kfs_workers.specs.Holding.{verdict_of}
+use Rattle.kfs_workers_verdict.specs.Verdict.{verdict_of}
 use Rattle.kfs_program_verdicts.proofs.Hands.{shown_with}
 use Rattle.kfs_program_verdicts.proofs.held_verdicts.HeldVerdicts.put.Goals as goal
 

@@ -1,7 +1,0 @@
--- Lemmas on verdicts, and on scripts.
-pub mod Claimed
-pub mod Places
-pub mod Replies
-pub mod ScriptStates
-pub mod Settled
-pub mod Verdicts

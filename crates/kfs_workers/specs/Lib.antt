@@ -1,4 +1,0 @@
-pub mod Claims
-pub mod Holding
-pub mod Script
-pub mod Verdict

@@ -1,0 +1,6 @@
+-- Lemmas on scripts.
+pub mod Claimed
+pub mod Places
+pub mod Replies
+pub mod ScriptStates
+pub mod Settled

@@ -1,0 +1,3 @@
+pub mod Claims
+pub mod Holding
+pub mod Script

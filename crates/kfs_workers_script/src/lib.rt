@@ -1,0 +1,10 @@
+//! Scripts of workers: the steps of up to eight workers, who look, judge and land, one after another.
+//!
+//! It stands on `kfs_workers_verdict`; `kfs_workers` shows it. Begin with `run_script`.
+#![tactic(auto)]
+
+mod script;
+mod script_state;
+
+pub use script::{ScriptBack, ScriptEnd, Step, run_script};
+pub use script_state::WORKERS;

@@ -1,0 +1,9 @@
+//! What a worker saw of a desk, and the verdicts that it makes of that.
+//!
+//! It stands on `kfs_desk`. Scripts, threads and the engine's sessions stand on it, apart from one
+//! another. Begin with `DeskView`.
+#![tactic(auto)]
+
+mod desk_view;
+
+pub use desk_view::DeskView;
