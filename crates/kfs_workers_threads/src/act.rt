@@ -1,8 +1,8 @@
 //! A call for the leases of a shared desk.
 ghost use Rattle.std.specs.Prelude.{◌≡◌, IfOk, IfErr, OnErr};
-ghost use Rattle.kfs_desk.specs.Beginning.{beginning_of};
-ghost use Rattle.kfs_workers_threads.specs.Calls.{HasAdded, IsActing, IsUnanswered};
-ghost use Rattle.kfs_workers_threads.specs.Passes.{IsPassOf, started, seen, own, ended};
+ghost use Rattle.kfs_workers_threads.specs.Calls.{IsActing};
+ghost use Rattle.kfs_workers_threads.specs.Passes.{IsPassOf, own};
+ghost use Rattle.kfs_workers_threads.specs.Sharing.{AddsNone, AddsRow};
 
 use crate::pass::{Pass, Shared};
 use crate::seats::{enter, give_back, give_back_with_row};
@@ -27,10 +27,10 @@ impl<A: Allocator + Copy> Shared<Desk<A>, A> {
     ) -> Result<ActReply, SharedWant>
         requires { IsPassOf self.now pass.old }
         ensures pass { IsPassOf self.now pass.new }
-        ensures ok { IfOk result (λ reply. HasAdded (started beginning_of self.now) (seen pass.old) (own pass.old) reply.position (IsActing act.entry reply) (seen pass.new) (own pass.new)) }
+        ensures ok { IfOk result (λ reply. AddsRow self.now pass.old pass.new reply.position (IsActing act.entry reply)) }
 
         // Without an answer the pass has the rows that it had.
-        ensures err { IfErr result (λ why. IsUnanswered (started beginning_of self.now) why (seen pass.old) (seen pass.new) (ended pass.new)) }
+        ensures err { IfErr result (λ why. AddsNone self.now pass.old pass.new why) }
         ensures own { OnErr result (own pass.new ≡ own pass.old) }
     {
         let table = &self.table.shared;

@@ -1,9 +1,9 @@
 //! A landing at a shared desk.
 ghost use Rattle.std.specs.Prelude.{◌≡◌, IfOk, IfErr, OnErr};
-ghost use Rattle.kfs_desk.specs.Beginning.{beginning_of};
 ghost use Rattle.kfs_desk.specs.Docket.{position_of};
-ghost use Rattle.kfs_workers_threads.specs.Calls.{HasAdded, IsLanding, IsUnanswered};
-ghost use Rattle.kfs_workers_threads.specs.Passes.{IsPassOf, started, seen, own, ended};
+ghost use Rattle.kfs_workers_threads.specs.Calls.{IsLanding};
+ghost use Rattle.kfs_workers_threads.specs.Passes.{IsPassOf, own};
+ghost use Rattle.kfs_workers_threads.specs.Sharing.{AddsNone, AddsRow};
 
 use crate::pass::{Pass, Shared};
 use crate::seats::{enter, give_back, give_back_with_row};
@@ -27,11 +27,11 @@ impl<A: Allocator + Copy> Shared<Desk<A>, A> {
     ) -> Result<Reply, SharedBack<A>>
         requires { IsPassOf self.now pass.old }
         ensures pass { IsPassOf self.now pass.new }
-        ensures ok { IfOk result (λ reply. HasAdded (started beginning_of self.now) (seen pass.old) (own pass.old) (position_of reply) (IsLanding judged reply) (seen pass.new) (own pass.new)) }
+        ensures ok { IfOk result (λ reply. AddsRow self.now pass.old pass.new (position_of reply) (IsLanding judged reply)) }
 
         // A refusal hands the submission back, and the pass has the rows that it had.
         ensures back { IfErr result (λ back. back.submission ≡ judged.submission) }
-        ensures err { IfErr result (λ back. IsUnanswered (started beginning_of self.now) back.why (seen pass.old) (seen pass.new) (ended pass.new)) }
+        ensures err { IfErr result (λ back. AddsNone self.now pass.old pass.new back.why) }
         ensures own { OnErr result (own pass.new ≡ own pass.old) }
     {
         let table = &self.table.shared;

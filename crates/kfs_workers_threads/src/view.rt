@@ -1,8 +1,7 @@
 //! A view of a shared desk.
 ghost use Rattle.std.specs.Prelude.{◌≡◌, ◌≢◌, IfOk, IfErr};
-ghost use Rattle.kfs_desk.specs.Beginning.{beginning_of};
-ghost use Rattle.kfs_workers_threads.specs.Calls.{IsUnanswered, IsViewAfter};
-ghost use Rattle.kfs_workers_threads.specs.Passes.{IsPassOf, started, seen, own, ended};
+ghost use Rattle.kfs_workers_threads.specs.Passes.{IsPassOf, own};
+ghost use Rattle.kfs_workers_threads.specs.Sharing.{AddsNone, ShowsSeen};
 
 use crate::pass::{Pass, Shared};
 use crate::seats::{enter, give_back};
@@ -25,10 +24,10 @@ impl<A: Allocator + Copy> Shared<Desk<A>, A> {
     ) -> Result<View<A>, SharedWant>
         requires { IsPassOf self.now pass.old }
         ensures pass { IsPassOf self.now pass.new }
-        ensures ok { IfOk result (λ view. IsViewAfter (started beginning_of self.now) view (seen pass.old) (seen pass.new)) }
+        ensures ok { IfOk result (λ view. ShowsSeen self.now pass.old pass.new view) }
 
         // A refusal adds no row, and `DocketFull` is none of its reasons.
-        ensures err { IfErr result (λ why. IsUnanswered (started beginning_of self.now) why (seen pass.old) (seen pass.new) (ended pass.new)) }
+        ensures err { IfErr result (λ why. AddsNone self.now pass.old pass.new why) }
         ensures not_full { IfErr result (λ why. why ≢ SharedWant.DocketFull) }
         ensures own { own pass.new ≡ own pass.old }
     {
