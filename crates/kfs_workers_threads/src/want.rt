@@ -13,9 +13,8 @@ pub enum SharedWant {
     /// 2: the docket is full: it has as many rows as its limit allows.
     #[error("full")]
     DocketFull,
-    /// 3: there is no ticket left. This is so when 2^64 - 1 tickets were drawn, or as many less as the
-    /// first turn's number says.
-    #[error("spent")]
+    /// 3: there is no ticket left: the next one would be 2^64 - 1.
+    #[error("TurnsSpent")]
     TurnsSpent,
 }
 
@@ -31,5 +30,5 @@ pub struct SharedBack<A: Allocator> {
 /// Some ticket was drawn and its turn not passed on, so the shared object doesn't come back. No call
 /// that returned leaves it so.
 #[derive(Clone, Copy, Debug, PartialEq, Eq, Error)]
-#[error("unreturned")]
+#[error("Unreturned")]
 pub struct Unreturned;
