@@ -79,10 +79,7 @@ pub fn act<A: Allocator + Copy, R: Wait>(
 }
 
 /// How many rows the docket of the desk has that comes back.
-pub fn closed<A: Allocator + Copy>(
-    shared: Shared<Desk<A>, A>,
-    pass: Pass<Desk<A>>,
-) -> Option<u32>
+pub fn closed<A: Allocator + Copy>(shared: Shared<Desk<A>, A>, pass: Pass<Desk<A>>) -> Option<u32>
     requires { IsPassOf shared pass }
 {
     let desk = shared.close(pass).ok()?;

@@ -11,13 +11,11 @@ pub struct File {
 }
 
 /// `a`, with the number 5.
-pub const A: [File; 1] = [
-    File {
-        log: CREATE_LOG,
-        plan: CREATE_PLAN,
-        number: 5,
-    },
-];
+pub const A: [File; 1] = [File {
+    log: CREATE_LOG,
+    plan: CREATE_PLAN,
+    number: 5,
+}];
 
 /// `p0` to `p3`, with the numbers 10 to 13.
 pub const P: [File; 4] = [
@@ -79,6 +77,7 @@ pub const Q: [File; 4] = [
 pub const WRITE_LOG: &[u8] = b"KLOG\x01\0\0\0\x07\0\x01\x02\0\0\0\x05\0\0\0\0\0\0\0\0\0\0\0\x01x";
 
 /// The header of 5, and one piece.
-pub const WRITE_PLAN: &[u8] = b"KPLN\x01\0\0\0\x01\0\0\0\x01\0\0\0\x05\x01\x01\xa4\0\0\x03\xe8\0\0\x03\xe8\0\
+pub const WRITE_PLAN: &[u8] =
+    b"KPLN\x01\0\0\0\x01\0\0\0\x01\0\0\0\x05\x01\x01\xa4\0\0\x03\xe8\0\0\x03\xe8\0\
       \x01\0\0\0\0\0\0\0\x01\0\0\0\x05\0\0\0\0\0\0\0\0\0\0\0\0\0\0\0\x01\x01\0\0\0\0\
       \0\0";

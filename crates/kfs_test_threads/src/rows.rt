@@ -118,7 +118,10 @@ fn shared_at_the_end(alloc: Global) -> Option<(Judged<Global>, Sharing<Global>)>
 
 /// Why a view, a call for the leases and a landing aren't answered, what the pass has seen, and how
 /// many rows the docket has.
-fn spent<R: Threads + Wait + Sync>(rt: &R, alloc: Global) -> Option<([Option<SharedWant>; 3], u64, u32)> {
+fn spent<R: Threads + Wait + Sync>(
+    rt: &R,
+    alloc: Global,
+) -> Option<([Option<SharedWant>; 3], u64, u32)> {
     let (verdict, (shared, p)) = shared_at_the_end(alloc)?;
     let (p, q) = split(&shared, p);
     let acting = Acting::new(Act::Tick { moment: 1 });
@@ -185,7 +188,13 @@ fn judged_before_a_drop<R: Threads + Wait + Sync>(
     let ((_, p), (leasing, q)) = both(rt, &shared, Resting, p, Acting::new(LEASED), q);
     let seen = q.seen();
     let rows = closed(shared, p)?;
-    Some((dropping.answer?.ok()?, reply, leasing.answer?.ok()?, seen, rows))
+    Some((
+        dropping.answer?.ok()?,
+        reply,
+        leasing.answer?.ok()?,
+        seen,
+        rows,
+    ))
 }
 
 #[test]

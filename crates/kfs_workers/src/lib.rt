@@ -7,6 +7,6 @@
 
 pub use kfs_workers_script::{ScriptBack, ScriptEnd, Step, WORKERS, run_script};
 pub use kfs_workers_threads::{
-    Begun, Docketed, DocketRow, Pass, Shared, SharedBack, SharedWant, Unreturned,
+    Begun, DocketRow, Docketed, Pass, Shared, SharedBack, SharedWant, Unreturned,
 };
 pub use kfs_workers_verdict::DeskView;

@@ -15,13 +15,9 @@ impl<A: Allocator + Copy> Shared<Desk<A>, A> {
     /// A view of the desk's state, to be judged against with no turn held. It is the state to which the
     /// rows lead that the pass has then seen, and these begin with those that it had seen.
     ///
-    /// Waits for its turn, which is short: a view takes memory for a few pointers. Condition: the pass
+    /// Waits for its turn, which is short: a view shares the desk's tables. Condition: the pass
     /// is one of this desk. Refused with `OutOfMemory` or `TurnsSpent`.
-    pub fn view<R: Wait>(
-        &self,
-        rt: &R,
-        pass: &mut Pass<Desk<A>>,
-    ) -> Result<View<A>, SharedWant>
+    pub fn view<R: Wait>(&self, rt: &R, pass: &mut Pass<Desk<A>>) -> Result<View<A>, SharedWant>
         requires { IsPassOf self.now pass.old }
         ensures pass { IsPassOf self.now pass.new }
         ensures ok { IfOk result (λ view. ShowsSeen self.now pass.old pass.new view) }
