@@ -1,6 +1,6 @@
 -- Each kind of step keeps the rule of the turns, and tells what it says; so does the table when it is made. What is known of
 -- its last state follows.
-use Rattle.std.proofs.Common.{◌≡◌, ℕ, zero, suc, ◌+◌, ◌%◌, ◌<◌, ◌≤◌, eqb, ◌≢◌, ◌⊎◌, inl, inr, List, [], ◌∷◌, ◌++◌, map, length, get_or, set, sym, refl, ap, ◌∙◌, subst, ⊎_elim, arith, length-append, append_assoc, append-nil, Bool, true, false, mod-eq_of_lt}
+use Rattle.std.proofs.Common.{◌≡◌, ℕ, zero, suc, ◌+◌, ◌%◌, ◌<◌, ◌≤◌, eqb, ◌≢◌, ◌⊎◌, inl, inr, List, [], ◌∷◌, ◌++◌, length, get_or, set, sym, refl, ap, ◌∙◌, subst, ⊎_elim, arith, length-append, append_assoc, append-nil, Bool, true, false, mod-eq_of_lt}
 use mathlib.Core.Logic.{dite}
 use mathlib.Core.Option.{none, some, some-injective, some-ne-none}
 use mathlib.Core.Option as maybe
@@ -8,9 +8,9 @@ use native.Mathlib.Decide.{ℕ_discrete}
 use lib.ListN.{get_elem?}
 use lib.Seq.{set-get_or}
 use prog.Atomic.{either}
-use Rattle.std.specs.Prelude.{Option, Some, None, slice_get}
+use Rattle.std.specs.Prelude.{Option, Some, None}
 use Rattle.atomic_table.specs.Table.{State, Me, Act, Valid, step, keeps, takes, gives, stepped, Allows, Splits, Joins, opening as the_opening, carried_after, put_back, rest, Final, Seen}
-use Rattle.atomic_table.proofs.Lists.{at_set, set_again, set_here, set_else, at_snoc, at_longer, exchanged}
+use Rattle.atomic_table.proofs.Lists.{at_set, set_again, set_else, at_snoc, at_longer, exchanged}
 use Rattle.kfs_turns.specs.Lists.{StartsWith, Has, AreDistinct}
 use Rattle.kfs_turns.specs.Stages.{ticket, rows_out, HasTicket, HasCounted, IsServed, AreApart, after_count, at_stage, at_end, having_seen, having_counted, having_added, informed, having_met, used_up}
 use Rattle.kfs_turns.specs.Told.{TellsTurn, TellsCount, TellsRow, TellsDocket, TellsTicket, TellsPassing}

@@ -1,5 +1,5 @@
 -- Where a pass stands, and what it knows after a step.
-use Rattle.std.specs.Prelude.{◌≡◌, ℕ, Bool, true, false, List, [], ◌∷◌, ◌++◌, length, None}
+use Rattle.std.specs.Prelude.{◌≡◌, ℕ, true, false, List, [], ◌∷◌, ◌++◌, length, None}
 use Rattle.kfs_turns.specs.Lists.{Has}
 use Rattle.kfs_turns.specs.declared.known.Known.{Known}
 use Rattle.kfs_turns.specs.declared.known.Stage.{Stage}
