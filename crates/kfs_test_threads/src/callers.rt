@@ -21,16 +21,16 @@ impl Caller<Desk<Global>, Global> for Resting {
     ) {}
 }
 
-/// Creates files, each after a view and a judgement of its own, and looks for each with a view.
+/// Creates four files, each after a view and a judgement of its own, and looks for each with a view.
 pub struct Creating {
     pub alloc: Global,
-    pub files: &'static [File],
+    pub files: [File; 4],
     /// The position of each Yes that needed no block, was judged once, and left the file to be found.
     pub positions: [Option<u32>; 4],
 }
 
 impl Creating {
-    pub fn new(alloc: Global, files: &'static [File]) -> Creating {
+    pub fn new(alloc: Global, files: [File; 4]) -> Creating {
         Creating {
             alloc,
             files,
@@ -110,9 +110,30 @@ impl Caller<Desk<Global>, Global> for Creating {
         pass: &mut Pass<Desk<Global>>,
     ) {
         let alloc = self.alloc;
-        for (place, file) in self.positions.iter_mut().zip(self.files) {
-            *place = created_and_found(rt, alloc, shared, pass, *file);
-        }
+        let [a, b, c, d] = self.files;
+        let first = created_and_found(rt, alloc, shared, pass, a);
+        let second = created_and_found(rt, alloc, shared, pass, b);
+        let third = created_and_found(rt, alloc, shared, pass, c);
+        let fourth = created_and_found(rt, alloc, shared, pass, d);
+        self.positions = [first, second, third, fourth];
+    }
+}
+
+/// Creates one file, in the same way.
+pub struct CreatingOne {
+    pub alloc: Global,
+    pub file: File,
+    pub position: Option<u32>,
+}
+
+impl Caller<Desk<Global>, Global> for CreatingOne {
+    fn call<R: Wait>(
+        &mut self,
+        rt: &R,
+        shared: &Shared<Desk<Global>, Global>,
+        pass: &mut Pass<Desk<Global>>,
+    ) {
+        self.position = created_and_found(rt, self.alloc, shared, pass, self.file);
     }
 }
 

@@ -11,14 +11,14 @@ pub struct File {
 }
 
 /// `a`, with the number 5.
-pub const A: [File; 1] = [File {
+pub const FILE_A: File = File {
     log: CREATE_LOG,
     plan: CREATE_PLAN,
     number: 5,
-}];
+};
 
 /// `p0` to `p3`, with the numbers 10 to 13.
-pub const P: [File; 4] = [
+pub const FILES_P: [File; 4] = [
     File {
         log: b"KLOG\x01\0\0\0\x07\0\x01\x01\0\0\0\x01\x02p0\0\0\0\x0a\0\x01\xa4",
         plan: b"KPLN\x01\0\x01\0\x01\0\0\0\0\0\0\0\x01\x02p0\0\0\0\x0a\0\0\0\x0a\x01\x01\xa4\0\
@@ -46,7 +46,7 @@ pub const P: [File; 4] = [
 ];
 
 /// `q0` to `q3`, with the numbers 14 to 17.
-pub const Q: [File; 4] = [
+pub const FILES_Q: [File; 4] = [
     File {
         log: b"KLOG\x01\0\0\0\x07\0\x01\x01\0\0\0\x01\x02q0\0\0\0\x0e\0\x01\xa4",
         plan: b"KPLN\x01\0\x01\0\x01\0\0\0\0\0\0\0\x01\x02q0\0\0\0\x0e\0\0\0\x0e\x01\x01\xa4\0\

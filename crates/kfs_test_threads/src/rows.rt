@@ -2,9 +2,9 @@
 //! client 7 was only given the root, and three where it made file 5 and was given that.
 ghost use Rattle.kfs_workers_threads.specs.Passes.{IsPassOf};
 
-use crate::callers::{Acting, Creating, Resting, Viewing};
+use crate::callers::{Acting, Creating, CreatingOne, Resting, Viewing};
 use crate::calls::{Sharing, closed, judged, land, shared, shared_from, split, view};
-use crate::files::{A, File, P, Q, WRITE_LOG, WRITE_PLAN};
+use crate::files::{FILE_A, FILES_P, FILES_Q, File, WRITE_LOG, WRITE_PLAN};
 use crate::setting::{opened, with_file};
 use crate::side::both;
 use kfs_desk::{Act, ActReply, Desk, Done, Reply};
@@ -44,8 +44,8 @@ fn created_by_two<R: Threads + Wait + Sync>(
     let desk = opened(alloc)?;
     let (shared, p) = shared(alloc, desk)?;
     let (p, q) = split(&shared, p);
-    let one = Creating::new(alloc, &P);
-    let other = Creating::new(alloc, &Q);
+    let one = Creating::new(alloc, FILES_P);
+    let other = Creating::new(alloc, FILES_Q);
     let ((one, p), (other, _)) = both(rt, &shared, one, p, other, q);
     let rows = closed(shared, p)?;
     Some((one.positions, other.positions, rows))
@@ -70,8 +70,13 @@ fn seen_by_two<R: Threads + Wait + Sync>(rt: &R, alloc: Global) -> Option<([u64;
     let desk = opened(alloc)?;
     let (shared, p) = shared(alloc, desk)?;
     let (p, q) = split(&shared, p);
-    let ((creating, p), (_, q)) = both(rt, &shared, Creating::new(alloc, &A), p, Resting, q);
-    if creating.positions != [Some(1), None, None, None] {
+    let creating = CreatingOne {
+        alloc,
+        file: FILE_A,
+        position: None,
+    };
+    let ((created, p), (_, q)) = both(rt, &shared, creating, p, Resting, q);
+    if created.position != Some(1) {
         return None;
     }
     let (p, copy) = split(&shared, p);
@@ -110,7 +115,7 @@ fn reason_of<R: Wait>(
 fn shared_at_the_end(alloc: Global) -> Option<(Judged<Global>, Sharing<Global>)> {
     let desk = opened(alloc)?;
     let view = desk.view().ok()?;
-    let verdict = judged(alloc, &view, A[0].log, A[0].plan)?;
+    let verdict = judged(alloc, &view, FILE_A.log, FILE_A.plan)?;
     drop(view);
     let sharing = shared_from(alloc, desk, u64::MAX).ok()?;
     Some((verdict, sharing))
@@ -127,7 +132,7 @@ fn spent<R: Threads + Wait + Sync>(
     let acting = Acting::new(Act::Tick { moment: 1 });
     let ((viewing, p), (acting, _)) = both(rt, &shared, Viewing { why: None }, p, acting, q);
     let mut p = p;
-    let landing = reason_of(rt, &shared, &mut p, verdict, A[0]);
+    let landing = reason_of(rt, &shared, &mut p, verdict, FILE_A);
     let acting = match acting.answer {
         Some(Err(why)) => Some(why),
         _ => None,

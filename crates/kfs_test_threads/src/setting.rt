@@ -1,6 +1,6 @@
 //! The desks that are shared here: a new image with three tiers of 8 blocks, and the clients 7 and 8.
 
-use crate::files::A;
+use kfs_test_support::vectors::{CREATE_LOG, CREATE_PLAN};
 use kfs_desk::{Desk, Reply};
 use kfs_image::{Image, TierSizes};
 use kfs_lease::LeaseKind;
@@ -56,7 +56,7 @@ fn is_accepted<A: Allocator + Copy>(desk: &mut Desk<A>, submission: Submission<A
 /// Such a desk with the empty file 5 of client 7, who holds it, too. Its docket has 3 rows.
 pub fn with_file<A: Allocator + Copy>(alloc: A) -> Option<Desk<A>> {
     let mut desk = opened(alloc)?;
-    let create = submission(alloc, A[0].log, A[0].plan)?;
+    let create = submission(alloc, CREATE_LOG, CREATE_PLAN)?;
     if is_accepted(&mut desk, create) && is_leased(&mut desk, b"/a") {
         Some(desk)
     } else {
