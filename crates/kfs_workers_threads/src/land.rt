@@ -47,11 +47,16 @@ impl<A: Allocator + Copy> Shared<Desk<A>, A> {
             }
             Err(Back { submission, why }) => {
                 pass.rows = give_back(table, &mut pass.seat, desk);
-                let why = match why {
-                    Why::OutOfMemory => SharedWant::OutOfMemory,
-                    Why::DocketFull => SharedWant::DocketFull,
-                };
-                Err(SharedBack { submission, why })
+                match why {
+                    Why::OutOfMemory => Err(SharedBack {
+                        submission,
+                        why: SharedWant::OutOfMemory,
+                    }),
+                    Why::DocketFull => Err(SharedBack {
+                        submission,
+                        why: SharedWant::DocketFull,
+                    }),
+                }
             }
         }
     }

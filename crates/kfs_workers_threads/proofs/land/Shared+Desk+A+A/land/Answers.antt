@@ -1,6 +1,6 @@
 use Rattle.std.proofs.Common.{rules}
 use Rattle.kfs_workers_threads.proofs.Landed.{has_added}
-use Rattle.kfs_workers_threads.proofs.pass.Shared.land.Goals as goal
+use Rattle.kfs_workers_threads.proofs.land.Shared+Desk+A+A.land.Goals as goal
 
 pub returns-in-Ok-clause-ok : goal.returns-in-Ok-clause-ok
 returns-in-Ok-clause-ok g c =

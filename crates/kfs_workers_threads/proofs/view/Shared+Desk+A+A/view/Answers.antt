@@ -1,7 +1,7 @@
 use Rattle.std.proofs.Common.{rules}
 use Rattle.kfs_desk.specs.Beginning.{beginning_of}
 use Rattle.kfs_workers_threads.proofs.Landed.{is_view_after}
-use Rattle.kfs_workers_threads.proofs.pass.Shared.view.Goals as goal
+use Rattle.kfs_workers_threads.proofs.view.Shared+Desk+A+A.view.Goals as goal
 
 pub returns-in-Ok-clause-ok : goal.returns-in-Ok-clause-ok
 returns-in-Ok-clause-ok g c =
