@@ -1,11 +1,11 @@
 //! The desks that are shared here: a new image with three tiers of 8 blocks, and the clients 7 and 8.
 
-use kfs_test_support::vectors::{CREATE_LOG, CREATE_PLAN};
 use kfs_desk::{Desk, Reply};
 use kfs_image::{Image, TierSizes};
 use kfs_lease::LeaseKind;
 use kfs_mode::{Client, ClientFault};
 use kfs_plan::Submission;
+use kfs_test_support::vectors::{CREATE_LOG, CREATE_PLAN};
 use std::alloc::Allocator;
 
 /// A client that may give the numbers from `first` to `last` to new nodes.
