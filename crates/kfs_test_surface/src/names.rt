@@ -64,9 +64,12 @@ pub mod desk {
     };
 }
 
-/// Workers and scripts of their steps.
+/// Workers, scripts of their steps, and a desk that threads share.
 pub mod workers {
-    pub use kfs_workers::{DeskView, ScriptBack, ScriptEnd, Step, WORKERS, run_script};
+    pub use kfs_workers::{
+        Begun, DeskView, DocketRow, Docketed, Pass, ScriptBack, ScriptEnd, Shared, SharedBack,
+        SharedWant, Step, Unreturned, WORKERS, run_script,
+    };
 }
 
 /// The lines of answers.

@@ -9,6 +9,7 @@ use kfs_mode::ClientFault;
 use kfs_plan::{Fault, RowFault};
 use kfs_program::EngineFault;
 use kfs_shape::{Finding, ShapeFault};
+use kfs_workers::{SharedWant, Unreturned};
 use std::alloc::Global;
 use std::error::Error;
 
@@ -132,6 +133,17 @@ fn faults_of_a_desk(rt: HostRuntime) {
         (Unanswered::DocketFull, "full"),
     ];
     assert!(rt; say(rt.alloc(), &unanswered));
+}
+
+#[test]
+fn faults_of_a_shared_desk(rt: HostRuntime) {
+    let wants = [
+        (SharedWant::OutOfMemory, "memory"),
+        (SharedWant::DocketFull, "full"),
+        (SharedWant::TurnsSpent, "TurnsSpent"),
+    ];
+    assert!(rt; say(rt.alloc(), &wants));
+    assert!(rt; says(rt.alloc(), &Unreturned, "Unreturned"));
 }
 
 #[test]

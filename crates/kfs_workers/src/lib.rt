@@ -1,9 +1,12 @@
-//! Workers: each takes a view of a desk, judges a submission against it, and lands the verdict. A
-//! script is the steps of up to eight workers, one after another.
+//! Workers: each takes a view of a desk, judges a submission against it, and lands the verdict.
 //!
-//! It shows what users need of `kfs_workers_verdict` and `kfs_workers_script`. Begin with `run_script`,
-//! then `DeskView`.
+//! The workers of a script make their steps one after another; those in threads share the desk. This
+//! crate shows what users need of `kfs_workers_verdict`, `kfs_workers_script` and `kfs_workers_threads`.
+//! Begin with `run_script`, or with `Shared`.
 #![tactic(auto)]
 
 pub use kfs_workers_script::{ScriptBack, ScriptEnd, Step, WORKERS, run_script};
+pub use kfs_workers_threads::{
+    Begun, DocketRow, Docketed, Pass, Shared, SharedBack, SharedWant, Unreturned,
+};
 pub use kfs_workers_verdict::DeskView;

@@ -1,0 +1,225 @@
+//! Threads that share a desk. Positions and rows seen count the rows of the setting, too: one where
+//! client 7 was only given the root, and three where it made file 5 and was given that.
+ghost use Rattle.kfs_workers_threads.specs.Passes.{IsPassOf};
+
+use crate::callers::{Acting, Creating, CreatingOne, Resting, Viewing};
+use crate::calls::{Sharing, closed, judged, land, shared, shared_from, split, view};
+use crate::files::{FILE_A, FILES_P, FILES_Q, File, WRITE_LOG, WRITE_PLAN};
+use crate::setting::{opened, with_file};
+use crate::side::both;
+use kfs_desk::{Act, ActReply, Desk, Done, Reply};
+use kfs_judge::{EntryFault, Reason};
+use kfs_lease::LeaseKind;
+use kfs_plan::{Fault, Judged};
+use kfs_workers_threads::{Pass, Shared, SharedWant};
+use std::alloc::Global;
+use std::sync::Wait;
+use std::thread::Threads;
+
+// ---- two threads create four files each
+
+/// Whether the numbers ascend.
+fn do_ascend(positions: &[Option<u32>; 4]) -> bool {
+    match positions {
+        [Some(a), Some(b), Some(c), Some(d)] => a < b && b < c && c < d,
+        _ => false,
+    }
+}
+
+/// Whether each of the rows 1 to 8 stands in one of the lists, and none in both.
+fn are_parted(one: &[Option<u32>; 4], other: &[Option<u32>; 4]) -> bool {
+    for row in 1..9 {
+        if one.contains(&Some(row)) == other.contains(&Some(row)) {
+            return false;
+        }
+    }
+    true
+}
+
+/// The positions of the files of both threads, and how many rows the docket has then.
+fn created_by_two<R: Threads + Wait + Sync>(
+    rt: &R,
+    alloc: Global,
+) -> Option<([Option<u32>; 4], [Option<u32>; 4], u32)> {
+    let desk = opened(alloc)?;
+    let (shared, p) = shared(alloc, desk)?;
+    let (p, q) = split(&shared, p);
+    let one = Creating::new(alloc, FILES_P);
+    let other = Creating::new(alloc, FILES_Q);
+    let ((one, p), (other, _)) = both(rt, &shared, one, p, other, q);
+    let rows = closed(shared, p)?;
+    Some((one.positions, other.positions, rows))
+}
+
+#[test]
+fn two_threads_create_four_files_each(rt: HostRuntime) {
+    let created = created_by_two(&rt, rt.alloc());
+    assert!(rt; created.is_some());
+    if let Some((one, other, rows)) = created {
+        assert!(rt; do_ascend(&one) && do_ascend(&other), "{one:?} {other:?}");
+        assert!(rt; are_parted(&one, &other), "{one:?} {other:?}");
+        assert!(rt; rows == 9, "{rows}");
+    }
+}
+
+// ---- what a pass has seen
+
+/// What two passes have seen after the first one has created file 5; then what a pass has seen that is
+/// split from the first; and how many rows the docket has.
+fn seen_by_two<R: Threads + Wait + Sync>(rt: &R, alloc: Global) -> Option<([u64; 3], u32)> {
+    let desk = opened(alloc)?;
+    let (shared, p) = shared(alloc, desk)?;
+    let (p, q) = split(&shared, p);
+    let creating = CreatingOne {
+        alloc,
+        file: FILE_A,
+        position: None,
+    };
+    let ((created, p), (_, q)) = both(rt, &shared, creating, p, Resting, q);
+    if created.position != Some(1) {
+        return None;
+    }
+    let (p, copy) = split(&shared, p);
+    let seen = [p.seen(), q.seen(), copy.seen()];
+    let rows = closed(shared, p)?;
+    Some((seen, rows))
+}
+
+#[test]
+fn a_pass_has_seen_what_its_own_calls_saw(rt: HostRuntime) {
+    assert!(rt; seen_by_two(&rt, rt.alloc()) == Some(([2, 1, 2], 2)));
+}
+
+// ---- no ticket left
+
+/// The reason why the submission comes back, where it comes back as it was.
+fn reason_of<R: Wait>(
+    rt: &R,
+    shared: &Shared<Desk<Global>, Global>,
+    pass: &mut Pass<Desk<Global>>,
+    judged: Judged<Global>,
+    file: File,
+) -> Option<SharedWant>
+    requires { IsPassOf shared.now pass.old }
+    ensures { IsPassOf shared.now pass.new }
+{
+    match land(rt, shared, pass, judged) {
+        Err(back)
+            if back.submission.log.as_slice() == file.log
+                && back.submission.plan.as_slice() == file.plan => Some(back.why),
+        _ => None,
+    }
+}
+
+/// A verdict on the creation of file 5, made before the desk is shared from the last number on.
+fn shared_at_the_end(alloc: Global) -> Option<(Judged<Global>, Sharing<Global>)> {
+    let desk = opened(alloc)?;
+    let view = desk.view().ok()?;
+    let verdict = judged(alloc, &view, FILE_A.log, FILE_A.plan)?;
+    drop(view);
+    let sharing = shared_from(alloc, desk, u64::MAX).ok()?;
+    Some((verdict, sharing))
+}
+
+/// Why a view, a call for the leases and a landing aren't answered, what the pass has seen, and how
+/// many rows the docket has.
+fn spent<R: Threads + Wait + Sync>(
+    rt: &R,
+    alloc: Global,
+) -> Option<([Option<SharedWant>; 3], u64, u32)> {
+    let (verdict, (shared, p)) = shared_at_the_end(alloc)?;
+    let (p, q) = split(&shared, p);
+    let acting = Acting::new(Act::Tick { moment: 1 });
+    let ((viewing, p), (acting, _)) = both(rt, &shared, Viewing { why: None }, p, acting, q);
+    let mut p = p;
+    let landing = reason_of(rt, &shared, &mut p, verdict, FILE_A);
+    let acting = match acting.answer {
+        Some(Err(why)) => Some(why),
+        _ => None,
+    };
+    let seen = p.seen();
+    let rows = closed(shared, p)?;
+    Some(([viewing.why, acting, landing], seen, rows))
+}
+
+#[test]
+fn no_ticket_is_left(rt: HostRuntime) {
+    let why = Some(SharedWant::TurnsSpent);
+    assert!(rt; spent(&rt, rt.alloc()) == Some(([why, why, why], 1, 1)));
+}
+
+// ---- a verdict that is judged again
+
+const DROPPED: Act<'static> = Act::Drop {
+    client: 7,
+    number: 5,
+};
+
+const LEASED: Act<'static> = Act::Lease {
+    client: 8,
+    path: b"/a",
+    kind: LeaseKind::Write,
+    end: 100,
+};
+
+/// The verdict on the Write to file 5, against a view of now.
+fn write_judged<R: Wait>(
+    rt: &R,
+    alloc: Global,
+    shared: &Shared<Desk<Global>, Global>,
+    pass: &mut Pass<Desk<Global>>,
+) -> Option<Judged<Global>>
+    requires { IsPassOf shared.now pass.old }
+    ensures { IsPassOf shared.now pass.new }
+{
+    let view = view(rt, shared, pass).ok()?;
+    judged(alloc, &view, WRITE_LOG, WRITE_PLAN)
+}
+
+/// The answers to the drop of the lease, to the Write that was judged before, and to a lease of another
+/// client; what the second pass has seen; and how many rows the docket has.
+fn judged_before_a_drop<R: Threads + Wait + Sync>(
+    rt: &R,
+    alloc: Global,
+) -> Option<(ActReply, Reply, ActReply, u64, u32)> {
+    let desk = with_file(alloc)?;
+    let (shared, p) = shared(alloc, desk)?;
+    let (p, q) = split(&shared, p);
+    let mut p = p;
+    let verdict = write_judged(rt, alloc, &shared, &mut p)?;
+    let ((_, p), (dropping, q)) = both(rt, &shared, Resting, p, Acting::new(DROPPED), q);
+    let mut p = p;
+    let reply = land(rt, &shared, &mut p, verdict).ok()?;
+    let ((_, p), (leasing, q)) = both(rt, &shared, Resting, p, Acting::new(LEASED), q);
+    let seen = q.seen();
+    let rows = closed(shared, p)?;
+    Some((
+        dropping.answer?.ok()?,
+        reply,
+        leasing.answer?.ok()?,
+        seen,
+        rows,
+    ))
+}
+
+#[test]
+fn a_verdict_is_judged_again_after_a_drop(rt: HostRuntime) {
+    let dropped = ActReply {
+        position: 3,
+        answer: Ok(Done::Dropped(5)),
+    };
+    let no = Reply::No {
+        position: 4,
+        rejudged: true,
+        fault: Fault::Entry(EntryFault {
+            index: 0,
+            reason: Reason::NoLease(5),
+        }),
+    };
+    let leased = ActReply {
+        position: 5,
+        answer: Ok(Done::Leased(5)),
+    };
+    let answers = judged_before_a_drop(&rt, rt.alloc());
+    assert!(rt; answers == Some((dropped, no, leased, 6, 6)));
+}

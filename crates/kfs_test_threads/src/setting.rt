@@ -1,0 +1,65 @@
+//! The desks that are shared here: a new image with three tiers of 8 blocks, and the clients 7 and 8.
+
+use kfs_desk::{Desk, Reply};
+use kfs_image::{Image, TierSizes};
+use kfs_lease::LeaseKind;
+use kfs_mode::{Client, ClientFault};
+use kfs_plan::Submission;
+use kfs_test_support::vectors::{CREATE_LOG, CREATE_PLAN};
+use std::alloc::Allocator;
+
+/// A client that may give the numbers from `first` to `last` to new nodes.
+fn client(number: u32, id: u32, first: u32, last: u32) -> Result<Client, ClientFault> {
+    Client::new(number, id, id, &[], false, first, last)
+}
+
+fn begun<A: Allocator + Copy>(alloc: A) -> Option<Desk<A>> {
+    let image = Image::fresh(alloc, TierSizes::new(8, 8, 8)?).ok()?;
+    let seven = client(7, 1_000, 2, 99).ok()?;
+    let eight = client(8, 1_001, 100, 199).ok()?;
+    let clients = vec![in alloc; seven, eight].ok()?;
+    Desk::begin(alloc, image, clients, 100).ok()
+}
+
+/// Whether client 7 is granted a write lease on the node at the path.
+fn is_leased<A: Allocator + Copy>(desk: &mut Desk<A>, path: &[u8]) -> bool {
+    match desk.lease(7, path, LeaseKind::Write, 100) {
+        Ok(reply) => reply.answer.is_ok(),
+        Err(_) => false,
+    }
+}
+
+/// A desk whose docket takes 100 rows. Client 7 holds the root, which is row 0.
+pub fn opened<A: Allocator + Copy>(alloc: A) -> Option<Desk<A>> {
+    let mut desk = begun(alloc)?;
+    if is_leased(&mut desk, b"/") {
+        Some(desk)
+    } else {
+        None
+    }
+}
+
+/// What client 7 hands in.
+pub fn submission<A: Allocator + Copy>(alloc: A, log: &[u8], plan: &[u8]) -> Option<Submission<A>> {
+    Some(Submission {
+        client: 7,
+        log: Vec::from_slice(alloc, log).ok()?,
+        plan: Vec::from_slice(alloc, plan).ok()?,
+    })
+}
+
+/// Whether the submission has a Yes.
+fn is_accepted<A: Allocator + Copy>(desk: &mut Desk<A>, submission: Submission<A>) -> bool {
+    matches!(desk.submit(submission), Ok(Reply::Yes { .. }))
+}
+
+/// Such a desk with the empty file 5 of client 7, who holds it, too. Its docket has 3 rows.
+pub fn with_file<A: Allocator + Copy>(alloc: A) -> Option<Desk<A>> {
+    let mut desk = opened(alloc)?;
+    let create = submission(alloc, CREATE_LOG, CREATE_PLAN)?;
+    if is_accepted(&mut desk, create) && is_leased(&mut desk, b"/a") {
+        Some(desk)
+    } else {
+        None
+    }
+}

@@ -1,0 +1,3 @@
+pub mod Calls
+pub mod Passes
+pub mod Sharing

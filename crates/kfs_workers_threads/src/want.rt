@@ -1,0 +1,34 @@
+//! Why a call of a shared desk isn't answered.
+
+use kfs_plan::Submission;
+use std::alloc::Allocator;
+use thiserror::Error;
+
+/// Why a call of a shared desk wasn't answered. It has no row in the docket, and the desk is as it was.
+#[derive(Clone, Copy, Debug, PartialEq, Eq, Error)]
+pub enum SharedWant {
+    /// 1: memory was refused.
+    #[error("memory")]
+    OutOfMemory,
+    /// 2: the docket is full: it has as many rows as its limit allows.
+    #[error("full")]
+    DocketFull,
+    /// 3: there is no ticket left: the next one would be 2^64 - 1.
+    #[error("TurnsSpent")]
+    TurnsSpent,
+}
+
+/// A submission that comes back from a shared desk.
+#[derive(Debug, Drop)]
+pub struct SharedBack<A: Allocator> {
+    /// As it was handed in.
+    pub submission: Submission<A>,
+    /// The reason.
+    pub why: SharedWant,
+}
+
+/// Some ticket was drawn and its turn not passed on, so the shared object doesn't come back. No call
+/// that returned leaves it so.
+#[derive(Clone, Copy, Debug, PartialEq, Eq, Error)]
+#[error("Unreturned")]
+pub struct Unreturned;
