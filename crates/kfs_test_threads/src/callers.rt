@@ -10,6 +10,7 @@ use std::alloc::Global;
 use std::sync::Wait;
 
 /// Makes no call.
+#[derive(Drop)]
 pub struct Resting;
 
 impl Caller<Desk<Global>, Global> for Resting {
@@ -22,6 +23,7 @@ impl Caller<Desk<Global>, Global> for Resting {
 }
 
 /// Creates four files, each after a view and a judgement of its own, and looks for each with a view.
+#[derive(Drop)]
 pub struct Creating {
     pub alloc: Global,
     pub files: [File; 4],
@@ -120,6 +122,7 @@ impl Caller<Desk<Global>, Global> for Creating {
 }
 
 /// Creates one file, in the same way.
+#[derive(Drop)]
 pub struct CreatingOne {
     pub alloc: Global,
     pub file: File,
@@ -138,6 +141,7 @@ impl Caller<Desk<Global>, Global> for CreatingOne {
 }
 
 /// Makes a call for the leases.
+#[derive(Drop)]
 pub struct Acting {
     pub act: Act<'static>,
     pub answer: Option<Result<ActReply, SharedWant>>,
@@ -162,6 +166,7 @@ impl Caller<Desk<Global>, Global> for Acting {
 }
 
 /// Asks for a view.
+#[derive(Drop)]
 pub struct Viewing {
     /// Why there was none.
     pub why: Option<SharedWant>,

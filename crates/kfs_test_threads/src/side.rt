@@ -41,8 +41,8 @@ fn called<D: Docketed, A: Allocator, C: Caller<D, A>, R: Wait>(
 fn side_by_side<
     D: Docketed + Send,
     A: Allocator + Send + Sync,
-    C: Caller<D, A> + Send,
-    E: Caller<D, A> + Send,
+    C: Caller<D, A> + Drop + Send,
+    E: Caller<D, A> + Drop + Send,
     R: Threads + Wait + Sync,
 >(
     rt: &R,
@@ -70,8 +70,8 @@ fn side_by_side<
 
 /// The same over a desk.
 pub fn both<
-    C: Caller<Desk<Global>, Global> + Send,
-    E: Caller<Desk<Global>, Global> + Send,
+    C: Caller<Desk<Global>, Global> + Drop + Send,
+    E: Caller<Desk<Global>, Global> + Drop + Send,
     R: Threads + Wait + Sync,
 >(
     rt: &R,
