@@ -1,22 +1,19 @@
 -- A lawful image whose blocks have zero bytes past the ends of their files: it shows the same tree, and its rows are those that the tree and the placement say.
-use Rattle.std.proofs.Common.{◌≡◌, ℕ, zero, suc, ◌+◌, ◌-◌, ◌*◌, ◌/◌, ◌%◌, ◌<◌, ◌≤◌, List, [], ◌∷◌, ◌++◌, length, map, take, drop, replicate, get_or, inl, inr, Option, Some, None, option_map, refl, sym, ap, subst, ◌∙◌, arith}
-use Rattle.std.specs.FinMap.Entries.{find}
-use Rattle.std.specs.List.{AllByRecursion}
+use Rattle.std.proofs.Common.{◌≡◌, ℕ, zero, suc, ◌+◌, ◌-◌, ◌*◌, ◌/◌, ◌%◌, ◌<◌, List, [], ◌∷◌, ◌++◌, length, map, take, drop, replicate, get_or, inl, inr, Option, Some, None, option_map, refl, sym, ap, subst, ◌∙◌, arith}
 use Rattle.std.proofs.lemmas.List.{get_or-take, get_or-drop, length-take, length-append, length-replicate}
 use Rattle.std.proofs.lemmas.Option.{slice_get-get_or}
 use Rattle.kfs_model.specs.Header.{Kind, File, Directory, Header}
 use Rattle.kfs_model.specs.Table.{Order, Table, numbers, pairs, get}
 use Rattle.kfs_model.proofs.TableLaws.{same_table, same_entries_table, get-mapped}
-use Rattle.kfs_model.specs.Tree.{Tree, FileBody, body_over, node_over, content_of, headers}
+use Rattle.kfs_model.specs.Tree.{Tree, FileBody, body_over, node_over, content_of}
 use Rattle.kfs_model.specs.Soundness.{IsSoundOver}
-use Rattle.kfs_model.specs.Placement.{Place, Placement, tier_size, numbers_from, below}
+use Rattle.kfs_model.specs.Placement.{Place, Placement, tier_size, numbers_from}
 use Rattle.kfs_model_device.specs.Device.{Devices, AreBlocks, byte_on}
 use Rattle.kfs_model_device.specs.ShownTree.{DeviceImage, IsLawful, file_byte, file_bytes, shown_tree}
 use Rattle.kfs_model_device.specs.RawImage.{table_of}
-use Rattle.kfs_model_device.specs.Listed.{block_bytes, extent_row, rows_of}
-use Rattle.kfs_model_device.specs.Canonical.{filled_up, block_of, block_extent}
+use Rattle.kfs_model_device.specs.Listed.{block_bytes, extent_row}
+use Rattle.kfs_model_device.specs.Canonical.{block_of, block_extent}
 use Rattle.kfs_model_device.proofs.Among.{Among, among_map, from_map}
-use Rattle.kfs_model_device.proofs.Entries.{each_entry}
 use Rattle.kfs_model_device.proofs.RowTables.{get_among, among_get, sorted_entries}
 use Rattle.kfs_model_device.proofs.ShownHeads.{bytes_shown, length-file_bytes}
 use Rattle.kfs_image_raw.proofs.Inserted.{sorted_has_each}

@@ -1,8 +1,8 @@
 -- Extents that are joined place and write the same blocks as single ones.
 use Rattle.std.proofs.Common.{◌≡◌, ℕ, zero, suc, ◌+◌, ◌*◌, ◌<◌, ◌≤◌, Bool, true, false, cond, List, [], ◌∷◌, ◌++◌, length, map, take, drop, append_assoc, refl, sym, ap, ◌∙◌, arith}
 use Rattle.std.specs.List.{flat_map, AllByRecursion}
-use Rattle.std.proofs.lemmas.List.{map-append, take-append-le, drop-append-le, drop_at, length-drop}
-use Rattle.kfs_model.specs.Placement.{Place, numbers_from, below}
+use Rattle.std.proofs.lemmas.List.{map-append, take-append-le, drop-append-le, length-drop}
+use Rattle.kfs_model.specs.Placement.{numbers_from, below}
 use Rattle.kfs_model_device.specs.RawImage.{ExtentRow, place_in, bytes_in, places_in, blocks_in}
 use Rattle.kfs_model_device.specs.Canonical.{goes_on, as_one, with_extent, joined_extents}
 use Rattle.kfs_model_device.proofs.JoinedExtents.{GoesOn, it_goes_on}

@@ -1,9 +1,9 @@
 -- Extents that are joined break no rule where the single ones break none.
-use Rattle.std.proofs.Common.{◌≡◌, ℕ, ◌+◌, ◌-◌, ◌*◌, ◌<◌, ◌≤◌, ◌==◌, ◌&&◌, ◌||◌, not, nat_le, nat_lt, Bool, true, false, cond, List, [], ◌∷◌, ◌++◌, length, map, Option, Some, None, inl, inr, ⊎_elim, refl, sym, ap, subst, ◌∙◌, arith, eq-eqb, eqb-true, leb-true, le-leb, ltb-true, lt-ltb}
+use Rattle.std.proofs.Common.{◌≡◌, ℕ, ◌+◌, ◌-◌, ◌*◌, ◌≤◌, ◌==◌, ◌&&◌, ◌||◌, not, nat_le, nat_lt, Bool, true, false, cond, List, [], ◌∷◌, length, map, Option, Some, None, inl, inr, ⊎_elim, refl, sym, ap, ◌∙◌, arith, eq-eqb, eqb-true, leb-true, le-leb, lt-ltb}
 use Rattle.std.specs.declared.cmp.Ordering.TheVariants.{Less}
 use Rattle.std.specs.Bool.{passes}
 use Rattle.std.specs.Ordering.{is_lt}
-use Rattle.std.specs.List.{AllByRecursion, list_any}
+use Rattle.std.specs.List.{AllByRecursion}
 use Rattle.std.proofs.lemmas.Bool.{and_from, cases_lt}
 use Rattle.std.proofs.lemmas.Bool.Decides.{nat_tests}
 use Rattle.std.proofs.lemmas.List.{length-append}
@@ -12,7 +12,7 @@ use Rattle.kfs_model.specs.Table.{Table, numbers, pairs, get}
 use Rattle.kfs_model.specs.Sight.{is_file}
 use Rattle.kfs_model.specs.Check.{is_some_and}
 use Rattle.kfs_model.specs.Placement.{TierSizes, tier_size}
-use Rattle.kfs_model.proofs.CleanIsAllowed.{found, left, right}
+use Rattle.kfs_model.proofs.CleanIsAllowed.{left, right}
 use Rattle.kfs_model.proofs.Counts.{tally, is_tally, any_tally, is_less}
 use Rattle.kfs_model_device.specs.RawImage.{ExtentRow, RawImage, heads_of}
 use Rattle.kfs_model_device.specs.Rules.{Test, test, with_previous, is_above, ends_in_file, tier_test, share_place, place_test, rule_8, rule_9, rule_10}
@@ -22,7 +22,7 @@ use Rattle.kfs_model_device.proofs.Among.{Among, among_all}
 use Rattle.kfs_model_device.proofs.JoinedExtents.{GoesOn, it_goes_on}
 use Rattle.kfs_model_device.proofs.OnlyOne.{among_any}
 use Rattle.kfs_model_device.proofs.RulesHold.{AllHold}
-use Rattle.kfs_shape.specs.Extents.{is_behind, is_full, is_in_place}
+use Rattle.kfs_shape.specs.Extents.{is_behind, is_full}
 use Rattle.kfs_shape.specs.Places.{first_position, has_position}
 use Rattle.kfs_shape.proofs.NameCounts.{all_hold}
 use Rattle.kfs_shape.proofs.Neighbours.{beside, neighbours_tell}

@@ -1,5 +1,5 @@
 -- Lemmas on tests in parts, and on old images that are spelled anew.
-pub mod Parts
+pub mod LeastOfParts
 pub mod JoinedPlaces
 pub mod JoinedRules
 pub mod Cleaned

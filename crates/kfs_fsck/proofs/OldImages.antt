@@ -3,29 +3,27 @@ use Rattle.std.proofs.Common.{◌≡◌, ℕ, ◌+◌, ◌-◌, ◌*◌, ◌<◌
 use Rattle.std.specs.declared.cmp.Ordering.TheVariants.{Less, Equal}
 use Rattle.std.specs.Cmp.{tied_itself}
 use Rattle.std.specs.FinMap.Entries.{is_sorted, below_all}
-use Rattle.std.specs.List.{list_any, flat_map, AllByRecursion, IsDistinct}
+use Rattle.std.specs.List.{AllByRecursion, IsDistinct}
 use Rattle.std.proofs.lemmas.Bool.{and_from, false_from_ne_true}
 use Rattle.std.proofs.lemmas.List.{length-map}
 use Rattle.std.proofs.lemmas.Map.Steps.{length-le_from_distinct_below}
-use Rattle.kfs_model.specs.Header.{Header}
 use Rattle.kfs_model.specs.Limits.{block_size}
 use Rattle.kfs_model.specs.Table.{numbers, pairs, get}
-use Rattle.kfs_model.specs.Tree.{Tree, headers}
 use Rattle.kfs_model.specs.Sight.{is_file}
 use Rattle.kfs_model.specs.Plan.{keyed_name}
 use Rattle.kfs_model.specs.PlanRow.{NameRow}
 use Rattle.kfs_model.specs.Spelling.{IsNameRow}
-use Rattle.kfs_model.specs.Placement.{TierSizes, AreTierSizes, tier_size}
-use Rattle.kfs_model.proofs.CleanIsAllowed.{found, left, right}
+use Rattle.kfs_model.specs.Placement.{AreTierSizes, tier_size}
+use Rattle.kfs_model.proofs.CleanIsAllowed.{found, right}
 use Rattle.kfs_model.proofs.Counts.{is_less}
 use Rattle.kfs_model.proofs.Tables.{left_part, right_part}
 use Rattle.kfs_model_device.specs.ShownTree.{DeviceImage, IsLawful, shown_tree}
-use Rattle.kfs_model_device.specs.RawImage.{RawNode, ExtentRow, RawImage, IsSpelled, node_entry, heads_of, placement_of, devices_of, image_of, places_in, blocks_in, table_of}
-use Rattle.kfs_model_device.specs.Rules.{Test, rules, kind_fits, share_place, rule_8, rule_9, rule_10}
+use Rattle.kfs_model_device.specs.RawImage.{RawNode, ExtentRow, RawImage, IsSpelled, node_entry, heads_of, placement_of, image_of, table_of}
+use Rattle.kfs_model_device.specs.Rules.{Test, rules, kind_fits, share_place}
 use Rattle.kfs_model_device.specs.Finding.{Finding, least_failed, finding_from, finding_of, IsWellFormed}
 use Rattle.kfs_model_device.specs.Listed.{AreRowsOfImage, raw_node, name_row, rows_of}
 use Rattle.kfs_model_device.specs.Spelling.{IsRawNode, IsExtentRow, IsRawImage}
-use Rattle.kfs_model_device.specs.Canonical.{canonical_rows, image_bytes, joined_extents}
+use Rattle.kfs_model_device.specs.Canonical.{canonical_rows, joined_extents}
 use Rattle.kfs_model_device.proofs.Among.{Among, among_all, from_map}
 use Rattle.kfs_model_device.proofs.ImageAnswers.{raw_image_spelled}
 use Rattle.kfs_model_device.proofs.LaidOut.{extents_placed, blocks_written}

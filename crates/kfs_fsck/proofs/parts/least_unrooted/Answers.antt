@@ -1,7 +1,7 @@
 use Rattle.std.proofs.Common.{ap, ◌∙◌, max, arith}
 use Rattle.rayon.specs.Lists.{chunks_of, chunks_size, chunks_slice}
 use Rattle.kfs_shape.specs.Climbs.{top_test}
-use Rattle.kfs_fsck.proofs.Parts.{of_parts}
+use Rattle.kfs_fsck.proofs.LeastOfParts.{of_parts}
 use Rattle.kfs_fsck.proofs.parts.least_unrooted.Goals as goal
 
 pub returns : goal.returns
