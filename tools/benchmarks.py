@@ -1,4 +1,4 @@
-"""What the benchmarks share: a program over the public calls, built on a copy of this folder, its runs, and logs."""
+"""What the benchmarks share: a program over the public calls, built over copies of what it stands on, its runs, and logs."""
 import os
 import re
 import shutil
@@ -55,22 +55,45 @@ def put_files(folder, named):
             it.write(content)
 
 
-def copy_with(program, uses, room, left_out):
-    """Copies this folder to `room`, but for folders of these names, and adds a crate. Returns the crate's folder."""
-    shutil.copytree(TOP, room, symlinks=True, ignore=lambda _, names: left_out & set(names))
+def crates_below(uses):
+    """Returns the lines of crates.txt of these crates of the repository and those below them, by name."""
+    lines = {}
+    with open(f"{TOP}/crates.txt") as it:
+        for line in it:
+            head, colon, below = line.partition(":")
+            if colon and not line.startswith("#"):
+                lines[head.split()[0]] = (line, below.split())
+    found, left = {}, uses.split()
+    while left:
+        name = left.pop()
+        if name in lines and name not in found:
+            found[name], below = lines[name]
+            left += below
+    return found
+
+
+def copy_with(program, uses, room):
+    """Copies to `room` what the program stands on, without wrong bodies, and adds a crate. Returns the crate's folder."""
+    below = crates_below(uses)
+    for name in below:
+        shutil.copytree(f"{TOP}/crates/{name}", f"{room}/crates/{name}", ignore=shutil.ignore_patterns("out", "must-fail"))
+    shutil.copy(f"{TOP}/HANDLES", room)
     crate = f"{room}/crates/{NAME}"
     os.makedirs(f"{crate}/src")
     with open(f"{crate}/src/main.rt", "w") as it:
         it.write(program)
-    with open(f"{room}/crates.txt", "a") as it:
-        it.write(f"{NAME}: {uses}\n")
+    with open(f"{room}/crates.txt", "w") as it:
+        it.writelines([*below.values(), f"{NAME}: {uses}\n"])
+    subprocess.run(["git", "init", "--quiet"], cwd=room, check=True)
+    subprocess.run(["rt", "fmt"], cwd=crate, stdin=subprocess.DEVNULL, stdout=sys.stderr, stderr=sys.stderr, check=True)
     return crate
 
 
 def build(program, uses, room):
-    """Returns the path of the program, proved and built on a copy of this folder in `room`."""
-    crate = copy_with(program, uses, room, {".git"})
-    subprocess.run(["rt", "run"], cwd=crate, stdin=subprocess.DEVNULL, stdout=sys.stderr, stderr=sys.stderr, check=True)
+    """Returns the path of the program, proved and built in `room` over copies of the crates below it. What a run of `rt ci`
+    on this machine has proved isn't proved again."""
+    crate = copy_with(program, uses, room)
+    subprocess.run(["rt", "ci"], cwd=room, stdin=subprocess.DEVNULL, stdout=sys.stderr, stderr=sys.stderr, check=True)
     return f"{crate}/out/{NAME}"
 
 
@@ -78,7 +101,7 @@ def try_once(program, uses, named, cases):
     """Runs the program once with each list of words, on these files and built by the kit's quick build, which proves
     nothing. Returns an exit status."""
     with tempfile.TemporaryDirectory(prefix="bench-") as room:
-        crate = copy_with(program, uses, f"{room}/copy", {".git", "out"})
+        crate = copy_with(program, uses, f"{room}/copy")
         for folder in ("data", "cases"):
             os.mkdir(f"{room}/{folder}")
         put_files(f"{room}/data", named)
