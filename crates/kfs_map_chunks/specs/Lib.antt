@@ -1,3 +1,4 @@
+pub mod Keys
 pub mod Buffer
 pub mod Starts
 pub mod Edits
