@@ -47,7 +47,7 @@ module _ (image : DeviceImage) (lawful : IsLawful image) where
       each : (number : ℕ) (h : Header) → get image.heads number ≡ Some h → IsRawNode (raw_node (number, h))
       each number h is =
           let range = (sound image lawful).ranges number h is in
-          (omega (arith, range.greatest), omega (arith, range.mode), range.uid, range.gid, few_links number h is, omega (arith, range.size))
+          (omega (arith, range.greatest), (omega (arith, range.mode), range.uid, range.gid, few_links number h is, omega (arith, range.size)))
 
   fitting_names : AllByRecursion IsNameRow (map name_row image.names.entries)
   fitting_names = each_row name_row IsNameRow image.names.entries (each_entry name_order (λ (e : (ℕ × List ℕ) × ℕ). IsNameRow (name_row e)) image.names each)
