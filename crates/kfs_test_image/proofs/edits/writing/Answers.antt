@@ -1,6 +1,5 @@
 -- The place is in its tier, and the bytes are a block's.
-use Rattle.std.proofs.Common.{◌<◌, rules}
-use Rattle.kfs_model.specs.Placement.{tier_size}
+use Rattle.std.proofs.Common.{rules}
 use Rattle.kfs_test_image.proofs.OneEdit.{can_write}
 use Rattle.kfs_test_image.proofs.edits.writing.Goals as goal
 
