@@ -1,12 +1,12 @@
 -- How many nodes, names and mapped blocks a lawful image has at most.
-use Rattle.std.proofs.Common.{◌≡◌, ℕ, ◌+◌, ◌*◌, ◌<◌, ◌≤◌, ◌==◌, ltb, Bool, true, false, cond, List, length, map, Option, Some, None, count_by, IsTrue, refl, sym, ap, subst, ◌∙◌, arith, eqb-true, ltb-false}
+use Rattle.std.proofs.Common.{◌≡◌, ℕ, ◌+◌, ◌*◌, ◌<◌, ◌≤◌, ◌==◌, Bool, true, false, cond, List, length, Some, count_by, refl, sym, ap, subst, ◌∙◌, arith, eqb-true, ltb-false}
 use Rattle.std.proofs.lemmas.List.{map-id}
-use Rattle.std.specs.List.{list_any, AllByRecursion}
+use Rattle.std.specs.List.{list_any}
 use Rattle.kfs_model.specs.Header.{Kind, File, Directory, Header}
 use Rattle.kfs_model.specs.Limits.{tier_limit}
 use Rattle.kfs_model.specs.Sight.{is_directory, is_file}
 use Rattle.kfs_model.specs.Soundness.{AreSound}
-use Rattle.kfs_model.specs.Table.{Order, Table, numbers, pairs, get}
+use Rattle.kfs_model.specs.Table.{Table, numbers, pairs, get}
 use Rattle.kfs_model.specs.Tree.{name_order, name_count}
 use Rattle.kfs_model.specs.Placement.{TierSizes, AreTierSizes, Place, tier_size}
 use Rattle.kfs_model.proofs.Counts.{tally, is_tally, any_counts}
@@ -26,8 +26,8 @@ in_three sizes fits place there = at (place.tier == 0) refl (place.tier == 1) re
     at : (a : Bool) → (place.tier == 0) ≡ a → (b : Bool) → (place.tier == 1) ≡ b → (c : Bool) → (place.tier == 2) ≡ c
         → place.place < cond a sizes.first (cond b sizes.second (cond c sizes.third 0)) → (place.tier ≤ 2) × (place.place < tier_limit)
     at true is b second c third less = let zero : place.tier ≡ 0 = eqb-true place.tier 0 is in (omega (arith, zero), omega (arith, less, fits.0))
-    at false first true is c third less = let one : place.tier ≡ 1 = eqb-true place.tier 1 is in (omega (arith, one), omega (arith, less, fits.1.0))
-    at false first false second true is less = let two : place.tier ≡ 2 = eqb-true place.tier 2 is in (omega (arith, two), omega (arith, less, fits.1.1))
+    at false first true is c third less = let one : place.tier ≡ 1 = eqb-true place.tier 1 is in (omega (arith, one), omega (arith, less, fits.1))
+    at false first false second true is less = let two : place.tier ≡ 2 = eqb-true place.tier 2 is in (omega (arith, two), omega (arith, less, fits.2))
     at false first false second false third less = absurd (omega (arith, less))
 
 module _ (image : DeviceImage) (lawful : IsLawful image) where

@@ -31,6 +31,7 @@ pub data DeskCommand : Type 0 where
   DocketLength : DeskCommand
   Judge : (worker : ℕ) (submission : Submission) → DeskCommand
   Land : (worker : ℕ) → DeskCommand
+  Save : DeskCommand
 
 pub data Command : Type 0 where
   Setup : (command : OpeningCommand) → Command
@@ -150,6 +151,7 @@ command_of name words =
     else if bytes_eq name (codes "docket") then alone (Request DocketLength) words
     else if bytes_eq name (codes "judge") then judge_of words
     else if bytes_eq name (codes "land") then with_number (decimal_within last_worker) (λ worker. Request (Land worker)) words
+    else if bytes_eq name (codes "save") then alone (Request Save) words
     else None
 
 abbrev pub asked_in : List (List ℕ) → Option Command

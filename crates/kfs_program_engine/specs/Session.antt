@@ -19,8 +19,9 @@ use Rattle.kfs_plan.specs.declared.answers.BeginFault.{BeginFault}
 use Rattle.kfs_plan.specs.declared.answers.Done.{Done}
 use Rattle.kfs_plan.specs.declared.answers.Done.TheVariants.{Leased, Dropped, Ticked}
 use Rattle.kfs_plan.specs.declared.answers.Reply.{Reply}
-use Rattle.kfs_program_command.specs.Command.{Command, Setup, Request, OpeningCommand, New, Row, Begin, DeskCommand, Lease, Drop, Tick, Submit, Node, Listing, Bytes, DocketLength, Judge, Land, asked_by, landing_worker}
+use Rattle.kfs_program_command.specs.Command.{Command, Setup, Request, OpeningCommand, New, Row, Begin, DeskCommand, Lease, Drop, Tick, Submit, Node, Listing, Bytes, DocketLength, Judge, Land, Save, asked_by, landing_worker}
 use Rattle.kfs_program_engine.specs.Bytes.{read_text}
+use Rattle.kfs_program_images.specs.Saving.{save_text}
 use Rattle.kfs_program_verdicts.specs.HeldVerdicts.{HeldVerdicts, held_by, no_verdict, with_held}
 use Rattle.kfs_workers_verdict.specs.Verdict.{IsVerdictOn, HeldVerdict, LandsVerdict}
 use Rattle.kfs_program_engine.specs.Listing.{list_text}
@@ -171,6 +172,7 @@ DeskAnswers desk hands (Node number) outcome = WithHands hands (IsNodeShown desk
 DeskAnswers desk hands (Listing directory) outcome = WithHands hands (IsSaid (names_line desk directory) desk) outcome
 DeskAnswers desk hands (Bytes number start count) outcome = WithHands hands (IsSaid (read_text desk.state.tree number start count) desk) outcome
 DeskAnswers desk hands DocketLength outcome = WithHands hands (IsSaid (docket_line desk) desk) outcome
+DeskAnswers desk hands Save outcome = WithHands hands (IsSaid (save_text desk.state.sizes desk.state.tree desk.state.placement) desk) outcome
 DeskAnswers desk hands (Judge worker submission) outcome = AnswersJudge desk hands worker (held_by hands worker) submission outcome
 DeskAnswers desk hands (Land worker) outcome = AnswersLand desk hands worker (held_by hands worker) outcome
 

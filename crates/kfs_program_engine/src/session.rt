@@ -21,6 +21,7 @@ use kfs_image_nodes::{Answer, Cell, Header, Kind, look};
 use kfs_plan::answers::{Act, Unanswered};
 use kfs_plan::{Submission, Why};
 use kfs_program_command::{Command, DeskCommand, OpeningCommand, worker_to_land};
+use kfs_program_images::save_line;
 use kfs_program_text::Refusal;
 use kfs_program_text::parts::{number, text};
 use kfs_program_verdicts::HeldVerdicts;
@@ -152,6 +153,7 @@ fn answer_due<A: Allocator + Copy>(
             judge_for(alloc, desk, hands, worker, submission, reply)
         }
         DeskCommand::Land { worker } => land_for(desk, hands, worker, reply),
+        DeskCommand::Save => Ok(save_line(alloc, reply, desk.image())?),
     }
 }
 

@@ -6,6 +6,8 @@ use Rattle.kfs_entry.specs.declared.fault.SpellFault.TheVariants as spell
 use Rattle.kfs_entry_value.specs.declared.header.Header.{Header}
 use Rattle.kfs_entry_value.specs.declared.header.Kind.{Kind}
 use Rattle.kfs_entry_value.specs.declared.header.Kind.TheVariants.{File, Directory}
+use Rattle.kfs_image_codec.specs.declared.fault.ImageFault.{ImageFault}
+use Rattle.kfs_image_codec.specs.declared.fault.ImageFault.TheVariants as image
 use Rattle.kfs_judge_check.specs.declared.check.Reason.{Reason}
 use Rattle.kfs_judge_check.specs.declared.check.Reason.TheVariants as reason
 use Rattle.kfs_lease.specs.declared.leases.LeaseFault.{LeaseFault}
@@ -96,6 +98,13 @@ begin_text (begin.ClientTwice i) = numbered_text (codes "ClientTwice") i
 begin_text (begin.GrantOverlap i) = numbered_text (codes "GrantOverlap") i
 begin_text begin.OutOfMemory = codes "OutOfMemory"
 
+-- why bytes are no image
+abbrev pub image_fault_text : ImageFault → List ℕ
+image_fault_text image.BadImageHeader = codes "BadImageHeader"
+image_fault_text (image.BadImageRow row) = numbered_text (codes "BadImageRow") row
+image_fault_text image.ImageTrailing = codes "ImageTrailing"
+image_fault_text image.OutOfMemory = codes "OutOfMemory"
+
 abbrev pub fault_text : Fault → List ℕ
 fault_text UnknownClient = codes "client unknown"
 fault_text (BadLog fault) = codes "log " ++ spell_text fault
@@ -138,6 +147,9 @@ header_text header = kind_text header.kind ++ (octal_text header.mode ++ counts_
 
 abbrev pub node_text : ℕ → Header → List ℕ
 node_text node header = codes "node " ++ (decimal node ++ header_text header)
+
+abbrev pub finding_text : (rule number : ℕ) → List ℕ
+finding_text rule number = codes "finding" ++ (field_text rule ++ field_text number)
 
 -- ---- lines
 

@@ -3,16 +3,18 @@
 //! `Err` where memory is refused; `out` is as it was then. Where `out` has 128 bytes of spare room, no
 //! memory is taken.
 ghost use Rattle.std.specs.Prelude.{◌≡◌, ◌+◌, ◌≤◌, ◌++◌, length, codes};
-ghost use Rattle.kfs_report.specs.Text.{AddsLine, reply_text, head_text, act_text, done_text, node_text, header_text, kind_text, counts_text, client_text, begin_text};
+ghost use Rattle.kfs_report.specs.Text.{AddsLine, reply_text, head_text, act_text, done_text, node_text, header_text, kind_text, counts_text, client_text, begin_text, finding_text, image_fault_text};
 ghost use Rattle.kfs_entry_value.specs.Room.{Appends, spare_of};
 
 mod names;
 
+use kfs_image_codec::ImageFault;
 use kfs_image_nodes::{Header, Kind};
 use kfs_mode::ClientFault;
 use kfs_plan::answers::{ActFault, ActReply, BeginFault, Done, Reply};
 use kfs_program_text::parts::{field, flag, number, octal, text};
-use names::{begin_fault, client_fault, judgement_fault, lease_fault};
+use kfs_shape::Finding;
+use names::{begin_fault, client_fault, image_fault, judgement_fault, lease_fault};
 use std::alloc::{AllocError, Allocator};
 
 /// The most bytes of a line that these functions append.
@@ -157,6 +159,29 @@ fn push_counts<A: Allocator>(out: &mut Vec<u8, A>, header: &Header)
     field(out, u64::from(header.gid));
     field(out, u64::from(header.links));
     field(out, header.size);
+}
+
+/// The line of a broken rule of an image: `finding RULE NUMBER`.
+pub fn finding_line<A: Allocator>(out: &mut Vec<u8, A>, finding: &Finding) -> Result<(), AllocError>
+    ensures { AddsLine out.old out.new (finding_text finding.now.rule finding.now.number) result }
+{
+    out.try_reserve(LONGEST_LINE)?;
+    text(out, b"finding");
+    field(out, u64::from(finding.rule));
+    field(out, u64::from(finding.number));
+    text(out, b"\n");
+    Ok(())
+}
+
+/// The line of bytes that are no image: `image NAME`.
+pub fn image_line<A: Allocator>(out: &mut Vec<u8, A>, fault: ImageFault) -> Result<(), AllocError>
+    ensures { AddsLine out.old out.new (codes "image " ++ image_fault_text fault) result }
+{
+    out.try_reserve(LONGEST_LINE)?;
+    text(out, b"image ");
+    image_fault(out, fault);
+    text(out, b"\n");
+    Ok(())
 }
 
 /// The line of a client that is refused: `client NAME`.

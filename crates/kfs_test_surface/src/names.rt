@@ -21,6 +21,7 @@ pub mod image {
         HeaderPage, Image, ImageFault, Kind, LINK_LIMIT, Name, Page, RawImage, RawNode, ReadFault,
         SIZE_LIMIT, Shape, TIER_LIMIT, TierSizes, decode_image, look, read_file,
     };
+    pub use kfs_image_encode::encode_image;
 }
 
 /// The rules of a raw image, and the change of a landing.
@@ -74,7 +75,7 @@ pub mod workers {
 
 /// The lines of answers.
 pub mod report {
-    pub use kfs_report::{act_line, node_line, reply_line};
+    pub use kfs_report::{act_line, finding_line, node_line, reply_line};
 }
 
 /// The program.

@@ -1,9 +1,10 @@
 //! The names of refusals, with their numbers in brackets. The caller has made room for them.
 ghost use Rattle.std.specs.Prelude.{◌≡◌, ◌+◌, ◌≤◌, ◌++◌, length};
-ghost use Rattle.kfs_report.specs.Text.{fault_text, spell_text, row_text, reason_name, reason_text, lease_name, lease_text, client_text, begin_text};
+ghost use Rattle.kfs_report.specs.Text.{fault_text, spell_text, row_text, reason_name, reason_text, lease_name, lease_text, client_text, begin_text, image_fault_text};
 ghost use Rattle.kfs_entry_value.specs.Room.{Appends, spare_of};
 
 use kfs_entry::SpellFault;
+use kfs_image_codec::ImageFault;
 use kfs_judge::Reason;
 use kfs_lease::LeaseFault;
 use kfs_mode::ClientFault;
@@ -166,5 +167,18 @@ pub fn begin_fault<A: Allocator>(out: &mut Vec<u8, A>, fault: BeginFault)
         BeginFault::ClientTwice(client) => numbered(out, b"ClientTwice", client as u64),
         BeginFault::GrantOverlap(client) => numbered(out, b"GrantOverlap", client as u64),
         BeginFault::OutOfMemory => text(out, b"OutOfMemory"),
+    }
+}
+
+/// Appends why bytes aren't an image.
+pub fn image_fault<A: Allocator>(out: &mut Vec<u8, A>, fault: ImageFault)
+    requires { 60 ≤ spare_of out.old }
+    ensures { Appends out.old out.new 60 (image_fault_text fault) }
+{
+    match fault {
+        ImageFault::BadImageHeader => text(out, b"BadImageHeader"),
+        ImageFault::BadImageRow(row) => numbered(out, b"BadImageRow", row),
+        ImageFault::ImageTrailing => text(out, b"ImageTrailing"),
+        ImageFault::OutOfMemory => text(out, b"OutOfMemory"),
     }
 }
