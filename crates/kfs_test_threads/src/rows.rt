@@ -1,5 +1,6 @@
 //! Threads that share a desk. Positions and rows seen count the rows of the setting, too: one where
 //! client 7 was only given the root, and three where it made file 5 and was given that.
+ghost use Rattle.std.specs.Prelude.{IfSome};
 ghost use Rattle.kfs_workers_threads.specs.Passes.{IsPassOf};
 
 use crate::callers::{Acting, Creating, CreatingOne, Resting, Viewing};
@@ -36,11 +37,8 @@ fn are_parted(one: &[Option<u32>; 4], other: &[Option<u32>; 4]) -> bool {
     true
 }
 
-/// The positions of the files of both threads, and how many rows the docket has then.
-fn created_by_two<R: Threads + Wait + Sync>(
-    rt: &R,
-    alloc: Global,
-) -> Option<([Option<u32>; 4], [Option<u32>; 4], u32)> {
+/// Whether all files of both threads are made, in rows 1 to 8 of the docket, each thread's in its order.
+fn created_by_two<R: Threads + Wait + Sync>(rt: &R, alloc: Global) -> Option<bool> {
     let desk = opened(alloc)?;
     let (shared, p) = shared(alloc, desk)?;
     let (p, q) = split(&shared, p);
@@ -48,18 +46,13 @@ fn created_by_two<R: Threads + Wait + Sync>(
     let other = Creating::new(alloc, FILES_Q);
     let ((one, p), (other, _)) = both(rt, &shared, one, p, other, q);
     let rows = closed(shared, p)?;
-    Some((one.positions, other.positions, rows))
+    let do_ascend = do_ascend(&one.positions) && do_ascend(&other.positions);
+    Some(do_ascend && are_parted(&one.positions, &other.positions) && rows == 9)
 }
 
 #[test]
 fn two_threads_create_four_files_each(rt: HostRuntime) {
-    let created = created_by_two(&rt, rt.alloc());
-    assert!(rt; created.is_some());
-    if let Some((one, other, rows)) = created {
-        assert!(rt; do_ascend(&one) && do_ascend(&other), "{one:?} {other:?}");
-        assert!(rt; are_parted(&one, &other), "{one:?} {other:?}");
-        assert!(rt; rows == 9, "{rows}");
-    }
+    assert!(rt; created_by_two(&rt, rt.alloc()) == Some(true));
 }
 
 // ---- what a pass has seen
@@ -112,7 +105,9 @@ fn reason_of<R: Wait>(
 }
 
 /// A verdict on the creation of file 5, made before the desk is shared from the last number on.
-fn shared_at_the_end(alloc: Global) -> Option<(Judged<Global>, Sharing<Global>)> {
+fn shared_at_the_end(alloc: Global) -> Option<(Judged<Global>, Sharing<Global>)>
+    ensures { IfSome result (λ r. IsPassOf r.1.0 r.1.1) }
+{
     let desk = opened(alloc)?;
     let view = desk.view().ok()?;
     let verdict = judged(alloc, &view, FILE_A.log, FILE_A.plan)?;
