@@ -32,6 +32,16 @@ full_of : (row : ExtentRow) → is_full row ≡ true → (1 ≤ row.count) × (l
 full_of row holds =
     (leb-true 1 row.count (left (nat_le 1 row.count) (length row.bytes == row.count * 4096) holds), eqb-true (length row.bytes) (row.count * 4096) (right (nat_le 1 row.count) (length row.bytes == row.count * 4096) holds))
 
+both_full : (row next : ExtentRow) → is_full row ≡ true → is_full next ≡ true → is_full (as_one row next) ≡ true
+both_full row next first second =
+    let one = full_of row first in
+    let two = full_of next second in
+    let some = one.0 in
+    let here = one.1 in
+    let there = two.1 in
+    let long = length-append row.bytes next.bytes in
+    and_from _ _ (le-leb 1 (row.count + next.count) (omega (arith, some))) (eq-eqb (length (row.bytes ++ next.bytes)) ((row.count + next.count) * 4096) (omega (arith, long, here, there)))
+
 none_from_hold : (tests : List Test) → AllHold tests → least_failed tests ≡ None
 none_from_hold [] hold = refl
 none_from_hold (t ∷ ts) hold = ap (λ b. cond b (least_failed ts) (Some (least_of t.number (least_failed ts)))) hold.0 ∙ none_from_hold ts hold.1
@@ -68,9 +78,20 @@ module _ (heads : Table numbers Header) where
       (and_from _ _ (and_from _ _ (ap is_lt key) (right _ _ (left _ _ (left _ _ second)))) (right _ _ (left _ _ second)))
       ((λ i. not (sym on.number i == third.number) || nat_le (ends i) third.block) ∙ right _ _ second)
 
+  both_end : (row next : ExtentRow) → GoesOn row next → ends_in_file (get heads next.number) next ≡ true → ends_in_file (get heads row.number) (as_one row next) ≡ true
+  both_end row next on holds =
+      let at = on.block in
+      let last : row.block + (row.count + next.count) ≡ next.block + next.count = omega (arith, at) in
+      (λ i. is_some_and (get heads (sym on.number i)) (λ h. is_file (Some h) && nat_lt ((last i - 1) * 4096) h.size)) ∙ holds
+
   -- both as one stand where the first one stands
   both_beside : (previous : Option ExtentRow) (row next : ExtentRow) → GoesOn row next → beside heads (previous, row) ≡ true → beside heads (Some row, next) ≡ true → beside heads (previous, as_one row next) ≡ true
-  both_beside previous row next on first second = and_from _ _ (and_from _ _ (and_from _ _ (above previous (left _ _ (left _ _ (left _ _ first)))) ends) full) (behind previous (right _ _ first))
+  both_beside previous row next on first second =
+      and_from _ _
+      (and_from _ _
+      (and_from _ _ (above previous (left _ _ (left _ _ (left _ _ first)))) (both_end row next on (right _ _ (left _ _ (left _ _ second)))))
+      (both_full row next (right _ _ (left _ _ first)) (right _ _ (left _ _ second))))
+      (behind previous (right _ _ first))
     where
       above : (previous : Option ExtentRow) → is_above (pairs numbers numbers) (λ row. (row.number, row.block)) (previous, row) ≡ true → is_above (pairs numbers numbers) (λ row. (row.number, row.block)) (previous, as_one row next) ≡ true
       above None holds = holds
@@ -79,19 +100,6 @@ module _ (heads : Table numbers Header) where
       behind : (previous : Option ExtentRow) → is_behind previous row ≡ true → is_behind previous (as_one row next) ≡ true
       behind None holds = holds
       behind (Some p) holds = holds
-
-      full : is_full (as_one row next) ≡ true
-      full =
-          let one = full_of row (right _ _ (left _ _ first)) in
-          let two = full_of next (right _ _ (left _ _ second)) in
-          and_from _ _ (le-leb 1 (row.count + next.count) (omega (arith, one.0))) (eq-eqb (length (row.bytes ++ next.bytes)) ((row.count + next.count) * 4096) (let long = length-append row.bytes next.bytes in omega (arith, long, one.1, two.1)))
-
-      ends : ends_in_file (get heads row.number) (as_one row next) ≡ true
-      ends =
-          let at = on.block in
-          let last : row.block + (row.count + next.count) ≡ next.block + next.count = omega (arith, at) in
-          let of_next : ends_in_file (get heads next.number) next ≡ true = right _ _ (left _ _ (left _ _ second)) in
-          (λ i. is_some_and (get heads (sym on.number i)) (λ h. is_file (Some h) && nat_lt ((last i - 1) * 4096) h.size)) ∙ of_next
 
   joined_beside : (previous : Option ExtentRow) (rows : List ExtentRow) → AreBeside previous rows → AreBeside previous (joined_extents rows)
   unfolding joined_extents

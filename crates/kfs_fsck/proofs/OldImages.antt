@@ -219,8 +219,14 @@ module _ (raw : RawImage) (readable : IsRawImage raw) (well_formed : IsWellForme
   joined_well_formed : IsWellFormed joined
   unfolding finding_of
   joined_well_formed =
-      let (one, two, three, four, five, six, seven, eight, nine, ten, end) = none_fails single rules.entries are.well_formed in
-      nothing_found joined rules.entries (one, two, three, four, five, six, seven, joined_8 single small eight nine ten, joined_9 single small eight nine ten, joined_10 single small eight nine ten, tt)
+      let from_1 = none_fails single rules.entries are.well_formed in
+      let from_4 = from_1.1.1.1 in
+      let from_8 = from_4.1.1.1.1 in
+      let eight = from_8.0 in
+      let nine = from_8.1.0 in
+      let ten = from_8.1.1.0 in
+      nothing_found joined rules.entries
+      (from_1.0, (from_1.1.0, (from_1.1.1.0, (from_4.0, (from_4.1.0, (from_4.1.1.0, (from_4.1.1.1.0, (joined_8 single small eight nine ten, (joined_9 single small eight nine ten, (joined_10 single small eight nine ten, tt))))))))))
 
   full : AllByRecursion IsFull single.extents
   full = extents_full single spelled.sizes are.well_formed

@@ -9,5 +9,4 @@ returns g c =
     let rows = c.args.rows.now in
     let done = c.reduce.ensures in
     let chain = rw (c.map.ensures.base, c.map.ensures.f) at done.1 in
-    let parts = (λ i. chunks_of (max (c.par_chunks.ensures.size i) 1) (c.par_chunks.ensures.slice i)) in
-    of_parts (counted_test c.args.counts.now) rows 1024 (omega arith) chain.0 (chain.1 ∙ parts) done.0 chain.2 c.reduce.result done.2
+    of_parts (counted_test c.args.counts.now) rows 1024 (omega arith) chain.0 (chain.1 ∙ (λ i. chunks_of (max (c.par_chunks.ensures.size i) 1) (c.par_chunks.ensures.slice i))) done.0 chain.2 c.reduce.result done.2
