@@ -33,12 +33,15 @@ module _ {K X : Type 0} (R : Order K) (t : Table R X) where
 
 -- ---- bytes of blocks
 
-zeros_give_zero : (count k : ℕ) → get_or (replicate count 0) k 0 ≡ 0
+abbrev zeros : ℕ → List ℕ
+zeros count = replicate count 0
+
+zeros_give_zero : (count k : ℕ) → ◌≡◌ {A = ℕ} (get_or (zeros count) k 0) 0
 zeros_give_zero zero k = refl
 zeros_give_zero (suc count) zero = refl
 zeros_give_zero (suc count) (suc k) = zeros_give_zero count k
 
-before_zeros : (xs : List ℕ) (count k : ℕ) → get_or (xs ++ replicate count 0) k 0 ≡ get_or xs k 0
+before_zeros : (xs : List ℕ) (count k : ℕ) → get_or (xs ++ zeros count) k 0 ≡ get_or xs k 0
 before_zeros [] count k = zeros_give_zero count k
 before_zeros (x ∷ xs) count zero = refl
 before_zeros (x ∷ xs) count (suc k) = before_zeros xs count k
@@ -47,9 +50,9 @@ length-block_of : (content : List ℕ) (block : ℕ) → length (block_of conten
 length-block_of content block =
     let cut = take 4096 (drop (block * 4096) content) in
     let few = length-take 4096 (drop (block * 4096) content) in
-    let all = length-append cut (replicate (4096 - length cut) 0) in
-    let zeros = length-replicate (4096 - length cut) 0 in
-    grind (arith, few, all, zeros)
+    let all = length-append cut (zeros (4096 - length cut)) in
+    let more : length (zeros (4096 - length cut)) ≡ 4096 - length cut = length-replicate {A = ℕ} (4096 - length cut) 0 in
+    grind (arith, few, all, more)
 
 byte_of_block : (content : List ℕ) (position : ℕ) → get_or (block_of content (position / 4096)) (position % 4096) 0 ≡ get_or content position 0
 byte_of_block content position =

@@ -27,7 +27,7 @@ module _ {X : Type 0} where
       let rest = ap (λ n. map f (numbers_from n count)) next ∙ shifted f g by (first + 1) count same in
       λ i. same first i ∷ rest i
 
-  alike_below : (f g : ℕ → X) (first count : ℕ) → ((i : ℕ) → first ≤ i → i < first + count → f i ≡ g i) → map f (numbers_from first count) ≡ map g (numbers_from first count)
+  pub alike_below : (f g : ℕ → X) (first count : ℕ) → ((i : ℕ) → first ≤ i → i < first + count → f i ≡ g i) → map f (numbers_from first count) ≡ map g (numbers_from first count)
   alike_below f g first zero same = refl
   alike_below f g first (suc count) same =
       let here = same first (omega arith) (omega arith) in

@@ -1,5 +1,5 @@
 -- Extents that are joined break no rule where the single ones break none.
-use Rattle.std.proofs.Common.{◌≡◌, ℕ, ◌+◌, ◌-◌, ◌*◌, ◌≤◌, ◌==◌, ◌&&◌, ◌||◌, not, nat_le, nat_lt, Bool, true, false, cond, List, [], ◌∷◌, length, map, Option, Some, None, inl, inr, ⊎_elim, refl, sym, ap, ◌∙◌, arith, eq-eqb, eqb-true, leb-true, le-leb, lt-ltb}
+use Rattle.std.proofs.Common.{◌≡◌, ℕ, ◌+◌, ◌-◌, ◌*◌, ◌≤◌, ◌==◌, ◌&&◌, ◌||◌, not, nat_le, nat_lt, Bool, true, false, cond, List, [], ◌∷◌, ◌++◌, length, map, count_by, Option, Some, None, inl, inr, ⊎_elim, refl, sym, ap, ◌∙◌, arith, eq-eqb, eqb-true, leb-true, le-leb, lt-ltb}
 use Rattle.std.specs.declared.cmp.Ordering.TheVariants.{Less}
 use Rattle.std.specs.Bool.{passes}
 use Rattle.std.specs.Ordering.{is_lt}
@@ -27,6 +27,20 @@ use Rattle.kfs_shape.specs.Places.{first_position, has_position}
 use Rattle.kfs_shape.proofs.NameCounts.{all_hold}
 use Rattle.kfs_shape.proofs.Neighbours.{beside, neighbours_tell}
 use Rattle.kfs_shape.proofs.SharedPlaces.{InSpan, AreSmall, all_in_span, once, often}
+
+full_of : (row : ExtentRow) → is_full row ≡ true → (1 ≤ row.count) × (length row.bytes ≡ row.count * 4096)
+full_of row holds =
+    (leb-true 1 row.count (left (nat_le 1 row.count) (length row.bytes == row.count * 4096) holds), eqb-true (length row.bytes) (row.count * 4096) (right (nat_le 1 row.count) (length row.bytes == row.count * 4096) holds))
+
+both_full : (row next : ExtentRow) → is_full row ≡ true → is_full next ≡ true → is_full (as_one row next) ≡ true
+both_full row next first second =
+    let one = full_of row first in
+    let two = full_of next second in
+    let some = one.0 in
+    let here = one.1 in
+    let there = two.1 in
+    let long = length-append row.bytes next.bytes in
+    and_from _ _ (le-leb 1 (row.count + next.count) (omega (arith, some))) (eq-eqb (length (row.bytes ++ next.bytes)) ((row.count + next.count) * 4096) (omega (arith, long, here, there)))
 
 none_from_hold : (tests : List Test) → AllHold tests → least_failed tests ≡ None
 none_from_hold [] hold = refl
@@ -64,9 +78,20 @@ module _ (heads : Table numbers Header) where
       (and_from _ _ (and_from _ _ (ap is_lt key) (right _ _ (left _ _ (left _ _ second)))) (right _ _ (left _ _ second)))
       ((λ i. not (sym on.number i == third.number) || nat_le (ends i) third.block) ∙ right _ _ second)
 
+  both_end : (row next : ExtentRow) → GoesOn row next → ends_in_file (get heads next.number) next ≡ true → ends_in_file (get heads row.number) (as_one row next) ≡ true
+  both_end row next on holds =
+      let at = on.block in
+      let last : row.block + (row.count + next.count) ≡ next.block + next.count = omega (arith, at) in
+      (λ i. is_some_and (get heads (sym on.number i)) (λ h. is_file (Some h) && nat_lt ((last i - 1) * 4096) h.size)) ∙ holds
+
   -- both as one stand where the first one stands
   both_beside : (previous : Option ExtentRow) (row next : ExtentRow) → GoesOn row next → beside heads (previous, row) ≡ true → beside heads (Some row, next) ≡ true → beside heads (previous, as_one row next) ≡ true
-  both_beside previous row next on first second = and_from _ _ (and_from _ _ (and_from _ _ (above previous (left _ _ (left _ _ (left _ _ first)))) ends) full) (behind previous (right _ _ first))
+  both_beside previous row next on first second =
+      and_from _ _
+      (and_from _ _
+      (and_from _ _ (above previous (left _ _ (left _ _ (left _ _ first)))) (both_end row next on (right _ _ (left _ _ (left _ _ second)))))
+      (both_full row next (right _ _ (left _ _ first)) (right _ _ (left _ _ second))))
+      (behind previous (right _ _ first))
     where
       above : (previous : Option ExtentRow) → is_above (pairs numbers numbers) (λ row. (row.number, row.block)) (previous, row) ≡ true → is_above (pairs numbers numbers) (λ row. (row.number, row.block)) (previous, as_one row next) ≡ true
       above None holds = holds
@@ -75,22 +100,6 @@ module _ (heads : Table numbers Header) where
       behind : (previous : Option ExtentRow) → is_behind previous row ≡ true → is_behind previous (as_one row next) ≡ true
       behind None holds = holds
       behind (Some p) holds = holds
-
-      full_of : (r : ExtentRow) → is_full r ≡ true → (1 ≤ r.count) × (length r.bytes ≡ r.count * 4096)
-      full_of r holds = (leb-true 1 r.count (left _ _ holds), eqb-true _ _ (right _ _ holds))
-
-      full : is_full (as_one row next) ≡ true
-      full =
-          let one = full_of row (right _ _ (left _ _ first)) in
-          let two = full_of next (right _ _ (left _ _ second)) in
-          and_from _ _ (le-leb 1 (row.count + next.count) (omega (arith, one.0))) (eq-eqb _ _ (let long = length-append row.bytes next.bytes in omega (arith, long, one.1, two.1)))
-
-      ends : ends_in_file (get heads row.number) (as_one row next) ≡ true
-      ends =
-          let at = on.block in
-          let last : row.block + (row.count + next.count) ≡ next.block + next.count = omega (arith, at) in
-          let of_next : ends_in_file (get heads next.number) next ≡ true = right _ _ (left _ _ (left _ _ second)) in
-          (λ i. is_some_and (get heads (sym on.number i)) (λ h. is_file (Some h) && nat_lt ((last i - 1) * 4096) h.size)) ∙ of_next
 
   joined_beside : (previous : Option ExtentRow) (rows : List ExtentRow) → AreBeside previous rows → AreBeside previous (joined_extents rows)
   unfolding joined_extents
@@ -172,7 +181,7 @@ module _ (raw : RawImage) (small : AreSmall raw.sizes) (holds_8 : least_failed (
   joined_9 = none_from_hold _ (joined_in_tiers (heads_of raw) raw.sizes raw.extents (all_hold (rule_9 raw) holds_9))
 
   few_at : (position : ℕ) → tally (has_position position) raw.extents ≤ 1
-  few_at position = ⊎_elim (λ few. omega arith) (λ some. among (among_any (has_position position) raw.extents (any_tally (has_position position) raw.extents ∙ lt-ltb 0 _ (omega arith)))) (cases_lt (tally (has_position position) raw.extents) 1)
+  few_at position = ⊎_elim (λ few. omega (arith, few)) (λ some. among (among_any (has_position position) raw.extents (any_tally (has_position position) raw.extents ∙ lt-ltb 0 (tally (has_position position) raw.extents) (omega (arith, some))))) (cases_lt (tally (has_position position) raw.extents) 1)
     where
       each_alone : (rows : List ExtentRow) → AllHold (map (place_test raw.extents) rows) → AllByRecursion (λ row. tally (share_place row) raw.extents ≤ 1) rows
       each_alone [] hold = tt
@@ -195,7 +204,7 @@ module _ (raw : RawImage) (small : AreSmall raw.sizes) (holds_8 : least_failed (
       alone row there =
           let few = once row joined.extents (among_all InSpan joined.extents row spans there) spans there (λ position has. let same = joined_counted position raw.extents in let most = few_at position in omega arith) in
           let counted = is_tally (share_place row) joined.extents in
-          le-leb _ 1 (omega arith)
+          le-leb (count_by (share_place row) joined.extents) 1 (omega (arith, few, counted))
 
       each : (rows : List ExtentRow) → ((row : ExtentRow) → Among row rows → Among row joined.extents) → AllHold (map (place_test joined.extents) rows)
       each [] all = tt

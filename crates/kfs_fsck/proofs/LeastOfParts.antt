@@ -1,5 +1,6 @@
 -- The least failed test of a list is the least of those of its parts.
-use Rattle.std.proofs.Common.{◌≡◌, ℕ, ◌<◌, ⊤, Bool, true, false, cond, Bor, List, [], ◌∷◌, ◌++◌, map, fold, map-id, min, Option, Some, None, refl, sym, ap, ◌∙◌, arith}
+use Rattle.std.proofs.Common.{◌≡◌, ℕ, ◌<◌, Bool, true, false, cond, Bor, List, [], ◌∷◌, ◌++◌, map, fold, map-id, min, Option, Some, None, refl, sym, ap, ◌∙◌, arith}
+use Rattle.std.specs.Prelude.{⊤}
 use Rattle.std.specs.List.{AllZip, flat_map}
 use Rattle.std.proofs.lemmas.List.{map-append}
 use Rattle.rayon.specs.Lists.{Reduces, chunks_of}

@@ -48,11 +48,11 @@ NoneFails raw es = AllByRecursion (λ rule. least_failed (rule.1 raw) ≡ None) 
 
 none_fails : (raw : RawImage) (es : Rules) → finding_from raw es ≡ None → NoneFails raw es
 none_fails raw [] none = tt
-none_fails raw (rule ∷ es) none = at (least_failed (rule.1 raw)) refl none
+none_fails raw (rule ∷ es) none = at (least_failed (rule.1 raw)) refl (none_fails raw es) none
   where
-    at : (o : Option ℕ) → least_failed (rule.1 raw) ≡ o → elim o as (λ _. Option Finding) [ None ↦ finding_from raw es | Some number ↦ Some (record { rule = rule.0; number = number }) ] ≡ None → NoneFails raw (rule ∷ es)
-    at None is rest = (is, none_fails raw es rest)
-    at (Some number) is rest = cc
+    at : (o : Option ℕ) → least_failed (rule.1 raw) ≡ o → (finding_from raw es ≡ None → NoneFails raw es) → elim o as (λ _. Option Finding) [ None ↦ finding_from raw es | Some number ↦ Some (record { rule = rule.0; number = number }) ] ≡ None → NoneFails raw (rule ∷ es)
+    at None is behind rest = (is, behind rest)
+    at (Some number) is behind rest = cc
 
 nothing_found : (raw : RawImage) (es : Rules) → NoneFails raw es → finding_from raw es ≡ None
 nothing_found raw [] none = refl
@@ -93,8 +93,8 @@ module _ (raw : RawImage) (sizes_fit : AreTierSizes raw.sizes) (well_formed : Is
       let under : other.place < 65536 = omega (arith, too.1, too.2) in
       let tier : row.tier ≡ other.tier = omega (arith, same, below, under) in
       let place : row.place ≡ other.place = omega (arith, same, tier) in
-      let itself : share_place row row ≡ true = and_from _ _ (eq-eqb row.tier row.tier refl) (and_from _ _ (lt-ltb _ _ (omega (arith, few.2))) (lt-ltb _ _ (omega (arith, few.2)))) in
-      let shared : share_place row other ≡ true = and_from _ _ (eq-eqb row.tier other.tier tier) (and_from _ _ (lt-ltb _ _ (omega (arith, place, too.2))) (lt-ltb _ _ (omega (arith, place, few.2)))) in
+      let itself : share_place row row ≡ true = and_from _ _ (eq-eqb row.tier row.tier refl) (and_from _ _ (lt-ltb row.place (row.place + row.count) (omega (arith, few.2))) (lt-ltb row.place (row.place + row.count) (omega (arith, few.2)))) in
+      let shared : share_place row other ≡ true = and_from _ _ (eq-eqb row.tier other.tier tier) (and_from _ _ (lt-ltb row.place (other.place + other.count) (omega (arith, place, too.2))) (lt-ltb other.place (row.place + row.count) (omega (arith, place, few.2)))) in
       only_one (share_place row) raw.extents (laid row among).own_places row other among itself also shared
 
   codes_apart : (rows : List ExtentRow) → T (is_sorted (pairs numbers numbers).compare (map keyed rows)) → ((row : ExtentRow) → Among row rows → Among row raw.extents) → IsDistinct eqb (map code rows)
@@ -219,8 +219,14 @@ module _ (raw : RawImage) (readable : IsRawImage raw) (well_formed : IsWellForme
   joined_well_formed : IsWellFormed joined
   unfolding finding_of
   joined_well_formed =
-      let (one, two, three, four, five, six, seven, eight, nine, ten, end) = none_fails single rules.entries are.well_formed in
-      nothing_found joined rules.entries (one, two, three, four, five, six, seven, joined_8 single small eight nine ten, joined_9 single small eight nine ten, joined_10 single small eight nine ten, tt)
+      let from_1 = none_fails single rules.entries are.well_formed in
+      let from_4 = from_1.1.1.1 in
+      let from_8 = from_4.1.1.1.1 in
+      let eight = from_8.0 in
+      let nine = from_8.1.0 in
+      let ten = from_8.1.1.0 in
+      nothing_found joined rules.entries
+      (from_1.0, (from_1.1.0, (from_1.1.1.0, (from_4.0, (from_4.1.0, (from_4.1.1.0, (from_4.1.1.1.0, (joined_8 single small eight nine ten, (joined_9 single small eight nine ten, (joined_10 single small eight nine ten, tt))))))))))
 
   full : AllByRecursion IsFull single.extents
   full = extents_full single spelled.sizes are.well_formed

@@ -44,6 +44,7 @@ pub fn fsck<A: Allocator + Copy>(
 /// The image of rows that break no rule.
 fn image_from<A: Allocator + Copy>(alloc: A, raw: RawImage<A>) -> Result<Image<A>, FsckFault<A>>
     requires { IsWellFormed (raw_of raw) }
+    ensures well_formed { IfOk result (λ image. IsWellFormed (raw_of raw)) }
     ensures image { IfOk result (λ image. image ≡ image_of (raw_of raw)) }
     ensures fault { IfErr result (Tells raw) }
 {

@@ -42,33 +42,53 @@ fn places<A: Allocator>(image: &Image<A>) -> [Option<(u8, u32)>; 5] {
     ]
 }
 
-/// The bytes of file 5 at these positions.
-fn bytes_at<A: Allocator>(image: &Image<A>, positions: [u64; 6]) -> Option<[u8; 6]> {
-    let mut bytes = [7; 6];
-    for (byte, position) in bytes.iter_mut().zip(positions) {
-        let mut one = [7];
-        if read_file(image, 5, position, &mut one) != Ok(1) {
-            return None;
-        }
-        *byte = one[0];
-    }
-    Some(bytes)
+/// The byte of file 5 at this position.
+fn byte_at<A: Allocator>(image: &Image<A>, position: u64) -> Option<u8> {
+    let mut one = [7];
+    let count = read_file(image, 5, position, &mut one).ok()?;
+    (count == 1).then_some(one[0])
+}
+
+fn bytes<A: Allocator>(image: &Image<A>) -> [Option<u8>; 6] {
+    [
+        byte_at(image, 0),
+        byte_at(image, 4_096),
+        byte_at(image, 8_192),
+        byte_at(image, 12_288),
+        byte_at(image, 16_384),
+        byte_at(image, 19_999),
+    ]
+}
+
+/// Whether the image of the rows with holes has its blocks at their places, and zero bytes in the holes.
+fn shows_holes<A: Allocator>(image: &Image<A>) -> bool {
+    let due = [None, Some((0, 2)), Some((0, 3)), None, Some((1, 0))];
+    let read = [
+        Some(0),
+        Some(b'x'),
+        Some(b'x'),
+        Some(0),
+        Some(b'x'),
+        Some(b'x'),
+    ];
+    let free = [image.free(0), image.free(1), image.free(2)];
+    places(image) == due && bytes(image) == read && free == [6, 7, 8]
 }
 
 #[test]
 fn rows_are_shown(rt: HostRuntime) {
-    let image = let_in(&rt, rt.alloc(), RIGHT);
-    assert!(&rt; image.is_some_and(|image| shows_right(&image)));
+    let shown = match let_in(&rt, rt.alloc(), RIGHT) {
+        Some(image) => shows_right(&image),
+        None => false,
+    };
+    assert!(&rt; shown);
 }
 
 #[test]
 fn holes_read_as_zero(rt: HostRuntime) {
-    let Some(image) = let_in(&rt, rt.alloc(), HOLES) else {
-        panic!(&rt; "not let in");
+    let shown = match let_in(&rt, rt.alloc(), HOLES) {
+        Some(image) => shows_holes(&image),
+        None => false,
     };
-    let due = [None, Some((0, 2)), Some((0, 3)), None, Some((1, 0))];
-    assert!(&rt; places(&image) == due);
-    let bytes = bytes_at(&image, [0, 4_096, 8_192, 12_288, 16_384, 19_999]);
-    assert!(&rt; bytes == Some([0, b'x', b'x', 0, b'x', b'x']));
-    assert!(&rt; [image.free(0), image.free(1), image.free(2)] == [6, 7, 8]);
+    assert!(&rt; shown);
 }

@@ -24,7 +24,10 @@ const MANY: u64 = 2_000;
 fn is_right<A: Allocator + Copy>(alloc: A, raw: &RawImage<A>) -> bool
     ensures { IsTrue result → IsWellFormed (raw_of raw.now) }
 {
-    check_shape(alloc, raw).is_ok()
+    match check_shape(alloc, raw) {
+        Ok(()) => true,
+        Err(_fault) => false,
+    }
 }
 
 /// Whether a growth was refused, and the raw image is as it was. No further growth is refused then.
@@ -42,6 +45,21 @@ fn made_with<A: Allocator>(heap: &Refusing<Global>, made: &Image<A>) -> Option<b
     (!heap.has_refused() && shows_right(made)).then_some(false)
 }
 
+/// Whether the rows, which came back, are as they were, and are then made an image; none where not.
+fn is_made_again<'a>(
+    heap: &'a Refusing<Global>,
+    raw: RawImage<&'a Refusing<Global>>,
+) -> Option<bool> {
+    if !is_kept(heap, &raw) {
+        return None;
+    }
+    if !is_right(heap, &raw) {
+        return None;
+    }
+    let made = Image::from_raw(heap, raw).ok()?;
+    shows_right(&made).then_some(true)
+}
+
 /// Whether a growth was refused as an image was made of the rows; none where the answer is wrong.
 fn is_made_refused<'a>(
     heap: &'a Refusing<Global>,
@@ -49,15 +67,10 @@ fn is_made_refused<'a>(
 ) -> Option<bool>
     requires { IsWellFormed (raw_of raw) }
 {
-    let back = match Image::from_raw(heap, raw) {
-        Ok(made) => return made_with(heap, &made),
-        Err(back) => back,
-    };
-    if !is_kept(heap, &back) || !is_right(heap, &back) {
-        return None;
+    match Image::from_raw(heap, raw) {
+        Ok(made) => made_with(heap, &made),
+        Err(back) => is_made_again(heap, back),
     }
-    let made = Image::from_raw(heap, back).ok()?;
-    shows_right(&made).then_some(true)
 }
 
 /// The same, with the growth of this index refused.
@@ -71,22 +84,30 @@ fn is_making_refused(alloc: Global, growth: u64) -> Option<bool> {
     is_made_refused(&heap, raw)
 }
 
+/// Whether the rows, which came back, are as they were, and are then let in; none where not.
+fn is_let_in_again<'a>(
+    rt: &(impl Threads + Sync),
+    heap: &'a Refusing<Global>,
+    raw: RawImage<&'a Refusing<Global>>,
+) -> Option<bool> {
+    if !is_kept(heap, &raw) {
+        return None;
+    }
+    let made = fsck(rt, heap, raw).ok()?;
+    shows_right(&made).then_some(true)
+}
+
 /// Whether a growth was refused as the rows were checked and let in, with the growth of this index
 /// refused; none where the answer is wrong.
 fn is_check_refused(rt: &(impl Threads + AllocGlobal + Sync), growth: u64) -> Option<bool> {
     let heap = Refusing::new(rt.alloc(), AMPLE);
     let raw = image(&heap, &[RIGHT])?;
     heap.refuse_after(growth);
-    let back = match fsck(rt, &heap, raw) {
-        Ok(made) => return made_with(&heap, &made),
-        Err(FsckFault::Found(_finding)) => return None,
-        Err(FsckFault::OutOfMemory(back)) => back,
-    };
-    if !is_kept(&heap, &back) {
-        return None;
+    match fsck(rt, &heap, raw) {
+        Ok(made) => made_with(&heap, &made),
+        Err(FsckFault::Found(_finding)) => None,
+        Err(FsckFault::OutOfMemory(back)) => is_let_in_again(rt, &heap, back),
     }
-    let made = fsck(rt, &heap, back).ok()?;
-    shows_right(&made).then_some(true)
 }
 
 /// How many growths an image of the rows asks for, each refused in turn; or as an error the index of one

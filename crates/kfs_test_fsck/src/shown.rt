@@ -56,15 +56,13 @@ fn is_same_row<A: Allocator>(one: &ExtentRow<A>, other: &ExtentRow<A>) -> bool {
 }
 
 fn are_same_rows<A: Allocator>(rows: &[ExtentRow<A>], others: &[ExtentRow<A>]) -> bool {
-    if rows.len() != others.len() {
-        return false;
-    }
-    for (row, other) in rows.iter().zip(others) {
-        if !is_same_row(row, other) {
-            return false;
+    for (index, row) in rows.iter().enumerate() {
+        match others.get(index) {
+            Some(other) if is_same_row(row, other) => {}
+            _ => return false,
         }
     }
-    true
+    rows.len() == others.len()
 }
 
 /// Whether the two have the same version, sizes and rows.

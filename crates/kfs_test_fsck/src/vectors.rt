@@ -67,11 +67,14 @@ fn found(
 fn root_bytes(alloc: Global, version: u8, mode: u8) -> Result<Vec<u8>, AllocError> {
     let mut bytes = Vec::new(alloc);
     for (at, byte) in ROOT_IMAGE.iter().enumerate() {
-        bytes.push(match at {
-            VERSION => version,
-            MODE => mode,
-            _ => *byte,
-        })?;
+        let value = if at == VERSION {
+            version
+        } else if at == MODE {
+            mode
+        } else {
+            *byte
+        };
+        bytes.push(value)?;
     }
     Ok(bytes)
 }

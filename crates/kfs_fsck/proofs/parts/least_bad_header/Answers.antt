@@ -1,5 +1,5 @@
-use Rattle.std.proofs.Common.{ap, ◌∙◌, max, arith}
-use Rattle.rayon.specs.Lists.{chunks_of, chunks_size, chunks_slice}
+use Rattle.std.proofs.Common.{◌∙◌, max, arith}
+use Rattle.rayon.specs.Lists.{chunks_of}
 use Rattle.kfs_model_device.specs.Rules.{header_test}
 use Rattle.kfs_fsck.proofs.LeastOfParts.{of_parts}
 use Rattle.kfs_fsck.proofs.parts.least_bad_header.Goals as goal
@@ -8,5 +8,5 @@ pub returns : goal.returns
 returns g c =
     let rows = c.args.rows.now in
     let done = c.reduce.ensures in
-    let parts = ap (λ it. chunks_of (max (chunks_size it) 1) (chunks_slice it)) c.map.ensures.base ∙ (λ i. chunks_of (max (c.par_chunks.ensures.size i) 1) (c.par_chunks.ensures.slice i)) in
-    of_parts (header_test c.args.version) rows 1024 (omega arith) done.1.0 (done.1.1 ∙ parts) done.0 done.1.2 c.reduce.result done.2
+    let chain = rw (c.map.ensures.base, c.map.ensures.f) at done.1 in
+    of_parts (header_test c.args.version) rows 1024 (omega arith) chain.0 (chain.1 ∙ (λ i. chunks_of (max (c.par_chunks.ensures.size i) 1) (c.par_chunks.ensures.slice i))) done.0 chain.2 c.reduce.result done.2
