@@ -1,6 +1,6 @@
--- A desk may go from thread to thread: all that it is made of may.
-use Rattle.std.proofs.Common.{rules}
+use denote.Param.Send.{param_send}
+use Rattle.kfs_test_threads.proofs.Sent.{desk_send}
 use Rattle.kfs_test_threads.proofs.side.both.Goals as goal
 
 pub side_by_side-requires-send-D : goal.side_by_side-requires-send-D
-side_by_side-requires-send-D g c = search rules
+side_by_side-requires-send-D g c = search (desk_send, param_send) depth 4
