@@ -31,7 +31,9 @@ module _ {A : Type 0} where
   asked_of_desk desk.Docket = commands.DocketLength
   asked_of_desk (desk.Judge worker submission) = commands.Judge worker.number (submission_of submission)
   asked_of_desk (desk.Land worker) = commands.Land worker.number
+  asked_of_desk desk.Save = commands.Save
 
   abbrev pub asked_of : Command A → commands.Command
   asked_of (read.Opening command) = commands.Setup (opening_of command)
+  asked_of (read.Image bytes) = commands.Load bytes.items
   asked_of (read.Desk command) = commands.Request (asked_of_desk command)
