@@ -11,6 +11,9 @@ use Rattle.kfs_mode.specs.declared.client.ClientFault.{ClientFault}
 use Rattle.kfs_entry_value.specs.Views.{header_of}
 use Rattle.kfs_entry_value.specs.declared.header.Header.{Header as CodeHeader}
 use Rattle.kfs_model_device.specs.ShownTree.{DeviceImage, shown_tree}
+use Rattle.kfs_model_device.specs.RawImage.{RawImage}
+use Rattle.kfs_model_device.specs.Finding.{Finding}
+use Rattle.kfs_model_device.specs.Spelling.{ImageSpellingFault, ImageAnswer}
 use Rattle.kfs_image.specs.Image.{fresh_image}
 use Rattle.kfs_desk.specs.Machine.{Desk, IsActed, IsAnswered, opened_at}
 use Rattle.kfs_desk.specs.Opening.{begin_fault}
@@ -19,12 +22,14 @@ use Rattle.kfs_plan.specs.declared.answers.BeginFault.{BeginFault}
 use Rattle.kfs_plan.specs.declared.answers.Done.{Done}
 use Rattle.kfs_plan.specs.declared.answers.Done.TheVariants.{Leased, Dropped, Ticked}
 use Rattle.kfs_plan.specs.declared.answers.Reply.{Reply}
-use Rattle.kfs_program_command.specs.Command.{Command, Setup, Request, OpeningCommand, New, Row, Begin, DeskCommand, Lease, Drop, Tick, Submit, Node, Listing, Bytes, DocketLength, Judge, Land, asked_by, landing_worker}
+use Rattle.kfs_program_command.specs.Command.{Command, Setup, Request, OpeningCommand, New, Row, Begin, DeskCommand, Lease, Drop, Tick, Submit, Node, Listing, Bytes, DocketLength, Judge, Land, Load, Save, asked_by, landing_worker}
 use Rattle.kfs_program_engine.specs.Bytes.{read_text}
+use Rattle.kfs_program_images.specs.Saving.{save_text}
+use Rattle.kfs_program_load.specs.Loading.{IsLoaded, IsFound, spelling_text}
 use Rattle.kfs_program_verdicts.specs.HeldVerdicts.{HeldVerdicts, held_by, no_verdict, with_held}
 use Rattle.kfs_workers.specs.Verdict.{IsVerdictOn, HeldVerdict, LandsVerdict}
 use Rattle.kfs_program_engine.specs.Listing.{list_text}
-use Rattle.kfs_report.specs.Text.{act_text, begin_text, client_text, node_text, reply_text}
+use Rattle.kfs_report.specs.Text.{act_text, begin_text, client_text, finding_text, node_text, reply_text}
 use Rattle.kfs_program_text.specs.Parts.{line_of}
 
 -- what a desk is begun with: the image, if there is one yet, and the clients
@@ -77,6 +82,28 @@ abbrev pub opened : Start → OpeningCommand → LineOutcome
 opened start (New sizes) = (line_of (codes "ok"), Before (record start { image = Some (fresh_image sizes) }))
 opened start (Row client) = admitted start client
 opened start (Begin limit) = begun_over start.image start.clients limit
+
+-- the image that the bytes spell breaks no rule: it is what the desk will be begun with
+pub record IsTakenIn (start : Start) (bytes : List ℕ) (outcome : LineOutcome) : Type 0 where
+  pub image : DeviceImage
+  pub loaded : IsLoaded bytes image
+  pub is : IsSaid (codes "ok") (Before (record start { image = Some image })) outcome
+
+-- the bytes spell no image, and the reply says why
+pub record IsUnspelled (start : Start) (bytes : List ℕ) (outcome : LineOutcome) : Type 0 where
+  pub fault : ImageSpellingFault
+  pub read : ImageAnswer bytes (Err fault)
+  pub is : IsSaid (codes "image " ++ spelling_text fault) (Before start) outcome
+
+-- the image that the bytes spell breaks a rule, and the reply is its finding
+pub record IsBroken (start : Start) (bytes : List ℕ) (outcome : LineOutcome) : Type 0 where
+  pub finding : Finding
+  pub found : IsFound bytes finding
+  pub is : IsSaid (finding_text finding.rule finding.number) (Before start) outcome
+
+-- the outcome of an image in bytes; where it isn't taken in, nothing changes
+abbrev pub AnswersLoad : Start → (bytes : List ℕ) → LineOutcome → Type 0
+AnswersLoad start bytes outcome = IsTakenIn start bytes outcome ⊎ (IsUnspelled start bytes outcome ⊎ IsBroken start bytes outcome)
 
 -- ---- calls of the desk
 
@@ -171,14 +198,17 @@ DeskAnswers desk hands (Node number) outcome = WithHands hands (IsNodeShown desk
 DeskAnswers desk hands (Listing directory) outcome = WithHands hands (IsSaid (names_line desk directory) desk) outcome
 DeskAnswers desk hands (Bytes number start count) outcome = WithHands hands (IsSaid (read_text desk.state.tree number start count) desk) outcome
 DeskAnswers desk hands DocketLength outcome = WithHands hands (IsSaid (docket_line desk) desk) outcome
+DeskAnswers desk hands Save outcome = WithHands hands (IsSaid (save_text desk.state.sizes desk.state.tree desk.state.placement) desk) outcome
 DeskAnswers desk hands (Judge worker submission) outcome = AnswersJudge desk hands worker (held_by hands worker) submission outcome
 DeskAnswers desk hands (Land worker) outcome = AnswersLand desk hands worker (held_by hands worker) outcome
 
 -- the outcome of a command; one that comes at the wrong time is a bad line
 abbrev pub AnswersCommand : Stage → Command → LineOutcome → Type 0
 AnswersCommand (Before start) (Setup command) outcome = outcome ≡ opened start command
+AnswersCommand (Before start) (Load bytes) outcome = AnswersLoad start bytes outcome
 AnswersCommand (Before start) (Request command) outcome = IsSaid (codes "bad line") (Before start) outcome
 AnswersCommand (After desk hands) (Setup command) outcome = IsSaid (codes "bad line") (After desk hands) outcome
+AnswersCommand (After desk hands) (Load bytes) outcome = IsSaid (codes "bad line") (After desk hands) outcome
 AnswersCommand (After desk hands) (Request command) outcome = DeskAnswers desk hands command outcome
 
 -- the line is a command, and this is its outcome

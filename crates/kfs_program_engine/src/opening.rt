@@ -1,21 +1,23 @@
 //! What a desk is begun with: an image and clients.
 ghost use Rattle.std.specs.Prelude.{◌≡◌, ◌≤◌, IfErr, IfOk, IsErrOf, None, OnOk};
 ghost use Rattle.kfs_program_command.specs.Command as commands;
-ghost use Rattle.kfs_program_engine.specs.Session.{Before, fresh};
+ghost use Rattle.kfs_program_engine.specs.Session.{AnswersLoad, Before, IsReplied, fresh};
 ghost use Rattle.kfs_program_command.specs.Views.{opening_of};
 ghost use Rattle.kfs_program_engine.specs.Views.{IsOpened, IsWithoutImage, start_of};
 ghost use Rattle.kfs_entry_value.specs.Room.{spare_of};
 
 use kfs_desk::Desk;
-use kfs_image::{Image, TierSizes};
+use kfs_image::{Image, ImageFault, TierSizes};
 use kfs_mode::{Client, ClientFault};
 use kfs_plan::answers::BeginFault;
 use kfs_program_command::OpeningCommand;
+use kfs_program_load::{LoadFault, load, load_line};
 use kfs_program_text::Refusal;
 use kfs_program_text::parts::text;
 use kfs_report::{begin_line, client_line};
 use std::alloc::Allocator;
 use std::mem;
+use std::thread::Threads;
 
 /// The image, if there is one yet, and the clients in the order of their lines.
 #[derive(Drop)]
@@ -66,6 +68,28 @@ impl<A: Allocator + Copy> Opening<A> {
         self.image = Some(Image::fresh(self.alloc, sizes)?);
         text(reply, b"ok\n");
         Ok(())
+    }
+
+    /// Takes in the image that the bytes spell, in place of an image that was there, unless it breaks a
+    /// rule. Condition: the reply has room for 128 bytes.
+    pub fn load(
+        &mut self,
+        rt: &(impl Threads + Sync),
+        bytes: &[u8],
+        reply: &mut Vec<u8, A>,
+    ) -> Result<(), Refusal>
+        requires { 128 ≤ spare_of reply.old }
+        ensures ok { OnOk result (IsReplied (AnswersLoad (start_of self.old) bytes.now) reply.old.items reply.new.items (Before (start_of self.new))) }
+        ensures err { IfErr result (λ why. (why ≡ Refusal.OutOfMemory) × (start_of self.new ≡ start_of self.old)) }
+    {
+        match load(rt, self.alloc, bytes) {
+            Ok(image) => {
+                self.image = Some(image);
+                Ok(text(reply, b"ok\n"))
+            }
+            Err(LoadFault::Bytes(ImageFault::OutOfMemory)) => Err(Refusal::OutOfMemory),
+            Err(fault) => Ok(load_line(reply, fault)?),
+        }
     }
 
     /// Adds a client, unless it is refused.
