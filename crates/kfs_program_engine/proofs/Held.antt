@@ -4,11 +4,12 @@ use Rattle.std.specs.Prelude.{set, codes, decimal, IfErr, OnOk}
 use Rattle.std.specs.Option.{ok_or}
 use Rattle.std.proofs.lemmas.List.{set-get_or, set-set}
 use Rattle.std.proofs.lemmas.Result.{on_ok_weaker}
-use Rattle.kfs_model.specs.Judgement.{Submission}
+use Rattle.kfs_model.specs.Judgement.{State, Submission}
+use Rattle.kfs_model_device.specs.ShownTree.{DeviceImage, shown_tree}
 use Rattle.kfs_plan.specs.Judged.{Judged}
 use Rattle.kfs_lease.specs.declared.act.Act.{Act}
 use Rattle.kfs_lease.specs.declared.act.Act.TheVariants as acts
-use Rattle.kfs_desk.specs.Machine.{Desk, call_of, done_by}
+use Rattle.kfs_desk.specs.Machine.{Desk, IsImageOf, call_of, done_by}
 use Rattle.kfs_program_command.specs.Command as commands
 use Rattle.kfs_program_command.specs.Command.{asked_by, landing_worker}
 use Rattle.kfs_program_command.specs.Views.{act_of, asked_of_desk}
@@ -19,6 +20,7 @@ use Rattle.kfs_program_engine.specs.Views.{IsUndone, stage_in, start_of}
 use Rattle.kfs_program_engine.specs.declared.opening.Opening.{Opening}
 use Rattle.kfs_program_engine.specs.declared.session.Stage.{Stage as CodeStage}
 use Rattle.kfs_program_engine.specs.declared.session.Stage.TheVariants as stages
+use Rattle.kfs_program_images.specs.Saving.{save_text}
 use Rattle.kfs_program_text.specs.Parts.{line_of}
 use Rattle.kfs_workers.specs.Holding.{verdict_of}
 use Rattle.kfs_workers.specs.Verdict.{HeldVerdict, IsVerdictOn}
@@ -85,6 +87,13 @@ act_served result desk hands (acts.Tick moment) before after next is = with_hand
 -- this line of the desk
 pub said_with_hands : (hands : HeldVerdicts) (text : List ℕ) (before after : List ℕ) (desk : Desk) → after ≡ before ++ line_of text → IsReplied (WithHands hands (IsSaid text desk)) before after (After desk hands)
 said_with_hands hands text before after desk is = (line_of text, is, ((line_of text, desk), refl, refl))
+
+-- an image of a state is saved as the state is
+pub saved_of : (image : DeviceImage) (s : State) → IsImageOf image s → save_text image.sizes (shown_tree image) image.placement ≡ save_text s.sizes s.tree s.placement
+saved_of image s is =
+    ap (λ sizes. save_text sizes (shown_tree image) image.placement) is.sizes
+    ∙ ap (λ tree. save_text s.sizes tree image.placement) is.tree
+    ∙ ap (save_text s.sizes s.tree) is.placement
 
 -- of this command, which the line's is
 pub replied_as : {A : Type 0} (desk : Desk) (hands : HeldVerdicts) (command known : DeskCommand A) (before after : List ℕ) (stage : Stage) → command ≡ known → IsReplied (DeskAnswers desk hands (asked_of_desk known)) before after stage → IsReplied (DeskAnswers desk hands (asked_of_desk command)) before after stage
