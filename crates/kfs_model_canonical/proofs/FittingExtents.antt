@@ -1,12 +1,12 @@
 -- Extents that fit the format still do when they are joined, and don't become more.
-use Rattle.std.proofs.Common.{◌≡◌, ℕ, ◌+◌, ◌-◌, ◌*◌, ◌<◌, ◌≤◌, ◌^◌, min, Bool, true, false, cond, List, [], ◌∷◌, ◌++◌, length, map, take, drop, replicate, refl, ap, ◌∙◌, arith}
+use Rattle.std.proofs.Common.{◌≡◌, ℕ, ◌+◌, ◌-◌, ◌*◌, ◌<◌, ◌≤◌, ◌^◌, Bool, true, false, cond, List, [], ◌∷◌, length, take, drop, replicate, refl, arith}
 use Rattle.std.specs.List.{AllByRecursion}
 use Rattle.std.proofs.lemmas.List.{length-append, length-take, length-replicate}
-use Rattle.kfs_model.specs.Limits.{block_size, tier_limit}
+use Rattle.kfs_model.specs.Limits.{block_size}
 use Rattle.kfs_model_device.specs.RawImage.{ExtentRow}
-use Rattle.kfs_model_device.specs.Spelling.{IsExtentRow, greatest_block}
-use Rattle.kfs_model_device.specs.Canonical.{filled_up, block_of, goes_on, as_one, with_extent, joined_extents}
-use Rattle.kfs_model_device.proofs.JoinedExtents.{GoesOn, it_goes_on}
+use Rattle.kfs_model_device.specs.Spelling.{IsExtentRow}
+use Rattle.kfs_model_device.specs.Canonical.{block_of, goes_on, as_one, with_extent, joined_extents}
+use Rattle.kfs_model_device.proofs.JoinedExtents.{it_goes_on}
 
 -- the blocks and the places of the extent may exist, and each block has all its bytes
 pub record Fits (row : ExtentRow) : Type 0 where

@@ -1,5 +1,5 @@
 -- The rows of a lawful image's state fit the format.
-use Rattle.std.proofs.Common.{◌≡◌, ℕ, ◌+◌, ◌<◌, ◌≤◌, ◌^◌, List, [], ◌∷◌, length, map, Option, Some, None, option_map, refl, sym, ap, subst, ◌∙◌, arith}
+use Rattle.std.proofs.Common.{◌≡◌, ℕ, ◌<◌, ◌^◌, List, length, map, Option, Some, None, option_map, refl, sym, ap, subst, ◌∙◌, arith}
 use Rattle.std.specs.Prelude.{IsTrue}
 use Rattle.std.specs.List.{AllByRecursion}
 use Rattle.std.proofs.lemmas.List.{length-map}
@@ -7,15 +7,14 @@ use Rattle.kfs_model.specs.Header.{Kind, File, Directory, Header}
 use Rattle.kfs_model.specs.Sight.{is_directory}
 use Rattle.kfs_model.specs.Table.{Table, numbers, pairs, get}
 use Rattle.kfs_model.specs.Tree.{Node, headers, node_header, node_over, name_order, links_of, body_over}
-use Rattle.kfs_model.specs.Spelling.{IsHeader, IsNameRow}
+use Rattle.kfs_model.specs.Spelling.{IsNameRow}
 use Rattle.kfs_model.specs.Placement.{Place}
 use Rattle.kfs_model.proofs.Heads.{get-headers}
 use Rattle.kfs_model.proofs.TableLaws.{get-mapped}
 use Rattle.kfs_model_device.specs.ShownTree.{DeviceImage, IsLawful, file_bytes, shown_tree}
-use Rattle.kfs_model_device.specs.RawImage.{RawNode, ExtentRow, RawImage}
 use Rattle.kfs_model_device.specs.Listed.{raw_node, name_row}
-use Rattle.kfs_model_device.specs.Spelling.{IsRawNode, IsExtentRow, IsImageHeader, IsRawImage, image_header_of}
-use Rattle.kfs_model_device.specs.Canonical.{block_extent, extents_of, canonical_rows}
+use Rattle.kfs_model_device.specs.Spelling.{IsRawNode, IsRawImage}
+use Rattle.kfs_model_device.specs.Canonical.{block_extent, canonical_rows}
 use Rattle.kfs_model_device.proofs.Entries.{each_entry, each_row}
 use Rattle.kfs_model_canonical.proofs.RowCounts.{sound, in_three, few_nodes, few_names_of, few_names, few_blocks}
 use Rattle.kfs_model_canonical.proofs.FittingExtents.{Fits, joined_fit, no_more_joined, length-block_of}

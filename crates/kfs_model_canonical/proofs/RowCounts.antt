@@ -1,12 +1,12 @@
 -- How many nodes, names and mapped blocks a lawful image has at most.
-use Rattle.std.proofs.Common.{◌≡◌, ℕ, ◌+◌, ◌*◌, ◌<◌, ◌≤◌, ◌==◌, ltb, Bool, true, false, cond, List, length, map, Option, Some, None, count_by, IsTrue, refl, sym, ap, subst, ◌∙◌, arith, eqb-true, ltb-false}
+use Rattle.std.proofs.Common.{◌≡◌, ℕ, ◌+◌, ◌*◌, ◌<◌, ◌≤◌, ◌==◌, Bool, true, false, cond, List, length, Some, count_by, refl, sym, ap, subst, ◌∙◌, arith, eqb-true, ltb-false}
 use Rattle.std.proofs.lemmas.List.{map-id}
-use Rattle.std.specs.List.{list_any, AllByRecursion}
+use Rattle.std.specs.List.{list_any}
 use Rattle.kfs_model.specs.Header.{Kind, File, Directory, Header}
 use Rattle.kfs_model.specs.Limits.{tier_limit}
 use Rattle.kfs_model.specs.Sight.{is_directory, is_file}
 use Rattle.kfs_model.specs.Soundness.{AreSound}
-use Rattle.kfs_model.specs.Table.{Order, Table, numbers, pairs, get}
+use Rattle.kfs_model.specs.Table.{Table, numbers, pairs, get}
 use Rattle.kfs_model.specs.Tree.{name_order, name_count}
 use Rattle.kfs_model.specs.Placement.{TierSizes, AreTierSizes, Place, tier_size}
 use Rattle.kfs_model.proofs.Counts.{tally, is_tally, any_counts}

@@ -1,8 +1,7 @@
 -- The place is in its tier, and the bytes are a block's.
-use Rattle.std.proofs.Common.{◌<◌, rules}
-use Rattle.kfs_model.specs.Placement.{tier_size}
+use Rattle.std.proofs.Common.{rules}
 use Rattle.kfs_test_image.proofs.OneEdit.{can_write}
 use Rattle.kfs_test_image.proofs.edits.writing.Goals as goal
 
-pub returns-then-is_there-bytes : goal.returns-then-is_there-bytes
-returns-then-is_there-bytes g c = can_write c.args.image.now c.shape-shape.ensures.lawful c.args.place c.args.bytes (search rules) (search rules)
+pub returns-then-len-eq-BLOCK_LEN : goal.returns-then-len-eq-BLOCK_LEN
+returns-then-len-eq-BLOCK_LEN g c = can_write c.args.image.now c.shape-shape.ensures.lawful c.args.place c.args.bytes (search rules) (search rules)
