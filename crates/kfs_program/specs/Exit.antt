@@ -1,5 +1,5 @@
 -- The exit status of the program, and what a person is told of it.
-use Rattle.std.specs.Prelude.{◌≡◌, ◌⊎◌, ◌≤◌, ◌==◌, ℕ, List, [], codes, Option, Some, None, Result, Ok, Err, if◌then◌else◌}
+use Rattle.std.specs.Prelude.{◌≡◌, ◌⊎◌, ◌≤◌, ◌==◌, ℕ, List, [], codes, Bool, true, false, Option, Some, None, Result, Ok, Err, if◌then◌else◌}
 use Rattle.std.specs.Io.KnownBytes.{IsAtEnd}
 use Rattle.kfs_program_engine.specs.Transcript.{IsSession}
 use Rattle.kfs_program_text.specs.Streams.{Exchanges}
@@ -12,6 +12,12 @@ status_of (Err ReadFault) = 3
 status_of (Err WriteFault) = 3
 status_of (Err LongLine) = 3
 status_of (Err OutOfMemory) = 4
+
+-- of a word that asks for an image
+abbrev pub image_status_of : Result Bool EngineFault → ℕ
+image_status_of (Ok true) = 0
+image_status_of (Ok false) = 1
+image_status_of (Err fault) = status_of {T = Bool} (Err fault)
 
 -- nothing was read, and nothing written
 abbrev pub IsUntouched : (input text : List ℕ) → Type 0
@@ -38,7 +44,7 @@ Exits before_reads after_reads before_writes after_writes words status =
 -- the message for a status, if there is one
 abbrev pub message_of : (status : ℕ) → Option (List ℕ)
 message_of status =
-    if status == 2 then Some (codes "usage: kfs [run]")
+    if status == 2 then Some (codes "usage: kfs [run | fsck | show]")
     else if status == 3 then Some (codes "the input or the output failed, or a line was too long")
     else if status == 4 then Some (codes "out of memory")
     else None

@@ -1,18 +1,24 @@
 //! The words of the command line, and the exit status.
 ghost use Rattle.std.specs.Prelude.{◌≡◌, ◌≤◌, length, MatchOption, None, OnOk, Some};
-ghost use Rattle.kfs_program.specs.Exit.{Exits, message_of, status_of};
+ghost use Rattle.kfs_program.specs.Exit.{Exits, image_status_of, message_of, status_of};
 
 use clap::Command;
 use clap::error::ErrorKind;
 use kfs_program_engine::{EngineFault, engine};
+use kfs_program_show::{fsck, show};
 use std::alloc::{Allocator, Global};
 use std::io::{Read, Write};
+use std::thread::Threads;
 
 /// What the words ask for.
 #[derive(Clone, Copy, Debug, PartialEq, Eq)]
 enum Subcommand {
     /// `run`, or no word: answers command lines.
     Run,
+    /// `fsck`: checks the image of one line.
+    Fsck,
+    /// `show`: shows the nodes and names of the image of one line.
+    Show,
 }
 
 /// Why the words ask for nothing.
@@ -29,12 +35,13 @@ enum WordsFault {
 ///
 /// Answers the exit status:
 /// - 0: done;
+/// - 1: the input of `fsck` or `show` is no image that is let in, and the line says why;
 /// - 2: the words were refused, and nothing was read or written;
 /// - 3: a read or a write failed, or a line was too long;
 /// - 4: memory for the words or for a line of the input was refused.
 pub fn run_words<R, A, I, O>(rt: &R, alloc: A, words: &[&str], reader: &mut I, writer: &mut O) -> u8
 where
-    R: AllocGlobal,
+    R: AllocGlobal + Threads + Sync,
     A: Allocator + Copy,
     I: Read,
     O: Write,
@@ -42,6 +49,8 @@ where
 {
     match asked_of(rt.alloc(), words) {
         Ok(Subcommand::Run) => exit_status(engine(rt, alloc, reader, writer)),
+        Ok(Subcommand::Fsck) => image_status(fsck(rt, alloc, reader, writer)),
+        Ok(Subcommand::Show) => image_status(show(rt, alloc, reader, writer)),
         Err(WordsFault::Refused) => 2,
         Err(WordsFault::OutOfMemory) => 4,
     }
@@ -52,7 +61,7 @@ pub fn status_message(status: u8) -> Option<&'static str>
     ensures { MatchOption result (message_of status ≡ None) (λ message. message_of status ≡ Some message.now) }
 {
     match status {
-        2 => Some("usage: kfs [run]"),
+        2 => Some("usage: kfs [run | fsck | show]"),
         3 => Some("the input or the output failed, or a line was too long"),
         4 => Some("out of memory"),
         _ => None,
@@ -66,6 +75,17 @@ fn exit_status(ended: Result<(), EngineFault>) -> u8
         Ok(()) => 0,
         Err(EngineFault::OutOfMemory) => 4,
         Err(_) => 3,
+    }
+}
+
+/// The status of `fsck` and `show`: whether an image was let in.
+fn image_status(ended: Result<bool, EngineFault>) -> u8
+    ensures { result ≡ image_status_of ended }
+{
+    match ended {
+        Ok(true) => 0,
+        Ok(false) => 1,
+        Err(fault) => exit_status(Err(fault)),
     }
 }
 
@@ -83,14 +103,25 @@ fn asked_of(alloc: Global, words: &[&str]) -> Result<Subcommand, WordsFault>
     };
     match asked {
         None if words.len() <= 1 => Ok(Subcommand::Run),
-        Some(run) if words.len() == 2 => Ok(run),
+        Some(named) if words.len() == 2 => Ok(named),
         _ => Err(WordsFault::Refused),
     }
 }
 
 fn parsed(alloc: Global, words: &[&str]) -> Result<Option<Subcommand>, clap::Error> {
-    let run = Command::new(alloc, "run");
-    let command = Command::new(alloc, "kfs").subcommand(run)?;
+    let command = Command::new(alloc, "kfs")
+        .subcommand(Command::new(alloc, "run"))?
+        .subcommand(Command::new(alloc, "fsck"))?
+        .subcommand(Command::new(alloc, "show"))?;
     let matches = command.try_get_matches_from(words)?;
-    Ok(matches.subcommand().map(|_| Subcommand::Run))
+    Ok(matches.subcommand().map(|(name, _)| named(name)))
+}
+
+/// The subcommand of a name that `clap` knows.
+fn named(name: &str) -> Subcommand {
+    match name {
+        "fsck" => Subcommand::Fsck,
+        "show" => Subcommand::Show,
+        _ => Subcommand::Run,
+    }
 }
