@@ -33,7 +33,10 @@ fn main(rt: HostRuntime) -> io::Result<ExitCode> {
 }
 
 /// Runs one script with its words, and compares its replies and its status.
-fn run_script<R: Files + AllocGlobal + Threads + Sync>(rt: &R, name: &str) -> Result<(), ScriptFault> {
+fn run_script<R: Files + AllocGlobal + Threads + Sync>(
+    rt: &R,
+    name: &str,
+) -> Result<(), ScriptFault> {
     let case = Case::read(rt, name)?;
     let words = case.words(rt.alloc())?;
     let mut script = case.script();

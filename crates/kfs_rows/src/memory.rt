@@ -147,7 +147,11 @@ fn is_due<R: AllocGlobal + Threads + Sync>(
 }
 
 /// Refuses each growth of the script in turn, and answers how many there are.
-fn growths<R: AllocGlobal + Threads + Sync>(rt: &R, case: &Case, words: &[&str]) -> Result<u64, ScriptFault> {
+fn growths<R: AllocGlobal + Threads + Sync>(
+    rt: &R,
+    case: &Case,
+    words: &[&str],
+) -> Result<u64, ScriptFault> {
     for growth in 0..MANY {
         let heap = Refusing::new(rt.alloc(), growth);
         let given = run(rt, &heap, words, case.lines());
@@ -162,7 +166,12 @@ fn growths<R: AllocGlobal + Threads + Sync>(rt: &R, case: &Case, words: &[&str])
 }
 
 /// Runs the script with at most this many bytes held at one time.
-fn run_within<R: AllocGlobal + Threads + Sync>(rt: &R, case: &Case, words: &[&str], bytes: u64) -> Outcome {
+fn run_within<R: AllocGlobal + Threads + Sync>(
+    rt: &R,
+    case: &Case,
+    words: &[&str],
+    bytes: u64,
+) -> Outcome {
     let heap = Refusing::new(rt.alloc(), AMPLE);
     heap.leave(bytes);
     run(rt, &heap, words, case.lines())
