@@ -89,11 +89,14 @@ pub said_with_hands : (hands : HeldVerdicts) (text : List ℕ) (before after : L
 said_with_hands hands text before after desk is = (line_of text, is, ((line_of text, desk), refl, refl))
 
 -- an image of a state is saved as the state is
-pub saved_of : (image : DeviceImage) (s : State) → IsImageOf image s → save_text image.sizes (shown_tree image) image.placement ≡ save_text s.sizes s.tree s.placement
+saved_of : (image : DeviceImage) (s : State) → IsImageOf image s → save_text image.sizes (shown_tree image) image.placement ≡ save_text s.sizes s.tree s.placement
 saved_of image s is =
     ap (λ sizes. save_text sizes (shown_tree image) image.placement) is.sizes
     ∙ ap (λ tree. save_text s.sizes tree image.placement) is.tree
     ∙ ap (save_text s.sizes s.tree) is.placement
+
+pub saved_line : (image : DeviceImage) (s : State) (before after : List ℕ) → IsImageOf image s → after ≡ before ++ line_of (save_text image.sizes (shown_tree image) image.placement) → after ≡ before ++ line_of (save_text s.sizes s.tree s.placement)
+saved_line image s before after is added = added ∙ ap (λ text. before ++ line_of text) (saved_of image s is)
 
 -- of this command, which the line's is
 pub replied_as : {A : Type 0} (desk : Desk) (hands : HeldVerdicts) (command known : DeskCommand A) (before after : List ℕ) (stage : Stage) → command ≡ known → IsReplied (DeskAnswers desk hands (asked_of_desk known)) before after stage → IsReplied (DeskAnswers desk hands (asked_of_desk command)) before after stage

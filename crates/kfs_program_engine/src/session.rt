@@ -8,6 +8,7 @@ ghost use Rattle.kfs_desk.specs.Machine.{call_of, done_by};
 ghost use Rattle.kfs_program_command.specs.Command as commands;
 ghost use Rattle.kfs_program_engine.specs.Session.{After, AnswersLine, IsCallAnswered, IsNodeShown, IsReplied, IsSubmissionAnswered, DeskAnswers, docket_line, fresh, left_without_memory, names_line};
 ghost use Rattle.kfs_program_command.specs.Views.{asked_of_desk, opening_of};
+ghost use Rattle.kfs_program_images.specs.Saving.{save_text};
 ghost use Rattle.kfs_program_engine.specs.Views.{CommandIsDone, IsOutOfPlace, IsUndone, stage_of};
 ghost use Rattle.kfs_program_text.specs.Parts.{line_of};
 ghost use Rattle.kfs_entry_value.specs.Room.{spare_of};
@@ -178,7 +179,7 @@ fn answer_due<A: Allocator + Copy>(
             judge_for(alloc, desk, hands, worker, submission, reply)
         }
         DeskCommand::Land { worker } => land_for(desk, hands, worker, reply),
-        DeskCommand::Save => Ok(save_line(alloc, reply, desk.image())?),
+        DeskCommand::Save => show_image(alloc, desk, reply),
     }
 }
 
@@ -253,6 +254,19 @@ fn show_docket<A: Allocator + Copy>(desk: &Desk<A>, reply: &mut Vec<u8, A>)
     text(reply, b"docket ");
     number(reply, u64::from(desk.docket().len()));
     text(reply, b"\n");
+}
+
+/// Appends the image as bytes.
+#[tactic(auto, using(crate::proofs::Held::saved_line))]
+fn show_image<A: Allocator + Copy>(
+    alloc: A,
+    desk: &Desk<A>,
+    reply: &mut Vec<u8, A>,
+) -> Result<(), Refusal>
+    ensures ok { OnOk result (reply.new.items ≡ reply.old.items ++ line_of (save_text desk.now.state.sizes desk.now.state.tree desk.now.state.placement)) }
+    ensures err { IfErr result (λ why. why ≡ Refusal.OutOfMemory) }
+{
+    Ok(save_line(alloc, reply, desk.image())?)
 }
 
 /// Appends the names of a directory, or `none` where there is no such directory.

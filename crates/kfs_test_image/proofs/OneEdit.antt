@@ -30,10 +30,10 @@ module _ {A : Type 0} (image : DeviceImage) (lawful : IsLawful image) (number bl
   pub can_take_up : CanEdit (moved None ∷ []) image
   can_take_up = can_move None (unmapped_is_lawful image lawful (number, block))
 
-module _ {A : Type 0} (image : DeviceImage) (lawful : IsLawful image) (place : Place) (bytes : Vec ℕ A) where
-  pub can_write : place.place < tier_size image.sizes place.tier → vec_len bytes ≡ block_size → CanEdit (Bytes place.tier place.place bytes ∷ []) image
+module _ {A : Type 0} (image : DeviceImage) (lawful : IsLawful image) (tier place : ℕ) (bytes : Vec ℕ A) where
+  pub can_write : place < tier_size image.sizes tier → vec_len bytes ≡ block_size → CanEdit (Bytes tier place bytes ∷ []) image
   unfolding edited_all
   can_write inside whole = record {
-    lawful = written_is_lawful image lawful place bytes.items inside (omega (arith, bytes.ok.0, whole));
-    whole = All-cons (WritesWholeBlocks image.sizes) (Bytes place.tier place.place bytes) [] (inside, whole) (All-nil (WritesWholeBlocks {A = A} image.sizes));
+    lawful = written_is_lawful image lawful (record { tier = tier; place = place }) bytes.items inside (omega (arith, bytes.ok.0, whole));
+    whole = All-cons (WritesWholeBlocks image.sizes) (Bytes tier place bytes) [] (inside, whole) (All-nil (WritesWholeBlocks {A = A} image.sizes));
   }

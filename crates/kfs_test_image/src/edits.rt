@@ -55,14 +55,19 @@ fn unmapping<A: Allocator>(image: &Image<A>, number: u32, block: u32) -> Edit<A>
 }
 
 /// The edit that writes bytes at a place, if the place exists and they are a block's.
-fn writing<A: Allocator>(image: &Image<A>, place: Place, bytes: Vec<u8, A>) -> Option<Edit<A>>
+fn writing<A: Allocator>(
+    image: &Image<A>,
+    tier: u8,
+    place: u32,
+    bytes: Vec<u8, A>,
+) -> Option<Edit<A>>
     ensures { IfSome result (λ edit. CanEdit (edit ∷ []) image.now) }
 {
     // Tells the prover that the image is lawful.
     let _shape = image.shape();
-    let is_there = place.place < image.tier_size(place.tier);
+    let is_there = place < image.tier_size(tier);
     if is_there && bytes.len() == BLOCK_LEN {
-        Some(Edit::Bytes(place.tier, place.place, bytes))
+        Some(Edit::Bytes(tier, place, bytes))
     } else {
         None
     }
@@ -142,7 +147,7 @@ pub fn lay<A: Allocator + Copy>(
 
 /// Writes bytes that aren't zero at a place, a block's.
 pub fn write<A: Allocator + Copy>(alloc: A, image: &mut Image<A>, place: Place) -> Option<()> {
-    let edit = writing(image, place, block_bytes(alloc)?)?;
+    let edit = writing(image, place.tier, place.place, block_bytes(alloc)?)?;
     make(alloc, image, edit)
 }
 

@@ -6,7 +6,7 @@ use Rattle.kfs_program_engine.specs.Bytes.{read_text}
 use Rattle.kfs_program_engine.specs.Session.{After, IsNodeShown, IsSubmissionAnswered, docket_line, names_line}
 use Rattle.kfs_program_text.specs.Parts.{line_of}
 use Rattle.kfs_program_images.specs.Saving.{save_text}
-use Rattle.kfs_program_engine.proofs.Held.{act_served, replied_as, said_with_hands, saved_of, with_hands}
+use Rattle.kfs_program_engine.proofs.Held.{act_served, replied_as, said_with_hands, with_hands}
 use Rattle.kfs_program_engine.proofs.session.answer_due.Goals as goal
 
 pub returns-in-Act-clause-ok : goal.returns-in-Act-clause-ok
@@ -57,12 +57,11 @@ returns-in-Docket-clause-ok g c =
     replied_as desk hands c.args.command _ c.args.reply.now.items c.show_docket.new.reply.items (After desk hands) c.in-Docket.is
     (said_with_hands hands (docket_line desk) c.args.reply.now.items c.show_docket.new.reply.items desk c.show_docket.ensures)
 
-pub returns-in_ok-save_line-in-Save-clause-ok : goal.returns-in_ok-save_line-in-Save-clause-ok
-returns-in_ok-save_line-in-Save-clause-ok g c =
+pub returns-in-Save-clause-ok : goal.returns-in-Save-clause-ok
+returns-in-Save-clause-ok g c =
     let desk = c.args.desk.now in
     let hands = c.args.hands.now in
-    let before = c.args.reply.now.items in
-    let saved = save_text desk.state.sizes desk.state.tree desk.state.placement in
-    let said : c.save_line.new.out.items ≡ before ++ line_of saved = c.in_ok-save_line-in-Save.ensures ∙ ap (λ text. before ++ line_of text) (saved_of _ desk.state c.image.ensures.shown) in
-    replied_as desk hands c.args.command _ before c.save_line.new.out.items (After desk hands) c.in-Save.is
-    (said_with_hands hands saved before c.save_line.new.out.items desk said)
+    on_ok_weaker c.show_image.result
+    (λ said. replied_as desk hands c.args.command _ c.args.reply.now.items c.show_image.new.reply.items (After desk hands) c.in-Save.is
+    (said_with_hands hands (save_text desk.state.sizes desk.state.tree desk.state.placement) c.args.reply.now.items c.show_image.new.reply.items desk said))
+    c.show_image.ensures.ok
