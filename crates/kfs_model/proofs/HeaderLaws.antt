@@ -1,39 +1,13 @@
 -- The laws of the headers of a log and of a plan.
-use Rattle.std.proofs.Common.{◌≡◌, ℕ, ◌≤◌, cond, leb, List, [], ◌∷◌, ◌++◌, length, drop, Some, None, refl, subst, arith}
-use Rattle.std.specs.List.{starts_with}
-use Rattle.std.specs.Prelude.{nat_eq}
+use Rattle.std.proofs.Common.{◌≡◌, ℕ, ◌≤◌, cond, leb, List, [], ◌∷◌, ◌++◌, Some, None, refl, subst, arith}
 use Rattle.std.proofs.lemmas.Bool.{leb-true, le-leb}
-use Rattle.std.proofs.lemmas.Bool.Decides.{Decides-eqb}
-use Rattle.std.proofs.lemmas.Slice.Eq.{starts_is}
-use Rattle.std.proofs.lemmas.List.{drop_at}
 use Rattle.kfs_model.specs.Spelling.{IsBytes, IsLogHeader, log_header, IsPlanHeader, plan_header, number16}
-use Rattle.kfs_model.proofs.Reading.{number16_read, mark_read, count_read, log_header_read, plan_header_read}
-use Rattle.kfs_model.proofs.Fields.{IsBytes-drop, some_from, some_if, some_is, Stands, IsField, both, version_field, number16_field, number32_field, record_field}
+use Rattle.kfs_model.proofs.Reading.{number16_read, count_read, log_header_read, plan_header_read}
+use Rattle.kfs_model.proofs.MarkField.{mark_field}
+use Rattle.kfs_model.proofs.Fields.{some_from, some_if, some_is, Stands, IsField, both, version_field, number16_field, number32_field, record_field}
 
 abbrev is_count : ℕ → Type 0
 is_count n = n ≤ 4096
-
-abbrev nothing : Unit {0} → Type 0
-nothing _ = Unit {0}
-
-mark_takes : (mark bytes : List ℕ) (x : Unit {0} × List ℕ) → IsBytes bytes → mark_read mark bytes ≡ Some x → Stands nothing (λ _. mark) bytes x.0 x.1
-unfolding mark_read
-mark_takes mark bytes x fits e =
-    let g = some_if (starts_with nat_eq bytes mark) (Some (tt, drop (length mark) bytes)) x e in
-    let stands : Stands nothing (λ _. mark) bytes tt (drop (length mark) bytes) = record {
-      parts = (starts_is Decides-eqb bytes mark (starts_with nat_eq bytes mark) refl).0 g.0;
-      fits = tt;
-      rest_bytes = IsBytes-drop (length mark) bytes fits;
-    } in
-    subst (λ (y : Unit {0} × List ℕ). Stands nothing (λ _. mark) bytes y.0 y.1) (some_is (tt, drop (length mark) bytes) x g.1) stands
-
-mark_again : (mark : List ℕ) (value : Unit {0}) (rest : List ℕ) → Unit {0} → mark_read mark (mark ++ rest) ≡ Some (value, rest)
-unfolding mark_read
-mark_again mark value rest fits =
-    rw ((starts_is Decides-eqb (mark ++ rest) mark (starts_with nat_eq (mark ++ rest) mark) refl).1 rest refl, drop_at mark rest (length mark) refl) refl
-
-mark_field : (mark : List ℕ) → IsField nothing (λ _. mark) (mark_read mark)
-mark_field mark = record { takes = mark_takes mark; again = mark_again mark }
 
 count_takes : (bytes : List ℕ) (x : ℕ × List ℕ) → IsBytes bytes → count_read bytes ≡ Some x → Stands is_count number16 bytes x.0 x.1
 unfolding count_read

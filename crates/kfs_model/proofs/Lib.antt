@@ -51,9 +51,11 @@ pub mod OrderKept
 pub mod Reading
 pub mod Fields
 pub mod EntryLaws
+pub mod MarkField
 pub mod HeaderLaws
 pub mod PlanLaws
 pub mod RowsRead
+pub mod RowsOrStop
 pub mod OneLogAnswer
 pub mod OnePlanAnswer
 pub mod AnswersExist

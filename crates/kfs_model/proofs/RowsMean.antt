@@ -1,5 +1,5 @@
 -- What the machine's step of a row makes of the state.
-use Rattle.std.proofs.Common.{◌≡◌, ℕ, ◌==◌, Bool, true, false, cond, List, [], ◌∷◌, Option, Some, None, Result, Ok, Err, refl, sym, ap, subst, ◌∙◌}
+use Rattle.std.proofs.Common.{◌≡◌, ℕ, Bool, true, false, cond, List, [], ◌∷◌, Option, Some, None, Result, Ok, Err, refl, sym, subst, ◌∙◌}
 use Rattle.std.specs.Prelude.{length, nat_lt}
 use Rattle.kfs_model.proofs.OneByOne.{run_is_one_by_one}
 use Rattle.kfs_model.proofs.OrderKept.{yes_means}
@@ -7,7 +7,7 @@ use Rattle.kfs_model.specs.Judgement.{State, Submission, Reading, IsReadAs, Verd
 use Rattle.kfs_model.specs.Lease.{Leases, LeaseFault, dropped, granted, ticked}
 use Rattle.kfs_model.specs.Machine.{Call, Submit, Lease, Drop, Tick, CallAnswer, CallAnswer-equality, CallFault, LeaseRefused, CallOutcome, Done, NotDone, OneByOne, Replied, Row, IsRead, answered, are_chosen, landed, leased, next, outcome_of, replied, same_answer, unplaced}
 use Rattle.kfs_model.specs.Placement.{need, written_blocks}
-use Rattle.kfs_model.specs.Run.{Mark, run}
+use Rattle.kfs_model.specs.Run.{Mark}
 use Rattle.kfs_model.specs.Sight.{sight}
 use Rattle.kfs_model.specs.Spelling.{LogAnswer}
 use Rattle.kfs_model.specs.Tree.{Tree}

@@ -1,5 +1,5 @@
 -- Extents that are joined as far as they go on.
-use Rattle.std.proofs.Common.{◌≡◌, ℕ, ◌+◌, ◌==◌, ◌&&◌, Bool, true, false, cond, List, [], ◌∷◌, refl, sym, ◌∙◌, arith, eqb-true}
+use Rattle.std.proofs.Common.{◌≡◌, ◌+◌, ◌==◌, ◌&&◌, Bool, true, false, cond, List, [], ◌∷◌, refl, sym, ◌∙◌, arith, eqb-true}
 use Rattle.kfs_model.proofs.CleanIsAllowed.{left, right}
 use Rattle.kfs_model_device.specs.RawImage.{ExtentRow}
 use Rattle.kfs_model_device.specs.Canonical.{goes_on, as_one, with_extent, joined_extents, AreJoined}

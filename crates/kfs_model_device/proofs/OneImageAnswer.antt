@@ -8,7 +8,7 @@ use Rattle.kfs_model.proofs.Reading.{name_row_read}
 use Rattle.kfs_model.proofs.PlanLaws.{name_row_field}
 use Rattle.kfs_model.proofs.RowsRead.{IsBytes-behind, with_option, rows_read, none_read, stand_is_read, stop_is_read}
 use Rattle.kfs_model_device.specs.RawImage.{RawNode, ExtentRow, RawImage}
-use Rattle.kfs_model_device.specs.Spelling.{raw_node_bytes, IsRawNode, extent_bytes, IsExtentRow, ImageHeader, image_header, IsImageHeader, image_header_of, raw_image_bytes, IsRawImage, ImageSpellingFault, BadImageHeader, ImageTrailing, BadImageRow, ImagePartLacksRow, rows_before, LacksImageRow, ImageAnswer}
+use Rattle.kfs_model_device.specs.Spelling.{raw_node_bytes, IsRawNode, extent_bytes, IsExtentRow, ImageHeader, image_header, IsImageHeader, image_header_of, raw_image_bytes, IsRawImage, ImageSpellingFault, BadImageHeader, ImageTrailing, BadImageRow, ImagePartLacksRow, rows_before, ImageAnswer}
 use Rattle.kfs_model_device.proofs.ImageReading.{raw_node_read, extent_read, image_header_read}
 use Rattle.kfs_model_device.proofs.ImageFields.{raw_node_field, extent_field, image_header_field}
 
