@@ -56,7 +56,7 @@ def put_files(folder, named):
 
 
 def crates_below(uses):
-    """Returns the lines of crates.txt of these crates of the repository and those below them, by name."""
+    """Returns the line of crates.txt, and the libraries on it, of these crates of the repository and those below them, by name."""
     lines = {}
     with open(f"{TOP}/crates.txt") as it:
         for line in it:
@@ -67,33 +67,55 @@ def crates_below(uses):
     while left:
         name = left.pop()
         if name in lines and name not in found:
-            found[name], below = lines[name]
-            left += below
+            found[name] = lines[name]
+            left += found[name][1]
     return found
 
 
-def copy_with(program, uses, room):
+def copy_crates(names, room, left_out=("must-fail",), built=()):
+    """Copies crates to `room`, with a crates.txt of them alone. Of what `rt` keeps in out/ the libraries of `built` go with them:
+    `rt` takes a library by the text that it is made of, and so a copy, too."""
+    for name in names:
+        shutil.copytree(f"{TOP}/crates/{name}", f"{room}/crates/{name}", ignore=shutil.ignore_patterns("out", *left_out))
+        if name in built and os.path.isdir(f"{TOP}/crates/{name}/out/rlib"):
+            shutil.copytree(f"{TOP}/crates/{name}/out/rlib", f"{room}/crates/{name}/out/rlib")
+    shutil.copy(f"{TOP}/HANDLES", room)
+    with open(f"{room}/crates.txt", "w") as it:
+        it.writelines(line for line, _ in names.values())
+    subprocess.run(["git", "init", "--quiet"], cwd=room, check=True)
+
+
+def build_libraries(names):
+    """Builds these libraries of the repository, and those below them, where that is still to do. They stay in out/."""
+    for name in names:
+        ran = subprocess.run(["rt", "lib"], cwd=f"{TOP}/crates/{name}", stdin=subprocess.DEVNULL, stdout=subprocess.PIPE, stderr=subprocess.STDOUT, text=True, errors="replace")
+        if ran.returncode:
+            sys.exit(f"{name} is not proved as it stands:\n{ran.stdout[-2000:]}")
+
+
+def copy_with(program, uses, room, is_built=False):
     """Copies to `room` what the program stands on, without wrong bodies, and adds a crate. Returns the crate's folder."""
     below = crates_below(uses)
-    for name in below:
-        shutil.copytree(f"{TOP}/crates/{name}", f"{room}/crates/{name}", ignore=shutil.ignore_patterns("out", "must-fail"))
-    shutil.copy(f"{TOP}/HANDLES", room)
+    copy_crates(below, room, built=below if is_built else ())
     crate = f"{room}/crates/{NAME}"
     os.makedirs(f"{crate}/src")
     with open(f"{crate}/src/main.rt", "w") as it:
         it.write(program)
-    with open(f"{room}/crates.txt", "w") as it:
-        it.writelines([*below.values(), f"{NAME}: {uses}\n"])
-    subprocess.run(["git", "init", "--quiet"], cwd=room, check=True)
+    with open(f"{room}/crates.txt", "a") as it:
+        it.write(f"{NAME}: {uses}\n")
     subprocess.run(["rt", "fmt"], cwd=crate, stdin=subprocess.DEVNULL, stdout=sys.stderr, stderr=sys.stderr, check=True)
     return crate
 
 
 def build(program, uses, room):
-    """Returns the path of the program, proved and built in `room` over copies of the crates below it. What a run of `rt ci`
-    on this machine has proved isn't proved again."""
-    crate = copy_with(program, uses, room)
-    subprocess.run(["rt", "ci"], cwd=room, stdin=subprocess.DEVNULL, stdout=sys.stderr, stderr=sys.stderr, check=True)
+    """Returns the path of the program, proved and built in `room`. The libraries below it are built here, where that is still
+    to do, and copied; so the program alone is proved there."""
+    build_libraries(sorted(crates_below(uses).keys() & uses.split()))
+    crate = copy_with(program, uses, room, is_built=True)
+    # With no words the program ends at once, and how doesn't matter.
+    subprocess.run(["rt", "run"], cwd=crate, stdin=subprocess.DEVNULL, stdout=sys.stderr, stderr=sys.stderr, check=False)
+    if not os.path.isfile(f"{crate}/out/{NAME}"):
+        sys.exit("the benchmark's program is not proved")
     return f"{crate}/out/{NAME}"
 
 
