@@ -6,6 +6,9 @@ use Rattle.std.specs.declared.cmp.Ordering.{Ordering}
 use Rattle.std.specs.declared.cmp.Ordering.TheVariants.{Less, Equal, Greater}
 use Rattle.std.specs.Ordering.{is_eq}
 use Rattle.std.proofs.lemmas.Bool.{and_parts, both_ways, cases_Bool, or_cases, or_left, or_right, not-true}
+use Rattle.std.specs.Option.{option_or}
+use Rattle.std.proofs.lemmas.List.Folds.{find-append}
+use Rattle.std.specs.Cmp.{tied_itself}
 use Rattle.kfs_model.specs.Table.{numbers, pairs, get, changed}
 use Rattle.kfs_model.specs.Placement.{TierSizes, Place, Placement, IsBlock, IsLaid, IsPlacement, tier_size, is_free}
 use Rattle.kfs_model.specs.Header.{Header}
@@ -194,3 +197,74 @@ module _ (sizes : TierSizes) (placement : Placement) (moves : List Move) (none :
     laid = laid_after placed.laid;
     of_files = λ number block place is. let (old, was) = lay_before moves placement (number, block) place is in placed.of_files number block old was;
   }
+
+-- ---- one move more
+
+is_tied : (block : ℕ × ℕ) → (pairs numbers numbers).compare block block ≡ Equal
+is_tied block = tied_itself (pairs numbers numbers).total block
+
+module _ (before : List Move) (m : Move) where
+  moves_last : find (has_source (source m)) before ≡ None → find (has_source (source m)) (before ++ m ∷ []) ≡ Some m
+  moves_last none =
+      find-append (has_source (source m)) before (m ∷ [])
+      ∙ ap (λ o. option_or o (find (has_source (source m)) (m ∷ []))) none
+      ∙ ap (λ b. cond b (Some m) None) (has_source-same (source m) m refl)
+
+  moves_others : (block : ℕ × ℕ) → has_source block m ≡ false → find (has_source block) (before ++ m ∷ []) ≡ find (has_source block) before
+  moves_others block other =
+      find-append (has_source block) before (m ∷ [])
+      ∙ ap (λ b. option_or (find (has_source block) before) (cond b (Some m) None)) other
+      ∙ either (find (has_source block) before)
+    where
+      either : (o : Option Move) → option_or o None ≡ o
+      either None = refl
+      either (Some x) = refl
+
+-- a move that overlaps no earlier one is of a block that none of them moves
+first_of_block : (before : List Move) (m : Move) → list_any (λ other. do_overlap other m) before ≡ false → find (has_source (source m)) before ≡ None
+first_of_block [] m alone = refl
+first_of_block (x ∷ xs) m alone = at (has_source (source m) x) refl (first_of_block xs m rest)
+  where
+    rest : list_any (λ other. do_overlap other m) xs ≡ false
+    rest = (or_false (do_overlap x m) (list_any (λ other. do_overlap other m) xs) alone).1
+
+    at : (b : Bool) → has_source (source m) x ≡ b → find (has_source (source m)) xs ≡ None → cond b (Some x) (find (has_source (source m)) xs) ≡ None
+    at true same later = absurd (both_ways (do_overlap x m) (or_false (do_overlap x m) (list_any (λ other. do_overlap other m) xs) alone).0 (or_left (has_source (source m) x) (has_target m.target x) same))
+    at false differs later = later
+
+-- and then its block lies at its target, and all others where the earlier ones left them
+pub moved_more : (placement : Placement) (before : List Move) (m : Move) (place : Place) → get placement (source m) ≡ Some place → list_any (λ other. do_overlap other m) before ≡ false
+    → changed (moved before placement) (source m) (Some m.target) ≡ moved (before ++ m ∷ []) placement
+unfolding moved
+moved_more placement before m place lies alone = same_table _ _ (λ block. get-changed (moved before placement) (source m) (Some m.target) block ∙ at block ((pairs numbers numbers).compare block (source m)) refl)
+  where
+    after : (block : ℕ × ℕ) → get (moved (before ++ m ∷ []) placement) block ≡ option_map (place_after (before ++ m ∷ []) block) (get placement block)
+    after block = get-mapped (place_after (before ++ m ∷ [])) placement block
+
+    now : (block : ℕ × ℕ) → block ≡ source m → Some m.target ≡ get (moved (before ++ m ∷ []) placement) block
+    now block same =
+        sym
+        (ap (get (moved (before ++ m ∷ []) placement)) same
+        ∙ after (source m)
+        ∙ ap (option_map (place_after (before ++ m ∷ []) (source m))) lies
+        ∙ ap (λ (o : Option Move). Some (elim o [ None ↦ place | Some x ↦ x.target ])) (moves_last before m (first_of_block before m alone)))
+
+    as_before : (block : ℕ × ℕ) → has_source block m ≡ false → get (moved before placement) block ≡ get (moved (before ++ m ∷ []) placement) block
+    as_before block other =
+        get-mapped (place_after before) placement block
+        ∙ ap (λ (o : Option Move). option_map (λ (old : Place). elim o [ None ↦ old | Some x ↦ x.target ]) (get placement block)) (sym (moves_others before m block other))
+        ∙ sym (after block)
+
+    differs : (block : ℕ × ℕ) (o : Ordering) → (pairs numbers numbers).compare block (source m) ≡ o → is_eq o ≡ false → has_source block m ≡ false
+    differs block o tie apart =
+        ⊎_elim
+        (λ same.
+        let equal : (pairs numbers numbers).compare block (source m) ≡ Equal = ap (λ b. (pairs numbers numbers).compare b (source m)) (sym (has_source-is block m same)) ∙ is_tied (source m) in
+        absurd (both_ways (is_eq o) apart (ap is_eq (sym tie ∙ equal))))
+        (λ other. other)
+        (cases_Bool (has_source block m))
+
+    at : (block : ℕ × ℕ) (o : Ordering) → (pairs numbers numbers).compare block (source m) ≡ o → cond (is_eq o) (Some m.target) (get (moved before placement) block) ≡ get (moved (before ++ m ∷ []) placement) block
+    at block Less tie = as_before block (differs block Less tie refl)
+    at block Equal tie = now block ((pairs numbers numbers).exact block (source m) tie)
+    at block Greater tie = as_before block (differs block Greater tie refl)
