@@ -1,11 +1,12 @@
 //! The image: nodes and names, which views share, and the blocks of files.
-ghost use Rattle.std.specs.Prelude.{◌≡◌, ◌↔◌, ℕ, ◌<◌, true, List, length, option_map, Err, Some, None, IsTrue, IfSome, IfNone, IfOk, IfErr, OnOk, OnErr};
+ghost use Rattle.std.specs.Prelude.{◌≡◌, ◌↔◌, ℕ, ◌+◌, ◌*◌, ◌<◌, ◌≤◌, true, List, length, slice_index, option_map, Err, Some, None, IsTrue, IfSome, IfNone, IfOk, IfErr, OnOk, OnErr, EachIndex};
 ghost use Rattle.kfs_entry_value.specs.Views.{header_of};
 ghost use Rattle.kfs_model.specs.Table.{get, pairs, numbers};
 ghost use Rattle.kfs_model.specs.Tree.{target};
+ghost use Rattle.kfs_model.specs.Limits.{block_size};
 ghost use Rattle.kfs_model.specs.Placement.{tier_size};
 ghost use Rattle.kfs_model.specs.Sight.{is_directory};
-ghost use Rattle.kfs_model_device.specs.ShownTree.{IsLawful};
+ghost use Rattle.kfs_model_device.specs.ShownTree.{IsLawful, file_byte};
 ghost use Rattle.kfs_model_device.specs.RawImage.{image_of};
 ghost use Rattle.kfs_model_device.specs.Finding.{IsWellFormed};
 ghost use Rattle.kfs_image_codec.specs.RawImages.{raw_of};
@@ -23,7 +24,7 @@ use crate::edit::{Edit, Parts};
 use crate::net::Fill;
 use crate::read::ReadFault;
 use crate::released::released_blocks;
-use kfs_entry_value::{Header, Kind, Name, NameRow, NodeRow, TierSizes};
+use kfs_entry_value::{BLOCK_SIZE, Header, Kind, Name, NameRow, NodeRow, TierSizes};
 use kfs_image_blocks::{ChangeBlocks, FileBlocks, FillBlocks, MoveBlocks, Place};
 use kfs_image_codec::RawImage;
 use kfs_image_nodes::{Answer, Cell, Net, Shape, look};
@@ -281,6 +282,18 @@ impl<A: Allocator> Image<A> {
         ensures none { IfNone result ((q : ℕ × ℕ) → is_from (pairs numbers numbers).compare start.now q ≡ true → get self.now.placement q ≡ None) }
     {
         self.blocks.next_block(start)
+    }
+
+    /// Fills the buffer with the bytes of a block of a file, from the block's first one on, also those
+    /// past the file's end. They are zero where the block isn't mapped or was never written. Condition:
+    /// the buffer is no longer than a block. Takes no memory.
+    #[doc(hidden)]
+    pub fn read_block(&self, number: u32, block: u32, buffer: &mut [u8])
+        requires { length buffer.old ≤ block_size }
+        ensures { EachIndex buffer.new (λ k. slice_index buffer.new k ≡ file_byte self.now.placement self.now.devices number (block * block_size + k)) }
+    {
+        self.blocks
+            .read_bytes(number, u64::from(block) * BLOCK_SIZE, buffer);
     }
 
     /// `read_file`.

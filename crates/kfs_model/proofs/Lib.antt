@@ -47,6 +47,7 @@ pub mod WalkedNode
 pub mod LeasesKept
 pub mod WrittenBlocks
 pub mod PlacementKept
+pub mod MovedBlocks
 pub mod OrderKept
 pub mod Reading
 pub mod Fields

@@ -25,6 +25,7 @@ pub mod Limits
 pub mod Looked
 pub mod MarkedRuns
 pub mod Placement
+pub mod Migration
 pub mod Spelling
 pub mod Judgement
 pub mod Machine

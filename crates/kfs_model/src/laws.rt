@@ -1,9 +1,10 @@
 //! Laws of the definitions. Each is the contract of a function that has nothing to do when it is
 //! called.
 
-ghost use Rattle.std.specs.Prelude.{◌≡◌, ℕ, List, [], Some, None, Result, IfOk, true};
+ghost use Rattle.std.specs.Prelude.{◌≡◌, ℕ, List, [], Option, Some, None, Result, IfOk, true};
 ghost use Rattle.kfs_model.specs.Tree.{Tree};
 ghost use Rattle.kfs_model.specs.Entry.{Log};
+ghost use Rattle.kfs_model.specs.Header.{Header};
 ghost use Rattle.kfs_model.specs.Run.{Mark, marks_after, run, over_bytes, over_marks};
 ghost use Rattle.kfs_model.specs.PlanRow.{Plan};
 ghost use Rattle.kfs_model.specs.Plan.{IsRight, OldBytesStay};
@@ -11,7 +12,8 @@ ghost use Rattle.kfs_model.specs.PlanCut.{SaySame, IsCutAnew};
 ghost use Rattle.kfs_model.specs.FirstWrong.{first_wrong_row};
 ghost use Rattle.kfs_model.specs.Judgement.{State};
 ghost use Rattle.kfs_model.specs.Machine.{OneByOne, Row, IsRead, next, after};
-ghost use Rattle.kfs_model.specs.Placement.{TierSizes, need};
+ghost use Rattle.kfs_model.specs.Placement.{TierSizes, Placement, IsLaid, IsPlacement, need};
+ghost use Rattle.kfs_model.specs.Migration.{Move, move_fault, moved};
 ghost use Rattle.kfs_model.specs.Lease.{KeepsCompatible, dropped, ticked};
 ghost use Rattle.kfs_model.specs.Means.{Means};
 ghost use Rattle.kfs_model.specs.Order.{IsInOrder};
@@ -141,4 +143,10 @@ pub fn bytes_have_one_reading()
 pub fn what_a_row_means()
     ensures meaning { (s t : State) (row : Row) → IsRead row → next s row ≡ Some t → Means s row t }
     ensures order { (s t : State) (row : Row) → IsInOrder s → IsRead row → next s row ≡ Some t → IsInOrder t }
+{}
+
+/// Moves without a fault leave each block of a file in a place of its own, within its tier.
+pub fn moves_keep_blocks_apart()
+    ensures laid { (sizes : TierSizes) (placement : Placement) (moves : List Move) → move_fault sizes placement moves ≡ None → IsLaid sizes placement → IsLaid sizes (moved moves placement) }
+    ensures of_files { (sizes : TierSizes) (placement : Placement) (moves : List Move) → move_fault sizes placement moves ≡ None → (head : ℕ → Option Header) → IsPlacement sizes head placement → IsPlacement sizes head (moved moves placement) }
 {}

@@ -4,6 +4,7 @@
 pub mod AccessCases
 pub mod FileCases
 pub mod LeaseCases
+pub mod MigrationCases
 pub mod NameCases
 pub mod PlacementCases
 pub mod RegroupCases

@@ -8,6 +8,7 @@
 pub mod access;
 pub mod files;
 pub mod leases;
+pub mod migration;
 pub mod names;
 pub mod placement;
 pub mod regroup;
