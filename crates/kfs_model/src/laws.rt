@@ -13,7 +13,7 @@ ghost use Rattle.kfs_model.specs.FirstWrong.{first_wrong_row};
 ghost use Rattle.kfs_model.specs.Judgement.{State};
 ghost use Rattle.kfs_model.specs.Machine.{OneByOne, Row, IsRead, next, after};
 ghost use Rattle.kfs_model.specs.Placement.{TierSizes, Placement, IsLaid, IsPlacement, need};
-ghost use Rattle.kfs_model.specs.Migration.{Move, move_fault, moved};
+ghost use Rattle.kfs_model.specs.Migration.{Move, fault_of_moves, moved_by};
 ghost use Rattle.kfs_model.specs.Lease.{KeepsCompatible, dropped, ticked};
 ghost use Rattle.kfs_model.specs.Means.{Means};
 ghost use Rattle.kfs_model.specs.Order.{IsInOrder};
@@ -147,6 +147,6 @@ pub fn what_a_row_means()
 
 /// Moves without a fault leave each block of a file in a place of its own, within its tier.
 pub fn moves_keep_blocks_apart()
-    ensures laid { (sizes : TierSizes) (placement : Placement) (moves : List Move) → move_fault sizes placement moves ≡ None → IsLaid sizes placement → IsLaid sizes (moved moves placement) }
-    ensures of_files { (sizes : TierSizes) (placement : Placement) (moves : List Move) → move_fault sizes placement moves ≡ None → (head : ℕ → Option Header) → IsPlacement sizes head placement → IsPlacement sizes head (moved moves placement) }
+    ensures laid { (sizes : TierSizes) (placement : Placement) (moves : List Move) → fault_of_moves sizes placement moves ≡ None → IsLaid sizes placement → IsLaid sizes (moved_by moves placement) }
+    ensures of_files { (sizes : TierSizes) (placement : Placement) (moves : List Move) → fault_of_moves sizes placement moves ≡ None → (head : ℕ → Option Header) → IsPlacement sizes head placement → IsPlacement sizes head (moved_by moves placement) }
 {}

@@ -1,7 +1,7 @@
 -- Moves of the blocks of two files.
 use Rattle.std.specs.Prelude.{ℕ, List, [], ◌∷◌, replicate, Option}
 use Rattle.kfs_model.specs.Placement.{TierSizes, Place, Placement}
-use Rattle.kfs_model.specs.Migration.{Move, MoveFault, move_fault}
+use Rattle.kfs_model.specs.Migration.{Move, MoveFault, fault_of_moves}
 use Rattle.kfs_model_examples.specs.Example.{table}
 
 abbrev pub place : (tier number : ℕ) → Place
@@ -21,8 +21,8 @@ sizes = record { first = 8; second = 8; third = 8 }
 abbrev pub move_to : (number block : ℕ) → Place → Move
 move_to number block target = record { number = number; block = block; target = target }
 
-abbrev pub fault_of : List Move → Option MoveFault
-fault_of moves = move_fault sizes side_by_side moves
+abbrev pub fault_found : List Move → Option MoveFault
+fault_found moves = fault_of_moves sizes side_by_side moves
 
 -- block 0 of file 5 to place 3 of tier 2, so many times
 abbrev pub same_move : (count : ℕ) → List Move
