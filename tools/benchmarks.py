@@ -87,7 +87,9 @@ def copy_crates(names, room, left_out=("must-fail",), built=()):
 
 def build_libraries(names):
     """Builds these libraries of the repository, and those below them, where that is still to do. They stay in out/."""
-    for name in names:
+    lines = crates_below(" ".join(names))
+    lower = {low for _, below in lines.values() for low in below}
+    for name in sorted(set(names) - lower):
         ran = subprocess.run(["rt", "lib"], cwd=f"{TOP}/crates/{name}", stdin=subprocess.DEVNULL, stdout=subprocess.PIPE, stderr=subprocess.STDOUT, text=True, errors="replace")
         if ran.returncode:
             sys.exit(f"{name} is not proved as it stands:\n{ran.stdout[-2000:]}")
@@ -112,7 +114,7 @@ def copy_with(program, uses, room, files=(), is_built=False):
 def build(program, uses, room, files=()):
     """Returns the path of the program, proved and built in `room`. The libraries below it are built here, where that is still
     to do, and copied; so the program alone is proved there."""
-    build_libraries(sorted(crates_below(uses).keys() & uses.split()))
+    build_libraries(crates_below(uses).keys() & uses.split())
     crate = copy_with(program, uses, room, files, is_built=True)
     # With no words the program ends at once, and how doesn't matter.
     subprocess.run(["rt", "run"], cwd=crate, stdin=subprocess.DEVNULL, stdout=sys.stderr, stderr=sys.stderr, check=False)
