@@ -87,31 +87,35 @@ def copy_crates(names, room, left_out=("must-fail",), built=()):
 
 def build_libraries(names):
     """Builds these libraries of the repository, and those below them, where that is still to do. They stay in out/."""
-    for name in names:
+    lines = crates_below(" ".join(names))
+    lower = {low for _, below in lines.values() for low in below}
+    for name in sorted(set(names) - lower):
         ran = subprocess.run(["rt", "lib"], cwd=f"{TOP}/crates/{name}", stdin=subprocess.DEVNULL, stdout=subprocess.PIPE, stderr=subprocess.STDOUT, text=True, errors="replace")
         if ran.returncode:
             sys.exit(f"{name} is not proved as it stands:\n{ran.stdout[-2000:]}")
 
 
-def copy_with(program, uses, room, is_built=False):
-    """Copies to `room` what the program stands on, without wrong bodies, and adds a crate. Returns the crate's folder."""
+def copy_with(program, uses, room, files=(), is_built=False):
+    """Copies to `room` what the program stands on, without wrong bodies, and adds a crate of it and these files, by name. Returns
+    the crate's folder."""
     below = crates_below(uses)
     copy_crates(below, room, built=below if is_built else ())
     crate = f"{room}/crates/{NAME}"
-    os.makedirs(f"{crate}/src")
-    with open(f"{crate}/src/main.rt", "w") as it:
-        it.write(program)
+    for name, text in {**dict(files), "src/main.rt": program}.items():
+        os.makedirs(os.path.dirname(f"{crate}/{name}"), exist_ok=True)
+        with open(f"{crate}/{name}", "w", encoding="utf-8") as it:
+            it.write(text)
     with open(f"{room}/crates.txt", "a") as it:
         it.write(f"{NAME}: {uses}\n")
     subprocess.run(["rt", "fmt"], cwd=crate, stdin=subprocess.DEVNULL, stdout=sys.stderr, stderr=sys.stderr, check=True)
     return crate
 
 
-def build(program, uses, room):
+def build(program, uses, room, files=()):
     """Returns the path of the program, proved and built in `room`. The libraries below it are built here, where that is still
     to do, and copied; so the program alone is proved there."""
-    build_libraries(sorted(crates_below(uses).keys() & uses.split()))
-    crate = copy_with(program, uses, room, is_built=True)
+    build_libraries(crates_below(uses).keys() & uses.split())
+    crate = copy_with(program, uses, room, files, is_built=True)
     # With no words the program ends at once, and how doesn't matter.
     subprocess.run(["rt", "run"], cwd=crate, stdin=subprocess.DEVNULL, stdout=sys.stderr, stderr=sys.stderr, check=False)
     if not os.path.isfile(f"{crate}/out/{NAME}"):
@@ -119,11 +123,11 @@ def build(program, uses, room):
     return f"{crate}/out/{NAME}"
 
 
-def try_once(program, uses, named, cases):
-    """Runs the program once with each list of words, on these files and built by the kit's quick build, which proves
+def try_once(program, uses, named, cases, files=()):
+    """Runs the program once with each list of words, on these named files and built by the kit's quick build, which proves
     nothing. Returns an exit status."""
     with tempfile.TemporaryDirectory(prefix="bench-") as room:
-        crate = copy_with(program, uses, f"{room}/copy")
+        crate = copy_with(program, uses, f"{room}/copy", files)
         for folder in ("data", "cases"):
             os.mkdir(f"{room}/{folder}")
         put_files(f"{room}/data", named)
