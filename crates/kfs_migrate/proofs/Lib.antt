@@ -1,0 +1,4 @@
+-- Lemmas on moves.
+pub mod MadeMoves
+pub mod MoveSets
+pub mod MoveTests
