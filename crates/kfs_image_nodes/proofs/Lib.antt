@@ -8,3 +8,4 @@ pub mod NameEdits
 pub mod NameOrder
 pub mod NextNames
 pub mod NodeEdits
+pub mod SortedRows

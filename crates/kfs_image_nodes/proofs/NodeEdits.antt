@@ -141,7 +141,7 @@ module _ {X : Type 0} where
       at rest true tied = absurd (out (subst IsNumber (sym (eqb-true q e.number (sym (unsigned_tied q e.number) ∙ tied))) (within 0 e (omega arith))))
       at rest false apart = rest
 
-viewed : (b : Bool) (w o : Option CodeHeader) → option_map header_of (cond b w o) ≡ cond b (option_map header_of w) (option_map header_of o)
+pub viewed : (b : Bool) (w o : Option CodeHeader) → option_map header_of (cond b w o) ≡ cond b (option_map header_of w) (option_map header_of o)
 viewed true w o = refl
 viewed false w o = refl
 

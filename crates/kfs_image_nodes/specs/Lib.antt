@@ -6,3 +6,4 @@ pub mod NameEdits
 pub mod NodeEdits
 pub mod Overlays
 pub mod Rows
+pub mod SortedRows

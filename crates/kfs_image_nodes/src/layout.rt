@@ -1,19 +1,24 @@
 //! The nodes and names of an image, as views share them.
-ghost use Rattle.std.specs.Prelude.{◌≡◌, ℕ, ◌<◌, List, Some, None, option_map, IfSome, IfNone, IfOk, OnOk, OnErr};
+ghost use Rattle.std.specs.Prelude.{◌≡◌, ℕ, ◌<◌, T, All, List, Some, None, option_map, IfSome, IfNone, IfOk, OnOk, OnErr};
+ghost use Rattle.std.specs.FinMap.Entries.{is_sorted};
 ghost use Rattle.kfs_entry_value.specs.Views.{header_of};
 ghost use Rattle.kfs_model.specs.Table.{empty, get};
 ghost use Rattle.kfs_map_pages.specs.Shown.{part};
-ghost use Rattle.kfs_model.specs.Tree.{entry_count, target};
+ghost use Rattle.kfs_model.specs.Spelling.{IsName};
+ghost use Rattle.kfs_model.specs.Tree.{entry_count, name_order, target};
 ghost use Rattle.kfs_model.specs.Sight.{parent_in};
 ghost use Rattle.kfs_image_nodes.specs.Contents.{root_alone};
 ghost use Rattle.kfs_image_nodes.specs.Look.{IsAnswer, IsAfter, IsNext, IsNextNode};
 ghost use Rattle.kfs_image_nodes.specs.Change.{after_rows, renamed, reheaded};
-ghost use Rattle.kfs_image_nodes.specs.Rows.{FitPages};
+ghost use Rattle.kfs_image_nodes.specs.NodeEdits.{IsNumber};
+ghost use Rattle.kfs_image_nodes.specs.Rows.{heads_of, FitPages};
+ghost use Rattle.kfs_image_nodes.specs.SortedRows.{name_entries};
+ghost use Rattle.kfs_map_chunks.specs.Tables.{table};
 
 use crate::cell::{Answer, Cell};
 use crate::rows::{NodeTables, name_key};
 use kfs_entry_value::{GREATEST_MODE_OF_VERSION_1, Header, Kind, Name, NameRow, NodeRow, ROOT};
-use kfs_map_pages::{Change, Page};
+use kfs_map_pages::{Change, Page, Pages};
 use std::alloc::{AllocError, Allocator};
 use std::marker::Model;
 
@@ -131,6 +136,22 @@ impl<A: Allocator + Clone> Shape<A> {
             size: 0,
         };
         let rows = NodeTables::with_node(alloc, ROOT, root)?;
+        Ok(Shape { rows })
+    }
+
+    /// The nodes with these headers, and the names of rows that ascend. Conditions: each name is one, and
+    /// each directory's number is 1 to 65,536. Each name is written once. `Err` where memory is refused.
+    pub fn of_rows(
+        alloc: &A,
+        headers: Pages<Header, A>,
+        names: &[NameRow],
+    ) -> Result<Shape<A>, AllocError>
+        requires sorted { T (is_sorted name_order.compare (name_entries names.now)) }
+        requires named { All (λ row. IsName row.name) names.now }
+        requires numbered { All (λ row. IsNumber row.dir) names.now }
+        ensures { IfOk result (λ shape. shape ≡ record { heads = heads_of headers; names = table name_order (name_entries names.now) }) }
+    {
+        let rows = NodeTables::of_rows(alloc, headers, names)?;
         Ok(Shape { rows })
     }
 

@@ -13,6 +13,7 @@ mod name_edits;
 mod net;
 mod overlay;
 mod rows;
+mod sorted_rows;
 
 pub use cell::{Answer, Cell};
 pub use edits::header_edits;

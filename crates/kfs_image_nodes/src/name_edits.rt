@@ -55,14 +55,14 @@ pub(crate) fn name_edits<A: Allocator + Clone>(
 
 /// New values of names, counts and uplinks, laid over the maps.
 #[derive(Drop)]
-struct Overlays<A: Allocator> {
+pub(crate) struct Overlays<A: Allocator> {
     names: Overlay<(u32, Name), u32, A>,
     counts: Overlay<u32, u64, A>,
     uplinks: Overlay<(u32, u32), u64, A>,
 }
 
 impl<A: Allocator + Clone> Overlays<A> {
-    fn new(alloc: &A) -> Result<Overlays<A>, AllocError>
+    pub(crate) fn new(alloc: &A) -> Result<Overlays<A>, AllocError>
         ensures names { IfOk result (λ overlays. overlays.names.latest.entries ≡ []) }
         ensures counts { IfOk result (λ overlays. overlays.counts.latest.entries ≡ []) }
         ensures uplinks { IfOk result (λ overlays. overlays.uplinks.latest.entries ≡ []) }
@@ -143,7 +143,7 @@ impl<A: Allocator + Clone> Overlays<A> {
     }
 
     /// Counts one name of the directory more, if the name now leads to a node.
-    fn enter(
+    pub(crate) fn enter(
         &mut self,
         counts: &Pages<u64, A>,
         uplinks: &Chunks<(u32, u32), u64, A>,
@@ -166,7 +166,7 @@ impl<A: Allocator + Clone> Overlays<A> {
     }
 
     /// The new values as edits of the maps.
-    fn edits(&self, alloc: &A) -> Result<NameEdits<A>, AllocError>
+    pub(crate) fn edits(&self, alloc: &A) -> Result<NameEdits<A>, AllocError>
         ensures names_ascend { IfOk result (λ edits. KeysAscend name_order.compare edits.names.items) }
         ensures counts_ascend { IfOk result (λ edits. AreEdits edits.counts.items) }
         ensures uplinks_ascend { IfOk result (λ edits. KeysAscend by_node.compare edits.uplinks.items) }

@@ -1,5 +1,6 @@
 //! The maps that hold the nodes and names of a shape, with counts of the names.
-ghost use Rattle.std.specs.Prelude.{◌≡◌, ℕ, ◌≤◌, ◌<◌, true, option_map, IfOk, IfSome, IfNone, OnOk, OnErr, Some, None, List, [], ◌∷◌};
+ghost use Rattle.std.specs.Prelude.{◌≡◌, ℕ, ◌≤◌, ◌<◌, T, All, true, option_map, IfOk, IfSome, IfNone, OnOk, OnErr, Some, None, List, [], ◌∷◌};
+ghost use Rattle.std.specs.FinMap.Entries.{is_sorted};
 ghost use Rattle.kfs_entry_value.specs.Views.{header_of};
 ghost use Rattle.kfs_model.specs.Spelling.{IsName};
 ghost use Rattle.kfs_model.specs.Table.{get, empty, changed};
@@ -13,10 +14,12 @@ ghost use Rattle.kfs_image_nodes.specs.Indexes.{by_node};
 ghost use Rattle.kfs_image_nodes.specs.Look.{IsAfter, IsNext, IsNextNode};
 ghost use Rattle.kfs_image_nodes.specs.NodeEdits.{IsNumber};
 ghost use Rattle.kfs_image_nodes.specs.Rows.{heads_in, names_in, CountsAreExact, FitPages};
+ghost use Rattle.kfs_image_nodes.specs.SortedRows.{name_entries};
 
 use crate::borrowed::Borrowed;
 use crate::edits::header_edits;
 use crate::name_edits::{NameEdits, name_edits};
+use crate::sorted_rows::{NameCounts, counts_of, names_of};
 use kfs_entry_value::{Header, Name, NameRow, NodeRow};
 use kfs_map_chunks::{Chunks, EditChunks};
 use kfs_map_pages::{Change, EditPages, Nothing, NumberEdit, Pages};
@@ -183,6 +186,29 @@ impl<A: Allocator + Clone> NodeTables<A> {
             names: Chunks::new(alloc.clone()?),
             counts: Pages::new(alloc.clone()?)?,
             uplinks: Chunks::new(alloc),
+        })
+    }
+
+    /// The tables with these headers, and with the names of rows that ascend.
+    pub(crate) fn of_rows(
+        alloc: &A,
+        headers: Pages<Header, A>,
+        rows: &[NameRow],
+    ) -> Result<NodeTables<A>, AllocError>
+        requires sorted { T (is_sorted name_order.compare (name_entries rows.now)) }
+        requires named { All (λ row. IsName row.name) rows.now }
+        requires numbered { All (λ row. IsNumber row.dir) rows.now }
+        ensures headers { IfOk result (λ tables. tables.headers ≡ headers) }
+        ensures names { IfOk result (λ tables. tables.names ≡ name_entries rows.now) }
+        ensures indexed { IfOk result CountsAreExact }
+    {
+        let NameCounts { counts, uplinks } = counts_of(alloc, rows)?;
+        let names = names_of(alloc, rows)?;
+        Ok(NodeTables {
+            headers,
+            names,
+            counts,
+            uplinks,
         })
     }
 

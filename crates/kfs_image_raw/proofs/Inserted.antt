@@ -5,8 +5,8 @@ use Rattle.std.specs.declared.cmp.Ordering.TheVariants.{Less, Equal, Greater}
 use Rattle.std.specs.Ordering.{is_eq}
 use Rattle.std.specs.Cmp.{tied_itself}
 use Rattle.std.specs.FinMap.Entries.{find, is_sorted}
-use Rattle.kfs_model.specs.Table.{Order, Table, get, insert, changed}
-use Rattle.kfs_model.proofs.TableLaws.{same_table, get-insert, get-changed}
+use Rattle.kfs_model.specs.Table.{Order, Table, get, insert}
+use Rattle.kfs_model.proofs.TableLaws.{same_table, get-insert}
 use Rattle.kfs_model.proofs.Tables.{right_part, find_head, find_behind}
 use Rattle.kfs_model_device.specs.RawImage.{table_of}
 use Rattle.kfs_model_device.proofs.Among.{Among}
@@ -67,16 +67,3 @@ module _ {K X : Type 0} (R : Order K) where
   pub sorted_has_each : (es : List (K × X)) → T (is_sorted R.compare es) → HasEach (table_of R es) es
   unfolding get
   sorted_has_each es sorted key value among = ap (find R.compare key) (sorted_entries R es sorted) ∙ member_found es sorted key value among
-
-module _ {K X : Type 0} {R : Order K} (P : K → Type 0) where
-  -- each key of the table is so
-  abbrev pub KeysAre : Table R X → Type 0
-  KeysAre t = (key : K) (value : X) → get t key ≡ Some value → P key
-
-  pub changed_keys : (t : Table R X) (key : K) (value : Option X) → KeysAre t → P key → KeysAre (changed t key value)
-  changed_keys t key value are here other found is = at (R.compare other key) refl (sym (get-changed t key value other) ∙ is)
-    where
-      at : (o : Ordering) → R.compare other key ≡ o → cond (is_eq o) value (get t other) ≡ Some found → P other
-      at Less tie there = are other found there
-      at Equal tie there = subst P (sym (R.exact other key tie)) here
-      at Greater tie there = are other found there

@@ -1,6 +1,5 @@
 -- Lemmas on rows that are made one after another.
 pub mod Inserted
-pub mod Batches
 pub mod RawRows
 pub mod Pushed
 pub mod RawBlocks

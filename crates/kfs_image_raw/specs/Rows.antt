@@ -1,13 +1,14 @@
 -- The node and name rows of a raw image, as what they make of a shape.
 use Rattle.std.specs.Prelude.{Some}
-use Rattle.kfs_entry_value.specs.declared.plan.NodeRow.{NodeRow}
+use Rattle.kfs_entry_value.specs.declared.header.Header.{Header}
+use Rattle.kfs_map_pages.specs.declared.edit.NumberEdit.{NumberEdit}
 use Rattle.kfs_model_device.specs.RawImage.{RawImage, heads_of, names_of}
 use Rattle.kfs_image_codec.specs.declared.raw.RawNode.{RawNode as CodeRawNode}
 use Rattle.kfs_image_nodes.specs.Contents.{Contents}
 
--- the row as a change that gives the node its header
-abbrev pub as_node_row : CodeRawNode → NodeRow
-as_node_row row = record { number = row.number; now = Some row.header }
+-- the row as an edit that gives its number the header
+abbrev pub header_edit : CodeRawNode → NumberEdit Header
+header_edit row = record { number = row.number; value = Some row.header }
 
 -- the nodes and names of the rows
 abbrev pub contents_of_raw : RawImage → Contents

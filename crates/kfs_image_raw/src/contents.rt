@@ -1,87 +1,56 @@
 //! The nodes and names that the rows of a raw image make.
-ghost use Rattle.std.specs.Prelude.{◌≡◌, [], All, map, IfOk, OnOk};
-ghost use Rattle.kfs_model_device.specs.RawImage.{IsSpelled};
-ghost use Rattle.kfs_model_device.specs.Finding.{IsWellFormed};
+ghost use Rattle.std.specs.Prelude.{◌≡◌, None, map, IfOk};
+ghost use Rattle.kfs_model_device.specs.RawImage.{IsSpelled, heads_of as heads_of_raw};
+ghost use Rattle.kfs_model_device.specs.Rules.{rule_1};
+ghost use Rattle.kfs_model_device.specs.Finding.{least_failed, IsWellFormed};
 ghost use Rattle.kfs_image_codec.specs.RawImages.{raw_of};
-ghost use Rattle.kfs_image_nodes.specs.Change.{after_rows};
-ghost use Rattle.kfs_image_nodes.specs.NodeEdits.{IsNumber};
-ghost use Rattle.kfs_image_nodes.specs.Rows.{FitPages};
-ghost use Rattle.kfs_image_raw.specs.Rows.{as_node_row, contents_of_raw};
+ghost use Rattle.kfs_image_nodes.specs.Rows.{heads_of};
+ghost use Rattle.kfs_image_raw.specs.Rows.{header_edit, contents_of_raw};
 
-use kfs_entry_value::{NameRow, NodeRow};
 use kfs_image_codec::{RawImage, RawNode};
-use kfs_image_nodes::Shape;
-use kfs_map_pages::Nothing;
+use kfs_image_nodes::{Header, Shape};
+use kfs_map_pages::{Nothing, NumberEdit, Pages};
 use std::alloc::{AllocError, Allocator};
-
-/// How many rows are added at a time, so that little memory is taken besides that of the shape.
-const BATCH: usize = 4_096;
 
 /// The nodes and names of a raw image's rows. `Err` where memory is refused.
 pub fn raw_shape<A: Allocator + Clone>(alloc: &A, raw: &RawImage<A>) -> Result<Shape<A>, AllocError>
-    requires { IsWellFormed (raw_of raw.now) }
+    requires spelled { IsSpelled (raw_of raw.now) }
+    requires well_formed { IsWellFormed (raw_of raw.now) }
     ensures { IfOk result (λ shape. shape ≡ contents_of_raw (raw_of raw.now)) }
 {
-    let mut shape = Shape::with_root(alloc.clone()?)?;
-    add_nodes(alloc, &mut shape, raw.nodes.as_slice())?;
-    add_names(alloc, &mut shape, raw.names.as_slice())?;
+    let headers = raw_headers(alloc, raw)?;
+    let shape = Shape::of_rows(alloc, headers, raw.names.as_slice())?;
     Ok(shape)
 }
 
-/// Gives each row's node its header, row after row. `Err` where memory is refused; some rows may be made
-/// then.
-fn add_nodes<A: Allocator + Clone>(
+/// The headers of a raw image's node rows, by number. Condition: the rows ascend, and their numbers are
+/// 1 to 65,536. `Err` where memory is refused.
+pub fn raw_headers<A: Allocator + Clone>(
     alloc: &A,
-    shape: &mut Shape<A>,
-    rows: &[RawNode],
-) -> Result<(), AllocError>
-    requires before { FitPages shape.old.heads shape.old.names }
-    requires numbered { All (λ row. IsNumber row.number) rows.now }
-    ensures nodes { OnOk result (shape.new ≡ after_rows shape.old [] (map as_node_row rows.now)) }
-    ensures fit { OnOk result (FitPages shape.new.heads shape.new.names) }
+    raw: &RawImage<A>,
+) -> Result<Pages<Header, A>, AllocError>
+    requires { least_failed (rule_1 (raw_of raw.now)) ≡ None }
+    ensures { IfOk result (λ headers. heads_of headers ≡ heads_of_raw (raw_of raw.now)) }
 {
-    let mut left = rows;
-    while !left.is_empty() {
-        let (some, rest) = left.split_at(BATCH.min(left.len()));
-        let headers = node_rows(alloc, some)?;
-        shape.apply(alloc, &[], headers.as_slice(), &mut Nothing)?;
-        left = rest;
-    }
-    Ok(())
+    let edits = edits_of(alloc, raw.nodes.as_slice())?;
+    let mut headers = Pages::new(alloc.clone()?)?;
+    headers.change_then(edits.as_slice(), &mut Nothing)?;
+    Ok(headers)
 }
 
-/// The rows as changes of headers.
-fn node_rows<A: Allocator + Clone>(
+/// The rows as edits that give each number its header.
+fn edits_of<A: Allocator + Clone>(
     alloc: &A,
     rows: &[RawNode],
-) -> Result<Vec<NodeRow, A>, AllocError>
-    ensures { IfOk result (λ made. made.items ≡ map as_node_row rows.now) }
+) -> Result<Vec<NumberEdit<Header>, A>, AllocError>
+    ensures { IfOk result (λ edits. edits.items ≡ map header_edit rows.now) }
 {
-    let mut made = Vec::with_capacity(alloc.clone()?, rows.len())?;
+    let mut edits = Vec::with_capacity(alloc.clone()?, rows.len())?;
     for row in rows {
-        made.push(NodeRow {
+        edits.push(NumberEdit {
             number: row.number,
-            now: Some(row.header),
+            value: Some(row.header),
         })?;
     }
-    Ok(made)
-}
-
-/// Adds each row's name, row after row. `Err` where memory is refused; some rows may be made then.
-fn add_names<A: Allocator + Clone>(
-    alloc: &A,
-    shape: &mut Shape<A>,
-    rows: &[NameRow],
-) -> Result<(), AllocError>
-    requires before { FitPages shape.old.heads shape.old.names }
-    requires numbered { All (λ row. IsNumber row.dir) rows.now }
-    ensures { OnOk result (shape.new ≡ after_rows shape.old rows.now []) }
-{
-    let mut left = rows;
-    while !left.is_empty() {
-        let (some, rest) = left.split_at(BATCH.min(left.len()));
-        shape.apply(alloc, some, &[], &mut Nothing)?;
-        left = rest;
-    }
-    Ok(())
+    Ok(edits)
 }

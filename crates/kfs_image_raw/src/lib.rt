@@ -9,5 +9,5 @@ mod contents;
 mod spelled;
 
 pub use blocks::raw_blocks;
-pub use contents::raw_shape;
+pub use contents::{raw_headers, raw_shape};
 pub use spelled::tell_spelled;

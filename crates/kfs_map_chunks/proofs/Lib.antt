@@ -1,7 +1,7 @@
 mod FirstEntries
 mod Order
 pub mod Overlays
-mod Parts
+pub mod Parts
 mod Recut
 mod Rewritten
 mod Sorted

@@ -1,17 +1,19 @@
 //! The parts of all keys, as one sorted map.
-ghost use Rattle.std.specs.Prelude.{◌≡◌, [], true, None, IfSome, IfNone, OnOk, OnErr};
+ghost use Rattle.std.specs.Prelude.{◌≡◌, [], T, true, None, IfSome, IfNone, IfOk, OnOk, OnErr};
 ghost use Rattle.std.specs.Option.{option_copied};
-ghost use Rattle.std.specs.FinMap.Entries.{find};
+ghost use Rattle.std.specs.FinMap.Entries.{find, is_sorted};
 ghost use Rattle.std.specs.Range.Bound.{bound_map};
 ghost use Rattle.kfs_map_chunks.specs.Edits.{rewritten, KeysAscend};
+ghost use Rattle.kfs_map_chunks.specs.Joined.{joined, AreSized};
 ghost use Rattle.kfs_map_chunks.specs.Starts.{is_from, IsNextEntry};
 
 use crate::change::change_parts;
 use crate::edit::KeyEdit;
+use crate::entries::Entries;
 use crate::key::Key;
 use crate::part::Part;
 use crate::place::place_part;
-use crate::rebuilt_parts::rebuilt_parts;
+use crate::rebuilt_parts::{cut_parts, rebuilt_parts};
 use kfs_map_pages::Change;
 use std::alloc::{AllocError, Allocator};
 use std::marker::Model;
@@ -84,6 +86,20 @@ impl<K: Key, V: Copy, A: Allocator> Chunks<K, V, A> {
 }
 
 impl<K: Key, V: Copy, A: Allocator + Clone> Chunks<K, V, A> {
+    /// The map of the entries of these chunks, which it shares. `Err` where memory is refused.
+    pub(crate) fn of(
+        alloc: A,
+        chunks: &[Arc<Entries<K, V, A>, A>],
+    ) -> Result<Chunks<K, V, A>, AllocError>
+        requires sorted { T (is_sorted K.cmp (joined chunks.now)) }
+        requires sized { AreSized chunks.now }
+        ensures { IfOk result (λ map. map ≡ joined chunks.now) }
+    {
+        let mut parts = Vec::new(alloc);
+        cut_parts(&mut parts, chunks)?;
+        Ok(Chunks { parts })
+    }
+
     /// Makes the edits and the other change, or neither. All memory is taken first; then comes the
     /// other change, then the edits. Copies show what they showed. Condition: the keys of the edits
     /// ascend. `Err` where memory is refused.

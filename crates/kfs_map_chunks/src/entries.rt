@@ -53,6 +53,14 @@ impl<K: Key, V: Copy, A: Allocator> Entries<K, V, A> {
         }
     }
 
+    /// These entries. Takes no memory.
+    pub(crate) fn of(pairs: Vec<(K, V), A>) -> Entries<K, V, A>
+        requires { T (is_sorted K.cmp pairs.items) }
+        ensures { result.pairs ≡ pairs.items }
+    {
+        Entries { pairs }
+    }
+
     /// The value at a key, or none. Takes no memory.
     pub(crate) fn get(&self, key: &K) -> Option<&V>
         ensures { option_copied result ≡ find K.cmp key.now self.now.pairs }

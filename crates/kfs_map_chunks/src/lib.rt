@@ -7,6 +7,7 @@
 #![tactic(auto)]
 
 mod change;
+mod chunk_list;
 mod chunks;
 mod edit;
 mod entries;
@@ -19,6 +20,7 @@ mod place;
 mod rebuilt;
 mod rebuilt_parts;
 
+pub use chunk_list::ChunkList;
 pub use chunks::Chunks;
 pub use edit::KeyEdit;
 pub use key::Key;

@@ -59,7 +59,7 @@ fn push_part<K: Key, V: Copy, A: Allocator + Clone>(
 }
 
 /// Appends the chunks, cut into parts of one size; only the last may be smaller.
-fn cut_parts<K: Key, V: Copy, A: Allocator + Clone>(
+pub(crate) fn cut_parts<K: Key, V: Copy, A: Allocator + Clone>(
     new: &mut Vec<Arc<Part<K, V, A>, A>, A>,
     chunks: &[Arc<Entries<K, V, A>, A>],
 ) -> Result<(), AllocError>

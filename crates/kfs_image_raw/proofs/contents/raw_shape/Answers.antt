@@ -1,20 +1,29 @@
-use Rattle.std.proofs.Common.{◌≡◌, All, sym, ap, subst, ◌∙◌}
-use Rattle.kfs_image_nodes.specs.Contents.{Contents, root_alone}
+use Rattle.std.proofs.Common.{T, All, sym, ap, subst, ◌∙◌}
+use Rattle.std.specs.FinMap.Entries.{is_sorted}
+use Rattle.kfs_model.specs.Spelling.{IsName}
+use Rattle.kfs_model.specs.Tree.{name_order}
+use Rattle.kfs_map_chunks.specs.Tables.{table}
 use Rattle.kfs_image_nodes.specs.NodeEdits.{IsNumber}
-use Rattle.kfs_image_nodes.specs.Rows.{FitPages}
-use Rattle.kfs_image_raw.proofs.RawRows.{root_fits, nodes_numbered, directories_numbered, contents_made}
+use Rattle.kfs_image_nodes.specs.SortedRows.{name_entries}
+use Rattle.kfs_image_raw.proofs.RawRows.{in_range, directories_numbered, names_sorted, names_made, names_are_names}
 use Rattle.kfs_image_raw.proofs.contents.raw_shape.Goals as goal
 
-pub add_nodes-requires-clause-before : goal.add_nodes-requires-clause-before
-add_nodes-requires-clause-before g c = subst (λ (shape : Contents). FitPages shape.heads shape.names) (sym c.in_ok-shape.ensures) root_fits
+pub raw_headers-requires : goal.raw_headers-requires
+raw_headers-requires g c = in_range c.args.raw.now c.requires.well_formed
 
-pub add_nodes-requires-clause-numbered : goal.add_nodes-requires-clause-numbered
-add_nodes-requires-clause-numbered g c = subst (All (λ row. IsNumber row.number)) (sym c.as_slice.ensures.value) (nodes_numbered c.args.raw.now c.requires)
+pub of_rows-requires-clause-sorted : goal.of_rows-requires-clause-sorted
+of_rows-requires-clause-sorted g c = subst (λ rows. T (is_sorted name_order.compare (name_entries rows))) (sym c.as_slice.ensures.value) (names_sorted c.args.raw.now c.requires.well_formed)
 
-pub add_names-requires-clause-numbered : goal.add_names-requires-clause-numbered
-add_names-requires-clause-numbered g c = subst (All (λ row. IsNumber row.dir)) (sym c.as_slice-2.ensures.value) (directories_numbered c.args.raw.now c.requires)
+pub of_rows-requires-clause-named : goal.of_rows-requires-clause-named
+of_rows-requires-clause-named g c = subst (All (λ row. IsName row.name)) (sym c.as_slice.ensures.value) (names_are_names c.args.raw.now c.requires.spelled)
+
+pub of_rows-requires-clause-numbered : goal.of_rows-requires-clause-numbered
+of_rows-requires-clause-numbered g c = subst (All (λ row. IsNumber row.dir)) (sym c.as_slice.ensures.value) (directories_numbered c.args.raw.now c.requires.well_formed)
 
 pub returns : goal.returns
 returns g c =
-    contents_made c.args.raw.now c.requires c.in_ok-shape.shape c.add_nodes.new.shape c.add_names.new.shape c.as_slice.result.now c.as_slice-2.result.now
-    c.in_ok-shape.ensures c.as_slice.ensures.value c.as_slice-2.ensures.value c.in_ok-add_nodes.ensures.nodes c.in_ok-add_names.ensures
+    c.in_ok-shape.ensures
+    ∙ (λ i. record {
+      heads = c.in_ok-headers.ensures i;
+      names = (ap (λ rows. table name_order (name_entries rows)) c.as_slice.ensures.value ∙ names_made c.args.raw.now c.requires.well_formed) i;
+    })
