@@ -1,0 +1,2 @@
+-- Lemmas on images from bytes.
+pub mod Loads
