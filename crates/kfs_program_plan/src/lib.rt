@@ -1,0 +1,2 @@
+//! Makes the plan of a log.
+#![tactic(auto)]
