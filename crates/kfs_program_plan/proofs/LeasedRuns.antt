@@ -3,21 +3,25 @@ use Rattle.std.proofs.Common.{◌≡◌, ℕ, ◌+◌, ◌==◌, ◌||◌, Bool,
 use Rattle.std.specs.List.{AllByRecursion}
 use Rattle.kfs_model.specs.Header.{Kind, File, Directory}
 use Rattle.kfs_model.specs.Access.{Client}
-use Rattle.kfs_model.specs.CleanStep.{IsClient}
-use Rattle.kfs_model.specs.Tree.{Tree}
+use Rattle.kfs_model.specs.CleanStep.{IsClient, Fits}
+use Rattle.kfs_model.specs.Table.{get}
+use Rattle.kfs_model.specs.Tree.{Tree, headers}
 use Rattle.kfs_model.specs.Entry.{Entry, Create, Write, Truncate, Link, Unlink, Rename, Chmod, Regroup}
-use Rattle.kfs_model.specs.Sight.{Sight, ClientSight, sight, kind_shown}
+use Rattle.kfs_model.specs.Sight.{Sight, ClientSight, sight, client_sight, kind_shown}
 use Rattle.kfs_model.specs.Check
 use Rattle.kfs_model.specs.Check.{EntryContext, Reason, Check, fault, unless, first_failing, first_fault, checks_of, may_go, on_number, payload_fits, arrival_checks, move_checks, rename_checks}
 use Rattle.kfs_model.specs.Effect.{Filling, effect}
 use Rattle.kfs_model.specs.FirstWrong.{same_place}
-use Rattle.kfs_model.specs.Run.{EntryFault, entry_context, created_by, run_from}
+use Rattle.kfs_model.specs.Run.{EntryFault, entry_context, created_by, run_from, run, over_bytes, over_marks, marked, byte_of}
 use Rattle.kfs_model.specs.SeenAfter.{put_name, seen_after, seen_moved, seen_unlinked, seen_renamed, seen_without}
-use Rattle.kfs_model.specs.Soundness.{IsSound}
+use Rattle.kfs_model.specs.Soundness.{IsSound, AreSound}
 use Rattle.kfs_model.specs.Spelling.{IsEntry}
+use Rattle.kfs_model.proofs.Cells.{recut, headers-recut}
 use Rattle.kfs_model.proofs.CellSteps.{IsFaithful}
-use Rattle.kfs_model.proofs.SeenRun.{clean_step}
-use Rattle.kfs_program_plan.specs.AskedLeases.{listed, numbers_named}
+use Rattle.kfs_model.proofs.CleanIsAllowed.{AllPass, all_pass}
+use Rattle.kfs_model.proofs.Marks.{marks_give_bytes}
+use Rattle.kfs_model.proofs.SeenRun.{clean_step, bytes_faithful, marks_faithful}
+use Rattle.kfs_program_plan.specs.AskedLeases.{sight_with_leases, listed, numbers_named}
 
 parts : {X : Type 0} (P : X → Type 0) (front back : List X) → AllByRecursion P (front ++ back) → AllByRecursion P front × AllByRecursion P back
 parts P [] back all = (tt, all)
@@ -222,3 +226,105 @@ module _ (client : Client) (first : Sight) (held : ℕ → Bool) where
             → goes_on some_leases o ≡ goes_on all_leases o
         at None rest is = rest is
         at (Some reason) rest is = refl
+
+-- ---- a tree before the log
+
+-- marks in place of bytes leave the headers
+marked_heads : (client : Client) (t : Tree ℕ) → headers (marked t) ≡ headers t
+unfolding run_from
+marked_heads client t =
+    let before = client_sight t (λ number. true) in
+    let same : ◌≡◌ {A = Result (Tree ℕ) EntryFault} (Ok (recut (byte_of t []) (marked t))) (Ok t) = marks_give_bytes client before t [] in
+    let tree : recut (byte_of t []) (marked t) ≡ t = cc in
+    sym (headers-recut (byte_of t []) (marked t)) ∙ ap headers tree
+
+marked_sound : (client : Client) (t : Tree ℕ) → IsSound t → IsSound (marked t)
+marked_sound client t sound = subst (λ heads. AreSound (get heads) t.names) (sym (marked_heads client t)) sound
+
+module _ (client : Client) (t : Tree ℕ) (entries : List Entry) (fits : Fits client t entries) (held : ℕ → Bool) (named : AllByRecursion (HoldsNamed client (sight t) held) entries) where
+  pub same_run : run over_bytes client (client_sight t held) t entries ≡ run over_bytes client (sight_with_leases t) t entries
+  same_run = same_run_from client (sight t) held over_bytes bytes_faithful fits.in_range fits.version 0 [] t entries fits.sound fits.fitting (λ d m number is. inr is) named
+
+  pub same_marked_run : run over_marks client (client_sight t held) (marked t) entries ≡ run over_marks client (sight_with_leases t) (marked t) entries
+  same_marked_run = same_run_from client (sight t) held over_marks marks_faithful fits.in_range fits.version 0 [] (marked t) entries (marked_sound client t fits.sound) fits.fitting (λ d m number is. inr is) named
+
+-- ---- a run without a fault doesn't depend on the leases
+
+module _ (client : Client) (first : Sight) (held : ℕ → Bool) where
+  module _ (now : Sight) (created : ℕ → Bool) where
+    abbrev with_some : EntryContext
+    with_some = record { client = client; before = record { sight = first; held = held }; now = now; created = created }
+
+    abbrev with_all : EntryContext
+    with_all = record { client = client; before = record { sight = first; held = λ number. true }; now = now; created = created }
+
+    leased_too : (made has : Bool) (reason : Reason) → unless (made || has) reason ≡ None → unless (made || true) reason ≡ None
+    leased_too true has reason clean = refl
+    leased_too false has reason clean = refl
+
+    clean_too : (check : Check) → fault with_some check ≡ None → fault with_all check ≡ None
+    unfolding fault
+    clean_too (Check.Exists n) clean = clean
+    clean_too (Check.IsADirectory n) clean = clean
+    clean_too (Check.IsAFile n) clean = clean
+    clean_too (Check.MaySearch n) clean = clean
+    clean_too (Check.MayWrite n) clean = clean
+    clean_too (Check.IsOwned n) clean = clean
+    clean_too (Check.IsLeased n) clean = leased_too (created n) (held n) (Check.NoLease n) clean
+    clean_too (Check.HasNoNames n) clean = clean
+    clean_too (Check.HasRoomForLink n) clean = clean
+    clean_too (Check.NumberIsGranted n) clean = clean
+    clean_too (Check.NumberIsFree n) clean = clean
+    clean_too (Check.NameIsThere d m) clean = clean
+    clean_too (Check.NameIsFree d m) clean = clean
+    clean_too (Check.MayRemove d n) clean = clean
+    clean_too (Check.MaySetGroup group) clean = clean
+    clean_too (Check.EndIsInRange end) clean = clean
+    clean_too (Check.IsNotAbove n d) clean = clean
+    clean_too (Check.Sees cell) clean = clean
+
+    all_clean : (checks : List Check) → AllPass with_some checks → first_failing with_all checks ≡ None
+    unfolding first_failing
+    all_clean [] pass = refl
+    all_clean (check ∷ checks) pass =
+        ap (λ (o : Option Reason). elim o as (λ o. Option Reason) [ None ↦ first_failing with_all checks | Some reason ↦ Some reason ]) (clean_too check pass.0) ∙ all_clean checks pass.1
+
+    -- the checks are the same, whatever leases the client holds
+    same_checks : (entry : Entry) → checks_of with_some entry ≡ checks_of with_all entry
+    unfolding checks_of
+    same_checks (Create d m n kind mode) = refl
+    same_checks (Write n offset payload) = refl
+    same_checks (Truncate n size) = refl
+    same_checks (Link n d m) = refl
+    same_checks (Unlink d m kind) = refl
+    same_checks (Rename d m e k) = refl
+    same_checks (Chmod n mode) = refl
+    same_checks (Regroup n group) = refl
+
+    entry_clean_too : (entry : Entry) → first_fault with_some entry ≡ None → first_fault with_all entry ≡ None
+    entry_clean_too entry clean = ap (first_failing with_all) (sym (same_checks entry)) ∙ all_clean (checks_of with_some entry) (all_pass with_some (checks_of with_some entry) clean)
+
+  abbrev few : ClientSight
+  few = record { sight = first; held = held }
+
+  abbrev every : ClientSight
+  every = record { sight = first; held = λ number. true }
+
+  module _ {B : Type 0} (filling : Filling B) where
+    pub clean_run_from : (index : ℕ) (created : List ℕ) (t : Tree B) (entries : List Entry) (after : Tree B) → run_from filling client few index created t entries ≡ Ok after → run_from filling client every index created t entries ≡ Ok after
+    unfolding run_from
+    clean_run_from index created t [] after is = is
+    clean_run_from index created t (entry ∷ entries) after is =
+        at (first_fault (entry_context client few (sight t) created) entry) refl is
+        (clean_run_from (index + 1) (created_by entry created) (effect filling client index entry t) entries after)
+        (entry_clean_too (sight t) (entry_context client few (sight t) created).created entry)
+      where
+        goes_on : ClientSight → Option Reason → Result (Tree B) EntryFault
+        goes_on leases o = elim o [ None ↦ run_from filling client leases (index + 1) (created_by entry created) (effect filling client index entry t) entries | Some reason ↦ Err (record { entry = index; reason = reason }) ]
+
+        at : (o : Option Reason) → first_fault (entry_context client few (sight t) created) entry ≡ o → goes_on few o ≡ Ok after
+            → (run_from filling client few (index + 1) (created_by entry created) (effect filling client index entry t) entries ≡ Ok after → run_from filling client every (index + 1) (created_by entry created) (effect filling client index entry t) entries ≡ Ok after)
+            → (first_fault (entry_context client few (sight t) created) entry ≡ None → first_fault (entry_context client every (sight t) created) entry ≡ None)
+            → goes_on every (first_fault (entry_context client every (sight t) created) entry) ≡ Ok after
+        at None clean ends rest too = ap (goes_on every) (too clean) ∙ rest ends
+        at (Some reason) clean ends rest too = cc
