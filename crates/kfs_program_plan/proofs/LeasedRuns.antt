@@ -21,9 +21,9 @@ use Rattle.kfs_model.proofs.CellSteps.{IsFaithful}
 use Rattle.kfs_model.proofs.CleanIsAllowed.{AllPass, all_pass}
 use Rattle.kfs_model.proofs.Marks.{marks_give_bytes}
 use Rattle.kfs_model.proofs.SeenRun.{clean_step, bytes_faithful, marks_faithful}
-use Rattle.kfs_program_plan.specs.AskedLeases.{sight_with_leases, listed, numbers_named}
+use Rattle.kfs_program_plan.specs.AskedLeases.{HoldsNamed, sight_with_leases, listed}
 
-parts : {X : Type 0} (P : X → Type 0) (front back : List X) → AllByRecursion P (front ++ back) → AllByRecursion P front × AllByRecursion P back
+pub parts : {X : Type 0} (P : X → Type 0) (front back : List X) → AllByRecursion P (front ++ back) → AllByRecursion P front × AllByRecursion P back
 parts P [] back all = (tt, all)
 parts P (x ∷ front) back all = let rest = parts P front back all.1 in ((all.0, rest.0), rest.1)
 
@@ -47,18 +47,15 @@ module _ (client : Client) (first : Sight) (held : ℕ → Bool) where
   AreServed checks = AllByRecursion IsServed checks
 
   -- each name leads to a node that the client holds, or led there before the log
-  abbrev NamesAreKnown : Sight → Type 0
+  abbrev pub NamesAreKnown : Sight → Type 0
   NamesAreKnown now = (d : ℕ) (m : List ℕ) (t : ℕ) → now.name d m ≡ Some t → Holds t ⊎ (first.name d m ≡ Some t)
-
-  abbrev HoldsNamed : Entry → Type 0
-  HoldsNamed entry = AllByRecursion Holds (numbers_named first.name entry)
 
   -- the node to which a name led before the log, or to which it leads now, is held
   held_listed : (o : Option ℕ) (t : ℕ) → AllByRecursion Holds (listed o) → o ≡ Some t → Holds t
   held_listed None t all is = cc
   held_listed (Some n) t all is = let same : n ≡ t = cc in subst Holds same all.0
 
-  held_now : (now : Sight) → NamesAreKnown now → (d : ℕ) (m : List ℕ) (t : ℕ) → AllByRecursion Holds (listed (first.name d m)) → now.name d m ≡ Some t → Holds t
+  pub held_now : (now : Sight) → NamesAreKnown now → (d : ℕ) (m : List ℕ) (t : ℕ) → AllByRecursion Holds (listed (first.name d m)) → now.name d m ≡ Some t → Holds t
   held_now now known d m t all is = at (known d m t is)
     where
       at : Holds t ⊎ (first.name d m ≡ Some t) → Holds t
@@ -130,7 +127,7 @@ module _ (client : Client) (first : Sight) (held : ℕ → Bool) where
         by_same true = tt
         by_same false = move_served d e s (Some t) at_d at_e (at_s s refl) has
 
-    entry_served : (entry : Entry) → NamesAreKnown now → HoldsNamed entry → AreServed (checks_of q entry)
+    entry_served : (entry : Entry) → NamesAreKnown now → HoldsNamed held first.name entry → AreServed (checks_of q entry)
     unfolding checks_of
     entry_served (Create d m n kind mode) known named = (tt, (tt, (tt, (tt, (named.0, (tt, (tt, (tt, tt))))))))
     entry_served (Write n offset payload) known named = (tt, (tt, (tt, (named.0, payload_served offset payload))))
@@ -144,7 +141,7 @@ module _ (client : Client) (first : Sight) (held : ℕ → Bool) where
     entry_served (Chmod n mode) known named = (tt, (tt, (named.0, tt)))
     entry_served (Regroup n group) known named = (tt, (tt, (tt, (named.0, tt))))
 
-    same_first_fault : (entry : Entry) → NamesAreKnown now → HoldsNamed entry → first_fault p entry ≡ first_fault q entry
+    same_first_fault : (entry : Entry) → NamesAreKnown now → HoldsNamed held first.name entry → first_fault p entry ≡ first_fault q entry
     unfolding checks_of
     same_first_fault (Create d m n kind mode) known named = same_failing (checks_of q (Create d m n kind mode)) (entry_served (Create d m n kind mode) known named)
     same_first_fault (Write n offset payload) known named = same_failing (checks_of q (Write n offset payload)) (entry_served (Write n offset payload) known named)
@@ -190,7 +187,7 @@ module _ (client : Client) (first : Sight) (held : ℕ → Bool) where
       at true = known
       at false = moved_known (seen_without e k t now) d m e k n (has n refl) (without_known now e k t known)
 
-  still_known : (now : Sight) (entry : Entry) → HoldsNamed entry → NamesAreKnown now → NamesAreKnown (seen_after client now entry)
+  pub still_known : (now : Sight) (entry : Entry) → HoldsNamed held first.name entry → NamesAreKnown now → NamesAreKnown (seen_after client now entry)
   unfolding seen_after
   still_known now (Create d m n kind mode) named known = put_known now d m (Some n) (this_number n named.1.0) known
   still_known now (Write n offset payload) named known = known
@@ -206,7 +203,7 @@ module _ (client : Client) (first : Sight) (held : ℕ → Bool) where
   -- ---- the run
 
   module _ {B : Type 0} (filling : Filling B) (faithful : IsFaithful filling) (in_range : IsClient client) (version : ℕ) where
-    same_run_from : (index : ℕ) (created : List ℕ) (t : Tree B) (entries : List Entry) → IsSound t → AllByRecursion (IsEntry version) entries → NamesAreKnown (sight t) → AllByRecursion HoldsNamed entries
+    same_run_from : (index : ℕ) (created : List ℕ) (t : Tree B) (entries : List Entry) → IsSound t → AllByRecursion (IsEntry version) entries → NamesAreKnown (sight t) → AllByRecursion (HoldsNamed held first.name) entries
         → run_from filling client some_leases index created t entries ≡ run_from filling client all_leases index created t entries
     unfolding run_from
     same_run_from index created t [] sound fit known named = refl
@@ -241,7 +238,7 @@ marked_heads client t =
 marked_sound : (client : Client) (t : Tree ℕ) → IsSound t → IsSound (marked t)
 marked_sound client t sound = subst (λ heads. AreSound (get heads) t.names) (sym (marked_heads client t)) sound
 
-module _ (client : Client) (t : Tree ℕ) (entries : List Entry) (fits : Fits client t entries) (held : ℕ → Bool) (named : AllByRecursion (HoldsNamed client (sight t) held) entries) where
+module _ (client : Client) (t : Tree ℕ) (entries : List Entry) (fits : Fits client t entries) (held : ℕ → Bool) (named : AllByRecursion (HoldsNamed held (sight t).name) entries) where
   pub same_run : run over_bytes client (client_sight t held) t entries ≡ run over_bytes client (sight_with_leases t) t entries
   same_run = same_run_from client (sight t) held over_bytes bytes_faithful fits.in_range fits.version 0 [] t entries fits.sound fits.fitting (λ d m number is. inr is) named
 

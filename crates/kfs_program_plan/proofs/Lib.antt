@@ -1,1 +1,4 @@
 pub mod LeasedRuns
+pub mod FewRows
+pub mod ChangedKeys
+pub mod PlanLength

@@ -1,8 +1,9 @@
 -- The nodes of which a log may ask leases, and what a client sees that holds every node.
-use Rattle.std.specs.Prelude.{ℕ, Bool, true, List, [], ◌∷◌, ◌++◌, Option, Some, None, flat_map}
+use Rattle.std.specs.Prelude.{◌≡◌, ℕ, Bool, true, List, [], ◌∷◌, ◌++◌, Option, Some, None}
 use Rattle.kfs_model.specs.Entry.{Entry, Create, Write, Truncate, Link, Unlink, Rename, Chmod, Regroup}
 use Rattle.kfs_model.specs.Sight.{ClientSight, client_sight}
 use Rattle.kfs_model.specs.Tree.{Tree}
+use Rattle.std.specs.List.{AllByRecursion}
 
 -- what the client sees of a tree while it holds a lease for writing on every node
 abbrev pub sight_with_leases : Tree ℕ → ClientSight
@@ -23,6 +24,6 @@ numbers_named name (Rename d m e k) = d ∷ e ∷ (listed (name d m) ++ listed (
 numbers_named name (Chmod n mode) = n ∷ []
 numbers_named name (Regroup n group) = n ∷ []
 
--- the same of each entry in turn
-abbrev pub numbers_named_by : (name : ℕ → List ℕ → Option ℕ) → List Entry → List ℕ
-numbers_named_by name entries = flat_map (numbers_named name) entries
+-- the client holds these nodes of the entry
+abbrev pub HoldsNamed : (held : ℕ → Bool) → (name : ℕ → List ℕ → Option ℕ) → Entry → Type 0
+HoldsNamed held name entry = AllByRecursion (λ number. held number ≡ true) (numbers_named name entry)
