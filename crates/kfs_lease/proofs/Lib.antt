@@ -1,3 +1,4 @@
 pub mod Grants
 pub mod PathParts
 pub mod PathSteps
+pub mod WriterLeases

@@ -1,3 +1,4 @@
 pub mod Faults
 pub mod Paths
 pub mod Removed
+pub mod Writer

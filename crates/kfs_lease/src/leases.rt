@@ -9,6 +9,8 @@ ghost use Rattle.kfs_lease_rows.specs.Rows.{kind_of};
 ghost use Rattle.kfs_lease.specs.Removed.{without_nodes_in};
 ghost use Rattle.kfs_lease.specs.declared.leases.LeaseFault.TheVariants.{OutOfMemory};
 
+mod writer;
+
 use crate::path::{names_of, walk};
 use kfs_image_nodes::Shape;
 use kfs_lease_rows::{Lease, LeaseKind, LeaseRows};

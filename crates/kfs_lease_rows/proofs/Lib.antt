@@ -4,5 +4,5 @@ mod Endings
 mod KeyOrder
 mod Least
 mod RowSteps
-mod RowTables
+pub mod RowTables
 mod Walks
