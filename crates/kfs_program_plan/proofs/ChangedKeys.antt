@@ -1,7 +1,7 @@
 -- A log changes no names but those that its entries give or take, and no headers but those of nodes that
 -- are named.
-use Rattle.std.proofs.Common.{◌≡◌, ℕ, ◌+◌, ◌*◌, ◌≤◌, ◌==◌, ◌||◌, Bool, true, false, List, [], ◌∷◌, ◌++◌, length, Option, Some, None, Result, Ok, Err, refl, sym, ap, subst, ◌∙◌, eqb-true, if◌then◌else◌, arith, length-append}
-use Rattle.std.specs.List.{AllByRecursion, list_any, flat_map}
+use Rattle.std.proofs.Common.{◌≡◌, ℕ, ◌+◌, ◌==◌, Bool, true, false, List, [], ◌∷◌, Option, Some, None, Result, Ok, Err, refl, sym, ap, subst, ◌∙◌, eqb-true, if◌then◌else◌}
+use Rattle.std.specs.List.{AllByRecursion, list_any}
 use Rattle.kfs_model.specs.Access.{Client}
 use Rattle.kfs_model.specs.CleanStep.{IsClient}
 use Rattle.kfs_model.specs.Header.{Header}
@@ -19,7 +19,7 @@ use Rattle.kfs_model.proofs.CellSteps.{IsFaithful}
 use Rattle.kfs_model.proofs.SeenRun.{clean_step}
 use Rattle.kfs_program_plan.specs.AskedLeases.{HoldsNamed, listed}
 use Rattle.kfs_program_plan.proofs.FewRows.{none_first, none_rest}
-use Rattle.kfs_program_plan.proofs.LeasedRuns.{NamesAreKnown, held_now, parts, still_known}
+use Rattle.kfs_program_plan.proofs.LeasedRuns.{NamesAreKnown, held_now, parts}
 
 -- ---- names
 

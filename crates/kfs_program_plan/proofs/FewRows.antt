@@ -1,5 +1,5 @@
 -- Rows in the order of their keys, each with a listed key, are no more than the list is long.
-use Rattle.std.proofs.Common.{◌≡◌, ◌+◌, ◌≤◌, ◌||◌, Bool, true, false, cond, T, List, [], ◌∷◌, length, Option, Some, None, IsTrue, refl, sym, ap, subst, ◌∙◌, arith}
+use Rattle.std.proofs.Common.{◌≡◌, ◌+◌, ◌≤◌, ◌||◌, Bool, true, false, cond, T, List, [], ◌∷◌, length, Option, Some, refl, sym, ap, subst, ◌∙◌, arith}
 use Rattle.std.specs.Cmp.{tied_itself}
 use Rattle.std.specs.List.{AllByRecursion, list_any}
 use Rattle.std.specs.Ordering.{is_lt}
@@ -67,7 +67,7 @@ module _ {K : Type 0} (R : Order K) (same : K → K → Bool) (exact : IsExact s
     few : (es : List (K × X)) (ks : List K) → T (is_sorted R.compare es) → AreListed es ks → length es ≤ length ks
     few [] ks sorted all = omega arith
     few (e ∷ es) ks sorted all =
-        let rest = few es (without e.0 ks) (right_part _ _ sorted) (behind e.0 es ks (left_part _ _ sorted) all.1) in
+        let rest : length es ≤ length (without e.0 ks) = few es (without e.0 ks) (right_part _ _ sorted) (behind e.0 es ks (left_part _ _ sorted) all.1) in
         omega (arith, rest, shorter e.0 ks all.0)
 
     found_all : (P : K → Type 0) (es : List (K × X)) → T (is_sorted R.compare es) → ((key : K) (value : X) → find R.compare key es ≡ Some value → P key) → AllByRecursion (λ e. P e.0) es

@@ -1,5 +1,5 @@
 -- The rows of a log's net: at most two names and four nodes for each entry.
-use Rattle.std.proofs.Common.{◌≡◌, ℕ, ◌+◌, ◌*◌, ◌≤◌, ◌||◌, nat_eq, Bool, true, false, List, [], ◌∷◌, ◌++◌, length, Option, Some, None, Ok, refl, sym, ap, subst, ◌∙◌, inr, arith, length-append, append_assoc, eq-eqb}
+use Rattle.std.proofs.Common.{◌≡◌, ℕ, ◌*◌, ◌≤◌, ◌||◌, nat_eq, Bool, true, false, List, [], ◌∷◌, ◌++◌, length, Option, Some, None, Ok, refl, sym, ap, subst, ◌∙◌, inr, arith, length-append, append_assoc, eq-eqb}
 use Rattle.std.specs.List.{AllByRecursion, list_any, flat_map}
 use Rattle.std.proofs.lemmas.List.Folds.{list_any-append}
 use Rattle.std.proofs.lemmas.Bool.{or_right}
@@ -10,8 +10,7 @@ use Rattle.kfs_model.specs.Entry.{Entry, Create, Write, Truncate, Link, Unlink, 
 use Rattle.kfs_model.specs.FirstWrong.{same_place}
 use Rattle.kfs_model.specs.Plan.{AreDifferences, header_now, number_now}
 use Rattle.kfs_model.specs.Run.{run, over_bytes}
-use Rattle.kfs_model.specs.SeenAfter.{seen_after}
-use Rattle.kfs_model.specs.Sight.{Sight, ClientSight, sight}
+use Rattle.kfs_model.specs.Sight.{ClientSight, sight}
 use Rattle.kfs_model.specs.Table.{numbers}
 use Rattle.kfs_model.specs.Tree.{Tree, name_order}
 use Rattle.kfs_model.proofs.Exact.{numbers-exact, places-exact}

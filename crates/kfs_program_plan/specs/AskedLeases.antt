@@ -4,6 +4,9 @@ use Rattle.kfs_model.specs.Entry.{Entry, Create, Write, Truncate, Link, Unlink, 
 use Rattle.kfs_model.specs.Sight.{ClientSight, client_sight}
 use Rattle.kfs_model.specs.Tree.{Tree}
 use Rattle.std.specs.List.{AllByRecursion}
+use Rattle.kfs_entry_value.specs.Views.{entry_of}
+use Rattle.kfs_entry_value.specs.declared.entry.Entry.{Entry as CodeEntry}
+use Rattle.kfs_entry_value.specs.declared.entry.Span.{Span}
 
 -- what the client sees of a tree while it holds a lease for writing on every node
 abbrev pub sight_with_leases : Tree ℕ → ClientSight
@@ -23,6 +26,10 @@ numbers_named name (Unlink d m kind) = d ∷ listed (name d m)
 numbers_named name (Rename d m e k) = d ∷ e ∷ (listed (name d m) ++ listed (name e k))
 numbers_named name (Chmod n mode) = n ∷ []
 numbers_named name (Regroup n group) = n ∷ []
+
+-- the same of an entry of the code; its payload doesn't matter
+abbrev pub named_in : (name : ℕ → List ℕ → Option ℕ) → CodeEntry Span → List ℕ
+named_in name entry = numbers_named name (entry_of [] entry)
 
 -- the client holds these nodes of the entry
 abbrev pub HoldsNamed : (held : ℕ → Bool) → (name : ℕ → List ℕ → Option ℕ) → Entry → Type 0

@@ -1,1 +1,4 @@
 pub mod AskedLeases
+pub mod PlanMade
+pub mod Rows
+pub mod Walks

@@ -1,5 +1,11 @@
-//! What the maker of plans will rest on: the leases that a log may ask for, and how many rows its plan has. It has no
-//! code yet.
+//! Makes the plan of a client's log.
 //!
-//! It stands on `kfs_model`. Begin with `proofs/LeasedRuns.antt`.
+//! It stands on the judgement (`kfs_judge`, `kfs_plan`) and on the image, and nothing of the desk
+//! stands on it. Begin with `make_plan`.
 #![tactic(auto)]
+
+mod fits;
+mod maker;
+mod numbers;
+
+pub use maker::make_plan;

@@ -1,0 +1,19 @@
+-- Plans of the code whose rows can be spelled, and such that are too long for it.
+use Rattle.std.specs.Prelude.{◌^◌, ◌≤◌, ◌⊎◌, All, length}
+use Rattle.kfs_model.specs.PlanRow.{Plan}
+use Rattle.kfs_model.specs.Spelling.{IsNameRow, IsNodeRow, IsPiece}
+use Rattle.kfs_entry_value.specs.Views.{name_row_of, node_row_of, piece_of}
+use Rattle.kfs_entry_value.specs.declared.plan.NameRow.{NameRow}
+use Rattle.kfs_entry_value.specs.declared.plan.NodeRow.{NodeRow}
+use Rattle.kfs_entry_value.specs.declared.plan.Piece.{Piece}
+use Rattle.kfs_entry_value.specs.declared.plan.Plan.{Plan as CodePlan}
+
+-- each row is in the ranges of its fields
+pub record RowsFit {A : Type 0} (plan : CodePlan A) : Type 0 where
+  pub names : All (λ (row : NameRow). IsNameRow (name_row_of row)) plan.names
+  pub nodes : All (λ (row : NodeRow). IsNodeRow (node_row_of row)) plan.nodes
+  pub pieces : All (λ (row : Piece). IsPiece (piece_of row)) plan.pieces
+
+-- a part of the plan has more rows than its count can say
+abbrev pub IsTooLong : Plan → Type 0
+IsTooLong plan = (2 ^ 16 ≤ length plan.names) ⊎ (2 ^ 16 ≤ length plan.nodes) ⊎ (2 ^ 32 ≤ length plan.pieces)
