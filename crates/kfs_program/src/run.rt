@@ -7,6 +7,7 @@ use clap::error::ErrorKind;
 use kfs_program_engine::{EngineFault, engine};
 use std::alloc::{Allocator, Global};
 use std::io::{Read, Write};
+use std::thread::Threads;
 
 /// What the words ask for.
 #[derive(Clone, Copy, Debug, PartialEq, Eq)]
@@ -34,7 +35,7 @@ enum WordsFault {
 /// - 4: memory for the words or for a line of the input was refused.
 pub fn run_words<R, A, I, O>(rt: &R, alloc: A, words: &[&str], reader: &mut I, writer: &mut O) -> u8
 where
-    R: AllocGlobal,
+    R: AllocGlobal + Threads + Sync,
     A: Allocator + Copy,
     I: Read,
     O: Write,

@@ -4,6 +4,7 @@ use kfs_program_engine::{EngineFault, engine};
 use std::io;
 use std::io::{ErrorKind, Read, Write};
 use std::test::Fail;
+use std::thread::Threads;
 
 /// A reader that gives its bytes one at a time, and then fails, ends, or gives `x` without end.
 #[derive(Drop)]
@@ -83,7 +84,7 @@ impl Write for Counting {
 
 /// How the engine ends with this reader and this writer.
 fn ended<I: Read, O: Write>(
-    rt: &impl AllocGlobal,
+    rt: &(impl AllocGlobal + Threads + Sync),
     reader: &mut I,
     writer: &mut O,
 ) -> Result<(), EngineFault> {
@@ -92,7 +93,7 @@ fn ended<I: Read, O: Write>(
 
 /// Whether the engine ends so with the reader, having written these replies.
 fn ends<I: Read>(
-    rt: &impl AllocGlobal,
+    rt: &(impl AllocGlobal + Threads + Sync),
     reader: &mut I,
     end: Result<(), EngineFault>,
     replies: &str,
