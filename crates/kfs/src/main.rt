@@ -5,12 +5,14 @@
 #![tactic(auto)]
 
 use kfs_program::{run_words, status_message};
+use std::io::{Read, Write};
 use std::process::ExitCode;
+use std::thread::Threads;
 use std::{env, io};
 
 fn main(rt: HostRuntime) -> ExitCode {
     let status = match words(&rt) {
-        Ok(words) => run(&rt, &words),
+        Ok(words) => run(&rt, &words, &mut rt.stdin(), &mut rt.stdout()),
         Err(error) if error.kind() == io::ErrorKind::OutOfMemory => 4,
         Err(_) => 2,
     };
@@ -27,10 +29,15 @@ fn words(rt: &HostRuntime) -> io::Result<Vec<String>> {
 }
 
 /// The exit status; 4 also where memory for the words was refused.
-fn run(rt: &HostRuntime, words: &[String]) -> u8 {
+fn run<R, I, O>(rt: &R, words: &[String], reader: &mut I, writer: &mut O) -> u8
+where
+    R: AllocGlobal + Threads + Sync,
+    I: Read,
+    O: Write,
+{
     let Ok(words) = words.iter().map(|word| word.as_str()).collect(rt.alloc()) else {
         return 4;
     };
     let words: Vec<&str> = words;
-    run_words(rt, rt.alloc(), &words, &mut rt.stdin(), &mut rt.stdout())
+    run_words(rt, rt.alloc(), &words, reader, writer)
 }

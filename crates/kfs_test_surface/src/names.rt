@@ -37,6 +37,11 @@ pub mod fsck {
     pub use kfs_fsck::{Finding, FsckFault, Image, RawImage, fsck};
 }
 
+/// Moves of blocks.
+pub mod migrate {
+    pub use kfs_migrate::{MOVE_LIMIT, Move, MoveFault, apply_moves, check_moves};
+}
+
 /// Leases.
 pub mod lease {
     pub use kfs_lease::{Act, LeaseFault, LeaseKind, Leases};
@@ -81,4 +86,5 @@ pub mod report {
 /// The program.
 pub mod program {
     pub use kfs_program::{EngineFault, LINE_LIMIT, engine, run_words};
+    pub use kfs_program_plan::make_plan;
 }

@@ -5,6 +5,7 @@ use kfs_entry::SpellFault;
 use kfs_image::ReadFault;
 use kfs_judge::{EntryFault, Reason};
 use kfs_lease::LeaseFault;
+use kfs_migrate::MoveFault;
 use kfs_mode::ClientFault;
 use kfs_plan::{Fault, RowFault};
 use kfs_program::EngineFault;
@@ -45,6 +46,19 @@ fn faults_of_bytes(rt: HostRuntime) {
         (SpellFault::Trailing, "Trailing"),
         (SpellFault::BadRow(1, 0), "BadRow(1,0)"),
         (SpellFault::OutOfMemory, "memory"),
+    ];
+    assert!(rt; say(rt.alloc(), &faults));
+}
+
+#[test]
+fn faults_of_moves(rt: HostRuntime) {
+    let faults = [
+        (MoveFault::NotMapped(0), "NotMapped(0)"),
+        (MoveFault::OutOfRange(1), "OutOfRange(1)"),
+        (MoveFault::NotFree(2), "NotFree(2)"),
+        (MoveFault::Overlap(3), "Overlap(3)"),
+        (MoveFault::TooManyMoves, "TooManyMoves"),
+        (MoveFault::OutOfMemory, "memory"),
     ];
     assert!(rt; say(rt.alloc(), &faults));
 }
