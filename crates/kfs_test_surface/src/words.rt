@@ -1,6 +1,6 @@
 //! What each fault says of itself as an `Error`: the words of docs/FORMATS.md, where these have some.
 
-use kfs_desk::{ActFault, BeginFault, Unanswered, Why};
+use kfs_desk::{ActFault, BeginFault, MoveFault, Unanswered, Why};
 use kfs_entry::SpellFault;
 use kfs_image::ReadFault;
 use kfs_judge::{EntryFault, Reason};
@@ -114,6 +114,26 @@ fn faults_of_leases(rt: HostRuntime) {
             rt.alloc(),
             &ActFault::Lease(LeaseFault::LeaseHeld(7)),
             "LeaseHeld(7)"
+        )
+    );
+}
+
+#[test]
+fn faults_of_moves(rt: HostRuntime) {
+    let faults = [
+        (MoveFault::NotMapped(0), "NotMapped(0)"),
+        (MoveFault::OutOfRange(1), "OutOfRange(1)"),
+        (MoveFault::NotFree(2), "NotFree(2)"),
+        (MoveFault::Overlap(3), "Overlap(3)"),
+        (MoveFault::TooManyMoves, "TooManyMoves"),
+        (MoveFault::OutOfMemory, "memory"),
+    ];
+    assert!(rt; say(rt.alloc(), &faults));
+    assert!(rt;
+        says(
+            rt.alloc(),
+            &ActFault::Move(MoveFault::Overlap(3)),
+            "Overlap(3)"
         )
     );
 }
