@@ -2,7 +2,7 @@
 ghost use Rattle.std.specs.Prelude.{◌≡◌, ℕ, List, true, false, IfOk, IsErrOf, None, Some, option_map};
 ghost use Rattle.kfs_lease_rows.specs.Rows.{kind_of};
 ghost use Rattle.kfs_plan.specs.Judging.{submission_of};
-ghost use Rattle.kfs_program_command.specs.Command.{Land as LandLine, Listing as ListingLine, Load, Node as NodeLine, Request, Setup, Submit as SubmitLine, asked_by, client_of, drop_of, judge_of, kind_named, landing_worker, last_worker, lease_of, load_of, new_of, read_of, submission_in, submit_of};
+ghost use Rattle.kfs_program_command.specs.Command.{Land as LandLine, Listing as ListingLine, Load, Node as NodeLine, Request, Setup, Submit as SubmitLine, asked_by, client_of, drop_of, judge_of, kind_named, landing_worker, last_worker, lease_of, load_of, move_of, new_of, read_of, submission_in, submit_of};
 ghost use Rattle.kfs_program_command.specs.Reading.{begin_of, command_named, docket_of, land_of, listing_of, named_by, node_of, save_of, tick_of};
 ghost use Rattle.kfs_program_command.specs.Views.{act_of, asked_of, asked_of_desk, opening_of};
 ghost use Rattle.kfs_program_text.specs.Decimals.{decimal_within};
@@ -11,6 +11,7 @@ ghost use Rattle.kfs_program_text.specs.Reading.{ReadsAs, ReadsExactly, checked,
 use crate::worker::{LAST_WORKER, Worker};
 use kfs_image_nodes::TierSizes;
 use kfs_lease::{Act, LeaseKind};
+use kfs_migrate_value::Move;
 use kfs_mode::{Client, ClientFault};
 use kfs_plan::Submission;
 use kfs_program_text::{Refusal, Words};
@@ -71,6 +72,8 @@ pub enum DeskCommand<'a, A: Allocator> {
     },
     /// `save`: the image as bytes.
     Save,
+    /// `move NUMBER BLOCK TIER PLACE [NUMBER BLOCK TIER PLACE ..]`: blocks of files move to other places.
+    Move(Vec<Move, A>),
 }
 
 impl<'a, A: Allocator + Copy> Command<'a, A> {
@@ -110,6 +113,7 @@ impl<'a, A: Allocator + Copy> Command<'a, A> {
             Keyword::Land => Ok(Command::Desk(read_land(words)?)),
             Keyword::Image => Ok(Command::Image(read_image(alloc, words)?)),
             Keyword::Save => Ok(Command::Desk(read_save(words)?)),
+            Keyword::Move => Ok(Command::Desk(read_moves(alloc, words)?)),
         }
     }
 }
@@ -149,6 +153,7 @@ enum Keyword {
     Land,
     Image,
     Save,
+    Move,
 }
 
 /// The command that a word names.
@@ -185,6 +190,8 @@ fn name_in(word: &[u8]) -> Option<Keyword>
         Some(Keyword::Image)
     } else if word == b"save".as_slice() {
         Some(Keyword::Save)
+    } else if word == b"move".as_slice() {
+        Some(Keyword::Move)
     } else {
         None
     }
@@ -391,4 +398,32 @@ fn read_land<A: Allocator>(words: &mut Words<'_>) -> Result<DeskCommand<'static,
         Some(worker) => Ok(DeskCommand::Land { worker }),
         None => Err(Refusal::BadLine),
     }
+}
+
+/// One move or more: a file's number, a block, a tier and a place of each.
+fn read_moves<A: Allocator>(
+    alloc: A,
+    words: &mut Words<'_>,
+) -> Result<DeskCommand<'static, A>, Refusal>
+    ensures { ReadsAs (λ command. Request (asked_of_desk command)) (checked move_of (words_left words.old)) result }
+{
+    let mut moves = Vec::new(alloc);
+    moves.push(read_move(words)?)?;
+    while words.end().is_err() {
+        moves.push(read_move(words)?)?;
+    }
+    Ok(DeskCommand::Move(moves))
+}
+
+fn read_move(words: &mut Words<'_>) -> Result<Move, Refusal> {
+    let number = words.number32()?;
+    let block = words.number32()?;
+    let tier = words.number(255)? as u8;
+    let place = words.number32()?;
+    Ok(Move {
+        number,
+        block,
+        tier,
+        place,
+    })
 }
