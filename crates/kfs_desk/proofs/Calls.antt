@@ -116,13 +116,23 @@ few_moves sizes placement moves none = at (ltb move_limit (length moves)) refl n
     at false few is = ltb-false move_limit (length moves) few
 
 -- a refusal that was found is told, unless memory was refused
-pub refused_told : (found : Option MoveFault) (fault : CodeMoveFault) → Refuses found fault → fault ≢ OutOfMemory → (refusal : MoveFault) × (call_fault_of (act_faults.Move fault) ≡ Some (MovesRefused refusal)) × (found ≡ Some refusal)
+refused_told : (found : Option MoveFault) (fault : CodeMoveFault) → Refuses found fault → fault ≢ OutOfMemory → (refusal : MoveFault) × (call_fault_of (act_faults.Move fault) ≡ Some (MovesRefused refusal)) × (found ≡ Some refusal)
 refused_told found (NotMapped index) is other = (migration.NotMapped index, refl, is)
 refused_told found (OutOfRange index) is other = (migration.OutOfRange index, refl, is)
 refused_told found (NotFree index) is other = (migration.NotFree index, refl, is)
 refused_told found (Overlap index) is other = (migration.Overlap index, refl, is)
 refused_told found TooManyMoves is other = (migration.TooManyMoves, refl, is)
 refused_told found OutOfMemory is other = absurd (other refl)
+
+-- so moves that are refused are answered with their fault, and leave the image
+pub moves_refused : (image : DeviceImage) (moves : List Move) (fault : CodeMoveFault) → Refuses (fault_of_moves image.sizes image.placement moves) fault → fault ≢ OutOfMemory → IsMigrated image moves (Err (act_faults.Move fault)) image
+moves_refused image moves fault is other =
+    let (refusal, told, found) = refused_told (fault_of_moves image.sizes image.placement moves) fault is other in
+    (refusal, told, found, refl)
+
+-- a state that stays differs in nothing
+pub unmoved : (s t : State) → t ≡ s → DiffersInPlacement s t
+unmoved s t same = (s.placement, same)
 
 -- ---- with its row in the docket
 

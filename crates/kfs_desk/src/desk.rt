@@ -196,6 +196,7 @@ impl<A: Allocator + Copy> Desk<A> {
     ///
     /// The answer is a row of the docket: `Moved` with the number of moves, or the refusal of
     /// `check_moves` of `kfs_migrate`. `Err` as for `lease`.
+    #[tactic(auto, using(crate::proofs::Calls::unmoved))]
     pub fn migrate(&mut self, moves: &[Move]) -> Result<ActReply, Unanswered>
         ensures called { IsCallOf self.old (machine.Migrate moves.now) Done.Moved result self.new }
         ensures rest { DiffersInPlacement self.old.state self.new.state }
@@ -474,7 +475,7 @@ fn made<A: Allocator + Copy>(
 }
 
 /// Makes the moves, or answers why they are refused.
-#[tactic(auto, using(crate::proofs::Calls::few_moves, crate::proofs::Calls::refused_told))]
+#[tactic(auto, using(crate::proofs::Calls::few_moves, crate::proofs::Calls::moves_refused))]
 fn make_moves<A: Allocator + Copy>(
     alloc: A,
     image: &mut Image<A>,

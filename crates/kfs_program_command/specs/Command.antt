@@ -133,16 +133,22 @@ read_of (a ∷ b ∷ c ∷ []) = do
   Some (Request (Bytes number start count))
 read_of words = None
 
+-- the greatest number of a tier in a line
+abbrev pub last_tier : ℕ
+last_tier = 255
+
+abbrev pub move_to : (number block tier place : ℕ) → BlockMove
+move_to number block tier place = record { number = number; block = block; target = record { tier = tier; place = place } }
+
 -- the moves in the words, four words for each: file, block, tier, place
 abbrev pub moves_in : List (List ℕ) → Option (List BlockMove)
 moves_in [] = Some []
 moves_in (a ∷ b ∷ c ∷ d ∷ words) = do
   number ← decimal32 a
   block ← decimal32 b
-  tier ← decimal_within 255 c
+  tier ← decimal_within last_tier c
   place ← decimal32 d
-  moves ← moves_in words
-  Some (record { number = number; block = block; target = record { tier = tier; place = place } } ∷ moves)
+  option_map (λ moves. move_to number block tier place ∷ moves) (moves_in words)
 moves_in words = None
 
 -- one move or more

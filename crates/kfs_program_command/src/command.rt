@@ -2,8 +2,8 @@
 ghost use Rattle.std.specs.Prelude.{◌≡◌, ℕ, List, true, false, IfOk, IsErrOf, None, Some, option_map};
 ghost use Rattle.kfs_lease_rows.specs.Rows.{kind_of};
 ghost use Rattle.kfs_plan.specs.Judging.{submission_of};
-ghost use Rattle.kfs_program_command.specs.Command.{Land as LandLine, Listing as ListingLine, Load, Node as NodeLine, Request, Setup, Submit as SubmitLine, asked_by, client_of, drop_of, judge_of, kind_named, landing_worker, last_worker, lease_of, load_of, move_of, new_of, read_of, submission_in, submit_of};
-ghost use Rattle.kfs_program_command.specs.Reading.{begin_of, command_named, docket_of, land_of, listing_of, named_by, node_of, save_of, tick_of};
+ghost use Rattle.kfs_program_command.specs.Command.{Land as LandLine, Listing as ListingLine, Load, Node as NodeLine, Request, Setup, Submit as SubmitLine, asked_by, client_of, drop_of, judge_of, kind_named, landing_worker, last_worker, lease_of, load_of, move_of, moves_in, new_of, read_of, submission_in, submit_of};
+ghost use Rattle.kfs_program_command.specs.Reading.{begin_of, command_named, docket_of, first_move, land_of, listing_of, named_by, node_of, save_of, tick_of};
 ghost use Rattle.kfs_program_command.specs.Views.{act_of, asked_of, asked_of_desk, opening_of};
 ghost use Rattle.kfs_program_text.specs.Decimals.{decimal_within};
 ghost use Rattle.kfs_program_text.specs.Reading.{ReadsAs, ReadsExactly, checked, first_by, words_left};
@@ -19,6 +19,9 @@ use std::alloc::Allocator;
 
 /// The most bytes that a `read` line may ask for.
 const READ_LIMIT: u64 = 65_536;
+
+/// The greatest number of a tier in a line.
+const LAST_TIER: u64 = 255;
 
 /// A command, with its words read.
 #[derive(Drop)]
@@ -400,25 +403,38 @@ fn read_land<A: Allocator>(words: &mut Words<'_>) -> Result<DeskCommand<'static,
     }
 }
 
-/// One move or more: a file's number, a block, a tier and a place of each.
+/// One move or more.
+#[tactic(auto, using(crate::proofs::MovesRead::move_steps, crate::proofs::MovesRead::no_moves))]
 fn read_moves<A: Allocator>(
     alloc: A,
     words: &mut Words<'_>,
 ) -> Result<DeskCommand<'static, A>, Refusal>
     ensures { ReadsAs (λ command. Request (asked_of_desk command)) (checked move_of (words_left words.old)) result }
 {
+    match words.end() {
+        Ok(()) => Err(Refusal::BadLine),
+        Err(_) => Ok(DeskCommand::Move(moves_left(alloc, words)?)),
+    }
+}
+
+/// The moves in all words that are left.
+fn moves_left<A: Allocator>(alloc: A, words: &mut Words<'_>) -> Result<Vec<Move, A>, Refusal>
+    ensures { ReadsAs (λ moves. moves.items) (checked moves_in (words_left words.old)) result }
+{
     let mut moves = Vec::new(alloc);
-    moves.push(read_move(words)?)?;
     while words.end().is_err() {
         moves.push(read_move(words)?)?;
     }
-    Ok(DeskCommand::Move(moves))
+    Ok(moves)
 }
 
-fn read_move(words: &mut Words<'_>) -> Result<Move, Refusal> {
+/// A file's number, a block, a tier and a place.
+fn read_move(words: &mut Words<'_>) -> Result<Move, Refusal>
+    ensures { ReadsAs (λ m. (m, words_left words.new)) (first_move (words_left words.old)) result }
+{
     let number = words.number32()?;
     let block = words.number32()?;
-    let tier = words.number(255)? as u8;
+    let tier = words.number(LAST_TIER)? as u8;
     let place = words.number32()?;
     Ok(Move {
         number,
