@@ -1,18 +1,24 @@
 //! The words of the command line, and the exit status.
-ghost use Rattle.std.specs.Prelude.{◌≡◌, ◌≤◌, length, MatchOption, None, OnOk, Some};
-ghost use Rattle.kfs_program.specs.Exit.{Exits, message_of, status_of};
+ghost use Rattle.std.specs.Prelude.{◌≡◌, map, IfOk, IfSome, MatchOption, None, Some};
+ghost use Rattle.kfs_program.specs.Exit.{Exits, IsAskedFor, IsNamed, image_status_of, message_of, status_of};
 
+use crate::image::{check_image, show_image};
 use clap::Command;
 use clap::error::ErrorKind;
 use kfs_program_engine::{EngineFault, engine};
 use std::alloc::{Allocator, Global};
 use std::io::{Read, Write};
+use std::thread::Threads;
 
 /// What the words ask for.
 #[derive(Clone, Copy, Debug, PartialEq, Eq)]
 enum Subcommand {
     /// `run`, or no word: answers command lines.
     Run,
+    /// `fsck`: checks the image of one line.
+    Fsck,
+    /// `show`: shows the nodes and names of the image of one line.
+    Show,
 }
 
 /// Why the words ask for nothing.
@@ -29,19 +35,22 @@ enum WordsFault {
 ///
 /// Answers the exit status:
 /// - 0: done;
+/// - 1: the input of `fsck` or `show` is no image that is let in, and the line says why;
 /// - 2: the words were refused, and nothing was read or written;
 /// - 3: a read or a write failed, or a line was too long;
 /// - 4: memory for the words or for a line of the input was refused.
 pub fn run_words<R, A, I, O>(rt: &R, alloc: A, words: &[&str], reader: &mut I, writer: &mut O) -> u8
 where
-    R: AllocGlobal,
+    R: AllocGlobal + Threads + Sync,
     A: Allocator + Copy,
     I: Read,
     O: Write,
-    ensures { Exits (I.remaining reader.old) (I.remaining reader.new) (O.contents writer.old) (O.contents writer.new) (length words.now) result }
+    ensures { Exits A (I.remaining reader.old) (I.remaining reader.new) (O.contents writer.old) (O.contents writer.new) (map (λ word. word.now) words.now) result }
 {
     match asked_of(rt.alloc(), words) {
         Ok(Subcommand::Run) => exit_status(engine(rt, alloc, reader, writer)),
+        Ok(Subcommand::Fsck) => image_status(check_image(rt, alloc, reader, writer)),
+        Ok(Subcommand::Show) => image_status(show_image(alloc, reader, writer)),
         Err(WordsFault::Refused) => 2,
         Err(WordsFault::OutOfMemory) => 4,
     }
@@ -52,7 +61,7 @@ pub fn status_message(status: u8) -> Option<&'static str>
     ensures { MatchOption result (message_of status ≡ None) (λ message. message_of status ≡ Some message.now) }
 {
     match status {
-        2 => Some("usage: kfs [run]"),
+        2 => Some("usage: kfs [run | fsck | show]"),
         3 => Some("the input or the output failed, or a line was too long"),
         4 => Some("out of memory"),
         _ => None,
@@ -69,28 +78,53 @@ fn exit_status(ended: Result<(), EngineFault>) -> u8
     }
 }
 
-/// The subcommand that the words name. `clap` skips some words, such as `--`, so the number of words is
-/// checked too.
-fn asked_of(alloc: Global, words: &[&str]) -> Result<Subcommand, WordsFault>
-    ensures { OnOk result (length words.now ≤ 2) }
+/// The status of `fsck` and `show`: whether an image was let in.
+fn image_status(ended: Result<bool, EngineFault>) -> u8
+    ensures { result ≡ image_status_of ended }
 {
-    let asked = match parsed(alloc, words) {
-        Ok(asked) => asked,
+    match ended {
+        Ok(true) => 0,
+        Ok(false) => 1,
+        Err(fault) => exit_status(Err(fault)),
+    }
+}
+
+/// What the words ask for. `clap` skips some words, such as `--`, so the words are looked at, too.
+fn asked_of(alloc: Global, words: &[&str]) -> Result<Subcommand, WordsFault>
+    ensures { IfOk result (λ asked. IsAskedFor (map (λ word. word.now) words.now) asked) }
+{
+    let is_named = match is_named(alloc, words) {
+        Ok(is_named) => is_named,
         Err(error) if error.kind() == ErrorKind::OutOfMemory => {
             return Err(WordsFault::OutOfMemory);
         }
         Err(_) => return Err(WordsFault::Refused),
     };
-    match asked {
-        None if words.len() <= 1 => Ok(Subcommand::Run),
-        Some(run) if words.len() == 2 => Ok(run),
+    match words {
+        [] | [_] => Ok(Subcommand::Run),
+        [_, word] if is_named => named(word).ok_or(WordsFault::Refused),
         _ => Err(WordsFault::Refused),
     }
 }
 
-fn parsed(alloc: Global, words: &[&str]) -> Result<Option<Subcommand>, clap::Error> {
-    let run = Command::new(alloc, "run");
-    let command = Command::new(alloc, "kfs").subcommand(run)?;
+/// Whether the words name a subcommand. `Err` where they can't be taken.
+fn is_named(alloc: Global, words: &[&str]) -> Result<bool, clap::Error> {
+    let command = Command::new(alloc, "kfs")
+        .subcommand(Command::new(alloc, "run"))?
+        .subcommand(Command::new(alloc, "fsck"))?
+        .subcommand(Command::new(alloc, "show"))?;
     let matches = command.try_get_matches_from(words)?;
-    Ok(matches.subcommand().map(|_| Subcommand::Run))
+    Ok(matches.subcommand().is_some())
+}
+
+/// The subcommand of this name.
+fn named(name: &str) -> Option<Subcommand>
+    ensures { IfSome result (λ asked. IsNamed asked name.now) }
+{
+    match name {
+        "run" => Some(Subcommand::Run),
+        "fsck" => Some(Subcommand::Fsck),
+        "show" => Some(Subcommand::Show),
+        _ => None,
+    }
 }

@@ -1,7 +1,7 @@
 -- A line lands a verdict only where its first word says so.
 use Rattle.std.proofs.Common.{◌≡◌, ℕ, Bool, true, false, List, [], ◌∷◌, Option, Some, None, option_map, refl, sym, ap, ◌∙◌, if◌then◌else◌}
 use Rattle.kfs_model.specs.Steps.{◌>>=◌}
-use Rattle.kfs_program_command.specs.Command.{Command, Setup, New, Begin, Request, Tick, Submit, Node, Listing, Judge, Land, asked_by, client_of, drop_of, judge_of, landing_worker, lease_of, new_of, read_of, submission_in, submit_of, with_number}
+use Rattle.kfs_program_command.specs.Command.{Command, Setup, New, Begin, Request, Tick, Submit, Node, Listing, Judge, Land, asked_by, client_of, drop_of, judge_of, landing_worker, lease_of, load_of, new_of, read_of, submission_in, submit_of, with_number}
 use Rattle.kfs_program_command.specs.Reading.{begin_of, command_named, docket_of, land_of, listing_of, named_by, node_of, save_of, tick_of}
 use Rattle.kfs_program_command.specs.declared.command.Keyword.{Keyword}
 use Rattle.kfs_program_command.specs.declared.command.Keyword.TheVariants as names
@@ -10,7 +10,7 @@ use Rattle.kfs_program_text.specs.Cut.{cut, space}
 use Rattle.kfs_program_text.specs.Decimals.{decimal32, decimal64, decimals32}
 use Rattle.kfs_program_text.specs.Reading.{are_words, checked, ended, first_by}
 use Rattle.kfs_program_text.proofs.WordByWord.{decimals_then, nothing_then, word_then}
-use Rattle.kfs_program_command.proofs.Readings.{asked_named, client_then, command_by_name, docket_then, drop_then, judge_then, lease_then, nameless, new_then, nothing_asked, number_then, read_then, save_then}
+use Rattle.kfs_program_command.proofs.Readings.{asked_named, client_then, command_by_name, docket_then, drop_then, judge_then, lease_then, load_then, nameless, new_then, nothing_asked, number_then, read_then, save_then}
 
 -- ---- what is read word by word, and never asks for a landing
 
@@ -78,6 +78,9 @@ submit_other words = bind_other (submission_in words) (λ submission. Some (Requ
 judge_other : (words : List (List ℕ)) → landing_worker (judge_of words) ≡ None
 judge_other words = ap landing_worker (judge_then words) ∙ word_other _ _ words (λ worker left. bind_other (submission_in left) (λ submission. Some (Request (Judge worker submission))) (λ submission. refl))
 
+load_other : (words : List (List ℕ)) → landing_worker (load_of words) ≡ None
+load_other words = ap landing_worker (load_then words) ∙ word_other _ _ words (λ bytes left. nothing_other _ left refl)
+
 save_other : (words : List (List ℕ)) → landing_worker (save_of words) ≡ None
 save_other words = ap landing_worker (save_then words) ∙ nothing_other _ words refl
 
@@ -96,6 +99,7 @@ other_named names.Read words other = checked_other read_of words (read_other wor
 other_named names.Docket words other = checked_other docket_of words (docket_other words)
 other_named names.Judge words other = checked_other judge_of words (judge_other words)
 other_named names.Land words other = absurd (other refl)
+other_named names.Image words other = checked_other load_of words (load_other words)
 other_named names.Save words other = checked_other save_of words (save_other words)
 
 -- ---- lines

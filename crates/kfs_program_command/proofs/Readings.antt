@@ -2,7 +2,7 @@
 use Rattle.std.proofs.Common.{◌≡◌, ℕ, nat_lt, ◌==◌, ◌&&◌, List, [], ◌∷◌, length, take, Option, Some, None, option_map, refl, sym, ap, ◌∙◌, Bool, true, false, if◌then◌else◌}
 use Rattle.kfs_plan.specs.Judging.{submission_with}
 use Rattle.kfs_model.specs.Steps.{◌>>=◌}
-use Rattle.kfs_program_command.specs.Command.{Command, Setup, Request, Row, Begin, Lease, Drop, Tick, Submit, Node, Listing, Bytes, DocketLength, Judge, Land, Save, asked_by, asked_in, client_of, client_row, command_of, drop_of, judge_of, kind_named, last_worker, lease_of, new_of, read_limit, read_of, submission_in, submit_of, with_number}
+use Rattle.kfs_program_command.specs.Command.{Command, Setup, Request, Row, Begin, Lease, Drop, Tick, Submit, Node, Listing, Bytes, DocketLength, Judge, Land, Load, Save, asked_by, asked_in, client_of, client_row, command_of, drop_of, judge_of, kind_named, last_worker, lease_of, load_of, new_of, read_limit, read_of, submission_in, submit_of, with_number}
 use Rattle.kfs_program_command.specs.Reading.{begin_of, command_named, docket_of, land_of, listing_of, named_by, node_of, save_of, tick_of}
 use Rattle.kfs_program_text.specs.Cut.{cut, space}
 use Rattle.kfs_program_text.specs.Decimals.{decimal32, decimal64, decimal_within, decimals32, hexadecimal}
@@ -111,7 +111,16 @@ docket_then (a ∷ words) = refl
 pub docket_steps : (words : List (List ℕ)) → checked docket_of words ≡ (ended words >>= λ done. Some (Request DocketLength))
 docket_steps words = checked_same _ _ docket_then words ∙ checked_nothing _ words
 
--- ---- save
+-- ---- image and save
+
+pub load_then : (words : List (List ℕ)) → load_of words ≡ word_then hexadecimal (λ bytes. nothing_then (Some (Load bytes))) words
+unfolding ended word_then nothing_then
+load_then [] = refl
+load_then (a ∷ []) = refl
+load_then (a ∷ b ∷ words) = bind_none (hexadecimal a) _ (λ x. refl)
+
+pub load_steps : (words : List (List ℕ)) → checked load_of words ≡ (first_by hexadecimal words >>= λ x. ended x.1 >>= λ done. Some (Load x.0))
+load_steps words = checked_same _ _ load_then words ∙ checked_then hexadecimal _ words ∙ bind_all (first_by hexadecimal words) _ _ (λ x. checked_nothing _ x.1)
 
 pub save_then : (words : List (List ℕ)) → save_of words ≡ nothing_then (Some (Request Save)) words
 unfolding save_of ended nothing_then
@@ -230,7 +239,8 @@ command_by_name word name is words =
     (name_or (bytes_eq word (codes "docket")) names.Docket _ _ words
     (name_or (bytes_eq word (codes "judge")) names.Judge _ _ words
     (name_or (bytes_eq word (codes "land")) names.Land _ _ words
-    (name_or (bytes_eq word (codes "save")) names.Save None None words refl)))))))))))))
+    (name_or (bytes_eq word (codes "image")) names.Image _ _ words
+    (name_or (bytes_eq word (codes "save")) names.Save None None words refl))))))))))))))
     ∙ ap (λ n. command_named n words) (sym is)
 
 -- a word that names nothing begins no command

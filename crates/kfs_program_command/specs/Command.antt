@@ -35,6 +35,7 @@ pub data DeskCommand : Type 0 where
 
 pub data Command : Type 0 where
   Setup : (command : OpeningCommand) → Command
+  Load : (bytes : List ℕ) → Command
   Request : (command : DeskCommand) → Command
 
 -- ---- words
@@ -59,6 +60,12 @@ new_of (a ∷ b ∷ c ∷ []) = do
   third ← decimal_within tier_limit c
   Some (Setup (New (record { first = first; second = second; third = third })))
 new_of words = None
+
+abbrev pub load_of : List (List ℕ) → Option Command
+load_of (a ∷ []) = do
+  bytes ← hexadecimal a
+  Some (Load bytes)
+load_of words = None
 
 abbrev pub client_of : List (List ℕ) → Option Command
 client_of (a ∷ b ∷ c ∷ d ∷ e ∷ f ∷ words) = do
@@ -151,6 +158,7 @@ command_of name words =
     else if bytes_eq name (codes "docket") then alone (Request DocketLength) words
     else if bytes_eq name (codes "judge") then judge_of words
     else if bytes_eq name (codes "land") then with_number (decimal_within last_worker) (λ worker. Request (Land worker)) words
+    else if bytes_eq name (codes "image") then load_of words
     else if bytes_eq name (codes "save") then alone (Request Save) words
     else None
 

@@ -1,6 +1,6 @@
 -- The commands by their names.
 use Rattle.std.specs.Prelude.{ℕ, List, codes, bytes_eq, Option, Some, None, if◌then◌else◌}
-use Rattle.kfs_program_command.specs.Command.{Command, Setup, Begin, Request, Tick, Node, Listing, DocketLength, Land, Save, alone, client_of, drop_of, judge_of, last_worker, lease_of, new_of, read_of, submit_of, with_number}
+use Rattle.kfs_program_command.specs.Command.{Command, Setup, Begin, Request, Tick, Node, Listing, DocketLength, Land, Save, alone, client_of, drop_of, judge_of, last_worker, lease_of, load_of, new_of, read_of, submit_of, with_number}
 use Rattle.kfs_program_command.specs.declared.command.Keyword.{Keyword}
 use Rattle.kfs_program_command.specs.declared.command.Keyword.TheVariants as names
 use Rattle.kfs_program_text.specs.Decimals.{decimal32, decimal64, decimal_within}
@@ -44,6 +44,7 @@ named_by word =
     else if bytes_eq word (codes "docket") then Some names.Docket
     else if bytes_eq word (codes "judge") then Some names.Judge
     else if bytes_eq word (codes "land") then Some names.Land
+    else if bytes_eq word (codes "image") then Some names.Image
     else if bytes_eq word (codes "save") then Some names.Save
     else None
 
@@ -62,4 +63,5 @@ command_named (Some names.Read) words = read_of words
 command_named (Some names.Docket) words = docket_of words
 command_named (Some names.Judge) words = judge_of words
 command_named (Some names.Land) words = land_of words
+command_named (Some names.Image) words = load_of words
 command_named (Some names.Save) words = save_of words

@@ -35,4 +35,5 @@ module _ {A : Type 0} where
 
   abbrev pub asked_of : Command A → commands.Command
   asked_of (read.Opening command) = commands.Setup (opening_of command)
+  asked_of (read.Image bytes) = commands.Load bytes.items
   asked_of (read.Desk command) = commands.Request (asked_of_desk command)

@@ -2,7 +2,7 @@
 ghost use Rattle.std.specs.Prelude.{◌≡◌, ℕ, List, true, false, IfOk, IsErrOf, None, Some, option_map};
 ghost use Rattle.kfs_lease_rows.specs.Rows.{kind_of};
 ghost use Rattle.kfs_plan.specs.Judging.{submission_of};
-ghost use Rattle.kfs_program_command.specs.Command.{Land as LandLine, Listing as ListingLine, Node as NodeLine, Request, Setup, Submit as SubmitLine, asked_by, client_of, drop_of, judge_of, kind_named, landing_worker, last_worker, lease_of, new_of, read_of, submission_in, submit_of};
+ghost use Rattle.kfs_program_command.specs.Command.{Land as LandLine, Listing as ListingLine, Load, Node as NodeLine, Request, Setup, Submit as SubmitLine, asked_by, client_of, drop_of, judge_of, kind_named, landing_worker, last_worker, lease_of, load_of, new_of, read_of, submission_in, submit_of};
 ghost use Rattle.kfs_program_command.specs.Reading.{begin_of, command_named, docket_of, land_of, listing_of, named_by, node_of, save_of, tick_of};
 ghost use Rattle.kfs_program_command.specs.Views.{act_of, asked_of, asked_of_desk, opening_of};
 ghost use Rattle.kfs_program_text.specs.Decimals.{decimal_within};
@@ -24,6 +24,8 @@ const READ_LIMIT: u64 = 65_536;
 pub enum Command<'a, A: Allocator> {
     /// It comes before the desk is begun.
     Opening(OpeningCommand),
+    /// `image HEX`: the image that these bytes spell. It comes before the desk is begun.
+    Image(Vec<u8, A>),
     /// It is for the desk.
     Desk(DeskCommand<'a, A>),
 }
@@ -106,6 +108,7 @@ impl<'a, A: Allocator + Copy> Command<'a, A> {
             Keyword::Docket => Ok(Command::Desk(read_docket(words)?)),
             Keyword::Judge => Ok(Command::Desk(read_judge(alloc, words)?)),
             Keyword::Land => Ok(Command::Desk(read_land(words)?)),
+            Keyword::Image => Ok(Command::Image(read_image(alloc, words)?)),
             Keyword::Save => Ok(Command::Desk(read_save(words)?)),
         }
     }
@@ -144,6 +147,7 @@ enum Keyword {
     Docket,
     Judge,
     Land,
+    Image,
     Save,
 }
 
@@ -177,6 +181,8 @@ fn name_in(word: &[u8]) -> Option<Keyword>
         Some(Keyword::Judge)
     } else if word == b"land".as_slice() {
         Some(Keyword::Land)
+    } else if word == b"image".as_slice() {
+        Some(Keyword::Image)
     } else if word == b"save".as_slice() {
         Some(Keyword::Save)
     } else {
@@ -308,6 +314,15 @@ fn read_save<A: Allocator>(words: &mut Words<'_>) -> Result<DeskCommand<'static,
 {
     words.end()?;
     Ok(DeskCommand::Save)
+}
+
+#[tactic(auto, using(crate::proofs::Readings::load_steps))]
+fn read_image<A: Allocator + Copy>(alloc: A, words: &mut Words<'_>) -> Result<Vec<u8, A>, Refusal>
+    ensures { ReadsAs (λ bytes. Load bytes.items) (checked load_of (words_left words.old)) result }
+{
+    let bytes = words.bytes(alloc)?;
+    words.end()?;
+    Ok(bytes)
 }
 
 #[tactic(auto, using(crate::proofs::Readings::submit_steps))]

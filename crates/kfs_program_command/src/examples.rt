@@ -5,7 +5,7 @@ ghost use Rattle.std.specs.Prelude.{◌≡◌, [], ◌∷◌, codes, None, Some,
 ghost use Rattle.kfs_model.specs.Lease.{WriteLease};
 ghost use Rattle.kfs_mode.specs.declared.client.ClientFault.TheVariants.{BadGrant};
 ghost use Rattle.kfs_plan.specs.Judging.{submission_with};
-ghost use Rattle.kfs_program_command.specs.Command.{Begin, Bytes, DocketLength, Drop, Judge, Land, Lease, Listing, New, Node, Request, Row, Save, Setup, Submit, Tick, asked_by};
+ghost use Rattle.kfs_program_command.specs.Command.{Begin, Bytes, DocketLength, Drop, Judge, Land, Lease, Listing, Load, New, Node, Request, Row, Save, Setup, Submit, Tick, asked_by};
 ghost use Rattle.kfs_program_command.specs.Example.{client_twice_in_group_4};
 
 /// One line of each command.
@@ -25,6 +25,8 @@ pub fn commands()
     ensures docket { asked_by (codes "docket") ≡ Some (Request DocketLength) }
     ensures judge { asked_by (codes "judge 7 8 0aFf -") ≡ Some (Request (Judge 7 (submission_with 8 (10 ∷ 255 ∷ []) []))) }
     ensures land { asked_by (codes "land 00") ≡ Some (Request (Land 0)) }
+    ensures image { asked_by (codes "image 4bfF") ≡ Some (Load (75 ∷ 255 ∷ [])) }
+    ensures no_image { asked_by (codes "image -") ≡ Some (Load []) }
     ensures save { asked_by (codes "save") ≡ Some (Request Save) }
 {}
 
@@ -47,5 +49,7 @@ pub fn bad_lines()
     ensures read_too_long { asked_by (codes "read 5 0 65537") ≡ None }
     ensures no_such_worker { asked_by (codes "land 8") ≡ None }
     ensures judge_without_a_worker { asked_by (codes "judge 7 - -") ≡ None }
+    ensures image_of_odd_digits { asked_by (codes "image 4b4") ≡ None }
+    ensures image_of_two_words { asked_by (codes "image 4b 49") ≡ None }
     ensures save_to_somewhere { asked_by (codes "save 1") ≡ None }
 {}

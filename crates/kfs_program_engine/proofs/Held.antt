@@ -15,11 +15,12 @@ use Rattle.kfs_program_command.specs.Command.{asked_by, landing_worker}
 use Rattle.kfs_program_command.specs.Views.{act_of, asked_of_desk}
 use Rattle.kfs_program_command.specs.declared.command.DeskCommand.{DeskCommand}
 use Rattle.kfs_program_verdicts.specs.HeldVerdicts.{HeldVerdicts, held_by, with_held}
-use Rattle.kfs_program_engine.specs.Session.{After, Before, DeskOutcome, AnswersCommand, AnswersLine, IsCallAnswered, IsLandingAnswered, IsReplied, IsSaid, AnswersJudge, AnswersLand, LineOutcome, DeskAnswers, Stage, WithHands, left_without_memory, opened}
+use Rattle.kfs_program_engine.specs.Session.{After, Before, DeskOutcome, AnswersCommand, AnswersLine, IsCallAnswered, IsLandingAnswered, IsReplied, IsSaid, Start, AnswersJudge, AnswersLand, AnswersLoad, LineOutcome, DeskAnswers, Stage, WithHands, left_without_memory, opened, with_image}
 use Rattle.kfs_program_engine.specs.Views.{IsUndone, stage_in, start_of}
 use Rattle.kfs_program_engine.specs.declared.opening.Opening.{Opening}
 use Rattle.kfs_program_engine.specs.declared.session.Stage.{Stage as CodeStage}
 use Rattle.kfs_program_engine.specs.declared.session.Stage.TheVariants as stages
+use Rattle.kfs_program_images.specs.Loading.{AppendsLine, LoadsWith}
 use Rattle.kfs_program_images.specs.Saving.{save_text}
 use Rattle.kfs_program_text.specs.Parts.{line_of}
 use Rattle.kfs_workers_verdict.specs.Verdict.{HeldVerdict, IsVerdictOn, verdict_of}
@@ -121,3 +122,10 @@ without_memory before mid last line undone is = inr (inr (ap (λ s. (line_of (co
 
 pub opened_at : {A : Type 0} (stage : CodeStage A) (opening : Opening A) (command : commands.OpeningCommand) (outcome : LineOutcome) → stage ≡ stages.Before opening → opened (start_of opening) command ≡ outcome → AnswersCommand (stage_in stage) (commands.Setup command) outcome
 opened_at stage opening command outcome is opens = subst (λ it. AnswersCommand (stage_in it) (commands.Setup command) outcome) (sym is) (sym opens)
+
+-- what is said of an image in bytes is its answer
+pub image_answered : (start next : Start) (bytes before after : List ℕ) (image : Option DeviceImage) → AppendsLine before after (LoadsWith bytes image) → next ≡ with_image start image → IsReplied (AnswersLoad start bytes) before after (Before next)
+image_answered start next bytes before after image said is = (line_of said.0, said.1, (image, said.0, said.2, ap (λ s. (line_of said.0, Before s)) is))
+
+pub loaded_at : {A : Type 0} (stage : CodeStage A) (opening : Opening A) (bytes : List ℕ) (outcome : LineOutcome) → stage ≡ stages.Before opening → AnswersLoad (start_of opening) bytes outcome → AnswersCommand (stage_in stage) (commands.Load bytes) outcome
+loaded_at stage opening bytes outcome is loads = subst (λ it. AnswersCommand (stage_in it) (commands.Load bytes) outcome) (sym is) loads

@@ -19,8 +19,9 @@ use Rattle.kfs_plan.specs.declared.answers.BeginFault.{BeginFault}
 use Rattle.kfs_plan.specs.declared.answers.Done.{Done}
 use Rattle.kfs_plan.specs.declared.answers.Done.TheVariants.{Leased, Dropped, Ticked}
 use Rattle.kfs_plan.specs.declared.answers.Reply.{Reply}
-use Rattle.kfs_program_command.specs.Command.{Command, Setup, Request, OpeningCommand, New, Row, Begin, DeskCommand, Lease, Drop, Tick, Submit, Node, Listing, Bytes, DocketLength, Judge, Land, Save, asked_by, landing_worker}
+use Rattle.kfs_program_command.specs.Command.{Command, Setup, Request, OpeningCommand, New, Row, Begin, DeskCommand, Lease, Drop, Tick, Submit, Node, Listing, Bytes, DocketLength, Judge, Land, Load, Save, asked_by, landing_worker}
 use Rattle.kfs_program_engine.specs.Bytes.{read_text}
+use Rattle.kfs_program_images.specs.Loading.{LoadsWith}
 use Rattle.kfs_program_images.specs.Saving.{save_text}
 use Rattle.kfs_program_verdicts.specs.HeldVerdicts.{HeldVerdicts, held_by, no_verdict, with_held}
 use Rattle.kfs_workers_verdict.specs.Verdict.{IsVerdictOn, HeldVerdict, LandsVerdict}
@@ -78,6 +79,15 @@ abbrev pub opened : Start → OpeningCommand → LineOutcome
 opened start (New sizes) = (line_of (codes "ok"), Before (record start { image = Some (fresh_image sizes) }))
 opened start (Row client) = admitted start client
 opened start (Begin limit) = begun_over start.image start.clients limit
+
+-- the image, if there is one, takes the place of one that was there
+abbrev pub with_image : Start → Option DeviceImage → Start
+with_image start None = start
+with_image start (Some image) = record start { image = Some image }
+
+-- the outcome of an image in bytes: where they make one, the desk will be begun with it, else nothing changes
+abbrev pub AnswersLoad : Start → (bytes : List ℕ) → LineOutcome → Type 0
+AnswersLoad start bytes outcome = (image : Option DeviceImage) × (line : List ℕ) × LoadsWith bytes image line × IsSaid line (Before (with_image start image)) outcome
 
 -- ---- calls of the desk
 
@@ -179,8 +189,10 @@ DeskAnswers desk hands (Land worker) outcome = AnswersLand desk hands worker (he
 -- the outcome of a command; one that comes at the wrong time is a bad line
 abbrev pub AnswersCommand : Stage → Command → LineOutcome → Type 0
 AnswersCommand (Before start) (Setup command) outcome = outcome ≡ opened start command
+AnswersCommand (Before start) (Load bytes) outcome = AnswersLoad start bytes outcome
 AnswersCommand (Before start) (Request command) outcome = IsSaid (codes "bad line") (Before start) outcome
 AnswersCommand (After desk hands) (Setup command) outcome = IsSaid (codes "bad line") (After desk hands) outcome
+AnswersCommand (After desk hands) (Load bytes) outcome = IsSaid (codes "bad line") (After desk hands) outcome
 AnswersCommand (After desk hands) (Request command) outcome = DeskAnswers desk hands command outcome
 
 -- the line is a command, and this is its outcome

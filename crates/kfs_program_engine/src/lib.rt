@@ -24,6 +24,7 @@ pub use session_loop::LINE_LIMIT;
 use session_loop::SessionLoop;
 use std::alloc::{AllocError, Allocator};
 use std::io::{Read, Write};
+use std::thread::Threads;
 
 /// After how many reads a reader counts as one that never ends.
 const MOST_READS: u64 = 1 << 32;
@@ -38,12 +39,13 @@ const CHUNK: usize = 65_536;
 /// lines before were answered then; after `WriteFault` only a first part of the replies is written. A
 /// command for which memory is refused is answered `memory`, and the engine goes on.
 pub fn engine<R, A, I, O>(
-    _rt: &R,
+    rt: &R,
     alloc: A,
     reader: &mut I,
     writer: &mut O,
 ) -> Result<(), EngineFault>
 where
+    R: Threads + Sync,
     A: Allocator + Copy,
     I: Read,
     O: Write,
@@ -51,7 +53,7 @@ where
     ensures end { OnOk result (IsAtEnd (I.remaining reader.new)) }
 {
     let mut chunk = new_chunk(alloc)?;
-    let (written, ended) = answer_together(alloc, reader, &mut chunk, writer);
+    let (written, ended) = answer_together(rt, alloc, reader, &mut chunk, writer);
     let _writer = written;
     ended
 }
@@ -64,13 +66,15 @@ fn new_chunk<A: Allocator>(alloc: A) -> Result<Vec<u8, A>, EngineFault>
 }
 
 /// Reads and answers all input, with the replies held back, and answers the writer too.
-fn answer_together<'w, A, I, O>(
+fn answer_together<'w, R, A, I, O>(
+    rt: &R,
     alloc: A,
     reader: &mut I,
     chunk: &mut [u8],
     writer: &'w mut O,
 ) -> (&'w mut O, Result<(), EngineFault>)
 where
+    R: Threads + Sync,
     A: Allocator + Copy,
     I: Read,
     O: Write,
@@ -80,7 +84,7 @@ where
     ensures end { OnOk result.1 (IsAtEnd (I.remaining reader.new)) }
 {
     let mut held = HeldBack::new(alloc, writer);
-    let ended = answer_all(alloc, reader, chunk, &mut held);
+    let ended = answer_all(rt, alloc, reader, chunk, &mut held);
     let (writer, closed) = held.close();
     match closed {
         Ok(()) => (writer, ended),
@@ -89,13 +93,15 @@ where
 }
 
 /// Reads the input chunk by chunk, answers each line, and flushes the writer before the next chunk.
-fn answer_all<A, I, O>(
+fn answer_all<R, A, I, O>(
+    rt: &R,
     alloc: A,
     reader: &mut I,
     chunk: &mut [u8],
     writer: &mut HeldBack<'_, O, A>,
 ) -> Result<(), EngineFault>
 where
+    R: Threads + Sync,
     A: Allocator + Copy,
     I: Read,
     O: Write,
@@ -110,9 +116,9 @@ where
             continue;
         };
         if count == 0 {
-            return session_loop.finish(writer);
+            return session_loop.finish(rt, writer);
         }
-        session_loop.take(&chunk[..count], writer)?;
+        session_loop.take(rt, &chunk[..count], writer)?;
         writer.flush()?;
     }
     Err(EngineFault::ReadFault)

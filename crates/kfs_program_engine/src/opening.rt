@@ -1,7 +1,7 @@
 //! What a desk is begun with: an image and clients.
 ghost use Rattle.std.specs.Prelude.{◌≡◌, ◌≤◌, IfErr, IfOk, IsErrOf, None, OnOk};
 ghost use Rattle.kfs_program_command.specs.Command as commands;
-ghost use Rattle.kfs_program_engine.specs.Session.{Before, fresh};
+ghost use Rattle.kfs_program_engine.specs.Session.{AnswersLoad, Before, IsReplied, fresh};
 ghost use Rattle.kfs_program_command.specs.Views.{opening_of};
 ghost use Rattle.kfs_program_engine.specs.Views.{IsOpened, IsWithoutImage, start_of};
 ghost use Rattle.kfs_entry_value.specs.Room.{spare_of};
@@ -11,11 +11,13 @@ use kfs_image::{Image, TierSizes};
 use kfs_mode::{Client, ClientFault};
 use kfs_plan::answers::BeginFault;
 use kfs_program_command::OpeningCommand;
+use kfs_program_images::load;
 use kfs_program_text::Refusal;
 use kfs_program_text::parts::text;
 use kfs_report::{begin_line, client_line};
 use std::alloc::Allocator;
 use std::mem;
+use std::thread::Threads;
 
 /// The image, if there is one yet, and the clients in the order of their lines.
 #[derive(Drop)]
@@ -65,6 +67,25 @@ impl<A: Allocator + Copy> Opening<A> {
     {
         self.image = Some(Image::fresh(self.alloc, sizes)?);
         text(reply, b"ok\n");
+        Ok(())
+    }
+
+    /// Takes in the image that the bytes spell, in place of an image that was there. Where they make
+    /// none, nothing changes, and the reply says why.
+    #[tactic(auto, using(crate::proofs::Held::image_answered))]
+    pub fn load(
+        &mut self,
+        rt: &(impl Threads + Sync),
+        bytes: &[u8],
+        reply: &mut Vec<u8, A>,
+    ) -> Result<(), Refusal>
+        ensures ok { OnOk result (IsReplied (AnswersLoad (start_of self.old) bytes.now) reply.old.items reply.new.items (Before (start_of self.new))) }
+        ensures err { IfErr result (λ why. (why ≡ Refusal.OutOfMemory) × (start_of self.new ≡ start_of self.old)) }
+    {
+        let Some(image) = load(rt, self.alloc, bytes, reply)? else {
+            return Ok(());
+        };
+        self.image = Some(image);
         Ok(())
     }
 

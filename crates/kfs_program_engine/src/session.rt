@@ -28,6 +28,7 @@ use kfs_program_text::parts::{number, text};
 use kfs_program_verdicts::HeldVerdicts;
 use kfs_report::{act_line, node_line, reply_line};
 use std::alloc::Allocator;
+use std::thread::Threads;
 
 /// A session: first what the desk will be begun with, then the desk and the verdicts that workers hold.
 #[derive(Drop)]
@@ -57,7 +58,12 @@ impl<A: Allocator + Copy> Session<A> {
     ///
     /// A refusal leaves the state as it was, with one exception: where memory is refused for a landing,
     /// the verdict may be given up already. `give_up` makes that sure.
-    pub fn answer(&mut self, line: &[u8], reply: &mut Vec<u8, A>) -> Result<(), Refusal>
+    pub fn answer(
+        &mut self,
+        rt: &(impl Threads + Sync),
+        line: &[u8],
+        reply: &mut Vec<u8, A>,
+    ) -> Result<(), Refusal>
         requires { 128 ≤ spare_of reply.old }
         ensures ok { OnOk result (IsReplied (AnswersLine (stage_of self.old) line.now) reply.old.items reply.new.items (stage_of self.new)) }
         ensures bad { IsErrOf result Refusal.BadLine → AnswersLine (stage_of self.old) line.now (line_of (codes "bad line"), stage_of self.new) }
@@ -65,6 +71,7 @@ impl<A: Allocator + Copy> Session<A> {
     {
         match Command::read(self.alloc, line)? {
             Command::Opening(command) => self.answer_before(command, reply),
+            Command::Image(bytes) => self.load(rt, bytes.as_slice(), reply),
             Command::Desk(command) => self.answer_after(command, reply),
         }
     }
@@ -103,6 +110,23 @@ impl<A: Allocator + Copy> Session<A> {
             }
             Stage::After(_, _) => Err(Refusal::BadLine),
         }
+    }
+
+    /// Takes in an image that bytes spell. Once the desk is begun it is a bad line.
+    fn load(
+        &mut self,
+        rt: &(impl Threads + Sync),
+        bytes: &[u8],
+        reply: &mut Vec<u8, A>,
+    ) -> Result<(), Refusal>
+        ensures ok { OnOk result (CommandIsDone self.old (commands.Load bytes.now) reply.old.items reply.new.items self.new) }
+        ensures bad { IsErrOf result Refusal.BadLine → IsOutOfPlace self.old (commands.Load bytes.now) self.new }
+        ensures memory { IsErrOf result Refusal.OutOfMemory → stage_of self.new ≡ stage_of self.old }
+    {
+        let Stage::Before(opening) = &mut self.stage else {
+            return Err(Refusal::BadLine);
+        };
+        opening.load(rt, bytes, reply)
     }
 
     /// Answers a command to the desk. Before the desk is begun it is a bad line.

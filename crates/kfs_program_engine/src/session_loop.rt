@@ -14,6 +14,7 @@ use kfs_program_text::{HeldBack, Refusal, first_line};
 use kfs_report::LONGEST_LINE;
 use std::alloc::Allocator;
 use std::io::Write;
+use std::thread::Threads;
 
 /// The most bytes of a line, without its end.
 pub const LINE_LIMIT: usize = 16_777_216;
@@ -41,6 +42,7 @@ impl<A: Allocator + Copy> SessionLoop<A> {
     /// Answers each line that ends in `bytes`, and keeps the bytes after the last line's end.
     pub fn take<W: Write>(
         &mut self,
+        rt: &(impl Threads + Sync),
         bytes: &[u8],
         writer: &mut HeldBack<'_, W, A>,
     ) -> Result<(), EngineFault>
@@ -49,27 +51,32 @@ impl<A: Allocator + Copy> SessionLoop<A> {
     {
         let mut rest = bytes;
         'lines: while let Some((line, behind)) = first_line(rest) {
-            self.end_line(line, writer)?;
+            self.end_line(rt, line, writer)?;
             rest = behind;
         }
         self.keep(rest)
     }
 
     /// Answers the last line, if it has no end.
-    pub fn finish<W: Write>(&mut self, writer: &mut HeldBack<'_, W, A>) -> Result<(), EngineFault>
+    pub fn finish<W: Write>(
+        &mut self,
+        rt: &(impl Threads + Sync),
+        writer: &mut HeldBack<'_, W, A>,
+    ) -> Result<(), EngineFault>
         ensures session { Writes (contents_with W.contents writer.old) (contents_with W.contents writer.new) (Ends self.old result) }
         ensures first { writer.new.first ≡ writer.old.first }
     {
         if self.line.is_empty() {
             return Ok(writer.flush()?);
         }
-        self.answer(writer)?;
+        self.answer(rt, writer)?;
         Ok(writer.flush()?)
     }
 
     /// Answers the line that ends with `part`.
     fn end_line<W: Write>(
         &mut self,
+        rt: &(impl Threads + Sync),
         part: &[u8],
         writer: &mut HeldBack<'_, W, A>,
     ) -> Result<(), EngineFault>
@@ -78,7 +85,7 @@ impl<A: Allocator + Copy> SessionLoop<A> {
         ensures cleared { OnOk result (self.new.line.items ≡ []) }
     {
         self.keep(part)?;
-        self.answer(writer)
+        self.answer(rt, writer)
     }
 
     fn keep(&mut self, part: &[u8]) -> Result<(), EngineFault>
@@ -92,23 +99,27 @@ impl<A: Allocator + Copy> SessionLoop<A> {
         Ok(())
     }
 
-    fn answer<W: Write>(&mut self, writer: &mut HeldBack<'_, W, A>) -> Result<(), EngineFault>
+    fn answer<W: Write>(
+        &mut self,
+        rt: &(impl Threads + Sync),
+        writer: &mut HeldBack<'_, W, A>,
+    ) -> Result<(), EngineFault>
         ensures session { Writes (contents_with W.contents writer.old) (contents_with W.contents writer.new) (IsHeldAnswered result self.old self.new) }
         ensures first { writer.new.first ≡ writer.old.first }
         ensures cleared { self.new.line.items ≡ [] }
     {
-        let replied = self.reply();
+        let replied = self.reply(rt);
         let written = writer.write(text_of(replied, &self.reply));
         self.line.clear();
         Ok(written?)
     }
 
     /// Answers the line. Where memory is refused, the verdict that it asks to land is given up.
-    fn reply(&mut self) -> Result<(), Refusal>
+    fn reply(&mut self, rt: &(impl Threads + Sync)) -> Result<(), Refusal>
         ensures session { AnswersLine (stage_of self.old.session) self.old.line.items (reply_written result self.new.reply.items, stage_of self.new.session) }
         ensures line { self.new.line ≡ self.old.line }
     {
-        match self.reply_in_room() {
+        match self.reply_in_room(rt) {
             Ok(()) => Ok(()),
             Err(Refusal::BadLine) => Err(Refusal::BadLine),
             Err(Refusal::OutOfMemory) => {
@@ -119,7 +130,7 @@ impl<A: Allocator + Copy> SessionLoop<A> {
     }
 
     /// Answers the line, with room for the reply made before anything changes.
-    fn reply_in_room(&mut self) -> Result<(), Refusal>
+    fn reply_in_room(&mut self, rt: &(impl Threads + Sync)) -> Result<(), Refusal>
         ensures ok { OnOk result (AnswersLine (stage_of self.old.session) self.old.line.items (self.new.reply.items, stage_of self.new.session)) }
         ensures bad { IsErrOf result Refusal.BadLine → AnswersLine (stage_of self.old.session) self.old.line.items (line_of (codes "bad line"), stage_of self.new.session) }
         ensures memory { IsErrOf result Refusal.OutOfMemory → IsUndone (asked_by self.old.line.items) (stage_of self.old.session) (stage_of self.new.session) }
@@ -127,7 +138,7 @@ impl<A: Allocator + Copy> SessionLoop<A> {
     {
         self.reply.clear();
         self.reply.try_reserve(LONGEST_LINE)?;
-        self.session.answer(&self.line, &mut self.reply)
+        self.session.answer(rt, &self.line, &mut self.reply)
     }
 }
 

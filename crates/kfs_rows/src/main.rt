@@ -13,6 +13,7 @@ use memory::run_in_little_memory;
 use std::io;
 use std::process::ExitCode;
 use std::rt::Files;
+use std::thread::Threads;
 
 fn main(rt: HostRuntime) -> io::Result<ExitCode> {
     let names = script_names(&rt, ".")?;
@@ -32,7 +33,10 @@ fn main(rt: HostRuntime) -> io::Result<ExitCode> {
 }
 
 /// Runs one script with its words, and compares its replies and its status.
-fn run_script<R: Files + AllocGlobal>(rt: &R, name: &str) -> Result<(), ScriptFault> {
+fn run_script<R: Files + AllocGlobal + Threads + Sync>(
+    rt: &R,
+    name: &str,
+) -> Result<(), ScriptFault> {
     let case = Case::read(rt, name)?;
     let words = case.words(rt.alloc())?;
     let mut script = case.script();

@@ -4,6 +4,7 @@ use kfs_program::run_words;
 use kfs_test_scripts::{Case, Script, ScriptFault};
 use kfs_test_support::refusing::Refusing;
 use std::alloc::{AllocError, Allocator, Global};
+use std::thread::Threads;
 
 /// More growths than any script asks for.
 const AMPLE: u64 = 1 << 40;
@@ -28,7 +29,7 @@ struct Outcome {
 }
 
 /// Runs these lines with the desk in memory of `alloc`.
-fn run<R: AllocGlobal, A: Allocator + Copy>(
+fn run<R: AllocGlobal + Threads + Sync, A: Allocator + Copy>(
     rt: &R,
     alloc: A,
     words: &[&str],
@@ -104,7 +105,7 @@ impl Transcript {
     }
 
     /// Whether these are the replies that are given with enough memory.
-    fn is_due<R: AllocGlobal>(&self, rt: &R, words: &[&str]) -> bool {
+    fn is_due<R: AllocGlobal + Threads + Sync>(&self, rt: &R, words: &[&str]) -> bool {
         let due = run(rt, rt.alloc(), words, &self.lines);
         due.status == DONE && due.written.as_slice() == self.replies.as_slice()
     }
@@ -112,7 +113,7 @@ impl Transcript {
 
 /// Whether the other lines are answered as if the line with this index, for which memory was refused,
 /// weren't there. If it lands a verdict, they are answered as if that verdict had never been made.
-fn is_due_without<R: AllocGlobal>(
+fn is_due_without<R: AllocGlobal + Threads + Sync>(
     rt: &R,
     lines: &[u8],
     words: &[&str],
@@ -128,7 +129,7 @@ fn is_due_without<R: AllocGlobal>(
 
 /// Whether a run in which a growth was refused ended rightly: as with memory; or early, with the first
 /// replies; or with one line for which memory was refused.
-fn is_due<R: AllocGlobal>(
+fn is_due<R: AllocGlobal + Threads + Sync>(
     rt: &R,
     case: &Case,
     words: &[&str],
@@ -146,7 +147,11 @@ fn is_due<R: AllocGlobal>(
 }
 
 /// Refuses each growth of the script in turn, and answers how many there are.
-fn growths<R: AllocGlobal>(rt: &R, case: &Case, words: &[&str]) -> Result<u64, ScriptFault> {
+fn growths<R: AllocGlobal + Threads + Sync>(
+    rt: &R,
+    case: &Case,
+    words: &[&str],
+) -> Result<u64, ScriptFault> {
     for growth in 0..MANY {
         let heap = Refusing::new(rt.alloc(), growth);
         let given = run(rt, &heap, words, case.lines());
@@ -161,14 +166,19 @@ fn growths<R: AllocGlobal>(rt: &R, case: &Case, words: &[&str]) -> Result<u64, S
 }
 
 /// Runs the script with at most this many bytes held at one time.
-fn run_within<R: AllocGlobal>(rt: &R, case: &Case, words: &[&str], bytes: u64) -> Outcome {
+fn run_within<R: AllocGlobal + Threads + Sync>(
+    rt: &R,
+    case: &Case,
+    words: &[&str],
+    bytes: u64,
+) -> Outcome {
     let heap = Refusing::new(rt.alloc(), AMPLE);
     heap.leave(bytes);
     run(rt, &heap, words, case.lines())
 }
 
 /// Runs the script with this many bytes, and with none, where it must end early.
-fn run_in_room<R: AllocGlobal>(
+fn run_in_room<R: AllocGlobal + Threads + Sync>(
     rt: &R,
     case: &Case,
     words: &[&str],
@@ -185,7 +195,7 @@ fn run_in_room<R: AllocGlobal>(
 }
 
 /// Runs the script in little memory, if its files ask for that.
-pub fn run_in_little_memory<R: AllocGlobal>(
+pub fn run_in_little_memory<R: AllocGlobal + Threads + Sync>(
     rt: &R,
     case: &Case,
     words: &[&str],
