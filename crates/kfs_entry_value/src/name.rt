@@ -3,13 +3,14 @@ ghost use Rattle.std.specs.Prelude.{◌≡◌, ◌↔◌, IsSome, IsTrue, IfSome
 
 use crate::limits::NAME_LIMIT;
 use arrayvec::ArrayVec;
+use std::alloc::AllocError;
 use std::marker::Model;
 
 /// A name in a directory: 1 to 255 bytes without `/` and without a zero byte, neither `.` nor `..`
 /// (POSIX.1-2017, XBD 3.170 "Filename"). Names are ordered by their bytes.
 ///
 /// The bytes are part of the value itself, so a name takes no memory of its own.
-#[derive(Clone, Debug, PartialEq, Eq, PartialOrd, Ord, Hash, Drop)]
+#[derive(Debug, PartialEq, Eq, PartialOrd, Ord, Hash, Drop)]
 pub struct Name {
     bytes: ArrayVec<u8, NAME_LIMIT>,
 }
@@ -25,6 +26,22 @@ impl Model for Name {
     ghost invariant = { λ n. IsName n.bytes.items };
 
     ghost inverse = { λ b. record { bytes = record { items = b } } };
+}
+
+// Written out, since the bytes are then copied at once and not one by one. A clone is never refused.
+impl Clone for Name {
+    ghost use Rattle.std.specs.Prelude.{◌≡◌, ⊤};
+
+    ghost is_clone = { λ name copy. copy ≡ name };
+
+    ghost is_infallible = { λ name. ⊤ };
+
+    fn clone(&self) -> Result<Name, AllocError> {
+        match ArrayVec::try_from(self.bytes.as_slice()) {
+            Ok(bytes) => Ok(Name { bytes }),
+            Err(_) => unreachable!(),
+        }
+    }
 }
 
 impl Name {

@@ -1,7 +1,6 @@
 //! What a type must offer to be the key of a map in chunks.
 ghost use Rattle.std.specs.Prelude.{◌≡◌, ◌≤◌, refl};
-ghost use Rattle.std.proofs.Common.{rules, sym, ◌∙◌};
-ghost use Rattle.kfs_map_chunks.specs.Keys.{same_items};
+ghost use Rattle.std.proofs.Common.{rules};
 ghost use Rattle.kfs_model.specs.Table.{Order, pairs, numbers};
 ghost use Rattle.kfs_model.specs.Tree.{name_order};
 
@@ -51,7 +50,7 @@ impl Key for (u32, Name) {
 
     ghost compared = { refl };
 
-    ghost cloned = { λ key copy same i. (same.0 i, (sym same.1.3 ∙ same_items same.1.0.bytes.items same.1.1.bytes.items same.1.4 ∙ same.1.2) i) };
+    ghost cloned = { λ key copy same i. (same.0 i, same.1 i) };
 
     fn duplicate(&self) -> (u32, Name) {
         (self.0, self.1.clone().unwrap())

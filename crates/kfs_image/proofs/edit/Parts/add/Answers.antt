@@ -9,7 +9,6 @@ use Rattle.kfs_model.specs.Table.{changed, insert}
 use Rattle.kfs_image_nodes.specs.Change.{led_to, renamed, reheaded}
 use Rattle.kfs_image_tier.specs.declared.change.NewBlock.{NewBlock}
 use Rattle.kfs_image_tier.specs.Tiers.{with_blocks}
-use Rattle.kfs_map_chunks.specs.Keys.{same_items}
 use Rattle.kfs_map_chunks.specs.Overlays.{overlaid}
 use Rattle.kfs_map_chunks.proofs.Overlays.{overlaid_set}
 use Rattle.kfs_image.specs.Edit.{edited, WritesWholeBlocks}
@@ -28,8 +27,7 @@ pub returns-in_ok-push-in-Name-clause-made : goal.returns-in_ok-push-in-Name-cla
 returns-in_ok-push-in-Name-clause-made g c = λ image.
     let parts = c.args.self.now in
     let row : NameRow = record { dir = c.in-Name.dir; name = c.in_ok-clone-in-Name.field-0; number = c.unwrap_or.result } in
-    let copied = c.in_ok-clone-in-Name.ensures.cases in
-    let name : c.in_ok-clone-in-Name.field-0 ≡ c.in-Name.name = sym copied.3 ∙ same_items copied.0.bytes.items copied.1.bytes.items copied.4 ∙ copied.2 in
+    let name : c.in_ok-clone-in-Name.field-0 ≡ c.in-Name.name = c.in_ok-clone-in-Name.ensures.cases in
     let names =
     ap (renamed image.names) c.in_ok-push-in-Name.ensures.items
     ∙ one_name image.names parts.names.items row
