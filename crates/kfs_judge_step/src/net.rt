@@ -54,7 +54,7 @@ fn name_row<A: Allocator + Copy>(
     }
     let row = NameRow {
         dir: key.0,
-        name: key.1.clone()?,
+        name: key.1,
         number: now.unwrap_or(0),
     };
     Ok(Some(row))
