@@ -1,8 +1,8 @@
 pub mod Answered
+pub mod Calls
 pub mod ClientRows
 pub mod Dockets
 pub mod GrantedNumbers
-pub mod Granting
 pub mod Histories
 pub mod LandedBytes
 pub mod Landing

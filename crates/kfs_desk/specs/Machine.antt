@@ -1,17 +1,20 @@
 -- The desk as a state of the machine, and its calls as rows that fit it.
-use Rattle.std.specs.Prelude.{◌≡◌, ◌≢◌, ◌↔◌, ℕ, ◌≤◌, Bool, false, List, [], ◌∷◌, ◌++◌, length, take, Option, Some, option_map, Result, Ok, Err, IfOk, IsErrOf, OnErr}
+use Rattle.std.specs.Prelude.{◌≡◌, ◌≢◌, ◌↔◌, ℕ, ◌≤◌, Bool, false, List, [], ◌∷◌, ◌++◌, length, take, Option, Some, None, option_map, Result, Ok, Err, IfOk, IsErrOf, OnErr}
 use Rattle.kfs_model.specs.Access.{Client}
 use Rattle.kfs_model.specs.Lease.{Leases, row_of}
 use Rattle.kfs_model.specs.Lease as leases
 use Rattle.kfs_model.specs.Sight.{Sight, sight}
 use Rattle.kfs_model.specs.Soundness.{IsSound}
 use Rattle.kfs_model.specs.Judgement.{State, Submission, Reading, IsReadAs, Reply, Accepted, NoRoom, Refused, client_sight_of}
-use Rattle.kfs_model.specs.Machine.{Call, Submit, Lease, Drop, Tick, CallAnswer, Replied, Row, after, next}
+use Rattle.kfs_model.specs.Machine.{Call, Submit, Lease, Drop, Tick, CallAnswer, CallFault, IsRead, Replied, Row, after, next}
 use Rattle.kfs_model.specs.Machine as machine
 use Rattle.kfs_model.specs.Means.{HasEntriesDone}
+use Rattle.kfs_model.specs.Migration.{Move, MoveFault, fault_of_moves}
 use Rattle.kfs_model.specs.Order.{IsInOrder}
 use Rattle.kfs_desk_docket.specs.Legal.{IsLegalDocket}
-use Rattle.kfs_lease.specs.Faults.{fault_of}
+use Rattle.kfs_lease.specs.Faults as lease_faults
+use Rattle.kfs_migrate.specs.Applied.{AreApplied}
+use Rattle.kfs_migrate_value.specs.Faults as move_faults
 use Rattle.kfs_lease_rows.specs.Rows.{kind_of}
 use Rattle.kfs_plan.specs.declared.answers.ActFault.{ActFault}
 use Rattle.kfs_plan.specs.declared.answers.ActFault.TheVariants as act_faults
@@ -164,7 +167,7 @@ RunsThrough desk (submission ∷ submissions) [] last = ⊥
 RunsThrough desk (submission ∷ submissions) (Ok reply ∷ answers) last = (next : Desk) × IsAnswered desk (submission_of submission) false reply next × RunsThrough next submissions answers last
 RunsThrough desk (submission ∷ submissions) (Err back ∷ answers) last = (back.submission ≡ submission) × IsWhy desk back.why × RunsThrough desk submissions answers last
 
--- ---- a call for the leases
+-- ---- a call that is no submission
 
 -- the machine's call for a call of the code
 abbrev pub call_of : Act → Call
@@ -172,51 +175,48 @@ call_of (acts.Lease client path kind end) = Lease client path.now (kind_of kind)
 call_of (acts.Drop client number) = Drop client number
 call_of (acts.Tick moment) = Tick moment
 
--- what the call has done, given the node's number or the moment
+-- what the call for leases has done, given the node's number or the moment
 abbrev pub done_by : Act → ℕ → Done
 done_by (acts.Lease client path kind end) = dones.Leased
 done_by (acts.Drop client number) = dones.Dropped
 done_by (acts.Tick moment) = dones.Ticked
 
--- the node's number, or the moment
+-- the node's number, the moment, or how many blocks moved
 abbrev pub number_of : Done → ℕ
 number_of (dones.Leased number) = number
 number_of (dones.Dropped number) = number
 number_of (dones.Ticked moment) = moment
+number_of (dones.Moved count) = count
 
--- the answer of the call, and the leases after it
+-- the answer of the call for leases, and the leases after it
 abbrev pub outcome_at : Leases → Sight → List Client → Act → leases.LeaseOutcome
 outcome_at table sight clients (acts.Lease client path kind end) = leases.granted table sight clients client path.now (kind_of kind) end
 outcome_at table sight clients (acts.Drop client number) = leases.dropped table clients client number
 outcome_at table sight clients (acts.Tick moment) = leases.ticked table moment
 
+-- the machine's refusal; none where memory was refused
+abbrev pub call_fault_of : ActFault → Option CallFault
+call_fault_of (act_faults.Lease fault) = option_map machine.LeaseRefused (lease_faults.fault_of fault)
+call_fault_of (act_faults.Move fault) = option_map machine.MovesRefused (move_faults.fault_of fault)
+
 -- the code's answer says what the machine's answer says: what was done, in these words, or the refusal
-abbrev pub IsTold : (words : ℕ → Done) → Result Done ActFault → Result ℕ leases.LeaseFault → Type 0
+abbrev pub IsTold : (words : ℕ → Done) → Result Done ActFault → Result ℕ CallFault → Type 0
 IsTold words (Ok done) (Ok number) = done ≡ words number
 IsTold words (Ok done) (Err refusal) = ⊥
-IsTold words (Err (act_faults.Lease fault)) (Ok number) = ⊥
-IsTold words (Err (act_faults.Lease fault)) (Err refusal) = fault_of fault ≡ Some refusal
+IsTold words (Err fault) (Ok number) = ⊥
+IsTold words (Err fault) (Err refusal) = call_fault_of fault ≡ Some refusal
 
-abbrev pub row_answer : Result ℕ leases.LeaseFault → CallAnswer
+abbrev pub row_answer : Result ℕ CallFault → CallAnswer
 row_answer (Ok number) = machine.Done number
-row_answer (Err fault) = machine.NotDone (machine.LeaseRefused fault)
-
--- the answer, and the leases after it, are this outcome
-pub record IsChange (outcome : leases.LeaseOutcome) (words : ℕ → Done) (answer : Result Done ActFault) (new : Leases) : Type 0 where
-  pub told : Result ℕ leases.LeaseFault
-  pub said : IsTold words answer told
-  pub is : outcome ≡ (told, new)
-
--- the answer and the new leases are what the call leads to
-abbrev pub IsChangeOf : Leases → Sight → List Client → Act → (answer : Result Done ActFault) → (new : Leases) → Type 0
-IsChangeOf table sight clients act answer new = IsChange (outcome_at table sight clients act) (done_by act) answer new
+row_answer (Err fault) = machine.NotDone fault
 
 -- the answer says what was done, in these words; the row is the call with that outcome, with nothing
 -- judged again, and leads from state s to state t
-pub record IsLeaseStep (s : State) (call : Call) (words : ℕ → Done) (answer : Result Done ActFault) (row : Row) (t : State) : Type 0 where
-  pub outcome : Result ℕ leases.LeaseFault
+pub record IsCallStep (s : State) (call : Call) (words : ℕ → Done) (answer : Result Done ActFault) (row : Row) (t : State) : Type 0 where
+  pub outcome : Result ℕ CallFault
   pub said : IsTold words answer outcome
   pub asked : row.call ≡ call
+  pub read : IsRead row
   pub answered : row.answer ≡ row_answer outcome
   pub rejudged : row.rejudged ≡ false
   pub fits : next s row ≡ Some t
@@ -224,7 +224,7 @@ pub record IsLeaseStep (s : State) (call : Call) (words : ℕ → Done) (answer 
 -- the answer to the call is such a step, and the docket has the step's row, at the answer's position
 pub record IsActed (old : Desk) (call : Call) (words : ℕ → Done) (reply : ActReply) (new : Desk) : Type 0 where
   pub row : Row
-  pub step : IsLeaseStep old.state call words reply.answer row new.state
+  pub step : IsCallStep old.state call words reply.answer row new.state
   pub position : reply.position ≡ length old.docket
   pub docket : new.docket ≡ old.docket ++ row ∷ []
   pub opening : new.opening ≡ old.opening
@@ -237,3 +237,26 @@ pub record IsCallOf (old : Desk) (call : Call) (words : ℕ → Done) (result : 
   pub done : IfOk result (λ reply. IsActed old call words reply new)
   pub err : OnErr result (new ≡ old)
   pub legal : IsLegalDocket new.opening new.docket new.state
+
+-- ---- a change by such a call
+
+-- the answer of a call for leases, as that of any call
+abbrev pub told_by_leases : Result ℕ leases.LeaseFault → Result ℕ CallFault
+told_by_leases (Ok number) = Ok number
+told_by_leases (Err fault) = Err (machine.LeaseRefused fault)
+
+-- the answer, and the leases after it, are this outcome
+pub record IsChange (outcome : leases.LeaseOutcome) (words : ℕ → Done) (answer : Result Done ActFault) (new : Leases) : Type 0 where
+  pub told : Result ℕ leases.LeaseFault
+  pub said : IsTold words answer (told_by_leases told)
+  pub is : outcome ≡ (told, new)
+
+-- the answer and the new leases are what the call leads to
+abbrev pub IsChangeOf : Leases → Sight → List Client → Act → (answer : Result Done ActFault) → (new : Leases) → Type 0
+IsChangeOf table sight clients act answer new = IsChange (outcome_at table sight clients act) (done_by act) answer new
+
+-- the moves have no fault, and the image has them made and shows the same tree; or their fault is
+-- answered, and the image is as it was
+abbrev pub IsMigrated : (old : DeviceImage) → List Move → (answer : Result Done ActFault) → (new : DeviceImage) → Type 0
+IsMigrated old moves (Ok done) new = (done ≡ dones.Moved (length moves)) × (fault_of_moves old.sizes old.placement moves ≡ None) × AreApplied moves old new × (shown_tree new ≡ shown_tree old)
+IsMigrated old moves (Err fault) new = (refusal : MoveFault) × (call_fault_of fault ≡ Some (machine.MovesRefused refusal)) × (fault_of_moves old.sizes old.placement moves ≡ Some refusal) × (new ≡ old)

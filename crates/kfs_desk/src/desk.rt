@@ -3,6 +3,7 @@ ghost use Rattle.std.specs.Prelude.{◌≡◌, ◌↔◌, ◌⊎◌, false, ◌+
 ghost use Rattle.kfs_model.specs.Order.{IsInOrder};
 ghost use Rattle.kfs_model.specs.Machine as machine;
 ghost use Rattle.kfs_model.specs.Machine.{opening};
+ghost use Rattle.kfs_model.specs.Means.{DiffersInPlacement};
 ghost use Rattle.kfs_model.specs.Table.{empty};
 ghost use Rattle.kfs_desk_docket.specs.Legal.{IsLegalDocket};
 ghost use Rattle.kfs_mode.specs.Clients.{ClientsAreDistinct};
@@ -13,13 +14,14 @@ ghost use Rattle.kfs_model_device.specs.ShownTree.{IsLawful, shown_tree};
 ghost use Rattle.kfs_image.specs.Image as images;
 ghost use Rattle.kfs_judge_check.specs.View.{clients_of, contents_of, leases_of};
 ghost use Rattle.kfs_plan.specs.Judging.{IsVerdict, submission_of};
+ghost use Rattle.kfs_plan.specs.Judged.{Judged as JudgedShown};
 ghost use Rattle.kfs_desk.specs.Landing.{AnswersOutcome, CanLand, leases_left};
-ghost use Rattle.kfs_desk.specs.Machine.{AreShown, IsAnswered, IsBackFor, IsCallOf, IsChangeOf, IsCurrent, IsImageOf, IsViewOf, RunsThrough, call_of, done_by, number_of, opened_at, outcome_at, state_at};
+ghost use Rattle.kfs_desk.specs.Machine.{AreShown, IsAnswered, IsBackFor, IsCallOf, IsChangeOf, IsCurrent, IsImageOf, IsMigrated, IsViewOf, RunsThrough, call_of, done_by, number_of, opened_at, outcome_at, state_at};
 ghost use Rattle.kfs_desk.specs.Docket.{is_rejudged};
 ghost use Rattle.kfs_desk.specs.Opening.{begin_fault};
 
 use crate::back::BeginBack;
-use crate::docket::{add_act, add_answer};
+use crate::docket::{add_act, add_answer, add_moves};
 use crate::first_fault::first_fault;
 use crate::state::ShownState;
 use crate::state_change::change_state;
@@ -29,6 +31,7 @@ use kfs_image::{Image, Shape};
 use kfs_image_fill::LogBytes;
 use kfs_judge::View;
 use kfs_lease::{LeaseFault, LeaseKind, Leases};
+use kfs_migrate::{Move, MoveFault, apply_moves, check_moves};
 use kfs_mode::Client;
 use kfs_plan::answers::{
     Act, ActFault, ActReply, BeginFault, Done, Reply, SubmissionsBack, Unanswered,
@@ -185,6 +188,28 @@ impl<A: Allocator + Copy> Desk<A> {
         let answer = change(&mut self.leases, shape, clients, act)?;
         let after = ShownState::of(&self.image, &self.clients, &self.leases);
         add_act(&mut self.docket, &before, &act, &answer, &after);
+        Ok(ActReply { position, answer })
+    }
+
+    /// Moves blocks of files to other places, all at once. Where blocks lie changes, and nothing else
+    /// does. So the tree stays as it is, and a verdict from before lands as it was judged.
+    ///
+    /// The answer is a row of the docket: `Moved` with the number of moves, or the refusal of
+    /// `check_moves` of `kfs_migrate`. `Err` as for `lease`.
+    #[tactic(auto, using(crate::proofs::Calls::unmoved))]
+    pub fn migrate(&mut self, moves: &[Move]) -> Result<ActReply, Unanswered>
+        ensures called { IsCallOf self.old (machine.Migrate moves.now) Done.Moved result self.new }
+        ensures rest { DiffersInPlacement self.old.state self.new.state }
+        ensures tree { self.new.state.tree ≡ self.old.state.tree }
+
+        // A verdict from before the moves holds after them, and so lands as it was judged.
+        ensures verdicts { {B : Type 0} (judged : JudgedShown B) → IsCurrent self.old.state judged → IsCurrent self.new.state judged }
+    {
+        let position = self.next_row()?;
+        let before = ShownState::of(&self.image, &self.clients, &self.leases);
+        let answer = make_moves(self.alloc, &mut self.image, moves)?;
+        let after = ShownState::of(&self.image, &self.clients, &self.leases);
+        add_moves(&mut self.docket, &before, moves, &answer, &after);
         Ok(ActReply { position, answer })
     }
 
@@ -446,6 +471,27 @@ fn made<A: Allocator + Copy>(
             leases.tick(moment)?;
             Ok(Done::Ticked(moment))
         }
+    }
+}
+
+/// Makes the moves, or answers why they are refused.
+#[tactic(auto, using(crate::proofs::Calls::few_moves, crate::proofs::Calls::moves_refused))]
+fn make_moves<A: Allocator + Copy>(
+    alloc: A,
+    image: &mut Image<A>,
+    moves: &[Move],
+) -> Result<Result<Done, ActFault>, Unanswered>
+    ensures ok { IfOk result (λ answer. IsMigrated image.old moves.now answer image.new) }
+    ensures err { OnErr result (image.new ≡ image.old) }
+    ensures not_full { IfErr result (λ why. why ≡ Unanswered.OutOfMemory) }
+{
+    match check_moves(alloc, image, moves) {
+        Ok(()) => {
+            apply_moves(alloc, image, moves)?;
+            Ok(Ok(Done::Moved(moves.len() as u32)))
+        }
+        Err(MoveFault::OutOfMemory) => Err(Unanswered::OutOfMemory),
+        Err(fault) => Ok(Err(ActFault::Move(fault))),
     }
 }
 

@@ -1,12 +1,13 @@
 //! Adding rows to the docket. At run time a row is nothing but a count.
 ghost use Rattle.std.specs.Prelude.{◌≡◌, ◌+◌, ◌<◌, ◌^◌, ◌++◌, ◌∷◌, [], length, Result};
-ghost use Rattle.kfs_model.specs.Machine.{Row};
+ghost use Rattle.kfs_model.specs.Machine.{Migrate, Row};
 ghost use Rattle.kfs_plan.specs.Judging.{submission_of};
-ghost use Rattle.kfs_desk.specs.Machine.{IsLeaseStep, IsStep, call_of, done_by};
+ghost use Rattle.kfs_desk.specs.Machine.{IsCallStep, IsStep, call_of, done_by};
 
 use crate::state::ShownState;
 use kfs_desk_docket::{Docket, OneRow, RowRule};
 use kfs_lease::Act;
+use kfs_migrate::Move;
 use kfs_plan::Submission;
 use kfs_plan::answers::{ActFault, Done, Reply};
 use std::alloc::Allocator;
@@ -56,7 +57,7 @@ struct Acted<'a, A: Allocator> {
 }
 
 impl<A: Allocator> RowRule for Acted<'_, A> {
-    ghost is_row = { λ a row. IsLeaseStep a.before.now (call_of a.act.now) (done_by a.act.now) a.answer.now row a.after.now };
+    ghost is_row = { λ a row. IsCallStep a.before.now (call_of a.act.now) (done_by a.act.now) a.answer.now row a.after.now };
 }
 
 /// Adds the row of a call for leases, which leads from the state before to the state after.
@@ -68,12 +69,46 @@ pub fn add_act<A: Allocator>(
     after: &ShownState<A>,
 )
     requires room { length docket.old + 1 < 2 ^ 32 }
-    requires step { (row : Row) × IsLeaseStep before.now (call_of act.now) (done_by act.now) answer.now row after.now }
-    ensures { (row : Row) × IsLeaseStep before.now (call_of act.now) (done_by act.now) answer.now row after.now × (docket.new ≡ docket.old ++ row ∷ []) }
+    requires step { (row : Row) × IsCallStep before.now (call_of act.now) (done_by act.now) answer.now row after.now }
+    ensures { (row : Row) × IsCallStep before.now (call_of act.now) (done_by act.now) answer.now row after.now × (docket.new ≡ docket.old ++ row ∷ []) }
 {
     let row = OneRow::of(&Acted {
         before,
         act,
+        answer,
+        after,
+    });
+    docket.push(row);
+}
+
+/// Moves of blocks and their answer, with the states before and after them.
+#[derive(Drop)]
+struct Migrated<'a, A: Allocator> {
+    before: &'a ShownState<A>,
+    moves: &'a [Move],
+    answer: &'a Result<Done, ActFault>,
+    after: &'a ShownState<A>,
+}
+
+impl<A: Allocator> RowRule for Migrated<'_, A> {
+    ghost is_row = { λ a row. IsCallStep a.before.now (Migrate a.moves.now) Done.Moved a.answer.now row a.after.now };
+}
+
+/// Adds the row of moves, which leads from the state before to the state after.
+pub fn add_moves<A: Allocator>(
+    docket: &mut Docket,
+    before: &ShownState<A>,
+    moves: &[Move],
+    answer: &Result<Done, ActFault>,
+    after: &ShownState<A>,
+)
+    requires room { length docket.old + 1 < 2 ^ 32 }
+    requires step { (row : Row) × IsCallStep before.now (Migrate moves.now) Done.Moved answer.now row after.now }
+    ensures { (row : Row) × IsCallStep before.now (Migrate moves.now) Done.Moved answer.now row after.now × (docket.new ≡ docket.old ++ row ∷ []) }
+{
+    let row = OneRow::of(&Migrated {
+        before,
+        moves,
         answer,
         after,
     });

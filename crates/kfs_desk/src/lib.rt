@@ -14,6 +14,7 @@ mod state_change;
 pub use back::BeginBack;
 pub use desk::Desk;
 pub use kfs_desk_docket::Docket;
+pub use kfs_migrate::{Move, MoveFault};
 pub use kfs_plan::answers::{
     Act, ActFault, ActReply, BeginFault, Done, Reply, SubmissionsBack, Unanswered,
 };

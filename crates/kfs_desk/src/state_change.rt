@@ -113,7 +113,7 @@ fn push_removed<A: Allocator>(removed: &mut Vec<u32, A>, row: &NodeRow) -> Resul
 }
 
 /// Ends the leases on the nodes, together with another change. Where a view shares the leases, a copy
-/// is made first, which shares their rows.
+/// is made first, which shares their rows; where no node goes, there is none to make.
 fn end_leases<A: Allocator + Copy, T: Change>(
     leases: &mut Arc<Leases<A>, A>,
     removed: &[u32],
@@ -125,6 +125,11 @@ fn end_leases<A: Allocator + Copy, T: Change>(
     ensures made { OnOk result (T.made then.old then.new) }
     ensures kept { OnErr result (T.kept then.old then.new) }
 {
-    let leases = Arc::make_mut(leases)?;
-    leases.remove_nodes(removed, then)
+    match removed {
+        [] => then.make(),
+        _ => {
+            let leases = Arc::make_mut(leases)?;
+            leases.remove_nodes(removed, then)
+        }
+    }
 }

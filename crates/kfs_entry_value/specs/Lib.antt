@@ -1,2 +1,3 @@
+pub mod Padded
 pub mod Room
 pub mod Views

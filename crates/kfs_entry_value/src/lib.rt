@@ -1,7 +1,7 @@
 //! The values that logs and plans are made of: names, headers, entries, plan rows, limits and tier
 //! sizes.
 //!
-//! It stands on the definitions of `kfs_model` and on `arrayvec`. Nearly all other crates use its
+//! It stands on the definitions of `kfs_model`. Nearly all other crates use its
 //! types. Begin with `entry.rt` (logs) and `plan.rt` (plans).
 #![tactic(auto)]
 

@@ -71,7 +71,7 @@ impl<A: Allocator + Clone> Parts<A> {
             })?,
             Edit::Name(dir, name, number) => self.names.push(NameRow {
                 dir: *dir,
-                name: name.clone()?,
+                name: *name,
                 number: number.unwrap_or(0),
             })?,
             Edit::Map(number, block, pair) => {

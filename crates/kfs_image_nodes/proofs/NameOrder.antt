@@ -1,10 +1,13 @@
 -- The order of names by directory and bytes.
-use Rattle.std.proofs.Common.{◌≡◌, ℕ, ◌<◌, List, refl, sym, ap, ◌∙◌}
+use Rattle.std.proofs.Common.{◌≡◌, ◌≢◌, ℕ, ◌<◌, List, [], ◌∷◌, false, refl, sym, ap, ◌∙◌, arith}
+use Rattle.std.proofs.lemmas.Cmp.{ranked}
+use Rattle.std.proofs.lemmas.List.Elements.{All-head}
 use Rattle.std.specs.declared.cmp.Ordering.{Ordering}
 use Rattle.std.specs.declared.cmp.Ordering.TheVariants.{Less, Equal, Greater}
 use Rattle.std.specs.Ordering.{nat_cmp, is_lt, is_gt, ordering_reverse, ordering_then}
 use Rattle.std.specs.Cmp.{nat_cmp_is}
 use Rattle.std.specs.Cmp.Lexicographic.{slice_cmp}
+use Rattle.kfs_model.specs.Spelling.{IsName, slash}
 use Rattle.kfs_model.specs.Table.{byte_order}
 use Rattle.kfs_model.specs.Tree.{name_order}
 
@@ -23,3 +26,19 @@ behind_in_directory d a b = ap is_gt (in_directory d b a ∙ byte_order.total.an
     turned Less = refl
     turned Equal = refl
     turned Greater = refl
+
+none_before : (m : List ℕ) → is_lt (slice_cmp nat_cmp m []) ≡ false
+none_before [] = refl
+none_before (b ∷ bytes) = refl
+
+-- no name stands before the byte 1 alone
+pub least_of_names : (m : List ℕ) → IsName m → is_lt (slice_cmp nat_cmp m (1 ∷ [])) ≡ false
+least_of_names [] name = absurd (omega (arith, name.some))
+least_of_names (b ∷ bytes) name = at (nat_cmp b 1) refl
+  where
+    at : (r : Ordering) → r ≡ nat_cmp b 1 → is_lt (ordering_then r (slice_cmp nat_cmp bytes [])) ≡ false
+    at Less is =
+        let below : b < 1 = ranked b 1 Less is in
+        absurd ((All-head (λ byte. (byte ≢ 0) × (byte ≢ slash)) b bytes name.plain).0 (omega (arith, below)))
+    at Equal is = none_before bytes
+    at Greater is = refl

@@ -1,5 +1,6 @@
 -- What overlays of names and counts show over the maps.
-use Rattle.std.specs.Prelude.{ℕ, List}
+use Rattle.std.specs.Prelude.{◌≡◌, ℕ, List}
+use Rattle.kfs_entry_value.specs.declared.plan.NameRow.{NameRow}
 use Rattle.kfs_model.specs.Table.{Table, numbers}
 use Rattle.kfs_model.specs.Tree.{NameTable, name_order}
 use Rattle.kfs_map_pages.specs.Edits as numbered
@@ -7,7 +8,8 @@ use Rattle.kfs_map_chunks.specs.Edits as keyed
 use Rattle.kfs_map_chunks.specs.Tables.{table}
 use Rattle.kfs_image_nodes.specs.declared.name_edits.NameEdits.{NameEdits}
 use Rattle.kfs_image_nodes.specs.declared.name_edits.Overlays.{Overlays}
-use Rattle.kfs_image_nodes.specs.Indexes.{IsCounted, AreInPages, by_node}
+use Rattle.kfs_image_nodes.specs.Change.{renamed}
+use Rattle.kfs_image_nodes.specs.Indexes.{AreNames, IsCounted, AreInPages, by_node}
 use Rattle.kfs_map_chunks.specs.Overlays.{overlaid}
 
 module _ {A : Type 0} where
@@ -44,3 +46,12 @@ module _ {A : Type 0} where
   abbrev pub IsCountedAfter : (names : List ((ℕ × List ℕ) × ℕ)) (counts : Table numbers ℕ) (uplinks : List ((ℕ × ℕ) × ℕ)) → NameEdits A → Type 0
   IsCountedAfter names counts uplinks edits =
       AreInPages (table name_order names) → AreInPages (names_edited names edits) → IsCounted (names_edited names edits) (counts_edited counts edits) (ways_edited uplinks edits)
+
+  -- the edits ascend, and make of the names what the rows make, and of the counts what is right then
+  pub record AreEditsOf (names : List ((ℕ × List ℕ) × ℕ)) (counts : Table numbers ℕ) (uplinks : List ((ℕ × ℕ) × ℕ)) (rows : List NameRow) (edits : NameEdits A) : Type 0 where
+    pub names_ascend : keyed.KeysAscend name_order.compare edits.names.items
+    pub counts_ascend : numbered.AreEdits edits.counts.items
+    pub uplinks_ascend : keyed.KeysAscend by_node.compare edits.uplinks.items
+    pub make : names_edited names edits ≡ renamed (table name_order names) rows
+    pub named : AreNames (table name_order names) → AreNames (names_edited names edits)
+    pub counted : IsCountedAfter names counts uplinks edits

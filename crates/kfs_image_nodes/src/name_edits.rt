@@ -1,21 +1,21 @@
 //! The changes that name rows make to the names, to the counts of directories' names, and to the
 //! uplinks.
-ghost use Rattle.std.specs.Prelude.{◌≡◌, ℕ, ◌+◌, ◌<◌, [], OnOk, IfOk, Option, Some, unwrap_or};
+ghost use Rattle.std.specs.Prelude.{◌≡◌, ℕ, ◌+◌, ◌<◌, [], ◌∷◌, OnOk, IfOk, Option, Some, unwrap_or};
 ghost use Rattle.kfs_model.specs.Table.{get, changed};
 ghost use Rattle.kfs_model.specs.Tree.{name_order};
 ghost use Rattle.kfs_map_pages.specs.Edits.{AreEdits};
 ghost use Rattle.kfs_map_chunks.specs.Edits.{KeysAscend};
 ghost use Rattle.kfs_map_chunks.specs.Tables.{table};
-ghost use Rattle.kfs_image_nodes.specs.Change.{led_to, renamed};
+ghost use Rattle.kfs_image_nodes.specs.Change.{led_to};
 ghost use Rattle.kfs_image_nodes.specs.Indexes.{AreNames, CountsFewer, CountsMore, IsCounted, by_node, count_at, count_step, uplink_step, ArePositive};
-ghost use Rattle.kfs_image_nodes.specs.NameEdits.{names_seen, counts_seen, ways_seen, IsCountedOver, names_edited, IsCountedAfter};
+ghost use Rattle.kfs_image_nodes.specs.NameEdits.{names_seen, counts_seen, ways_seen, IsCountedOver, AreEditsOf};
 ghost use Rattle.kfs_map_chunks.specs.Overlays.{Say};
 ghost use Rattle.kfs_image_nodes.specs.Overlays.{SayOfNumbers};
 
 use crate::overlay::number_edits;
 use crate::rows::{name_key, target_of};
 use kfs_entry_value::{Name, NameRow};
-use kfs_map_chunks::{Chunks, Overlay, key_edits};
+use kfs_map_chunks::{Chunks, KeyEdit, Overlay, key_edits};
 use kfs_map_pages::Pages;
 use std::alloc::{AllocError, Allocator};
 
@@ -23,9 +23,9 @@ use std::alloc::{AllocError, Allocator};
 /// directory lead to a node. Each list ascends.
 #[derive(Drop)]
 pub(crate) struct NameEdits<A: Allocator> {
-    pub(crate) names: Vec<kfs_map_chunks::KeyEdit<(u32, Name), u32>, A>,
+    pub(crate) names: Vec<KeyEdit<(u32, Name), u32>, A>,
     pub(crate) counts: Vec<kfs_map_pages::NumberEdit<u64>, A>,
-    pub(crate) uplinks: Vec<kfs_map_chunks::KeyEdit<(u32, u32), u64>, A>,
+    pub(crate) uplinks: Vec<KeyEdit<(u32, u32), u64>, A>,
 }
 
 /// The changes that the rows make, row after row. The maps themselves stay as they are. Counts for
@@ -38,12 +38,48 @@ pub(crate) fn name_edits<A: Allocator + Clone>(
     rows: &[NameRow],
 ) -> Result<NameEdits<A>, AllocError>
     requires { IsCounted (table name_order names.now) counts.now (table by_node uplinks.now) }
-    ensures names { IfOk result (λ edits. KeysAscend name_order.compare edits.names.items) }
-    ensures counts { IfOk result (λ edits. AreEdits edits.counts.items) }
-    ensures uplinks { IfOk result (λ edits. KeysAscend by_node.compare edits.uplinks.items) }
-    ensures renamed { IfOk result (λ edits. names_edited names.now edits ≡ renamed (table name_order names.now) rows.now) }
-    ensures named { IfOk result (λ edits. AreNames (table name_order names.now) → AreNames (names_edited names.now edits)) }
-    ensures counted { IfOk result (IsCountedAfter names.now counts.now uplinks.now) }
+    ensures { IfOk result (AreEditsOf names.now counts.now uplinks.now rows.now) }
+{
+    match rows {
+        [row] => edits_of_one(alloc, names, counts, uplinks, row),
+        _ => edits_of_all(alloc, names, counts, uplinks, rows),
+    }
+}
+
+/// The changes that one row makes. Its name needs no overlay.
+fn edits_of_one<A: Allocator + Clone>(
+    alloc: &A,
+    names: &Chunks<(u32, Name), u32, A>,
+    counts: &Pages<u64, A>,
+    uplinks: &Chunks<(u32, u32), u64, A>,
+    row: &NameRow,
+) -> Result<NameEdits<A>, AllocError>
+    requires { IsCounted (table name_order names.now) counts.now (table by_node uplinks.now) }
+    ensures { IfOk result (AreEditsOf names.now counts.now uplinks.now (row.entry.now ∷ [])) }
+{
+    let key = name_key(row.dir, &row.name);
+    let to = target_of(row);
+    let mut overlays = Overlays::new(alloc)?;
+    overlays.recount(names, counts, uplinks, &key, to)?;
+    let mut edits = Vec::with_capacity(alloc.clone()?, 1)?;
+    edits.push(KeyEdit { key, value: to })?;
+    Ok(NameEdits {
+        names: edits,
+        counts: number_edits(alloc, &overlays.counts)?,
+        uplinks: key_edits(alloc, &overlays.uplinks)?,
+    })
+}
+
+/// The changes that any number of rows make.
+fn edits_of_all<A: Allocator + Clone>(
+    alloc: &A,
+    names: &Chunks<(u32, Name), u32, A>,
+    counts: &Pages<u64, A>,
+    uplinks: &Chunks<(u32, u32), u64, A>,
+    rows: &[NameRow],
+) -> Result<NameEdits<A>, AllocError>
+    requires { IsCounted (table name_order names.now) counts.now (table by_node uplinks.now) }
+    ensures { IfOk result (AreEditsOf names.now counts.now uplinks.now rows.now) }
 {
     let mut overlays = Overlays::new(alloc)?;
     for row in rows {
@@ -110,10 +146,27 @@ impl<A: Allocator + Clone> Overlays<A> {
     {
         let key = name_key(row.dir, &row.name);
         let to = target_of(row);
-        let from = self.target(names, &key);
-        self.leave(counts, uplinks, row.dir, from)?;
-        self.enter(counts, uplinks, row.dir, to)?;
+        self.recount(names, counts, uplinks, &key, to)?;
         self.names.set(key, to)?;
+        Ok(())
+    }
+
+    /// Changes the counts to what they are once the name leads to `to`.
+    fn recount(
+        &mut self,
+        names: &Chunks<(u32, Name), u32, A>,
+        counts: &Pages<u64, A>,
+        uplinks: &Chunks<(u32, u32), u64, A>,
+        key: &(u32, Name),
+        to: Option<u32>,
+    ) -> Result<(), AllocError>
+        requires { IsCountedOver names.now counts.now uplinks.now self.old }
+        ensures names { self.new.names ≡ self.old.names }
+        ensures counted { OnOk result (IsCounted (changed (names_seen self.old names.now) key.now to) (counts_seen self.new counts.now) (ways_seen self.new uplinks.now)) }
+    {
+        let from = self.target(names, key);
+        self.leave(counts, uplinks, key.0, from)?;
+        self.enter(counts, uplinks, key.0, to)?;
         Ok(())
     }
 

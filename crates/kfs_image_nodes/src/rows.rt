@@ -149,7 +149,7 @@ pub(crate) fn name_key(dir: u32, name: &Name) -> (u32, Name)
     ensures name { IsName result.1 }
 {
     prove!(!name.as_bytes().is_empty());
-    (dir, name.clone().unwrap())
+    (dir, *name)
 }
 
 /// The number in a row; 0 stands for none.

@@ -1,6 +1,6 @@
 //! The reads of a judgement: each is made once, and recorded with its answer.
 
-ghost use Rattle.std.specs.Prelude.{◌≡◌, ℕ, ℤ, pos, Bool, [], ◌∷◌, Option, IfOk, OnErr, OnOk};
+ghost use Rattle.std.specs.Prelude.{◌≡◌, ℕ, ℤ, pos, Bool, [], ◌∷◌, Option, OnErr, OnOk};
 ghost use Rattle.std.specs.Option.{option_map};
 ghost use Rattle.kfs_entry_value.specs.Views.{header_of};
 ghost use Rattle.kfs_model.specs.Header.{Header as HeaderShown};
@@ -45,13 +45,6 @@ pub struct Recorder<'a, A: Allocator> {
     view: &'a View<A>,
     client: u32,
     reads: IndexMap<Read, ReadAnswer, BuildHasherDefault<FoldHasher>, A>,
-}
-
-/// A copy of a name.
-fn copied(name: &Name) -> Result<Name, AllocError>
-    ensures { IfOk result (λ copy. copy ≡ name.now) }
-{
-    name.clone()
 }
 
 impl<'a, A: Allocator + Copy> Recorder<'a, A> {
@@ -102,12 +95,11 @@ impl<'a, A: Allocator + Copy> Recorder<'a, A> {
     pub fn target(&mut self, key: &(u32, Name)) -> Result<Option<u32>, AllocError>
         ensures { LooksAtName self.old self.new result key.now (λ number before. before.sight.name key.now.0 key.now.1 ≡ number) }
     {
-        let name = copied(&key.1)?;
-        let read = Read::Look(Cell::Name(key.0, name));
+        let read = Read::Look(Cell::Name(key.0, key.1));
         if let Some(answer) = self.reads.get(&read) {
             return Ok(number_in(*answer));
         }
-        // What `look` answers, but without one more copy of the name.
+        // What `look` answers, but by reference to the name.
         let number = self.view.target(key);
         let answer = ReadAnswer::Look(Answer::Name(number));
         record(&mut self.reads, read, answer)?;

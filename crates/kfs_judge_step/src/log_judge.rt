@@ -16,7 +16,7 @@ use crate::sizes::file_sizes;
 use indexmap::IndexMap;
 use kfs_entry::{Entry, Span};
 use kfs_entry_codec::entry_table;
-use kfs_image_nodes::{Name, Net};
+use kfs_image_nodes::Net;
 use kfs_judge_check::{Read, ReadAnswer, Reason, Recorder, View};
 use kfs_judge_draft::Draft;
 use kfs_mode::Client;
@@ -26,9 +26,6 @@ use std::hash::{BuildHasherDefault, FoldHasher};
 
 /// An entry's field as its function takes it: of a payload, the number of its bytes.
 macro_rules! taken {
-    (name $field:ident) => {
-        copied($field)?
-    };
     (payload $field:ident) => {
         $field.end.saturating_sub($field.start)
     };
@@ -44,12 +41,6 @@ macro_rules! enter_case {
             $(Entry::$variant { $($field),* } => $judge.$call($(taken!($codec $field)),*),)*
         }
     };
-}
-
-fn copied(name: &Name) -> Result<Name, AllocError>
-    ensures { IfOk result (λ copy. copy ≡ name.now) }
-{
-    name.clone()
 }
 
 /// Judges the entries of a log in order. It has the log's client, what the entries so far have changed,

@@ -1,4 +1,5 @@
 //! The net change of a log.
+ghost use Rattle.std.specs.Prelude.{◌≡◌, [], IfOk};
 ghost use Rattle.std.specs.Option.{option_map};
 ghost use Rattle.kfs_entry_value.specs.Views.{header_of};
 ghost use Rattle.kfs_judge_check.specs.Recorders.{LooksAtHeader, LooksAtName};
@@ -20,13 +21,23 @@ pub fn name_rows<A: Allocator + Copy>(
 ) -> Result<Vec<NameRow, A>, AllocError>
     ensures { LooksOver draft.now recorder.old recorder.new result (λ rows before. AreNamesOf before.sight (over draft.now before.sight) rows.items) }
 {
-    let mut rows = Vec::new(alloc);
+    let mut rows = room_for_names(alloc, draft)?;
     for (key, now) in draft.targets().iter() {
         if let Some(row) = name_row(recorder, key, *now)? {
             rows.push(row)?;
         }
     }
     Ok(rows)
+}
+
+/// No row, with room for one of each name that was written.
+fn room_for_names<A: Allocator + Copy>(
+    alloc: A,
+    draft: &Draft<A>,
+) -> Result<Vec<NameRow, A>, AllocError>
+    ensures { IfOk result (λ rows. rows.items ≡ []) }
+{
+    Vec::with_capacity(alloc, draft.targets().len())
 }
 
 /// The row of a name that leads to `now`, if it led elsewhere before.
@@ -43,7 +54,7 @@ fn name_row<A: Allocator + Copy>(
     }
     let row = NameRow {
         dir: key.0,
-        name: key.1.clone()?,
+        name: key.1,
         number: now.unwrap_or(0),
     };
     Ok(Some(row))

@@ -1,5 +1,5 @@
 //! The entry Rename.
-ghost use Rattle.std.specs.Prelude.{◌≡◌, true, false, ℕ, ◌+◌, Some, None, Ok, IfOk, OnOk};
+ghost use Rattle.std.specs.Prelude.{◌≡◌, true, false, ℕ, ◌+◌, Some, None, Ok, OnOk};
 ghost use Rattle.kfs_model.specs.Check.{checks_of, arrival_checks, may_go, on_number, rename_checks};
 ghost use Rattle.kfs_model.specs.Entry as entry;
 ghost use Rattle.kfs_judge_check.specs.Checks.{AnswersEntry, JudgesAll};
@@ -192,15 +192,8 @@ impl<A: Allocator + Copy> LogJudge<'_, A> {
             draft: &self.draft,
         };
         let kind = judge.kind(&mut self.recorder, moved)?;
-        let replaced_key = copied(&new_key)?;
-        self.remove_name(replaced_key, to)?;
+        self.remove_name(new_key, to)?;
         self.draft.move_name(key, new_key, moved, kind)?;
         Ok(())
     }
-}
-
-fn copied(key: &(u32, Name)) -> Result<(u32, Name), AllocError>
-    ensures { IfOk result (λ copy. copy ≡ key.now) }
-{
-    Ok((key.0, key.1.clone()?))
 }

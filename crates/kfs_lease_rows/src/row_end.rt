@@ -1,6 +1,5 @@
 //! The ends of leases, in their order.
 ghost use Rattle.std.specs.Prelude.{◌≡◌, refl};
-ghost use Rattle.std.proofs.Common.{rules};
 ghost use Rattle.kfs_lease_rows.specs.Rows.{by_end};
 
 use kfs_map_chunks::Key;
@@ -18,12 +17,6 @@ impl Key for RowEnd {
     ghost order = { by_end };
 
     ghost compared = { refl };
-
-    ghost cloned = { λ key copy same. Prim.search rules };
-
-    fn duplicate(&self) -> RowEnd {
-        *self
-    }
 
     fn most_entries() -> usize {
         256

@@ -1,4 +1,3 @@
-pub mod Keys
 pub mod Buffer
 pub mod Starts
 pub mod Edits

@@ -9,7 +9,7 @@ ghost use Rattle.kfs_map_chunks.specs.Starts.{is_from, first_from, entry_from, r
 
 use crate::edit::KeyEdit;
 use crate::key::Key;
-use crate::merge::{copy_to, merged};
+use crate::merge::merged;
 use std::alloc::{AllocError, Allocator};
 use std::marker::Model;
 use std::ops::Bound;
@@ -33,12 +33,15 @@ impl<K: Key, V: Copy, A: Allocator> Model for Entries<K, V, A> {
     ghost invariant = { λ s. T (is_sorted K.cmp s.pairs.items) };
 }
 
+// A chunk is copied where a change finds it shared. Mostly that change adds one entry, so the copy has
+// room for one.
 impl<K: Key, V: Copy, A: Allocator + Clone> Clone for Entries<K, V, A> {
     ghost is_clone = { λ entries copy. copy.pairs ≡ entries.pairs };
 
     fn clone(&self) -> Result<Entries<K, V, A>, AllocError> {
-        let mut pairs = Vec::with_capacity(self.pairs.allocator().clone()?, self.pairs.len())?;
-        copy_to(&mut pairs, &self.pairs)?;
+        let room = self.pairs.len().saturating_add(1);
+        let mut pairs = Vec::with_capacity(self.pairs.allocator().clone()?, room)?;
+        pairs.extend_from_slice(&self.pairs)?;
         Ok(Entries { pairs })
     }
 }
@@ -90,7 +93,7 @@ impl<K: Key, V: Copy, A: Allocator> Entries<K, V, A> {
             (Ok(at), None) => {
                 let _ = self.pairs.remove(at);
             }
-            (Err(at), Some(value)) => self.pairs.insert(at, (key.duplicate(), value)).unwrap(),
+            (Err(at), Some(value)) => self.pairs.insert(at, (*key, value)).unwrap(),
             (Err(_), None) => {}
         }
     }
@@ -148,7 +151,7 @@ impl<K: Key, V: Copy, A: Allocator + Clone> Entries<K, V, A> {
         ensures { IfOk result (λ part. part.pairs ≡ take count (drop from self.now.pairs)) }
     {
         let mut pairs = Vec::with_capacity(self.pairs.allocator().clone()?, count)?;
-        copy_to(&mut pairs, &self.pairs[from..from + count])?;
+        pairs.extend_from_slice(&self.pairs[from..from + count])?;
         Ok(Entries { pairs })
     }
 }

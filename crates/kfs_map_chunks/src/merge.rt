@@ -1,5 +1,5 @@
 //! Entries after edits, as a new list, made in one walk over both.
-ghost use Rattle.std.specs.Prelude.{◌≡◌, ◌++◌, T, IfOk, OnOk, None};
+ghost use Rattle.std.specs.Prelude.{◌≡◌, T, IfOk, None};
 ghost use Rattle.std.specs.declared.ops.Bound.TheVariants.{Included};
 ghost use Rattle.std.specs.FinMap.Entries.{is_sorted};
 ghost use Rattle.kfs_map_chunks.specs.Edits.{entered, entered_all, KeysAscend, IsPassed};
@@ -27,7 +27,7 @@ pub(crate) fn merged<K: Key, V: Copy, A: Allocator>(
     for edit in edits {
         left = enter(&mut merged, left, edit)?;
     }
-    copy_to(&mut merged, left)?;
+    merged.extend_from_slice(left)?;
     Ok(merged)
 }
 
@@ -43,9 +43,9 @@ fn enter<'a, K: Key, V: Copy, A: Allocator>(
     ensures passed { IfOk result (λ rest. IsPassed K.cmp edit.now merged.old.items left.now merged.new.items rest.now) }
 {
     let (below, from) = left.split_at(first_from(left, Bound::Included(&edit.key)));
-    copy_to(merged, below)?;
+    merged.extend_from_slice(below)?;
     if let Some(value) = edit.value {
-        merged.push((edit.key.duplicate(), value))?;
+        merged.push((edit.key, value))?;
     }
     Ok(behind(from, &edit.key))
 }
@@ -64,17 +64,4 @@ fn behind<'a, K: Key, V: Copy>(entries: &'a [(K, V)], key: &K) -> &'a [(K, V)]
     } else {
         entries
     }
-}
-
-/// Appends the entries to the list.
-pub(crate) fn copy_to<K: Key, V: Copy, A: Allocator>(
-    to: &mut Vec<(K, V), A>,
-    entries: &[(K, V)],
-) -> Result<(), AllocError>
-    ensures { OnOk result (to.new.items ≡ to.old.items ++ entries.now) }
-{
-    for (key, value) in entries {
-        to.push((key.duplicate(), *value))?;
-    }
-    Ok(())
 }

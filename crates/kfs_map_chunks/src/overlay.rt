@@ -70,7 +70,7 @@ fn list_keys<K: Key, V: Copy, A: Allocator + Clone>(
 {
     for (key, now) in latest {
         edits.push(KeyEdit {
-            key: key.duplicate(),
+            key: *key,
             value: *now,
         })?;
     }

@@ -90,7 +90,7 @@ fn cut<K: Key, V: Copy, A: Allocator + Clone>(
 }
 
 /// How many entries each new chunk gets, where a chunk takes `most`: all if they fit in one, half if
-/// two chunks suffice, else `most` / 2, so that each can grow.
+/// two chunks suffice, else three quarters of `most`, so that each can grow.
 pub(crate) fn size_for(len: usize, most: usize) -> usize
     requires fits_two { 2 ≤ most }
     requires most { most ≤ 256 }
@@ -102,6 +102,6 @@ pub(crate) fn size_for(len: usize, most: usize) -> usize
     } else if len <= 2 * most {
         len - len / 2
     } else {
-        most / 2
+        most - most / 4
     }
 }

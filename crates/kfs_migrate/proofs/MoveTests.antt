@@ -16,8 +16,9 @@ use Rattle.kfs_model.proofs.MovedBlocks.{by_tests}
 use Rattle.kfs_model.specs.Limits.{block_size}
 use Rattle.kfs_model_device.specs.ShownTree.{DeviceImage, file_byte}
 use Rattle.kfs_migrate.specs.Applied.{AreBytesOf}
-use Rattle.kfs_migrate.specs.declared.moves.MoveFault.{MoveFault}
-use Rattle.kfs_migrate.specs.Faults.{IsPossible, Refuses, fault_of}
+use Rattle.kfs_migrate_value.specs.declared.moves.MoveFault.{MoveFault}
+use Rattle.kfs_migrate_value.specs.Faults.{Refuses, fault_of}
+use Rattle.kfs_migrate.specs.Faults.{IsPossible}
 
 -- a test of each element that is one of two tests
 any_of_both : {X : Type 0} (p q : X → Bool) (xs : List X) → list_any (λ x. p x || q x) xs ≡ (list_any p xs || list_any q xs)

@@ -1,24 +1,8 @@
--- The code's refusals as those of the definitions.
-use Rattle.std.specs.Prelude.{◌≡◌, ◌<◌, true, false, Option, Some, None, is_none, IfSome}
-use Rattle.kfs_model.specs.Migration as model
+-- When a move can be made, whatever the other ones are.
+use Rattle.std.specs.Prelude.{◌≡◌, ◌<◌, true, false, is_none}
 use Rattle.kfs_model.specs.Migration.{Move, source}
 use Rattle.kfs_model.specs.Placement.{TierSizes, Placement, tier_size, is_free}
 use Rattle.kfs_model.specs.Table.{get}
-use Rattle.kfs_migrate.specs.declared.moves.MoveFault.{MoveFault}
-use Rattle.kfs_migrate.specs.declared.moves.MoveFault.TheVariants.{NotMapped, OutOfRange, NotFree, Overlap, TooManyMoves, OutOfMemory}
-
--- the refusal, or none where memory was refused
-abbrev pub fault_of : MoveFault → Option model.MoveFault
-fault_of (NotMapped index) = Some (model.NotMapped index)
-fault_of (OutOfRange index) = Some (model.OutOfRange index)
-fault_of (NotFree index) = Some (model.NotFree index)
-fault_of (Overlap index) = Some (model.Overlap index)
-fault_of TooManyMoves = Some model.TooManyMoves
-fault_of OutOfMemory = None
-
--- this is the refusal that was found, unless memory was refused
-abbrev pub Refuses : (found : Option model.MoveFault) → MoveFault → Type 0
-Refuses found fault = IfSome (fault_of fault) (λ refusal. found ≡ Some refusal)
 
 -- the move's block lies somewhere, and its target exists and is free
 pub record IsPossible (sizes : TierSizes) (placement : Placement) (m : Move) : Type 0 where

@@ -4,8 +4,8 @@ ghost use Rattle.kfs_model.specs.Migration.{fault_of_moves};
 ghost use Rattle.kfs_model_device.specs.ShownTree.{shown_tree};
 ghost use Rattle.kfs_migrate.specs.Applied.{AreApplied, AreBytesOf, AreEditsOf, AddsEdits};
 
-use crate::moves::Move;
 use kfs_image::{Edit, Image};
+use kfs_migrate_value::Move;
 use std::alloc::{AllocError, Allocator};
 
 /// The bytes of a block.

@@ -1,5 +1,5 @@
 -- Each step of the machine keeps its state in order.
-use Rattle.std.proofs.Common.{◌≡◌, ℕ, ◌==◌, Bool, true, false, cond, List, [], ◌∷◌, Option, Some, None, is_some, Result, Ok, Err, refl, sym, ap, subst, ◌∙◌}
+use Rattle.std.proofs.Common.{◌≡◌, ℕ, ◌==◌, Bool, true, false, cond, List, [], ◌∷◌, length, Option, Some, None, is_some, Result, Ok, Err, refl, sym, ap, subst, ◌∙◌}
 use Rattle.std.specs.List.{AllByRecursion}
 use Rattle.kfs_model.specs.Access.{Client, ClientsAreDistinct}
 use Rattle.kfs_model.specs.Table.{get, insert, empty}
@@ -16,10 +16,12 @@ use Rattle.kfs_model.specs.Fresh.{fresh_tree}
 use Rattle.kfs_model.specs.Soundness.{IsSound}
 use Rattle.kfs_model.specs.Placement.{TierSizes, written_blocks}
 use Rattle.kfs_model.specs.Judgement.{State, Verdict, Yes, No, ClientUnknown, ClientWrong, AtRow, Reply, Accepted, NoRoom, Refused, Submission, Reading, IsReadAs, client_sight_of, judged, judged_log, judged_plan, judged_run, verdict_on, reply_to}
-use Rattle.kfs_model.specs.Machine.{Call, Submit, Lease, Drop, Tick, CallAnswer, Replied, CallOutcome, Row, IsRead, same_answer, answered, unplaced, replied, leased, are_chosen, landed, outcome_of, next, after, opening}
+use Rattle.kfs_model.specs.Machine.{Call, Submit, Lease, Drop, Tick, Migrate, CallAnswer, Replied, Done, NotDone, MovesRefused, CallOutcome, Row, IsRead, same_answer, answered, unplaced, replied, leased, migrated, are_chosen, landed, outcome_of, next, after, opening}
 use Rattle.kfs_model.specs.Order.{IsInOrder}
+use Rattle.kfs_model.specs.Migration.{Move, MoveFault, fault_of_moves, moved_by}
 use Rattle.kfs_model.proofs.Cells.{recut, headers-recut}
 use Rattle.kfs_model.proofs.FreshTree.{fresh_is_sound}
+use Rattle.kfs_model.proofs.MovedBlocks.{placed_after}
 use Rattle.kfs_model.proofs.Marks.{marks_give_bytes}
 use Rattle.kfs_model.proofs.SeenRun.{run_keeps_sound, bytes_faithful}
 use Rattle.kfs_model.proofs.LeasesKept.{KeptByFewer, granted_keeps, dropped_keeps, ticked_keeps, on_nodes-insert, on_nodes-retain, compatible-insert, compatible-retain, without_gone_on_nodes, without_gone_compatible}
@@ -130,6 +132,18 @@ module _ (s : State) (order : IsInOrder s) (places : List ℕ) where
   leased_in_order (Ok number) leases with_these = unplaced_in_order places _ (record s { leases = leases }) with_these
   leased_in_order (Err fault) leases with_these = unplaced_in_order places _ (record s { leases = leases }) with_these
 
+  -- moves leave each block a place of its own
+  migrated_in_order : (moves : List Move) (found : Option MoveFault) → fault_of_moves s.sizes s.placement moves ≡ found → InOrder (migrated s places moves found)
+  migrated_in_order moves None none = unplaced_in_order places (Done (length moves)) (record s { placement = moved_by moves s.placement }) (record {
+    sound = order.sound;
+    on_nodes = order.on_nodes;
+    compatible = order.compatible;
+    distinct = order.distinct;
+    clients = order.clients;
+    placement = placed_after s.sizes s.placement moves none (get (headers s.tree)) order.placement;
+  })
+  migrated_in_order moves (Some fault) found = unplaced_in_order places (NotDone (MovesRefused fault)) s order
+
   landed_in_order : (number : ℕ) (log : Result Log SpellingFault) (submission : List ℕ) (after : Tree ℕ) (marked_after : Tree Mark) → LogAnswer submission log → IsYes s number log after marked_after
       → are_chosen s (written_blocks marked_after) places ≡ true → IsInOrder (landed s after marked_after places)
   landed_in_order number log submission after marked_after answer said chosen = record {
@@ -165,6 +179,7 @@ module _ (s : State) (order : IsInOrder s) (places : List ℕ) where
   outcome_in_order (Tick moment) row is read =
       let outcome = ticked s.leases moment in
       leased_in_order outcome.0 outcome.1 (ticked_keeps s.leases OrderWith order moment with_fewer)
+  outcome_in_order (Migrate moves) row is read = migrated_in_order moves (fault_of_moves s.sizes s.placement moves) refl
 
 -- ---- a step
 

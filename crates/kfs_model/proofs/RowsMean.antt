@@ -5,7 +5,8 @@ use Rattle.kfs_model.proofs.OneByOne.{run_is_one_by_one}
 use Rattle.kfs_model.proofs.OrderKept.{yes_means}
 use Rattle.kfs_model.specs.Judgement.{State, Submission, Reading, IsReadAs, Verdict, Yes, No, Accepted, NoRoom, Refused, is_yes, free_places, client_sight_of, judged, reply_to, verdict_on}
 use Rattle.kfs_model.specs.Lease.{Leases, LeaseFault, dropped, granted, ticked}
-use Rattle.kfs_model.specs.Machine.{Call, Submit, Lease, Drop, Tick, CallAnswer, CallAnswer-equality, CallFault, LeaseRefused, CallOutcome, Done, NotDone, OneByOne, Replied, Row, IsRead, answered, are_chosen, landed, leased, next, outcome_of, replied, same_answer, unplaced}
+use Rattle.kfs_model.specs.Machine.{Call, Submit, Lease, Drop, Tick, Migrate, CallAnswer, CallAnswer-equality, CallFault, LeaseRefused, MovesRefused, CallOutcome, Done, NotDone, OneByOne, Replied, Row, IsRead, answered, are_chosen, landed, leased, migrated, next, outcome_of, replied, same_answer, unplaced}
+use Rattle.kfs_model.specs.Migration.{Move, MoveFault, fault_of_moves, moved_by}
 use Rattle.kfs_model.specs.Placement.{need, written_blocks}
 use Rattle.kfs_model.specs.Run.{Mark}
 use Rattle.kfs_model.specs.Sight.{sight}
@@ -83,6 +84,12 @@ module _ (s : State) (places : List ℕ) where
     leased_means (Ok number) leases outcome is = subst (λ (o : CallOutcome). MeansOf s call o.0 o.1) (unplaced_is places (Done number, record s { leases = leases }) outcome is) (done number leases)
     leased_means (Err fault) leases outcome is = subst (λ (o : CallOutcome). MeansOf s call o.0 o.1) (unplaced_is places (NotDone (LeaseRefused fault), record s { leases = leases }) outcome is) (not_done (LeaseRefused fault) leases)
 
+  migrated_means : (moves : List Move) (found : Option MoveFault) (outcome : CallOutcome) → migrated s places moves found ≡ Some outcome → MeansOf s (Migrate moves) outcome.0 outcome.1
+  migrated_means moves None outcome is =
+      let after = moved_by moves s.placement in
+      subst (λ (o : CallOutcome). MeansOf s (Migrate moves) o.0 o.1) (unplaced_is places (Done (length moves), record s { placement = after }) outcome is) (after, refl)
+  migrated_means moves (Some fault) outcome is = subst (λ (o : CallOutcome). MeansOf s (Migrate moves) o.0 o.1) (unplaced_is places (NotDone (MovesRefused fault), s) outcome is) refl
+
   outcome_means : (call : Call) (row : Row) → row.call ≡ call → IsRead row → (outcome : CallOutcome) → outcome_of s call places ≡ Some outcome → MeansOf s call outcome.0 outcome.1
   unfolding outcome_of
   outcome_means (Submit submission reading) row at read outcome is =
@@ -91,6 +98,7 @@ module _ (s : State) (places : List ℕ) where
   outcome_means (Lease client path kind end) row at read outcome is = let all = granted s.leases (sight s.tree) s.clients client path kind end in leased_means (Lease client path kind end) (λ number leases. (leases, refl)) (λ fault leases. (leases, refl)) all.0 all.1 outcome is
   outcome_means (Drop client number) row at read outcome is = let all = dropped s.leases s.clients client number in leased_means (Drop client number) (λ told leases. (leases, refl)) (λ fault leases. (leases, refl)) all.0 all.1 outcome is
   outcome_means (Tick moment) row at read outcome is = let all = ticked s.leases moment in leased_means (Tick moment) (λ told leases. (leases, refl)) (λ fault leases. (leases, refl)) all.0 all.1 outcome is
+  outcome_means (Migrate moves) row at read outcome is = migrated_means moves (fault_of_moves s.sizes s.placement moves) outcome is
 
 pub row_means : (s t : State) (row : Row) → IsRead row → next s row ≡ Some t → Means s row t
 row_means s t row read is =

@@ -15,6 +15,7 @@ use Rattle.kfs_model.specs.Entry.{Entry}
 use Rattle.kfs_model.specs.Effect.{effect}
 use Rattle.kfs_model.specs.Run.{Mark, over_bytes, entry_context, created_by}
 use Rattle.kfs_model.specs.Placement.{Placement, TierSizes, in_first_tier, written_blocks, cleared_blocks, block_count}
+use Rattle.kfs_model.specs.Migration.{Move, MoveFault, MoveFault-discrete, fault_of_moves, moved_by}
 use Rattle.kfs_model.specs.Judgement.{State, Verdict, Yes, Reply, Reply-equality, is_yes, Accepted, Submission, Reading, IsReadAs, verdict_on, reply_to, free_places}
 
 -- ---- landing
@@ -54,22 +55,24 @@ pub data Call : Type 0 where
   Lease : (client : ℕ) (path : List ℕ) (kind : LeaseKind) (end : ℕ) → Call
   Drop : (client number : ℕ) → Call
   Tick : (moment : ℕ) → Call
+  Migrate : (moves : List Move) → Call
 
 -- why a call that is no submission was refused
 pub data CallFault : Type 0 where
   LeaseRefused : (fault : LeaseFault) → CallFault
+  MovesRefused : (fault : MoveFault) → CallFault
   deriving Discrete as CallFault-discrete
 
 pub data CallAnswer : Type 0 where
   Replied : (reply : Reply) → CallAnswer
-  -- the call was carried out; the number is the node's, or the moment
+  -- the call was carried out; the number is the node's, the moment, or how many blocks moved
   Done : (number : ℕ) → CallAnswer
   NotDone : (fault : CallFault) → CallAnswer
   deriving Discrete as CallAnswer-discrete
 
 -- whether two answers are the same
 abbrev pub CallAnswer-equality : Discrete CallAnswer
-CallAnswer-equality = CallAnswer-discrete Reply-equality ℕ_discrete (CallFault-discrete (LeaseFault-discrete ℕ_discrete))
+CallAnswer-equality = CallAnswer-discrete Reply-equality ℕ_discrete (CallFault-discrete (LeaseFault-discrete ℕ_discrete) (MoveFault-discrete ℕ_discrete))
 
 abbrev pub same_answer : CallAnswer → CallAnswer → Bool
 same_answer a b = is_yes (CallAnswer-equality a b)
@@ -95,6 +98,11 @@ abbrev pub leased : State → (places : List ℕ) → Result ℕ LeaseFault × L
 leased s places (Ok number, leases) = unplaced places (Done number, record s { leases = leases })
 leased s places (Err fault, leases) = unplaced places (NotDone (LeaseRefused fault), record s { leases = leases })
 
+-- moves without a fault are made, and others change nothing
+abbrev pub migrated : State → (places : List ℕ) → List Move → Option MoveFault → Option CallOutcome
+migrated s places moves None = unplaced places (Done (length moves), record s { placement = moved_by moves s.placement })
+migrated s places moves (Some fault) = unplaced places (NotDone (MovesRefused fault), s)
+
 -- the answer of the call and the state afterwards; none where the places aren't one free place for each
 -- written block
 unfoldable pub outcome_of : State → Call → (places : List ℕ) → Option CallOutcome
@@ -102,6 +110,7 @@ outcome_of s (Submit submission reading) places = replied s places (verdict_on s
 outcome_of s (Lease client path kind end) places = leased s places (granted s.leases (sight s.tree) s.clients client path kind end)
 outcome_of s (Drop client number) places = leased s places (dropped s.leases s.clients client number)
 outcome_of s (Tick moment) places = leased s places (ticked s.leases moment)
+outcome_of s (Migrate moves) places = migrated s places moves (fault_of_moves s.sizes s.placement moves)
 
 -- a row of the docket: a call and its answer; whether that says that a submission was judged again; and
 -- for a Yes the places of the written blocks in tier 0, ascending by block
@@ -138,6 +147,7 @@ IsRead row = IsReadCall row.call
     IsReadCall (Lease client path kind end) = Unit {0}
     IsReadCall (Drop client number) = Unit {0}
     IsReadCall (Tick moment) = Unit {0}
+    IsReadCall (Migrate moves) = Unit {0}
 
 -- ---- what a Yes means
 

@@ -4,7 +4,8 @@ use Rattle.kfs_model.specs.Access.{Client}
 use Rattle.kfs_model.specs.Entry.{Entry, Log}
 use Rattle.kfs_model.specs.Judgement.{State, Submission, Reply, Accepted, NoRoom, Refused, client_sight_of}
 use Rattle.kfs_model.specs.Lease.{Leases, row_of}
-use Rattle.kfs_model.specs.Machine.{Call, Submit, Lease, Drop, Tick, CallAnswer, Replied, Done, NotDone, OneByOne, Row}
+use Rattle.kfs_model.specs.Machine.{Call, Submit, Lease, Drop, Tick, Migrate, CallAnswer, Replied, Done, NotDone, OneByOne, Row}
+use Rattle.kfs_model.specs.Placement.{Placement}
 use Rattle.kfs_model.specs.Spelling.{LogAnswer}
 
 -- the submission spells a log of a known client, and P holds of that client and of the log's entries
@@ -23,13 +24,18 @@ HasEntriesDone s submission t = OfItsLog s submission (λ client entries. OneByO
 abbrev pub DiffersInLeases : (s t : State) → Type 0
 DiffersInLeases s t = (leases : Leases) × (t ≡ record s { leases = leases })
 
+-- the two states differ in where blocks lie at most
+abbrev pub DiffersInPlacement : (s t : State) → Type 0
+DiffersInPlacement s t = (placement : Placement) × (t ≡ record s { placement = placement })
+
 -- a Yes has applied its log's entries, and another reply changes nothing
 abbrev pub ReplyMeans : State → Submission → Reply → State → Type 0
 ReplyMeans s submission (Accepted need) t = HasEntriesDone s submission t
 ReplyMeans s submission (NoRoom need free) t = t ≡ s
 ReplyMeans s submission (Refused fault) t = t ≡ s
 
--- a submission has a reply; a call for the leases has an answer of its own, and changes leases only
+-- a submission has a reply; a call for the leases has an answer of its own, and changes leases only; so
+-- has one that moves blocks, and changes where they lie only, and nothing where it is refused
 abbrev pub MeansOf : State → Call → CallAnswer → State → Type 0
 MeansOf s (Submit submission reading) (Replied reply) t = ReplyMeans s submission reply t
 MeansOf s (Submit submission reading) (Done number) t = ⊥
@@ -43,6 +49,9 @@ MeansOf s (Drop client number) (NotDone fault) t = DiffersInLeases s t
 MeansOf s (Tick moment) (Replied reply) t = ⊥
 MeansOf s (Tick moment) (Done told) t = DiffersInLeases s t
 MeansOf s (Tick moment) (NotDone fault) t = DiffersInLeases s t
+MeansOf s (Migrate moves) (Replied reply) t = ⊥
+MeansOf s (Migrate moves) (Done count) t = DiffersInPlacement s t
+MeansOf s (Migrate moves) (NotDone fault) t = t ≡ s
 
 abbrev pub Means : State → Row → State → Type 0
 Means s row t = MeansOf s row.call row.answer t

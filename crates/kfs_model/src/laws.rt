@@ -139,7 +139,8 @@ pub fn bytes_have_one_reading()
 
 /// What a row says, if its log and plan are what its bytes decode to and it fits the state. After a Yes
 /// the tree results from the log's entries in turn, each one allowed. Any other answer to a submission
-/// changes nothing. A lease call changes leases only. A state in order stays in order.
+/// changes nothing. A lease call changes leases only. A call that moves blocks changes where they lie,
+/// and so leaves the tree; where it is refused, it changes nothing. A state in order stays in order.
 pub fn what_a_row_means()
     ensures meaning { (s t : State) (row : Row) → IsRead row → next s row ≡ Some t → Means s row t }
     ensures order { (s t : State) (row : Row) → IsInOrder s → IsRead row → next s row ≡ Some t → IsInOrder t }

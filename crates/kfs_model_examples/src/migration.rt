@@ -2,8 +2,9 @@
 //! block at place 0 of tier 0, and file 6 one at place 1.
 
 ghost use Rattle.std.specs.Prelude.{◌≡◌, [], ◌∷◌, Some, None};
+ghost use Rattle.kfs_model.specs.Machine.{Done, MovesRefused, NotDone, next};
 ghost use Rattle.kfs_model.specs.Migration.{NotMapped, OutOfRange, NotFree, Overlap, TooManyMoves, moved_by};
-ghost use Rattle.kfs_model_examples.specs.Example.MigrationCases.{place, two_at, side_by_side, move_to, fault_found, same_move};
+ghost use Rattle.kfs_model_examples.specs.Example.MigrationCases.{place, two_at, side_by_side, move_to, fault_found, same_move, with_blocks, moves_row};
 
 /// A move is refused if its block lies nowhere, or if its target doesn't exist or is in use.
 #[tactic(auto, unfolding(crate::specs::Example::computing))]
@@ -34,4 +35,13 @@ pub fn blocks_moved()
     ensures one { moved_by (move_to 5 0 (place 2 3) ∷ []) side_by_side ≡ two_at (place 2 3) (place 0 1) }
     ensures together { fault_found (move_to 6 0 (place 0 7) ∷ move_to 5 0 (place 1 7) ∷ []) ≡ None }
     ensures both { moved_by (move_to 6 0 (place 0 7) ∷ move_to 5 0 (place 1 7) ∷ []) side_by_side ≡ two_at (place 1 7) (place 0 7) }
+{}
+
+/// As a call of the desk, moves without a fault are answered with their number, and change the state in
+/// where blocks lie alone. Moves with a fault change nothing.
+#[tactic(auto, unfolding(crate::specs::Example::computing, kfs_model::specs::Migration::moved_by))]
+pub fn moves_as_a_call()
+    ensures moved { next (with_blocks side_by_side) (moves_row (move_to 5 0 (place 2 3) ∷ []) (Done 1)) ≡ Some (with_blocks (two_at (place 2 3) (place 0 1))) }
+    ensures other_answer { next (with_blocks side_by_side) (moves_row (move_to 5 0 (place 2 3) ∷ []) (Done 0)) ≡ None }
+    ensures refused { next (with_blocks side_by_side) (moves_row (move_to 5 0 (place 0 1) ∷ []) (NotDone (MovesRefused (NotFree 0)))) ≡ Some (with_blocks side_by_side) }
 {}

@@ -3,6 +3,7 @@
 use crate::submission::{Fault, Submission};
 pub use kfs_lease::Act;
 use kfs_lease::LeaseFault;
+use kfs_migrate_value::MoveFault;
 use std::alloc::{AllocError, Allocator};
 use thiserror::Error;
 
@@ -33,7 +34,7 @@ pub enum Reply {
     },
 }
 
-/// What a call for leases has done.
+/// What a call that is no submission has done.
 #[derive(Clone, Copy, Debug, PartialEq, Eq)]
 pub enum Done {
     /// The client has a lease on the node with this number.
@@ -42,6 +43,8 @@ pub enum Done {
     Dropped(u32),
     /// This is the moment now, and leases that are no longer live are gone.
     Ticked(u64),
+    /// So many blocks have moved.
+    Moved(u32),
 }
 
 /// Why a call was refused. What the call would have changed is as it was.
@@ -50,18 +53,21 @@ pub enum ActFault {
     /// A call for leases.
     #[error("{0}")]
     Lease(LeaseFault),
+    /// A call that moves blocks.
+    #[error("{0}")]
+    Move(MoveFault),
 }
 
-/// The answer to a call for leases.
+/// The answer to a call that is no submission.
 #[derive(Clone, Copy, Debug, PartialEq, Eq)]
 pub struct ActReply {
     /// Its row in the docket, from 0.
     pub position: u32,
-    /// What was done, or why nothing was; the leases are as they were then.
+    /// What was done, or why nothing was; the desk's state is as it was then.
     pub answer: Result<Done, ActFault>,
 }
 
-/// Why a call for leases wasn't answered. It has no row in the docket, and the desk is as it was.
+/// Why a call that is no submission wasn't answered. It has no row in the docket, and the desk is as it was.
 #[derive(Clone, Copy, Debug, PartialEq, Eq, Error)]
 pub enum Unanswered {
     /// 1: memory was refused.

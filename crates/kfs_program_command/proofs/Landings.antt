@@ -1,7 +1,7 @@
 -- A line lands a verdict only where its first word says so.
 use Rattle.std.proofs.Common.{◌≡◌, ℕ, Bool, true, false, List, [], ◌∷◌, Option, Some, None, option_map, refl, sym, ap, ◌∙◌, if◌then◌else◌}
 use Rattle.kfs_model.specs.Steps.{◌>>=◌}
-use Rattle.kfs_program_command.specs.Command.{Command, Setup, New, Begin, Request, Tick, Submit, Node, Listing, Judge, Land, asked_by, client_of, drop_of, judge_of, landing_worker, lease_of, load_of, new_of, read_of, submission_in, submit_of, with_number}
+use Rattle.kfs_program_command.specs.Command.{Command, Setup, New, Begin, Request, Tick, Submit, Node, Listing, Judge, Land, Move, asked_by, client_of, drop_of, judge_of, landing_worker, lease_of, load_of, move_of, moves_in, new_of, read_of, submission_in, submit_of, with_number}
 use Rattle.kfs_program_command.specs.Reading.{begin_of, command_named, docket_of, land_of, listing_of, named_by, node_of, save_of, tick_of}
 use Rattle.kfs_program_command.specs.declared.command.Keyword.{Keyword}
 use Rattle.kfs_program_command.specs.declared.command.Keyword.TheVariants as names
@@ -30,6 +30,10 @@ nothing_other o words other = bind_other (ended words) (λ done. o) (λ done. ot
 decimals_other : (made : List ℕ → Command) (words : List (List ℕ)) → ((ns : List ℕ) → landing_worker (Some (made ns)) ≡ None) → landing_worker (decimals_then made words) ≡ None
 unfolding decimals_then
 decimals_other made words other = bind_other (decimals32 words) (λ ns. Some (made ns)) other
+
+mapped_other : {X : Type 0} (o : Option X) (made : X → Command) → ((x : X) → landing_worker (Some (made x)) ≡ None) → landing_worker (option_map made o) ≡ None
+mapped_other None made other = refl
+mapped_other (Some x) made other = other x
 
 if_other : (is : Bool) (command : Command) → landing_worker (Some command) ≡ None → landing_worker (if is then Some command else None) ≡ None
 if_other true command other = other
@@ -84,6 +88,10 @@ load_other words = ap landing_worker (load_then words) ∙ word_other _ _ words 
 save_other : (words : List (List ℕ)) → landing_worker (save_of words) ≡ None
 save_other words = ap landing_worker (save_then words) ∙ nothing_other _ words refl
 
+move_other : (words : List (List ℕ)) → landing_worker (move_of words) ≡ None
+move_other [] = refl
+move_other (word ∷ words) = mapped_other (moves_in (word ∷ words)) (λ moves. Request (Move moves)) (λ moves. refl)
+
 other_named : (name : Keyword) (words : List (List ℕ)) → (name ≡ names.Land → ⊥) → landing_worker (checked (command_named (Some name)) words) ≡ None
 unfolding begin_of tick_of node_of listing_of
 other_named names.New words other = checked_other new_of words (new_other words)
@@ -101,6 +109,7 @@ other_named names.Judge words other = checked_other judge_of words (judge_other 
 other_named names.Land words other = absurd (other refl)
 other_named names.Image words other = checked_other load_of words (load_other words)
 other_named names.Save words other = checked_other save_of words (save_other words)
+other_named names.Move words other = checked_other move_of words (move_other words)
 
 -- ---- lines
 

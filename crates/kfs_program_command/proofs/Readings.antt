@@ -240,7 +240,8 @@ command_by_name word name is words =
     (name_or (bytes_eq word (codes "judge")) names.Judge _ _ words
     (name_or (bytes_eq word (codes "land")) names.Land _ _ words
     (name_or (bytes_eq word (codes "image")) names.Image _ _ words
-    (name_or (bytes_eq word (codes "save")) names.Save None None words refl))))))))))))))
+    (name_or (bytes_eq word (codes "save")) names.Save _ _ words
+    (name_or (bytes_eq word (codes "move")) names.Move None None words refl)))))))))))))))
     ∙ ap (λ n. command_named n words) (sym is)
 
 -- a word that names nothing begins no command

@@ -5,6 +5,7 @@ use Rattle.kfs_model.specs.Access.{Client, is_grant}
 use Rattle.kfs_model.specs.Steps.{◌>>=◌}
 use Rattle.kfs_model.specs.Lease.{LeaseKind, ReadLease, WriteLease}
 use Rattle.kfs_model.specs.Judgement.{Submission}
+use Rattle.kfs_model.specs.Migration.{Move as BlockMove}
 use Rattle.kfs_model.specs.Placement.{TierSizes}
 use Rattle.kfs_mode.specs.declared.client.ClientFault.{ClientFault}
 use Rattle.kfs_mode.specs.declared.client.ClientFault.TheVariants.{TooManyGroups, BadGrant}
@@ -32,6 +33,7 @@ pub data DeskCommand : Type 0 where
   Judge : (worker : ℕ) (submission : Submission) → DeskCommand
   Land : (worker : ℕ) → DeskCommand
   Save : DeskCommand
+  Move : (moves : List BlockMove) → DeskCommand
 
 pub data Command : Type 0 where
   Setup : (command : OpeningCommand) → Command
@@ -131,6 +133,29 @@ read_of (a ∷ b ∷ c ∷ []) = do
   Some (Request (Bytes number start count))
 read_of words = None
 
+-- the greatest number of a tier in a line
+abbrev pub last_tier : ℕ
+last_tier = 255
+
+abbrev pub move_to : (number block tier place : ℕ) → BlockMove
+move_to number block tier place = record { number = number; block = block; target = record { tier = tier; place = place } }
+
+-- the moves in the words, four words for each: file, block, tier, place
+abbrev pub moves_in : List (List ℕ) → Option (List BlockMove)
+moves_in [] = Some []
+moves_in (a ∷ b ∷ c ∷ d ∷ words) = do
+  number ← decimal32 a
+  block ← decimal32 b
+  tier ← decimal_within last_tier c
+  place ← decimal32 d
+  option_map (λ moves. move_to number block tier place ∷ moves) (moves_in words)
+moves_in words = None
+
+-- one move or more
+abbrev pub move_of : List (List ℕ) → Option Command
+move_of [] = None
+move_of (word ∷ words) = option_map (λ moves. Request (Move moves)) (moves_in (word ∷ words))
+
 -- a command without words
 abbrev pub alone : Command → List (List ℕ) → Option Command
 alone command [] = Some command
@@ -160,6 +185,7 @@ command_of name words =
     else if bytes_eq name (codes "land") then with_number (decimal_within last_worker) (λ worker. Request (Land worker)) words
     else if bytes_eq name (codes "image") then load_of words
     else if bytes_eq name (codes "save") then alone (Request Save) words
+    else if bytes_eq name (codes "move") then move_of words
     else None
 
 abbrev pub asked_in : List (List ℕ) → Option Command

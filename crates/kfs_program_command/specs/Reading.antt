@@ -1,9 +1,12 @@
 -- The commands by their names.
 use Rattle.std.specs.Prelude.{ℕ, List, codes, bytes_eq, Option, Some, None, if◌then◌else◌}
-use Rattle.kfs_program_command.specs.Command.{Command, Setup, Begin, Request, Tick, Node, Listing, DocketLength, Land, Save, alone, client_of, drop_of, judge_of, last_worker, lease_of, load_of, new_of, read_of, submit_of, with_number}
+use Rattle.kfs_model.specs.Migration.{Move}
+use Rattle.kfs_model.specs.Steps.{◌>>=◌}
+use Rattle.kfs_program_command.specs.Command.{Command, Setup, Begin, Request, Tick, Node, Listing, DocketLength, Land, Save, alone, client_of, drop_of, judge_of, last_tier, last_worker, lease_of, load_of, move_of, move_to, new_of, read_of, submit_of, with_number}
 use Rattle.kfs_program_command.specs.declared.command.Keyword.{Keyword}
 use Rattle.kfs_program_command.specs.declared.command.Keyword.TheVariants as names
 use Rattle.kfs_program_text.specs.Decimals.{decimal32, decimal64, decimal_within}
+use Rattle.kfs_program_text.specs.Reading.{first_by}
 
 -- ---- the commands with one number alone, and each command by its name
 
@@ -46,6 +49,7 @@ named_by word =
     else if bytes_eq word (codes "land") then Some names.Land
     else if bytes_eq word (codes "image") then Some names.Image
     else if bytes_eq word (codes "save") then Some names.Save
+    else if bytes_eq word (codes "move") then Some names.Move
     else None
 
 abbrev pub command_named : Option Keyword → List (List ℕ) → Option Command
@@ -65,3 +69,12 @@ command_named (Some names.Judge) words = judge_of words
 command_named (Some names.Land) words = land_of words
 command_named (Some names.Image) words = load_of words
 command_named (Some names.Save) words = save_of words
+command_named (Some names.Move) words = move_of words
+
+-- ---- a line of moves
+
+-- the move that the first four words say, and the words behind them
+abbrev pub first_move : List (List ℕ) → Option (Move × List (List ℕ))
+first_move words =
+    first_by decimal32 words >>= λ number. first_by decimal32 number.1 >>= λ block. first_by (decimal_within last_tier) block.1 >>= λ tier. first_by decimal32 tier.1 >>= λ place.
+    Some (move_to number.0 block.0 tier.0 place.0, place.1)

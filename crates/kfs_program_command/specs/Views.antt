@@ -32,6 +32,7 @@ module _ {A : Type 0} where
   asked_of_desk (desk.Judge worker submission) = commands.Judge worker.number (submission_of submission)
   asked_of_desk (desk.Land worker) = commands.Land worker.number
   asked_of_desk desk.Save = commands.Save
+  asked_of_desk (desk.Move moves) = commands.Move moves.items
 
   abbrev pub asked_of : Command A → commands.Command
   asked_of (read.Opening command) = commands.Setup (opening_of command)

@@ -2,8 +2,8 @@
 ghost use Rattle.std.specs.Prelude.{◌≡◌, ℕ, List, true, false, IfOk, IsErrOf, None, Some, option_map};
 ghost use Rattle.kfs_lease_rows.specs.Rows.{kind_of};
 ghost use Rattle.kfs_plan.specs.Judging.{submission_of};
-ghost use Rattle.kfs_program_command.specs.Command.{Land as LandLine, Listing as ListingLine, Load, Node as NodeLine, Request, Setup, Submit as SubmitLine, asked_by, client_of, drop_of, judge_of, kind_named, landing_worker, last_worker, lease_of, load_of, new_of, read_of, submission_in, submit_of};
-ghost use Rattle.kfs_program_command.specs.Reading.{begin_of, command_named, docket_of, land_of, listing_of, named_by, node_of, save_of, tick_of};
+ghost use Rattle.kfs_program_command.specs.Command.{Land as LandLine, Listing as ListingLine, Load, Node as NodeLine, Request, Setup, Submit as SubmitLine, asked_by, client_of, drop_of, judge_of, kind_named, landing_worker, last_worker, lease_of, load_of, move_of, moves_in, new_of, read_of, submission_in, submit_of};
+ghost use Rattle.kfs_program_command.specs.Reading.{begin_of, command_named, docket_of, first_move, land_of, listing_of, named_by, node_of, save_of, tick_of};
 ghost use Rattle.kfs_program_command.specs.Views.{act_of, asked_of, asked_of_desk, opening_of};
 ghost use Rattle.kfs_program_text.specs.Decimals.{decimal_within};
 ghost use Rattle.kfs_program_text.specs.Reading.{ReadsAs, ReadsExactly, checked, first_by, words_left};
@@ -11,6 +11,7 @@ ghost use Rattle.kfs_program_text.specs.Reading.{ReadsAs, ReadsExactly, checked,
 use crate::worker::{LAST_WORKER, Worker};
 use kfs_image_nodes::TierSizes;
 use kfs_lease::{Act, LeaseKind};
+use kfs_migrate_value::Move;
 use kfs_mode::{Client, ClientFault};
 use kfs_plan::Submission;
 use kfs_program_text::{Refusal, Words};
@@ -18,6 +19,9 @@ use std::alloc::Allocator;
 
 /// The most bytes that a `read` line may ask for.
 const READ_LIMIT: u64 = 65_536;
+
+/// The greatest number of a tier in a line.
+const LAST_TIER: u64 = 255;
 
 /// A command, with its words read.
 #[derive(Drop)]
@@ -71,6 +75,8 @@ pub enum DeskCommand<'a, A: Allocator> {
     },
     /// `save`: the image as bytes.
     Save,
+    /// `move NUMBER BLOCK TIER PLACE [NUMBER BLOCK TIER PLACE ..]`: blocks of files move to other places.
+    Move(Vec<Move, A>),
 }
 
 impl<'a, A: Allocator + Copy> Command<'a, A> {
@@ -110,6 +116,7 @@ impl<'a, A: Allocator + Copy> Command<'a, A> {
             Keyword::Land => Ok(Command::Desk(read_land(words)?)),
             Keyword::Image => Ok(Command::Image(read_image(alloc, words)?)),
             Keyword::Save => Ok(Command::Desk(read_save(words)?)),
+            Keyword::Move => Ok(Command::Desk(read_moves(alloc, words)?)),
         }
     }
 }
@@ -149,6 +156,7 @@ enum Keyword {
     Land,
     Image,
     Save,
+    Move,
 }
 
 /// The command that a word names.
@@ -185,6 +193,8 @@ fn name_in(word: &[u8]) -> Option<Keyword>
         Some(Keyword::Image)
     } else if word == b"save".as_slice() {
         Some(Keyword::Save)
+    } else if word == b"move".as_slice() {
+        Some(Keyword::Move)
     } else {
         None
     }
@@ -391,4 +401,45 @@ fn read_land<A: Allocator>(words: &mut Words<'_>) -> Result<DeskCommand<'static,
         Some(worker) => Ok(DeskCommand::Land { worker }),
         None => Err(Refusal::BadLine),
     }
+}
+
+/// One move or more.
+#[tactic(auto, using(crate::proofs::MovesRead::move_steps, crate::proofs::MovesRead::no_moves))]
+fn read_moves<A: Allocator>(
+    alloc: A,
+    words: &mut Words<'_>,
+) -> Result<DeskCommand<'static, A>, Refusal>
+    ensures { ReadsAs (λ command. Request (asked_of_desk command)) (checked move_of (words_left words.old)) result }
+{
+    match words.end() {
+        Ok(()) => Err(Refusal::BadLine),
+        Err(_) => Ok(DeskCommand::Move(moves_left(alloc, words)?)),
+    }
+}
+
+/// The moves in all words that are left.
+fn moves_left<A: Allocator>(alloc: A, words: &mut Words<'_>) -> Result<Vec<Move, A>, Refusal>
+    ensures { ReadsAs (λ moves. moves.items) (checked moves_in (words_left words.old)) result }
+{
+    let mut moves = Vec::new(alloc);
+    while words.end().is_err() {
+        moves.push(read_move(words)?)?;
+    }
+    Ok(moves)
+}
+
+/// A file's number, a block, a tier and a place.
+fn read_move(words: &mut Words<'_>) -> Result<Move, Refusal>
+    ensures { ReadsAs (λ m. (m, words_left words.new)) (first_move (words_left words.old)) result }
+{
+    let number = words.number32()?;
+    let block = words.number32()?;
+    let tier = words.number(LAST_TIER)? as u8;
+    let place = words.number32()?;
+    Ok(Move {
+        number,
+        block,
+        tier,
+        place,
+    })
 }

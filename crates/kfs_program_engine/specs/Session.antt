@@ -17,9 +17,9 @@ use Rattle.kfs_desk.specs.Opening.{begin_fault}
 use Rattle.kfs_plan.specs.declared.answers.ActReply.{ActReply}
 use Rattle.kfs_plan.specs.declared.answers.BeginFault.{BeginFault}
 use Rattle.kfs_plan.specs.declared.answers.Done.{Done}
-use Rattle.kfs_plan.specs.declared.answers.Done.TheVariants.{Leased, Dropped, Ticked}
+use Rattle.kfs_plan.specs.declared.answers.Done.TheVariants.{Leased, Dropped, Ticked, Moved}
 use Rattle.kfs_plan.specs.declared.answers.Reply.{Reply}
-use Rattle.kfs_program_command.specs.Command.{Command, Setup, Request, OpeningCommand, New, Row, Begin, DeskCommand, Lease, Drop, Tick, Submit, Node, Listing, Bytes, DocketLength, Judge, Land, Load, Save, asked_by, landing_worker}
+use Rattle.kfs_program_command.specs.Command.{Command, Setup, Request, OpeningCommand, New, Row, Begin, DeskCommand, Lease, Drop, Tick, Submit, Node, Listing, Bytes, DocketLength, Judge, Land, Load, Save, Move, asked_by, landing_worker}
 use Rattle.kfs_program_engine.specs.Bytes.{read_text}
 use Rattle.kfs_program_images.specs.Loading.{LoadsWith}
 use Rattle.kfs_program_images.specs.Saving.{save_text}
@@ -177,6 +177,7 @@ abbrev pub DeskAnswers : Desk → HeldVerdicts → DeskCommand → LineOutcome �
 DeskAnswers desk hands (Lease client path kind end) outcome = WithHands hands (IsCallAnswered desk (machine.Lease client path kind end) Leased) outcome
 DeskAnswers desk hands (Drop client number) outcome = WithHands hands (IsCallAnswered desk (machine.Drop client number) Dropped) outcome
 DeskAnswers desk hands (Tick moment) outcome = WithHands hands (IsCallAnswered desk (machine.Tick moment) Ticked) outcome
+DeskAnswers desk hands (Move moves) outcome = WithHands hands (IsCallAnswered desk (machine.Migrate moves) Moved) outcome
 DeskAnswers desk hands (Submit submission) outcome = WithHands hands (IsSubmissionAnswered desk submission) outcome
 DeskAnswers desk hands (Node number) outcome = WithHands hands (IsNodeShown desk number) outcome
 DeskAnswers desk hands (Listing directory) outcome = WithHands hands (IsSaid (names_line desk directory) desk) outcome

@@ -1,9 +1,11 @@
 //! A session: what each command does, and its reply.
 ghost use Rattle.std.specs.Prelude.{◌≡◌, ◌≤◌, ◌++◌, codes, Some, IfErr, OnErr, OnOk, IsErrOf, option_map};
+ghost use Rattle.kfs_model.specs.Machine as machine;
 ghost use Rattle.kfs_model.specs.Table.{get};
 ghost use Rattle.kfs_model.specs.Tree.{headers};
 ghost use Rattle.kfs_entry_value.specs.Views.{header_of};
 ghost use Rattle.kfs_plan.specs.Judging.{submission_of};
+ghost use Rattle.kfs_plan.specs.declared.answers.Done.TheVariants.{Moved};
 ghost use Rattle.kfs_desk.specs.Machine.{call_of, done_by};
 ghost use Rattle.kfs_program_command.specs.Command as commands;
 ghost use Rattle.kfs_program_engine.specs.Session.{After, AnswersLine, IsCallAnswered, IsNodeShown, IsReplied, IsSubmissionAnswered, DeskAnswers, docket_line, fresh, left_without_memory, names_line};
@@ -17,7 +19,7 @@ use crate::bytes::bytes_line;
 use crate::listing::list_line;
 use crate::opening::Opening;
 use crate::verdicts::{judge_for, land_for};
-use kfs_desk::Desk;
+use kfs_desk::{Desk, Move};
 use kfs_image_nodes::{Answer, Cell, Header, Kind, look};
 use kfs_plan::answers::{Act, Unanswered};
 use kfs_plan::{Submission, Why};
@@ -179,6 +181,24 @@ fn answer_due<A: Allocator + Copy>(
         }
         DeskCommand::Land { worker } => land_for(desk, hands, worker, reply),
         DeskCommand::Save => show_image(alloc, desk, reply),
+        DeskCommand::Move(moves) => move_blocks(desk, moves.as_slice(), reply),
+    }
+}
+
+/// Moves blocks of files to other places.
+fn move_blocks<A: Allocator + Copy>(
+    desk: &mut Desk<A>,
+    moves: &[Move],
+    reply: &mut Vec<u8, A>,
+) -> Result<(), Refusal>
+    requires { 128 ≤ spare_of reply.old }
+    ensures ok { OnOk result (IsReplied (IsCallAnswered desk.old (machine.Migrate moves.now) Moved) reply.old.items reply.new.items desk.new) }
+    ensures err { IfErr result (λ why. (why ≡ Refusal.OutOfMemory) × (desk.new ≡ desk.old)) }
+{
+    match desk.migrate(moves) {
+        Ok(answer) => Ok(act_line(reply, &answer)?),
+        Err(Unanswered::DocketFull) => Ok(text(reply, b"full\n")),
+        Err(Unanswered::OutOfMemory) => Err(Refusal::OutOfMemory),
     }
 }
 

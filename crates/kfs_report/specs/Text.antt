@@ -12,6 +12,8 @@ use Rattle.kfs_judge_check.specs.declared.check.Reason.{Reason}
 use Rattle.kfs_judge_check.specs.declared.check.Reason.TheVariants as reason
 use Rattle.kfs_lease.specs.declared.leases.LeaseFault.{LeaseFault}
 use Rattle.kfs_lease.specs.declared.leases.LeaseFault.TheVariants as lease
+use Rattle.kfs_migrate_value.specs.declared.moves.MoveFault.{MoveFault}
+use Rattle.kfs_migrate_value.specs.declared.moves.MoveFault.TheVariants as move
 use Rattle.kfs_mode.specs.declared.client.ClientFault.{ClientFault}
 use Rattle.kfs_mode.specs.declared.client.ClientFault.TheVariants.{TooManyGroups, BadGrant}
 use Rattle.kfs_plan.specs.declared.submission.Fault.{Fault}
@@ -89,6 +91,14 @@ lease_text (lease.NoSearch i) = numbered_text (lease_name (lease.NoSearch i)) i
 lease_text (lease.LeaseHeld client) = numbered_text (lease_name (lease.LeaseHeld client)) client
 lease_text other = lease_name other
 
+abbrev pub move_text : MoveFault → List ℕ
+move_text (move.NotMapped i) = numbered_text (codes "NotMapped") i
+move_text (move.OutOfRange i) = numbered_text (codes "OutOfRange") i
+move_text (move.NotFree i) = numbered_text (codes "NotFree") i
+move_text (move.Overlap i) = numbered_text (codes "Overlap") i
+move_text move.TooManyMoves = codes "TooManyMoves"
+move_text move.OutOfMemory = codes "OutOfMemory"
+
 abbrev pub client_text : ClientFault → List ℕ
 client_text TooManyGroups = codes "TooManyGroups"
 client_text BadGrant = codes "BadGrant"
@@ -123,14 +133,19 @@ reply_text (Yes position rejudged need) = head_text position (codes " yes rejudg
 reply_text (No position rejudged fault) = head_text position (codes " no rejudged=") rejudged ++ (codes " " ++ fault_text fault)
 reply_text (NoRoom position rejudged need free) = head_text position (codes " noroom rejudged=") rejudged ++ (codes " need=" ++ (decimal need ++ (codes " free=" ++ decimal free)))
 
+abbrev pub act_fault_text : ActFault → List ℕ
+act_fault_text (act_fault.Lease fault) = lease_text fault
+act_fault_text (act_fault.Move fault) = move_text fault
+
 abbrev pub done_text : Done → List ℕ
 done_text (done.Leased node) = codes " leased " ++ decimal node
 done_text (done.Dropped node) = codes " dropped " ++ decimal node
 done_text (done.Ticked moment) = codes " ticked " ++ decimal moment
+done_text (done.Moved count) = codes " moved " ++ decimal count
 
 abbrev pub act_answer_text : Result Done ActFault → List ℕ
 act_answer_text (Ok did) = done_text did
-act_answer_text (Err (act_fault.Lease fault)) = codes " refused " ++ lease_text fault
+act_answer_text (Err fault) = codes " refused " ++ act_fault_text fault
 
 abbrev pub act_text : ActReply → List ℕ
 act_text reply = decimal reply.position ++ act_answer_text reply.answer

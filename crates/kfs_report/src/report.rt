@@ -11,10 +11,10 @@ mod names;
 use kfs_image_codec::ImageFault;
 use kfs_image_nodes::{Header, Kind};
 use kfs_mode::ClientFault;
-use kfs_plan::answers::{ActFault, ActReply, BeginFault, Done, Reply};
+use kfs_plan::answers::{ActReply, BeginFault, Done, Reply};
 use kfs_program_text::parts::{field, flag, number, octal, text};
 use kfs_shape::Finding;
-use names::{begin_fault, client_fault, image_fault, judgement_fault, lease_fault};
+use names::{act_fault, begin_fault, client_fault, image_fault, judgement_fault};
 use std::alloc::{AllocError, Allocator};
 
 /// The most bytes of a line that these functions append.
@@ -78,8 +78,8 @@ fn push_head<A: Allocator>(out: &mut Vec<u8, A>, position: u32, word: &[u8], rej
     flag(out, rejudged);
 }
 
-/// The line of the answer to a call for leases: `P leased N`, `P dropped N`, `P ticked M` or
-/// `P refused NAME`.
+/// The line of the answer to a call that is no submission: `P leased N`, `P dropped N`, `P ticked M`,
+/// `P moved C` or `P refused NAME`.
 pub fn act_line<A: Allocator>(out: &mut Vec<u8, A>, reply: &ActReply) -> Result<(), AllocError>
     ensures { AddsLine out.old out.new (act_text reply.now) result }
 {
@@ -87,9 +87,9 @@ pub fn act_line<A: Allocator>(out: &mut Vec<u8, A>, reply: &ActReply) -> Result<
     number(out, u64::from(reply.position));
     match reply.answer {
         Ok(done) => push_done(out, done),
-        Err(ActFault::Lease(fault)) => {
+        Err(fault) => {
             text(out, b" refused ");
-            lease_fault(out, fault);
+            act_fault(out, fault);
         }
     }
     text(out, b"\n");
@@ -112,6 +112,10 @@ fn push_done<A: Allocator>(out: &mut Vec<u8, A>, done: Done)
         Done::Ticked(moment) => {
             text(out, b" ticked ");
             number(out, moment);
+        }
+        Done::Moved(count) => {
+            text(out, b" moved ");
+            number(out, u64::from(count));
         }
     }
 }

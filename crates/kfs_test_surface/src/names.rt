@@ -65,8 +65,8 @@ pub mod plan {
 /// The desk.
 pub mod desk {
     pub use kfs_desk::{
-        Act, ActFault, ActReply, Back, BeginBack, BeginFault, Desk, Docket, Done, Reply,
-        SubmissionsBack, Unanswered, Why,
+        Act, ActFault, ActReply, Back, BeginBack, BeginFault, Desk, Docket, Done, Move, MoveFault,
+        Reply, SubmissionsBack, Unanswered, Why,
     };
 }
 

@@ -51,19 +51,6 @@ fn faults_of_bytes(rt: HostRuntime) {
 }
 
 #[test]
-fn faults_of_moves(rt: HostRuntime) {
-    let faults = [
-        (MoveFault::NotMapped(0), "NotMapped(0)"),
-        (MoveFault::OutOfRange(1), "OutOfRange(1)"),
-        (MoveFault::NotFree(2), "NotFree(2)"),
-        (MoveFault::Overlap(3), "Overlap(3)"),
-        (MoveFault::TooManyMoves, "TooManyMoves"),
-        (MoveFault::OutOfMemory, "memory"),
-    ];
-    assert!(rt; say(rt.alloc(), &faults));
-}
-
-#[test]
 fn faults_of_entries(rt: HostRuntime) {
     let reasons = [
         (Reason::NoSuchNode, "NoSuchNode"),
@@ -128,6 +115,26 @@ fn faults_of_leases(rt: HostRuntime) {
             rt.alloc(),
             &ActFault::Lease(LeaseFault::LeaseHeld(7)),
             "LeaseHeld(7)"
+        )
+    );
+}
+
+#[test]
+fn faults_of_moves(rt: HostRuntime) {
+    let faults = [
+        (MoveFault::NotMapped(0), "NotMapped(0)"),
+        (MoveFault::OutOfRange(1), "OutOfRange(1)"),
+        (MoveFault::NotFree(2), "NotFree(2)"),
+        (MoveFault::Overlap(3), "Overlap(3)"),
+        (MoveFault::TooManyMoves, "TooManyMoves"),
+        (MoveFault::OutOfMemory, "memory"),
+    ];
+    assert!(rt; say(rt.alloc(), &faults));
+    assert!(rt;
+        says(
+            rt.alloc(),
+            &ActFault::Move(MoveFault::Overlap(3)),
+            "Overlap(3)"
         )
     );
 }

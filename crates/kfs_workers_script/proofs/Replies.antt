@@ -4,17 +4,17 @@ use Rattle.std.specs.List.{slice_get}
 use Rattle.std.proofs.lemmas.List.{get_or-set_same, get_or-set_other, take-append-le, take_all}
 use Rattle.std.proofs.lemmas.Option.{slice_get_within}
 use Rattle.kfs_model.specs.Judgement.{State, Submission}
-use Rattle.kfs_model.specs.Machine.{Call, IsRead, after}
+use Rattle.kfs_model.specs.Machine.{Call, IsRead, Migrate, after}
 use Rattle.kfs_desk_docket.specs.Legal.{IsLegalDocket}
 use Rattle.kfs_desk_docket.proofs.Longer.{leads_on}
-use Rattle.kfs_lease.specs.declared.act.Act.{Act}
-use Rattle.kfs_lease.specs.declared.act.Act.TheVariants as acts
 use Rattle.kfs_plan.specs.declared.answers.ActReply.{ActReply}
+use Rattle.kfs_plan.specs.declared.answers.Done.{Done}
+use Rattle.kfs_plan.specs.declared.answers.Done.TheVariants.{Moved}
 use Rattle.kfs_plan.specs.declared.answers.Reply.{Reply}
 use Rattle.kfs_desk.specs.Docket.{is_rejudged, position_of}
 use Rattle.kfs_desk.specs.Machine.{Desk, IsActed, IsAnswered, AnswerMeans, call_of, done_by}
 use Rattle.kfs_workers_script.specs.Claims.{GoesOnFrom, StandsAt}
-use Rattle.kfs_workers_script.specs.Script.{Holding, Taken, Decided, ScriptState, DoesAct, DoesStep, DoesLook, DoesJudge, DoesLand, DoesSteps, begun}
+use Rattle.kfs_workers_script.specs.Script.{Holding, Taken, Decided, ScriptState, DoesCall, DoesStep, DoesLook, DoesJudge, DoesLand, DoesSteps, begun}
 use Rattle.kfs_workers_script.specs.declared.script.Step.{Step}
 use Rattle.kfs_workers_script.specs.declared.script.Step.TheVariants as steps
 use Rattle.kfs_workers_script.proofs.Places.{AreInPlace, by_equal, none_each}
@@ -178,19 +178,14 @@ stays_legal desk new same legal = record {
   legal = subst (λ (d : Desk). IsLegalDocket d.opening d.docket d.state) (sym same) legal;
 }
 
--- a row more, of a call for the leases
-call_grows : (old new : Desk) (act : Act) (reply : ActReply) → IsLegalDocket old.opening old.docket old.state → IsActed old (call_of act) (done_by act) reply new → Grows old new
-call_grows old new act reply legal is =
-    let leads = leads_on is.row old.opening old.state new.state old.docket legal (subst (λ (call : Call). IsRead (record is.row { call = call })) (sym is.step.asked) (read act)) is.step.fits in
+-- a row more, of a call that is no submission
+call_grows : (old new : Desk) (call : Call) (words : ℕ → Done) (reply : ActReply) → IsLegalDocket old.opening old.docket old.state → IsActed old call words reply new → Grows old new
+call_grows old new call words reply legal is =
+    let leads = leads_on is.row old.opening old.state new.state old.docket legal is.step.read is.step.fits in
     record {
       on = record { opening = is.opening; limit = is.limit; rows = is.row ∷ []; docket = is.docket };
       legal = subst (λ opening. IsLegalDocket opening new.docket new.state) (sym is.opening) (subst (λ rows. IsLegalDocket old.opening rows new.state) (sym is.docket) leads);
     }
-  where
-    read : (a : Act) → IsRead (record is.row { call = call_of a })
-    read (acts.Lease client path kind end) = tt
-    read (acts.Drop client number) = tt
-    read (acts.Tick moment) = tt
 
 module _ (first_desk : Desk) (submissions : List Submission) (state next_scene : ScriptState) (in_place : AreInPlace submissions state) (are : AreStanding first_desk submissions state) where
   same_state : next_scene ≡ state → AreStanding first_desk submissions next_scene
@@ -223,16 +218,17 @@ module _ (first_desk : Desk) (submissions : List Submission) (state next_scene :
       let (grows, stands) = answer_stands state.desk next_scene.desk are.legal verdict.submission (is_rejudged landed.answer) landed.answer landed.landed.answered in
       reply_added first_desk submissions state next_scene are ticket verdict.submission landed.answer of within (ap (λ (s : ScriptState). s.replies) landed.is) landed.landed.answered.position grows stands
 
-  asks : (act : Act) → DoesAct state act next_scene → AreStanding first_desk submissions next_scene
-  asks act (inr is) = same_state is
-  asks act (inl asked) =
-      replies_stay first_desk submissions state next_scene are (ap (λ (s : ScriptState). s.replies) asked.is) (call_grows state.desk next_scene.desk act asked.reply are.legal asked.acted)
+  asks : (call : Call) (words : ℕ → Done) → DoesCall state call words next_scene → AreStanding first_desk submissions next_scene
+  asks call words (inr is) = same_state is
+  asks call words (inl asked) =
+      replies_stay first_desk submissions state next_scene are (ap (λ (s : ScriptState). s.replies) asked.is) (call_grows state.desk next_scene.desk call words asked.reply are.legal asked.acted)
 
   pub step_stands : (step : Step) → DoesStep state step next_scene → AreStanding first_desk submissions next_scene
   step_stands (steps.Look worker ticket) is = looks worker ticket (slice_get state.hands worker) (get_or state.waiting ticket None) is
   step_stands (steps.Judge worker) is = judges worker (get_or state.hands worker None) is
   step_stands (steps.Land worker) is = lands worker (get_or state.hands worker None) refl is
-  step_stands (steps.Act act) is = asks act is
+  step_stands (steps.Act act) is = asks (call_of act) (done_by act) is
+  step_stands (steps.Migrate moves) is = asks (Migrate moves.now) Moved is
 
 pub run_stands : (first_desk : Desk) (submissions : List Submission) (state last : ScriptState) (script : List Step) → AreInPlace submissions state → AreStanding first_desk submissions state → DoesSteps state script last
     → AreInPlace submissions last × AreStanding first_desk submissions last

@@ -176,6 +176,8 @@ module _ (submissions : List Submission) (state next : ScriptState) (are : AreIn
   step_in_place (steps.Land worker) is = lands worker (get_or state.hands worker None) refl is
   step_in_place (steps.Act act) (inl asked) = asks next.desk asked.is
   step_in_place (steps.Act act) (inr is) = same_state is
+  step_in_place (steps.Migrate moves) (inl asked) = asks next.desk asked.is
+  step_in_place (steps.Migrate moves) (inr is) = same_state is
 
 pub run_in_place : (submissions : List Submission) (state last : ScriptState) (script : List Step) → AreInPlace submissions state → DoesSteps state script last → AreInPlace submissions last
 run_in_place submissions state last [] are is = subst (AreInPlace submissions) (sym is) are

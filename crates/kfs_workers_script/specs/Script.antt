@@ -1,9 +1,11 @@
--- A script: the steps of eight workers, and calls for leases, in one order; and what its runs lead to.
+-- A script: the steps of eight workers, and calls that are no submissions, in one order; and what its runs lead to.
 use Rattle.std.specs.Prelude.{◌≡◌, ◌≢◌, ◌⊎◌, ℕ, List, [], ◌∷◌, length, map, replicate, get_or, set, Option, Some, None}
 use Rattle.std.specs.List.{slice_get}
 use Rattle.kfs_model.specs.Judgement.{State, Submission}
-use Rattle.kfs_lease.specs.declared.act.Act.{Act}
+use Rattle.kfs_model.specs.Machine.{Call, Migrate}
 use Rattle.kfs_plan.specs.declared.answers.ActReply.{ActReply}
+use Rattle.kfs_plan.specs.declared.answers.Done.{Done}
+use Rattle.kfs_plan.specs.declared.answers.Done.TheVariants.{Moved}
 use Rattle.kfs_plan.specs.declared.answers.Reply.{Reply}
 use Rattle.kfs_desk.specs.Machine.{Desk, IsActed, call_of, done_by}
 use Rattle.kfs_workers_verdict.specs.Verdict.{HeldVerdict, IsVerdictOn, LandsVerdict}
@@ -66,22 +68,24 @@ abbrev pub DoesLand : ScriptState → (worker : ℕ) → (hand : Option Holding)
 DoesLand state worker (Some (Decided ticket verdict)) next = VerdictIsLanded state worker ticket verdict next ⊎ (next ≡ given_back state worker ticket verdict.submission)
 DoesLand state worker hand next = next ≡ state
 
--- the call for leases is answered at the desk now
-pub record IsAsked (state : ScriptState) (act : Act) (next : ScriptState) : Type 0 where
+-- the call is answered at the desk now; done, it is told in these words
+pub record IsAsked (state : ScriptState) (call : Call) (words : ℕ → Done) (next : ScriptState) : Type 0 where
   pub reply : ActReply
   pub room : length state.desk.docket ≢ state.desk.limit
-  pub acted : IsActed state.desk (call_of act) (done_by act) reply next.desk
+  pub acted : IsActed state.desk call words reply next.desk
   pub is : next ≡ record state { desk = next.desk }
 
--- a call for leases: it is answered, or nothing changes where memory is refused or the docket is full
-abbrev pub DoesAct : ScriptState → Act → ScriptState → Type 0
-DoesAct state act next = IsAsked state act next ⊎ (next ≡ state)
+-- a call that is no submission: it is answered, or nothing changes where memory is refused or the docket
+-- is full
+abbrev pub DoesCall : ScriptState → Call → (words : ℕ → Done) → ScriptState → Type 0
+DoesCall state call words next = IsAsked state call words next ⊎ (next ≡ state)
 
 abbrev pub DoesStep : ScriptState → Step → ScriptState → Type 0
 DoesStep state (steps.Look worker ticket) next = DoesLook state worker ticket (slice_get state.hands worker) (get_or state.waiting ticket None) next
 DoesStep state (steps.Judge worker) next = DoesJudge state worker (get_or state.hands worker None) next
 DoesStep state (steps.Land worker) next = DoesLand state worker (get_or state.hands worker None) next
-DoesStep state (steps.Act act) next = DoesAct state act next
+DoesStep state (steps.Act act) next = DoesCall state (call_of act) (done_by act) next
+DoesStep state (steps.Migrate moves) next = DoesCall state (Migrate moves.now) Moved next
 
 -- ---- all steps
 

@@ -1,4 +1,4 @@
-//! Scripts: steps of eight workers, and calls for leases, in one order.
+//! Scripts: steps of eight workers, calls for leases, and moves of blocks, in one order.
 ghost use Rattle.std.specs.Prelude.{◌≡◌, IfErr, IfOk, map, option_map};
 ghost use Rattle.kfs_desk_docket.specs.Legal.{IsLegalDocket};
 ghost use Rattle.kfs_plan.specs.Judging.{submission_of};
@@ -9,6 +9,7 @@ ghost use Rattle.kfs_workers_script.specs.Script.{IsRun, DoesSteps};
 use crate::script_state::ScriptState;
 use kfs_desk::Desk;
 use kfs_lease::Act;
+use kfs_migrate_value::Move;
 use kfs_plan::Submission;
 use kfs_plan::answers::Reply;
 use std::alloc::Allocator;
@@ -25,6 +26,8 @@ pub enum Step<'a> {
     Land { worker: usize },
     /// A call for the desk's leases.
     Act(Act<'a>),
+    /// Blocks of files move to other places.
+    Migrate { moves: &'a [Move] },
 }
 
 /// What a script leaves. Each ticket has either a reply, or its submission in `left`.

@@ -5,12 +5,16 @@ ghost use Rattle.std.specs.List.{slice_get};
 ghost use Rattle.kfs_plan.specs.Judging.{submission_of};
 ghost use Rattle.kfs_entry_value.specs.Room.{spare_of};
 ghost use Rattle.kfs_workers_script.specs.Holding.{held_of};
-ghost use Rattle.kfs_workers_script.specs.Script.{DoesAct, DoesStep, DoesJudge, DoesLand, DoesLook, all_returned, begun, returned};
+ghost use Rattle.kfs_model.specs.Machine.{Migrate};
+ghost use Rattle.kfs_plan.specs.declared.answers.Done.TheVariants.{Moved};
+ghost use Rattle.kfs_desk.specs.Machine.{call_of, done_by};
+ghost use Rattle.kfs_workers_script.specs.Script.{DoesCall, DoesStep, DoesJudge, DoesLand, DoesLook, all_returned, begun, returned};
 
 use crate::script::{ScriptBack, ScriptEnd, Step};
 use kfs_desk::Desk;
 use kfs_entry_value::push_within;
 use kfs_lease::Act;
+use kfs_migrate_value::Move;
 use kfs_plan::answers::Reply;
 use kfs_plan::{Judged, Submission};
 use kfs_workers_verdict::DeskView;
@@ -95,6 +99,7 @@ impl<A: Allocator + Copy> ScriptState<A> {
             Step::Judge { worker } => self.judge(worker),
             Step::Land { worker } => self.land(worker),
             Step::Act(act) => self.ask(act),
+            Step::Migrate { moves } => self.migrate(moves),
         }
     }
 
@@ -194,9 +199,16 @@ impl<A: Allocator + Copy> ScriptState<A> {
 
     /// Makes a call for leases. Its answer is only in the docket.
     fn ask(&mut self, act: Act<'_>)
-        ensures { DoesAct self.old act.entry self.new }
+        ensures { DoesCall self.old (call_of act.entry) (done_by act.entry) self.new }
     {
         let _answer = self.desk.act(act);
+    }
+
+    /// Moves blocks. The answer is only in the docket.
+    fn migrate(&mut self, moves: &[Move])
+        ensures { DoesCall self.old (Migrate moves.now) Moved self.new }
+    {
+        let _answer = self.desk.migrate(moves);
     }
 
     /// Whether the number is a worker's who holds nothing.

@@ -11,7 +11,7 @@ use Rattle.kfs_plan.specs.declared.answers.ActReply.{ActReply}
 use Rattle.kfs_plan.specs.declared.answers.Reply.{Reply}
 use Rattle.kfs_desk.specs.Beginning.{Beginning, IsDocketFrom}
 use Rattle.kfs_desk.specs.Docket.{is_rejudged}
-use Rattle.kfs_desk.specs.Machine.{AnswerMeans, IsCurrent, IsLeaseStep, IsStep, IsViewOf, call_of, done_by}
+use Rattle.kfs_desk.specs.Machine.{AnswerMeans, IsCurrent, IsCallStep, IsStep, IsViewOf, call_of, done_by}
 use Rattle.kfs_turns.specs.Lists.{StartsWith}
 use Rattle.kfs_workers_threads.specs.declared.want.SharedWant.{SharedWant}
 use Rattle.kfs_workers_threads.specs.declared.want.SharedWant.TheVariants.{OutOfMemory, DocketFull, TurnsSpent}
@@ -41,7 +41,7 @@ pub record IsLanding {A : Type 0} (judged : Judged A) (reply : Reply) (before : 
 
 -- the row is the call for leases with this answer, and leads from the one state to the other
 abbrev pub IsActing : Act → ActReply → (before : State) → Row → (after : State) → Type 0
-IsActing act reply before row after = IsLeaseStep before (call_of act) (done_by act) reply.answer row after
+IsActing act reply before row after = IsCallStep before (call_of act) (done_by act) reply.answer row after
 
 -- The view is of the state to which all rows lead that were seen then. These begin with those seen before, and are a docket
 -- that the desk may have

@@ -1,8 +1,11 @@
 -- Moves of the blocks of two files.
-use Rattle.std.specs.Prelude.{ℕ, List, [], ◌∷◌, replicate, Option}
+use Rattle.std.specs.Prelude.{ℕ, false, List, [], ◌∷◌, replicate, Option}
 use Rattle.kfs_model.specs.Placement.{TierSizes, Place, Placement}
 use Rattle.kfs_model.specs.Migration.{Move, MoveFault, fault_of_moves}
+use Rattle.kfs_model.specs.Judgement.{State}
+use Rattle.kfs_model.specs.Machine.{CallAnswer, Migrate, Row}
 use Rattle.kfs_model_examples.specs.Example.{table}
+use Rattle.kfs_model_examples.specs.Example.PlacementCases.{files}
 
 abbrev pub place : (tier number : ℕ) → Place
 place tier number = record { tier = tier; place = number }
@@ -27,3 +30,11 @@ fault_found moves = fault_of_moves sizes side_by_side moves
 -- block 0 of file 5 to place 3 of tier 2, so many times
 abbrev pub same_move : (count : ℕ) → List Move
 same_move count = replicate count (move_to 5 0 (place 2 3))
+
+-- files 5 and 6 have a byte each, and their blocks lie so
+abbrev pub with_blocks : Placement → State
+with_blocks placement = record (files (104 ∷ []) (105 ∷ [])) { placement = placement }
+
+-- a docket's row: what moves are answered
+abbrev pub moves_row : List Move → CallAnswer → Row
+moves_row moves answer = record { call = Migrate moves; answer = answer; rejudged = false; places = [] }

@@ -1,14 +1,15 @@
 //! The names of refusals, with their numbers in brackets. The caller has made room for them.
 ghost use Rattle.std.specs.Prelude.{◌≡◌, ◌+◌, ◌≤◌, ◌++◌, length};
-ghost use Rattle.kfs_report.specs.Text.{fault_text, spell_text, row_text, reason_name, reason_text, lease_name, lease_text, client_text, begin_text, image_fault_text};
+ghost use Rattle.kfs_report.specs.Text.{fault_text, spell_text, row_text, reason_name, reason_text, act_fault_text, lease_name, lease_text, move_text, client_text, begin_text, image_fault_text};
 ghost use Rattle.kfs_entry_value.specs.Room.{Appends, spare_of};
 
 use kfs_entry::SpellFault;
 use kfs_image_codec::ImageFault;
 use kfs_judge::Reason;
 use kfs_lease::LeaseFault;
+use kfs_migrate_value::MoveFault;
 use kfs_mode::ClientFault;
-use kfs_plan::answers::BeginFault;
+use kfs_plan::answers::{ActFault, BeginFault};
 use kfs_plan::{Fault, RowFault};
 use kfs_program_text::parts::{number, numbered, text};
 use std::alloc::Allocator;
@@ -113,9 +114,20 @@ fn reason_name(reason: Reason) -> &'static [u8]
     }
 }
 
+/// Appends why a call that is no submission is refused.
+pub fn act_fault<A: Allocator>(out: &mut Vec<u8, A>, fault: ActFault)
+    requires { 60 ≤ spare_of out.old }
+    ensures { Appends out.old out.new 60 (act_fault_text fault) }
+{
+    match fault {
+        ActFault::Lease(fault) => lease_fault(out, fault),
+        ActFault::Move(fault) => move_fault(out, fault),
+    }
+}
+
 /// Appends why a call for leases is refused.
 #[tactic(auto, using(crate::proofs::Texts::lease_without_number))]
-pub fn lease_fault<A: Allocator>(out: &mut Vec<u8, A>, fault: LeaseFault)
+fn lease_fault<A: Allocator>(out: &mut Vec<u8, A>, fault: LeaseFault)
     requires { 60 ≤ spare_of out.old }
     ensures { Appends out.old out.new 60 (lease_text fault) }
 {
@@ -144,6 +156,21 @@ fn lease_name(fault: LeaseFault) -> &'static [u8]
         LeaseFault::NoLeaseHeld => b"NoLeaseHeld",
         LeaseFault::Backwards => b"Backwards",
         LeaseFault::OutOfMemory => b"OutOfMemory",
+    }
+}
+
+/// Appends why moves are refused.
+fn move_fault<A: Allocator>(out: &mut Vec<u8, A>, fault: MoveFault)
+    requires { 60 ≤ spare_of out.old }
+    ensures { Appends out.old out.new 60 (move_text fault) }
+{
+    match fault {
+        MoveFault::NotMapped(index) => numbered(out, b"NotMapped", index as u64),
+        MoveFault::OutOfRange(index) => numbered(out, b"OutOfRange", index as u64),
+        MoveFault::NotFree(index) => numbered(out, b"NotFree", index as u64),
+        MoveFault::Overlap(index) => numbered(out, b"Overlap", index as u64),
+        MoveFault::TooManyMoves => text(out, b"TooManyMoves"),
+        MoveFault::OutOfMemory => text(out, b"OutOfMemory"),
     }
 }
 

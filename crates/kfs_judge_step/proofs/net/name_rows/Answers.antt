@@ -15,13 +15,13 @@ use Rattle.kfs_judge_step.proofs.ChangedRows.{rows_same, rows_more, rows_all, na
 use Rattle.kfs_judge_step.proofs.net.name_rows.Goals as goal
 
 pub returns-in_err-row : goal.returns-in_err-row
-returns-in_err-row g c = is_cut_off c.args.draft.now _ (goes_then c.loop-key.invariant.goes c.in_err-row.ensures.goes) _ c.from_residual.ensures.0
+returns-in_err-row g c = is_cut_off c.args.draft.now _ (goes_then c.loop-key.invariant.goes c.in_err-row.ensures.goes) _ c.from_residual-in_err-row.ensures.0
 
 pub returns-in_err-push : goal.returns-in_err-push
 returns-in_err-push g c = is_cut_off c.args.draft.now _ (goes_then c.loop-key.invariant.goes c.in_ok-row.ensures.goes) _ c.from_residual-in_err-push.ensures.0
 
-pub loop-key-preserved-in-Continue-branch-3 : goal.loop-key-preserved-in-Continue-branch-3
-loop-key-preserved-in-Continue-branch-3 g c = record {
+pub loop-key-preserved-in-Continue-branch-4 : goal.loop-key-preserved-in-Continue-branch-4
+loop-key-preserved-in-Continue-branch-4 g c = record {
   ready = tt;
   finite = tt;
   goes = goes_then c.loop-key.invariant.goes c.in_ok-row.ensures.goes;

@@ -1,4 +1,4 @@
-use Rattle.std.proofs.Common.{◌≡◌, ◌≤◌, ◌∷◌, ◌++◌, [], ◌∙◌, T, None, length, take, drop, sym, ap, subst}
+use Rattle.std.proofs.Common.{rules, ◌≡◌, ◌≤◌, ◌∷◌, ◌++◌, [], ◌∙◌, T, None, length, take, drop, sym, ap, subst}
 use Rattle.std.proofs.lemmas.List.{append-nil}
 use Rattle.std.specs.declared.ops.Bound.TheVariants.{Included}
 use Rattle.std.specs.FinMap.Entries.{is_sorted}
@@ -35,19 +35,19 @@ returns-clause-passed g c later less =
     let es = c.args.left.now in
     let rest : c.behind.result.now ≡ entered g.K.Ord.cmp (drop (first_from g.K.Ord.cmp (Included edit.key) es) es) edit.key None =
     c.behind.ensures ∙ ap (λ es. entered g.K.Ord.cmp es edit.key None) (c.split_at.ensures.back ∙ ap (λ n. drop n es) c.first_from.ensures) in
-    let copied : c.copy_to.new.to.items ≡ c.args.merged.now.items ++ take (first_from g.K.Ord.cmp (Included edit.key) es) es =
-    c.in_ok-copy_to.ensures ∙ ap (λ front. c.args.merged.now.items ++ front) (c.split_at.ensures.front ∙ ap (λ n. take n es) c.first_from.ensures) in
-    let own : c.match-edit.merged.items ≡ c.copy_to.new.to.items ++ entered g.K.Ord.cmp [] edit.key edit.value =
+    let below : c.extend_from_slice.new.self.items ≡ c.args.merged.now.items ++ c.split_at.result.0.now = search rules in
+    let copied : c.extend_from_slice.new.self.items ≡ c.args.merged.now.items ++ take (first_from g.K.Ord.cmp (Included edit.key) es) es =
+    below ∙ ap (λ front. c.args.merged.now.items ++ front) (c.split_at.ensures.front ∙ ap (λ n. take n es) c.first_from.ensures) in
+    let own : c.match-edit.merged.items ≡ c.extend_from_slice.new.self.items ++ entered g.K.Ord.cmp [] edit.key edit.value =
     elim c.match-edit.branch [
       | in-Some+in_ok-push w ↦
           ap (λ merged. merged.items) w.merged-is
           ∙ w.in_ok-push.ensures.items
-          ∙ ap (λ key. c.copy_to.new.to.items ++ (key, w.in-Some.value) ∷ []) w.duplicate.ensures
-          ∙ ap (λ value. c.copy_to.new.to.items ++ entered g.K.Ord.cmp [] edit.key value) (sym w.in-Some.is)
+          ∙ ap (λ value. c.extend_from_slice.new.self.items ++ entered g.K.Ord.cmp [] edit.key value) (sym w.in-Some.is)
       | in_default w ↦
           ap (λ merged. merged.items) w.merged-is
-          ∙ sym (append-nil c.copy_to.new.to.items)
-          ∙ ap (λ value. c.copy_to.new.to.items ++ entered g.K.Ord.cmp [] edit.key value) (sym w.in_default.is)
+          ∙ sym (append-nil c.extend_from_slice.new.self.items)
+          ∙ ap (λ value. c.extend_from_slice.new.self.items ++ entered g.K.Ord.cmp [] edit.key value) (sym w.in_default.is)
     ] in
     ap (λ items. items ++ entered_all g.K.Ord.cmp c.behind.result.now later) (own ∙ ap (λ items. items ++ entered g.K.Ord.cmp [] edit.key edit.value) copied)
     ∙ ap (λ left. ((c.args.merged.now.items ++ take (first_from g.K.Ord.cmp (Included edit.key) es) es) ++ entered g.K.Ord.cmp [] edit.key edit.value) ++ entered_all g.K.Ord.cmp left later) rest

@@ -1,4 +1,4 @@
-use Rattle.std.proofs.Common.{◌≡◌, ◌<◌, ◌≤◌, ◌+◌, ◌∷◌, ◌++◌, ◌∙◌, All, length, drop, sym, ap, subst, arith}
+use Rattle.std.proofs.Common.{rules, ◌≡◌, ◌<◌, ◌≤◌, ◌+◌, ◌∷◌, ◌++◌, ◌∙◌, All, length, drop, sym, ap, subst, arith}
 use Rattle.std.proofs.lemmas.List.{drop_all, drop_more}
 use Rattle.std.specs.declared.cmp.Ordering.TheVariants.{Less}
 use Rattle.kfs_map_chunks.specs.Edits.{entered_all}
@@ -26,4 +26,5 @@ returns g c =
     let edits = c.args.edits.now in
     let i = c.loop-edit.edit-index in
     let past : length edits ≤ i = omega arith in
-    c.in_ok-copy_to.ensures ∙ ap (λ es. c.loop-edit.merged.items ++ entered_all g.K.Ord.cmp c.loop-edit.left.now es) (sym (drop_all i edits past)) ∙ c.loop-edit.invariant.entered
+    let copied : c.extend_from_slice.new.self.items ≡ c.loop-edit.merged.items ++ c.loop-edit.left.now = search rules in
+    copied ∙ ap (λ es. c.loop-edit.merged.items ++ entered_all g.K.Ord.cmp c.loop-edit.left.now es) (sym (drop_all i edits past)) ∙ c.loop-edit.invariant.entered

@@ -10,7 +10,6 @@ loop-key-preserved g c = record {
   listed =
       ap (λ items. items ++ key_edits c.next.new.self) c.in_ok-push.ensures.items
       ∙ append_assoc c.loop-key.edits.items _ (key_edits c.next.new.self)
-      ∙ ap (λ key. c.loop-key.edits.items ++ record { key = key; value = c.in-Some.now.now } ∷ key_edits c.next.new.self) c.duplicate.ensures
       ∙ ap (λ edits. c.loop-key.edits.items ++ edits) (sym (ap key_edits c.in-Some.ensures.steps))
       ∙ c.loop-key.invariant.listed;
 }

@@ -1,9 +1,12 @@
 -- What the desk answers leaves what the workers hold.
-use Rattle.std.proofs.Common.{◌≡◌, ◌∙◌, ◌++◌, ap}
+use Rattle.std.proofs.Common.{◌≡◌, ◌∙◌, ◌++◌, ap, subst}
+use Rattle.std.specs.Prelude.{OnOk}
 use Rattle.std.proofs.lemmas.Result.{on_ok_weaker}
+use Rattle.kfs_model.specs.Machine.{Migrate}
 use Rattle.kfs_plan.specs.Judging.{submission_of}
+use Rattle.kfs_plan.specs.declared.answers.Done.TheVariants.{Moved}
 use Rattle.kfs_program_engine.specs.Bytes.{read_text}
-use Rattle.kfs_program_engine.specs.Session.{After, IsNodeShown, IsSubmissionAnswered, docket_line, names_line}
+use Rattle.kfs_program_engine.specs.Session.{After, IsCallAnswered, IsNodeShown, IsReplied, IsSubmissionAnswered, docket_line, names_line}
 use Rattle.kfs_program_text.specs.Parts.{line_of}
 use Rattle.kfs_program_images.specs.Saving.{save_text}
 use Rattle.kfs_program_engine.proofs.Held.{act_served, replied_as, said_with_hands, with_hands}
@@ -65,3 +68,14 @@ returns-in-Save-clause-ok g c =
     (λ said. replied_as desk hands c.args.command _ c.args.reply.now.items c.show_image.new.reply.items (After desk hands) c.in-Save.is
     (said_with_hands hands (save_text desk.state.sizes desk.state.tree desk.state.placement) c.args.reply.now.items c.show_image.new.reply.items desk said))
     c.show_image.ensures.ok
+
+pub returns-in-Move-clause-ok : goal.returns-in-Move-clause-ok
+returns-in-Move-clause-ok g c =
+    let desk = c.args.desk.now in
+    let hands = c.args.hands.now in
+    let before = c.args.reply.now.items in
+    let after = c.move_blocks.new.reply.items in
+    let next = c.move_blocks.new.desk in
+    let moved = subst (λ moves. OnOk c.move_blocks.result (IsReplied (IsCallAnswered desk (Migrate moves) Moved) before after next)) c.as_slice.ensures.value c.move_blocks.ensures.ok in
+    on_ok_weaker c.move_blocks.result (replied_as desk hands c.args.command _ before after (After next hands) c.in-Move.is)
+    (with_hands c.move_blocks.result hands (IsCallAnswered desk (Migrate c.in-Move.moves.items) Moved) before after next moved)

@@ -18,3 +18,9 @@ returns-in-Ticked g c = record {
   spare = omega (arith, c.text-in-Ticked.ensures.spare, c.number-in-Ticked.ensures.spare);
   items = rw (c.in-Ticked.is, c.number-in-Ticked.ensures.items, c.text-in-Ticked.ensures.items) (simp append_assoc);
 }
+
+pub returns-in-Moved : goal.returns-in-Moved
+returns-in-Moved g c = record {
+  spare = omega (arith, c.text-in-Moved.ensures.spare, c.number-in-Moved.ensures.spare);
+  items = rw (c.in-Moved.is, c.number-in-Moved.ensures.items, c.from-in-Moved.ensures, c.text-in-Moved.ensures.items) (simp append_assoc);
+}

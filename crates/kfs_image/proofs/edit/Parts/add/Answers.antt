@@ -9,7 +9,6 @@ use Rattle.kfs_model.specs.Table.{changed, insert}
 use Rattle.kfs_image_nodes.specs.Change.{led_to, renamed, reheaded}
 use Rattle.kfs_image_tier.specs.declared.change.NewBlock.{NewBlock}
 use Rattle.kfs_image_tier.specs.Tiers.{with_blocks}
-use Rattle.kfs_map_chunks.specs.Keys.{same_items}
 use Rattle.kfs_map_chunks.specs.Overlays.{overlaid}
 use Rattle.kfs_map_chunks.proofs.Overlays.{overlaid_set}
 use Rattle.kfs_image.specs.Edit.{edited, WritesWholeBlocks}
@@ -27,13 +26,11 @@ returns-in_ok-push-in-Header-clause-made g c = λ image.
 pub returns-in_ok-push-in-Name-clause-made : goal.returns-in_ok-push-in-Name-clause-made
 returns-in_ok-push-in-Name-clause-made g c = λ image.
     let parts = c.args.self.now in
-    let row : NameRow = record { dir = c.in-Name.dir; name = c.in_ok-clone-in-Name.field-0; number = c.unwrap_or.result } in
-    let copied = c.in_ok-clone-in-Name.ensures.cases in
-    let name : c.in_ok-clone-in-Name.field-0 ≡ c.in-Name.name = sym copied.3 ∙ same_items copied.0.bytes.items copied.1.bytes.items copied.4 ∙ copied.2 in
+    let row : NameRow = record { dir = c.in-Name.dir; name = c.in-Name.name; number = c.unwrap_or.result } in
     let names =
     ap (renamed image.names) c.in_ok-push-in-Name.ensures.items
     ∙ one_name image.names parts.names.items row
-    ∙ (λ i. changed (renamed image.names parts.names.items) (c.in-Name.dir, name i) (led_to (c.unwrap_or.ensures i))) in
+    ∙ (λ i. changed (renamed image.names parts.names.items) (c.in-Name.dir, c.in-Name.name) (led_to (c.unwrap_or.ensures i))) in
     (λ i. record (with_parts parts image) { names = names i }) ∙ ap (λ e. edited (plain e) (with_parts parts image)) (sym c.in-Name.is)
 
 pub returns-in_ok-set-in-Map-clause-made : goal.returns-in_ok-set-in-Map-clause-made

@@ -20,7 +20,7 @@ returns-clause-indexed g c =
     elim c.change.result as (λ r. OnOk r (new.names ≡ keyed.rewritten name_order old.names edits.names.items) → OnOk r (new.counts ≡ rewritten old.counts edits.counts.items) → OnOk r (new.uplinks ≡ keyed.rewritten by_node old.uplinks edits.uplinks.items) → OnErr r (new ≡ old) → CountsAreExact new) [
       | Ok done ↦ λ names counts uplinks kept.
           edited_indexed old new edits c.requires.indexed made.named
-          (made.counted c.requires.before.1 (subst (λ (names : NameTable). AreInPages names) (sym made.renamed) c.requires.after.1))
+          (made.counted c.requires.before.1 (subst (λ (names : NameTable). AreInPages names) (sym made.make) c.requires.after.1))
           names counts uplinks
       | Err e ↦ λ names counts uplinks kept. subst (CountsAreExact {A = g.row.A.Denot}) (sym kept) c.requires.indexed
     ] c.change.ensures.names c.change.ensures.counts c.change.ensures.uplinks c.change.ensures.err
@@ -41,6 +41,6 @@ returns-clause-names g c =
     let old = c.args.self.now in
     let new = c.change.new.self in
     elim c.change.result as (λ r. OnOk r (new.names ≡ keyed.rewritten name_order old.names c.in_ok-edits.edits.names.items) → OnOk r (names_in new ≡ renamed (names_in old) c.args.names.now)) [
-      | Ok done ↦ λ edited. ap (table name_order) edited ∙ c.in_ok-edits.ensures.renamed
+      | Ok done ↦ λ edited. ap (table name_order) edited ∙ c.in_ok-edits.ensures.make
       | Err e ↦ λ none. none
     ] c.change.ensures.names

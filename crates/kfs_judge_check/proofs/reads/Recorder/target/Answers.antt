@@ -18,26 +18,25 @@ use Rattle.kfs_judge_check.proofs.reads.Recorder.target.Goals as goal
 pub returns-in-Some : goal.returns-in-Some
 returns-in-Some g c =
     let d = c.args.key.now.0 in
+    let m = c.args.key.now.1 in
     record {
       goes = goes_nowhere c.args.self.now;
       known = λ state agrees.
-          ap (λ m. state.sight.name d m) (sym c.in_ok-name.ensures) ∙ c.number_in.ensures (state.sight.name d c.in_ok-name.name) (known_by_key _ (Look (Name d c.in_ok-name.name)) _ c.in-Some.ensures.value state agrees);
-      among = within_same c.args.self.now.reads.entries (NameIn d c.args.key.now.1 ∷ []);
+          c.number_in.ensures (state.sight.name d m) (known_by_key _ (Look (Name d m)) _ c.in-Some.ensures.value state agrees);
+      among = within_same c.args.self.now.reads.entries (NameIn d m ∷ []);
     }
 
 pub returns : goal.returns
 returns g c =
     let d = c.args.key.now.0 in
     let m = c.args.key.now.1 in
-    let own = c.in_ok-name.name in
     let number = c.target-number.result in
-    let read = Look (Name d own) in
+    let read = Look (Name d m) in
     let told = answers.Look (looks.Name number) in
     let old = c.args.self.now.reads.entries in
     let new = c.record.new.reads.entries in
     let last = c.in_ok-record.ensures.ok ∙ insert_entry-new same_read c.args.self.now.reads read told (sym c.in_default.ensures.value) in
-    let named = ap (target (contents_of c.args.self.now.view.now).names d) c.in_ok-name.ensures in
-    let shown : answer (seen_by c.args.self.now) (cell_of read) ≡ answer_of told = ap Number (named ∙ sym c.target-number.ensures) in
+    let shown : answer (seen_by c.args.self.now) (cell_of read) ≡ answer_of told = ap Number (sym c.target-number.ensures) in
     record {
       goes = record {
         grows = grows_by_one old new read told last;
@@ -45,9 +44,9 @@ returns g c =
         agrees = agrees_by_one old new read told _ last shown;
         once = once_by_one old new read told last (sym c.in_default.ensures.value);
       };
-      known = λ state agrees. ap (λ n. state.sight.name d n) (sym c.in_ok-name.ensures) ∙ leads state (known_at_end old new read told last state agrees);
-      among = subst (λ n. Within old new (NameIn d n ∷ [])) c.in_ok-name.ensures (within_one old new read told last);
+      known = λ state agrees. leads state (known_at_end old new read told last state agrees);
+      among = within_one old new read told last;
     }
   where
-    leads : (state : ClientSight) → answer state (cell_of (Look (Name c.args.key.now.0 c.in_ok-name.name))) ≡ answer_of (answers.Look (looks.Name c.target-number.result)) → state.sight.name c.args.key.now.0 c.in_ok-name.name ≡ c.target-number.result
+    leads : (state : ClientSight) → answer state (cell_of (Look (Name c.args.key.now.0 c.args.key.now.1))) ≡ answer_of (answers.Look (looks.Name c.target-number.result)) → state.sight.name c.args.key.now.0 c.args.key.now.1 ≡ c.target-number.result
     leads state is = cc

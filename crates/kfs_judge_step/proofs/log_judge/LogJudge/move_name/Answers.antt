@@ -63,7 +63,7 @@ returns-clause-shown g c state agrees =
     let old = over c.args.self.now.draft state.sight in
     let other = c.leads_to.ensures.no c.if-leads_to.false in
     let kind_is = sym (kind_stays e k s to old other ∙ c.in_ok-kind.ensures.known state (c.in_ok-remove_name.ensures.goes.grows state agrees)) in
-    let unlinked_is : over c.remove_name.new.self.draft state.sight ≡ seen_unlinked e k to old = c.in_ok-remove_name.ensures.shown state agrees ∙ ap (λ key. seen_unlinked key.0 key.1 to old) c.in_ok-replaced_key.ensures in
+    let unlinked_is : over c.remove_name.new.self.draft state.sight ≡ seen_unlinked e k to old = c.in_ok-remove_name.ensures.shown state agrees in
     c.in_ok-move_name.ensures.shown state.sight
     ∙ (λ i. with_name_moved d m e k s (kind_is i) (unlinked_is i))
     ∙ moved_is d m e k s to old other
@@ -75,7 +75,7 @@ returns-clause-written g c among written name new_name headers =
     let to = c.args.to in
     let same = ap (λ from. headers_renamed from to) c.in-Some.is ∙ sym (headers_are s to (c.leads_to.ensures.no c.if-leads_to.false)) in
     let both = subst (λ cells. IsPart cells among) same headers in
-    let removed = c.in_ok-remove_name.ensures.written among written (subst (λ key. Contains among (NameIn key.0 key.1)) (sym c.in_ok-replaced_key.ensures) new_name) (λ cell there. both cell (right_is_part (HeaderOf s ∷ []) (headers_unlinked to) cell there)) in
+    let removed = c.in_ok-remove_name.ensures.written among written new_name (λ cell there. both cell (right_is_part (HeaderOf s ∷ []) (headers_unlinked to) cell there)) in
     c.in_ok-move_name.ensures.written among removed name new_name
 
 pub returns-clause-kept : goal.returns-clause-kept

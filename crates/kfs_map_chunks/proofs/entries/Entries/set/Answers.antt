@@ -75,8 +75,7 @@ invariant_of-self-in-Err-Some g c =
     let done : is_ok c.insert.result ≡ true = search rules in
     let same : c.insert.new.self.items ≡ entered g.K.Ord.cmp es c.args.key.now (Some c.in-Err-Some.value) =
     c.insert.ensures.items
-    ∙ ap (λ b. cond b (insert es c.in-Err-Some.at (c.duplicate.result, c.in-Err-Some.value)) es) done
-    ∙ ap (λ k. insert es c.in-Err-Some.at (k, c.in-Err-Some.value)) c.duplicate.ensures
+    ∙ ap (λ b. cond b (insert es c.in-Err-Some.at (c.args.key.now, c.in-Err-Some.value)) es) done
     ∙ sym (out.put_there c.in-Err-Some.value) in
     subst (λ es. T (is_sorted g.K.Ord.cmp es)) (sym same) (is_sorted-entered order es c.args.key.now (Some c.in-Err-Some.value) c.self.invariant)
 
@@ -87,8 +86,7 @@ returns-in-Err-Some-clause-pairs g c =
     let out : FitsAt order c.args.key.now es c.in-Err-Some.at = fits_where order c.args.key.now es c.in-Err-Some.at (ap (searched order c.args.key.now) (sym c.deref.ensures.value) ∙ sym c.search.ensures ∙ c.in-Err-Some.is-0) in
     let done : is_ok c.insert.result ≡ true = search rules in
     c.insert.ensures.items
-    ∙ ap (λ b. cond b (insert es c.in-Err-Some.at (c.duplicate.result, c.in-Err-Some.value)) es) done
-    ∙ ap (λ k. insert es c.in-Err-Some.at (k, c.in-Err-Some.value)) c.duplicate.ensures
+    ∙ ap (λ b. cond b (insert es c.in-Err-Some.at (c.args.key.now, c.in-Err-Some.value)) es) done
     ∙ sym (out.put_there c.in-Err-Some.value)
     ∙ ap (entered g.K.Ord.cmp es c.args.key.now) (sym c.in-Err-Some.is-1)
     ∙ ap (λ s. entered g.K.Ord.cmp s.pairs c.args.key.now c.args.value) c.self.view_is

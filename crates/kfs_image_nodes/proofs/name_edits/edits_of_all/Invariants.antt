@@ -4,7 +4,7 @@ use Rattle.kfs_map_chunks.specs.Tables.{table}
 use Rattle.kfs_image_nodes.specs.Change.{renamed}
 use Rattle.kfs_image_nodes.specs.Indexes.{AreNames}
 use Rattle.kfs_image_nodes.specs.NameEdits.{names_seen, IsCountedOver}
-use Rattle.kfs_image_nodes.proofs.name_edits.name_edits.Given as goal
+use Rattle.kfs_image_nodes.proofs.name_edits.edits_of_all.Given as goal
 
 -- names are names, the counts fit, and the rows that are left make of the names seen what all rows make of the names
 abbrev pub invariant-loop-row : goal.invariant-loop-row

@@ -1,6 +1,6 @@
 //! Moves, and why they are refused.
 ghost use Rattle.std.specs.Prelude.{◌≡◌};
-ghost use Rattle.kfs_migrate.specs.declared.moves.MoveFault.TheVariants.{OutOfMemory};
+ghost use Rattle.kfs_migrate_value.specs.declared.moves.MoveFault.TheVariants.{OutOfMemory};
 
 use std::alloc::{AllocError, AllocFailed};
 use std::marker::Model;

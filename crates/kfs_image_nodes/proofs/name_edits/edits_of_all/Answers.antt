@@ -10,7 +10,7 @@ use Rattle.kfs_image_nodes.specs.NameEdits.{names_seen, counts_seen, ways_edited
 use Rattle.kfs_image_nodes.proofs.NameEdits.{edited_seen, counted_edits}
 use Rattle.kfs_image_nodes.proofs.NodeEdits.{rows_left}
 use Rattle.kfs_map_chunks.proofs.Overlays.{overlaid_none}
-use Rattle.kfs_image_nodes.proofs.name_edits.name_edits.Goals as goal
+use Rattle.kfs_image_nodes.proofs.name_edits.edits_of_all.Goals as goal
 
 pub loop-row-init : goal.loop-row-init
 loop-row-init g c =
@@ -39,25 +39,22 @@ loop-row-preserved g c =
           ∙ c.loop-row.invariant.names;
     }
 
-pub returns-clause-renamed : goal.returns-clause-renamed
-returns-clause-renamed g c =
-    let overlays = c.loop-row.overlays in
-    edited_seen name_order c.args.names.now c.in_ok-edits.edits.names.items overlays.names.latest c.in_ok-edits.ensures.names
-    ∙ sym (at_drop_all (renamed (names_seen overlays c.args.names.now)) c.args.rows.now c.loop-row.row-index c.loop-row-test.false)
-    ∙ c.loop-row.invariant.names
-
-pub returns-clause-named : goal.returns-clause-named
-returns-clause-named g c = λ all.
-    subst (λ (t : NameTable). AreNames t) (sym (edited_seen name_order c.args.names.now c.in_ok-edits.edits.names.items c.loop-row.overlays.names.latest c.in_ok-edits.ensures.names)) (c.loop-row.invariant.named all)
-
-pub returns-clause-counted : goal.returns-clause-counted
-returns-clause-counted g c = λ within within_now.
+pub returns : goal.returns
+returns g c =
     let overlays = c.loop-row.overlays in
     let edits = c.in_ok-edits.edits in
     let says = c.in_ok-edits.ensures in
     let names = edited_seen name_order c.args.names.now edits.names.items overlays.names.latest says.names in
     let ways = edited_seen by_node c.args.uplinks.now edits.uplinks.items overlays.uplinks.latest says.uplinks in
-    counted_edits (table name_order c.args.names.now) c.args.counts.now (table by_node c.args.uplinks.now) c.requires _ _ overlays.counts.latest
-    (subst (λ (t : NameTable). IsCounted t (counts_seen overlays c.args.counts.now) (ways_edited c.args.uplinks.now edits)) (sym names)
-    (subst (IsCounted (names_seen overlays c.args.names.now) (counts_seen overlays c.args.counts.now)) (sym ways) c.loop-row.invariant.counted))
-    edits.counts.items says.counts_ascend says.counts within within_now
+    record {
+      names_ascend = says.names_ascend;
+      counts_ascend = says.counts_ascend;
+      uplinks_ascend = says.uplinks_ascend;
+      make = names ∙ sym (at_drop_all (renamed (names_seen overlays c.args.names.now)) c.args.rows.now c.loop-row.row-index c.loop-row-test.false) ∙ c.loop-row.invariant.names;
+      named = λ all. subst (λ (t : NameTable). AreNames t) (sym names) (c.loop-row.invariant.named all);
+      counted = λ within within_now.
+          counted_edits (table name_order c.args.names.now) c.args.counts.now (table by_node c.args.uplinks.now) c.requires _ _ overlays.counts.latest
+          (subst (λ (t : NameTable). IsCounted t (counts_seen overlays c.args.counts.now) (ways_edited c.args.uplinks.now edits)) (sym names)
+          (subst (IsCounted (names_seen overlays c.args.names.now) (counts_seen overlays c.args.counts.now)) (sym ways) c.loop-row.invariant.counted))
+          edits.counts.items says.counts_ascend says.counts within within_now;
+    }
