@@ -141,6 +141,7 @@ impl<A: Allocator + Clone> Shape<A> {
 
     /// The nodes with these headers, and the names of rows that ascend. Conditions: each name is one, and
     /// each directory's number is 1 to 65,536. Each name is written once. `Err` where memory is refused.
+    #[doc(hidden)]
     pub fn of_rows(
         alloc: &A,
         headers: Pages<Header, A>,

@@ -13,7 +13,8 @@ use Rattle.kfs_model.specs.Lease.{LeaseKind, LeaseOutcome, Leases, granted}
 use Rattle.kfs_model.specs.Machine.{opening}
 use Rattle.kfs_model.specs.Looked.{AgreeWhereLooked, HaveSameRun}
 use Rattle.kfs_model.specs.Order.{IsInOrder}
-use Rattle.kfs_model.specs.Placement.{TierSizes}
+use Rattle.kfs_model.specs.Migration.{Move, fault_of_moves, moved_by}
+use Rattle.kfs_model.specs.Placement.{TierSizes, Placement}
 use Rattle.kfs_model.specs.Run.{run, over_bytes, run_by_marks}
 use Rattle.kfs_model.specs.Sight.{ClientSight, Sight}
 use Rattle.kfs_model.specs.Table.{empty}
@@ -51,6 +52,10 @@ EachTwoTrees P = (client : Client) (one other : Tree ℕ) (entries : List Entry)
 -- P holds of each call of grant, on any tree, by any client
 abbrev pub EachGrant : ((Leases → LeaseOutcome) → Type 0) → Type 0
 EachGrant P = (sight : Sight) (clients : List Client) (client : ℕ) (path : List ℕ) (kind : LeaseKind) (end : ℕ) → P (λ leases. granted leases sight clients client path kind end)
+
+-- P holds of where blocks lie before and after any moves without a fault
+abbrev pub EachMoves : (TierSizes → (before after : Placement) → Type 0) → Type 0
+EachMoves P = (sizes : TierSizes) (before : Placement) (moves : List Move) → fault_of_moves sizes before moves ≡ None → P sizes before (moved_by moves before)
 
 -- the step leads from a state in order to a state in order, if it leads anywhere
 abbrev pub KeepsOrder : (State → Option State) → Type 0

@@ -12,8 +12,7 @@ ghost use Rattle.kfs_model.specs.PlanCut.{SaySame, IsCutAnew};
 ghost use Rattle.kfs_model.specs.FirstWrong.{first_wrong_row};
 ghost use Rattle.kfs_model.specs.Judgement.{State};
 ghost use Rattle.kfs_model.specs.Machine.{OneByOne, Row, IsRead, next, after};
-ghost use Rattle.kfs_model.specs.Placement.{TierSizes, Placement, IsLaid, IsPlacement, need};
-ghost use Rattle.kfs_model.specs.Migration.{Move, fault_of_moves, moved_by};
+ghost use Rattle.kfs_model.specs.Placement.{TierSizes, IsLaid, IsPlacement, need};
 ghost use Rattle.kfs_model.specs.Lease.{KeepsCompatible, dropped, ticked};
 ghost use Rattle.kfs_model.specs.Means.{Means};
 ghost use Rattle.kfs_model.specs.Order.{IsInOrder};
@@ -27,7 +26,7 @@ ghost use Rattle.kfs_model.specs.Soundness.{IsSound};
 ghost use Rattle.kfs_model.specs.Fresh.{fresh_tree};
 ghost use Rattle.kfs_model.specs.Spelling.{IsName, is_name, IsBytes, SpellingFault, LogAnswer, PlanAnswer};
 ghost use Rattle.kfs_model.specs.CleanStep.{IsClient, Fits, IsSeenInCells};
-ghost use Rattle.kfs_model.specs.Laws.{CellsDecide, CleanIsAllowed, EachGrant, EachRun, EachTwoTrees, KeepsOrder, KeepsSound, MarksGiveBytes, opening_of_new};
+ghost use Rattle.kfs_model.specs.Laws.{CellsDecide, CleanIsAllowed, EachGrant, EachMoves, EachRun, EachTwoTrees, KeepsOrder, KeepsSound, MarksGiveBytes, opening_of_new};
 
 /// An entry without a failed check is allowed to its client by mode bits and leases. This holds for all
 /// eight kinds of entry.
@@ -148,6 +147,6 @@ pub fn what_a_row_means()
 
 /// Moves without a fault leave each block of a file in a place of its own, within its tier.
 pub fn moves_keep_blocks_apart()
-    ensures laid { (sizes : TierSizes) (placement : Placement) (moves : List Move) → fault_of_moves sizes placement moves ≡ None → IsLaid sizes placement → IsLaid sizes (moved_by moves placement) }
-    ensures of_files { (sizes : TierSizes) (placement : Placement) (moves : List Move) → fault_of_moves sizes placement moves ≡ None → (head : ℕ → Option Header) → IsPlacement sizes head placement → IsPlacement sizes head (moved_by moves placement) }
+    ensures laid { EachMoves (λ sizes before after. IsLaid sizes before → IsLaid sizes after) }
+    ensures of_files { EachMoves (λ sizes before after. (head : ℕ → Option Header) → IsPlacement sizes head before → IsPlacement sizes head after) }
 {}
