@@ -1,5 +1,0 @@
-pub mod Answers
-pub mod Back
-pub mod Batch
-pub mod Jobs
-pub mod Settled
