@@ -54,8 +54,7 @@ impl<D: Docketed, A: Allocator> Shared<D, A> {
     }
 
     /// The second pass of a split; the first one stays where it is.
-    #[doc(hidden)]
-    pub fn fork(&self, pass: &mut Pass<D>) -> Pass<D>
+    pub(crate) fn fork(&self, pass: &mut Pass<D>) -> Pass<D>
         requires { IsPassOf self.now pass.old }
         ensures passes { IsPassOf self.now pass.new × IsPassOf self.now result }
         ensures seen { (seen pass.new ≡ seen pass.old) × (seen result ≡ seen pass.old) }
