@@ -11,12 +11,12 @@ ghost use Rattle.kfs_fsck.specs.Faults.{Tells};
 use crate::fault::FsckFault;
 use crate::nodes::{least_bad_header, least_miscounted, least_unrooted};
 use kfs_image::{Header, Image, RawImage};
+use kfs_map_pages::Pages;
 use kfs_shape::check::{check_extents, no_failure};
 use kfs_shape::heads::{headers, least_missing_root};
 use kfs_shape::names::least_lost_target;
 use kfs_shape::{ShapeFault, names, nodes};
 use std::alloc::Allocator;
-use std::collections::BTreeMap;
 use std::thread::Threads;
 
 /// Lets a raw image in: the image of its rows, if they break none of the ten rules of
@@ -72,7 +72,7 @@ fn check_nodes<A: Allocator + Copy>(
     rt: &(impl Threads + Sync),
     alloc: A,
     raw: &RawImage<A>,
-) -> Result<BTreeMap<u32, Header, A>, ShapeFault>
+) -> Result<Pages<Header, A>, ShapeFault>
     ensures shown { IfOk result (λ headers. ShowsHeads headers raw.now) }
     ensures told { FindsNoneWhere result (finding_from (raw_of raw.now) node_rules) }
 {
@@ -88,7 +88,7 @@ fn check_names<A: Allocator + Copy>(
     rt: &(impl Threads + Sync),
     alloc: A,
     raw: &RawImage<A>,
-    headers: &BTreeMap<u32, Header, A>,
+    headers: &Pages<Header, A>,
 ) -> Result<(), ShapeFault>
     requires shown { ShowsHeads headers.now raw.now }
     requires in_range { least_failed (rule_1 (raw_of raw.now)) ≡ None }

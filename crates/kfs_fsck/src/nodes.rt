@@ -7,10 +7,10 @@ ghost use Rattle.kfs_shape.specs.Heads.{ShowsHeads};
 
 use crate::parts;
 use kfs_image::{Header, RawImage};
+use kfs_map_pages::Pages;
 use kfs_shape::climbs::tops;
 use kfs_shape::names::count_names;
 use std::alloc::{AllocError, Allocator};
-use std::collections::BTreeMap;
 use std::thread::Threads;
 
 /// Rule 3: the least number of a node whose header is out of range.
@@ -30,8 +30,7 @@ pub(crate) fn least_miscounted<A: Allocator + Copy>(
     alloc: A,
     raw: &RawImage<A>,
 ) -> Result<Option<u32>, AllocError>
-    requires in_range { least_failed (rule_1 (raw_of raw.now)) ≡ None }
-    requires ascend { least_failed (rule_4 (raw_of raw.now)) ≡ None }
+    requires { least_failed (rule_4 (raw_of raw.now)) ≡ None }
     ensures { IfOk result (λ least. least ≡ least_failed (rule_6 (raw_of raw.now))) }
 {
     let counts = count_names(alloc, raw)?;
@@ -44,7 +43,7 @@ pub(crate) fn least_unrooted<A: Allocator + Copy>(
     rt: &(impl Threads + Sync),
     alloc: A,
     raw: &RawImage<A>,
-    headers: &BTreeMap<u32, Header, A>,
+    headers: &Pages<Header, A>,
 ) -> Result<Option<u32>, AllocError>
     requires shown { ShowsHeads headers.now raw.now }
     requires in_range { least_failed (rule_1 (raw_of raw.now)) ≡ None }

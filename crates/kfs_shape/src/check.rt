@@ -15,8 +15,8 @@ use crate::places::least_shared;
 use crate::{names, nodes};
 use kfs_entry_value::Header;
 use kfs_image_codec::RawImage;
+use kfs_map_pages::Pages;
 use std::alloc::Allocator;
-use std::collections::BTreeMap;
 
 /// A finding, if there is a number at which the rule is broken.
 pub fn no_failure(rule: u8, least: Option<u32>) -> Result<(), ShapeFault>
@@ -32,7 +32,7 @@ pub fn no_failure(rule: u8, least: Option<u32>) -> Result<(), ShapeFault>
 fn check_nodes<A: Allocator + Copy>(
     alloc: A,
     raw: &RawImage<A>,
-) -> Result<BTreeMap<u32, Header, A>, ShapeFault>
+) -> Result<Pages<Header, A>, ShapeFault>
     ensures shown { IfOk result (λ headers. ShowsHeads headers raw.now) }
     ensures told { FindsNoneWhere result (finding_from (raw_of raw.now) node_rules) }
 {
@@ -47,7 +47,7 @@ fn check_nodes<A: Allocator + Copy>(
 fn check_names<A: Allocator + Copy>(
     alloc: A,
     raw: &RawImage<A>,
-    headers: &BTreeMap<u32, Header, A>,
+    headers: &Pages<Header, A>,
 ) -> Result<(), ShapeFault>
     requires shown { ShowsHeads headers.now raw.now }
     requires in_range { least_failed (rule_1 (raw_of raw.now)) ≡ None }
@@ -63,7 +63,7 @@ fn check_names<A: Allocator + Copy>(
 pub fn check_extents<A: Allocator + Copy>(
     alloc: A,
     raw: &RawImage<A>,
-    headers: &BTreeMap<u32, Header, A>,
+    headers: &Pages<Header, A>,
 ) -> Result<(), ShapeFault>
     requires { ShowsHeads headers.now raw.now }
     ensures { FindsNoneWhere result (finding_from (raw_of raw.now) extent_rules) }

@@ -7,13 +7,13 @@ ghost use Rattle.kfs_shape.specs.Climbs.{ancestor_at, ancestor_from, is_root, to
 ghost use Rattle.kfs_shape.specs.Heads.{head_at, ShowsHeads};
 ghost use Rattle.kfs_image_codec.specs.RawImages.{raw_node_of, raw_of};
 
-use crate::counts::NUMBERS;
+use crate::counts::span;
 use crate::heads::has_directory;
 use crate::least::noted;
 use kfs_entry_value::{Header, Kind, NameRow, ROOT};
 use kfs_image_codec::{RawImage, RawNode};
+use kfs_map_pages::Pages;
 use std::alloc::{AllocError, Allocator};
-use std::collections::BTreeMap;
 
 /// 2 to the power of this is more steps than any climb without a circle takes.
 const DOUBLINGS: u32 = 17;
@@ -41,7 +41,7 @@ fn lead_first(ancestors: &mut [Option<u32>], number: u32, up: u32)
 /// nowhere yet.
 fn lead_by_name<A: Allocator>(
     ancestors: &mut [Option<u32>],
-    headers: &BTreeMap<u32, Header, A>,
+    headers: &Pages<Header, A>,
     row: &NameRow,
 )
     ensures { LeadsFirst ancestors.old ancestors.new (is_directory (head_at headers.now row.now.number)) row.now.number row.now.dir }
@@ -56,7 +56,7 @@ fn lead_by_name<A: Allocator>(
 fn parents<A: Allocator + Copy>(
     alloc: A,
     raw: &RawImage<A>,
-    headers: &BTreeMap<u32, Header, A>,
+    headers: &Pages<Header, A>,
 ) -> Result<Vec<Option<u32>, A>, AllocError>
     requires shown { ShowsHeads headers.now raw.now }
     requires in_range { least_failed (rule_1 (raw_of raw.now)) ≡ None }
@@ -64,7 +64,8 @@ fn parents<A: Allocator + Copy>(
     ensures { IfOk result (λ ancestors. ParentsOf ancestors.items (raw_of raw.now)) }
 {
     let rows = raw.names.as_slice();
-    let mut ancestors = vec![in alloc; None; NUMBERS]?;
+    let many = span(raw.nodes.as_slice());
+    let mut ancestors = vec![in alloc; None; many]?;
     lead_first(&mut ancestors, ROOT, ROOT);
     for row in rows.iter() {
         lead_by_name(&mut ancestors, headers, row);
@@ -101,7 +102,7 @@ fn doubled<A: Allocator>(
 pub fn tops<A: Allocator + Copy>(
     alloc: A,
     raw: &RawImage<A>,
-    headers: &BTreeMap<u32, Header, A>,
+    headers: &Pages<Header, A>,
 ) -> Result<Vec<Option<u32>, A>, AllocError>
     requires shown { ShowsHeads headers.now raw.now }
     requires in_range { least_failed (rule_1 (raw_of raw.now)) ≡ None }
@@ -127,7 +128,7 @@ fn is_below_root(tops: &[Option<u32>], row: &RawNode) -> bool
 pub fn least_unrooted<A: Allocator + Copy>(
     alloc: A,
     raw: &RawImage<A>,
-    headers: &BTreeMap<u32, Header, A>,
+    headers: &Pages<Header, A>,
 ) -> Result<Option<u32>, AllocError>
     requires shown { ShowsHeads headers.now raw.now }
     requires in_range { least_failed (rule_1 (raw_of raw.now)) ≡ None }

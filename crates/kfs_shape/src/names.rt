@@ -3,20 +3,20 @@ ghost use Rattle.std.specs.Prelude.{◌≡◌, ◌+◌, ◌<◌, ◌^◌, IfOk, 
 ghost use Rattle.std.specs.Option.{option_copied, option_map};
 ghost use Rattle.kfs_model.specs.Tree.{name_order};
 ghost use Rattle.kfs_entry_value.specs.Views.{kind_of, name_row_of};
-ghost use Rattle.kfs_model_device.specs.Rules.{is_above, names_fit, rule_1, rule_4, rule_5, rule_6};
+ghost use Rattle.kfs_model_device.specs.Rules.{is_above, names_fit, rule_4, rule_5, rule_6};
 ghost use Rattle.kfs_model_device.specs.Finding.{least_failed};
 ghost use Rattle.kfs_shape.specs.Names.{is_in_place};
 ghost use Rattle.kfs_image_codec.specs.RawImages.{raw_node_of, raw_of};
 ghost use Rattle.kfs_shape.specs.NameCounts.{CountsLeads, CountsNames, CountsOne, count_in, counted_test};
 ghost use Rattle.kfs_shape.specs.Heads.{head_at, ShowsHeads};
 
-use crate::counts::NUMBERS;
+use crate::counts::span;
 use crate::heads::{has_directory, has_node};
 use crate::least::{noted, previous};
 use kfs_entry_value::{Header, Kind, LINK_LIMIT, NameRow, ROOT};
 use kfs_image_codec::{RawImage, RawNode};
+use kfs_map_pages::Pages;
 use std::alloc::{AllocError, Allocator};
-use std::collections::BTreeMap;
 
 /// Whether the row's directory and name are above those of the row before.
 fn is_in_order(before: Option<&NameRow>, row: &NameRow) -> bool
@@ -33,7 +33,7 @@ fn is_in_order(before: Option<&NameRow>, row: &NameRow) -> bool
 
 /// Whether the row is above the row before, and its directory is one.
 fn is_in_place<A: Allocator>(
-    headers: &BTreeMap<u32, Header, A>,
+    headers: &Pages<Header, A>,
     before: Option<&NameRow>,
     row: &NameRow,
 ) -> bool
@@ -46,7 +46,7 @@ fn is_in_place<A: Allocator>(
 /// isn't one. None if there is no such row. Takes no memory.
 pub fn least_out_of_order<A: Allocator>(
     raw: &RawImage<A>,
-    headers: &BTreeMap<u32, Header, A>,
+    headers: &Pages<Header, A>,
 ) -> Option<u32>
     requires { ShowsHeads headers.now raw.now }
     ensures { result ≡ least_failed (rule_4 (raw_of raw.now)) }
@@ -62,10 +62,7 @@ pub fn least_out_of_order<A: Allocator>(
 
 /// Rule 5: the least number that a name leads to though it is no node's, or is 1. None if there is no
 /// such name. Takes no memory.
-pub fn least_lost_target<A: Allocator>(
-    raw: &RawImage<A>,
-    headers: &BTreeMap<u32, Header, A>,
-) -> Option<u32>
+pub fn least_lost_target<A: Allocator>(raw: &RawImage<A>, headers: &Pages<Header, A>) -> Option<u32>
     requires { ShowsHeads headers.now raw.now }
     ensures { result ≡ least_failed (rule_5 (raw_of raw.now)) }
 {
@@ -78,11 +75,15 @@ pub fn least_lost_target<A: Allocator>(
     least
 }
 
-/// How many names lead to each number that a node can have. `Err` where memory is refused.
-fn name_counts<A: Allocator + Copy>(alloc: A, rows: &[NameRow]) -> Result<Vec<u64, A>, AllocError>
-    ensures { IfOk result (λ counts. CountsLeads counts.items rows.now) }
+/// How many names lead to each number below `many`. `Err` where memory is refused.
+fn name_counts<A: Allocator + Copy>(
+    alloc: A,
+    many: usize,
+    rows: &[NameRow],
+) -> Result<Vec<u64, A>, AllocError>
+    ensures { IfOk result (λ counts. CountsLeads many counts.items rows.now) }
 {
-    let mut counts = vec![in alloc; 0u64; NUMBERS]?;
+    let mut counts = vec![in alloc; 0u64; many]?;
     for row in rows.iter() {
         count_one(&mut counts, row.number);
     }
@@ -130,16 +131,15 @@ pub fn least_miscounted<A: Allocator + Copy>(
     alloc: A,
     raw: &RawImage<A>,
 ) -> Result<Option<u32>, AllocError>
-    requires in_range { least_failed (rule_1 (raw_of raw.now)) ≡ None }
-    requires ascend { least_failed (rule_4 (raw_of raw.now)) ≡ None }
+    requires { least_failed (rule_4 (raw_of raw.now)) ≡ None }
     ensures { IfOk result (λ least. least ≡ least_failed (rule_6 (raw_of raw.now))) }
 {
     let counts = count_names(alloc, raw)?;
     Ok(least_miscounted_in(counts.as_slice(), raw.nodes.as_slice()))
 }
 
-/// How many names lead to each number that a node can have, in an image whose name rows ascend. `Err`
-/// where memory is refused.
+/// How many names lead to each node, by its number, in an image whose name rows ascend. `Err` where memory
+/// is refused.
 pub fn count_names<A: Allocator + Copy>(
     alloc: A,
     raw: &RawImage<A>,
@@ -147,7 +147,8 @@ pub fn count_names<A: Allocator + Copy>(
     requires { least_failed (rule_4 (raw_of raw.now)) ≡ None }
     ensures { IfOk result (λ counts. CountsNames counts.items (raw_of raw.now)) }
 {
-    name_counts(alloc, raw.names.as_slice())
+    let many = span(raw.nodes.as_slice());
+    name_counts(alloc, many, raw.names.as_slice())
 }
 
 /// Rule 6 for some node rows, given how many names lead to each number. Takes no memory.
