@@ -9,7 +9,7 @@ ghost use Rattle.kfs_image_codec.specs.RawImages.{raw_node_of, raw_of};
 
 use crate::counts::span;
 use crate::heads::has_directory;
-use crate::least::noted;
+use crate::node_test::{AskRows, NodeTest};
 use kfs_entry_value::{Header, Kind, NameRow, ROOT};
 use kfs_image_codec::{RawImage, RawNode};
 use kfs_map_pages::Pages;
@@ -99,7 +99,7 @@ fn doubled<A: Allocator>(
 
 /// The list in which each number from which a climb reaches the root leads to the root. `Err` where
 /// memory is refused.
-pub fn tops<A: Allocator + Copy>(
+fn tops<A: Allocator + Copy>(
     alloc: A,
     raw: &RawImage<A>,
     headers: &Pages<Header, A>,
@@ -117,18 +117,19 @@ pub fn tops<A: Allocator + Copy>(
 }
 
 /// Whether the node is a file, or leads to the root.
-fn is_below_root(tops: &[Option<u32>], row: &RawNode) -> bool
-    ensures { result ≡ (is_file (Some (raw_node_of row.now).header) || is_root (ancestor_at tops.now row.now.number)) }
+pub(crate) fn is_below_root(tops: &[Option<u32>], row: &RawNode) -> bool
+    ensures { result ≡ (top_test tops.now (raw_node_of row.now)).holds }
 {
     row.header.kind == Kind::File || ancestor_at(tops, row.number) == Some(ROOT)
 }
 
 /// Rule 7: the least number of a directory from which a climb doesn't reach the root, if there is one.
 /// `Err` where memory is refused.
-pub fn least_unrooted<A: Allocator + Copy>(
+pub(crate) fn least_unrooted<A: Allocator + Copy>(
     alloc: A,
     raw: &RawImage<A>,
     headers: &Pages<Header, A>,
+    ask: &impl AskRows,
 ) -> Result<Option<u32>, AllocError>
     requires shown { ShowsHeads headers.now raw.now }
     requires in_range { least_failed (rule_1 (raw_of raw.now)) ≡ None }
@@ -136,16 +137,5 @@ pub fn least_unrooted<A: Allocator + Copy>(
     ensures { IfOk result (λ least. least ≡ least_failed (rule_7 (raw_of raw.now))) }
 {
     let tops = tops(alloc, raw, headers)?;
-    Ok(least_unrooted_in(tops.as_slice(), raw.nodes.as_slice()))
-}
-
-/// Rule 7 for some node rows, given the list of where climbs lead. Takes no memory.
-pub fn least_unrooted_in(tops: &[Option<u32>], rows: &[RawNode]) -> Option<u32>
-    ensures { result ≡ least_failed (map (top_test tops.now) (map raw_node_of rows.now)) }
-{
-    let mut least = None;
-    for row in rows.iter() {
-        least = noted(least, is_below_root(tops, row), row.number);
-    }
-    least
+    Ok(ask.least_failed(NodeTest::Climb(tops.as_slice()), raw.nodes.as_slice()))
 }

@@ -15,7 +15,7 @@ use std::alloc::{AllocError, Allocator};
 
 /// The header of each node row, by number. Condition: the rows ascend, and their numbers are 1 to
 /// 65,536. `Err` where memory is refused.
-pub fn headers<A: Allocator + Copy>(
+pub(crate) fn headers<A: Allocator + Copy>(
     alloc: A,
     raw: &RawImage<A>,
 ) -> Result<Pages<Header, A>, AllocError>
@@ -44,7 +44,7 @@ pub(crate) fn has_node<A: Allocator>(headers: &Pages<Header, A>, number: u32) ->
 }
 
 /// Rule 2: the number 1, if it isn't a directory's. Takes no memory.
-pub fn least_missing_root<A: Allocator>(
+pub(crate) fn least_missing_root<A: Allocator>(
     raw: &RawImage<A>,
     headers: &Pages<Header, A>,
 ) -> Option<u32>

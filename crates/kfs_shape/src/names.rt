@@ -13,6 +13,7 @@ ghost use Rattle.kfs_shape.specs.Heads.{head_at, ShowsHeads};
 use crate::counts::span;
 use crate::heads::{has_directory, has_node};
 use crate::least::{noted, previous};
+use crate::node_test::{AskRows, NodeTest};
 use kfs_entry_value::{Header, Kind, LINK_LIMIT, NameRow, ROOT};
 use kfs_image_codec::{RawImage, RawNode};
 use kfs_map_pages::Pages;
@@ -44,7 +45,7 @@ fn is_in_place<A: Allocator>(
 
 /// Rule 4: the least directory number of a name row that isn't above the row before, or whose directory
 /// isn't one. None if there is no such row. Takes no memory.
-pub fn least_out_of_order<A: Allocator>(
+pub(crate) fn least_out_of_order<A: Allocator>(
     raw: &RawImage<A>,
     headers: &Pages<Header, A>,
 ) -> Option<u32>
@@ -62,7 +63,7 @@ pub fn least_out_of_order<A: Allocator>(
 
 /// Rule 5: the least number that a name leads to though it is no node's, or is 1. None if there is no
 /// such name. Takes no memory.
-pub fn least_lost_target<A: Allocator>(raw: &RawImage<A>, headers: &Pages<Header, A>) -> Option<u32>
+pub(crate) fn least_lost_target<A: Allocator>(raw: &RawImage<A>, headers: &Pages<Header, A>) -> Option<u32>
     requires { ShowsHeads headers.now raw.now }
     ensures { result ≡ least_failed (rule_5 (raw_of raw.now)) }
 {
@@ -124,23 +125,31 @@ fn may_have_names(row: &RawNode, names: u64) -> bool
     }
 }
 
+/// Whether the node has as many names as it should, given how many lead to each number.
+pub(crate) fn has_right_names(counts: &[u64], row: &RawNode) -> bool
+    ensures { result ≡ (counted_test counts.now (raw_node_of row.now)).holds }
+{
+    may_have_names(row, count_in(counts, row.number))
+}
+
 /// Rule 6: the least number of a file that doesn't have 1 to 1,024 names, or not as many as its links,
 /// or of a directory other than 1 that doesn't have exactly one name. None if there is no such node.
 /// `Err` where memory is refused.
-pub fn least_miscounted<A: Allocator + Copy>(
+pub(crate) fn least_miscounted<A: Allocator + Copy>(
     alloc: A,
     raw: &RawImage<A>,
+    ask: &impl AskRows,
 ) -> Result<Option<u32>, AllocError>
     requires { least_failed (rule_4 (raw_of raw.now)) ≡ None }
     ensures { IfOk result (λ least. least ≡ least_failed (rule_6 (raw_of raw.now))) }
 {
     let counts = count_names(alloc, raw)?;
-    Ok(least_miscounted_in(counts.as_slice(), raw.nodes.as_slice()))
+    Ok(ask.least_failed(NodeTest::Names(counts.as_slice()), raw.nodes.as_slice()))
 }
 
 /// How many names lead to each node, by its number, in an image whose name rows ascend. `Err` where memory
 /// is refused.
-pub fn count_names<A: Allocator + Copy>(
+fn count_names<A: Allocator + Copy>(
     alloc: A,
     raw: &RawImage<A>,
 ) -> Result<Vec<u64, A>, AllocError>
@@ -149,16 +158,4 @@ pub fn count_names<A: Allocator + Copy>(
 {
     let many = span(raw.nodes.as_slice());
     name_counts(alloc, many, raw.names.as_slice())
-}
-
-/// Rule 6 for some node rows, given how many names lead to each number. Takes no memory.
-pub fn least_miscounted_in(counts: &[u64], rows: &[RawNode]) -> Option<u32>
-    ensures { result ≡ least_failed (map (counted_test counts.now) (map raw_node_of rows.now)) }
-{
-    let mut least = None;
-    for row in rows.iter() {
-        let holds = may_have_names(row, count_in(counts, row.number));
-        least = noted(least, holds, row.number);
-    }
-    least
 }
