@@ -4,7 +4,7 @@ use Rattle.kfs_model_device.specs.Finding.{finding_from}
 use Rattle.kfs_shape.specs.Findings.{name_rules, extent_rules, FindsNoneWhere}
 use Rattle.kfs_image_codec.specs.RawImages.{raw_of}
 use Rattle.kfs_shape.proofs.OneFinding.{in_three_parts, told_before}
-use Rattle.kfs_fsck.proofs.check.check.Goals as goal
+use Rattle.kfs_shape.proofs.check.check_asking.Goals as goal
 
 pub returns-in_err-headers : goal.returns-in_err-headers
 returns-in_err-headers g c =
