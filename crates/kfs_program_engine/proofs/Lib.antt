@@ -3,4 +3,4 @@ pub mod SessionLoops
 pub mod Held
 pub mod HeldReplies
 pub mod Listed
-pub mod Plans
+pub mod PlanAnswers

@@ -1,7 +1,7 @@
 -- The view's clients are the desk's.
 use Rattle.std.proofs.Common.{◌∙◌, ap, option_map, sym}
 use Rattle.kfs_model.specs.Lease.{row_of}
-use Rattle.kfs_program_engine.proofs.Plans.{plan_served}
+use Rattle.kfs_program_engine.proofs.PlanAnswers.{plan_served}
 use Rattle.kfs_program_engine.proofs.plans.answer_plan.Goals as goal
 
 pub returns-in-Some-clause-ok : goal.returns-in-Some-clause-ok

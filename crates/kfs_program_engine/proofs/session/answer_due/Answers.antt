@@ -11,7 +11,7 @@ use Rattle.kfs_program_engine.specs.Session.{After, IsCallAnswered, IsNodeShown,
 use Rattle.kfs_program_text.specs.Parts.{line_of}
 use Rattle.kfs_program_images.specs.Saving.{save_text}
 use Rattle.kfs_program_engine.proofs.Held.{act_served, replied_as, said_with_hands, with_hands}
-use Rattle.kfs_program_engine.proofs.Plans.{refused_as}
+use Rattle.kfs_program_engine.proofs.PlanAnswers.{refused_as}
 use Rattle.kfs_program_engine.proofs.session.answer_due.Goals as goal
 
 pub returns-in-Act-clause-ok : goal.returns-in-Act-clause-ok
