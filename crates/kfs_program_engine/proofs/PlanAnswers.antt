@@ -10,7 +10,7 @@ use Rattle.kfs_program_command.specs.Views.{asked_of_desk}
 use Rattle.kfs_program_command.specs.declared.command.DeskCommand.{DeskCommand}
 use Rattle.kfs_program_command.specs.declared.command.DeskCommand.TheVariants as asked
 use Rattle.kfs_program_verdicts.specs.HeldVerdicts.{HeldVerdicts}
-use Rattle.kfs_program_engine.specs.Session.{After, DeskAnswers, IsPlanAnswered, IsReplied}
+use Rattle.kfs_program_engine.specs.Session.{After, DeskAnswers, DeskOutcome, IsPlanAnswered, IsReplied}
 use Rattle.kfs_program_plan.specs.PlanLine.{AppendsPlan}
 use Rattle.kfs_program_text.specs.Parts.{line_of}
 
@@ -23,7 +23,7 @@ plan_served result desk row client log before after is =
 -- without a client it is a bad line
 pub plan_refused : (desk : Desk) (hands : HeldVerdicts) (number : ℕ) (log : List ℕ) → row_of desk.state.clients number ≡ None → DeskAnswers desk hands (Plan number log) (line_of (codes "bad line"), After desk hands)
 plan_refused desk hands number log none =
-    let said = (line_of (codes "bad line"), desk) in
+    let said : DeskOutcome = (line_of (codes "bad line"), desk) in
     (said, subst (λ row. IsPlanAnswered desk row log said) (sym none) refl, refl)
 
 -- and so is the line that asks for it
