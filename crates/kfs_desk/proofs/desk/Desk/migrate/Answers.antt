@@ -79,7 +79,10 @@ returns-clause-seen g c =
     subst (λ (d : Desk). SeeTheSame d.state (state_at new desk.clients desk.leases)) c.self.view_is (seen_same (state_of desk) (state_at new desk.clients desk.leases) rest)
 
 pub returns-in_err-position-clause-rest : goal.returns-in_err-position-clause-rest
-returns-in_err-position-clause-rest g c = unmoved _ _ refl
+returns-in_err-position-clause-rest g c = unmoved c.args.self.now.state c.args.self.now.state refl
 
 pub returns-in_err-answer-clause-rest : goal.returns-in_err-answer-clause-rest
-returns-in_err-answer-clause-rest g c = unmoved _ _ refl
+returns-in_err-answer-clause-rest g c =
+    let inside = c.self.inside in
+    let same = ap (λ image. state_at image inside.clients.value.items inside.leases.value) c.in_err-answer.ensures.err ∙ ap (λ (d : Desk). d.state) c.self.view_is in
+    unmoved c.args.self.now.state (state_at c.make_moves.new.image inside.clients.value.items inside.leases.value) same
