@@ -121,4 +121,4 @@ def longest_line():
     return ["new 1 1 1", line, "begin 1", "docket", "docket " + "0" * (LINE_LIMIT - 7), "docket " + "0" * (LINE_LIMIT - 6), "docket"]
 
 
-SESSIONS = (greatest_plan, longest_names, sixty_thousand_leases, names_of_a_file, payloads, longest_line)
+SESSIONS = {it.__name__: it for it in (greatest_plan, longest_names, sixty_thousand_leases, names_of_a_file, payloads, longest_line)}
