@@ -17,11 +17,14 @@ NAMES = [b"a", b"b", b"c", b"d", b"e", b"f", b"..."]
 RARE_NAMES = [b"x" * 255, b"\xff", b"\x01", b"a\n", b" ", b"ab", b"aa", b"A"]
 UIDS, GROUPS = [0, 1000, 1001, 1002, U32], [0, 50, 1000, 1001, U32]
 GRANTS = [(2, 39), (40, 79), (80, 119), (65_500, 65_536)]
-MODES = [0o777, 0o777, 0o755, 0o700, 0o644, 0o600, 0o070, 0o007, 0o555, 0o1777, 0o1755, 0]
-TIERS = [0, 1, 2, 3, 5, 8, 12]
+MODES = [0o777, 0o777, 0o1777, 0o1777, 0o755, 0o700, 0o644, 0o600, 0o070, 0o007, 0o555, 0o1755, 0]
+TIERS = [0, 1, 2, 3, 4, 6]
 ENDS = [10, 20, 100, 1_000, U64]
 EDGES = [0, 1, 5, 4_095, 4_096, 4_097, 8_191, 8_192, 12_288]
 FAR = [(1 << 32) - 1, 1 << 32, (1 << 32) + 1, (1 << 32) - 4_096, (1 << 63), U64]
+# The file that has as many names as it may, in some images.
+MANY_NAMES = 120
+
 BAD_NUMBERS = [0, 1, 65_536, 65_537, U32]
 
 # How often each kind of line comes.
@@ -37,7 +40,7 @@ WEIGHTS = {
     "read": 7,
     "docket": 1,
     "save": 1,
-    "move": 4,
+    "move": 5,
     "plan": 4,
     "bad": 4,
 }
@@ -81,7 +84,7 @@ class Maker:
         while not self.session.has_begun:
             if self.chance(15):
                 self.bad()
-            if self.chance(30):
+            for _ in range(self.one([0, 0, 2, 5])):
                 self.say(f"image {self.image_word()}")
             if self.session.tree is None or self.chance(10):
                 sizes = [self.one(TIERS) for _ in range(3)]
@@ -99,7 +102,7 @@ class Maker:
 
     def image_word(self):
         raw = self.raw_image()
-        if self.chance(40):
+        for _ in range(self.one([0, 0, 1, 1, 2])):
             raw = spoil.image(self.random, raw)
         data = encode_image(raw)
         return spoil.word(self.random, spoil.cut(self.random, data) if self.chance(15) else data)
@@ -117,9 +120,9 @@ class Maker:
             if held:
                 names |= {key: number for key in held}
                 nodes[number] = self.raw_header(kind, greatest)._replace(links=len(held))
-        if self.chance(6):
-            nodes[120] = self.raw_header(FILE, greatest)._replace(links=self.one([1_023, 1_024]))
-            names |= {(ROOT, b"n%04d" % index): 120 for index in range(nodes[120].links)}
+        if self.chance(8):
+            nodes[MANY_NAMES] = self.raw_header(FILE, greatest)._replace(links=self.one([1_023, 1_024]))
+            names |= {(ROOT, b"n%04d" % index): MANY_NAMES for index in range(nodes[MANY_NAMES].links)}
         rows = [NameRow(*key, number) for key, number in sorted(names.items())]
         return RawImage(version, sizes, [RawNode(*it) for it in sorted(nodes.items())], rows, self.extents(nodes, sizes))
 
@@ -198,15 +201,19 @@ class Maker:
                 number = self.file(tree)
                 return Truncate(number, self.place(tree, number))
             case "link":
-                return Link(self.file(tree), self.directory(tree), self.new_name())
+                number = MANY_NAMES if MANY_NAMES in tree.nodes and self.chance(50) else self.file(tree)
+                return Link(number, self.directory(tree), self.new_name())
             case "unlink":
                 directory, name = self.old_name(tree)
                 target = tree.names.get((directory, name))
                 kind = tree.nodes[target].kind if target and self.chance(92) else self.one([FILE, DIRECTORY])
                 return Unlink(directory, name, kind)
             case "rename":
+                directory, name = self.old_name(tree)
                 other = self.old_name(tree) if self.chance(30) else (self.directory(tree), self.new_name())
-                return Rename(*self.old_name(tree), *other)
+                if self.chance(15):
+                    other = tree.names.get((directory, name), directory), self.new_name()
+                return Rename(directory, name, *other)
             case "chmod":
                 return Chmod(self.number(tree), self.mode(version))
             case "regroup":
@@ -225,7 +232,7 @@ class Maker:
                 judge.enter(entry)
             except Fault:
                 judge.tree, judge.created = before
-                if self.chance(93):
+                if self.chance(80):
                     continue
             entries.append(entry)
         return Log(version, client.number, entries), sorted(cell[1] for cell in judge.looked if cell[0] == "lease")
@@ -334,12 +341,16 @@ class Maker:
         self.say("save")
 
     def move(self):
-        self.say("save")
+        """Moves blocks. Only where they may go to tier 0, the places of the others there have to be known."""
+        tiers = [1, 2]
+        if self.chance(25):
+            self.say("save")
+            tiers = [0, 1, 2]
         placement, sizes = self.session.placement, self.session.sizes
         used, words = set(placement.values()), []
         for _ in range(self.random.choices([1, 2, 3, 1_024, 1_025], [60, 25, 12, 1, 1])[0]):
             number, block = self.one(placement) if placement and self.chance(93) else (self.one([1, 2, 5, U32]), self.one([0, 1, U32]))
-            tier = self.one([0, 1, 2]) if self.chance(96) else self.one([3, 255])
+            tier = self.one(tiers) if self.chance(96) else self.one([3, 255])
             free = [it for it in range(sizes[tier] if tier < 3 else 0) if (tier, it) not in used]
             place = self.one(free) if free and self.chance(88) else self.one([0, 1, 8, 65_536, U32])
             words += [number, block, tier, place]

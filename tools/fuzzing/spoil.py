@@ -1,5 +1,5 @@
 """Ways to spoil what is right: bytes, rows of plans and images, words and lines."""
-from .codec import ZERO, Header, NameRow, NodeRow, Piece
+from .codec import ZERO, Extent, Header, NameRow, NodeRow, Piece
 
 U32, U64 = (1 << 32) - 1, (1 << 64) - 1
 
@@ -122,8 +122,18 @@ def extent(random, row):
     return row._replace(**{field: number(random, getattr(row, field), greatest)})
 
 
+def alike(random, row, other):
+    """Returns a row that has a field of another row."""
+    match row:
+        case NameRow():
+            return row._replace(directory=other.number) if random.randrange(2) else row._replace(number=other.number)
+        case Extent():
+            return row._replace(tier=other.tier, place=other.place) if random.randrange(2) else row._replace(number=other.number)
+    return row._replace(number=other.number)
+
+
 def image(random, raw):
-    """Returns an image with one row or size changed, dropped, doubled or at another place."""
+    """Returns an image with a size changed, or with one row or two changed, dropped, doubled or at another place."""
     if random.randrange(8) == 0:
         sizes = list(raw.sizes)
         sizes[random.randrange(3)] = random.choice([0, 1, 65_536, 65_537, U32])
@@ -133,9 +143,13 @@ def image(random, raw):
     if not found:
         return raw._replace(nodes=raw.nodes[1:])
     at = random.randrange(len(found))
-    match random.choice(["change", "change", "change", "drop", "twice", "swap"]):
+    match random.choice(["change", "change", "alike", "alike", "both", "drop", "twice", "swap"]):
         case "change":
             found[at] = change(random, found[at])
+        case "alike":
+            found[at] = alike(random, found[at], random.choice(found))
+        case "both":
+            found = [change(random, row) if random.randrange(3) else row for row in found]
         case "drop":
             del found[at]
         case "twice":
