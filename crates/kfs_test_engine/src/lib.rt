@@ -7,3 +7,5 @@
 
 #[cfg(test)]
 mod stopping;
+#[cfg(test)]
+mod streams;

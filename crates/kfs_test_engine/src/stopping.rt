@@ -8,13 +8,13 @@ use std::thread::Threads;
 
 /// A reader that gives its bytes one at a time, and then fails, ends, or gives `x` without end.
 #[derive(Drop)]
-struct Slow<'a> {
-    bytes: &'a [u8],
-    then: Then,
+pub struct Slow<'a> {
+    pub bytes: &'a [u8],
+    pub then: Then,
 }
 
 #[derive(Clone, Copy, PartialEq)]
-enum Then {
+pub enum Then {
     Ends,
     Fails,
     Repeats,
@@ -92,7 +92,7 @@ fn ended<I: Read, O: Write>(
 }
 
 /// Whether the engine ends so with the reader, having written these replies.
-fn ends<I: Read>(
+pub fn ends<I: Read>(
     rt: &(impl AllocGlobal + Threads + Sync),
     reader: &mut I,
     end: Result<(), EngineFault>,
