@@ -91,7 +91,7 @@ class Maker:
                 self.say(f"new {' '.join(map(str, sizes))}" if self.chance(95) else f"new 65536 {self.one(BAD_NUMBERS)} 8")
             for index in range(self.random.randint(1, 4)):
                 self.say(self.client_line(index))
-            self.say(f"begin {self.one([0, 3, 20]) if self.chance(8) else self.one([1_000, U32])}")
+            self.say(f"begin {self.one([0, 3, 20]) if self.chance(4) else self.one([1_000, U32])}")
 
     def client_line(self, index):
         number = 7 + index if self.chance(97) else self.one([7, 0, U32])
@@ -120,7 +120,7 @@ class Maker:
             if held:
                 names |= {key: number for key in held}
                 nodes[number] = self.raw_header(kind, greatest)._replace(links=len(held))
-        if self.chance(8):
+        if self.chance(10):
             nodes[MANY_NAMES] = self.raw_header(FILE, greatest)._replace(links=self.one([1_023, 1_024]))
             names |= {(ROOT, b"n%04d" % index): MANY_NAMES for index in range(nodes[MANY_NAMES].links)}
         rows = [NameRow(*key, number) for key, number in sorted(names.items())]
@@ -128,7 +128,8 @@ class Maker:
 
     def raw_header(self, kind, greatest):
         size = self.one([0, 1, 10, 4_096, 4_097, 9_000, 1 << 32]) if kind == FILE else 0
-        return Header(kind, min(self.one(MODES), greatest), self.one(UIDS), self.one(GROUPS), 1, size)
+        mode = self.mode(1 if greatest == 0o777 else 2, kind)
+        return Header(kind, min(mode, greatest), self.one(UIDS), self.one(GROUPS), 1, size)
 
     def extents(self, nodes, sizes):
         free = [(tier, place) for tier in range(3) for place in range(sizes[tier])]
@@ -175,8 +176,10 @@ class Maker:
         free = [it for it in range(client.first, min(client.last, client.first + 30) + 1) if it not in tree.nodes]
         return self.one(free) if free and self.chance(94) else self.one([*BAD_NUMBERS, client.last, client.last + 1, client.first - 1 or 1])
 
-    def mode(self, version):
+    def mode(self, version, kind=FILE):
+        """Returns a mode; most directories are open to all."""
         mode = self.one(MODES) if self.chance(90) else self.random.randrange(0o2000)
+        mode |= 0o777 if kind == DIRECTORY and self.chance(70) else 0
         return mode & 0o777 if version == 1 and self.chance(98) else mode
 
     def place(self, tree, number):
@@ -193,7 +196,8 @@ class Maker:
         kinds = ("create", "write", "truncate", "link", "unlink", "rename", "chmod", "regroup")
         match self.random.choices(kinds, (22, 26, 12, 8, 10, 14, 6, 4))[0]:
             case "create":
-                return Create(self.directory(tree), self.new_name(), self.granted(tree, client), self.one([FILE, FILE, DIRECTORY]), self.mode(version))
+                kind = self.one([FILE, FILE, DIRECTORY])
+                return Create(self.directory(tree), self.new_name(), self.granted(tree, client), kind, self.mode(version, kind))
             case "write":
                 number = self.file(tree)
                 return Write(number, self.place(tree, number), self.payload())
