@@ -6,10 +6,10 @@ the judgement has not; and into which pieces a made plan is cut.
 """
 import re
 
-from .codec import BLOCK, DIRECTORY, FILE, TIER_LIMIT, ZERO, Plan, Refused, Truncate, Write
+from .codec import BLOCK, DIRECTORY, FILE, TIER_LIMIT, ZERO, Refused, Truncate, Write
 from .codec import decode_image, decode_log, decode_plan, encode_plan
 from .images import Content, contents_of, finding, image_bytes, placement_of, tree_of
-from .judge import Client, Judge, Leases, fresh_tree, seen
+from .judge import AllHeld, Client, Judge, Leases, fresh_tree, seen
 from .plans import blocks_written, first_wrong_row, marks_in, right_plan, segments_after
 
 U32, U64 = (1 << 32) - 1, (1 << 64) - 1
@@ -400,23 +400,27 @@ class Session:
         words.end()
         if number not in self.clients:
             raise BadLine
-        # A plan of nothing, to find out whether the log is right.
-        verdict = Verdict(self, number, log, encode_plan(Plan(1, [], [], [])))
-        if verdict.judge is None or verdict.fault and verdict.fault.startswith("entry"):
-            return "plan none"
-        made = self.made_plan(verdict)
-        return f"plan {encode_plan(made).hex()}"
+        made = self.made_plan(number, log)
+        return f"plan {encode_plan(made).hex()}" if made else "plan none"
 
-    def made_plan(self, verdict):
-        """The plan that the program made, where it is right; else one that is."""
-        after, version = verdict.judge.tree, verdict.log.version
+    def made_plan(self, number, data):
+        """The plan that the program made, where it is right; else one that is. None where the log isn't the client's, or an
+        entry isn't allowed to one who holds every node."""
+        try:
+            log = decode_log(data)
+        except Refused:
+            return None
+        judge = Judge(self.tree, AllHeld(), self.clients[number])
+        if log.client != number or judge.run(log.entries):
+            return None
+        segments = segments_after(self.tree, judge.tree, log.entries)
         try:
             made = decode_plan(bytes.fromhex(self.reply[5:].decode()))
-            if made.version == version and not first_wrong_row(self.tree, after, verdict.segments, made):
+            if made.version == log.version and not first_wrong_row(self.tree, judge.tree, segments, made):
                 return made
         except (Refused, ValueError, TypeError):
             pass
-        return right_plan(version, self.tree, after, verdict.segments)
+        return right_plan(log.version, self.tree, judge.tree, segments)
 
     OPENING = {b"new": new, b"image": image, b"client": client, b"begin": begin}
     OF_DESK = {

@@ -8,7 +8,7 @@ from . import spoil
 from .codec import DIRECTORY, FILE, Chmod, Create, Extent, Header, Link, Log, NameRow, RawImage, RawNode, Regroup, Rename
 from .codec import BLOCK, Truncate, Unlink, Write, encode_image, encode_log, encode_plan
 from .desk import Session
-from .judge import ROOT, Fault, Judge
+from .judge import ROOT, AllHeld, Fault, Judge
 from .plans import right_plan, segments_after
 
 U32, U64 = (1 << 32) - 1, (1 << 64) - 1
@@ -44,13 +44,6 @@ WEIGHTS = {
     "plan": 4,
     "bad": 4,
 }
-
-
-class AllHeld:
-    """Leases of which each is held: to find out which ones a log needs."""
-
-    def holds(self, _client, _number):
-        return True
 
 
 class Maker:
@@ -364,8 +357,7 @@ class Maker:
         client = self.any_client()
         if client is None:
             return
-        log, needed = self.log(client)
-        self.take_leases(client, needed)
+        log, _needed = self.log(client)
         data = encode_log(log)
         number = client.number if self.chance(95) else self.number_of_client()
         self.say(f"plan {number} {spoil.word(self.random, spoil.cut(self.random, data) if self.chance(10) else data)}")
