@@ -6,8 +6,6 @@
 #![tactic(auto)]
 
 #[cfg(test)]
-mod sessions;
-#[cfg(test)]
 mod stopping;
 #[cfg(test)]
 mod streams;

@@ -34,7 +34,7 @@ fn ended<I: Read, O: Write>(
 }
 
 /// Whether the engine ends so with the reader, having written these replies.
-pub fn ends<I: Read>(
+fn ends<I: Read>(
     rt: &(impl AllocGlobal + Threads + Sync),
     reader: &mut I,
     end: Result<(), EngineFault>,

@@ -1,23 +1,18 @@
 //! Images with the nodes that a log of client 7 makes.
-ghost use Rattle.std.specs.Prelude.{◌≡◌, IfErr, IfSome};
+ghost use Rattle.std.specs.Prelude.{◌≡◌, IfSome};
 ghost use Rattle.kfs_mode.specs.Clients.{ClientsAreDistinct};
 ghost use Rattle.kfs_model_device.specs.ShownTree.{IsLawful};
 ghost use Rattle.kfs_image.specs.Image as images;
 ghost use Rattle.kfs_image.specs.Net.{after_net};
 ghost use Rattle.kfs_judge_check.specs.View.{contents_of};
 
-use kfs_image::{Answer, Cell, Fill, Image, Net, Shape, TierSizes, look, net_apply};
+use kfs_image::{Fill, Image, Net, TierSizes, net_apply};
 use kfs_judge::View;
 use kfs_lease::{LeaseKind, Leases};
 use kfs_mode::Client;
 use kfs_plan::{Outcome, Submission, judge};
-use kfs_test_support::refusing::Refusing;
-use kfs_test_support::vectors::{CREATE_LOG, CREATE_PLAN};
-use std::alloc::{AllocError, Allocator, Global};
+use std::alloc::{AllocError, Allocator};
 use std::sync::Arc;
-
-/// More growths than anything here asks for.
-pub const AMPLE: u64 = 1 << 40;
 
 /// What client 7 hands in at an image with the root alone: a log, and its right plan.
 #[derive(Clone, Copy)]
@@ -102,7 +97,6 @@ fn apply_alone<A: Allocator + Clone>(
     net: &Net<A>,
 ) -> Result<(), AllocError>
     requires { IsLawful (after_net net.now image.old) }
-    ensures kept { IfErr result (λ _. image.new ≡ image.old) }
 {
     let fill = Fill::empty(alloc)?;
     net_apply(alloc.clone()?, image, net, &fill)
@@ -114,46 +108,4 @@ pub fn image_with<A: Allocator + Copy>(alloc: A, blocks: u32, made: Made<'_>) ->
     let net = net_of(alloc, &image, made)?;
     apply_alone(&alloc, &mut image, &net).ok()?;
     Some(image)
-}
-
-/// Whether there is a file 5.
-pub fn has_file<A: Allocator>(shape: &Shape<A>) -> bool {
-    matches!(look(shape, &Cell::Header(5)), Answer::Header(Some(_)))
-}
-
-/// Makes the change of the net with the growth of this index refused, and then again. Answers whether there was such a
-/// growth; none where the image shows something else than is due.
-fn is_change_refused<A: Allocator + Clone>(
-    alloc: &A,
-    heap: &Refusing<Global>,
-    image: &mut Image<A>,
-    net: &Net<A>,
-    growth: u64,
-) -> Option<bool>
-    requires { IsLawful (after_net net.now image.old) }
-{
-    heap.refuse_after(growth);
-    let first = apply_alone(alloc, image, net);
-    let was_refused = heap.has_refused();
-    heap.refuse_after(AMPLE);
-    if first.is_ok() {
-        return (!was_refused && has_file(image.shape())).then_some(false);
-    }
-    let is_kept = was_refused && !has_file(image.shape());
-    apply_alone(alloc, image, net).ok()?;
-    (is_kept && has_file(image.shape())).then_some(true)
-}
-
-/// The same of the net that creates file 5 in a new image, beside a view, which has no file after it.
-pub fn is_net_refused(alloc: Global, growth: u64) -> Option<bool> {
-    let heap = Refusing::new(alloc, AMPLE);
-    let mut image = Image::fresh(&heap, TierSizes::new(2, 0, 0)?).ok()?;
-    let create = Made {
-        log: CREATE_LOG,
-        plan: CREATE_PLAN,
-    };
-    let net = net_of(&heap, &image, create)?;
-    let view = image.shape().clone().ok()?;
-    let was_refused = is_change_refused(&&heap, &heap, &mut image, &net, growth)?;
-    (!has_file(&view)).then_some(was_refused)
 }

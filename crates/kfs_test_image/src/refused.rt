@@ -1,13 +1,16 @@
-//! Edits, and the change of a net, with each growth of memory refused in turn: the image shows what it
-//! showed, and then the same change is made.
+//! Edits with each growth of memory refused in turn: the image shows what it showed, and then the same
+//! edits are made.
 ghost use Rattle.kfs_image.specs.Edit.{CanEdit};
 
 use crate::edits::{edits_of_each_kind, lay};
-use crate::landed::{AMPLE, Made, has_file, image_with, is_net_refused};
-use kfs_image::{Edit, Image, read_file};
+use crate::landed::{Made, image_with};
+use kfs_image::{Answer, Cell, Edit, Image, Shape, look, read_file};
 use kfs_test_support::refusing::Refusing;
 use std::alloc::{Allocator, Global};
 use std::process::Abort;
+
+/// More growths than anything here asks for.
+const AMPLE: u64 = 1 << 40;
 
 /// More growths than the edits ask for.
 const MANY: u64 = 400;
@@ -93,8 +96,13 @@ fn are_edits_refused<'a>(
     is_edit_refused(heap, image, edits.as_slice())
 }
 
+/// Whether there is a file 5.
+fn has_file<A: Allocator>(shape: &Shape<A>) -> bool {
+    matches!(look(shape, &Cell::Header(5)), Answer::Header(Some(_)))
+}
+
 /// The same, while a view may share the nodes and names, and shows what it showed.
-fn are_refused(alloc: Global, is_shared: bool, growth: u64) -> Option<bool> {
+fn is_refused(alloc: Global, is_shared: bool, growth: u64) -> Option<bool> {
     let heap = Refusing::new(alloc, AMPLE);
     let mut image = image_with(&heap, 3, TWO_BLOCKS)?;
     lay(&heap, &mut image, 0, 0)?;
@@ -107,28 +115,11 @@ fn are_refused(alloc: Global, is_shared: bool, growth: u64) -> Option<bool> {
     has_file(&view).then_some(has_refused)
 }
 
-/// A change of an image.
-#[derive(Clone, Copy, Debug)]
-enum Change {
-    Edits,
-    EditsBesideAView,
-    Net,
-}
-
-/// Whether a growth was refused in the change; none where an answer is wrong.
-fn is_refused(alloc: Global, change: Change, growth: u64) -> Option<bool> {
-    match change {
-        Change::Edits => are_refused(alloc, false, growth),
-        Change::EditsBesideAView => are_refused(alloc, true, growth),
-        Change::Net => is_net_refused(alloc, growth),
-    }
-}
-
-/// How many growths the change asks for, each refused in turn; or as an error the index of one at which
+/// How many growths the edits ask for, each refused in turn; or as an error the index of one at which
 /// the answer is wrong.
-fn growths(alloc: Global, change: Change) -> Result<u64, u64> {
+fn growths(alloc: Global, is_shared: bool) -> Result<u64, u64> {
     for growth in 0..MANY {
-        match is_refused(alloc, change, growth) {
+        match is_refused(alloc, is_shared, growth) {
             Some(true) => {}
             Some(false) => return Ok(growth),
             None => return Err(growth),
@@ -138,13 +129,13 @@ fn growths(alloc: Global, change: Change) -> Result<u64, u64> {
 }
 
 #[test]
-fn each_growth_of_a_change_refused(rt: HostRuntime) {
-    for change in [Change::Edits, Change::EditsBesideAView, Change::Net] {
-        let count = growths(rt.alloc(), change);
+fn each_growth_of_edits_refused(rt: HostRuntime) {
+    for is_shared in [false, true] {
+        let count = growths(rt.alloc(), is_shared);
         let is_right = match count {
             Ok(count) => 3 < count,
             Err(_) => false,
         };
-        assert!(rt; is_right, "{change:?}: {count:?}");
+        assert!(rt; is_right, "{count:?}");
     }
 }

@@ -46,9 +46,9 @@ fn an_entry_with_a_fault(rt: HostRuntime) {
     assert!(rt; has_no_plan(rt.alloc(), client(), LETTERS_LOG));
 }
 
-/// Makes a plan with the growth of this index refused, and then once more. Answers whether that growth was asked for; none
-/// where an answer is wrong.
-fn is_refused(alloc: Global, growth: u64) -> Option<bool> {
+/// The length of the plan that is made where the growth with this index is refused; none where memory is wanting. The
+/// second part says whether that growth was asked for.
+fn made_without(alloc: Global, growth: u64) -> Option<(Option<usize>, bool)> {
     let heap = Refusing::new(alloc, AMPLE);
     let steps = [
         Step::Lease(b"/"),
@@ -56,25 +56,25 @@ fn is_refused(alloc: Global, growth: u64) -> Option<bool> {
         Step::Lease(b"/a"),
     ];
     let desk = stepped(&heap, &steps)?;
-    let client = client()?;
     heap.refuse_after(growth);
+    let client = client()?;
     let made = planned(&heap, &desk, &client, RENAMES);
     let was_refused = heap.has_refused();
-    heap.refuse_after(AMPLE);
-    let again = planned(&heap, &desk, &client, RENAMES).ok()??;
-    let is_right = match made {
-        Ok(Some(plan)) => !was_refused && plan.as_slice() == again.as_slice(),
-        Ok(None) => false,
-        Err(_) => was_refused,
-    };
-    is_right.then_some(was_refused)
+    match made {
+        Ok(Some(plan)) => Some((Some(plan.len()), was_refused)),
+        Ok(None) => None,
+        Err(_) => Some((None, was_refused)),
+    }
 }
 
 /// How many growths the call asks for, each refused in turn; none where an answer is wrong.
 fn growths(alloc: Global) -> Option<u64> {
+    let (ample, _refused) = made_without(alloc, AMPLE)?;
     for growth in 0..MANY {
-        if !is_refused(alloc, growth)? {
-            return Some(growth);
+        match made_without(alloc, growth)? {
+            (None, true) => {}
+            (made, false) if made == ample => return Some(growth),
+            _ => return None,
         }
     }
     None

@@ -107,13 +107,11 @@ fn called<A: Allocator + Copy>(
     }
 }
 
-/// The same on a desk of its own. Where the growth was refused, the same call has its answer then.
+/// The same on a desk of its own.
 fn called_on_a_desk(heap: &Refusing<Global>, call: Call, growth: u64) -> Option<bool> {
     let desk = with_file(heap)?;
     let view = desk.view().ok()?;
-    let is_ample = called(heap, heap, &view, call, growth)?;
-    let is_answered = is_ample || called(heap, heap, &view, call, AMPLE)?;
-    is_answered.then_some(is_ample)
+    called(heap, heap, &view, call, growth)
 }
 
 /// How many growths the call asks for, each refused in turn; none where an answer is wrong.

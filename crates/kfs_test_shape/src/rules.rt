@@ -29,32 +29,24 @@ fn the_least_broken_rule_is_found(rt: HostRuntime) {
     }
 }
 
-/// What a check told with one growth refused, and then without.
-#[derive(Clone, Copy)]
-struct Told {
-    first: Result<(), ShapeFault>,
-    has_refused: bool,
-    last: Result<(), ShapeFault>,
-}
-
-/// The same check of these rows twice, the first time with the growth of this index refused.
-fn told<B: Allocator>(heap: &Refusing<B>, parts: &[SmallImage], growth: u64) -> Option<Told> {
+/// The answer of the check of these rows with one growth refused.
+fn told<B: Allocator>(
+    heap: &Refusing<B>,
+    parts: &[SmallImage],
+    growth: u64,
+) -> Option<Result<(), ShapeFault>> {
     let raw = image(heap, parts)?;
     heap.refuse_after(growth);
-    let first = check_shape(heap, &raw);
-    let has_refused = heap.has_refused();
-    heap.refuse_after(MANY);
-    Some(Told {
-        first,
-        has_refused,
-        last: check_shape(heap, &raw),
-    })
+    Some(check_shape(heap, &raw))
 }
 
-/// Whether the last answer is this, and the first is, too, or that memory was refused, if a growth was.
-fn is_as_due(told: Told, due: Result<(), ShapeFault>) -> bool {
-    let is_refusal = told.has_refused && told.first == Err(ShapeFault::OutOfMemory);
-    (told.first == due || is_refusal) && told.last == due
+/// Whether the answer is this, or, if a growth was refused, that memory was refused.
+fn is_as_due(
+    answer: Option<Result<(), ShapeFault>>,
+    due: Result<(), ShapeFault>,
+    has_refused: bool,
+) -> bool {
+    answer == Some(due) || (has_refused && answer == Some(Err(ShapeFault::OutOfMemory)))
 }
 
 /// How many growths the check of the rows asks for, each refused in turn.
@@ -65,11 +57,9 @@ fn growths(
 ) -> u64 {
     for growth in 0..MANY {
         let heap = Refusing::new(rt.alloc(), MANY);
-        let Some(told) = told(&heap, parts, growth) else {
-            return MANY;
-        };
-        assert!(rt; is_as_due(told, due), "{growth}");
-        if !told.has_refused {
+        let answer = told(&heap, parts, growth);
+        assert!(rt; is_as_due(answer, due, heap.has_refused()), "{growth}");
+        if !heap.has_refused() {
             return growth;
         }
     }
