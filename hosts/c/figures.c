@@ -108,7 +108,7 @@ static void desk_figures(double out[3])
 
 static void folder_figures(const char *folder, double out[3])
 {
-    char path[4096], of[4096];
+    char path[4096], of[4096 + 16];
     snprintf(path, sizeof path, "%s/kfs-figures-XXXXXX", folder);
     must(mkdtemp(path), "no folder");
     for (uint32_t i = 0; i < FILES; i++) {

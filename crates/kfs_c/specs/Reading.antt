@@ -34,8 +34,8 @@ IsRead number start old new count desk =
     BeginsWith (take (length old) (drop start (content_of (get desk.state.tree.nodes number)))) old new count
 
 -- the bytes of the desk's image, in their one spelling
-abbrev pub saved : Desk → List ℕ
-saved desk = canonical_bytes desk.state.sizes desk.state.tree desk.state.placement
+abbrev pub saved_bytes : Desk → List ℕ
+saved_bytes desk = canonical_bytes desk.state.sizes desk.state.tree desk.state.placement
 
 -- the block of the file lies at this place
 abbrev pub IsPlaced : (number block tier place : ℕ) → Desk → Type 0

@@ -2,7 +2,7 @@
 ghost use Rattle.std.specs.Prelude.{◌≡◌, ◌↔◌, ◌≤◌, ◌<◌, ◌⊎◌, None, length};
 ghost use Rattle.kfs_model.specs.Lease.{row_of};
 ghost use Rattle.kfs_c.specs.Holding.{HoldsNoDesk, OnDesk};
-ghost use Rattle.kfs_c.specs.Reading.{BeginsWith, IsPlanned, IsRead, saved};
+ghost use Rattle.kfs_c.specs.Reading.{BeginsWith, IsPlanned, IsRead, saved_bytes};
 ghost use Rattle.kfs_c.specs.Status as status;
 
 use crate::handle::Handle;
@@ -73,8 +73,8 @@ pub extern "C" fn kfs_save(
     buffer: &mut [u8],
     len: &mut usize,
 ) -> u32
-    ensures saved { result ≡ status.done → OnDesk handle.old.value (λ desk. BeginsWith (saved desk) buffer.old buffer.new len.new) }
-    ensures short { result ≡ status.short → OnDesk handle.old.value (λ desk. (len.new ≡ length (saved desk)) × length buffer.old < len.new) }
+    ensures saved { result ≡ status.done → OnDesk handle.old.value (λ desk. BeginsWith (saved_bytes desk) buffer.old buffer.new len.new) }
+    ensures short { result ≡ status.short → OnDesk handle.old.value (λ desk. (len.new ≡ length (saved_bytes desk)) × length buffer.old < len.new) }
     ensures silent { 1 ≤ result → buffer.new ≡ buffer.old }
     ensures kept { handle.new.value ≡ handle.old.value }
     ensures closed { (result ≡ status.closed) ↔ (handle.old.value ≡ None) }
@@ -92,8 +92,8 @@ pub extern "C" fn kfs_save(
 }
 
 fn save(alloc: Global, desk: &Desk<Global>, buffer: &mut [u8], len: &mut usize) -> u32
-    ensures saved { result ≡ status.done → BeginsWith (saved desk.now) buffer.old buffer.new len.new }
-    ensures short { result ≡ status.short → (len.new ≡ length (saved desk.now)) × length buffer.old < len.new }
+    ensures saved { result ≡ status.done → BeginsWith (saved_bytes desk.now) buffer.old buffer.new len.new }
+    ensures short { result ≡ status.short → (len.new ≡ length (saved_bytes desk.now)) × length buffer.old < len.new }
     ensures silent { 1 ≤ result → buffer.new ≡ buffer.old }
     ensures range { result ≤ status.short }
 {

@@ -1,5 +1,5 @@
 //! The names of a directory, one after another.
-ghost use Rattle.std.specs.Prelude.{◌≡◌, ◌↔◌, ◌≤◌, ◌⊎◌, [], None, IfNone, IfSome};
+ghost use Rattle.std.specs.Prelude.{◌≡◌, ◌↔◌, ◌≤◌, ◌⊎◌, None, IfNone, IfSome, length};
 ghost use Rattle.kfs_model.specs.Spelling.{IsName};
 ghost use Rattle.kfs_c.specs.Holding.{HoldsNoDesk, OnDesk};
 ghost use Rattle.kfs_c.specs.Reading.{HasNoLater, HasNoNameAfter, IsListed, IsNextName};
@@ -74,7 +74,7 @@ fn find_name(
 /// The least name of the directory above `after`, which is a name or has no bytes.
 #[tactic(auto, using(crate::proofs::Names::first, crate::proofs::Names::later, crate::proofs::Names::none_first, crate::proofs::Names::none_later))]
 fn next_name<'a>(image: &'a Image<Global>, directory: u32, after: &[u8]) -> Option<(&'a Name, u32)>
-    requires { (after.now ≡ []) ⊎ IsName after.now }
+    requires { (length after.now ≡ 0) ⊎ IsName after.now }
     ensures found { IfSome result (λ p. IsNextName image.now.names directory after.now p.0.now p.1) }
     ensures none { IfNone result (HasNoNameAfter image.now.names directory after.now) }
 {

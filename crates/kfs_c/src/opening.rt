@@ -1,5 +1,5 @@
 //! Opening and closing.
-ghost use Rattle.std.specs.Prelude.{◌≡◌, ◌≤◌, None, IfOk, Ok, Some, map};
+ghost use Rattle.std.specs.Prelude.{◌≡◌, ◌≤◌, ◌++◌, ◌∷◌, [], None, IfOk, OnOk, Ok, Some, map};
 ghost use Rattle.kfs_image_codec.specs.RawImages.{raw_of};
 ghost use Rattle.kfs_model_device.specs.RawImage.{image_of};
 ghost use Rattle.kfs_model_device.specs.Finding.{IsWellFormed};
@@ -19,7 +19,7 @@ use kfs_desk::{BeginFault, Desk};
 use kfs_image::{Image, ImageFault, RawImage, TierSizes, decode_image};
 use kfs_mode::{Client, ClientFault};
 use kfs_shape::{ShapeFault, check_shape};
-use std::alloc::{AllocError, Global};
+use std::alloc::Global;
 
 /// Why no desk is opened.
 enum Unopened {
@@ -29,23 +29,13 @@ enum Unopened {
     Refused(FaultNumbers),
 }
 
-impl From<AllocError> for Unopened {
-    ghost use Rattle.std.specs.Prelude.{◌≡◌};
-    ghost use Rattle.kfs_c.specs.declared.opening.Unopened.TheVariants.{NoMemory};
-
-    ghost from_gives = { λ _ why. why ≡ NoMemory };
-
-    fn from(_error: AllocError) -> Unopened {
-        Unopened::NoMemory
-    }
-}
-
 /// Frees what the handle holds, if it holds something.
 #[unsafe(no_mangle)]
 pub extern "C" fn kfs_close(alloc: Global, handle: &mut Handle)
     ensures { handle.new.value ≡ None }
 {
-    drop(take_out(alloc, handle));
+    let held = take_out(alloc, handle);
+    drop(held);
 }
 
 /// Has the handle hold a desk with a new image of these tier sizes, in blocks, and these clients. What
@@ -205,8 +195,18 @@ fn begin(
     ensures { IfOk result (λ held. OnDesk (Some held.value) (IsBegunWith image clients.items limit)) }
 {
     match Desk::begin(alloc, image, clients, limit) {
-        Ok(desk) => Ok(Box::new(alloc, Held::Desk(desk)).map_err(|_| Unopened::NoMemory)?),
+        Ok(desk) => boxed(alloc, desk),
         Err(back) => Err(unbegun(back.why)),
+    }
+}
+
+/// The desk in a box.
+fn boxed(alloc: Global, desk: Desk<Global>) -> Result<Box<Held, Global>, Unopened>
+    ensures { IfOk result (λ held. held.value ≡ Held.Desk desk) }
+{
+    match Box::new(alloc, Held::Desk(desk)) {
+        Ok(held) => Ok(held),
+        Err(_) => Err(Unopened::NoMemory),
     }
 }
 
@@ -230,11 +230,19 @@ fn clients_from(
     let mut clients = Vec::new(alloc);
     for row in rows {
         let client = client_from(row, groups, clients.len())?;
-        if clients.push(client).is_err() {
-            return Err(Unopened::NoMemory);
-        }
+        add(&mut clients, client)?;
     }
     Ok(clients)
+}
+
+/// Adds a client.
+fn add(clients: &mut Vec<Client, Global>, client: Client) -> Result<(), Unopened>
+    ensures { OnOk result (clients.new.items ≡ clients.old.items ++ client ∷ []) }
+{
+    match clients.push(client) {
+        Ok(()) => Ok(()),
+        Err(_) => Err(Unopened::NoMemory),
+    }
 }
 
 /// The client that a row says, which is the one with this index.
@@ -242,14 +250,15 @@ fn client_from(row: &ClientRow, groups: &[u32], index: usize) -> Result<Client, 
     ensures { IfOk result (λ client. client ≡ client_of groups.now row.now) }
 {
     let start = row.groups_start as usize;
-    let Some(groups) = groups.get(start..start + row.groups_count as usize) else {
+    let end = start + row.groups_count as usize;
+    if end > groups.len() {
         return Err(Unopened::Refused(fault(2, 3, index as u64, 0)));
-    };
+    }
     let made = Client::new(
         row.number,
         row.uid,
         row.gid,
-        groups,
+        &groups[start..end],
         row.privileged,
         row.first,
         row.last,

@@ -1,6 +1,6 @@
 //! Views, verdicts on them, and landings. A host takes a view under its lock, judges outside it, and
 //! lands under it again.
-ghost use Rattle.std.specs.Prelude.{◌≡◌, ◌↔◌, ◌≤◌, None};
+ghost use Rattle.std.specs.Prelude.{◌≡◌, ◌↔◌, ◌≤◌, None, ⊤};
 ghost use Rattle.kfs_c.specs.Calls.{IsFull, IsJudged, IsLanded};
 ghost use Rattle.kfs_c.specs.Holding.{HoldsNoDesk, HoldsNoView, OnDesk, OnDesks, OnVerdict, OnView};
 ghost use Rattle.kfs_c.specs.Status as status;
@@ -127,7 +127,7 @@ pub extern "C" fn kfs_land(
     ensures kept { status.closed ≤ result → verdict.new.value ≡ verdict.old.value }
     ensures closed { handle.old.value ≡ None → result ≡ status.closed }
     ensures wrong { HoldsNoDesk handle.old.value → result ≡ status.wrong_kind }
-    ensures range { (result ≤ status.full) ↔ OnDesk handle.old.value (λ _. OnVerdict verdict.old.value (λ _. Unit)) }
+    ensures range { (result ≤ status.full) ↔ OnDesk handle.old.value (λ _. OnVerdict verdict.old.value (λ _. ⊤)) }
 {
     let Some(mut held) = take_out(alloc, handle) else {
         return CLOSED;
@@ -151,7 +151,7 @@ fn land(
     ensures full { result ≡ status.full → IsFull desk.old }
     ensures used { result ≤ status.full → verdict.new.value ≡ None }
     ensures kept { status.closed ≤ result → verdict.new.value ≡ verdict.old.value }
-    ensures range { (result ≤ status.full) ↔ OnVerdict verdict.old.value (λ _. Unit) }
+    ensures range { (result ≤ status.full) ↔ OnVerdict verdict.old.value (λ _. ⊤) }
 {
     let Some(held) = take_out(alloc, verdict) else {
         return CLOSED;
