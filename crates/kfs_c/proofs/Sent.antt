@@ -39,9 +39,16 @@ docket_send = search rules depth 40 fits 4000
 -- the parts of a desk in the order of its fields: allocator, image, clients, leases, opening, docket, limit
 pub desk_send : IsSend (Desk.the_row Heap.the_row ghosts)
 desk_send =
-    view_send _ _ _ _ _ (declared_send (Desk.TheInside.the_type Heap.the_row ghosts)
-    (search (sendable, std.send) depth 6, (image_send, (std.Arc-send _ (std.Vec-send _ client.the_send) (std.Vec-sync _ client.the_sync),
-    (std.Arc-send _ leases_send leases_sync, (opening_send, (docket_send, (search sendable depth 6, tt))))))))
+    view_send _ _ _ _ _ (declared_send (Desk.TheInside.the_type Heap.the_row ghosts) (
+      search (sendable, std.send) depth 6,
+      (
+        image_send,
+        (
+          std.Arc-send _ (std.Vec-send _ client.the_send) (std.Vec-sync _ client.the_sync),
+          (std.Arc-send _ leases_send leases_sync, (opening_send, (docket_send, (search sendable depth 6, tt)))),
+        ),
+      ),
+    ))
 
 -- a view of a desk, and a claim about it that has no bytes
 pub look_send : IsSend (DeskView.the_row Heap.the_row ghosts)

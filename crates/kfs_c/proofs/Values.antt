@@ -61,7 +61,7 @@ module _ {M : Type 1} {𝓤 : Ura M} {𝓛 : Logic 𝓤} {K : Type 0} {Γ : List
   unwraps t d vs next =
       fsplit t $ fpick t (λ parts. fsplit t $ feq_l t (λ vs_is. fsplit t $ feq_l t (λ at_is. fsplit t $ feq_l t (λ full_is. drop t $
       let of_at : vs ≡ vstruct (of_list (ptr_val d.at ∷ (parts.1.0 ++ []))) ∷ [] =
-          subst (λ (ps : List Val). vs ≡ vstruct (of_list (ps ++ (parts.1.0 ++ []))) ∷ []) at_is vs_is in
+      subst (λ (ps : List Val). vs ≡ vstruct (of_list (ps ++ (parts.1.0 ++ []))) ∷ []) at_is vs_is in
       next (subst (λ (bs : List Val). vs ≡ vstruct (of_list (ptr_val d.at ∷ (bs ++ []))) ∷ []) full_is of_at)))))
 
   pub by_value : K → (full : Bool) (at : Ptr) (value : Option Held)

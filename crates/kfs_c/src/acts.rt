@@ -100,12 +100,7 @@ pub extern "C" fn kfs_drop(
     status
 }
 
-fn drop_lease(
-    desk: &mut Desk<Global>,
-    client: u32,
-    number: u32,
-    reply: &mut ActNumbers,
-) -> u32
+fn drop_lease(desk: &mut Desk<Global>, client: u32, number: u32, reply: &mut ActNumbers) -> u32
     ensures answered { result ≡ status.done → IsCalled (machine.Drop client number) Done.Dropped reply.new desk.old desk.new }
     ensures unanswered { 1 ≤ result → (desk.new ≡ desk.old) × (reply.new ≡ reply.old) }
     ensures full { (result ≡ status.full) ↔ IsFull desk.old }
@@ -173,12 +168,7 @@ pub extern "C" fn kfs_migrate(
     status
 }
 
-fn migrate(
-    alloc: Global,
-    desk: &mut Desk<Global>,
-    moves: &[MoveRow],
-    reply: &mut ActNumbers,
-) -> u32
+fn migrate(alloc: Global, desk: &mut Desk<Global>, moves: &[MoveRow], reply: &mut ActNumbers) -> u32
     ensures answered { result ≡ status.done → IsCalled (machine.Migrate (map move_of moves.now)) Done.Moved reply.new desk.old desk.new }
     ensures unanswered { 1 ≤ result → (desk.new ≡ desk.old) × (reply.new ≡ reply.old) }
     ensures full { result ≡ status.full → IsFull desk.old }

@@ -43,13 +43,7 @@ pub extern "C" fn kfs_read(
     status
 }
 
-fn read(
-    desk: &Desk<Global>,
-    number: u32,
-    start: u64,
-    buffer: &mut [u8],
-    count: &mut usize,
-) -> u32
+fn read(desk: &Desk<Global>, number: u32, start: u64, buffer: &mut [u8], count: &mut usize) -> u32
     ensures read { result ≡ status.done → IsRead number start buffer.old buffer.new count.new desk.now }
     ensures silent { 1 ≤ result → (buffer.new ≡ buffer.old) × (count.new ≡ count.old) }
     ensures range { result ≤ status.refused }

@@ -16,5 +16,4 @@ mod opening;
 mod slot;
 mod status;
 mod told;
-mod trial;
 mod views;

@@ -94,13 +94,7 @@ pub extern "C" fn kfs_place(
     status
 }
 
-fn find_place(
-    desk: &Desk<Global>,
-    number: u32,
-    block: u32,
-    tier: &mut u8,
-    place: &mut u32,
-) -> u32
+fn find_place(desk: &Desk<Global>, number: u32, block: u32, tier: &mut u8, place: &mut u32) -> u32
     ensures found { result ≡ status.done → IsPlaced number block tier.new place.new desk.now }
     ensures nothing { (result ≡ status.nothing) ↔ IsUnplaced number block desk.now }
     ensures silent { 1 ≤ result → (tier.new ≡ tier.old) × (place.new ≡ place.old) }

@@ -56,9 +56,9 @@ module _ (X A : RattleType) (laws : Laws A) (g : Ghosts A.Denot) where
         handle_tells allocator t d.alloc parts.1.0 (λ alloc alloc_is fits. move t (1 ∷ []) $ drop t $ move t (1 ∷ []) $
         in_a_block t d.at (Owned d.alloc d.value) (fst∗ 𝓤 (never 𝓤) (sem 𝓛 (g.dealloc_token d.alloc (bare (lone X.mir)) null_ptr))) (λ b o at_is.
         let of_parts : vs ≡ vstruct (of_list (ptr_val d.at ∷ (parts.1.0 ++ []))) ∷ [] =
-            subst (λ (ps : List Val). vs ≡ vstruct (of_list (ps ++ (parts.1.0 ++ []))) ∷ []) ptr_is vs_is in
+        subst (λ (ps : List Val). vs ≡ vstruct (of_list (ps ++ (parts.1.0 ++ []))) ∷ []) ptr_is vs_is in
         let of_alloc : vs ≡ vstruct (of_list (ptr_val d.at ∷ alloc ∷ [])) ∷ [] =
-            subst (λ (us : List Val). vs ≡ vstruct (of_list (ptr_val d.at ∷ (us ++ []))) ∷ []) alloc_is of_parts in
+        subst (λ (us : List Val). vs ≡ vstruct (of_list (ptr_val d.at ∷ (us ++ []))) ∷ []) alloc_is of_parts in
         next b o alloc at_is (subst (λ (p : Ptr). vs ≡ vstruct (of_list (ptr_val p ∷ alloc ∷ [])) ∷ []) at_is of_alloc) fits)))))
 
     pub together : K → (alloc : Val) (b o : ℕ) (a : A.Denot) (x : X.Denot)
