@@ -203,7 +203,7 @@ impl<A: Allocator + Copy> Desk<A> {
         ensures tree { self.new.state.tree ≡ self.old.state.tree }
 
         // A verdict from before the moves holds after them, and so lands as it was judged.
-        ensures verdicts { {B : Type 0} (judged : JudgedShown B) → IsCurrent self.old.state judged → IsCurrent self.new.state judged }
+        ensures verdicts { (B : Type 0) (judged : JudgedShown B) → IsCurrent self.old.state judged → IsCurrent self.new.state judged }
     {
         let position = self.next_row()?;
         let before = ShownState::of(&self.image, &self.clients, &self.leases);

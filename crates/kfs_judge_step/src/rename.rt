@@ -192,7 +192,7 @@ impl<A: Allocator + Copy> LogJudge<'_, A> {
             draft: &self.draft,
         };
         let kind = judge.kind(&mut self.recorder, moved)?;
-        self.remove_name(new_key, to)?;
+        self.remove_name((new_key.0, new_key.1), to)?;
         self.draft.move_name(key, new_key, moved, kind)?;
         Ok(())
     }

@@ -9,7 +9,7 @@ use std::alloc::{Allocator, Global};
 const MANY: u64 = 200;
 
 /// Whether nothing has changed, and no row was added.
-fn is_unchanged<A: Allocator>(desk: &Desk<A>) -> bool {
+fn is_unchanged<A: Allocator + Copy>(desk: &Desk<A>) -> bool {
     lie_at(desk, (0, 0), (0, 1))
         && are_free(desk, (6, 8, 8))
         && have_bytes(desk, b"one", b"two")

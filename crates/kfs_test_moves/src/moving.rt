@@ -142,24 +142,24 @@ pub fn is_migrated<A: Allocator + Copy>(
 }
 
 /// Whether a read of the file gives these three bytes and no more.
-fn reads<A: Allocator>(desk: &Desk<A>, number: u32, bytes: &[u8]) -> bool {
+fn reads<A: Allocator + Copy>(desk: &Desk<A>, number: u32, bytes: &[u8]) -> bool {
     let mut buffer = [0u8; 4];
     let count = read_file(desk.image(), number, 0, &mut buffer);
     count == Ok(3) && buffer.get(..3) == Some(bytes)
 }
 
 /// Whether files 5 and 6 have these bytes.
-pub fn have_bytes<A: Allocator>(desk: &Desk<A>, of_5: &[u8], of_6: &[u8]) -> bool {
+pub fn have_bytes<A: Allocator + Copy>(desk: &Desk<A>, of_5: &[u8], of_6: &[u8]) -> bool {
     reads(desk, 5, of_5) && reads(desk, 6, of_6)
 }
 
 /// Where the blocks of files 5 and 6 lie.
-pub fn lie_at<A: Allocator>(desk: &Desk<A>, of_5: (u8, u32), of_6: (u8, u32)) -> bool {
+pub fn lie_at<A: Allocator + Copy>(desk: &Desk<A>, of_5: (u8, u32), of_6: (u8, u32)) -> bool {
     desk.image().place_of(5, 0) == Some(of_5) && desk.image().place_of(6, 0) == Some(of_6)
 }
 
 /// How many places are free on each tier.
-pub fn are_free<A: Allocator>(desk: &Desk<A>, free: (u32, u32, u32)) -> bool {
+pub fn are_free<A: Allocator + Copy>(desk: &Desk<A>, free: (u32, u32, u32)) -> bool {
     let image = desk.image();
     (image.free(0), image.free(1), image.free(2)) == free
 }

@@ -40,7 +40,7 @@ fn run_over(
 
 /// Whether both Writes were landed as they were judged, beside the rows of the moves.
 fn is_right(end: &ScriptEnd<Global>) -> bool {
-    end.replies.as_slice() == [Some(yes(4, 1)), Some(yes(6, 1))]
+    end.replies.as_slice() == [Some(yes(4, 1)), Some(yes(6, 1))].as_slice()
         && end.desk.docket().len() == 7
         && have_bytes(&end.desk, b"ONE", b"two")
         && end.desk.image().place_of(6, 0) == Some((1, 0))
@@ -64,7 +64,7 @@ fn leaves(alloc: Global) -> Option<bool> {
     let submissions = vec![in alloc; write(alloc).ok()?].ok()?;
     let end = run_over(alloc, desk, submissions)?;
     Some(
-        end.replies.as_slice() == [None]
+        end.replies.as_slice() == [None].as_slice()
             && end.left.len() == 1
             && lie_at(&end.desk, (2, 3), (1, 0))
             && have_bytes(&end.desk, b"one", b"two"),

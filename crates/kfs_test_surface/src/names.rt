@@ -72,6 +72,7 @@ pub mod desk {
 
 /// Workers, scripts of their steps, and a desk that threads share.
 pub mod workers {
+    pub use kfs_workers::laws::moves_leave_verdicts;
     pub use kfs_workers::{
         Begun, DeskView, DocketRow, Docketed, Pass, ScriptBack, ScriptEnd, Shared, SharedBack,
         SharedWant, Step, Unreturned, WORKERS, run_script,

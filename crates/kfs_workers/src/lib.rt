@@ -5,7 +5,7 @@
 //! Begin with `run_script`, or with `Shared`.
 #![tactic(auto)]
 
-pub use kfs_workers_script::{ScriptBack, ScriptEnd, Step, WORKERS, run_script};
+pub use kfs_workers_script::{ScriptBack, ScriptEnd, Step, WORKERS, laws, run_script};
 pub use kfs_workers_threads::{
     Begun, DocketRow, Docketed, Pass, Shared, SharedBack, SharedWant, Unreturned,
 };

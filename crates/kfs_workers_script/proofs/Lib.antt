@@ -1,4 +1,5 @@
 -- Lemmas on scripts.
+pub mod BetweenLandings
 pub mod Claimed
 pub mod Places
 pub mod Replies

@@ -1,6 +1,6 @@
 -- What a script leaves: the desk that was handed in, with more rows. And what its replies say: each
 -- ticket is answered once or left, a Yes does what its entries say, and no other reply changes the tree.
-use Rattle.std.specs.Prelude.{◌≡◌, ◌≢◌, ℕ, ◌+◌, List, [], ◌++◌, take, get_or, Option, Some, None}
+use Rattle.std.specs.Prelude.{◌≡◌, ◌≢◌, ◌↔◌, ℕ, ◌+◌, List, [], ◌++◌, take, get_or, Option, Some, None}
 use Rattle.std.specs.List.{slice_get}
 use Rattle.kfs_model.specs.Judgement.{State, Submission, client_sight_of}
 use Rattle.kfs_model.specs.Machine.{AreAllowed, Gives, Row, after}
@@ -9,6 +9,10 @@ use Rattle.kfs_plan.specs.declared.answers.Reply.{Reply}
 use Rattle.kfs_plan.specs.declared.answers.Reply.TheVariants as replies
 use Rattle.kfs_desk.specs.Docket.{position_of}
 use Rattle.kfs_desk.specs.Machine.{Desk, IsShown, IsStep}
+use Rattle.kfs_workers_verdict.specs.Verdict.{HeldVerdict, IsUpToDate}
+use Rattle.kfs_workers_script.specs.Script.{ScriptState}
+use Rattle.kfs_workers_script.specs.declared.script.Step.{Step}
+use Rattle.kfs_workers_script.specs.declared.script.Step.TheVariants as steps
 
 -- ---- the desk at the end
 
@@ -76,3 +80,17 @@ abbrev pub ElseChangesNothing : Submission → Reply → (before after_it : Stat
 ElseChangesNothing submission (replies.Yes position rejudged need) before after_it = Unit {0}
 ElseChangesNothing submission (replies.No position rejudged fault) before after_it = after_it ≡ before
 ElseChangesNothing submission (replies.NoRoom position rejudged need free) before after_it = after_it ≡ before
+
+-- ---- between landings
+
+-- a step that lands nothing and asks for no lease: a Look, a Judge, or moves of blocks
+abbrev pub LandsNothing : Step → Type 0
+LandsNothing (steps.Look worker ticket) = Unit {0}
+LandsNothing (steps.Judge worker) = Unit {0}
+LandsNothing (steps.Land worker) = ⊥
+LandsNothing (steps.Act act) = ⊥
+LandsNothing (steps.Migrate moves) = Unit {0}
+
+-- the same verdicts are up to date at both
+abbrev pub HaveSameVerdicts : (state next : ScriptState) → Type 0
+HaveSameVerdicts state next = (verdict : HeldVerdict) → IsUpToDate state.desk.state verdict ↔ IsUpToDate next.desk.state verdict

@@ -3,6 +3,7 @@
 //! It stands on `kfs_workers_verdict`; `kfs_workers` shows it. Begin with `run_script`.
 #![tactic(auto)]
 
+pub mod laws;
 mod script;
 mod script_state;
 

@@ -7,7 +7,7 @@ use Rattle.kfs_map_chunks.specs.Edits.{rewritten, KeysAscend}
 use Rattle.kfs_map_chunks.specs.Tables.{table}
 use Rattle.kfs_image_nodes.specs.Change.{led_to}
 use Rattle.kfs_image_nodes.specs.Indexes.{AreNames, IsCounted, by_node}
-use Rattle.kfs_image_nodes.specs.NameEdits.{names_seen, counts_seen, ways_seen, ways_edited}
+use Rattle.kfs_image_nodes.specs.NameEdits.{names_seen, counts_seen}
 use Rattle.kfs_image_nodes.proofs.Indexes.{still_names}
 use Rattle.kfs_image_nodes.proofs.NameEdits.{edited_seen, edited_once, one_ascends, counted_edits}
 use Rattle.kfs_map_chunks.proofs.Overlays.{overlaid_none}

@@ -1,10 +1,9 @@
-use Rattle.std.proofs.Common.{◌≡◌, ℕ, ◌+◌, ◌==◌, ◌&&◌, List, [], ◌∷◌, Some, drop, count_by, sym, ap, subst, ◌∙◌, arith}
+use Rattle.std.proofs.Common.{◌≡◌, ℕ, ◌+◌, ◌==◌, ◌&&◌, List, ◌∷◌, Some, drop, sym, ap, subst, ◌∙◌, arith}
 use Rattle.kfs_model.specs.Table.{Table, empty, numbers}
 use Rattle.kfs_map_chunks.specs.Tables.{table}
 use Rattle.kfs_map_chunks.proofs.Overlays.{overlaid_none}
 use Rattle.kfs_image_nodes.specs.Indexes.{by_node, count_at, count_step, uplink_step, ArePositive}
 use Rattle.kfs_image_nodes.specs.NameEdits.{counts_seen, ways_seen}
-use Rattle.kfs_image_nodes.specs.SortedRows.{name_entries}
 use Rattle.kfs_image_nodes.proofs.Indexes.{nothing_counted, count_step-counted, uplink_step-counted}
 use Rattle.kfs_image_nodes.proofs.NodeEdits.{rows_left}
 use Rattle.kfs_image_nodes.proofs.SortedRows.{one_counted, all_counted, none_at}

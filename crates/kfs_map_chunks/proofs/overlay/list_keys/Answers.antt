@@ -1,4 +1,4 @@
-use Rattle.std.proofs.Common.{◌++◌, ◌∷◌, sym, ap, ◌∙◌}
+use Rattle.std.proofs.Common.{◌++◌, sym, ap, ◌∙◌}
 use Rattle.std.proofs.lemmas.List.{append_assoc, append-nil}
 use Rattle.kfs_map_chunks.specs.Overlays.{key_edits}
 use Rattle.kfs_map_chunks.proofs.overlay.list_keys.Goals as goal

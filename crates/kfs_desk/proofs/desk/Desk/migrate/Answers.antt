@@ -70,7 +70,7 @@ returns-clause-tree g c =
     ap (λ (s : State). s.tree) is ∙ ap (λ (d : Desk). d.state.tree) c.self.view_is
 
 pub returns-clause-verdicts : goal.returns-clause-verdicts
-returns-clause-verdicts g c judged =
+returns-clause-verdicts g c B judged =
     let inside = c.self.inside in
     let desk : Parts = record { image = inside.image; clients = inside.clients.value.items; leases = inside.leases.value; opening = inside.opening; docket = inside.docket; limit = inside.limit } in
     let moves = c.args.moves.now in
