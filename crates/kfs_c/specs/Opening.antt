@@ -1,17 +1,14 @@
 -- Clients as a host gives them, and why no desk is opened.
-use Rattle.std.specs.Prelude.{◌≡◌, ◌⊎◌, ℕ, ◌+◌, List, map, slice_range, Ok, Err}
+use Rattle.std.specs.Prelude.{◌≡◌, ℕ, ◌+◌, List, slice_range, Ok}
 use Rattle.kfs_model.specs.Access.{Client}
 use Rattle.kfs_model.specs.Machine.{opening}
-use Rattle.kfs_model.specs.Placement.{TierSizes}
-use Rattle.kfs_model_device.specs.Finding.{Finding, IsWellFormed, finding_of}
+use Rattle.kfs_model_device.specs.Finding.{IsWellFormed}
 use Rattle.kfs_model_device.specs.RawImage.{RawImage, image_of}
 use Rattle.kfs_model_device.specs.ShownTree.{DeviceImage, shown_tree}
 use Rattle.kfs_model_device.specs.Spelling.{ImageAnswer}
 use Rattle.kfs_mode.specs.Clients.{client_row}
 use Rattle.kfs_image_codec.specs.declared.fault.ImageFault.{ImageFault}
 use Rattle.kfs_image_codec.specs.declared.fault.ImageFault.TheVariants as images
-use Rattle.kfs_plan.specs.declared.answers.BeginFault.{BeginFault}
-use Rattle.kfs_plan.specs.declared.answers.BeginFault.TheVariants as beginnings
 use Rattle.kfs_desk.specs.Machine.{Desk, opened_at}
 use Rattle.kfs_c.specs.declared.numbers.ClientRow.{ClientRow}
 use Rattle.kfs_c.specs.declared.numbers.FaultNumbers.{FaultNumbers}

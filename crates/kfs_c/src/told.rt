@@ -1,6 +1,6 @@
 //! Faults, replies and headers as the numbers that C is told.
 ghost use Rattle.std.specs.Prelude.{◌≡◌};
-ghost use Rattle.kfs_c.specs.Told.{act_fault_told, act_told, done_told, fault_told, header_told, lease_fault_told, move_fault_told, numbers, reason_told, reply_told, row_told, spelling_told};
+ghost use Rattle.kfs_c.specs.Told.{act_fault_told, act_told, done_told, fault_told, header_told, is_directory_kind, lease_fault_told, move_fault_told, numbers, reason_told, reply_told, row_told, spelling_told};
 
 use crate::numbers::{ActNumbers, FaultNumbers, NodeNumbers, ReplyNumbers};
 use kfs_entry::SpellFault;
@@ -218,11 +218,20 @@ pub(crate) fn node_numbers(header: Header) -> NodeNumbers
     ensures { result ≡ header_told header }
 {
     NodeNumbers {
-        directory: matches!(header.kind, Kind::Directory),
+        directory: is_directory(header.kind),
         mode: header.mode,
         links: header.links,
         uid: header.uid,
         gid: header.gid,
         size: header.size,
+    }
+}
+
+fn is_directory(kind: Kind) -> bool
+    ensures { result ≡ is_directory_kind kind }
+{
+    match kind {
+        Kind::File => false,
+        Kind::Directory => true,
     }
 }
