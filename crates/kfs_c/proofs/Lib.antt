@@ -1,3 +1,4 @@
+pub mod Calls
 pub mod Names
 pub mod Sent
 pub mod Values
