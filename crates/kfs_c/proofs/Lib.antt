@@ -1,4 +1,4 @@
-pub mod Calls
+pub mod Acted
 pub mod Names
 pub mod Sent
 pub mod Values

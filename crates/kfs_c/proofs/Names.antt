@@ -1,5 +1,5 @@
 -- A directory's least name after some bytes. A name has bytes, so each comes after none.
-use Rattle.std.proofs.Common.{◌≡◌, ◌⊎◌, inl, inr, ℕ, List, [], ◌∷◌, length, refl, subst, Some, None}
+use Rattle.std.proofs.Common.{◌≡◌, ◌⊎◌, inl, inr, ℕ, List, [], ◌∷◌, length, arith, refl, subst, Some, None}
 use Rattle.std.specs.Borrow.{Bor}
 use Rattle.kfs_model.specs.Spelling.{IsName}
 use Rattle.kfs_model.specs.Tree.{NameTable, target}
@@ -7,9 +7,9 @@ use Rattle.kfs_image_nodes.specs.Look.{IsAfter, IsNext}
 use Rattle.kfs_c.specs.Reading.{HasNoNameAfter, IsLater, IsNextName}
 
 is_later : (after name : List ℕ) → length after ≡ 0 → IsName name → IsLater after name
-is_later [] [] none is = absurd is.some
+is_later [] [] none is = let some = is.some in absurd (omega (arith, some))
 is_later [] (byte ∷ bytes) none is = refl
-is_later (byte ∷ bytes) name none is = absurd none
+is_later (byte ∷ bytes) name none is = absurd (omega (arith, none))
 
 no_bytes : {X : Type 0} (after : List ℕ) → (length after ≡ 0) ⊎ IsName after → (IsName after → ⊥) → (length after ≡ 0 → X) → X
 no_bytes after (inl none) other next = next none

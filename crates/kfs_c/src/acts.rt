@@ -47,7 +47,7 @@ pub extern "C" fn kfs_lease(
     status
 }
 
-#[tactic(auto, using(crate::proofs::Calls::called, crate::proofs::Calls::uncalled, crate::proofs::Calls::full_told))]
+#[tactic(auto, using(crate::proofs::Acted::called, crate::proofs::Acted::uncalled, crate::proofs::Acted::full_told))]
 fn lease(
     desk: &mut Desk<Global>,
     client: u32,
@@ -101,7 +101,7 @@ pub extern "C" fn kfs_drop(
     status
 }
 
-#[tactic(auto, using(crate::proofs::Calls::called, crate::proofs::Calls::uncalled, crate::proofs::Calls::full_told))]
+#[tactic(auto, using(crate::proofs::Acted::called, crate::proofs::Acted::uncalled, crate::proofs::Acted::full_told))]
 fn drop_lease(desk: &mut Desk<Global>, client: u32, number: u32, reply: &mut ActNumbers) -> u32
     ensures answered { result ≡ status.done → IsCalled (machine.Drop client number) Done.Dropped reply.new desk.old desk.new }
     ensures unanswered { 1 ≤ result → (desk.new ≡ desk.old) × (reply.new ≡ reply.old) }
@@ -136,7 +136,7 @@ pub extern "C" fn kfs_tick(
     status
 }
 
-#[tactic(auto, using(crate::proofs::Calls::called, crate::proofs::Calls::uncalled, crate::proofs::Calls::full_told))]
+#[tactic(auto, using(crate::proofs::Acted::called, crate::proofs::Acted::uncalled, crate::proofs::Acted::full_told))]
 fn tick(desk: &mut Desk<Global>, moment: u64, reply: &mut ActNumbers) -> u32
     ensures answered { result ≡ status.done → IsCalled (machine.Tick moment) Done.Ticked reply.new desk.old desk.new }
     ensures unanswered { 1 ≤ result → (desk.new ≡ desk.old) × (reply.new ≡ reply.old) }
@@ -171,7 +171,7 @@ pub extern "C" fn kfs_migrate(
     status
 }
 
-#[tactic(auto, using(crate::proofs::Calls::called, crate::proofs::Calls::uncalled, crate::proofs::Calls::full_told))]
+#[tactic(auto, using(crate::proofs::Acted::called, crate::proofs::Acted::uncalled, crate::proofs::Acted::full_told))]
 fn migrate(alloc: Global, desk: &mut Desk<Global>, moves: &[MoveRow], reply: &mut ActNumbers) -> u32
     ensures answered { result ≡ status.done → IsCalled (machine.Migrate (map move_of moves.now)) Done.Moved reply.new desk.old desk.new }
     ensures unanswered { 1 ≤ result → (desk.new ≡ desk.old) × (reply.new ≡ reply.old) }

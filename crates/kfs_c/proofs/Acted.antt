@@ -1,5 +1,5 @@
 -- What the desk answers to a call, and what is told of it.
-use Rattle.std.proofs.Common.{◌≡◌, ◌↔◌, ◌≤◌, ℕ, Result, Ok, Err, subst}
+use Rattle.std.proofs.Common.{◌≡◌, ◌↔◌, ◌≤◌, ℕ, Result, Ok, Err, arith}
 use Rattle.std.specs.Prelude.{IfOk, IsErrOf, OnErr}
 use Rattle.kfs_model.specs.Machine.{Call}
 use Rattle.kfs_plan.specs.declared.answers.ActReply.{ActReply}
@@ -16,12 +16,12 @@ module _ (old new : Desk) (call : Call) (words : ℕ → Done) (status : ℕ) (t
       → IfOk result (λ said. (status ≡ 0) × (told ≡ act_told said)) → OnErr result ((1 ≤ status) × (told ≡ before))
       → status ≡ 0 → IsCalled call words told old new
   called (Ok reply) is said silent done = (reply, is.done, said.1)
-  called (Err why) is said silent done = absurd (subst (λ n. 1 ≤ n) done silent.0)
+  called (Err why) is said silent done = let some = silent.0 in absurd (omega (arith, some, done))
 
   pub uncalled : (result : Result ActReply Unanswered) → IsCallOf old call words result new
       → IfOk result (λ said. (status ≡ 0) × (told ≡ act_told said)) → OnErr result ((1 ≤ status) × (told ≡ before))
       → 1 ≤ status → (new ≡ old) × (told ≡ before)
-  uncalled (Ok reply) is said silent some = absurd (subst (λ n. 1 ≤ n) said.0 some)
+  uncalled (Ok reply) is said silent some = let none = said.0 in absurd (omega (arith, some, none))
   uncalled (Err why) is said silent some = (is.err, silent.1)
 
 -- the docket is full exactly where that is told
