@@ -32,7 +32,12 @@ fn are_refused(alloc: Global) -> Option<bool> {
         && is_migrated(&mut desk, &[no_block()], 7, Err(NotMapped(0)))
         && is_migrated(&mut desk, &[to(5, 2, 3), to(6, 0, 0)], 8, Err(NotFree(1)))
         && is_migrated(&mut desk, &[to(5, 2, 3), to(5, 2, 4)], 9, Err(Overlap(1)))
-        && is_migrated(&mut desk, &[to(5, 2, 3), to(9, 2, 8)], 10, Err(NotMapped(1)))
+        && is_migrated(
+            &mut desk,
+            &[to(5, 2, 3), to(9, 2, 8)],
+            10,
+            Err(NotMapped(1)),
+        )
         && are_too_many(alloc, &mut desk, 11)?;
     Some(is_refused && have_bytes(&desk, b"one", b"two") && lie_at(&desk, (0, 0), (0, 1)))
 }

@@ -50,9 +50,9 @@ step_differs state next (steps.Migrate moves) quiet (inr is) = stays _ _ (ap (λ
 -- what a verdict rests on has no places of blocks
 verdict_stays : (s t : State) → DiffersInPlacement s t → (verdict : HeldVerdict) → IsUpToDate s verdict ↔ IsUpToDate t verdict
 verdict_stays s t (placement, is) verdict = (
-    λ current. subst (λ (u : State). IsUpToDate u verdict) (sym is) (record { row = current.row; answers = current.answers }),
-    λ current. let same = subst (λ (u : State). IsUpToDate u verdict) is current in record { row = same.row; answers = same.answers },
-  )
+  λ current. subst (λ (u : State). IsUpToDate u verdict) (sym is) (record { row = current.row; answers = current.answers }),
+  λ current. let same = subst (λ (u : State). IsUpToDate u verdict) is current in record { row = same.row; answers = same.answers },
+)
 
 pub steps_leave_verdicts : (state last : ScriptState) (script : List Step) → AllByRecursion LandsNothing script → DoesSteps state script last → HaveSameVerdicts state last
 steps_leave_verdicts state last [] quiet is = λ verdict. subst (λ (it : ScriptState). IsUpToDate state.desk.state verdict ↔ IsUpToDate it.desk.state verdict) (sym is) (λ current. current, λ current. current)

@@ -1,12 +1,10 @@
 -- An answer that is recorded is that of the name, and a new one is the view's.
-use Rattle.std.proofs.Common.{◌≡◌, ◌∷◌, [], ◌∙◌, ap, sym, subst, refl}
+use Rattle.std.proofs.Common.{◌≡◌, ◌∷◌, [], ◌∙◌, ap, sym, refl}
 use Rattle.indexmap.proofs.CallerLemmas.{insert_entry-new}
 use Rattle.kfs_model.specs.Sight.{ClientSight, NameIn, Number, answer}
-use Rattle.kfs_model.specs.Tree.{target}
-use Rattle.kfs_judge_check.specs.Reads.{Within, answer_of, cell_of}
+use Rattle.kfs_judge_check.specs.Reads.{answer_of, cell_of}
 use Rattle.kfs_judge_check.specs.Recorders.{seen_by}
 use Rattle.kfs_judge_check.specs.SameReads.{same_read}
-use Rattle.kfs_judge_check.specs.View.{contents_of}
 use Rattle.kfs_judge_check.specs.declared.reads.Read.TheVariants.{Look}
 use Rattle.kfs_judge_check.specs.declared.reads.ReadAnswer.TheVariants as answers
 use Rattle.kfs_image_nodes.specs.declared.cell.Cell.TheVariants.{Name}
