@@ -43,6 +43,18 @@ pub fn split<A: Allocator + Copy>(
     shared.split(pass)
 }
 
+/// Joins the second pass into the first.
+pub fn meet<A: Allocator + Copy>(
+    shared: &Shared<Desk<A>, A>,
+    pass: &mut Pass<Desk<A>>,
+    other: Pass<Desk<A>>,
+) -> u64
+    requires { IsPassOf shared.now pass.old × IsPassOf shared.now other }
+    ensures { IsPassOf shared.now pass.new }
+{
+    shared.meet(pass, other)
+}
+
 pub fn view<A: Allocator + Copy, R: Wait>(
     rt: &R,
     shared: &Shared<Desk<A>, A>,

@@ -4,7 +4,7 @@ ghost use Rattle.std.specs.Prelude.{IfSome};
 ghost use Rattle.kfs_workers_threads.specs.Passes.{IsPassOf};
 
 use crate::callers::{Acting, Creating, CreatingOne, Resting, Viewing};
-use crate::calls::{Sharing, closed, judged, land, shared, shared_from, split, view};
+use crate::calls::{Sharing, closed, judged, land, meet, shared, shared_from, split, view};
 use crate::files::{FILE_A, FILES_P, FILES_Q, File, WRITE_LOG, WRITE_PLAN};
 use crate::setting::{opened, with_file};
 use crate::side::both;
@@ -57,9 +57,13 @@ fn two_threads_create_four_files_each(rt: HostRuntime) {
 
 // ---- what a pass has seen
 
-/// What two passes have seen after the first one has created file 5; then what a pass has seen that is
-/// split from the first; and how many rows the docket has.
-fn seen_by_two<R: Threads + Wait + Sync>(rt: &R, alloc: Global) -> Option<([u64; 3], u32)> {
+/// What two passes have seen after the first one has created file 5, and what a pass has seen that is
+/// split from the first. Then what is answered where the second one meets that, and what it has seen. At
+/// last how many rows the docket has.
+fn seen_by_two<R: Threads + Wait + Sync>(
+    rt: &R,
+    alloc: Global,
+) -> Option<([u64; 3], [u64; 2], u32)> {
     let desk = opened(alloc)?;
     let (shared, p) = shared(alloc, desk)?;
     let (p, q) = split(&shared, p);
@@ -73,14 +77,17 @@ fn seen_by_two<R: Threads + Wait + Sync>(rt: &R, alloc: Global) -> Option<([u64;
         return None;
     }
     let (p, copy) = split(&shared, p);
+    let mut q = q;
     let seen = [p.seen(), q.seen(), copy.seen()];
+    let answer = meet(&shared, &mut q, copy);
+    let met = [answer, q.seen()];
     let rows = closed(shared, p)?;
-    Some((seen, rows))
+    Some((seen, met, rows))
 }
 
 #[test]
-fn a_pass_has_seen_what_its_own_calls_saw(rt: HostRuntime) {
-    assert!(rt; seen_by_two(&rt, rt.alloc()) == Some(([2, 1, 2], 2)));
+fn passes_have_seen_what_their_calls_and_meetings_saw(rt: HostRuntime) {
+    assert!(rt; seen_by_two(&rt, rt.alloc()) == Some(([2, 1, 2], [2, 2], 2)));
 }
 
 // ---- no ticket left

@@ -66,23 +66,10 @@ impl<D: Docketed, A: Allocator> Shared<D, A> {
         Pass { seat, rows }
     }
 
-    /// Sees the docket as it is, with no turn. Answers how many rows it has.
-    pub(crate) fn look(&self, pass: &mut Pass<D>) -> u64
-        requires { IsPassOf self.now pass.old }
-        ensures pass { IsPassOf self.now pass.new × (ended pass.new ≡ ended pass.old) }
-        ensures begins { StartsWith (seen pass.new) (seen pass.old) }
-        ensures legal { D.legal (started D.opening self.now) (seen pass.new) }
-        ensures own { (own pass.new ≡ own pass.old) × AreDistinct (own pass.new) }
-        ensures rows { result ≡ length (seen pass.new) }
-    {
-        let rows = self.table.shared.load::<Glance>(&mut pass.seat, LENGTH);
-        pass.rows = rows;
-        rows
-    }
-
-    /// Joins the second pass into the first, which then has the rows of both, and has seen a docket that
-    /// begins with what either had seen. Answers how many rows it has seen.
-    pub(crate) fn meet(&self, pass: &mut Pass<D>, other: Pass<D>) -> u64
+    /// Joins the second pass into the first, which then has the rows of both as its own. It has seen the
+    /// docket as it is now, which begins with what either had seen. Answers how many rows that has.
+    /// Takes no memory and doesn't wait. Condition: both are passes of this object.
+    pub fn meet(&self, pass: &mut Pass<D>, other: Pass<D>) -> u64
         requires { IsPassOf self.now pass.old × IsPassOf self.now other }
         ensures pass { IsPassOf self.now pass.new × (ended pass.new ≡ ended pass.old) }
         ensures begins { StartsWith (seen pass.new) (seen pass.old) × StartsWith (seen pass.new) (seen other) }
