@@ -22,6 +22,11 @@ pub(crate) struct InParts<'a, R: Threads + Sync> {
 }
 
 impl<'a, R: Threads + Sync> AskRows for InParts<'a, R> {
+    ghost use Rattle.std.specs.Thread.{IsSync};
+
+    // A trait's method doesn't see its type's bound `Sync`.
+    ghost can_ask = { λ parts. IsSync R.row };
+
     fn least_failed(&self, test: NodeTest, rows: &[RawNode]) -> Option<u32> {
         least_of_parts(self.threads, test, rows)
     }
@@ -41,11 +46,7 @@ fn lesser(one: Option<u32>, other: Option<u32>) -> Option<u32>
 }
 
 /// The least number of a row that fails the test.
-fn least_of_parts(
-    rt: &(impl Threads + Sync),
-    test: NodeTest,
-    rows: &[RawNode],
-) -> Option<u32>
+fn least_of_parts(rt: &(impl Threads + Sync), test: NodeTest, rows: &[RawNode]) -> Option<u32>
     ensures { result ≡ least_failed (map (test_of test.entry) (map raw_node_of rows.now)) }
 {
     rows.par_chunks(PART)

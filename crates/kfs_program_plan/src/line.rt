@@ -1,5 +1,5 @@
 //! The line of a plan that is made.
-ghost use Rattle.std.specs.Prelude.{◌≡◌, ◌++◌, OnOk};
+ghost use Rattle.std.specs.Prelude.{◌≡◌, ◌++◌, OnOk, codes};
 ghost use Rattle.kfs_model_device.specs.ShownTree.{shown_tree};
 ghost use Rattle.kfs_program_plan.specs.PlanLine.{AppendsPlan, plan_text};
 ghost use Rattle.kfs_program_text.specs.Parts.{line_of};
@@ -23,8 +23,15 @@ pub fn plan_line<A: Allocator + Copy>(
 {
     match make_plan(alloc, image, client, log)? {
         Some(bytes) => push_plan(alloc, out, bytes.as_slice()),
-        None => out.extend_from_slice(b"plan none\n"),
+        None => push_none(out),
     }
+}
+
+/// Appends the line that says that there is no plan.
+fn push_none<A: Allocator>(out: &mut Vec<u8, A>) -> Result<(), AllocError>
+    ensures { OnOk result (out.new.items ≡ out.old.items ++ line_of (codes "plan none")) }
+{
+    out.extend_from_slice(b"plan none\n")
 }
 
 /// Appends the line of a plan's bytes.

@@ -30,11 +30,12 @@ fn no_failure(rule: u8, least: Option<u32>) -> Result<(), ShapeFault>
 }
 
 /// Checks rules 1 to 3, and answers the headers by number.
-fn check_nodes<A: Allocator + Copy>(
+fn check_nodes<A: Allocator + Copy, T: AskRows>(
     alloc: A,
     raw: &RawImage<A>,
-    ask: &impl AskRows,
+    ask: &T,
 ) -> Result<Pages<Header, A>, ShapeFault>
+    requires { T.can_ask ask.now }
     ensures shown { IfOk result (λ headers. ShowsHeads headers raw.now) }
     ensures told { FindsNoneWhere result (finding_from (raw_of raw.now) node_rules) }
 {
@@ -46,12 +47,13 @@ fn check_nodes<A: Allocator + Copy>(
 }
 
 /// Checks rules 4 to 7 of an image whose node rows ascend.
-fn check_names<A: Allocator + Copy>(
+fn check_names<A: Allocator + Copy, T: AskRows>(
     alloc: A,
     raw: &RawImage<A>,
     headers: &Pages<Header, A>,
-    ask: &impl AskRows,
+    ask: &T,
 ) -> Result<(), ShapeFault>
+    requires can_ask { T.can_ask ask.now }
     requires shown { ShowsHeads headers.now raw.now }
     requires in_range { least_failed (rule_1 (raw_of raw.now)) ≡ None }
     ensures { FindsNoneWhere result (finding_from (raw_of raw.now) name_rules) }
@@ -78,11 +80,12 @@ fn check_extents<A: Allocator + Copy>(
 
 /// `check_shape`, where the tests of single nodes are asked by `ask`.
 #[doc(hidden)]
-pub fn check_asking<A: Allocator + Copy>(
+pub fn check_asking<A: Allocator + Copy, T: AskRows>(
     alloc: A,
     raw: &RawImage<A>,
-    ask: &impl AskRows,
+    ask: &T,
 ) -> Result<(), ShapeFault>
+    requires { T.can_ask ask.now }
     ensures { FindsNoneWhere result (finding_of (raw_of raw.now)) }
 {
     let headers = check_nodes(alloc, raw, ask)?;

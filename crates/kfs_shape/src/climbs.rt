@@ -125,12 +125,13 @@ pub(crate) fn is_below_root(tops: &[Option<u32>], row: &RawNode) -> bool
 
 /// Rule 7: the least number of a directory from which a climb doesn't reach the root, if there is one.
 /// `Err` where memory is refused.
-pub(crate) fn least_unrooted<A: Allocator + Copy>(
+pub(crate) fn least_unrooted<A: Allocator + Copy, T: AskRows>(
     alloc: A,
     raw: &RawImage<A>,
     headers: &Pages<Header, A>,
-    ask: &impl AskRows,
+    ask: &T,
 ) -> Result<Option<u32>, AllocError>
+    requires can_ask { T.can_ask ask.now }
     requires shown { ShowsHeads headers.now raw.now }
     requires in_range { least_failed (rule_1 (raw_of raw.now)) ≡ None }
     requires ascend { least_failed (rule_4 (raw_of raw.now)) ≡ None }

@@ -77,7 +77,10 @@ fn is_in_place<A: Allocator>(
 /// Rule 8: the least file number of an extent that isn't above the row before, isn't of blocks of a
 /// file, has no block or too few bytes, or shares a block with another extent. None if there is no such
 /// extent. Takes no memory.
-pub(crate) fn least_misplaced<A: Allocator>(raw: &RawImage<A>, headers: &Pages<Header, A>) -> Option<u32>
+pub(crate) fn least_misplaced<A: Allocator>(
+    raw: &RawImage<A>,
+    headers: &Pages<Header, A>,
+) -> Option<u32>
     requires { ShowsHeads headers.now raw.now }
     ensures { result ≡ least_failed (rule_8 (raw_of raw.now)) }
 {

@@ -63,7 +63,10 @@ pub(crate) fn least_out_of_order<A: Allocator>(
 
 /// Rule 5: the least number that a name leads to though it is no node's, or is 1. None if there is no
 /// such name. Takes no memory.
-pub(crate) fn least_lost_target<A: Allocator>(raw: &RawImage<A>, headers: &Pages<Header, A>) -> Option<u32>
+pub(crate) fn least_lost_target<A: Allocator>(
+    raw: &RawImage<A>,
+    headers: &Pages<Header, A>,
+) -> Option<u32>
     requires { ShowsHeads headers.now raw.now }
     ensures { result ≡ least_failed (rule_5 (raw_of raw.now)) }
 {
@@ -135,12 +138,13 @@ pub(crate) fn has_right_names(counts: &[u64], row: &RawNode) -> bool
 /// Rule 6: the least number of a file that doesn't have 1 to 1,024 names, or not as many as its links,
 /// or of a directory other than 1 that doesn't have exactly one name. None if there is no such node.
 /// `Err` where memory is refused.
-pub(crate) fn least_miscounted<A: Allocator + Copy>(
+pub(crate) fn least_miscounted<A: Allocator + Copy, T: AskRows>(
     alloc: A,
     raw: &RawImage<A>,
-    ask: &impl AskRows,
+    ask: &T,
 ) -> Result<Option<u32>, AllocError>
-    requires { least_failed (rule_4 (raw_of raw.now)) ≡ None }
+    requires can_ask { T.can_ask ask.now }
+    requires ascend { least_failed (rule_4 (raw_of raw.now)) ≡ None }
     ensures { IfOk result (λ least. least ≡ least_failed (rule_6 (raw_of raw.now))) }
 {
     let counts = count_names(alloc, raw)?;
@@ -149,10 +153,7 @@ pub(crate) fn least_miscounted<A: Allocator + Copy>(
 
 /// How many names lead to each node, by its number, in an image whose name rows ascend. `Err` where memory
 /// is refused.
-fn count_names<A: Allocator + Copy>(
-    alloc: A,
-    raw: &RawImage<A>,
-) -> Result<Vec<u64, A>, AllocError>
+fn count_names<A: Allocator + Copy>(alloc: A, raw: &RawImage<A>) -> Result<Vec<u64, A>, AllocError>
     requires { least_failed (rule_4 (raw_of raw.now)) ≡ None }
     ensures { IfOk result (λ counts. CountsNames counts.items (raw_of raw.now)) }
 {

@@ -47,8 +47,12 @@ impl<'a> NodeTest<'a> {
 
 /// Who asks tests of node rows.
 pub trait AskRows {
+    /// What must hold before a call.
+    ghost can_ask: { Self → Type 0 };
+
     /// The least number of a row that fails the test. None if there is no such row.
     fn least_failed(&self, test: NodeTest, rows: &[RawNode]) -> Option<u32>
+        requires { can_ask self.now }
         ensures { result ≡ least_failed (map (test_of test.entry) (map raw_node_of rows.now)) };
 }
 
@@ -57,6 +61,10 @@ pub trait AskRows {
 pub struct InTurn;
 
 impl AskRows for InTurn {
+    ghost use Rattle.std.specs.Prelude.{⊤};
+
+    ghost can_ask = { λ turn. ⊤ };
+
     fn least_failed(&self, test: NodeTest, rows: &[RawNode]) -> Option<u32> {
         test.least_failed(rows)
     }

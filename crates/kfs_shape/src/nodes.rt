@@ -66,10 +66,8 @@ pub(crate) fn is_header_in_range(version: u8, row: &RawNode) -> bool
 /// Rule 3: the least number of a node whose mode is over 0o1777 (over 0o777 in version 1) or whose size
 /// is over 2^32, or of a directory with other links than 1 or another size than 0. None if there is no
 /// such node.
-pub(crate) fn least_bad_header<A: Allocator>(
-    raw: &RawImage<A>,
-    ask: &impl AskRows,
-) -> Option<u32>
+pub(crate) fn least_bad_header<A: Allocator, T: AskRows>(raw: &RawImage<A>, ask: &T) -> Option<u32>
+    requires { T.can_ask ask.now }
     ensures { result ≡ least_failed (rule_3 (raw_of raw.now)) }
 {
     ask.least_failed(NodeTest::Header(raw.version), raw.nodes.as_slice())

@@ -7,7 +7,6 @@ ghost use Rattle.kfs_workers_script.specs.declared.script.Step.{Step};
 
 /// Looks, judgements and moves of blocks leave what a verdict rests on: it is up to date after them
 /// exactly where it was before. So a verdict that was made before the moves lands as it was judged.
-#[tactic(auto, using(crate::proofs::BetweenLandings::steps_leave_verdicts))]
 pub fn moves_leave_verdicts()
     ensures { (state last : ScriptState) (script : List Step) → AllByRecursion LandsNothing script → DoesSteps state script last → HaveSameVerdicts state last }
 {}

@@ -14,4 +14,4 @@ pub returns-in-None : goal.returns-in-None
 returns-in-None g c =
     let tree = shown_tree c.args.image.now in
     let none = c.in_ok-bytes.ensures.none (ap Ok c.in-None.is) in
-    on_ok_weaker c.extend_from_slice.result (none_said c.args.client.now tree c.args.log.now c.args.out.now.items c.extend_from_slice.new.self.items none) c.extend_from_slice.ensures.items
+    on_ok_weaker c.push_none.result (none_said c.args.client.now tree c.args.log.now c.args.out.now.items c.push_none.new.out.items none) c.push_none.ensures
