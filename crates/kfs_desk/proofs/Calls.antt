@@ -27,8 +27,7 @@ use Rattle.kfs_lease.specs.declared.act.Act.{Act}
 use Rattle.kfs_lease.specs.declared.act.Act.TheVariants as acts
 use Rattle.kfs_plan.specs.declared.answers.Done.{Done}
 use Rattle.kfs_plan.specs.declared.answers.Done.TheVariants.{Moved}
-use Rattle.kfs_plan.specs.Judged.{Judged}
-use Rattle.kfs_desk.specs.Machine.{Parts, IsCurrent, IsActed, IsCallStep, IsChange, IsDesk, IsMigrated, IsShown, call_fault_of, call_of, done_by, outcome_at, row_answer, shown, state_at, state_of, told_by_leases}
+use Rattle.kfs_desk.specs.Machine.{Parts, IsActed, IsCallStep, IsChange, IsDesk, IsMigrated, IsShown, SeeTheSame, call_fault_of, call_of, done_by, outcome_at, row_answer, shown, state_at, state_of, told_by_leases}
 use Rattle.kfs_desk.proofs.Dockets.{desk_with}
 
 -- ---- a call for leases
@@ -103,9 +102,9 @@ module _ (desk : Parts) (moves : List Move) (new : DeviceImage) where
   placement_alone (Ok done) (said, none, applied, same) = (moved_by moves before.placement, sym (lands applied same))
   placement_alone (Err fault) (refusal, said, found, same) = (before.placement, sym (stays same))
 
--- a verdict holds as long as nothing changes but where blocks lie
-pub verdict_stays : {A : Type 0} (s t : State) → DiffersInPlacement s t → (judged : Judged A) → IsCurrent s judged → IsCurrent t judged
-verdict_stays s t (placement, is) judged current = subst (λ (u : State). IsCurrent u judged) (sym is) (record { row = current.row; agrees = current.agrees })
+-- each client sees the same as long as nothing changes but where blocks lie
+pub seen_same : (s t : State) → DiffersInPlacement s t → SeeTheSame s t
+seen_same s t (placement, is) = subst (SeeTheSame s) (sym is) (λ number. (refl, refl))
 
 -- moves without a fault aren't too many
 pub few_moves : (sizes : TierSizes) (placement : Placement) (moves : List Move) → fault_of_moves sizes placement moves ≡ None → length moves ≤ move_limit
@@ -133,6 +132,9 @@ moves_refused image moves fault is other =
 -- a state that stays differs in nothing
 pub unmoved : (s t : State) → t ≡ s → DiffersInPlacement s t
 unmoved s t same = (s.placement, same)
+
+pub seen_unmoved : (s t : State) → t ≡ s → SeeTheSame s t
+seen_unmoved s t same = seen_same s t (unmoved s t same)
 
 -- ---- with its row in the docket
 

@@ -255,6 +255,10 @@ pub record IsChange (outcome : leases.LeaseOutcome) (words : ℕ → Done) (answ
 abbrev pub IsChangeOf : Leases → Sight → List Client → Act → (answer : Result Done ActFault) → (new : Leases) → Type 0
 IsChangeOf table sight clients act answer new = IsChange (outcome_at table sight clients act) (done_by act) answer new
 
+-- each client has the same row at both, and sees the same: all that a judgement reads
+abbrev pub SeeTheSame : (s t : State) → Type 0
+SeeTheSame s t = (number : ℕ) → (row_of t.clients number ≡ row_of s.clients number) × (client_sight_of t number ≡ client_sight_of s number)
+
 -- the moves have no fault, and the image has them made and shows the same tree; or their fault is
 -- answered, and the image is as it was
 abbrev pub IsMigrated : (old : DeviceImage) → List Move → (answer : Result Done ActFault) → (new : DeviceImage) → Type 0

@@ -14,9 +14,8 @@ ghost use Rattle.kfs_model_device.specs.ShownTree.{IsLawful, shown_tree};
 ghost use Rattle.kfs_image.specs.Image as images;
 ghost use Rattle.kfs_judge_check.specs.View.{clients_of, contents_of, leases_of};
 ghost use Rattle.kfs_plan.specs.Judging.{IsVerdict, submission_of};
-ghost use Rattle.kfs_plan.specs.Judged.{Judged as JudgedShown};
 ghost use Rattle.kfs_desk.specs.Landing.{AnswersOutcome, CanLand, leases_left};
-ghost use Rattle.kfs_desk.specs.Machine.{AreShown, IsAnswered, IsBackFor, IsCallOf, IsChangeOf, IsCurrent, IsImageOf, IsMigrated, IsViewOf, RunsThrough, call_of, done_by, number_of, opened_at, outcome_at, state_at};
+ghost use Rattle.kfs_desk.specs.Machine.{AreShown, IsAnswered, IsBackFor, IsCallOf, IsChangeOf, IsCurrent, IsImageOf, IsMigrated, IsViewOf, RunsThrough, SeeTheSame, call_of, done_by, number_of, opened_at, outcome_at, state_at};
 ghost use Rattle.kfs_desk.specs.Docket.{is_rejudged};
 ghost use Rattle.kfs_desk.specs.Opening.{begin_fault};
 
@@ -196,14 +195,14 @@ impl<A: Allocator + Copy> Desk<A> {
     ///
     /// The answer is a row of the docket: `Moved` with the number of moves, or the refusal of
     /// `check_moves` of `kfs_migrate`. `Err` as for `lease`.
-    #[tactic(auto, using(crate::proofs::Calls::unmoved))]
+    #[tactic(auto, using(crate::proofs::Calls::unmoved, crate::proofs::Calls::seen_unmoved))]
     pub fn migrate(&mut self, moves: &[Move]) -> Result<ActReply, Unanswered>
         ensures called { IsCallOf self.old (machine.Migrate moves.now) Done.Moved result self.new }
         ensures rest { DiffersInPlacement self.old.state self.new.state }
         ensures tree { self.new.state.tree ≡ self.old.state.tree }
 
-        // A verdict from before the moves holds after them, and so lands as it was judged.
-        ensures verdicts { (B : Type 0) (judged : JudgedShown B) → IsCurrent self.old.state judged → IsCurrent self.new.state judged }
+        // Each client sees the same then. So a verdict from before lands as it was judged.
+        ensures seen { SeeTheSame self.old.state self.new.state }
     {
         let position = self.next_row()?;
         let before = ShownState::of(&self.image, &self.clients, &self.leases);

@@ -4,8 +4,8 @@ use Rattle.kfs_model.specs.Judgement.{State}
 use Rattle.kfs_model.specs.Machine.{Migrate, Row}
 use Rattle.kfs_model.specs.Means.{DiffersInPlacement}
 use Rattle.kfs_plan.specs.declared.answers.Done.TheVariants.{Moved}
-use Rattle.kfs_desk.specs.Machine.{Desk, Parts, IsActed, IsCallStep, IsCurrent, shown, state_at, state_of}
-use Rattle.kfs_desk.proofs.Calls.{acted_at, acted_desk, between, moves_are_step, placement_alone, verdict_stays}
+use Rattle.kfs_desk.specs.Machine.{Desk, Parts, IsActed, IsCallStep, SeeTheSame, shown, state_at, state_of}
+use Rattle.kfs_desk.proofs.Calls.{acted_at, acted_desk, between, moves_are_step, placement_alone, seen_same}
 use Rattle.kfs_desk.proofs.desk.Desk.migrate.Goals as goal
 
 pub add_moves-requires-clause-step : goal.add_moves-requires-clause-step
@@ -69,11 +69,11 @@ returns-clause-tree g c =
     let (placement, is) = placement_alone desk moves c.make_moves.new.image c.in_ok-answer.answer c.in_ok-answer.ensures.ok in
     ap (λ (s : State). s.tree) is ∙ ap (λ (d : Desk). d.state.tree) c.self.view_is
 
-pub returns-clause-verdicts : goal.returns-clause-verdicts
-returns-clause-verdicts g c B judged =
+pub returns-clause-seen : goal.returns-clause-seen
+returns-clause-seen g c =
     let inside = c.self.inside in
     let desk : Parts = record { image = inside.image; clients = inside.clients.value.items; leases = inside.leases.value; opening = inside.opening; docket = inside.docket; limit = inside.limit } in
     let moves = c.args.moves.now in
     let new = c.make_moves.new.image in
     let rest = placement_alone desk moves new c.in_ok-answer.answer c.in_ok-answer.ensures.ok in
-    subst (λ (d : Desk). IsCurrent d.state judged → IsCurrent (state_at new desk.clients desk.leases) judged) c.self.view_is (verdict_stays (state_of desk) (state_at new desk.clients desk.leases) rest judged)
+    subst (λ (d : Desk). SeeTheSame d.state (state_at new desk.clients desk.leases)) c.self.view_is (seen_same (state_of desk) (state_at new desk.clients desk.leases) rest)
