@@ -13,12 +13,12 @@ use Rattle.kfs_workers_crew.specs.Tasks.{AscendWithin, all_of}
 use Rattle.kfs_workers_batch.specs.Answers.{IsRepliedIn, IsWhyLeft}
 use Rattle.kfs_workers_batch.specs.declared.end.Left.{Left}
 
--- the desk was begun as the one before; its docket begins with that one's rows, is legal, and leads to its state
-pub record GoesOn (old new : Desk) : Type 0 where
-  pub begun : beginning_of new ≡ beginning_of old
-  pub begins : StartsWith new.docket old.docket
-  pub legal : IsLegalDocket new.opening new.docket new.state
-  pub docket : IsDocketFrom (beginning_of new) new.docket
+-- the desk was begun so; its docket begins with these rows, is legal, and leads to its state
+pub record GoesOn (beginning : Beginning) (docket : List Row) (desk : Desk) : Type 0 where
+  pub begun : beginning_of desk ≡ beginning
+  pub begins : StartsWith desk.docket docket
+  pub legal : IsLegalDocket desk.opening desk.docket desk.state
+  pub docket_from : IsDocketFrom beginning desk.docket
 
 -- Of the submissions, the first of which has this number: each has its reply in the docket, or is left with its number, as it was
 -- handed in, with the reason. What is left stands in the order of the numbers

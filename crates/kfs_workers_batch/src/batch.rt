@@ -1,8 +1,9 @@
 //! A batch of submissions, judged and landed by several workers.
-ghost use Rattle.std.specs.Prelude.{◌≡◌, ◌↔◌, ◌/◌, ◌^◌, ◌<◌, ◌≤◌, [], length, map, replicate, vec_capacity, All, IfOk, IfErr};
+ghost use Rattle.std.specs.Prelude.{◌≡◌, ◌↔◌, ◌-◌, ◌/◌, ◌^◌, ◌<◌, ◌≤◌, [], length, map, replicate, vec_capacity, All, IfOk, IfErr, IsTrue};
 ghost use Rattle.kfs_workers_batch.specs.Batch.{AreSettled, AreTheRows, AscendInShares, GoesOn};
 ghost use Rattle.kfs_workers_batch.specs.Back.{AreBack, IsForWorkers};
 ghost use Rattle.kfs_desk.specs.Beginning.{beginning_of};
+ghost use Rattle.kfs_workers_threads.specs.Passes.{IsPassOf, started, seen, own};
 
 use crate::end::{BatchBack, BatchEnd, Left};
 use crate::job::{Gate, Job};
@@ -32,7 +33,8 @@ fn room<'g, A: Allocator + Copy, G: Gate>(
     workers: usize,
     submissions: usize,
 ) -> Result<Room<'g, A, G>, AllocError>
-    requires { 0 < workers }
+    requires some { 0 < workers }
+    requires few { submissions < 2 ^ 32 }
     ensures jobs { IfOk result (λ room. (room.jobs.items ≡ []) × (submissions ≤ vec_capacity room.jobs)) }
     ensures replies { IfOk result (λ room. (room.replies.items ≡ []) × (submissions ≤ vec_capacity room.replies)) }
     ensures left { IfOk result (λ room. (room.left.items ≡ []) × (submissions ≤ vec_capacity room.left)) }
@@ -49,6 +51,64 @@ fn room<'g, A: Allocator + Copy, G: Gate>(
         replies,
         left,
         crew,
+    })
+}
+
+/// Whether a docket that had so many rows, and has so many now, has a new one for each reply.
+fn has_a_row_for_each(before: u64, now: u32, replies: usize, left: usize) -> bool
+    ensures { IsTrue result → now - before ≡ replies - left }
+{
+    u64::from(now).saturating_sub(before) == replies.saturating_sub(left) as u64
+}
+
+/// The batch at a shared desk, whose first pass this is. Takes no memory but what judging and landing
+/// need.
+fn batch_at<A: Allocator + Copy + Send + Sync, G: Gate + Sync, R: Threads + Wait + Sync>(
+    rt: &R,
+    alloc: A,
+    gate: &G,
+    shared: Shared<Desk<A>, A>,
+    pass: Pass<Desk<A>>,
+    submissions: Vec<Submission<A>, A>,
+    room: Room<'_, A, G>,
+) -> Result<BatchEnd<A>, BatchBack<A>>
+    requires pass { IsPassOf shared pass × (own pass ≡ []) }
+    requires few { length submissions.items < 2 ^ 32 }
+    requires jobs { (room.jobs.items ≡ []) × (length submissions.items ≤ vec_capacity room.jobs) }
+    requires replies { (room.replies.items ≡ []) × (length submissions.items ≤ vec_capacity room.replies) }
+    requires left { (room.left.items ≡ []) × (length submissions.items ≤ vec_capacity room.left) }
+    requires shares { (0 < length room.crew.shares.items) × (map (λ share. share.items) room.crew.shares.items ≡ replicate (length room.crew.shares.items) []) }
+    requires rooms { All (λ share. length submissions.items / length room.crew.shares.items < vec_capacity share) room.crew.shares.items }
+    requires workers { (room.crew.workers.items ≡ []) × (length room.crew.shares.items ≤ vec_capacity room.crew.workers) }
+    ensures desk { IfOk result (λ end. GoesOn (started beginning_of shared) (seen pass) end.desk) }
+    ensures settled { IfOk result (λ end. AreSettled (started beginning_of shared) end.desk.docket 0 submissions.items end.replies.items end.left.items) }
+    ensures rows { IfOk result (λ end. AreTheRows (length (seen pass)) (length end.desk.docket) end.replies.items) }
+    ensures shares { IfOk result (λ end. AscendInShares (length room.crew.shares.items) (length (seen pass)) (length end.desk.docket) end.replies.items) }
+    ensures back { IfErr result (λ back. back ≡ BatchBack.Unreturned) }
+{
+    let rows = pass.seen();
+    let mut pass = pass;
+    let Room {
+        jobs,
+        replies,
+        left,
+        crew,
+    } = room;
+    let mut replies = replies;
+    let mut left = left;
+    let mut jobs = jobs_of(alloc, gate, submissions, jobs);
+    crew.work(rt, &shared, &mut pass, &mut jobs);
+    let Ok(desk) = shared.close(pass) else {
+        return Err(BatchBack::Unreturned);
+    };
+    settle(jobs, &mut replies, &mut left);
+    if !has_a_row_for_each(rows, desk.docket().len(), replies.len(), left.len()) {
+        return Err(BatchBack::Unreturned);
+    }
+    Ok(BatchEnd {
+        desk,
+        replies,
+        left,
     })
 }
 
@@ -70,7 +130,7 @@ pub fn run_batch<A: Allocator + Copy + Send + Sync, G: Gate + Sync, R: Threads +
     requires few { length submissions.items < 2 ^ 32 }
 
     // The desk is the one that was handed in, with the rows of the batch behind its own.
-    ensures desk { IfOk result (λ end. GoesOn desk end.desk) }
+    ensures desk { IfOk result (λ end. GoesOn (beginning_of desk) desk.docket end.desk) }
 
     // Each submission has its reply in the docket, or is left, with the reason.
     ensures settled { IfOk result (λ end. AreSettled (beginning_of desk) end.desk.docket 0 submissions.items end.replies.items end.left.items) }
@@ -89,26 +149,8 @@ pub fn run_batch<A: Allocator + Copy + Send + Sync, G: Gate + Sync, R: Threads +
     let Ok(room) = room(alloc, workers, submissions.len()) else {
         return Err(BatchBack::OutOfMemory { desk, submissions });
     };
-    let rows = desk.docket().len();
-    let (shared, pass) = match Shared::new(alloc, desk, 0) {
-        Ok(sharing) => sharing,
-        Err(desk) => return Err(BatchBack::OutOfMemory { desk, submissions }),
-    };
-    let mut pass = pass;
-    let Room {
-        jobs,
-        mut replies,
-        mut left,
-        crew,
-    } = room;
-    let mut jobs = jobs_of(alloc, gate, submissions, jobs);
-    crew.work(rt, &shared, &mut pass, &mut jobs);
-    let Ok(desk) = shared.close(pass) else {
-        return Err(BatchBack::Unreturned);
-    };
-    settle(jobs, &mut replies, &mut left);
-    if (desk.docket().len() - rows) as usize != replies.len() - left.len() {
-        return Err(BatchBack::Unreturned);
+    match Shared::new(alloc, desk, 0) {
+        Ok((shared, pass)) => batch_at(rt, alloc, gate, shared, pass, submissions, room),
+        Err(desk) => Err(BatchBack::OutOfMemory { desk, submissions }),
     }
-    Ok(BatchEnd { desk, replies, left })
 }
