@@ -2,6 +2,7 @@
 ghost use Rattle.std.specs.Prelude.{◌≡◌, ◌+◌, ◌<◌, ◌^◌, ◌++◌, ◌∷◌, [], length, Result};
 ghost use Rattle.kfs_model.specs.Machine.{Migrate, Row};
 ghost use Rattle.kfs_plan.specs.Judging.{submission_of};
+ghost use Rattle.kfs_plan.specs.declared.answers.Done.TheVariants.{Moved};
 ghost use Rattle.kfs_desk.specs.Machine.{IsCallStep, IsStep, call_of, done_by};
 
 use crate::state::ShownState;
@@ -91,7 +92,7 @@ struct Migrated<'a, A: Allocator> {
 }
 
 impl<A: Allocator> RowRule for Migrated<'_, A> {
-    ghost is_row = { λ a row. IsCallStep a.before.now (Migrate a.moves.now) Done.Moved a.answer.now row a.after.now };
+    ghost is_row = { λ a row. IsCallStep a.before.now (Migrate a.moves.now) Moved a.answer.now row a.after.now };
 }
 
 /// Adds the row of moves, which leads from the state before to the state after.
@@ -103,8 +104,8 @@ pub fn add_moves<A: Allocator>(
     after: &ShownState<A>,
 )
     requires room { length docket.old + 1 < 2 ^ 32 }
-    requires step { (row : Row) × IsCallStep before.now (Migrate moves.now) Done.Moved answer.now row after.now }
-    ensures { (row : Row) × IsCallStep before.now (Migrate moves.now) Done.Moved answer.now row after.now × (docket.new ≡ docket.old ++ row ∷ []) }
+    requires step { (row : Row) × IsCallStep before.now (Migrate moves.now) Moved answer.now row after.now }
+    ensures { (row : Row) × IsCallStep before.now (Migrate moves.now) Moved answer.now row after.now × (docket.new ≡ docket.old ++ row ∷ []) }
 {
     let row = OneRow::of(&Migrated {
         before,

@@ -1,22 +1,15 @@
-//! The check of an image by all ten rules, in order, and the image of one that breaks none.
-ghost use Rattle.std.specs.Prelude.{◌≡◌, None, IfOk, IfErr};
+//! The checker: the check by all ten rules, and the image of rows that break none.
+ghost use Rattle.std.specs.Prelude.{◌≡◌, IfOk, IfErr};
 ghost use Rattle.kfs_model_device.specs.RawImage.{image_of};
-ghost use Rattle.kfs_model_device.specs.Rules.{rule_1};
-ghost use Rattle.kfs_model_device.specs.Finding.{finding_from, finding_of, least_failed, IsWellFormed};
+ghost use Rattle.kfs_model_device.specs.Finding.{IsWellFormed};
 ghost use Rattle.kfs_image_codec.specs.RawImages.{raw_of};
-ghost use Rattle.kfs_shape.specs.Findings.{node_rules, name_rules, FindsNoneWhere};
-ghost use Rattle.kfs_shape.specs.Heads.{ShowsHeads};
 ghost use Rattle.kfs_fsck.specs.Faults.{Tells};
 
 use crate::fault::FsckFault;
-use crate::nodes::{least_bad_header, least_miscounted, least_unrooted};
-use kfs_image::{Header, Image, RawImage};
-use kfs_shape::check::{check_extents, no_failure};
-use kfs_shape::heads::{headers, least_missing_root};
-use kfs_shape::names::least_lost_target;
-use kfs_shape::{ShapeFault, names, nodes};
+use crate::parts::InParts;
+use kfs_image::{Image, RawImage};
+use kfs_shape::{ShapeFault, check_asking};
 use std::alloc::Allocator;
-use std::collections::BTreeMap;
 use std::thread::Threads;
 
 /// Lets a raw image in: the image of its rows, if they break none of the ten rules of
@@ -34,7 +27,7 @@ pub fn fsck<A: Allocator + Copy>(
     ensures image { IfOk result (λ image. image ≡ image_of (raw_of raw)) }
     ensures fault { IfErr result (Tells raw) }
 {
-    match check(rt, alloc, &raw) {
+    match check_asking(alloc, &raw, &InParts { threads: rt }) {
         Ok(()) => image_from(alloc, raw),
         Err(ShapeFault::Found(finding)) => Err(FsckFault::Found(finding)),
         Err(ShapeFault::OutOfMemory) => Err(FsckFault::OutOfMemory(raw)),
@@ -52,50 +45,4 @@ fn image_from<A: Allocator + Copy>(alloc: A, raw: RawImage<A>) -> Result<Image<A
         Ok(image) => Ok(image),
         Err(back) => Err(FsckFault::OutOfMemory(back)),
     }
-}
-
-/// Checks all rules.
-fn check<A: Allocator + Copy>(
-    rt: &(impl Threads + Sync),
-    alloc: A,
-    raw: &RawImage<A>,
-) -> Result<(), ShapeFault>
-    ensures { FindsNoneWhere result (finding_of (raw_of raw.now)) }
-{
-    let headers = check_nodes(rt, alloc, raw)?;
-    check_names(rt, alloc, raw, &headers)?;
-    check_extents(alloc, raw, &headers)
-}
-
-/// Checks rules 1 to 3, and answers the headers by number.
-fn check_nodes<A: Allocator + Copy>(
-    rt: &(impl Threads + Sync),
-    alloc: A,
-    raw: &RawImage<A>,
-) -> Result<BTreeMap<u32, Header, A>, ShapeFault>
-    ensures shown { IfOk result (λ headers. ShowsHeads headers raw.now) }
-    ensures told { FindsNoneWhere result (finding_from (raw_of raw.now) node_rules) }
-{
-    no_failure(1, nodes::least_out_of_order(raw))?;
-    let headers = headers(alloc, raw)?;
-    no_failure(2, least_missing_root(raw, &headers))?;
-    no_failure(3, least_bad_header(rt, raw))?;
-    Ok(headers)
-}
-
-/// Checks rules 4 to 7 of an image whose node rows ascend.
-fn check_names<A: Allocator + Copy>(
-    rt: &(impl Threads + Sync),
-    alloc: A,
-    raw: &RawImage<A>,
-    headers: &BTreeMap<u32, Header, A>,
-) -> Result<(), ShapeFault>
-    requires shown { ShowsHeads headers.now raw.now }
-    requires in_range { least_failed (rule_1 (raw_of raw.now)) ≡ None }
-    ensures { FindsNoneWhere result (finding_from (raw_of raw.now) name_rules) }
-{
-    no_failure(4, names::least_out_of_order(raw, headers))?;
-    no_failure(5, least_lost_target(raw, headers))?;
-    no_failure(6, least_miscounted(rt, alloc, raw)?)?;
-    no_failure(7, least_unrooted(rt, alloc, raw, headers)?)
 }

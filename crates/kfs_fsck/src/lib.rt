@@ -7,7 +7,6 @@
 mod check;
 mod fault;
 pub mod laws;
-mod nodes;
 mod parts;
 
 pub use check::fsck;

@@ -1,17 +1,49 @@
 -- The exit status of the program, and what a person is told of it.
-use Rattle.std.specs.Prelude.{◌≡◌, ◌⊎◌, ◌≤◌, ◌==◌, ℕ, List, [], codes, Option, Some, None, Result, Ok, Err, if◌then◌else◌}
+use Rattle.std.specs.Prelude.{◌≡◌, ◌⊎◌, ◌≤◌, ◌==◌, ℕ, List, [], length, slice_index_or, codes, Bool, true, false, Option, Some, None, Result, Ok, Err, if◌then◌else◌}
+use Rattle.std.specs.Borrow.{Bor}
 use Rattle.std.specs.Io.KnownBytes.{IsAtEnd}
 use Rattle.kfs_program_engine.specs.Transcript.{IsSession}
 use Rattle.kfs_program_text.specs.Streams.{Exchanges}
+use Rattle.kfs_program_images.specs.Showing.{Passes, Shows}
+use Rattle.kfs_program.specs.Image.{IsAnswered}
+use Rattle.kfs_program.specs.declared.run.Subcommand.{Subcommand}
+use Rattle.kfs_program.specs.declared.run.Subcommand.TheVariants.{Run, Fsck, Show}
 use Rattle.kfs_program_engine.specs.declared.fault.EngineFault.{EngineFault}
 use Rattle.kfs_program_engine.specs.declared.fault.EngineFault.TheVariants.{ReadFault, WriteFault, LongLine, OutOfMemory}
 
-abbrev pub status_of : {T : Type 0} → Result T EngineFault → ℕ
+abbrev pub fault_status_of : EngineFault → ℕ
+fault_status_of ReadFault = 3
+fault_status_of WriteFault = 3
+fault_status_of LongLine = 3
+fault_status_of OutOfMemory = 4
+
+abbrev pub status_of : Result (Unit {0}) EngineFault → ℕ
 status_of (Ok done) = 0
-status_of (Err ReadFault) = 3
-status_of (Err WriteFault) = 3
-status_of (Err LongLine) = 3
-status_of (Err OutOfMemory) = 4
+status_of (Err fault) = fault_status_of fault
+
+-- of a word that takes an image: whether it was let in
+abbrev pub image_status_of : Result Bool EngineFault → ℕ
+image_status_of (Ok true) = 0
+image_status_of (Ok false) = 1
+image_status_of (Err fault) = fault_status_of fault
+
+-- the words as a caller hands them in: the first is the program's name
+abbrev pub Words : Type 0
+Words = List (Bor (List ℕ))
+
+-- the text of the second word, empty where there is none
+abbrev pub second_of : Words → List ℕ
+second_of words = (slice_index_or words 1 (record { ref_ptr = (0, 0); now = [] })).now
+
+-- the second word is this one, and there is no third
+abbrev pub HasSecond : Words → (name : List ℕ) → Type 0
+HasSecond words name = (length words ≡ 2) × (second_of words ≡ name)
+
+-- what the words ask for: without a second one it is to run
+abbrev pub IsAskedFor : Words → Subcommand → Type 0
+IsAskedFor words Run = (length words ≤ 1) ⊎ HasSecond words (codes "run")
+IsAskedFor words Fsck = HasSecond words (codes "fsck")
+IsAskedFor words Show = HasSecond words (codes "show")
 
 -- nothing was read, and nothing written
 abbrev pub IsUntouched : (input text : List ℕ) → Type 0
@@ -23,22 +55,34 @@ pub record IsEnded (at_end : Type 0) (status : ℕ) (input text : List ℕ) : Ty
   pub status_is : status ≡ status_of ended
   pub session : IsSession at_end ended input text
 
--- The words are refused, as they are where there are more than two, or memory for them is; then nothing
--- was read. Or else the engine ran.
-abbrev pub IsExit : (at_end : Type 0) → (words status : ℕ) → (input text : List ℕ) → Type 0
-IsExit at_end words status input text =
+-- a word that takes an image ended in this way, and this is its status
+pub record IsImageEnded (Says : (bytes text : List ℕ) → Type 0) (at_end : Type 0) (status : ℕ) (input text : List ℕ) : Type 0 where
+  pub ended : Result Bool EngineFault
+  pub status_is : status ≡ image_status_of ended
+  pub answered : IsAnswered Says at_end ended input text
+
+-- what was asked for ended in this way
+abbrev pub EndsAs : (A : Type 0) → (at_end : Type 0) → Subcommand → (status : ℕ) → (input text : List ℕ) → Type 0
+EndsAs A at_end Run status input text = IsEnded at_end status input text
+EndsAs A at_end Fsck status input text = IsImageEnded Passes at_end status input text
+EndsAs A at_end Show status input text = IsImageEnded (Shows A) at_end status input text
+
+-- The words are refused, as they are where they ask for nothing, or memory for them is; then nothing was
+-- read. Or else what they ask for was done.
+abbrev pub IsExit : (A : Type 0) → (at_end : Type 0) → (words : Words) → (status : ℕ) → (input text : List ℕ) → Type 0
+IsExit A at_end words status input text =
     ((status ≡ 2) × IsUntouched input text)
-    ⊎ (((status ≡ 4) × IsUntouched input text) ⊎ ((words ≤ 2) × IsEnded at_end status input text))
+    ⊎ (((status ≡ 4) × IsUntouched input text) ⊎ ((asked : Subcommand) × IsAskedFor words asked × EndsAs A at_end asked status input text))
 
 -- so the words are run; `after_reads` is what the reader has left
-abbrev pub Exits : (before_reads after_reads before_writes after_writes : Option (List ℕ)) → (words status : ℕ) → Type 0
-Exits before_reads after_reads before_writes after_writes words status =
-    Exchanges before_reads after_reads before_writes after_writes (IsExit (IsAtEnd after_reads) words status)
+abbrev pub Exits : (A : Type 0) → (before_reads after_reads before_writes after_writes : Option (List ℕ)) → (words : Words) → (status : ℕ) → Type 0
+Exits A before_reads after_reads before_writes after_writes words status =
+    Exchanges before_reads after_reads before_writes after_writes (IsExit A (IsAtEnd after_reads) words status)
 
 -- the message for a status, if there is one
 abbrev pub message_of : (status : ℕ) → Option (List ℕ)
 message_of status =
-    if status == 2 then Some (codes "usage: kfs [run]")
+    if status == 2 then Some (codes "usage: kfs [run | fsck | show]")
     else if status == 3 then Some (codes "the input or the output failed, or a line was too long")
     else if status == 4 then Some (codes "out of memory")
     else None

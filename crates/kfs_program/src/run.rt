@@ -1,7 +1,8 @@
 //! The words of the command line, and the exit status.
-ghost use Rattle.std.specs.Prelude.{◌≡◌, ◌≤◌, length, MatchOption, None, OnOk, Some};
-ghost use Rattle.kfs_program.specs.Exit.{Exits, message_of, status_of};
+ghost use Rattle.std.specs.Prelude.{◌≡◌, IfOk, MatchOption, None, Some};
+ghost use Rattle.kfs_program.specs.Exit.{Exits, IsAskedFor, fault_status_of, image_status_of, message_of, status_of};
 
+use crate::image::{check_image, show_image};
 use clap::Command;
 use clap::error::ErrorKind;
 use kfs_program_engine::{EngineFault, engine};
@@ -14,6 +15,10 @@ use std::thread::Threads;
 enum Subcommand {
     /// `run`, or no word: answers command lines.
     Run,
+    /// `fsck`: checks the image of one line.
+    Fsck,
+    /// `show`: shows the nodes and names of the image of one line.
+    Show,
 }
 
 /// Why the words ask for nothing.
@@ -30,19 +35,23 @@ enum WordsFault {
 ///
 /// Answers the exit status:
 /// - 0: done;
+/// - 1: the input of `fsck` or `show` is no image that is let in, and the line says why;
 /// - 2: the words were refused, and nothing was read or written;
 /// - 3: a read or a write failed, or a line was too long;
-/// - 4: memory for the words or for a line of the input was refused.
+/// - 4: memory for the words or for a line of the input was refused, or for what `fsck` or `show` makes
+///   of it.
 pub fn run_words<R, A, I, O>(rt: &R, alloc: A, words: &[&str], reader: &mut I, writer: &mut O) -> u8
 where
     R: AllocGlobal + Threads + Sync,
     A: Allocator + Copy,
     I: Read,
     O: Write,
-    ensures { Exits (I.remaining reader.old) (I.remaining reader.new) (O.contents writer.old) (O.contents writer.new) (length words.now) result }
+    ensures { Exits A (I.remaining reader.old) (I.remaining reader.new) (O.contents writer.old) (O.contents writer.new) words.now result }
 {
     match asked_of(rt.alloc(), words) {
         Ok(Subcommand::Run) => exit_status(engine(rt, alloc, reader, writer)),
+        Ok(Subcommand::Fsck) => image_status(check_image(rt, alloc, reader, writer)),
+        Ok(Subcommand::Show) => image_status(show_image(alloc, reader, writer)),
         Err(WordsFault::Refused) => 2,
         Err(WordsFault::OutOfMemory) => 4,
     }
@@ -53,45 +62,80 @@ pub fn status_message(status: u8) -> Option<&'static str>
     ensures { MatchOption result (message_of status ≡ None) (λ message. message_of status ≡ Some message.now) }
 {
     match status {
-        2 => Some("usage: kfs [run]"),
+        2 => Some("usage: kfs [run | fsck | show]"),
         3 => Some("the input or the output failed, or a line was too long"),
         4 => Some("out of memory"),
         _ => None,
     }
 }
 
+/// The status of `run`.
 fn exit_status(ended: Result<(), EngineFault>) -> u8
     ensures { result ≡ status_of ended }
 {
     match ended {
         Ok(()) => 0,
-        Err(EngineFault::OutOfMemory) => 4,
-        Err(_) => 3,
+        Err(fault) => fault_status(fault),
     }
 }
 
-/// The subcommand that the words name. `clap` skips some words, such as `--`, so the number of words is
-/// checked too.
-fn asked_of(alloc: Global, words: &[&str]) -> Result<Subcommand, WordsFault>
-    ensures { OnOk result (length words.now ≤ 2) }
+/// The status of `fsck` and `show`: whether an image was let in.
+fn image_status(ended: Result<bool, EngineFault>) -> u8
+    ensures { result ≡ image_status_of ended }
 {
-    let asked = match parsed(alloc, words) {
-        Ok(asked) => asked,
-        Err(error) if error.kind() == ErrorKind::OutOfMemory => {
-            return Err(WordsFault::OutOfMemory);
-        }
-        Err(_) => return Err(WordsFault::Refused),
-    };
-    match asked {
-        None if words.len() <= 1 => Ok(Subcommand::Run),
-        Some(run) if words.len() == 2 => Ok(run),
-        _ => Err(WordsFault::Refused),
+    match ended {
+        Ok(true) => 0,
+        Ok(false) => 1,
+        Err(fault) => fault_status(fault),
     }
 }
 
-fn parsed(alloc: Global, words: &[&str]) -> Result<Option<Subcommand>, clap::Error> {
+fn fault_status(fault: EngineFault) -> u8
+    ensures { result ≡ fault_status_of fault }
+{
+    match fault {
+        EngineFault::OutOfMemory => 4,
+        _ => 3,
+    }
+}
+
+/// What the words ask for. `clap` skips some words, such as `--`, so they are looked at, too.
+fn asked_of(alloc: Global, words: &[&str]) -> Result<Subcommand, WordsFault>
+    ensures { IfOk result (λ asked. IsAskedFor words.now asked) }
+{
+    take_words(alloc, words)?;
+    subcommand_in(words)
+}
+
+/// Whether `clap` takes the words.
+fn take_words(alloc: Global, words: &[&str]) -> Result<(), WordsFault> {
+    match parse(alloc, words) {
+        Ok(()) => Ok(()),
+        Err(error) if error.kind() == ErrorKind::OutOfMemory => Err(WordsFault::OutOfMemory),
+        Err(_) => Err(WordsFault::Refused),
+    }
+}
+
+fn parse(alloc: Global, words: &[&str]) -> Result<(), clap::Error> {
     let run = Command::new(alloc, "run");
     let command = Command::new(alloc, "kfs").subcommand(run)?;
-    let matches = command.try_get_matches_from(words)?;
-    Ok(matches.subcommand().map(|_| Subcommand::Run))
+    let fsck = Command::new(alloc, "fsck");
+    let command = command.subcommand(fsck)?;
+    let show = Command::new(alloc, "show");
+    let command = command.subcommand(show)?;
+    let _matches = command.try_get_matches_from(words)?;
+    Ok(())
+}
+
+/// The subcommand that the words name. The first one is the program's name.
+fn subcommand_in(words: &[&str]) -> Result<Subcommand, WordsFault>
+    ensures { IfOk result (λ asked. IsAskedFor words.now asked) }
+{
+    match *words {
+        [] | [_] => Ok(Subcommand::Run),
+        [_, "run"] => Ok(Subcommand::Run),
+        [_, "fsck"] => Ok(Subcommand::Fsck),
+        [_, "show"] => Ok(Subcommand::Show),
+        _ => Err(WordsFault::Refused),
+    }
 }

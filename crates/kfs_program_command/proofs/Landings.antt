@@ -1,7 +1,7 @@
 -- A line lands a verdict only where its first word says so.
 use Rattle.std.proofs.Common.{◌≡◌, ℕ, Bool, true, false, List, [], ◌∷◌, Option, Some, None, option_map, refl, sym, ap, ◌∙◌, if◌then◌else◌}
 use Rattle.kfs_model.specs.Steps.{◌>>=◌}
-use Rattle.kfs_program_command.specs.Command.{Command, Setup, New, Begin, Request, Tick, Submit, Node, Listing, Judge, Land, Move, asked_by, client_of, drop_of, judge_of, landing_worker, lease_of, load_of, move_of, moves_in, new_of, read_of, submission_in, submit_of, with_number}
+use Rattle.kfs_program_command.specs.Command.{Command, Setup, New, Begin, Request, Tick, Submit, Node, Listing, Judge, Land, Move, asked_by, client_of, drop_of, judge_of, landing_worker, lease_of, load_of, move_of, moves_in, new_of, plan_of, read_of, submission_in, submit_of, with_number}
 use Rattle.kfs_program_command.specs.Reading.{begin_of, command_named, docket_of, land_of, listing_of, named_by, node_of, save_of, tick_of}
 use Rattle.kfs_program_command.specs.declared.command.Keyword.{Keyword}
 use Rattle.kfs_program_command.specs.declared.command.Keyword.TheVariants as names
@@ -10,7 +10,7 @@ use Rattle.kfs_program_text.specs.Cut.{cut, space}
 use Rattle.kfs_program_text.specs.Decimals.{decimal32, decimal64, decimals32}
 use Rattle.kfs_program_text.specs.Reading.{are_words, checked, ended, first_by}
 use Rattle.kfs_program_text.proofs.WordByWord.{decimals_then, nothing_then, word_then}
-use Rattle.kfs_program_command.proofs.Readings.{asked_named, client_then, command_by_name, docket_then, drop_then, judge_then, lease_then, load_then, nameless, new_then, nothing_asked, number_then, read_then, save_then}
+use Rattle.kfs_program_command.proofs.Readings.{asked_named, client_then, command_by_name, docket_then, drop_then, judge_then, lease_then, load_then, nameless, new_then, nothing_asked, number_then, plan_then, read_then, save_then}
 
 -- ---- what is read word by word, and never asks for a landing
 
@@ -92,6 +92,9 @@ move_other : (words : List (List ℕ)) → landing_worker (move_of words) ≡ No
 move_other [] = refl
 move_other (word ∷ words) = mapped_other (moves_in (word ∷ words)) (λ moves. Request (Move moves)) (λ moves. refl)
 
+plan_other : (words : List (List ℕ)) → landing_worker (plan_of words) ≡ None
+plan_other words = ap landing_worker (plan_then words) ∙ word_other _ _ words (λ a one. word_other _ _ one (λ b left. nothing_other _ left refl))
+
 other_named : (name : Keyword) (words : List (List ℕ)) → (name ≡ names.Land → ⊥) → landing_worker (checked (command_named (Some name)) words) ≡ None
 unfolding begin_of tick_of node_of listing_of
 other_named names.New words other = checked_other new_of words (new_other words)
@@ -110,6 +113,7 @@ other_named names.Land words other = absurd (other refl)
 other_named names.Image words other = checked_other load_of words (load_other words)
 other_named names.Save words other = checked_other save_of words (save_other words)
 other_named names.Move words other = checked_other move_of words (move_other words)
+other_named names.Plan words other = checked_other plan_of words (plan_other words)
 
 -- ---- lines
 

@@ -2,7 +2,7 @@
 use Rattle.std.proofs.Common.{◌≡◌, ℕ, nat_lt, ◌==◌, ◌&&◌, List, [], ◌∷◌, length, take, Option, Some, None, option_map, refl, sym, ap, ◌∙◌, Bool, true, false, if◌then◌else◌}
 use Rattle.kfs_plan.specs.Judging.{submission_with}
 use Rattle.kfs_model.specs.Steps.{◌>>=◌}
-use Rattle.kfs_program_command.specs.Command.{Command, Setup, Request, Row, Begin, Lease, Drop, Tick, Submit, Node, Listing, Bytes, DocketLength, Judge, Land, Load, Save, asked_by, asked_in, client_of, client_row, command_of, drop_of, judge_of, kind_named, last_worker, lease_of, load_of, new_of, read_limit, read_of, submission_in, submit_of, with_number}
+use Rattle.kfs_program_command.specs.Command.{Command, Setup, Request, Row, Begin, Lease, Drop, Tick, Submit, Node, Listing, Bytes, DocketLength, Judge, Land, Load, Save, Plan, asked_by, asked_in, client_of, client_row, command_of, drop_of, judge_of, kind_named, last_worker, lease_of, load_of, new_of, plan_of, read_limit, read_of, submission_in, submit_of, with_number}
 use Rattle.kfs_program_command.specs.Reading.{begin_of, command_named, docket_of, land_of, listing_of, named_by, node_of, save_of, tick_of}
 use Rattle.kfs_program_text.specs.Cut.{cut, space}
 use Rattle.kfs_program_text.specs.Decimals.{decimal32, decimal64, decimal_within, decimals32, hexadecimal}
@@ -130,6 +130,21 @@ save_then (a ∷ words) = refl
 pub save_steps : (words : List (List ℕ)) → checked save_of words ≡ (ended words >>= λ done. Some (Request Save))
 save_steps words = checked_same _ _ save_then words ∙ checked_nothing _ words
 
+-- ---- plan
+
+pub plan_then : (words : List (List ℕ)) → plan_of words ≡ word_then decimal32 (λ a. word_then hexadecimal (λ b. nothing_then (Some (Request (Plan a b))))) words
+unfolding ended word_then nothing_then
+plan_then [] = refl
+plan_then (a ∷ []) = bind_none (decimal32 a) _ (λ x. refl)
+plan_then (a ∷ b ∷ []) = refl
+plan_then (a ∷ b ∷ c ∷ words) = bind_none (decimal32 a) _ (λ x. sym (bind_none (hexadecimal b) _ (λ y. refl)))
+
+pub plan_steps : (words : List (List ℕ)) → checked plan_of words ≡ (first_by decimal32 words >>= λ x. first_by hexadecimal x.1 >>= λ y. ended y.1 >>= λ done. Some (Request (Plan x.0 y.0)))
+plan_steps words =
+    checked_same _ _ plan_then words ∙ checked_then decimal32 _ words
+    ∙ bind_all (first_by decimal32 words) _ _ (λ x. checked_then hexadecimal _ x.1
+    ∙ bind_all (first_by hexadecimal x.1) _ _ (λ y. checked_nothing _ y.1))
+
 -- ---- submit and judge
 
 submission_then : (words : List (List ℕ)) → submission_in words ≡ word_then decimal32 (λ a. word_then hexadecimal (λ b. word_then hexadecimal (λ c. nothing_then (Some (submission_with a b c))))) words
@@ -241,7 +256,8 @@ command_by_name word name is words =
     (name_or (bytes_eq word (codes "land")) names.Land _ _ words
     (name_or (bytes_eq word (codes "image")) names.Image _ _ words
     (name_or (bytes_eq word (codes "save")) names.Save _ _ words
-    (name_or (bytes_eq word (codes "move")) names.Move None None words refl)))))))))))))))
+    (name_or (bytes_eq word (codes "move")) names.Move _ _ words
+    (name_or (bytes_eq word (codes "plan")) names.Plan None None words refl))))))))))))))))
     ∙ ap (λ n. command_named n words) (sym is)
 
 -- a word that names nothing begins no command

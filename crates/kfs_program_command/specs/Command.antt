@@ -34,6 +34,7 @@ pub data DeskCommand : Type 0 where
   Land : (worker : ℕ) → DeskCommand
   Save : DeskCommand
   Move : (moves : List BlockMove) → DeskCommand
+  Plan : (client : ℕ) (log : List ℕ) → DeskCommand
 
 pub data Command : Type 0 where
   Setup : (command : OpeningCommand) → Command
@@ -109,6 +110,14 @@ abbrev pub submit_of : List (List ℕ) → Option Command
 submit_of words = do
   submission ← submission_in words
   Some (Request (Submit submission))
+
+-- a client's number and a log
+abbrev pub plan_of : List (List ℕ) → Option Command
+plan_of (a ∷ b ∷ []) = do
+  client ← decimal32 a
+  log ← hexadecimal b
+  Some (Request (Plan client log))
+plan_of words = None
 
 -- the greatest number of a worker
 abbrev pub last_worker : ℕ
@@ -186,6 +195,7 @@ command_of name words =
     else if bytes_eq name (codes "image") then load_of words
     else if bytes_eq name (codes "save") then alone (Request Save) words
     else if bytes_eq name (codes "move") then move_of words
+    else if bytes_eq name (codes "plan") then plan_of words
     else None
 
 abbrev pub asked_in : List (List ℕ) → Option Command

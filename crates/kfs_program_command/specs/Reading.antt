@@ -2,7 +2,7 @@
 use Rattle.std.specs.Prelude.{ℕ, List, codes, bytes_eq, Option, Some, None, if◌then◌else◌}
 use Rattle.kfs_model.specs.Migration.{Move}
 use Rattle.kfs_model.specs.Steps.{◌>>=◌}
-use Rattle.kfs_program_command.specs.Command.{Command, Setup, Begin, Request, Tick, Node, Listing, DocketLength, Land, Save, alone, client_of, drop_of, judge_of, last_tier, last_worker, lease_of, load_of, move_of, move_to, new_of, read_of, submit_of, with_number}
+use Rattle.kfs_program_command.specs.Command.{Command, Setup, Begin, Request, Tick, Node, Listing, DocketLength, Land, Save, alone, client_of, drop_of, judge_of, last_tier, last_worker, lease_of, load_of, move_of, move_to, new_of, plan_of, read_of, submit_of, with_number}
 use Rattle.kfs_program_command.specs.declared.command.Keyword.{Keyword}
 use Rattle.kfs_program_command.specs.declared.command.Keyword.TheVariants as names
 use Rattle.kfs_program_text.specs.Decimals.{decimal32, decimal64, decimal_within}
@@ -50,6 +50,7 @@ named_by word =
     else if bytes_eq word (codes "image") then Some names.Image
     else if bytes_eq word (codes "save") then Some names.Save
     else if bytes_eq word (codes "move") then Some names.Move
+    else if bytes_eq word (codes "plan") then Some names.Plan
     else None
 
 abbrev pub command_named : Option Keyword → List (List ℕ) → Option Command
@@ -70,6 +71,7 @@ command_named (Some names.Land) words = land_of words
 command_named (Some names.Image) words = load_of words
 command_named (Some names.Save) words = save_of words
 command_named (Some names.Move) words = move_of words
+command_named (Some names.Plan) words = plan_of words
 
 -- ---- a line of moves
 

@@ -33,6 +33,7 @@ module _ {A : Type 0} where
   asked_of_desk (desk.Land worker) = commands.Land worker.number
   asked_of_desk desk.Save = commands.Save
   asked_of_desk (desk.Move moves) = commands.Move moves.items
+  asked_of_desk (desk.Plan client log) = commands.Plan client log.items
 
   abbrev pub asked_of : Command A → commands.Command
   asked_of (read.Opening command) = commands.Setup (opening_of command)

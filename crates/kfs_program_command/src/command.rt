@@ -2,7 +2,7 @@
 ghost use Rattle.std.specs.Prelude.{◌≡◌, ℕ, List, true, false, IfOk, IsErrOf, None, Some, option_map};
 ghost use Rattle.kfs_lease_rows.specs.Rows.{kind_of};
 ghost use Rattle.kfs_plan.specs.Judging.{submission_of};
-ghost use Rattle.kfs_program_command.specs.Command.{Land as LandLine, Listing as ListingLine, Load, Node as NodeLine, Request, Setup, Submit as SubmitLine, asked_by, client_of, drop_of, judge_of, kind_named, landing_worker, last_worker, lease_of, load_of, move_of, moves_in, new_of, read_of, submission_in, submit_of};
+ghost use Rattle.kfs_program_command.specs.Command.{Land as LandLine, Listing as ListingLine, Load, Node as NodeLine, Request, Setup, Submit as SubmitLine, asked_by, client_of, drop_of, judge_of, kind_named, landing_worker, last_worker, lease_of, load_of, move_of, moves_in, new_of, plan_of, read_of, submission_in, submit_of};
 ghost use Rattle.kfs_program_command.specs.Reading.{begin_of, command_named, docket_of, first_move, land_of, listing_of, named_by, node_of, save_of, tick_of};
 ghost use Rattle.kfs_program_command.specs.Views.{act_of, asked_of, asked_of_desk, opening_of};
 ghost use Rattle.kfs_program_text.specs.Decimals.{decimal_within};
@@ -77,6 +77,11 @@ pub enum DeskCommand<'a, A: Allocator> {
     Save,
     /// `move NUMBER BLOCK TIER PLACE [NUMBER BLOCK TIER PLACE ..]`: blocks of files move to other places.
     Move(Vec<Move, A>),
+    /// `plan N LOG`: the plan of a log of this client.
+    Plan {
+        client: u32,
+        log: Vec<u8, A>,
+    },
 }
 
 impl<'a, A: Allocator + Copy> Command<'a, A> {
@@ -117,6 +122,7 @@ impl<'a, A: Allocator + Copy> Command<'a, A> {
             Keyword::Image => Ok(Command::Image(read_image(alloc, words)?)),
             Keyword::Save => Ok(Command::Desk(read_save(words)?)),
             Keyword::Move => Ok(Command::Desk(read_moves(alloc, words)?)),
+            Keyword::Plan => Ok(Command::Desk(read_plan(alloc, words)?)),
         }
     }
 }
@@ -157,6 +163,7 @@ enum Keyword {
     Image,
     Save,
     Move,
+    Plan,
 }
 
 /// The command that a word names.
@@ -195,6 +202,8 @@ fn name_in(word: &[u8]) -> Option<Keyword>
         Some(Keyword::Save)
     } else if word == b"move".as_slice() {
         Some(Keyword::Move)
+    } else if word == b"plan".as_slice() {
+        Some(Keyword::Plan)
     } else {
         None
     }
@@ -358,6 +367,20 @@ fn read_submission<A: Allocator + Copy>(
     let plan = words.bytes(alloc)?;
     words.end()?;
     Ok(Submission { client, log, plan })
+}
+
+/// A client's number and a log.
+#[tactic(auto, using(crate::proofs::Readings::plan_steps))]
+fn read_plan<A: Allocator + Copy>(
+    alloc: A,
+    words: &mut Words<'_>,
+) -> Result<DeskCommand<'static, A>, Refusal>
+    ensures { ReadsAs (λ command. Request (asked_of_desk command)) (checked plan_of (words_left words.old)) result }
+{
+    let client = words.number32()?;
+    let log = words.bytes(alloc)?;
+    words.end()?;
+    Ok(DeskCommand::Plan { client, log })
 }
 
 /// The number of a worker.

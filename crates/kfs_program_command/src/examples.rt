@@ -5,7 +5,7 @@ ghost use Rattle.std.specs.Prelude.{◌≡◌, [], ◌∷◌, codes, None, Some,
 ghost use Rattle.kfs_model.specs.Lease.{WriteLease};
 ghost use Rattle.kfs_mode.specs.declared.client.ClientFault.TheVariants.{BadGrant};
 ghost use Rattle.kfs_plan.specs.Judging.{submission_with};
-ghost use Rattle.kfs_program_command.specs.Command.{Begin, Bytes, DocketLength, Drop, Judge, Land, Lease, Listing, Load, Move, New, Node, Request, Row, Save, Setup, Submit, Tick, asked_by, move_to};
+ghost use Rattle.kfs_program_command.specs.Command.{Begin, Bytes, DocketLength, Drop, Judge, Land, Lease, Listing, Load, Move, New, Node, Plan, Request, Row, Save, Setup, Submit, Tick, asked_by, move_to};
 ghost use Rattle.kfs_program_command.specs.Example.{client_twice_in_group_4};
 
 /// One line of each command.
@@ -28,6 +28,7 @@ pub fn commands()
     ensures image { asked_by (codes "image 4bfF") ≡ Some (Load (75 ∷ 255 ∷ [])) }
     ensures no_image { asked_by (codes "image -") ≡ Some (Load []) }
     ensures save { asked_by (codes "save") ≡ Some (Request Save) }
+    ensures plan { asked_by (codes "plan 7 0aFf") ≡ Some (Request (Plan 7 (10 ∷ 255 ∷ []))) }
     ensures one_move { asked_by (codes "move 5 0 2 3") ≡ Some (Request (Move (move_to 5 0 2 3 ∷ []))) }
     ensures two_moves { asked_by (codes "move 5 0 255 3 6 1 0 4294967295") ≡ Some (Request (Move (move_to 5 0 255 3 ∷ move_to 6 1 0 4294967295 ∷ []))) }
 {}
@@ -54,6 +55,7 @@ pub fn bad_lines()
     ensures image_of_odd_digits { asked_by (codes "image 4b4") ≡ None }
     ensures image_of_two_words { asked_by (codes "image 4b 49") ≡ None }
     ensures save_to_somewhere { asked_by (codes "save 1") ≡ None }
+    ensures plan_without_a_log { asked_by (codes "plan 7") ≡ None }
     ensures move_of_nothing { asked_by (codes "move") ≡ None }
     ensures move_without_a_place { asked_by (codes "move 5 0 2") ≡ None }
     ensures tier_out_of_range { asked_by (codes "move 5 0 256 3") ≡ None }

@@ -3,3 +3,4 @@ pub mod SessionLoops
 pub mod Held
 pub mod HeldReplies
 pub mod Listed
+pub mod PlanAnswers

@@ -1,6 +1,7 @@
 -- A session: the reply to each line, and the state that the line leaves.
 use Rattle.std.specs.Prelude.{◌≡◌, ◌≢◌, ◌⊎◌, ℕ, List, [], ◌∷◌, ◌++◌, length, codes, decimal, false, Option, Some, None, Result, Ok, Err, if◌then◌else◌}
 use Rattle.kfs_model.specs.Access.{Client}
+use Rattle.kfs_model.specs.Lease.{row_of}
 use Rattle.kfs_model.specs.Table.{get}
 use Rattle.kfs_model.specs.Tree.{headers}
 use Rattle.kfs_model.specs.Sight.{is_directory}
@@ -19,10 +20,11 @@ use Rattle.kfs_plan.specs.declared.answers.BeginFault.{BeginFault}
 use Rattle.kfs_plan.specs.declared.answers.Done.{Done}
 use Rattle.kfs_plan.specs.declared.answers.Done.TheVariants.{Leased, Dropped, Ticked, Moved}
 use Rattle.kfs_plan.specs.declared.answers.Reply.{Reply}
-use Rattle.kfs_program_command.specs.Command.{Command, Setup, Request, OpeningCommand, New, Row, Begin, DeskCommand, Lease, Drop, Tick, Submit, Node, Listing, Bytes, DocketLength, Judge, Land, Load, Save, Move, asked_by, landing_worker}
+use Rattle.kfs_program_command.specs.Command.{Command, Setup, Request, OpeningCommand, New, Row, Begin, DeskCommand, Lease, Drop, Tick, Submit, Node, Listing, Bytes, DocketLength, Judge, Land, Load, Save, Move, Plan, asked_by, landing_worker}
 use Rattle.kfs_program_engine.specs.Bytes.{read_text}
 use Rattle.kfs_program_images.specs.Loading.{LoadsWith}
 use Rattle.kfs_program_images.specs.Saving.{save_text}
+use Rattle.kfs_program_plan.specs.PlanLine.{SaysPlan}
 use Rattle.kfs_program_verdicts.specs.HeldVerdicts.{HeldVerdicts, held_by, no_verdict, with_held}
 use Rattle.kfs_workers_verdict.specs.Verdict.{IsVerdictOn, HeldVerdict, LandsVerdict}
 use Rattle.kfs_program_engine.specs.Listing.{list_text}
@@ -140,6 +142,15 @@ names_line desk directory = if is_directory (get (headers desk.state.tree) direc
 abbrev pub docket_line : Desk → List ℕ
 docket_line desk = codes "docket " ++ decimal (length desk.docket)
 
+-- the line says the plan of a log of this client, or that there is none
+abbrev pub IsPlanShown : Desk → Client → (log : List ℕ) → DeskOutcome → Type 0
+IsPlanShown desk client log outcome = (line : List ℕ) × SaysPlan client desk.state.tree log line × IsSaid line desk outcome
+
+-- for a number without a client it is a bad line
+abbrev pub IsPlanAnswered : Desk → Option Client → (log : List ℕ) → DeskOutcome → Type 0
+IsPlanAnswered desk None log outcome = IsSaid (codes "bad line") desk outcome
+IsPlanAnswered desk (Some client) log outcome = IsPlanShown desk client log outcome
+
 -- ---- verdicts that are held
 
 -- the outcome of the desk, with these verdicts held afterwards
@@ -184,6 +195,7 @@ DeskAnswers desk hands (Listing directory) outcome = WithHands hands (IsSaid (na
 DeskAnswers desk hands (Bytes number start count) outcome = WithHands hands (IsSaid (read_text desk.state.tree number start count) desk) outcome
 DeskAnswers desk hands DocketLength outcome = WithHands hands (IsSaid (docket_line desk) desk) outcome
 DeskAnswers desk hands Save outcome = WithHands hands (IsSaid (save_text desk.state.sizes desk.state.tree desk.state.placement) desk) outcome
+DeskAnswers desk hands (Plan number log) outcome = WithHands hands (IsPlanAnswered desk (row_of desk.state.clients number) log) outcome
 DeskAnswers desk hands (Judge worker submission) outcome = AnswersJudge desk hands worker (held_by hands worker) submission outcome
 DeskAnswers desk hands (Land worker) outcome = AnswersLand desk hands worker (held_by hands worker) outcome
 

@@ -1,7 +1,8 @@
 //! The engine: reads command lines, and writes the desk's replies.
 //!
 //! It stands on `kfs_workers_verdict` (desk and views), `kfs_program_verdicts` (verdicts that are held),
-//! `kfs_program_command` (lines) and `kfs_report` (replies); `kfs_program` stands on it. Begin with `engine`, then `session.rt`.
+//! `kfs_program_command` (lines), `kfs_program_plan` (plans) and `kfs_report` (replies); `kfs_program`
+//! stands on it. Begin with `engine`, then `session.rt`.
 #![tactic(auto)]
 
 ghost use Rattle.std.specs.Prelude.{◌≡◌, ◌<◌, length, IfErr, IfOk, OnOk};
@@ -14,6 +15,7 @@ pub mod examples;
 mod fault;
 mod listing;
 mod opening;
+mod plans;
 mod session;
 mod session_loop;
 mod verdicts;

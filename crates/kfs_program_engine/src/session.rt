@@ -18,6 +18,7 @@ ghost use Rattle.kfs_entry_value.specs.Room.{spare_of};
 use crate::bytes::bytes_line;
 use crate::listing::list_line;
 use crate::opening::Opening;
+use crate::plans::answer_plan;
 use crate::verdicts::{judge_for, land_for};
 use kfs_desk::{Desk, Move};
 use kfs_image_nodes::{Answer, Cell, Header, Kind, look};
@@ -182,6 +183,9 @@ fn answer_due<A: Allocator + Copy>(
         DeskCommand::Land { worker } => land_for(desk, hands, worker, reply),
         DeskCommand::Save => show_image(alloc, desk, reply),
         DeskCommand::Move(moves) => move_blocks(desk, moves.as_slice(), reply),
+        DeskCommand::Plan { client, log } => {
+            answer_plan(alloc, desk, client, log.as_slice(), reply)
+        }
     }
 }
 

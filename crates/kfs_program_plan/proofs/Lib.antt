@@ -4,5 +4,6 @@ pub mod NamedNumbers
 pub mod FewRows
 pub mod ChangedKeys
 pub mod PlanLength
+pub mod PlanLines
 pub mod ViewWalks
 pub mod OwnLogs

@@ -1,4 +1,5 @@
 pub mod AskedLeases
+pub mod PlanLine
 pub mod PlanMade
 pub mod Rows
 pub mod Walks

@@ -7,6 +7,6 @@
 mod report;
 
 pub use report::{
-    LONGEST_LINE, act_line, begin_line, client_line, finding_line, image_line, node_line,
-    reply_line,
+    LONGEST_LINE, act_line, begin_line, client_line, fault_line, finding_line, image_line,
+    node_line, reply_line,
 };

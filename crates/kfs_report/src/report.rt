@@ -3,7 +3,7 @@
 //! `Err` where memory is refused; `out` is as it was then. Where `out` has 128 bytes of spare room, no
 //! memory is taken.
 ghost use Rattle.std.specs.Prelude.{◌≡◌, ◌+◌, ◌≤◌, ◌++◌, length, codes};
-ghost use Rattle.kfs_report.specs.Text.{AddsLine, reply_text, head_text, act_text, done_text, node_text, header_text, kind_text, counts_text, client_text, begin_text, finding_text, image_fault_text};
+ghost use Rattle.kfs_report.specs.Text.{AddsLine, reply_text, fault_text, head_text, act_text, done_text, node_text, header_text, kind_text, counts_text, client_text, begin_text, finding_text, image_fault_text};
 ghost use Rattle.kfs_entry_value.specs.Room.{Appends, spare_of};
 
 mod names;
@@ -11,6 +11,7 @@ mod names;
 use kfs_image_codec::ImageFault;
 use kfs_image_nodes::{Header, Kind};
 use kfs_mode::ClientFault;
+use kfs_plan::Fault;
 use kfs_plan::answers::{ActReply, BeginFault, Done, Reply};
 use kfs_program_text::parts::{field, flag, number, octal, text};
 use kfs_shape::Finding;
@@ -76,6 +77,17 @@ fn push_head<A: Allocator>(out: &mut Vec<u8, A>, position: u32, word: &[u8], rej
     number(out, u64::from(position));
     text(out, word);
     flag(out, rejudged);
+}
+
+/// The line of why a submission is refused: `client unknown`, `log NAME`, `client wrong`, `plan NAME` or
+/// `entry K NAME`.
+pub fn fault_line<A: Allocator>(out: &mut Vec<u8, A>, why: &Fault) -> Result<(), AllocError>
+    ensures { AddsLine out.old out.new (fault_text why.now) result }
+{
+    out.try_reserve(LONGEST_LINE)?;
+    judgement_fault(out, *why);
+    text(out, b"\n");
+    Ok(())
 }
 
 /// The line of the answer to a call that is no submission: `P leased N`, `P dropped N`, `P ticked M`,

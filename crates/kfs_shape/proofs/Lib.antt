@@ -1,6 +1,5 @@
 -- Lemmas on rows and their tests.
 pub mod Tests
-pub mod HeadTables
 pub mod OneLeast
 pub mod Neighbours
 pub mod NameCounts

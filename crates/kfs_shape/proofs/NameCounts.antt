@@ -4,6 +4,7 @@ use Rattle.std.specs.Prelude.{IfOk, Vec}
 use Rattle.std.specs.Ordering.{nat_cmp}
 use Rattle.std.specs.BTreeMap.{BTreeMap, IsEmpty, is_at}
 use Rattle.std.specs.Map.{lookup}
+use Rattle.std.specs.List.{AllByRecursion}
 use Rattle.std.proofs.lemmas.List.{drop_more, drop_all, get_or-replicate, length-replicate}
 use Rattle.std.proofs.lemmas.Option.{slice_get-get_or}
 use Rattle.kfs_entry_value.specs.declared.plan.NameRow.{NameRow as CodeNameRow}
@@ -15,7 +16,7 @@ use Rattle.kfs_model.specs.Tree.{name_order, name_count}
 use Rattle.kfs_model.proofs.CleanIsAllowed.{left}
 use Rattle.kfs_model.proofs.Counts.{tally, is_tally}
 use Rattle.kfs_model.specs.Plan.{keyed_name}
-use Rattle.kfs_model_device.specs.RawImage.{RawImage, heads_of, names_of}
+use Rattle.kfs_model_device.specs.RawImage.{RawNode, RawImage, heads_of, names_of}
 use Rattle.kfs_model_device.specs.Rules.{Test, with_previous, directory_test, rule_4}
 use Rattle.kfs_model_device.specs.Finding.{least_of, least_failed}
 use Rattle.kfs_model_device.proofs.RowTables.{AreAbove, sorted_entries, sorted_rows}
@@ -78,11 +79,15 @@ rows_counted raw rows are ascend number =
     ∙ tally_map (λ row. row.number == number) name_row_of rows
     ∙ sym (is_tally (leads_to number) rows)
 
--- counts of the rows are the counts of the names
-pub all_counted : {E A : Type 0} (raw : RawImage) (rows : List CodeNameRow) → raw.names ≡ map name_row_of rows → least_failed (rule_4 raw) ≡ None
-    → (result : Result (Vec ℕ A) E) → IfOk result (λ counts. CountsLeads counts.items rows) → IfOk result (λ counts. CountsNames counts.items raw)
-all_counted raw rows are ascend (Ok counts) counted = λ number within. counted number within ∙ sym (rows_counted raw rows are ascend number)
-all_counted raw rows are ascend (Err refused) counted = tt
+-- counts of the rows are the counts of the names of each node whose number is below the bound
+pub all_counted : {E A : Type 0} (raw : RawImage) (many : ℕ) (rows : List CodeNameRow) → raw.names ≡ map name_row_of rows → least_failed (rule_4 raw) ≡ None → AllByRecursion (λ row. row.number < many) raw.nodes
+    → (result : Result (Vec ℕ A) E) → IfOk result (λ counts. CountsLeads many counts.items rows) → IfOk result (λ counts. CountsNames counts.items raw)
+all_counted raw many rows are ascend below (Ok counts) counted = each raw.nodes below
+  where
+    each : (nodes : List RawNode) → AllByRecursion (λ row. row.number < many) nodes → AllByRecursion (λ row. count_in counts.items row.number ≡ name_count (names_of raw) row.number) nodes
+    each [] all = tt
+    each (row ∷ nodes) all = (counted row.number all.0 ∙ sym (rows_counted raw rows are ascend row.number), each nodes all.1)
+all_counted raw many rows are ascend below (Err refused) counted = tt
 
 abbrev never : ℕ
 never = 0

@@ -1,8 +1,9 @@
 -- The directories of names, taken in one name row after another, are the parents.
-use Rattle.std.proofs.Common.{◌≡◌, ℕ, ◌+◌, ◌<◌, ◌≤◌, ◌==◌, ◌&&◌, not, Bool, true, false, cond, List, [], ◌∷◌, length, ◌++◌, map, take, drop, replicate, get_or, find, Option, Some, None, option_map, refl, sym, ap, ◌∙◌, arith, eqb-true, eq-eqb, leb-true}
+use Rattle.std.proofs.Common.{◌≡◌, ℕ, ◌+◌, ◌<◌, ◌≤◌, ◌==◌, ◌&&◌, not, Bool, true, false, cond, All, List, [], ◌∷◌, length, ◌++◌, map, take, drop, replicate, get_or, find, Option, Some, None, option_map, refl, sym, ap, subst, ◌∙◌, arith, eqb-true, eq-eqb, leb-true}
 use Rattle.std.specs.List.{AllByRecursion}
 use Rattle.std.proofs.lemmas.Bool.{and_right, ne_eqb}
 use Rattle.std.proofs.lemmas.List.{append-nil, drop_more, drop_all, get_or-replicate, length-replicate, take_all}
+use Rattle.std.proofs.lemmas.List.Elements.{recursion_from_All, All-map}
 use Rattle.std.proofs.lemmas.Option.{slice_get-get_or, slice_get_past}
 use Rattle.kfs_entry_value.specs.declared.plan.NameRow.{NameRow as CodeNameRow}
 use Rattle.kfs_entry_value.specs.Views.{name_row_of}
@@ -16,8 +17,10 @@ use Rattle.kfs_model_device.specs.Rules.{with_previous, number_test, rule_1, rul
 use Rattle.kfs_model_device.specs.Finding.{least_failed}
 use Rattle.kfs_model_device.proofs.RulesHold.{AllHold}
 use Rattle.kfs_model_device.proofs.SoundImage.{some_directory, each_head}
+use Rattle.kfs_image_codec.specs.declared.raw.RawNode.{RawNode as CodeRawNode}
+use Rattle.kfs_image_codec.specs.declared.raw.RawImage.{RawImage as CodeRawImage}
+use Rattle.kfs_image_codec.specs.RawImages.{raw_node_of, raw_of}
 use Rattle.kfs_shape.specs.Climbs.{ancestor_at}
-use Rattle.kfs_shape.proofs.HeadTables.{or_none}
 use Rattle.kfs_shape.proofs.NameCounts.{all_hold, names_listed}
 
 -- all of a list that was written through a slice
@@ -64,6 +67,10 @@ holder_next row rows number = at (row.number == number)
     at : (here : Bool) → option_map (λ (row : CodeNameRow). row.dir) (cond here (Some row) (find (λ row. row.number == number) rows)) ≡ cond here (Some row.dir) (holder_in rows number)
     at true = refl
     at false = refl
+
+or_none : {X : Type 0} (o : Option X) → option_or o None ≡ o
+or_none None = refl
+or_none (Some x) = refl
 
 or_again : {X : Type 0} (a b c : Option X) → option_or (option_or a b) c ≡ option_or a (option_or b c)
 or_again None b c = refl
@@ -142,11 +149,20 @@ module _ (raw : RawImage) where
         let few : k ≤ 65536 = each_head raw (λ number h. number ≤ 65536) (nodes_in_range None raw.nodes (all_hold (rule_1 raw) in_range)) k h there in
         omega arith
 
-    pub nowhere : (ancestors : List (Option ℕ)) (number : ℕ) → length ancestors ≡ 65537 → 65537 ≤ number → ancestor_at ancestors number ≡ wanted number
-    nowhere ancestors number many past =
-        ap (λ o. elim o [ None ↦ None | Some up ↦ up ]) (slice_get_past ancestors number (omega arith))
-        ∙ sym (ap (λ b. cond b (Some 1) (parent_of raw number)) (ne_eqb number 1 (λ same. absurd (omega arith))) ∙ at (parent_of raw number) refl)
-      where
-        at : (o : Option ℕ) → parent_of raw number ≡ o → parent_of raw number ≡ None
-        at None is = is
-        at (Some up) is = let low = parent_in_range number up is in absurd (omega arith)
+  pub nowhere : (ancestors : List (Option ℕ)) (many number : ℕ) → AllByRecursion (λ row. row.number < many) raw.nodes → 2 ≤ many → length ancestors ≡ many → many ≤ number → ancestor_at ancestors number ≡ wanted number
+  nowhere ancestors many number below root long past =
+      ap (λ o. elim o [ None ↦ None | Some up ↦ up ]) (slice_get_past ancestors number (omega arith))
+      ∙ sym (ap (λ b. cond b (Some 1) (parent_of raw number)) (ne_eqb number 1 (λ same. absurd (omega arith))) ∙ at (parent_of raw number) refl)
+    where
+      at : (o : Option ℕ) → parent_of raw number ≡ o → parent_of raw number ≡ None
+      at None is = is
+      at (Some up) is =
+          let (h, there, kind) = some_directory (get (heads_of raw) number) (has_parent (get (heads_of raw)) (names_of raw) number up is).0 in
+          let low : number < many = each_head raw (λ number h. number < many) below number h there in
+          absurd (omega arith)
+
+-- rows with numbers below a bound, as rows of the definitions
+pub all_below : {A : Type 0} (raw : CodeRawImage A) (many : ℕ) (rows : List CodeRawNode) → rows ≡ raw.nodes.items → All (λ row. row.number < many) rows → AllByRecursion (λ row. row.number < many) (raw_of raw).nodes
+all_below raw many rows are below =
+    recursion_from_All (λ (row : RawNode). row.number < many) (map raw_node_of raw.nodes.items)
+    (All-map (λ (row : RawNode). row.number < many) raw_node_of raw.nodes.items (subst (All (λ row. row.number < many)) are below))

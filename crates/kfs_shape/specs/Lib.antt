@@ -7,3 +7,4 @@ pub mod Extents
 pub mod Places
 pub mod Climbs
 pub mod Findings
+pub mod NodeTests

@@ -1,5 +1,6 @@
--- How many names lead to each number that a node can have, as a list by number.
+-- How many names lead to each number, as a list by number.
 use Rattle.std.specs.Prelude.{◌≡◌, ℕ, ◌+◌, ◌<◌, ◌==◌, Bool, List, length, count_by, slice_get, Some, None, if◌then◌else◌}
+use Rattle.std.specs.List.{AllByRecursion}
 use Rattle.kfs_entry_value.specs.declared.plan.NameRow.{NameRow}
 use Rattle.kfs_model.specs.Tree.{name_count}
 use Rattle.kfs_model_device.specs.RawImage.{RawNode, RawImage, names_of}
@@ -17,13 +18,13 @@ pub record CountsOne (old new : List ℕ) (number : ℕ) : Type 0 where
   pub len : length new ≡ length old
   pub each : (n : ℕ) → n < length old → count_in new n ≡ count_in old n + (if number == n then 1 else 0)
 
--- the list counts the rows by the numbers that they lead to
-abbrev pub CountsLeads : List ℕ → List NameRow → Type 0
-CountsLeads counts rows = (number : ℕ) → number < 65537 → count_in counts number ≡ count_by (leads_to number) rows
+-- the list counts the rows by the numbers below `many` that they lead to
+abbrev pub CountsLeads : (many : ℕ) → List ℕ → List NameRow → Type 0
+CountsLeads many counts rows = (number : ℕ) → number < many → count_in counts number ≡ count_by (leads_to number) rows
 
--- the list counts the names of the image
+-- the list counts the names of each node of the image
 abbrev pub CountsNames : List ℕ → RawImage → Type 0
-CountsNames counts raw = (number : ℕ) → number < 65537 → count_in counts number ≡ name_count (names_of raw) number
+CountsNames counts raw = AllByRecursion (λ row. count_in counts row.number ≡ name_count (names_of raw) row.number) raw.nodes
 
 -- whether a node has as many names as it should, by these counts
 abbrev pub counted_test : List ℕ → RawNode → Test

@@ -11,15 +11,16 @@ use crate::extents::{least_misplaced, least_past_tier};
 use crate::fault::{Finding, ShapeFault};
 use crate::heads::{headers, least_missing_root};
 use crate::names::{least_lost_target, least_miscounted};
+use crate::node_test::{AskRows, InTurn};
 use crate::places::least_shared;
 use crate::{names, nodes};
 use kfs_entry_value::Header;
 use kfs_image_codec::RawImage;
+use kfs_map_pages::Pages;
 use std::alloc::Allocator;
-use std::collections::BTreeMap;
 
 /// A finding, if there is a number at which the rule is broken.
-pub fn no_failure(rule: u8, least: Option<u32>) -> Result<(), ShapeFault>
+fn no_failure(rule: u8, least: Option<u32>) -> Result<(), ShapeFault>
     ensures { FindsNoneWhere result (found_at rule least) }
 {
     match least {
@@ -29,41 +30,45 @@ pub fn no_failure(rule: u8, least: Option<u32>) -> Result<(), ShapeFault>
 }
 
 /// Checks rules 1 to 3, and answers the headers by number.
-fn check_nodes<A: Allocator + Copy>(
+fn check_nodes<A: Allocator + Copy, T: AskRows>(
     alloc: A,
     raw: &RawImage<A>,
-) -> Result<BTreeMap<u32, Header, A>, ShapeFault>
+    ask: &T,
+) -> Result<Pages<Header, A>, ShapeFault>
+    requires { T.can_ask ask.now }
     ensures shown { IfOk result (λ headers. ShowsHeads headers raw.now) }
     ensures told { FindsNoneWhere result (finding_from (raw_of raw.now) node_rules) }
 {
     no_failure(1, nodes::least_out_of_order(raw))?;
     let headers = headers(alloc, raw)?;
     no_failure(2, least_missing_root(raw, &headers))?;
-    no_failure(3, nodes::least_bad_header(raw))?;
+    no_failure(3, nodes::least_bad_header(raw, ask))?;
     Ok(headers)
 }
 
 /// Checks rules 4 to 7 of an image whose node rows ascend.
-fn check_names<A: Allocator + Copy>(
+fn check_names<A: Allocator + Copy, T: AskRows>(
     alloc: A,
     raw: &RawImage<A>,
-    headers: &BTreeMap<u32, Header, A>,
+    headers: &Pages<Header, A>,
+    ask: &T,
 ) -> Result<(), ShapeFault>
+    requires can_ask { T.can_ask ask.now }
     requires shown { ShowsHeads headers.now raw.now }
     requires in_range { least_failed (rule_1 (raw_of raw.now)) ≡ None }
     ensures { FindsNoneWhere result (finding_from (raw_of raw.now) name_rules) }
 {
     no_failure(4, names::least_out_of_order(raw, headers))?;
     no_failure(5, least_lost_target(raw, headers))?;
-    no_failure(6, least_miscounted(alloc, raw)?)?;
-    no_failure(7, least_unrooted(alloc, raw, headers)?)
+    no_failure(6, least_miscounted(alloc, raw, ask)?)?;
+    no_failure(7, least_unrooted(alloc, raw, headers, ask)?)
 }
 
 /// Checks rules 8 to 10. The image isn't changed.
-pub fn check_extents<A: Allocator + Copy>(
+fn check_extents<A: Allocator + Copy>(
     alloc: A,
     raw: &RawImage<A>,
-    headers: &BTreeMap<u32, Header, A>,
+    headers: &Pages<Header, A>,
 ) -> Result<(), ShapeFault>
     requires { ShowsHeads headers.now raw.now }
     ensures { FindsNoneWhere result (finding_from (raw_of raw.now) extent_rules) }
@@ -73,6 +78,21 @@ pub fn check_extents<A: Allocator + Copy>(
     no_failure(10, least_shared(alloc, raw)?)
 }
 
+/// `check_shape`, where the tests of single nodes are asked by `ask`.
+#[doc(hidden)]
+pub fn check_asking<A: Allocator + Copy, T: AskRows>(
+    alloc: A,
+    raw: &RawImage<A>,
+    ask: &T,
+) -> Result<(), ShapeFault>
+    requires { T.can_ask ask.now }
+    ensures { FindsNoneWhere result (finding_of (raw_of raw.now)) }
+{
+    let headers = check_nodes(alloc, raw, ask)?;
+    check_names(alloc, raw, &headers, ask)?;
+    check_extents(alloc, raw, &headers)
+}
+
 /// Checks whether an image is well formed. crates/kfs_model_device/specs/Rules.antt has the ten rules.
 ///
 /// Refused with `Found`, the least rule that is broken and the least number at which it is, or with
@@ -80,7 +100,5 @@ pub fn check_extents<A: Allocator + Copy>(
 pub fn check_shape<A: Allocator + Copy>(alloc: A, raw: &RawImage<A>) -> Result<(), ShapeFault>
     ensures { FindsNoneWhere result (finding_of (raw_of raw.now)) }
 {
-    let headers = check_nodes(alloc, raw)?;
-    check_names(alloc, raw, &headers)?;
-    check_extents(alloc, raw, &headers)
+    check_asking(alloc, raw, &InTurn)
 }

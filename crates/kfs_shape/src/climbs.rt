@@ -7,13 +7,13 @@ ghost use Rattle.kfs_shape.specs.Climbs.{ancestor_at, ancestor_from, is_root, to
 ghost use Rattle.kfs_shape.specs.Heads.{head_at, ShowsHeads};
 ghost use Rattle.kfs_image_codec.specs.RawImages.{raw_node_of, raw_of};
 
-use crate::counts::NUMBERS;
+use crate::counts::span;
 use crate::heads::has_directory;
-use crate::least::noted;
+use crate::node_test::{AskRows, NodeTest};
 use kfs_entry_value::{Header, Kind, NameRow, ROOT};
 use kfs_image_codec::{RawImage, RawNode};
+use kfs_map_pages::Pages;
 use std::alloc::{AllocError, Allocator};
-use std::collections::BTreeMap;
 
 /// 2 to the power of this is more steps than any climb without a circle takes.
 const DOUBLINGS: u32 = 17;
@@ -41,7 +41,7 @@ fn lead_first(ancestors: &mut [Option<u32>], number: u32, up: u32)
 /// nowhere yet.
 fn lead_by_name<A: Allocator>(
     ancestors: &mut [Option<u32>],
-    headers: &BTreeMap<u32, Header, A>,
+    headers: &Pages<Header, A>,
     row: &NameRow,
 )
     ensures { LeadsFirst ancestors.old ancestors.new (is_directory (head_at headers.now row.now.number)) row.now.number row.now.dir }
@@ -56,7 +56,7 @@ fn lead_by_name<A: Allocator>(
 fn parents<A: Allocator + Copy>(
     alloc: A,
     raw: &RawImage<A>,
-    headers: &BTreeMap<u32, Header, A>,
+    headers: &Pages<Header, A>,
 ) -> Result<Vec<Option<u32>, A>, AllocError>
     requires shown { ShowsHeads headers.now raw.now }
     requires in_range { least_failed (rule_1 (raw_of raw.now)) ≡ None }
@@ -64,7 +64,8 @@ fn parents<A: Allocator + Copy>(
     ensures { IfOk result (λ ancestors. ParentsOf ancestors.items (raw_of raw.now)) }
 {
     let rows = raw.names.as_slice();
-    let mut ancestors = vec![in alloc; None; NUMBERS]?;
+    let many = span(raw.nodes.as_slice());
+    let mut ancestors = vec![in alloc; None; many]?;
     lead_first(&mut ancestors, ROOT, ROOT);
     for row in rows.iter() {
         lead_by_name(&mut ancestors, headers, row);
@@ -98,10 +99,10 @@ fn doubled<A: Allocator>(
 
 /// The list in which each number from which a climb reaches the root leads to the root. `Err` where
 /// memory is refused.
-pub fn tops<A: Allocator + Copy>(
+fn tops<A: Allocator + Copy>(
     alloc: A,
     raw: &RawImage<A>,
-    headers: &BTreeMap<u32, Header, A>,
+    headers: &Pages<Header, A>,
 ) -> Result<Vec<Option<u32>, A>, AllocError>
     requires shown { ShowsHeads headers.now raw.now }
     requires in_range { least_failed (rule_1 (raw_of raw.now)) ≡ None }
@@ -116,35 +117,26 @@ pub fn tops<A: Allocator + Copy>(
 }
 
 /// Whether the node is a file, or leads to the root.
-fn is_below_root(tops: &[Option<u32>], row: &RawNode) -> bool
-    ensures { result ≡ (is_file (Some (raw_node_of row.now).header) || is_root (ancestor_at tops.now row.now.number)) }
+pub(crate) fn is_below_root(tops: &[Option<u32>], row: &RawNode) -> bool
+    ensures { result ≡ (top_test tops.now (raw_node_of row.now)).holds }
 {
     row.header.kind == Kind::File || ancestor_at(tops, row.number) == Some(ROOT)
 }
 
 /// Rule 7: the least number of a directory from which a climb doesn't reach the root, if there is one.
 /// `Err` where memory is refused.
-pub fn least_unrooted<A: Allocator + Copy>(
+pub(crate) fn least_unrooted<A: Allocator + Copy, T: AskRows>(
     alloc: A,
     raw: &RawImage<A>,
-    headers: &BTreeMap<u32, Header, A>,
+    headers: &Pages<Header, A>,
+    ask: &T,
 ) -> Result<Option<u32>, AllocError>
+    requires can_ask { T.can_ask ask.now }
     requires shown { ShowsHeads headers.now raw.now }
     requires in_range { least_failed (rule_1 (raw_of raw.now)) ≡ None }
     requires ascend { least_failed (rule_4 (raw_of raw.now)) ≡ None }
     ensures { IfOk result (λ least. least ≡ least_failed (rule_7 (raw_of raw.now))) }
 {
     let tops = tops(alloc, raw, headers)?;
-    Ok(least_unrooted_in(tops.as_slice(), raw.nodes.as_slice()))
-}
-
-/// Rule 7 for some node rows, given the list of where climbs lead. Takes no memory.
-pub fn least_unrooted_in(tops: &[Option<u32>], rows: &[RawNode]) -> Option<u32>
-    ensures { result ≡ least_failed (map (top_test tops.now) (map raw_node_of rows.now)) }
-{
-    let mut least = None;
-    for row in rows.iter() {
-        least = noted(least, is_below_root(tops, row), row.number);
-    }
-    least
+    Ok(ask.least_failed(NodeTest::Climb(tops.as_slice()), raw.nodes.as_slice()))
 }

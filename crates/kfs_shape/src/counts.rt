@@ -1,13 +1,24 @@
 //! Counts of numbers.
-ghost use Rattle.std.specs.Prelude.{◌≡◌, ◌+◌, ◌<◌, ◌^◌, ℕ, IfOk, if◌then◌else◌};
+ghost use Rattle.std.specs.Prelude.{◌≡◌, ◌+◌, ◌≤◌, ◌<◌, ◌^◌, ℕ, All, IfOk, if◌then◌else◌};
 ghost use Rattle.std.specs.Ordering.{eq_by_cmp, nat_cmp};
 ghost use Rattle.kfs_shape.specs.Counts.{count_at};
 
+use kfs_image_codec::RawNode;
 use std::alloc::{AllocError, Allocator};
 use std::collections::BTreeMap;
 
-/// How many numbers there are from 0 to the greatest number of a node.
-pub(crate) const NUMBERS: usize = 65_537;
+/// One more than the greatest number of a node row, and at least 2. So a list of so many elements has one
+/// for each node, and for the root.
+pub(crate) fn span(rows: &[RawNode]) -> usize
+    ensures root { 2 ≤ result }
+    ensures rows { All (λ row. row.number < result) rows.now }
+{
+    let mut span = 2;
+    for row in rows {
+        span = span.max(row.number as usize + 1);
+    }
+    span
+}
 
 /// Counts the number once more.
 pub(crate) fn count_more<A: Allocator + Clone>(

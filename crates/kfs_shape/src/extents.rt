@@ -11,8 +11,8 @@ ghost use Rattle.kfs_image_codec.specs.RawImages.{extent_row_of, raw_of};
 use crate::least::{noted, previous};
 use kfs_entry_value::{BLOCK_SIZE, Header, Kind, TierSizes};
 use kfs_image_codec::{ExtentRow, RawImage};
+use kfs_map_pages::Pages;
 use std::alloc::Allocator;
-use std::collections::BTreeMap;
 
 /// Whether the extent's file number and block are above those of the row before.
 fn is_in_order<A: Allocator>(before: Option<&ExtentRow<A>>, row: &ExtentRow<A>) -> bool
@@ -43,12 +43,12 @@ fn is_behind<A: Allocator>(before: Option<&ExtentRow<A>>, row: &ExtentRow<A>) ->
 }
 
 /// Whether the extent is of a file, and its last block begins below the file's size.
-fn ends_in_file<A: Allocator>(headers: &BTreeMap<u32, Header, A>, row: &ExtentRow<A>) -> bool
+fn ends_in_file<A: Allocator>(headers: &Pages<Header, A>, row: &ExtentRow<A>) -> bool
     ensures { result ≡ ends_in_file (head_at headers.now row.now.number) (extent_row_of row.now) }
 {
     let end = u64::from(row.extent.block) + u64::from(row.extent.count);
     let last = end.saturating_sub(1) * BLOCK_SIZE;
-    match headers.get(&row.number) {
+    match headers.get(row.number) {
         None => false,
         Some(header) => header.kind == Kind::File && last < header.size,
     }
@@ -63,7 +63,7 @@ fn is_full<A: Allocator>(row: &ExtentRow<A>) -> bool
 
 /// Whether the extent is of blocks of a file, and comes after the row before without sharing a block.
 fn is_in_place<A: Allocator>(
-    headers: &BTreeMap<u32, Header, A>,
+    headers: &Pages<Header, A>,
     before: Option<&ExtentRow<A>>,
     row: &ExtentRow<A>,
 ) -> bool
@@ -77,9 +77,9 @@ fn is_in_place<A: Allocator>(
 /// Rule 8: the least file number of an extent that isn't above the row before, isn't of blocks of a
 /// file, has no block or too few bytes, or shares a block with another extent. None if there is no such
 /// extent. Takes no memory.
-pub fn least_misplaced<A: Allocator>(
+pub(crate) fn least_misplaced<A: Allocator>(
     raw: &RawImage<A>,
-    headers: &BTreeMap<u32, Header, A>,
+    headers: &Pages<Header, A>,
 ) -> Option<u32>
     requires { ShowsHeads headers.now raw.now }
     ensures { result ≡ least_failed (rule_8 (raw_of raw.now)) }
@@ -103,7 +103,7 @@ fn is_in_tier<A: Allocator>(sizes: TierSizes, row: &ExtentRow<A>) -> bool
 
 /// Rule 9: the least file number of an extent that is on no tier, or goes past its end. None if there
 /// is no such extent. Takes no memory.
-pub fn least_past_tier<A: Allocator>(raw: &RawImage<A>) -> Option<u32>
+pub(crate) fn least_past_tier<A: Allocator>(raw: &RawImage<A>) -> Option<u32>
     ensures { result ≡ least_failed (rule_9 (raw_of raw.now)) }
 {
     let rows = raw.extents.as_slice();

@@ -3,20 +3,21 @@ ghost use Rattle.std.specs.Prelude.{◌≡◌, ◌+◌, ◌<◌, ◌^◌, IfOk, 
 ghost use Rattle.std.specs.Option.{option_copied, option_map};
 ghost use Rattle.kfs_model.specs.Tree.{name_order};
 ghost use Rattle.kfs_entry_value.specs.Views.{kind_of, name_row_of};
-ghost use Rattle.kfs_model_device.specs.Rules.{is_above, names_fit, rule_1, rule_4, rule_5, rule_6};
+ghost use Rattle.kfs_model_device.specs.Rules.{is_above, names_fit, rule_4, rule_5, rule_6};
 ghost use Rattle.kfs_model_device.specs.Finding.{least_failed};
 ghost use Rattle.kfs_shape.specs.Names.{is_in_place};
 ghost use Rattle.kfs_image_codec.specs.RawImages.{raw_node_of, raw_of};
 ghost use Rattle.kfs_shape.specs.NameCounts.{CountsLeads, CountsNames, CountsOne, count_in, counted_test};
 ghost use Rattle.kfs_shape.specs.Heads.{head_at, ShowsHeads};
 
-use crate::counts::NUMBERS;
+use crate::counts::span;
 use crate::heads::{has_directory, has_node};
 use crate::least::{noted, previous};
+use crate::node_test::{AskRows, NodeTest};
 use kfs_entry_value::{Header, Kind, LINK_LIMIT, NameRow, ROOT};
 use kfs_image_codec::{RawImage, RawNode};
+use kfs_map_pages::Pages;
 use std::alloc::{AllocError, Allocator};
-use std::collections::BTreeMap;
 
 /// Whether the row's directory and name are above those of the row before.
 fn is_in_order(before: Option<&NameRow>, row: &NameRow) -> bool
@@ -33,7 +34,7 @@ fn is_in_order(before: Option<&NameRow>, row: &NameRow) -> bool
 
 /// Whether the row is above the row before, and its directory is one.
 fn is_in_place<A: Allocator>(
-    headers: &BTreeMap<u32, Header, A>,
+    headers: &Pages<Header, A>,
     before: Option<&NameRow>,
     row: &NameRow,
 ) -> bool
@@ -44,9 +45,9 @@ fn is_in_place<A: Allocator>(
 
 /// Rule 4: the least directory number of a name row that isn't above the row before, or whose directory
 /// isn't one. None if there is no such row. Takes no memory.
-pub fn least_out_of_order<A: Allocator>(
+pub(crate) fn least_out_of_order<A: Allocator>(
     raw: &RawImage<A>,
-    headers: &BTreeMap<u32, Header, A>,
+    headers: &Pages<Header, A>,
 ) -> Option<u32>
     requires { ShowsHeads headers.now raw.now }
     ensures { result ≡ least_failed (rule_4 (raw_of raw.now)) }
@@ -62,9 +63,9 @@ pub fn least_out_of_order<A: Allocator>(
 
 /// Rule 5: the least number that a name leads to though it is no node's, or is 1. None if there is no
 /// such name. Takes no memory.
-pub fn least_lost_target<A: Allocator>(
+pub(crate) fn least_lost_target<A: Allocator>(
     raw: &RawImage<A>,
-    headers: &BTreeMap<u32, Header, A>,
+    headers: &Pages<Header, A>,
 ) -> Option<u32>
     requires { ShowsHeads headers.now raw.now }
     ensures { result ≡ least_failed (rule_5 (raw_of raw.now)) }
@@ -78,11 +79,15 @@ pub fn least_lost_target<A: Allocator>(
     least
 }
 
-/// How many names lead to each number that a node can have. `Err` where memory is refused.
-fn name_counts<A: Allocator + Copy>(alloc: A, rows: &[NameRow]) -> Result<Vec<u64, A>, AllocError>
-    ensures { IfOk result (λ counts. CountsLeads counts.items rows.now) }
+/// How many names lead to each number below `many`. `Err` where memory is refused.
+fn name_counts<A: Allocator + Copy>(
+    alloc: A,
+    many: usize,
+    rows: &[NameRow],
+) -> Result<Vec<u64, A>, AllocError>
+    ensures { IfOk result (λ counts. CountsLeads many counts.items rows.now) }
 {
-    let mut counts = vec![in alloc; 0u64; NUMBERS]?;
+    let mut counts = vec![in alloc; 0u64; many]?;
     for row in rows.iter() {
         count_one(&mut counts, row.number);
     }
@@ -123,41 +128,35 @@ fn may_have_names(row: &RawNode, names: u64) -> bool
     }
 }
 
+/// Whether the node has as many names as it should, given how many lead to each number.
+pub(crate) fn has_right_names(counts: &[u64], row: &RawNode) -> bool
+    ensures { result ≡ (counted_test counts.now (raw_node_of row.now)).holds }
+{
+    may_have_names(row, count_in(counts, row.number))
+}
+
 /// Rule 6: the least number of a file that doesn't have 1 to 1,024 names, or not as many as its links,
 /// or of a directory other than 1 that doesn't have exactly one name. None if there is no such node.
 /// `Err` where memory is refused.
-pub fn least_miscounted<A: Allocator + Copy>(
+pub(crate) fn least_miscounted<A: Allocator + Copy, T: AskRows>(
     alloc: A,
     raw: &RawImage<A>,
+    ask: &T,
 ) -> Result<Option<u32>, AllocError>
-    requires in_range { least_failed (rule_1 (raw_of raw.now)) ≡ None }
+    requires can_ask { T.can_ask ask.now }
     requires ascend { least_failed (rule_4 (raw_of raw.now)) ≡ None }
     ensures { IfOk result (λ least. least ≡ least_failed (rule_6 (raw_of raw.now))) }
 {
     let counts = count_names(alloc, raw)?;
-    Ok(least_miscounted_in(counts.as_slice(), raw.nodes.as_slice()))
+    Ok(ask.least_failed(NodeTest::Names(counts.as_slice()), raw.nodes.as_slice()))
 }
 
-/// How many names lead to each number that a node can have, in an image whose name rows ascend. `Err`
-/// where memory is refused.
-pub fn count_names<A: Allocator + Copy>(
-    alloc: A,
-    raw: &RawImage<A>,
-) -> Result<Vec<u64, A>, AllocError>
+/// How many names lead to each node, by its number, in an image whose name rows ascend. `Err` where memory
+/// is refused.
+fn count_names<A: Allocator + Copy>(alloc: A, raw: &RawImage<A>) -> Result<Vec<u64, A>, AllocError>
     requires { least_failed (rule_4 (raw_of raw.now)) ≡ None }
     ensures { IfOk result (λ counts. CountsNames counts.items (raw_of raw.now)) }
 {
-    name_counts(alloc, raw.names.as_slice())
-}
-
-/// Rule 6 for some node rows, given how many names lead to each number. Takes no memory.
-pub fn least_miscounted_in(counts: &[u64], rows: &[RawNode]) -> Option<u32>
-    ensures { result ≡ least_failed (map (counted_test counts.now) (map raw_node_of rows.now)) }
-{
-    let mut least = None;
-    for row in rows.iter() {
-        let holds = may_have_names(row, count_in(counts, row.number));
-        least = noted(least, holds, row.number);
-    }
-    least
+    let many = span(raw.nodes.as_slice());
+    name_counts(alloc, many, raw.names.as_slice())
 }

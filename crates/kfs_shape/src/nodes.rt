@@ -1,5 +1,5 @@
 //! Rules 1 and 3: the node rows by themselves.
-ghost use Rattle.std.specs.Prelude.{◌≡◌, map};
+ghost use Rattle.std.specs.Prelude.{◌≡◌};
 ghost use Rattle.std.specs.Option.{option_copied, option_map};
 ghost use Rattle.kfs_model.specs.Spelling.{greatest_mode_of};
 ghost use Rattle.kfs_model_device.specs.Rules.{number_test, header_test, rule_1, rule_3};
@@ -7,6 +7,7 @@ ghost use Rattle.kfs_model_device.specs.Finding.{least_failed};
 ghost use Rattle.kfs_image_codec.specs.RawImages.{raw_node_of, raw_of};
 
 use crate::least::{noted, previous};
+use crate::node_test::{AskRows, NodeTest};
 use kfs_entry_value::{
     GREATEST_MODE, GREATEST_MODE_OF_VERSION_1, GREATEST_NUMBER, Kind, SIZE_LIMIT,
 };
@@ -26,7 +27,7 @@ fn is_in_order(before: Option<&RawNode>, row: &RawNode) -> bool
 
 /// Rule 1: the least number of a node row that is out of range or isn't above the row before. None if
 /// there is no such row. Takes no memory.
-pub fn least_out_of_order<A: Allocator>(raw: &RawImage<A>) -> Option<u32>
+pub(crate) fn least_out_of_order<A: Allocator>(raw: &RawImage<A>) -> Option<u32>
     ensures { result ≡ least_failed (rule_1 (raw_of raw.now)) }
 {
     let rows = raw.nodes.as_slice();
@@ -51,7 +52,7 @@ fn greatest_mode(version: u8) -> u16
 
 /// Whether mode and size are in the range of an image of this version, and a directory has 1 link and
 /// size 0.
-fn is_header_in_range(version: u8, row: &RawNode) -> bool
+pub(crate) fn is_header_in_range(version: u8, row: &RawNode) -> bool
     ensures { result ≡ (header_test version (raw_node_of row.now)).holds }
 {
     let header = row.header;
@@ -64,20 +65,10 @@ fn is_header_in_range(version: u8, row: &RawNode) -> bool
 
 /// Rule 3: the least number of a node whose mode is over 0o1777 (over 0o777 in version 1) or whose size
 /// is over 2^32, or of a directory with other links than 1 or another size than 0. None if there is no
-/// such node. Takes no memory.
-pub fn least_bad_header<A: Allocator>(raw: &RawImage<A>) -> Option<u32>
+/// such node.
+pub(crate) fn least_bad_header<A: Allocator, T: AskRows>(raw: &RawImage<A>, ask: &T) -> Option<u32>
+    requires { T.can_ask ask.now }
     ensures { result ≡ least_failed (rule_3 (raw_of raw.now)) }
 {
-    least_bad_header_in(raw.version, raw.nodes.as_slice())
-}
-
-/// The same for some node rows of an image of this version.
-pub fn least_bad_header_in(version: u8, rows: &[RawNode]) -> Option<u32>
-    ensures { result ≡ least_failed (map (header_test version) (map raw_node_of rows.now)) }
-{
-    let mut least = None;
-    for row in rows.iter() {
-        least = noted(least, is_header_in_range(version, row), row.number);
-    }
-    least
+    ask.least_failed(NodeTest::Header(raw.version), raw.nodes.as_slice())
 }

@@ -67,7 +67,7 @@ fn is_alone<A: Allocator>(uses: &BTreeMap<u64, u64, A>, row: &ExtentRow<A>) -> b
 
 /// Rule 10: the least file number of an extent that shares a device block with another. None if there
 /// is no such extent. `Err` where memory is refused.
-pub fn least_shared<A: Allocator + Copy>(
+pub(crate) fn least_shared<A: Allocator + Copy>(
     alloc: A,
     raw: &RawImage<A>,
 ) -> Result<Option<u32>, AllocError>

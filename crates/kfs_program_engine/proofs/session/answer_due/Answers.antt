@@ -2,14 +2,16 @@
 use Rattle.std.proofs.Common.{◌≡◌, ◌∙◌, ◌++◌, ap, subst}
 use Rattle.std.specs.Prelude.{OnOk}
 use Rattle.std.proofs.lemmas.Result.{on_ok_weaker}
+use Rattle.kfs_model.specs.Lease.{row_of}
 use Rattle.kfs_model.specs.Machine.{Migrate}
 use Rattle.kfs_plan.specs.Judging.{submission_of}
 use Rattle.kfs_plan.specs.declared.answers.Done.TheVariants.{Moved}
 use Rattle.kfs_program_engine.specs.Bytes.{read_text}
-use Rattle.kfs_program_engine.specs.Session.{After, IsCallAnswered, IsNodeShown, IsReplied, IsSubmissionAnswered, docket_line, names_line}
+use Rattle.kfs_program_engine.specs.Session.{After, IsCallAnswered, IsNodeShown, IsPlanAnswered, IsReplied, IsSubmissionAnswered, docket_line, names_line}
 use Rattle.kfs_program_text.specs.Parts.{line_of}
 use Rattle.kfs_program_images.specs.Saving.{save_text}
 use Rattle.kfs_program_engine.proofs.Held.{act_served, replied_as, said_with_hands, with_hands}
+use Rattle.kfs_program_engine.proofs.PlanAnswers.{refused_as}
 use Rattle.kfs_program_engine.proofs.session.answer_due.Goals as goal
 
 pub returns-in-Act-clause-ok : goal.returns-in-Act-clause-ok
@@ -79,3 +81,20 @@ returns-in-Move-clause-ok g c =
     let moved = subst (λ moves. OnOk c.move_blocks.result (IsReplied (IsCallAnswered desk (Migrate moves) Moved) before after next)) c.as_slice.ensures.value c.move_blocks.ensures.ok in
     on_ok_weaker c.move_blocks.result (replied_as desk hands c.args.command _ before after (After next hands) c.in-Move.is)
     (with_hands c.move_blocks.result hands (IsCallAnswered desk (Migrate c.in-Move.moves.items) Moved) before after next moved)
+
+pub returns-in-Plan-clause-ok : goal.returns-in-Plan-clause-ok
+returns-in-Plan-clause-ok g c =
+    let desk = c.args.desk.now in
+    let hands = c.args.hands.now in
+    let before = c.args.reply.now.items in
+    let after = c.answer_plan.new.reply.items in
+    let row = row_of desk.state.clients c.in-Plan.client in
+    let answered = subst (λ log. OnOk c.answer_plan.result (IsReplied (IsPlanAnswered desk row log) before after desk)) c.as_slice-in-Plan.ensures.value c.answer_plan.ensures.ok in
+    on_ok_weaker c.answer_plan.result (replied_as desk hands c.args.command _ before after (After desk hands) c.in-Plan.is)
+    (with_hands c.answer_plan.result hands (IsPlanAnswered desk row c.in-Plan.log.items) before after desk answered)
+
+pub returns-in-Plan-clause-bad : goal.returns-in-Plan-clause-bad
+returns-in-Plan-clause-bad g c out =
+    let desk = c.args.desk.now in
+    let hands = c.args.hands.now in
+    refused_as desk hands c.args.command c.in-Plan.client c.in-Plan.log c.in-Plan.is (c.answer_plan.ensures.bad out)

@@ -8,7 +8,7 @@ use Rattle.kfs_shape.proofs.climbs.least_unrooted.Goals as goal
 pub returns : goal.returns
 returns g c =
     let tops = c.in_ok-tops.tops.items in
-    c.least_unrooted_in.ensures
+    c.least_failed.ensures
     ∙ ap (λ tops. least_failed (map (top_test tops) (map raw_node_of c.as_slice-2.result.now))) c.as_slice.ensures.value
     ∙ ap (λ rows. least_failed (map (top_test tops) (map raw_node_of rows))) c.as_slice-2.ensures.value
     ∙ top_is_rule_7 (raw_of c.args.raw.now) c.requires.in_range tops c.in_ok-tops.ensures

@@ -6,7 +6,7 @@ use Rattle.kfs_model.specs.Table.{option_or}
 use Rattle.kfs_shape.specs.Climbs.{ancestor_at}
 use Rattle.kfs_shape.specs.Heads.{head_at}
 use Rattle.kfs_image_codec.specs.RawImages.{raw_of}
-use Rattle.kfs_shape.proofs.Parents.{left_to, only_none, written, leads_nowhere, first_left, next_left, none_left, nowhere}
+use Rattle.kfs_shape.proofs.Parents.{left_to, only_none, written, leads_nowhere, first_left, next_left, none_left, nowhere, all_below}
 use Rattle.kfs_shape.proofs.climbs.parents.Goals as goal
 
 pub loop-row-init : goal.loop-row-init
@@ -19,7 +19,7 @@ loop-row-init g c =
       many = ap length whole ∙ c.lead_first.ensures.len ∙ all;
       leads = λ n within.
           first_left raw rows (ap (map name_row_of) (sym c.as_slice-rows.ensures.value)) c.requires.ascend n (ancestor_at c.deref_mut.result.now n) _
-          (ap (λ ancestors. ancestor_at ancestors n) (c.deref_mut.ensures.value ∙ c.in_ok-ancestors.ensures.items_if_clones_equal (only_none _ (λ v clone. clone))) ∙ leads_nowhere 65537 n within)
+          (ap (λ ancestors. ancestor_at ancestors n) (c.deref_mut.ensures.value ∙ c.in_ok-ancestors.ensures.items_if_clones_equal (only_none _ (λ v clone. clone))) ∙ leads_nowhere c.span-many.result n within)
           (ap (λ ancestors. ancestor_at ancestors n) whole ∙ c.lead_first.ensures.each n (omega arith));
     }
 
@@ -46,5 +46,5 @@ returns g c n =
     let raw = raw_of c.args.raw.now in
     ⊎_elim
     (λ within. none_left raw c.as_slice-rows.result.now c.loop-row.row-index n c.loop-row-test.false (ancestor_at c.loop-row.ancestors.items n) (c.loop-row.invariant.leads n within))
-    (λ past. nowhere raw c.requires.in_range c.loop-row.ancestors.items n c.loop-row.invariant.many past)
-    (cases_lt n 65537)
+    (λ past. nowhere raw c.loop-row.ancestors.items c.span-many.result n (all_below c.args.raw.now c.span-many.result c.as_slice.result.now c.as_slice.ensures.value c.span-many.ensures.rows) c.span-many.ensures.root c.loop-row.invariant.many past)
+    (cases_lt n c.span-many.result)

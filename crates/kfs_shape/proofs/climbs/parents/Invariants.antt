@@ -7,6 +7,6 @@ use Rattle.kfs_shape.proofs.climbs.parents.Given as goal
 
 abbrev pub invariant-loop-row : goal.invariant-loop-row
 invariant-loop-row g l = record {
-  many : length l.ancestors.items ≡ 65537;
-  leads : (n : ℕ) → n < 65537 → option_or (ancestor_at l.ancestors.items n) (left_to (raw_of l.raw) l.rows l.row-index n) ≡ wanted (raw_of l.raw) n;
+  many : length l.ancestors.items ≡ l.many;
+  leads : (n : ℕ) → n < l.many → option_or (ancestor_at l.ancestors.items n) (left_to (raw_of l.raw) l.rows l.row-index n) ≡ wanted (raw_of l.raw) n;
 }

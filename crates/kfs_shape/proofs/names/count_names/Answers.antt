@@ -2,7 +2,10 @@ use Rattle.std.proofs.Common.{map, sym, ap}
 use Rattle.kfs_entry_value.specs.Views.{name_row_of}
 use Rattle.kfs_image_codec.specs.RawImages.{raw_of}
 use Rattle.kfs_shape.proofs.NameCounts.{all_counted}
+use Rattle.kfs_shape.proofs.Parents.{all_below}
 use Rattle.kfs_shape.proofs.names.count_names.Goals as goal
 
 pub returns : goal.returns
-returns g c = all_counted (raw_of c.args.raw.now) c.as_slice.result.now (ap (map name_row_of) (sym c.as_slice.ensures.value)) c.requires c.name_counts.result c.name_counts.ensures
+returns g c =
+    all_counted (raw_of c.args.raw.now) c.span-many.result c.as_slice-2.result.now (ap (map name_row_of) (sym c.as_slice-2.ensures.value)) c.requires
+    (all_below c.args.raw.now c.span-many.result c.as_slice.result.now c.as_slice.ensures.value c.span-many.ensures.rows) c.name_counts.result c.name_counts.ensures

@@ -11,10 +11,10 @@ loop-row-init g c =
     record {
       many = omega (arith, c.in_ok-counts.ensures.len, c.in_ok-counts.counts.ok.0);
       counts = λ number within.
-          let none = ap (λ counts. count_in counts number) zeros ∙ zero_counts 65537 number within in
+          let none = ap (λ counts. count_in counts number) zeros ∙ zero_counts c.args.many number within in
           let all = is_tally (leads_to number) c.args.rows.now in
           omega arith;
-      few = λ number within. let none = ap (λ counts. count_in counts number) zeros ∙ zero_counts 65537 number within in omega arith;
+      few = λ number within. let none = ap (λ counts. count_in counts number) zeros ∙ zero_counts c.args.many number within in omega arith;
     }
 
 pub count_one-requires : goal.count_one-requires

@@ -5,7 +5,7 @@ use Rattle.kfs_shape.proofs.names.name_counts.Given as goal
 
 abbrev pub invariant-loop-row : goal.invariant-loop-row
 invariant-loop-row g l = record {
-  many : length l.counts.items ≡ 65537;
-  counts : (number : ℕ) → number < 65537 → count_in l.counts.items number + tally (leads_to number) (drop l.row-index l.rows) ≡ count_by (leads_to number) l.rows;
-  few : (number : ℕ) → number < 65537 → count_in l.counts.items number ≤ l.row-index;
+  many : length l.counts.items ≡ l.many;
+  counts : (number : ℕ) → number < l.many → count_in l.counts.items number + tally (leads_to number) (drop l.row-index l.rows) ≡ count_by (leads_to number) l.rows;
+  few : (number : ℕ) → number < l.many → count_in l.counts.items number ≤ l.row-index;
 }

@@ -5,4 +5,4 @@ use Rattle.kfs_image_codec.specs.RawImages.{raw_node_of}
 use Rattle.kfs_shape.proofs.nodes.least_bad_header.Goals as goal
 
 pub returns : goal.returns
-returns g c = c.least_bad_header_in.ensures ∙ ap (λ rows. least_failed (map (header_test c.args.raw.now.version) (map raw_node_of rows))) c.as_slice.ensures.value
+returns g c = c.least_failed.ensures ∙ ap (λ rows. least_failed (map (header_test c.args.raw.now.version) (map raw_node_of rows))) c.as_slice.ensures.value

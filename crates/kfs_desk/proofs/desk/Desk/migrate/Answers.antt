@@ -5,7 +5,7 @@ use Rattle.kfs_model.specs.Machine.{Migrate, Row}
 use Rattle.kfs_model.specs.Means.{DiffersInPlacement}
 use Rattle.kfs_plan.specs.declared.answers.Done.TheVariants.{Moved}
 use Rattle.kfs_desk.specs.Machine.{Desk, Parts, IsActed, IsCallStep, SeeTheSame, shown, state_at, state_of}
-use Rattle.kfs_desk.proofs.Calls.{acted_at, acted_desk, between, moves_are_step, placement_alone, seen_same}
+use Rattle.kfs_desk.proofs.Calls.{acted_at, acted_desk, between, moves_are_step, placement_alone, seen_same, unmoved}
 use Rattle.kfs_desk.proofs.desk.Desk.migrate.Goals as goal
 
 pub add_moves-requires-clause-step : goal.add_moves-requires-clause-step
@@ -77,3 +77,12 @@ returns-clause-seen g c =
     let new = c.make_moves.new.image in
     let rest = placement_alone desk moves new c.in_ok-answer.answer c.in_ok-answer.ensures.ok in
     subst (λ (d : Desk). SeeTheSame d.state (state_at new desk.clients desk.leases)) c.self.view_is (seen_same (state_of desk) (state_at new desk.clients desk.leases) rest)
+
+pub returns-in_err-position-clause-rest : goal.returns-in_err-position-clause-rest
+returns-in_err-position-clause-rest g c = unmoved c.args.self.now.state c.args.self.now.state refl
+
+pub returns-in_err-answer-clause-rest : goal.returns-in_err-answer-clause-rest
+returns-in_err-answer-clause-rest g c =
+    let inside = c.self.inside in
+    let same = ap (λ image. state_at image inside.clients.value.items inside.leases.value) c.in_err-answer.ensures.err ∙ ap (λ (d : Desk). d.state) c.self.view_is in
+    unmoved c.args.self.now.state (state_at c.make_moves.new.image inside.clients.value.items inside.leases.value) same

@@ -1,8 +1,0 @@
-use Rattle.std.proofs.Common.{map, ap, ◌∙◌}
-use Rattle.kfs_model_device.specs.Rules.{header_test}
-use Rattle.kfs_model_device.specs.Finding.{least_failed}
-use Rattle.kfs_image_codec.specs.RawImages.{raw_node_of}
-use Rattle.kfs_fsck.proofs.nodes.least_bad_header.Goals as goal
-
-pub returns : goal.returns
-returns g c = c.least_bad_header.ensures ∙ ap (λ rows. least_failed (map (header_test c.args.raw.now.version) (map raw_node_of rows))) c.as_slice.ensures.value

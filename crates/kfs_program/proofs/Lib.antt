@@ -1,0 +1,2 @@
+-- Lemmas on the words that take an image.
+pub mod Lines
