@@ -1,0 +1,38 @@
+-- A desk may go from thread to thread, where its allocator may and any thread may give a block back: all that it is made of may.
+use Rattle.std.proofs.Common.{rules}
+use denote.RattleType.{RattleType}
+use denote.Param.Send.{IsSend, IsSync, sendable, view_send}
+use denote.Param.SendFields.{declared_send}
+use Rattle.core.specs.declared.alloc.Allocator.{Ghosts}
+use Rattle.std_alloc.proofs.SendSync.{FreesAnywhere, Arc-send, Vec-send, Vec-sync}
+use Rattle.kfs_mode.proofs.client.Client.TheSendSync as client
+use Rattle.kfs_image.specs.contracts.image.Image as Image
+use Rattle.kfs_image.proofs.image.Image.TheSendSync as image
+use Rattle.kfs_lease.specs.contracts.leases.Leases as Leases
+use Rattle.kfs_lease.proofs.leases.Leases.TheSendSync as leases
+use Rattle.kfs_desk_docket.specs.contracts.docket.Docket as Docket
+use Rattle.kfs_desk.specs.contracts.state.ShownState as ShownState
+use Rattle.kfs_desk.specs.contracts.desk.Desk as Desk
+
+docket_send : IsSend Docket.the_row
+docket_send = search rules depth 40 fits 4000
+
+module _ (A : RattleType) (ghosts : Ghosts A.Denot) (send : IsSend A) (sync : IsSync A) (frees : FreesAnywhere A.Denot ghosts) where
+  image_send : IsSend (Image.the_row A ghosts)
+  image_send = image.the_send A ghosts send sync frees
+
+  leases_send : IsSend (Leases.the_row A ghosts)
+  leases_send = leases.the_send A ghosts send sync frees
+
+  leases_sync : IsSync (Leases.the_row A ghosts)
+  leases_sync = leases.the_sync A ghosts send sync frees
+
+  -- the opening state has no bytes
+  opening_send : IsSend (ShownState.the_row A ghosts)
+  opening_send = search rules depth 40 fits 4000
+
+  -- the parts of a desk in the order of its fields: allocator, image, clients, leases, opening, docket, limit
+  pub desk_send : IsSend (Desk.the_row A ghosts)
+  desk_send =
+      view_send _ _ _ _ _ (declared_send (Desk.TheInside.the_type A ghosts)
+      (search (sendable, send) depth 6, (image_send, (Arc-send _ A ghosts (Vec-send _ A ghosts client.the_send send frees) (Vec-sync _ A ghosts client.the_sync sync) frees send sync, (Arc-send _ A ghosts leases_send leases_sync frees send sync, (opening_send, (docket_send, (search sendable depth 6, tt))))))))
