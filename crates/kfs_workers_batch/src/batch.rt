@@ -1,7 +1,7 @@
 //! A batch of submissions, judged and landed by several workers.
 ghost use Rattle.std.specs.Prelude.{◌≡◌, ◌↔◌, ◌-◌, ◌/◌, ◌^◌, ◌<◌, ◌≤◌, [], length, map, replicate, vec_capacity, All, IfOk, IfErr, IsTrue};
 ghost use Rattle.kfs_workers_batch.specs.Batch.{AreSettled, AreTheRows, AscendInShares, GoesOn};
-ghost use Rattle.kfs_workers_batch.specs.Back.{AreBack, IsForWorkers};
+ghost use Rattle.kfs_workers_batch.specs.Back.{AreBack, HasLostDesk, IsForWorkers};
 ghost use Rattle.kfs_desk.specs.Beginning.{beginning_of};
 ghost use Rattle.kfs_workers_threads.specs.Passes.{IsPassOf, started, seen, own};
 
@@ -56,7 +56,7 @@ fn room<'g, A: Allocator + Copy, G: Gate>(
 
 /// Whether a docket that had so many rows, and has so many now, has a new one for each reply.
 fn has_a_row_for_each(before: u64, now: u32, replies: usize, left: usize) -> bool
-    ensures { IsTrue result → now - before ≡ replies - left }
+    ensures { IsTrue result ↔ now - before ≡ replies - left }
 {
     u64::from(now).saturating_sub(before) == replies.saturating_sub(left) as u64
 }
@@ -84,7 +84,7 @@ fn batch_at<A: Allocator + Copy + Send + Sync, G: Gate + Sync, R: Threads + Wait
     ensures settled { IfOk result (λ end. AreSettled (started beginning_of shared) end.desk.docket 0 submissions.items end.replies.items end.left.items) }
     ensures rows { IfOk result (λ end. AreTheRows (length (seen pass)) (length end.desk.docket) end.replies.items) }
     ensures shares { IfOk result (λ end. AscendInShares (length room.crew.shares.items) (length (seen pass)) (length end.desk.docket) end.replies.items) }
-    ensures back { IfErr result (λ back. back ≡ BatchBack.Unreturned) }
+    ensures back { IfErr result (λ back. HasLostDesk (started beginning_of shared) (seen pass) submissions.items back) }
 {
     let rows = pass.seen();
     let Room {
@@ -138,7 +138,8 @@ pub fn run_batch<A: Allocator + Copy + Send + Sync, G: Gate + Sync, R: Threads +
     ensures rows { IfOk result (λ end. AreTheRows (length desk.docket) (length end.desk.docket) end.replies.items) }
     ensures shares { IfOk result (λ end. AscendInShares workers (length desk.docket) (length end.desk.docket) end.replies.items) }
 
-    // All comes back for a wrong number of workers, and only then with this reason.
+    // All comes back for a wrong number of workers, and only then with this reason. For want of memory all comes back, too. Else
+    // the desk is lost: a turn wasn't passed on, or the docket has other rows than those of the replies.
     ensures workers { IsForWorkers result ↔ ((1 ≤ workers) × (workers ≤ 8) → ⊥) }
     ensures back { IfErr result (λ back. AreBack desk submissions back) }
 {

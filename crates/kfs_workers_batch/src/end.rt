@@ -40,7 +40,7 @@ pub enum BatchBack<A: Allocator> {
         desk: Desk<A>,
         submissions: Vec<Submission<A>, A>,
     },
-    /// 3: at the end a ticket was drawn whose turn wasn't passed on, or the docket hasn't a row for each
-    /// reply. Nothing comes back. No batch that returned leaves it so.
+    /// 3: at the end a ticket was drawn whose turn wasn't passed on, or the docket hasn't as many new rows
+    /// as there are replies. Nothing comes back. No batch of the tests ends so.
     Unreturned,
 }
