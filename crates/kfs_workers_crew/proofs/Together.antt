@@ -149,9 +149,6 @@ hired_lie duty items workers shares count xs hired is =
     let many : length workers ≡ count = sym (length-map workers (λ x. items (duty x))) ∙ (ap length lie ∙ dealt_length count xs) in
     (many, lie ∙ ap (λ n. dealt n xs) (sym many))
 
-pub lie_for : {X : Type 0} (lists : List (List X)) (count n : ℕ) (xs : List X) → lists ≡ dealt count xs → length xs ≡ n → (all : List X) × (lists ≡ dealt count all) × (length all ≡ n)
-lie_for lists count n xs is long = (xs, is, long)
-
 -- the same, with its parts named otherwise
 pub carried : {W T : Type 0} (P : List W → T → T → Type 0) (f : T → List ℕ) (n count : ℕ) (s0 from upto : List W) (xs zs before after : List T) → n ≡ count → s0 ≡ from → xs ≡ reverse before → after ≡ reverse zs
     → AreDoneBy P f n s0 upto (reverse xs) (reverse zs) → AreDoneBy P f count from upto before after

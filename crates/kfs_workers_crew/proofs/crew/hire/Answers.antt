@@ -25,7 +25,7 @@ loop-duty-preserved g c =
           let counted = ap length steps in
           omega arith;
       pass = search rules;
-      hired = hired c.args.shared.now (seen c.args.pass) at.workers.items c.push_reserved.new.self.items _ pushed at.invariant.hired c.split.ensures.passes.1 c.split.ensures.own.1 (c.split.ensures.seen.1 ∙ at.invariant.pass.1);
+      hired = hired c.args.shared.now (seen c.args.pass) at.workers.items c.push_reserved.new.self.items _ pushed at.invariant.hired c.split-kept.ensures.passes.1 c.split-kept.ensures.own.1 (c.split-kept.ensures.seen.1 ∙ at.invariant.pass.1);
     }
 
 pub returns-clause-shares : goal.returns-clause-shares
