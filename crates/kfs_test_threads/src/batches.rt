@@ -15,11 +15,15 @@ use std::thread::Threads;
 /// The position of a Yes that needed no block and was judged once.
 fn position_of(reply: Option<&Option<Reply>>) -> Option<u32> {
     match reply {
-        Some(Some(Reply::Yes {
-            position,
-            rejudged: false,
-            need: 0,
-        })) => Some(*position),
+        Some(
+            Some(
+                Reply::Yes {
+                    position,
+                    rejudged: false,
+                    need: 0,
+                },
+            ),
+        ) => Some(*position),
         _ => None,
     }
 }
@@ -146,8 +150,8 @@ fn meet_at_the_gate<R: Threads + Wait + Sync>(rt: &R, alloc: Global) -> Option<b
     let submissions = creates(alloc, &FILES_P[0..2])?;
     let gate = Meeting::new();
     let end = batch(rt, alloc, &gate, desk, submissions, 2)?.ok()?;
-    let are_created =
-        position_of(end.replies.get(0)).is_some() && position_of(end.replies.get(1)).is_some();
+    let are_created = position_of(end.replies.get(0)).is_some()
+        && position_of(end.replies.get(1)).is_some();
     Some(are_created && !gate.has_failed())
 }
 

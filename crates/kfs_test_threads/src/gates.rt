@@ -35,7 +35,6 @@ impl Meeting {
     pub fn has_failed(&self) -> bool {
         self.failed.load(Ordering::SeqCst) != 0
     }
-
 }
 
 /// Waits until the flag is set. Whether it was.

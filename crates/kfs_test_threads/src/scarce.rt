@@ -36,7 +36,7 @@ fn is_left<A: Allocator>(left: &[Left<A>], number: usize) -> bool {
 }
 
 /// Whether each creation has a Yes or is left, and the docket has a row for each Yes.
-fn is_settled<A: Allocator>(end: &BatchEnd<A>) -> bool {
+fn is_settled<A: Allocator + Copy>(end: &BatchEnd<A>) -> bool {
     let mut rows = 1;
     for number in 0..FILES_P.len() {
         match end.replies.get(number) {
@@ -63,11 +63,7 @@ fn submissions_of<A: Allocator + Copy>(
 }
 
 /// What isn't answered; none where the ending is wrong.
-fn rest_of<A: Allocator + Copy>(
-    alloc: A,
-    ending: Ending<A>,
-    has_refused: bool,
-) -> Option<Rest<A>> {
+fn rest_of<A: Allocator + Copy>(alloc: A, ending: Ending<A>, has_refused: bool) -> Option<Rest<A>> {
     match ending {
         Ok(end) if is_settled(&end) && (has_refused || end.left.is_empty()) => {
             let BatchEnd {
@@ -80,10 +76,7 @@ fn rest_of<A: Allocator + Copy>(
         Err(BatchBack::OutOfMemory { desk, submissions })
             if has_refused
                 && desk.docket().len() == 1
-                && are_creates(submissions.as_slice(), &FILES_P) =>
-        {
-            Some((desk, submissions))
-        }
+                && are_creates(submissions.as_slice(), &FILES_P) => { Some((desk, submissions)) }
         _ => None,
     }
 }

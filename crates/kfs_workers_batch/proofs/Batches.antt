@@ -52,6 +52,7 @@ module _ {A J : Type 0} (number : J → ℕ) (hand : J → Hand A) (beginning : 
       head : List (ℕ × Hand A) → ℕ × Hand A → ℕ × Hand A
       head [] d = d
       head (x ∷ l) d = x
+
       tail : List (ℕ × Hand A) → List (ℕ × Hand A)
       tail [] = []
       tail (x ∷ l) = l

@@ -20,6 +20,7 @@ use std::thread::Threads;
 pub const MOST_WORKERS: usize = 8;
 
 /// The memory of a batch.
+#[derive(Drop)]
 struct Room<'g, A: Allocator + Copy, G: Gate> {
     jobs: Vec<Job<'g, A, G>, A>,
     replies: Vec<Option<Reply>, A>,
@@ -28,7 +29,7 @@ struct Room<'g, A: Allocator + Copy, G: Gate> {
 }
 
 /// Takes the memory for so many workers and submissions.
-fn room<'g, A: Allocator + Copy, G: Gate>(
+fn make_room<'g, A: Allocator + Copy, G: Gate>(
     alloc: A,
     workers: usize,
     submissions: usize,
@@ -146,7 +147,7 @@ pub fn run_batch<A: Allocator + Copy + Send + Sync, G: Gate + Sync, R: Threads +
     if workers == 0 || workers > MOST_WORKERS {
         return Err(BatchBack::BadWorkers { desk, submissions });
     }
-    let Ok(room) = room(alloc, workers, submissions.len()) else {
+    let Ok(room) = make_room(alloc, workers, submissions.len()) else {
         return Err(BatchBack::OutOfMemory { desk, submissions });
     };
     match Shared::new(alloc, desk, 0) {

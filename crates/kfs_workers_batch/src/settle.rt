@@ -26,7 +26,12 @@ pub fn jobs_of<'g, A: Allocator + Copy, G>(
     let mut number = 0;
     for submission in submissions {
         let hand = Hand::Waiting(submission);
-        jobs.push_reserved(Job { alloc, gate, number, hand });
+        jobs.push_reserved(Job {
+            alloc,
+            gate,
+            number,
+            hand,
+        });
         number += 1;
     }
     jobs
@@ -48,7 +53,11 @@ fn settle_one<A: Allocator, G>(
         Hand::Replied(reply) => replies.push_reserved(Some(reply)),
         Hand::Back(SharedBack { submission, why }) => {
             let number = job.number;
-            left.push_reserved(Left { number, submission, why });
+            left.push_reserved(Left {
+                number,
+                submission,
+                why,
+            });
             replies.push_reserved(None);
         }
         Hand::Waiting(_) | Hand::Taken => replies.push_reserved(None),

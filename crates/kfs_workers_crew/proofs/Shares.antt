@@ -216,7 +216,7 @@ module _ {X : Type 0} where
       let at = length xs % count in
       let long : 0 + length (reverse xs) ≡ length xs = let e = length-reverse xs in omega arith in
       let last : share_from count share 0 (reverse (x ∷ xs)) ≡ share_from count share 0 (reverse xs) ++ when (at == share) (x ∷ []) =
-          ap (share_from count share 0) (reverse-append (x ∷ []) xs) ∙ (share_snoc count share 0 (reverse xs) x ∙ ap (λ n. share_from count share 0 (reverse xs) ++ when (n % count == share) (x ∷ [])) long) in
+      ap (share_from count share 0) (reverse-append (x ∷ []) xs) ∙ (share_snoc count share 0 (reverse xs) x ∙ ap (λ n. share_from count share 0 (reverse xs) ++ when (n % count == share) (x ∷ [])) long) in
       ⊎_elim
       (λ (is : at ≡ share). subst (λ n. get_or (put_in at x (dealt count xs)) n [] ≡ share_from count share 0 (reverse xs) ++ when (at == share) (x ∷ [])) is
       (put_there at x (dealt count xs) (at_next count xs some) ∙ (ap (λ l. l ++ x ∷ []) (ap (λ n. get_or (dealt count xs) n []) is ∙ share_dealt count share xs low)

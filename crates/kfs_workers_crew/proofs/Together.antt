@@ -82,7 +82,7 @@ dealt_same count (x ∷ xs) (y ∷ ys) low long is =
     let tails : length xs ≡ length ys = omega arith in
     let at = length xs % count in
     let p = put_same at x y (dealt count xs) (dealt count ys) (at_next count xs low) (subst (λ n. n % count < length (dealt count ys)) (sym tails) (at_next count ys low))
-        (is ∙ ap (λ n. put_in (n % count) y (dealt count ys)) (sym tails)) in
+    (is ∙ ap (λ n. put_in (n % count) y (dealt count ys)) (sym tails)) in
     ap (λ h. h ∷ xs) p.1 ∙ ap (λ l. y ∷ l) (dealt_same count xs ys low tails p.0)
 
 pairs_reverse : {X Y : Type 0} (R : X → Y → Type 0) (xs : List X) (ys : List Y) → Pairs R xs ys → Pairs R (reverse xs) (reverse ys)
@@ -108,7 +108,7 @@ done_by {V} {W} {T} items f P from upto own vs ws count xs some many lie h apart
         done = pairs_reverse R xs ys p.2;
         new = λ k g. between_all items f P from upto own vs ws h k (weigh_has (all_of (all_of f) (map items ws)) k (let e = same (one_at k) in let b = has_weigh (all_of f (reverse ys)) k g in omega arith));
         apart = weigh_distinct (all_of f (reverse ys)) (λ k. let e = same (one_at k) in
-        let d = distinct_weigh (all_of (all_of f) (map items ws)) (subst AreDistinct (own_all items f P from upto own vs ws h) apart) k in omega arith);
+            let d = distinct_weigh (all_of (all_of f) (map items ws)) (subst AreDistinct (own_all items f P from upto own vs ws h) apart) k in omega arith);
         ascend = λ share low. subst (λ l. AscendWithin (length from) (all_of f l) (length upto)) (ap (λ z. get_or z share []) p.1 ∙ share_dealt count share ys low)
             (ascend_at items f P from upto own vs ws h share (subst (λ n. share < n) (sym long) low));
       },

@@ -131,14 +131,7 @@ impl<D: Docketed + Send, T: Drop + Send, A: Allocator + Copy + Send + Sync> Crew
         tasks.reverse();
         deal(tasks, shares.as_mut_slice());
         let first = hire(shared, pass, shares, &mut workers);
-        let met = work_dealt(
-            rt,
-            shared,
-            first,
-            workers.as_mut_slice(),
-            tasks,
-            count,
-        );
+        let met = work_dealt(rt, shared, first, workers.as_mut_slice(), tasks, count);
         tasks.reverse();
         met
     }

@@ -62,12 +62,7 @@ pub fn work_and_meet<
     A: Allocator + Send + Sync,
     T: Duty<D, A> + Send,
     R: Threads + Wait + Sync,
->(
-    rt: &R,
-    shared: &Shared<D, A>,
-    pass: Pass<D>,
-    workers: &mut [Worker<D, T>],
-) -> Pass<D>
+>(rt: &R, shared: &Shared<D, A>, pass: Pass<D>, workers: &mut [Worker<D, T>]) -> Pass<D>
     requires pass { IsPassOf shared.now pass × (own pass ≡ []) }
     requires workers { All (λ w. IsPassOf shared.now w.pass × (own w.pass ≡ []) × (seen w.pass ≡ seen pass)) workers.old }
     ensures pass { IsPassOf shared.now result }
