@@ -1,5 +1,6 @@
 -- What the calls for one submission tell of its worker's pass.
-use Rattle.std.proofs.Common.{◌≡◌, ℕ, Bool, ◌≤◌, List, [], ◌∷◌, ◌++◌, length, sym, refl, ap, subst, ◌∙◌, arith, length-append, append_assoc, append-nil}
+use Rattle.std.proofs.Common.{◌≡◌, ℕ, Bool, ◌≤◌, List, [], ◌∷◌, ◌++◌, length, sym, refl, ap, subst, ◌∙◌, arith, length-append, append_assoc, append-nil, Result, Ok, Err}
+use Rattle.std.specs.Prelude.{IfOk, IfErr, OnErr}
 use Rattle.kfs_model.specs.Judgement.{State}
 use Rattle.kfs_model.specs.Machine.{Row}
 use Rattle.kfs_desk_docket.specs.Legal.{IsLegalDocket}
@@ -12,12 +13,13 @@ use Rattle.kfs_desk.specs.Docket.{position_of}
 use Rattle.kfs_desk.specs.Machine.{AnswerMeans, IsStep}
 use Rattle.kfs_turns.specs.Lists.{StartsWith}
 use Rattle.kfs_workers_threads.specs.Calls.{HasAdded, IsLanding, IsUnanswered}
+use Rattle.kfs_workers_threads.specs.declared.want.SharedBack.{SharedBack}
 use Rattle.kfs_workers_threads.specs.declared.want.SharedWant.{SharedWant}
 use Rattle.kfs_workers_threads.specs.declared.want.SharedWant.TheVariants.{OutOfMemory, DocketFull, TurnsSpent}
 use Rattle.kfs_workers_crew.specs.Tasks.{HasWorked}
 use Rattle.kfs_workers_crew.proofs.Crews.{starts_trans}
 use Rattle.kfs_workers_crew.proofs.Work.{starts_longer}
-use Rattle.kfs_workers_batch.specs.Answers.{IsRepliedIn, IsWhyLeft}
+use Rattle.kfs_workers_batch.specs.Answers.{IsAnswerTo, IsRepliedIn, IsWhyLeft, positions_in}
 
 -- ---- no answer
 
@@ -63,6 +65,18 @@ is_replied {A} beginning s0 s1 o0 o1 judged submission reply same is = record {
   step = subst (λ (s : Submission A). IsStep is.before (submission_of s) reply is.row is.after) same is.is.step;
   meaning = subst (λ (s : Submission A). AnswerMeans is.before (submission_of s) reply is.after) same is.is.meaning;
 }
+
+-- ---- the landing, whose view was taken before
+
+pub landed_worked : {A : Type 0} (beginning : Beginning) (s0 s1 s2 : List Row) (o0 o1 o2 : List ℕ) (ended : Bool) (judged : Judged A) (r : Result Reply (SharedBack A)) → StartsWith s1 s0 → o1 ≡ o0
+    → IfOk r (λ reply. HasAdded beginning s1 o1 (position_of reply) (IsLanding judged reply) s2 o2) → IfErr r (λ back. IsUnanswered beginning back.why s1 s2 ended) → OnErr r (o2 ≡ o1) → HasWorked s0 o0 (positions_in r) s2 o2
+landed_worked beginning s0 s1 s2 o0 o1 o2 ended judged (Ok reply) begins own ok err same = one_made beginning s0 s1 s2 o0 o1 o2 (position_of reply) (IsLanding judged reply) begins own ok
+landed_worked beginning s0 s1 s2 o0 o1 o2 ended judged (Err back) begins own ok err same = nothing_made s0 s2 o0 o2 (starts_trans s2 s1 s0 (unanswered_begins beginning back.why s1 s2 ended err) begins) (same ∙ own)
+
+pub landed_answer : {A : Type 0} (beginning : Beginning) (s1 s2 : List Row) (o1 o2 : List ℕ) (ended : Bool) (judged : Judged A) (submission : Submission A) (r : Result Reply (SharedBack A)) → judged.submission ≡ submission
+    → IfOk r (λ reply. HasAdded beginning s1 o1 (position_of reply) (IsLanding judged reply) s2 o2) → IfErr r (λ back. back.submission ≡ judged.submission) → IfErr r (λ back. IsUnanswered beginning back.why s1 s2 ended) → IsAnswerTo beginning s2 submission r
+landed_answer beginning s1 s2 o1 o2 ended judged submission (Ok reply) same ok back err = is_replied beginning s1 s2 o1 o2 judged submission reply same ok
+landed_answer beginning s1 s2 o1 o2 ended judged submission (Err left) same ok back err = (back ∙ same, unanswered_why beginning left.why s1 s2 ended err)
 
 -- ---- what stands in a docket stands in a longer one
 

@@ -1,19 +1,28 @@
 -- What the jobs of a batch come to, said of the submissions and their replies.
 use Rattle.std.proofs.Common.{◌≡◌, ℕ, ◌+◌, ◌-◌, ◌≤◌, ◌<◌, List, [], ◌∷◌, ◌++◌, length, map, Option, Some, None, sym, refl, ap, subst, ◌∙◌, arith, length-append, ◌==◌, ◌%◌, Bool, true, false, append_assoc}
+use Rattle.std.proofs.Common.{Result, Ok, Err, Vec}
+use Rattle.std.specs.Prelude.{IfErr}
+use Rattle.std.proofs.lemmas.List.{length-map}
 use Rattle.std.specs.List.{flat_map, concat}
 use Rattle.kfs_model.specs.Machine.{Row}
 use Rattle.kfs_plan.specs.declared.answers.Reply.{Reply}
 use Rattle.kfs_plan.specs.declared.submission.Submission.{Submission}
-use Rattle.kfs_desk.specs.Beginning.{Beginning, IsDocketFrom}
+use Rattle.kfs_desk_docket.specs.Legal.{IsLegalDocket}
+use Rattle.kfs_desk.specs.Beginning.{Beginning, IsDocketFrom, beginning_of}
+use Rattle.kfs_desk.specs.Machine.{Desk}
 use Rattle.kfs_turns.specs.Lists.{StartsWith, Has, AreDistinct}
 use Rattle.kfs_turns.proofs.Numbers.{each_between}
 use Rattle.kfs_workers_crew.specs.Crew.{Pairs}
 use Rattle.kfs_workers_crew.specs.Shares.{share_from, when}
 use Rattle.kfs_workers_crew.specs.Tasks.{AscendWithin, AreDoneBy, IsDoneIn, all_of}
 use Rattle.kfs_workers_crew.proofs.Work.{starts_longer, ascend_higher}
-use Rattle.kfs_workers_batch.specs.Batch.{AreSettled, AreTheRows, AscendInShares, position_in}
+use Rattle.kfs_workers_crew.proofs.Crews.{starts_trans}
+use Rattle.kfs_workers_batch.specs.Back.{AreBack, HasLostDesk}
+use Rattle.kfs_workers_batch.specs.Batch.{AreSettled, AreTheRows, AscendInShares, GoesOn, position_in}
 use Rattle.kfs_workers_batch.specs.Jobs.{IsJobDone, IsOutcome, positions_of}
 use Rattle.kfs_workers_batch.specs.Settled.{left_in, numbered, reply_in}
+use Rattle.kfs_workers_batch.specs.declared.end.BatchBack.{BatchBack}
+use Rattle.kfs_workers_batch.specs.declared.end.BatchBack.TheVariants.{BadWorkers, OutOfMemory, Unreturned}
 use Rattle.kfs_workers_batch.specs.declared.end.Left.{Left}
 use Rattle.kfs_workers_batch.specs.declared.job.Hand.{Hand}
 use Rattle.kfs_workers_batch.specs.declared.job.Hand.TheVariants.{Waiting, Taken, Replied, Back}
@@ -40,7 +49,7 @@ module _ {A J : Type 0} (number : J → ℕ) (hand : J → Hand A) (beginning : 
   settled n [] (v ∷ vs) ws is h = let none = ap length is in absurd (omega arith)
   settled n (s ∷ submissions) [] ws is h = let none = ap length is in absurd (omega arith)
   settled n (s ∷ submissions) (v ∷ vs) [] is h = absurd h
-  settled n (s ∷ submissions) (v ∷ vs) (w ∷ ws) is ((then, begins, same, outcome), h) =
+  settled n (s ∷ submissions) (v ∷ vs) (w ∷ ws) is ((then, begins, (same, outcome)), h) =
       let first : (number v, hand v) ≡ (n, Waiting s) = ap (λ l. head l (n, Waiting s)) is in
       let waits : hand v ≡ Waiting s = ap (λ p. p.1) first in
       let numbers : number w ≡ n = same ∙ ap (λ p. p.0) first in
@@ -62,6 +71,33 @@ left_short number (Waiting s) = omega arith
 left_short number Taken = omega arith
 left_short number (Replied reply) = omega arith
 left_short number (Back back) = omega arith
+
+-- a job for each submission
+numbered_length : {A : Type 0} (n : ℕ) (submissions : List (Submission A)) → length (numbered n submissions) ≡ length submissions
+numbered_length n [] = refl
+numbered_length n (s ∷ submissions) = let e = numbered_length (n + 1) submissions in omega arith
+
+pub as_many : {A J : Type 0} (number : J → ℕ) (hand : J → Hand A) (js : List J) (submissions : List (Submission A)) → map (λ (j : J). (number j, hand j)) js ≡ numbered 0 submissions → length js ≡ length submissions
+as_many number hand js submissions is = sym (length-map js (λ j. (number j, hand j))) ∙ (ap length is ∙ numbered_length 0 submissions)
+
+pub settled_all : {A J : Type 0} (number : J → ℕ) (hand : J → Hand A) (beginning : Beginning) (longer docket : List Row) (submissions : List (Submission A)) (vs ws : List J) (replies : List (Option Reply)) (left : List (Left A))
+    → StartsWith longer docket → IsDocketFrom beginning longer → map (λ (j : J). (number j, hand j)) vs ≡ numbered 0 submissions → Pairs (IsDoneIn (Done number hand beginning longer docket) docket) vs ws
+    → replies ≡ map (λ (j : J). reply_in (hand j)) ws → left ≡ flat_map (λ (j : J). left_in (number j) (hand j)) ws → AreSettled beginning longer 0 submissions replies left
+settled_all number hand beginning longer docket submissions vs ws replies left on whole is done answered others =
+    subst (λ rs. AreSettled beginning longer 0 submissions rs left) (sym answered)
+    (subst (AreSettled beginning longer 0 submissions _) (sym others) (settled number hand beginning longer docket on whole 0 submissions vs ws is done))
+
+pub goes_on : (beginning : Beginning) (docket then : List Row) (desk : Desk) → beginning_of desk ≡ beginning → StartsWith desk.docket then → StartsWith then docket → IsLegalDocket desk.opening desk.docket desk.state → IsDocketFrom beginning desk.docket → GoesOn beginning docket desk
+goes_on beginning docket then desk begun begins on led lawful = record { begun = begun; begins = starts_trans desk.docket then docket begins on; legal = led; docket_from = lawful }
+
+-- the end of a batch whose desk is lost, said of the desk that was handed in
+pub lost_back : {A T : Type 0} (desk : Desk) (submissions : Vec (Submission A) A) (beginning : Beginning) (docket : List Row) (r : Result T (BatchBack A)) → beginning ≡ beginning_of desk → docket ≡ desk.docket
+    → IfErr r (λ back. HasLostDesk beginning docket submissions.items back) → IfErr r (λ back. AreBack desk submissions back)
+lost_back desk submissions beginning docket (Ok end) begun rows h = h
+lost_back desk submissions beginning docket (Err (BadWorkers other these)) begun rows h = absurd h
+lost_back desk submissions beginning docket (Err (OutOfMemory other these)) begun rows h = absurd h
+lost_back desk submissions beginning docket (Err Unreturned) begun rows h =
+    subst (λ b. HasLostDesk b desk.docket submissions.items Unreturned) begun (subst (λ rs. HasLostDesk beginning rs submissions.items Unreturned) rows h)
 
 -- ---- positions
 

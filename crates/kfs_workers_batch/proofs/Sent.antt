@@ -1,10 +1,10 @@
 -- A desk may go from thread to thread, where its allocator may and any thread may give a block back: all that it is made of may.
 use Rattle.std.proofs.Common.{rules}
 use denote.RattleType.{RattleType}
-use denote.Param.Send.{IsSend, IsSync, sendable, view_send}
+use denote.Param.Send.{Frees, IsSend, IsSync, sendable, view_send}
 use denote.Param.SendFields.{declared_send}
-use Rattle.core.specs.declared.alloc.Allocator.{Ghosts}
-use Rattle.std_alloc.proofs.SendSync.{FreesAnywhere, Arc-send, Vec-send, Vec-sync}
+use Rattle.std.specs.declared.alloc.Allocator.{Ghosts}
+use Rattle.std.proofs.CrossingOver.{crosses}
 use Rattle.kfs_mode.proofs.client.Client.TheSendSync as client
 use Rattle.kfs_image.specs.contracts.image.Image as Image
 use Rattle.kfs_image.proofs.image.Image.TheSendSync as image
@@ -17,7 +17,7 @@ use Rattle.kfs_desk.specs.contracts.desk.Desk as Desk
 docket_send : IsSend Docket.the_row
 docket_send = search rules depth 40 fits 4000
 
-module _ (A : RattleType) (ghosts : Ghosts A.Denot) (send : IsSend A) (sync : IsSync A) (frees : FreesAnywhere A.Denot ghosts) where
+module _ (A : RattleType) (ghosts : Ghosts A.Denot) (send : IsSend A) (sync : IsSync A) (frees : Frees ghosts ghosts.dealloc_token) where
   image_send : IsSend (Image.the_row A ghosts)
   image_send = image.the_send A ghosts send sync frees
 
@@ -35,4 +35,4 @@ module _ (A : RattleType) (ghosts : Ghosts A.Denot) (send : IsSend A) (sync : Is
   pub desk_send : IsSend (Desk.the_row A ghosts)
   desk_send =
       view_send _ _ _ _ _ (declared_send (Desk.TheInside.the_type A ghosts)
-      (search (sendable, send) depth 6, (image_send, (Arc-send _ A ghosts (Vec-send _ A ghosts client.the_send send frees) (Vec-sync _ A ghosts client.the_sync sync) frees send sync, (Arc-send _ A ghosts leases_send leases_sync frees send sync, (opening_send, (docket_send, (search sendable depth 6, tt))))))))
+      (search (sendable, send) depth 6, (image_send, (search (crosses, client.the_send, client.the_sync, send, sync, frees) depth 12, (search (crosses, leases_send, leases_sync, send, sync, frees) depth 12, (opening_send, (docket_send, (search sendable depth 6, tt))))))))

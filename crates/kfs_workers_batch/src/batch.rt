@@ -11,7 +11,7 @@ use crate::settle::{jobs_of, settle};
 use kfs_desk::{Desk, Reply};
 use kfs_plan::Submission;
 use kfs_workers_crew::Crew;
-use kfs_workers_threads::{Pass, Shared};
+use kfs_workers_threads::{Docketed, Pass, Shared};
 use std::alloc::{AllocError, Allocator};
 use std::sync::Wait;
 use std::thread::Threads;
@@ -21,7 +21,10 @@ pub const MOST_WORKERS: usize = 8;
 
 /// The memory of a batch.
 #[derive(Drop)]
-struct Room<'g, A: Allocator + Copy, G: Gate> {
+struct Room<'g, A: Allocator + Copy, G: Gate>
+where
+    Desk<A>: Docketed,
+{
     jobs: Vec<Job<'g, A, G>, A>,
     replies: Vec<Option<Reply>, A>,
     left: Vec<Left<A>, A>,
@@ -55,6 +58,11 @@ fn make_room<'g, A: Allocator + Copy, G: Gate>(
     })
 }
 
+/// Gives the memory of a batch back.
+fn give_back<A: Allocator + Copy, G: Gate>(room: Room<'_, A, G>) {
+    drop(room);
+}
+
 /// Whether a docket that had so many rows, and has so many now, has a new one for each reply.
 fn has_a_row_for_each(before: u64, now: u32, replies: usize, left: usize) -> bool
     ensures { IsTrue result ↔ now - before ≡ replies - left }
@@ -84,7 +92,7 @@ fn batch_at<A: Allocator + Copy + Send + Sync, G: Gate + Sync, R: Threads + Wait
     ensures desk { IfOk result (λ end. GoesOn (started beginning_of shared) (seen pass) end.desk) }
     ensures settled { IfOk result (λ end. AreSettled (started beginning_of shared) end.desk.docket 0 submissions.items end.replies.items end.left.items) }
     ensures rows { IfOk result (λ end. AreTheRows (length (seen pass)) (length end.desk.docket) end.replies.items) }
-    ensures shares { IfOk result (λ end. AscendInShares (length room.crew.shares.items) (length (seen pass)) (length end.desk.docket) end.replies.items) }
+    ensures shares { IfOk result (λ end. AscendInShares (length room.entry.crew.shares.items) (length (seen pass)) (length end.desk.docket) end.replies.items) }
     ensures back { IfErr result (λ back. HasLostDesk (started beginning_of shared) (seen pass) submissions.items back) }
 {
     let rows = pass.seen();
@@ -152,6 +160,9 @@ pub fn run_batch<A: Allocator + Copy + Send + Sync, G: Gate + Sync, R: Threads +
     };
     match Shared::new(alloc, desk, 0) {
         Ok((shared, pass)) => batch_at(rt, alloc, gate, shared, pass, submissions, room),
-        Err(desk) => Err(BatchBack::OutOfMemory { desk, submissions }),
+        Err(desk) => {
+            give_back(room);
+            Err(BatchBack::OutOfMemory { desk, submissions })
+        }
     }
 }

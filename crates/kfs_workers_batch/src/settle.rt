@@ -20,7 +20,7 @@ pub fn jobs_of<'g, A: Allocator + Copy, G>(
     requires few { length submissions.items < 2 ^ 32 }
     requires room { (room.items ≡ []) × (length submissions.items ≤ vec_capacity room) }
     ensures jobs { map (λ job. (job.number, job.hand)) result.items ≡ numbered 0 submissions.items }
-    ensures capacity { vec_capacity result ≡ vec_capacity room }
+    ensures capacity { vec_capacity result ≡ vec_capacity room.entry }
 {
     let mut jobs = room;
     let mut number = 0;
@@ -45,14 +45,14 @@ fn settle_one<A: Allocator, G>(
 )
     requires replies { length replies.old.items < vec_capacity replies.old }
     requires left { length left.old.items < vec_capacity left.old }
-    ensures replies { replies.new.items ≡ replies.old.items ++ reply_in job.hand ∷ [] }
-    ensures left { left.new.items ≡ left.old.items ++ left_in job.number job.hand }
+    ensures replies { replies.new.items ≡ replies.old.items ++ reply_in job.entry.hand ∷ [] }
+    ensures left { left.new.items ≡ left.old.items ++ left_in job.entry.number job.entry.hand }
     ensures capacity { (vec_capacity replies.new ≡ vec_capacity replies.old) × (vec_capacity left.new ≡ vec_capacity left.old) }
 {
-    match job.hand {
+    let Job { number, hand, .. } = job;
+    match hand {
         Hand::Replied(reply) => replies.push_reserved(Some(reply)),
         Hand::Back(SharedBack { submission, why }) => {
-            let number = job.number;
             left.push_reserved(Left {
                 number,
                 submission,
@@ -72,8 +72,8 @@ pub fn settle<A: Allocator, G>(
 )
     requires replies { (replies.old.items ≡ []) × (length jobs.items ≤ vec_capacity replies.old) }
     requires left { (left.old.items ≡ []) × (length jobs.items ≤ vec_capacity left.old) }
-    ensures replies { replies.new.items ≡ map (λ job. reply_in job.hand) jobs.items }
-    ensures left { left.new.items ≡ flat_map (λ job. left_in job.number job.hand) jobs.items }
+    ensures replies { replies.new.items ≡ map (λ job. reply_in job.hand) jobs.entry.items }
+    ensures left { left.new.items ≡ flat_map (λ job. left_in job.number job.hand) jobs.entry.items }
 {
     for job in jobs {
         settle_one(job, replies, left);

@@ -9,6 +9,6 @@ invariant-loop-submission g l = record {
   made : numbered 0 (into_iter_items l.initial.submission-iterator) ≡ map (λ job. (job.number, job.hand)) l.jobs.items ++ numbered l.number (into_iter_items l.submission-iterator);
   few : l.number + length (into_iter_items l.submission-iterator) < 2 ^ 32;
   room : length l.jobs.items + length (into_iter_items l.submission-iterator) ≤ vec_capacity l.jobs;
-  capacity : vec_capacity l.jobs ≡ vec_capacity l.room;
+  capacity : vec_capacity l.jobs ≡ vec_capacity l.fn.room;
   count : into_iter_len l.submission-iterator ≡ length (into_iter_items l.submission-iterator);
 }
