@@ -81,7 +81,7 @@ pub as_many : {A J : Type 0} (number : J → ℕ) (hand : J → Hand A) (js : Li
 as_many number hand js submissions is = sym (length-map js (λ j. (number j, hand j))) ∙ (ap length is ∙ numbered_length 0 submissions)
 
 pub settled_all : {A J : Type 0} (number : J → ℕ) (hand : J → Hand A) (beginning : Beginning) (longer docket : List Row) (submissions : List (Submission A)) (vs ws : List J) (replies : List (Option Reply)) (left : List (Left A))
-    → StartsWith longer docket → IsDocketFrom beginning longer → map (λ (j : J). (number j, hand j)) vs ≡ numbered 0 submissions → Pairs (IsDoneIn (Done number hand beginning longer docket) docket) vs ws
+    → StartsWith longer docket → IsDocketFrom beginning longer → map (λ (j : J). (number j, hand j)) vs ≡ numbered 0 submissions → Pairs (IsDoneIn (λ rows v w. IsJobDone beginning rows (number v) (hand v) (number w) (hand w)) docket) vs ws
     → replies ≡ map (λ (j : J). reply_in (hand j)) ws → left ≡ flat_map (λ (j : J). left_in (number j) (hand j)) ws → AreSettled beginning longer 0 submissions replies left
 settled_all number hand beginning longer docket submissions vs ws replies left on whole is done answered others =
     subst (λ rs. AreSettled beginning longer 0 submissions rs left) (sym answered)

@@ -1,6 +1,7 @@
 use Rattle.std.proofs.Common.{◌≡◌, ◌-◌, ◌/◌, ◌≤◌, ◌<◌, inl, inr, length, slice_index_or, vec_capacity, refl, sym, ap, subst, arith, rules}
 use Rattle.std.proofs.lemmas.Bool.{both_ways}
-use denote.Param.Send.{param_send, arg_send, sendable}
+use denote.Exit.{yes}
+use denote.Param.Send.{param_send, arg_send}
 use Rattle.kfs_desk.specs.Beginning.{beginning_of}
 use Rattle.kfs_workers_threads.specs.Passes.{seen, started}
 use Rattle.kfs_workers_crew.proofs.Crews.{pairs_length, starts_trans}
@@ -12,7 +13,8 @@ use Rattle.kfs_workers_batch.proofs.Sent.{desk_send}
 use Rattle.kfs_workers_batch.proofs.batch.batch_at.Goals as goal
 
 pub work-met-requires-send-D : goal.work-met-requires-send-D
-work-met-requires-send-D g c κs within = search (desk_send, param_send, arg_send, sendable, c.type_bounds.send-A, c.type_bounds.sync-A, c.type_bounds.frees-A-Allocator) depth 8
+work-met-requires-send-D g c κs within =
+    param_send _ _ (arg_send _ yes _ (desk_send _ g.A.Allocator c.type_bounds.send-A c.type_bounds.sync-A c.type_bounds.frees-A-Allocator))
 
 pub work-met-requires-clause-room : goal.work-met-requires-clause-room
 work-met-requires-clause-room g c κs within = λ k d low.
