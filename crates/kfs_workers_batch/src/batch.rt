@@ -58,14 +58,15 @@ fn make_room<'g, A: Allocator + Copy, G: Gate>(
     })
 }
 
-/// Gives the memory of a batch back. The gate tells the prover that it lives as long as the jobs.
-fn give_back<'g, A: Allocator + Copy, G: Gate>(_gate: &'g G, room: Room<'g, A, G>) {
+/// Gives the memory of a batch back.
+fn give_back<A: Allocator + Copy, G: Gate>(room: Room<'_, A, G>) {
     let Room {
         jobs: _,
         replies: _,
         left: _,
-        crew: _,
+        crew,
     } = room;
+    crew.dismiss();
 }
 
 /// Whether a docket that had so many rows, and has so many now, has a new one for each reply.
@@ -166,7 +167,7 @@ pub fn run_batch<A: Allocator + Copy + Send + Sync, G: Gate + Sync, R: Threads +
     match Shared::new(alloc, desk, 0) {
         Ok((shared, pass)) => batch_at(rt, alloc, gate, shared, pass, submissions, room),
         Err(desk) => {
-            give_back(gate, room);
+            give_back(room);
             Err(BatchBack::OutOfMemory { desk, submissions })
         }
     }

@@ -72,6 +72,14 @@ impl<D: Docketed, T: Drop, A: Allocator + Copy> Crew<D, T, A> {
         let workers = Vec::with_capacity(alloc, workers)?;
         Ok(Crew { shares, workers })
     }
+
+    /// Gives the memory back.
+    pub fn dismiss(self) {
+        let Crew {
+            shares: _,
+            workers: _,
+        } = self;
+    }
 }
 
 /// The workers do what they were dealt, and their passes meet the one that is given, which comes back. Then
