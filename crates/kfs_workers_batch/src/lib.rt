@@ -1,0 +1,16 @@
+//! Batches: submissions that up to eight workers judge and land at one desk, each in a thread of its own
+//! where one can be had.
+//!
+//! It stands on `kfs_workers_crew`, which deals tasks to workers and has their passes meet, and on
+//! `kfs_workers_threads`; `kfs_workers` shows it. Begin with `run_batch` in `batch.rt`, then `job.rt`,
+//! which has what is done for one submission.
+#![tactic(auto)]
+
+mod batch;
+mod end;
+mod job;
+mod settle;
+
+pub use batch::{MOST_WORKERS, run_batch};
+pub use end::{BatchBack, BatchEnd, Left};
+pub use job::Gate;

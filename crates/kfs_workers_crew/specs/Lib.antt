@@ -1,0 +1,3 @@
+pub mod Crew
+pub mod Shares
+pub mod Tasks

@@ -1,0 +1,63 @@
+//! Tasks, and how one worker does those that it was dealt.
+ghost use Rattle.std.specs.Prelude.{◌≡◌, ℕ, List, []};
+ghost use Rattle.kfs_workers_threads.specs.Passes.{IsPassOf, started, seen, own};
+ghost use Rattle.kfs_workers_crew.specs.Crew.{Pairs};
+ghost use Rattle.kfs_workers_crew.specs.Tasks.{HasWorked, IsDoneIn, all_of};
+
+use crate::duty::Duty;
+use kfs_workers_threads::{Docketed, Pass, Shared};
+use std::alloc::Allocator;
+use std::sync::Wait;
+
+/// What a worker does by calls of the shared object.
+pub trait Task<D: Docketed, A: Allocator> {
+    /// The positions of the rows that it has added, in the order of its calls.
+    ghost positions: { Self → List ℕ };
+
+    /// Of an object that was begun so and has this docket: the first was done, and is now the second.
+    ghost done: { D.Opening → List D.Row → Self → Self → Type 0 };
+
+    /// Does it. Condition: the pass is one of this object.
+    fn work<R: Wait>(&mut self, rt: &R, shared: &Shared<D, A>, pass: &mut Pass<D>)
+        requires { IsPassOf shared.now pass.old }
+        ensures pass { IsPassOf shared.now pass.new }
+        ensures worked { HasWorked (seen pass.old) (own pass.old) (positions self.new) (seen pass.new) (own pass.new) }
+        ensures done { done (started D.opening shared.now) (seen pass.new) self.old self.new };
+}
+
+/// Does the tasks in their order. It goes by halves, so that the depth of its calls is small.
+#[tactic(auto, using(crate::proofs::Work::both_done))]
+fn work_through<D: Docketed, A: Allocator, T: Task<D, A>, R: Wait>(
+    rt: &R,
+    shared: &Shared<D, A>,
+    pass: &mut Pass<D>,
+    tasks: &mut [T],
+)
+    requires { IsPassOf shared.now pass.old }
+    ensures pass { IsPassOf shared.now pass.new }
+    ensures worked { HasWorked (seen pass.old) (own pass.old) (all_of T.positions tasks.new) (seen pass.new) (own pass.new) }
+    ensures done { Pairs (IsDoneIn (T.done (started D.opening shared.now)) (seen pass.new)) tasks.old tasks.new }
+{
+    if tasks.is_empty() {
+        return;
+    }
+    if tasks.len() == 1 {
+        tasks[0].work(rt, shared, pass);
+        return;
+    }
+    let half = tasks.len() / 2;
+    let (earlier, later) = tasks.split_at_mut(half);
+    work_through(rt, shared, pass, earlier);
+    work_through(rt, shared, pass, later);
+}
+
+#[tactic(auto, using(crate::proofs::Work::has_done))]
+impl<D: Docketed, A: Allocator, T: Task<D, A>> Duty<D, A> for Vec<T, A> {
+    ghost use Rattle.kfs_workers_crew.specs.Tasks.{HasDone};
+
+    ghost worked = { λ opening seen seen_then own before after. HasDone (T.done opening) T.positions seen seen_then own before.items after.items };
+
+    fn work<R: Wait>(&mut self, rt: &R, shared: &Shared<D, A>, pass: &mut Pass<D>) {
+        work_through(rt, shared, pass, self.as_mut_slice());
+    }
+}
