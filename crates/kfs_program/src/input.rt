@@ -1,5 +1,5 @@
 //! The lines of an input, taken one after another.
-ghost use Rattle.std.specs.Prelude.{◌≡◌, ◌<◌, [], length, IfErr, IfOk};
+ghost use Rattle.std.specs.Prelude.{◌≡◌, ◌<◌, [], ◌++◌, false, length, IfErr, IfOk};
 ghost use Rattle.kfs_program.specs.Lines.{IsBegun, IsKept, IsLineHeld, ReadsOn, TakesNext};
 
 use kfs_program_engine::{EngineFault, LINE_LIMIT};

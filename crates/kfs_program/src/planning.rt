@@ -1,5 +1,5 @@
 //! The word `plan`: an image, a client and a log, and the plan of that log.
-ghost use Rattle.std.specs.Prelude.{◌≡◌, [], option_map, IfOk};
+ghost use Rattle.std.specs.Prelude.{◌≡◌, [], None, option_map, IfOk};
 ghost use Rattle.kfs_program_command.specs.Command.{asked_by};
 ghost use Rattle.kfs_program_command.specs.Views.{asked_of};
 ghost use Rattle.kfs_program_text.specs.Reading.{ReadsAs};
