@@ -9,13 +9,13 @@ use Rattle.kfs_program_text.proofs.Cuts.{cut-joined, cut-more}
 use Rattle.kfs_program_engine.specs.Transcript.{LineIsShort}
 use Rattle.kfs_program_engine.specs.declared.fault.EngineFault.{EngineFault}
 use Rattle.kfs_program_engine.specs.declared.fault.EngineFault.TheVariants.{ReadFault, WriteFault, LongLine, OutOfMemory}
-use Rattle.kfs_program.specs.Lines.{AreTaken, AreTakenFrom, IsBegun, IsEmpty, IsKept, IsLineHeld, IsUnreadable, ReadsOn, TakesNext}
+use Rattle.kfs_program.specs.Lines.{AreAllLines, AreTaken, AreTakenFrom, IsBegun, IsEmpty, IsKept, IsLineHeld, IsUnreadable, ReadsOn, TakesNext}
 use Rattle.kfs_program.specs.declared.input.Unread.{Unread}
 
 -- one more line
-all-more : {P : List ℕ → Type 0} (lines : List (List ℕ)) (line : List ℕ) → AllByRecursion P lines → P line → AllByRecursion P (lines ++ line ∷ [])
-all-more [] line all last = (last, tt)
-all-more (first ∷ lines) line all last = (all.0, all-more lines line all.1 last)
+all-more : (P : List ℕ → Type 0) (lines : List (List ℕ)) (line : List ℕ) → AllByRecursion P lines → P line → AllByRecursion P (lines ++ line ∷ [])
+all-more P [] line all last = (last, tt)
+all-more P (first ∷ lines) line all last = (all.0, all-more P lines line all.1 last)
 
 -- ---- a line, part by part
 
@@ -49,15 +49,15 @@ held_alone cleared bytes own line left result none same held =
     let alone : IsLineHeld bytes line left result = subst (λ (c : List ℕ). IsLineHeld (c ++ bytes) line left result) none held in
     subst (λ (b : List ℕ). IsLineHeld b line left result) same alone
 
-not_ok : (fault : EngineFault) (P : Type 0) → Err {T = Bool} fault ≡ Ok false → P
-not_ok fault P is = cc
+not_ok : (result : Result Bool EngineFault) (fault : EngineFault) (P : Type 0) → result ≡ Err fault → result ≡ Ok false → P
+not_ok result fault P is_err is_ok = cc
 
 -- the reading breaks off
 pub reads_broken : (before after : Option (List ℕ)) (held input line left : List ℕ) (fault : EngineFault) (result : Result Bool EngineFault) → IsErrAnd result (λ other. other ≡ fault) → Consumes before after input → IsUnreadable fault (held ++ input) []
     → ReadsOn before after held line left result
 reads_broken before after held input line left fault (Ok has_end) is read broken = absurd is
 reads_broken before after held input line left fault (Err other) is read broken =
-    subst (λ (f : EngineFault). ReadsOn before after held line left (Err f)) (sym is) (input, read, broken, not_ok fault (IsAtEnd after))
+    subst (λ (f : EngineFault). ReadsOn before after held line left (Err f)) (sym is) (input, read, broken, not_ok (Err fault) fault (IsAtEnd after) refl)
 
 -- the bytes that are held so far are the beginning of a line
 pub begun_on : (bytes line left : List ℕ) → IsLineHeld bytes line left (Ok false) → IsBegun line left
@@ -84,9 +84,9 @@ module _ {A : Type 0} where
   none_left at unread line ended none first input lines h =
       let P : List (List ℕ) → Bool → Type 0 = λ ls is_ended. AreTakenFrom (IsAtEnd at) is_ended unread.bytes.items input ls in
       let (at_end, (missing, are, empty)) = subst (P lines) ended h.taken in
-      let all = (missing ++ line ∷ [], ap (λ (l : List (List ℕ)). l ++ line ∷ []) are ∙ append_assoc (cut line_end input) missing (line ∷ []), all-more {IsEmpty} missing line empty none) in
+      let all : AreAllLines input (lines ++ line ∷ []) = (missing ++ line ∷ [], ap (λ (l : List (List ℕ)). l ++ line ∷ []) are ∙ append_assoc (cut line_end input) missing (line ∷ []), all-more IsEmpty missing line empty none) in
       let fits : LineIsShort line = rw none (omega arith) in
-      (input, record { consumed = h.consumed; taken = subst (P (lines ++ line ∷ [])) (sym ended) (at_end, all); short = all-more {LineIsShort} lines line h.short fits })
+      (input, record { consumed = h.consumed; taken = subst (P (lines ++ line ∷ [])) (sym ended) (at_end, all); short = all-more LineIsShort lines line h.short fits })
 
   -- what the input goes on with
   goes_on_with : (first now : Option (List ℕ)) (input : List ℕ) (lines : List (List ℕ)) (unread : Unread A) → unread.is_ended ≡ false → AreTaken first now input lines unread → cut line_end input ≡ lines ++ cut line_end unread.bytes.items
@@ -100,7 +100,7 @@ module _ {A : Type 0} where
       let P : Bool → Type 0 = λ is_ended. AreTakenFrom (IsAtEnd now) is_ended next.bytes.items input (lines ++ line ∷ []) in
       let now_parts : cut line_end input ≡ (lines ++ line ∷ []) ++ cut line_end left = parts ∙ ap (λ (l : List (List ℕ)). lines ++ l) stands ∙ sym (append_assoc lines (line ∷ []) (cut line_end left)) in
       let moved : P false = subst (λ (l : List ℕ). cut line_end input ≡ (lines ++ line ∷ []) ++ cut line_end l) (sym is) now_parts in
-      record { consumed = consumed; taken = subst P (sym goes_on) moved; short = all-more {LineIsShort} lines line short fits }
+      record { consumed = consumed; taken = subst P (sym goes_on) moved; short = all-more LineIsShort lines line short fits }
 
   -- the last line is taken, which has no end
   last_taken : (first now : Option (List ℕ)) (input bytes line left : List ℕ) (lines : List (List ℕ)) (next : Unread A) → Consumes first now input → IsAtEnd now → cut line_end input ≡ lines ++ cut line_end bytes → AllByRecursion LineIsShort lines
@@ -109,7 +109,7 @@ module _ {A : Type 0} where
       let P : Bool → Type 0 = λ is_ended. AreTakenFrom (IsAtEnd now) is_ended next.bytes.items input (lines ++ line ∷ []) in
       let one : cut line_end bytes ≡ line ∷ [] = rw same endless in
       let all : lines ++ line ∷ [] ≡ cut line_end input ++ [] = sym (append-nil (cut line_end input) ∙ parts ∙ ap (λ (l : List (List ℕ)). lines ++ l) one) in
-      record { consumed = consumed; taken = subst P (sym ended) (at_end, ([], all, tt)); short = all-more {LineIsShort} lines line short (rw same fits) }
+      record { consumed = consumed; taken = subst P (sym ended) (at_end, ([], all, tt)); short = all-more LineIsShort lines line short (rw same fits) }
 
   -- the line was there already
   pub was_there : (at : Option (List ℕ)) (unread next : Unread A) (line left : List ℕ) → unread.is_ended ≡ false → IsLineHeld unread.bytes.items line left (Ok true) → next.is_ended ≡ false → next.bytes.items ≡ left
@@ -119,7 +119,7 @@ module _ {A : Type 0} where
 
   broken_at : (at : Option (List ℕ)) (unread next : Unread A) (line : List ℕ) (fault : EngineFault) → unread.is_ended ≡ false → IsUnreadable fault unread.bytes.items [] → TakesNext at at unread line (Err fault) next
   broken_at at unread next line fault goes_on broken first input lines h =
-      (input, h.consumed, unreadable_behind fault input unread.bytes.items lines (goes_on_with first at input lines unread goes_on h) broken, h.short)
+      (input, (h.consumed, unreadable_behind fault input unread.bytes.items lines (goes_on_with first at input lines unread goes_on h) broken, h.short))
 
   -- the bytes that are there can't be held
   pub was_broken : (at : Option (List ℕ)) (unread next : Unread A) (line : List ℕ) (fault : EngineFault) (result : Result (Unit {0}) EngineFault) → IsErrAnd result (λ other. other ≡ fault) → unread.is_ended ≡ false → IsUnreadable fault unread.bytes.items []
@@ -130,7 +130,7 @@ module _ {A : Type 0} where
   -- there is no memory to read on
   pub without_room : (at : Option (List ℕ)) (unread next : Unread A) (line : List ℕ) (result : Result (Unit {0}) EngineFault) → IsErrAnd result (λ other. other ≡ OutOfMemory) → TakesNext at at unread line result next
   without_room at unread next line (Ok done) is = absurd is
-  without_room at unread next line (Err other) is = subst (λ (f : EngineFault). TakesNext at at unread line (Err f) next) (sym is) (λ first input lines h. (input, h.consumed, tt, h.short))
+  without_room at unread next line (Err other) is = subst (λ (f : EngineFault). TakesNext at at unread line (Err f) next) (sym is) (λ first input lines h. (input, (h.consumed, tt, h.short)))
 
   module _ (before after : Option (List ℕ)) (unread next : Unread A) (line left : List ℕ) (goes_on : unread.is_ended ≡ false) (endless : cut line_end unread.bytes.items ≡ unread.bytes.items ∷ []) where
     -- how the input goes on with what is read
@@ -148,7 +148,7 @@ module _ {A : Type 0} where
 
     unreadable_at : (fault : EngineFault) → ReadsOn before after unread.bytes.items line left (Err fault) → TakesNext before after unread line (Err fault) next
     unreadable_at fault (more, read, broken, end) first input lines h =
-        (input ++ more, Consumes-trans _ _ _ _ _ h.consumed read, unreadable_behind fault (input ++ more) (unread.bytes.items ++ more) lines (grown first input more lines h) broken, h.short)
+        (input ++ more, (Consumes-trans _ _ _ _ _ h.consumed read, unreadable_behind fault (input ++ more) (unread.bytes.items ++ more) lines (grown first input more lines h) broken, h.short))
 
     -- the line can't be read
     pub was_unreadable : (fault : EngineFault) (result : Result (Unit {0}) EngineFault) → IsErrAnd result (λ other. other ≡ fault) → ReadsOn before after unread.bytes.items line left (Err fault) → TakesNext before after unread line result next
