@@ -1,18 +1,17 @@
 -- The lines of `plan`: an image, a client, a log.
-use Rattle.std.proofs.Common.{◌≡◌, ℕ, nat_lt, List, [], ◌∷◌, ◌++◌, length, codes, bytes_eq, refl, sym, ap, subst, ◌∙◌, arith, option_map, Bool, true, false, Option, Some, None, Result, Ok, Err, if◌then◌else◌}
+use Rattle.std.proofs.Common.{◌≡◌, ℕ, nat_lt, List, [], ◌∷◌, ◌++◌, length, codes, bytes_eq, refl, ap, subst, ◌∙◌, arith, option_map, Bool, true, false, Option, Some, None, Result, Ok, Err, if◌then◌else◌}
 use Rattle.std.specs.Result.{IsErrAnd}
 use Rattle.kfs_model.specs.Access.{Client}
 use Rattle.kfs_model_device.specs.ShownTree.{DeviceImage}
-use Rattle.kfs_program_command.specs.Command.{Command, Load, asked_by}
+use Rattle.kfs_program_command.specs.Command.{Load, asked_by}
 use Rattle.kfs_program_images.specs.Loading.{AppendsLine, LoadsWith}
-use Rattle.kfs_program_text.specs.Cut.{cut, space}
 use Rattle.kfs_program_text.specs.Decimals.{hexadecimal}
 use Rattle.kfs_program_text.specs.Parts.{line_of}
 use Rattle.kfs_program_text.specs.Reading.{ReadsAs, first_by, only}
 use Rattle.std.proofs.lemmas.Bool.Decides.{nat_tests}
 use Rattle.kfs_program_text.proofs.WordByWord.{first_if}
 use Rattle.kfs_program_text.specs.declared.words.Refusal.{Refusal}
-use Rattle.kfs_program.specs.Planning.{IsClientOf, IsImageOf, RefusesClient, RefusesImage, SaysForLog, SaysOfPlan, TakesClient, TakesImage, WantsForPlan, log_in, log_said}
+use Rattle.kfs_program.specs.Planning.{IsClientOf, IsImageOf, RefusesClient, RefusesImage, SaysForLog, SaysOfPlan, TakesClient, TakesImage, log_in, log_said}
 
 -- ---- the image
 
@@ -57,11 +56,11 @@ named (first ∷ words) name left is =
 
 -- ---- line after line
 
--- the image of the first line is known, so the client's line is wanted
-pub wants_client : (first said text : List ℕ) (result : Option DeviceImage) (image : DeviceImage) → said ≡ first → result ≡ Some image → TakesImage (asked_by said) result text → WantsForPlan (first ∷ [])
-wants_client first said text result image same is takes =
+-- the image of the first line is known
+pub image_known : (first said text : List ℕ) (result : Option DeviceImage) (image : DeviceImage) → said ≡ first → result ≡ Some image → TakesImage (asked_by said) result text → IsImageOf (asked_by first) image
+image_known first said text result image same is takes =
     let known = subst (λ (r : Option DeviceImage). TakesImage (asked_by said) r text) is takes in
-    (image, subst (λ (l : List ℕ). IsImageOf (asked_by l) image) same known.0)
+    subst (λ (l : List ℕ). IsImageOf (asked_by l) image) same known.0
 
 -- the first line is refused
 pub refuses_image : (first said text : List ℕ) (result : Option DeviceImage) → said ≡ first → result ≡ None → TakesImage (asked_by said) result text → SaysOfPlan (first ∷ []) false text
@@ -69,18 +68,17 @@ refuses_image first said text result same is takes =
     let refused = subst (λ (r : Option DeviceImage). TakesImage (asked_by said) r text) is takes in
     subst (λ (l : List ℕ). RefusesImage (asked_by l) text) same refused
 
-module _ (first second said text : List ℕ) (result : Option Client) (same : said ≡ second) (takes : TakesClient (asked_by said) result text) (known : WantsForPlan (first ∷ [])) where
-  -- the client is known, so the log's line is wanted
-  pub wants_log : (client : Client) → result ≡ Some client → WantsForPlan (first ∷ second ∷ [])
-  wants_log client is =
-      let row = subst (λ (r : Option Client). TakesClient (asked_by said) r text) is takes in
-      (known.0, client, known.1, subst (λ (l : List ℕ). IsClientOf (asked_by l) client) same row.0)
+-- the client of the second line is known
+pub client_known : (second said text : List ℕ) (result : Option Client) (client : Client) → said ≡ second → result ≡ Some client → TakesClient (asked_by said) result text → IsClientOf (asked_by second) client
+client_known second said text result client same is takes =
+    let known = subst (λ (r : Option Client). TakesClient (asked_by said) r text) is takes in
+    subst (λ (l : List ℕ). IsClientOf (asked_by l) client) same known.0
 
-  -- the second line is refused
-  pub refuses_client : result ≡ None → SaysOfPlan (first ∷ second ∷ []) false text
-  refuses_client is =
-      let refused = subst (λ (r : Option Client). TakesClient (asked_by said) r text) is takes in
-      (known.0, known.1, subst (λ (l : List ℕ). RefusesClient (asked_by l) text) same refused)
+-- the second line is refused
+pub refuses_client : (first second said text : List ℕ) (image : DeviceImage) (result : Option Client) → said ≡ second → result ≡ None → IsImageOf (asked_by first) image → TakesClient (asked_by said) result text → SaysOfPlan (first ∷ second ∷ []) false text
+refuses_client first second said text image result same is known takes =
+    let refused = subst (λ (r : Option Client). TakesClient (asked_by said) r text) is takes in
+    (image, known, subst (λ (l : List ℕ). RefusesClient (asked_by l) text) same refused)
 
 -- the log is answered
 pub says_log : (first second third said text : List ℕ) (image : DeviceImage) (client : Client) (is_log : Bool) → said ≡ third → IsImageOf (asked_by first) image → IsClientOf (asked_by second) client → SaysForLog image client (log_said said) is_log text

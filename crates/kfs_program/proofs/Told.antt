@@ -1,6 +1,6 @@
 -- What a word says for the lines that it has taken, and what is written of that.
-use Rattle.std.proofs.Common.{◌≡◌, ℕ, List, [], ◌∷◌, ◌++◌, refl, sym, ap, subst, ◌∙◌, inl, inr, Bool, true, false, Option, Result, Ok, Err}
-use Rattle.std.specs.Io.KnownBytes.{Consumes, IsAtEnd}
+use Rattle.std.proofs.Common.{◌≡◌, ℕ, List, [], ◌∷◌, ◌++◌, refl, sym, subst, ◌∙◌, inl, inr, Bool, true, false, Option, Result, Ok, Err}
+use Rattle.std.specs.Io.KnownBytes.{IsAtEnd}
 use Rattle.std.specs.Result.{IsErrAnd}
 use Rattle.std.proofs.KnownBytes.{Appends-nil}
 use Rattle.kfs_program_text.specs.Cut.{cut, line_end}
@@ -9,7 +9,7 @@ use Rattle.kfs_program_text.proofs.Cuts.{cut-some}
 use Rattle.kfs_program_images.specs.Showing.{AnswersImage, AppendsAnswer, bytes_said}
 use Rattle.kfs_program_engine.specs.declared.fault.EngineFault.{EngineFault}
 use Rattle.kfs_program_engine.specs.declared.fault.EngineFault.TheVariants.{ReadFault, WriteFault, LongLine, OutOfMemory}
-use Rattle.kfs_program.specs.Answer.{Answers, IsSaid, IsTold, Says, Tells, Wants}
+use Rattle.kfs_program.specs.Answer.{Answers, IsSaid, Says, Tells, Wants}
 use Rattle.kfs_program.specs.Lines.{AreFirstLines, AreTaken, AreTakenFrom, IsNextTaken}
 use Rattle.kfs_program.specs.declared.answer.LineWord.{LineWord}
 use Rattle.kfs_program.specs.declared.input.Unread.{Unread}

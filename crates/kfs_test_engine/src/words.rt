@@ -17,7 +17,8 @@ const PLAN_LINES: &[u8] =
     b"image 4b494d4702000000080000000800000008000000010000000000000000000000010101ff000000000000000000010000000000000000\nclient 7 1000 1000 0 2 99\nlog 4b4c4f470100000007000101000000010161000000050001a4\n";
 
 /// What is said for these lines.
-const PLAN_TEXT: &str = "plan 4b504c4e01000100010000000000000001016100000005000000050101a4000003e8000003e800010000000000000000\n";
+const PLAN_TEXT: &str =
+    "plan 4b504c4e01000100010000000000000001016100000005000000050101a4000003e8000003e800010000000000000000\n";
 
 /// The words, each with lines that it lets in and with what it says for them.
 const WORDS: [(&str, &[u8], &str); 3] = [
@@ -77,10 +78,7 @@ fn a_line_that_is_refused_is_the_last(rt: HostRuntime) {
 }
 
 /// The first line of `plan`, and this one behind it.
-fn behind_an_image(
-    rt: &(impl AllocGlobal + Threads + Sync),
-    line: &[u8],
-) -> Result<Vec<u8>, Fail> {
+fn behind_an_image(rt: &(impl AllocGlobal + Threads + Sync), line: &[u8]) -> Result<Vec<u8>, Fail> {
     let mut lines = Vec::new(rt.alloc());
     lines.extend_from_slice(&PLAN_LINES[..115])?;
     lines.extend_from_slice(line)?;
@@ -133,7 +131,10 @@ fn the_longest_line(rt: HostRuntime) -> Result<(), Fail> {
         }
         let lines = behind_an_image(&rt, line.get(from..).ok_or("a line")?)?;
         let mut reader = lines.as_slice();
-        assert!(rt; ends(&rt, "plan", &mut reader, status, text), "the second line");
+        assert!(rt;
+            ends(&rt, "plan", &mut reader, status, text),
+            "the second line"
+        );
     }
     Ok(())
 }

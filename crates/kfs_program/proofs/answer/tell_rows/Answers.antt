@@ -1,4 +1,4 @@
-use Rattle.std.proofs.Common.{[], Ok, Err, refl, rules}
+use Rattle.std.proofs.Common.{[], refl}
 use Rattle.std.proofs.KnownBytes.{Consumes-nil}
 use Rattle.kfs_program_images.specs.Showing.{Shows}
 use Rattle.kfs_program.specs.declared.answer.LineWord.TheVariants.{Show}
@@ -11,7 +11,7 @@ returns-in_err-take_line g c =
     let before = g.I.Read.remaining c.args.reader.now in
     let new = none_taken before c.new.result (Consumes-nil before) c.new.ensures.bytes c.new.ensures.goes_on in
     let (input, taken) = c.in_err-take_line.ensures before [] [] new in
-    stopped g.row.A.Denot Show before _ input _ [] _ c.take_line.new.line.items c.in_err-take_line.field-0.0 c.from_residual.result c.from_residual.ensures.1 refl taken
+    stopped g.row.A.Denot Show before _ input _ [] c.take_line.new.self c.take_line.new.line.items c.in_err-take_line.field-0.0 c.from_residual.result c.from_residual.ensures.1 refl taken
 
 pub returns-in_err-push_rows : goal.returns-in_err-push_rows
 returns-in_err-push_rows g c =

@@ -1,4 +1,4 @@
-use Rattle.std.proofs.Common.{◌≡◌, ◌∙◌, ap, sym, subst, codes, bytes_eq, Bool, true, false, None, if◌then◌else◌, ℕ, List, Vec}
+use Rattle.std.proofs.Common.{◌≡◌, ◌∙◌, ap, sym, subst, codes, bytes_eq, true, false, None, if◌then◌else◌, ℕ, Vec}
 use Rattle.kfs_program_text.specs.Decimals.{hexadecimal}
 use Rattle.kfs_program_text.specs.Reading.{ReadsAs, only, words_left}
 use Rattle.kfs_program.specs.Planning.{log_said}

@@ -1,5 +1,4 @@
-use Rattle.std.proofs.Common.{ℕ, ◌≡◌, List, [], ◌++◌, Bool, false, Ok, Err, subst, refl, rules}
-use Rattle.std.specs.Result.{IsErrAnd}
+use Rattle.std.proofs.Common.{ℕ, ◌≡◌, List, ◌++◌, Bool, false, Ok, Err, subst, refl, rules}
 use Rattle.kfs_program.specs.Lines.{IsLineHeld, ReadsOn}
 use Rattle.kfs_program.proofs.Lines.{held_alone, none_begun, was_broken, was_read, was_unreadable, without_room}
 use Rattle.kfs_program.proofs.input.Unread.take_line.Goals as goal
