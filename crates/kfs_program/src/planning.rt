@@ -21,8 +21,8 @@ use std::alloc::{AllocError, Allocator};
 use std::io::Read;
 use std::thread::Threads;
 
-/// The plan of the log that the third line says, for the image of the first one and the client of the
-/// second; or why the first line is refused that is. No line behind that one is read.
+/// The plan of the log in the third line, for the image in the first one and the client in the second. Or
+/// why a line is refused: then no further line is read.
 pub(crate) fn tell_plan<R, A, I>(
     rt: &R,
     alloc: A,
@@ -133,7 +133,7 @@ fn client_row<A: Allocator + Copy>(
     }
 }
 
-/// The same for the command of the line.
+/// The client that the command has, or why it is refused. Another command is a bad line.
 fn row_of(command: OpeningCommand) -> Result<Result<Client, ClientFault>, Refusal>
     ensures ok { IfOk result (λ row. opening_of command ≡ Row row) }
     ensures bad { IfErr result (λ why. RefusesClient (Some (Setup (opening_of command))) bad_line) }
