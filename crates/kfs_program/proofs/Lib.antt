@@ -1,2 +1,4 @@
--- Lemmas on the words that take an image.
+-- Lemmas on the words that take a few lines.
 pub mod Lines
+pub mod Planned
+pub mod Told

@@ -4,10 +4,11 @@ use Rattle.std.specs.Borrow.{Bor}
 use Rattle.std.specs.Io.KnownBytes.{IsAtEnd}
 use Rattle.kfs_program_engine.specs.Transcript.{IsSession}
 use Rattle.kfs_program_text.specs.Streams.{Exchanges}
-use Rattle.kfs_program_images.specs.Showing.{Passes, Shows}
-use Rattle.kfs_program.specs.Image.{IsAnswered}
+use Rattle.kfs_program.specs.Answer.{IsAnswered}
+use Rattle.kfs_program.specs.declared.answer.LineWord.{LineWord}
+use Rattle.kfs_program.specs.declared.answer.LineWord.TheVariants.{Fsck, Show, Plan}
 use Rattle.kfs_program.specs.declared.run.Subcommand.{Subcommand}
-use Rattle.kfs_program.specs.declared.run.Subcommand.TheVariants.{Run, Fsck, Show}
+use Rattle.kfs_program.specs.declared.run.Subcommand.TheVariants.{Run, Lines}
 use Rattle.kfs_program_engine.specs.declared.fault.EngineFault.{EngineFault}
 use Rattle.kfs_program_engine.specs.declared.fault.EngineFault.TheVariants.{ReadFault, WriteFault, LongLine, OutOfMemory}
 
@@ -21,11 +22,11 @@ abbrev pub status_of : Result (Unit {0}) EngineFault → ℕ
 status_of (Ok done) = 0
 status_of (Err fault) = fault_status_of fault
 
--- of a word that takes an image: whether it was let in
-abbrev pub image_status_of : Result Bool EngineFault → ℕ
-image_status_of (Ok true) = 0
-image_status_of (Ok false) = 1
-image_status_of (Err fault) = fault_status_of fault
+-- of a word that takes a few lines: whether all of them were let in
+abbrev pub answer_status_of : Result Bool EngineFault → ℕ
+answer_status_of (Ok true) = 0
+answer_status_of (Ok false) = 1
+answer_status_of (Err fault) = fault_status_of fault
 
 -- the words as a caller hands them in: the first is the program's name
 abbrev pub Words : Type 0
@@ -39,11 +40,15 @@ second_of words = (slice_index_or words 1 (record { ref_ptr = (0, 0); now = [] }
 abbrev pub HasSecond : Words → (name : List ℕ) → Type 0
 HasSecond words name = (length words ≡ 2) × (second_of words ≡ name)
 
+abbrev pub name_of : LineWord → List ℕ
+name_of Fsck = codes "fsck"
+name_of Show = codes "show"
+name_of Plan = codes "plan"
+
 -- what the words ask for: without a second one it is to run
 abbrev pub IsAskedFor : Words → Subcommand → Type 0
 IsAskedFor words Run = (length words ≤ 1) ⊎ HasSecond words (codes "run")
-IsAskedFor words Fsck = HasSecond words (codes "fsck")
-IsAskedFor words Show = HasSecond words (codes "show")
+IsAskedFor words (Lines word) = HasSecond words (name_of word)
 
 -- nothing was read, and nothing written
 abbrev pub IsUntouched : (input text : List ℕ) → Type 0
@@ -55,17 +60,16 @@ pub record IsEnded (at_end : Type 0) (status : ℕ) (input text : List ℕ) : Ty
   pub status_is : status ≡ status_of ended
   pub session : IsSession at_end ended input text
 
--- a word that takes an image ended in this way, and this is its status
-pub record IsImageEnded (Says : (bytes text : List ℕ) → Type 0) (at_end : Type 0) (status : ℕ) (input text : List ℕ) : Type 0 where
+-- a word that takes a few lines ended in this way, and this is its status
+pub record IsAnswerEnded (A : Type 0) (word : LineWord) (at_end : Type 0) (status : ℕ) (input text : List ℕ) : Type 0 where
   pub ended : Result Bool EngineFault
-  pub status_is : status ≡ image_status_of ended
-  pub answered : IsAnswered Says at_end ended input text
+  pub status_is : status ≡ answer_status_of ended
+  pub answered : IsAnswered A word at_end ended input text
 
 -- what was asked for ended in this way
 abbrev pub EndsAs : (A : Type 0) → (at_end : Type 0) → Subcommand → (status : ℕ) → (input text : List ℕ) → Type 0
 EndsAs A at_end Run status input text = IsEnded at_end status input text
-EndsAs A at_end Fsck status input text = IsImageEnded Passes at_end status input text
-EndsAs A at_end Show status input text = IsImageEnded (Shows A) at_end status input text
+EndsAs A at_end (Lines word) status input text = IsAnswerEnded A word at_end status input text
 
 -- The words are refused, as they are where they ask for nothing, or memory for them is; then nothing was
 -- read. Or else what they ask for was done.
@@ -82,7 +86,7 @@ Exits A before_reads after_reads before_writes after_writes words status =
 -- the message for a status, if there is one
 abbrev pub message_of : (status : ℕ) → Option (List ℕ)
 message_of status =
-    if status == 2 then Some (codes "usage: kfs [run | fsck | show]")
+    if status == 2 then Some (codes "usage: kfs [run | fsck | show | plan]")
     else if status == 3 then Some (codes "the input or the output failed, or a line was too long")
     else if status == 4 then Some (codes "out of memory")
     else None

@@ -1,2 +1,4 @@
+pub mod Answer
 pub mod Exit
-pub mod Image
+pub mod Lines
+pub mod Planning

@@ -1,8 +1,8 @@
 //! The words of the command line, and the exit status.
 ghost use Rattle.std.specs.Prelude.{◌≡◌, IfOk, MatchOption, None, Some};
-ghost use Rattle.kfs_program.specs.Exit.{Exits, IsAskedFor, fault_status_of, image_status_of, message_of, status_of};
+ghost use Rattle.kfs_program.specs.Exit.{Exits, IsAskedFor, answer_status_of, fault_status_of, message_of, status_of};
 
-use crate::image::{check_image, show_image};
+use crate::answer::{LineWord, answer_lines};
 use clap::Command;
 use clap::error::ErrorKind;
 use kfs_program_engine::{EngineFault, engine};
@@ -15,10 +15,8 @@ use std::thread::Threads;
 enum Subcommand {
     /// `run`, or no word: answers command lines.
     Run,
-    /// `fsck`: checks the image of one line.
-    Fsck,
-    /// `show`: shows the nodes and names of the image of one line.
-    Show,
+    /// A word that takes a few lines.
+    Lines(LineWord),
 }
 
 /// Why the words ask for nothing.
@@ -35,11 +33,11 @@ enum WordsFault {
 ///
 /// Answers the exit status:
 /// - 0: done;
-/// - 1: the input of `fsck` or `show` is no image that is let in, and the line says why;
+/// - 1: a line that `fsck`, `show` or `plan` takes isn't let in, and the text says why;
 /// - 2: the words were refused, and nothing was read or written;
 /// - 3: a read or a write failed, or a line was too long;
-/// - 4: memory for the words or for a line of the input was refused, or for what `fsck` or `show` makes
-///   of it.
+/// - 4: memory for the words or for a line of the input was refused, or for what `fsck`, `show` or `plan`
+///   makes of it.
 pub fn run_words<R, A, I, O>(rt: &R, alloc: A, words: &[&str], reader: &mut I, writer: &mut O) -> u8
 where
     R: AllocGlobal + Threads + Sync,
@@ -50,8 +48,9 @@ where
 {
     match asked_of(rt.alloc(), words) {
         Ok(Subcommand::Run) => exit_status(engine(rt, alloc, reader, writer)),
-        Ok(Subcommand::Fsck) => image_status(check_image(rt, alloc, reader, writer)),
-        Ok(Subcommand::Show) => image_status(show_image(alloc, reader, writer)),
+        Ok(Subcommand::Lines(word)) => {
+            answer_status(answer_lines(rt, alloc, word, reader, writer))
+        }
         Err(WordsFault::Refused) => 2,
         Err(WordsFault::OutOfMemory) => 4,
     }
@@ -62,7 +61,7 @@ pub fn status_message(status: u8) -> Option<&'static str>
     ensures { MatchOption result (message_of status ≡ None) (λ message. message_of status ≡ Some message.now) }
 {
     match status {
-        2 => Some("usage: kfs [run | fsck | show]"),
+        2 => Some("usage: kfs [run | fsck | show | plan]"),
         3 => Some("the input or the output failed, or a line was too long"),
         4 => Some("out of memory"),
         _ => None,
@@ -79,9 +78,9 @@ fn exit_status(ended: Result<(), EngineFault>) -> u8
     }
 }
 
-/// The status of `fsck` and `show`: whether an image was let in.
-fn image_status(ended: Result<bool, EngineFault>) -> u8
-    ensures { result ≡ image_status_of ended }
+/// The status of a word that takes a few lines: whether all of them were let in.
+fn answer_status(ended: Result<bool, EngineFault>) -> u8
+    ensures { result ≡ answer_status_of ended }
 {
     match ended {
         Ok(true) => 0,
@@ -123,6 +122,8 @@ fn parse(alloc: Global, words: &[&str]) -> Result<(), clap::Error> {
     let command = command.subcommand(fsck)?;
     let show = Command::new(alloc, "show");
     let command = command.subcommand(show)?;
+    let plan = Command::new(alloc, "plan");
+    let command = command.subcommand(plan)?;
     let _matches = command.try_get_matches_from(words)?;
     Ok(())
 }
@@ -134,8 +135,9 @@ fn subcommand_in(words: &[&str]) -> Result<Subcommand, WordsFault>
     match *words {
         [] | [_] => Ok(Subcommand::Run),
         [_, "run"] => Ok(Subcommand::Run),
-        [_, "fsck"] => Ok(Subcommand::Fsck),
-        [_, "show"] => Ok(Subcommand::Show),
+        [_, "fsck"] => Ok(Subcommand::Lines(LineWord::Fsck)),
+        [_, "show"] => Ok(Subcommand::Lines(LineWord::Show)),
+        [_, "plan"] => Ok(Subcommand::Lines(LineWord::Plan)),
         _ => Err(WordsFault::Refused),
     }
 }
