@@ -1,0 +1,4 @@
+pub mod Acted
+pub mod Names
+pub mod Sent
+pub mod Values
