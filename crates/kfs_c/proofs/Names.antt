@@ -4,20 +4,20 @@ use Rattle.std.specs.Borrow.{Bor}
 use Rattle.kfs_model.specs.Spelling.{IsName}
 use Rattle.kfs_model.specs.Tree.{NameTable, target}
 use Rattle.kfs_image_nodes.specs.Look.{IsAfter, IsNext}
-use Rattle.kfs_c.specs.Reading.{HasNoNameAfter, IsLater, IsNextName}
+use Rattle.kfs_c.specs.Reading.{HasNoNameAfter, IsLater, IsNextName, IsStart}
 
 is_later : (after name : List ℕ) → length after ≡ 0 → IsName name → IsLater after name
 is_later [] [] none is = let some = is.some in absurd (omega (arith, some))
 is_later [] (byte ∷ bytes) none is = refl
 is_later (byte ∷ bytes) name none is = absurd (omega (arith, none))
 
-no_bytes : {X : Type 0} (after : List ℕ) → (length after ≡ 0) ⊎ IsName after → (IsName after → ⊥) → (length after ≡ 0 → X) → X
+no_bytes : {X : Type 0} (after : List ℕ) → IsStart after → (IsName after → ⊥) → (length after ≡ 0 → X) → X
 no_bytes after (inl none) other next = next none
 no_bytes after (inr name) other next = absurd (other name)
 
 module _ (names : NameTable) (directory : ℕ) (after : List ℕ) where
   -- where the bytes are no name
-  module _ (one : (length after ≡ 0) ⊎ IsName after) (other : IsName after → ⊥) where
+  module _ (one : IsStart after) (other : IsName after → ⊥) where
     pub first : (name : List ℕ) (number : ℕ) → IsName name → IsNext names directory None name number → IsNextName names directory after name number
     first name number is next =
         no_bytes after one other (λ none. record { leads = next.leads; later = is_later after name none is; least = λ m n leads _. next.least m n leads tt })

@@ -1,7 +1,7 @@
 -- What a handle may hold may go from thread to thread: all that it is made of may.
 use Rattle.std.proofs.Common.{rules}
 use denote.Param.Send.{IsSend, IsSync, sendable, view_send}
-use denote.Param.SendFields.{declared_send}
+use denote.Param.SendFields.{declared_send, variants_send}
 use Rattle.std.proofs.Crossing as std
 use Rattle.std.specs.contracts.alloc.Global as Heap
 use Rattle.std.specs.contracts.impls.GlobalAllocator.TheImpl.{ghosts}
@@ -59,5 +59,6 @@ look_send =
 pub judged_send : IsSend (Judged.the_row Heap.the_row ghosts)
 judged_send = judged.the_send Heap.the_row ghosts std.send std.sync std.frees
 
+-- one of the three
 pub held_send : IsSend Held.the_row
-held_send = search (sendable, desk_send, look_send, judged_send) depth 20
+held_send = variants_send Held.enum ((desk_send, tt), ((look_send, tt), ((judged_send, tt), tt)))

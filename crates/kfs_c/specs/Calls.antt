@@ -1,12 +1,13 @@
 -- What a call of the desk over the boundary comes to.
-use Rattle.std.specs.Prelude.{◌≡◌, ◌↔◌, ℕ, Bool, false, List, length, IsFalse, if◌then◌else◌}
+use Rattle.std.specs.Prelude.{◌≡◌, ◌↔◌, ℕ, Bool, false, List, map, length, IsFalse, if◌then◌else◌}
 use Rattle.std.specs.Global.{Global}
 use Rattle.kfs_model.specs.Judgement.{State, Submission}
 use Rattle.kfs_model.specs.Lease.{LeaseKind, ReadLease, WriteLease}
-use Rattle.kfs_model.specs.Machine.{Call}
+use Rattle.kfs_model.specs.Machine.{Call, Lease, Drop, Tick, Migrate}
 use Rattle.kfs_model.specs.Migration.{Move}
 use Rattle.kfs_plan.specs.declared.answers.ActReply.{ActReply}
 use Rattle.kfs_plan.specs.declared.answers.Done.{Done}
+use Rattle.kfs_plan.specs.declared.answers.Done.TheVariants.{Leased, Dropped, Ticked, Moved}
 use Rattle.kfs_plan.specs.declared.answers.Reply.{Reply}
 use Rattle.kfs_plan.specs.Judged.{Judged}
 use Rattle.kfs_plan.specs.Judging.{submission_of, submission_with}
@@ -47,3 +48,17 @@ kind_of_lease write = if write then WriteLease else ReadLease
 
 abbrev pub move_of : MoveRow → Move
 move_of row = record { number = row.number; block = row.block; target = record { tier = row.tier; place = row.place } }
+
+-- ---- each of these calls
+
+abbrev pub IsLeased : (client : ℕ) (path : List ℕ) (write : Bool) (end : ℕ) → ActNumbers → (old new : Desk) → Type 0
+IsLeased client path write end told old new = IsCalled (Lease client path (kind_of_lease write) end) Leased told old new
+
+abbrev pub IsDropped : (client number : ℕ) → ActNumbers → (old new : Desk) → Type 0
+IsDropped client number told old new = IsCalled (Drop client number) Dropped told old new
+
+abbrev pub IsTicked : (moment : ℕ) → ActNumbers → (old new : Desk) → Type 0
+IsTicked moment told old new = IsCalled (Tick moment) Ticked told old new
+
+abbrev pub AreMoved : List MoveRow → ActNumbers → (old new : Desk) → Type 0
+AreMoved rows told old new = IsCalled (Migrate (map move_of rows)) Moved told old new

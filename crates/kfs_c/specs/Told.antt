@@ -14,8 +14,6 @@ use Rattle.kfs_migrate_value.specs.declared.moves.MoveFault.TheVariants as moves
 use Rattle.kfs_plan.specs.declared.answers.ActFault.{ActFault}
 use Rattle.kfs_plan.specs.declared.answers.ActFault.TheVariants as acts
 use Rattle.kfs_plan.specs.declared.answers.ActReply.{ActReply}
-use Rattle.kfs_plan.specs.declared.answers.BeginFault.{BeginFault}
-use Rattle.kfs_plan.specs.declared.answers.BeginFault.TheVariants as beginnings
 use Rattle.kfs_plan.specs.declared.answers.Done.{Done}
 use Rattle.kfs_plan.specs.declared.answers.Done.TheVariants as dones
 use Rattle.kfs_plan.specs.declared.answers.Reply.{Reply}

@@ -1,8 +1,7 @@
 //! Calls that are no submissions: leases, moments, moves of blocks.
-ghost use Rattle.std.specs.Prelude.{◌≡◌, ◌↔◌, ◌≤◌, None, map, IfOk, OnErr, IsErrOf};
-ghost use Rattle.kfs_model.specs.Machine as machine;
+ghost use Rattle.std.specs.Prelude.{◌≡◌, ◌↔◌, ◌≤◌, ◌<◌, None, map, IfOk, OnErr, IsErrOf};
 ghost use Rattle.kfs_lease_rows.specs.Rows.{kind_of};
-ghost use Rattle.kfs_c.specs.Calls.{IsCalled, IsFull, kind_of_lease, move_of};
+ghost use Rattle.kfs_c.specs.Calls.{AreMoved, IsDropped, IsFull, IsLeased, IsTicked, kind_of_lease, move_of};
 ghost use Rattle.kfs_c.specs.Holding.{HoldsNoDesk, OnDesk, OnDesks};
 ghost use Rattle.kfs_c.specs.Status as status;
 ghost use Rattle.kfs_c.specs.Told.{act_told};
@@ -30,11 +29,12 @@ pub extern "C" fn kfs_lease(
     end: u64,
     reply: &mut ActNumbers,
 ) -> u32
-    ensures answered { result ≡ status.done → OnDesks handle.old.value handle.new.value (IsCalled (machine.Lease client path.now (kind_of_lease write) end) Done.Leased reply.new) }
+    ensures answered { result ≡ status.done → OnDesks handle.old.value handle.new.value (IsLeased client path.now write end reply.new) }
     ensures unanswered { 1 ≤ result → (handle.new.value ≡ handle.old.value) × (reply.new ≡ reply.old) }
     ensures full { (result ≡ status.full) ↔ OnDesk handle.old.value IsFull }
     ensures closed { (result ≡ status.closed) ↔ (handle.old.value ≡ None) }
     ensures wrong { (result ≡ status.wrong_kind) ↔ HoldsNoDesk handle.old.value }
+    ensures range { result < status.closed → result ≤ status.full }
 {
     let Some(mut held) = take_out(alloc, handle) else {
         return CLOSED;
@@ -56,7 +56,7 @@ fn lease(
     end: u64,
     reply: &mut ActNumbers,
 ) -> u32
-    ensures answered { result ≡ status.done → IsCalled (machine.Lease client path.now (kind_of_lease write) end) Done.Leased reply.new desk.old desk.new }
+    ensures answered { result ≡ status.done → IsLeased client path.now write end reply.new desk.old desk.new }
     ensures unanswered { 1 ≤ result → (desk.new ≡ desk.old) × (reply.new ≡ reply.old) }
     ensures full { (result ≡ status.full) ↔ IsFull desk.old }
     ensures range { result ≤ status.full }
@@ -84,11 +84,12 @@ pub extern "C" fn kfs_drop(
     number: u32,
     reply: &mut ActNumbers,
 ) -> u32
-    ensures answered { result ≡ status.done → OnDesks handle.old.value handle.new.value (IsCalled (machine.Drop client number) Done.Dropped reply.new) }
+    ensures answered { result ≡ status.done → OnDesks handle.old.value handle.new.value (IsDropped client number reply.new) }
     ensures unanswered { 1 ≤ result → (handle.new.value ≡ handle.old.value) × (reply.new ≡ reply.old) }
     ensures full { (result ≡ status.full) ↔ OnDesk handle.old.value IsFull }
     ensures closed { (result ≡ status.closed) ↔ (handle.old.value ≡ None) }
     ensures wrong { (result ≡ status.wrong_kind) ↔ HoldsNoDesk handle.old.value }
+    ensures range { result < status.closed → result ≤ status.full }
 {
     let Some(mut held) = take_out(alloc, handle) else {
         return CLOSED;
@@ -103,7 +104,7 @@ pub extern "C" fn kfs_drop(
 
 #[tactic(auto, using(crate::proofs::Acted::called, crate::proofs::Acted::uncalled, crate::proofs::Acted::full_told))]
 fn drop_lease(desk: &mut Desk<Global>, client: u32, number: u32, reply: &mut ActNumbers) -> u32
-    ensures answered { result ≡ status.done → IsCalled (machine.Drop client number) Done.Dropped reply.new desk.old desk.new }
+    ensures answered { result ≡ status.done → IsDropped client number reply.new desk.old desk.new }
     ensures unanswered { 1 ≤ result → (desk.new ≡ desk.old) × (reply.new ≡ reply.old) }
     ensures full { (result ≡ status.full) ↔ IsFull desk.old }
     ensures range { result ≤ status.full }
@@ -119,11 +120,12 @@ pub extern "C" fn kfs_tick(
     moment: u64,
     reply: &mut ActNumbers,
 ) -> u32
-    ensures answered { result ≡ status.done → OnDesks handle.old.value handle.new.value (IsCalled (machine.Tick moment) Done.Ticked reply.new) }
+    ensures answered { result ≡ status.done → OnDesks handle.old.value handle.new.value (IsTicked moment reply.new) }
     ensures unanswered { 1 ≤ result → (handle.new.value ≡ handle.old.value) × (reply.new ≡ reply.old) }
     ensures full { (result ≡ status.full) ↔ OnDesk handle.old.value IsFull }
     ensures closed { (result ≡ status.closed) ↔ (handle.old.value ≡ None) }
     ensures wrong { (result ≡ status.wrong_kind) ↔ HoldsNoDesk handle.old.value }
+    ensures range { result < status.closed → result ≤ status.full }
 {
     let Some(mut held) = take_out(alloc, handle) else {
         return CLOSED;
@@ -138,7 +140,7 @@ pub extern "C" fn kfs_tick(
 
 #[tactic(auto, using(crate::proofs::Acted::called, crate::proofs::Acted::uncalled, crate::proofs::Acted::full_told))]
 fn tick(desk: &mut Desk<Global>, moment: u64, reply: &mut ActNumbers) -> u32
-    ensures answered { result ≡ status.done → IsCalled (machine.Tick moment) Done.Ticked reply.new desk.old desk.new }
+    ensures answered { result ≡ status.done → IsTicked moment reply.new desk.old desk.new }
     ensures unanswered { 1 ≤ result → (desk.new ≡ desk.old) × (reply.new ≡ reply.old) }
     ensures full { (result ≡ status.full) ↔ IsFull desk.old }
     ensures range { result ≤ status.full }
@@ -154,11 +156,12 @@ pub extern "C" fn kfs_migrate(
     moves: &[MoveRow],
     reply: &mut ActNumbers,
 ) -> u32
-    ensures answered { result ≡ status.done → OnDesks handle.old.value handle.new.value (IsCalled (machine.Migrate (map move_of moves.now)) Done.Moved reply.new) }
+    ensures answered { result ≡ status.done → OnDesks handle.old.value handle.new.value (AreMoved moves.now reply.new) }
     ensures unanswered { 1 ≤ result → (handle.new.value ≡ handle.old.value) × (reply.new ≡ reply.old) }
     ensures full { result ≡ status.full → OnDesk handle.old.value IsFull }
     ensures closed { (result ≡ status.closed) ↔ (handle.old.value ≡ None) }
     ensures wrong { (result ≡ status.wrong_kind) ↔ HoldsNoDesk handle.old.value }
+    ensures range { result < status.closed → result ≤ status.full }
 {
     let Some(mut held) = take_out(alloc, handle) else {
         return CLOSED;
@@ -173,7 +176,7 @@ pub extern "C" fn kfs_migrate(
 
 #[tactic(auto, using(crate::proofs::Acted::called, crate::proofs::Acted::uncalled, crate::proofs::Acted::full_told))]
 fn migrate(alloc: Global, desk: &mut Desk<Global>, moves: &[MoveRow], reply: &mut ActNumbers) -> u32
-    ensures answered { result ≡ status.done → IsCalled (machine.Migrate (map move_of moves.now)) Done.Moved reply.new desk.old desk.new }
+    ensures answered { result ≡ status.done → AreMoved moves.now reply.new desk.old desk.new }
     ensures unanswered { 1 ≤ result → (desk.new ≡ desk.old) × (reply.new ≡ reply.old) }
     ensures full { result ≡ status.full → IsFull desk.old }
     ensures range { result ≤ status.full }

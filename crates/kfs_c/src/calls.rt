@@ -1,5 +1,5 @@
 //! Submissions.
-ghost use Rattle.std.specs.Prelude.{◌≡◌, ◌↔◌, ◌≤◌, None};
+ghost use Rattle.std.specs.Prelude.{◌≡◌, ◌↔◌, ◌≤◌, ◌<◌, None};
 ghost use Rattle.kfs_c.specs.Calls.{IsFull, IsSubmitted};
 ghost use Rattle.kfs_c.specs.Holding.{HoldsNoDesk, OnDesk, OnDesks};
 ghost use Rattle.kfs_c.specs.Status as status;
@@ -30,6 +30,7 @@ pub extern "C" fn kfs_submit(
     ensures full { result ≡ status.full → OnDesk handle.old.value IsFull }
     ensures closed { (result ≡ status.closed) ↔ (handle.old.value ≡ None) }
     ensures wrong { (result ≡ status.wrong_kind) ↔ HoldsNoDesk handle.old.value }
+    ensures range { result < status.closed → result ≤ status.full }
 {
     let Some(mut held) = take_out(alloc, handle) else {
         return CLOSED;

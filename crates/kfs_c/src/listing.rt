@@ -1,8 +1,7 @@
 //! The names of a directory, one after another.
-ghost use Rattle.std.specs.Prelude.{◌≡◌, ◌↔◌, ◌≤◌, ◌⊎◌, None, IfNone, IfSome, length};
-ghost use Rattle.kfs_model.specs.Spelling.{IsName};
+ghost use Rattle.std.specs.Prelude.{◌≡◌, ◌↔◌, ◌≤◌, ◌<◌, ◌⊎◌, None, IfNone, IfSome, IsTrue};
 ghost use Rattle.kfs_c.specs.Holding.{HoldsNoDesk, OnDesk};
-ghost use Rattle.kfs_c.specs.Reading.{HasNoLater, HasNoNameAfter, IsListed, IsNextName};
+ghost use Rattle.kfs_c.specs.Reading.{HasNoLater, HasNoNameAfter, IsListed, IsNameLonger, IsNextName, IsStart};
 ghost use Rattle.kfs_c.specs.Status as status;
 
 use crate::bytes::hand_out;
@@ -28,11 +27,14 @@ pub extern "C" fn kfs_name(
     number: &mut u32,
 ) -> u32
     ensures found { result ≡ status.done → OnDesk handle.old.value (IsListed directory after.now buffer.old buffer.new len.new number.new) }
+    ensures short { result ≡ status.short → OnDesk handle.old.value (IsNameLonger directory after.now buffer.old len.new) }
     ensures nothing { result ≡ status.nothing → OnDesk handle.old.value (HasNoLater directory after.now) }
-    ensures silent { 1 ≤ result → buffer.new ≡ buffer.old }
+    ensures refused { (result ≡ status.refused) ↔ OnDesk handle.old.value (λ _. IsStart after.now → ⊥) }
+    ensures silent { 1 ≤ result → (buffer.new ≡ buffer.old) × (number.new ≡ number.old) }
     ensures kept { handle.new.value ≡ handle.old.value }
     ensures closed { (result ≡ status.closed) ↔ (handle.old.value ≡ None) }
     ensures wrong { (result ≡ status.wrong_kind) ↔ HoldsNoDesk handle.old.value }
+    ensures only { result < status.closed → (result ≡ status.done) ⊎ (status.nothing ≤ result) }
 {
     let Some(held) = take_out(alloc, handle) else {
         return CLOSED;
@@ -54,11 +56,14 @@ fn find_name(
     number: &mut u32,
 ) -> u32
     ensures found { result ≡ status.done → IsListed directory after.now buffer.old buffer.new len.new number.new desk.now }
+    ensures short { result ≡ status.short → IsNameLonger directory after.now buffer.old len.new desk.now }
     ensures nothing { result ≡ status.nothing → HasNoLater directory after.now desk.now }
-    ensures silent { 1 ≤ result → buffer.new ≡ buffer.old }
+    ensures refused { (result ≡ status.refused) ↔ (IsStart after.now → ⊥) }
+    ensures silent { 1 ≤ result → (buffer.new ≡ buffer.old) × (number.new ≡ number.old) }
     ensures range { result ≤ status.short }
+    ensures only { (result ≡ status.done) ⊎ (status.nothing ≤ result) }
 {
-    if !after.is_empty() && !Name::is_name(after) {
+    if !is_start(after) {
         return REFUSED;
     }
     let Some((name, leads)) = next_name(desk.image(), directory, after) else {
@@ -71,10 +76,17 @@ fn find_name(
     status
 }
 
+/// Whether the bytes are none, or a name.
+fn is_start(after: &[u8]) -> bool
+    ensures { IsTrue result ↔ IsStart after.now }
+{
+    after.is_empty() || Name::is_name(after)
+}
+
 /// The least name of the directory above `after`, which is a name or has no bytes.
 #[tactic(auto, using(crate::proofs::Names::first, crate::proofs::Names::later, crate::proofs::Names::none_first, crate::proofs::Names::none_later))]
 fn next_name<'a>(image: &'a Image<Global>, directory: u32, after: &[u8]) -> Option<(&'a Name, u32)>
-    requires { (length after.now ≡ 0) ⊎ IsName after.now }
+    requires { IsStart after.now }
     ensures found { IfSome result (λ p. IsNextName image.now.names directory after.now p.0.now p.1) }
     ensures none { IfNone result (HasNoNameAfter image.now.names directory after.now) }
 {

@@ -1,5 +1,5 @@
 //! What a host looks up in the desk's state now. Nothing changes, and nothing takes memory.
-ghost use Rattle.std.specs.Prelude.{◌≡◌, ◌↔◌, ◌≤◌, None, length, option_map};
+ghost use Rattle.std.specs.Prelude.{◌≡◌, ◌↔◌, ◌≤◌, ◌<◌, ◌⊎◌, None, length, option_map};
 ghost use Rattle.kfs_entry_value.specs.Views.{header_of};
 ghost use Rattle.kfs_model.specs.Table.{get};
 ghost use Rattle.kfs_model.specs.Tree.{headers};
@@ -31,6 +31,7 @@ pub extern "C" fn kfs_node(
     ensures kept { handle.new.value ≡ handle.old.value }
     ensures closed { (result ≡ status.closed) ↔ (handle.old.value ≡ None) }
     ensures wrong { (result ≡ status.wrong_kind) ↔ HoldsNoDesk handle.old.value }
+    ensures only { result < status.closed → (result ≡ status.done) ⊎ (result ≡ status.nothing) }
 {
     let Some(held) = take_out(alloc, handle) else {
         return CLOSED;
@@ -47,7 +48,7 @@ fn find_node(desk: &Desk<Global>, number: u32, node: &mut NodeNumbers) -> u32
     ensures found { result ≡ status.done → IsNode number node.new desk.now }
     ensures nothing { (result ≡ status.nothing) ↔ HasNoNode number desk.now }
     ensures silent { 1 ≤ result → node.new ≡ node.old }
-    ensures range { result ≤ status.nothing }
+    ensures only { (result ≡ status.done) ⊎ (result ≡ status.nothing) }
 {
     let Some(header) = header_of_node(desk, number) else {
         return NOTHING;
@@ -82,6 +83,7 @@ pub extern "C" fn kfs_place(
     ensures kept { handle.new.value ≡ handle.old.value }
     ensures closed { (result ≡ status.closed) ↔ (handle.old.value ≡ None) }
     ensures wrong { (result ≡ status.wrong_kind) ↔ HoldsNoDesk handle.old.value }
+    ensures only { result < status.closed → (result ≡ status.done) ⊎ (result ≡ status.nothing) }
 {
     let Some(held) = take_out(alloc, handle) else {
         return CLOSED;
@@ -98,7 +100,7 @@ fn find_place(desk: &Desk<Global>, number: u32, block: u32, tier: &mut u8, place
     ensures found { result ≡ status.done → IsPlaced number block tier.new place.new desk.now }
     ensures nothing { (result ≡ status.nothing) ↔ IsUnplaced number block desk.now }
     ensures silent { 1 ≤ result → (tier.new ≡ tier.old) × (place.new ≡ place.old) }
-    ensures range { result ≤ status.nothing }
+    ensures only { (result ≡ status.done) ⊎ (result ≡ status.nothing) }
 {
     let Some((on_tier, at_place)) = desk.image().place_of(number, block) else {
         return NOTHING;
@@ -116,6 +118,7 @@ pub extern "C" fn kfs_free(alloc: Global, handle: &mut Handle, tier: u8, count: 
     ensures kept { handle.new.value ≡ handle.old.value }
     ensures closed { (result ≡ status.closed) ↔ (handle.old.value ≡ None) }
     ensures wrong { (result ≡ status.wrong_kind) ↔ HoldsNoDesk handle.old.value }
+    ensures only { result < status.closed → result ≡ status.done }
 {
     let Some(held) = take_out(alloc, handle) else {
         return CLOSED;
@@ -130,7 +133,7 @@ pub extern "C" fn kfs_free(alloc: Global, handle: &mut Handle, tier: u8, count: 
 
 fn count_free(desk: &Desk<Global>, tier: u8, count: &mut u32) -> u32
     ensures counted { count.new ≡ free_places tier desk.now }
-    ensures range { result ≡ status.done }
+    ensures always { result ≡ status.done }
 {
     *count = desk.image().free(tier);
     DONE
@@ -144,6 +147,7 @@ pub extern "C" fn kfs_docket_len(alloc: Global, handle: &mut Handle, count: &mut
     ensures kept { handle.new.value ≡ handle.old.value }
     ensures closed { (result ≡ status.closed) ↔ (handle.old.value ≡ None) }
     ensures wrong { (result ≡ status.wrong_kind) ↔ HoldsNoDesk handle.old.value }
+    ensures only { result < status.closed → result ≡ status.done }
 {
     let Some(held) = take_out(alloc, handle) else {
         return CLOSED;
@@ -158,7 +162,7 @@ pub extern "C" fn kfs_docket_len(alloc: Global, handle: &mut Handle, count: &mut
 
 fn count_rows(desk: &Desk<Global>, count: &mut u32) -> u32
     ensures counted { count.new ≡ length desk.now.docket }
-    ensures range { result ≡ status.done }
+    ensures always { result ≡ status.done }
 {
     *count = desk.docket().len();
     DONE

@@ -1,12 +1,11 @@
 //! Opening and closing.
-ghost use Rattle.std.specs.Prelude.{◌≡◌, ◌≤◌, ◌++◌, ◌∷◌, [], None, IfOk, OnOk, Ok, Some, map};
+ghost use Rattle.std.specs.Prelude.{◌≡◌, ◌≤◌, ◌⊎◌, ◌++◌, ◌∷◌, [], None, IfErr, IfOk, OnOk, Ok, Some, map};
 ghost use Rattle.kfs_image_codec.specs.RawImages.{raw_of};
 ghost use Rattle.kfs_model_device.specs.RawImage.{image_of};
 ghost use Rattle.kfs_model_device.specs.Finding.{IsWellFormed};
 ghost use Rattle.kfs_model_device.specs.Spelling.{ImageAnswer};
-ghost use Rattle.kfs_image.specs.Image.{fresh_image};
 ghost use Rattle.kfs_c.specs.Holding.{OnDesk};
-ghost use Rattle.kfs_c.specs.Opening.{IsBegunWith, IsLoaded, IsLoadedWith, client_of, image_told};
+ghost use Rattle.kfs_c.specs.Opening.{AreClientsRefused, AreRowsRefused, IsBegun, IsBegunWith, IsImageRefused, IsLoaded, IsLoadedWith, IsNoImage, IsOpenedWith, IsOpeningRefused, IsRowRefused, IsUnloaded, IsUnopened, RefusedAs, broken_as, client_of, misfit_told, sizes_of, sizes_told, stray_told, unbegun_as, unread_as};
 ghost use Rattle.kfs_c.specs.Status as status;
 
 use crate::handle::Handle;
@@ -14,7 +13,7 @@ use crate::held::Held;
 use crate::numbers::{ClientRow, FaultNumbers};
 use crate::slot::{put_in, take_out};
 use crate::status::{DONE, NO_MEMORY, REFUSED};
-use crate::told::{NO_FAULT, fault};
+use crate::told::fault;
 use kfs_desk::{BeginFault, Desk};
 use kfs_image::{Image, ImageFault, RawImage, TierSizes, decode_image};
 use kfs_mode::{Client, ClientFault};
@@ -55,13 +54,14 @@ pub extern "C" fn kfs_open(
     limit: u32,
     fault: &mut FaultNumbers,
 ) -> u32
-    ensures opened { result ≡ status.done → OnDesk handle.new.value (IsBegunWith (fresh_image (record { first = first; second = second; third = third })) (map (client_of groups.now) clients.now) limit) }
+    ensures opened { result ≡ status.done → OnDesk handle.new.value (IsOpenedWith (sizes_of first second third) groups.now clients.now limit) }
+    ensures refused { result ≡ status.refused → IsUnopened (sizes_of first second third) groups.now clients.now fault.new }
     ensures unopened { 1 ≤ result → handle.new.value ≡ None }
-    ensures range { result ≤ status.refused }
+    ensures only { (result ≡ status.done) ⊎ (result ≡ status.no_memory) ⊎ (result ≡ status.refused) }
 {
     drop(take_out(alloc, handle));
     let Some(sizes) = TierSizes::new(first, second, third) else {
-        *fault = no_sizes();
+        *fault = bad_sizes();
         return REFUSED;
     };
     let Ok(image) = Image::fresh(alloc, sizes) else {
@@ -71,7 +71,9 @@ pub extern "C" fn kfs_open(
 }
 
 /// The fault of tiers that are too large.
-fn no_sizes() -> FaultNumbers {
+fn bad_sizes() -> FaultNumbers
+    ensures { result ≡ sizes_told }
+{
     fault(1, 0, 0, 0)
 }
 
@@ -88,16 +90,27 @@ pub extern "C" fn kfs_load(
     limit: u32,
     fault: &mut FaultNumbers,
 ) -> u32
-    ensures opened { result ≡ status.done → OnDesk handle.new.value (IsLoadedWith bytes.now (map (client_of groups.now) clients.now) limit) }
+    ensures opened { result ≡ status.done → OnDesk handle.new.value (IsLoadedWith bytes.now groups.now clients.now limit) }
+    ensures refused { result ≡ status.refused → IsUnloaded bytes.now groups.now clients.now fault.new }
     ensures unopened { 1 ≤ result → handle.new.value ≡ None }
-    ensures range { result ≤ status.refused }
+    ensures only { (result ≡ status.done) ⊎ (result ≡ status.no_memory) ⊎ (result ≡ status.refused) }
 {
     drop(take_out(alloc, handle));
     match load(alloc, bytes) {
         Ok(image) => open(alloc, handle, image, clients, groups, limit, fault),
-        Err(Unopened::NoMemory) => NO_MEMORY,
-        Err(Unopened::Refused(why)) => {
-            *fault = why;
+        Err(why) => tell(why, fault),
+    }
+}
+
+/// Tells why no desk is opened.
+fn tell(why: Unopened, fault: &mut FaultNumbers) -> u32
+    ensures refused { result ≡ status.refused → why ≡ Unopened.Refused fault.new }
+    ensures only { (result ≡ status.no_memory) ⊎ (result ≡ status.refused) }
+{
+    match why {
+        Unopened::NoMemory => NO_MEMORY,
+        Unopened::Refused(found) => {
+            *fault = found;
             REFUSED
         }
     }
@@ -105,48 +118,60 @@ pub extern "C" fn kfs_load(
 
 /// The image that the bytes spell, if it breaks no rule.
 fn load(alloc: Global, bytes: &[u8]) -> Result<Image<Global>, Unopened>
-    ensures { IfOk result (IsLoaded bytes.now) }
+    ensures loaded { IfOk result (IsLoaded bytes.now) }
+    ensures refused { IfErr result (RefusedAs (IsImageRefused bytes.now)) }
 {
     let raw = read_rows(alloc, bytes)?;
     match check_shape(alloc, &raw) {
         Ok(()) => image_from(alloc, raw),
-        Err(ShapeFault::Found(finding)) => Err(Unopened::Refused(fault(
-            5,
-            u32::from(finding.rule),
-            u64::from(finding.number),
-            0,
-        ))),
-        Err(ShapeFault::OutOfMemory) => Err(Unopened::NoMemory),
+        Err(found) => Err(broken(found)),
     }
 }
 
 /// The rows that the bytes spell.
+#[tactic(auto, using(crate::proofs::Refusals::unread))]
 fn read_rows(alloc: Global, bytes: &[u8]) -> Result<RawImage<Global>, Unopened>
-    ensures { IfOk result (λ raw. ImageAnswer bytes.now (Ok (raw_of raw))) }
+    ensures read { IfOk result (λ raw. ImageAnswer bytes.now (Ok (raw_of raw))) }
+    ensures refused { IfErr result (RefusedAs (IsNoImage bytes.now)) }
 {
     match decode_image(alloc, bytes) {
         Ok(raw) => Ok(raw),
-        Err(ImageFault::OutOfMemory) => Err(Unopened::NoMemory),
-        Err(found) => Err(Unopened::Refused(image_fault_numbers(found))),
+        Err(found) => Err(unread(found)),
     }
 }
 
 /// Why bytes are no image.
-fn image_fault_numbers(found: ImageFault) -> FaultNumbers
-    ensures { result ≡ image_told found }
+fn unread(found: ImageFault) -> Unopened
+    ensures { result ≡ unread_as found }
 {
     match found {
-        ImageFault::BadImageHeader => fault(4, 1, 0, 0),
-        ImageFault::BadImageRow(row) => fault(4, 2, row, 0),
-        ImageFault::ImageTrailing => fault(4, 3, 0, 0),
-        ImageFault::OutOfMemory => NO_FAULT,
+        ImageFault::BadImageHeader => Unopened::Refused(fault(4, 1, 0, 0)),
+        ImageFault::BadImageRow(row) => Unopened::Refused(fault(4, 2, row, 0)),
+        ImageFault::ImageTrailing => Unopened::Refused(fault(4, 3, 0, 0)),
+        ImageFault::OutOfMemory => Unopened::NoMemory,
+    }
+}
+
+/// Which rule an image breaks.
+fn broken(found: ShapeFault) -> Unopened
+    ensures { result ≡ broken_as found }
+{
+    match found {
+        ShapeFault::Found(finding) => Unopened::Refused(fault(
+            5,
+            u32::from(finding.rule),
+            u64::from(finding.number),
+            0,
+        )),
+        ShapeFault::OutOfMemory => Unopened::NoMemory,
     }
 }
 
 /// The image of rows that break no rule.
 fn image_from(alloc: Global, raw: RawImage<Global>) -> Result<Image<Global>, Unopened>
     requires { IsWellFormed (raw_of raw) }
-    ensures { IfOk result (λ image. image ≡ image_of (raw_of raw)) }
+    ensures made { IfOk result (λ image. image ≡ image_of (raw_of raw)) }
+    ensures memory { IfErr result (λ why. why ≡ Unopened.NoMemory) }
 {
     match Image::from_raw(alloc, raw) {
         Ok(image) => Ok(image),
@@ -164,35 +189,45 @@ fn open(
     limit: u32,
     fault: &mut FaultNumbers,
 ) -> u32
-    ensures opened { result ≡ status.done → OnDesk handle.new.value (IsBegunWith image (map (client_of groups.now) clients.now) limit) }
+    ensures opened { result ≡ status.done → OnDesk handle.new.value (IsBegunWith image groups.now clients.now limit) }
+    ensures refused { result ≡ status.refused → IsOpeningRefused groups.now clients.now fault.new }
     ensures unopened { 1 ≤ result → handle.new.value ≡ handle.old.value }
-    ensures range { result ≤ status.refused }
+    ensures only { (result ≡ status.done) ⊎ (result ≡ status.no_memory) ⊎ (result ≡ status.refused) }
 {
-    let begun = match clients_from(alloc, clients, groups) {
-        Ok(clients) => begin(alloc, image, clients, limit),
-        Err(why) => Err(why),
-    };
-    match begun {
+    match begin_with(alloc, image, clients, groups, limit) {
         Ok(held) => {
             put_in(handle, held);
             DONE
         }
-        Err(Unopened::NoMemory) => NO_MEMORY,
-        Err(Unopened::Refused(why)) => {
-            *fault = why;
-            REFUSED
-        }
+        Err(why) => tell(why, fault),
     }
 }
 
+/// A desk with this image and the clients that the rows say.
+fn begin_with(
+    alloc: Global,
+    image: Image<Global>,
+    clients: &[ClientRow],
+    groups: &[u32],
+    limit: u32,
+) -> Result<Box<Held, Global>, Unopened>
+    ensures begun { IfOk result (λ held. OnDesk (Some held.value) (IsBegunWith image groups.now clients.now limit)) }
+    ensures refused { IfErr result (RefusedAs (IsOpeningRefused groups.now clients.now)) }
+{
+    let clients = clients_from(alloc, clients, groups)?;
+    begin(alloc, image, clients, limit)
+}
+
 /// A desk with this image and these clients.
+#[tactic(auto, using(crate::proofs::Refusals::unbegun))]
 fn begin(
     alloc: Global,
     image: Image<Global>,
     clients: Vec<Client, Global>,
     limit: u32,
 ) -> Result<Box<Held, Global>, Unopened>
-    ensures { IfOk result (λ held. OnDesk (Some held.value) (IsBegunWith image clients.items limit)) }
+    ensures begun { IfOk result (λ held. OnDesk (Some held.value) (IsBegun image clients.items limit)) }
+    ensures refused { IfErr result (RefusedAs (AreClientsRefused clients.items)) }
 {
     match Desk::begin(alloc, image, clients, limit) {
         Ok(desk) => boxed(alloc, desk),
@@ -202,7 +237,8 @@ fn begin(
 
 /// The desk in a box.
 fn boxed(alloc: Global, desk: Desk<Global>) -> Result<Box<Held, Global>, Unopened>
-    ensures { IfOk result (λ held. held.value ≡ Held.Desk desk) }
+    ensures held { IfOk result (λ held. held.value ≡ Held.Desk desk) }
+    ensures memory { IfErr result (λ why. why ≡ Unopened.NoMemory) }
 {
     match Box::new(alloc, Held::Desk(desk)) {
         Ok(held) => Ok(held),
@@ -211,7 +247,9 @@ fn boxed(alloc: Global, desk: Desk<Global>) -> Result<Box<Held, Global>, Unopene
 }
 
 /// Why a desk can't be begun.
-fn unbegun(why: BeginFault) -> Unopened {
+fn unbegun(why: BeginFault) -> Unopened
+    ensures { result ≡ unbegun_as why }
+{
     match why {
         BeginFault::ClientTwice(index) => Unopened::Refused(fault(3, 1, index as u64, 0)),
         BeginFault::GrantOverlap(index) => Unopened::Refused(fault(3, 2, index as u64, 0)),
@@ -225,11 +263,12 @@ fn clients_from(
     rows: &[ClientRow],
     groups: &[u32],
 ) -> Result<Vec<Client, Global>, Unopened>
-    ensures { IfOk result (λ clients. clients.items ≡ map (client_of groups.now) rows.now) }
+    ensures made { IfOk result (λ clients. clients.items ≡ map (client_of groups.now) rows.now) }
+    ensures refused { IfErr result (RefusedAs (AreRowsRefused groups.now rows.now)) }
 {
     let mut clients = Vec::new(alloc);
-    for row in rows {
-        let client = client_from(row, groups, clients.len())?;
+    for (index, row) in rows.iter().enumerate() {
+        let client = client_from(row, groups, index)?;
         add(&mut clients, client)?;
     }
     Ok(clients)
@@ -237,7 +276,8 @@ fn clients_from(
 
 /// Adds a client.
 fn add(clients: &mut Vec<Client, Global>, client: Client) -> Result<(), Unopened>
-    ensures { OnOk result (clients.new.items ≡ clients.old.items ++ client ∷ []) }
+    ensures added { OnOk result (clients.new.items ≡ clients.old.items ++ client ∷ []) }
+    ensures memory { IfErr result (λ why. why ≡ Unopened.NoMemory) }
 {
     match clients.push(client) {
         Ok(()) => Ok(()),
@@ -247,12 +287,13 @@ fn add(clients: &mut Vec<Client, Global>, client: Client) -> Result<(), Unopened
 
 /// The client that a row says, which is the one with this index.
 fn client_from(row: &ClientRow, groups: &[u32], index: usize) -> Result<Client, Unopened>
-    ensures { IfOk result (λ client. client ≡ client_of groups.now row.now) }
+    ensures made { IfOk result (λ client. client ≡ client_of groups.now row.now) }
+    ensures refused { IfErr result (RefusedAs (IsRowRefused groups.now row.now index)) }
 {
     let start = row.groups_start as usize;
     let end = start + row.groups_count as usize;
     if end > groups.len() {
-        return Err(Unopened::Refused(fault(2, 3, index as u64, 0)));
+        return Err(Unopened::Refused(stray(index)));
     }
     let made = Client::new(
         row.number,
@@ -265,7 +306,23 @@ fn client_from(row: &ClientRow, groups: &[u32], index: usize) -> Result<Client, 
     );
     match made {
         Ok(client) => Ok(client),
-        Err(ClientFault::TooManyGroups) => Err(Unopened::Refused(fault(2, 1, index as u64, 0))),
-        Err(ClientFault::BadGrant) => Err(Unopened::Refused(fault(2, 2, index as u64, 0))),
+        Err(why) => Err(Unopened::Refused(misfit(index, why))),
+    }
+}
+
+/// The fault of a client whose groups reach out of the list.
+fn stray(index: usize) -> FaultNumbers
+    ensures { result ≡ stray_told index }
+{
+    fault(2, 3, index as u64, 0)
+}
+
+/// The fault of a client that can't be.
+fn misfit(index: usize, why: ClientFault) -> FaultNumbers
+    ensures { result ≡ misfit_told index why }
+{
+    match why {
+        ClientFault::TooManyGroups => fault(2, 1, index as u64, 0),
+        ClientFault::BadGrant => fault(2, 2, index as u64, 0),
     }
 }

@@ -1,6 +1,6 @@
 //! Views, verdicts on them, and landings. A host takes a view under its lock, judges outside it, and
 //! lands under it again.
-ghost use Rattle.std.specs.Prelude.{◌≡◌, ◌↔◌, ◌≤◌, None, ⊤};
+ghost use Rattle.std.specs.Prelude.{◌≡◌, ◌↔◌, ◌≤◌, ◌<◌, None, ⊤};
 ghost use Rattle.kfs_c.specs.Calls.{IsFull, IsJudged, IsLanded};
 ghost use Rattle.kfs_c.specs.Holding.{HoldsNoDesk, HoldsNoView, OnDesk, OnDesks, OnVerdict, OnView};
 ghost use Rattle.kfs_c.specs.Status as status;
@@ -26,6 +26,7 @@ pub extern "C" fn kfs_look(alloc: Global, handle: &mut Handle, view: &mut Handle
     ensures kept { handle.new.value ≡ handle.old.value }
     ensures closed { (result ≡ status.closed) ↔ (handle.old.value ≡ None) }
     ensures wrong { (result ≡ status.wrong_kind) ↔ HoldsNoDesk handle.old.value }
+    ensures range { result < status.closed → result ≤ status.no_memory }
 {
     drop(take_out(alloc, view));
     let Some(held) = take_out(alloc, handle) else {
@@ -70,6 +71,7 @@ pub extern "C" fn kfs_judge(
     ensures kept { view.new.value ≡ view.old.value }
     ensures closed { (result ≡ status.closed) ↔ (view.old.value ≡ None) }
     ensures wrong { (result ≡ status.wrong_kind) ↔ HoldsNoView view.old.value }
+    ensures range { result < status.closed → result ≤ status.no_memory }
 {
     drop(take_out(alloc, verdict));
     let Some(held) = take_out(alloc, view) else {
