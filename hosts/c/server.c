@@ -368,6 +368,30 @@ static bool land_line(void)
     return true;
 }
 
+/* Asks for the plan's length, and then for its bytes. */
+static bool plan_line(void)
+{
+    uint32_t client, status;
+    uint8_t *log, *plan = NULL, none;
+    size_t log_len, len;
+    if (words_len != 3 || !number32(words[1], &client) || !bytes(words[2], &log, &log_len)) return false;
+    status = kfs_plan(&server.desk, client, log, log_len, &none, 0, &len);
+    if (status == KFS_REFUSED) return false;
+    if (status == KFS_NOTHING) {
+        puts("plan none");
+        return true;
+    }
+    if (status == KFS_SHORT) status = (plan = malloc(len)) ? KFS_DONE : KFS_NO_MEMORY;
+    if (status == KFS_DONE) status = kfs_plan(&server.desk, client, log, log_len, plan, len, &len);
+    if (is_done(status)) {
+        printf("plan ");
+        say_bytes(plan, len);
+        puts("");
+    }
+    free(plan);
+    return true;
+}
+
 static bool node_line(void)
 {
     uint32_t at;
@@ -475,9 +499,9 @@ static const struct {
     { "new", false, new_line },      { "image", false, image_line },  { "client", false, client_line },
     { "begin", false, begin_line },  { "lease", true, lease_line },   { "drop", true, drop_line },
     { "tick", true, tick_line },     { "move", true, move_line },     { "submit", true, submit_line },
-    { "judge", true, judge_line },   { "land", true, land_line },     { "node", true, node_line },
-    { "list", true, list_line },     { "read", true, read_line },     { "docket", true, docket_line },
-    { "save", true, save_line },
+    { "judge", true, judge_line },   { "land", true, land_line },     { "plan", true, plan_line },
+    { "node", true, node_line },     { "list", true, list_line },     { "read", true, read_line },
+    { "docket", true, docket_line }, { "save", true, save_line },
 };
 
 static bool answer(char *line, size_t len)

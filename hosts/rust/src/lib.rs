@@ -5,7 +5,7 @@
 
 mod raw;
 
-pub use raw::{Fault, Node};
+pub use raw::{Fault, Move, Node};
 use raw::Handle;
 use std::fmt;
 
@@ -16,7 +16,7 @@ pub enum Error {
     NoMemory,
     /// The docket is full. The desk is as it was.
     Full,
-    /// There is no such node, name or plan.
+    /// There is no such node, name, block or plan.
     Nothing,
     /// Refused, for this fault where the call tells one.
     Refused(Fault),
@@ -199,6 +199,11 @@ impl Desk {
         self.act(|handle, reply| unsafe { raw::kfs_tick(handle, moment, reply) })
     }
 
+    /// Moves blocks to other places, all of them or none. How many, or why not.
+    pub fn migrate(&mut self, moves: &[Move]) -> Result<Result<u64, Fault>, Error> {
+        self.act(|handle, reply| unsafe { raw::kfs_migrate(handle, moves.as_ptr(), moves.len(), reply) })
+    }
+
     fn act(&mut self, call: impl FnOnce(*mut Handle, *mut raw::Act) -> u32) -> Result<Result<u64, Fault>, Error> {
         let mut reply = raw::Act::default();
         done(call(&mut self.0 .0, &mut reply))?;
@@ -238,6 +243,20 @@ impl Desk {
         done(unsafe {
             raw::kfs_read(&mut self.0 .0, number, start, buffer.as_mut_ptr(), buffer.len(), &mut count)
         })?;
+        Ok(count)
+    }
+
+    /// The tier and the place of a block of a file.
+    pub fn place(&mut self, number: u32, block: u32) -> Result<(u8, u32), Error> {
+        let (mut tier, mut place) = (0, 0);
+        done(unsafe { raw::kfs_place(&mut self.0 .0, number, block, &mut tier, &mut place) })?;
+        Ok((tier, place))
+    }
+
+    /// How many places of the tier hold no block.
+    pub fn free(&mut self, tier: u8) -> Result<u32, Error> {
+        let mut count = 0;
+        done(unsafe { raw::kfs_free(&mut self.0 .0, tier, &mut count) })?;
         Ok(count)
     }
 

@@ -22,6 +22,17 @@ pub struct ClientRow {
     pub privileged: bool,
 }
 
+/// The move of a block of a file to a place of a tier. All count from 0.
+#[repr(C)]
+#[derive(Clone, Copy, Debug, PartialEq, Eq)]
+pub struct Move {
+    pub number: u32,
+    pub block: u32,
+    pub tier: u8,
+    pub place: u32,
+}
+
+/// Why something was refused: a `KFS_` code of `include/kfs.h`, and what it is about.
 #[repr(C)]
 #[derive(Clone, Copy, Debug, Default, PartialEq, Eq)]
 pub struct Fault {
@@ -51,6 +62,7 @@ pub struct Act {
     pub fault: Fault,
 }
 
+/// The header of a node.
 #[repr(C)]
 #[derive(Clone, Copy, Debug, Default, PartialEq, Eq)]
 pub struct Node {
@@ -62,8 +74,9 @@ pub struct Node {
     pub size: u64,
 }
 
-const _: () = assert!(size_of::<Handle>() == 16 && size_of::<ClientRow>() == 32 && size_of::<Fault>() == 24);
-const _: () = assert!(size_of::<Reply>() == 56 && size_of::<Act>() == 40 && size_of::<Node>() == 24);
+const _: () = assert!(size_of::<Handle>() == 16 && size_of::<ClientRow>() == 32 && size_of::<Move>() == 16);
+const _: () = assert!(size_of::<Fault>() == 24 && size_of::<Reply>() == 56);
+const _: () = assert!( size_of::<Act>() == 40 && size_of::<Node>() == 24);
 
 extern "C" {
     pub fn kfs_open(
@@ -94,6 +107,7 @@ extern "C" {
     ) -> u32;
     pub fn kfs_drop(handle: *mut Handle, client: u32, number: u32, reply: *mut Act) -> u32;
     pub fn kfs_tick(handle: *mut Handle, moment: u64, reply: *mut Act) -> u32;
+    pub fn kfs_migrate(handle: *mut Handle, moves: *const Move, moves_len: usize, reply: *mut Act) -> u32;
     pub fn kfs_node(handle: *mut Handle, number: u32, node: *mut Node) -> u32;
     pub fn kfs_name(
         handle: *mut Handle, directory: u32, after: *const u8, after_len: usize, name: *mut u8, name_len: usize,
@@ -102,6 +116,8 @@ extern "C" {
     pub fn kfs_read(
         handle: *mut Handle, number: u32, start: u64, buffer: *mut u8, buffer_len: usize, count: *mut usize,
     ) -> u32;
+    pub fn kfs_place(handle: *mut Handle, number: u32, block: u32, tier: *mut u8, place: *mut u32) -> u32;
+    pub fn kfs_free(handle: *mut Handle, tier: u8, count: *mut u32) -> u32;
     pub fn kfs_docket_len(handle: *mut Handle, count: *mut u32) -> u32;
     pub fn kfs_save(handle: *mut Handle, buffer: *mut u8, buffer_len: usize, len: *mut usize) -> u32;
 }

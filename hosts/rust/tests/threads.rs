@@ -81,6 +81,41 @@ fn eight_threads_over_one_desk() {
     assert_eq!(again.node(101), desk.node(101));
 }
 
+/// The log of a client that writes bytes at the front of a file.
+fn write(client: u32, number: u32, payload: &[u8]) -> Vec<u8> {
+    let mut log = b"KLOG\x01".to_vec();
+    log.extend(client.to_be_bytes());
+    log.extend(1u16.to_be_bytes());
+    log.push(2);
+    log.extend(number.to_be_bytes());
+    log.extend(0u64.to_be_bytes());
+    log.extend((payload.len() as u32).to_be_bytes());
+    log.extend(payload);
+    log
+}
+
+#[test]
+fn blocks_are_written_moved_and_read() {
+    let mut desk = Desk::open([8, 8, 0], &[client(1)], 10).unwrap();
+    assert_eq!(desk.lease(1, b"/", true, 5), Ok(Ok(1)));
+    let log = create(1, 1, "a", 100, 0);
+    let plan = desk.plan(1, &log).unwrap();
+    assert_eq!(desk.submit(1, &log, &plan), Ok(Reply::Yes { position: 1, rejudged: false, need: 0 }));
+    assert_eq!(desk.lease(1, b"/a", true, 5), Ok(Ok(100)));
+    let log = write(1, 100, b"bytes");
+    let plan = desk.plan(1, &log).unwrap();
+    assert_eq!(desk.submit(1, &log, &plan), Ok(Reply::Yes { position: 3, rejudged: false, need: 1 }));
+    assert_eq!((desk.free(0), desk.free(1), desk.place(100, 1)), (Ok(7), Ok(8), Err(kfs::Error::Nothing)));
+    assert_eq!(desk.place(100, 0).unwrap().0, 0);
+    assert_eq!(desk.migrate(&[kfs::Move { number: 100, block: 0, tier: 1, place: 3 }]), Ok(Ok(1)));
+    assert_eq!((desk.free(0), desk.free(1), desk.place(100, 0)), (Ok(8), Ok(7), Ok((1, 3))));
+    let mut buffer = [b'-'; 8];
+    assert_eq!(desk.read(100, 2, &mut buffer), Ok(3));
+    assert_eq!(&buffer, b"tes-----");
+    assert_eq!(desk.read(7, 0, &mut buffer), Err(kfs::Error::Nothing));
+    assert!(matches!(desk.read(1, 0, &mut buffer), Err(kfs::Error::Refused(_))));
+}
+
 #[test]
 fn faults_are_told() {
     let mut desk = Desk::open([8, 0, 0], &[client(1)], 2).unwrap();
