@@ -17,31 +17,31 @@ use Rattle.kfs_c.specs.declared.numbers.ClientRow.{ClientRow}
 use Rattle.kfs_c.specs.declared.numbers.FaultNumbers.{FaultNumbers}
 use Rattle.kfs_c.specs.declared.opening.Unopened.{Unopened}
 use Rattle.kfs_c.specs.declared.opening.Unopened.TheVariants.{NoMemory, Refused}
-use Rattle.kfs_c.specs.Opening.{AreClientsRefused, AreRowsRefused, BreaksRule, IsNoImage, IsRowRefused, RefusedAs, broken_as, client_of, unbegun_as, unread_as}
+use Rattle.kfs_c.specs.Opening.{AreClientsRefused, AreRowsRefused, BreaksRule, IsNoImage, IsRowRefused, IsRefusedAs, broken_as, client_of, unbegun_as, unread_as}
 
 -- what is said wherever a fault is told
-refused_by : (Says : FaultNumbers → Type 0) (why : Unopened) → ((told : FaultNumbers) → why ≡ Refused told → Says told) → RefusedAs Says why
+refused_by : (Says : FaultNumbers → Type 0) (why : Unopened) → ((told : FaultNumbers) → why ≡ Refused told → Says told) → IsRefusedAs Says why
 refused_by Says NoMemory each = tt
 refused_by Says (Refused told) each = each told refl
 
-pub refused_more : (One Other : FaultNumbers → Type 0) (why : Unopened) → ((told : FaultNumbers) → One told → Other told) → RefusedAs One why → RefusedAs Other why
+pub refused_more : (One Other : FaultNumbers → Type 0) (why : Unopened) → ((told : FaultNumbers) → One told → Other told) → IsRefusedAs One why → IsRefusedAs Other why
 refused_more One Other NoMemory more one = tt
 refused_more One Other (Refused told) more one = more told one
 
-pub unread : (bytes : List ℕ) (found : ImageFault) → OnImageRefusal (ImageAnswer bytes) found → RefusedAs (IsNoImage bytes) (unread_as found)
+pub unread : (bytes : List ℕ) (found : ImageFault) → OnImageRefusal (ImageAnswer bytes) found → IsRefusedAs (IsNoImage bytes) (unread_as found)
 unread bytes found is = refused_by (IsNoImage bytes) (unread_as found) (λ told e. (found, is, e))
 
-pub broken : (bytes : List ℕ) (raw : RawImage) (found : ShapeFault) → ImageAnswer bytes (Ok raw) → Names found (finding_of raw) → RefusedAs (BreaksRule bytes) (broken_as found)
+pub broken : (bytes : List ℕ) (raw : RawImage) (found : ShapeFault) → ImageAnswer bytes (Ok raw) → Names found (finding_of raw) → IsRefusedAs (BreaksRule bytes) (broken_as found)
 broken bytes raw (shapes.Found finding) read named = (raw, read, finding_shown finding, named, refl)
 broken bytes raw shapes.OutOfMemory read named = tt
 
-pub unbegun : (clients : List Client) (found : BeginFault) → (found ≡ beginnings.OutOfMemory) ⊎ (begin_fault clients ≡ Some found) → RefusedAs (AreClientsRefused clients) (unbegun_as found)
-unbegun clients found (inl out) = subst (λ fault. RefusedAs (AreClientsRefused clients) (unbegun_as fault)) (sym out) tt
+pub unbegun : (clients : List Client) (found : BeginFault) → (found ≡ beginnings.OutOfMemory) ⊎ (begin_fault clients ≡ Some found) → IsRefusedAs (AreClientsRefused clients) (unbegun_as found)
+unbegun clients found (inl out) = subst (λ fault. IsRefusedAs (AreClientsRefused clients) (unbegun_as fault)) (sym out) tt
 unbegun clients found (inr is) = refused_by (AreClientsRefused clients) (unbegun_as found) (λ told e. (found, is, e))
 
 -- the row at this index
 pub row_refused : (groups : List ℕ) (rows : List ClientRow) (i : ℕ) (row : ClientRow) (why : Unopened) → i < length rows → drop i rows ≡ row ∷ drop (i + 1) rows
-    → RefusedAs (IsRowRefused groups row i) why → RefusedAs (AreRowsRefused groups rows) why
+    → IsRefusedAs (IsRowRefused groups row i) why → IsRefusedAs (AreRowsRefused groups rows) why
 row_refused groups rows i row why below ahead =
     let cut : rows ≡ take i rows ++ row ∷ drop (i + 1) rows = sym (take-append-drop i rows) ∙ ap (λ rest. take i rows ++ rest) ahead in
     let index : i ≡ length (take i rows) = sym (length-take-le i rows (omega (arith, below))) in

@@ -62,9 +62,9 @@ IsLoaded bytes image = (raw : RawImage) × ImageAnswer bytes (Ok raw) × IsWellF
 -- ---- why no desk is opened
 
 -- this is said of the fault, unless memory was refused
-abbrev pub RefusedAs : (FaultNumbers → Type 0) → Unopened → Type 0
-RefusedAs Says NoMemory = Unit {0}
-RefusedAs Says (Refused told) = Says told
+abbrev pub IsRefusedAs : (FaultNumbers → Type 0) → Unopened → Type 0
+IsRefusedAs Says NoMemory = Unit {0}
+IsRefusedAs Says (Refused told) = Says told
 
 abbrev pub sizes_told : FaultNumbers
 sizes_told = numbers 1 0 0 0

@@ -5,7 +5,7 @@ ghost use Rattle.kfs_model_device.specs.RawImage.{image_of};
 ghost use Rattle.kfs_model_device.specs.Finding.{IsWellFormed};
 ghost use Rattle.kfs_model_device.specs.Spelling.{ImageAnswer};
 ghost use Rattle.kfs_c.specs.Holding.{OnDesk};
-ghost use Rattle.kfs_c.specs.Opening.{AreClientsRefused, AreRowsRefused, IsBegun, IsBegunWith, IsImageRefused, IsLoaded, IsLoadedWith, IsNoImage, IsOpenedWith, IsOpeningRefused, IsRowRefused, IsUnloaded, IsUnopened, RefusedAs, broken_as, client_of, misfit_told, sizes_of, sizes_told, stray_told, unbegun_as, unread_as};
+ghost use Rattle.kfs_c.specs.Opening.{AreClientsRefused, AreRowsRefused, IsBegun, IsBegunWith, IsImageRefused, IsLoaded, IsLoadedWith, IsNoImage, IsOpenedWith, IsOpeningRefused, IsRowRefused, IsUnloaded, IsUnopened, IsRefusedAs, broken_as, client_of, misfit_told, sizes_of, sizes_told, stray_told, unbegun_as, unread_as};
 ghost use Rattle.kfs_c.specs.Status as status;
 
 use crate::handle::Handle;
@@ -119,7 +119,7 @@ fn tell(why: Unopened, fault: &mut FaultNumbers) -> u32
 /// The image that the bytes spell, if it breaks no rule.
 fn load(alloc: Global, bytes: &[u8]) -> Result<Image<Global>, Unopened>
     ensures loaded { IfOk result (IsLoaded bytes.now) }
-    ensures refused { IfErr result (RefusedAs (IsImageRefused bytes.now)) }
+    ensures refused { IfErr result (IsRefusedAs (IsImageRefused bytes.now)) }
 {
     let raw = read_rows(alloc, bytes)?;
     match check_shape(alloc, &raw) {
@@ -132,7 +132,7 @@ fn load(alloc: Global, bytes: &[u8]) -> Result<Image<Global>, Unopened>
 #[tactic(auto, using(crate::proofs::Refusals::unread))]
 fn read_rows(alloc: Global, bytes: &[u8]) -> Result<RawImage<Global>, Unopened>
     ensures read { IfOk result (λ raw. ImageAnswer bytes.now (Ok (raw_of raw))) }
-    ensures refused { IfErr result (RefusedAs (IsNoImage bytes.now)) }
+    ensures refused { IfErr result (IsRefusedAs (IsNoImage bytes.now)) }
 {
     match decode_image(alloc, bytes) {
         Ok(raw) => Ok(raw),
@@ -212,7 +212,7 @@ fn begin_with(
     limit: u32,
 ) -> Result<Box<Held, Global>, Unopened>
     ensures begun { IfOk result (λ held. OnDesk (Some held.value) (IsBegunWith image groups.now clients.now limit)) }
-    ensures refused { IfErr result (RefusedAs (IsOpeningRefused groups.now clients.now)) }
+    ensures refused { IfErr result (IsRefusedAs (IsOpeningRefused groups.now clients.now)) }
 {
     let clients = clients_from(alloc, clients, groups)?;
     begin(alloc, image, clients, limit)
@@ -227,7 +227,7 @@ fn begin(
     limit: u32,
 ) -> Result<Box<Held, Global>, Unopened>
     ensures begun { IfOk result (λ held. OnDesk (Some held.value) (IsBegun image clients.items limit)) }
-    ensures refused { IfErr result (RefusedAs (AreClientsRefused clients.items)) }
+    ensures refused { IfErr result (IsRefusedAs (AreClientsRefused clients.items)) }
 {
     match Desk::begin(alloc, image, clients, limit) {
         Ok(desk) => boxed(alloc, desk),
@@ -264,7 +264,7 @@ fn clients_from(
     groups: &[u32],
 ) -> Result<Vec<Client, Global>, Unopened>
     ensures made { IfOk result (λ clients. clients.items ≡ map (client_of groups.now) rows.now) }
-    ensures refused { IfErr result (RefusedAs (AreRowsRefused groups.now rows.now)) }
+    ensures refused { IfErr result (IsRefusedAs (AreRowsRefused groups.now rows.now)) }
 {
     let mut clients = Vec::new(alloc);
     for (index, row) in rows.iter().enumerate() {
@@ -288,7 +288,7 @@ fn add(clients: &mut Vec<Client, Global>, client: Client) -> Result<(), Unopened
 /// The client that a row says, which is the one with this index.
 fn client_from(row: &ClientRow, groups: &[u32], index: usize) -> Result<Client, Unopened>
     ensures made { IfOk result (λ client. client ≡ client_of groups.now row.now) }
-    ensures refused { IfErr result (RefusedAs (IsRowRefused groups.now row.now index)) }
+    ensures refused { IfErr result (IsRefusedAs (IsRowRefused groups.now row.now index)) }
 {
     let start = row.groups_start as usize;
     let end = start + row.groups_count as usize;
