@@ -1,14 +1,14 @@
 -- What a desk's image shows, said of the desk's state.
-use Rattle.std.proofs.Common.{◌≡◌, ◌↔◌, ℕ, List, length, take, drop, Option, sym, ap, subst, ◌∙◌}
-use Rattle.kfs_model.specs.Judgement.{State}
-use Rattle.kfs_model.specs.Header.{Header}
+use Rattle.std.proofs.Common.{◌≡◌, ◌↔◌, ℕ, List, length, take, drop, None, sym, ap, subst, ◌∙◌}
+use Rattle.std.specs.Prelude.{IsTrue}
+use Rattle.kfs_model.specs.Sight.{is_directory}
 use Rattle.kfs_model.specs.Table.{get}
 use Rattle.kfs_model.specs.Tree.{content_of, headers}
 use Rattle.kfs_model_device.specs.Canonical.{canonical_bytes, image_bytes}
 use Rattle.kfs_model_device.specs.ShownTree.{DeviceImage, IsLawful, shown_tree}
 use Rattle.kfs_image.specs.Read.{FileIsRead}
 use Rattle.kfs_desk.specs.Machine.{Desk, IsImageOf}
-use Rattle.kfs_c.specs.Reading.{BeginsWith, IsRead, saved_bytes}
+use Rattle.kfs_c.specs.Reading.{BeginsWith, HasNoNode, IsDirectoryAt, IsRead, saved_bytes}
 
 -- the image's bytes are those of the state
 pub saved : (image : DeviceImage) (desk : Desk) (bytes : List ℕ) → IsImageOf image desk.state → bytes ≡ image_bytes image → bytes ≡ saved_bytes desk
@@ -25,8 +25,11 @@ module _ (image : DeviceImage) (desk : Desk) (number : ℕ) (lawful : IsLawful i
   heads = ap (λ rows. get rows number) (sym lawful.tree.counted) ∙ ap (λ tree. get (headers tree) number) is.tree
 
   -- what is told exactly by the image's header is told exactly by the tree's
-  pub told_by_head : (Says : Option Header → Type 0) (Told : Type 0) → (Told ↔ Says (get image.heads number)) → (Told ↔ Says (get (headers desk.state.tree) number))
-  told_by_head Says Told told = subst (λ head. Told ↔ Says head) heads told
+  pub no_node : (Told : Type 0) → (Told ↔ (get image.heads number ≡ None)) → (Told ↔ HasNoNode number desk)
+  no_node Told told = subst (λ head. Told ↔ (head ≡ None)) heads told
+
+  pub directory : (Told : Type 0) → (Told ↔ IsTrue (is_directory (get image.heads number))) → (Told ↔ IsDirectoryAt number desk)
+  directory Told told = subst (λ head. Told ↔ IsTrue (is_directory head)) heads told
 
 -- bytes of the image's file are bytes of the tree's
 pub read : (image : DeviceImage) (desk : Desk) (number start : ℕ) (old new : List ℕ) (count : ℕ) → IsImageOf image desk.state → FileIsRead image number start old new count → IsRead number start old new count desk

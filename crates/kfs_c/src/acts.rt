@@ -9,7 +9,7 @@ ghost use Rattle.kfs_c.specs.Told.{act_told};
 use crate::handle::Handle;
 use crate::held::Held;
 use crate::numbers::{ActNumbers, MoveRow};
-use crate::slot::{put_in, take_out};
+use crate::slot::{on_desk, put_in, take_out};
 use crate::status::{CLOSED, DONE, FULL, NO_MEMORY, WRONG_KIND};
 use crate::told::act_numbers;
 use kfs_desk::{Desk, Move};
@@ -36,15 +36,7 @@ pub extern "C" fn kfs_lease(
     ensures wrong { (result ≡ status.wrong_kind) ↔ HoldsNoDesk handle.old.value }
     ensures range { result < status.closed → result ≤ status.full }
 {
-    let Some(mut held) = take_out(alloc, handle) else {
-        return CLOSED;
-    };
-    let status = match &mut *held {
-        Held::Desk(desk) => lease(desk, client, path, write, end, reply),
-        Held::View(_) | Held::Verdict(_) => WRONG_KIND,
-    };
-    put_in(handle, held);
-    status
+    on_desk!(alloc, handle, &mut desk => lease(desk, client, path, write, end, reply))
 }
 
 #[tactic(auto, using(crate::proofs::Acted::called, crate::proofs::Acted::uncalled, crate::proofs::Acted::full_told))]
@@ -91,15 +83,7 @@ pub extern "C" fn kfs_drop(
     ensures wrong { (result ≡ status.wrong_kind) ↔ HoldsNoDesk handle.old.value }
     ensures range { result < status.closed → result ≤ status.full }
 {
-    let Some(mut held) = take_out(alloc, handle) else {
-        return CLOSED;
-    };
-    let status = match &mut *held {
-        Held::Desk(desk) => drop_lease(desk, client, number, reply),
-        Held::View(_) | Held::Verdict(_) => WRONG_KIND,
-    };
-    put_in(handle, held);
-    status
+    on_desk!(alloc, handle, &mut desk => drop_lease(desk, client, number, reply))
 }
 
 #[tactic(auto, using(crate::proofs::Acted::called, crate::proofs::Acted::uncalled, crate::proofs::Acted::full_told))]
@@ -127,15 +111,7 @@ pub extern "C" fn kfs_tick(
     ensures wrong { (result ≡ status.wrong_kind) ↔ HoldsNoDesk handle.old.value }
     ensures range { result < status.closed → result ≤ status.full }
 {
-    let Some(mut held) = take_out(alloc, handle) else {
-        return CLOSED;
-    };
-    let status = match &mut *held {
-        Held::Desk(desk) => tick(desk, moment, reply),
-        Held::View(_) | Held::Verdict(_) => WRONG_KIND,
-    };
-    put_in(handle, held);
-    status
+    on_desk!(alloc, handle, &mut desk => tick(desk, moment, reply))
 }
 
 #[tactic(auto, using(crate::proofs::Acted::called, crate::proofs::Acted::uncalled, crate::proofs::Acted::full_told))]
@@ -163,15 +139,7 @@ pub extern "C" fn kfs_migrate(
     ensures wrong { (result ≡ status.wrong_kind) ↔ HoldsNoDesk handle.old.value }
     ensures range { result < status.closed → result ≤ status.full }
 {
-    let Some(mut held) = take_out(alloc, handle) else {
-        return CLOSED;
-    };
-    let status = match &mut *held {
-        Held::Desk(desk) => migrate(alloc, desk, moves, reply),
-        Held::View(_) | Held::Verdict(_) => WRONG_KIND,
-    };
-    put_in(handle, held);
-    status
+    on_desk!(alloc, handle, &mut desk => migrate(alloc, desk, moves, reply))
 }
 
 #[tactic(auto, using(crate::proofs::Acted::called, crate::proofs::Acted::uncalled, crate::proofs::Acted::full_told))]

@@ -8,7 +8,7 @@ ghost use Rattle.kfs_c.specs.Status as status;
 
 use crate::handle::Handle;
 use crate::held::Held;
-use crate::slot::{put_in, take_out};
+use crate::slot::{on_desk, put_in, take_out};
 use crate::status::{CLOSED, DONE, NO_MEMORY, NOTHING, REFUSED, SHORT, WRONG_KIND};
 use kfs_desk::Desk;
 use kfs_image::{ReadFault, read_file};
@@ -47,15 +47,7 @@ pub extern "C" fn kfs_read(
     ensures wrong { (result ≡ status.wrong_kind) ↔ HoldsNoDesk handle.old.value }
     ensures only { result < status.closed → (result ≡ status.done) ⊎ (result ≡ status.nothing) ⊎ (result ≡ status.refused) }
 {
-    let Some(held) = take_out(alloc, handle) else {
-        return CLOSED;
-    };
-    let status = match &*held {
-        Held::Desk(desk) => read(desk, number, start, buffer, count),
-        Held::View(_) | Held::Verdict(_) => WRONG_KIND,
-    };
-    put_in(handle, held);
-    status
+    on_desk!(alloc, handle, &desk => read(desk, number, start, buffer, count))
 }
 
 fn read(desk: &Desk<Global>, number: u32, start: u64, buffer: &mut [u8], count: &mut usize) -> u32
@@ -76,7 +68,7 @@ fn read(desk: &Desk<Global>, number: u32, start: u64, buffer: &mut [u8], count: 
 }
 
 /// Reads bytes of the desk's file.
-#[tactic(auto, using(crate::proofs::Images::read, crate::proofs::Images::told_by_head))]
+#[tactic(auto, using(crate::proofs::Images::read, crate::proofs::Images::no_node, crate::proofs::Images::directory))]
 fn read_node(
     desk: &Desk<Global>,
     number: u32,
@@ -111,15 +103,7 @@ pub extern "C" fn kfs_save(
     ensures wrong { (result ≡ status.wrong_kind) ↔ HoldsNoDesk handle.old.value }
     ensures only { result < status.closed → (result ≡ status.done) ⊎ (result ≡ status.no_memory) ⊎ (result ≡ status.short) }
 {
-    let Some(held) = take_out(alloc, handle) else {
-        return CLOSED;
-    };
-    let status = match &*held {
-        Held::Desk(desk) => save(alloc, desk, buffer, len),
-        Held::View(_) | Held::Verdict(_) => WRONG_KIND,
-    };
-    put_in(handle, held);
-    status
+    on_desk!(alloc, handle, &desk => save(alloc, desk, buffer, len))
 }
 
 fn save(alloc: Global, desk: &Desk<Global>, buffer: &mut [u8], len: &mut usize) -> u32
@@ -164,15 +148,7 @@ pub extern "C" fn kfs_plan(
     ensures wrong { (result ≡ status.wrong_kind) ↔ HoldsNoDesk handle.old.value }
     ensures not_full { (result ≡ status.full) → ⊥ }
 {
-    let Some(held) = take_out(alloc, handle) else {
-        return CLOSED;
-    };
-    let status = match &*held {
-        Held::Desk(desk) => plan(alloc, desk, client, log, buffer, len),
-        Held::View(_) | Held::Verdict(_) => WRONG_KIND,
-    };
-    put_in(handle, held);
-    status
+    on_desk!(alloc, handle, &desk => plan(alloc, desk, client, log, buffer, len))
 }
 
 fn plan(

@@ -7,7 +7,7 @@ ghost use Rattle.kfs_c.specs.Status as status;
 use crate::handle::Handle;
 use crate::held::Held;
 use crate::numbers::ReplyNumbers;
-use crate::slot::{put_in, take_out};
+use crate::slot::{on_desk, put_in, take_out};
 use crate::status::{CLOSED, DONE, FULL, NO_MEMORY, WRONG_KIND};
 use crate::told::reply_numbers;
 use kfs_desk::Desk;
@@ -32,15 +32,7 @@ pub extern "C" fn kfs_submit(
     ensures wrong { (result ≡ status.wrong_kind) ↔ HoldsNoDesk handle.old.value }
     ensures range { result < status.closed → result ≤ status.full }
 {
-    let Some(mut held) = take_out(alloc, handle) else {
-        return CLOSED;
-    };
-    let status = match &mut *held {
-        Held::Desk(desk) => submit(alloc, desk, client, log, plan, reply),
-        Held::View(_) | Held::Verdict(_) => WRONG_KIND,
-    };
-    put_in(handle, held);
-    status
+    on_desk!(alloc, handle, &mut desk => submit(alloc, desk, client, log, plan, reply))
 }
 
 /// Submits copies of the bytes.

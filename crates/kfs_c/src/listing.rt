@@ -7,7 +7,7 @@ ghost use Rattle.kfs_c.specs.Status as status;
 use crate::bytes::hand_out;
 use crate::handle::Handle;
 use crate::held::Held;
-use crate::slot::{put_in, take_out};
+use crate::slot::{on_desk, put_in, take_out};
 use crate::status::{CLOSED, DONE, NOTHING, REFUSED, WRONG_KIND};
 use kfs_desk::Desk;
 use kfs_image::{Image, Name};
@@ -36,15 +36,7 @@ pub extern "C" fn kfs_name(
     ensures wrong { (result ≡ status.wrong_kind) ↔ HoldsNoDesk handle.old.value }
     ensures only { result < status.closed → (result ≡ status.done) ⊎ (status.nothing ≤ result) }
 {
-    let Some(held) = take_out(alloc, handle) else {
-        return CLOSED;
-    };
-    let status = match &*held {
-        Held::Desk(desk) => find_name(desk, directory, after, buffer, len, number),
-        Held::View(_) | Held::Verdict(_) => WRONG_KIND,
-    };
-    put_in(handle, held);
-    status
+    on_desk!(alloc, handle, &desk => find_name(desk, directory, after, buffer, len, number))
 }
 
 fn find_name(

@@ -10,7 +10,7 @@ ghost use Rattle.kfs_c.specs.Status as status;
 use crate::handle::Handle;
 use crate::held::Held;
 use crate::numbers::NodeNumbers;
-use crate::slot::{put_in, take_out};
+use crate::slot::{on_desk, put_in, take_out};
 use crate::status::{CLOSED, DONE, NOTHING, WRONG_KIND};
 use crate::told::node_numbers;
 use kfs_desk::Desk;
@@ -33,15 +33,7 @@ pub extern "C" fn kfs_node(
     ensures wrong { (result ≡ status.wrong_kind) ↔ HoldsNoDesk handle.old.value }
     ensures only { result < status.closed → (result ≡ status.done) ⊎ (result ≡ status.nothing) }
 {
-    let Some(held) = take_out(alloc, handle) else {
-        return CLOSED;
-    };
-    let status = match &*held {
-        Held::Desk(desk) => find_node(desk, number, node),
-        Held::View(_) | Held::Verdict(_) => WRONG_KIND,
-    };
-    put_in(handle, held);
-    status
+    on_desk!(alloc, handle, &desk => find_node(desk, number, node))
 }
 
 fn find_node(desk: &Desk<Global>, number: u32, node: &mut NodeNumbers) -> u32
@@ -85,15 +77,7 @@ pub extern "C" fn kfs_place(
     ensures wrong { (result ≡ status.wrong_kind) ↔ HoldsNoDesk handle.old.value }
     ensures only { result < status.closed → (result ≡ status.done) ⊎ (result ≡ status.nothing) }
 {
-    let Some(held) = take_out(alloc, handle) else {
-        return CLOSED;
-    };
-    let status = match &*held {
-        Held::Desk(desk) => find_place(desk, number, block, tier, place),
-        Held::View(_) | Held::Verdict(_) => WRONG_KIND,
-    };
-    put_in(handle, held);
-    status
+    on_desk!(alloc, handle, &desk => find_place(desk, number, block, tier, place))
 }
 
 fn find_place(desk: &Desk<Global>, number: u32, block: u32, tier: &mut u8, place: &mut u32) -> u32
@@ -120,15 +104,7 @@ pub extern "C" fn kfs_free(alloc: Global, handle: &mut Handle, tier: u8, count: 
     ensures wrong { (result ≡ status.wrong_kind) ↔ HoldsNoDesk handle.old.value }
     ensures only { result < status.closed → result ≡ status.done }
 {
-    let Some(held) = take_out(alloc, handle) else {
-        return CLOSED;
-    };
-    let status = match &*held {
-        Held::Desk(desk) => count_free(desk, tier, count),
-        Held::View(_) | Held::Verdict(_) => WRONG_KIND,
-    };
-    put_in(handle, held);
-    status
+    on_desk!(alloc, handle, &desk => count_free(desk, tier, count))
 }
 
 fn count_free(desk: &Desk<Global>, tier: u8, count: &mut u32) -> u32
@@ -149,15 +125,7 @@ pub extern "C" fn kfs_docket_len(alloc: Global, handle: &mut Handle, count: &mut
     ensures wrong { (result ≡ status.wrong_kind) ↔ HoldsNoDesk handle.old.value }
     ensures only { result < status.closed → result ≡ status.done }
 {
-    let Some(held) = take_out(alloc, handle) else {
-        return CLOSED;
-    };
-    let status = match &*held {
-        Held::Desk(desk) => count_rows(desk, count),
-        Held::View(_) | Held::Verdict(_) => WRONG_KIND,
-    };
-    put_in(handle, held);
-    status
+    on_desk!(alloc, handle, &desk => count_rows(desk, count))
 }
 
 fn count_rows(desk: &Desk<Global>, count: &mut u32) -> u32

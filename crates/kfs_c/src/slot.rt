@@ -1,4 +1,4 @@
-//! What a handle holds, taken out and put in.
+//! What a handle holds, taken out and put in, and the frame of a call of a desk.
 ghost use Rattle.std.specs.Prelude.{◌≡◌, None, Some};
 ghost use Rattle.std.specs.Option.{option_map};
 
@@ -23,3 +23,33 @@ pub(crate) fn put_in(handle: &mut Handle, held: Box<Held, Global>)
 {
     *handle = Handle::full(Loose::of(held));
 }
+
+/// Makes a call of the desk that the handle holds, and answers its status. The desk is taken out for
+/// the call, and put in again. Where the handle holds none, the function around the macro answers
+/// `CLOSED` or `WRONG_KIND`.
+macro_rules! on_desk {
+    ($alloc:ident, $handle:ident, &mut $desk:ident => $call:expr) => {{
+        let Some(mut held) = take_out($alloc, $handle) else {
+            return CLOSED;
+        };
+        let status = match &mut *held {
+            Held::Desk($desk) => $call,
+            Held::View(_) | Held::Verdict(_) => WRONG_KIND,
+        };
+        put_in($handle, held);
+        status
+    }};
+    ($alloc:ident, $handle:ident, &$desk:ident => $call:expr) => {{
+        let Some(held) = take_out($alloc, $handle) else {
+            return CLOSED;
+        };
+        let status = match &*held {
+            Held::Desk($desk) => $call,
+            Held::View(_) | Held::Verdict(_) => WRONG_KIND,
+        };
+        put_in($handle, held);
+        status
+    }};
+}
+
+pub(crate) use on_desk;

@@ -9,7 +9,7 @@ use crate::calls::why_number;
 use crate::handle::Handle;
 use crate::held::Held;
 use crate::numbers::ReplyNumbers;
-use crate::slot::{put_in, take_out};
+use crate::slot::{on_desk, put_in, take_out};
 use crate::status::{CLOSED, DONE, NO_MEMORY, WRONG_KIND};
 use crate::told::reply_numbers;
 use kfs_desk::Desk;
@@ -131,15 +131,7 @@ pub extern "C" fn kfs_land(
     ensures wrong { HoldsNoDesk handle.old.value → result ≡ status.wrong_kind }
     ensures range { (result ≤ status.full) ↔ OnDesk handle.old.value (λ _. OnVerdict verdict.old.value (λ _. ⊤)) }
 {
-    let Some(mut held) = take_out(alloc, handle) else {
-        return CLOSED;
-    };
-    let status = match &mut *held {
-        Held::Desk(desk) => land(alloc, desk, verdict, reply),
-        Held::View(_) | Held::Verdict(_) => WRONG_KIND,
-    };
-    put_in(handle, held);
-    status
+    on_desk!(alloc, handle, &mut desk => land(alloc, desk, verdict, reply))
 }
 
 fn land(
