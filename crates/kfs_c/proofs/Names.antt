@@ -1,6 +1,7 @@
 -- A directory's least name after some bytes. A name has bytes, so each comes after none.
-use Rattle.std.proofs.Common.{◌≡◌, ◌⊎◌, inl, inr, ℕ, List, [], ◌∷◌, length, arith, refl, subst, Some, None}
+use Rattle.std.proofs.Common.{◌≡◌, ◌⊎◌, inl, inr, ℕ, List, [], ◌∷◌, length, arith, refl, subst, Option, Some, None}
 use Rattle.std.specs.Borrow.{Bor}
+use Rattle.std.specs.Prelude.{IfSome}
 use Rattle.kfs_model.specs.Spelling.{IsName}
 use Rattle.kfs_model.specs.Tree.{NameTable, target}
 use Rattle.kfs_image_nodes.specs.Look.{IsAfter, IsNext}
@@ -18,9 +19,15 @@ no_bytes after (inr name) other next = absurd (other name)
 module _ (names : NameTable) (directory : ℕ) (after : List ℕ) where
   -- where the bytes are no name
   module _ (one : IsStart after) (other : IsName after → ⊥) where
-    pub first : (name : List ℕ) (number : ℕ) → IsName name → IsNext names directory None name number → IsNextName names directory after name number
+    first : (name : List ℕ) (number : ℕ) → IsName name → IsNext names directory None name number → IsNextName names directory after name number
     first name number is next =
         no_bytes after one other (λ none. record { leads = next.leads; later = is_later after name none is; least = λ m n leads _. next.least m n leads tt })
+
+    -- each name of the directory is one
+    pub first_found : ((name : List ℕ) (number : ℕ) → target names directory name ≡ Some number → IsName name) → (found : Option (Bor (List ℕ) × ℕ))
+        → IfSome found (λ p. IsNext names directory None p.0.now p.1) → IfSome found (λ p. IsNextName names directory after p.0.now p.1)
+    first_found spelled None next = tt
+    first_found spelled (Some p) next = first p.0.now p.1 (spelled p.0.now p.1 next.leads) next
 
     pub none_first : ((m : List ℕ) (n : ℕ) → target names directory m ≡ Some n → IsAfter None m → ⊥) → HasNoNameAfter names directory after
     none_first none m n leads _ = none m n leads tt

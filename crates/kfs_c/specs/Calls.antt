@@ -1,5 +1,5 @@
 -- What a call of the desk over the boundary comes to.
-use Rattle.std.specs.Prelude.{◌≡◌, ◌↔◌, ℕ, Bool, false, List, map, length, IsFalse, if◌then◌else◌}
+use Rattle.std.specs.Prelude.{◌≡◌, ◌↔◌, ℕ, Bool, false, Option, List, map, length, IsFalse, if◌then◌else◌}
 use Rattle.std.specs.Global.{Global}
 use Rattle.kfs_model.specs.Judgement.{State, Submission}
 use Rattle.kfs_model.specs.Lease.{LeaseKind, ReadLease, WriteLease}
@@ -14,6 +14,8 @@ use Rattle.kfs_plan.specs.Judging.{submission_of, submission_with}
 use Rattle.kfs_desk.specs.Docket.{is_rejudged}
 use Rattle.kfs_desk.specs.Machine.{Desk, IsActed, IsAnswered, IsCurrent}
 use Rattle.kfs_workers_verdict.specs.Verdict.{IsVerdictOn, verdict_of}
+use Rattle.kfs_c.specs.Holding.{OnVerdict}
+use Rattle.kfs_c.specs.declared.held.Held.{Held}
 use Rattle.kfs_c.specs.declared.numbers.ActNumbers.{ActNumbers}
 use Rattle.kfs_c.specs.declared.numbers.MoveRow.{MoveRow}
 use Rattle.kfs_c.specs.declared.numbers.ReplyNumbers.{ReplyNumbers}
@@ -34,6 +36,10 @@ abbrev pub IsLanded : Judged Global → ReplyNumbers → (old new : Desk) → Ty
 IsLanded judged told old new =
     (answer : Reply) × IsAnswered old (submission_of judged.submission) (is_rejudged answer) answer new
     × (IsFalse (is_rejudged answer) ↔ IsCurrent old.state judged) × (told ≡ reply_told answer)
+
+-- the handle held a verdict, whose submission has such an answer
+abbrev pub HasLanded : Option Held → ReplyNumbers → (old new : Desk) → Type 0
+HasLanded held told old new = OnVerdict held (λ judged. IsLanded judged told old new)
 
 -- the verdict is one of this state on these bytes
 abbrev pub IsJudged : State → (client : ℕ) (log plan : List ℕ) → Judged Global → Type 0

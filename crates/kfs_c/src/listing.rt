@@ -76,12 +76,14 @@ fn is_start(after: &[u8]) -> bool
 }
 
 /// The least name of the directory above `after`, which is a name or has no bytes.
-#[tactic(auto, using(crate::proofs::Names::first, crate::proofs::Names::later, crate::proofs::Names::none_first, crate::proofs::Names::none_later))]
+#[tactic(auto, using(crate::proofs::Names::later, crate::proofs::Names::none_first, crate::proofs::Names::none_later))]
 fn next_name<'a>(image: &'a Image<Global>, directory: u32, after: &[u8]) -> Option<(&'a Name, u32)>
     requires { IsStart after.now }
     ensures found { IfSome result (λ p. IsNextName image.now.names directory after.now p.0.now p.1) }
     ensures none { IfNone result (HasNoNameAfter image.now.names directory after.now) }
 {
+    // Tells the prover that the image is lawful.
+    let _shape = image.shape();
     match Name::new(after) {
         Some(after) => image.next_name(directory, Some(&after)),
         None => image.next_name(directory, None),

@@ -1,7 +1,7 @@
 //! Views, verdicts on them, and landings. A host takes a view under its lock, judges outside it, and
 //! lands under it again.
 ghost use Rattle.std.specs.Prelude.{◌≡◌, ◌↔◌, ◌≤◌, ◌<◌, None, ⊤};
-ghost use Rattle.kfs_c.specs.Calls.{IsFull, IsJudged, IsLanded};
+ghost use Rattle.kfs_c.specs.Calls.{HasLanded, IsFull, IsJudged, IsLanded};
 ghost use Rattle.kfs_c.specs.Holding.{HoldsNoDesk, HoldsNoView, OnDesk, OnDesks, OnVerdict, OnView};
 ghost use Rattle.kfs_c.specs.Status as status;
 
@@ -122,7 +122,7 @@ pub extern "C" fn kfs_land(
     verdict: &mut Handle,
     reply: &mut ReplyNumbers,
 ) -> u32
-    ensures answered { result ≡ status.done → OnVerdict verdict.old.value (λ judged. OnDesks handle.old.value handle.new.value (IsLanded judged reply.new)) }
+    ensures answered { result ≡ status.done → OnDesks handle.old.value handle.new.value (HasLanded verdict.old.value reply.new) }
     ensures unanswered { 1 ≤ result → (handle.new.value ≡ handle.old.value) × (reply.new ≡ reply.old) }
     ensures full { result ≡ status.full → OnDesk handle.old.value IsFull }
     ensures used { result ≤ status.full → verdict.new.value ≡ None }
@@ -140,7 +140,7 @@ fn land(
     verdict: &mut Handle,
     reply: &mut ReplyNumbers,
 ) -> u32
-    ensures answered { result ≡ status.done → OnVerdict verdict.old.value (λ judged. IsLanded judged reply.new desk.old desk.new) }
+    ensures answered { result ≡ status.done → HasLanded verdict.old.value reply.new desk.old desk.new }
     ensures unanswered { 1 ≤ result → (desk.new ≡ desk.old) × (reply.new ≡ reply.old) }
     ensures full { result ≡ status.full → IsFull desk.old }
     ensures used { result ≤ status.full → verdict.new.value ≡ None }
