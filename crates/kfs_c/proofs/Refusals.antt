@@ -1,6 +1,7 @@
 -- Why no desk is opened, as it is told.
-use Rattle.std.proofs.Common.{◌≡◌, ◌⊎◌, inl, inr, ℕ, ◌+◌, ◌<◌, ◌++◌, List, ◌∷◌, Some, Ok, length, map, take, drop, refl, sym, ap, subst, ◌∙◌, take-append-drop, arith}
+use Rattle.std.proofs.Common.{◌≡◌, ◌⊎◌, inl, inr, ℕ, ◌+◌, ◌<◌, ◌++◌, List, ◌∷◌, Some, Result, Ok, Err, length, map, take, drop, refl, sym, ap, subst, ◌∙◌, take-append-drop, arith}
 use Rattle.std.proofs.lemmas.List.{length-take-le}
+use Rattle.std.specs.Prelude.{IfErr, IsErrAnd}
 use Rattle.kfs_model.specs.Access.{Client}
 use Rattle.kfs_model_device.specs.Finding.{finding_of}
 use Rattle.kfs_model_device.specs.RawImage.{RawImage}
@@ -38,6 +39,11 @@ broken bytes raw shapes.OutOfMemory read named = tt
 pub unbegun : (clients : List Client) (found : BeginFault) → (found ≡ beginnings.OutOfMemory) ⊎ (begin_fault clients ≡ Some found) → IsRefusedAs (AreClientsRefused clients) (unbegun_as found)
 unbegun clients found (inl out) = subst (λ fault. IsRefusedAs (AreClientsRefused clients) (unbegun_as fault)) (sym out) tt
 unbegun clients found (inr is) = refused_by (AreClientsRefused clients) (unbegun_as found) (λ told e. (found, is, e))
+
+-- the same is said of the fault that a caller passes on
+pub passed_on : {A : Type 0} (Says : FaultNumbers → Type 0) (why : Unopened) (result : Result A Unopened) → IsErrAnd result (λ given. given ≡ why) → IsRefusedAs Says why → IfErr result (IsRefusedAs Says)
+passed_on Says why (Ok value) given is = tt
+passed_on Says why (Err found) given is = subst (IsRefusedAs Says) (sym given) is
 
 -- the row at this index
 pub row_refused : (groups : List ℕ) (rows : List ClientRow) (i : ℕ) (row : ClientRow) (why : Unopened) → i < length rows → drop i rows ≡ row ∷ drop (i + 1) rows

@@ -57,7 +57,7 @@ look_send =
     (view.the_send Heap.the_row ghosts std.send std.sync std.frees, (search rules depth 40 fits 4000, tt)))
 
 pub judged_send : IsSend (Judged.the_row Heap.the_row ghosts)
-judged_send = judged.the_send Heap.the_row ghosts std.send std.sync std.frees
+judged_send = judged.the_send Heap.the_row ghosts std.send std.frees
 
 -- one of the three
 pub held_send : IsSend Held.the_row

@@ -1,9 +1,9 @@
 use Rattle.std.proofs.Common.{◌++◌, ◌∷◌, [], map, false, ap, ◌∙◌, slice_index_or}
 use Rattle.kfs_image_nodes.proofs.NodeEdits.{rows_left}
 use Rattle.kfs_image_nodes.proofs.SortedRows.{one_made, all_made}
-use Rattle.kfs_c.specs.Opening.{client_of}
+use Rattle.kfs_c.specs.Opening.{AreRowsRefused, client_of}
 use Rattle.kfs_c.specs.declared.numbers.ClientRow.{ClientRow}
-use Rattle.kfs_c.proofs.Refusals.{row_refused}
+use Rattle.kfs_c.proofs.Refusals.{passed_on, row_refused}
 use Rattle.kfs_c.proofs.opening.clients_from.Goals as goal
 
 abbrev none : ClientRow
@@ -21,8 +21,8 @@ pub returns-in_err-client-clause-refused : goal.returns-in_err-client-clause-ref
 returns-in_err-client-clause-refused c =
     let rows = c.args.rows.now in
     let i = c.loop-index.index in
-    row_refused c.args.groups.now rows i (slice_index_or rows i none) _ c.loop-index-test.true (rows_left rows i none c.loop-index-test.true)
-    c.in_err-client.ensures.refused
+    passed_on (AreRowsRefused c.args.groups.now rows) _ c.from_residual.result c.from_residual.ensures.1
+    (row_refused c.args.groups.now rows i (slice_index_or rows i none) _ c.loop-index-test.true (rows_left rows i none c.loop-index-test.true) c.in_err-client.ensures.refused)
 
 pub returns-clause-made : goal.returns-clause-made
 returns-clause-made c =
