@@ -1,0 +1,7 @@
+pub mod Calls
+pub mod Handle
+pub mod Holding
+pub mod Opening
+pub mod Reading
+pub mod Status
+pub mod Told

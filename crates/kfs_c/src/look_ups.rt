@@ -1,0 +1,137 @@
+//! What a host looks up in the desk's state now. Nothing changes, and nothing takes memory.
+ghost use Rattle.std.specs.Prelude.{◌≡◌, ◌↔◌, ◌≤◌, ◌<◌, ◌⊎◌, None, length, option_map};
+ghost use Rattle.kfs_entry_value.specs.Views.{header_of};
+ghost use Rattle.kfs_model.specs.Table.{get};
+ghost use Rattle.kfs_model.specs.Tree.{headers};
+ghost use Rattle.kfs_c.specs.Holding.{HoldsNoDesk, OnDesk};
+ghost use Rattle.kfs_c.specs.Reading.{HasNoNode, IsNode, IsPlaced, IsUnplaced, free_places};
+ghost use Rattle.kfs_c.specs.Status as status;
+
+use crate::handle::Handle;
+use crate::held::Held;
+use crate::numbers::NodeNumbers;
+use crate::slot::{on_desk, put_in, take_out};
+use crate::status::{CLOSED, DONE, NOTHING, WRONG_KIND};
+use crate::told::node_numbers;
+use kfs_desk::Desk;
+use kfs_image::{Answer, Cell, Header, look};
+use std::alloc::Global;
+
+/// Tells the header of the node with this number. `NOTHING` where there is no such node.
+#[unsafe(no_mangle)]
+pub extern "C" fn kfs_node(
+    alloc: Global,
+    handle: &mut Handle,
+    number: u32,
+    node: &mut NodeNumbers,
+) -> u32
+    ensures found { result ≡ status.done → OnDesk handle.old.value (IsNode number node.new) }
+    ensures nothing { (result ≡ status.nothing) ↔ OnDesk handle.old.value (HasNoNode number) }
+    ensures silent { 1 ≤ result → node.new ≡ node.old }
+    ensures kept { handle.new.value ≡ handle.old.value }
+    ensures closed { (result ≡ status.closed) ↔ (handle.old.value ≡ None) }
+    ensures wrong { (result ≡ status.wrong_kind) ↔ HoldsNoDesk handle.old.value }
+    ensures only { result < status.closed → (result ≡ status.done) ⊎ (result ≡ status.nothing) }
+{
+    on_desk!(alloc, handle, &desk => find_node(desk, number, node))
+}
+
+fn find_node(desk: &Desk<Global>, number: u32, node: &mut NodeNumbers) -> u32
+    ensures found { result ≡ status.done → IsNode number node.new desk.now }
+    ensures nothing { (result ≡ status.nothing) ↔ HasNoNode number desk.now }
+    ensures silent { 1 ≤ result → node.new ≡ node.old }
+    ensures only { (result ≡ status.done) ⊎ (result ≡ status.nothing) }
+{
+    let Some(header) = header_of_node(desk, number) else {
+        return NOTHING;
+    };
+    *node = node_numbers(header);
+    DONE
+}
+
+/// The header of a node, or none.
+fn header_of_node(desk: &Desk<Global>, number: u32) -> Option<Header>
+    ensures { option_map header_of result ≡ get (headers desk.now.state.tree) number }
+{
+    match look(desk.image().shape(), &Cell::Header(number)) {
+        Answer::Header(header) => header,
+        _ => None,
+    }
+}
+
+/// Tells where a block of a file lies. `NOTHING` where it isn't mapped.
+#[unsafe(no_mangle)]
+pub extern "C" fn kfs_place(
+    alloc: Global,
+    handle: &mut Handle,
+    number: u32,
+    block: u32,
+    tier: &mut u8,
+    place: &mut u32,
+) -> u32
+    ensures found { result ≡ status.done → OnDesk handle.old.value (IsPlaced number block tier.new place.new) }
+    ensures nothing { (result ≡ status.nothing) ↔ OnDesk handle.old.value (IsUnplaced number block) }
+    ensures silent { 1 ≤ result → (tier.new ≡ tier.old) × (place.new ≡ place.old) }
+    ensures kept { handle.new.value ≡ handle.old.value }
+    ensures closed { (result ≡ status.closed) ↔ (handle.old.value ≡ None) }
+    ensures wrong { (result ≡ status.wrong_kind) ↔ HoldsNoDesk handle.old.value }
+    ensures only { result < status.closed → (result ≡ status.done) ⊎ (result ≡ status.nothing) }
+{
+    on_desk!(alloc, handle, &desk => find_place(desk, number, block, tier, place))
+}
+
+fn find_place(desk: &Desk<Global>, number: u32, block: u32, tier: &mut u8, place: &mut u32) -> u32
+    ensures found { result ≡ status.done → IsPlaced number block tier.new place.new desk.now }
+    ensures nothing { (result ≡ status.nothing) ↔ IsUnplaced number block desk.now }
+    ensures silent { 1 ≤ result → (tier.new ≡ tier.old) × (place.new ≡ place.old) }
+    ensures only { (result ≡ status.done) ⊎ (result ≡ status.nothing) }
+{
+    let Some((on_tier, at_place)) = desk.image().place_of(number, block) else {
+        return NOTHING;
+    };
+    *tier = on_tier;
+    *place = at_place;
+    DONE
+}
+
+/// Tells how many places of the tier hold no block, 0 for a tier over 2.
+#[unsafe(no_mangle)]
+pub extern "C" fn kfs_free(alloc: Global, handle: &mut Handle, tier: u8, count: &mut u32) -> u32
+    ensures counted { result ≡ status.done → OnDesk handle.old.value (λ desk. count.new ≡ free_places tier desk) }
+    ensures silent { 1 ≤ result → count.new ≡ count.old }
+    ensures kept { handle.new.value ≡ handle.old.value }
+    ensures closed { (result ≡ status.closed) ↔ (handle.old.value ≡ None) }
+    ensures wrong { (result ≡ status.wrong_kind) ↔ HoldsNoDesk handle.old.value }
+    ensures only { result < status.closed → result ≡ status.done }
+{
+    on_desk!(alloc, handle, &desk => count_free(desk, tier, count))
+}
+
+fn count_free(desk: &Desk<Global>, tier: u8, count: &mut u32) -> u32
+    ensures counted { count.new ≡ free_places tier desk.now }
+    ensures always { result ≡ status.done }
+{
+    *count = desk.image().free(tier);
+    DONE
+}
+
+/// Tells how many rows the docket has.
+#[unsafe(no_mangle)]
+pub extern "C" fn kfs_docket_len(alloc: Global, handle: &mut Handle, count: &mut u32) -> u32
+    ensures counted { result ≡ status.done → OnDesk handle.old.value (λ desk. count.new ≡ length desk.docket) }
+    ensures silent { 1 ≤ result → count.new ≡ count.old }
+    ensures kept { handle.new.value ≡ handle.old.value }
+    ensures closed { (result ≡ status.closed) ↔ (handle.old.value ≡ None) }
+    ensures wrong { (result ≡ status.wrong_kind) ↔ HoldsNoDesk handle.old.value }
+    ensures only { result < status.closed → result ≡ status.done }
+{
+    on_desk!(alloc, handle, &desk => count_rows(desk, count))
+}
+
+fn count_rows(desk: &Desk<Global>, count: &mut u32) -> u32
+    ensures counted { count.new ≡ length desk.now.docket }
+    ensures always { result ≡ status.done }
+{
+    *count = desk.docket().len();
+    DONE
+}
