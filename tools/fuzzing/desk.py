@@ -67,6 +67,11 @@ def hex_of(data):
     return data.hex() or "-"
 
 
+def node_line(number, header):
+    kind, mode, *numbers = header
+    return f"node {number} {'dir' if kind == DIRECTORY else 'file'} {mode:04o} {' '.join(map(str, numbers))}"
+
+
 class Verdict:
     """What was found out of a submission in a state, and what that state showed where the log's checks looked."""
 
@@ -351,8 +356,7 @@ class Session:
         header = self.tree.header(number)
         if header is None:
             return "none"
-        kind, mode, *numbers = header
-        return f"node {number} {'dir' if kind == DIRECTORY else 'file'} {mode:04o} {' '.join(map(str, numbers))}"
+        return node_line(number, header)
 
     def list(self, words):
         number = words.number()

@@ -50,12 +50,13 @@ class Maker:
     def __init__(self, seed, without=()):
         self.random = random.Random(seed)
         self.weights = {kind: weight for kind, weight in WEIGHTS.items() if kind not in without}
-        self.session, self.lines = Session(), []
+        self.session, self.lines, self.replies = Session(), [], []
 
     def say(self, line):
         line = line if isinstance(line, bytes) else line.encode()
         self.lines.append(line)
-        return self.session.expected(line)
+        self.replies.append(self.session.expected(line))
+        return self.replies[-1]
 
     def chance(self, of_hundred):
         return self.random.randrange(100) < of_hundred
@@ -99,6 +100,13 @@ class Maker:
             raw = spoil.image(self.random, raw)
         data = encode_image(raw)
         return spoil.word(self.random, spoil.cut(self.random, data) if self.chance(15) else data)
+
+    def image_input(self):
+        """Returns what a word that takes an image is given to read: a line, sometimes spoiled, with or without its end."""
+        line = self.image_word().encode()
+        if self.chance(10):
+            line = spoil.line(self.random, line)
+        return line + self.one([b"", b"\n", b"\n", b"\nnone\n"])
 
     def raw_image(self):
         """Returns a well formed image of a few nodes, some with blocks."""
