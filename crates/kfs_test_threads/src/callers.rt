@@ -121,6 +121,25 @@ impl Caller<Desk<Global>, Global> for Creating {
     }
 }
 
+/// Creates one file, in the same way.
+#[derive(Drop)]
+pub struct CreatingOne {
+    pub alloc: Global,
+    pub file: File,
+    pub position: Option<u32>,
+}
+
+impl Caller<Desk<Global>, Global> for CreatingOne {
+    fn call<R: Wait>(
+        &mut self,
+        rt: &R,
+        shared: &Shared<Desk<Global>, Global>,
+        pass: &mut Pass<Desk<Global>>,
+    ) {
+        self.position = created_and_found(rt, self.alloc, shared, pass, self.file);
+    }
+}
+
 /// Makes a call for the leases.
 #[derive(Drop)]
 pub struct Acting {

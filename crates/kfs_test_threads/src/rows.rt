@@ -3,7 +3,7 @@
 ghost use Rattle.std.specs.Prelude.{IfSome};
 ghost use Rattle.kfs_workers_threads.specs.Passes.{IsPassOf};
 
-use crate::callers::{Acting, Creating, Resting, Viewing};
+use crate::callers::{Acting, Creating, CreatingOne, Resting, Viewing};
 use crate::calls::{Sharing, closed, judged, land, meet, shared, shared_from, split, view};
 use crate::files::{FILE_A, FILES_P, FILES_Q, File, WRITE_LOG, WRITE_PLAN};
 use crate::setting::{opened, with_file};
@@ -57,7 +57,7 @@ fn two_threads_create_four_files_each(rt: HostRuntime) {
 
 // ---- what a pass has seen
 
-/// What two passes have seen after the first one has created four files, and what a pass has seen that is
+/// What two passes have seen after the first one has created file 5, and what a pass has seen that is
 /// split from the first. Then what is answered where the second one meets that, and what it has seen. At
 /// last how many rows the docket has.
 fn seen_by_two<R: Threads + Wait + Sync>(
@@ -67,9 +67,13 @@ fn seen_by_two<R: Threads + Wait + Sync>(
     let desk = opened(alloc)?;
     let (shared, p) = shared(alloc, desk)?;
     let (p, q) = split(&shared, p);
-    let creating = Creating::new(alloc, FILES_P);
+    let creating = CreatingOne {
+        alloc,
+        file: FILE_A,
+        position: None,
+    };
     let ((created, p), (_, q)) = both(rt, &shared, creating, p, Resting, q);
-    if created.positions != [Some(1), Some(2), Some(3), Some(4)] {
+    if created.position != Some(1) {
         return None;
     }
     let (p, copy) = split(&shared, p);
@@ -83,7 +87,7 @@ fn seen_by_two<R: Threads + Wait + Sync>(
 
 #[test]
 fn passes_have_seen_what_their_calls_and_meetings_saw(rt: HostRuntime) {
-    assert!(rt; seen_by_two(&rt, rt.alloc()) == Some(([5, 1, 5], [5, 5], 5)));
+    assert!(rt; seen_by_two(&rt, rt.alloc()) == Some(([2, 1, 2], [2, 2], 2)));
 }
 
 // ---- no ticket left
