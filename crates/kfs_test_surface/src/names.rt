@@ -75,8 +75,8 @@ pub mod workers {
     pub use kfs_workers::laws::moves_leave_verdicts;
     pub use kfs_workers::{
         BatchBack, BatchEnd, Begun, DeskView, DocketRow, Docketed, Gate, Left, MOST_WORKERS, Pass,
-        ScriptBack, ScriptEnd, Shared, SharedBack, SharedWant, Step, Unreturned, WORKERS, run_batch,
-        run_script,
+        ScriptBack, ScriptEnd, Shared, SharedBack, SharedWant, Step, Unreturned, WORKERS,
+        run_batch, run_script,
     };
 }
 

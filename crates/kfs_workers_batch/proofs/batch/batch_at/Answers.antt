@@ -55,7 +55,7 @@ returns-then-not-has_a_row_for_each-clause-back g c =
     let replies = c.settle.new.replies.items in
     let left = c.settle.new.left.items in
     let all = settled_all (λ j. j.number) (λ j. j.hand) b c.in-Ok.desk.docket (seen c.work-met.result) c.args.submissions.items c.jobs_of-jobs.result.items c.work-met.new.tasks.items
-        replies left end.begins end.lawful c.jobs_of-jobs.ensures.jobs c.work-met.ensures.done.done c.settle.ensures.replies c.settle.ensures.left in
+    replies left end.begins end.lawful c.jobs_of-jobs.ensures.jobs c.work-met.ensures.done.done c.settle.ensures.replies c.settle.ensures.left in
     let count = settled_count b c.in-Ok.desk.docket 0 c.args.submissions.items replies left all in
     let before : c.seen-rows.result ≡ length (seen c.args.pass) = search rules in
     let now : c.len.result ≡ length c.in-Ok.desk.docket = search rules in
@@ -79,7 +79,7 @@ returns-clause-rows g c =
     let replies = c.settle.new.replies.items in
     let left = c.settle.new.left.items in
     let all = settled_all (λ j. j.number) (λ j. j.hand) b docket (seen c.work-met.result) c.args.submissions.items c.jobs_of-jobs.result.items c.work-met.new.tasks.items
-        replies left end.begins end.lawful c.jobs_of-jobs.ensures.jobs c.work-met.ensures.done.done c.settle.ensures.replies c.settle.ensures.left in
+    replies left end.begins end.lawful c.jobs_of-jobs.ensures.jobs c.work-met.ensures.done.done c.settle.ensures.replies c.settle.ensures.left in
     let count = settled_count b docket 0 c.args.submissions.items replies left all in
     let before : c.seen-rows.result ≡ length from = search rules in
     let now : c.len.result ≡ length docket = search rules in
