@@ -10,6 +10,7 @@ use Rattle.kfs_image.specs.contracts.image.Image as Image
 use Rattle.kfs_image.proofs.image.Image.TheSendSync as image
 use Rattle.kfs_lease.specs.contracts.leases.Leases as Leases
 use Rattle.kfs_lease.proofs.leases.Leases.TheSendSync as leases
+use Rattle.kfs_judge_check.specs.contracts.view.View as View
 use Rattle.kfs_judge_check.proofs.view.View.TheSendSync as view
 use Rattle.kfs_plan.specs.contracts.judged.Judged as Judged
 use Rattle.kfs_plan.proofs.judged.Judged.TheSendSync as judged
