@@ -41,6 +41,6 @@ pub enum BatchBack<A: Allocator> {
         submissions: Vec<Submission<A>, A>,
     },
     /// 3: at the end a ticket was drawn whose turn wasn't passed on, or the docket hasn't as many new rows
-    /// as there are replies. Nothing comes back. No batch of the tests ends so.
+    /// as there are replies. Nothing comes back.
     Unreturned,
 }
