@@ -1,5 +1,6 @@
-//! Tests of moves of blocks as calls of the desk: what they are answered, that files read as before, and
-//! what is landed beside them. The expected values come from docs/FORMATS.md.
+//! Tests of moves of blocks as calls of the desk and as steps of scripts: that files read as before, and
+//! that a refused growth changes nothing. Scripts of `kfs_rows` have what moves are refused for, and what
+//! is landed beside them. The expected values come from docs/FORMATS.md.
 //!
 //! It stands on `kfs_workers_script`, `kfs_desk` and `kfs_test_support`. Begin with `moving.rt`, which
 //! has the calls.
@@ -12,8 +13,6 @@
 mod answers;
 #[cfg(test)]
 mod growths;
-#[cfg(test)]
-mod landings;
 #[cfg(test)]
 mod moving;
 #[cfg(test)]

@@ -62,7 +62,7 @@ pub fn yes(position: u32, need: u64) -> Reply {
 }
 
 /// Whether the submission is answered so.
-pub fn is_answered<A: Allocator + Copy>(
+fn is_answered<A: Allocator + Copy>(
     desk: &mut Desk<A>,
     submission: Submission<A>,
     wanted: &Reply,
