@@ -81,6 +81,31 @@ fn rest_of<A: Allocator + Copy>(alloc: A, ending: Ending<A>, has_refused: bool) 
     }
 }
 
+/// How a batch of the four creations ends, with the growth of this index refused.
+fn ended<'a, R: Threads + Wait + Sync>(
+    rt: &R,
+    heap: &'a Refusing<Global>,
+    growth: u64,
+) -> Option<Ending<&'a Refusing<Global>>> {
+    let desk = opened_with(heap, 100)?;
+    let submissions = creates(heap, &FILES_P)?;
+    heap.refuse_after(growth);
+    batch(rt, heap, &Open, desk, submissions, 1)
+}
+
+/// Whether a batch of what isn't answered leaves nothing, and the docket has five rows then.
+fn is_finished<R: Threads + Wait + Sync>(
+    rt: &R,
+    heap: &Refusing<Global>,
+    rest: Rest<&Refusing<Global>>,
+) -> bool {
+    let (desk, submissions) = rest;
+    match batch(rt, heap, &Open, desk, submissions, 1) {
+        Some(Ok(end)) => end.left.is_empty() && end.desk.docket().len() == 5,
+        _ => false,
+    }
+}
+
 /// A batch with the growth of this index refused, and another one with ample memory of what isn't
 /// answered then. Whether that growth was asked for; none where an ending is wrong.
 fn batch_with_one_refused<R: Threads + Wait + Sync>(
@@ -88,15 +113,11 @@ fn batch_with_one_refused<R: Threads + Wait + Sync>(
     heap: &Refusing<Global>,
     growth: u64,
 ) -> Option<bool> {
-    let desk = opened_with(heap, 100)?;
-    let submissions = creates(heap, &FILES_P)?;
-    heap.refuse_after(growth);
-    let ending = batch(rt, heap, &Open, desk, submissions, 1)?;
+    let ending = ended(rt, heap, growth)?;
     let has_refused = heap.has_refused();
     heap.refuse_after(AMPLE);
-    let (desk, submissions) = rest_of(heap, ending, has_refused)?;
-    let end = batch(rt, heap, &Open, desk, submissions, 1)?.ok()?;
-    if end.left.is_empty() && end.desk.docket().len() == 5 {
+    let rest = rest_of(heap, ending, has_refused)?;
+    if is_finished(rt, heap, rest) {
         Some(has_refused)
     } else {
         None
