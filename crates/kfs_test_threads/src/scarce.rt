@@ -62,22 +62,46 @@ fn submissions_of<A: Allocator + Copy>(
     Some(submissions)
 }
 
+/// What isn't answered at the end of a batch; none where a creation is neither answered nor left, or is
+/// left with no growth refused.
+fn rest_of_end<A: Allocator + Copy>(
+    alloc: A,
+    end: BatchEnd<A>,
+    has_refused: bool,
+) -> Option<Rest<A>> {
+    if !is_settled(&end) || (!has_refused && !end.left.is_empty()) {
+        return None;
+    }
+    let BatchEnd {
+        desk,
+        replies: _,
+        left,
+    } = end;
+    let submissions = submissions_of(alloc, left)?;
+    Some((desk, submissions))
+}
+
+/// All that came back; none where it isn't as it was handed in, or came back with no growth refused.
+fn rest_of_back<A: Allocator + Copy>(
+    desk: Desk<A>,
+    submissions: Vec<Submission<A>, A>,
+    has_refused: bool,
+) -> Option<Rest<A>> {
+    if has_refused && desk.docket().len() == 1 && are_creates(submissions.as_slice(), &FILES_P) {
+        Some((desk, submissions))
+    } else {
+        None
+    }
+}
+
 /// What isn't answered; none where the ending is wrong.
 fn rest_of<A: Allocator + Copy>(alloc: A, ending: Ending<A>, has_refused: bool) -> Option<Rest<A>> {
     match ending {
-        Ok(end) if is_settled(&end) && (has_refused || end.left.is_empty()) => {
-            let BatchEnd {
-                desk,
-                replies: _,
-                left,
-            } = end;
-            Some((desk, submissions_of(alloc, left)?))
+        Ok(end) => rest_of_end(alloc, end, has_refused),
+        Err(BatchBack::OutOfMemory { desk, submissions }) => {
+            rest_of_back(desk, submissions, has_refused)
         }
-        Err(BatchBack::OutOfMemory { desk, submissions })
-            if has_refused
-                && desk.docket().len() == 1
-                && are_creates(submissions.as_slice(), &FILES_P) => { Some((desk, submissions)) }
-        _ => None,
+        Err(_) => None,
     }
 }
 
@@ -93,15 +117,20 @@ fn ended<'a, R: Threads + Wait + Sync>(
     batch(rt, heap, &Open, desk, submissions, 1)
 }
 
+/// Whether nothing is left, and the docket has five rows.
+fn is_done<A: Allocator + Copy>(end: &BatchEnd<A>) -> bool {
+    end.left.is_empty() && end.desk.docket().len() == 5
+}
+
 /// Whether a batch of what isn't answered leaves nothing, and the docket has five rows then.
-fn is_finished<R: Threads + Wait + Sync>(
+fn is_finished<'a, R: Threads + Wait + Sync>(
     rt: &R,
-    heap: &Refusing<Global>,
-    rest: Rest<&Refusing<Global>>,
+    heap: &'a Refusing<Global>,
+    rest: Rest<&'a Refusing<Global>>,
 ) -> bool {
     let (desk, submissions) = rest;
     match batch(rt, heap, &Open, desk, submissions, 1) {
-        Some(Ok(end)) => end.left.is_empty() && end.desk.docket().len() == 5,
+        Some(Ok(end)) => is_done(&end),
         _ => false,
     }
 }
