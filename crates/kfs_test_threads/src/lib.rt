@@ -22,8 +22,7 @@ mod files;
 mod gates;
 #[cfg(test)]
 mod refusals;
-#[cfg(test)]
-mod refusing;
+pub mod refusing;
 #[cfg(test)]
 mod rows;
 #[cfg(test)]
