@@ -13,12 +13,13 @@ fn client(number: u32, id: u32, first: u32, last: u32) -> Result<Client, ClientF
     Client::new(number, id, id, &[], false, first, last)
 }
 
-fn begun<A: Allocator + Copy>(alloc: A) -> Option<Desk<A>> {
+/// A desk whose docket takes so many rows.
+fn begun<A: Allocator + Copy>(alloc: A, limit: u32) -> Option<Desk<A>> {
     let image = Image::fresh(alloc, TierSizes::new(8, 8, 8)?).ok()?;
     let seven = client(7, 1_000, 2, 99).ok()?;
     let eight = client(8, 1_001, 100, 199).ok()?;
     let clients = vec![in alloc; seven, eight].ok()?;
-    Desk::begin(alloc, image, clients, 100).ok()
+    Desk::begin(alloc, image, clients, limit).ok()
 }
 
 /// Whether client 7 is granted a write lease on the node at the path.
@@ -29,14 +30,19 @@ fn is_leased<A: Allocator + Copy>(desk: &mut Desk<A>, path: &[u8]) -> bool {
     }
 }
 
-/// A desk whose docket takes 100 rows. Client 7 holds the root, which is row 0.
-pub fn opened<A: Allocator + Copy>(alloc: A) -> Option<Desk<A>> {
-    let mut desk = begun(alloc)?;
+/// A desk whose docket takes so many rows. Client 7 holds the root, which is row 0.
+pub fn opened_with<A: Allocator + Copy>(alloc: A, limit: u32) -> Option<Desk<A>> {
+    let mut desk = begun(alloc, limit)?;
     if is_leased(&mut desk, b"/") {
         Some(desk)
     } else {
         None
     }
+}
+
+/// Such a desk, whose docket takes 100 rows.
+pub fn opened<A: Allocator + Copy>(alloc: A) -> Option<Desk<A>> {
+    opened_with(alloc, 100)
 }
 
 /// What client 7 hands in.

@@ -1,0 +1,55 @@
+//! Batches of creations by client 7.
+
+use crate::files::File;
+use crate::setting::submission;
+use kfs_desk::Desk;
+use kfs_plan::Submission;
+use kfs_workers_batch::{BatchBack, BatchEnd, Gate, run_batch};
+use std::alloc::Allocator;
+use std::sync::Wait;
+use std::thread::Threads;
+
+/// How a batch ends.
+pub type Ending<A> = Result<BatchEnd<A>, BatchBack<A>>;
+
+/// The creations of the files.
+pub fn creates<A: Allocator + Copy>(alloc: A, files: &[File]) -> Option<Vec<Submission<A>, A>> {
+    let mut submissions = Vec::new(alloc);
+    for file in files {
+        submissions
+            .push(submission(alloc, file.log, file.plan)?)
+            .ok()?;
+    }
+    Some(submissions)
+}
+
+/// Whether these are the creations of the files.
+pub fn are_creates<A: Allocator>(submissions: &[Submission<A>], files: &[File]) -> bool {
+    submissions.len() == files.len()
+        && submissions
+            .iter()
+            .zip(files)
+            .all(|(submission, file)| is_create(submission, file))
+}
+
+/// Whether it is the creation of the file.
+pub fn is_create<A: Allocator>(submission: &Submission<A>, file: &File) -> bool {
+    submission.client == 7
+        && submission.log.as_slice() == file.log
+        && submission.plan.as_slice() == file.plan
+}
+
+/// A batch of at most 100 submissions.
+pub fn batch<A: Allocator + Copy + Send + Sync, G: Gate + Sync, R: Threads + Wait + Sync>(
+    rt: &R,
+    alloc: A,
+    gate: &G,
+    desk: Desk<A>,
+    submissions: Vec<Submission<A>, A>,
+    workers: usize,
+) -> Option<Ending<A>> {
+    if submissions.len() > 100 {
+        return None;
+    }
+    Some(run_batch(rt, alloc, gate, desk, submissions, workers))
+}

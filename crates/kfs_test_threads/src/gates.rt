@@ -1,0 +1,63 @@
+//! Gates of batches.
+
+use kfs_workers_batch::Gate;
+use std::sync::atomic::{AtomicU64, Ordering};
+use std::thread;
+
+/// A gate that stands open.
+pub struct Open;
+
+impl Gate for Open {
+    fn before(&self, _number: u32) {}
+}
+
+/// How often a worker looks for the other one.
+const MOST_TURNS: u32 = 100_000_000;
+
+/// A gate at which the submissions 0 and 1 wait for each other.
+#[derive(Drop)]
+pub struct Meeting {
+    first: AtomicU64,
+    second: AtomicU64,
+    failed: AtomicU64,
+}
+
+impl Meeting {
+    pub fn new() -> Meeting {
+        Meeting {
+            first: AtomicU64::new(0),
+            second: AtomicU64::new(0),
+            failed: AtomicU64::new(0),
+        }
+    }
+
+    /// Whether one of them has waited in vain.
+    pub fn has_failed(&self) -> bool {
+        self.failed.load(Ordering::SeqCst) != 0
+    }
+}
+
+/// Waits until the flag is set. Whether it was.
+fn is_set(flag: &AtomicU64) -> bool {
+    for _ in 0..MOST_TURNS {
+        if flag.load(Ordering::SeqCst) != 0 {
+            return true;
+        }
+        thread::yield_now();
+    }
+    false
+}
+
+impl Gate for Meeting {
+    fn before(&self, number: u32) {
+        let (mine, other) = if number == 0 {
+            (&self.first, &self.second)
+        } else {
+            (&self.second, &self.first)
+        };
+        mine.store(1, Ordering::SeqCst);
+        if !is_set(other) {
+            self.failed.store(1, Ordering::SeqCst);
+        }
+    }
+}
