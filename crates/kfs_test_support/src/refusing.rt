@@ -1,16 +1,19 @@
 //! An allocator that refuses one growth, or growths for which no bytes are left, for tests of calls
-//! without memory. A growth is one request for memory.
+//! without memory. Threads may share it. A growth is one request for memory.
 
 use std::alloc::{AllocError, Allocator};
-use std::cell::Cell;
+use std::sync::atomic::{AtomicU64, Ordering};
+
+/// The most that a count of bytes says. A greater number stands for a count below zero.
+const ANY: u64 = u64::MAX / 2;
 
 /// What may still be granted.
 #[derive(Drop)]
 struct Allowed {
     /// How many growths come before the one that is refused.
-    growths: Cell<u64>,
+    growths: AtomicU64,
     /// How many bytes may be held beyond those that are.
-    bytes: Cell<u64>,
+    bytes: AtomicU64,
 }
 
 /// Passes each growth on to another allocator, except for one, and for growths of more bytes than are
@@ -26,26 +29,26 @@ impl<B: Allocator> Refusing<B> {
         Refusing {
             inner,
             allowed: Allowed {
-                growths: Cell::new(left),
-                bytes: Cell::new(u64::MAX),
+                growths: AtomicU64::new(left),
+                bytes: AtomicU64::new(ANY),
             },
         }
     }
 
     /// The same from now on: grants `left` growths, refuses the next one, and grants all others.
     pub fn refuse_after(&self, left: u64) {
-        self.allowed.growths.set(left);
+        self.allowed.growths.store(left, Ordering::SeqCst);
     }
 
     /// From now on grants only growths with which at most `bytes` more bytes are held at one time. A
-    /// growth that the inner allocator refuses counts as held.
+    /// growth that the inner allocator refuses counts as held, and so does one that is being refused.
     pub fn leave(&self, bytes: u64) {
-        self.allowed.bytes.set(bytes);
+        self.allowed.bytes.store(bytes, Ordering::SeqCst);
     }
 
     /// Whether the growth that is refused has been asked for.
     pub fn has_refused(&self) -> bool {
-        self.allowed.growths.get() > u64::MAX / 2
+        self.allowed.growths.load(Ordering::SeqCst) > u64::MAX / 2
     }
 }
 
@@ -60,21 +63,18 @@ impl<B: Allocator> Drop for Refusing<B> {
 
 /// Whether the next growth, of this many bytes, is refused. If not, they are held.
 fn refuses(allowed: &Allowed, size: usize) -> bool {
-    let growths = allowed.growths.get();
-    allowed.growths.set(growths.wrapping_sub(1));
-    match allowed.bytes.get().checked_sub(size as u64) {
-        Some(bytes) if growths > 0 => {
-            allowed.bytes.set(bytes);
-            false
-        }
-        _ => true,
+    let growths = allowed.growths.fetch_sub(1, Ordering::SeqCst);
+    let bytes = allowed.bytes.fetch_sub(size as u64, Ordering::SeqCst);
+    let refused = growths == 0 || bytes.wrapping_sub(size as u64) > ANY;
+    if refused {
+        give_back(allowed, size);
     }
+    refused
 }
 
 /// This many bytes aren't held any more.
 fn give_back(allowed: &Allowed, size: usize) {
-    let bytes = allowed.bytes.get().saturating_add(size as u64);
-    allowed.bytes.set(bytes);
+    allowed.bytes.fetch_add(size as u64, Ordering::SeqCst);
 }
 
 unsafe impl<B: Allocator> Allocator for Refusing<B> {
