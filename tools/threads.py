@@ -1,9 +1,9 @@
 """What the programs with threads share: callers of a shared desk, each in a thread of its own, as a module of Rattle.
 
-What starts threads is proved with no answer but one: that a desk may go from thread to thread. That stands with the tests of
-threads, `crates/kfs_test_threads/proofs/Sent.antt`, and is taken from there.
+What starts threads is proved with no answer but one: that a desk may go from thread to thread. That is proved in
+`crates/kfs_workers_threads/proofs/Sent.antt`.
 """
-from benchmarks import NAME, TOP
+from benchmarks import NAME
 
 # What the text names; a program adds its own.
 USES = "kfs_image kfs_lease kfs_mode kfs_judge kfs_plan kfs_desk_docket kfs_desk kfs_workers_threads"
@@ -219,21 +219,20 @@ pub fn judge(alloc: Global, view: &View<Global>, submission: Submission<Global>)
 """
 
 ANSWER = f"""use denote.Param.Send.{{param_send, arg_send}}
-use Rattle.{NAME}.proofs.Sent.{{desk_send}}
+use Rattle.std.proofs.Crossing as std
+use Rattle.std.specs.contracts.alloc.Global as Heap
+use Rattle.std.specs.contracts.impls.GlobalAllocator.TheImpl.{{ghosts}}
+use Rattle.kfs_workers_threads.proofs.Sent.{{desk_send}}
 use Rattle.{NAME}.proofs.crew.run_desk.Goals as goal
 
 pub run-requires-send-D : goal.run-requires-send-D
-run-requires-send-D g c = search (desk_send, param_send, arg_send) depth 6
+run-requires-send-D g c = search (desk_send Heap.the_row ghosts std.send std.sync std.frees, param_send, arg_send) depth 6
 """
 
 
 def files():
     """Returns the module `crew` with its proof, by the names of the files."""
-    with open(f"{TOP}/crates/kfs_test_threads/proofs/Sent.antt", encoding="utf-8") as it:
-        sent = it.read()
     return {
         "src/crew.rt": CREW,
-        "proofs/Lib.antt": "pub mod Sent\n",
-        "proofs/Sent.antt": sent,
         "proofs/crew/run_desk/Answers.antt": ANSWER,
     }

@@ -1,11 +1,14 @@
 //! A test program. It runs the scripts of its folder data/ through `run_words`, and compares output and
-//! exit status with what is expected, byte by byte; some of them in little memory, too.
+//! exit status with what is expected, byte by byte; some of them in little memory, too, and with reads and
+//! writes that fail.
 //!
 //! It stands on `kfs_program` and `kfs_test_scripts`. docs/EXAMPLES.md lists the scripts. Begin with
 //! `main`.
 #![tactic(auto)]
 
 mod memory;
+mod runs;
+mod streams;
 
 use kfs_program::run_words;
 use kfs_test_scripts::{Case, ScriptFault, script_names};
@@ -14,6 +17,7 @@ use std::io;
 use std::process::ExitCode;
 use std::rt::Files;
 use std::thread::Threads;
+use streams::run_with_failures;
 
 fn main(rt: HostRuntime) -> io::Result<ExitCode> {
     let names = script_names(&rt, ".")?;
@@ -43,5 +47,6 @@ fn run_script<R: Files + AllocGlobal + Threads + Sync>(
     let mut written = Vec::new(rt.alloc());
     let status = run_words(rt, rt.alloc(), &words, &mut script, &mut written);
     case.compare(status, &written)?;
-    run_in_little_memory(rt, &case, &words)
+    run_in_little_memory(rt, &case, &words)?;
+    run_with_failures(rt, &case, &words)
 }

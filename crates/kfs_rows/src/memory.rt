@@ -1,9 +1,9 @@
 //! Scripts in little memory: with each growth of memory refused in turn, and with few bytes.
 
-use kfs_program::run_words;
-use kfs_test_scripts::{Case, Script, ScriptFault};
+use crate::runs::{DONE, Outcome, run};
+use kfs_test_scripts::{Case, ScriptFault};
 use kfs_test_support::refusing::Refusing;
-use std::alloc::{AllocError, Allocator, Global};
+use std::alloc::{AllocError, Global};
 use std::thread::Threads;
 
 /// More growths than any script asks for.
@@ -15,34 +15,8 @@ const MANY: u64 = 1 << 20;
 /// The reply to a line for which memory is refused.
 const REFUSED: &[u8] = b"memory";
 
-/// The exit status where the engine reaches the end of its input.
-const DONE: u8 = 0;
-
 /// The exit status where the engine ends because memory is refused.
 const ENDED: u8 = 4;
-
-/// The outcome of a run.
-#[derive(Drop)]
-struct Outcome {
-    status: u8,
-    written: Vec<u8>,
-}
-
-/// Runs these lines with the desk in memory of `alloc`.
-fn run<R: AllocGlobal + Threads + Sync, A: Allocator + Copy>(
-    rt: &R,
-    alloc: A,
-    words: &[&str],
-    lines: &[u8],
-) -> Outcome {
-    let mut script = Script {
-        bytes: lines,
-        is_broken: false,
-    };
-    let mut written = Vec::new(rt.alloc());
-    let status = run_words(rt, alloc, words, &mut script, &mut written);
-    Outcome { status, written }
-}
 
 /// The line with this index, without its end.
 fn line_at(text: &[u8], index: usize) -> Option<&[u8]> {
@@ -81,6 +55,20 @@ fn without_line(alloc: Global, text: &[u8], index: usize) -> Result<Vec<u8>, All
         }
     }
     Ok(left)
+}
+
+/// The text with this line, with its end, before the line with this index.
+fn with_line(alloc: Global, text: &[u8], index: usize, line: &[u8]) -> Result<Vec<u8>, AllocError> {
+    let mut all = Vec::new(alloc);
+    let lines = text.split_inclusive(|byte| *byte == b'\n');
+    for (at, here) in lines.enumerate() {
+        if at == index {
+            all.extend_from_slice(line)?;
+            all.push(b'\n')?;
+        }
+        all.extend_from_slice(here)?;
+    }
+    Ok(all)
 }
 
 /// Lines with their replies.
@@ -146,6 +134,33 @@ fn is_due<R: AllocGlobal + Threads + Sync>(
     }
 }
 
+/// Whether the line for which memory was refused has its reply when it comes again. That of a verdict
+/// can't come again: the verdict is given up.
+fn is_due_again<R: AllocGlobal + Threads + Sync>(
+    rt: &R,
+    case: &Case,
+    words: &[&str],
+    given: &Outcome,
+    growth: u64,
+) -> Result<(), ScriptFault> {
+    let Some(index) = refused_line(&given.written) else {
+        return Ok(());
+    };
+    if verdict_line(case.lines(), &given.written, index).is_some() {
+        return Ok(());
+    }
+    let line = line_at(case.lines(), index).ok_or(ScriptFault::Again(index))?;
+    let lines = with_line(rt.alloc(), case.lines(), index, line)?;
+    let replies = with_line(rt.alloc(), case.replies(), index, REFUSED)?;
+    let heap = Refusing::new(rt.alloc(), growth);
+    let again = run(rt, &heap, words, &lines);
+    if again.status == DONE && again.written == replies {
+        Ok(())
+    } else {
+        Err(ScriptFault::Again(index))
+    }
+}
+
 /// Refuses each growth of the script in turn, and answers how many there are.
 fn growths<R: AllocGlobal + Threads + Sync>(
     rt: &R,
@@ -158,6 +173,7 @@ fn growths<R: AllocGlobal + Threads + Sync>(
         if !is_due(rt, case, words, &given)? {
             return Err(ScriptFault::Growth(growth));
         }
+        is_due_again(rt, case, words, &given, growth)?;
         if !heap.has_refused() {
             return Ok(growth);
         }

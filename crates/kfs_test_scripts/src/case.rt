@@ -13,7 +13,8 @@ use std::{fs, io};
 /// The exit status that is expected where no file says another.
 const DONE: u64 = 0;
 
-/// Scripts of at most this many bytes are also run with each growth of memory refused in turn.
+/// Scripts of at most this many bytes are also run with each growth of memory refused in turn, and with
+/// each read and each write failing in turn.
 const SMALL: usize = 3_000;
 
 /// A script and what is expected of it.
@@ -113,12 +114,15 @@ impl Case {
         &self.replies
     }
 
+    /// Whether the script is a small session of `run` that is read to its end.
+    pub fn is_small_session(&self) -> bool {
+        !self.is_broken && self.words.is_none() && self.script.len() <= SMALL
+    }
+
     /// The least number of growths of memory that the script asks for, if each is to be refused in
-    /// turn. That is so where `.growths` gives a number, and for each small script that runs to its
-    /// end.
+    /// turn. That is so where `.growths` gives a number, and for each small session.
     pub fn growths(&self) -> Option<u64> {
-        let is_whole = !self.is_broken && self.words.is_none();
-        let is_small = is_whole && self.script.len() <= SMALL;
+        let is_small = self.is_small_session();
         self.growths.or(is_small.then_some(0))
     }
 

@@ -19,6 +19,16 @@ pub enum ScriptFault {
     /// With the growth of this index refused, other lines are answered differently.
     #[error("isn't as it is due with growth {0} refused")]
     Growth(u64),
+    /// The line with this index, for which memory was refused, isn't answered as it is due when it comes
+    /// again.
+    #[error("isn't as it is due with line {0} again, which found no memory")]
+    Again(usize),
+    /// With the read of this index failing, the answer is another.
+    #[error("isn't as it is due where read {0} fails")]
+    Read(u64),
+    /// With the write of this index failing, the answer is another.
+    #[error("isn't as it is due where write {0} fails")]
+    Write(u64),
     #[error("makes {made} growths, not {least}")]
     FewGrowths { made: u64, least: u64 },
     /// The number in `.room` is too small.

@@ -22,7 +22,6 @@ mod files;
 mod gates;
 #[cfg(test)]
 mod refusals;
-pub mod refusing;
 #[cfg(test)]
 mod rows;
 #[cfg(test)]

@@ -3,10 +3,10 @@
 use crate::batch::{Ending, are_creates, batch, creates, is_create};
 use crate::files::FILES_P;
 use crate::gates::Open;
-use crate::refusing::Refusing;
 use crate::setting::opened_with;
 use kfs_desk::{Desk, Reply};
 use kfs_plan::Submission;
+use kfs_test_support::refusing::Refusing;
 use kfs_workers_batch::{BatchBack, BatchEnd, Left};
 use kfs_workers_threads::SharedWant;
 use std::alloc::{Allocator, Global};

@@ -1,1 +1,2 @@
 pub mod Landed
+pub mod Sent
