@@ -267,15 +267,27 @@ fn is_answered_at_last<'a>(
         || (!was_refused && heap.has_refused() && is_answered(leases, shape, call))
 }
 
-/// Makes the calls beside a copy, with only the growth of this index refused. Answers whether there was
-/// such a growth; none where the outcome is wrong.
+/// A copy of the table, asked for once more where memory was refused for it.
+fn copied_at_last<'a>(
+    heap: &'a Refusing<Global>,
+    leases: &Leases<&'a Refusing<Global>>,
+) -> Option<Leases<&'a Refusing<Global>>> {
+    match leases.copy() {
+        Ok(copied) => Some(copied),
+        Err(_) if heap.has_refused() => leases.copy().ok(),
+        Err(_) => None,
+    }
+}
+
+/// Copies the table and makes the calls beside the copy, with only the growth of this index refused. Answers
+/// whether there was such a growth; none where the outcome is wrong.
 fn calls_with_one_refused(heap: &Refusing<Global>, growth: u64) -> Option<bool> {
     let desk = tree(heap)?;
     let shape = desk.image().shape();
     let mut leases = Leases::new(heap);
     let before = make_calls(&mut leases, shape, &BEFORE_THE_GROWTHS);
-    let mut copied = leases.copy().ok()?;
     heap.refuse_after(growth);
+    let mut copied = copied_at_last(heap, &leases)?;
     for call in &WITH_A_GROWTH_REFUSED {
         if !is_answered_at_last(heap, &mut leases, shape, *call) {
             return None;

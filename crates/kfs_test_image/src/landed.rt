@@ -1,5 +1,5 @@
 //! Images with the nodes that a log of client 7 makes.
-ghost use Rattle.std.specs.Prelude.{◌≡◌, IfSome};
+ghost use Rattle.std.specs.Prelude.{◌≡◌, IfSome, OnErr};
 ghost use Rattle.kfs_mode.specs.Clients.{ClientsAreDistinct};
 ghost use Rattle.kfs_model_device.specs.ShownTree.{IsLawful};
 ghost use Rattle.kfs_image.specs.Image as images;
@@ -78,7 +78,8 @@ fn right_net<A: Allocator + Copy>(
     }
 }
 
-fn net_of<A: Allocator + Copy>(alloc: A, image: &Image<A>, made: Made<'_>) -> Option<Net<A>>
+/// The net of what client 7 hands in at the image.
+pub fn net_of<A: Allocator + Copy>(alloc: A, image: &Image<A>, made: Made<'_>) -> Option<Net<A>>
     ensures { IfSome result (λ net. IsLawful (after_net net image.now)) }
 {
     let view = view_of(alloc, image, clients(alloc)?)?;
@@ -91,12 +92,13 @@ fn net_of<A: Allocator + Copy>(alloc: A, image: &Image<A>, made: Made<'_>) -> Op
 }
 
 /// Makes the change of the net, without writing blocks.
-fn apply_alone<A: Allocator + Clone>(
+pub fn apply_alone<A: Allocator + Clone>(
     alloc: &A,
     image: &mut Image<A>,
     net: &Net<A>,
 ) -> Result<(), AllocError>
     requires { IsLawful (after_net net.now image.old) }
+    ensures err { OnErr result (image.new ≡ image.old) }
 {
     let fill = Fill::empty(alloc)?;
     net_apply(alloc.clone()?, image, net, &fill)

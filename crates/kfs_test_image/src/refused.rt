@@ -1,10 +1,10 @@
-//! Edits with each growth of memory refused in turn: the image shows what it showed, and then the same
-//! edits are made.
+//! Edits, and the change of a landing, with each growth of memory refused in turn: the image shows what it
+//! showed, and then the same is done.
 ghost use Rattle.kfs_image.specs.Edit.{CanEdit};
 
 use crate::edits::{edits_of_each_kind, lay};
-use crate::landed::{Made, image_with};
-use kfs_image::{Answer, Cell, Edit, Image, Shape, look, read_file};
+use crate::landed::{Made, apply_alone, image_with, net_of};
+use kfs_image::{Answer, Cell, Edit, Image, Shape, TierSizes, look, read_file};
 use kfs_test_support::refusing::Refusing;
 use std::alloc::{Allocator, Global};
 use std::process::Abort;
@@ -102,7 +102,7 @@ fn has_file<A: Allocator>(shape: &Shape<A>) -> bool {
 }
 
 /// The same, while a view may share the nodes and names, and shows what it showed.
-fn is_refused(alloc: Global, is_shared: bool, growth: u64) -> Option<bool> {
+fn are_refused(alloc: Global, is_shared: bool, growth: u64) -> Option<bool> {
     let heap = Refusing::new(alloc, AMPLE);
     let mut image = image_with(&heap, 3, TWO_BLOCKS)?;
     lay(&heap, &mut image, 0, 0)?;
@@ -115,11 +115,47 @@ fn is_refused(alloc: Global, is_shared: bool, growth: u64) -> Option<bool> {
     has_file(&view).then_some(has_refused)
 }
 
-/// How many growths the edits ask for, each refused in turn; or as an error the index of one at which
+/// Whether a growth was refused in the change of a landing, the one with this index; none where the answer
+/// is wrong.
+fn is_change_refused(alloc: Global, growth: u64) -> Option<bool> {
+    let heap = Refusing::new(alloc, AMPLE);
+    let mut image = Image::fresh(&heap, TierSizes::new(3, 0, 0)?).ok()?;
+    let net = net_of(&heap, &image, TWO_BLOCKS)?;
+    heap.refuse_after(growth);
+    match apply_alone(&&heap, &mut image, &net) {
+        Ok(()) => return (!heap.has_refused() && has_file(image.shape())).then_some(false),
+        Err(_) => {}
+    }
+    if !heap.has_refused() || has_file(image.shape()) {
+        return None;
+    }
+    heap.refuse_after(AMPLE);
+    apply_alone(&&heap, &mut image, &net).ok()?;
+    has_file(image.shape()).then_some(true)
+}
+
+/// What is done with each growth refused in turn.
+#[derive(Clone, Copy)]
+enum Change {
+    Edits,
+    EditsBesideAView,
+    Landing,
+}
+
+/// Whether a growth was refused in the change, the one with this index; none where the answer is wrong.
+fn is_refused(alloc: Global, change: Change, growth: u64) -> Option<bool> {
+    match change {
+        Change::Edits => are_refused(alloc, false, growth),
+        Change::EditsBesideAView => are_refused(alloc, true, growth),
+        Change::Landing => is_change_refused(alloc, growth),
+    }
+}
+
+/// How many growths the change asks for, each refused in turn; or as an error the index of one at which
 /// the answer is wrong.
-fn growths(alloc: Global, is_shared: bool) -> Result<u64, u64> {
+fn growths(alloc: Global, change: Change) -> Result<u64, u64> {
     for growth in 0..MANY {
-        match is_refused(alloc, is_shared, growth) {
+        match is_refused(alloc, change, growth) {
             Some(true) => {}
             Some(false) => return Ok(growth),
             None => return Err(growth),
@@ -129,9 +165,9 @@ fn growths(alloc: Global, is_shared: bool) -> Result<u64, u64> {
 }
 
 #[test]
-fn each_growth_of_edits_refused(rt: HostRuntime) {
-    for is_shared in [false, true] {
-        let count = growths(rt.alloc(), is_shared);
+fn each_growth_of_a_change_refused(rt: HostRuntime) {
+    for change in [Change::Edits, Change::EditsBesideAView, Change::Landing] {
+        let count = growths(rt.alloc(), change);
         let is_right = match count {
             Ok(count) => 3 < count,
             Err(_) => false,

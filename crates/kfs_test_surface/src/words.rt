@@ -9,7 +9,9 @@ use kfs_migrate::MoveFault;
 use kfs_mode::ClientFault;
 use kfs_plan::{Fault, RowFault};
 use kfs_program::EngineFault;
+use kfs_report::fault_line;
 use kfs_shape::{Finding, ShapeFault};
+use kfs_test_support::refusing::Refusing;
 use kfs_workers::{SharedWant, Unreturned};
 use std::alloc::Global;
 use std::error::Error;
@@ -75,6 +77,16 @@ fn faults_of_entries(rt: HostRuntime) {
     assert!(rt; says(rt.alloc(), &ENTRY, "entry 1 NoLease(5)"));
 }
 
+/// Why submissions are refused.
+const FAULTS: [(Fault, &str); 6] = [
+    (Fault::UnknownClient, "client unknown"),
+    (Fault::BadLog(SpellFault::Trailing), "log Trailing"),
+    (Fault::WrongClient, "client wrong"),
+    (Fault::BadPlan(SpellFault::BadRow(1, 0)), "plan BadRow(1,0)"),
+    (Fault::Entry(ENTRY), "entry 1 NoLease(5)"),
+    (Fault::Row(RowFault::Names(0)), "plan Names(0)"),
+];
+
 #[test]
 fn faults_of_submissions(rt: HostRuntime) {
     let rows = [
@@ -84,15 +96,44 @@ fn faults_of_submissions(rt: HostRuntime) {
         (RowFault::OutOfMemory, "memory"),
     ];
     assert!(rt; say(rt.alloc(), &rows));
-    let faults = [
-        (Fault::UnknownClient, "client unknown"),
-        (Fault::BadLog(SpellFault::Trailing), "log Trailing"),
-        (Fault::WrongClient, "client wrong"),
-        (Fault::BadPlan(SpellFault::BadRow(1, 0)), "plan BadRow(1,0)"),
-        (Fault::Entry(ENTRY), "entry 1 NoLease(5)"),
-        (Fault::Row(RowFault::Names(0)), "plan Names(0)"),
-    ];
-    assert!(rt; say(rt.alloc(), &faults));
+    assert!(rt; say(rt.alloc(), &FAULTS));
+}
+
+/// Whether the line of the fault is these words, behind what was written before.
+fn is_line(alloc: Global, fault: &Fault, words: &str) -> bool {
+    let Ok(mut out) = Vec::from_slice(alloc, b"before\n") else {
+        return false;
+    };
+    if fault_line(&mut out, fault).is_err() {
+        return false;
+    }
+    let line = out
+        .strip_prefix(b"before\n")
+        .and_then(|line| line.strip_suffix(b"\n"));
+    line == Some(words.as_bytes())
+}
+
+#[test]
+fn lines_of_faults(rt: HostRuntime) {
+    for (fault, words) in &FAULTS {
+        assert!(rt; is_line(rt.alloc(), fault, words), "{words}");
+    }
+}
+
+/// Whether the line finds no memory, and then some.
+fn is_line_at_last(alloc: Global) -> bool {
+    let heap = Refusing::new(alloc, 0);
+    let mut out = Vec::new(&heap);
+    let was_refused = fault_line(&mut out, &Fault::WrongClient).is_err();
+    was_refused
+        && out.is_empty()
+        && fault_line(&mut out, &Fault::WrongClient).is_ok()
+        && out.as_slice() == b"client wrong\n"
+}
+
+#[test]
+fn the_growth_of_a_line_is_refused(rt: HostRuntime) {
+    assert!(rt; is_line_at_last(rt.alloc()));
 }
 
 #[test]
