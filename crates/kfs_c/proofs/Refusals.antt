@@ -1,5 +1,5 @@
 -- Why no desk is opened, as it is told.
-use Rattle.std.proofs.Common.{◌≡◌, ◌⊎◌, inl, inr, ℕ, ◌+◌, ◌<◌, ◌++◌, List, ◌∷◌, Some, Result, Ok, Err, length, map, take, drop, refl, sym, ap, subst, ◌∙◌, take-append-drop, arith}
+use Rattle.std.proofs.Common.{◌≡◌, ◌⊎◌, inl, inr, ℕ, ◌+◌, ◌<◌, ◌++◌, List, ◌∷◌, Some, Result, Ok, Err, length, take, drop, refl, sym, ap, subst, ◌∙◌, take-append-drop, arith}
 use Rattle.std.proofs.lemmas.List.{length-take-le}
 use Rattle.std.specs.Prelude.{IfErr, IsErrAnd}
 use Rattle.kfs_model.specs.Access.{Client}
@@ -18,7 +18,7 @@ use Rattle.kfs_c.specs.declared.numbers.ClientRow.{ClientRow}
 use Rattle.kfs_c.specs.declared.numbers.FaultNumbers.{FaultNumbers}
 use Rattle.kfs_c.specs.declared.opening.Unopened.{Unopened}
 use Rattle.kfs_c.specs.declared.opening.Unopened.TheVariants.{NoMemory, Refused}
-use Rattle.kfs_c.specs.Opening.{AreClientsRefused, AreRowsRefused, BreaksRule, IsNoImage, IsRowRefused, IsRefusedAs, broken_as, client_of, unbegun_as, unread_as}
+use Rattle.kfs_c.specs.Opening.{AreClientsRefused, AreRowsRefused, BreaksRule, IsNoImage, IsRowRefused, IsRefusedAs, broken_as, unbegun_as, unread_as}
 
 -- what is said wherever a fault is told
 refused_by : (Says : FaultNumbers → Type 0) (why : Unopened) → ((told : FaultNumbers) → why ≡ Refused told → Says told) → IsRefusedAs Says why

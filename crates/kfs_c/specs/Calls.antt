@@ -1,7 +1,7 @@
 -- What a call of the desk over the boundary comes to.
 use Rattle.std.specs.Prelude.{◌≡◌, ◌↔◌, ℕ, Bool, false, Option, List, map, length, IsFalse, if◌then◌else◌}
 use Rattle.std.specs.Global.{Global}
-use Rattle.kfs_model.specs.Judgement.{State, Submission}
+use Rattle.kfs_model.specs.Judgement.{State}
 use Rattle.kfs_model.specs.Lease.{LeaseKind, ReadLease, WriteLease}
 use Rattle.kfs_model.specs.Machine.{Call, Lease, Drop, Tick, Migrate}
 use Rattle.kfs_model.specs.Migration.{Move}

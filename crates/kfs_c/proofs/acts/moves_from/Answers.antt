@@ -1,4 +1,3 @@
-use Rattle.std.proofs.Common.{◌++◌, map}
 use Rattle.kfs_image_nodes.proofs.NodeEdits.{rows_left}
 use Rattle.kfs_image_nodes.proofs.SortedRows.{one_made, all_made}
 use Rattle.kfs_c.specs.Calls.{move_of}

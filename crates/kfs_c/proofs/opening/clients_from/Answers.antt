@@ -1,4 +1,4 @@
-use Rattle.std.proofs.Common.{◌++◌, ◌∷◌, [], map, false, ap, ◌∙◌, slice_index_or}
+use Rattle.std.proofs.Common.{◌++◌, ◌∷◌, [], false, ap, ◌∙◌, slice_index_or}
 use Rattle.kfs_image_nodes.proofs.NodeEdits.{rows_left}
 use Rattle.kfs_image_nodes.proofs.SortedRows.{one_made, all_made}
 use Rattle.kfs_c.specs.Opening.{AreRowsRefused, client_of}
