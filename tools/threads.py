@@ -218,15 +218,19 @@ pub fn judge(alloc: Global, view: &View<Global>, submission: Submission<Global>)
 }
 """
 
-ANSWER = f"""use denote.Param.Send.{{param_send, arg_send}}
+ANSWER = f"""use denote.Param.Send.{{IsSend, param_send, arg_send}}
 use Rattle.std.proofs.Crossing as std
 use Rattle.std.specs.contracts.alloc.Global as Heap
 use Rattle.std.specs.contracts.impls.GlobalAllocator.TheImpl.{{ghosts}}
+use Rattle.kfs_desk.specs.contracts.desk.Desk as Desk
 use Rattle.kfs_workers_threads.proofs.Sent.{{desk_send}}
 use Rattle.{NAME}.proofs.crew.run_desk.Goals as goal
 
+this_desk_send : IsSend (Desk.the_row Heap.the_row ghosts)
+this_desk_send = desk_send Heap.the_row ghosts std.send std.sync std.frees
+
 pub run-requires-send-D : goal.run-requires-send-D
-run-requires-send-D g c = search (desk_send Heap.the_row ghosts std.send std.sync std.frees, param_send, arg_send) depth 6
+run-requires-send-D g c = search (this_desk_send, param_send, arg_send) depth 6
 """
 
 

@@ -108,14 +108,20 @@ fn more_workers_than_submissions(rt: HostRuntime) {
 
 // ---- wrong numbers of workers
 
-/// Whether all comes back as it was handed in, for the number of workers.
-fn is_refused<R: Threads + Wait + Sync>(rt: &R, alloc: Global, workers: usize) -> Option<bool> {
-    match ended(rt, alloc, &Open, 100, &FILES_P, workers)? {
-        Err(BatchBack::BadWorkers { desk, submissions }) => Some(
-            desk.docket().len() == 1 && are_creates(submissions.as_slice(), &FILES_P),
-        ),
-        _ => Some(false),
+/// Whether all has come back as it was handed in, for the number of workers.
+fn is_back(ending: &Ending<Global>) -> bool {
+    match ending {
+        Err(BatchBack::BadWorkers { desk, submissions }) => {
+            desk.docket().len() == 1 && are_creates(submissions.as_slice(), &FILES_P)
+        }
+        _ => false,
     }
+}
+
+/// The same of a batch of so many workers.
+fn is_refused<R: Threads + Wait + Sync>(rt: &R, alloc: Global, workers: usize) -> Option<bool> {
+    let ending = ended(rt, alloc, &Open, 100, &FILES_P, workers)?;
+    Some(is_back(&ending))
 }
 
 #[test]
@@ -179,17 +185,20 @@ fn no_submission_adds_no_row(rt: HostRuntime) {
 // ---- two workers at once
 
 /// Whether the first two submissions have such a Yes.
-fn are_both_created(end: &BatchEnd<Global>) -> bool {
-    position_of(end.replies.get(0)).is_some() && position_of(end.replies.get(1)).is_some()
+fn are_both_created(ending: &Ending<Global>) -> bool {
+    match ending {
+        Ok(end) => {
+            position_of(end.replies.get(0)).is_some() && position_of(end.replies.get(1)).is_some()
+        }
+        Err(_) => false,
+    }
 }
 
 /// Whether two workers of two submissions met at the gate, each with its verdict in hand.
 fn meet_at_the_gate<R: Threads + Wait + Sync>(rt: &R, alloc: Global) -> Option<bool> {
     let gate = Meeting::new();
-    match ended(rt, alloc, &gate, 100, &FILES_P[0..2], 2)? {
-        Ok(end) => Some(are_both_created(&end) && !gate.has_failed()),
-        Err(_) => None,
-    }
+    let ending = ended(rt, alloc, &gate, 100, &FILES_P[0..2], 2)?;
+    Some(are_both_created(&ending) && !gate.has_failed())
 }
 
 #[test]

@@ -111,14 +111,18 @@ fn reason_of<R: Wait>(
     }
 }
 
-/// A verdict on the creation of file 5, made before the desk is shared from the last number on.
-fn shared_at_the_end(alloc: Global) -> Option<(Judged<Global>, Sharing<Global>)>
+/// The verdict on the creation of file 5 at the desk.
+fn creation_judged(alloc: Global, desk: &Desk<Global>) -> Option<Judged<Global>> {
+    let view = desk.view().ok()?;
+    judged(alloc, &view, FILE_A.log, FILE_A.plan)
+}
+
+/// That verdict, made before the desk is shared from the last number on.
+fn shared_at_the_end(alloc: Global) -> Option<(Option<Judged<Global>>, Sharing<Global>)>
     ensures { IfSome result (λ r. IsPassOf r.1.0 r.1.1) }
 {
     let desk = opened(alloc)?;
-    let view = desk.view().ok()?;
-    let verdict = judged(alloc, &view, FILE_A.log, FILE_A.plan)?;
-    drop(view);
+    let verdict = creation_judged(alloc, &desk);
     let sharing = shared_from(alloc, desk, u64::MAX).ok()?;
     Some((verdict, sharing))
 }
@@ -134,7 +138,10 @@ fn spent<R: Threads + Wait + Sync>(
     let acting = Acting::new(Act::Tick { moment: 1 });
     let ((viewing, p), (acting, _)) = both(rt, &shared, Viewing { why: None }, p, acting, q);
     let mut p = p;
-    let landing = reason_of(rt, &shared, &mut p, verdict, FILE_A);
+    let landing = match verdict {
+        Some(verdict) => reason_of(rt, &shared, &mut p, verdict, FILE_A),
+        None => None,
+    };
     let acting = match acting.answer {
         Some(Err(why)) => Some(why),
         _ => None,
