@@ -128,7 +128,7 @@ fn is_line_at_last(alloc: Global) -> bool {
     was_refused
         && out.is_empty()
         && fault_line(&mut out, &Fault::WrongClient).is_ok()
-        && out.as_slice() == b"client wrong\n"
+        && out.as_slice() == b"client wrong\n".as_slice()
 }
 
 #[test]
