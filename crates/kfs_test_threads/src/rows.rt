@@ -112,19 +112,23 @@ fn reason_of<R: Wait>(
 }
 
 /// The verdict on the creation of file 5 at the desk.
-fn creation_judged(alloc: Global, desk: &Desk<Global>) -> Option<Judged<Global>> {
+fn creation_judged_at(alloc: Global, desk: &Desk<Global>) -> Option<Judged<Global>> {
     let view = desk.view().ok()?;
     judged(alloc, &view, FILE_A.log, FILE_A.plan)
 }
 
-/// That verdict, made before the desk is shared from the last number on.
-fn shared_at_the_end(alloc: Global) -> Option<(Option<Judged<Global>>, Sharing<Global>)>
-    ensures { IfSome result (λ r. IsPassOf r.1.0 r.1.1) }
+/// The same at a desk of its own.
+fn creation_judged(alloc: Global) -> Option<Judged<Global>> {
+    let desk = opened(alloc)?;
+    creation_judged_at(alloc, &desk)
+}
+
+/// A desk that is shared from the last number on.
+fn shared_at_the_end(alloc: Global) -> Option<Sharing<Global>>
+    ensures { IfSome result (λ r. IsPassOf r.0 r.1) }
 {
     let desk = opened(alloc)?;
-    let verdict = creation_judged(alloc, &desk);
-    let sharing = shared_from(alloc, desk, u64::MAX).ok()?;
-    Some((verdict, sharing))
+    shared_from(alloc, desk, u64::MAX).ok()
 }
 
 /// Why a view, a call for the leases and a landing aren't answered, what the pass has seen, and how
@@ -133,12 +137,12 @@ fn spent<R: Threads + Wait + Sync>(
     rt: &R,
     alloc: Global,
 ) -> Option<([Option<SharedWant>; 3], u64, u32)> {
-    let (verdict, (shared, p)) = shared_at_the_end(alloc)?;
+    let (shared, p) = shared_at_the_end(alloc)?;
     let (p, q) = split(&shared, p);
     let acting = Acting::new(Act::Tick { moment: 1 });
     let ((viewing, p), (acting, _)) = both(rt, &shared, Viewing { why: None }, p, acting, q);
     let mut p = p;
-    let landing = match verdict {
+    let landing = match creation_judged(alloc) {
         Some(verdict) => reason_of(rt, &shared, &mut p, verdict, FILE_A),
         None => None,
     };

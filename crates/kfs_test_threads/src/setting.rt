@@ -1,6 +1,6 @@
 //! The desks that are shared here: a new image with three tiers of 8 blocks, and the clients 7 and 8.
 
-use kfs_desk::Desk;
+use kfs_desk::{Desk, Reply};
 use kfs_image::{Image, TierSizes};
 use kfs_lease::LeaseKind;
 use kfs_mode::{Client, ClientFault};
@@ -51,16 +51,16 @@ pub fn submission<A: Allocator + Copy>(alloc: A, log: &[u8], plan: &[u8]) -> Opt
     })
 }
 
-/// Hands in the submission, which is to have a Yes.
-fn submit<A: Allocator + Copy>(desk: &mut Desk<A>, submission: Submission<A>) {
-    let _answer = desk.submit(submission);
+/// Whether the submission has a Yes.
+fn is_accepted<A: Allocator + Copy>(desk: &mut Desk<A>, submission: Submission<A>) -> bool {
+    matches!(desk.submit(submission), Ok(Reply::Yes { .. }))
 }
 
 /// Such a desk with the empty file 5 of client 7, who holds it, too. Its docket has 3 rows.
 pub fn with_file<A: Allocator + Copy>(alloc: A) -> Option<Desk<A>> {
     let create = submission(alloc, CREATE_LOG, CREATE_PLAN)?;
     let mut desk = opened(alloc)?;
-    submit(&mut desk, create);
+    let _accepted = is_accepted(&mut desk, create);
     lease(&mut desk, b"/a");
     Some(desk)
 }
