@@ -30,3 +30,5 @@ mod scarce;
 mod setting;
 #[cfg(test)]
 mod side;
+#[cfg(test)]
+mod together;

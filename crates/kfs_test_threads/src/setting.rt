@@ -42,13 +42,23 @@ pub fn opened<A: Allocator + Copy>(alloc: A) -> Option<Desk<A>> {
     opened_with(alloc, 100)
 }
 
-/// What client 7 hands in.
-pub fn submission<A: Allocator + Copy>(alloc: A, log: &[u8], plan: &[u8]) -> Option<Submission<A>> {
+/// What a client hands in.
+pub fn submission_of<A: Allocator + Copy>(
+    alloc: A,
+    client: u32,
+    log: &[u8],
+    plan: &[u8],
+) -> Option<Submission<A>> {
     Some(Submission {
-        client: 7,
+        client,
         log: Vec::from_slice(alloc, log).ok()?,
         plan: Vec::from_slice(alloc, plan).ok()?,
     })
+}
+
+/// What client 7 hands in.
+pub fn submission<A: Allocator + Copy>(alloc: A, log: &[u8], plan: &[u8]) -> Option<Submission<A>> {
+    submission_of(alloc, 7, log, plan)
 }
 
 /// Whether the submission has a Yes.

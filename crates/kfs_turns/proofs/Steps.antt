@@ -15,6 +15,7 @@ use Rattle.kfs_turns.specs.Lists.{StartsWith, Has, AreDistinct}
 use Rattle.kfs_turns.specs.Stages.{ticket, rows_out, HasTicket, HasCounted, IsServed, AreApart, after_count, at_stage, at_end, having_seen, having_counted, having_added, informed, having_met, used_up}
 use Rattle.kfs_turns.specs.Told.{TellsTurn, TellsCount, TellsRow, TellsDocket, TellsTicket, TellsPassing}
 use Rattle.kfs_turns.specs.Turns.{IsWith, IsAtStage, Fits, Lies, KeepsTurns, newcomer, HasEnded, IsUnreturned}
+use Rattle.kfs_turns.proofs.Lists.{starts_same, starts_trans}
 use Rattle.kfs_turns.specs.declared.known.Known.{Known}
 use Rattle.kfs_turns.specs.declared.known.Stage.{Stage}
 use Rattle.kfs_turns.specs.declared.known.Stage.TheVariants.{Idle, Waiting, Served}
@@ -96,15 +97,6 @@ module _ {D : Type 0} where
   still_served Idle h = h
   still_served (Waiting s) h = h
   still_served (Served s d c) h = h
-
-module _ {W : Type 0} where
-  -- what begins a beginning begins the whole
-  starts_trans : (a b c : List W) → StartsWith a b → StartsWith b c → StartsWith a c
-  starts_trans a b c p q = (q.0 ++ p.0, p.1 ∙ (ap (λ (z : List W). z ++ p.0) q.1 ∙ append_assoc c q.0 p.0))
-
-  -- a list begins with itself
-  starts_same : (a b : List W) → a ≡ b → StartsWith a b
-  starts_same a b e = ([], e ∙ sym (append-nil b))
 
 -- false is not true
 OnFalse : Bool → Type 0

@@ -1,5 +1,5 @@
 -- What the calls for one submission tell of its worker's pass.
-use Rattle.std.proofs.Common.{◌≡◌, ℕ, Bool, ◌≤◌, List, [], ◌∷◌, ◌++◌, length, sym, refl, ap, subst, ◌∙◌, arith, length-append, append_assoc, append-nil, Result, Ok, Err}
+use Rattle.std.proofs.Common.{◌≡◌, ◌≢◌, ℕ, Bool, ◌≤◌, List, [], ◌∷◌, ◌++◌, length, sym, refl, ap, subst, ◌∙◌, arith, length-append, append_assoc, append-nil, Result, Ok, Err}
 use Rattle.std.specs.Prelude.{IfOk, IfErr, OnErr}
 use Rattle.kfs_model.specs.Judgement.{State}
 use Rattle.kfs_model.specs.Machine.{Row}
@@ -11,14 +11,13 @@ use Rattle.kfs_plan.specs.declared.submission.Submission.{Submission}
 use Rattle.kfs_desk.specs.Beginning.{Beginning, IsDocketFrom}
 use Rattle.kfs_desk.specs.Docket.{position_of}
 use Rattle.kfs_desk.specs.Machine.{AnswerMeans, IsStep}
+use Rattle.kfs_turns.proofs.Lists.{starts_longer, starts_trans}
 use Rattle.kfs_turns.specs.Lists.{StartsWith}
 use Rattle.kfs_workers_threads.specs.Calls.{HasAdded, IsLanding, IsUnanswered}
 use Rattle.kfs_workers_threads.specs.declared.want.SharedBack.{SharedBack}
 use Rattle.kfs_workers_threads.specs.declared.want.SharedWant.{SharedWant}
 use Rattle.kfs_workers_threads.specs.declared.want.SharedWant.TheVariants.{OutOfMemory, DocketFull, TurnsSpent}
 use Rattle.kfs_workers_crew.specs.Tasks.{HasWorked}
-use Rattle.kfs_workers_crew.proofs.Crews.{starts_trans}
-use Rattle.kfs_workers_crew.proofs.Work.{starts_longer}
 use Rattle.kfs_workers_batch.specs.Answers.{IsAnswerTo, IsRepliedIn, IsWhyLeft, positions_in}
 
 -- ---- no answer
@@ -38,16 +37,13 @@ nothing_made s0 s1 o0 o1 begins own = record { begins = begins; owns = own ∙ s
 
 -- ---- an answer
 
--- a view was taken before: more was seen then, and no row was the pass's own
-pub one_made : (beginning : Beginning) (s0 s1 s2 : List Row) (o0 o1 o2 : List ℕ) (position : ℕ) (P : State → Row → State → Type 0) → StartsWith s1 s0 → o1 ≡ o0 → HasAdded beginning s1 o1 position P s2 o2
-    → HasWorked s0 o0 (position ∷ []) s2 o2
-one_made beginning s0 s1 s2 o0 o1 o2 position P begins own is =
+pub one_made : (beginning : Beginning) (s1 s2 : List Row) (o1 o2 : List ℕ) (position : ℕ) (P : State → Row → State → Type 0) → HasAdded beginning s1 o1 position P s2 o2 → HasWorked s1 o1 (position ∷ []) s2 o2
+one_made beginning s1 s2 o1 o2 position P is =
     let all = ap length is.sees ∙ length-append (s1 ++ is.between) (is.row ∷ []) in
     let before = length-append s1 is.between in
-    let first = starts_longer s1 s0 begins in
     let at = is.at in record {
-      begins = starts_trans s2 s1 s0 (is.between ++ is.row ∷ [], is.sees ∙ append_assoc s1 is.between (is.row ∷ [])) begins;
-      owns = is.owns ∙ ap (λ (z : List ℕ). z ++ position ∷ []) own;
+      begins = (is.between ++ is.row ∷ [], is.sees ∙ append_assoc s1 is.between (is.row ∷ []));
+      owns = is.owns;
       ascend = (omega arith, omega arith);
     }
 
@@ -66,17 +62,24 @@ is_replied {A} beginning s0 s1 o0 o1 judged submission reply same is = record {
   meaning = subst (λ (s : Submission A). AnswerMeans is.before (submission_of s) reply is.after) same is.is.meaning;
 }
 
--- ---- the landing, whose view was taken before
+-- ---- the landing in a turn
 
-pub landed_worked : {A : Type 0} (beginning : Beginning) (s0 s1 s2 : List Row) (o0 o1 o2 : List ℕ) (ended : Bool) (judged : Judged A) (r : Result Reply (SharedBack A)) → StartsWith s1 s0 → o1 ≡ o0
-    → IfOk r (λ reply. HasAdded beginning s1 o1 (position_of reply) (IsLanding judged reply) s2 o2) → IfErr r (λ back. IsUnanswered beginning back.why s1 s2 ended) → OnErr r (o2 ≡ o1) → HasWorked s0 o0 (positions_in r) s2 o2
-landed_worked beginning s0 s1 s2 o0 o1 o2 ended judged (Ok reply) begins own ok err same = one_made beginning s0 s1 s2 o0 o1 o2 (position_of reply) (IsLanding judged reply) begins own ok
-landed_worked beginning s0 s1 s2 o0 o1 o2 ended judged (Err back) begins own ok err same = nothing_made s0 s2 o0 o2 (starts_trans s2 s1 s0 (unanswered_begins beginning back.why s1 s2 ended err) begins) (same ∙ own)
+pub landed_worked : {A : Type 0} (beginning : Beginning) (s1 s2 : List Row) (o1 o2 : List ℕ) (ended : Bool) (judged : Judged A) (r : Result Reply (SharedBack A))
+    → IfOk r (λ reply. HasAdded beginning s1 o1 (position_of reply) (IsLanding judged reply) s2 o2) → IfErr r (λ back. IsUnanswered beginning back.why s1 s2 ended) → OnErr r (o2 ≡ o1) → HasWorked s1 o1 (positions_in r) s2 o2
+landed_worked beginning s1 s2 o1 o2 ended judged (Ok reply) ok err same = one_made beginning s1 s2 o1 o2 (position_of reply) (IsLanding judged reply) ok
+landed_worked beginning s1 s2 o1 o2 ended judged (Err back) ok err same = nothing_made s1 s2 o1 o2 (unanswered_begins beginning back.why s1 s2 ended err) same
 
 pub landed_answer : {A : Type 0} (beginning : Beginning) (s1 s2 : List Row) (o1 o2 : List ℕ) (ended : Bool) (judged : Judged A) (submission : Submission A) (r : Result Reply (SharedBack A)) → judged.submission ≡ submission
     → IfOk r (λ reply. HasAdded beginning s1 o1 (position_of reply) (IsLanding judged reply) s2 o2) → IfErr r (λ back. back.submission ≡ judged.submission) → IfErr r (λ back. IsUnanswered beginning back.why s1 s2 ended) → IsAnswerTo beginning s2 submission r
 landed_answer beginning s1 s2 o1 o2 ended judged submission (Ok reply) same ok back err = is_replied beginning s1 s2 o1 o2 judged submission reply same ok
 landed_answer beginning s1 s2 o1 o2 ended judged submission (Err left) same ok back err = (back ∙ same, unanswered_why beginning left.why s1 s2 ended err)
+
+-- ---- a submission that is left
+
+pub why_free : (beginning : Beginning) (docket : List Row) (why : SharedWant) → why ≢ DocketFull → IsWhyLeft beginning docket why
+why_free beginning docket OutOfMemory other = tt
+why_free beginning docket DocketFull other = absurd (other refl)
+why_free beginning docket TurnsSpent other = tt
 
 -- ---- what stands in a docket stands in a longer one
 

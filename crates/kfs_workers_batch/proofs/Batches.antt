@@ -10,13 +10,13 @@ use Rattle.kfs_plan.specs.declared.submission.Submission.{Submission}
 use Rattle.kfs_desk_docket.specs.Legal.{IsLegalDocket}
 use Rattle.kfs_desk.specs.Beginning.{Beginning, IsDocketFrom, beginning_of}
 use Rattle.kfs_desk.specs.Machine.{Desk}
+use Rattle.kfs_turns.proofs.Lists.{starts_longer, starts_trans}
 use Rattle.kfs_turns.specs.Lists.{StartsWith, Has, AreDistinct}
 use Rattle.kfs_turns.proofs.Numbers.{each_between}
 use Rattle.kfs_workers_crew.specs.Crew.{Pairs}
 use Rattle.kfs_workers_crew.specs.Shares.{share_from, when}
 use Rattle.kfs_workers_crew.specs.Tasks.{AscendWithin, AreDoneBy, IsDoneIn, all_of}
-use Rattle.kfs_workers_crew.proofs.Work.{starts_longer, ascend_higher}
-use Rattle.kfs_workers_crew.proofs.Crews.{starts_trans}
+use Rattle.kfs_workers_crew.proofs.Work.{ascend_higher}
 use Rattle.kfs_workers_batch.specs.Back.{AreBack, HasLostDesk}
 use Rattle.kfs_workers_batch.specs.Batch.{AreSettled, AreTheRows, AscendInShares, GoesOn, position_in}
 use Rattle.kfs_workers_batch.specs.Jobs.{IsJobDone, IsOutcome, positions_of}
@@ -25,7 +25,7 @@ use Rattle.kfs_workers_batch.specs.declared.end.BatchBack.{BatchBack}
 use Rattle.kfs_workers_batch.specs.declared.end.BatchBack.TheVariants.{BadWorkers, OutOfMemory, Unreturned}
 use Rattle.kfs_workers_batch.specs.declared.end.Left.{Left}
 use Rattle.kfs_workers_batch.specs.declared.job.Hand.{Hand}
-use Rattle.kfs_workers_batch.specs.declared.job.Hand.TheVariants.{Waiting, Taken, Replied, Back}
+use Rattle.kfs_workers_batch.specs.declared.job.Hand.TheVariants.{Waiting, Taken, Judged, Replied, Back}
 use Rattle.kfs_workers_batch.proofs.Answered.{replied_on, why_on}
 
 -- ---- each submission
@@ -35,6 +35,7 @@ settled_one : {A : Type 0} (beginning : Beginning) (longer docket : List Row) (n
     → AreSettled beginning longer number (s ∷ submissions) (reply_in h ∷ replies) (left_in number h ++ left)
 settled_one beginning longer docket number s (Waiting other) submissions replies left on whole h rest = absurd h
 settled_one beginning longer docket number s Taken submissions replies left on whole h rest = absurd h
+settled_one beginning longer docket number s (Judged judged) submissions replies left on whole h rest = absurd h
 settled_one beginning longer docket number s (Replied reply) submissions replies left on whole h rest = (replied_on beginning.opening longer docket s reply on h, rest)
 settled_one beginning longer docket number s (Back back) submissions replies left on whole h rest = (refl, h.0, why_on beginning longer docket back.why on whole h.1, rest)
 
@@ -69,6 +70,7 @@ module _ {A J : Type 0} (number : J → ℕ) (hand : J → Hand A) (beginning : 
 pub left_short : {A : Type 0} (number : ℕ) (h : Hand A) → length (left_in number h) ≤ 1
 left_short number (Waiting s) = omega arith
 left_short number Taken = omega arith
+left_short number (Judged judged) = omega arith
 left_short number (Replied reply) = omega arith
 left_short number (Back back) = omega arith
 
@@ -105,6 +107,7 @@ module _ {A J : Type 0} (hand : J → Hand A) where
   position_same : (h : Hand A) → position_in (reply_in h) ≡ positions_of h
   position_same (Waiting s) = refl
   position_same Taken = refl
+  position_same (Judged judged) = refl
   position_same (Replied reply) = refl
   position_same (Back back) = refl
 

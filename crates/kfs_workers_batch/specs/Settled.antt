@@ -4,17 +4,19 @@ use Rattle.kfs_plan.specs.declared.answers.Reply.{Reply}
 use Rattle.kfs_plan.specs.declared.submission.Submission.{Submission}
 use Rattle.kfs_workers_batch.specs.declared.end.Left.{Left}
 use Rattle.kfs_workers_batch.specs.declared.job.Hand.{Hand}
-use Rattle.kfs_workers_batch.specs.declared.job.Hand.TheVariants.{Waiting, Taken, Replied, Back}
+use Rattle.kfs_workers_batch.specs.declared.job.Hand.TheVariants.{Waiting, Taken, Judged, Replied, Back}
 
 abbrev pub reply_in : {A : Type 0} → Hand A → Option Reply
 reply_in (Waiting submission) = None
 reply_in Taken = None
+reply_in (Judged judged) = None
 reply_in (Replied reply) = Some reply
 reply_in (Back back) = None
 
 abbrev pub left_in : {A : Type 0} → (number : ℕ) → Hand A → List (Left A)
 left_in number (Waiting submission) = []
 left_in number Taken = []
+left_in number (Judged judged) = []
 left_in number (Replied reply) = []
 left_in number (Back back) = record { number = number; submission = back.submission; why = back.why } ∷ []
 

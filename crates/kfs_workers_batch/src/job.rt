@@ -1,22 +1,24 @@
-//! One submission of a batch: what a worker does for it.
-ghost use Rattle.std.specs.Prelude.{◌≡◌};
+//! One submission of a batch: where it is, and what its worker does for it.
+ghost use Rattle.std.specs.Prelude.{◌≡◌, ◌≢◌, ℕ, List, IfSome, IfOk, IfErr};
+ghost use Rattle.kfs_model.specs.Machine.{Row};
 ghost use Rattle.kfs_desk.specs.Beginning.{beginning_of};
-ghost use Rattle.kfs_workers_threads.specs.Passes.{IsPassOf, started, seen, own};
+ghost use Rattle.kfs_workers_threads.specs.Passes.{IsTurnOf, started, seen_by, own_by};
 ghost use Rattle.kfs_workers_crew.specs.Tasks.{HasWorked};
 ghost use Rattle.kfs_workers_batch.specs.Answers.{IsAnswerTo, positions_in};
+ghost use Rattle.kfs_workers_batch.specs.Jobs.{IsJudged, IsLanded, positions_of};
 
 use kfs_desk::{Desk, Reply};
-use kfs_plan::{Back, Submission, judge};
-use kfs_workers_crew::Task;
-use kfs_workers_threads::{Pass, Shared, SharedBack, SharedWant};
+use kfs_judge_check::View;
+use kfs_plan::{Back, Judged, Submission, judge};
+use kfs_workers_threads::{Shared, SharedBack, SharedWant, Turn};
 use std::alloc::Allocator;
 use std::mem;
-use std::sync::Wait;
 
 /// What is called before each landing of a batch.
 pub trait Gate {
     /// Called once the submission with this number is judged, and before it is landed. No turn is held:
-    /// other workers look, judge and land meanwhile. It is to return.
+    /// other workers look, judge and land meanwhile. A worker makes these calls in the order of its
+    /// submissions, and may have made several before it lands. It is to return.
     fn before(&self, number: u32);
 }
 
@@ -27,6 +29,8 @@ pub enum Hand<A: Allocator> {
     Waiting(Submission<A>),
     /// Its worker has it.
     Taken,
+    /// It is judged.
+    Judged(Box<Judged<A>, A>),
     /// It is answered.
     Replied(Reply),
     /// It isn't answered.
@@ -42,52 +46,115 @@ pub struct Job<'g, A: Allocator, G> {
     pub hand: Hand<A>,
 }
 
-/// Looks, judges, calls the gate and lands.
-fn answer<A: Allocator + Copy, R: Wait, G: Gate>(
-    rt: &R,
-    alloc: A,
-    gate: &G,
-    shared: &Shared<Desk<A>, A>,
-    pass: &mut Pass<Desk<A>>,
-    number: u32,
-    submission: Submission<A>,
-) -> Result<Reply, SharedBack<A>>
-    requires { IsPassOf shared.now pass.old }
-    ensures pass { IsPassOf shared.now pass.new }
-    ensures worked { HasWorked (seen pass.old) (own pass.old) (positions_in result) (seen pass.new) (own pass.new) }
-    ensures answer { IsAnswerTo (started beginning_of shared.now) (seen pass.new) submission result }
+/// The submission, which no memory was found for.
+fn wanting<A: Allocator>(submission: Submission<A>) -> SharedBack<A>
+    ensures submission { result.submission ≡ submission }
+    ensures why { result.why ≡ SharedWant.OutOfMemory }
 {
-    let view = match shared.view(rt, pass) {
+    let why = SharedWant::OutOfMemory;
+    SharedBack { submission, why }
+}
+
+/// The verdict on the submission, if there is a view. Else, or where memory is refused, the submission.
+fn verdict<A: Allocator + Copy>(
+    alloc: A,
+    view: &Result<View<A>, SharedWant>,
+    submission: Submission<A>,
+) -> Result<Box<Judged<A>, A>, SharedBack<A>>
+    requires view { IfErr view.now (λ why. why ≢ SharedWant.DocketFull) }
+    ensures submission { IfOk result (λ judged. judged.value.submission ≡ submission) }
+    ensures back { IfErr result (λ back. back.submission ≡ submission) }
+    ensures not_full { IfErr result (λ back. back.why ≢ SharedWant.DocketFull) }
+{
+    let view = match view {
         Ok(view) => view,
-        Err(why) => return Err(SharedBack { submission, why }),
-    };
-    let judged = match judge(alloc, &view, submission) {
-        Ok(judged) => judged,
-        Err(Back { submission, why: _ }) => {
-            let why = SharedWant::OutOfMemory;
+        Err(why) => {
+            let why = *why;
             return Err(SharedBack { submission, why });
         }
     };
-    drop(view);
-    gate.before(number);
-    shared.land(rt, pass, judged)
+    let judged = match judge(alloc, view, submission) {
+        Ok(judged) => judged,
+        Err(Back { submission, why: _ }) => return Err(wanting(submission)),
+    };
+    match Box::new(alloc, judged) {
+        Ok(judged) => Ok(judged),
+        Err(refused) => {
+            let (submission, _outcome) = refused.value.into_parts();
+            Err(wanting(submission))
+        }
+    }
 }
 
-impl<'g, A: Allocator + Copy, G: Gate> Task<Desk<A>, A> for Job<'g, A, G> {
-    ghost use Rattle.kfs_workers_batch.specs.Jobs.{IsJobDone, positions_of};
+/// Lands the verdict in the turn. Where no turn could be had, the submission comes back.
+fn land_in<A: Allocator + Copy>(
+    shared: &Shared<Desk<A>, A>,
+    turn: Option<Turn<Desk<A>>>,
+    judged: Judged<A>,
+) -> (Option<Turn<Desk<A>>>, Result<Reply, SharedBack<A>>)
+    requires { IfSome turn (IsTurnOf shared.now) }
+    ensures turn { IfSome result.0 (IsTurnOf shared.now) }
+    ensures worked { (s : List Row) (o : List ℕ) → HasWorked (seen_by turn s) (own_by turn o) (positions_in result.1) (seen_by result.0 s) (own_by result.0 o) }
+    ensures answer { (s : List Row) → IsAnswerTo (started beginning_of shared.now) (seen_by result.0 s) judged.submission result.1 }
+{
+    match turn {
+        Some(turn) => {
+            let (turn, answer) = turn.land(shared, judged);
+            (Some(turn), answer)
+        }
+        None => {
+            let (submission, _outcome) = judged.into_parts();
+            let why = SharedWant::TurnsSpent;
+            (None, Err(SharedBack { submission, why }))
+        }
+    }
+}
 
-    ghost positions = { λ job. positions_of job.hand };
-
-    ghost done = { λ beginning docket before after. IsJobDone beginning docket before.number before.hand after.number after.hand };
-
-    fn work<R: Wait>(&mut self, rt: &R, shared: &Shared<Desk<A>, A>, pass: &mut Pass<Desk<A>>) {
+impl<'g, A: Allocator + Copy, G: Gate> Job<'g, A, G> {
+    /// Judges the submission, and calls the gate if there is a verdict. Else the submission is back.
+    pub fn judge(&mut self, view: &Result<View<A>, SharedWant>)
+        requires view { IfErr view.now (λ why. why ≢ SharedWant.DocketFull) }
+        ensures number { self.new.number ≡ self.old.number }
+        ensures judged { IsJudged self.old.hand self.new.hand }
+    {
         let Hand::Waiting(submission) = mem::replace(&mut self.hand, Hand::Taken) else {
             return;
         };
-        let (alloc, number) = (self.alloc, self.number);
-        self.hand = match answer(rt, alloc, self.gate, shared, pass, number, submission) {
-            Ok(reply) => Hand::Replied(reply),
-            Err(back) => Hand::Back(back),
-        };
+        match verdict(self.alloc, view, submission) {
+            Ok(judged) => {
+                self.gate.before(self.number);
+                self.hand = Hand::Judged(judged);
+            }
+            Err(back) => self.hand = Hand::Back(back),
+        }
+    }
+
+    /// Lands the verdict in the turn, and keeps the answer. What is back stays so.
+    pub fn land(
+        &mut self,
+        shared: &Shared<Desk<A>, A>,
+        turn: Option<Turn<Desk<A>>>,
+    ) -> Option<Turn<Desk<A>>>
+        requires { IfSome turn (IsTurnOf shared.now) }
+        ensures turn { IfSome result (IsTurnOf shared.now) }
+        ensures number { self.new.number ≡ self.old.number }
+        ensures worked { (s : List Row) (o : List ℕ) → HasWorked (seen_by turn s) (own_by turn o) (positions_of self.new.hand) (seen_by result s) (own_by result o) }
+        ensures landed { (s : List Row) → IsLanded (started beginning_of shared.now) (seen_by result s) self.old.hand self.new.hand }
+    {
+        match mem::replace(&mut self.hand, Hand::Taken) {
+            Hand::Judged(judged) => {
+                let (turn, answer) = land_in(shared, turn, Box::into_inner(judged));
+                self.hand = match answer {
+                    Ok(reply) => Hand::Replied(reply),
+                    Err(back) => Hand::Back(back),
+                };
+                turn
+            }
+            Hand::Back(back) => {
+                self.hand = Hand::Back(back);
+                turn
+            }
+            Hand::Waiting(_) | Hand::Taken | Hand::Replied(_) => turn,
+        }
     }
 }

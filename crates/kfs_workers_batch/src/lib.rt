@@ -3,13 +3,14 @@
 //!
 //! It stands on `kfs_workers_crew`, which deals tasks to workers and has their passes meet, and on
 //! `kfs_workers_threads`; `kfs_workers` shows it. Begin with `run_batch` in `batch.rt`, then `job.rt`,
-//! which has what is done for one submission.
+//! which has what is done for one submission, and `together.rt`, for several.
 #![tactic(auto)]
 
 mod batch;
 mod end;
 mod job;
 mod settle;
+mod together;
 
 pub use batch::{MOST_WORKERS, run_batch};
 pub use end::{BatchBack, BatchEnd, Left};

@@ -60,7 +60,7 @@ fn settle_one<A: Allocator, G>(
             });
             replies.push_reserved(None);
         }
-        Hand::Waiting(_) | Hand::Taken => replies.push_reserved(None),
+        Hand::Waiting(_) | Hand::Taken | Hand::Judged(_) => replies.push_reserved(None),
     }
 }
 

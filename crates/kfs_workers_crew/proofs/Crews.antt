@@ -5,6 +5,7 @@ use Rattle.std.proofs.lemmas.List.{drop-set-lt}
 use Rattle.std.specs.List.{concat, AllByRecursion}
 use Rattle.std.proofs.lemmas.List.Elements.{All-from_recursion, recursion_from_All}
 use Rattle.kfs_turns.specs.Lists.{StartsWith}
+use Rattle.kfs_turns.proofs.Lists.{starts_trans}
 use Rattle.kfs_workers_crew.specs.Crew.{Pairs, Achieved}
 
 -- two parts side by side
@@ -23,9 +24,6 @@ pairs_length P [] [] h = refl
 pairs_length P [] (y ∷ ys) h = absurd h
 pairs_length P (x ∷ xs) [] h = absurd h
 pairs_length P (x ∷ xs) (y ∷ ys) h = let e = pairs_length P xs ys h.1 in omega arith
-
-pub starts_trans : {W : Type 0} (a b c : List W) → StartsWith a b → StartsWith b c → StartsWith a c
-starts_trans {W} a b c p q = (q.0 ++ p.0, p.1 ∙ (ap (λ (z : List W). z ++ p.0) q.1 ∙ append_assoc c q.0 p.0))
 
 pairs_each : {X Y : Type 0} (Q : X → Type 0) (R : X → Y → Type 0) (S : Y → Type 0) → ((x : X) (y : Y) → Q x → R x y → S y) → (xs : List X) (ys : List Y) → Pairs R xs ys → AllByRecursion Q xs → AllByRecursion S ys
 pairs_each Q R S f [] [] h q = tt

@@ -3,10 +3,8 @@ use Rattle.std.proofs.Common.{◌≡◌, ℕ, ◌+◌, ◌≤◌, ◌<◌, List,
 use Rattle.kfs_turns.specs.Lists.{StartsWith}
 use Rattle.kfs_workers_crew.specs.Crew.{Pairs}
 use Rattle.kfs_workers_crew.specs.Tasks.{AscendWithin, all_of, HasWorked, IsDoneIn, HasDone}
-use Rattle.kfs_workers_crew.proofs.Crews.{starts_trans, pairs_both}
-
-pub starts_longer : {W : Type 0} (longer shorter : List W) → StartsWith longer shorter → length shorter ≤ length longer
-starts_longer longer shorter p = let e = ap length p.1 ∙ length-append shorter p.0 in omega arith
+use Rattle.kfs_turns.proofs.Lists.{starts_trans}
+use Rattle.kfs_workers_crew.proofs.Crews.{pairs_both}
 
 -- ---- positions that rise
 
@@ -28,7 +26,7 @@ all_append : {X : Type 0} (f : X → List ℕ) (xs ys : List X) → all_of f (xs
 all_append f [] ys = refl
 all_append f (x ∷ xs) ys = ap (λ z. f x ++ z) (all_append f xs ys) ∙ sym (append_assoc (f x) (all_of f xs) (all_of f ys))
 
-worked_then : {W : Type 0} (s0 s1 s2 : List W) (o0 o1 o2 ks ls : List ℕ) → HasWorked s0 o0 ks s1 o1 → HasWorked s1 o1 ls s2 o2 → HasWorked s0 o0 (ks ++ ls) s2 o2
+pub worked_then : {W : Type 0} (s0 s1 s2 : List W) (o0 o1 o2 ks ls : List ℕ) → HasWorked s0 o0 ks s1 o1 → HasWorked s1 o1 ls s2 o2 → HasWorked s0 o0 (ks ++ ls) s2 o2
 worked_then s0 s1 s2 o0 o1 o2 ks ls a b = record {
   begins = starts_trans s2 s1 s0 b.begins a.begins;
   owns = b.owns ∙ (ap (λ (z : List ℕ). z ++ ls) a.owns ∙ append_assoc o0 ks ls);
@@ -46,21 +44,6 @@ done_on P longer docket on (x ∷ xs) (y ∷ ys) h = ((h.0.0, starts_trans longe
 
 pub both_done : {W T : Type 0} (P : List W → T → T → Type 0) (s1 s2 : List W) (xs us ys vs : List T) → StartsWith s2 s1 → Pairs (IsDoneIn P s1) xs ys → Pairs (IsDoneIn P s2) us vs → Pairs (IsDoneIn P s2) (xs ++ us) (ys ++ vs)
 both_done P s1 s2 xs us ys vs on a b = pairs_both (IsDoneIn P s2) xs us ys vs (done_on P s2 s1 on xs ys a) b
-
--- ---- one task alone
-
-only_set : {X : Type 0} (xs : List X) (x : X) → length xs ≡ 1 → set xs 0 x ≡ x ∷ []
-only_set [] x e = absurd (omega arith)
-only_set (v ∷ []) x e = refl
-only_set (v ∷ w ∷ xs) x e = absurd (omega arith)
-
-pub one_worked : {X W : Type 0} (f : X → List ℕ) (s0 s1 : List W) (o0 o1 : List ℕ) (xs : List X) (x : X) → length xs ≡ 1 → HasWorked s0 o0 (f x) s1 o1 → HasWorked s0 o0 (all_of f (set xs 0 x)) s1 o1
-one_worked f s0 s1 o0 o1 xs x one a = subst (λ ks. HasWorked s0 o0 ks s1 o1) (sym (ap (all_of f) (only_set xs x one) ∙ append-nil (f x))) a
-
-pub one_done : {W T : Type 0} (P : List W → T → T → Type 0) (docket : List W) (xs : List T) (d x : T) → length xs ≡ 1 → P docket (slice_index_or xs 0 d) x → Pairs (IsDoneIn P docket) xs (set xs 0 x)
-one_done P docket [] d x e h = absurd (omega arith)
-one_done P docket (v ∷ []) d x e h = ((docket, ([], sym (append-nil docket)), h), tt)
-one_done P docket (v ∷ w ∷ xs) d x e h = absurd (omega arith)
 
 -- all tasks of a worker whose pass had no row of its own
 pub has_done : {W T : Type 0} (f : T → List ℕ) (P : List W → T → T → Type 0) (s0 s1 : List W) (o0 o1 : List ℕ) (before after : List T) → o0 ≡ [] → HasWorked s0 o0 (all_of f after) s1 o1 → Pairs (IsDoneIn P s1) before after → HasDone P f s0 s1 o1 before after

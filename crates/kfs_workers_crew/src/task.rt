@@ -1,4 +1,4 @@
-//! Tasks, and how one worker does those that it was dealt.
+//! Tasks, and how one worker does those that it was dealt, some of them together.
 ghost use Rattle.std.specs.Prelude.{◌≡◌, ℕ, List, []};
 ghost use Rattle.kfs_workers_threads.specs.Passes.{IsPassOf, started, seen, own};
 ghost use Rattle.kfs_workers_crew.specs.Crew.{Pairs};
@@ -17,15 +17,19 @@ pub trait Task<D: Docketed, A: Allocator> {
     /// Of an object that was begun so and has this docket: the first was done, and is now the second.
     ghost done: { D.Opening → List D.Row → Self → Self → Type 0 };
 
-    /// Does it. Condition: the pass is one of this object.
-    fn work<R: Wait>(&mut self, rt: &R, shared: &Shared<D, A>, pass: &mut Pass<D>)
+    /// Whether these tasks are done together. One task alone always is.
+    fn go_together(tasks: &[Self]) -> bool;
+
+    /// Does the tasks together. Condition: the pass is one of this object.
+    fn work<R: Wait>(rt: &R, shared: &Shared<D, A>, pass: &mut Pass<D>, tasks: &mut [Self])
         requires { IsPassOf shared.now pass.old }
         ensures pass { IsPassOf shared.now pass.new }
-        ensures worked { HasWorked (seen pass.old) (own pass.old) (positions self.new) (seen pass.new) (own pass.new) }
-        ensures done { done (started D.opening shared.now) (seen pass.new) self.old self.new };
+        ensures worked { HasWorked (seen pass.old) (own pass.old) (all_of positions tasks.new) (seen pass.new) (own pass.new) }
+        ensures done { Pairs (IsDoneIn (done (started D.opening shared.now)) (seen pass.new)) tasks.old tasks.new };
 }
 
-/// Does the tasks in their order. It goes by halves, so that the depth of its calls is small.
+/// Does the tasks in their order. It halves them until they go together. So the depth of its calls is
+/// small.
 #[tactic(auto, using(crate::proofs::Work::both_done))]
 fn work_through<D: Docketed, A: Allocator, T: Task<D, A>, R: Wait>(
     rt: &R,
@@ -41,8 +45,8 @@ fn work_through<D: Docketed, A: Allocator, T: Task<D, A>, R: Wait>(
     if tasks.is_empty() {
         return;
     }
-    if tasks.len() == 1 {
-        tasks[0].work(rt, shared, pass);
+    if tasks.len() == 1 || T::go_together(tasks) {
+        T::work(rt, shared, pass, tasks);
         return;
     }
     let half = tasks.len() / 2;

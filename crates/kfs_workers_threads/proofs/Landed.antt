@@ -1,5 +1,6 @@
 -- What a turn tells, from what the desk says of its call.
-use Rattle.std.proofs.Common.{◌≡◌, ℕ, List, [], ◌∷◌, ◌++◌, length, Option, Some, sym, ap, subst, ◌∙◌}
+use Rattle.std.proofs.Common.{◌≡◌, ℕ, Bool, false, List, [], ◌∷◌, ◌++◌, length, Option, Some, refl, sym, ap, subst, ◌∙◌, append_assoc}
+use Rattle.std.proofs.lemmas.Bool.{both_ways}
 use Rattle.kfs_model.specs.Judgement.{State}
 use Rattle.kfs_model.specs.Machine.{Row}
 use Rattle.kfs_desk_docket.specs.Legal.{IsLegalDocket}
@@ -7,8 +8,11 @@ use Rattle.kfs_judge_check.specs.declared.view.View.{View}
 use Rattle.kfs_desk.specs.Beginning.{Beginning, IsDocketFrom, beginning_of}
 use Rattle.kfs_desk.specs.Machine.{Desk, IsViewOf}
 use Rattle.kfs_turns.specs.Lists.{StartsWith}
+use Rattle.kfs_turns.proofs.Lists.{starts_trans}
 use Rattle.kfs_turns.proofs.Steps.{one_said}
-use Rattle.kfs_workers_threads.specs.Calls.{HasAdded, IsViewAfter}
+use Rattle.kfs_workers_threads.specs.Calls.{HasAdded, IsUnanswered, IsViewAfter}
+use Rattle.kfs_workers_threads.specs.declared.want.SharedWant.{SharedWant}
+use Rattle.kfs_workers_threads.specs.declared.want.SharedWant.TheVariants.{OutOfMemory, DocketFull, TurnsSpent}
 
 -- The desk came out of the table with the rows that it had; the call added one, and the pass has seen them all.
 pub has_added : (beginning : Beginning) (known : Option Beginning) (seen : List Row) (own : List ℕ) (old new : Desk) (row : Row) (position : ℕ) (P : State → Row → State → Type 0) (seen_then : List Row) (own_then : List ℕ)
@@ -46,3 +50,27 @@ is_view_after {A} beginning known view desk seen seen_then is of begins led whol
       shows = shows;
       begins = subst (λ rows. StartsWith rows seen) (sym sees) begins;
     }
+
+-- ---- a call within a turn, said of the pass before the turn
+
+pub added_from : (beginning : Beginning) (s0 s1 s2 : List Row) (o0 o1 o2 : List ℕ) (position : ℕ) (P : State → Row → State → Type 0) → StartsWith s1 s0 → o1 ≡ o0 → HasAdded beginning s1 o1 position P s2 o2 → HasAdded beginning s0 o0 position P s2 o2
+added_from beginning s0 s1 s2 o0 o1 o2 position P begins own is =
+    let mid : s1 ++ is.between ≡ s0 ++ (begins.0 ++ is.between) = ap (λ (z : List Row). z ++ is.between) begins.1 ∙ append_assoc s0 begins.0 is.between in
+    record {
+      between = begins.0 ++ is.between;
+      before = is.before;
+      row = is.row;
+      after = is.after;
+      led = subst (λ rows. IsLegalDocket beginning.opening rows is.before) mid is.led;
+      leads = is.leads;
+      docket = is.docket;
+      is = is.is;
+      at = is.at ∙ ap length mid;
+      sees = is.sees ∙ ap (λ (z : List Row). z ++ is.row ∷ []) mid;
+      owns = is.owns ∙ ap (λ (z : List ℕ). z ++ position ∷ []) own;
+    }
+
+pub unanswered_from : (beginning : Beginning) (why : SharedWant) (s0 s1 s2 : List Row) (ended : Bool) → StartsWith s1 s0 → IsUnanswered beginning why s1 s2 false → IsUnanswered beginning why s0 s2 ended
+unanswered_from beginning OutOfMemory s0 s1 s2 ended begins is = starts_trans s2 s1 s0 is begins
+unanswered_from beginning DocketFull s0 s1 s2 ended begins is = (starts_trans s2 s1 s0 is.0 begins, is.1)
+unanswered_from beginning TurnsSpent s0 s1 s2 ended begins is = absurd (both_ways false is.0 refl)

@@ -1,9 +1,10 @@
 -- What clauses say of a shared object and its passes.
-use Rattle.std.specs.Prelude.{◌≡◌, ℕ, Bool, List, Some}
+use Rattle.std.specs.Prelude.{◌≡◌, ℕ, Bool, List, Option, Some, None}
 use Rattle.kfs_turns.specs.Turns.{HasEnded, IsUnreturned}
 use Rattle.kfs_workers_threads.specs.declared.docketed.Docketed.{Ghosts}
 use Rattle.kfs_workers_threads.specs.declared.pass.Pass.{Pass}
 use Rattle.kfs_workers_threads.specs.declared.pass.Shared.{Shared}
+use Rattle.kfs_workers_threads.specs.declared.pass.Turn.{Turn}
 
 module _ {D O W A : Type 0} where
   -- how the shared object was begun
@@ -34,3 +35,25 @@ module _ {D O W : Type 0} {G : Ghosts D O W} where
   -- at the end the words show a ticket that was drawn and whose turn wasn't passed on
   abbrev pub IsLeftUnreturned : {A : Type 0} → Shared D A O W → Pass D O W G → Type 0
   IsLeftUnreturned {A} shared pass = IsUnreturned G.opening G.rows G.legal G.stands shared.table.shared.key.value pass.seat.id pass.seat.me.0
+
+  -- ---- a pass in its turn
+
+  -- the rows that it has seen, and the positions of its own
+  abbrev pub seen_in : Turn D O W G → List W
+  seen_in turn = turn.seat.me.0.seen
+
+  abbrev pub own_in : Turn D O W G → List ℕ
+  own_in turn = turn.seat.me.0.own
+
+  -- it is a turn at this shared object
+  abbrev pub IsTurnOf : {A : Type 0} → Shared D A O W → Turn D O W G → Type 0
+  IsTurnOf {A} shared turn = (turn.seat.table_id ≡ shared.table.shared.table_id) × (turn.seat.me.0.opening ≡ Some (started G.opening shared))
+
+  -- of a pass whose turn was begun if there was a ticket left: the rows that it has seen, and the positions of its own
+  abbrev pub seen_by : Option (Turn D O W G) → (seen : List W) → List W
+  seen_by (Some turn) seen = seen_in turn
+  seen_by None seen = seen
+
+  abbrev pub own_by : Option (Turn D O W G) → (own : List ℕ) → List ℕ
+  own_by (Some turn) own = own_in turn
+  own_by None own = own

@@ -6,10 +6,9 @@ ghost use Rattle.kfs_workers_threads.specs.Passes.{IsPassOf, own};
 ghost use Rattle.kfs_workers_threads.specs.Sharing.{AddsNone, AddsRow};
 
 use crate::pass::{Pass, Shared};
-use crate::seats::{enter, give_back, give_back_with_row};
 use crate::want::{SharedBack, SharedWant};
 use kfs_desk::{Desk, Reply};
-use kfs_plan::{Back, Judged, Why};
+use kfs_plan::Judged;
 use std::alloc::Allocator;
 use std::sync::Wait;
 
@@ -34,30 +33,13 @@ impl<A: Allocator + Copy> Shared<Desk<A>, A> {
         ensures err { IfErr result (λ back. AddsNone self.now pass.old pass.new back.why) }
         ensures own { OnErr result (own pass.new ≡ own pass.old) }
     {
-        let table = &self.table.shared;
-        let Some(mut desk) = enter(rt, table, &mut pass.seat) else {
+        let Some(turn) = self.begin_turn(rt, pass) else {
             let (submission, _outcome) = judged.into_parts();
             let why = SharedWant::TurnsSpent;
             return Err(SharedBack { submission, why });
         };
-        match desk.land(judged) {
-            Ok(reply) => {
-                pass.rows = give_back_with_row(table, &mut pass.seat, desk);
-                Ok(reply)
-            }
-            Err(Back { submission, why }) => {
-                pass.rows = give_back(table, &mut pass.seat, desk);
-                match why {
-                    Why::OutOfMemory => Err(SharedBack {
-                        submission,
-                        why: SharedWant::OutOfMemory,
-                    }),
-                    Why::DocketFull => Err(SharedBack {
-                        submission,
-                        why: SharedWant::DocketFull,
-                    }),
-                }
-            }
-        }
+        let (turn, answer) = turn.land(self, judged);
+        self.end_turn(pass, turn);
+        answer
     }
 }

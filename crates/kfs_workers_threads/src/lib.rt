@@ -16,10 +16,11 @@ mod plays;
 mod rule;
 mod seats;
 mod shared;
+mod turn;
 mod view;
 mod want;
 
 pub use desk::{Begun, DocketRow};
 pub use docketed::Docketed;
-pub use pass::{Pass, Shared};
+pub use pass::{Pass, Shared, Turn};
 pub use want::{SharedBack, SharedWant, Unreturned};

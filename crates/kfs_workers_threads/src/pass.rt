@@ -1,5 +1,6 @@
-//! A shared object, and the passes of those who share it.
-ghost use Rattle.std.specs.Prelude.{◌≡◌, [], length};
+//! A shared object, the passes of those who share it, and their turns.
+ghost use Rattle.std.specs.Prelude.{◌≡◌, [], ◌∷◌, length, None, Some};
+ghost use Rattle.kfs_turns.specs.Stages.{HasCounted};
 ghost use Rattle.kfs_turns.specs.declared.known.Stage.TheVariants.{Idle};
 
 use crate::docketed::Docketed;
@@ -25,4 +26,17 @@ pub struct Pass<D: Docketed> {
     pub(crate) rows: u64,
     ghost idle: { (seat.me.0.stage ≡ Idle) × (seat.me.1 ≡ []) },
     ghost counted: { length seat.me.0.seen ≡ rows },
+}
+
+/// The turn of a pass. The object is out of the table, and all other passes wait until it is put back
+/// (`Shared::end_turn`). A turn that is dropped is never passed on.
+#[derive(Drop)]
+pub struct Turn<D: Docketed> {
+    pub(crate) seat: PassSeat<D>,
+    pub(crate) object: D,
+    ghost counted: { HasCounted seat.me.0.stage },
+    ghost out: { seat.me.1 ≡ (0, None) ∷ [] },
+    ghost begun: { seat.me.0.opening ≡ Some (D.opening object) },
+    ghost whole: { D.rows object ≡ seat.me.0.seen },
+    ghost lawful: { D.legal (D.opening object) (D.rows object) × D.stands object },
 }

@@ -159,7 +159,22 @@ pub fn give_back<D: Docketed>(table: &TurnTable<D>, seat: &mut PassSeat<D>, obje
     u64::from(rows)
 }
 
-/// The same of a call that added a row, which is the pass's own then.
+/// Tells all who share it that the object, which is still out, has one row more. The row is the pass's
+/// own then.
+pub fn add_last<D: Docketed>(table: &TurnTable<D>, seat: &mut PassSeat<D>, object: D) -> D
+    requires table { SeatFits table.now.table_id seat.old.table_id }
+    requires turn { HasCounted seat.old.me.0.stage }
+    requires row { (row : _) × (D.rows object ≡ seat.old.me.0.seen ++ row ∷ []) }
+    requires opened { seat.old.me.0.opening ≡ Some (D.opening object) }
+    ensures same { (seat.new.table_id ≡ seat.old.table_id) × (seat.new.id ≡ seat.old.id) }
+    ensures added { (result ≡ object) × (seat.new.me ≡ (having_added seat.old.me.0 (D.rows object) object, seat.old.me.1)) }
+    ensures legal { D.legal (D.opening object) (D.rows object) × D.stands object }
+{
+    let rows = u64::from(object.row_count());
+    add(table, seat, object, rows - 1)
+}
+
+/// The second half of a call that added a row, which is the pass's own then.
 pub fn give_back_with_row<D: Docketed>(
     table: &TurnTable<D>,
     seat: &mut PassSeat<D>,
@@ -175,7 +190,6 @@ pub fn give_back_with_row<D: Docketed>(
     ensures count { result ≡ length (D.rows object) }
     ensures legal { D.legal (D.opening object) (D.rows object) }
 {
-    let rows = u64::from(object.row_count());
-    let object = add(table, seat, object, rows - 1);
+    let object = add_last(table, seat, object);
     give_back(table, seat, object)
 }

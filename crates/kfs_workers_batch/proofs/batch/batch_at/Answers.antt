@@ -3,9 +3,9 @@ use Rattle.std.proofs.lemmas.Bool.{both_ways}
 use denote.Exit.{yes}
 use denote.Param.Send.{param_send, arg_send}
 use Rattle.kfs_desk.specs.Beginning.{beginning_of}
+use Rattle.kfs_turns.proofs.Lists.{starts_longer, starts_trans}
 use Rattle.kfs_workers_threads.specs.Passes.{seen, started}
-use Rattle.kfs_workers_crew.proofs.Crews.{pairs_length, starts_trans}
-use Rattle.kfs_workers_crew.proofs.Work.{starts_longer}
+use Rattle.kfs_workers_crew.proofs.Crews.{pairs_length}
 use Rattle.kfs_workers_crew.specs.Tasks.{all_of}
 use Rattle.kfs_workers_batch.specs.Batch.{AreTheRows, AscendInShares, position_in}
 use Rattle.kfs_workers_batch.proofs.Batches.{as_many, goes_on, in_shares, settled_all, settled_count, the_rows}

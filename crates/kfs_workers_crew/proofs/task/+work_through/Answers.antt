@@ -1,9 +1,5 @@
-use Rattle.std.proofs.Common.{rules}
-use Rattle.kfs_workers_crew.proofs.Work.{both_worked, one_worked}
+use Rattle.kfs_workers_crew.proofs.Work.{both_worked}
 use Rattle.kfs_workers_crew.proofs.task.+work_through.Goals as goal
-
-pub returns-then-tasks-eq1-clause-worked : goal.returns-then-tasks-eq1-clause-worked
-returns-then-tasks-eq1-clause-worked g t c = one_worked g.T.Task.positions _ _ _ _ c.args.tasks.now _ (search rules) c.work.ensures.worked
 
 pub returns-clause-worked : goal.returns-clause-worked
 returns-clause-worked g t c = both_worked _ _ _ _ _ _ _ c.work_through.new.tasks c.work_through-2.new.tasks c.work_through.ensures.worked c.work_through-2.ensures.worked
