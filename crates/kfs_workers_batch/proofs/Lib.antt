@@ -1,3 +1,3 @@
 pub mod Answered
 pub mod Batches
-pub mod Together
+pub mod OneTurn

@@ -1,5 +1,5 @@
 -- What a batch comes to.
-use Rattle.std.specs.Prelude.{◌≡◌, ℕ, ◌+◌, ◌≤◌, ◌<◌, List, [], ◌∷◌, length, Option, Some, None}
+use Rattle.std.specs.Prelude.{◌≡◌, ℕ, ◌+◌, ◌≤◌, ◌<◌, List, [], ◌∷◌, Option, Some, None}
 use Rattle.kfs_model.specs.Machine.{Row}
 use Rattle.kfs_desk_docket.specs.Legal.{IsLegalDocket}
 use Rattle.kfs_plan.specs.declared.answers.Reply.{Reply}

@@ -1,9 +1,12 @@
 -- What a worker makes of the submission that it was dealt.
-use Rattle.std.specs.Prelude.{◌≡◌, ◌≢◌, ℕ, List, [], ◌∷◌, Ok, Err}
+use Rattle.std.specs.Prelude.{◌≡◌, ◌≢◌, ℕ, zero, suc, List, [], ◌∷◌, Result, Ok, Err}
 use Rattle.kfs_model.specs.Machine.{Row}
+use Rattle.kfs_plan.specs.declared.answers.Reply.{Reply}
 use Rattle.kfs_desk.specs.Beginning.{Beginning}
 use Rattle.kfs_desk.specs.Docket.{position_of}
+use Rattle.kfs_workers_crew.specs.Crew.{Pairs}
 use Rattle.kfs_workers_batch.specs.Answers.{IsAnswerTo}
+use Rattle.kfs_workers_threads.specs.declared.want.SharedBack.{SharedBack}
 use Rattle.kfs_workers_threads.specs.declared.want.SharedWant.TheVariants.{DocketFull}
 use Rattle.kfs_workers_batch.specs.declared.job.Hand.{Hand}
 use Rattle.kfs_workers_batch.specs.declared.job.Hand.TheVariants.{Waiting, Taken, Judged, Replied, Back}
@@ -57,3 +60,16 @@ IsLanded beginning docket (Judged judged) (Replied reply) = IsAnswerTo beginning
 IsLanded beginning docket (Judged judged) (Back back) = IsAnswerTo beginning docket judged.value.submission (Err back)
 IsLanded beginning docket (Replied reply) after = Unit {0}
 IsLanded beginning docket (Back back) after = after ≡ Back back
+
+-- an answer, kept
+abbrev pub kept : {A : Type 0} → Result Reply (SharedBack A) → Hand A
+kept (Ok reply) = Replied reply
+kept (Err back) = Back back
+
+-- so many first elements are the same, and the others are paired so
+abbrev pub FromOn : {X : Type 0} → (X → X → Type 0) → (count : ℕ) → List X → List X → Type 0
+FromOn P zero xs ys = Pairs P xs ys
+FromOn P (suc n) [] [] = Unit {0}
+FromOn P (suc n) [] (y ∷ ys) = ⊥
+FromOn P (suc n) (x ∷ xs) [] = ⊥
+FromOn P (suc n) (x ∷ xs) (y ∷ ys) = (y ≡ x) × FromOn P n xs ys

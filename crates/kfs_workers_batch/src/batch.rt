@@ -128,7 +128,8 @@ fn batch_at<A: Allocator + Copy + Send + Sync, G: Gate + Sync, R: Threads + Wait
 
 /// Has so many workers judge and land the submissions at the desk, each worker in a thread of its own
 /// where one can be had. Submission i goes to worker `i mod workers`, and each worker takes its own in
-/// their order: it takes a view, judges against that with no turn held, calls the gate, and lands.
+/// their order: it takes a view, judges against that with no turn held, calls the gate, and lands. It may
+/// do so with several short submissions of different clients together, which it lands in one turn.
 ///
 /// Takes the memory for its lists before the first turn, and hands all back where that is refused. Memory
 /// that is refused later leaves the submission for which it was to be. Waits for turns, and for the

@@ -5,7 +5,7 @@ ghost use Rattle.kfs_desk.specs.Beginning.{beginning_of};
 ghost use Rattle.kfs_workers_threads.specs.Passes.{IsTurnOf, started, seen_by, own_by};
 ghost use Rattle.kfs_workers_crew.specs.Tasks.{HasWorked};
 ghost use Rattle.kfs_workers_batch.specs.Answers.{IsAnswerTo, positions_in};
-ghost use Rattle.kfs_workers_batch.specs.Jobs.{IsJudged, IsLanded, positions_of};
+ghost use Rattle.kfs_workers_batch.specs.Jobs.{IsJudged, IsLanded, kept, positions_of};
 
 use kfs_desk::{Desk, Reply};
 use kfs_judge_check::View;
@@ -87,7 +87,7 @@ fn verdict<A: Allocator + Copy>(
 }
 
 /// Lands the verdict in the turn. Where no turn could be had, the submission comes back.
-fn land_in<A: Allocator + Copy>(
+fn landed<A: Allocator + Copy>(
     shared: &Shared<Desk<A>, A>,
     turn: Option<Turn<Desk<A>>>,
     judged: Judged<A>,
@@ -107,6 +107,16 @@ fn land_in<A: Allocator + Copy>(
             let why = SharedWant::TurnsSpent;
             (None, Err(SharedBack { submission, why }))
         }
+    }
+}
+
+/// The answer, kept.
+fn hand_of<A: Allocator>(answer: Result<Reply, SharedBack<A>>) -> Hand<A>
+    ensures { result ≡ kept answer }
+{
+    match answer {
+        Ok(reply) => Hand::Replied(reply),
+        Err(back) => Hand::Back(back),
     }
 }
 
@@ -143,11 +153,8 @@ impl<'g, A: Allocator + Copy, G: Gate> Job<'g, A, G> {
     {
         match mem::replace(&mut self.hand, Hand::Taken) {
             Hand::Judged(judged) => {
-                let (turn, answer) = land_in(shared, turn, Box::into_inner(judged));
-                self.hand = match answer {
-                    Ok(reply) => Hand::Replied(reply),
-                    Err(back) => Hand::Back(back),
-                };
+                let (turn, answer) = landed(shared, turn, Box::into_inner(judged));
+                self.hand = hand_of(answer);
                 turn
             }
             Hand::Back(back) => {

@@ -1,12 +1,11 @@
 //! Which submissions a worker answers together, and how: it judges them against one view, and lands
 //! their verdicts in one turn.
-ghost use Rattle.std.specs.Prelude.{◌≡◌, ◌≢◌, ℕ, List, IfSome, IfErr};
+ghost use Rattle.std.specs.Prelude.{◌≡◌, ◌≢◌, ℕ, List, IfSome, IfErr, drop};
 ghost use Rattle.kfs_model.specs.Machine.{Row};
 ghost use Rattle.kfs_desk.specs.Beginning.{beginning_of};
 ghost use Rattle.kfs_workers_threads.specs.Passes.{IsTurnOf, started, seen_by, own_by};
-ghost use Rattle.kfs_workers_crew.specs.Crew.{Pairs};
 ghost use Rattle.kfs_workers_crew.specs.Tasks.{HasWorked, IsDoneIn, all_of};
-ghost use Rattle.kfs_workers_batch.specs.Jobs.{IsJudged, IsLanded, positions_of};
+ghost use Rattle.kfs_workers_batch.specs.Jobs.{FromOn, IsJudged, IsLanded, positions_of};
 
 use crate::job::{Gate, Hand, Job};
 use kfs_desk::Desk;
@@ -47,52 +46,59 @@ fn are_short<A: Allocator, G>(jobs: &[Job<'_, A, G>]) -> bool {
     bytes <= MOST_BYTES
 }
 
+/// Whether one of them is this client's.
+fn has_client<A: Allocator, G>(jobs: &[Job<'_, A, G>], client: Option<u32>) -> bool {
+    for job in jobs {
+        if client_of(job) == client {
+            return true;
+        }
+    }
+    false
+}
+
 /// Whether no two are of one client. A client's logs build on each other, so the second would be judged
 /// twice.
 fn are_of_clients<A: Allocator, G>(jobs: &[Job<'_, A, G>]) -> bool {
-    let mut left = jobs;
-    while let Some((job, rest)) = left.split_first() {
-        let client = client_of(job);
-        if rest.iter().any(|other| client_of(other) == client) {
-            return false;
-        }
-        left = rest;
+    match jobs.split_first() {
+        Some((job, later)) => !has_client(later, client_of(job)) && are_of_clients(later),
+        None => true,
     }
-    true
 }
 
-/// Judges the submissions in their order.
-fn judge_all<A: Allocator + Copy, G: Gate>(
+/// Judges the submissions from this number on, in their order.
+fn judge_from<A: Allocator + Copy, G: Gate>(
     view: &Result<View<A>, SharedWant>,
     jobs: &mut [Job<'_, A, G>],
+    from: usize,
 )
     requires { IfErr view.now (λ why. why ≢ SharedWant.DocketFull) }
-    ensures { Pairs (λ v w. (w.number ≡ v.number) × IsJudged v.hand w.hand) jobs.old jobs.new }
+    ensures { FromOn (λ v w. (w.number ≡ v.number) × IsJudged v.hand w.hand) from jobs.old jobs.new }
 {
-    if let Some((job, later)) = jobs.split_first_mut() {
-        job.judge(view);
-        judge_all(view, later);
+    if from >= jobs.len() {
+        return;
     }
+    jobs[from].judge(view);
+    judge_from(view, jobs, from + 1);
 }
 
-/// Lands the verdicts in their order, in one turn. Where none could be had, the submissions come back.
-fn land_all<A: Allocator + Copy, G: Gate>(
+/// Lands the verdicts on the submissions from this number on, in their order. Where no turn could be had,
+/// the submissions come back.
+fn land_from<A: Allocator + Copy, G: Gate>(
     shared: &Shared<Desk<A>, A>,
     turn: Option<Turn<Desk<A>>>,
     jobs: &mut [Job<'_, A, G>],
+    from: usize,
 ) -> Option<Turn<Desk<A>>>
     requires { IfSome turn (IsTurnOf shared.now) }
     ensures turn { IfSome result (IsTurnOf shared.now) }
-    ensures worked { (s : List Row) (o : List ℕ) → HasWorked (seen_by turn s) (own_by turn o) (all_of (λ job. positions_of job.hand) jobs.new) (seen_by result s) (own_by result o) }
-    ensures landed { (s : List Row) → Pairs (IsDoneIn (λ docket v w. (w.number ≡ v.number) × IsLanded (started beginning_of shared.now) docket v.hand w.hand) (seen_by result s)) jobs.old jobs.new }
+    ensures worked { (s : List Row) (o : List ℕ) → HasWorked (seen_by turn s) (own_by turn o) (all_of (λ job. positions_of job.hand) (drop from jobs.new)) (seen_by result s) (own_by result o) }
+    ensures landed { (s : List Row) → FromOn (IsDoneIn (λ docket v w. (w.number ≡ v.number) × IsLanded (started beginning_of shared.now) docket v.hand w.hand) (seen_by result s)) from jobs.old jobs.new }
 {
-    match jobs.split_first_mut() {
-        Some((job, later)) => {
-            let turn = job.land(shared, turn);
-            land_all(shared, turn, later)
-        }
-        None => turn,
+    if from >= jobs.len() {
+        return turn;
     }
+    let turn = jobs[from].land(shared, turn);
+    land_from(shared, turn, jobs, from + 1)
 }
 
 impl<'g, A: Allocator + Copy, G: Gate> Task<Desk<A>, A> for Job<'g, A, G> {
@@ -113,11 +119,11 @@ impl<'g, A: Allocator + Copy, G: Gate> Task<Desk<A>, A> for Job<'g, A, G> {
         tasks: &mut [Job<'g, A, G>],
     ) {
         let view = shared.view(rt, pass);
-        judge_all(&view, tasks);
+        judge_from(&view, tasks, 0);
         // A view that is dropped shares nothing with the desk, which then copies less.
         drop(view);
         let turn = shared.begin_turn(rt, pass);
-        if let Some(turn) = land_all(shared, turn, tasks) {
+        if let Some(turn) = land_from(shared, turn, tasks, 0) {
             shared.end_turn(pass, turn);
         }
     }

@@ -1,6 +1,6 @@
 -- Lists of pairs.
 use Rattle.std.proofs.Common.{◌≡◌, ℕ, zero, suc, ◌+◌, List, [], ◌∷◌, ◌++◌, length, set, sym, refl, ap, subst, arith}
-use Rattle.std.proofs.Common.{append_assoc, ◌∙◌, ◌<◌, All, map, drop, slice_index_or}
+use Rattle.std.proofs.Common.{◌∙◌, ◌<◌, All, map, drop, slice_index_or}
 use Rattle.std.proofs.lemmas.List.{drop-set-lt}
 use Rattle.std.specs.List.{concat, AllByRecursion}
 use Rattle.std.proofs.lemmas.List.Elements.{All-from_recursion, recursion_from_All}

@@ -1,8 +1,7 @@
 -- What is dealt, what stands in the shares then, and what comes back.
-use Rattle.std.proofs.Common.{◌≡◌, ◌≢◌, ℕ, zero, suc, inl, inr, ◌+◌, ◌*◌, ◌/◌, ◌%◌, ◌<◌, ◌≤◌, ◌⊎◌, ◌==◌, List, [], ◌∷◌, ◌++◌, length, get_or, set, replicate, map, reverse, sym, refl, ap, subst, ◌∙◌, ⊎_elim, arith, append_assoc, append-nil, length-append, slice_index_or}
-use Rattle.std.specs.List.{concat}
+use Rattle.std.proofs.Common.{◌≡◌, ◌≢◌, ℕ, zero, suc, ◌+◌, ◌*◌, ◌/◌, ◌%◌, ◌<◌, ◌≤◌, ◌==◌, List, [], ◌∷◌, ◌++◌, length, get_or, set, replicate, map, reverse, sym, refl, ap, subst, ◌∙◌, ⊎_elim, arith, append_assoc, append-nil, length-append, slice_index_or}
 use Rattle.std.proofs.lemmas.Bool.{cases_eq, eq-eqb, ne_eqb}
-use Rattle.std.proofs.lemmas.List.{length-set, length-replicate, get_or-replicate, get_or-set_same, get_or-set_other, map-append, set-set, set-get_or, length-reverse, reverse-append}
+use Rattle.std.proofs.lemmas.List.{length-set, length-replicate, get_or-replicate, get_or-set_same, get_or-set_other, set-set, set-get_or, length-reverse, reverse-append}
 use Rattle.std.proofs.lemmas.Nat.{div-add-mod', mod_below, div_below, le-div, div-mul-add}
 use native.Mathlib.Nat.{mul_comm, mul-le-mul_right}
 use Rattle.kfs_workers_crew.specs.Crew.{Pairs}

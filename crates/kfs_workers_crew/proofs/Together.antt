@@ -1,11 +1,11 @@
 -- What the workers of a crew come to together.
-use Rattle.std.proofs.Common.{◌≡◌, ℕ, zero, suc, inl, inr, ◌+◌, ◌≤◌, ◌<◌, ◌⊎◌, ◌%◌, List, [], ◌∷◌, ◌++◌, length, map, reverse, get_or, sym, refl, ap, subst, ◌∙◌, ⊎_elim, arith}
+use Rattle.std.proofs.Common.{◌≡◌, ℕ, zero, suc, inl, inr, ◌+◌, ◌≤◌, ◌<◌, ◌%◌, List, [], ◌∷◌, ◌++◌, length, map, reverse, get_or, sym, refl, ap, subst, ◌∙◌, arith}
 use Rattle.std.proofs.lemmas.List.{length-map, reverse-append, reverse-reverse}
 use Rattle.std.proofs.lemmas.Simd.{map-map}
 use Rattle.kfs_turns.proofs.Lists.{starts_longer}
-use Rattle.kfs_turns.specs.Lists.{StartsWith, Has, AreDistinct}
+use Rattle.kfs_turns.specs.Lists.{Has, AreDistinct}
 use Rattle.kfs_workers_crew.specs.Crew.{Pairs, Achieved}
-use Rattle.kfs_workers_crew.specs.Shares.{share_from, put_in, dealt}
+use Rattle.kfs_workers_crew.specs.Shares.{put_in, dealt}
 use Rattle.kfs_workers_crew.specs.Tasks.{AscendWithin, all_of, IsDoneIn, HasDone, AreDoneBy}
 use Rattle.kfs_workers_crew.proofs.Crews.{pairs_both, pairs_length}
 use Rattle.kfs_workers_crew.proofs.Sums.{weigh, one_at, has_weigh, weigh_has, distinct_weigh, weigh_distinct}

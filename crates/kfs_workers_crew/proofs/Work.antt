@@ -1,5 +1,5 @@
 -- One task after another.
-use Rattle.std.proofs.Common.{◌≡◌, ℕ, ◌+◌, ◌≤◌, ◌<◌, List, [], ◌∷◌, ◌++◌, length, set, sym, refl, ap, subst, ◌∙◌, length-append, append_assoc, append-nil, arith, slice_index_or}
+use Rattle.std.proofs.Common.{◌≡◌, ℕ, ◌+◌, ◌≤◌, List, [], ◌∷◌, ◌++◌, length, sym, refl, ap, subst, ◌∙◌, append_assoc, arith}
 use Rattle.kfs_turns.specs.Lists.{StartsWith}
 use Rattle.kfs_workers_crew.specs.Crew.{Pairs}
 use Rattle.kfs_workers_crew.specs.Tasks.{AscendWithin, all_of, HasWorked, IsDoneIn, HasDone}

@@ -1,16 +1,24 @@
 -- What a turn tells, from what the desk says of its call.
-use Rattle.std.proofs.Common.{◌≡◌, ℕ, Bool, false, List, [], ◌∷◌, ◌++◌, length, Option, Some, refl, sym, ap, subst, ◌∙◌, append_assoc}
+use Rattle.std.proofs.Common.{◌≡◌, ℕ, Bool, false, true, List, [], ◌∷◌, ◌++◌, length, Option, Some, Result, Ok, Err, refl, sym, ap, subst, ◌∙◌, append_assoc}
+use Rattle.std.specs.Prelude.{IfOk, IfErr}
 use Rattle.std.proofs.lemmas.Bool.{both_ways}
 use Rattle.kfs_model.specs.Judgement.{State}
 use Rattle.kfs_model.specs.Machine.{Row}
 use Rattle.kfs_desk_docket.specs.Legal.{IsLegalDocket}
 use Rattle.kfs_judge_check.specs.declared.view.View.{View}
 use Rattle.kfs_desk.specs.Beginning.{Beginning, IsDocketFrom, beginning_of}
+use Rattle.kfs_desk.specs.Docket.{position_of}
 use Rattle.kfs_desk.specs.Machine.{Desk, IsViewOf}
+use Rattle.kfs_plan.specs.Judged.{Judged}
+use Rattle.kfs_plan.specs.declared.answers.Reply.{Reply}
+use Rattle.kfs_turns.specs.Stages.{having_added, ticket}
+use Rattle.kfs_turns.specs.declared.known.Known.{Known}
+use Rattle.kfs_turns.specs.declared.known.Stage.TheVariants.{Served}
 use Rattle.kfs_turns.specs.Lists.{StartsWith}
 use Rattle.kfs_turns.proofs.Lists.{starts_trans}
 use Rattle.kfs_turns.proofs.Steps.{one_said}
-use Rattle.kfs_workers_threads.specs.Calls.{HasAdded, IsUnanswered, IsViewAfter}
+use Rattle.kfs_workers_threads.specs.Calls.{HasAdded, IsLanding, IsUnanswered, IsViewAfter}
+use Rattle.kfs_workers_threads.specs.declared.want.SharedBack.{SharedBack}
 use Rattle.kfs_workers_threads.specs.declared.want.SharedWant.{SharedWant}
 use Rattle.kfs_workers_threads.specs.declared.want.SharedWant.TheVariants.{OutOfMemory, DocketFull, TurnsSpent}
 
@@ -51,9 +59,19 @@ is_view_after {A} beginning known view desk seen seen_then is of begins led whol
       begins = subst (λ rows. StartsWith rows seen) (sym sees) begins;
     }
 
+-- ---- a turn with one row more
+
+pub added_served : {D O W : Type 0} (v w : Known D O W) (rows : List W) (d e : D) → w ≡ having_added v rows d → e ≡ d → w.stage ≡ Served (ticket w.stage) e true
+added_served {D} {O} {W} v w rows d e is same =
+    let stage : w.stage ≡ Served (ticket v.stage) d true = ap (λ (k : Known D O W). k.stage) is in
+    stage ∙ (ap (λ t. Served t d true) (sym (ap ticket stage)) ∙ ap (λ x. Served (ticket w.stage) x true) (sym same))
+
+pub still_begun : (known : Option Beginning) (old new : Desk) → known ≡ Some (beginning_of old) → new.opening ≡ old.opening → new.limit ≡ old.limit → known ≡ Some (beginning_of new)
+still_begun known old new is opening limit = is ∙ (λ i. Some record { opening = sym opening i; limit = sym limit i })
+
 -- ---- a call within a turn, said of the pass before the turn
 
-pub added_from : (beginning : Beginning) (s0 s1 s2 : List Row) (o0 o1 o2 : List ℕ) (position : ℕ) (P : State → Row → State → Type 0) → StartsWith s1 s0 → o1 ≡ o0 → HasAdded beginning s1 o1 position P s2 o2 → HasAdded beginning s0 o0 position P s2 o2
+added_from : (beginning : Beginning) (s0 s1 s2 : List Row) (o0 o1 o2 : List ℕ) (position : ℕ) (P : State → Row → State → Type 0) → StartsWith s1 s0 → o1 ≡ o0 → HasAdded beginning s1 o1 position P s2 o2 → HasAdded beginning s0 o0 position P s2 o2
 added_from beginning s0 s1 s2 o0 o1 o2 position P begins own is =
     let mid : s1 ++ is.between ≡ s0 ++ (begins.0 ++ is.between) = ap (λ (z : List Row). z ++ is.between) begins.1 ∙ append_assoc s0 begins.0 is.between in
     record {
@@ -70,7 +88,19 @@ added_from beginning s0 s1 s2 o0 o1 o2 position P begins own is =
       owns = is.owns ∙ ap (λ (z : List ℕ). z ++ position ∷ []) own;
     }
 
-pub unanswered_from : (beginning : Beginning) (why : SharedWant) (s0 s1 s2 : List Row) (ended : Bool) → StartsWith s1 s0 → IsUnanswered beginning why s1 s2 false → IsUnanswered beginning why s0 s2 ended
+unanswered_from : (beginning : Beginning) (why : SharedWant) (s0 s1 s2 : List Row) (ended : Bool) → StartsWith s1 s0 → IsUnanswered beginning why s1 s2 false → IsUnanswered beginning why s0 s2 ended
 unanswered_from beginning OutOfMemory s0 s1 s2 ended begins is = starts_trans s2 s1 s0 is begins
 unanswered_from beginning DocketFull s0 s1 s2 ended begins is = (starts_trans s2 s1 s0 is.0 begins, is.1)
-unanswered_from beginning TurnsSpent s0 s1 s2 ended begins is = absurd (both_ways false is.0 refl)
+unanswered_from beginning TurnsSpent s0 s1 s2 ended begins is = absurd (both_ways false refl is.0)
+
+pub landed_ok : {A : Type 0} (beginning : Beginning) (s0 s1 s2 s3 : List Row) (o0 o1 o2 o3 : List ℕ) (judged : Judged A) (r : Result Reply (SharedBack A)) → StartsWith s1 s0 → o1 ≡ o0 → s3 ≡ s2 → o3 ≡ o2
+    → IfOk r (λ reply. HasAdded beginning s1 o1 (position_of reply) (IsLanding judged reply) s2 o2) → IfOk r (λ reply. HasAdded beginning s0 o0 (position_of reply) (IsLanding judged reply) s3 o3)
+landed_ok {A} beginning s0 s1 s2 s3 o0 o1 o2 o3 judged (Ok reply) begins own sees owns is =
+    let P : State → Row → State → Type 0 = IsLanding judged reply in
+    subst (λ rows. HasAdded beginning s0 o0 (position_of reply) P rows o3) (sym sees) (subst (HasAdded beginning s0 o0 (position_of reply) P s2) (sym owns) (added_from beginning s0 s1 s2 o0 o1 o2 (position_of reply) P begins own is))
+landed_ok beginning s0 s1 s2 s3 o0 o1 o2 o3 judged (Err back) begins own sees owns is = is
+
+pub landed_err : {A : Type 0} (beginning : Beginning) (s0 s1 s2 s3 : List Row) (ended : Bool) (r : Result Reply (SharedBack A)) → StartsWith s1 s0 → s3 ≡ s2
+    → IfErr r (λ back. IsUnanswered beginning back.why s1 s2 false) → IfErr r (λ back. IsUnanswered beginning back.why s0 s3 ended)
+landed_err beginning s0 s1 s2 s3 ended (Ok reply) begins sees is = is
+landed_err beginning s0 s1 s2 s3 ended (Err back) begins sees is = subst (λ rows. IsUnanswered beginning back.why s0 rows ended) (sym sees) (unanswered_from beginning back.why s0 s1 s2 ended begins is)

@@ -1,7 +1,7 @@
 //! A shared object, the passes of those who share it, and their turns.
-ghost use Rattle.std.specs.Prelude.{◌≡◌, [], ◌∷◌, length, None, Some};
-ghost use Rattle.kfs_turns.specs.Stages.{HasCounted};
-ghost use Rattle.kfs_turns.specs.declared.known.Stage.TheVariants.{Idle};
+ghost use Rattle.std.specs.Prelude.{◌≡◌, [], ◌∷◌, length, None, Some, true};
+ghost use Rattle.kfs_turns.specs.Stages.{ticket};
+ghost use Rattle.kfs_turns.specs.declared.known.Stage.TheVariants.{Idle, Served};
 
 use crate::docketed::Docketed;
 use crate::rule::{PassSeat, Turns};
@@ -34,9 +34,8 @@ pub struct Pass<D: Docketed> {
 pub struct Turn<D: Docketed> {
     pub(crate) seat: PassSeat<D>,
     pub(crate) object: D,
-    ghost counted: { HasCounted seat.me.0.stage },
+    ghost served: { seat.me.0.stage ≡ Served (ticket seat.me.0.stage) object true },
     ghost out: { seat.me.1 ≡ (0, None) ∷ [] },
     ghost begun: { seat.me.0.opening ≡ Some (D.opening object) },
     ghost whole: { D.rows object ≡ seat.me.0.seen },
-    ghost lawful: { D.legal (D.opening object) (D.rows object) × D.stands object },
 }

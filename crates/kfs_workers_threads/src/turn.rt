@@ -79,6 +79,8 @@ impl<A: Allocator + Copy> Turn<Desk<A>> {
         let Turn { seat, object } = self;
         let mut seat = seat;
         let mut desk = object;
+        // Tells the prover that the docket is legal and leads to the state.
+        let _rows = desk.row_count();
         match desk.land(judged) {
             Ok(reply) => {
                 let object = add_last(&shared.table.shared, &mut seat, desk);

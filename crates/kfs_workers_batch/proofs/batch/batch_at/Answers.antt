@@ -1,4 +1,4 @@
-use Rattle.std.proofs.Common.{◌≡◌, ◌-◌, ◌/◌, ◌≤◌, ◌<◌, inl, inr, length, slice_index_or, vec_capacity, refl, sym, ap, subst, arith, rules}
+use Rattle.std.proofs.Common.{◌≡◌, ◌/◌, ◌<◌, inl, inr, length, slice_index_or, vec_capacity, refl, sym, ap, subst, arith, rules}
 use Rattle.std.proofs.lemmas.Bool.{both_ways}
 use denote.Exit.{yes}
 use denote.Param.Send.{param_send, arg_send}

@@ -1,4 +1,4 @@
-use Rattle.std.proofs.Common.{◌≡◌, ◌/◌, ◌≤◌, ◌<◌, [], length, replicate, slice_index_or, vec_capacity, IfOk, sym, ap, subst, ◌∙◌, arith, rules}
+use Rattle.std.proofs.Common.{◌≡◌, ◌/◌, ◌<◌, [], length, replicate, slice_index_or, vec_capacity, IfOk, sym, ap, subst, ◌∙◌, arith, rules}
 use Rattle.std.proofs.lemmas.List.{length-map, length-replicate}
 use Rattle.kfs_desk.specs.Beginning.{beginning_of}
 use Rattle.kfs_workers_threads.specs.Passes.{seen, started}

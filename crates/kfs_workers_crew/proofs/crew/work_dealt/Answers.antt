@@ -1,4 +1,4 @@
-use Rattle.std.proofs.Common.{length, sym, ◌∙◌}
+use Rattle.std.proofs.Common.{sym, ◌∙◌}
 use Rattle.kfs_workers_threads.specs.Passes.{seen, own, started}
 use Rattle.kfs_workers_crew.proofs.Together.{lie_dealt, are_done}
 use Rattle.kfs_workers_crew.proofs.crew.work_dealt.Goals as goal

@@ -1,4 +1,4 @@
-use Rattle.std.proofs.Common.{◌≡◌, ◌+◌, ◌/◌, ◌%◌, ◌≤◌, ◌<◌, ◌++◌, ◌∷◌, [], length, get_or, map, sym, ap, subst, ◌∙◌, length-append, vec_capacity, arith}
+use Rattle.std.proofs.Common.{◌/◌, ◌%◌, ◌≤◌, ◌<◌, ◌∷◌, [], length, get_or, sym, ap, subst, ◌∙◌, length-append, vec_capacity, arith}
 use Rattle.kfs_workers_crew.specs.Shares.{dealt}
 use Rattle.kfs_workers_crew.proofs.Crews.{all_mapped}
 use Rattle.kfs_workers_crew.proofs.Shares.{room_enough}

@@ -1,4 +1,4 @@
-use Rattle.std.proofs.Common.{◌/◌, ◌<◌, arith}
+use Rattle.std.proofs.Common.{arith}
 use Rattle.kfs_workers_crew.proofs.Shares.{quotient_le}
 use Rattle.kfs_workers_crew.proofs.crew.Crew.new.Goals as goal
 

@@ -1,5 +1,5 @@
 use Rattle.std.proofs.Common.{sym, ◌∙◌}
-use Rattle.kfs_turns.proofs.Steps.{closes, closed_with, in_slot, none_said, unreturned}
+use Rattle.kfs_turns.proofs.Steps.{closes, closed_with, in_slot, none_said}
 use Rattle.kfs_workers_threads.proofs.pass.Shared.close.Goals as goal
 
 pub unreachable-requires : goal.unreachable-requires
