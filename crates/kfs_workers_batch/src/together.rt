@@ -3,7 +3,8 @@
 ghost use Rattle.std.specs.Prelude.{◌≡◌, ◌≢◌, ℕ, List, IfSome, IfErr, drop};
 ghost use Rattle.kfs_model.specs.Machine.{Row};
 ghost use Rattle.kfs_desk.specs.Beginning.{beginning_of};
-ghost use Rattle.kfs_workers_threads.specs.Passes.{IsTurnOf, started, seen_by, own_by};
+ghost use Rattle.kfs_turns.specs.Lists.{StartsWith};
+ghost use Rattle.kfs_workers_threads.specs.Passes.{IsPassOf, IsTurnOf, started, seen, own, seen_by, own_by};
 ghost use Rattle.kfs_workers_crew.specs.Tasks.{HasWorked, IsDoneIn, all_of};
 ghost use Rattle.kfs_workers_batch.specs.Jobs.{FromOn, IsJudged, IsLanded, positions_of};
 
@@ -101,12 +102,40 @@ fn land_from<A: Allocator + Copy, G: Gate>(
     land_from(shared, turn, jobs, from + 1)
 }
 
+/// The view that was kept, or else a new one.
+fn view_of<A: Allocator + Copy, R: Wait>(
+    rt: &R,
+    shared: &Shared<Desk<A>, A>,
+    pass: &mut Pass<Desk<A>>,
+    kept: Option<View<A>>,
+) -> Result<View<A>, SharedWant>
+    requires { IsPassOf shared.now pass.old }
+    ensures pass { IsPassOf shared.now pass.new }
+    ensures begins { StartsWith (seen pass.new) (seen pass.old) }
+    ensures own { own pass.new ≡ own pass.old }
+    ensures not_full { IfErr result (λ why. why ≢ SharedWant.DocketFull) }
+{
+    match kept {
+        Some(view) => Ok(view),
+        None => shared.view(rt, pass),
+    }
+}
+
 impl<'g, A: Allocator + Copy, G: Gate> Task<Desk<A>, A> for Job<'g, A, G> {
     ghost use Rattle.kfs_workers_batch.specs.Jobs.{IsJobDone, positions_of};
 
     ghost positions = { λ job. positions_of job.hand };
 
     ghost done = { λ beginning docket before after. IsJobDone beginning docket before.number before.hand after.number after.hand };
+
+    /// The view that was taken in the last turn.
+    type Kept = Option<View<A>>;
+
+    fn nothing() -> Option<View<A>> {
+        None
+    }
+
+    fn let_go(_kept: Option<View<A>>) {}
 
     fn go_together(tasks: &[Job<'g, A, G>]) -> bool {
         tasks.len() <= MOST_TOGETHER && are_short(tasks) && are_of_clients(tasks)
@@ -116,15 +145,21 @@ impl<'g, A: Allocator + Copy, G: Gate> Task<Desk<A>, A> for Job<'g, A, G> {
         rt: &R,
         shared: &Shared<Desk<A>, A>,
         pass: &mut Pass<Desk<A>>,
+        kept: Option<View<A>>,
         tasks: &mut [Job<'g, A, G>],
-    ) {
-        let view = shared.view(rt, pass);
+    ) -> Option<View<A>> {
+        let view = view_of(rt, shared, pass, kept);
         judge_from(&view, tasks, 0);
         // A view that is dropped shares nothing with the desk, which then copies less.
         drop(view);
         let turn = shared.begin_turn(rt, pass);
-        if let Some(turn) = land_from(shared, turn, tasks, 0) {
-            shared.end_turn(pass, turn);
+        match land_from(shared, turn, tasks, 0) {
+            Some(turn) => {
+                let next = turn.view().ok();
+                shared.end_turn(pass, turn);
+                next
+            }
+            None => None,
         }
     }
 }

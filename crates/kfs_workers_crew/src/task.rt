@@ -17,11 +17,26 @@ pub trait Task<D: Docketed, A: Allocator> {
     /// Of an object that was begun so and has this docket: the first was done, and is now the second.
     ghost done: { D.Opening → List D.Row → Self → Self → Type 0 };
 
+    /// What a worker keeps of its last tasks for the next ones.
+    type Kept;
+
+    /// What it keeps before the first ones.
+    fn nothing() -> Self::Kept;
+
+    /// After the last ones.
+    fn let_go(kept: Self::Kept);
+
     /// Whether these tasks are done together. One task alone always is.
     fn go_together(tasks: &[Self]) -> bool;
 
     /// Does the tasks together. Condition: the pass is one of this object.
-    fn work<R: Wait>(rt: &R, shared: &Shared<D, A>, pass: &mut Pass<D>, tasks: &mut [Self])
+    fn work<R: Wait>(
+        rt: &R,
+        shared: &Shared<D, A>,
+        pass: &mut Pass<D>,
+        kept: Self::Kept,
+        tasks: &mut [Self],
+    ) -> Self::Kept
         requires { IsPassOf shared.now pass.old }
         ensures pass { IsPassOf shared.now pass.new }
         ensures worked { HasWorked (seen pass.old) (own pass.old) (all_of positions tasks.new) (seen pass.new) (own pass.new) }
@@ -35,24 +50,24 @@ fn work_through<D: Docketed, A: Allocator, T: Task<D, A>, R: Wait>(
     rt: &R,
     shared: &Shared<D, A>,
     pass: &mut Pass<D>,
+    kept: T::Kept,
     tasks: &mut [T],
-)
+) -> T::Kept
     requires { IsPassOf shared.now pass.old }
     ensures pass { IsPassOf shared.now pass.new }
     ensures worked { HasWorked (seen pass.old) (own pass.old) (all_of T.positions tasks.new) (seen pass.new) (own pass.new) }
     ensures done { Pairs (IsDoneIn (T.done (started D.opening shared.now)) (seen pass.new)) tasks.old tasks.new }
 {
     if tasks.is_empty() {
-        return;
+        return kept;
     }
     if tasks.len() == 1 || T::go_together(tasks) {
-        T::work(rt, shared, pass, tasks);
-        return;
+        return T::work(rt, shared, pass, kept, tasks);
     }
     let half = tasks.len() / 2;
     let (earlier, later) = tasks.split_at_mut(half);
-    work_through(rt, shared, pass, earlier);
-    work_through(rt, shared, pass, later);
+    let kept = work_through(rt, shared, pass, kept, earlier);
+    work_through(rt, shared, pass, kept, later)
 }
 
 #[tactic(auto, using(crate::proofs::Work::has_done))]
@@ -62,6 +77,7 @@ impl<D: Docketed, A: Allocator, T: Task<D, A>> Duty<D, A> for Vec<T, A> {
     ghost worked = { λ opening seen seen_then own before after. HasDone (T.done opening) T.positions seen seen_then own before.items after.items };
 
     fn work<R: Wait>(&mut self, rt: &R, shared: &Shared<D, A>, pass: &mut Pass<D>) {
-        work_through(rt, shared, pass, self.as_mut_slice());
+        let kept = work_through(rt, shared, pass, T::nothing(), self.as_mut_slice());
+        T::let_go(kept);
     }
 }

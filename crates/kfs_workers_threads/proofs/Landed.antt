@@ -15,7 +15,7 @@ use Rattle.kfs_turns.specs.Stages.{having_added, ticket}
 use Rattle.kfs_turns.specs.declared.known.Known.{Known}
 use Rattle.kfs_turns.specs.declared.known.Stage.TheVariants.{Served}
 use Rattle.kfs_turns.specs.Lists.{StartsWith}
-use Rattle.kfs_turns.proofs.Lists.{starts_trans}
+use Rattle.kfs_turns.proofs.Lists.{starts_same, starts_trans}
 use Rattle.kfs_turns.proofs.Steps.{one_said}
 use Rattle.kfs_workers_threads.specs.Calls.{HasAdded, IsLanding, IsUnanswered, IsViewAfter}
 use Rattle.kfs_workers_threads.specs.declared.want.SharedBack.{SharedBack}
@@ -58,6 +58,11 @@ is_view_after {A} beginning known view desk seen seen_then is of begins led whol
       shows = shows;
       begins = subst (λ rows. StartsWith rows seen) (sym sees) begins;
     }
+
+pub view_in_turn : {A E : Type 0} (desk : Desk) (seen : List Row) (r : Result (View A) E) → desk.docket ≡ seen → IsLegalDocket desk.opening desk.docket desk.state → IsDocketFrom (beginning_of desk) desk.docket
+    → IfOk r (λ view. IsViewOf view desk.state) → IfOk r (λ view. IsViewAfter (beginning_of desk) view seen seen)
+view_in_turn desk seen (Ok view) whole led docket shows = is_view_after (beginning_of desk) (Some (beginning_of desk)) view desk seen seen refl refl (starts_same desk.docket seen whole) led docket shows (sym whole)
+view_in_turn desk seen (Err e) whole led docket shows = shows
 
 -- ---- a turn with one row more
 

@@ -3,7 +3,7 @@ ghost use Rattle.std.specs.Prelude.{◌≡◌, true, false, IfSome, IfNone, IfOk
 ghost use Rattle.kfs_desk.specs.Beginning.{beginning_of};
 ghost use Rattle.kfs_desk.specs.Docket.{position_of};
 ghost use Rattle.kfs_turns.specs.Lists.{StartsWith};
-ghost use Rattle.kfs_workers_threads.specs.Calls.{HasAdded, IsLanding, IsUnanswered};
+ghost use Rattle.kfs_workers_threads.specs.Calls.{HasAdded, IsLanding, IsUnanswered, IsViewAfter};
 ghost use Rattle.kfs_workers_threads.specs.Passes.{IsPassOf, IsTurnOf, started, seen, own, ended, seen_in, own_in};
 
 use crate::docketed::Docketed;
@@ -11,8 +11,9 @@ use crate::pass::{Pass, Shared, Turn};
 use crate::seats::{add_last, enter, give_back};
 use crate::want::{SharedBack, SharedWant};
 use kfs_desk::{Desk, Reply};
+use kfs_judge_check::View;
 use kfs_plan::{Back, Judged, Why};
-use std::alloc::Allocator;
+use std::alloc::{AllocError, Allocator};
 use std::mem;
 use std::sync::Wait;
 
@@ -95,5 +96,16 @@ impl<A: Allocator + Copy> Turn<Desk<A>> {
                 (Turn { seat, object: desk }, Err(back))
             }
         }
+    }
+
+    /// A view of the desk's state, to be judged against once the turn has ended. `Err` where memory is
+    /// refused.
+    #[doc(hidden)]
+    pub fn view(&self) -> Result<View<A>, AllocError>
+        ensures { IfOk result (λ view. IsViewAfter (beginning_of self.now.object) view (seen_in self.now) (seen_in self.now)) }
+    {
+        // Tells the prover that the docket is legal and leads to the state.
+        let _rows = self.object.row_count();
+        self.object.view()
     }
 }

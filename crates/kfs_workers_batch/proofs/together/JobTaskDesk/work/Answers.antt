@@ -4,7 +4,7 @@ use Rattle.kfs_workers_threads.specs.Passes.{started, seen, own, ended, seen_by,
 use Rattle.kfs_workers_crew.specs.Crew.{Pairs}
 use Rattle.kfs_workers_crew.specs.Tasks.{HasWorked, IsDoneIn, all_of}
 use Rattle.kfs_workers_batch.specs.Jobs.{IsJobDone, positions_of}
-use Rattle.kfs_workers_batch.proofs.OneTurn.{all_done, begun_worked, turn_worked, view_begins}
+use Rattle.kfs_workers_batch.proofs.OneTurn.{all_done, begun_worked, turn_worked}
 use Rattle.kfs_workers_batch.proofs.together.JobTaskDesk.work.Goals as goal
 
 pub returns-in-Some-clause-worked : goal.returns-in-Some-clause-worked
@@ -13,10 +13,10 @@ returns-in-Some-clause-worked g c =
     let s = seen c.begin_turn-turn.new.pass in
     let o = own c.begin_turn-turn.new.pass in
     let ks = all_of (λ job. positions_of job.hand) c.land_from.new.jobs in
-    let begins = view_begins b (seen c.args.pass.now) (seen c.view-view.new.pass) (ended c.view-view.new.pass) c.view-view.result c.view-view.ensures.ok c.view-view.ensures.err in
-    let begun = begun_worked c.begin_turn-turn.result (seen c.view-view.new.pass) s (own c.view-view.new.pass) o (ended c.begin_turn-turn.new.pass) c.begin_turn-turn.ensures.begins c.begin_turn-turn.ensures.own c.begin_turn-turn.ensures.none in
-    let all = turn_worked (seen c.args.pass.now) (seen c.view-view.new.pass) (seen_by c.begin_turn-turn.result s) (seen_by c.land_from.result s) (own c.args.pass.now) (own c.view-view.new.pass) (own_by c.begin_turn-turn.result o) (own_by c.land_from.result o)
-    ks begins c.view-view.ensures.own begun (c.land_from.ensures.worked s o) in
+    let begins = c.view_of-view.ensures.begins in
+    let begun = begun_worked c.begin_turn-turn.result (seen c.view_of-view.new.pass) s (own c.view_of-view.new.pass) o (ended c.begin_turn-turn.new.pass) c.begin_turn-turn.ensures.begins c.begin_turn-turn.ensures.own c.begin_turn-turn.ensures.none in
+    let all = turn_worked (seen c.args.pass.now) (seen c.view_of-view.new.pass) (seen_by c.begin_turn-turn.result s) (seen_by c.land_from.result s) (own c.args.pass.now) (own c.view_of-view.new.pass) (own_by c.begin_turn-turn.result o) (own_by c.land_from.result o)
+    ks begins c.view_of-view.ensures.own begun (c.land_from.ensures.worked s o) in
     subst (λ rows. HasWorked (seen c.args.pass.now) (own c.args.pass.now) ks rows (own c.end_turn.new.pass)) (ap (λ r. seen_by r s) c.in-Some.is ∙ sym c.end_turn.ensures.seen)
     (subst (λ rows. HasWorked (seen c.args.pass.now) (own c.args.pass.now) ks (seen_by c.land_from.result s) rows) (ap (λ r. own_by r o) c.in-Some.is ∙ sym c.end_turn.ensures.own) all)
 
@@ -27,22 +27,22 @@ returns-in-Some-clause-done g c =
     subst (λ rows. Pairs (IsDoneIn (λ docket v w. IsJobDone b docket v.number v.hand w.number w.hand) rows) c.args.tasks.now c.land_from.new.jobs) (ap (λ r. seen_by r s) c.in-Some.is ∙ sym c.end_turn.ensures.seen)
     (all_done (λ j. j.number) (λ j. j.hand) b (seen_by c.land_from.result s) c.args.tasks.now c.judge_from.new.jobs c.land_from.new.jobs c.judge_from.ensures (c.land_from.ensures.landed s))
 
-pub returns-in_default-clause-worked : goal.returns-in_default-clause-worked
-returns-in_default-clause-worked g c =
+pub returns-in-None-clause-worked : goal.returns-in-None-clause-worked
+returns-in-None-clause-worked g c =
     let b = started beginning_of c.args.shared.now in
     let s = seen c.begin_turn-turn.new.pass in
     let o = own c.begin_turn-turn.new.pass in
     let ks = all_of (λ job. positions_of job.hand) c.land_from.new.jobs in
-    let begins = view_begins b (seen c.args.pass.now) (seen c.view-view.new.pass) (ended c.view-view.new.pass) c.view-view.result c.view-view.ensures.ok c.view-view.ensures.err in
-    let begun = begun_worked c.begin_turn-turn.result (seen c.view-view.new.pass) s (own c.view-view.new.pass) o (ended c.begin_turn-turn.new.pass) c.begin_turn-turn.ensures.begins c.begin_turn-turn.ensures.own c.begin_turn-turn.ensures.none in
-    let all = turn_worked (seen c.args.pass.now) (seen c.view-view.new.pass) (seen_by c.begin_turn-turn.result s) (seen_by c.land_from.result s) (own c.args.pass.now) (own c.view-view.new.pass) (own_by c.begin_turn-turn.result o) (own_by c.land_from.result o)
-    ks begins c.view-view.ensures.own begun (c.land_from.ensures.worked s o) in
-    subst (λ rows. HasWorked (seen c.args.pass.now) (own c.args.pass.now) ks rows o) (ap (λ r. seen_by r s) c.in_default.is)
-    (subst (λ rows. HasWorked (seen c.args.pass.now) (own c.args.pass.now) ks (seen_by c.land_from.result s) rows) (ap (λ r. own_by r o) c.in_default.is) all)
+    let begins = c.view_of-view.ensures.begins in
+    let begun = begun_worked c.begin_turn-turn.result (seen c.view_of-view.new.pass) s (own c.view_of-view.new.pass) o (ended c.begin_turn-turn.new.pass) c.begin_turn-turn.ensures.begins c.begin_turn-turn.ensures.own c.begin_turn-turn.ensures.none in
+    let all = turn_worked (seen c.args.pass.now) (seen c.view_of-view.new.pass) (seen_by c.begin_turn-turn.result s) (seen_by c.land_from.result s) (own c.args.pass.now) (own c.view_of-view.new.pass) (own_by c.begin_turn-turn.result o) (own_by c.land_from.result o)
+    ks begins c.view_of-view.ensures.own begun (c.land_from.ensures.worked s o) in
+    subst (λ rows. HasWorked (seen c.args.pass.now) (own c.args.pass.now) ks rows o) (ap (λ r. seen_by r s) c.in-None.is)
+    (subst (λ rows. HasWorked (seen c.args.pass.now) (own c.args.pass.now) ks (seen_by c.land_from.result s) rows) (ap (λ r. own_by r o) c.in-None.is) all)
 
-pub returns-in_default-clause-done : goal.returns-in_default-clause-done
-returns-in_default-clause-done g c =
+pub returns-in-None-clause-done : goal.returns-in-None-clause-done
+returns-in-None-clause-done g c =
     let b = started beginning_of c.args.shared.now in
     let s = seen c.begin_turn-turn.new.pass in
-    subst (λ rows. Pairs (IsDoneIn (λ docket v w. IsJobDone b docket v.number v.hand w.number w.hand) rows) c.args.tasks.now c.land_from.new.jobs) (ap (λ r. seen_by r s) c.in_default.is)
+    subst (λ rows. Pairs (IsDoneIn (λ docket v w. IsJobDone b docket v.number v.hand w.number w.hand) rows) c.args.tasks.now c.land_from.new.jobs) (ap (λ r. seen_by r s) c.in-None.is)
     (all_done (λ j. j.number) (λ j. j.hand) b (seen_by c.land_from.result s) c.args.tasks.now c.judge_from.new.jobs c.land_from.new.jobs c.judge_from.ensures (c.land_from.ensures.landed s))
