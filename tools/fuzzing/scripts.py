@@ -51,6 +51,8 @@ class Maker:
         self.random = random.Random(seed)
         self.weights = {kind: weight for kind, weight in WEIGHTS.items() if kind not in without}
         self.session, self.lines, self.replies = Session(), [], []
+        # Entries that build on the last ones of the same log.
+        self.next_entries = []
 
     def say(self, line):
         line = line if isinstance(line, bytes) else line.encode()
@@ -193,7 +195,21 @@ class Maker:
         length = self.one([0, 1, 2, 3, 7, 20]) if self.chance(90) else self.one([100, 4_096, 4_097, 8_200])
         return bytes(self.random.randrange(1, 256) for _ in range(min(length, 40))).ljust(length, b"#")
 
+    def follow(self, entry, before, after):
+        """Has a later entry of the log build on one that was allowed: a file that was cut grows again, and one that has another
+        group is written to."""
+        node = after.nodes.get(getattr(entry, "number", None))
+        if node is None or node.kind != FILE or not self.chance(50):
+            return
+        if type(entry) is Truncate and node.size < before.nodes[entry.number].size:
+            size = before.nodes[entry.number].size
+            self.next_entries.append(self.one([Truncate(entry.number, size + 1), Write(entry.number, size, b"+")]))
+        if type(entry) is Regroup:
+            self.next_entries.append(self.one([Truncate(entry.number, node.size), Write(entry.number, 0, b"+")]))
+
     def entry(self, tree, client, version):
+        if self.next_entries:
+            return self.next_entries.pop()
         kinds = ("create", "write", "truncate", "link", "unlink", "rename", "chmod", "regroup")
         match self.random.choices(kinds, (22, 26, 12, 8, 10, 14, 6, 4))[0]:
             case "create":
@@ -228,6 +244,7 @@ class Maker:
         """Returns a log, most of whose entries are allowed where all leases are held, and the nodes whose leases it needs."""
         version = self.one([1, 2, 2])
         judge, entries = Judge(self.session.tree, AllHeld(), client), []
+        self.next_entries = []
         for _ in range(self.random.randint(0, 9)):
             entry = self.entry(judge.tree, client, version)
             if version == 1 and type(entry) is Regroup and self.chance(95):
@@ -235,6 +252,7 @@ class Maker:
             before = judge.tree.copy(), set(judge.created)
             try:
                 judge.enter(entry)
+                self.follow(entry, before[0], judge.tree)
             except Fault:
                 judge.tree, judge.created = before
                 if self.chance(80):
@@ -357,7 +375,8 @@ class Maker:
             number, block = self.one(placement) if placement and self.chance(93) else (self.one([1, 2, 5, U32]), self.one([0, 1, U32]))
             tier = self.one(tiers) if self.chance(96) else self.one([3, 255])
             free = [it for it in range(sizes[tier] if tier < 3 else 0) if (tier, it) not in used]
-            place = self.one(free) if free and self.chance(88) else self.one([0, 1, 8, 65_536, U32])
+            taken = [it for other, it in used if other == tier]
+            place = self.one(free) if free and self.chance(80) else self.one([*sorted(taken)[:8], 0, 1, 8, 65_536, U32])
             words += [number, block, tier, place]
         self.say(f"move {' '.join(map(str, words))}")
 
