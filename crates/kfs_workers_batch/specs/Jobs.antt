@@ -1,10 +1,14 @@
 -- What a worker makes of the submission that it was dealt.
-use Rattle.std.specs.Prelude.{◌≡◌, ◌≢◌, ℕ, zero, suc, List, [], ◌∷◌, Result, Ok, Err}
+use Rattle.std.specs.Prelude.{◌≡◌, ◌≢◌, ℕ, zero, suc, List, [], ◌∷◌, Option, Result, Ok, Err}
 use Rattle.kfs_model.specs.Machine.{Row}
 use Rattle.kfs_plan.specs.declared.answers.Reply.{Reply}
 use Rattle.kfs_desk.specs.Beginning.{Beginning}
 use Rattle.kfs_desk.specs.Docket.{position_of}
+use Rattle.kfs_workers_threads.specs.Passes.{seen_by, own_by}
+use Rattle.kfs_workers_threads.specs.declared.docketed.Docketed.{Ghosts}
+use Rattle.kfs_workers_threads.specs.declared.pass.Turn.{Turn}
 use Rattle.kfs_workers_crew.specs.Crew.{Pairs}
+use Rattle.kfs_workers_crew.specs.Tasks.{HasWorked}
 use Rattle.kfs_workers_batch.specs.Answers.{IsAnswerTo}
 use Rattle.kfs_workers_threads.specs.declared.want.SharedBack.{SharedBack}
 use Rattle.kfs_workers_threads.specs.declared.want.SharedWant.TheVariants.{DocketFull}
@@ -61,6 +65,14 @@ IsLanded beginning docket (Judged judged) (Back back) = IsAnswerTo beginning doc
 IsLanded beginning docket (Replied reply) after = Unit {0}
 IsLanded beginning docket (Back back) after = after ≡ Back back
 
+-- the job has its number still, and is judged
+abbrev pub IsJobJudged : {A : Type 0} → (number : ℕ) → (before : Hand A) → (number_then : ℕ) → (after : Hand A) → Type 0
+IsJobJudged number before number_then after = (number_then ≡ number) × IsJudged before after
+
+-- the job has its number still, and is landed
+abbrev pub IsJobLanded : {A : Type 0} → Beginning → (docket : List Row) → (number : ℕ) → (before : Hand A) → (number_then : ℕ) → (after : Hand A) → Type 0
+IsJobLanded beginning docket number before number_then after = (number_then ≡ number) × IsLanded beginning docket before after
+
 -- an answer, kept
 abbrev pub kept : {A : Type 0} → Result Reply (SharedBack A) → Hand A
 kept (Ok reply) = Replied reply
@@ -73,3 +85,8 @@ FromOn P (suc n) [] [] = Unit {0}
 FromOn P (suc n) [] (y ∷ ys) = ⊥
 FromOn P (suc n) (x ∷ xs) [] = ⊥
 FromOn P (suc n) (x ∷ xs) (y ∷ ys) = (y ≡ x) × FromOn P n xs ys
+
+-- from the one turn to the other, if there is one, a pass has added rows at these positions
+module _ {D O : Type 0} {G : Ghosts D O Row} where
+  abbrev pub HasWorkedIn : (before : Option (Turn D O Row G)) → (positions : List ℕ) → (after : Option (Turn D O Row G)) → Type 0
+  HasWorkedIn before positions after = (s : List Row) (o : List ℕ) → HasWorked (seen_by before s) (own_by before o) positions (seen_by after s) (own_by after o)

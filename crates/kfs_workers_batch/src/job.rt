@@ -1,11 +1,10 @@
 //! One submission of a batch: where it is, and what its worker does for it.
-ghost use Rattle.std.specs.Prelude.{◌≡◌, ◌≢◌, ℕ, List, IfSome, IfOk, IfErr};
+ghost use Rattle.std.specs.Prelude.{◌≡◌, ◌≢◌, List, IfSome, IfOk, IfErr};
 ghost use Rattle.kfs_model.specs.Machine.{Row};
 ghost use Rattle.kfs_desk.specs.Beginning.{beginning_of};
-ghost use Rattle.kfs_workers_threads.specs.Passes.{IsTurnOf, started, seen_by, own_by};
-ghost use Rattle.kfs_workers_crew.specs.Tasks.{HasWorked};
+ghost use Rattle.kfs_workers_threads.specs.Passes.{IsTurnOf, started, seen_by};
 ghost use Rattle.kfs_workers_batch.specs.Answers.{IsAnswerTo, positions_in};
-ghost use Rattle.kfs_workers_batch.specs.Jobs.{IsJudged, IsLanded, kept, positions_of};
+ghost use Rattle.kfs_workers_batch.specs.Jobs.{HasWorkedIn, IsJudged, IsLanded, kept, positions_of};
 
 use kfs_desk::{Desk, Reply};
 use kfs_judge_check::View;
@@ -94,7 +93,7 @@ fn landed<A: Allocator + Copy>(
 ) -> (Option<Turn<Desk<A>>>, Result<Reply, SharedBack<A>>)
     requires { IfSome turn (IsTurnOf shared.now) }
     ensures turn { IfSome result.0 (IsTurnOf shared.now) }
-    ensures worked { (s : List Row) (o : List ℕ) → HasWorked (seen_by turn s) (own_by turn o) (positions_in result.1) (seen_by result.0 s) (own_by result.0 o) }
+    ensures worked { HasWorkedIn turn (positions_in result.1) result.0 }
     ensures answer { (s : List Row) → IsAnswerTo (started beginning_of shared.now) (seen_by result.0 s) judged.submission result.1 }
 {
     match turn {
@@ -148,7 +147,7 @@ impl<'g, A: Allocator + Copy, G: Gate> Job<'g, A, G> {
         requires { IfSome turn (IsTurnOf shared.now) }
         ensures turn { IfSome result (IsTurnOf shared.now) }
         ensures number { self.new.number ≡ self.old.number }
-        ensures worked { (s : List Row) (o : List ℕ) → HasWorked (seen_by turn s) (own_by turn o) (positions_of self.new.hand) (seen_by result s) (own_by result o) }
+        ensures worked { HasWorkedIn turn (positions_of self.new.hand) result }
         ensures landed { (s : List Row) → IsLanded (started beginning_of shared.now) (seen_by result s) self.old.hand self.new.hand }
     {
         match mem::replace(&mut self.hand, Hand::Taken) {

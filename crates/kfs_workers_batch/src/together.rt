@@ -1,12 +1,12 @@
 //! Which submissions a worker answers together, and how: it judges them against one view, and lands
 //! their verdicts in one turn.
-ghost use Rattle.std.specs.Prelude.{◌≡◌, ◌≢◌, ℕ, List, IfSome, IfErr, drop};
+ghost use Rattle.std.specs.Prelude.{◌≡◌, ◌≢◌, List, IfSome, IfErr, drop};
 ghost use Rattle.kfs_model.specs.Machine.{Row};
 ghost use Rattle.kfs_desk.specs.Beginning.{beginning_of};
 ghost use Rattle.kfs_turns.specs.Lists.{StartsWith};
-ghost use Rattle.kfs_workers_threads.specs.Passes.{IsPassOf, IsTurnOf, started, seen, own, seen_by, own_by};
-ghost use Rattle.kfs_workers_crew.specs.Tasks.{HasWorked, IsDoneIn, all_of};
-ghost use Rattle.kfs_workers_batch.specs.Jobs.{FromOn, IsJudged, IsLanded, positions_of};
+ghost use Rattle.kfs_workers_threads.specs.Passes.{IsPassOf, IsTurnOf, started, seen, own, seen_by};
+ghost use Rattle.kfs_workers_crew.specs.Tasks.{IsDoneIn, all_of};
+ghost use Rattle.kfs_workers_batch.specs.Jobs.{FromOn, HasWorkedIn, IsJobJudged, IsJobLanded, positions_of};
 
 use crate::job::{Gate, Hand, Job};
 use kfs_desk::Desk;
@@ -73,7 +73,7 @@ fn judge_from<A: Allocator + Copy, G: Gate>(
     from: usize,
 )
     requires { IfErr view.now (λ why. why ≢ SharedWant.DocketFull) }
-    ensures { FromOn (λ v w. (w.number ≡ v.number) × IsJudged v.hand w.hand) from jobs.old jobs.new }
+    ensures { FromOn (λ v w. IsJobJudged v.number v.hand w.number w.hand) from jobs.old jobs.new }
 {
     if from >= jobs.len() {
         return;
@@ -92,8 +92,8 @@ fn land_from<A: Allocator + Copy, G: Gate>(
 ) -> Option<Turn<Desk<A>>>
     requires { IfSome turn (IsTurnOf shared.now) }
     ensures turn { IfSome result (IsTurnOf shared.now) }
-    ensures worked { (s : List Row) (o : List ℕ) → HasWorked (seen_by turn s) (own_by turn o) (all_of (λ job. positions_of job.hand) (drop from jobs.new)) (seen_by result s) (own_by result o) }
-    ensures landed { (s : List Row) → FromOn (IsDoneIn (λ docket v w. (w.number ≡ v.number) × IsLanded (started beginning_of shared.now) docket v.hand w.hand) (seen_by result s)) from jobs.old jobs.new }
+    ensures worked { HasWorkedIn turn (all_of (λ job. positions_of job.hand) (drop from jobs.new)) result }
+    ensures landed { (s : List Row) → FromOn (IsDoneIn (λ docket v w. IsJobLanded (started beginning_of shared.now) docket v.number v.hand w.number w.hand) (seen_by result s)) from jobs.old jobs.new }
 {
     if from >= jobs.len() {
         return turn;

@@ -1,9 +1,9 @@
 -- What tasks come to, one after another and side by side.
-use Rattle.std.specs.Prelude.{◌≡◌, ℕ, ◌+◌, ◌<◌, ◌≤◌, List, ◌∷◌, [], ◌++◌, length, map}
+use Rattle.std.specs.Prelude.{◌≡◌, ℕ, ◌+◌, ◌<◌, ◌≤◌, List, ◌∷◌, [], ◌++◌, length, map, reverse}
 use Rattle.std.specs.List.{concat}
 use Rattle.kfs_turns.specs.Lists.{StartsWith, Has, AreDistinct}
 use Rattle.kfs_workers_crew.specs.Crew.{Pairs}
-use Rattle.kfs_workers_crew.specs.Shares.{share_from}
+use Rattle.kfs_workers_crew.specs.Shares.{dealt, share_from}
 
 -- they rise, from the one number on, and are below the other
 abbrev pub AscendWithin : (from : ℕ) → List ℕ → (to : ℕ) → Type 0
@@ -40,3 +40,9 @@ module _ {W T : Type 0} (P : List W → T → T → Type 0) where
       pub new : (k : ℕ) → Has (all_of positions after) k → (length seen ≤ k) × (k < length seen_then)
       pub apart : AreDistinct (all_of positions after)
       pub ascend : (share : ℕ) → share < count → AscendWithin (length seen) (all_of positions (share_from count share 0 after)) (length seen_then)
+
+    -- So many workers, who had these shares, have done whatever list of so many tasks was dealt to them. It was dealt from its
+    -- end, and so it is taken back
+    abbrev pub HaveDoneDealt : (count many : ℕ) → (shares : List (List T)) → (seen seen_then : List W) → (after : List T) → Type 0
+    HaveDoneDealt count many shares seen seen_then after =
+        (all : List T) → shares ≡ dealt count all → length all ≡ many → AreDoneBy count seen seen_then (reverse all) (reverse after)

@@ -3,7 +3,7 @@ ghost use Rattle.std.specs.Prelude.{◌≡◌, ◌/◌, ◌^◌, ◌<◌, ◌≤
 ghost use Rattle.kfs_workers_crew.specs.Shares.{dealt};
 ghost use Rattle.kfs_turns.specs.Lists.{StartsWith};
 ghost use Rattle.kfs_workers_threads.specs.Passes.{IsPassOf, started, seen, own};
-ghost use Rattle.kfs_workers_crew.specs.Tasks.{AreDoneBy};
+ghost use Rattle.kfs_workers_crew.specs.Tasks.{AreDoneBy, HaveDoneDealt};
 
 use crate::deal::{deal, gather};
 use crate::meeting::work_and_meet;
@@ -104,7 +104,7 @@ fn work_dealt<
     requires room { (tasks.old.items ≡ []) × (count ≤ vec_capacity tasks.old) }
     ensures pass { IsPassOf shared.now result }
     ensures seen { StartsWith (seen result) (seen pass) × D.legal (started D.opening shared.now) (seen result) }
-    ensures done { (all : List _) → map (λ w. w.duty.items) workers.old ≡ dealt (length workers.old) all → length all ≡ count → AreDoneBy (T.done (started D.opening shared.now)) T.positions (length workers.old) (seen pass) (seen result) (reverse all) (reverse tasks.new.items) }
+    ensures done { HaveDoneDealt (T.done (started D.opening shared.now)) T.positions (length workers.old) count (map (λ w. w.duty.items) workers.old) (seen pass) (seen result) tasks.new.items }
 {
     let met = work_and_meet(rt, shared, pass, workers);
     gather(workers, tasks, count);

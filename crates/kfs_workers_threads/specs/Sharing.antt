@@ -1,15 +1,16 @@
 -- What a call of a shared desk tells, said of its pass before and after the call.
-use Rattle.std.specs.Prelude.{ℕ}
+use Rattle.std.specs.Prelude.{ℕ, false}
 use Rattle.kfs_model.specs.Judgement.{State}
 use Rattle.kfs_model.specs.Machine.{Row}
 use Rattle.kfs_judge_check.specs.declared.view.View.{View}
 use Rattle.kfs_desk.specs.Beginning.{Beginning, beginning_of}
 use Rattle.kfs_desk.specs.Machine.{Desk}
 use Rattle.kfs_workers_threads.specs.Calls.{HasAdded, IsUnanswered, IsViewAfter}
-use Rattle.kfs_workers_threads.specs.Passes.{started, seen, own, ended}
+use Rattle.kfs_workers_threads.specs.Passes.{started, seen, own, ended, seen_in, own_in}
 use Rattle.kfs_workers_threads.specs.declared.docketed.Docketed.{Ghosts}
 use Rattle.kfs_workers_threads.specs.declared.pass.Pass.{Pass}
 use Rattle.kfs_workers_threads.specs.declared.pass.Shared.{Shared}
+use Rattle.kfs_workers_threads.specs.declared.pass.Turn.{Turn}
 use Rattle.kfs_workers_threads.specs.declared.want.SharedWant.{SharedWant}
 
 module _ {A : Type 0} {G : Ghosts Desk Beginning Row} where
@@ -24,3 +25,11 @@ module _ {A : Type 0} {G : Ghosts Desk Beginning Row} where
   -- for this reason the call has added no row
   abbrev pub AddsNone : Shared Desk A Beginning Row → (before after : Pass Desk Beginning Row G) → SharedWant → Type 0
   AddsNone shared before after why = IsUnanswered (started beginning_of shared) why (seen before) (seen after) (ended after)
+
+  -- ---- the same of a call within a turn
+
+  abbrev pub AddsRowIn : Shared Desk A Beginning Row → (before after : Turn Desk Beginning Row G) → (position : ℕ) → (P : State → Row → State → Type 0) → Type 0
+  AddsRowIn shared before after position P = HasAdded (started beginning_of shared) (seen_in before) (own_in before) position P (seen_in after) (own_in after)
+
+  abbrev pub AddsNoneIn : Shared Desk A Beginning Row → (before after : Turn Desk Beginning Row G) → SharedWant → Type 0
+  AddsNoneIn shared before after why = IsUnanswered (started beginning_of shared) why (seen_in before) (seen_in after) false

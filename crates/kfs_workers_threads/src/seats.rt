@@ -35,11 +35,8 @@ fn draw<D: Docketed, R: Wait>(rt: &R, table: &TurnTable<D>, seat: &mut PassSeat<
     unreachable!()
 }
 
-/// How often a call looks for its turn before it sleeps. To be woken takes longer than most turns.
-const LOOKS: u32 = 200;
-
-/// Waits until the ticket is served. While the turn is another's it looks a few times, and then sleeps;
-/// whoever passes the turn on wakes it. The slot is the seat's then.
+/// Waits until the ticket is served. It sleeps while the turn is another's; whoever passes the turn on
+/// wakes it. The slot is the seat's then.
 fn await_turn<D: Docketed, R: Wait>(
     rt: &R,
     table: &TurnTable<D>,
@@ -51,17 +48,12 @@ fn await_turn<D: Docketed, R: Wait>(
     ensures same { (seat.new.table_id ≡ seat.old.table_id) × (seat.new.id ≡ seat.old.id) }
     ensures out { (d : D) × IsOut D.opening D.rows D.stands seat.old.me.0 ticket d seat.new.me }
 {
-    let mut looks = 0;
     for _ in rt.forever() {
         let turn = table.load::<Watch>(seat, TURN);
         if turn == ticket {
             return;
         }
-        if looks < LOOKS {
-            looks += 1;
-        } else {
-            table.park(rt, TURN, (turn & 0xffff_ffff) as u32);
-        }
+        table.park(rt, TURN, (turn & 0xffff_ffff) as u32);
     }
     unreachable!()
 }

@@ -1,10 +1,11 @@
 //! Turns for several calls: a pass begins one, makes calls of the object, and ends it.
-ghost use Rattle.std.specs.Prelude.{◌≡◌, true, false, IfSome, IfNone, IfOk, IfErr, OnErr};
+ghost use Rattle.std.specs.Prelude.{◌≡◌, true, IfSome, IfNone, IfOk, IfErr, OnErr};
 ghost use Rattle.kfs_desk.specs.Beginning.{beginning_of};
 ghost use Rattle.kfs_desk.specs.Docket.{position_of};
 ghost use Rattle.kfs_turns.specs.Lists.{StartsWith};
-ghost use Rattle.kfs_workers_threads.specs.Calls.{HasAdded, IsLanding, IsUnanswered, IsViewAfter};
-ghost use Rattle.kfs_workers_threads.specs.Passes.{IsPassOf, IsTurnOf, started, seen, own, ended, seen_in, own_in};
+ghost use Rattle.kfs_workers_threads.specs.Calls.{IsLanding, IsViewAfter};
+ghost use Rattle.kfs_workers_threads.specs.Passes.{IsPassOf, IsTurnOf, seen, own, ended, seen_in, own_in};
+ghost use Rattle.kfs_workers_threads.specs.Sharing.{AddsNoneIn, AddsRowIn};
 
 use crate::docketed::Docketed;
 use crate::pass::{Pass, Shared, Turn};
@@ -70,11 +71,11 @@ impl<A: Allocator + Copy> Turn<Desk<A>> {
     ) -> (Turn<Desk<A>>, Result<Reply, SharedBack<A>>)
         requires { IsTurnOf shared.now self }
         ensures turn { IsTurnOf shared.now result.0 }
-        ensures ok { IfOk result.1 (λ reply. HasAdded (started beginning_of shared.now) (seen_in self) (own_in self) (position_of reply) (IsLanding judged reply) (seen_in result.0) (own_in result.0)) }
+        ensures ok { IfOk result.1 (λ reply. AddsRowIn shared.now self result.0 (position_of reply) (IsLanding judged reply)) }
 
         // A refusal hands the submission back, and the turn has the rows that it had.
         ensures back { IfErr result.1 (λ back. back.submission ≡ judged.submission) }
-        ensures err { IfErr result.1 (λ back. IsUnanswered (started beginning_of shared.now) back.why (seen_in self) (seen_in result.0) false) }
+        ensures err { IfErr result.1 (λ back. AddsNoneIn shared.now self result.0 back.why) }
         ensures own { OnErr result.1 (own_in result.0 ≡ own_in self) }
     {
         let Turn { seat, object } = self;
