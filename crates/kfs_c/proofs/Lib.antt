@@ -2,5 +2,3 @@ pub mod Acted
 pub mod Images
 pub mod Names
 pub mod Refusals
-pub mod Sent
-pub mod Values

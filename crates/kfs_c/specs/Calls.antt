@@ -1,5 +1,5 @@
--- What a call of the desk over the boundary comes to.
-use Rattle.std.specs.Prelude.{◌≡◌, ◌↔◌, ℕ, Bool, false, Option, List, map, length, IsFalse, if◌then◌else◌}
+-- What a call of the desk over the boundary comes to, other than a submission.
+use Rattle.std.specs.Prelude.{◌≡◌, ◌↔◌, ℕ, Bool, Option, List, map, IsFalse, if◌then◌else◌}
 use Rattle.std.specs.Global.{Global}
 use Rattle.kfs_model.specs.Judgement.{State}
 use Rattle.kfs_model.specs.Lease.{LeaseKind, ReadLease, WriteLease}
@@ -14,21 +14,13 @@ use Rattle.kfs_plan.specs.Judging.{submission_of, submission_with}
 use Rattle.kfs_desk.specs.Docket.{is_rejudged}
 use Rattle.kfs_desk.specs.Machine.{Desk, IsActed, IsAnswered, IsCurrent}
 use Rattle.kfs_workers_verdict.specs.Verdict.{IsVerdictOn, verdict_of}
-use Rattle.kfs_c.specs.Holding.{OnVerdict}
-use Rattle.kfs_c.specs.declared.held.Held.{Held}
+use Rattle.kfs_c_handle.specs.Holding.{OnVerdict}
+use Rattle.kfs_c_handle.specs.Told.{reply_told}
+use Rattle.kfs_c_handle.specs.declared.held.Held.{Held}
+use Rattle.kfs_c_handle.specs.declared.numbers.ReplyNumbers.{ReplyNumbers}
 use Rattle.kfs_c.specs.declared.numbers.ActNumbers.{ActNumbers}
 use Rattle.kfs_c.specs.declared.numbers.MoveRow.{MoveRow}
-use Rattle.kfs_c.specs.declared.numbers.ReplyNumbers.{ReplyNumbers}
-use Rattle.kfs_c.specs.Told.{act_told, reply_told}
-
--- the docket has as many rows as it may have
-abbrev pub IsFull : Desk → Type 0
-IsFull desk = length desk.docket ≡ desk.limit
-
--- some answer of the desk to these bytes, as it is told
-abbrev pub IsSubmitted : (client : ℕ) (log plan : List ℕ) → ReplyNumbers → (old new : Desk) → Type 0
-IsSubmitted client log plan told old new =
-    (answer : Reply) × IsAnswered old (submission_with client log plan) false answer new × (told ≡ reply_told answer)
+use Rattle.kfs_c.specs.Told.{act_told}
 
 -- some answer of the desk to the verdict's submission, as it is told; it was judged again exactly where
 -- the verdict isn't current

@@ -1,7 +1,4 @@
 pub mod Calls
-pub mod Handle
-pub mod Holding
 pub mod Opening
 pub mod Reading
-pub mod Status
 pub mod Told

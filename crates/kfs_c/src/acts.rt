@@ -1,17 +1,16 @@
 //! Calls that are no submissions: leases, moments, moves of blocks.
 ghost use Rattle.std.specs.Prelude.{◌≡◌, ◌↔◌, ◌≤◌, ◌<◌, None, map, IfOk, OnErr, IsErrOf};
 ghost use Rattle.kfs_lease_rows.specs.Rows.{kind_of};
-ghost use Rattle.kfs_c.specs.Calls.{AreMoved, IsDropped, IsFull, IsLeased, IsTicked, kind_of_lease, move_of};
-ghost use Rattle.kfs_c.specs.Holding.{HoldsNoDesk, OnDesk, OnDesks};
-ghost use Rattle.kfs_c.specs.Status as status;
+ghost use Rattle.kfs_c.specs.Calls.{AreMoved, IsDropped, IsLeased, IsTicked, kind_of_lease, move_of};
+ghost use Rattle.kfs_c_handle.specs.Holding.{HoldsNoDesk, OnDesk, OnDesks};
+ghost use Rattle.kfs_c_handle.specs.Status as status;
+ghost use Rattle.kfs_c_handle.specs.Submission.{IsFull};
 ghost use Rattle.kfs_c.specs.Told.{act_told};
 
-use crate::handle::Handle;
-use crate::held::Held;
 use crate::numbers::{ActNumbers, MoveRow};
-use crate::slot::{on_desk, put_in, take_out};
-use crate::status::{CLOSED, DONE, FULL, NO_MEMORY, WRONG_KIND};
 use crate::told::act_numbers;
+use kfs_c_handle::status::{DONE, FULL, NO_MEMORY};
+use kfs_c_handle::{Handle, on_desk};
 use kfs_desk::{Desk, Move};
 use kfs_lease::LeaseKind;
 use kfs_plan::answers::{ActReply, Done, Unanswered};

@@ -1,17 +1,10 @@
 //! Submissions.
 ghost use Rattle.std.specs.Prelude.{◌≡◌, ◌↔◌, ◌≤◌, ◌<◌, None};
-ghost use Rattle.kfs_c.specs.Calls.{IsFull, IsSubmitted};
-ghost use Rattle.kfs_c.specs.Holding.{HoldsNoDesk, OnDesk, OnDesks};
-ghost use Rattle.kfs_c.specs.Status as status;
+ghost use Rattle.kfs_c_handle.specs.Holding.{HoldsNoDesk, OnDesk, OnDesks};
+ghost use Rattle.kfs_c_handle.specs.Status as status;
+ghost use Rattle.kfs_c_handle.specs.Submission.{IsFull, IsSubmitted};
 
-use crate::handle::Handle;
-use crate::held::Held;
-use crate::numbers::ReplyNumbers;
-use crate::slot::{on_desk, put_in, take_out};
-use crate::status::{CLOSED, DONE, FULL, NO_MEMORY, WRONG_KIND};
-use crate::told::reply_numbers;
-use kfs_desk::Desk;
-use kfs_plan::{Back, Submission, Why};
+use kfs_c_handle::{Handle, ReplyNumbers, submit};
 use std::alloc::Global;
 
 /// Judges a submission against the state now and lands it (`Desk::submit`). It is answered by `DONE`
@@ -32,46 +25,5 @@ pub extern "C" fn kfs_submit(
     ensures wrong { (result ≡ status.wrong_kind) ↔ HoldsNoDesk handle.old.value }
     ensures range { result < status.closed → result ≤ status.full }
 {
-    on_desk!(alloc, handle, &mut desk => submit(alloc, desk, client, log, plan, reply))
-}
-
-/// Submits copies of the bytes.
-fn submit(
-    alloc: Global,
-    desk: &mut Desk<Global>,
-    client: u32,
-    log: &[u8],
-    plan: &[u8],
-    reply: &mut ReplyNumbers,
-) -> u32
-    ensures answered { result ≡ status.done → IsSubmitted client log.now plan.now reply.new desk.old desk.new }
-    ensures unanswered { 1 ≤ result → (desk.new ≡ desk.old) × (reply.new ≡ reply.old) }
-    ensures full { result ≡ status.full → IsFull desk.old }
-    ensures range { result ≤ status.full }
-{
-    let Ok(log) = log.to_vec(alloc) else {
-        return NO_MEMORY;
-    };
-    let Ok(plan) = plan.to_vec(alloc) else {
-        return NO_MEMORY;
-    };
-    match desk.submit(Submission { client, log, plan }) {
-        Ok(answer) => {
-            *reply = reply_numbers(answer);
-            DONE
-        }
-        Err(back) => why_number(&back),
-    }
-}
-
-/// Why there is no answer, as a status.
-pub(crate) fn why_number(back: &Back<Global>) -> u32
-    ensures memory { (result ≡ status.no_memory) ↔ (back.now.why ≡ Why.OutOfMemory) }
-    ensures full { (result ≡ status.full) ↔ (back.now.why ≡ Why.DocketFull) }
-    ensures range { (1 ≤ result) × (result ≤ status.full) }
-{
-    match back.why {
-        Why::OutOfMemory => NO_MEMORY,
-        Why::DocketFull => FULL,
-    }
+    submit(alloc, handle, client, log, plan, reply)
 }

@@ -3,16 +3,14 @@ ghost use Rattle.std.specs.Prelude.{◌≡◌, ◌↔◌, ◌≤◌, ◌<◌, �
 ghost use Rattle.kfs_entry_value.specs.Views.{header_of};
 ghost use Rattle.kfs_model.specs.Table.{get};
 ghost use Rattle.kfs_model.specs.Tree.{headers};
-ghost use Rattle.kfs_c.specs.Holding.{HoldsNoDesk, OnDesk};
+ghost use Rattle.kfs_c_handle.specs.Holding.{HoldsNoDesk, OnDesk};
 ghost use Rattle.kfs_c.specs.Reading.{HasNoNode, IsNode, IsPlaced, IsUnplaced, free_places};
-ghost use Rattle.kfs_c.specs.Status as status;
+ghost use Rattle.kfs_c_handle.specs.Status as status;
 
-use crate::handle::Handle;
-use crate::held::Held;
 use crate::numbers::NodeNumbers;
-use crate::slot::{on_desk, put_in, take_out};
-use crate::status::{CLOSED, DONE, NOTHING, WRONG_KIND};
 use crate::told::node_numbers;
+use kfs_c_handle::status::{DONE, NOTHING};
+use kfs_c_handle::{Handle, on_desk};
 use kfs_desk::Desk;
 use kfs_image::{Answer, Cell, Header, look};
 use std::alloc::Global;

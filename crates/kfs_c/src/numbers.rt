@@ -1,4 +1,6 @@
-//! What crosses to C and back: rows, replies and faults as numbers.
+//! What crosses to C and back: rows, answers and headers as numbers.
+
+use kfs_c_handle::FaultNumbers;
 
 /// A client, as a host gives it.
 #[repr(C)]
@@ -34,38 +36,6 @@ pub struct MoveRow {
     pub tier: u8,
     /// The target on its tier, from 0.
     pub place: u32,
-}
-
-/// Why something was refused.
-#[repr(C)]
-#[derive(Clone, Copy)]
-pub struct FaultNumbers {
-    /// The number of the fault in its list, from 1. 0: there is no fault.
-    pub code: u32,
-    /// The number of the reason within that fault, from 1. 0: there is none.
-    pub reason: u32,
-    /// Which entry, row, move, component or client it is, from 0.
-    pub index: u64,
-    /// A number that the reason tells: of a node, a client or a part.
-    pub detail: u32,
-}
-
-/// The answer to a submission.
-#[repr(C)]
-#[derive(Clone, Copy)]
-pub struct ReplyNumbers {
-    /// 0 yes, 1 no, 2 no room.
-    pub kind: u32,
-    /// The row of the docket, from 0.
-    pub position: u32,
-    /// Whether it was judged again.
-    pub rejudged: bool,
-    /// How many free places of tier 0 the log needs. 0 where the answer is no.
-    pub need: u64,
-    /// How many places of tier 0 are free, where there is no room.
-    pub free: u32,
-    /// Why the answer is no.
-    pub fault: FaultNumbers,
 }
 
 /// The answer to a call that is no submission.

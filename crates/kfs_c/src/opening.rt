@@ -4,16 +4,13 @@ ghost use Rattle.kfs_image_codec.specs.RawImages.{raw_of};
 ghost use Rattle.kfs_model_device.specs.RawImage.{image_of};
 ghost use Rattle.kfs_model_device.specs.Finding.{IsWellFormed};
 ghost use Rattle.kfs_model_device.specs.Spelling.{ImageAnswer};
-ghost use Rattle.kfs_c.specs.Holding.{OnDesk};
+ghost use Rattle.kfs_c_handle.specs.Holding.{OnDesk};
 ghost use Rattle.kfs_c.specs.Opening.{AreClientsRefused, AreRowsRefused, IsBegun, IsBegunWith, IsImageRefused, IsLoaded, IsLoadedWith, IsNoImage, IsOpenedWith, IsOpeningRefused, IsRowRefused, IsUnloaded, IsUnopened, IsRefusedAs, broken_as, client_of, misfit_told, sizes_of, sizes_told, stray_told, unbegun_as, unread_as};
-ghost use Rattle.kfs_c.specs.Status as status;
+ghost use Rattle.kfs_c_handle.specs.Status as status;
 
-use crate::handle::Handle;
-use crate::held::Held;
-use crate::numbers::{ClientRow, FaultNumbers};
-use crate::slot::{put_in, take_out};
-use crate::status::{DONE, NO_MEMORY, REFUSED};
-use crate::told::fault;
+use crate::numbers::ClientRow;
+use kfs_c_handle::status::{DONE, NO_MEMORY, REFUSED};
+use kfs_c_handle::{FaultNumbers, Handle, Held, fault, put_in, take_out};
 use kfs_desk::{BeginFault, Desk};
 use kfs_image::{Image, ImageFault, RawImage, TierSizes, decode_image};
 use kfs_mode::{Client, ClientFault};
@@ -33,8 +30,16 @@ enum Unopened {
 pub extern "C" fn kfs_close(alloc: Global, handle: &mut Handle)
     ensures { handle.new.value ≡ None }
 {
-    let held = take_out(alloc, handle);
-    drop(held);
+    let_go(alloc, handle);
+}
+
+/// Frees what the handle holds, if it holds something.
+pub(crate) fn let_go(alloc: Global, handle: &mut Handle)
+    ensures { handle.new.value ≡ None }
+{
+    if let Some(held) = take_out(alloc, handle) {
+        drop(Box::into_inner(held));
+    }
 }
 
 /// Has the handle hold a desk with a new image of these tier sizes, in blocks, and these clients. What
@@ -59,7 +64,7 @@ pub extern "C" fn kfs_open(
     ensures unopened { 1 ≤ result → handle.new.value ≡ None }
     ensures only { (result ≡ status.done) ⊎ (result ≡ status.no_memory) ⊎ (result ≡ status.refused) }
 {
-    drop(take_out(alloc, handle));
+    let_go(alloc, handle);
     let Some(sizes) = TierSizes::new(first, second, third) else {
         *fault = bad_sizes();
         return REFUSED;
@@ -95,7 +100,7 @@ pub extern "C" fn kfs_load(
     ensures unopened { 1 ≤ result → handle.new.value ≡ None }
     ensures only { (result ≡ status.done) ⊎ (result ≡ status.no_memory) ⊎ (result ≡ status.refused) }
 {
-    drop(take_out(alloc, handle));
+    let_go(alloc, handle);
     match load(alloc, bytes) {
         Ok(image) => open(alloc, handle, image, clients, groups, limit, fault),
         Err(why) => tell(why, fault),

@@ -1,17 +1,16 @@
 //! Views, verdicts on them, and landings. A host takes a view under its lock, judges outside it, and
 //! lands under it again.
 ghost use Rattle.std.specs.Prelude.{◌≡◌, ◌↔◌, ◌≤◌, ◌<◌, None, ⊤};
-ghost use Rattle.kfs_c.specs.Calls.{HasLanded, IsFull, IsJudged, IsLanded};
-ghost use Rattle.kfs_c.specs.Holding.{HoldsNoDesk, HoldsNoView, OnDesk, OnDesks, OnVerdict, OnView};
-ghost use Rattle.kfs_c.specs.Status as status;
+ghost use Rattle.kfs_c.specs.Calls.{HasLanded, IsJudged, IsLanded};
+ghost use Rattle.kfs_c_handle.specs.Holding.{HoldsNoDesk, HoldsNoView, OnDesk, OnDesks, OnVerdict, OnView};
+ghost use Rattle.kfs_c_handle.specs.Status as status;
+ghost use Rattle.kfs_c_handle.specs.Submission.{IsFull};
 
-use crate::calls::why_number;
-use crate::handle::Handle;
-use crate::held::Held;
-use crate::numbers::ReplyNumbers;
-use crate::slot::{on_desk, put_in, take_out};
-use crate::status::{CLOSED, DONE, NO_MEMORY, WRONG_KIND};
-use crate::told::reply_numbers;
+use crate::opening::let_go;
+use kfs_c_handle::status::{CLOSED, DONE, NO_MEMORY, WRONG_KIND};
+use kfs_c_handle::{
+    Handle, Held, ReplyNumbers, on_desk, put_in, reply_numbers, take_out, why_number,
+};
 use kfs_desk::Desk;
 use kfs_plan::{Judged, Submission};
 use kfs_workers_verdict::DeskView;
@@ -28,7 +27,7 @@ pub extern "C" fn kfs_look(alloc: Global, handle: &mut Handle, view: &mut Handle
     ensures wrong { (result ≡ status.wrong_kind) ↔ HoldsNoDesk handle.old.value }
     ensures range { result < status.closed → result ≤ status.no_memory }
 {
-    drop(take_out(alloc, view));
+    let_go(alloc, view);
     let Some(held) = take_out(alloc, handle) else {
         return CLOSED;
     };
@@ -73,7 +72,7 @@ pub extern "C" fn kfs_judge(
     ensures wrong { (result ≡ status.wrong_kind) ↔ HoldsNoView view.old.value }
     ensures range { result < status.closed → result ≤ status.no_memory }
 {
-    drop(take_out(alloc, verdict));
+    let_go(alloc, verdict);
     let Some(held) = take_out(alloc, view) else {
         return CLOSED;
     };
@@ -154,7 +153,7 @@ fn land(
         put_in(verdict, held);
         return WRONG_KIND;
     }
-    let Held::Verdict(judged) = Box::into_inner(held) else {
+    let Some(judged) = Box::into_inner(held).into_verdict() else {
         return WRONG_KIND;
     };
     land_judged(desk, judged, reply)

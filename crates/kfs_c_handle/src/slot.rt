@@ -9,7 +9,7 @@ use std::alloc::Global;
 use std::mem::replace;
 
 /// Takes out what the handle holds, if it holds something.
-pub(crate) fn take_out(alloc: Global, handle: &mut Handle) -> Option<Box<Held, Global>>
+pub fn take_out(alloc: Global, handle: &mut Handle) -> Option<Box<Held, Global>>
     ensures held { option_map (λ held. held.value) result ≡ handle.old.value }
     ensures emptied { handle.new.value ≡ None }
 {
@@ -18,7 +18,7 @@ pub(crate) fn take_out(alloc: Global, handle: &mut Handle) -> Option<Box<Held, G
 }
 
 /// Has the handle hold this. Only for a handle that holds nothing: what it held would be lost.
-pub(crate) fn put_in(handle: &mut Handle, held: Box<Held, Global>)
+pub fn put_in(handle: &mut Handle, held: Box<Held, Global>)
     ensures { handle.new.value ≡ Some held.value }
 {
     *handle = Handle::full(Loose::of(held));
@@ -27,29 +27,28 @@ pub(crate) fn put_in(handle: &mut Handle, held: Box<Held, Global>)
 /// Makes a call of the desk that the handle holds, and answers its status. The desk is taken out for
 /// the call, and put in again. Where the handle holds none, the function around the macro answers
 /// `CLOSED` or `WRONG_KIND`.
+#[macro_export]
 macro_rules! on_desk {
     ($alloc:ident, $handle:ident, &mut $desk:ident => $call:expr) => {{
-        let Some(mut held) = take_out($alloc, $handle) else {
-            return CLOSED;
+        let Some(mut held) = $crate::take_out($alloc, $handle) else {
+            return $crate::status::CLOSED;
         };
         let status = match &mut *held {
-            Held::Desk($desk) => $call,
-            Held::View(_) | Held::Verdict(_) => WRONG_KIND,
+            $crate::Held::Desk($desk) => $call,
+            $crate::Held::View(_) | $crate::Held::Verdict(_) => $crate::status::WRONG_KIND,
         };
-        put_in($handle, held);
+        $crate::put_in($handle, held);
         status
     }};
     ($alloc:ident, $handle:ident, &$desk:ident => $call:expr) => {{
-        let Some(held) = take_out($alloc, $handle) else {
-            return CLOSED;
+        let Some(held) = $crate::take_out($alloc, $handle) else {
+            return $crate::status::CLOSED;
         };
         let status = match &*held {
-            Held::Desk($desk) => $call,
-            Held::View(_) | Held::Verdict(_) => WRONG_KIND,
+            $crate::Held::Desk($desk) => $call,
+            $crate::Held::View(_) | $crate::Held::Verdict(_) => $crate::status::WRONG_KIND,
         };
-        put_in($handle, held);
+        $crate::put_in($handle, held);
         status
     }};
 }
-
-pub(crate) use on_desk;

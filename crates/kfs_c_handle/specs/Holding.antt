@@ -4,8 +4,8 @@ use Rattle.kfs_model.specs.Judgement.{State}
 use Rattle.kfs_desk.specs.Machine.{Desk}
 use Rattle.kfs_plan.specs.Judged.{Judged}
 use Rattle.std.specs.Global.{Global}
-use Rattle.kfs_c.specs.declared.held.Held.{Held}
-use Rattle.kfs_c.specs.declared.held.Held.TheVariants as helds
+use Rattle.kfs_c_handle.specs.declared.held.Held.{Held}
+use Rattle.kfs_c_handle.specs.declared.held.Held.TheVariants as helds
 
 -- the handle holds a desk, and this is said of it
 abbrev pub OnDesk : Option Held → (Desk → Type 0) → Type 0

@@ -1,0 +1,5 @@
+pub mod Handle
+pub mod Holding
+pub mod Status
+pub mod Submission
+pub mod Told

@@ -1,0 +1,75 @@
+//! A submission to the desk that a handle holds.
+ghost use Rattle.std.specs.Prelude.{◌≡◌, ◌↔◌, ◌≤◌, ◌<◌, None};
+ghost use Rattle.kfs_c_handle.specs.Holding.{HoldsNoDesk, OnDesk, OnDesks};
+ghost use Rattle.kfs_c_handle.specs.Status as status;
+ghost use Rattle.kfs_c_handle.specs.Submission.{IsFull, IsSubmitted};
+
+use crate::handle::Handle;
+use crate::numbers::ReplyNumbers;
+use crate::on_desk;
+use crate::status::{DONE, FULL, NO_MEMORY};
+use crate::told::reply_numbers;
+use kfs_desk::Desk;
+use kfs_plan::{Back, Submission, Why};
+use std::alloc::Global;
+
+/// Judges a submission against the state now and lands it (`Desk::submit`). It is answered by `DONE`
+/// and a reply, or not at all, by `NO_MEMORY` or `FULL`, and then nothing has changed.
+pub fn submit(
+    alloc: Global,
+    handle: &mut Handle,
+    client: u32,
+    log: &[u8],
+    plan: &[u8],
+    reply: &mut ReplyNumbers,
+) -> u32
+    ensures answered { result ≡ status.done → OnDesks handle.old.value handle.new.value (IsSubmitted client log.now plan.now reply.new) }
+    ensures unanswered { 1 ≤ result → (handle.new.value ≡ handle.old.value) × (reply.new ≡ reply.old) }
+    ensures full { result ≡ status.full → OnDesk handle.old.value IsFull }
+    ensures closed { (result ≡ status.closed) ↔ (handle.old.value ≡ None) }
+    ensures wrong { (result ≡ status.wrong_kind) ↔ HoldsNoDesk handle.old.value }
+    ensures range { result < status.closed → result ≤ status.full }
+{
+    on_desk!(alloc, handle, &mut desk => submit_to(alloc, desk, client, log, plan, reply))
+}
+
+/// Submits copies of the bytes.
+fn submit_to(
+    alloc: Global,
+    desk: &mut Desk<Global>,
+    client: u32,
+    log: &[u8],
+    plan: &[u8],
+    reply: &mut ReplyNumbers,
+) -> u32
+    ensures answered { result ≡ status.done → IsSubmitted client log.now plan.now reply.new desk.old desk.new }
+    ensures unanswered { 1 ≤ result → (desk.new ≡ desk.old) × (reply.new ≡ reply.old) }
+    ensures full { result ≡ status.full → IsFull desk.old }
+    ensures range { result ≤ status.full }
+{
+    let Ok(log) = log.to_vec(alloc) else {
+        return NO_MEMORY;
+    };
+    let Ok(plan) = plan.to_vec(alloc) else {
+        return NO_MEMORY;
+    };
+    match desk.submit(Submission { client, log, plan }) {
+        Ok(answer) => {
+            *reply = reply_numbers(answer);
+            DONE
+        }
+        Err(back) => why_number(&back),
+    }
+}
+
+/// Why there is no answer, as a status.
+pub fn why_number(back: &Back<Global>) -> u32
+    ensures memory { (result ≡ status.no_memory) ↔ (back.now.why ≡ Why.OutOfMemory) }
+    ensures full { (result ≡ status.full) ↔ (back.now.why ≡ Why.DocketFull) }
+    ensures range { (1 ≤ result) × (result ≤ status.full) }
+{
+    match back.why {
+        Why::OutOfMemory => NO_MEMORY,
+        Why::DocketFull => FULL,
+    }
+}
