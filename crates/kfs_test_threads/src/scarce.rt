@@ -4,7 +4,6 @@ use crate::batch::{Ending, are_creates, batch, creates, is_create};
 use crate::files::FILES_P;
 use crate::gates::Open;
 use crate::setting::opened_with;
-use crate::together::two_with_one_refused;
 use kfs_desk::{Desk, Reply};
 use kfs_plan::Submission;
 use kfs_test_support::refusing::Refusing;
@@ -154,25 +153,12 @@ fn batch_with_one_refused<R: Threads + Wait + Sync>(
     }
 }
 
-/// A batch whose growths are refused.
-#[derive(Clone, Copy)]
-pub enum Scarce {
-    /// Four creations of one client.
-    Apart,
-    /// Submissions of two clients, which are answered together.
-    Together,
-}
-
 /// How many growths the batch asks for, each refused in turn; or as an error the index of one at which
 /// an ending is wrong.
-pub fn growths<R: Threads + Wait + Sync>(rt: &R, alloc: Global, batch: Scarce) -> Result<u64, u64> {
+fn growths<R: Threads + Wait + Sync>(rt: &R, alloc: Global) -> Result<u64, u64> {
     for growth in 0..MANY {
         let heap = Refusing::new(alloc, AMPLE);
-        let ended = match batch {
-            Scarce::Apart => batch_with_one_refused(rt, &heap, growth),
-            Scarce::Together => two_with_one_refused(rt, &heap, growth),
-        };
-        match ended {
+        match batch_with_one_refused(rt, &heap, growth) {
             Some(true) => {}
             Some(false) => return Ok(growth),
             None => return Err(growth),
@@ -183,6 +169,6 @@ pub fn growths<R: Threads + Wait + Sync>(rt: &R, alloc: Global, batch: Scarce) -
 
 #[test]
 fn each_growth_of_a_batch_refused(rt: HostRuntime) {
-    let count = growths(&rt, rt.alloc(), Scarce::Apart);
+    let count = growths(&rt, rt.alloc());
     assert!(rt; matches!(count, Ok(10..)), "{count:?}");
 }
