@@ -9,7 +9,7 @@ use Rattle.kfs_model.specs.Table.{Order, Table, numbers, pairs, empty, get, chan
 use Rattle.kfs_model.specs.Tree.{NameTable, name_order}
 use Rattle.kfs_model.specs.Spelling.{IsName}
 use Rattle.kfs_model.proofs.Counts.{counted}
-use Rattle.kfs_image_nodes.specs.Indexes.{AreNames, IsCounted, ArePositive, by_node, count_at, count_step, uplink_step}
+use Rattle.kfs_image_nodes.specs.Indexes.{AreNames, IsCounted, ArePositive, CountsMoved, by_node, count_at, count_step, uplink_step}
 use Rattle.kfs_image_nodes.proofs.Counts.{count-changed}
 use Rattle.kfs_model.proofs.TableLaws.{get-changed}
 
@@ -106,3 +106,14 @@ counted_after names counts new_counts ways new_ways is d m w counts_moved ways_m
           let p : (ℕ × List ℕ) × ℕ → Bool = λ e. (e.1 == n) && (e.0.0 == q) in
           omega (arith, ways_moved (n, q), is.uplinks n q, count-changed p names (d, m) w, uplink_step-counted d m before n q, uplink_step-counted d m w n q);
     }
+
+-- the counts fit where they moved from the node that a name led to
+pub counted_moved : (names : NameTable) (counts new_counts : Table numbers ℕ) (ways new_ways : Table by_node ℕ) → IsCounted names counts ways → (key : ℕ × List ℕ) (from to : Option ℕ)
+    → from ≡ get names key
+    → CountsMoved counts (count_step key.0 from) (count_step key.0 to) new_counts
+    → CountsMoved ways (uplink_step key.0 from) (uplink_step key.0 to) new_ways
+    → (ArePositive ways → ArePositive new_ways)
+    → IsCounted (changed names key to) new_counts new_ways
+counted_moved names counts new_counts ways new_ways is key from to found counts_moved ways_moved positive =
+    counted_after names counts new_counts ways new_ways is key.0 key.1 to (λ q. omega (arith, counts_moved q, ap (λ o. count_step key.0 o q) found))
+    (λ q. omega (arith, ways_moved q, ap (λ o. uplink_step key.0 o q) found)) (positive is.positive)

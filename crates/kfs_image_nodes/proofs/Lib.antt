@@ -3,6 +3,7 @@ pub mod EditedRows
 mod FreshRows
 pub mod HeaderPages
 pub mod Holders
+pub mod InOrder
 pub mod Indexes
 pub mod NameEdits
 pub mod NameOrder

@@ -42,6 +42,10 @@ module _ {K : Type 0} {R : Order K} where
   abbrev pub CountsFewer : (old : Table R ℕ) (step : K → ℕ) (new : Table R ℕ) → Type 0
   CountsFewer old step new = (q : K) → count_at new q + step q ≡ count_at old q
 
+  -- each key's old count and what it gains are its new count and what it loses
+  abbrev pub CountsMoved : (old : Table R ℕ) (lost gained : K → ℕ) (new : Table R ℕ) → Type 0
+  CountsMoved old lost gained new = (q : K) → count_at new q + lost q ≡ count_at old q + gained q
+
   -- each listed count is at least 1
   abbrev pub ArePositive : Table R ℕ → Type 0
   ArePositive t = (key : K) (count : ℕ) → get t key ≡ Some count → 0 < count

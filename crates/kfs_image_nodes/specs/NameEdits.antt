@@ -1,16 +1,29 @@
 -- What overlays of names and counts show over the maps.
-use Rattle.std.specs.Prelude.{◌≡◌, ℕ, List}
+use Rattle.std.specs.Prelude.{◌≡◌, ℕ, All, List, map}
 use Rattle.kfs_entry_value.specs.declared.plan.NameRow.{NameRow}
+use Rattle.kfs_model.specs.Spelling.{IsName}
 use Rattle.kfs_model.specs.Table.{Table, numbers}
 use Rattle.kfs_model.specs.Tree.{NameTable, name_order}
 use Rattle.kfs_map_pages.specs.Edits as numbered
+use Rattle.kfs_map_chunks.specs.declared.edit.KeyEdit.{KeyEdit}
 use Rattle.kfs_map_chunks.specs.Edits as keyed
 use Rattle.kfs_map_chunks.specs.Tables.{table}
 use Rattle.kfs_image_nodes.specs.declared.name_edits.NameEdits.{NameEdits}
 use Rattle.kfs_image_nodes.specs.declared.name_edits.Overlays.{Overlays}
-use Rattle.kfs_image_nodes.specs.Change.{renamed}
+use Rattle.kfs_image_nodes.specs.declared.tallies.Tallies.{Tallies}
+use Rattle.kfs_image_nodes.specs.Change.{led_to, renamed}
 use Rattle.kfs_image_nodes.specs.Indexes.{AreNames, IsCounted, AreInPages, by_node}
 use Rattle.kfs_map_chunks.specs.Overlays.{overlaid}
+
+-- the edit of the names that a row makes
+abbrev pub name_edit : NameRow → KeyEdit (ℕ × List ℕ) ℕ
+name_edit row = record { key = (row.dir, row.name); value = led_to row.number }
+
+-- the edits are those of the rows, their keys ascend, and each is of a valid name
+pub record AreRowsInOrder (rows : List NameRow) (edits : List (KeyEdit (ℕ × List ℕ) ℕ)) : Type 0 where
+  pub made : edits ≡ map name_edit rows
+  pub ascend : keyed.KeysAscend name_order.compare edits
+  pub named : All (λ e. IsName e.key.1) edits
 
 module _ {A : Type 0} where
   -- the names that the overlays show
@@ -18,16 +31,16 @@ module _ {A : Type 0} where
   names_seen said names = overlaid (table name_order names) said.names.latest.entries
 
   -- the counts of directories that they show
-  abbrev pub counts_seen : Overlays A → Table numbers ℕ → Table numbers ℕ
+  abbrev pub counts_seen : Tallies A → Table numbers ℕ → Table numbers ℕ
   counts_seen said counts = overlaid counts said.counts.latest.entries
 
   -- the counts of uplinks that they show
-  abbrev pub ways_seen : Overlays A → List ((ℕ × ℕ) × ℕ) → Table by_node ℕ
+  abbrev pub ways_seen : Tallies A → List ((ℕ × ℕ) × ℕ) → Table by_node ℕ
   ways_seen said uplinks = overlaid (table by_node uplinks) said.uplinks.latest.entries
 
   -- the counts that they show are right for the names that they show
   abbrev pub IsCountedOver : (names : List ((ℕ × List ℕ) × ℕ)) (counts : Table numbers ℕ) (uplinks : List ((ℕ × ℕ) × ℕ)) → Overlays A → Type 0
-  IsCountedOver names counts uplinks said = IsCounted (names_seen said names) (counts_seen said counts) (ways_seen said uplinks)
+  IsCountedOver names counts uplinks said = IsCounted (names_seen said names) (counts_seen said.tallies counts) (ways_seen said.tallies uplinks)
 
   -- the names after the edits
   abbrev pub names_edited : List ((ℕ × List ℕ) × ℕ) → NameEdits A → NameTable

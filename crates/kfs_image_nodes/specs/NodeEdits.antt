@@ -13,6 +13,10 @@ abbrev pub left_by : List NodeRow → ℕ → Option CodeHeader → Option CodeH
 left_by [] q there = there
 left_by (row ∷ rows) q there = left_by rows q (if eq_by_cmp nat_cmp q row.number then row.now else there)
 
+-- the edit that a row makes
+abbrev pub node_edit : NodeRow → NumberEdit CodeHeader
+node_edit row = record { number = row.number; value = row.now }
+
 -- pages have this number: it is 1 to 65,536
 abbrev pub IsNumber : ℕ → Type 0
 IsNumber number = (1 ≤ number) × (number ≤ greatest_number)

@@ -1,9 +1,9 @@
 //! The changes of headers that node rows make.
-ghost use Rattle.std.specs.Prelude.{◌≡◌, ◌↔◌, ℕ, [], ◌∷◌, Option, IfOk, IsTrue};
+ghost use Rattle.std.specs.Prelude.{◌≡◌, ℕ, Option, IfOk, IfSome, map};
 ghost use Rattle.std.specs.Ordering.{nat_cmp};
 ghost use Rattle.std.specs.BTreeMap.{get};
 ghost use Rattle.kfs_map_pages.specs.Edits.{edited, AreEdits};
-ghost use Rattle.kfs_image_nodes.specs.NodeEdits.{left_by, IsNumber};
+ghost use Rattle.kfs_image_nodes.specs.NodeEdits.{left_by, node_edit, IsNumber};
 ghost use Rattle.kfs_map_chunks.specs.Overlays.{said_or};
 
 use crate::overlay::number_edits;
@@ -21,38 +21,36 @@ pub fn header_edits<A: Allocator + Clone>(
     ensures edits { IfOk result (λ edits. AreEdits edits.items) }
     ensures made { IfOk result (λ edits. (q : ℕ) (there : Option Header) → IsNumber q → edited edits.items q there ≡ left_by nodes.now q there) }
 {
-    match nodes {
-        [row] => edit_alone(alloc, row),
-        _ => {
+    match edits_in_order(alloc, nodes)? {
+        Some(edits) => Ok(edits),
+        None => {
             let latest = latest_rows(alloc, nodes)?;
             number_edits(alloc, &latest)
         }
     }
 }
 
-/// The edit of one row alone; none where pages don't have its number.
-fn edit_alone<A: Allocator + Clone>(
+/// The rows as edits. None where their numbers don't ascend, or where no node can have one of them.
+fn edits_in_order<A: Allocator + Clone>(
     alloc: &A,
-    row: &NodeRow,
-) -> Result<Vec<NumberEdit<Header>, A>, AllocError>
-    ensures edits { IfOk result (λ edits. AreEdits edits.items) }
-    ensures made { IfOk result (λ edits. (q : ℕ) (there : Option Header) → IsNumber q → edited edits.items q there ≡ left_by (row.entry.now ∷ []) q there) }
+    nodes: &[NodeRow],
+) -> Result<Option<Vec<NumberEdit<Header>, A>>, AllocError>
+    ensures edits { IfOk result (λ made. IfSome made (λ edits. AreEdits edits.items)) }
+    ensures rows { IfOk result (λ made. IfSome made (λ edits. edits.items ≡ map node_edit nodes.now)) }
 {
-    let mut edits = Vec::new(alloc.clone()?);
-    if is_number(row.number) {
+    let mut edits = Vec::with_capacity(alloc.clone()?, nodes.len())?;
+    let mut last = 0;
+    for row in nodes {
+        if row.number <= last || GREATEST_NUMBER < row.number {
+            return Ok(None);
+        }
+        last = row.number;
         edits.push(NumberEdit {
             number: row.number,
             value: row.now,
         })?;
     }
-    Ok(edits)
-}
-
-/// Whether pages have this number.
-fn is_number(number: u32) -> bool
-    ensures { IsTrue result ↔ IsNumber number }
-{
-    1 <= number && number <= GREATEST_NUMBER
+    Ok(Some(edits))
 }
 
 /// The last row of each number.

@@ -14,6 +14,7 @@ mod net;
 mod overlay;
 mod rows;
 mod sorted_rows;
+mod tallies;
 
 pub use cell::{Answer, Cell};
 pub use edits::header_edits;

@@ -10,10 +10,11 @@ ghost use Rattle.kfs_image_nodes.specs.NameEdits.{counts_seen, ways_seen};
 ghost use Rattle.kfs_image_nodes.specs.NodeEdits.{IsNumber};
 ghost use Rattle.kfs_image_nodes.specs.SortedRows.{name_entry, name_entries, CountEntries};
 
-use crate::name_edits::Overlays;
+use crate::overlay::number_edits;
 use crate::rows::name_key;
+use crate::tallies::Tallies;
 use kfs_entry_value::{Name, NameRow};
-use kfs_map_chunks::{ChunkList, Chunks, Key};
+use kfs_map_chunks::{ChunkList, Chunks, Key, key_edits};
 use kfs_map_pages::{Nothing, Pages};
 use std::alloc::{AllocError, Allocator};
 
@@ -70,27 +71,28 @@ pub(crate) fn counts_of<A: Allocator + Clone>(
 {
     let mut counts = Pages::new(alloc.clone()?)?;
     let mut uplinks = Chunks::new(alloc.clone()?);
-    let overlays = overlaid(alloc, &counts, &uplinks, rows)?;
-    let edits = overlays.edits(alloc)?;
-    counts.change_then(edits.counts.as_slice(), &mut Nothing)?;
-    uplinks.change_then(edits.uplinks.as_slice(), &mut Nothing)?;
+    let tallies = tallied(alloc, &counts, &uplinks, rows)?;
+    let count_edits = number_edits(alloc, &tallies.counts)?;
+    let uplink_edits = key_edits(alloc, &tallies.uplinks)?;
+    counts.change_then(count_edits.as_slice(), &mut Nothing)?;
+    uplinks.change_then(uplink_edits.as_slice(), &mut Nothing)?;
     Ok(NameCounts { counts, uplinks })
 }
 
 /// The counts of the rows' names, laid over empty maps.
-fn overlaid<A: Allocator + Clone>(
+fn tallied<A: Allocator + Clone>(
     alloc: &A,
     counts: &Pages<u64, A>,
     uplinks: &Chunks<(u32, u32), u64, A>,
     rows: &[NameRow],
-) -> Result<Overlays<A>, AllocError>
+) -> Result<Tallies<A>, AllocError>
     requires counts { counts.now ≡ empty }
     requires uplinks { uplinks.now ≡ [] }
-    ensures { IfOk result (λ overlays. CountEntries (name_entries rows.now) (counts_seen overlays counts.now) (ways_seen overlays uplinks.now)) }
+    ensures { IfOk result (λ tallies. CountEntries (name_entries rows.now) (counts_seen tallies counts.now) (ways_seen tallies uplinks.now)) }
 {
-    let mut overlays = Overlays::new(alloc)?;
+    let mut tallies = Tallies::new(alloc)?;
     for row in rows {
-        overlays.enter(counts, uplinks, row.dir, Some(row.number))?;
+        tallies.enter(counts, uplinks, row.dir, Some(row.number))?;
     }
-    Ok(overlays)
+    Ok(tallies)
 }

@@ -2,11 +2,12 @@ use Rattle.std.proofs.Common.{◌+◌, drop, sym, ap, subst, ◌∙◌}
 use Rattle.std.proofs.lemmas.List.{at_drop_all}
 use Rattle.kfs_model.specs.Table.{changed}
 use Rattle.kfs_model.specs.Tree.{NameTable, name_order}
+use Rattle.kfs_map_chunks.specs.Edits.{rewritten}
 use Rattle.kfs_map_chunks.specs.Tables.{table}
 use Rattle.kfs_entry_value.specs.declared.plan.NameRow.{NameRow}
 use Rattle.kfs_image_nodes.specs.Change.{led_to, renamed}
 use Rattle.kfs_image_nodes.specs.Indexes.{AreNames, IsCounted, by_node}
-use Rattle.kfs_image_nodes.specs.NameEdits.{names_seen, counts_seen, ways_edited}
+use Rattle.kfs_image_nodes.specs.NameEdits.{names_seen, counts_seen}
 use Rattle.kfs_image_nodes.proofs.NameEdits.{edited_seen, counted_edits}
 use Rattle.kfs_image_nodes.proofs.NodeEdits.{rows_left}
 use Rattle.kfs_map_chunks.proofs.Overlays.{overlaid_none}
@@ -16,8 +17,8 @@ pub loop-row-init : goal.loop-row-init
 loop-row-init g c =
     let overlays = c.in_ok-overlays.overlays in
     let names = overlaid_none (table name_order c.args.names.now) overlays.names.latest.entries c.in_ok-overlays.ensures.names in
-    let counts = overlaid_none c.args.counts.now overlays.counts.latest.entries c.in_ok-overlays.ensures.counts in
-    let ways = overlaid_none (table by_node c.args.uplinks.now) overlays.uplinks.latest.entries c.in_ok-overlays.ensures.uplinks in
+    let counts = overlaid_none c.args.counts.now overlays.tallies.counts.latest.entries c.in_ok-overlays.ensures.counts in
+    let ways = overlaid_none (table by_node c.args.uplinks.now) overlays.tallies.uplinks.latest.entries c.in_ok-overlays.ensures.uplinks in
     record {
       named = subst (λ (t : NameTable). AreNames t) (sym names);
       counted = rw (names, counts, ways) c.requires;
@@ -42,19 +43,20 @@ loop-row-preserved g c =
 pub returns : goal.returns
 returns g c =
     let overlays = c.loop-row.overlays in
-    let edits = c.in_ok-edits.edits in
-    let says = c.in_ok-edits.ensures in
-    let names = edited_seen name_order c.args.names.now edits.names.items overlays.names.latest says.names in
-    let ways = edited_seen by_node c.args.uplinks.now edits.uplinks.items overlays.uplinks.latest says.uplinks in
+    let edited_names = c.in_ok-key_edits.field-0.items in
+    let edited_counts = c.in_ok-number_edits.field-0.items in
+    let edited_ways = c.in_ok-key_edits-2.field-0.items in
+    let names = edited_seen name_order c.args.names.now edited_names overlays.names.latest c.in_ok-key_edits.ensures.said in
+    let ways = edited_seen by_node c.args.uplinks.now edited_ways overlays.tallies.uplinks.latest c.in_ok-key_edits-2.ensures.said in
     record {
-      names_ascend = says.names_ascend;
-      counts_ascend = says.counts_ascend;
-      uplinks_ascend = says.uplinks_ascend;
+      names_ascend = c.in_ok-key_edits.ensures.ascend;
+      counts_ascend = c.in_ok-number_edits.ensures.edits;
+      uplinks_ascend = c.in_ok-key_edits-2.ensures.ascend;
       make = names ∙ sym (at_drop_all (renamed (names_seen overlays c.args.names.now)) c.args.rows.now c.loop-row.row-index c.loop-row-test.false) ∙ c.loop-row.invariant.names;
       named = λ all. subst (λ (t : NameTable). AreNames t) (sym names) (c.loop-row.invariant.named all);
       counted = λ within within_now.
-          counted_edits (table name_order c.args.names.now) c.args.counts.now (table by_node c.args.uplinks.now) c.requires _ _ overlays.counts.latest
-          (subst (λ (t : NameTable). IsCounted t (counts_seen overlays c.args.counts.now) (ways_edited c.args.uplinks.now edits)) (sym names)
-          (subst (IsCounted (names_seen overlays c.args.names.now) (counts_seen overlays c.args.counts.now)) (sym ways) c.loop-row.invariant.counted))
-          edits.counts.items says.counts_ascend says.counts within within_now;
+          counted_edits (table name_order c.args.names.now) c.args.counts.now (table by_node c.args.uplinks.now) c.requires _ _ overlays.tallies.counts.latest
+          (subst (λ (t : NameTable). IsCounted t (counts_seen overlays.tallies c.args.counts.now) (table by_node (rewritten by_node c.args.uplinks.now edited_ways))) (sym names)
+          (subst (IsCounted (names_seen overlays c.args.names.now) (counts_seen overlays.tallies c.args.counts.now)) (sym ways) c.loop-row.invariant.counted))
+          edited_counts c.in_ok-number_edits.ensures.edits c.in_ok-number_edits.ensures.said within within_now;
     }

@@ -22,18 +22,18 @@ pub returns : goal.returns
 returns g c =
     let rows = c.args.rows.now in
     let names : NameTable = table name_order (name_entries rows) in
-    let overlays = c.in_ok-overlays.overlays in
-    let edits = c.in_ok-edits.edits in
-    let says = c.in_ok-edits.ensures in
+    let tallies = c.in_ok-tallies.tallies in
+    let count_edits = c.in_ok-count_edits.count_edits.items in
+    let uplink_edits = c.in_ok-uplink_edits.uplink_edits.items in
     let counts : c.in_ok-counts.counts ≡ empty = c.in_ok-counts.ensures in
-    let seen = counted_rows rows _ (ways_seen overlays c.new-uplinks.result) c.requires.sorted c.in_ok-overlays.ensures in
+    let seen = counted_rows rows _ (ways_seen tallies c.new-uplinks.result) c.requires.sorted c.in_ok-tallies.ensures in
     let within : AreInPages names = keys_of_rows (λ key. IsNumber key.0) rows (recursion_from_All (λ row. IsNumber row.dir) rows c.requires.numbered) in
-    let made : IsCounted names (numbered.rewritten c.in_ok-counts.counts edits.counts.items) (ways_seen overlays c.new-uplinks.result) =
-    counted_edits empty c.in_ok-counts.counts empty (subst (λ (t : Table numbers ℕ). IsCounted empty t empty) (sym counts) nothing_counted) names (ways_seen overlays c.new-uplinks.result) overlays.counts.latest seen
-    edits.counts.items says.counts_ascend says.counts none_within within in
-    let counts_are : c.change_then.new.self ≡ numbered.rewritten c.in_ok-counts.counts edits.counts.items = c.in_ok-change_then.ensures.ok ∙ ap (numbered.rewritten c.in_ok-counts.counts) c.as_slice.ensures.value in
-    let ways_are : table by_node c.change_then-2.new.self ≡ ways_seen overlays c.new-uplinks.result = ap (table by_node) c.in_ok-change_then-2.ensures.ok
+    let made : IsCounted names (numbered.rewritten c.in_ok-counts.counts count_edits) (ways_seen tallies c.new-uplinks.result) =
+    counted_edits empty c.in_ok-counts.counts empty (subst (λ (t : Table numbers ℕ). IsCounted empty t empty) (sym counts) nothing_counted) names (ways_seen tallies c.new-uplinks.result) tallies.counts.latest seen
+    count_edits c.in_ok-count_edits.ensures.edits c.in_ok-count_edits.ensures.said none_within within in
+    let counts_are : c.change_then.new.self ≡ numbered.rewritten c.in_ok-counts.counts count_edits = c.in_ok-change_then.ensures.ok ∙ ap (numbered.rewritten c.in_ok-counts.counts) c.as_slice.ensures.value in
+    let ways_are : table by_node c.change_then-2.new.self ≡ ways_seen tallies c.new-uplinks.result = ap (table by_node) c.in_ok-change_then-2.ensures.ok
     ∙ ap (λ es. table by_node (keyed.rewritten by_node c.new-uplinks.result es)) c.as_slice-2.ensures.value
-    ∙ edited_seen by_node c.new-uplinks.result edits.uplinks.items overlays.uplinks.latest says.uplinks in
+    ∙ edited_seen by_node c.new-uplinks.result uplink_edits tallies.uplinks.latest c.in_ok-uplink_edits.ensures.said in
     subst (λ (t : Table numbers ℕ). IsCounted names t (table by_node c.change_then-2.new.self)) (sym counts_are)
-    (subst (IsCounted names (numbered.rewritten c.in_ok-counts.counts edits.counts.items)) (sym ways_are) made)
+    (subst (IsCounted names (numbered.rewritten c.in_ok-counts.counts count_edits)) (sym ways_are) made)

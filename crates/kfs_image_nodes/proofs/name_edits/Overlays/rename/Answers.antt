@@ -6,17 +6,25 @@ use Rattle.kfs_map_chunks.specs.Tables.{table}
 use Rattle.kfs_image_nodes.specs.Change.{led_to}
 use Rattle.kfs_image_nodes.specs.Indexes.{AreNames, IsCounted}
 use Rattle.kfs_image_nodes.specs.NameEdits.{names_seen, counts_seen, ways_seen}
-use Rattle.kfs_map_chunks.specs.Overlays.{overlaid}
-use Rattle.kfs_image_nodes.proofs.Indexes.{still_names}
+use Rattle.kfs_image_nodes.proofs.Indexes.{still_names, counted_name, counted_moved}
 use Rattle.kfs_map_chunks.proofs.Overlays.{overlaid_set}
 use Rattle.kfs_image_nodes.proofs.name_edits.Overlays.rename.Goals as goal
+
+pub recount-requires-clause-counts : goal.recount-requires-clause-counts
+recount-requires-clause-counts g c = λ n is.
+    let key = c.name_key-key.result in
+    (counted_name (names_seen c.args.self.now c.args.names.now) _ _ c.requires key.0 key.1 n (sym c.target-from.ensures ∙ is)).0
+
+pub recount-requires-clause-uplinks : goal.recount-requires-clause-uplinks
+recount-requires-clause-uplinks g c = λ n is.
+    let key = c.name_key-key.result in
+    (counted_name (names_seen c.args.self.now c.args.names.now) _ _ c.requires key.0 key.1 n (sym c.target-from.ensures ∙ is)).1
 
 pub returns-clause-names : goal.returns-clause-names
 returns-clause-names g c =
     let table_now = table name_order c.args.names.now in
     let names = names_seen c.args.self.now c.args.names.now in
-    overlaid_set table_now c.recount.new.self.names.latest c.set.new.self.latest c.name_key-key.result c.target_of-to.result c.in_ok-set.ensures
-    ∙ ap (λ overlays. changed (overlaid table_now overlays.latest.entries) c.name_key-key.result c.target_of-to.result) c.recount.ensures.names
+    overlaid_set table_now c.args.self.now.names.latest c.set.new.self.latest c.name_key-key.result c.target_of-to.result c.in_ok-set.ensures
     ∙ ap (λ key. changed names key c.target_of-to.result) c.name_key-key.ensures.key
     ∙ ap (changed names (c.args.row.now.dir, c.args.row.now.name)) c.target_of-to.ensures
 
@@ -28,6 +36,10 @@ returns-clause-named g c = λ all.
 pub returns-clause-counted : goal.returns-clause-counted
 returns-clause-counted g c =
     let names = names_seen c.args.self.now c.args.names.now in
-    let moved : changed names c.name_key-key.result c.target_of-to.result ≡ changed names (c.args.row.now.dir, c.args.row.now.name) (led_to c.args.row.now.number) =
-    ap (λ key. changed names key c.target_of-to.result) c.name_key-key.ensures.key ∙ ap (changed names (c.args.row.now.dir, c.args.row.now.name)) c.target_of-to.ensures in
-    subst (λ (t : NameTable). IsCounted t (counts_seen c.recount.new.self c.args.counts.now) (ways_seen c.recount.new.self c.args.uplinks.now)) (moved ∙ sym (returns-clause-names g c)) c.in_ok-recount.ensures.counted
+    let key = c.name_key-key.result in
+    let to = c.target_of-to.result in
+    let moved : changed names key to ≡ changed names (c.args.row.now.dir, c.args.row.now.name) (led_to c.args.row.now.number) =
+    ap (λ key. changed names key to) c.name_key-key.ensures.key ∙ ap (changed names (c.args.row.now.dir, c.args.row.now.name)) c.target_of-to.ensures in
+    subst (λ (t : NameTable). IsCounted t (counts_seen c.recount.new.self c.args.counts.now) (ways_seen c.recount.new.self c.args.uplinks.now)) (moved ∙ sym (returns-clause-names g c))
+    (counted_moved names _ (counts_seen c.recount.new.self c.args.counts.now) _ (ways_seen c.recount.new.self c.args.uplinks.now) c.requires key c.target-from.result to c.target-from.ensures c.in_ok-recount.ensures.counts
+    c.in_ok-recount.ensures.uplinks c.in_ok-recount.ensures.positive)

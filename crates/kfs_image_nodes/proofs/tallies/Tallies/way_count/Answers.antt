@@ -3,7 +3,7 @@ use Rattle.kfs_map_chunks.specs.Tables.{table}
 use Rattle.kfs_map_chunks.proofs.Tables.{get-table}
 use Rattle.kfs_image_nodes.specs.Indexes.{by_node}
 use Rattle.kfs_image_nodes.proofs.NameEdits.{read_seen}
-use Rattle.kfs_image_nodes.proofs.name_edits.Overlays.way_count.Goals as goal
+use Rattle.kfs_image_nodes.proofs.tallies.Tallies.way_count.Goals as goal
 
 pub returns : goal.returns
 returns g c =

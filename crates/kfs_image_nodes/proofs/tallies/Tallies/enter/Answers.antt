@@ -4,7 +4,7 @@ use Rattle.kfs_map_chunks.specs.Tables.{table}
 use Rattle.kfs_image_nodes.specs.Indexes.{by_node, count_at, count_step, uplink_step}
 use Rattle.kfs_image_nodes.specs.NameEdits.{counts_seen, ways_seen}
 use Rattle.kfs_image_nodes.proofs.NameEdits.{seen_more, seen_positive}
-use Rattle.kfs_image_nodes.proofs.name_edits.Overlays.enter.Goals as goal
+use Rattle.kfs_image_nodes.proofs.tallies.Tallies.enter.Goals as goal
 
 pub returns-in_ok-set-2-clause-positive : goal.returns-in_ok-set-2-clause-positive
 returns-in_ok-set-2-clause-positive g c =

@@ -4,7 +4,7 @@ use Rattle.kfs_map_chunks.specs.Tables.{table}
 use Rattle.kfs_image_nodes.specs.Indexes.{by_node, count_at, count_step, uplink_step}
 use Rattle.kfs_map_chunks.specs.Overlays.{overlaid}
 use Rattle.kfs_image_nodes.proofs.NameEdits.{seen_less, seen_positive}
-use Rattle.kfs_image_nodes.proofs.name_edits.Overlays.leave.Goals as goal
+use Rattle.kfs_image_nodes.proofs.tallies.Tallies.leave.Goals as goal
 
 pub one_less-requires : goal.one_less-requires
 one_less-requires g c = subst (λ o. 0 < unwrap_or o 0) (sym c.name_count-names.ensures) (c.requires.counts c.in-Some.number c.in-Some.is)

@@ -7,7 +7,7 @@ use Rattle.kfs_image_nodes.specs.NameEdits.{counts_seen, ways_seen}
 use Rattle.kfs_image_nodes.proofs.Indexes.{nothing_counted, count_step-counted, uplink_step-counted}
 use Rattle.kfs_image_nodes.proofs.NodeEdits.{rows_left}
 use Rattle.kfs_image_nodes.proofs.SortedRows.{one_counted, all_counted, none_at}
-use Rattle.kfs_image_nodes.proofs.sorted_rows.overlaid.Goals as goal
+use Rattle.kfs_image_nodes.proofs.sorted_rows.tallied.Goals as goal
 
 abbrev Entry : Type 0
 Entry = (ℕ × List ℕ) × ℕ
@@ -15,8 +15,8 @@ Entry = (ℕ × List ℕ) × ℕ
 pub loop-row-init : goal.loop-row-init
 unfolding table
 loop-row-init g c =
-    let overlays = c.in_ok-overlays.overlays in
-    let made = c.in_ok-overlays.ensures in
+    let overlays = c.in_ok-tallies.tallies in
+    let made = c.in_ok-tallies.ensures in
     let counts : counts_seen overlays c.args.counts.now ≡ empty = overlaid_none c.args.counts.now overlays.counts.latest.entries made.counts ∙ c.requires.counts in
     let ways : ways_seen overlays c.args.uplinks.now ≡ empty = overlaid_none (table by_node c.args.uplinks.now) overlays.uplinks.latest.entries made.uplinks ∙ ap (table by_node) c.requires.uplinks in
     record {
@@ -30,7 +30,7 @@ loop-row-preserved g c =
     let rows = c.args.rows.now in
     let i = c.loop-row.row-index in
     let row = c.row-item.result in
-    let old = c.loop-row.overlays in
+    let old = c.loop-row.tallies in
     let made = c.in_ok-enter.ensures in
     let next : drop i rows ≡ row ∷ drop (i + 1) rows = rows_left rows i _ c.loop-row-test.true ∙ sym (ap (λ r. r ∷ drop (i + 1) rows) c.row-item.is) in
     record {

@@ -1,0 +1,133 @@
+//! The counts of names while rows change them: how many names each directory has, and how many of them
+//! lead to each node.
+ghost use Rattle.std.specs.Prelude.{◌≡◌, ℕ, ◌+◌, ◌<◌, [], OnOk, IfOk, Some, unwrap_or};
+ghost use Rattle.kfs_model.specs.Table.{get};
+ghost use Rattle.kfs_image_nodes.specs.Indexes.{CountsFewer, CountsMore, CountsMoved, count_at, count_step, uplink_step, ArePositive};
+ghost use Rattle.kfs_image_nodes.specs.NameEdits.{counts_seen, ways_seen};
+
+use kfs_map_chunks::{Chunks, Overlay};
+use kfs_map_pages::Pages;
+use std::alloc::{AllocError, Allocator};
+
+/// New counts, laid over the maps. The maps themselves stay as they are.
+#[derive(Drop)]
+pub(crate) struct Tallies<A: Allocator> {
+    /// How many names each directory has.
+    pub(crate) counts: Overlay<u32, u64, A>,
+    /// How many names of a directory lead to a node, by the node's number and then the directory's.
+    pub(crate) uplinks: Overlay<(u32, u32), u64, A>,
+}
+
+impl<A: Allocator + Clone> Tallies<A> {
+    pub(crate) fn new(alloc: &A) -> Result<Tallies<A>, AllocError>
+        ensures counts { IfOk result (λ tallies. tallies.counts.latest.entries ≡ []) }
+        ensures uplinks { IfOk result (λ tallies. tallies.uplinks.latest.entries ≡ []) }
+    {
+        Ok(Tallies {
+            counts: Overlay::new(alloc.clone()?),
+            uplinks: Overlay::new(alloc.clone()?),
+        })
+    }
+
+    /// How many names a directory has; none stands for 0.
+    fn name_count(&self, counts: &Pages<u64, A>, dir: u32) -> Option<u64>
+        ensures { result ≡ get (counts_seen self.now counts.now) dir }
+    {
+        self.counts.get_or(&dir, counts.get(dir).copied())
+    }
+
+    /// How many names of a directory lead to a node; none stands for 0.
+    fn way_count(&self, uplinks: &Chunks<(u32, u32), u64, A>, way: &(u32, u32)) -> Option<u64>
+        ensures { result ≡ get (ways_seen self.now uplinks.now) way.now }
+    {
+        self.uplinks.get_or(way, uplinks.get(way).copied())
+    }
+
+    /// Counts that a name of the directory led to `from` and now leads to `to`.
+    pub(crate) fn recount(
+        &mut self,
+        counts: &Pages<u64, A>,
+        uplinks: &Chunks<(u32, u32), u64, A>,
+        dir: u32,
+        from: Option<u32>,
+        to: Option<u32>,
+    ) -> Result<(), AllocError>
+        requires counts { (n : ℕ) → from ≡ Some n → 0 < count_at (counts_seen self.old counts.now) dir }
+        requires uplinks { (n : ℕ) → from ≡ Some n → 0 < count_at (ways_seen self.old uplinks.now) (n, dir) }
+        ensures positive { OnOk result (ArePositive (ways_seen self.old uplinks.now) → ArePositive (ways_seen self.new uplinks.now)) }
+        ensures counts { OnOk result (CountsMoved (counts_seen self.old counts.now) (count_step dir from) (count_step dir to) (counts_seen self.new counts.now)) }
+        ensures uplinks { OnOk result (CountsMoved (ways_seen self.old uplinks.now) (uplink_step dir from) (uplink_step dir to) (ways_seen self.new uplinks.now)) }
+    {
+        self.leave(counts, uplinks, dir, from)?;
+        self.enter(counts, uplinks, dir, to)?;
+        Ok(())
+    }
+
+    /// Counts one name of the directory fewer, if the name led to a node.
+    fn leave(
+        &mut self,
+        counts: &Pages<u64, A>,
+        uplinks: &Chunks<(u32, u32), u64, A>,
+        dir: u32,
+        from: Option<u32>,
+    ) -> Result<(), AllocError>
+        requires counts { (n : ℕ) → from ≡ Some n → 0 < count_at (counts_seen self.old counts.now) dir }
+        requires uplinks { (n : ℕ) → from ≡ Some n → 0 < count_at (ways_seen self.old uplinks.now) (n, dir) }
+        ensures positive { OnOk result (ArePositive (ways_seen self.old uplinks.now) → ArePositive (ways_seen self.new uplinks.now)) }
+        ensures counts { OnOk result (CountsFewer (counts_seen self.old counts.now) (count_step dir from) (counts_seen self.new counts.now)) }
+        ensures uplinks { OnOk result (CountsFewer (ways_seen self.old uplinks.now) (uplink_step dir from) (ways_seen self.new uplinks.now)) }
+    {
+        if let Some(number) = from {
+            let way = (number, dir);
+            let names = self.name_count(counts, dir);
+            let ways = self.way_count(uplinks, &way);
+            self.counts.set(dir, one_less(names))?;
+            self.uplinks.set(way, one_less(ways))?;
+        }
+        Ok(())
+    }
+
+    /// Counts one name of the directory more, if the name now leads to a node.
+    pub(crate) fn enter(
+        &mut self,
+        counts: &Pages<u64, A>,
+        uplinks: &Chunks<(u32, u32), u64, A>,
+        dir: u32,
+        to: Option<u32>,
+    ) -> Result<(), AllocError>
+        ensures positive { OnOk result (ArePositive (ways_seen self.old uplinks.now) → ArePositive (ways_seen self.new uplinks.now)) }
+        ensures counts { OnOk result (CountsMore (counts_seen self.old counts.now) (count_step dir to) (counts_seen self.new counts.now)) }
+        ensures uplinks { OnOk result (CountsMore (ways_seen self.old uplinks.now) (uplink_step dir to) (ways_seen self.new uplinks.now)) }
+    {
+        if let Some(number) = to {
+            let way = (number, dir);
+            let names = self.name_count(counts, dir);
+            let ways = self.way_count(uplinks, &way);
+            self.counts.set(dir, one_more(names)?)?;
+            self.uplinks.set(way, one_more(ways)?)?;
+        }
+        Ok(())
+    }
+}
+
+/// Subtracts one; 0 becomes none.
+fn one_less(count: Option<u64>) -> Option<u64>
+    requires { 0 < unwrap_or count 0 }
+    ensures less { unwrap_or result 0 + 1 ≡ unwrap_or count 0 }
+    ensures positive { (n : ℕ) → result ≡ Some n → 0 < n }
+{
+    let less = count.unwrap_or(0) - 1;
+    if less == 0 { None } else { Some(less) }
+}
+
+/// Adds one; none stands for 0. A count over 64 bits can't occur, since memory doesn't hold so many
+/// names; it would be answered as `Err`.
+fn one_more(count: Option<u64>) -> Result<Option<u64>, AllocError>
+    ensures more { IfOk result (λ more. unwrap_or more 0 ≡ unwrap_or count 0 + 1) }
+    ensures positive { IfOk result (λ more. (n : ℕ) → more ≡ Some n → 0 < n) }
+{
+    match count.unwrap_or(0).checked_add(1) {
+        Some(more) => Ok(Some(more)),
+        None => Err(AllocError),
+    }
+}
