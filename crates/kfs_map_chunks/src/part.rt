@@ -10,7 +10,7 @@ ghost use Rattle.kfs_map_chunks.specs.Starts.{entry_from, reaches};
 use crate::edit::KeyEdit;
 use crate::entries::Entries;
 use crate::key::Key;
-use crate::place::place;
+use crate::place::{place, place_near};
 use crate::rebuilt::rebuilt;
 use std::alloc::{AllocError, Allocator};
 use std::marker::Model;
@@ -56,6 +56,17 @@ impl<K: Key, V: Copy, A: Allocator> Part<K, V, A> {
         ensures { option_copied result ≡ find K.cmp key.now self.now.pairs }
     {
         let chunk = self.chunks.get(place(&self.chunks, &Bound::Included(key)))?;
+        chunk.get(key)
+    }
+
+    /// The same value. It is found faster where the key's chunk is the one at index `near`, and `near`
+    /// becomes the index of that chunk. Takes no memory.
+    pub(crate) fn get_near(&self, near: &mut usize, key: &K) -> Option<&V>
+        ensures { option_copied result ≡ find K.cmp key.now self.now.pairs }
+    {
+        let at = place_near(&self.chunks, &Bound::Included(key), *near);
+        *near = at;
+        let chunk = self.chunks.get(at)?;
         chunk.get(key)
     }
 
