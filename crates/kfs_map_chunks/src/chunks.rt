@@ -80,6 +80,11 @@ impl<K: Key, V: Copy, A: Allocator> Chunks<K, V, A> {
     pub fn get_near(&self, near: &mut Near, key: &K) -> Option<&V>
         ensures { option_copied result ≡ find K.order.compare key.now self.now }
     {
+        if let Some(part) = self.parts.get(near.part) {
+            if let Some(chunk) = part.inner_chunk(near.chunk, key) {
+                return chunk.get(key);
+            }
+        }
         let at = place_part_near(&self.parts, &Bound::Included(key), near.part);
         near.part = at;
         let part = self.parts.get(at)?;

@@ -4,7 +4,7 @@ ghost use Rattle.std.specs.Option.{option_copied};
 ghost use Rattle.std.specs.FinMap.Entries.{find, is_sorted};
 ghost use Rattle.std.specs.Range.Bound.{bound_map};
 ghost use Rattle.kfs_map_chunks.specs.Edits.{entered_all, KeysAscend};
-ghost use Rattle.kfs_map_chunks.specs.Joined.{joined, AreSized};
+ghost use Rattle.kfs_map_chunks.specs.Joined.{joined, AreSized, TellsAlone};
 ghost use Rattle.kfs_map_chunks.specs.Starts.{entry_from, reaches};
 
 use crate::edit::KeyEdit;
@@ -68,6 +68,25 @@ impl<K: Key, V: Copy, A: Allocator> Part<K, V, A> {
         *near = at;
         let chunk = self.chunks.get(at)?;
         chunk.get(key)
+    }
+
+    /// The chunk at an index, if the key is behind the chunk in front of it and not behind its own last
+    /// key. Then only this chunk can have the key, also where the part is one of several.
+    pub(crate) fn inner_chunk(&self, index: usize, key: &K) -> Option<&Arc<Entries<K, V, A>, A>>
+        ensures { IfSome result (λ chunk. TellsAlone K.cmp key.now self.now.pairs chunk.now.value.pairs) }
+    {
+        if index == 0 {
+            return None;
+        }
+        let start = Bound::Included(key);
+        let chunk = self.chunks.get(index)?;
+        if !chunk.reaches(&start) {
+            return None;
+        }
+        if self.chunks[index - 1].reaches(&start) {
+            return None;
+        }
+        Some(chunk)
     }
 
     /// The first entry at the bound or behind it, or none. Takes no memory.
