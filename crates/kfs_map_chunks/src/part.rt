@@ -10,7 +10,7 @@ ghost use Rattle.kfs_map_chunks.specs.Starts.{entry_from, reaches};
 use crate::edit::KeyEdit;
 use crate::entries::Entries;
 use crate::key::Key;
-use crate::place::{place, place_near};
+use crate::place::{place, place_near, run_of};
 use crate::rebuilt::rebuilt;
 use std::alloc::{AllocError, Allocator};
 use std::marker::Model;
@@ -96,6 +96,21 @@ impl<K: Key, V: Copy, A: Allocator> Part<K, V, A> {
     {
         let chunk = self.chunks.get(place(&self.chunks, &start))?;
         chunk.next(start)
+    }
+
+    /// Whether the first chunk that the edits change takes those that belong to it.
+    pub(crate) fn takes_first(&self, edits: &[KeyEdit<K, V>]) -> bool
+        requires { KeysAscend K.cmp edits.now }
+    {
+        let Some(edit) = edits.first() else {
+            return true;
+        };
+        let last = self.chunks.len().saturating_sub(1);
+        let index = place(&self.chunks, &Bound::Included(&edit.key)).min(last);
+        let Some((chunk, rest)) = self.chunks[index..].split_first() else {
+            return true;
+        };
+        chunk.takes(run_of(edits, chunk, rest))
     }
 
     /// Whether an entry is at the bound or behind it. Only the last entry is looked at.
