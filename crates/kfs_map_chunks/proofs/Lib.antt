@@ -1,4 +1,5 @@
 mod FirstEntries
+mod FirstHere
 mod Order
 pub mod Overlays
 pub mod Parts

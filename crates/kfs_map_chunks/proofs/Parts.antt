@@ -173,7 +173,7 @@ module _ {K V A : Type 0} (cmp : K → K → Ordering) (start : Bound K) where
 
 module _ {K V : Type 0} (R : Order K) (start : Bound K) where
   -- where some entries end before the start, so do those in front of them
-  front_ends : (xs es ys : List (K × V)) → T (is_sorted R.compare (xs ++ (es ++ ys))) → IsNotEmpty es → not (reaches R.compare start es) ≡ true → not (reaches R.compare start xs) ≡ true
+  pub front_ends : (xs es ys : List (K × V)) → T (is_sorted R.compare (xs ++ (es ++ ys))) → IsNotEmpty es → not (reaches R.compare start es) ≡ true → not (reaches R.compare start xs) ≡ true
   front_ends xs [] ys sorted some past = absurd (omega (arith, some))
   front_ends xs (e ∷ es) ys sorted some past = ap (λ (o : Option (K × V)). not (is_some o)) (none_before R start xs e (es ++ ys) sorted (at (is_from R.compare start e.0) past))
     where
@@ -218,7 +218,7 @@ module _ {K V A : Type 0} (R : Order K) (start : Bound K) where
       at true here false e = absurd (true_or_false _ here (un_not _ (ahead e)))
 
 module _ {K V A : Type 0} (R : Order K) where
-  sorted_at : (cs : List (Arc (Buffer K V) A)) (i : ℕ) (d : Arc (Buffer K V) A) → T (is_sorted R.compare (joined cs)) → i < length cs → T (is_sorted R.compare (get_or cs i d).value.pairs)
+  pub sorted_at : (cs : List (Arc (Buffer K V) A)) (i : ℕ) (d : Arc (Buffer K V) A) → T (is_sorted R.compare (joined cs)) → i < length cs → T (is_sorted R.compare (get_or cs i d).value.pairs)
   sorted_at [] i d sorted within = absurd (omega (arith, within))
   sorted_at (c ∷ cs) zero d sorted within = sorted_left R.compare c.value.pairs (joined cs) sorted
   sorted_at (c ∷ cs) (suc i) d sorted within = sorted_at cs i d (sorted_right R.compare c.value.pairs (joined cs) sorted) (omega (arith, within))

@@ -1,8 +1,9 @@
 -- The entries of chunks in a row.
-use Rattle.std.specs.Prelude.{ℕ, ◌≤◌, Bool, false, Result, Ok, Err, List, [], ◌∷◌, ◌++◌, length, if◌then◌else◌}
+use Rattle.std.specs.Prelude.{◌≡◌, T, ℕ, ◌≤◌, Bool, false, Result, Ok, Err, List, [], ◌∷◌, ◌++◌, length, if◌then◌else◌}
 use Rattle.std.specs.declared.cmp.Ordering.{Ordering}
 use Rattle.std.specs.declared.ops.Bound.{Bound}
 use Rattle.std.specs.declared.sync.Arc.{Arc}
+use Rattle.std.specs.FinMap.Entries.{find, is_sorted}
 use Rattle.kfs_map_chunks.specs.Buffer.{Buffer}
 use Rattle.kfs_map_chunks.specs.Starts.{before, reaches}
 
@@ -37,6 +38,12 @@ module _ {K V A : Type 0} (cmp : K → K → Ordering) where
   -- the index of the first chunk with an entry at the start or behind it, or the number of chunks
   abbrev pub first_chunk_from : Bound K → List (Arc (Buffer K V) A) → ℕ
   first_chunk_from start chunks = before (λ chunk. reaches cmp start chunk.value.pairs) chunks
+
+module _ {K V : Type 0} (cmp : K → K → Ordering) where
+  -- The value at the key among the entries is that among a few of them, whatever stands in front of
+  -- the entries and behind them.
+  abbrev pub TellsAlone : K → (entries few : List (K × V)) → Type 0
+  TellsAlone q entries few = (xs ys : List (K × V)) → T (is_sorted cmp (xs ++ (entries ++ ys))) → find cmp q (xs ++ (entries ++ ys)) ≡ find cmp q few
 
 -- whether the edits were made in the present chunks
 abbrev pub were_made : {E : Type 0} → Result Bool E → Bool

@@ -1,6 +1,6 @@
 //! A change of a map within its present chunks: memory is taken while the calls go inwards, values are
 //! set while they return.
-ghost use Rattle.std.specs.Prelude.{◌≡◌, ◌+◌, ◌≤◌, ◌++◌, T, All, Ok, None, true, false, OnErr};
+ghost use Rattle.std.specs.Prelude.{◌≡◌, ◌++◌, T, All, Ok, None, true, false, OnErr};
 ghost use Rattle.std.specs.FinMap.Entries.{is_sorted, below_all};
 ghost use Rattle.std.specs.declared.ops.Bound.TheVariants.{Included};
 ghost use Rattle.kfs_map_chunks.specs.Edits.{entered_all, KeysAscend};
@@ -16,13 +16,6 @@ use kfs_map_pages::Change;
 use std::alloc::{AllocError, Allocator};
 use std::ops::Bound;
 use std::sync::Arc;
-
-/// For how many more entries a chunk of this length has room.
-fn room_beside<K: Key>(len: usize) -> usize
-    ensures { len ≤ 256 → len + result ≤ 256 }
-{
-    K::most_entries().saturating_sub(len)
-}
 
 /// Makes the edits and the other change, if each chunk has room for its own edits. Answers whether that
 /// is so; if not, nothing was tried. All memory is taken before the other change is made, and that
@@ -80,6 +73,10 @@ fn change_from_part<K: Key, V: Copy, A: Allocator + Clone, C: Change>(
     ensures not_tried { result ≡ Ok false → then.new ≡ then.old }
     ensures kept { OnErr result (C.kept then.old then.new) }
 {
+    // The part may be shared, and copied here: not where the first chunk has no room.
+    if !part.takes_first(mine) {
+        return Ok(false);
+    }
     let part = Arc::make_mut(part)?;
     change_chunks(part.chunks.as_mut_slice(), mine, rest, later, then)
 }
@@ -151,7 +148,7 @@ fn change_from<K: Key, V: Copy, A: Allocator + Clone, C: Change>(
     ensures not_tried { result ≡ Ok false → then.new ≡ then.old }
     ensures kept { OnErr result (C.kept then.old then.new) }
 {
-    if chunk.len() <= mine.len() || mine.len() > room_beside::<K>(chunk.len()) {
+    if !chunk.takes(mine.len()) {
         return Ok(false);
     }
     let chunk = Arc::make_mut(chunk)?;

@@ -12,7 +12,7 @@ use crate::edit::KeyEdit;
 use crate::entries::Entries;
 use crate::key::Key;
 use crate::part::Part;
-use crate::place::place_part;
+use crate::place::{Near, place_part, place_part_near};
 use crate::rebuilt_parts::{cut_parts, rebuilt_parts};
 use kfs_map_pages::Change;
 use std::alloc::{AllocError, Allocator};
@@ -73,6 +73,22 @@ impl<K: Key, V: Copy, A: Allocator> Chunks<K, V, A> {
             .parts
             .get(place_part(&self.parts, &Bound::Included(key)))?;
         part.get(key)
+    }
+
+    /// The same value, for keys that are looked up one after another: it is found faster where the last
+    /// one was in the same chunk. `near` becomes the place of this key. Takes no memory.
+    pub fn get_near(&self, near: &mut Near, key: &K) -> Option<&V>
+        ensures { option_copied result ≡ find K.order.compare key.now self.now }
+    {
+        if let Some(part) = self.parts.get(near.part) {
+            if let Some(chunk) = part.inner_chunk(near.chunk, key) {
+                return chunk.get(key);
+            }
+        }
+        let at = place_part_near(&self.parts, &Bound::Included(key), near.part);
+        near.part = at;
+        let part = self.parts.get(at)?;
+        part.get_near(&mut near.chunk, key)
     }
 
     /// The first entry at the bound or behind it, or none. Takes no memory.

@@ -1,5 +1,5 @@
 //! The entries of a chunk: keys with their values in one block of memory, the keys ascending.
-ghost use Rattle.std.specs.Prelude.{◌≡◌, ◌<◌, ◌≤◌, ◌+◌, [], T, is_some, IfSome, IfNone, IfOk, OnOk, length, take, drop, Some, None, Ok, Err, if◌then◌else◌};
+ghost use Rattle.std.specs.Prelude.{◌≡◌, ◌<◌, ◌≤◌, ◌+◌, [], T, true, is_some, IfSome, IfNone, IfOk, OnOk, length, take, drop, Some, None, Ok, Err, if◌then◌else◌};
 ghost use Rattle.std.specs.Option.{option_copied};
 ghost use Rattle.std.specs.FinMap.Entries.{find, is_sorted};
 ghost use Rattle.std.specs.Range.Bound.{bound_map};
@@ -113,6 +113,14 @@ impl<K: Key, V: Copy, A: Allocator> Entries<K, V, A> {
         ensures { result ≡ length self.now.pairs }
     {
         self.pairs.len()
+    }
+
+    /// Whether so many edits can be made within the chunk: there is room, and an entry is left.
+    pub(crate) fn takes(&self, edits: usize) -> bool
+        ensures left { result ≡ true → edits < length self.now.pairs }
+        ensures room { result ≡ true → length self.now.pairs ≤ 256 → length self.now.pairs + edits ≤ 256 }
+    {
+        edits < self.len() && edits <= K::most_entries().saturating_sub(self.len())
     }
 
     /// Whether an entry is at the bound or behind it. Only the last entry is looked at.

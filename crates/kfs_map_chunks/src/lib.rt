@@ -26,3 +26,4 @@ pub use edit::KeyEdit;
 pub use key::Key;
 pub use nested::EditChunks;
 pub use overlay::{Overlay, key_edits};
+pub use place::Near;

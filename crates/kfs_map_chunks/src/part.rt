@@ -4,13 +4,13 @@ ghost use Rattle.std.specs.Option.{option_copied};
 ghost use Rattle.std.specs.FinMap.Entries.{find, is_sorted};
 ghost use Rattle.std.specs.Range.Bound.{bound_map};
 ghost use Rattle.kfs_map_chunks.specs.Edits.{entered_all, KeysAscend};
-ghost use Rattle.kfs_map_chunks.specs.Joined.{joined, AreSized};
+ghost use Rattle.kfs_map_chunks.specs.Joined.{joined, AreSized, TellsAlone};
 ghost use Rattle.kfs_map_chunks.specs.Starts.{entry_from, reaches};
 
 use crate::edit::KeyEdit;
 use crate::entries::Entries;
 use crate::key::Key;
-use crate::place::place;
+use crate::place::{place, place_near, run_of};
 use crate::rebuilt::rebuilt;
 use std::alloc::{AllocError, Allocator};
 use std::marker::Model;
@@ -59,6 +59,36 @@ impl<K: Key, V: Copy, A: Allocator> Part<K, V, A> {
         chunk.get(key)
     }
 
+    /// The same value. It is found faster where the key's chunk is the one at index `near`, and `near`
+    /// becomes the index of that chunk. Takes no memory.
+    pub(crate) fn get_near(&self, near: &mut usize, key: &K) -> Option<&V>
+        ensures { option_copied result ≡ find K.cmp key.now self.now.pairs }
+    {
+        let at = place_near(&self.chunks, &Bound::Included(key), *near);
+        *near = at;
+        let chunk = self.chunks.get(at)?;
+        chunk.get(key)
+    }
+
+    /// The chunk at an index, if the key is behind the chunk in front of it and not behind its own last
+    /// key. Then only this chunk can have the key, also where the part is one of several.
+    pub(crate) fn inner_chunk(&self, index: usize, key: &K) -> Option<&Arc<Entries<K, V, A>, A>>
+        ensures { IfSome result (λ chunk. TellsAlone K.cmp key.now self.now.pairs chunk.now.value.pairs) }
+    {
+        if index == 0 {
+            return None;
+        }
+        let start = Bound::Included(key);
+        let chunk = self.chunks.get(index)?;
+        if !chunk.reaches(&start) {
+            return None;
+        }
+        if self.chunks[index - 1].reaches(&start) {
+            return None;
+        }
+        Some(chunk)
+    }
+
     /// The first entry at the bound or behind it, or none. Takes no memory.
     pub(crate) fn next(&self, start: Bound<&K>) -> Option<(&K, &V)>
         ensures some { IfSome result (λ p. entry_from K.cmp (bound_map (λ x. x.now) start.entry) self.now.pairs ≡ Some (p.0.now, p.1.now)) }
@@ -66,6 +96,21 @@ impl<K: Key, V: Copy, A: Allocator> Part<K, V, A> {
     {
         let chunk = self.chunks.get(place(&self.chunks, &start))?;
         chunk.next(start)
+    }
+
+    /// Whether the first chunk that the edits change takes those that belong to it.
+    pub(crate) fn takes_first(&self, edits: &[KeyEdit<K, V>]) -> bool
+        requires { KeysAscend K.cmp edits.now }
+    {
+        let Some(edit) = edits.first() else {
+            return true;
+        };
+        let last = self.chunks.len().saturating_sub(1);
+        let index = place(&self.chunks, &Bound::Included(&edit.key)).min(last);
+        let Some((chunk, rest)) = self.chunks[index..].split_first() else {
+            return true;
+        };
+        chunk.takes(run_of(edits, chunk, rest))
     }
 
     /// Whether an entry is at the bound or behind it. Only the last entry is looked at.

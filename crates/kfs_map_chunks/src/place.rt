@@ -15,6 +15,23 @@ use std::alloc::Allocator;
 use std::ops::Bound;
 use std::sync::Arc;
 
+/// A place in a map, for keys that are looked up one after another: the next one is looked for at the
+/// place of the last. It is only a guess. So every place is right, for every map.
+#[derive(Clone, Copy)]
+pub struct Near {
+    /// The index of the part.
+    pub(crate) part: usize,
+    /// The index of the chunk in it.
+    pub(crate) chunk: usize,
+}
+
+impl Near {
+    /// The place of the first entries.
+    pub fn start() -> Near {
+        Near { part: 0, chunk: 0 }
+    }
+}
+
 /// The index of the first chunk with an entry at the bound or behind it, or the number of chunks where
 /// there is none.
 pub(crate) fn place<K: Key, V: Copy, A: Allocator>(
@@ -26,6 +43,28 @@ pub(crate) fn place<K: Key, V: Copy, A: Allocator>(
     ensures { result ≡ first_chunk_from K.cmp (bound_map (λ x. x.now) start.now) chunks.now }
 {
     chunks.partition_point(|chunk| !chunk.reaches(start))
+}
+
+/// The same index. It is found faster where it is `near`.
+pub(crate) fn place_near<K: Key, V: Copy, A: Allocator>(
+    chunks: &[Arc<Entries<K, V, A>, A>],
+    start: &Bound<&K>,
+    near: usize,
+) -> usize
+    requires sorted { T (is_sorted K.cmp (joined chunks.now)) }
+    requires sized { AreSized chunks.now }
+    ensures { result ≡ first_chunk_from K.cmp (bound_map (λ x. x.now) start.now) chunks.now }
+{
+    let Some(chunk) = chunks.get(near) else {
+        return place(chunks, start);
+    };
+    if !chunk.reaches(start) {
+        return place(chunks, start);
+    }
+    if near > 0 && chunks[near - 1].reaches(start) {
+        return place(chunks, start);
+    }
+    near
 }
 
 /// How many edits at the front of the list belong to the chunk: those of keys up to its last one, or
@@ -58,6 +97,28 @@ pub(crate) fn place_part<K: Key, V: Copy, A: Allocator>(
     ensures { result ≡ first_chunk_from K.cmp (bound_map (λ x. x.now) start.now) parts.now }
 {
     parts.partition_point(|part| !part.reaches(start))
+}
+
+/// The same index. It is found faster where it is `near`.
+pub(crate) fn place_part_near<K: Key, V: Copy, A: Allocator>(
+    parts: &[Arc<Part<K, V, A>, A>],
+    start: &Bound<&K>,
+    near: usize,
+) -> usize
+    requires sorted { T (is_sorted K.cmp (joined parts.now)) }
+    requires filled { AreFilled parts.now }
+    ensures { result ≡ first_chunk_from K.cmp (bound_map (λ x. x.now) start.now) parts.now }
+{
+    let Some(part) = parts.get(near) else {
+        return place_part(parts, start);
+    };
+    if !part.reaches(start) {
+        return place_part(parts, start);
+    }
+    if near > 0 && parts[near - 1].reaches(start) {
+        return place_part(parts, start);
+    }
+    near
 }
 
 /// How many edits at the front of the list belong to the part: those of keys up to its last one, or all

@@ -169,10 +169,9 @@ change_from-returns-in-Ok-true-clause-size g t c =
     let lent : (c.make_mut.follows.lender c.write.new.self).value ≡ c.write.new.self = search rules in
     let before : c.reserve.new.self.pairs ≡ old = c.reserve.ensures.pairs ∙ same_pairs c.args.chunk.now.value c.in_ok-chunk.chunk.now c.in_ok-chunk.ensures.value in
     let made : (c.make_mut.follows.lender c.write.new.self).value.pairs ≡ entered_all cmp old mine = ap (λ (x : Buffer _ _). x.pairs) lent ∙ c.write.ensures.pairs ∙ ap (λ es. entered_all cmp es mine) before in
-    let len : c.len.result ≡ length old = c.len.ensures ∙ ap (λ (x : Buffer _ _). length x.pairs) c.deref.ensures in
-    let len_too : c.len-else-len-mine.result ≡ length old = c.len-else-len-mine.ensures ∙ ap (λ (x : Buffer _ _). length x.pairs) c.deref-else-len-mine.ensures in
-    let fewer : length mine < length old = omega (arith, c.if-len-mine.false, len) in
-    let room : length old + length mine ≤ 256 = omega (arith, c.if-mine-room_beside.false, c.room_beside.ensures (omega (arith, len_too, c.requires.size.1)), len_too) in
+    let here : length c.deref.result.now.pairs ≡ length old = ap (λ (x : Buffer _ _). length x.pairs) c.deref.ensures in
+    let fewer : length mine < length old = omega (arith, c.takes.ensures.left c.if-not-takes.false, here) in
+    let room : length old + length mine ≤ 256 = omega (arith, c.takes.ensures.room c.if-not-takes.false (omega (arith, here, c.requires.size.1)), here) in
     subst IsSized (sym made) (sized_still order old mine c.requires.chunk fewer room)
 
 pub change_from_part-invariant_of-part : goal.change_from_part-invariant_of-part
