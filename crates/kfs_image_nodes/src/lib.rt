@@ -20,6 +20,7 @@ pub use cell::{Answer, Cell};
 pub use edits::header_edits;
 pub use header_page::HeaderPage;
 pub use kfs_entry_value::{Header, Kind, Name, TierSizes};
+pub use kfs_map_chunks::Near;
 pub use kfs_map_pages::Page;
 pub use layout::{Shape, look};
 pub use net::Net;

@@ -15,7 +15,7 @@ use crate::overlay::number_edits;
 use crate::rows::{name_key, target_of};
 use crate::tallies::Tallies;
 use kfs_entry_value::{Name, NameRow};
-use kfs_map_chunks::{Chunks, KeyEdit, Overlay, key_edits};
+use kfs_map_chunks::{Chunks, KeyEdit, Near, Overlay, key_edits};
 use kfs_map_pages::{NumberEdit, Pages};
 use std::alloc::{AllocError, Allocator};
 
@@ -97,8 +97,9 @@ fn recounted<A: Allocator + Clone>(
     ensures { IfOk result (λ tallies. IsCounted (table_after (table name_order names.now) edits.now) (counts_seen tallies counts.now) (ways_seen tallies uplinks.now)) }
 {
     let mut tallies = Tallies::new(alloc)?;
+    let mut near = Near::start();
     for edit in edits {
-        let from = names.get(&edit.key).copied();
+        let from = names.get_near(&mut near, &edit.key).copied();
         tallies.recount(counts, uplinks, edit.key.0, from, edit.value)?;
     }
     Ok(tallies)

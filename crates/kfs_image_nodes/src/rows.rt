@@ -21,7 +21,7 @@ use crate::edits::header_edits;
 use crate::name_edits::{NameEdits, name_edits};
 use crate::sorted_rows::{NameCounts, counts_of, names_of};
 use kfs_entry_value::{Header, Name, NameRow, NodeRow};
-use kfs_map_chunks::{Chunks, EditChunks};
+use kfs_map_chunks::{Chunks, EditChunks, Near};
 use kfs_map_pages::{Change, EditPages, Nothing, NumberEdit, Pages};
 use std::alloc::{AllocError, Allocator};
 use std::ops::Bound;
@@ -80,6 +80,12 @@ impl<A: Allocator> NodeTables<A> {
         ensures { result ≡ get (names_in self.now) key.now }
     {
         self.names.get(key).copied()
+    }
+
+    pub(crate) fn target_near(&self, near: &mut Near, key: &(u32, Name)) -> Option<u32>
+        ensures { result ≡ get (names_in self.now) key.now }
+    {
+        self.names.get_near(near, key).copied()
     }
 
     pub(crate) fn count(&self, dir: u32) -> u64

@@ -5,7 +5,7 @@ ghost use Rattle.kfs_model.specs.Table.{get};
 ghost use Rattle.kfs_image_nodes.specs.Indexes.{CountsFewer, CountsMore, CountsMoved, count_at, count_step, uplink_step, ArePositive};
 ghost use Rattle.kfs_image_nodes.specs.NameEdits.{counts_seen, ways_seen};
 
-use kfs_map_chunks::{Chunks, Overlay};
+use kfs_map_chunks::{Chunks, Near, Overlay};
 use kfs_map_pages::Pages;
 use std::alloc::{AllocError, Allocator};
 
@@ -16,6 +16,8 @@ pub(crate) struct Tallies<A: Allocator> {
     pub(crate) counts: Overlay<u32, u64, A>,
     /// How many names of a directory lead to a node, by the node's number and then the directory's.
     pub(crate) uplinks: Overlay<(u32, u32), u64, A>,
+    /// Where the last uplink was looked for.
+    near: Near,
 }
 
 impl<A: Allocator + Clone> Tallies<A> {
@@ -26,6 +28,7 @@ impl<A: Allocator + Clone> Tallies<A> {
         Ok(Tallies {
             counts: Overlay::new(alloc.clone()?),
             uplinks: Overlay::new(alloc.clone()?),
+            near: Near::start(),
         })
     }
 
@@ -37,10 +40,15 @@ impl<A: Allocator + Clone> Tallies<A> {
     }
 
     /// How many names of a directory lead to a node; none stands for 0.
-    fn way_count(&self, uplinks: &Chunks<(u32, u32), u64, A>, way: &(u32, u32)) -> Option<u64>
+    fn way_count(
+        &self,
+        uplinks: &Chunks<(u32, u32), u64, A>,
+        near: &mut Near,
+        way: &(u32, u32),
+    ) -> Option<u64>
         ensures { result ≡ get (ways_seen self.now uplinks.now) way.now }
     {
-        self.uplinks.get_or(way, uplinks.get(way).copied())
+        self.uplinks.get_or(way, uplinks.get_near(near, way).copied())
     }
 
     /// Counts that a name of the directory led to `from` and now leads to `to`.
@@ -80,7 +88,9 @@ impl<A: Allocator + Clone> Tallies<A> {
         if let Some(number) = from {
             let way = (number, dir);
             let names = self.name_count(counts, dir);
-            let ways = self.way_count(uplinks, &way);
+            let mut near = self.near;
+            let ways = self.way_count(uplinks, &mut near, &way);
+            self.near = near;
             self.counts.set(dir, one_less(names))?;
             self.uplinks.set(way, one_less(ways))?;
         }
@@ -102,7 +112,9 @@ impl<A: Allocator + Clone> Tallies<A> {
         if let Some(number) = to {
             let way = (number, dir);
             let names = self.name_count(counts, dir);
-            let ways = self.way_count(uplinks, &way);
+            let mut near = self.near;
+            let ways = self.way_count(uplinks, &mut near, &way);
+            self.near = near;
             self.counts.set(dir, one_more(names)?)?;
             self.uplinks.set(way, one_more(ways)?)?;
         }

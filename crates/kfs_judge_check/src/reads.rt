@@ -13,7 +13,7 @@ ghost use Rattle.kfs_judge_check.specs.View.{client_sight_in};
 
 use crate::view::View;
 use indexmap::IndexMap;
-use kfs_image_nodes::{Answer, Cell, Header, Name};
+use kfs_image_nodes::{Answer, Cell, Header, Name, Near};
 use std::alloc::{AllocError, Allocator};
 use std::hash::{BuildHasherDefault, FoldHasher};
 
@@ -45,6 +45,7 @@ pub struct Recorder<'a, A: Allocator> {
     view: &'a View<A>,
     client: u32,
     reads: IndexMap<Read, ReadAnswer, BuildHasherDefault<FoldHasher>, A>,
+    near: Near,
 }
 
 impl<'a, A: Allocator + Copy> Recorder<'a, A> {
@@ -57,6 +58,7 @@ impl<'a, A: Allocator + Copy> Recorder<'a, A> {
             view,
             client,
             reads: IndexMap::new(alloc),
+            near: Near::start(),
         }
     }
 
@@ -99,8 +101,7 @@ impl<'a, A: Allocator + Copy> Recorder<'a, A> {
         if let Some(answer) = self.reads.get(&read) {
             return Ok(number_in(*answer));
         }
-        // What `look` answers, but by reference to the name.
-        let number = self.view.target(key);
+        let number = self.view.target_near(&mut self.near, key);
         let answer = ReadAnswer::Look(Answer::Name(number));
         record(&mut self.reads, read, answer)?;
         Ok(number)

@@ -9,7 +9,7 @@ ghost use Rattle.kfs_plan.specs.Judged.{HoldsIn, IsKnown};
 
 use crate::submission::{Outcome, Submission};
 use indexmap::IndexMap;
-use kfs_image_nodes::Answer;
+use kfs_image_nodes::{Answer, Cell, Near};
 use kfs_judge::{Read, ReadAnswer, View};
 use kfs_mode::Client;
 use std::alloc::Allocator;
@@ -127,19 +127,28 @@ fn agrees<A: Allocator + Copy>(
 ) -> bool
     ensures { IsTrue result ↔ Agrees reads.now.entries (client_sight_in view.now client) }
 {
+    let mut near = Near::start();
     for (read, answer) in reads.iter() {
-        if !is_same(shown(view, client, read), *answer) {
+        if !is_same(shown(view, client, read, &mut near), *answer) {
             return false;
         }
     }
     true
 }
 
-/// The view's answer to a read.
-fn shown<A: Allocator + Copy>(view: &View<A>, client: u32, read: &Read) -> ReadAnswer
+/// The view's answer to a read. `near` is where the last name was looked for.
+fn shown<A: Allocator + Copy>(
+    view: &View<A>,
+    client: u32,
+    read: &Read,
+    near: &mut Near,
+) -> ReadAnswer
     ensures { sights.answer (client_sight_in view.now client) (cell_of read.now) ≡ answer_of result }
 {
     match read {
+        Read::Look(Cell::Name(dir, name)) => {
+            ReadAnswer::Look(Answer::Name(view.target_near(near, &(*dir, *name))))
+        }
         Read::Look(cell) => ReadAnswer::Look(view.look(cell)),
         Read::Lease(number) => ReadAnswer::Lease(view.holds(client, *number)),
     }

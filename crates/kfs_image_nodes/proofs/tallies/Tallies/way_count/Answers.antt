@@ -8,4 +8,4 @@ use Rattle.kfs_image_nodes.proofs.tallies.Tallies.way_count.Goals as goal
 pub returns : goal.returns
 returns g c =
     c.get_or.ensures
-    ∙ read_seen (table by_node c.args.uplinks.now) c.args.self.now.uplinks.latest c.args.way.now c.copied.result (c.copied.ensures ∙ c.get.ensures ∙ sym (get-table by_node c.args.uplinks.now c.args.way.now))
+    ∙ read_seen (table by_node c.args.uplinks.now) c.args.self.now.uplinks.latest c.args.way.now c.copied.result (c.copied.ensures ∙ c.get_near.ensures ∙ sym (get-table by_node c.args.uplinks.now c.args.way.now))
