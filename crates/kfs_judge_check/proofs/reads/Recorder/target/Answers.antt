@@ -28,13 +28,13 @@ pub returns : goal.returns
 returns g c =
     let d = c.args.key.now.0 in
     let m = c.args.key.now.1 in
-    let number = c.target-number.result in
+    let number = c.target_near-number.result in
     let read = Look (Name d m) in
     let told = answers.Look (looks.Name number) in
     let old = c.args.self.now.reads.entries in
     let new = c.record.new.reads.entries in
     let last = c.in_ok-record.ensures.ok ∙ insert_entry-new same_read c.args.self.now.reads read told (sym c.in_default.ensures.value) in
-    let shown : answer (seen_by c.args.self.now) (cell_of read) ≡ answer_of told = ap Number (sym c.target-number.ensures) in
+    let shown : answer (seen_by c.args.self.now) (cell_of read) ≡ answer_of told = ap Number (sym c.target_near-number.ensures) in
     record {
       goes = record {
         grows = grows_by_one old new read told last;
@@ -46,5 +46,5 @@ returns g c =
       among = within_one old new read told last;
     }
   where
-    leads : (state : ClientSight) → answer state (cell_of (Look (Name c.args.key.now.0 c.args.key.now.1))) ≡ answer_of (answers.Look (looks.Name c.target-number.result)) → state.sight.name c.args.key.now.0 c.args.key.now.1 ≡ c.target-number.result
+    leads : (state : ClientSight) → answer state (cell_of (Look (Name c.args.key.now.0 c.args.key.now.1))) ≡ answer_of (answers.Look (looks.Name c.target_near-number.result)) → state.sight.name c.args.key.now.0 c.args.key.now.1 ≡ c.target_near-number.result
     leads state is = cc
