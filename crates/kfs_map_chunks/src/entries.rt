@@ -115,6 +115,13 @@ impl<K: Key, V: Copy, A: Allocator> Entries<K, V, A> {
         self.pairs.len()
     }
 
+    /// For how many more entries there is room.
+    pub(crate) fn room(&self) -> usize
+        ensures { result ≡ self.now.room }
+    {
+        self.pairs.capacity() - self.pairs.len()
+    }
+
     /// Whether so many edits can be made within the chunk: there is room, and an entry is left.
     pub(crate) fn takes(&self, edits: usize) -> bool
         ensures left { result ≡ true → edits < length self.now.pairs }
