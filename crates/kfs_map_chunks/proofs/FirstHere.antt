@@ -1,5 +1,5 @@
 -- A chunk that is the first with an entry from a start on, and what is found at a key there.
-use Rattle.std.proofs.Common.{◌≡◌, ◌<◌, ℕ, zero, suc, ◌+◌, true, false, cond, not, T, List, [], ◌∷◌, ◌++◌, length, get_or, ap, sym, subst, ◌∙◌, arith}
+use Rattle.std.proofs.Common.{◌≡◌, ◌<◌, ℕ, zero, suc, ◌+◌, Bool, true, false, cond, Some, None, not, T, List, [], ◌∷◌, ◌++◌, length, get_or, ap, sym, subst, ◌∙◌, arith}
 use Rattle.std.specs.Prelude.{is_some}
 use Rattle.std.proofs.lemmas.List.{append_assoc}
 use Rattle.std.specs.declared.ops.Bound.{Bound}
@@ -7,7 +7,9 @@ use Rattle.std.specs.declared.ops.Bound.TheVariants.{Included}
 use Rattle.std.specs.declared.sync.Arc.{Arc}
 use Rattle.std.specs.declared.cmp.Ordering.{Ordering}
 use Rattle.std.specs.FinMap.Entries.{find, is_sorted}
+use Rattle.std.specs.Ordering.{eq_by_cmp}
 use Rattle.kfs_model.specs.Table.{Order}
+use Rattle.kfs_model.proofs.Tables.{right_part, find_behind}
 use Rattle.kfs_map_chunks.specs.Buffer.{Buffer}
 use Rattle.kfs_map_chunks.specs.Joined.{joined, first_chunk_from, AreFilled, TellsAlone}
 use Rattle.kfs_map_chunks.specs.Starts.{entry_from, reaches}
@@ -59,3 +61,18 @@ module _ {K V A : Type 0} (cmp : K → K → Ordering) where
   told_by q front (c ∷ cs) (suc p) d few sorted within tells =
       let same = append_assoc front c.value.pairs (joined cs) in
       ap (find cmp q) (sym same) ∙ told_by q (front ++ c.value.pairs) cs p d few (subst (λ es. T (is_sorted cmp es)) (sym same) sorted) (omega (arith, within)) tells
+
+module _ {K V : Type 0} (R : Order K) where
+  -- what is found among entries is found with more behind them
+  found_front : (q : K) (es ys : List (K × V)) (v : V) → find R.compare q es ≡ Some v → find R.compare q (es ++ ys) ≡ Some v
+  found_front q [] ys v found = absurd (let e : None ≡ Some v = found in cc)
+  found_front q (e ∷ es) ys v found = at (found_front q es ys v) (eq_by_cmp R.compare q e.0) found
+    where
+      at : (find R.compare q es ≡ Some v → find R.compare q (es ++ ys) ≡ Some v) → (b : Bool) → cond b (Some e.1) (find R.compare q es) ≡ Some v → cond b (Some e.1) (find R.compare q (es ++ ys)) ≡ Some v
+      at rest true found = found
+      at rest false found = rest found
+
+  -- entries with the key tell what is found at it
+  pub found_tells : (q : K) (es : List (K × V)) (v : V) → find R.compare q es ≡ Some v → TellsAlone R.compare q es es
+  found_tells q es v found [] ys all = found_front q es ys v found ∙ sym found
+  found_tells q es v found (x ∷ xs) ys all = find_behind R q v x (xs ++ (es ++ ys)) all (found_tells q es v found xs ys (right_part _ _ all) ∙ found) ∙ sym found

@@ -15,20 +15,26 @@ use std::alloc::Allocator;
 use std::ops::Bound;
 use std::sync::Arc;
 
-/// A place in a map, for keys that are looked up one after another: the next one is looked for at the
-/// place of the last. It is only a guess. So every place is right, for every map.
+/// Where in a map the next key is looked for first: behind the last one. It is only a guess, so any place
+/// will do, for any map, also after a change.
 #[derive(Clone, Copy)]
 pub struct Near {
     /// The index of the part.
     pub(crate) part: usize,
     /// The index of the chunk in it.
     pub(crate) chunk: usize,
+    /// The index of an entry in that.
+    pub(crate) entry: usize,
 }
 
 impl Near {
     /// The place of the first entries.
     pub fn start() -> Near {
-        Near { part: 0, chunk: 0 }
+        Near {
+            part: 0,
+            chunk: 0,
+            entry: 0,
+        }
     }
 }
 
