@@ -61,10 +61,10 @@ pub(crate) fn place_near<K: Key, V: Copy, A: Allocator>(
     requires sized { AreSized chunks.now }
     ensures { result ≡ first_chunk_from K.cmp (bound_map (λ x. x.now) start.now) chunks.now }
 {
-    let Some(chunk) = chunks.get(near) else {
+    if near > chunks.len() {
         return place(chunks, start);
-    };
-    if !chunk.reaches(start) {
+    }
+    if near < chunks.len() && !chunks[near].reaches(start) {
         return place(chunks, start);
     }
     if near > 0 && chunks[near - 1].reaches(start) {
@@ -115,10 +115,10 @@ pub(crate) fn place_part_near<K: Key, V: Copy, A: Allocator>(
     requires filled { AreFilled parts.now }
     ensures { result ≡ first_chunk_from K.cmp (bound_map (λ x. x.now) start.now) parts.now }
 {
-    let Some(part) = parts.get(near) else {
+    if near > parts.len() {
         return place_part(parts, start);
-    };
-    if !part.reaches(start) {
+    }
+    if near < parts.len() && !parts[near].reaches(start) {
         return place_part(parts, start);
     }
     if near > 0 && parts[near - 1].reaches(start) {
