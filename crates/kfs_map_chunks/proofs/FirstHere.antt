@@ -1,13 +1,15 @@
 -- A chunk that is the first with an entry from a start on, and what is found at a key there.
-use Rattle.std.proofs.Common.{◌≡◌, ◌<◌, ℕ, zero, suc, ◌+◌, true, false, cond, not, T, List, [], ◌∷◌, ◌++◌, length, get_or, ap, sym, subst, ◌∙◌, arith}
+use Rattle.std.proofs.Common.{◌≡◌, ◌<◌, ◌≤◌, ℕ, zero, suc, ◌+◌, Bool, true, false, cond, Some, None, not, T, List, [], ◌∷◌, ◌++◌, length, get_or, ap, sym, subst, ◌∙◌, arith}
 use Rattle.std.specs.Prelude.{is_some}
-use Rattle.std.proofs.lemmas.List.{append_assoc}
+use Rattle.std.proofs.lemmas.List.{append_assoc, get_or_default}
 use Rattle.std.specs.declared.ops.Bound.{Bound}
 use Rattle.std.specs.declared.ops.Bound.TheVariants.{Included}
 use Rattle.std.specs.declared.sync.Arc.{Arc}
 use Rattle.std.specs.declared.cmp.Ordering.{Ordering}
 use Rattle.std.specs.FinMap.Entries.{find, is_sorted}
+use Rattle.std.specs.Ordering.{eq_by_cmp}
 use Rattle.kfs_model.specs.Table.{Order}
+use Rattle.kfs_model.proofs.Tables.{right_part, find_behind}
 use Rattle.kfs_map_chunks.specs.Buffer.{Buffer}
 use Rattle.kfs_map_chunks.specs.Joined.{joined, first_chunk_from, AreFilled, TellsAlone}
 use Rattle.kfs_map_chunks.specs.Starts.{entry_from, reaches}
@@ -16,15 +18,16 @@ use Rattle.kfs_map_chunks.proofs.FirstEntries.{entry-append, find_same}
 use Rattle.kfs_map_chunks.proofs.Parts.{parted_chunks, sorted_right, sorted_at, in_place, front_ends}
 
 module _ {K V A : Type 0} (R : Order K) (start : Bound K) where
-  -- a chunk with an entry from the start on, behind one without, is the first with one
-  pub first_here : (cs : List (Arc (Buffer K V) A)) (i : ℕ) (d e : Arc (Buffer K V) A) → T (is_sorted R.compare (joined cs)) → AreFilled cs → i < length cs → reaches R.compare start (get_or cs i d).value.pairs ≡ true
-      → ((j : ℕ) → j + 1 ≡ i → reaches R.compare start (get_or cs j e).value.pairs ≡ false) → first_chunk_from R.compare start cs ≡ i
-  first_here [] i d e sorted filled within here past = absurd (omega (arith, within))
-  first_here (c ∷ cs) zero d e sorted filled within here past = ap (λ b. cond b 0 (suc (first_chunk_from R.compare start cs))) here
-  first_here (c ∷ cs) (suc i) d e sorted filled within here past =
-      let out : reaches R.compare start c.value.pairs ≡ false = un_not _ (parted_chunks R start (c ∷ cs) sorted filled zero i e (omega arith) (omega (arith, within)) (ap not (past i (omega arith)))) in
+  -- a chunk with an entry from the start on, or the end, behind a chunk without, is the first with one
+  pub first_here : (cs : List (Arc (Buffer K V) A)) (i : ℕ) → T (is_sorted R.compare (joined cs)) → AreFilled cs → i ≤ length cs
+      → (i < length cs → (d : Arc (Buffer K V) A) → reaches R.compare start (get_or cs i d).value.pairs ≡ true)
+      → ((j : ℕ) → j + 1 ≡ i → (d : Arc (Buffer K V) A) → reaches R.compare start (get_or cs j d).value.pairs ≡ false) → first_chunk_from R.compare start cs ≡ i
+  first_here [] i sorted filled within here past = omega (arith, within)
+  first_here (c ∷ cs) zero sorted filled within here past = ap (λ b. cond b 0 (suc (first_chunk_from R.compare start cs))) (here (omega arith) c)
+  first_here (c ∷ cs) (suc i) sorted filled within here past =
+      let out : reaches R.compare start c.value.pairs ≡ false = un_not _ (parted_chunks R start (c ∷ cs) sorted filled zero i c (omega arith) (omega (arith, within)) (ap not (past i (omega arith) c))) in
       ap (λ b. cond b 0 (suc (first_chunk_from R.compare start cs))) out
-      ∙ ap suc (first_here cs i d e (sorted_right R.compare c.value.pairs (joined cs) sorted) filled.1 (omega (arith, within)) here (λ j next. past (suc j) (omega (arith, next))))
+      ∙ ap suc (first_here cs i (sorted_right R.compare c.value.pairs (joined cs) sorted) filled.1 (omega (arith, within)) (λ less. here (omega (arith, less))) (λ j next. past (suc j) (omega (arith, next))))
 
 module _ {K V A : Type 0} (R : Order K) where
   -- a chunk with an entry from the key on, behind one without, tells what is found at the key
@@ -36,7 +39,10 @@ module _ {K V A : Type 0} (R : Order K) where
   inner_tells q (c ∷ cs) zero d e sorted filled some within here past xs ys all = absurd (omega (arith, some))
   inner_tells q (c ∷ cs) (suc i) d e sorted filled some within here past xs ys all =
       let start = Included q in
-      let first : first_chunk_from R.compare start (c ∷ cs) ≡ suc i = first_here R start (c ∷ cs) (suc i) d e sorted filled within here past in
+      let first : first_chunk_from R.compare start (c ∷ cs) ≡ suc i =
+      first_here R start (c ∷ cs) (suc i) sorted filled (omega (arith, within))
+      (λ less b. ap (λ chunk. reaches R.compare start chunk.value.pairs) (get_or_default (c ∷ cs) (suc i) b d within) ∙ here)
+      (λ j next b. ap (λ chunk. reaches R.compare start chunk.value.pairs) (get_or_default (c ∷ cs) j b e (omega (arith, next, within))) ∙ past j next) in
       let out : not (reaches R.compare start c.value.pairs) ≡ true = parted_chunks R start (c ∷ cs) sorted filled zero i e (omega arith) (omega (arith, within)) (ap not (past i (omega arith))) in
       let own : entry_from R.compare start (joined (c ∷ cs)) ≡ entry_from R.compare start (get_or (c ∷ cs) (suc i) d).value.pairs =
       in_place R.compare start (c ∷ cs) d (omega (arith, first, within)) ∙ ap (λ k. entry_from R.compare start (get_or (c ∷ cs) k d).value.pairs) first in
@@ -59,3 +65,18 @@ module _ {K V A : Type 0} (cmp : K → K → Ordering) where
   told_by q front (c ∷ cs) (suc p) d few sorted within tells =
       let same = append_assoc front c.value.pairs (joined cs) in
       ap (find cmp q) (sym same) ∙ told_by q (front ++ c.value.pairs) cs p d few (subst (λ es. T (is_sorted cmp es)) (sym same) sorted) (omega (arith, within)) tells
+
+module _ {K V : Type 0} (R : Order K) where
+  -- what is found among entries is found with more behind them
+  found_front : (q : K) (es ys : List (K × V)) (v : V) → find R.compare q es ≡ Some v → find R.compare q (es ++ ys) ≡ Some v
+  found_front q [] ys v found = absurd (let e : None ≡ Some v = found in cc)
+  found_front q (e ∷ es) ys v found = at (found_front q es ys v) (eq_by_cmp R.compare q e.0) found
+    where
+      at : (find R.compare q es ≡ Some v → find R.compare q (es ++ ys) ≡ Some v) → (b : Bool) → cond b (Some e.1) (find R.compare q es) ≡ Some v → cond b (Some e.1) (find R.compare q (es ++ ys)) ≡ Some v
+      at rest true found = found
+      at rest false found = rest found
+
+  -- entries with the key tell what is found at it
+  pub found_tells : (q : K) (es : List (K × V)) (v : V) → find R.compare q es ≡ Some v → TellsAlone R.compare q es es
+  found_tells q es v found [] ys all = found_front q es ys v found ∙ sym found
+  found_tells q es v found (x ∷ xs) ys all = find_behind R q v x (xs ++ (es ++ ys)) all (found_tells q es v found xs ys (right_part _ _ all) ∙ found) ∙ sym found

@@ -75,20 +75,25 @@ impl<K: Key, V: Copy, A: Allocator> Chunks<K, V, A> {
         part.get(key)
     }
 
-    /// The same value, for keys that are looked up one after another: it is found faster where the last
-    /// one was in the same chunk. `near` becomes the place of this key. Takes no memory.
+    /// The same value, for keys that are looked up one after another. It is found with one comparison
+    /// where this key is the one behind the last, and without a search for its chunk where that is the
+    /// last one's. `near` becomes the place behind this key. Takes no memory.
     pub fn get_near(&self, near: &mut Near, key: &K) -> Option<&V>
         ensures { option_copied result ≡ find K.order.compare key.now self.now }
     {
         if let Some(part) = self.parts.get(near.part) {
+            if let Some(value) = part.value_at(*near, key) {
+                near.entry = near.entry.saturating_add(1);
+                return Some(value);
+            }
             if let Some(chunk) = part.inner_chunk(near.chunk, key) {
-                return chunk.get(key);
+                return chunk.get_near(&mut near.entry, key);
             }
         }
         let at = place_part_near(&self.parts, &Bound::Included(key), near.part);
         near.part = at;
         let part = self.parts.get(at)?;
-        part.get_near(&mut near.chunk, key)
+        part.get_near(near, key)
     }
 
     /// The first entry at the bound or behind it, or none. Takes no memory.

@@ -74,6 +74,33 @@ impl<K: Key, V: Copy, A: Allocator> Entries<K, V, A> {
         }
     }
 
+    /// The same value. `near` becomes the index of the entry behind the key. Takes no memory.
+    pub(crate) fn get_near(&self, near: &mut usize, key: &K) -> Option<&V>
+        ensures { option_copied result ≡ find K.cmp key.now self.now.pairs }
+    {
+        match search(&self.pairs, key) {
+            Ok(at) => {
+                *near = at.saturating_add(1);
+                Some(&self.pairs[at].1)
+            }
+            Err(at) => {
+                *near = at;
+                None
+            }
+        }
+    }
+
+    /// The value of the entry at an index, if it has the key. Takes no memory.
+    pub(crate) fn value_at(&self, index: usize, key: &K) -> Option<&V>
+        ensures { IfSome result (λ value. find K.cmp key.now self.now.pairs ≡ Some value.now) }
+    {
+        let (there, value) = self.pairs.get(index)?;
+        if !key.cmp(there).is_eq() {
+            return None;
+        }
+        Some(value)
+    }
+
     /// Makes room for `more` entries. The entries stay as they are. `Err` where memory is refused.
     pub(crate) fn reserve(&mut self, more: usize) -> Result<(), AllocError>
         ensures room { OnOk result (more ≤ self.new.room) }
@@ -113,6 +140,13 @@ impl<K: Key, V: Copy, A: Allocator> Entries<K, V, A> {
         ensures { result ≡ length self.now.pairs }
     {
         self.pairs.len()
+    }
+
+    /// For how many more entries there is room.
+    pub(crate) fn room(&self) -> usize
+        ensures { result ≡ self.now.room }
+    {
+        self.pairs.capacity() - self.pairs.len()
     }
 
     /// Whether so many edits can be made within the chunk: there is room, and an entry is left.

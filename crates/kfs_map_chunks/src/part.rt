@@ -10,7 +10,7 @@ ghost use Rattle.kfs_map_chunks.specs.Starts.{entry_from, reaches};
 use crate::edit::KeyEdit;
 use crate::entries::Entries;
 use crate::key::Key;
-use crate::place::{place, place_near, run_of};
+use crate::place::{Near, place, place_near, run_of};
 use crate::rebuilt::rebuilt;
 use std::alloc::{AllocError, Allocator};
 use std::marker::Model;
@@ -59,15 +59,23 @@ impl<K: Key, V: Copy, A: Allocator> Part<K, V, A> {
         chunk.get(key)
     }
 
-    /// The same value. It is found faster where the key's chunk is the one at index `near`, and `near`
-    /// becomes the index of that chunk. Takes no memory.
-    pub(crate) fn get_near(&self, near: &mut usize, key: &K) -> Option<&V>
+    /// The same value, found faster where the key's chunk is that of `near`, which becomes the place of
+    /// the key. Takes no memory.
+    pub(crate) fn get_near(&self, near: &mut Near, key: &K) -> Option<&V>
         ensures { option_copied result ≡ find K.cmp key.now self.now.pairs }
     {
-        let at = place_near(&self.chunks, &Bound::Included(key), *near);
-        *near = at;
+        let at = place_near(&self.chunks, &Bound::Included(key), near.chunk);
+        near.chunk = at;
         let chunk = self.chunks.get(at)?;
-        chunk.get(key)
+        chunk.get_near(&mut near.entry, key)
+    }
+
+    /// The value of the entry at `near`, if it has the key. Takes no memory.
+    pub(crate) fn value_at(&self, near: Near, key: &K) -> Option<&V>
+        ensures { IfSome result (λ value. find K.cmp key.now self.now.pairs ≡ Some value.now) }
+    {
+        let chunk = self.chunks.get(near.chunk)?;
+        chunk.value_at(near.entry, key)
     }
 
     /// The chunk at an index, if the key is behind the chunk in front of it and not behind its own last

@@ -15,20 +15,26 @@ use std::alloc::Allocator;
 use std::ops::Bound;
 use std::sync::Arc;
 
-/// A place in a map, for keys that are looked up one after another: the next one is looked for at the
-/// place of the last. It is only a guess. So every place is right, for every map.
+/// Where in a map the next key is looked for first: behind the last one. It is only a guess, so any place
+/// will do, for any map, also after a change.
 #[derive(Clone, Copy)]
 pub struct Near {
     /// The index of the part.
     pub(crate) part: usize,
     /// The index of the chunk in it.
     pub(crate) chunk: usize,
+    /// The index of an entry in that.
+    pub(crate) entry: usize,
 }
 
 impl Near {
     /// The place of the first entries.
     pub fn start() -> Near {
-        Near { part: 0, chunk: 0 }
+        Near {
+            part: 0,
+            chunk: 0,
+            entry: 0,
+        }
     }
 }
 
@@ -55,10 +61,10 @@ pub(crate) fn place_near<K: Key, V: Copy, A: Allocator>(
     requires sized { AreSized chunks.now }
     ensures { result ≡ first_chunk_from K.cmp (bound_map (λ x. x.now) start.now) chunks.now }
 {
-    let Some(chunk) = chunks.get(near) else {
+    if near > chunks.len() {
         return place(chunks, start);
-    };
-    if !chunk.reaches(start) {
+    }
+    if near < chunks.len() && !chunks[near].reaches(start) {
         return place(chunks, start);
     }
     if near > 0 && chunks[near - 1].reaches(start) {
@@ -109,10 +115,10 @@ pub(crate) fn place_part_near<K: Key, V: Copy, A: Allocator>(
     requires filled { AreFilled parts.now }
     ensures { result ≡ first_chunk_from K.cmp (bound_map (λ x. x.now) start.now) parts.now }
 {
-    let Some(part) = parts.get(near) else {
+    if near > parts.len() {
         return place_part(parts, start);
-    };
-    if !part.reaches(start) {
+    }
+    if near < parts.len() && !parts[near].reaches(start) {
         return place_part(parts, start);
     }
     if near > 0 && parts[near - 1].reaches(start) {

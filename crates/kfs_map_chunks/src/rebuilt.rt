@@ -32,7 +32,7 @@ pub(crate) fn rebuilt<K: Key, V: Copy, A: Allocator + Clone>(
         later = others;
     }
     let last = Entries::new(chunks.allocator().clone()?).merged(later)?;
-    cut(&mut new, &last)?;
+    append(&mut new, last)?;
     Ok(new)
 }
 
@@ -46,7 +46,7 @@ pub(crate) fn fresh<K: Key, V: Copy, A: Allocator + Clone>(
     ensures sized { IfOk result (λ new. AreSized new.items) }
 {
     let mut new = Vec::new(alloc.clone()?);
-    cut(&mut new, &Entries::new(alloc.clone()?).merged(edits)?)?;
+    append(&mut new, Entries::new(alloc.clone()?).merged(edits)?)?;
     Ok(new)
 }
 
@@ -66,7 +66,26 @@ fn push<K: Key, V: Copy, A: Allocator + Clone>(
         new.push(chunk.clone()?)?;
         return Ok(());
     }
-    cut(new, &chunk.merged(edits)?)
+    append(new, chunk.merged(edits)?)
+}
+
+/// Appends the entries: as a chunk if they fit in one and don't take twice the memory they need, else
+/// cut into chunks.
+fn append<K: Key, V: Copy, A: Allocator + Clone>(
+    new: &mut Vec<Arc<Entries<K, V, A>, A>, A>,
+    entries: Entries<K, V, A>,
+) -> Result<(), AllocError>
+    requires sized { AreSized new.old.items }
+    ensures joined { OnOk result (joined new.new.items ≡ joined new.old.items ++ entries.pairs) }
+    ensures sized { OnOk result (AreSized new.new.items) }
+{
+    let len = entries.len();
+    if len == 0 || len > K::most_entries() || entries.room() > len {
+        return cut(new, &entries);
+    }
+    let chunk = Arc::new(new.allocator().clone()?, entries)?;
+    new.push(chunk)?;
+    Ok(())
 }
 
 /// Appends the entries, cut into chunks of one size; only the last may be smaller.

@@ -27,4 +27,4 @@ returns-then-is_empty-clause-sized g c =
 pub returns-clause-joined : goal.returns-clause-joined
 returns-clause-joined g c =
     let merged : c.in_ok-merged.field-0.pairs ≡ entered_all g.K.Ord.cmp c.args.chunk.now.value.pairs c.args.edits.now = c.in_ok-merged.ensures ∙ ap (λ held. entered_all g.K.Ord.cmp held.pairs c.args.edits.now) c.deref.ensures in
-    subst (λ es. OnOk c.cut-2.result (joined c.cut-2.new.new.items ≡ joined c.args.new.now.items ++ es)) merged c.cut-2.ensures.joined
+    subst (λ es. OnOk c.append.result (joined c.append.new.new.items ≡ joined c.args.new.now.items ++ es)) merged c.append.ensures.joined

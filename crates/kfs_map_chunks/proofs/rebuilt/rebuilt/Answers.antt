@@ -44,4 +44,4 @@ returns-clause-joined g c =
     let none : c.loop-chunk.left.now ≡ [] = nil_from_length c.loop-chunk.left.now (search rules) in
     let last : c.in_ok-last.last.pairs ≡ entered_all g.K.Ord.cmp (joined c.loop-chunk.left.now) c.loop-chunk.later.now =
     c.in_ok-last.ensures ∙ ap (λ es. entered_all g.K.Ord.cmp es c.loop-chunk.later.now) (c.new.ensures ∙ ap (λ chunks. joined chunks) (sym none)) in
-    c.in_ok-cut.ensures.joined ∙ ap (λ es. joined c.loop-chunk.new.items ++ es) last ∙ c.loop-chunk.invariant.joined
+    c.in_ok-append.ensures.joined ∙ ap (λ es. joined c.loop-chunk.new.items ++ es) last ∙ c.loop-chunk.invariant.joined

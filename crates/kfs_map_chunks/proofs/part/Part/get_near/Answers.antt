@@ -31,7 +31,7 @@ returns g c =
     let at : c.place_near-at.result ≡ first_chunk_from cmp (Included q) cs = search rules in
     let within : c.place_near-at.result < length cs = search rules in
     let here : chunk ≡ get_or cs c.place_near-at.result chunk = search rules in
-    c.get-2.ensures
+    c.get_near.ensures
     ∙ ap (λ (x : Buffer _ _). find cmp q x.pairs) c.deref-3.ensures
     ∙ ap (λ chunk. find cmp q chunk.value.pairs) (here ∙ ap (λ k. get_or cs k chunk) at)
     ∙ sym (found_in_place order q cs chunk c.self.invariant.0 (omega (arith, at, within)))
